@@ -1,0 +1,5 @@
+pub mod Tree
+pub mod View
+pub mod Spelling
+pub mod Decoder
+pub mod Fronts

@@ -1,0 +1,77 @@
+// Spelling a value. A dictionary's keys come sorted as raw bytes, which is the order of its map.
+ghost use Rattle.std.specs.Prelude.{◌≡◌, ◌++◌, OnOk, OnErr, codes, length};
+ghost use Rattle.bencode_wire.specs.View.{view, trees_view, pairs_view};
+ghost use Rattle.bencode_wire.specs.Spelling.{text, trees_text, pairs_text, string_text, integer_text};
+
+use crate::ben::{Ben, Dictionary};
+use itoa::Buffer;
+use std::alloc::AllocError;
+
+/// Appends the value's spelling. After want of memory `out` is as it was.
+pub fn write_into(value: &Ben, out: &mut Vec<u8>) -> Result<(), AllocError>
+    ensures ok { OnOk result (out.new.items ≡ out.old.items ++ text (view value.now)) }
+    ensures err { OnErr result (out.new.items ≡ out.old.items) }
+{
+    let mut bytes = Vec::new(*out.allocator());
+    spell(value, &mut bytes)?;
+    out.extend_from_slice(bytes.as_slice())
+}
+
+#[cycle(spell)]
+fn spell(value: &Ben, out: &mut Vec<u8>) -> Result<(), AllocError>
+    ensures { OnOk result (out.new.items ≡ out.old.items ++ text (view value.now)) }
+{
+    match value {
+        Ben::Integer(n) => spell_integer(*n, out),
+        Ben::String(bytes) => spell_string(bytes, out),
+        Ben::List(items) => {
+            out.extend_from_slice(b"l")?;
+            spell_items(items, out)?;
+            out.extend_from_slice(b"e")
+        }
+        Ben::Dictionary(pairs) => {
+            out.extend_from_slice(b"d")?;
+            spell_pairs(pairs, out)?;
+            out.extend_from_slice(b"e")
+        }
+    }
+}
+
+#[cycle(spell)]
+fn spell_items(items: &[Ben], out: &mut Vec<u8>) -> Result<(), AllocError>
+    ensures { OnOk result (out.new.items ≡ out.old.items ++ trees_text (trees_view items.now)) }
+{
+    for item in items {
+        spell(item, out)?;
+    }
+    Ok(())
+}
+
+#[cycle(spell)]
+fn spell_pairs(pairs: &Dictionary, out: &mut Vec<u8>) -> Result<(), AllocError>
+    ensures { OnOk result (out.new.items ≡ out.old.items ++ pairs_text (pairs_view pairs.now.entries)) }
+{
+    for (key, value) in pairs.iter() {
+        spell_string(key, out)?;
+        spell(value, out)?;
+    }
+    Ok(())
+}
+
+fn spell_integer(n: i64, out: &mut Vec<u8>) -> Result<(), AllocError>
+    ensures { OnOk result (out.new.items ≡ out.old.items ++ integer_text n) }
+{
+    let mut digits = Buffer::new();
+    out.extend_from_slice(b"i")?;
+    out.extend_from_slice(digits.format(n).as_bytes())?;
+    out.extend_from_slice(b"e")
+}
+
+fn spell_string(bytes: &[u8], out: &mut Vec<u8>) -> Result<(), AllocError>
+    ensures { OnOk result (out.new.items ≡ out.old.items ++ string_text bytes.now) }
+{
+    let mut digits = Buffer::new();
+    out.extend_from_slice(digits.format(bytes.len()).as_bytes())?;
+    out.extend_from_slice(b":")?;
+    out.extend_from_slice(bytes)
+}

@@ -1,0 +1,4 @@
+pub mod Datum
+pub mod View
+pub mod Print
+pub mod Style

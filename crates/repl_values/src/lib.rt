@@ -1,0 +1,13 @@
+//! The values of the language, and how they are printed.
+//!
+//! A `Value` owns its texts and items. Contracts see it as plain data, `specs/Datum.antt`, by the
+//! fold `view` of `specs/View.antt`: two values with one view are the same value to every caller.
+#![tactic(auto)]
+
+mod copies;
+mod print;
+mod value;
+
+pub use copies::copy;
+pub use print::{display_into, print_into};
+pub use value::{Function, Owner, RefName, Value};
