@@ -5,9 +5,11 @@
 #![tactic(auto)]
 
 mod copies;
+mod fault;
 mod print;
 mod value;
 
 pub use copies::copy;
+pub use fault::Fault;
 pub use print::{display_into, print_into};
 pub use value::{Function, Owner, RefName, Value};

@@ -1,0 +1,62 @@
+// Which functions there are, and how many arguments each takes.
+ghost use Rattle.std.specs.Prelude.{◌≡◌, Some, false, is_some};
+ghost use Rattle.std.specs.Option.{option_map_or};
+ghost use Rattle.core_functions.specs.Names.{function_named, fits};
+
+/// A function of the language that needs no store.
+#[derive(Clone, Copy, Debug, PartialEq, Eq)]
+pub enum CoreFunction {
+    Add,
+    Quotient,
+}
+
+impl CoreFunction {
+    /// The function of this name, without a namespace. It takes no memory.
+    pub fn named(name: &str) -> Option<CoreFunction>
+        ensures { result ≡ function_named name.now }
+    {
+        match name {
+            "+" => Some(CoreFunction::Add),
+            "quot" => Some(CoreFunction::Quotient),
+            _ => None,
+        }
+    }
+
+    /// Its name in `clojure.core`.
+    pub fn name(self) -> &'static str
+        ensures { function_named result.now ≡ Some self }
+    {
+        match self {
+            CoreFunction::Add => "+",
+            CoreFunction::Quotient => "quot",
+        }
+    }
+
+    /// Whether it takes this many arguments. It takes no memory.
+    pub fn takes(self, arguments: usize) -> bool
+        ensures { result ≡ fits self arguments }
+    {
+        match self {
+            CoreFunction::Add => true,
+            CoreFunction::Quotient => arguments == 2,
+        }
+    }
+}
+
+/// Whether there is a function of this name. It takes no memory.
+pub fn knows(name: &str) -> bool
+    ensures { result ≡ is_some (function_named name.now) }
+{
+    CoreFunction::named(name).is_some()
+}
+
+/// Whether the function of this name takes this many arguments; false for a name that is unknown.
+/// It takes no memory.
+pub fn arity_fits(name: &str, arguments: usize) -> bool
+    ensures { result ≡ option_map_or (λ f. fits f arguments) (function_named name.now) false }
+{
+    match CoreFunction::named(name) {
+        Some(function) => function.takes(arguments),
+        None => false,
+    }
+}

@@ -1,0 +1,142 @@
+// One stream served to its end: pieces in, replies out.
+ghost use Rattle.std.specs.Prelude.{◌≡◌, ◌≤◌, [], OnOk};
+
+use crate::config::Config;
+use crate::server::Server;
+use crate::turns::{Actor, Core, Refusal, Wire};
+use bencode_wire::WireFault;
+use bytes::Bytes;
+use std::alloc::{AllocError, Global};
+use std::io::{Read, Write};
+use thiserror::Error;
+
+/// The greatest length of a piece.
+const PIECE: usize = 4_096;
+
+/// How a stream that was served to its end ended.
+#[derive(Clone, Copy, Debug, PartialEq, Eq)]
+pub enum PipeEnd {
+    /// The input was whole messages.
+    Whole,
+    /// The input ended inside a message.
+    Truncated,
+    /// The stream has this fault; nothing behind it was taken.
+    Broken(WireFault),
+    /// All steps were used up before the work was done.
+    Worn,
+}
+
+/// Why a stream was not served to its end. What was written is a part of the whole from its front.
+#[derive(Clone, Copy, Debug, PartialEq, Eq, Error)]
+pub enum PipeError {
+    #[error("out of memory")]
+    NoMemory,
+    #[error("read failed")]
+    ReadFailed,
+    #[error("write failed")]
+    WriteFailed,
+}
+
+impl From<AllocError> for PipeError {
+    ghost use Rattle.std.specs.Prelude.{◌≡◌};
+    ghost use Rattle.nrepl_server.specs.declared.pipe.PipeError.TheVariants.{NoMemory};
+
+    ghost from_gives = { λ _ e. e ≡ NoMemory };
+
+    fn from(_e: AllocError) -> PipeError {
+        PipeError::NoMemory
+    }
+}
+
+/// Serves one stream: reads pieces of at most 4,096 bytes, and writes each reply at once.
+///
+/// After each piece come rounds: the bare actor has a turn, and then the replies that wait are
+/// written. They end with the first round in which the turn is refused, other than for replies that
+/// wait. Reading stops at the end of the input, at a fault of the stream and at the last step.
+pub fn pipe<R: Read, W: Write>(
+    alloc: Global,
+    config: Config,
+    reader: &mut R,
+    writer: &mut W,
+) -> Result<PipeEnd, PipeError> {
+    let mut server = Server::new(alloc, config);
+    serve(alloc, &mut server, reader, writer)
+}
+
+fn serve<C: Core, R: Read, W: Write>(
+    alloc: Global,
+    core: &mut C,
+    reader: &mut R,
+    writer: &mut W,
+) -> Result<PipeEnd, PipeError> {
+    loop {
+        let Some(piece) = next_piece(alloc, reader)? else {
+            return Ok(end_of(core));
+        };
+        match core.hear(&piece) {
+            Ok(()) => {}
+            Err(Refusal::NoMemory) => return Err(PipeError::NoMemory),
+            Err(Refusal::Worn) => return Ok(PipeEnd::Worn),
+            Err(_) => return Ok(end_of(core)),
+        }
+        if run_rounds(core, writer)? == Rounds::Worn {
+            return Ok(PipeEnd::Worn);
+        }
+        if let Wire::Broken(fault) = core.wire() {
+            return Ok(PipeEnd::Broken(fault));
+        }
+    }
+}
+
+fn end_of<C: Core>(core: &C) -> PipeEnd {
+    match core.wire() {
+        Wire::Whole => PipeEnd::Whole,
+        Wire::Partial => PipeEnd::Truncated,
+        Wire::Broken(fault) => PipeEnd::Broken(fault),
+    }
+}
+
+// The next piece; none at the end of the input.
+fn next_piece<R: Read>(alloc: Global, reader: &mut R) -> Result<Option<Bytes>, PipeError> {
+    let mut buffer = [0u8; PIECE];
+    match reader.read(&mut buffer) {
+        Ok(0) => Ok(None),
+        Ok(n) => Ok(Some(Bytes::copy_from_slice(alloc, &buffer[..n])?)),
+        Err(_) => Err(PipeError::ReadFailed),
+    }
+}
+
+// How the rounds after a piece ended.
+#[derive(Clone, Copy, PartialEq, Eq)]
+enum Rounds {
+    Idle,
+    Worn,
+}
+
+fn run_rounds<C: Core, W: Write>(core: &mut C, writer: &mut W) -> Result<Rounds, PipeError>
+    ensures { (C.state core.new).steps ≤ (C.state core.old).steps }
+{
+    loop {
+        let gone = core.go(Actor::Bare);
+        write_replies(core, writer)?;
+        match gone {
+            Ok(()) => {}
+            Err(Refusal::Held) => {}
+            Err(Refusal::NoMemory) => return Err(PipeError::NoMemory),
+            Err(Refusal::Worn) => return Ok(Rounds::Worn),
+            Err(_) => return Ok(Rounds::Idle),
+        }
+    }
+}
+
+fn write_replies<C: Core, W: Write>(core: &mut C, writer: &mut W) -> Result<(), PipeError>
+    ensures steps { (C.state core.new).steps ≡ (C.state core.old).steps }
+    ensures empty { OnOk result ((C.state core.new).outbox ≡ []) }
+{
+    while let Some(reply) = core.drain() {
+        if writer.write_all(reply.as_slice()).is_err() || writer.flush().is_err() {
+            return Err(PipeError::WriteFailed);
+        }
+    }
+    Ok(())
+}

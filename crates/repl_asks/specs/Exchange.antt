@@ -1,0 +1,32 @@
+-- Asks and answers, without where they lie in memory.
+use Rattle.std.specs.Prelude.{ℕ, List, Bool, ⊤}
+use Rattle.repl_values.specs.Datum.{Datum}
+
+pub data AskData : Type 0 where
+  -- what a symbol names in a namespace
+  resolve : List ℕ → List ℕ → AskData
+  -- a namespace, a name and its value
+  define : List ℕ → List ℕ → Datum → AskData
+
+pub data AnswerData : Type 0 where
+  value : Datum → AnswerData
+  -- by its name in `clojure.core`
+  core_function : List ℕ → AnswerData
+  -- a class and a text
+  fault : List ℕ → List ℕ → AnswerData
+
+pub record Exchanged : Type 0 where
+  pub ask : AskData
+  pub answer : AnswerData
+
+-- what has been asked and answered, and whether the last ask was left without an answer
+pub record Heard : Type 0 where
+  pub trace : List Exchanged
+  pub stopped : Bool
+
+-- the answer is of a kind that the ask has: a definition is answered by its var, or by a fault
+abbrev pub Fits : AskData → AnswerData → Type 0
+Fits (resolve namespace symbol) answer = ⊤
+Fits (define namespace name d) (value v) = ⊤
+Fits (define namespace name d) (core_function f) = ⊥
+Fits (define namespace name d) (fault class text) = ⊤

@@ -1,0 +1,86 @@
+// The asks and their answers.
+ghost use Rattle.std.specs.Prelude.{◌≡◌, IfOk, string_bytes};
+ghost use Rattle.repl_asks.specs.View.{ask_view, answer_view};
+
+use repl_values::{Fault, Value, copy};
+use std::alloc::{AllocError, Global};
+
+/// What a form asks next.
+#[derive(Debug, Drop)]
+pub enum Ask {
+    /// What a symbol names in a namespace. Answered by a value, a function or a fault.
+    Resolve {
+        namespace: String,
+        symbol: String,
+    },
+    /// Binds a name in a namespace. Answered by the var, or by a fault.
+    Define {
+        namespace: String,
+        name: String,
+        value: Value,
+    },
+}
+
+/// What the store answers.
+#[derive(Debug, Drop)]
+pub enum Answer {
+    Value(Value),
+    /// A function of the language, by its name in `clojure.core`.
+    CoreFunction(String),
+    Fault(Fault),
+}
+
+/// An ask with its answer.
+#[derive(Debug, Drop)]
+pub struct Exchange {
+    pub ask: Ask,
+    pub answer: Answer,
+}
+
+/// The exchanges of an evaluation so far, in order.
+pub type Trace = Vec<Exchange>;
+
+fn copy_text(alloc: Global, text: &String) -> Result<String, AllocError>
+    ensures { IfOk result (λ copied. string_bytes copied ≡ string_bytes text.now) }
+{
+    String::from_str(alloc, text.as_str())
+}
+
+impl Ask {
+    /// The same ask once more. It fails only for want of memory.
+    pub fn copy(&self, alloc: Global) -> Result<Ask, AllocError>
+        ensures { IfOk result (λ copied. ask_view copied ≡ ask_view self.now) }
+    {
+        match self {
+            Ask::Resolve { namespace, symbol } => Ok(Ask::Resolve {
+                namespace: copy_text(alloc, namespace)?,
+                symbol: copy_text(alloc, symbol)?,
+            }),
+            Ask::Define {
+                namespace,
+                name,
+                value,
+            } => Ok(Ask::Define {
+                namespace: copy_text(alloc, namespace)?,
+                name: copy_text(alloc, name)?,
+                value: copy(alloc, value)?,
+            }),
+        }
+    }
+}
+
+impl Answer {
+    /// The same answer once more. It fails only for want of memory.
+    pub fn copy(&self, alloc: Global) -> Result<Answer, AllocError>
+        ensures { IfOk result (λ copied. answer_view copied ≡ answer_view self.now) }
+    {
+        match self {
+            Answer::Value(value) => Ok(Answer::Value(copy(alloc, value)?)),
+            Answer::CoreFunction(name) => Ok(Answer::CoreFunction(copy_text(alloc, name)?)),
+            Answer::Fault(fault) => Ok(Answer::Fault(Fault {
+                class: copy_text(alloc, &fault.class)?,
+                text: copy_text(alloc, &fault.text)?,
+            })),
+        }
+    }
+}

@@ -1,0 +1,14 @@
+//! What an evaluation asks of the store, and what it is answered.
+//!
+//! Evaluation itself has no store. Where a form needs one, the walker asks a `Refs` and goes on with
+//! its answer; so what a form comes to is a function of the form and of the answers alone. The
+//! exchanges in a row are its trace.
+#![tactic(auto)]
+
+mod ask;
+mod refs;
+mod replay;
+
+pub use ask::{Answer, Ask, Exchange, Trace};
+pub use refs::{Refs, Stop, StopReason};
+pub use replay::Replay;

@@ -1,0 +1,103 @@
+// Answers that are known beforehand.
+ghost use Rattle.std.specs.Prelude.{◌≡◌, ◌++◌, [], ◌∷◌, true, false, map, IsTrue, IsErr, IfOk, OnErr};
+ghost use Rattle.repl_asks.specs.Exchange.{Heard, Fits};
+ghost use Rattle.repl_asks.specs.View.{ask_view, answer_view, exchange_view};
+
+use crate::ask::{Answer, Ask, Exchange, Trace};
+use crate::refs::{Refs, Stop, StopReason};
+use std::alloc::Global;
+use std::collections::VecDeque;
+
+/// Gives answers that are known beforehand, in order, and stops where none is left. An answer that
+/// does not fit its ask counts as none.
+#[derive(Drop)]
+pub struct Replay {
+    left: VecDeque<Answer>,
+    trace: Trace,
+    has_stopped: bool,
+}
+
+impl Replay {
+    ghost use Rattle.repl_asks.specs.Replay.{heard_by, answers_left};
+
+    /// A replay of these answers, which was asked nothing yet. It takes no memory.
+    pub fn new(alloc: Global, answers: Vec<Answer>) -> Replay
+        ensures left { answers_left result ≡ map answer_view answers.items }
+        ensures heard { heard_by result ≡ record { trace = []; stopped = false } }
+    {
+        Replay {
+            left: VecDeque::from_vec(answers),
+            trace: Vec::new(alloc),
+            has_stopped: false,
+        }
+    }
+}
+
+// Whether the answer is of a kind that the ask has.
+fn fits(ask: &Ask, answer: &Answer) -> bool
+    ensures { IsTrue result → Fits (ask_view ask.now) (answer_view answer.now) }
+{
+    match (ask, answer) {
+        (Ask::Define { .. }, Answer::CoreFunction(_)) => false,
+        _ => true,
+    }
+}
+
+impl Refs for Replay {
+    ghost use Rattle.repl_asks.specs.Replay.{heard_by};
+
+    ghost heard = { heard_by };
+
+    fn ask(&mut self, alloc: Global, ask: Ask) -> Result<Answer, Stop> {
+        match self.next_for(alloc, &ask) {
+            Ok(answer) => Ok(answer),
+            Err(why) => {
+                self.has_stopped = true;
+                Err(Stop { why, ask })
+            }
+        }
+    }
+}
+
+impl Replay {
+    ghost use Rattle.repl_asks.specs.Replay.{heard_by, answers_left};
+
+    // The next answer, recorded beside its ask.
+    fn next_for(&mut self, alloc: Global, ask: &Ask) -> Result<Answer, StopReason>
+        ensures grows { IfOk result (λ answer. (heard_by self.new).trace
+            ≡ (heard_by self.old).trace ++ record { ask = ask_view ask.now; answer = answer_view answer } ∷ []) }
+        ensures fits { IfOk result (λ answer. Fits (ask_view ask.now) (answer_view answer)) }
+        ensures left { IfOk result (λ answer. answers_left self.old ≡ answer_view answer ∷ answers_left self.new) }
+        ensures stopped { (heard_by self.new).stopped ≡ (heard_by self.old).stopped }
+        ensures stays { OnErr result ((heard_by self.new).trace ≡ (heard_by self.old).trace) }
+        ensures no_more { (heard_by self.old).stopped ≡ true → IsErr result }
+    {
+        if self.has_stopped {
+            return Err(StopReason::NoAnswer);
+        }
+        let Some(answer) = self.left.front() else {
+            return Err(StopReason::NoAnswer);
+        };
+        if !fits(ask, answer) {
+            return Err(StopReason::NoAnswer);
+        }
+        let exchange = recorded(alloc, ask, answer)?;
+        if self.trace.push(exchange).is_err() {
+            return Err(StopReason::NoMemory);
+        }
+        match self.left.pop_front() {
+            Some(answer) => Ok(answer),
+            None => Err(StopReason::NoAnswer),
+        }
+    }
+}
+
+fn recorded(alloc: Global, ask: &Ask, answer: &Answer) -> Result<Exchange, StopReason>
+    ensures { IfOk result (λ made. exchange_view made
+        ≡ record { ask = ask_view ask.now; answer = answer_view answer.now }) }
+{
+    match (ask.copy(alloc), answer.copy(alloc)) {
+        (Ok(ask), Ok(answer)) => Ok(Exchange { ask, answer }),
+        _ => Err(StopReason::NoMemory),
+    }
+}

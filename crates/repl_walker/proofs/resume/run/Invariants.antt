@@ -1,0 +1,10 @@
+use Rattle.std.proofs.Common.{◌≤◌, ◌+◌}
+use Rattle.repl_walker.specs.Size.{control_size, frames_size}
+use Rattle.repl_walker.proofs.resume.run.Given as goal
+
+abbrev pub invariant-loop-control : goal.invariant-loop-control
+invariant-loop-control l =
+    control_size l.control + frames_size l.state.frames.items ≤ control_size l.initial.control + frames_size l.initial.state.frames.items
+
+abbrev pub decreases-loop-control : goal.decreases-loop-control
+decreases-loop-control l = control_size l.control + frames_size l.state.frames.items
