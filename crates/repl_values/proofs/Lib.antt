@@ -1,2 +1,3 @@
 pub mod Escapes
+pub mod Sameness
 pub mod Views

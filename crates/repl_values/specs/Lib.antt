@@ -2,3 +2,5 @@ pub mod Datum
 pub mod View
 pub mod Print
 pub mod Style
+pub mod Same
+pub mod Measures

@@ -5,9 +5,13 @@
 #![tactic(auto)]
 
 mod copies;
+mod equality;
+mod measure;
 mod print;
 mod value;
 
 pub use copies::copy;
+pub use equality::same;
+pub use measure::{is_plain, nesting, weight};
 pub use print::{display_into, print_into};
 pub use value::{Function, Owner, RefName, Value};
