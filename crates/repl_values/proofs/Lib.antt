@@ -1,3 +1,4 @@
 pub mod Escapes
+pub mod Hashes
 pub mod Sameness
 pub mod Views

@@ -5,7 +5,7 @@ use Rattle.std.proofs.lemmas.Grind.{common_steps}
 use Rattle.repl_values.specs.Datum.{Datum, Items, no_items, item, Pairs, no_pairs, pair}
 use Rattle.repl_values.specs.View.{view, items_view, pairs_view}
 use Rattle.repl_values.specs.declared.value.Value.{Value}
-use Rattle.repl_values.specs.Same.{same, same_items, same_size, has_pair, is_among, within}
+use Rattle.repl_values.specs.Same.{same, same_items, size, has_pair, is_among, within}
 
 -- items of different lengths are not equal
 pub same_items-apart : (xs ys : List Value) → length xs ≢ length ys → same_items (items_view xs) (items_view ys) ≡ false
@@ -20,11 +20,9 @@ same_items-apart (x ∷ xs) (y ∷ ys) n =
     and-false true = refl
     and-false false = refl
 
-pub same_size-length : (xs ys : List (Value × Value)) → same_size (pairs_view xs) (pairs_view ys) ≡ eqb (length xs) (length ys)
-same_size-length [] [] = refl
-same_size-length [] (y ∷ ys) = grind (arith, nat_tests)
-same_size-length (x ∷ xs) [] = grind (arith, nat_tests)
-same_size-length (x ∷ xs) (y ∷ ys) = rw (same_size-length xs ys) (grind (arith, nat_tests))
+pub size-pairs_view : (xs : List (Value × Value)) → size (pairs_view xs) ≡ length xs
+size-pairs_view [] = refl
+size-pairs_view (x ∷ xs) = omega (arith, size-pairs_view xs)
 
 -- a pair that passes is found
 pub has_pair-at : (key value : Datum → Bool) (xs : List (Value × Value)) (i : ℕ) (d : Value × Value) → i < length xs
@@ -62,4 +60,6 @@ within-step xs ys i p i< is has =
     let at : drop i xs ≡ get_or xs i p ∷ drop (suc i) xs = drop-cons xs i p i< in
     rw (add-one, at, ← is, has) refl
 
-pub ruleset pair_steps = (same_items-apart, same_size-length, has_pair-at, is_among-at)
+pub ruleset pair_steps = (same_items-apart, size-pairs_view, has_pair-at, is_among-at)
+
+pub ruleset size_steps = (size-pairs_view)

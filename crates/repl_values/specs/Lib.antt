@@ -4,3 +4,5 @@ pub mod Print
 pub mod Style
 pub mod Same
 pub mod Measures
+pub mod Hash
+pub mod Repeats

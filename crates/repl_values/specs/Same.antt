@@ -1,5 +1,5 @@
 -- When two values are equal.
-use Rattle.std.specs.Prelude.{ℕ, Bool, true, false, suc, ◌&&◌, ◌||◌, ◌==◌, bytes_eq}
+use Rattle.std.specs.Prelude.{ℕ, ◌+◌, Bool, true, false, ◌&&◌, ◌||◌, ◌==◌, bytes_eq}
 use Rattle.std.specs.Bool.{beq}
 use Rattle.std.specs.Ordering.{int_eq}
 use Rattle.repl_values.specs.Datum.{OwnerData, shared, tenant, Datum, nil, boolean, integer, string, keyword, symbol, list, vector, map, ref, atom, agent, var, fault, Items, no_items, item, Pairs, no_pairs, pair}
@@ -9,10 +9,10 @@ same_owner shared shared = true
 same_owner (tenant t) (tenant u) = t == u
 same_owner _ _ = false
 
-abbrev pub same_size : Pairs → Pairs → Bool
-same_size no_pairs no_pairs = true
-same_size (pair k v ps) (pair l w qs) = same_size ps qs
-same_size _ _ = false
+-- how many pairs there are
+abbrev pub size : Pairs → ℕ
+size no_pairs = 0
+size (pair k v ps) = 1 + size ps
 
 -- whether one of the pairs has a key and a value that pass
 abbrev pub has_pair : (Datum → Bool) → (Datum → Bool) → Pairs → Bool
@@ -38,7 +38,7 @@ abbrev mutual
   same (list ds) (vector es) = same_items ds es
   same (vector ds) (list es) = same_items ds es
   same (vector ds) (vector es) = same_items ds es
-  same (map ps) (map qs) = same_size ps qs && (within ps qs && each_pair (is_among ps) qs)
+  same (map ps) (map qs) = size ps == size qs && (within ps qs && each_pair (is_among ps) qs)
   same (ref o m) (ref p n) = same_owner o p && m == n
   same (atom m) (atom n) = m == n
   same (agent m) (agent n) = m == n

@@ -4,7 +4,7 @@
 ghost use Rattle.std.specs.Prelude.{◌≡◌, ◌&&◌, ◌==◌, bytes_eq, string_bytes};
 ghost use Rattle.repl_values.specs.Datum.{map};
 ghost use Rattle.repl_values.specs.View.{view, items_view, pairs_view, owner_view};
-ghost use Rattle.repl_values.specs.Same.{same as are_same, same_items as items_are_same, same_size, within, each_pair, is_among, has_pair, same_owner as owners_are_same};
+ghost use Rattle.repl_values.specs.Same.{same as are_same, same_items as items_are_same, within, each_pair, is_among, same_owner as owners_are_same};
 
 use crate::value::{Owner, RefName, Value};
 

@@ -6,12 +6,14 @@
 
 mod copies;
 mod equality;
+mod hashing;
 mod measure;
 mod print;
 mod value;
 
 pub use copies::copy;
 pub use equality::same;
+pub use hashing::hash_of;
 pub use measure::{is_plain, nesting, weight};
 pub use print::{display_into, print_into};
 pub use value::{Function, Owner, RefName, Value};
