@@ -1,4 +1,5 @@
 pub mod Escapes
 pub mod Hashes
+pub mod Repeating
 pub mod Sameness
 pub mod Views

@@ -6,3 +6,4 @@ pub mod Same
 pub mod Measures
 pub mod Hash
 pub mod Repeats
+pub mod Seen

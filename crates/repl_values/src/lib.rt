@@ -9,6 +9,7 @@ mod equality;
 mod hashing;
 mod measure;
 mod print;
+mod repeats;
 mod value;
 
 pub use copies::copy;
@@ -16,4 +17,5 @@ pub use equality::same;
 pub use hashing::hash_of;
 pub use measure::{is_plain, nesting, weight};
 pub use print::{display_into, print_into};
+pub use repeats::first_repeated;
 pub use value::{Function, Owner, RefName, Value};
