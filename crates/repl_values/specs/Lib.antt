@@ -7,3 +7,4 @@ pub mod Measures
 pub mod Hash
 pub mod Repeats
 pub mod Seen
+pub mod Code
