@@ -8,3 +8,4 @@ pub mod Hash
 pub mod Repeats
 pub mod Seen
 pub mod Code
+pub mod Parts

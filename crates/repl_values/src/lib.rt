@@ -7,6 +7,7 @@
 mod copies;
 mod equality;
 mod hashing;
+pub mod laws;
 mod measure;
 mod print;
 mod repeats;
