@@ -11,6 +11,8 @@ pub mod laws;
 mod measure;
 mod print;
 mod repeats;
+#[cfg(test)]
+mod tests;
 mod value;
 
 pub use copies::copy;
