@@ -2,3 +2,10 @@ pub mod Datum
 pub mod View
 pub mod Print
 pub mod Style
+pub mod Same
+pub mod Measures
+pub mod Hash
+pub mod Repeats
+pub mod Seen
+pub mod Code
+pub mod Parts

@@ -3,7 +3,7 @@ use Rattle.std.specs.Prelude.{ℕ, List, [], ◌∷◌, ◌++◌, if◌then◌el
 use Rattle.std.specs.Fmt.{signed_decimal}
 use Rattle.repl_values.specs.Datum.{OwnerData, shared, tenant, Datum, nil, boolean, integer, string, keyword, symbol, list, vector, map, ref, atom, agent, var, fault, Items, no_items, item, Pairs, no_pairs, pair}
 
--- what stands for a byte of a string between its quotes: eight characters have an escape
+-- what stands for a byte of a string between its quotes: seven characters have an escape
 unfoldable pub escaped_byte : ℕ → List ℕ
 escaped_byte b =
     if b == 34 then codes "\\\"" else (

@@ -1,8 +1,8 @@
 // Copies, written out since a derived clone says nothing of a type that holds itself.
-ghost use Rattle.std.specs.Prelude.{◌≡◌, IfOk, string_bytes};
-ghost use Rattle.repl_values.specs.View.{view, items_view, pairs_view};
+ghost use Rattle.std.specs.Prelude.{◌≡◌, IfOk, map, string_bytes};
+ghost use Rattle.repl_values.specs.View.{view, items_view, pairs_view, function_view};
 
-use crate::value::Value;
+use crate::value::{Function, Value};
 use std::alloc::{AllocError, Global};
 
 /// A value with the same view. It fails only for want of memory.
@@ -60,6 +60,30 @@ fn copy_pairs(alloc: Global, pairs: &Vec<(Value, Value)>) -> Result<Vec<(Value, 
         let key = copy(alloc, key)?;
         let value = copy(alloc, value)?;
         copies.push((key, value))?;
+    }
+    Ok(copies)
+}
+
+impl Function {
+    /// A function with the same view. It fails only for want of memory.
+    pub fn copy(&self, alloc: Global) -> Result<Function, AllocError>
+        ensures { IfOk result (λ copied. function_view copied ≡ function_view self.now) }
+    {
+        Ok(Function {
+            space: copy_text(alloc, &self.space)?,
+            name: copy_text(alloc, &self.name)?,
+            params: copy_texts(alloc, &self.params)?,
+            body: copy_items(alloc, &self.body)?,
+        })
+    }
+}
+
+fn copy_texts(alloc: Global, texts: &Vec<String>) -> Result<Vec<String>, AllocError>
+    ensures { IfOk result (λ copied. map string_bytes copied.items ≡ map string_bytes texts.now.items) }
+{
+    let mut copies = Vec::with_capacity(alloc, texts.len())?;
+    for text in texts {
+        copies.push(copy_text(alloc, text)?)?;
     }
     Ok(copies)
 }

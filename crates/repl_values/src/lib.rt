@@ -5,9 +5,20 @@
 #![tactic(auto)]
 
 mod copies;
+mod equality;
+mod hashing;
+pub mod laws;
+mod measure;
 mod print;
+mod repeats;
+#[cfg(test)]
+mod tests;
 mod value;
 
 pub use copies::copy;
+pub use equality::same;
+pub use hashing::hash_of;
+pub use measure::{is_plain, nesting, weight};
 pub use print::{display_into, print_into};
+pub use repeats::first_repeated;
 pub use value::{Function, Owner, RefName, Value};

@@ -1,0 +1,14 @@
+use Rattle.std.proofs.Common.{◌≡◌, true, subst, sym, ap}
+use Rattle.repl_values.specs.Datum.{Datum}
+use Rattle.repl_values.specs.View.{view}
+use Rattle.repl_values.specs.Same.{same}
+use Rattle.repl_values.specs.Print.{print}
+use Rattle.repl_values.proofs.Equivalence.{same-refl}
+use Rattle.repl_values.proofs.laws.copy_is_same.Goals as goal
+
+pub returns-clause-equal : goal.returns-clause-equal
+returns-clause-equal c =
+    subst (λ (d : Datum). same d (view c.args.value.now) ≡ true) (sym c.requires) (same-refl (view c.args.value.now))
+
+pub returns-clause-printed : goal.returns-clause-printed
+returns-clause-printed c = ap print c.requires
