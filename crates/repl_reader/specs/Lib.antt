@@ -1,0 +1,6 @@
+pub mod Fault
+pub mod Text
+pub mod Token
+pub mod Reading
+pub mod Grammar
+pub mod View

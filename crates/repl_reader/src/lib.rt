@@ -1,8 +1,20 @@
 //! The reader: the text of a program as forms.
+//!
+//! `read_all` gives the forms before the first fault, and that fault. What a text reads as stands in
+//! `specs/Grammar.antt`.
 #![tactic(auto)]
 
+mod blank;
+mod brackets;
 mod fault;
-mod read;
+mod forms;
+mod maps;
+mod nest;
+mod next;
+mod reading;
+mod strings;
+mod text;
+mod tokens;
 
 pub use fault::{FaultKind, ReaderFault};
-pub use read::{Forms, read_all};
+pub use forms::{Forms, read_all};

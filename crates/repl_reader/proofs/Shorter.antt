@@ -1,0 +1,203 @@
+-- What follows a form is shorter than the text that begins with it.
+use Rattle.std.proofs.Common.{◌≡◌, ℕ, ℤ, suc, ◌+◌, ◌<◌, ◌≤◌, Bool, true, false, ◌||◌, cond, not, eqb, List, [], ◌∷◌, ◌++◌, length, drop, Option, Some, None, refl, sym, ap, ◌∙◌, arith, subst, one-add, length-drop}
+use Rattle.std.specs.List.{position_or_len}
+use Rattle.repl_values.specs.Datum.{Datum, Items, Pairs}
+use Rattle.repl_reader.specs.declared.fault.FaultKind.{FaultKind}
+use Rattle.repl_reader.specs.declared.fault.FaultKind.TheVariants.{BadNumber, BadToken}
+use Rattle.repl_reader.specs.Fault.{break_of}
+use Rattle.repl_reader.specs.Text.{is_white, is_delimiter, ends_token, bare, after_comment, token, after_token}
+use Rattle.repl_reader.specs.Token.{begins_number, integer_of, name_of}
+use Rattle.repl_reader.specs.Reading.{Bracket, round, square, curly, Reading, begins, closes, ends, breaks, Next, settled, opens, marks, drops, string_at, escape_at, bad_escape, is_escape, escape, found_or, integer_datum, token_at, dispatch_at, is_unsupported, next_by, next_of, next}
+use Rattle.repl_reader.specs.Grammar.{Reads, plain, marked, marked_deep, opened, opened_deep, dropped, undropped, Row, last, more, wanted, wrapped, enclosed, collected, map_of, paired, unmatched, same_bracket}
+
+abbrev pub Shorter : ℕ → Reading → Type 0
+Shorter n (begins d rest) = length rest < n
+Shorter n (closes b rest) = length rest < n
+Shorter n ends = Unit {0}
+Shorter n (breaks f) = Unit {0}
+
+abbrev pub NextShorter : ℕ → Next → Type 0
+NextShorter n (settled r) = Shorter n r
+NextShorter n (opens b rest) = length rest < n
+NextShorter n (marks name rest) = length rest < n
+NextShorter n (drops rest) = length rest < n
+
+pub shorter_le : (m n : ℕ) (r : Reading) → m ≤ n → Shorter m r → Shorter n r
+shorter_le m n (begins d rest) h s = omega arith
+shorter_le m n (closes b rest) h s = omega arith
+shorter_le m n ends h s = tt
+shorter_le m n (breaks f) h s = tt
+
+next_shorter_le : (m n : ℕ) (x : Next) → m ≤ n → NextShorter m x → NextShorter n x
+next_shorter_le m n (settled r) h s = shorter_le m n r h s
+next_shorter_le m n (opens b rest) h s = omega arith
+next_shorter_le m n (marks name rest) h s = omega arith
+next_shorter_le m n (drops rest) h s = omega arith
+
+either : (n : ℕ) (t : Bool) (x y : Reading) → Shorter n x → Shorter n y → Shorter n (cond t x y)
+either n true x y h k = h
+either n false x y h k = k
+
+-- strings
+bad_escape_shorter : (n : ℕ) (text : List ℕ) → Shorter n (bad_escape text)
+unfolding bad_escape
+bad_escape_shorter n [] = tt
+bad_escape_shorter n (b ∷ bs) = tt
+
+mutual
+  string_shorter : (text s : List ℕ) → Shorter (length text) (string_at s text)
+  string_shorter [] s = tt
+  string_shorter (b ∷ bs) s = either _ (eqb b 34) _ _ (omega arith) (either _ (eqb b 92) _ _
+      (shorter_le _ _ (escape_at s bs) (omega arith) (escape_shorter bs s))
+      (shorter_le _ _ (string_at (s ++ b ∷ []) bs) (omega arith) (string_shorter bs (s ++ b ∷ []))))
+
+  escape_shorter : (text s : List ℕ) → Shorter (length text) (escape_at s text)
+  escape_shorter [] s = tt
+  escape_shorter (b ∷ bs) s = either _ (is_escape b) _ _
+      (shorter_le _ _ (string_at (s ++ escape b ∷ []) bs) (omega arith) (string_shorter bs (s ++ escape b ∷ [])))
+      (bad_escape_shorter _ (b ∷ bs))
+
+-- tokens
+after_token_shorter : (b : ℕ) (bs : List ℕ) → ends_token b ≡ false → length (after_token (b ∷ bs)) < length (b ∷ bs)
+after_token_shorter b bs e = rw (e, one-add) (omega (arith, length-drop (position_or_len ends_token bs) bs))
+
+found_shorter : (b : ℕ) (bs : List ℕ) (kind : FaultKind) (o : Option Datum) → ends_token b ≡ false → Shorter (length (b ∷ bs)) (found_or kind (b ∷ bs) o)
+found_shorter b bs kind None e = tt
+found_shorter b bs kind (Some d) e = after_token_shorter b bs e
+
+token_shorter : (b : ℕ) (bs : List ℕ) → ends_token b ≡ false → Shorter (length (b ∷ bs)) (token_at (b ∷ bs))
+unfolding token_at
+token_shorter b bs e = either _ (begins_number (token (b ∷ bs))) _ _ (found_shorter b bs BadNumber _ e) (found_shorter b bs BadToken _ e)
+
+next_either : (n : ℕ) (t : Bool) (x y : Next) → NextShorter n x → NextShorter n y → NextShorter n (cond t x y)
+next_either n true x y h k = h
+next_either n false x y h k = k
+
+-- what comes next
+dispatch_shorter : (text : List ℕ) → NextShorter (suc (length text)) (dispatch_at text)
+unfolding dispatch_at
+dispatch_shorter [] = tt
+dispatch_shorter (b ∷ bs) = next_either _ (eqb b 95) _ _ (omega arith) tt
+
+choose : (n : ℕ) (t : Bool) (x y : Next) → NextShorter n x → (t ≡ false → NextShorter n y) → NextShorter n (cond t x y)
+choose n true x y h k = h
+choose n false x y h k = k refl
+
+unsupported : (t u v w : Bool) → (t || u || v || w) ≡ false → (false || t || u || v || w) ≡ false
+unsupported t u v w h = h
+
+no_end : (b : ℕ) → is_white b ≡ false → eqb b 59 ≡ false → eqb b 40 ≡ false → eqb b 91 ≡ false → eqb b 123 ≡ false → eqb b 41 ≡ false → eqb b 93 ≡ false
+    → eqb b 125 ≡ false → eqb b 64 ≡ false → eqb b 34 ≡ false → is_unsupported b ≡ false → ends_token b ≡ false
+unfolding ends_token is_delimiter
+no_end b white h1 h2 h3 h4 h5 h6 h7 h8 h9 h10 = rw (white, h2, h3, h4, h5, h6, h7, h8, h9, h1) (unsupported (eqb b 94) (eqb b 126) (eqb b 92) (eqb b 96) h10)
+
+next_by_shorter : (b : ℕ) (bs : List ℕ) → is_white b ≡ false → eqb b 59 ≡ false → NextShorter (length (b ∷ bs)) (next_by b bs)
+unfolding next_by
+next_by_shorter b bs dark code =
+    let behind : length bs < length (b ∷ bs) = omega arith in
+    choose _ (eqb b 40) _ _ behind (λ e1.
+    choose _ (eqb b 91) _ _ behind (λ e2.
+    choose _ (eqb b 123) _ _ behind (λ e3.
+    choose _ (eqb b 41) _ _ behind (λ e4.
+    choose _ (eqb b 93) _ _ behind (λ e5.
+    choose _ (eqb b 125) _ _ behind (λ e6.
+    choose _ (eqb b 39) _ _ behind (λ e7.
+    choose _ (eqb b 64) _ _ behind (λ e8.
+    choose _ (eqb b 35) _ _ (dispatch_shorter bs) (λ e9.
+    choose _ (eqb b 34) _ _ (shorter_le _ _ (string_at [] bs) (omega arith) (string_shorter bs [])) (λ e10.
+    choose _ (is_unsupported b) _ _ tt (λ e11.
+    token_shorter b bs (no_end b dark code e1 e2 e3 e4 e5 e6 e8 e10 e11))))))))))))
+
+-- neither white space nor the beginning of a comment
+IsDark : List ℕ → Type 0
+IsDark [] = Unit {0}
+IsDark (b ∷ bs) = (is_white b ≡ false) × (eqb b 59 ≡ false)
+
+record IsBared (n : ℕ) (text : List ℕ) : Type 0 where
+  dark : IsDark text
+  bound : length text ≤ n
+
+bared_more : (n : ℕ) (text : List ℕ) → IsBared n text → IsBared (suc n) text
+bared_more n text h = record { dark = h.dark; bound = omega (arith, h.bound) }
+
+bared_by : (b : ℕ) (bs : List ℕ) (t : Bool) → t ≡ eqb b 59 → (u : Bool) → u ≡ is_white b → IsBared (length bs) (bare bs) → IsBared (length bs) (after_comment bs)
+    → IsBared (length (b ∷ bs)) (cond t (after_comment bs) (cond u (bare bs) (b ∷ bs)))
+unfolding IsDark
+bared_by b bs true e u f x y = bared_more _ _ y
+bared_by b bs false e true f x y = bared_more _ _ x
+bared_by b bs false e false f x y = record { dark = (sym f, sym e); bound = omega arith }
+
+commented_by : (b : ℕ) (bs : List ℕ) (t : Bool) → IsBared (length bs) (bare bs) → IsBared (length bs) (after_comment bs) → IsBared (length (b ∷ bs)) (cond t (bare bs) (after_comment bs))
+commented_by b bs true x y = bared_more _ _ x
+commented_by b bs false x y = bared_more _ _ y
+
+mutual
+  unfolding IsDark
+  bared : (text : List ℕ) → IsBared (length text) (bare text)
+  bared [] = record { dark = tt; bound = omega arith }
+  bared (b ∷ bs) = bared_by b bs (eqb b 59) refl (is_white b) refl (bared bs) (commented bs)
+
+  commented : (text : List ℕ) → IsBared (length text) (after_comment text)
+  commented [] = record { dark = tt; bound = omega arith }
+  commented (b ∷ bs) = commented_by b bs (eqb b 10) (bared bs) (commented bs)
+
+of_bared : (n : ℕ) (text : List ℕ) → IsBared n text → NextShorter n (next_of text)
+unfolding IsDark
+of_bared n [] h = tt
+of_bared n (b ∷ bs) h = next_shorter_le _ n (next_by b bs) h.bound (next_by_shorter b bs h.dark.0 h.dark.1)
+
+pub next_shorter : (text : List ℕ) → NextShorter (length text) (next text)
+next_shorter text = of_bared _ (bare text) (bared text)
+
+pub next_shorter_is : (text : List ℕ) (x : Next) → next text ≡ x → NextShorter (length text) x
+next_shorter_is text x e = subst (λ (y : Next). NextShorter (length text) y) e (next_shorter text)
+
+-- forms
+wrapped_shorter : (n : ℕ) (name : List ℕ) (r : Reading) → Shorter n r → Shorter n (wrapped name r)
+wrapped_shorter n name (begins d rest) h = h
+wrapped_shorter n name (closes b rest) h = tt
+wrapped_shorter n name ends h = tt
+wrapped_shorter n name (breaks f) h = tt
+
+wanted_shorter : (n : ℕ) (r : Reading) → Shorter n r → Shorter n (wanted r)
+wanted_shorter n (begins d rest) h = h
+wanted_shorter n (closes b rest) h = tt
+wanted_shorter n ends h = tt
+wanted_shorter n (breaks f) h = tt
+
+map_shorter : (n : ℕ) (ps : Option Pairs) (rest : List ℕ) → length rest < n → Shorter n (map_of ps rest)
+unfolding map_of
+map_shorter n None rest h = tt
+map_shorter n (Some ps) rest h = h
+
+collected_shorter : (n : ℕ) (b : Bracket) (ds : Items) (rest : List ℕ) → length rest < n → Shorter n (collected b ds rest)
+collected_shorter n round ds rest h = h
+collected_shorter n square ds rest h = h
+collected_shorter n curly ds rest h = map_shorter n (paired ds) rest h
+
+enclosed_shorter : (n : ℕ) (b : Bracket) (ds : Items) (r : Reading) → Shorter n r → Shorter n (enclosed b ds r)
+enclosed_shorter n b ds (begins d rest) h = h
+enclosed_shorter n b ds (closes c rest) h = either n (same_bracket c b) _ (unmatched c rest) (collected_shorter n b ds rest h) tt
+enclosed_shorter n b ds ends h = tt
+enclosed_shorter n b ds (breaks f) h = tt
+
+le_of : (m n : ℕ) → m < n → m ≤ n
+le_of m n h = omega arith
+
+mutual
+  pub reads_shorter : (depth : ℕ) (text : List ℕ) (r : Reading) → Reads depth text r → Shorter (length text) r
+  reads_shorter _ _ _ (plain depth text r e) = next_shorter_is text _ e
+  reads_shorter _ _ _ (marked depth text name rest r e h i) =
+      shorter_le _ _ (wrapped name r) (le_of _ _ (next_shorter_is text _ e)) (wrapped_shorter _ name r (reads_shorter _ _ _ i))
+  reads_shorter _ _ _ (marked_deep depth text name rest e h) = tt
+  reads_shorter _ _ _ (opened depth text rest b ds r e h i) =
+      shorter_le _ _ (enclosed b ds r) (le_of _ _ (next_shorter_is text _ e)) (enclosed_shorter _ b ds r (row_shorter _ _ _ _ i))
+  reads_shorter _ _ _ (opened_deep depth text rest b e h) = tt
+  reads_shorter _ _ _ (dropped depth text after rest d r e i j) =
+      shorter_le (length rest) _ r (omega (arith, next_shorter_is text _ e, reads_shorter _ _ _ i)) (reads_shorter _ _ _ j)
+  reads_shorter _ _ _ (undropped depth text after r e i h) =
+      shorter_le _ _ (wanted r) (le_of _ _ (next_shorter_is text _ e)) (wanted_shorter _ r (reads_shorter _ _ _ i))
+
+  pub row_shorter : (depth : ℕ) (text : List ℕ) (ds : Items) (r : Reading) → Row depth text ds r → Shorter (length text) r
+  row_shorter _ _ _ _ (last depth text r i h) = reads_shorter _ _ _ i
+  row_shorter _ _ _ _ (more depth text rest d ds r i j) = shorter_le _ _ r (le_of _ _ (reads_shorter _ _ _ i)) (row_shorter _ _ _ _ j)

@@ -1,0 +1,15 @@
+use Rattle.std.proofs.Common.{◌≡◌, ◌∙◌, sym, ap, map, [], arith, length}
+use Rattle.std.proofs.lemmas.List.{nil_from_length}
+use Rattle.repl_values.specs.View.{items_view, pair_view}
+use Rattle.repl_reader.proofs.Rows.{in_front, behind, in_front_some, in_front_none}
+use Rattle.repl_reader.proofs.maps.pair_forms.Goals as goal
+
+pub returns-in-None-pending-2 : goal.returns-in-None-pending-2
+returns-in-None-pending-2 c =
+    let none = nil_from_length c.loop-form.form-iterator.rest.items (omega (arith, c.loop-form.form-iterator.rest.ok, c.in-None.ensures.steps)) in
+    sym c.loop-form.invariant ∙ rw (c.in-None-pending-2.is, none) (in_front_some (map pair_view c.loop-form.pairs.items))
+
+pub returns-in-Some-pending-2 : goal.returns-in-Some-pending-2
+returns-in-Some-pending-2 c =
+    let none = nil_from_length c.loop-form.form-iterator.rest.items (omega (arith, c.loop-form.form-iterator.rest.ok, c.in-None.ensures.steps)) in
+    sym c.loop-form.invariant ∙ rw (c.in-Some-pending-2.is, none) (in_front_none (map pair_view c.loop-form.pairs.items))

@@ -1,0 +1,13 @@
+use Rattle.std.proofs.Common.{◌≡◌, length, string_bytes, []}
+use Rattle.std.specs.Str.{IsUtf8}
+use Rattle.repl_reader.specs.Reading.{string_at}
+use Rattle.repl_reader.proofs.strings.read_string.Given as goal
+
+abbrev pub invariant-loop-contents : goal.invariant-loop-contents
+invariant-loop-contents l = record {
+  utf8 : IsUtf8 l.text;
+  left : string_at (string_bytes l.contents) l.text ≡ string_at [] l.fn.text;
+}
+
+abbrev pub decreases-loop-contents : goal.decreases-loop-contents
+decreases-loop-contents l = length l.text

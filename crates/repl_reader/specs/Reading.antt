@@ -1,0 +1,115 @@
+-- What a text begins with, as far as its first characters tell.
+use Rattle.std.specs.Prelude.{ℕ, ℤ, List, [], ◌∷◌, ◌++◌, Bool, Option, None, Some, ◌==◌, ◌||◌, ◌+◌, if◌then◌else◌, codes, length}
+use Rattle.repl_values.specs.Datum as datum
+use Rattle.repl_values.specs.Datum.{Datum}
+use Rattle.repl_reader.specs.declared.fault.FaultKind.{FaultKind}
+use Rattle.repl_reader.specs.declared.fault.FaultKind.TheVariants.{Eof, BadNumber, BadToken, BadEscape, BadDispatch, BadChar}
+use Rattle.repl_reader.specs.Fault.{BreakData, break_of}
+use Rattle.repl_reader.specs.Text.{bare, token, after_token, character}
+use Rattle.repl_reader.specs.Token.{begins_number, integer_of, name_of}
+
+pub data Bracket : Type 0 where
+  round : Bracket
+  square : Bracket
+  curly : Bracket
+
+-- what a text begins with, and the text after it
+pub data Reading : Type 0 where
+  -- a form
+  begins : Datum → List ℕ → Reading
+  -- a closing character in a form's place
+  closes : Bracket → List ℕ → Reading
+  -- nothing but white space and comments
+  ends : Reading
+  -- what breaks a rule
+  breaks : BreakData → Reading
+
+abbrev pub eof : Reading
+eof = breaks (break_of Eof 0 [])
+
+-- what stands for an escaped character, which is the byte after a backslash
+abbrev pub is_escape : ℕ → Bool
+is_escape b = b == 34 || b == 92 || b == 110 || b == 116 || b == 114 || b == 102 || b == 98
+
+abbrev pub escape : ℕ → ℕ
+escape b =
+    if b == 110 then 10 else (
+    if b == 116 then 9 else (
+    if b == 114 then 13 else (
+    if b == 102 then 12 else (
+    if b == 98 then 8 else b))))
+
+-- what stands behind a backslash and escapes nothing
+unfoldable pub bad_escape : List ℕ → Reading
+bad_escape [] = eof
+bad_escape (b ∷ bs) = breaks (break_of BadEscape (length (b ∷ bs) + 1) (character (b ∷ bs)))
+
+abbrev mutual
+  -- a string of which `s` was read, up to its closing quote
+  pub string_at : List ℕ → List ℕ → Reading
+  string_at s [] = eof
+  string_at s (b ∷ bs) =
+      if b == 34 then begins (datum.string s) bs else (if b == 92 then escape_at s bs else string_at (s ++ b ∷ []) bs)
+
+  -- the same behind a backslash
+  pub escape_at : List ℕ → List ℕ → Reading
+  escape_at s [] = eof
+  escape_at s (b ∷ bs) =
+      if is_escape b then string_at (s ++ escape b ∷ []) bs
+      else bad_escape (b ∷ bs)
+
+-- a value with the text after it, or a fault that names the token
+abbrev pub found_or : FaultKind → List ℕ → Option Datum → Reading
+found_or kind text None = breaks (break_of kind (length text) (token text))
+found_or kind text (Some d) = begins d (after_token text)
+
+abbrev pub integer_datum : Option ℤ → Option Datum
+integer_datum None = None
+integer_datum (Some n) = Some (datum.integer n)
+
+unfoldable pub token_at : List ℕ → Reading
+token_at text =
+    if begins_number (token text) then found_or BadNumber text (integer_datum (integer_of (token text)))
+    else found_or BadToken text (name_of (token text))
+
+-- what comes next
+pub data Next : Type 0 where
+  -- this, whatever follows
+  settled : Reading → Next
+  opens : Bracket → List ℕ → Next
+  -- a character that puts the form after it into a list, behind this symbol
+  marks : List ℕ → List ℕ → Next
+  -- `#_`, by which the form after it is dropped
+  drops : List ℕ → Next
+
+-- behind a `#` in a form's place
+unfoldable pub dispatch_at : List ℕ → Next
+dispatch_at [] = settled eof
+dispatch_at (b ∷ bs) = if b == 95 then drops bs else settled (breaks (break_of BadDispatch (length (b ∷ bs) + 1) (character (b ∷ bs))))
+
+-- ^ ~ \ and the back quote
+abbrev pub is_unsupported : ℕ → Bool
+is_unsupported b = b == 94 || b == 126 || b == 92 || b == 96
+
+-- by the first byte, and the bytes after it
+unfoldable pub next_by : ℕ → List ℕ → Next
+next_by b bs =
+    if b == 40 then opens round bs else (
+    if b == 91 then opens square bs else (
+    if b == 123 then opens curly bs else (
+    if b == 41 then settled (closes round bs) else (
+    if b == 93 then settled (closes square bs) else (
+    if b == 125 then settled (closes curly bs) else (
+    if b == 39 then marks (codes "quote") bs else (
+    if b == 64 then marks (codes "clojure.core/deref") bs else (
+    if b == 35 then dispatch_at bs else (
+    if b == 34 then settled (string_at [] bs) else (
+    if is_unsupported b then settled (breaks (break_of BadChar (length (b ∷ bs)) (character (b ∷ bs))))
+    else settled (token_at (b ∷ bs))))))))))))
+
+abbrev pub next_of : List ℕ → Next
+next_of [] = settled ends
+next_of (b ∷ bs) = next_by b bs
+
+abbrev pub next : List ℕ → Next
+next text = next_of (bare text)

@@ -1,0 +1,80 @@
+-- The data that the code's types stand for.
+use Rattle.std.specs.Prelude.{◌≡◌, ◌+◌, ◌<◌, ◌≤◌, ℕ, List, Vec, Option, None, Some, string_bytes, codes}
+use Rattle.std.specs.declared.alloc.Global.{Global}
+use Rattle.repl_values.specs.Datum.{Datum, Items, Pairs}
+use Rattle.repl_values.specs.View.{view, pairs_view, items_view}
+use Rattle.repl_values.specs.declared.value.Value.{Value}
+use Rattle.repl_reader.specs.Fault.{BreakData, FaultData}
+use Rattle.repl_reader.specs.Reading as plain
+use Rattle.repl_reader.specs.declared.fault.Break.{Break}
+use Rattle.repl_reader.specs.declared.fault.ReaderFault.{ReaderFault}
+use Rattle.repl_reader.specs.declared.reading.Bracket.{Bracket}
+use Rattle.repl_reader.specs.declared.reading.Mark.{Mark}
+use Rattle.repl_reader.specs.declared.reading.Reading.{Reading}
+use Rattle.repl_reader.specs.declared.next.Next.{Next}
+use Rattle.repl_reader.specs.declared.nest.Piece.{Piece}
+use Rattle.repl_reader.specs.declared.nest.Row.{Row as CodeRow}
+use Rattle.repl_reader.specs.Grammar.{Reads, Row, most_nested, too_deep, wrapped, enclosed}
+
+abbrev pub break_view : Break → BreakData
+break_view b = record { kind = b.kind; left = b.left; text = string_bytes b.text }
+
+abbrev pub fault_view : ReaderFault → FaultData
+fault_view f = record { kind = f.kind; at = f.at; text = string_bytes f.text }
+
+abbrev pub bracket_view : Bracket → plain.Bracket
+bracket_view Bracket.Round = plain.round
+bracket_view Bracket.Square = plain.square
+bracket_view Bracket.Curly = plain.curly
+
+abbrev pub symbol_of : Mark → List ℕ
+symbol_of Mark.Quote = codes "quote"
+symbol_of Mark.Deref = codes "clojure.core/deref"
+
+abbrev pub reading_view : Reading → plain.Reading
+reading_view (Reading.Form v rest) = plain.begins (view v) rest.now
+reading_view (Reading.Closing b rest) = plain.closes (bracket_view b) rest.now
+reading_view Reading.End = plain.ends
+reading_view (Reading.Broken f) = plain.breaks (break_view f)
+
+abbrev pub next_view : Next → plain.Next
+next_view (Next.Settled r) = plain.settled (reading_view r)
+next_view (Next.Opening b rest) = plain.opens (bracket_view b) rest.now
+next_view (Next.Marking m rest) = plain.marks (symbol_of m) rest.now
+next_view (Next.Dropping rest) = plain.drops rest.now
+
+
+-- a value where there is one, and else none
+abbrev pub IsValue : Option Value → Option Datum → Type 0
+IsValue None d = d ≡ None
+IsValue (Some v) d = d ≡ Some (view v)
+
+-- pairs where there are some, and else none
+abbrev pub ArePairs : Option (Vec (Value × Value) Global) → Option Pairs → Type 0
+ArePairs None ps = ps ≡ None
+ArePairs (Some v) ps = ps ≡ Some (pairs_view v.items)
+
+-- what the code knows of the front of a text: a dropped form is to follow, or what is read there
+abbrev pub IsPiece : ℕ → List ℕ → Piece → Type 0
+IsPiece depth text (Piece.Dropping rest) = plain.next text ≡ plain.drops rest.now
+IsPiece depth text (Piece.Read r) = Reads depth text (reading_view r)
+
+-- what is read behind a character that wraps a form, or behind an opening bracket
+pub data IsMarked (depth : ℕ) (name text : List ℕ) : plain.Reading → Type 0 where
+  wraps : (r : plain.Reading) → depth < most_nested → Reads (depth + 1) text r → IsMarked depth name text (wrapped name r)
+  wraps_deep : most_nested ≤ depth → IsMarked depth name text (too_deep text)
+
+pub data IsOpened (depth : ℕ) (b : plain.Bracket) (text : List ℕ) : plain.Reading → Type 0 where
+  encloses : (ds : Items) (r : plain.Reading) → depth < most_nested → Row (depth + 1) text ds r → IsOpened depth b text (enclosed b ds r)
+  encloses_deep : most_nested ≤ depth → IsOpened depth b text (too_deep text)
+
+abbrev pub IsRow : ℕ → List ℕ → CodeRow → Type 0
+IsRow depth text row = Row depth text (items_view row.forms.items) (reading_view row.after)
+
+abbrev pub fault_option : Option ReaderFault → Option FaultData
+fault_option None = None
+fault_option (Some f) = Some (fault_view f)
+
+abbrev pub break_option : Option Break → Option BreakData
+break_option None = None
+break_option (Some f) = Some (break_view f)

@@ -1,0 +1,40 @@
+// What brackets and marks are written as.
+ghost use Rattle.std.specs.Prelude.{◌≡◌};
+ghost use Rattle.repl_reader.specs.Grammar.{closing, same_bracket};
+ghost use Rattle.repl_reader.specs.View.{bracket_view, symbol_of};
+
+use crate::reading::{Bracket, Mark};
+
+impl Bracket {
+    pub(crate) fn closing(self) -> &'static str
+        ensures { result.now ≡ closing (bracket_view self) }
+    {
+        match self {
+            Bracket::Round => ")",
+            Bracket::Square => "]",
+            Bracket::Curly => "}",
+        }
+    }
+
+    pub(crate) fn is(self, other: Bracket) -> bool
+        ensures { result ≡ same_bracket (bracket_view self) (bracket_view other) }
+    {
+        match (self, other) {
+            (Bracket::Round, Bracket::Round) => true,
+            (Bracket::Square, Bracket::Square) => true,
+            (Bracket::Curly, Bracket::Curly) => true,
+            _ => false,
+        }
+    }
+}
+
+impl Mark {
+    pub(crate) fn symbol(self) -> &'static str
+        ensures { result.now ≡ symbol_of self }
+    {
+        match self {
+            Mark::Quote => "quote",
+            Mark::Deref => "clojure.core/deref",
+        }
+    }
+}

@@ -1,0 +1,246 @@
+// Forms inside forms.
+ghost use Rattle.std.specs.Prelude.{◌≡◌, Option, IfOk, MatchResult};
+ghost use Rattle.repl_values.specs.Datum.{Datum, list, symbol, item, no_items, Pairs};
+ghost use Rattle.repl_values.specs.View.{view, items_view};
+ghost use Rattle.repl_reader.specs.Reading.{begins};
+ghost use Rattle.repl_reader.specs.Grammar.{Reads, IsForm, unmatched, too_deep, wanted, wrapped, collected, enclosed, map_of};
+ghost use Rattle.repl_reader.specs.View.{bracket_view, symbol_of, reading_view, IsPiece, IsRow, IsMarked, IsOpened, ArePairs};
+
+use crate::fault::{FaultKind, break_with};
+use crate::maps::pair_forms;
+use crate::next::{Next, read_next};
+use crate::reading::{Bracket, Mark, Reading};
+use repl_values::Value;
+use std::alloc::{AllocError, Global};
+
+/// How deep forms may be nested.
+pub(crate) const MOST_NESTED: usize = 64;
+
+/// Forms in a row, and what stands after the last.
+#[derive(Drop)]
+pub(crate) struct Row<'a> {
+    pub forms: Vec<Value>,
+    pub after: Reading<'a>,
+}
+
+/// What a text begins with, dropped forms apart.
+enum Piece<'a> {
+    Dropping(&'a str),
+    Read(Reading<'a>),
+}
+
+/// The forms that a text begins with, inside `depth` openings.
+#[cycle(nest)]
+pub(crate) fn read_row(alloc: Global, text: &str, depth: usize) -> Result<Row<'_>, AllocError>
+    ensures { IfOk result (λ row. IsRow depth text.now row) }
+{
+    let mut forms = Vec::new(alloc);
+    let mut text = text;
+    loop {
+        match read_form(alloc, text, depth)? {
+            Reading::Form(form, rest) => {
+                forms.push(form)?;
+                text = rest;
+            }
+            after => return Ok(Row { forms, after }),
+        }
+    }
+}
+
+/// The form that a text begins with once the forms after each `#_` are dropped.
+#[cycle(nest)]
+fn read_form(alloc: Global, text: &str, depth: usize) -> Result<Reading<'_>, AllocError>
+    ensures { IfOk result (λ r. Reads depth text.now (reading_view r)) }
+{
+    let mut to_drop: usize = 0;
+    let mut text = text;
+    loop {
+        let reading = match read_piece(alloc, text, depth)? {
+            Piece::Dropping(rest) => {
+                to_drop += 1;
+                text = rest;
+                continue;
+            }
+            Piece::Read(reading) => reading,
+        };
+        if to_drop == 0 {
+            return Ok(reading);
+        }
+        match behind_form(reading) {
+            Ok(rest) => text = rest,
+            Err(other) => return wanted(alloc, other),
+        }
+        to_drop -= 1;
+    }
+}
+
+// What follows a form that is dropped, or what is no form.
+fn behind_form<'a>(reading: Reading<'a>) -> Result<&'a str, Reading<'a>>
+    ensures { MatchResult result (λ rest. (d : Datum) × (reading_view reading.entry ≡ begins d rest.now))
+        (λ other. (reading_view other ≡ reading_view reading.entry) × (IsForm (reading_view other) → ⊥)) }
+{
+    match reading {
+        Reading::Form(_, rest) => Ok(rest),
+        other => Err(other),
+    }
+}
+
+#[cycle(nest)]
+fn read_piece(alloc: Global, text: &str, depth: usize) -> Result<Piece<'_>, AllocError>
+    ensures { IfOk result (λ p. IsPiece depth text.now p) }
+{
+    match read_next(alloc, text)? {
+        Next::Settled(reading) => Ok(Piece::Read(reading)),
+        Next::Dropping(rest) => Ok(Piece::Dropping(rest)),
+        Next::Marking(mark, rest) => Ok(Piece::Read(read_marked(alloc, mark, rest, depth)?)),
+        Next::Opening(bracket, rest) => {
+            Ok(Piece::Read(read_enclosed(alloc, bracket, rest, depth)?))
+        }
+    }
+}
+
+#[cycle(nest)]
+fn read_marked<'a>(
+    alloc: Global,
+    mark: Mark,
+    text: &'a str,
+    depth: usize,
+) -> Result<Reading<'a>, AllocError>
+    ensures { IfOk result (λ r. IsMarked depth (symbol_of mark) text.now (reading_view r)) }
+{
+    if depth >= MOST_NESTED {
+        return too_deep(alloc, text);
+    }
+    let reading = read_form(alloc, text, depth + 1)?;
+    wrapped(alloc, mark, reading)
+}
+
+#[cycle(nest)]
+fn read_enclosed<'a>(
+    alloc: Global,
+    bracket: Bracket,
+    text: &'a str,
+    depth: usize,
+) -> Result<Reading<'a>, AllocError>
+    ensures { IfOk result (λ r. IsOpened depth (bracket_view bracket) text.now (reading_view r)) }
+{
+    if depth >= MOST_NESTED {
+        return too_deep(alloc, text);
+    }
+    let row = read_row(alloc, text, depth + 1)?;
+    enclosed(alloc, bracket, row)
+}
+
+// The character before the text opens one nesting too many.
+fn too_deep(alloc: Global, text: &str) -> Result<Reading<'static>, AllocError>
+    ensures { IfOk result (λ r. reading_view r ≡ too_deep text.now) }
+{
+    let left = text.len() + 1;
+    Ok(Reading::Broken(break_with(alloc, FaultKind::TooDeep, left, "")?))
+}
+
+// A form is owed: a closing character or the end of the text is a fault in its place.
+fn wanted<'a>(alloc: Global, reading: Reading<'a>) -> Result<Reading<'a>, AllocError>
+    ensures { IfOk result (λ r. reading_view r ≡ wanted (reading_view reading.entry)) }
+{
+    match reading {
+        Reading::Closing(bracket, rest) => unmatched(alloc, bracket, rest),
+        Reading::End => Ok(Reading::Broken(break_with(alloc, FaultKind::Eof, 0, "")?)),
+        Reading::Form(form, rest) => Ok(Reading::Form(form, rest)),
+        Reading::Broken(fault) => Ok(Reading::Broken(fault)),
+    }
+}
+
+fn unmatched(
+    alloc: Global,
+    bracket: Bracket,
+    rest: &str,
+) -> Result<Reading<'static>, AllocError>
+    ensures { IfOk result (λ r. reading_view r ≡ unmatched (bracket_view bracket) rest.now) }
+{
+    let fault = break_with(alloc, FaultKind::Unmatched, rest.len() + 1, bracket.closing())?;
+    Ok(Reading::Broken(fault))
+}
+
+fn wrapped<'a>(
+    alloc: Global,
+    mark: Mark,
+    reading: Reading<'a>,
+) -> Result<Reading<'a>, AllocError>
+    ensures { IfOk result (λ r. reading_view r ≡ wrapped (symbol_of mark) (reading_view reading.entry)) }
+{
+    match reading {
+        Reading::Form(form, rest) => Ok(Reading::Form(listed(alloc, mark, form)?, rest)),
+        Reading::Closing(bracket, rest) => unmatched(alloc, bracket, rest),
+        Reading::End => Ok(Reading::Broken(break_with(alloc, FaultKind::Eof, 0, "")?)),
+        Reading::Broken(fault) => Ok(Reading::Broken(fault)),
+    }
+}
+
+fn listed(alloc: Global, mark: Mark, form: Value) -> Result<Value, AllocError>
+    ensures { IfOk result (λ v. view v ≡ list (item (symbol (symbol_of mark)) (item (view form) no_items))) }
+{
+    let mut forms = Vec::with_capacity(alloc, 2)?;
+    forms.push(Value::Symbol(String::from_str(alloc, mark.symbol())?))?;
+    forms.push(form)?;
+    Ok(Value::List(forms))
+}
+
+fn enclosed<'a>(
+    alloc: Global,
+    bracket: Bracket,
+    row: Row<'a>,
+) -> Result<Reading<'a>, AllocError>
+    ensures { IfOk result (λ r. reading_view r
+        ≡ enclosed (bracket_view bracket) (items_view row.entry.forms.items) (reading_view row.entry.after)) }
+{
+    let Row { forms, after } = row;
+    match after {
+        Reading::Closing(found, rest) => {
+            if found.is(bracket) {
+                collected(alloc, bracket, forms, rest)
+            } else {
+                unmatched(alloc, found, rest)
+            }
+        }
+        Reading::End => Ok(Reading::Broken(break_with(alloc, FaultKind::Eof, 0, "")?)),
+        Reading::Form(form, rest) => Ok(Reading::Form(form, rest)),
+        Reading::Broken(fault) => Ok(Reading::Broken(fault)),
+    }
+}
+
+fn collected<'a>(
+    alloc: Global,
+    bracket: Bracket,
+    forms: Vec<Value>,
+    rest: &'a str,
+) -> Result<Reading<'a>, AllocError>
+    ensures { IfOk result (λ r. reading_view r
+        ≡ collected (bracket_view bracket) (items_view forms.items) rest.now) }
+{
+    match bracket {
+        Bracket::Round => Ok(Reading::Form(Value::List(forms), rest)),
+        Bracket::Square => Ok(Reading::Form(Value::Vector(forms), rest)),
+        Bracket::Curly => {
+            let pairs = pair_forms(alloc, forms)?;
+            map_of(alloc, pairs, rest)
+        }
+    }
+}
+
+#[tactic(auto, unfolding(crate::specs::Grammar::map_of))]
+fn map_of<'a>(
+    alloc: Global,
+    pairs: Option<Vec<(Value, Value)>>,
+    rest: &'a str,
+) -> Result<Reading<'a>, AllocError>
+    ensures { IfOk result (λ r. (ps : Option Pairs) → ArePairs pairs ps → reading_view r ≡ map_of ps rest.now) }
+{
+    match pairs {
+        None => {
+            let left = rest.len() + 1;
+            Ok(Reading::Broken(break_with(alloc, FaultKind::OddMap, left, "")?))
+        }
+        Some(pairs) => Ok(Reading::Form(Value::Map(pairs), rest)),
+    }
+}

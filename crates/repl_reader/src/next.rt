@@ -1,0 +1,65 @@
+// What comes next in a text, as far as its first characters tell.
+ghost use Rattle.std.specs.Prelude.{◌≡◌, IfOk};
+ghost use Rattle.repl_reader.specs.Reading.{next, dispatch_at};
+ghost use Rattle.repl_reader.specs.View.{next_view};
+
+use crate::blank::skip_blank;
+use crate::fault::{FaultKind, break_with};
+use crate::reading::{Bracket, Mark, Reading};
+use crate::strings::read_string;
+use crate::text::{first_character, tail};
+use crate::tokens::read_token;
+use std::alloc::{AllocError, Global};
+
+#[derive(Drop)]
+pub(crate) enum Next<'a> {
+    /// All that there is to say.
+    Settled(Reading<'a>),
+    Opening(Bracket, &'a str),
+    Marking(Mark, &'a str),
+    Dropping(&'a str),
+}
+
+#[tactic(auto, unfolding(crate::specs::Reading::next_by))]
+pub(crate) fn read_next(alloc: Global, text: &str) -> Result<Next<'_>, AllocError>
+    ensures { IfOk result (λ n. next_view n ≡ next text.now) }
+{
+    let text = skip_blank(text);
+    let [first, ..] = text.as_bytes() else {
+        return Ok(Next::Settled(Reading::End));
+    };
+    match *first {
+        b'(' => Ok(Next::Opening(Bracket::Round, tail(text))),
+        b'[' => Ok(Next::Opening(Bracket::Square, tail(text))),
+        b'{' => Ok(Next::Opening(Bracket::Curly, tail(text))),
+        b')' => Ok(Next::Settled(Reading::Closing(Bracket::Round, tail(text)))),
+        b']' => Ok(Next::Settled(Reading::Closing(Bracket::Square, tail(text)))),
+        b'}' => Ok(Next::Settled(Reading::Closing(Bracket::Curly, tail(text)))),
+        b'\'' => Ok(Next::Marking(Mark::Quote, tail(text))),
+        b'@' => Ok(Next::Marking(Mark::Deref, tail(text))),
+        b'#' => read_dispatch(alloc, tail(text)),
+        b'"' => Ok(Next::Settled(read_string(alloc, tail(text))?)),
+        b'^' | b'~' | b'\\' | b'`' => {
+            let fault = break_with(alloc, FaultKind::BadChar, text.len(), first_character(text))?;
+            Ok(Next::Settled(Reading::Broken(fault)))
+        }
+        _ => Ok(Next::Settled(read_token(alloc, text)?)),
+    }
+}
+
+/// What follows a `#` that begins no token.
+#[tactic(auto, unfolding(crate::specs::Reading::dispatch_at))]
+fn read_dispatch(alloc: Global, text: &str) -> Result<Next<'_>, AllocError>
+    ensures { IfOk result (λ n. next_view n ≡ dispatch_at text.now) }
+{
+    match text.as_bytes() {
+        [b'_', ..] => Ok(Next::Dropping(tail(text))),
+        [] => Ok(Next::Settled(Reading::Broken(break_with(alloc, FaultKind::Eof, 0, "")?))),
+        _ => {
+            let found = first_character(text);
+            let left = text.len() + 1;
+            let fault = break_with(alloc, FaultKind::BadDispatch, left, found)?;
+            Ok(Next::Settled(Reading::Broken(fault)))
+        }
+    }
+}

@@ -1,0 +1,101 @@
+// Strings, from the quote on.
+ghost use Rattle.std.specs.Prelude.{◌≡◌, ℕ, ◌<◌, ◌≤◌, List, [], ◌∷◌, ◌++◌, true, false, MatchOption, IfOk, IfSome, length, slice_index};
+ghost use Rattle.std.specs.List.{position_or_len};
+ghost use Rattle.repl_reader.specs.Reading.{is_escape, escape, string_at, escape_at, bad_escape};
+ghost use Rattle.repl_reader.specs.View.{reading_view};
+ghost use Rattle.repl_reader.specs.Text.{ends_plain};
+
+use crate::fault::{FaultKind, break_with};
+use crate::reading::Reading;
+use crate::text::{first_character, tail};
+use repl_values::Value;
+use std::alloc::{AllocError, Global};
+
+/// Reads what follows an opening quote, up to the closing one.
+pub(crate) fn read_string(alloc: Global, text: &str) -> Result<Reading<'_>, AllocError>
+    ensures { IfOk result (λ r. reading_view r ≡ string_at [] text.now) }
+{
+    let mut contents = String::new(alloc);
+    let mut text = text;
+    loop {
+        let (plain, rest) = split_plain(text);
+        contents.push_str(plain)?;
+        match rest.as_bytes() {
+            [] => return Ok(Reading::Broken(break_with(alloc, FaultKind::Eof, 0, "")?)),
+            [b'"', ..] => return Ok(Reading::Form(Value::Str(contents), tail(rest))),
+            _ => {}
+        }
+        let escape = tail(rest);
+        let Some((character, after)) = split_escape(escape) else {
+            return refuse_escape(alloc, escape);
+        };
+        contents.push_str(character)?;
+        text = after;
+    }
+}
+
+/// The characters before the first quote or backslash, and the rest.
+fn split_plain(text: &str) -> (&str, &str)
+    ensures same { (s : List ℕ) → string_at (s ++ result.0.now) result.1.now ≡ string_at s text.now }
+    ensures stops { 0 < length result.1.now → ends_plain (slice_index result.1.now 0) ≡ true }
+    ensures shorter { length result.1.now ≤ length text.now }
+{
+    text.split_at(plain_len(text))
+}
+
+/// What an escape stands for, by the text behind its backslash, and the rest.
+fn split_escape(text: &str) -> Option<(&'static str, &str)>
+    ensures same { MatchOption result ((s : List ℕ) → escape_at s text.now ≡ bad_escape text.now)
+        (λ p. (s : List ℕ) → string_at (s ++ p.0.now) p.1.now ≡ escape_at s text.now) }
+    ensures shorter { IfSome result (λ p. length p.1.now < length text.now) }
+{
+    let [first, ..] = text.as_bytes() else {
+        return None;
+    };
+    match escaped(*first) {
+        Some(character) => Some((character, tail(text))),
+        None => None,
+    }
+}
+
+/// The fault of a text behind a backslash.
+#[tactic(auto, unfolding(crate::specs::Reading::bad_escape))]
+fn refuse_escape(alloc: Global, text: &str) -> Result<Reading<'static>, AllocError>
+    ensures { IfOk result (λ r. reading_view r ≡ bad_escape text.now) }
+{
+    if text.is_empty() {
+        return Ok(Reading::Broken(break_with(alloc, FaultKind::Eof, 0, "")?));
+    }
+    let found = first_character(text);
+    Ok(Reading::Broken(break_with(alloc, FaultKind::BadEscape, text.len() + 1, found)?))
+}
+
+/// How many bytes stand before the first quote or backslash.
+fn plain_len(text: &str) -> usize
+    ensures { result ≡ position_or_len ends_plain text.now }
+{
+    let bytes = text.as_bytes();
+    for (i, byte) in bytes.iter().enumerate() {
+        if *byte == b'"' || *byte == b'\\' {
+            return i;
+        }
+    }
+    bytes.len()
+}
+
+/// What an escape stands for, by the character after its backslash.
+fn escaped(byte: u8) -> Option<&'static str>
+    ensures { MatchOption result (is_escape byte ≡ false)
+        (λ s. (is_escape byte ≡ true) × (s.now ≡ escape byte ∷ [])) }
+{
+    match byte {
+        b'"' => Some("\""),
+        b'\\' => Some("\\"),
+        b'n' => Some("\n"),
+        b't' => Some("\t"),
+        b'r' => Some("\r"),
+        b'f' => Some("\u{c}"),
+        b'b' => Some("\u{8}"),
+        _ => None,
+    }
+}
