@@ -1,9 +1,10 @@
 // One step of an evaluation.
-ghost use Rattle.std.specs.Prelude.{◌+◌, ◌*◌, ◌<◌, IfOk};
-ghost use Rattle.repl_walker.specs.Size.{value_size, values_size, wanted_size, control_size, frame_size, frames_size};
+ghost use Rattle.std.specs.Prelude.{◌≡◌, ◌+◌, ◌*◌, ◌<◌, IfOk};
+ghost use Rattle.repl_walker.specs.Size.{value_size, values_size, pairs_size, wanted_size, control_size, frame_size, frames_size};
 
+use crate::collect::collected;
 use crate::faults::{bad_form, no_such_var, not_a_function, not_a_value, wrong_arity};
-use crate::frames::{Control, Frame, State, Wanted};
+use crate::frames::{Collection, Control, Frame, State, Wanted};
 use core_functions::{ApplyError, CoreFunction, apply};
 use repl_asks::{Answer, Ask};
 use repl_values::Value;
@@ -12,7 +13,8 @@ use std::collections::VecDeque;
 
 const CORE: &str = "clojure.core/";
 
-// The form's value, or what has to be known first. Symbols and lists apart, a form is its own value.
+// The form's value, or what has to be known first. Symbols, lists, vectors and maps apart, a form is
+// its own value.
 pub(crate) fn evaluate(alloc: Global, state: &mut State, form: Value) -> Result<Control, AllocError>
     ensures { IfOk result (λ control. control_size control + frames_size state.new.frames.items
         < 3 * value_size form + frames_size state.old.frames.items) }
@@ -20,6 +22,14 @@ pub(crate) fn evaluate(alloc: Global, state: &mut State, form: Value) -> Result<
     match form {
         Value::Symbol(symbol) => evaluate_symbol(alloc, state, symbol),
         Value::List(items) => evaluate_list(alloc, state, VecDeque::from_vec(items)),
+        Value::Vector(items) => {
+            let forms = VecDeque::from_vec(items);
+            next_item(alloc, state, Collection::Vector, Vec::new(alloc), forms)
+        }
+        Value::Map(pairs) => {
+            let forms = VecDeque::from_vec(in_a_row(alloc, pairs)?);
+            next_item(alloc, state, Collection::Map, Vec::new(alloc), forms)
+        }
         other => Ok(Control::Return(other)),
     }
 }
@@ -141,6 +151,18 @@ fn is_simple(symbol: &str) -> bool {
     !symbol.contains('/')
 }
 
+// The keys and values of a map, by turns.
+fn in_a_row(alloc: Global, pairs: Vec<(Value, Value)>) -> Result<Vec<Value>, AllocError>
+    ensures { IfOk result (λ forms. values_size forms.items ≡ pairs_size pairs.items) }
+{
+    let mut forms = Vec::new(alloc);
+    for (key, value) in pairs {
+        forms.push(key)?;
+        forms.push(value)?;
+    }
+    Ok(forms)
+}
+
 // The value of the innermost form goes to what waits for it.
 pub(crate) fn give(
     alloc: Global,
@@ -169,6 +191,39 @@ pub(crate) fn give(
         } => {
             values.push(value)?;
             next_argument(alloc, state, function, values, forms)
+        }
+        Frame::Collection {
+            kind,
+            mut values,
+            forms,
+        } => {
+            values.push(value)?;
+            next_item(alloc, state, kind, values, forms)
+        }
+    }
+}
+
+// The next item of a vector or a map is evaluated, or it is made.
+fn next_item(
+    alloc: Global,
+    state: &mut State,
+    kind: Collection,
+    values: Vec<Value>,
+    mut forms: VecDeque<Value>,
+) -> Result<Control, AllocError>
+    ensures { IfOk result (λ control. control_size control + frames_size state.new.frames.items
+        < 2 + values_size forms.items + frames_size state.old.frames.items) }
+{
+    match forms.pop_front() {
+        None => collected(alloc, kind, values),
+        Some(form) => {
+            let frame = Frame::Collection {
+                kind,
+                values,
+                forms,
+            };
+            state.frames.push(frame)?;
+            Ok(Control::Evaluate(form))
         }
     }
 }

@@ -60,3 +60,16 @@ pub(crate) fn wrong_arity(
     text.push_str(function)?;
     fault(alloc, ARITY, text)
 }
+
+/// A key of a map that stands twice.
+pub(crate) fn duplicate_key(alloc: Global, key: &Value) -> Result<Fault, AllocError> {
+    let mut text = String::from_str(alloc, "Duplicate key: ")?;
+    print_into(alloc, key, &mut text)?;
+    fault(alloc, ILLEGAL_ARGUMENT, text)
+}
+
+/// A value that weighs or nests too much.
+pub(crate) fn too_large(alloc: Global) -> Result<Fault, AllocError> {
+    let text = String::from_str(alloc, "Value too large")?;
+    fault(alloc, ILLEGAL_ARGUMENT, text)
+}

@@ -14,10 +14,24 @@ pub(crate) enum Frame {
         values: Vec<Value>,
         forms: VecDeque<Value>,
     },
+    // The items of a vector or, by turns, the keys and values of a map: those that have values, and
+    // the forms behind the one that is evaluated.
+    Collection {
+        kind: Collection,
+        values: Vec<Value>,
+        forms: VecDeque<Value>,
+    },
     // The definition of this name.
     Define {
         name: String,
     },
+}
+
+// What is made of values in a row.
+#[derive(Clone, Copy)]
+pub(crate) enum Collection {
+    Vector,
+    Map,
 }
 
 // What an answer is wanted for.

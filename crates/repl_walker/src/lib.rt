@@ -5,14 +5,13 @@
 //! way at once. `walk` runs one to its end over a `Refs` that answers.
 #![tactic(auto)]
 
+mod collect;
 mod evaluate;
 mod faults;
 mod frames;
 mod job;
 mod resume;
 mod run;
-#[cfg(test)]
-mod tests;
 
 pub use job::{End, Ending, Job, Work};
 pub use resume::{Progress, Walk, start};
