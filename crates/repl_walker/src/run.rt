@@ -1,4 +1,7 @@
 // An evaluation over somebody who answers.
+ghost use Rattle.std.specs.Prelude.{◌≡◌, false, OnOk, IfErr};
+ghost use Rattle.repl_walker.specs.Stops.{IsStoppedBy, BeginsWith};
+
 use crate::job::{Ending, Job};
 use crate::resume::{Progress, start};
 use repl_asks::{Ask, Refs};
@@ -25,8 +28,14 @@ impl From<AllocError> for WalkError {
     }
 }
 
-/// Evaluates the job, each ask answered by `refs`, which must not have stopped before.
-pub fn walk<R: Refs>(alloc: Global, job: &Job, refs: &mut R) -> Result<Ending, WalkError> {
+/// Evaluates the job, each ask answered by `refs`, which must not have stopped before. `Stopped` comes
+/// only where the ask left `refs` stopped.
+pub fn walk<R: Refs>(alloc: Global, job: &Job, refs: &mut R) -> Result<Ending, WalkError>
+    requires { (R.heard refs.old).stopped ≡ false }
+    ensures ok { OnOk result ((R.heard refs.new).stopped ≡ false) }
+    ensures stopped { IfErr result (λ error. IsStoppedBy error (R.heard refs.new)) }
+    ensures grows { BeginsWith (R.heard refs.new).trace (R.heard refs.old).trace }
+{
     let mut progress = start(alloc, job)?;
     loop {
         match progress {
