@@ -35,7 +35,7 @@ abbrev mutual
   hash (vector ds) = items_hash 7 ds
   hash (map ps) =
       mixed (mixed (mixed (mixed (mixed 8 (size ps)) (peak 0xD6E8FEB86659FD93 ps)) (peak 0x2917014799A6026D ps))
-          (peak 0xBF58476D1CE4E5B9 ps)) (peak 0x40A7B892E31B1A47 ps)
+      (peak 0xBF58476D1CE4E5B9 ps)) (peak 0x40A7B892E31B1A47 ps)
   hash (ref owner number) = mixed (owner_hash owner) number
   hash (atom number) = mixed 12 number
   hash (agent number) = mixed 13 number
