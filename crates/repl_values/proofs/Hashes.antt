@@ -1,15 +1,13 @@
 -- A map's hash, and that equal values have equal hashes.
-use Rattle.std.proofs.Common.{◌≡◌, ℕ, zero, suc, ◌+◌, ◌≤◌, Bool, true, false, ◌&&◌, ◌||◌, max, List, [], ◌∷◌, length, drop, sym, refl, ap, ◌∙◌, arith, rules}
-use Rattle.std.proofs.Math.Nat.{le-max_left, le-max_right, max-le, le_antisymm}
+use Rattle.std.proofs.Common.{◌≡◌, ℕ, zero, suc, ◌≤◌, Bool, true, false, ◌&&◌, ◌||◌, max, List, [], ◌∷◌, length, drop, refl, ap, ◌∙◌, arith}
+use Rattle.std.proofs.Math.Nat.{max-le, le_antisymm}
 use Rattle.std.specs.Cmp.{booleans_Decides}
-use Rattle.std.specs.Bool.{beq}
-use Rattle.std.specs.Ordering.{int_eq}
 use Rattle.std.specs.Str.{bytes_eq}
 use Rattle.std.proofs.lemmas.Bool.{eqb-true}
 use Rattle.std.proofs.lemmas.Bool.Decides.{Decides-int_eq}
 use Rattle.std.proofs.lemmas.Slice.Eq.{bytes_eq-Decides}
 use Rattle.repl_values.specs.Datum.{OwnerData, shared, tenant, Datum, nil, boolean, integer, string, keyword, symbol, list, vector, map, ref, atom, agent, var, fault, Items, no_items, item, Pairs, no_pairs, pair}
-use Rattle.repl_values.specs.View.{view, pairs_view}
+use Rattle.repl_values.specs.View.{pairs_view}
 use Rattle.repl_values.specs.declared.value.Value.{Value}
 use Rattle.repl_values.specs.Same.{same, same_owner, same_items, size, within, each_pair, is_among, has_pair}
 use Rattle.repl_values.specs.Hash.{hash, items_hash, peak, mixed, salted, mixed_text, owner_hash, pair_hash}
