@@ -1,8 +1,7 @@
 -- Equality of values is an equivalence.
-use Rattle.std.proofs.Common.{◌≡◌, ℕ, Bool, true, false, ◌&&◌, ◌||◌, List, refl, sym, ap, ◌∙◌, subst, eq-eqb}
+use Rattle.std.proofs.Common.{◌≡◌, ℕ, Bool, true, false, ◌&&◌, ◌||◌, List, refl, sym, eq-eqb}
 use Rattle.std.specs.Prelude.{◌==◌}
 use Rattle.std.specs.Cmp.{booleans_Decides}
-use Rattle.std.specs.Bool.{beq}
 use Rattle.std.proofs.lemmas.Bool.{eqb-true}
 use Rattle.std.proofs.lemmas.Bool.Decides.{Decides-int_eq}
 use Rattle.std.proofs.lemmas.Slice.Eq.{bytes_eq-Decides}
@@ -45,23 +44,23 @@ pub each_pair-imp : (test other : Datum → Datum → Bool) → ((l w : Datum) �
 each_pair-imp test other f no_pairs h = refl
 each_pair-imp test other f (pair l w qs) h =
     and-both (other l w) (each_pair other qs) (f l w (and-left (test l w) (each_pair test qs) h))
-        (each_pair-imp test other f qs (and-right (test l w) (each_pair test qs) h))
+    (each_pair-imp test other f qs (and-right (test l w) (each_pair test qs) h))
 
 pub has_pair-imp : (key value key2 value2 : Datum → Bool) → ((e : Datum) → key e ≡ true → key2 e ≡ true) → ((e : Datum) → value e ≡ true → value2 e ≡ true)
     → (qs : Pairs) → has_pair key value qs ≡ true → has_pair key2 value2 qs ≡ true
 has_pair-imp key value key2 value2 f g no_pairs h = h
 has_pair-imp key value key2 value2 f g (pair l w qs) h =
     or-cases (key l && value w) (has_pair key value qs) ((key2 l && value2 w) || has_pair key2 value2 qs)
-        (λ a. head-both (key2 l) (value2 w) (has_pair key2 value2 qs) (f l (and-left (key l) (value w) a)) (g w (and-right (key l) (value w) a)))
-        (λ b. or-right (key2 l && value2 w) (has_pair key2 value2 qs) (has_pair-imp key value key2 value2 f g qs b))
-        h
+    (λ a. head-both (key2 l) (value2 w) (has_pair key2 value2 qs) (f l (and-left (key l) (value w) a)) (g w (and-right (key l) (value w) a)))
+    (λ b. or-right (key2 l && value2 w) (has_pair key2 value2 qs) (has_pair-imp key value key2 value2 f g qs b))
+    h
 
 within-grows : (ps qs : Pairs) (l w : Datum) → within ps qs ≡ true → within ps (pair l w qs) ≡ true
 within-grows no_pairs qs l w h = refl
 within-grows (pair k v ps) qs l w h =
     and-both (has_pair (same k) (same v) (pair l w qs)) (within ps (pair l w qs))
-        (or-right (same k l && same v w) (has_pair (same k) (same v) qs) (and-left (has_pair (same k) (same v) qs) (within ps qs) h))
-        (within-grows ps qs l w (and-right (has_pair (same k) (same v) qs) (within ps qs) h))
+    (or-right (same k l && same v w) (has_pair (same k) (same v) qs) (and-left (has_pair (same k) (same v) qs) (within ps qs) h))
+    (within-grows ps qs l w (and-right (has_pair (same k) (same v) qs) (within ps qs) h))
 
 owner-refl : (o : OwnerData) → same_owner o o ≡ true
 owner-refl shared = refl
@@ -79,7 +78,7 @@ mutual
   same-refl (vector ds) = items-refl ds
   same-refl (map ps) =
       and-both (size ps == size ps) (within ps ps && each_pair (is_among ps) ps) (eqb-self (size ps))
-          (and-both (within ps ps) (each_pair (is_among ps) ps) (within-refl ps) (among-refl ps))
+      (and-both (within ps ps) (each_pair (is_among ps) ps) (within-refl ps) (among-refl ps))
   same-refl (ref o n) = and-both (same_owner o o) (n == n) (owner-refl o) (eqb-self n)
   same-refl (atom n) = eqb-self n
   same-refl (agent n) = eqb-self n
@@ -94,15 +93,15 @@ mutual
   within-refl no_pairs = refl
   within-refl (pair k v ps) =
       and-both (has_pair (same k) (same v) (pair k v ps)) (within ps (pair k v ps))
-          (head-both (same k k) (same v v) (has_pair (same k) (same v) ps) (same-refl k) (same-refl v))
-          (within-grows ps ps k v (within-refl ps))
+      (head-both (same k k) (same v v) (has_pair (same k) (same v) ps) (same-refl k) (same-refl v))
+      (within-grows ps ps k v (within-refl ps))
 
   among-refl : (ps : Pairs) → each_pair (is_among ps) ps ≡ true
   among-refl no_pairs = refl
   among-refl (pair k v ps) =
       and-both (is_among (pair k v ps) k v) (each_pair (is_among (pair k v ps)) ps)
-          (head-both (same k k) (same v v) (is_among ps k v) (same-refl k) (same-refl v))
-          (each_pair-imp (is_among ps) (is_among (pair k v ps)) (λ l w. or-right (same k l && same v w) (is_among ps l w)) ps (among-refl ps))
+      (head-both (same k k) (same v v) (is_among ps k v) (same-refl k) (same-refl v))
+      (each_pair-imp (is_among ps) (is_among (pair k v ps)) (λ l w. or-right (same k l && same v w) (is_among ps l w)) ps (among-refl ps))
 
 -- a pair that passes stands among the others where its tests are equality the other way
 has_pair-among : (k v : Datum) → ((e : Datum) → same k e ≡ true → same e k ≡ true) → ((e : Datum) → same v e ≡ true → same e v ≡ true)
@@ -110,16 +109,16 @@ has_pair-among : (k v : Datum) → ((e : Datum) → same k e ≡ true → same e
 has_pair-among k v f g no_pairs h = h
 has_pair-among k v f g (pair l w qs) h =
     or-cases (same k l && same v w) (has_pair (same k) (same v) qs) ((same l k && same w v) || is_among qs k v)
-        (λ a. head-both (same l k) (same w v) (is_among qs k v) (f l (and-left (same k l) (same v w) a)) (g w (and-right (same k l) (same v w) a)))
-        (λ b. or-right (same l k && same w v) (is_among qs k v) (has_pair-among k v f g qs b))
-        h
+    (λ a. head-both (same l k) (same w v) (is_among qs k v) (f l (and-left (same k l) (same v w) a)) (g w (and-right (same k l) (same v w) a)))
+    (λ b. or-right (same l k && same w v) (is_among qs k v) (has_pair-among k v f g qs b))
+    h
 
 each_pair-within : (ps : Pairs) → ((l w : Datum) → is_among ps l w ≡ true → has_pair (same l) (same w) ps ≡ true)
     → (qs : Pairs) → each_pair (is_among ps) qs ≡ true → within qs ps ≡ true
 each_pair-within ps f no_pairs h = refl
 each_pair-within ps f (pair l w qs) h =
     and-both (has_pair (same l) (same w) ps) (within qs ps) (f l w (and-left (is_among ps l w) (each_pair (is_among ps) qs) h))
-        (each_pair-within ps f qs (and-right (is_among ps l w) (each_pair (is_among ps) qs) h))
+    (each_pair-within ps f qs (and-right (is_among ps l w) (each_pair (is_among ps) qs) h))
 
 owner-sym : (o p : OwnerData) → same_owner o p ≡ true → same_owner p o ≡ true
 owner-sym shared shared h = refl
@@ -130,8 +129,8 @@ owner-sym (tenant t) (tenant u) h = eq-eqb u t (sym (eqb-true t u h))
 two-sym : (s t m n : List ℕ) → (bytes_eq s t && bytes_eq m n) ≡ true → (bytes_eq t s && bytes_eq n m) ≡ true
 two-sym s t m n h =
     and-both (bytes_eq t s) (bytes_eq n m)
-        (bytes-refl t s (sym ((bytes_eq-Decides s t).0 (and-left (bytes_eq s t) (bytes_eq m n) h))))
-        (bytes-refl n m (sym ((bytes_eq-Decides m n).0 (and-right (bytes_eq s t) (bytes_eq m n) h))))
+    (bytes-refl t s (sym ((bytes_eq-Decides s t).0 (and-left (bytes_eq s t) (bytes_eq m n) h))))
+    (bytes-refl n m (sym ((bytes_eq-Decides m n).0 (and-right (bytes_eq s t) (bytes_eq m n) h))))
 
 mutual
   pub same-sym : (d e : Datum) → same d e ≡ true → same e d ≡ true
@@ -148,13 +147,13 @@ mutual
   same-sym (map ps) (map qs) h =
       let parts : (within ps qs && each_pair (is_among ps) qs) ≡ true = and-right (size ps == size qs) (within ps qs && each_pair (is_among ps) qs) h in
       and-both (size qs == size ps) (within qs ps && each_pair (is_among qs) ps)
-          (eq-eqb (size qs) (size ps) (sym (eqb-true (size ps) (size qs) (and-left (size ps == size qs) (within ps qs && each_pair (is_among ps) qs) h))))
-          (and-both (within qs ps) (each_pair (is_among qs) ps)
-              (each_pair-within ps (is_among-sym ps) qs (and-right (within ps qs) (each_pair (is_among ps) qs) parts))
-              (within-sym ps qs (and-left (within ps qs) (each_pair (is_among ps) qs) parts)))
+      (eq-eqb (size qs) (size ps) (sym (eqb-true (size ps) (size qs) (and-left (size ps == size qs) (within ps qs && each_pair (is_among ps) qs) h))))
+      (and-both (within qs ps) (each_pair (is_among qs) ps)
+      (each_pair-within ps (is_among-sym ps) qs (and-right (within ps qs) (each_pair (is_among ps) qs) parts))
+      (within-sym ps qs (and-left (within ps qs) (each_pair (is_among ps) qs) parts)))
   same-sym (ref o m) (ref p n) h =
       and-both (same_owner p o) (n == m) (owner-sym o p (and-left (same_owner o p) (m == n) h))
-          (eq-eqb n m (sym (eqb-true m n (and-right (same_owner o p) (m == n) h))))
+      (eq-eqb n m (sym (eqb-true m n (and-right (same_owner o p) (m == n) h))))
   same-sym (atom m) (atom n) h = eq-eqb n m (sym (eqb-true m n h))
   same-sym (agent m) (agent n) h = eq-eqb n m (sym (eqb-true m n h))
   same-sym (var s m) (var t n) h = two-sym s t m n h
@@ -172,13 +171,13 @@ mutual
   within-sym no_pairs qs h = refl
   within-sym (pair k v ps) qs h =
       and-both (is_among qs k v) (each_pair (is_among qs) ps)
-          (has_pair-among k v (same-sym k) (same-sym v) qs (and-left (has_pair (same k) (same v) qs) (within ps qs) h))
-          (within-sym ps qs (and-right (has_pair (same k) (same v) qs) (within ps qs) h))
+      (has_pair-among k v (same-sym k) (same-sym v) qs (and-left (has_pair (same k) (same v) qs) (within ps qs) h))
+      (within-sym ps qs (and-right (has_pair (same k) (same v) qs) (within ps qs) h))
 
   is_among-sym : (ps : Pairs) (l w : Datum) → is_among ps l w ≡ true → has_pair (same l) (same w) ps ≡ true
   is_among-sym no_pairs l w h = h
   is_among-sym (pair k v ps) l w h =
       or-cases (same k l && same v w) (is_among ps l w) ((same l k && same w v) || has_pair (same l) (same w) ps)
-          (λ a. head-both (same l k) (same w v) (has_pair (same l) (same w) ps) (same-sym k l (and-left (same k l) (same v w) a)) (same-sym v w (and-right (same k l) (same v w) a)))
-          (λ b. or-right (same l k && same w v) (has_pair (same l) (same w) ps) (is_among-sym ps l w b))
-          h
+      (λ a. head-both (same l k) (same w v) (has_pair (same l) (same w) ps) (same-sym k l (and-left (same k l) (same v w) a)) (same-sym v w (and-right (same k l) (same v w) a)))
+      (λ b. or-right (same l k && same w v) (has_pair (same l) (same w) ps) (is_among-sym ps l w b))
+      h

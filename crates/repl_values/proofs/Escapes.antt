@@ -1,9 +1,7 @@
 -- A character has its escape, or stands as it is: no byte of a longer character is one that has an escape.
-use Rattle.std.proofs.Common.{◌≡◌, ◌≢◌, ℕ, ◌+◌, ◌/◌, ◌%◌, ◌<◌, ◌≤◌, Bool, true, false, cond, ltb, List, [], ◌∷◌, ◌++◌, codes, flat_map, refl, ap, ◌∙◌, arith, rules}
-use Rattle.std.specs.Str.{encode_utf8_all}
+use Rattle.std.proofs.Common.{◌≡◌, ◌≢◌, ℕ, ◌+◌, ◌/◌, ◌%◌, ◌≤◌, Bool, true, false, cond, ltb, List, [], ◌∷◌, codes, refl, arith}
 use Rattle.std.specs.Char.{encode_utf8}
 use Rattle.std.proofs.lemmas.Bool.Decides.{nat_tests}
-use Rattle.std.proofs.lemmas.Grind.{common_steps}
 use Rattle.repl_values.specs.Print.{escaped_byte, escaped}
 
 escaped_byte-high : (b : ℕ) → 128 ≤ b → escaped_byte b ≡ b ∷ []

@@ -1,15 +1,13 @@
 -- A map's hash, and that equal values have equal hashes.
-use Rattle.std.proofs.Common.{◌≡◌, ℕ, zero, suc, ◌+◌, ◌≤◌, Bool, true, false, ◌&&◌, ◌||◌, max, List, [], ◌∷◌, length, drop, sym, refl, ap, ◌∙◌, arith, rules}
-use Rattle.std.proofs.Math.Nat.{le-max_left, le-max_right, max-le, le_antisymm}
+use Rattle.std.proofs.Common.{◌≡◌, ℕ, zero, suc, ◌≤◌, Bool, true, false, ◌&&◌, ◌||◌, max, List, [], ◌∷◌, length, drop, refl, ap, ◌∙◌, arith}
+use Rattle.std.proofs.Math.Nat.{max-le, le_antisymm}
 use Rattle.std.specs.Cmp.{booleans_Decides}
-use Rattle.std.specs.Bool.{beq}
-use Rattle.std.specs.Ordering.{int_eq}
 use Rattle.std.specs.Str.{bytes_eq}
 use Rattle.std.proofs.lemmas.Bool.{eqb-true}
 use Rattle.std.proofs.lemmas.Bool.Decides.{Decides-int_eq}
 use Rattle.std.proofs.lemmas.Slice.Eq.{bytes_eq-Decides}
 use Rattle.repl_values.specs.Datum.{OwnerData, shared, tenant, Datum, nil, boolean, integer, string, keyword, symbol, list, vector, map, ref, atom, agent, var, fault, Items, no_items, item, Pairs, no_pairs, pair}
-use Rattle.repl_values.specs.View.{view, pairs_view}
+use Rattle.repl_values.specs.View.{pairs_view}
 use Rattle.repl_values.specs.declared.value.Value.{Value}
 use Rattle.repl_values.specs.Same.{same, same_owner, same_items, size, within, each_pair, is_among, has_pair}
 use Rattle.repl_values.specs.Hash.{hash, items_hash, peak, mixed, salted, mixed_text, owner_hash, pair_hash}
@@ -47,7 +45,7 @@ has_pair-peak : (salt hk hv : ℕ) (key value : Datum → Bool) → ((e : Datum)
 has_pair-peak salt hk hv key value ek ev no_pairs h = absurd (cc)
 has_pair-peak salt hk hv key value ek ev (pair l w qs) h =
     either (key l) (value w) (has_pair key value qs) (salted salt (pair_hash (hash l) (hash w))) (salted salt (pair_hash hk hv)) (peak salt qs)
-        (λ a b. rw (ek l a, ev w b) refl) (has_pair-peak salt hk hv key value ek ev qs) h
+    (λ a b. rw (ek l a, ev w b) refl) (has_pair-peak salt hk hv key value ek ev qs) h
 
 each_pair-peak : (salt : ℕ) (test : Datum → Datum → Bool) (top : ℕ) → ((l w : Datum) → test l w ≡ true → salted salt (pair_hash (hash l) (hash w)) ≤ top)
     → (qs : Pairs) → each_pair test qs ≡ true → peak salt qs ≤ top
@@ -84,10 +82,10 @@ mutual
   hash-same (vector ds) (vector es) h = items-hash-same ds es 7 h
   hash-same (map ps) (map qs) h =
       map-hash ps qs (eqb-true (size ps) (size qs) (and-left _ (within ps qs && each_pair (is_among ps) qs) h))
-          (λ salt. le_antisymm
-              (within-peak ps qs salt (and-left (within ps qs) (each_pair (is_among ps) qs) (and-right _ (within ps qs && each_pair (is_among ps) qs) h)))
-              (each_pair-peak salt (is_among ps) (peak salt ps) (λ l w. is_among-peak ps l w salt) qs
-                  (and-right (within ps qs) (each_pair (is_among ps) qs) (and-right _ (within ps qs && each_pair (is_among ps) qs) h))))
+      (λ salt. le_antisymm
+      (within-peak ps qs salt (and-left (within ps qs) (each_pair (is_among ps) qs) (and-right _ (within ps qs && each_pair (is_among ps) qs) h)))
+      (each_pair-peak salt (is_among ps) (peak salt ps) (λ l w. is_among-peak ps l w salt) qs
+      (and-right (within ps qs) (each_pair (is_among ps) qs) (and-right _ (within ps qs && each_pair (is_among ps) qs) h))))
   hash-same (ref o m) (ref p n) h =
       rw (owner-same o p (and-left (same_owner o p) _ h), eqb-true m n (and-right (same_owner o p) _ h)) refl
   hash-same (atom m) (atom n) h = ap (mixed 12) (eqb-true m n h)
@@ -108,11 +106,11 @@ mutual
   within-peak no_pairs qs salt h = omega arith
   within-peak (pair k v ps) qs salt h =
       max-le
-          (has_pair-peak salt (hash k) (hash v) (same k) (same v) (hash-same k) (hash-same v) qs (and-left (has_pair (same k) (same v) qs) (within ps qs) h))
-          (within-peak ps qs salt (and-right (has_pair (same k) (same v) qs) (within ps qs) h))
+      (has_pair-peak salt (hash k) (hash v) (same k) (same v) (hash-same k) (hash-same v) qs (and-left (has_pair (same k) (same v) qs) (within ps qs) h))
+      (within-peak ps qs salt (and-right (has_pair (same k) (same v) qs) (within ps qs) h))
 
   is_among-peak : (ps : Pairs) (l w : Datum) (salt : ℕ) → is_among ps l w ≡ true → salted salt (pair_hash (hash l) (hash w)) ≤ peak salt ps
   is_among-peak no_pairs l w salt h = absurd (cc)
   is_among-peak (pair k v ps) l w salt h =
       either (same k l) (same v w) (is_among ps l w) (salted salt (pair_hash (hash k) (hash v))) (salted salt (pair_hash (hash l) (hash w))) (peak salt ps)
-          (λ a b. rw (hash-same k l a, hash-same v w b) refl) (is_among-peak ps l w salt) h
+      (λ a b. rw (hash-same k l a, hash-same v w b) refl) (is_among-peak ps l w salt) h

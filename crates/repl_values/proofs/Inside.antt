@@ -1,6 +1,6 @@
 -- A part of a value weighs less than the value, and is nested less deep.
-use Rattle.std.proofs.Common.{◌≡◌, ℕ, ◌+◌, ◌<◌, ◌≤◌, max, refl, ap, ⊎_elim, arith}
-use Rattle.repl_values.specs.Datum.{Datum, nil, boolean, integer, string, keyword, symbol, list, vector, map, ref, atom, agent, var, fault, Items, no_items, item, Pairs, no_pairs, pair}
+use Rattle.std.proofs.Common.{◌≡◌, ◌<◌, ◌≤◌, ap, ⊎_elim, arith}
+use Rattle.repl_values.specs.Datum.{Datum, list, vector, map, Items, no_items, item, Pairs, no_pairs, pair}
 use Rattle.repl_values.specs.Measures.{weight, items_weight, pairs_weight, nesting, items_nesting, pairs_nesting}
 use Rattle.repl_values.specs.Parts.{IsItemOf, IsKeyOrValueOf, IsPartOf}
 
@@ -13,9 +13,9 @@ pair-weight : (d : Datum) (ps : Pairs) → IsKeyOrValueOf d ps → weight d ≤ 
 pair-weight d no_pairs h = absurd h
 pair-weight d (pair k v ps) h =
     ⊎_elim
-        (⊎_elim (λ (is : d ≡ k). omega (arith, ap weight is)) (λ (is : d ≡ v). omega (arith, ap weight is)))
-        (λ (rest : IsKeyOrValueOf d ps). omega (arith, pair-weight d ps rest))
-        h
+    (⊎_elim (λ (is : d ≡ k). omega (arith, ap weight is)) (λ (is : d ≡ v). omega (arith, ap weight is)))
+    (λ (rest : IsKeyOrValueOf d ps). omega (arith, pair-weight d ps rest))
+    h
 
 item-nesting : (d : Datum) (ds : Items) → IsItemOf d ds → nesting d ≤ items_nesting ds
 item-nesting d no_items h = absurd h
@@ -26,9 +26,9 @@ pair-nesting : (d : Datum) (ps : Pairs) → IsKeyOrValueOf d ps → nesting d �
 pair-nesting d no_pairs h = absurd h
 pair-nesting d (pair k v ps) h =
     ⊎_elim
-        (⊎_elim (λ (is : d ≡ k). omega (arith, ap nesting is)) (λ (is : d ≡ v). omega (arith, ap nesting is)))
-        (λ (rest : IsKeyOrValueOf d ps). omega (arith, pair-nesting d ps rest))
-        h
+    (⊎_elim (λ (is : d ≡ k). omega (arith, ap nesting is)) (λ (is : d ≡ v). omega (arith, ap nesting is)))
+    (λ (rest : IsKeyOrValueOf d ps). omega (arith, pair-nesting d ps rest))
+    h
 
 pub weight-part : (d e : Datum) → IsPartOf d e → weight d < weight e
 weight-part d (list ds) h = omega (arith, item-weight d ds h)

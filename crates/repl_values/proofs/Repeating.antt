@@ -7,7 +7,7 @@ use Rattle.std.specs.List.{list_any}
 use Rattle.std.proofs.lemmas.Bool.{cases_eq}
 use Rattle.std.proofs.lemmas.List.Folds.{list_any-append}
 use Rattle.std.proofs.lemmas.Map.Lookups.{exact_unsigned}
-use Rattle.repl_values.specs.Datum.{Datum, Items, no_items, item}
+use Rattle.repl_values.specs.Datum.{Datum, Items, item}
 use Rattle.repl_values.specs.View.{view, items_view}
 use Rattle.repl_values.specs.declared.value.Value.{Value}
 use Rattle.repl_values.specs.Same.{same}

@@ -1,8 +1,6 @@
 -- Steps of the comparison of two values' items and pairs.
-use Rattle.std.proofs.Common.{◌≡◌, ◌≢◌, ℕ, zero, suc, ◌+◌, ◌<◌, Bool, true, false, ◌&&◌, ◌||◌, eqb, List, [], ◌∷◌, length, get_or, drop, drop-cons, add-one, sym, refl, ap, ◌∙◌, arith, rules}
-use Rattle.std.proofs.lemmas.Bool.Decides.{nat_tests}
-use Rattle.std.proofs.lemmas.Grind.{common_steps}
-use Rattle.repl_values.specs.Datum.{Datum, Items, no_items, item, Pairs, no_pairs, pair}
+use Rattle.std.proofs.Common.{◌≡◌, ◌≢◌, ℕ, zero, suc, ◌+◌, ◌<◌, Bool, true, false, ◌&&◌, ◌||◌, List, [], ◌∷◌, length, get_or, drop, drop-cons, add-one, sym, refl, ap, ◌∙◌, arith}
+use Rattle.repl_values.specs.Datum.{Datum}
 use Rattle.repl_values.specs.View.{view, items_view, pairs_view}
 use Rattle.repl_values.specs.declared.value.Value.{Value}
 use Rattle.repl_values.specs.Same.{same, same_items, size, has_pair, is_among, within}

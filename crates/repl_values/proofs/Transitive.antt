@@ -1,8 +1,7 @@
 -- What is equal to an equal value is equal.
-use Rattle.std.proofs.Common.{◌≡◌, ℕ, Bool, true, false, ◌&&◌, ◌||◌, refl, sym, ap, ◌∙◌, subst, eq-eqb}
+use Rattle.std.proofs.Common.{◌≡◌, Bool, true, false, ◌&&◌, ◌||◌, refl, sym, ap, ◌∙◌, subst, eq-eqb}
 use Rattle.std.specs.Prelude.{◌==◌, bytes_eq}
 use Rattle.std.specs.Cmp.{booleans_Decides}
-use Rattle.std.specs.Bool.{beq}
 use Rattle.std.proofs.lemmas.Bool.{eqb-true}
 use Rattle.std.proofs.lemmas.Bool.Decides.{Decides-int_eq}
 use Rattle.std.proofs.lemmas.Slice.Eq.{bytes_eq-Decides}
@@ -68,10 +67,10 @@ has_pair-within : (key value : Datum → Bool) → ((l e : Datum) → key l ≡ 
 has_pair-within key value f g no_pairs rs h i = absurd (cc)
 has_pair-within key value f g (pair l w qs) rs h i =
     or-cases (key l && value w) (has_pair key value qs) (has_pair key value rs)
-        (λ a. has_pair-imp (same l) (same w) key value (λ e. f l e (and-left (key l) (value w) a)) (λ e. g w e (and-right (key l) (value w) a)) rs
-            (and-left (has_pair (same l) (same w) rs) (within qs rs) i))
-        (λ b. has_pair-within key value f g qs rs b (and-right (has_pair (same l) (same w) rs) (within qs rs) i))
-        h
+    (λ a. has_pair-imp (same l) (same w) key value (λ e. f l e (and-left (key l) (value w) a)) (λ e. g w e (and-right (key l) (value w) a)) rs
+    (and-left (has_pair (same l) (same w) rs) (within qs rs) i))
+    (λ b. has_pair-within key value f g qs rs b (and-right (has_pair (same l) (same w) rs) (within qs rs) i))
+    h
 
 -- the same for the other direction: a pair among those that stand among others
 is_among-each : (test : Datum → Datum → Bool) (m x : Datum) → ((l w : Datum) → test l w ≡ true → same l m ≡ true → same w x ≡ true → test m x ≡ true)
@@ -79,9 +78,9 @@ is_among-each : (test : Datum → Datum → Bool) (m x : Datum) → ((l w : Datu
 is_among-each test m x f no_pairs h i = absurd (cc)
 is_among-each test m x f (pair l w qs) h i =
     or-cases (same l m && same w x) (is_among qs m x) (test m x)
-        (λ a. f l w (and-left (test l w) (each_pair test qs) i) (and-left (same l m) (same w x) a) (and-right (same l m) (same w x) a))
-        (λ b. is_among-each test m x f qs b (and-right (test l w) (each_pair test qs) i))
-        h
+    (λ a. f l w (and-left (test l w) (each_pair test qs) i) (and-left (same l m) (same w x) a) (and-right (same l m) (same w x) a))
+    (λ b. is_among-each test m x f qs b (and-right (test l w) (each_pair test qs) i))
+    h
 
 -- lists, where their items are transitive
 list-trans : (ds : Items) → ((es fs : Items) → same_items ds es ≡ true → same_items es fs ≡ true → same_items ds fs ≡ true)
@@ -99,14 +98,14 @@ module _ (ps : Pairs) (inside : (qs rs : Pairs) → within ps qs ≡ true → wi
       let ours : (within ps qs && each_pair (is_among ps) qs) ≡ true = and-right (size ps == size qs) (within ps qs && each_pair (is_among ps) qs) h in
       let theirs : (within qs rs && each_pair (is_among qs) rs) ≡ true = and-right (size qs == size rs) (within qs rs && each_pair (is_among qs) rs) i in
       and-both (size ps == size rs) (within ps rs && each_pair (is_among ps) rs)
-          (eq-eqb (size ps) (size rs)
-              (eqb-true (size ps) (size qs) (and-left (size ps == size qs) (within ps qs && each_pair (is_among ps) qs) h)
-              ∙ eqb-true (size qs) (size rs) (and-left (size qs == size rs) (within qs rs && each_pair (is_among qs) rs) i)))
-          (and-both (within ps rs) (each_pair (is_among ps) rs)
-              (inside qs rs (and-left (within ps qs) (each_pair (is_among ps) qs) ours) (and-left (within qs rs) (each_pair (is_among qs) rs) theirs))
-              (each_pair-imp (is_among qs) (is_among ps)
-                  (λ m x a. is_among-each (is_among ps) m x (λ l w b k v. among l w m x b k v) qs a (and-right (within ps qs) (each_pair (is_among ps) qs) ours))
-                  rs (and-right (within qs rs) (each_pair (is_among qs) rs) theirs)))
+      (eq-eqb (size ps) (size rs)
+      (eqb-true (size ps) (size qs) (and-left (size ps == size qs) (within ps qs && each_pair (is_among ps) qs) h)
+      ∙ eqb-true (size qs) (size rs) (and-left (size qs == size rs) (within qs rs && each_pair (is_among qs) rs) i)))
+      (and-both (within ps rs) (each_pair (is_among ps) rs)
+      (inside qs rs (and-left (within ps qs) (each_pair (is_among ps) qs) ours) (and-left (within qs rs) (each_pair (is_among qs) rs) theirs))
+      (each_pair-imp (is_among qs) (is_among ps)
+      (λ m x a. is_among-each (is_among ps) m x (λ l w b k v. among l w m x b k v) qs a (and-right (within ps qs) (each_pair (is_among ps) qs) ours))
+      rs (and-right (within qs rs) (each_pair (is_among qs) rs) theirs)))
 
   map-trans : (e f : Datum) → same (map ps) e ≡ true → same e f ≡ true → same (map ps) f ≡ true
   map-trans e f h i =
@@ -114,7 +113,7 @@ module _ (ps : Pairs) (inside : (qs rs : Pairs) → within ps qs ≡ true → wi
       let j : same (map qs.0) f ≡ true = subst (λ (x : Datum). same x f ≡ true) qs.1 i in
       let rs : (rs : Pairs) × (f ≡ map rs) = has-pairs qs.0 f j in
       subst (λ (x : Datum). same (map ps) x ≡ true) (sym rs.1)
-          (pairs-trans qs.0 rs.0 (subst (λ (x : Datum). same (map ps) x ≡ true) qs.1 h) (subst (λ (x : Datum). same (map qs.0) x ≡ true) rs.1 j))
+      (pairs-trans qs.0 rs.0 (subst (λ (x : Datum). same (map ps) x ≡ true) qs.1 h) (subst (λ (x : Datum). same (map qs.0) x ≡ true) rs.1 j))
 
 mutual
   pub same-trans : (d e f : Datum) → same d e ≡ true → same e f ≡ true → same d f ≡ true
@@ -130,21 +129,21 @@ mutual
   items-trans (item d ds) (item e es) no_items h i = absurd (cc)
   items-trans (item d ds) (item e es) (item f fs) h i =
       and-both (same d f) (same_items ds fs)
-          (same-trans d e f (and-left (same d e) (same_items ds es) h) (and-left (same e f) (same_items es fs) i))
-          (items-trans ds es fs (and-right (same d e) (same_items ds es) h) (and-right (same e f) (same_items es fs) i))
+      (same-trans d e f (and-left (same d e) (same_items ds es) h) (and-left (same e f) (same_items es fs) i))
+      (items-trans ds es fs (and-right (same d e) (same_items ds es) h) (and-right (same e f) (same_items es fs) i))
 
   within-trans : (ps qs rs : Pairs) → within ps qs ≡ true → within qs rs ≡ true → within ps rs ≡ true
   within-trans no_pairs qs rs h i = refl
   within-trans (pair k v ps) qs rs h i =
       and-both (has_pair (same k) (same v) rs) (within ps rs)
-          (has_pair-within (same k) (same v) (λ l e. same-trans k l e) (λ w e. same-trans v w e) qs rs (and-left (has_pair (same k) (same v) qs) (within ps qs) h) i)
-          (within-trans ps qs rs (and-right (has_pair (same k) (same v) qs) (within ps qs) h) i)
+      (has_pair-within (same k) (same v) (λ l e. same-trans k l e) (λ w e. same-trans v w e) qs rs (and-left (has_pair (same k) (same v) qs) (within ps qs) h) i)
+      (within-trans ps qs rs (and-right (has_pair (same k) (same v) qs) (within ps qs) h) i)
 
   is_among-trans : (ps : Pairs) (l w m x : Datum) → is_among ps l w ≡ true → same l m ≡ true → same w x ≡ true → is_among ps m x ≡ true
   is_among-trans no_pairs l w m x h a b = h
   is_among-trans (pair k v ps) l w m x h a b =
       or-cases (same k l && same v w) (is_among ps l w) ((same k m && same v x) || is_among ps m x)
-          (λ t. head-both (same k m) (same v x) (is_among ps m x)
-              (same-trans k l m (and-left (same k l) (same v w) t) a) (same-trans v w x (and-right (same k l) (same v w) t) b))
-          (λ t. or-right (same k m && same v x) (is_among ps m x) (is_among-trans ps l w m x t a b))
-          h
+      (λ t. head-both (same k m) (same v x) (is_among ps m x)
+      (same-trans k l m (and-left (same k l) (same v w) t) a) (same-trans v w x (and-right (same k l) (same v w) t) b))
+      (λ t. or-right (same k m && same v x) (is_among ps m x) (is_among-trans ps l w m x t a b))
+      h

@@ -240,6 +240,6 @@ pairs_code = code_by (List Node) nodes_code (λ qs. write_pairs qs []) (λ ns. r
 abbrev pub function_code : Coded FunctionData
 function_code =
     code_by (List ℕ × (List ℕ × (List (List ℕ) × Items))) (coded× (coded_list coded_ℕ) (coded× (coded_list coded_ℕ) (coded× (coded_list (coded_list coded_ℕ)) items_code)))
-        (λ f. (f.space, (f.name, (f.params, f.body))))
-        (λ t. record { space = t.0; name = t.1.0; params = t.1.1.0; body = t.1.1.1 })
-        (λ _. refl)
+    (λ f. (f.space, (f.name, (f.params, f.body))))
+    (λ t. record { space = t.0; name = t.1.0; params = t.1.1.0; body = t.1.1.1 })
+    (λ _. refl)

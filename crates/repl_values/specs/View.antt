@@ -1,6 +1,5 @@
 -- The data that a `Value` stands for.
-use Rattle.std.specs.Prelude.{List, [], ◌∷◌, String, string_bytes, map as each}
-use Rattle.std.specs.declared.alloc.Global.{Global}
+use Rattle.std.specs.Prelude.{List, [], ◌∷◌, string_bytes, map as each}
 use Rattle.repl_values.specs.Datum.{OwnerData, shared, tenant, Datum, nil, boolean, integer, string, keyword, symbol, list, vector, map, ref, atom, agent, var, fault, Items, no_items, item, Pairs, no_pairs, pair, FunctionData}
 use Rattle.repl_values.specs.declared.value.Owner.{Owner}
 use Rattle.repl_values.specs.declared.value.Function.{Function}

@@ -31,12 +31,20 @@ pub fn same(left: &Value, right: &Value) -> bool
         (Value::Ref(a), Value::Ref(b)) => same_ref(*a, *b),
         (Value::Atom(a), Value::Atom(b)) => *a == *b,
         (Value::Agent(a), Value::Agent(b)) => *a == *b,
-        (Value::Var { space, name }, Value::Var { space: other, name: named }) => {
-            same_text(space, other) && same_text(name, named)
-        }
-        (Value::Fault { class, text }, Value::Fault { class: other, text: told }) => {
-            same_text(class, other) && same_text(text, told)
-        }
+        (
+            Value::Var { space, name },
+            Value::Var {
+                space: other,
+                name: named,
+            },
+        ) => { same_text(space, other) && same_text(name, named) }
+        (
+            Value::Fault { class, text },
+            Value::Fault {
+                class: other,
+                text: told,
+            },
+        ) => { same_text(class, other) && same_text(text, told) }
         _ => false,
     }
 }

@@ -15,49 +15,41 @@ use crate::value::Value;
 /// A value is equal to itself.
 pub fn same_is_reflexive()
     ensures { (d : Datum) → same d d ≡ true }
-{
-}
+{}
 
 /// The order of two values does not matter.
 pub fn same_is_symmetric()
     ensures { (d e : Datum) → same d e ≡ same e d }
-{
-}
+{}
 
 /// What is equal to an equal value is equal.
 pub fn same_is_transitive()
     ensures { (d e f : Datum) → same d e ≡ true → same e f ≡ true → same d f ≡ true }
-{
-}
+{}
 
 /// A list equals the vector of its items.
 pub fn list_is_same_as_vector()
     ensures { (ds : Items) → same (list ds) (vector ds) ≡ true }
-{
-}
+{}
 
 /// Equal values have equal hashes.
 pub fn same_values_hash_alike()
     ensures { (d e : Datum) → same d e ≡ true → hash d ≡ hash e }
-{
-}
+{}
 
 /// A copy, which has the view of what it was made from, is equal to it and prints as it does.
 pub fn copy_is_same(value: &Value, copied: &Value)
     requires { view copied.now ≡ view value.now }
     ensures equal { same (view copied.now) (view value.now) ≡ true }
     ensures printed { print (view copied.now) ≡ print (view value.now) }
-{
-}
+{}
 
 /// An item, a key or a map's value weighs less than the value in which it stands.
 pub fn parts_weigh_less()
     ensures { (d e : Datum) → IsPartOf d e → weight d < weight e }
-{
-}
+{}
 
 /// An item, a key or a map's value is nested less deep than the value in which it stands.
 pub fn parts_are_less_nested()
     ensures { (d e : Datum) → IsPartOf d e → nesting d < nesting e }
-{
-}
+{}

@@ -1,7 +1,8 @@
-//! The values of the language, and how they are printed.
+//! The values of the language: how they are printed, compared, measured and copied.
 //!
 //! A `Value` owns its texts and items. Contracts see it as plain data, `specs/Datum.antt`, by the
-//! fold `view` of `specs/View.antt`: two values with one view are the same value to every caller.
+//! fold `view` of `specs/View.antt`: two values with one view are the same value to every caller. `specs/Code.antt` has the codes by
+//! which a model holds values, and `laws` what holds of all of them.
 #![tactic(auto)]
 
 mod copies;

@@ -59,7 +59,9 @@ fn pairs_weight(pairs: &[(Value, Value)]) -> u64
 {
     let mut sum: u64 = 0;
     for (key, value) in pairs {
-        sum = sum.saturating_add(weight(key)).saturating_add(weight(value));
+        sum = sum
+            .saturating_add(weight(key))
+            .saturating_add(weight(value));
     }
     sum
 }

@@ -1,5 +1,7 @@
 // The rules' own examples, each call that allocates, and the time that many keys take.
-use crate::{Function, Owner, RefName, Value, copy, display_into, first_repeated, print_into, same};
+use crate::{
+    Function, Owner, RefName, Value, copy, display_into, first_repeated, print_into, same,
+};
 use std::alloc::{AllocError, Global};
 use std::process::Abort;
 use std::test::Fail;
@@ -78,17 +80,35 @@ fn values_with_parts_are_spelled(rt: HostRuntime) -> Result<(), Fail> {
     expect(&rt, a, Value::Map(Vec::new(a)), "{}", "{}")?;
     let items = pair(a, Value::Int(1), string(a, "x")?)?;
     expect(&rt, a, Value::Vector(items), "[1 \"x\"]", "[1 x]")?;
-    expect(&rt, a, table(a)?, "{:a 1, \"b\" (nil \"c\")}", "{:a 1, b (nil c)}")?;
+    expect(
+        &rt,
+        a,
+        table(a)?,
+        "{:a 1, \"b\" (nil \"c\")}",
+        "{:a 1, b (nil c)}",
+    )?;
     Ok(())
 }
 
 #[test]
 fn references_are_spelled(rt: HostRuntime) -> Result<(), Fail> {
     let a = rt.alloc();
-    let own = RefName { owner: Owner::Tenant(7), number: 3 };
-    let shared = RefName { owner: Owner::Shared, number: 0 };
+    let own = RefName {
+        owner: Owner::Tenant(7),
+        number: 3,
+    };
+    let shared = RefName {
+        owner: Owner::Shared,
+        number: 0,
+    };
     expect(&rt, a, Value::Ref(own), "#ref[3]", "#ref[3]")?;
-    expect(&rt, a, Value::Ref(shared), "#ref[shared/0]", "#ref[shared/0]")?;
+    expect(
+        &rt,
+        a,
+        Value::Ref(shared),
+        "#ref[shared/0]",
+        "#ref[shared/0]",
+    )?;
     expect(&rt, a, Value::Atom(1), "#atom[1]", "#atom[1]")?;
     expect(&rt, a, Value::Agent(0), "#agent[0]", "#agent[0]")?;
     let space = String::from_str(a, "user")?;
@@ -96,7 +116,13 @@ fn references_are_spelled(rt: HostRuntime) -> Result<(), Fail> {
     expect(&rt, a, Value::Var { space, name }, "#'user/x", "#'user/x")?;
     let class = String::from_str(a, "C")?;
     let text = String::from_str(a, "a \"b\"")?;
-    expect(&rt, a, Value::Fault { class, text }, "#error{C: a \"b\"}", "#error{C: a \"b\"}")?;
+    expect(
+        &rt,
+        a,
+        Value::Fault { class, text },
+        "#error{C: a \"b\"}",
+        "#error{C: a \"b\"}",
+    )?;
     Ok(())
 }
 
@@ -111,7 +137,12 @@ fn copies_succeed(rt: HostRuntime) -> Result<(), Fail> {
     body.push(symbol(a, "n")?)?;
     let space = String::from_str(a, "user")?;
     let name = String::from_str(a, "f")?;
-    let function = Function { space, name, params, body };
+    let function = Function {
+        space,
+        name,
+        params,
+        body,
+    };
     let copied = function.copy(a)?;
     assert_eq!(rt; copied.name.as_str(), "f");
     assert_eq!(rt; copied.params.len(), 1);
@@ -121,7 +152,11 @@ fn copies_succeed(rt: HostRuntime) -> Result<(), Fail> {
 #[test]
 fn repeated_keys_are_found(rt: HostRuntime) -> Result<(), Fail> {
     let a = rt.alloc();
-    let mut keys = pair(a, Value::Vector(pair(a, Value::Int(1), Value::Nil)?), Value::Int(1))?;
+    let mut keys = pair(
+        a,
+        Value::Vector(pair(a, Value::Int(1), Value::Nil)?),
+        Value::Int(1),
+    )?;
     assert_eq!(rt; first_repeated(a, &keys)?, None);
     keys.push(Value::List(pair(a, Value::Int(1), Value::Nil)?))?;
     keys.push(Value::Int(1))?;

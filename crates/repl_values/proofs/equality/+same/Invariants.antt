@@ -1,4 +1,4 @@
-use Rattle.std.proofs.Common.{◌≡◌, length, drop}
+use Rattle.std.proofs.Common.{◌≡◌, drop}
 use Rattle.repl_values.specs.View.{view, items_view, pairs_view}
 use Rattle.repl_values.specs.Same.{same, same_items, within, each_pair, is_among, has_pair}
 use Rattle.repl_values.proofs.equality.+same.Given as goal

@@ -1,4 +1,4 @@
-use Rattle.std.proofs.Common.{◌≡◌, drop, string_bytes}
+use Rattle.std.proofs.Common.{◌≡◌, drop}
 use Rattle.repl_values.specs.Hash.{mixed_text}
 use Rattle.repl_values.proofs.hashing.mix_text.Given as goal
 

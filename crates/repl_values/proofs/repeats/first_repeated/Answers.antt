@@ -9,9 +9,9 @@ use Rattle.repl_values.proofs.repeats.first_repeated.Goals as goal
 pub loop-place-preserved : goal.loop-place-preserved
 loop-place-preserved c =
     let moved : put (take (c.loop-place.place + 1) c.args.keys.now) no_items ≡ item (view c.index-keys-place.result) (put (take c.loop-place.place c.args.keys.now) no_items) =
-        put-take c.args.keys.now c.loop-place.place c.index-keys-place.result no_items (omega arith) c.index-keys-place.is in
+    put-take c.args.keys.now c.loop-place.place c.index-keys-place.result no_items (omega arith) c.index-keys-place.is in
     let fresh : is_one_of (put (take c.loop-place.place c.args.keys.now) no_items) (view c.index-keys-place.result) ≡ false =
-        sym (c.loop-place.invariant.known (view c.index-keys-place.result)) ∙ (sym c.in_ok-is_repeated.ensures.found ∙ c.if-branch.false) in
+    sym (c.loop-place.invariant.known (view c.index-keys-place.result)) ∙ (sym c.in_ok-is_repeated.ensures.found ∙ c.if-branch.false) in
     record {
       known = λ d.
           c.in_ok-is_repeated.ensures.noted c.if-branch.false d
