@@ -9,6 +9,7 @@ mod brackets;
 mod fault;
 mod forms;
 mod halves;
+pub mod laws;
 mod maps;
 mod nest;
 mod next;
