@@ -6,3 +6,5 @@ pub mod Shorter
 pub mod Owed
 pub mod Rows
 pub mod Nesting
+pub mod Unique
+pub mod Total

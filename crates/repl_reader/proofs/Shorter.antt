@@ -2,13 +2,14 @@
 use Rattle.std.proofs.Common.{◌≡◌, ℕ, ℤ, suc, ◌+◌, ◌<◌, ◌≤◌, Bool, true, false, ◌||◌, cond, not, eqb, List, [], ◌∷◌, ◌++◌, length, drop, Option, Some, None, refl, sym, ap, ◌∙◌, arith, subst, one-add, length-drop}
 use Rattle.std.specs.List.{position_or_len}
 use Rattle.repl_values.specs.Datum.{Datum, Items, Pairs}
+use Rattle.repl_values.specs.Repeats.{first_repeat}
 use Rattle.repl_reader.specs.declared.fault.FaultKind.{FaultKind}
 use Rattle.repl_reader.specs.declared.fault.FaultKind.TheVariants.{BadNumber, BadToken}
 use Rattle.repl_reader.specs.Fault.{break_of}
 use Rattle.repl_reader.specs.Text.{is_white, is_delimiter, ends_token, bare, after_comment, token, after_token}
 use Rattle.repl_reader.specs.Token.{begins_number, integer_of, name_of}
 use Rattle.repl_reader.specs.Reading.{Bracket, round, square, curly, Reading, begins, closes, ends, breaks, Next, settled, opens, marks, drops, string_at, escape_at, bad_escape, is_escape, escape, found_or, integer_datum, token_at, dispatch_at, is_unsupported, next_by, next_of, next}
-use Rattle.repl_reader.specs.Grammar.{Reads, plain, marked, marked_deep, opened, opened_deep, dropped, undropped, Row, last, more, wanted, wrapped, enclosed, collected, map_of, paired, unmatched, same_bracket}
+use Rattle.repl_reader.specs.Grammar.{Reads, plain, marked, marked_deep, opened, opened_deep, dropped, undropped, Row, last, more, wanted, wrapped, enclosed, collected, keyed, keys_of, map_of, paired, unmatched, same_bracket}
 
 abbrev pub Shorter : ℕ → Reading → Type 0
 Shorter n (begins d rest) = length rest < n
@@ -166,10 +167,14 @@ wanted_shorter n (closes b rest) h = tt
 wanted_shorter n ends h = tt
 wanted_shorter n (breaks f) h = tt
 
+keyed_shorter : (n : ℕ) (place : Option ℕ) (ps : Pairs) (rest : List ℕ) → length rest < n → Shorter n (keyed place ps rest)
+keyed_shorter n None ps rest h = h
+keyed_shorter n (Some place) ps rest h = tt
+
 map_shorter : (n : ℕ) (ps : Option Pairs) (rest : List ℕ) → length rest < n → Shorter n (map_of ps rest)
 unfolding map_of
 map_shorter n None rest h = tt
-map_shorter n (Some ps) rest h = h
+map_shorter n (Some ps) rest h = keyed_shorter n (first_repeat (keys_of ps)) ps rest h
 
 collected_shorter : (n : ℕ) (b : Bracket) (ds : Items) (rest : List ℕ) → length rest < n → Shorter n (collected b ds rest)
 collected_shorter n round ds rest h = h

@@ -1,7 +1,9 @@
 -- What a text reads as. `Reads depth text r`: inside `depth` openings the text begins with r, once what `#_` drops is gone.
-use Rattle.std.specs.Prelude.{◌≡◌, ℕ, ◌+◌, ◌-◌, ◌<◌, ◌≤◌, List, [], ◌∷◌, Bool, true, false, Option, None, Some, if◌then◌else◌, codes, length}
+use Rattle.std.specs.Prelude.{◌≡◌, ℕ, zero, suc, ◌+◌, ◌-◌, ◌<◌, ◌≤◌, List, [], ◌∷◌, Bool, true, false, Option, None, Some, if◌then◌else◌, codes, length}
 use Rattle.repl_values.specs.Datum as datum
 use Rattle.repl_values.specs.Datum.{Datum, Items, no_items, item, Pairs, no_pairs, pair}
+use Rattle.repl_values.specs.Print.{print}
+use Rattle.repl_values.specs.Repeats.{first_repeat}
 use Rattle.repl_reader.specs.declared.fault.FaultKind.{FaultKind}
 use Rattle.repl_reader.specs.declared.fault.FaultKind.TheVariants.{Unmatched, OddMap, SameKey, TooDeep}
 use Rattle.repl_reader.specs.Fault.{BreakData, FaultData, break_of}
@@ -69,10 +71,24 @@ abbrev mutual
   paired_with k no_items = None
   paired_with k (item v ds) = with_pair k v (paired ds)
 
--- a map before this text
+abbrev pub keys_of : Pairs → Items
+keys_of no_pairs = no_items
+keys_of (pair k v ps) = item k (keys_of ps)
+
+-- the print of the value at this place
+abbrev pub print_at : ℕ → Items → List ℕ
+print_at n no_items = []
+print_at zero (item d ds) = print d
+print_at (suc n) (item d ds) = print_at n ds
+
+-- the pairs make a map before this text, unless a key is equal to one before it
+abbrev pub keyed : Option ℕ → Pairs → List ℕ → Reading
+keyed None ps rest = begins (datum.map ps) rest
+keyed (Some place) ps rest = breaks (break_of SameKey (length rest + 1) (print_at place (keys_of ps)))
+
 unfoldable pub map_of : Option Pairs → List ℕ → Reading
 map_of None rest = breaks (break_of OddMap (length rest + 1) [])
-map_of (Some ps) rest = begins (datum.map ps) rest
+map_of (Some ps) rest = keyed (first_repeat (keys_of ps)) ps rest
 
 -- what the forms between two brackets make
 abbrev pub collected : Bracket → Items → List ℕ → Reading

@@ -4,3 +4,4 @@ pub mod Token
 pub mod Reading
 pub mod Grammar
 pub mod View
+pub mod Laws

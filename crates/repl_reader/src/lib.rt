@@ -8,11 +8,15 @@ mod blank;
 mod brackets;
 mod fault;
 mod forms;
+mod halves;
+pub mod laws;
 mod maps;
 mod nest;
 mod next;
 mod reading;
 mod strings;
+#[cfg(test)]
+mod tests;
 mod text;
 mod tokens;
 

@@ -1,13 +1,13 @@
 // Forms inside forms.
-ghost use Rattle.std.specs.Prelude.{◌≡◌, Option, IfOk, MatchResult};
-ghost use Rattle.repl_values.specs.Datum.{Datum, list, symbol, item, no_items, Pairs};
+ghost use Rattle.std.specs.Prelude.{◌≡◌, IfOk, MatchResult};
+ghost use Rattle.repl_values.specs.Datum.{Datum, list, symbol, item, no_items};
 ghost use Rattle.repl_values.specs.View.{view, items_view};
 ghost use Rattle.repl_reader.specs.Reading.{begins};
-ghost use Rattle.repl_reader.specs.Grammar.{Reads, IsForm, unmatched, too_deep, wanted, wrapped, collected, enclosed, map_of};
-ghost use Rattle.repl_reader.specs.View.{bracket_view, symbol_of, reading_view, IsPiece, IsRow, IsMarked, IsOpened, ArePairs};
+ghost use Rattle.repl_reader.specs.Grammar.{Reads, IsForm, unmatched, too_deep, wanted, wrapped, collected, enclosed};
+ghost use Rattle.repl_reader.specs.View.{bracket_view, symbol_of, reading_view, IsPiece, IsRow, IsMarked, IsOpened};
 
 use crate::fault::{FaultKind, break_with};
-use crate::maps::pair_forms;
+use crate::maps::read_map;
 use crate::next::{Next, read_next};
 use crate::reading::{Bracket, Mark, Reading};
 use repl_values::Value;
@@ -214,26 +214,6 @@ fn collected<'a>(
     match bracket {
         Bracket::Round => Ok(Reading::Form(Value::List(forms), rest)),
         Bracket::Square => Ok(Reading::Form(Value::Vector(forms), rest)),
-        Bracket::Curly => {
-            let pairs = pair_forms(alloc, forms)?;
-            map_of(alloc, pairs, rest)
-        }
-    }
-}
-
-#[tactic(auto, unfolding(crate::specs::Grammar::map_of))]
-fn map_of<'a>(
-    alloc: Global,
-    pairs: Option<Vec<(Value, Value)>>,
-    rest: &'a str,
-) -> Result<Reading<'a>, AllocError>
-    ensures { IfOk result (λ r. (ps : Option Pairs) → ArePairs pairs ps → reading_view r ≡ map_of ps rest.now) }
-{
-    match pairs {
-        None => {
-            let left = rest.len() + 1;
-            Ok(Reading::Broken(break_with(alloc, FaultKind::OddMap, left, "")?))
-        }
-        Some(pairs) => Ok(Reading::Form(Value::Map(pairs), rest)),
+        Bracket::Curly => read_map(alloc, forms, rest),
     }
 }
