@@ -3,3 +3,8 @@ pub mod View
 pub mod Spelling
 pub mod Decoder
 pub mod Fronts
+pub mod Cut
+pub mod Fault
+pub mod Machine
+pub mod Sign
+pub mod Reader

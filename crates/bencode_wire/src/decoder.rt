@@ -4,7 +4,7 @@ ghost use Rattle.bencode_wire.specs.Fronts.{BeginsWith};
 
 use crate::ben::Ben;
 use crate::fault::WireFault;
-use crate::reader::{Progress, Reader};
+use crate::cut::{Progress, Reader};
 use bytes::Bytes;
 use std::alloc::{AllocError, Global};
 use std::collections::VecDeque;
@@ -179,7 +179,7 @@ fn read_on(
         }
         let available = (bytes.len() - at).min(limit - (at - begin));
         let run = reader.run_len(available);
-        match reader.step(alloc, limit, &bytes[at..at + run]) {
+        match reader.step(alloc, &bytes[at..at + run]) {
             Ok(Progress::Partial(next)) => reader = next,
             Ok(Progress::Whole(message)) => {
                 if ready.push_back(message).is_err() {

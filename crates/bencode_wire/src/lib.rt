@@ -12,9 +12,11 @@
 #![tactic(auto)]
 
 mod ben;
+mod cut;
 mod decoder;
 mod fault;
 mod reader;
+mod sign;
 mod write;
 
 pub use ben::{Ben, Dictionary};
