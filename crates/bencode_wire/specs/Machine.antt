@@ -189,3 +189,52 @@ TakesRun after_i n = n ≡ 1
 TakesRun after_minus n = n ≡ 1
 TakesRun (digits negative m) n = n ≡ 1
 TakesRun (count m) n = n ≡ 1
+
+-- whether the digits of a string's length are above the limit
+abbrev pub is_large_token : ℕ → Token → Bool
+is_large_token limit between = false
+is_large_token limit after_i = false
+is_large_token limit after_minus = false
+is_large_token limit (digits negative n) = false
+is_large_token limit (count n) = nat_lt limit n
+is_large_token limit (part bytes left) = false
+
+abbrev pub is_large : ℕ → Cut → Bool
+is_large limit (cut fs token) = is_large_token limit token
+
+abbrev pub checked : ℕ → Judged → Judged
+checked limit (reads c) = cond (is_large limit c) (refuses too_long) (reads c)
+checked limit (whole t) = whole t
+checked limit (refuses rule) = refuses rule
+
+-- what a run makes of a cut, behind `before` bytes of the message
+abbrev pub bite : ℕ → Adding → ℕ → Cut → List ℕ → Judged
+bite limit add before (cut fs token) run =
+    cond (nat_le limit before) (refuses too_long) (checked limit (judged (step_run add fs token run)))
+
+-- how reading ends: `before` bytes of an unfinished message have come, or a rule is met at an index
+pub data End : Type 0 where
+  rests : ℕ → Cut → End
+  faults : Rule → ℕ → End
+
+pub record Reading : Type 0 where
+  pub messages : List Tree
+  pub end : End
+
+abbrev pub ended : End → Reading
+ended e = record { messages = []; end = e }
+
+abbrev pub with_message : Tree → Reading → Reading
+with_message t r = record { messages = t ∷ r.messages; end = r.end }
+
+-- the reading after a byte at an index: of the same message, or of a fresh one
+abbrev pub onward : Judged → ℕ → (Cut → Reading) → Reading → Reading
+onward (reads c) at same fresh = same c
+onward (whole t) at same fresh = with_message t fresh
+onward (refuses rule) at same fresh = ended (faults rule at)
+
+-- reading bytes from an index on, `before` bytes of a message having come as the cut
+abbrev pub reading : ℕ → Adding → ℕ → Cut → ℕ → List ℕ → Reading
+reading limit add before c at [] = ended (rests before c)
+reading limit add before c at (b ∷ bs) =
+    onward (bite limit add before c (b ∷ [])) at (λ next. reading limit add (before + 1) next (at + 1) bs) (reading limit add 0 start (at + 1) bs)

@@ -12,6 +12,7 @@
 #![tactic(auto)]
 
 mod ben;
+mod copy;
 mod cut;
 mod decoder;
 mod fault;
