@@ -5,6 +5,9 @@ pub mod Decoder
 pub mod Fronts
 pub mod Cut
 pub mod Fault
+pub mod Stream
 pub mod Machine
 pub mod Sign
 pub mod Reader
+pub mod Course
+pub mod Refusals

@@ -68,3 +68,12 @@ pub(crate) enum Wanted {
     KeyOrEnd,
 }
 
+
+// How far bytes were read: where the unfinished message begins, and what has come of it up to `at`.
+#[derive(Drop)]
+pub(crate) struct Course {
+    pub(crate) reader: Reader,
+    pub(crate) begin: usize,
+    pub(crate) at: usize,
+    ghost begun: { begin ≤ at }
+}

@@ -13,6 +13,7 @@
 
 mod ben;
 mod copy;
+mod course;
 mod cut;
 mod decoder;
 mod fault;
