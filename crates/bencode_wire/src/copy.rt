@@ -1,9 +1,10 @@
 // Copies, written out since a derived clone says nothing of a type that holds itself.
-ghost use Rattle.std.specs.Prelude.{◌≡◌, IfOk};
+ghost use Rattle.std.specs.Prelude.{◌≡◌, IfOk, map};
 ghost use Rattle.bencode_wire.specs.View.{view, trees_view, pairs_view};
 
 use crate::ben::{Ben, Dictionary};
 use std::alloc::{AllocError, Global};
+use std::collections::VecDeque;
 
 impl Ben {
     /// An equal value.
@@ -51,6 +52,16 @@ pub(crate) fn copy_pairs(alloc: Global, pairs: &Dictionary) -> Result<Dictionary
     for (key, value) in pairs.iter() {
         let name = copy_bytes(alloc, key)?;
         drop(copies.insert(name, copy(alloc, value)?)?);
+    }
+    Ok(copies)
+}
+
+pub(crate) fn copy_queue(alloc: Global, values: &VecDeque<Ben>) -> Result<VecDeque<Ben>, AllocError>
+    ensures { IfOk result (λ copied. map view copied.items ≡ map view values.now.items) }
+{
+    let mut copies = VecDeque::new(alloc);
+    for at in 0..values.len() {
+        copies.push_back(copy(alloc, &values[at])?)?;
     }
     Ok(copies)
 }

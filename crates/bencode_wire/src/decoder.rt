@@ -1,5 +1,5 @@
 // A stream of messages, fed in pieces of any size.
-ghost use Rattle.std.specs.Prelude.{◌≡◌, ◌≢◌, ◌↔◌, ◌++◌, ◌≤◌, ℕ, List, [], ◌∷◌, length, drop, IsTrue, None, Some, Err, OnOk, IfErr, IfSome, option_map, option_to_list};
+ghost use Rattle.std.specs.Prelude.{◌≡◌, ◌≢◌, ◌↔◌, ◌++◌, ◌≤◌, ℕ, List, [], ◌∷◌, length, drop, IsTrue, None, Some, Err, OnOk, IfOk, IfErr, IfSome, option_map, option_to_list};
 ghost use Rattle.bencode_wire.specs.Tree.{Tree};
 ghost use Rattle.bencode_wire.specs.Cut.{Cut};
 ghost use Rattle.bencode_wire.specs.Spelling.{put_pair};
@@ -7,11 +7,12 @@ ghost use Rattle.bencode_wire.specs.Machine.{reading, ended, rests, start as mes
 ghost use Rattle.bencode_wire.specs.Reader.{cut_view};
 
 use crate::ben::Ben;
+use crate::copy::{copy_bytes, copy_queue};
 use crate::course::read_on;
 use crate::cut::{Course, Reader};
 use crate::fault::WireFault;
 use bytes::Bytes;
-use std::alloc::Global;
+use std::alloc::{AllocError, Global};
 use std::collections::VecDeque;
 
 /// Reads a stream of messages.
@@ -90,6 +91,23 @@ impl Decoder {
         ensures { IsTrue result ↔ ((fault_of self.now ≡ None) × (rest_of self.now ≡ [])) }
     {
         self.fault.is_none() && self.rest.is_empty()
+    }
+
+    /// An equal decoder. It reads the bytes of the unfinished message once more at its next piece.
+    pub fn copy(&self) -> Result<Decoder, AllocError>
+        ensures same { IfOk result (IsUnchanged self.now) }
+        ensures stands { (limit : ℕ) (all : List ℕ) (taken : List Tree) → Stands limit self.now all taken
+            → IfOk result (λ d. Stands limit d all taken) }
+    {
+        Ok(Decoder {
+            alloc: self.alloc,
+            limit: self.limit,
+            start: self.start,
+            rest: copy_bytes(self.alloc, &self.rest)?,
+            reader: None,
+            ready: copy_queue(self.alloc, &self.ready)?,
+            fault: self.fault,
+        })
     }
 
     // Reads a piece behind the bytes that are kept.

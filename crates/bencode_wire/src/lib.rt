@@ -25,3 +25,6 @@ pub use ben::{Ben, Dictionary};
 pub use decoder::Decoder;
 pub use fault::WireFault;
 pub use write::write_into;
+
+#[cfg(test)]
+mod tests;
