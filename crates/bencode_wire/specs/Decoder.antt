@@ -1,9 +1,17 @@
--- What a decoder shows: its messages that were not handed out, what has come of the next one, and its fault.
-use Rattle.std.specs.Prelude.{◌≡◌, ℕ, List, map, Option}
+-- What a decoder shows: its messages that were not handed out, what has come of the next one and where, and its fault.
+use Rattle.std.specs.Prelude.{◌≡◌, ℕ, ◌-◌, List, ◌++◌, length, map, Option, Some, None, MatchOption}
 use Rattle.bencode_wire.specs.Tree.{Tree}
 use Rattle.bencode_wire.specs.View.{view}
+use Rattle.bencode_wire.specs.Stream.{Ending, rest, fault, Streams}
+use Rattle.bencode_wire.specs.Spelling.{put_pair}
+use Rattle.bencode_wire.specs.Machine.{reading, ended, rests, start}
+use Rattle.bencode_wire.specs.Reader.{cut_view}
+use Rattle.bencode_wire.specs.Course.{counted, fault_at}
 use Rattle.bencode_wire.specs.declared.fault.WireFault.{WireFault}
 use Rattle.bencode_wire.specs.declared.decoder.Decoder.{Decoder}
+
+abbrev pub limit_of : Decoder → ℕ
+limit_of d = d.limit
 
 abbrev pub ready_of : Decoder → List Tree
 ready_of d = map view d.ready.items
@@ -11,10 +19,33 @@ ready_of d = map view d.ready.items
 abbrev pub rest_of : Decoder → List ℕ
 rest_of d = d.rest.items
 
+-- the place in the stream at which the rest begins
+abbrev pub place_of : Decoder → ℕ
+place_of d = d.start
+
 abbrev pub fault_of : Decoder → Option WireFault
 fault_of d = d.fault
 
 pub record IsUnchanged (old new : Decoder) : Type 0 where
+  pub limit : limit_of new ≡ limit_of old
   pub ready : ready_of new ≡ ready_of old
   pub rest : rest_of new ≡ rest_of old
+  pub place : place_of new ≡ place_of old
   pub fault : fault_of new ≡ fault_of old
+
+-- the decoder shows how the stream of these bytes ends
+abbrev pub Shows : Decoder → List ℕ → Ending → Type 0
+Shows d all (rest m) = (fault_of d ≡ None) × (rest_of d ≡ m) × (place_of d ≡ counted (length all - length m))
+Shows d all (fault rule at) = fault_of d ≡ Some (fault_at rule (counted at))
+
+-- what the decoder keeps beside the rest is what the rest is read as
+abbrev pub IsInStep : Decoder → Type 0
+IsInStep d = MatchOption d.reader (Unit {0}) (λ r. reading d.limit put_pair 0 start 0 d.rest.items ≡ ended (rests (length d.rest.items) (cut_view r)))
+
+-- reading all these bytes gives the messages that were taken, those that are ready, and the end that the decoder shows
+pub record Stands (limit : ℕ) (d : Decoder) (all : List ℕ) (taken : List Tree) : Type 0 where
+  pub end : Ending
+  pub streams : Streams limit 0 all (taken ++ ready_of d) end
+  pub shows : Shows d all end
+  pub within : limit_of d ≡ limit
+  pub in_step : IsInStep d

@@ -3,3 +3,11 @@ pub mod View
 pub mod Spelling
 pub mod Decoder
 pub mod Fronts
+pub mod Cut
+pub mod Fault
+pub mod Stream
+pub mod Machine
+pub mod Sign
+pub mod Reader
+pub mod Course
+pub mod Refusals

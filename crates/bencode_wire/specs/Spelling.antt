@@ -1,7 +1,9 @@
--- How a value is spelled, with its pairs in the order in which they stand (BEP 3, "Bencoding").
-use Rattle.std.specs.Prelude.{ℕ, ℤ, List, [], ◌∷◌, ◌++◌, length, codes, decimal}
+-- How a value is spelled (BEP 3, "Bencoding").
+use Rattle.std.specs.Prelude.{◌≡◌, ℕ, suc, ◌<◌, ◌^◌, ℤ, pos, negsuc, List, [], ◌∷◌, ◌++◌, length, codes, decimal, IsPermutation}
 use Rattle.std.specs.Fmt.{signed_decimal}
-use Rattle.bencode_wire.specs.Tree.{Tree, integer, string, list, dictionary, Trees, no_trees, tree, Pairs, no_pairs, pair}
+use Rattle.std.specs.Ordering.{nat_cmp, match_ordering}
+use Rattle.std.specs.Cmp.Lexicographic.{slice_cmp}
+use Rattle.bencode_wire.specs.Tree.{Tree, integer, string, list, dictionary, Trees, no_trees, tree, Pairs, no_pairs, pair, HasKey}
 
 abbrev pub integer_text : ℤ → List ℕ
 integer_text n = codes "i" ++ signed_decimal n ++ codes "e"
@@ -9,6 +11,7 @@ integer_text n = codes "i" ++ signed_decimal n ++ codes "e"
 abbrev pub string_text : List ℕ → List ℕ
 string_text bytes = decimal (length bytes) ++ codes ":" ++ bytes
 
+-- a value's spelling, with its pairs in the order in which they stand
 abbrev mutual
   pub text : Tree → List ℕ
   text (integer n) = integer_text n
@@ -23,3 +26,82 @@ abbrev mutual
   pub pairs_text : Pairs → List ℕ
   pairs_text no_pairs = []
   pairs_text (pair key t ps) = string_text key ++ text t ++ pairs_text ps
+
+-- an integer within 64 signed bits
+abbrev pub IsInteger : ℤ → Type 0
+IsInteger (pos n) = n < 2 ^ 63
+IsInteger (negsuc n) = n < 2 ^ 63
+
+abbrev pub IsString : List ℕ → Type 0
+IsString bytes = length bytes < 2 ^ 64
+
+-- a value of the grammar, equal keys being let pass
+abbrev mutual
+  pub IsSpellable : Tree → Type 0
+  IsSpellable (integer n) = IsInteger n
+  IsSpellable (string bytes) = IsString bytes
+  IsSpellable (list ts) = AreSpellable ts
+  IsSpellable (dictionary ps) = ArePairs ps
+
+  pub AreSpellable : Trees → Type 0
+  AreSpellable no_trees = Unit {0}
+  AreSpellable (tree t ts) = IsSpellable t × AreSpellable ts
+
+  pub ArePairs : Pairs → Type 0
+  ArePairs no_pairs = Unit {0}
+  ArePairs (pair key t ps) = IsString key × IsSpellable t × ArePairs ps
+
+abbrev pub joined : List (List ℕ) → List ℕ
+joined [] = []
+joined (bytes ∷ more) = bytes ++ joined more
+
+abbrev pub AreDistinct : Pairs → Type 0
+AreDistinct no_pairs = Unit {0}
+AreDistinct (pair key t ps) = (HasKey key ps → ⊥) × AreDistinct ps
+
+-- `bytes` is a spelling of the value: of a dictionary its pairs' in any order
+abbrev mutual
+  pub Spells : Tree → List ℕ → Type 0
+  Spells (integer n) bytes = IsInteger n × (bytes ≡ integer_text n)
+  Spells (string s) bytes = IsString s × (bytes ≡ string_text s)
+  Spells (list ts) bytes = (inner : List ℕ) × SpellsAll ts inner × (bytes ≡ codes "l" ++ inner ++ codes "e")
+  Spells (dictionary ps) bytes =
+      (texts : List (List ℕ)) × (order : List (List ℕ)) × SpellsPairs ps texts × AreDistinct ps × IsPermutation texts order
+      × (bytes ≡ codes "d" ++ joined order ++ codes "e")
+
+  pub SpellsAll : Trees → List ℕ → Type 0
+  SpellsAll no_trees bytes = bytes ≡ []
+  SpellsAll (tree t ts) bytes = (first : List ℕ) × (more : List ℕ) × Spells t first × SpellsAll ts more × (bytes ≡ first ++ more)
+
+  -- the spelling of each pair
+  pub SpellsPairs : Pairs → List (List ℕ) → Type 0
+  SpellsPairs no_pairs texts = texts ≡ []
+  SpellsPairs (pair key t ps) texts =
+      (value : List ℕ) × (more : List (List ℕ)) × IsString key × Spells t value × SpellsPairs ps more
+      × (texts ≡ (string_text key ++ value) ∷ more)
+
+-- the pairs, sorted by their keys as raw bytes, with one more; a key that stands there takes the new value
+abbrev pub put_pair : Pairs → List ℕ → Tree → Pairs
+put_pair no_pairs key t = pair key t no_pairs
+put_pair (pair k u ps) key t =
+    match_ordering (slice_cmp nat_cmp key k) (pair key t (pair k u ps)) (pair k t ps) (pair k u (put_pair ps key t))
+
+-- a value with the pairs put in one by one by their keys as raw bytes, at every level
+abbrev mutual
+  pub sorted : Tree → Tree
+  sorted (integer n) = integer n
+  sorted (string bytes) = string bytes
+  sorted (list ts) = list (sorted_trees ts)
+  sorted (dictionary ps) = dictionary (put_pairs no_pairs ps)
+
+  pub sorted_trees : Trees → Trees
+  sorted_trees no_trees = no_trees
+  sorted_trees (tree t ts) = tree (sorted t) (sorted_trees ts)
+
+  pub put_pairs : Pairs → Pairs → Pairs
+  put_pairs done no_pairs = done
+  put_pairs done (pair key t ps) = put_pairs (put_pair done key (sorted t)) ps
+
+-- the spelling whose keys are sorted
+abbrev pub canonical : Tree → List ℕ
+canonical t = text (sorted t)

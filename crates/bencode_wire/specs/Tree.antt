@@ -1,5 +1,5 @@
 -- What a value of bencode is (BEP 3), without where it lies in memory. A dictionary's pairs stand in some order.
-use Rattle.std.specs.Prelude.{ℕ, ℤ, List}
+use Rattle.std.specs.Prelude.{◌≡◌, ℕ, ℤ, List, Bool, true, false, ◌||◌, bytes_eq}
 
 mutual
   pub data Tree : Type 0 where
@@ -15,3 +15,21 @@ mutual
   pub data Pairs : Type 0 where
     no_pairs : Pairs
     pair : List ℕ → Tree → Pairs → Pairs
+
+-- the values and one more
+abbrev pub add_tree : Trees → Tree → Trees
+add_tree no_trees t = tree t no_trees
+add_tree (tree u ts) t = tree u (add_tree ts t)
+
+-- the pairs and one more
+abbrev pub add_pair : Pairs → List ℕ → Tree → Pairs
+add_pair no_pairs key t = pair key t no_pairs
+add_pair (pair k u ps) key t = pair k u (add_pair ps key t)
+
+-- whether a pair has the key
+abbrev pub has_key : List ℕ → Pairs → Bool
+has_key key no_pairs = false
+has_key key (pair k t ps) = bytes_eq key k || has_key key ps
+
+abbrev pub HasKey : List ℕ → Pairs → Type 0
+HasKey key ps = has_key key ps ≡ true

@@ -1,10 +1,16 @@
 // A stream of messages, fed in pieces of any size.
-ghost use Rattle.std.specs.Prelude.{◌≡◌, ◌≢◌, ◌↔◌, ◌++◌, ◌-◌, ◌≤◌, [], length, vec_len, take, IsTrue, None, Some, Err, OnOk, OnErr, IfOk, IfErr, option_map, option_to_list};
-ghost use Rattle.bencode_wire.specs.Fronts.{BeginsWith};
+ghost use Rattle.std.specs.Prelude.{◌≡◌, ◌≢◌, ◌↔◌, ◌++◌, ◌≤◌, ℕ, List, [], ◌∷◌, length, drop, IsTrue, None, Some, Err, OnOk, IfOk, IfErr, IfSome, option_map, option_to_list};
+ghost use Rattle.bencode_wire.specs.Tree.{Tree};
+ghost use Rattle.bencode_wire.specs.Cut.{Cut};
+ghost use Rattle.bencode_wire.specs.Spelling.{put_pair};
+ghost use Rattle.bencode_wire.specs.Machine.{reading, ended, rests, start as message_start};
+ghost use Rattle.bencode_wire.specs.Reader.{cut_view};
 
 use crate::ben::Ben;
+use crate::copy::{copy_bytes, copy_queue};
+use crate::course::read_on;
+use crate::cut::{Course, Reader};
 use crate::fault::WireFault;
-use crate::reader::{Progress, Reader};
 use bytes::Bytes;
 use std::alloc::{AllocError, Global};
 use std::collections::VecDeque;
@@ -29,24 +35,14 @@ pub struct Decoder {
     fault: Option<WireFault>,
 }
 
-// How far a piece was read: what its end was read as, and where in the bytes the unfinished
-// message begins.
-#[derive(Drop)]
-struct ReadUpTo {
-    reader: Reader,
-    begin: usize,
-}
-
 impl Decoder {
     ghost use Rattle.bencode_wire.specs.View.{view};
-    ghost use Rattle.bencode_wire.specs.Decoder.{ready_of, rest_of, fault_of, IsUnchanged};
+    ghost use Rattle.bencode_wire.specs.Decoder.{ready_of, rest_of, fault_of, IsUnchanged, IsInStep, Stands};
 
     /// A decoder at the start of a stream. `limit` is the greatest length of a message, and of a
     /// string in one.
     pub fn new(alloc: Global, limit: usize) -> Decoder
-        ensures ready { ready_of result ≡ [] }
-        ensures rest { rest_of result ≡ [] }
-        ensures fault { fault_of result ≡ None }
+        ensures { Stands limit result [] [] }
     {
         Decoder {
             alloc,
@@ -61,20 +57,93 @@ impl Decoder {
 
     /// Takes the next piece of the stream, which may be empty. Messages before a fault are ready.
     pub fn feed(&mut self, piece: &Bytes) -> Result<(), WireFault>
+        // Whatever came before, in whatever pieces, the decoder then stands for all of it.
+        ensures stands { (limit : ℕ) (all : List ℕ) (taken : List Tree) → Stands limit self.old all taken
+            → result ≢ Err WireFault.NoMemory → Stands limit self.new (all ++ piece.now) taken }
+        ensures keeps { (limit : ℕ) (all : List ℕ) (taken : List Tree) → Stands limit self.old all taken
+            → result ≡ Err WireFault.NoMemory → Stands limit self.new all taken }
+        ensures ok { OnOk result (fault_of self.new ≡ None) }
+        ensures fault { IfErr result (λ f. f ≢ WireFault.NoMemory → fault_of self.new ≡ Some f) }
+        ensures memory { result ≡ Err WireFault.NoMemory → IsUnchanged self.old self.new }
         // A decoder that met a fault answers it to each later piece, and takes nothing more.
         ensures again { fault_of self.old ≢ None → IfErr result (λ f. fault_of self.old ≡ Some f) }
         ensures stays { fault_of self.old ≢ None → IsUnchanged self.old self.new }
+    {
+        match self.fault {
+            Some(fault) => Err(fault),
+            None => self.take(piece.as_slice()),
+        }
+    }
+
+    /// Hands out the oldest message that is whole, a dictionary. It takes no memory.
+    pub fn next(&mut self) -> Option<Ben>
+        ensures value { ready_of self.old ≡ option_to_list (option_map view result) ++ ready_of self.new }
+        ensures stands { (limit : ℕ) (all : List ℕ) (taken : List Tree) → Stands limit self.old all taken
+            → Stands limit self.new all (taken ++ option_to_list (option_map view result)) }
+        ensures rest { rest_of self.new ≡ rest_of self.old }
+        ensures fault { fault_of self.new ≡ fault_of self.old }
+    {
+        self.ready.pop_front()
+    }
+
+    /// Whether nothing of a next message has come, and there is no fault. It takes no memory.
+    pub fn rest_is_empty(&self) -> bool
+        ensures { IsTrue result ↔ ((fault_of self.now ≡ None) × (rest_of self.now ≡ [])) }
+    {
+        self.fault.is_none() && self.rest.is_empty()
+    }
+
+    /// An equal decoder. It reads the bytes of the unfinished message once more at its next piece.
+    pub fn copy(&self) -> Result<Decoder, AllocError>
+        ensures same { IfOk result (IsUnchanged self.now) }
+        ensures stands { (limit : ℕ) (all : List ℕ) (taken : List Tree) → Stands limit self.now all taken
+            → IfOk result (λ d. Stands limit d all taken) }
+    {
+        Ok(Decoder {
+            alloc: self.alloc,
+            limit: self.limit,
+            start: self.start,
+            rest: copy_bytes(self.alloc, &self.rest)?,
+            reader: None,
+            ready: copy_queue(self.alloc, &self.ready)?,
+            fault: self.fault,
+        })
+    }
+
+    // Reads a piece behind the bytes that are kept.
+    fn take(&mut self, piece: &[u8]) -> Result<(), WireFault>
+        requires { fault_of self.old ≡ None }
+        ensures stands { (limit : ℕ) (all : List ℕ) (taken : List Tree) → Stands limit self.old all taken
+            → result ≢ Err WireFault.NoMemory → Stands limit self.new (all ++ piece.now) taken }
+        ensures keeps { (limit : ℕ) (all : List ℕ) (taken : List Tree) → Stands limit self.old all taken
+            → result ≡ Err WireFault.NoMemory → Stands limit self.new all taken }
         ensures ok { OnOk result (fault_of self.new ≡ None) }
         ensures fault { IfErr result (λ f. f ≢ WireFault.NoMemory → fault_of self.new ≡ Some f) }
         ensures memory { result ≡ Err WireFault.NoMemory → IsUnchanged self.old self.new }
     {
-        if let Some(fault) = self.fault {
-            return Err(fault);
+        let Some(reader) = self.resume() else {
+            return Err(WireFault::NoMemory);
+        };
+        let kept = self.rest.len();
+        let ready = self.ready.len();
+        if self.rest.extend_from_slice(piece).is_err() {
+            return Err(WireFault::NoMemory);
         }
-        let outcome = self.take(piece.as_slice());
-        match outcome {
-            Ok(()) => Ok(()),
-            Err(WireFault::NoMemory) => Err(WireFault::NoMemory),
+        let begin = Course { reader, begin: 0, at: kept };
+        let bytes = self.rest.as_slice();
+        match read_on(self.alloc, self.limit, self.start, bytes, begin, &mut self.ready) {
+            Ok(course) => {
+                let Course { reader, begin, at: _ } = course;
+                drop_front(&mut self.rest, begin);
+                self.start = self.start.saturating_add(begin as u64);
+                self.reader = Some(reader);
+                Ok(())
+            }
+            Err(WireFault::NoMemory) => {
+                self.rest.truncate(kept);
+                self.ready.truncate(ready);
+                Err(WireFault::NoMemory)
+            }
             Err(fault) => {
                 self.fault = Some(fault);
                 Err(fault)
@@ -82,115 +151,35 @@ impl Decoder {
         }
     }
 
-    /// Hands out the oldest message that is whole, a dictionary. It takes no memory.
-    pub fn next(&mut self) -> Option<Ben>
-        ensures value { ready_of self.old ≡ option_to_list (option_map view result) ++ ready_of self.new }
-        ensures rest { rest_of self.new ≡ rest_of self.old }
-        ensures fault { fault_of self.new ≡ fault_of self.old }
-    {
-        self.ready.pop_front()
-    }
-
-    /// Whether nothing of a next message has come. It takes no memory.
-    pub fn rest_is_empty(&self) -> bool
-        ensures { IsTrue result ↔ (rest_of self.now ≡ []) }
-    {
-        self.rest.is_empty()
-    }
-
-    // Reads a piece behind the bytes that are kept.
-    fn take(&mut self, piece: &[u8]) -> Result<(), WireFault>
-        ensures fault { fault_of self.new ≡ fault_of self.old }
-        ensures memory { result ≡ Err WireFault.NoMemory → IsUnchanged self.old self.new }
-    {
-        let reader = self.resume()?;
-        let kept = self.rest.len();
-        let ready = self.ready.len();
-        let outcome = self.read_behind(kept, reader, piece);
-        if let Err(WireFault::NoMemory) = outcome {
-            self.rest.truncate(kept);
-            self.ready.truncate(ready);
-        }
-        outcome
-    }
-
-    fn read_behind(&mut self, kept: usize, reader: Reader, piece: &[u8]) -> Result<(), WireFault>
-        requires { kept ≡ vec_len self.old.rest }
-        ensures fault { fault_of self.new ≡ fault_of self.old }
-        ensures rest { OnErr result (take kept (rest_of self.new) ≡ rest_of self.old) }
-        ensures ready { BeginsWith self.new.ready.items self.old.ready.items }
-    {
-        if self.rest.extend_from_slice(piece).is_err() {
-            return Err(WireFault::NoMemory);
-        }
-        let read = read_on(
-            self.alloc,
-            self.limit,
-            self.start,
-            self.rest.as_slice(),
-            kept,
-            reader,
-            &mut self.ready,
-        )?;
-        let ReadUpTo { reader, begin } = read;
-        drop(self.rest.drain(..begin));
-        self.start = self.start.saturating_add(begin as u64);
-        self.reader = Some(reader);
-        Ok(())
-    }
-
-    // What the kept bytes were read as. No message ends in them, and they have no fault.
-    fn resume(&mut self) -> Result<Reader, WireFault>
-        ensures { IsUnchanged self.old self.new }
+    // What the kept bytes are read as, unless memory is refused.
+    fn resume(&mut self) -> Option<Reader>
+        ensures same { IsUnchanged self.old self.new }
+        ensures none { self.new.reader ≡ None }
+        ensures reader { (c : Cut) → IsInStep self.old
+            → reading self.old.limit put_pair 0 message_start 0 (rest_of self.old) ≡ ended (rests (length (rest_of self.old)) c)
+            → IfSome result (λ r. cut_view r ≡ c) }
     {
         if let Some(reader) = self.reader.take() {
-            return Ok(reader);
+            return Some(reader);
         }
         let mut none = VecDeque::new(self.alloc);
-        let rest = self.rest.as_slice();
-        let new = Reader::new(self.alloc);
-        let read = read_on(self.alloc, self.limit, self.start, rest, 0, new, &mut none)?;
-        let ReadUpTo { reader, begin: _ } = read;
-        Ok(reader)
+        let reader = Reader::new(self.alloc);
+        let begin = Course { reader, begin: 0, at: 0 };
+        let bytes = self.rest.as_slice();
+        match read_on(self.alloc, self.limit, self.start, bytes, begin, &mut none) {
+            Ok(course) => {
+                let Course { reader, begin: _, at: _ } = course;
+                Some(reader)
+            }
+            // No rule is met in them.
+            Err(_) => None,
+        }
     }
 }
 
-// Reads bytes from `from` on. `start` is the place of their first in the stream.
-fn read_on(
-    alloc: Global,
-    limit: usize,
-    start: u64,
-    bytes: &[u8],
-    from: usize,
-    reader: Reader,
-    ready: &mut VecDeque<Ben>,
-) -> Result<ReadUpTo, WireFault>
-    requires { from ≤ length bytes.now }
-    ensures ready { BeginsWith ready.new.items ready.old.items }
-    ensures begin { IfOk result (λ read. read.begin ≤ length bytes.now) }
+fn drop_front(bytes: &mut Vec<u8>, n: usize)
+    requires { n ≤ length bytes.old.items }
+    ensures { bytes.new.items ≡ drop n bytes.old.items }
 {
-    let mut reader = reader;
-    let mut begin = 0;
-    let mut at = from;
-    while at < bytes.len() {
-        let place = start.saturating_add(at as u64);
-        if at - begin >= limit {
-            return Err(WireFault::TooLong(place));
-        }
-        let available = (bytes.len() - at).min(limit - (at - begin));
-        let run = reader.run_len(available);
-        match reader.step(alloc, limit, &bytes[at..at + run]) {
-            Ok(Progress::Partial(next)) => reader = next,
-            Ok(Progress::Whole(message)) => {
-                if ready.push_back(message).is_err() {
-                    return Err(WireFault::NoMemory);
-                }
-                begin = at + run;
-                reader = Reader::new(alloc);
-            }
-            Err(refusal) => return Err(refusal.at(place.saturating_add(run as u64 - 1))),
-        }
-        at += run;
-    }
-    Ok(ReadUpTo { reader, begin })
+    drop(bytes.drain(..n));
 }

@@ -35,7 +35,12 @@ pub(crate) enum Refusal {
 }
 
 impl Refusal {
-    pub(crate) fn at(self, place: u64) -> WireFault {
+    ghost use Rattle.std.specs.Prelude.{◌≡◌};
+    ghost use Rattle.bencode_wire.specs.Refusals.{refusal_at};
+
+    pub(crate) fn at(self, place: u64) -> WireFault
+        ensures { result ≡ refusal_at self place }
+    {
         match self {
             Refusal::NoMemory => WireFault::NoMemory,
             Refusal::Malformed => WireFault::Malformed(place),

@@ -12,12 +12,19 @@
 #![tactic(auto)]
 
 mod ben;
+mod copy;
+mod course;
+mod cut;
 mod decoder;
 mod fault;
 mod reader;
+mod sign;
 mod write;
 
 pub use ben::{Ben, Dictionary};
 pub use decoder::Decoder;
 pub use fault::WireFault;
 pub use write::write_into;
+
+#[cfg(test)]
+mod tests;

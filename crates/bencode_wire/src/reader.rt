@@ -1,64 +1,30 @@
 // One message, read byte by byte. A `Reader` is what has come of it: the lists and dictionaries
 // that are open, and the part of the token that the last byte stands in. Each step takes the
 // reader by value and gives the next one.
-ghost use Rattle.std.specs.Prelude.{◌<◌, ◌≤◌, length};
+ghost use Rattle.std.specs.Prelude.{◌≡◌, ℕ, ◌<◌, ◌≤◌, ◌+◌, ◌*◌, ◌^◌, length, nat_le, if◌then◌else◌, MatchOption, IfOk, IfErr, Some, None, [], ◌∷◌};
+ghost use Rattle.bencode_wire.specs.Cut as cuts;
+ghost use Rattle.bencode_wire.specs.Machine as machine;
+ghost use Rattle.bencode_wire.specs.Machine.{judged};
+ghost use Rattle.bencode_wire.specs.Tree as tree;
+ghost use Rattle.bencode_wire.specs.Cut.{in_list, at_key, at_value};
+ghost use Rattle.bencode_wire.specs.Spelling.{put_pair};
+ghost use Rattle.bencode_wire.specs.View.{view, trees_view, pairs_view};
+ghost use Rattle.bencode_wire.specs.Sign.{sign_of};
+ghost use Rattle.bencode_wire.specs.Reader.{frame_view, frames_view, token_view, cut_view, Gives};
 
 use crate::ben::{Ben, Dictionary};
+use crate::cut::{Frame, PartOfInteger, PartOfString, Progress, Reader, Token, Wanted};
 use crate::fault::Refusal;
+use crate::sign::Sign;
 use std::alloc::Global;
 
 // How deep lists and dictionaries may nest, the message itself included.
 const MAX_NESTING: usize = 64;
 
-#[derive(Drop)]
-pub(crate) struct Reader {
-    // The innermost is last.
-    frames: Vec<Frame>,
-    token: Token,
-}
-
-// A list or a dictionary that is open, with what it holds so far.
-#[derive(Drop)]
-enum Frame {
-    List(Vec<Ben>),
-    // A key may come, or the end.
-    Keys(Dictionary),
-    // The value of this key has to come.
-    Value(Dictionary, Vec<u8>),
-}
-
-// The part of a token that has come.
-#[derive(Drop)]
-enum Token {
-    // Nothing: the last byte ended a token.
-    Between,
-    // `i`
-    IntegerOpen,
-    // `i-`
-    IntegerMinus,
-    IntegerDigits { is_negative: bool, value: i64 },
-    // The digits of a string's length.
-    Length(usize),
-    Text(PartOfString),
-}
-
-// A string of which at least one byte is still to come.
-#[derive(Drop)]
-struct PartOfString {
-    left: usize,
-    bytes: Vec<u8>,
-    ghost is_partial: { 0 < left },
-}
-
-// What a step comes to.
-#[derive(Drop)]
-pub(crate) enum Progress {
-    Partial(Reader),
-    Whole(Ben),
-}
-
 impl Reader {
-    pub(crate) fn new(alloc: Global) -> Reader {
+    pub(crate) fn new(alloc: Global) -> Reader
+        ensures { cut_view result ≡ machine.start }
+    {
         Reader {
             frames: Vec::new(alloc),
             token: Token::Between,
@@ -70,6 +36,7 @@ impl Reader {
         requires { 0 < available }
         ensures some { 0 < result }
         ensures within { result ≤ available }
+        ensures run { machine.TakesRun (token_view self.now.token) result }
     {
         match &self.token {
             Token::Text(part) => part.left.min(available),
@@ -78,211 +45,323 @@ impl Reader {
     }
 
     // Reads one run of bytes, whose length `run_len` gave.
-    pub(crate) fn step(self, alloc: Global, limit: usize, run: &[u8]) -> Result<Progress, Refusal>
+    pub(crate) fn step(self, alloc: Global, run: &[u8]) -> Result<Progress, Refusal>
         requires { 0 < length run.now }
+        ensures { Gives (judged (machine.step_run put_pair (frames_view self.frames.items) (token_view self.token) run.now)) result }
     {
         let Reader { frames, token } = self;
-        let byte = run[0];
+        let sign = Sign::of(run[0]);
         match token {
-            Token::Between => begin(alloc, frames, limit, byte),
-            Token::IntegerOpen => integer_open(frames, byte),
-            Token::IntegerMinus => integer_minus(frames, byte),
-            Token::IntegerDigits { is_negative, value } => {
-                integer_digits(frames, is_negative, value, byte)
-            }
-            Token::Length(len) => length_digits(alloc, frames, limit, len, byte),
+            Token::Between => begin(alloc, frames, sign),
+            Token::IntegerOpen => integer_open(frames, sign),
+            Token::IntegerMinus => integer_minus(frames, sign),
+            Token::IntegerDigits(part) => integer_digits(frames, part, sign),
+            Token::Length(len) => length_digits(alloc, frames, len, sign),
             Token::Text(part) => text(frames, part, run),
         }
     }
 }
 
-fn partial(frames: Vec<Frame>, token: Token) -> Result<Progress, Refusal> {
+fn partial(frames: Vec<Frame>, token: Token) -> Result<Progress, Refusal>
+    ensures { Gives (judged (machine.goes (frames_view frames.items) (token_view token))) result }
+{
     Ok(Progress::Partial(Reader { frames, token }))
 }
 
-fn digit_of(byte: u8) -> Option<u8> {
-    if byte.is_ascii_digit() {
-        Some(byte - b'0')
-    } else {
-        None
-    }
+// The frames with one more.
+fn push(mut frames: Vec<Frame>, frame: Frame) -> Result<Vec<Frame>, Refusal>
+    ensures ok { IfOk result (λ fs. frames_view fs.items ≡ frame_view frame ∷ frames_view frames.items) }
+    ensures err { IfErr result (λ e. e ≡ Refusal.NoMemory) }
+{
+    frames.push(frame)?;
+    Ok(frames)
 }
 
-// What may come between two tokens.
-#[derive(Clone, Copy, PartialEq, Eq)]
-enum Wanted {
-    Message,
-    Value,
-    ValueOrEnd,
-    KeyOrEnd,
+// The outer frames and the innermost.
+fn pop(mut frames: Vec<Frame>) -> (Vec<Frame>, Option<Frame>)
+    ensures { MatchOption result.1 (frames_view frames.items ≡ [])
+        (λ frame. frames_view frames.items ≡ frame_view frame ∷ frames_view result.0.items) }
+{
+    let innermost = frames.pop();
+    (frames, innermost)
 }
 
-fn wanted_after(frames: &Vec<Frame>) -> Wanted {
+fn wanted_in(frames: &[Frame]) -> Wanted
+    ensures { result ≡ machine.wanted_in (frames_view frames.now) }
+{
     match frames.last() {
         None => Wanted::Message,
-        Some(Frame::List(_)) => Wanted::ValueOrEnd,
+        Some(Frame::List(_)) => Wanted::ItemOrEnd,
         Some(Frame::Keys(_)) => Wanted::KeyOrEnd,
         Some(Frame::Value(_, _)) => Wanted::Value,
     }
 }
 
 // The first byte of a token.
-fn begin(alloc: Global, frames: Vec<Frame>, limit: usize, byte: u8) -> Result<Progress, Refusal> {
-    match wanted_after(&frames) {
-        Wanted::Message => begin_message(alloc, frames, byte),
-        Wanted::Value => begin_value(alloc, frames, limit, byte),
-        Wanted::ValueOrEnd | Wanted::KeyOrEnd if byte == b'e' => close(frames),
-        Wanted::ValueOrEnd => begin_value(alloc, frames, limit, byte),
-        Wanted::KeyOrEnd => begin_string(frames, limit, byte),
+fn begin(alloc: Global, frames: Vec<Frame>, sign: Sign) -> Result<Progress, Refusal>
+    ensures { Gives (judged (machine.begin put_pair (frames_view frames.items) sign)) result }
+{
+    match wanted_in(&frames) {
+        Wanted::Message => begin_message(alloc, frames, sign),
+        Wanted::Value => begin_value(alloc, frames, sign),
+        Wanted::ItemOrEnd => begin_item(alloc, frames, sign),
+        Wanted::KeyOrEnd => begin_key(frames, sign),
     }
 }
 
-fn begin_message(alloc: Global, frames: Vec<Frame>, byte: u8) -> Result<Progress, Refusal> {
-    if byte == b'd' {
-        open(frames, Frame::Keys(Dictionary::new(alloc)))
-    } else {
-        Err(Refusal::Malformed)
+fn begin_message(alloc: Global, frames: Vec<Frame>, sign: Sign) -> Result<Progress, Refusal>
+    ensures { Gives (judged (machine.begin_message (frames_view frames.items) sign)) result }
+{
+    match sign {
+        Sign::Dictionary => open(frames, Frame::Keys(Dictionary::new(alloc))),
+        Sign::Integer | Sign::List | Sign::End | Sign::Minus | Sign::Colon => {
+            Err(Refusal::Malformed)
+        }
+        Sign::Digit(_) | Sign::Other => Err(Refusal::Malformed),
     }
 }
 
 fn begin_value(
     alloc: Global,
     frames: Vec<Frame>,
-    limit: usize,
-    byte: u8,
-) -> Result<Progress, Refusal> {
-    match byte {
-        b'i' => partial(frames, Token::IntegerOpen),
-        b'l' => open(frames, Frame::List(Vec::new(alloc))),
-        b'd' => open(frames, Frame::Keys(Dictionary::new(alloc))),
-        _ => begin_string(frames, limit, byte),
+    sign: Sign,
+) -> Result<Progress, Refusal>
+    ensures { Gives (judged (machine.begin_value (frames_view frames.items) sign)) result }
+{
+    match sign {
+        Sign::Integer => partial(frames, Token::IntegerOpen),
+        Sign::List => open(frames, Frame::List(Vec::new(alloc))),
+        Sign::Dictionary => open(frames, Frame::Keys(Dictionary::new(alloc))),
+        Sign::Digit(digit) => partial(frames, Token::Length(usize::from(digit))),
+        Sign::End | Sign::Minus | Sign::Colon | Sign::Other => Err(Refusal::Malformed),
     }
 }
 
-fn begin_string(frames: Vec<Frame>, limit: usize, byte: u8) -> Result<Progress, Refusal> {
-    match digit_of(byte) {
-        Some(digit) => string_length(frames, limit, usize::from(digit)),
-        None => Err(Refusal::Malformed),
+fn begin_item(
+    alloc: Global,
+    frames: Vec<Frame>,
+    sign: Sign,
+) -> Result<Progress, Refusal>
+    ensures { Gives (judged (machine.begin_item put_pair (frames_view frames.items) sign)) result }
+{
+    match sign {
+        Sign::End => close(frames),
+        Sign::Integer | Sign::List | Sign::Dictionary | Sign::Digit(_) => {
+            begin_value(alloc, frames, sign)
+        }
+        Sign::Minus | Sign::Colon | Sign::Other => Err(Refusal::Malformed),
     }
 }
 
-fn string_length(frames: Vec<Frame>, limit: usize, len: usize) -> Result<Progress, Refusal> {
-    if len > limit {
-        Err(Refusal::TooLong)
+fn begin_key(frames: Vec<Frame>, sign: Sign) -> Result<Progress, Refusal>
+    ensures { Gives (judged (machine.begin_key put_pair (frames_view frames.items) sign)) result }
+{
+    match sign {
+        Sign::End => close(frames),
+        Sign::Digit(digit) => partial(frames, Token::Length(usize::from(digit))),
+        Sign::Integer | Sign::List | Sign::Dictionary => Err(Refusal::Malformed),
+        Sign::Minus | Sign::Colon | Sign::Other => Err(Refusal::Malformed),
+    }
+}
+
+fn open(frames: Vec<Frame>, frame: Frame) -> Result<Progress, Refusal>
+    ensures { Gives (judged (machine.opens (frame_view frame) (frames_view frames.items))) result }
+{
+    if frames.len() < MAX_NESTING {
+        let frames = push(frames, frame)?;
+        partial(frames, Token::Between)
     } else {
-        partial(frames, Token::Length(len))
+        Err(Refusal::TooDeep)
     }
-}
-
-fn open(mut frames: Vec<Frame>, frame: Frame) -> Result<Progress, Refusal> {
-    if frames.len() >= MAX_NESTING {
-        return Err(Refusal::TooDeep);
-    }
-    frames.push(frame)?;
-    partial(frames, Token::Between)
 }
 
 // The end of the innermost list or dictionary.
-fn close(mut frames: Vec<Frame>) -> Result<Progress, Refusal> {
-    match frames.pop() {
-        Some(Frame::List(items)) => put(frames, Ben::List(items)),
-        Some(Frame::Keys(pairs)) => put(frames, Ben::Dictionary(pairs)),
-        _ => Err(Refusal::Malformed),
+fn close(frames: Vec<Frame>) -> Result<Progress, Refusal>
+    ensures { Gives (judged (machine.close put_pair (frames_view frames.items))) result }
+{
+    let (outer, innermost) = pop(frames);
+    match innermost {
+        Some(Frame::List(items)) => put(outer, Ben::List(items)),
+        Some(Frame::Keys(pairs)) => put(outer, Ben::Dictionary(pairs)),
+        Some(Frame::Value(_, _)) => Err(Refusal::Malformed),
+        None => Err(Refusal::Malformed),
     }
 }
 
 // A value that is whole goes into the innermost list or dictionary, or is the message.
-fn put(mut frames: Vec<Frame>, value: Ben) -> Result<Progress, Refusal> {
-    let frame = match frames.pop() {
-        None => return Ok(Progress::Whole(value)),
-        Some(frame) => put_in(frame, value)?,
-    };
-    frames.push(frame)?;
+fn put(frames: Vec<Frame>, value: Ben) -> Result<Progress, Refusal>
+    ensures { Gives (judged (machine.put put_pair (frames_view frames.items) (view value))) result }
+{
+    let (outer, innermost) = pop(frames);
+    match innermost {
+        None => Ok(Progress::Whole(value)),
+        Some(Frame::List(items)) => put_item(outer, items, value),
+        Some(Frame::Keys(pairs)) => put_key(outer, pairs, value),
+        Some(Frame::Value(pairs, key)) => put_value(outer, pairs, key, value),
+    }
+}
+
+#[tactic(auto, using(crate::proofs::Rules::item_steps))]
+fn put_item(outer: Vec<Frame>, mut items: Vec<Ben>, item: Ben) -> Result<Progress, Refusal>
+    ensures { Gives (judged (machine.put put_pair (in_list (trees_view items.items) ∷ frames_view outer.items) (view item))) result }
+{
+    items.push(item)?;
+    let frames = push(outer, Frame::List(items))?;
     partial(frames, Token::Between)
 }
 
-fn put_in(frame: Frame, value: Ben) -> Result<Frame, Refusal> {
-    match frame {
-        Frame::List(mut items) => {
-            items.push(value)?;
-            Ok(Frame::List(items))
-        }
-        Frame::Value(mut pairs, key) => {
-            drop(pairs.insert(key, value)?);
-            Ok(Frame::Keys(pairs))
-        }
-        Frame::Keys(pairs) => match value {
-            Ben::String(key) => put_key(pairs, key),
-            _other => Err(Refusal::Malformed),
-        },
+// A key has to be a string, and a key that stood before in its dictionary is refused at its last
+// byte.
+fn put_key(outer: Vec<Frame>, pairs: Dictionary, key: Ben) -> Result<Progress, Refusal>
+    ensures { Gives (judged (machine.put put_pair (at_key (pairs_view pairs.entries) ∷ frames_view outer.items) (view key))) result }
+{
+    match key {
+        Ben::String(key) => put_name(outer, pairs, key),
+        Ben::Integer(_) => Err(Refusal::Malformed),
+        Ben::List(_) => Err(Refusal::Malformed),
+        Ben::Dictionary(_) => Err(Refusal::Malformed),
     }
 }
 
-// A key that stood before in its dictionary is refused at its last byte.
-fn put_key(pairs: Dictionary, key: Vec<u8>) -> Result<Frame, Refusal> {
-    if pairs.contains_key(&key) {
-        Err(Refusal::Malformed)
-    } else {
-        Ok(Frame::Value(pairs, key))
+fn put_name(outer: Vec<Frame>, pairs: Dictionary, key: Vec<u8>) -> Result<Progress, Refusal>
+    ensures { Gives (judged (machine.names (pairs_view pairs.entries) key.items (frames_view outer.items))) result }
+{
+    if has_key(&pairs, &key) {
+        return Err(Refusal::Malformed);
     }
+    let frames = push(outer, Frame::Value(pairs, key))?;
+    partial(frames, Token::Between)
+}
+
+fn has_key(pairs: &Dictionary, key: &Vec<u8>) -> bool
+    ensures { result ≡ tree.has_key key.now.items (pairs_view pairs.now.entries) }
+{
+    pairs.contains_key(key)
+}
+
+fn put_value(
+    outer: Vec<Frame>,
+    pairs: Dictionary,
+    key: Vec<u8>,
+    value: Ben,
+) -> Result<Progress, Refusal>
+    ensures { Gives (judged (machine.put put_pair (at_value (pairs_view pairs.entries) key.items ∷ frames_view outer.items) (view value))) result }
+{
+    let pairs = with_pair(pairs, key, value)?;
+    let frames = push(outer, Frame::Keys(pairs))?;
+    partial(frames, Token::Between)
+}
+
+fn with_pair(mut pairs: Dictionary, key: Vec<u8>, value: Ben) -> Result<Dictionary, Refusal>
+    ensures ok { IfOk result (λ with. pairs_view with.entries ≡ put_pair (pairs_view pairs.entries) key.items (view value)) }
+    ensures err { IfErr result (λ e. e ≡ Refusal.NoMemory) }
+{
+    drop(pairs.insert(key, value)?);
+    Ok(pairs)
 }
 
 // Behind `i`: a minus or the first digit.
-fn integer_open(frames: Vec<Frame>, byte: u8) -> Result<Progress, Refusal> {
-    if byte == b'-' {
-        return partial(frames, Token::IntegerMinus);
-    }
-    match digit_of(byte) {
-        Some(digit) => {
-            let value = i64::from(digit);
-            let is_negative = false;
-            partial(frames, Token::IntegerDigits { is_negative, value })
-        }
-        None => Err(Refusal::Malformed),
+fn integer_open(frames: Vec<Frame>, sign: Sign) -> Result<Progress, Refusal>
+    ensures { Gives (judged (machine.integer_open (frames_view frames.items) sign)) result }
+{
+    match sign {
+        Sign::Minus => partial(frames, Token::IntegerMinus),
+        Sign::Digit(digit) => partial(frames, integer_part(false, u64::from(digit))),
+        Sign::Integer | Sign::List | Sign::Dictionary => Err(Refusal::Malformed),
+        Sign::End | Sign::Colon | Sign::Other => Err(Refusal::Malformed),
     }
 }
 
 // Behind `i-`: a digit that is not zero.
-fn integer_minus(frames: Vec<Frame>, byte: u8) -> Result<Progress, Refusal> {
-    match digit_of(byte) {
-        None | Some(0) => Err(Refusal::Malformed),
-        Some(digit) => {
-            let value = -i64::from(digit);
-            let is_negative = true;
-            partial(frames, Token::IntegerDigits { is_negative, value })
+fn integer_minus(frames: Vec<Frame>, sign: Sign) -> Result<Progress, Refusal>
+    ensures { Gives (judged (machine.integer_minus (frames_view frames.items) sign)) result }
+{
+    match sign {
+        Sign::Digit(digit) => {
+            if digit == 0 {
+                Err(Refusal::Malformed)
+            } else {
+                partial(frames, integer_part(true, u64::from(digit)))
+            }
         }
+        Sign::Integer | Sign::List | Sign::Dictionary => Err(Refusal::Malformed),
+        Sign::End | Sign::Minus | Sign::Colon | Sign::Other => Err(Refusal::Malformed),
     }
 }
 
 // Behind a digit of an integer: another digit, unless the number is zero, or the end.
 fn integer_digits(
     frames: Vec<Frame>,
-    is_negative: bool,
-    value: i64,
-    byte: u8,
-) -> Result<Progress, Refusal> {
-    if byte == b'e' {
-        return put(frames, Ben::Integer(value));
-    }
-    if value == 0 {
-        return Err(Refusal::Malformed);
-    }
-    let Some(digit) = digit_of(byte) else {
-        return Err(Refusal::Malformed);
-    };
-    match with_digit(is_negative, value, digit) {
-        None => Err(Refusal::Malformed),
-        Some(value) => partial(frames, Token::IntegerDigits { is_negative, value }),
+    part: PartOfInteger,
+    sign: Sign,
+) -> Result<Progress, Refusal>
+    ensures { Gives (judged (machine.integer_digits put_pair (frames_view frames.items) part.is_negative part.value sign)) result }
+{
+    let PartOfInteger { is_negative, value } = part;
+    match sign {
+        Sign::End => put(frames, Ben::Integer(signed(is_negative, value))),
+        Sign::Digit(digit) => more_digits(frames, is_negative, value, digit),
+        Sign::Integer | Sign::List | Sign::Dictionary => Err(Refusal::Malformed),
+        Sign::Minus | Sign::Colon | Sign::Other => Err(Refusal::Malformed),
     }
 }
 
-// The number with one more digit, unless it leaves its 64 bits.
-fn with_digit(is_negative: bool, value: i64, digit: u8) -> Option<i64> {
-    let tens = value.checked_mul(10)?;
+fn more_digits(
+    frames: Vec<Frame>,
+    is_negative: bool,
+    value: u64,
+    digit: u8,
+) -> Result<Progress, Refusal>
+    ensures { Gives (judged (machine.more_digits (frames_view frames.items) is_negative value digit)) result }
+{
+    if value == 0 {
+        return Err(Refusal::Malformed);
+    }
+    match longer(value, digit, greatest(is_negative)) {
+        None => Err(Refusal::Malformed),
+        Some(value) => partial(frames, integer_part(is_negative, value)),
+    }
+}
+
+fn integer_part(is_negative: bool, value: u64) -> Token
+    requires { value ≤ cuts.greatest is_negative }
+    ensures { token_view result ≡ cuts.digits is_negative value }
+{
+    Token::IntegerDigits(PartOfInteger { is_negative, value })
+}
+
+// The greatest number behind no minus, and behind one.
+fn greatest(is_negative: bool) -> u64
+    ensures { result ≡ cuts.greatest is_negative }
+{
     if is_negative {
-        tens.checked_sub(i64::from(digit))
+        9_223_372_036_854_775_808
     } else {
-        tens.checked_add(i64::from(digit))
+        9_223_372_036_854_775_807
+    }
+}
+
+// The number with one more digit, unless it passes the greatest.
+fn longer(value: u64, digit: u8, greatest: u64) -> Option<u64>
+    ensures { result ≡ (if nat_le (10 * value + digit) greatest then Some (10 * value + digit) else None) }
+{
+    let longer = value.checked_mul(10)?.checked_add(u64::from(digit))?;
+    if longer <= greatest {
+        Some(longer)
+    } else {
+        None
+    }
+}
+
+// The integer of these digits.
+fn signed(is_negative: bool, value: u64) -> i64
+    requires { value ≤ cuts.greatest is_negative }
+    ensures { result ≡ machine.signed is_negative value }
+{
+    if is_negative {
+        -(value.saturating_sub(1) as i64) - 1
+    } else {
+        value as i64
     }
 }
 
@@ -290,35 +369,50 @@ fn with_digit(is_negative: bool, value: i64, digit: u8) -> Option<i64> {
 fn length_digits(
     alloc: Global,
     frames: Vec<Frame>,
-    limit: usize,
     len: usize,
-    byte: u8,
-) -> Result<Progress, Refusal> {
-    if byte == b':' {
-        return open_string(alloc, frames, len);
+    sign: Sign,
+) -> Result<Progress, Refusal>
+    ensures { Gives (judged (machine.length_digits put_pair (frames_view frames.items) len sign)) result }
+{
+    match sign {
+        Sign::Colon => open_string(alloc, frames, len),
+        Sign::Digit(digit) => more_length(frames, len, digit),
+        Sign::Integer | Sign::List | Sign::Dictionary => Err(Refusal::Malformed),
+        Sign::End | Sign::Minus | Sign::Other => Err(Refusal::Malformed),
     }
+}
+
+fn more_length(
+    frames: Vec<Frame>,
+    len: usize,
+    digit: u8,
+) -> Result<Progress, Refusal>
+    ensures { Gives (judged (machine.more_length (frames_view frames.items) len digit)) result }
+{
     if len == 0 {
         return Err(Refusal::Malformed);
     }
-    match digit_of(byte) {
-        Some(digit) => {
-            let longer = len.saturating_mul(10).saturating_add(usize::from(digit));
-            string_length(frames, limit, longer)
-        }
+    match longer(len as u64, digit, u64::MAX) {
+        Some(len) => partial(frames, Token::Length(len as usize)),
         None => Err(Refusal::Malformed),
     }
 }
 
-fn open_string(alloc: Global, frames: Vec<Frame>, len: usize) -> Result<Progress, Refusal> {
+fn open_string(alloc: Global, frames: Vec<Frame>, len: usize) -> Result<Progress, Refusal>
+    ensures { Gives (judged (machine.open_string put_pair (frames_view frames.items) len)) result }
+{
     let bytes = Vec::new(alloc);
     if len == 0 {
-        return put(frames, Ben::String(bytes));
+        put(frames, Ben::String(bytes))
+    } else {
+        partial(frames, Token::Text(PartOfString { left: len, bytes }))
     }
-    partial(frames, Token::Text(PartOfString { left: len, bytes }))
 }
 
 // More bytes of a string, at most those that are left.
-fn text(frames: Vec<Frame>, part: PartOfString, run: &[u8]) -> Result<Progress, Refusal> {
+fn text(frames: Vec<Frame>, part: PartOfString, run: &[u8]) -> Result<Progress, Refusal>
+    ensures { Gives (judged (machine.text_bytes put_pair (frames_view frames.items) part.bytes.items part.left run.now)) result }
+{
     let PartOfString { left, mut bytes } = part;
     bytes.extend_from_slice(run)?;
     if run.len() < left {

@@ -1,15 +1,16 @@
 // Spelling a value. A dictionary's keys come sorted as raw bytes, which is the order of its map.
 ghost use Rattle.std.specs.Prelude.{◌≡◌, ◌++◌, OnOk, OnErr, codes, length};
 ghost use Rattle.bencode_wire.specs.View.{view, trees_view, pairs_view};
-ghost use Rattle.bencode_wire.specs.Spelling.{text, trees_text, pairs_text, string_text, integer_text};
+ghost use Rattle.bencode_wire.specs.Spelling.{canonical, sorted_trees, put_pairs, trees_text, pairs_text, string_text, integer_text};
+ghost use Rattle.bencode_wire.specs.Tree.{no_pairs};
 
 use crate::ben::{Ben, Dictionary};
 use itoa::Buffer;
 use std::alloc::AllocError;
 
-/// Appends the value's spelling. After want of memory `out` is as it was.
+/// Appends the value's canonical spelling. After want of memory `out` is as it was.
 pub fn write_into(value: &Ben, out: &mut Vec<u8>) -> Result<(), AllocError>
-    ensures ok { OnOk result (out.new.items ≡ out.old.items ++ text (view value.now)) }
+    ensures ok { OnOk result (out.new.items ≡ out.old.items ++ canonical (view value.now)) }
     ensures err { OnErr result (out.new.items ≡ out.old.items) }
 {
     let mut bytes = Vec::new(*out.allocator());
@@ -19,7 +20,7 @@ pub fn write_into(value: &Ben, out: &mut Vec<u8>) -> Result<(), AllocError>
 
 #[cycle(spell)]
 fn spell(value: &Ben, out: &mut Vec<u8>) -> Result<(), AllocError>
-    ensures { OnOk result (out.new.items ≡ out.old.items ++ text (view value.now)) }
+    ensures { OnOk result (out.new.items ≡ out.old.items ++ canonical (view value.now)) }
 {
     match value {
         Ben::Integer(n) => spell_integer(*n, out),
@@ -39,7 +40,7 @@ fn spell(value: &Ben, out: &mut Vec<u8>) -> Result<(), AllocError>
 
 #[cycle(spell)]
 fn spell_items(items: &[Ben], out: &mut Vec<u8>) -> Result<(), AllocError>
-    ensures { OnOk result (out.new.items ≡ out.old.items ++ trees_text (trees_view items.now)) }
+    ensures { OnOk result (out.new.items ≡ out.old.items ++ trees_text (sorted_trees (trees_view items.now))) }
 {
     for item in items {
         spell(item, out)?;
@@ -49,7 +50,7 @@ fn spell_items(items: &[Ben], out: &mut Vec<u8>) -> Result<(), AllocError>
 
 #[cycle(spell)]
 fn spell_pairs(pairs: &Dictionary, out: &mut Vec<u8>) -> Result<(), AllocError>
-    ensures { OnOk result (out.new.items ≡ out.old.items ++ pairs_text (pairs_view pairs.now.entries)) }
+    ensures { OnOk result (out.new.items ≡ out.old.items ++ pairs_text (put_pairs no_pairs (pairs_view pairs.now.entries))) }
 {
     for (key, value) in pairs.iter() {
         spell_string(key, out)?;

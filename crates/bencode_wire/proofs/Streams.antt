@@ -1,0 +1,133 @@
+-- A reading from a message's start is a stream, and streams are put together.
+use Rattle.std.proofs.Common.{◌≡◌, ℕ, suc, ◌+◌, ◌-◌, ◌<◌, ◌≤◌, List, [], ◌∷◌, ◌++◌, length, refl, sym, ap, ◌∙◌, subst, append_assoc, append-nil, length-append, arith}
+use Rattle.bencode_wire.specs.Tree.{Tree}
+use Rattle.bencode_wire.specs.Spelling.{put_pair}
+use Rattle.bencode_wire.specs.Cut.{Cut}
+use Rattle.bencode_wire.specs.Fault.{Rule}
+use Rattle.bencode_wire.specs.Machine.{Adding, bite, Judged, reads, whole, refuses, Reading, End, rests, faults, ended, with_message, onward, reading, start}
+use Rattle.bencode_wire.specs.Stream.{IsMessage, Ending, rest, fault, IsRest, Breaks, Ends, Streams}
+
+same_reads : (limit : ℕ) (add : Adding) (a b : ℕ) (c d : Cut) (i j : ℕ) (bs : List ℕ) → a ≡ b → c ≡ d → i ≡ j → reading limit add a c i bs ≡ reading limit add b d j bs
+same_reads limit add a b c d i j bs e f g =
+    ap (λ k. reading limit add k c i bs) e ∙ ap (λ k. reading limit add b k i bs) f ∙ ap (λ k. reading limit add b d k bs) g
+
+rests_before : (a b : ℕ) (c d : Cut) → rests a c ≡ rests b d → a ≡ b
+rests_before a b c d e = cc
+
+rests_cut : (a b : ℕ) (c d : Cut) → rests a c ≡ rests b d → c ≡ d
+rests_cut a b c d e = cc
+
+onward-append : (limit : ℕ) (add : Adding) (j : Judged) (before at n : ℕ) (d : Cut) (xs ys : List ℕ)
+    → onward j at (λ next. reading limit add (before + 1) next (at + 1) xs) (reading limit add 0 start (at + 1) xs) ≡ ended (rests n d)
+    → ((next : Cut) → reading limit add (before + 1) next (at + 1) xs ≡ ended (rests n d)
+      → reading limit add (before + 1) next (at + 1) (xs ++ ys) ≡ reading limit add n d (at + 1 + length xs) ys)
+    → onward j at (λ next. reading limit add (before + 1) next (at + 1) (xs ++ ys)) (reading limit add 0 start (at + 1) (xs ++ ys)) ≡ reading limit add n d (at + suc (length xs)) ys
+onward-append limit add (reads next) before at n d xs ys e more =
+    more next e ∙ same_reads limit add n n d d (at + 1 + length xs) (at + suc (length xs)) ys refl refl (omega arith)
+onward-append limit add (whole t) before at n d xs ys e more = let none : t ∷ (reading limit add 0 start (at + 1) xs).messages ≡ [] = ap (λ r. r.messages) e in absurd (cc)
+onward-append limit add (refuses rule) before at n d xs ys e more = let other : faults rule at ≡ rests n d = ap (λ r. r.end) e in absurd (cc)
+
+-- where bytes are part of a message, reading goes on from what they are read as
+pub reading-append : (limit : ℕ) (add : Adding) (before : ℕ) (c : Cut) (at n : ℕ) (d : Cut) (xs ys : List ℕ)
+    → reading limit add before c at xs ≡ ended (rests n d)
+    → reading limit add before c at (xs ++ ys) ≡ reading limit add n d (at + length xs) ys
+reading-append limit add before c at n d [] ys e =
+    let same : rests before c ≡ rests n d = ap (λ r. r.end) e in
+    same_reads limit add before n c d at (at + 0) ys (rests_before before n c d same) (rests_cut before n c d same) (omega arith)
+reading-append limit add before c at n d (b ∷ xs) ys e =
+    onward-append limit add (bite limit add before c (b ∷ [])) before at n d xs ys e (λ next h. reading-append limit add (before + 1) next (at + 1) n d xs ys h)
+
+-- what a reading of all bytes of a stream from a place on has found
+abbrev pub Found : ℕ → ℕ → List ℕ → List Tree → End → Type 0
+Found limit place bytes ms (rests n c) =
+    (front : List ℕ) × (m : List ℕ) × (bytes ≡ front ++ m) × (length m ≡ n) × (reading limit put_pair 0 start 0 m ≡ ended (rests n c)) × Streams limit place bytes ms (rest m)
+Found limit place bytes ms (faults rule at) = Streams limit place bytes ms (fault rule at)
+
+found_more : (limit place : ℕ) (m more : List ℕ) (t : Tree) (ms : List Tree) (end : End) → IsMessage limit t m
+    → Found limit (place + length m) more ms end → Found limit place (m ++ more) (t ∷ ms) end
+found_more limit place m more t ms (rests n c) is found =
+    (m ++ found.0, found.1, ap (λ bs. m ++ bs) found.2 ∙ sym (append_assoc m found.0 found.1), found.3, found.4, (m, more, is, refl, found.5))
+found_more limit place m more t ms (faults rule at) is found = (m, more, is, refl, found)
+
+abbrev pub FoundBy : ℕ → ℕ → List ℕ → Reading → Type 0
+FoundBy limit place bytes r = Found limit place bytes r.messages r.end
+
+found_on : (limit place : ℕ) (m : List ℕ) (b : ℕ) (bs : List ℕ) (c : Cut) (j : Judged)
+    → reading limit put_pair 0 start 0 m ≡ ended (rests (length m) c)
+    → bite limit put_pair (length m) c (b ∷ []) ≡ j
+    → ((next : Cut) → reading limit put_pair 0 start 0 (m ++ b ∷ []) ≡ ended (rests (length (m ++ b ∷ [])) next)
+      → FoundBy limit place ((m ++ b ∷ []) ++ bs) (reading limit put_pair (length (m ++ b ∷ [])) next (place + length (m ++ b ∷ [])) bs))
+    → FoundBy limit (place + length (m ++ b ∷ [])) bs (reading limit put_pair 0 start (place + length (m ++ b ∷ [])) bs)
+    → FoundBy limit place (m ++ b ∷ bs)
+        (onward j (place + length m) (λ next. reading limit put_pair (length m + 1) next (place + length m + 1) bs) (reading limit put_pair 0 start (place + length m + 1) bs))
+found_on limit place m b bs c (reads next) e is same fresh =
+    let long : length (m ++ b ∷ []) ≡ length m + 1 = length-append m (b ∷ []) in
+    let now : reading limit put_pair 0 start 0 (m ++ b ∷ []) ≡ ended (rests (length (m ++ b ∷ [])) next) =
+      reading-append limit put_pair 0 start 0 (length m) c m (b ∷ []) e
+      ∙ ap (λ j. onward j (0 + length m) (λ d. ended (rests (length m + 1) d)) (ended (rests 0 start))) is
+      ∙ ap (λ k. ended (rests k next)) (sym long) in
+    subst (λ bytes. FoundBy limit place bytes (reading limit put_pair (length m + 1) next (place + length m + 1) bs)) (append_assoc m (b ∷ []) bs)
+      (subst (λ r. FoundBy limit place ((m ++ b ∷ []) ++ bs) r)
+        (same_reads limit put_pair _ _ next next _ _ bs long refl (omega arith)) (same next now))
+found_on limit place m b bs c (whole t) e is same fresh =
+    let long : length (m ++ b ∷ []) ≡ length m + 1 = length-append m (b ∷ []) in
+    let r = reading limit put_pair 0 start (place + length m + 1) bs in
+    let message : IsMessage limit t (m ++ b ∷ []) =
+      reading-append limit put_pair 0 start 0 (length m) c m (b ∷ []) e
+      ∙ ap (λ j. onward j (0 + length m) (λ d. ended (rests (length m + 1) d)) (ended (rests 0 start))) is in
+    let found : FoundBy limit (place + length (m ++ b ∷ [])) bs r =
+      subst (λ r. FoundBy limit (place + length (m ++ b ∷ [])) bs r) (same_reads limit put_pair 0 0 start start _ _ bs refl refl (omega arith)) fresh in
+    subst (λ bytes. Found limit place bytes (t ∷ r.messages) r.end) (append_assoc m (b ∷ []) bs)
+      (found_more limit place (m ++ b ∷ []) bs t r.messages r.end message found)
+found_on limit place m b bs c (refuses rule) e is same fresh =
+    let breaks : Breaks limit m b rule =
+      reading-append limit put_pair 0 start 0 (length m) c m (b ∷ []) e
+      ∙ ap (λ j. onward j (0 + length m) (λ d. ended (rests (length m + 1) d)) (ended (rests 0 start))) is
+      ∙ ap (λ k. ended (faults rule k)) (omega arith) in
+    (m, b, bs, (c, e), refl, breaks, refl)
+
+-- reading goes on behind part of a message
+pub found_behind : (limit place : ℕ) (m bs : List ℕ) (c : Cut) → reading limit put_pair 0 start 0 m ≡ ended (rests (length m) c)
+    → FoundBy limit place (m ++ bs) (reading limit put_pair (length m) c (place + length m) bs)
+found_behind limit place m [] c e = ([], m, append-nil m, refl, e, ((c, e), append-nil m))
+found_behind limit place m (b ∷ bs) c e =
+    found_on limit place m b bs c (bite limit put_pair (length m) c (b ∷ [])) e refl
+      (λ next h. found_behind limit place (m ++ b ∷ []) bs next h)
+      (let p = place + length (m ++ b ∷ []) in
+        subst (λ r. FoundBy limit p bs r) (same_reads limit put_pair 0 0 start start (p + 0) p bs refl refl (omega arith))
+          (found_behind limit p [] bs start refl))
+
+-- the rest is part of the stream
+pub rest_within : (limit place : ℕ) (all m : List ℕ) (ms : List Tree) → Streams limit place all ms (rest m) → length m ≤ length all
+rest_within limit place all m [] h = let long = ap length h.1 in omega arith
+rest_within limit place all m (t ∷ ms) h =
+    let later = rest_within limit (place + length h.0) h.1 m ms h.4 in
+    let long : length all ≡ length h.0 + length h.1 = ap length h.3 ∙ length-append h.0 h.1 in
+    omega arith
+
+-- the rest is one
+pub rest_is : (limit place : ℕ) (all m : List ℕ) (ms : List Tree) → Streams limit place all ms (rest m) → IsRest limit m
+rest_is limit place all m [] h = h.0
+rest_is limit place all m (t ∷ ms) h = rest_is limit (place + length h.0) h.1 m ms h.4
+
+-- a stream that ends with a rest goes on
+pub streams_join : (limit place : ℕ) (all m more : List ℕ) (ms ns : List Tree) (end : Ending) → Streams limit place all ms (rest m)
+    → Streams limit (place + (length all - length m)) (m ++ more) ns end → Streams limit place (all ++ more) (ms ++ ns) end
+streams_join limit place all m more [] ns end h g =
+    let whole_rest : all ≡ m = h.1 in
+    let p : place + (length all - length m) ≡ place = let long = ap length whole_rest in omega arith in
+    subst (λ bytes. Streams limit place bytes ns end) (ap (λ bs. bs ++ more) (sym whole_rest)) (subst (λ k. Streams limit k (m ++ more) ns end) p g)
+streams_join limit place all m more (t ∷ ms) ns end h g =
+    let later = rest_within limit (place + length h.0) h.1 m ms h.4 in
+    let long : length all ≡ length h.0 + length h.1 = ap length h.3 ∙ length-append h.0 h.1 in
+    let p : place + (length all - length m) ≡ place + length h.0 + (length h.1 - length m) = omega arith in
+    (h.0, h.1 ++ more, h.2, ap (λ bs. bs ++ more) h.3 ∙ append_assoc h.0 h.1 more,
+      streams_join limit (place + length h.0) h.1 m more ms ns end h.4 (subst (λ k. Streams limit k (m ++ more) ns end) p g))
+
+-- a stream that ends with a fault stays so
+pub streams_stay : (limit place : ℕ) (all more : List ℕ) (ms : List Tree) (rule : Rule) (at : ℕ) → Streams limit place all ms (fault rule at)
+    → Streams limit place (all ++ more) ms (fault rule at)
+streams_stay limit place all more [] rule at h =
+    (h.0, h.1, h.2 ++ more, h.3, ap (λ bs. bs ++ more) h.4 ∙ append_assoc h.0 (h.1 ∷ h.2) more, h.5, h.6)
+streams_stay limit place all more (t ∷ ms) rule at h =
+    (h.0, h.1 ++ more, h.2, ap (λ bs. bs ++ more) h.3 ∙ append_assoc h.0 h.1 more, streams_stay limit (place + length h.0) h.1 more ms rule at h.4)

@@ -1,0 +1,9 @@
+use Rattle.std.proofs.Common.{arith}
+use Rattle.std.proofs.lemmas.Grind.{common_steps}
+use Rattle.bencode_wire.proofs.Views.{put_pairs-pairs_view}
+use Rattle.bencode_wire.proofs.write.+spell.Goals as goal
+
+-- the map's order is that of sorting
+pub spell_pairs-returns : goal.spell_pairs-returns
+spell_pairs-returns t c =
+    rw (put_pairs-pairs_view c.args.pairs.now.entries c.iter-key-items.ensures.ordered) (grind (arith, common_steps))
