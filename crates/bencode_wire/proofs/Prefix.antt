@@ -1,9 +1,9 @@
 -- No text is a proper prefix of another: where two texts begin the same bytes, the values are the same.
-use Rattle.std.proofs.Common.{◌≡◌, ℕ, suc, ◌+◌, ◌-◌, ◌/◌, ◌%◌, ◌^◌, ◌<◌, ◌≤◌, ℤ, pos, negsuc, List, [], ◌∷◌, ◌++◌, length, codes, decimal, refl, sym, ap, ◌∙◌, subst, append_assoc, length-append, arith}
+use Rattle.std.proofs.Common.{◌≡◌, ℕ, suc, ◌+◌, ◌%◌, ◌^◌, ◌<◌, ◌≤◌, ℤ, pos, negsuc, List, [], ◌∷◌, ◌++◌, length, decimal, refl, sym, ap, ◌∙◌, append_assoc, length-append, arith}
 use Rattle.std.specs.Fmt.{signed_decimal}
 use Rattle.std.proofs.lemmas.Fmt.{decimal_by_steps, decimal_injective}
 use Rattle.bencode_wire.specs.Tree.{Tree, integer, string, list, dictionary, Trees, no_trees, tree, Pairs, no_pairs, pair}
-use Rattle.bencode_wire.specs.Spelling.{text, trees_text, pairs_text, string_text, integer_text, IsInteger, IsString, IsSpellable, AreSpellable, ArePairs}
+use Rattle.bencode_wire.specs.Spelling.{text, trees_text, pairs_text, string_text, IsInteger, IsString, IsSpellable, AreSpellable, ArePairs}
 
 abbrev AreDigits : List ℕ → Type 0
 AreDigits [] = Unit {0}
@@ -63,7 +63,7 @@ string_grouped p x = append_assoc (decimal (length p) ++ 58 ∷ []) p x ∙ appe
 string_same : (p q x y : List ℕ) → IsString p → IsString q → string_text p ++ x ≡ string_text q ++ y → (p ≡ q) × (x ≡ y)
 string_same p q x y g h e =
     let same = digits_same (decimal (length p)) (decimal (length q)) (p ++ x) (q ++ y) 58 (decimal_IsNumber (length p) g).0 (decimal_IsNumber (length q) h).0 (omega arith)
-      (sym (string_grouped p x) ∙ e ∙ string_grouped q y) in
+    (sym (string_grouped p x) ∙ e ∙ string_grouped q y) in
     front_same p q x y (decimal_injective (length p) (length q) g h same.0) same.1
 
 string_first : (p x z : List ℕ) (c : ℕ) → IsString p → string_text p ++ x ≡ c ∷ z → (48 ≤ c) × (c < 58)
@@ -85,7 +85,7 @@ signed_same (negsuc n) (pos m) x y g h e =
     let low = first.0 in absurd (omega arith)
 signed_same (negsuc n) (negsuc m) x y g h e =
     let same = digits_same (decimal (suc n)) (decimal (suc m)) x y 101 (decimal_IsNumber (suc n) (omega arith)).0 (decimal_IsNumber (suc m) (omega arith)).0 (omega arith)
-      (tail_same 45 45 (decimal (suc n) ++ 101 ∷ x) (decimal (suc m) ++ 101 ∷ y) e) in
+    (tail_same 45 45 (decimal (suc n) ++ 101 ∷ x) (decimal (suc m) ++ 101 ∷ y) e) in
     let by : suc n ≡ suc m = decimal_injective (suc n) (suc m) (omega arith) (omega arith) same.0 in
     let back : n ≡ m = omega arith in
     (ap negsuc back, same.1)
@@ -133,7 +133,7 @@ mutual
   trees_same (tree u us) no_trees x y g h e = absurd (begins_otherwise u (trees_text us ++ 101 ∷ x) y g.0 (sym (append_assoc (text u) (trees_text us) (101 ∷ x)) ∙ e))
   trees_same (tree u us) (tree t ts) x y g h e =
       let first = text_same u t (trees_text us ++ 101 ∷ x) (trees_text ts ++ 101 ∷ y) g.0 h.0
-        (sym (append_assoc (text u) (trees_text us) (101 ∷ x)) ∙ e ∙ append_assoc (text t) (trees_text ts) (101 ∷ y)) in
+      (sym (append_assoc (text u) (trees_text us) (101 ∷ x)) ∙ e ∙ append_assoc (text t) (trees_text ts) (101 ∷ y)) in
       let more = trees_same us ts x y g.1 h.1 first.1 in
       (ap (λ a. tree a us) first.0 ∙ ap (λ b. tree t b) more.0, more.1)
 

@@ -1,5 +1,5 @@
 -- A spelling of a value is the text of one whose pairs stand as they are spelled.
-use Rattle.std.proofs.Common.{◌≡◌, List, ℕ, [], ◌∷◌, ◌++◌, codes, IsPermutation, All, refl, sym, ap, ◌∙◌, subst, append_assoc}
+use Rattle.std.proofs.Common.{◌≡◌, List, ℕ, [], ◌∷◌, ◌++◌, codes, refl, sym, ap, ◌∙◌, subst}
 use Rattle.std.proofs.lemmas.List.Elements.{recursion_from_All, All-from_recursion}
 use Rattle.std.proofs.lemmas.List.Sorted.{All-permutation}
 use Rattle.std.specs.List.{AllByRecursion}
@@ -18,9 +18,11 @@ pairs_of_texts : (texts : List (List ℕ)) → AllByRecursion IsPairText texts �
 pairs_of_texts [] h = (no_pairs, tt, refl)
 pairs_of_texts (bytes ∷ texts) h =
     let more = pairs_of_texts texts h.1 in
-    let p = h.0 in
-    (pair p.0 p.1 more.0, (p.2, p.3, more.1),
-      ap (λ x. x ++ pairs_text more.0) (sym p.4) ∙ ap (λ x. bytes ++ x) more.2)
+    let p = h.0 in (
+      pair p.0 p.1 more.0,
+      (p.2, p.3, more.1),
+      ap (λ x. x ++ pairs_text more.0) (sym p.4) ∙ ap (λ x. bytes ++ x) more.2,
+    )
 
 mutual
   pub spelled : (t : Tree) (bytes : List ℕ) → Spells t bytes → HasText bytes

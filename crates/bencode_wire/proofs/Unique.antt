@@ -1,12 +1,12 @@
 -- A stream has one reading.
-use Rattle.std.proofs.Common.{◌≡◌, ℕ, suc, ◌+◌, ◌-◌, ◌<◌, ◌≤◌, List, [], ◌∷◌, ◌++◌, length, drop, refl, sym, ap, ◌∙◌, subst, append_assoc, append-nil, length-append, arith}
+use Rattle.std.proofs.Common.{◌≡◌, ℕ, suc, ◌+◌, List, [], ◌∷◌, ◌++◌, length, drop, refl, sym, ap, ◌∙◌, subst, append_assoc, length-append, arith}
 use Rattle.std.proofs.Math.Seq.{drop-append_seam}
 use Rattle.bencode_wire.specs.Tree.{Tree}
 use Rattle.bencode_wire.specs.Spelling.{put_pair}
 use Rattle.bencode_wire.specs.Cut.{Cut}
 use Rattle.bencode_wire.specs.Fault.{Rule}
 use Rattle.bencode_wire.specs.Machine.{Adding, bite, Judged, reads, whole, refuses, Reading, End, rests, faults, ended, with_message, onward, reading, start}
-use Rattle.bencode_wire.specs.Stream.{IsMessage, Ending, rest, fault, IsRest, Breaks, Ends, Streams}
+use Rattle.bencode_wire.specs.Stream.{Ending, rest, fault, Ends, Streams}
 use Rattle.bencode_wire.proofs.Streams.{reading-append}
 
 -- a reading of bytes that lie further on
@@ -28,8 +28,8 @@ reading-moved limit add before c k at [] = refl
 reading-moved limit add before c k at (b ∷ bs) =
     let step : k + at + 1 ≡ k + (at + 1) = omega arith in
     onward-moved (bite limit add before c (b ∷ [])) k at _ _ _ _
-      (λ next. ap (λ i. reading limit add (before + 1) next i bs) step ∙ reading-moved limit add (before + 1) next k (at + 1) bs)
-      (ap (λ i. reading limit add 0 start i bs) step ∙ reading-moved limit add 0 start k (at + 1) bs)
+    (λ next. ap (λ i. reading limit add (before + 1) next i bs) step ∙ reading-moved limit add (before + 1) next k (at + 1) bs)
+    (ap (λ i. reading limit add 0 start i bs) step ∙ reading-moved limit add 0 start k (at + 1) bs)
 
 none_some : (t : Tree) (ts : List Tree) → [] ≡ t ∷ ts → ⊥
 none_some t ts e = cc
@@ -37,9 +37,9 @@ none_some t ts e = cc
 onward-message : (limit : ℕ) (add : Adding) (j : Judged) (before at : ℕ) (t : Tree) (bs more : List ℕ)
     → onward j at (λ next. reading limit add (before + 1) next (at + 1) bs) (reading limit add 0 start (at + 1) bs) ≡ record { messages = t ∷ []; end = rests 0 start }
     → ((next : Cut) → reading limit add (before + 1) next (at + 1) bs ≡ record { messages = t ∷ []; end = rests 0 start }
-      → reading limit add (before + 1) next (at + 1) (bs ++ more) ≡ with_message t (reading limit add 0 start (at + 1 + length bs) more))
+    → reading limit add (before + 1) next (at + 1) (bs ++ more) ≡ with_message t (reading limit add 0 start (at + 1 + length bs) more))
     → onward j at (λ next. reading limit add (before + 1) next (at + 1) (bs ++ more)) (reading limit add 0 start (at + 1) (bs ++ more))
-      ≡ with_message t (reading limit add 0 start (at + suc (length bs)) more)
+    ≡ with_message t (reading limit add 0 start (at + suc (length bs)) more)
 onward-message limit add (reads next) before at t bs more e same =
     let i : at + 1 + length bs ≡ at + suc (length bs) = omega arith in
     same next e ∙ ap (λ k. with_message t (reading limit add 0 start k more)) i
@@ -82,22 +82,22 @@ ends_read : (limit place : ℕ) (bytes : List ℕ) (e : Ending) → Ends limit p
 ends_read limit place bytes (rest m) h =
     let none : place ≡ place + 0 = omega arith in
     let is : reading limit put_pair 0 start place bytes ≡ ended (rests (length m) h.0.0) =
-      ap (λ bs. reading limit put_pair 0 start place bs) h.1 ∙ ap (λ i. reading limit put_pair 0 start i m) none
-      ∙ reading-moved limit put_pair 0 start place 0 m ∙ ap (moved place) h.0.1 in
+    ap (λ bs. reading limit put_pair 0 start place bs) h.1 ∙ ap (λ i. reading limit put_pair 0 start i m) none
+    ∙ reading-moved limit put_pair 0 start place 0 m ∙ ap (moved place) h.0.1 in
     (ap (λ r. r.messages) is, (h.0.0, [], ap (λ r. r.end) is, h.1))
 ends_read limit place bytes (fault rule at) h =
     let m = h.0 in
     let c = h.3.0 in
     let none : place ≡ place + 0 = omega arith in
     let part : reading limit put_pair 0 start place m ≡ ended (rests (length m) c) =
-      ap (λ i. reading limit put_pair 0 start i m) none ∙ reading-moved limit put_pair 0 start place 0 m ∙ ap (moved place) h.3.1 in
+    ap (λ i. reading limit put_pair 0 start i m) none ∙ reading-moved limit put_pair 0 start place 0 m ∙ ap (moved place) h.3.1 in
     let j = bite limit put_pair (length m) c (h.1 ∷ []) in
     let refuse : j ≡ refuses rule = refused j (0 + length m) (length m + 1) (length m) rule (sym (reading-append limit put_pair 0 start 0 (length m) c m (h.1 ∷ []) h.3.1) ∙ h.5) in
     let is : reading limit put_pair 0 start place bytes ≡ ended (faults rule at) =
-      ap (λ bs. reading limit put_pair 0 start place bs) h.4
-      ∙ reading-append limit put_pair 0 start place (length m) c m (h.1 ∷ h.2) part
-      ∙ ap (λ i. onward i (place + length m) (λ next. reading limit put_pair (length m + 1) next (place + length m + 1) h.2) (reading limit put_pair 0 start (place + length m + 1) h.2)) refuse
-      ∙ ap (λ k. ended (faults rule k)) (sym h.6) in
+    ap (λ bs. reading limit put_pair 0 start place bs) h.4
+    ∙ reading-append limit put_pair 0 start place (length m) c m (h.1 ∷ h.2) part
+    ∙ ap (λ i. onward i (place + length m) (λ next. reading limit put_pair (length m + 1) next (place + length m + 1) h.2) (reading limit put_pair 0 start (place + length m + 1) h.2)) refuse
+    ∙ ap (λ k. ended (faults rule k)) (sym h.6) in
     (ap (λ r. r.messages) is, ap (λ r. r.end) is)
 
 streams_read : (limit place : ℕ) (bytes : List ℕ) (ms : List Tree) (e : Ending) → Streams limit place bytes ms e
@@ -108,13 +108,14 @@ streams_read limit place bytes (t ∷ ms) e h =
     let more = h.1 in
     let none : place ≡ place + 0 = omega arith in
     let message : reading limit put_pair 0 start place m ≡ record { messages = t ∷ []; end = rests 0 start } =
-      ap (λ i. reading limit put_pair 0 start i m) none ∙ reading-moved limit put_pair 0 start place 0 m ∙ ap (moved place) h.2 in
+    ap (λ i. reading limit put_pair 0 start i m) none ∙ reading-moved limit put_pair 0 start place 0 m ∙ ap (moved place) h.2 in
     let is : reading limit put_pair 0 start place bytes ≡ with_message t (reading limit put_pair 0 start (place + length m) more) =
-      ap (λ bs. reading limit put_pair 0 start place bs) h.3 ∙ message-append limit put_pair 0 start place t m more message in
-    let later = streams_read limit (place + length m) more ms e h.4 in
-    (ap (λ r. r.messages) is ∙ ap (λ xs. t ∷ xs) later.0,
+    ap (λ bs. reading limit put_pair 0 start place bs) h.3 ∙ message-append limit put_pair 0 start place t m more message in
+    let later = streams_read limit (place + length m) more ms e h.4 in (
+      ap (λ r. r.messages) is ∙ ap (λ xs. t ∷ xs) later.0,
       subst (λ r. Tells bytes e r) (sym (ap (λ r. r.end) is)) (subst (λ bs. Tells bs e (reading limit put_pair 0 start (place + length m) more).end) (sym h.3)
-        (tells_behind m more e (reading limit put_pair 0 start (place + length m) more).end later.1)))
+          (tells_behind m more e (reading limit put_pair 0 start (place + length m) more).end later.1)),
+    )
 
 tells_same : (bytes : List ℕ) (e f : Ending) (end : End) → Tells bytes e end → Tells bytes f end → e ≡ f
 tells_same bytes (rest m) (rest n) end g h =
