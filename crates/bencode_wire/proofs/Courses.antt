@@ -1,11 +1,10 @@
 -- What one run makes of what is ahead, by what it comes to.
-use Rattle.std.proofs.Common.{◌≡◌, ℕ, ◌+◌, ◌-◌, ◌<◌, ◌≤◌, ◌^◌, min, List, [], ◌∷◌, ◌++◌, length, take, drop, map, Some, Ok, Err, sym, ap, ◌∙◌, subst, append-nil, append_assoc, length-drop, arith}
+use Rattle.std.proofs.Common.{◌≡◌, ℕ, ◌+◌, ◌-◌, ◌<◌, ◌≤◌, ◌^◌, min, List, [], ◌∷◌, ◌++◌, length, take, drop, Some, Err, sym, ap, ◌∙◌, subst, append-nil, append_assoc, length-drop, arith}
 use Rattle.std.proofs.lemmas.List.{map-append}
-use Rattle.bencode_wire.specs.Tree.{Tree}
 use Rattle.bencode_wire.specs.Spelling.{put_pair}
 use Rattle.bencode_wire.specs.Cut.{Frame, Token, Cut, cut}
 use Rattle.bencode_wire.specs.Fault.{Rule, malformed, too_long, too_deep}
-use Rattle.bencode_wire.specs.Machine.{step_run, Judged, judged, checked, reads, whole, refuses, Reading, End, ended, faults, with_message, onward, reading, start, TakesRun}
+use Rattle.bencode_wire.specs.Machine.{step_run, Judged, judged, checked, reads, whole, Reading, ended, faults, onward, reading, start, TakesRun}
 use Rattle.bencode_wire.specs.Reader.{Gives}
 use Rattle.bencode_wire.specs.Refusals.{refusal_at}
 use Rattle.bencode_wire.specs.Course.{counted, fault_at, fault_of_end, ahead, ready_view, Advances, Faults, Continues}
@@ -15,7 +14,7 @@ use Rattle.bencode_wire.specs.declared.cut.Course.{Course}
 use Rattle.bencode_wire.specs.declared.fault.Refusal.{Refusal}
 use Rattle.bencode_wire.specs.declared.fault.Refusal.TheVariants as refusals
 use Rattle.bencode_wire.specs.declared.fault.WireFault.{WireFault}
-use Rattle.bencode_wire.proofs.Runs.{reading-slice, reading-over, after_run}
+use Rattle.bencode_wire.proofs.Runs.{reading-slice, reading-over}
 
 -- a run in the middle of bytes, as the code cuts it out
 pub record Runs (limit begin : ℕ) (fs : List Frame) (token : Token) (at n : ℕ) (bytes : List ℕ) : Type 0 where
@@ -32,11 +31,11 @@ outcome limit fs token at n bytes = checked limit (judged (step_run put_pair fs 
 run_onward : (limit begin : ℕ) (fs : List Frame) (token : Token) (at n : ℕ) (bytes : List ℕ) (j : Judged)
     → Runs limit begin fs token at n bytes → outcome limit fs token at n bytes ≡ j
     → reading limit put_pair (at - begin) (cut fs token) at (drop at bytes)
-      ≡ onward j (at + n - 1) (λ c. reading limit put_pair (at - begin + n) c (at + n) (drop (at + n) bytes)) (reading limit put_pair 0 start (at + n) (drop (at + n) bytes))
+    ≡ onward j (at + n - 1) (λ c. reading limit put_pair (at - begin + n) c (at + n) (drop (at + n) bytes)) (reading limit put_pair 0 start (at + n) (drop (at + n) bytes))
 run_onward limit begin fs token at n bytes j h e =
     let size : n ≡ at + n - at = omega arith in
     let by : checked limit (judged (step_run put_pair fs token (take n (drop at bytes)))) ≡ j =
-      ap (λ k. checked limit (judged (step_run put_pair fs token (take k (drop at bytes))))) size ∙ e in
+    ap (λ k. checked limit (judged (step_run put_pair fs token (take k (drop at bytes))))) size ∙ e in
     reading-slice limit put_pair (at - begin) fs token at n bytes h.some h.within h.takes h.room
     ∙ ap (λ i. onward i (at + n - 1) (λ c. reading limit put_pair (at - begin + n) c (at + n) (drop (at + n) bytes)) (reading limit put_pair 0 start (at + n) (drop (at + n) bytes))) by
 
@@ -59,16 +58,16 @@ advances_past limit begin fs token at n bytes c message old new h e fresh pushed
     let none : 0 ≡ at + n - (at + n) = omega arith in
     let next = reading limit put_pair 0 start (at + n) (drop (at + n) bytes) in
     let same : next ≡ reading limit put_pair (at + n - (at + n)) c (at + n) (drop (at + n) bytes) =
-      ap (λ k. reading limit put_pair k start (at + n) (drop (at + n) bytes)) none
-      ∙ ap (λ d. reading limit put_pair (at + n - (at + n)) d (at + n) (drop (at + n) bytes)) (sym fresh) in
+    ap (λ k. reading limit put_pair k start (at + n) (drop (at + n) bytes)) none
+    ∙ ap (λ d. reading limit put_pair (at + n - (at + n)) d (at + n) (drop (at + n) bytes)) (sym fresh) in
     let now = run_onward limit begin fs token at n bytes (whole (view message)) h e in
     let views : ready_view new ≡ ready_view old ++ view message ∷ [] = ap ready_view pushed ∙ map-append view old (message ∷ []) in
     record {
       messages =
-        ap (λ r. ready_view new ++ r.messages) (sym same)
-        ∙ ap (λ vs. vs ++ next.messages) views
-        ∙ append_assoc (ready_view old) (view message ∷ []) next.messages
-        ∙ ap (λ r. ready_view old ++ r.messages) (sym now);
+          ap (λ r. ready_view new ++ r.messages) (sym same)
+          ∙ ap (λ vs. vs ++ next.messages) views
+          ∙ append_assoc (ready_view old) (view message ∷ []) next.messages
+          ∙ ap (λ r. ready_view old ++ r.messages) (sym now);
       end = ap (λ r. r.end) (sym same) ∙ ap (λ r. r.end) (sym now);
     }
 
@@ -94,10 +93,10 @@ pub faults_in : (limit place : ℕ) (course : Course) (fs : List Frame) (token :
 faults_in limit place course fs token n bytes old refusals.NoMemory p q fault is h g from to e = subst (λ f. Continues limit place bytes course old old (Err f)) (sym e) tt
 faults_in limit place course fs token n bytes old refusals.Malformed p q fault is h g from to e =
     subst (λ f. Continues limit place bytes course old old (Err f)) (sym e)
-      (faults_by place _ old malformed (course.at + n - 1) q (is ∙ run_onward limit course.begin fs token course.at n bytes _ h g) (let some = h.some in omega arith))
+    (faults_by place _ old malformed (course.at + n - 1) q (is ∙ run_onward limit course.begin fs token course.at n bytes _ h g) (let some = h.some in omega arith))
 faults_in limit place course fs token n bytes old refusals.TooLong p q fault is h g from to e =
     subst (λ f. Continues limit place bytes course old old (Err f)) (sym e)
-      (faults_by place _ old too_long (course.at + n - 1) q (is ∙ run_onward limit course.begin fs token course.at n bytes _ h g) (let some = h.some in omega arith))
+    (faults_by place _ old too_long (course.at + n - 1) q (is ∙ run_onward limit course.begin fs token course.at n bytes _ h g) (let some = h.some in omega arith))
 faults_in limit place course fs token n bytes old refusals.TooDeep p q fault is h g from to e =
     subst (λ f. Continues limit place bytes course old old (Err f)) (sym e)
-      (faults_by place _ old too_deep (course.at + n - 1) q (is ∙ run_onward limit course.begin fs token course.at n bytes _ h g) (let some = h.some in omega arith))
+    (faults_by place _ old too_deep (course.at + n - 1) q (is ∙ run_onward limit course.begin fs token course.at n bytes _ h g) (let some = h.some in omega arith))

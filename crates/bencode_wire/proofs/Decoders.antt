@@ -1,5 +1,5 @@
 -- A decoder that stands for some bytes stands for more after a feed.
-use Rattle.std.proofs.Common.{◌≡◌, ℕ, ◌+◌, ◌-◌, ◌<◌, ◌≤◌, ◌^◌, min, List, [], ◌∷◌, ◌++◌, length, drop, map, Option, Some, None, MatchOption, Ok, Err, refl, sym, ap, ◌∙◌, subst, append_assoc, append-nil, length-append, arith}
+use Rattle.std.proofs.Common.{◌≡◌, ℕ, ◌+◌, ◌-◌, ◌^◌, min, List, [], ◌∷◌, ◌++◌, length, drop, Option, Some, None, MatchOption, Err, refl, sym, ap, ◌∙◌, subst, append_assoc, append-nil, length-append, arith}
 use Rattle.std.proofs.lemmas.List.{drop_all}
 use Rattle.std.proofs.Math.Seq.{drop-append_seam}
 use Rattle.bencode_wire.specs.Tree.{Tree}
@@ -8,9 +8,9 @@ use Rattle.bencode_wire.specs.Cut.{Cut}
 use Rattle.bencode_wire.specs.Fault.{Rule}
 use Rattle.bencode_wire.specs.Machine.{Reading, End, rests, faults, ended, reading, start}
 use Rattle.bencode_wire.specs.Reader.{cut_view}
-use Rattle.bencode_wire.specs.Stream.{Ending, rest, fault, IsRest, Streams}
+use Rattle.bencode_wire.specs.Stream.{Ending, rest, fault, Streams}
 use Rattle.bencode_wire.specs.Course.{counted, fault_at, fault_of_end, ahead, ready_view, Advances, Faults, Continues}
-use Rattle.bencode_wire.specs.Decoder.{limit_of, ready_of, rest_of, place_of, fault_of, Shows, IsUnchanged, IsInStep, Stands}
+use Rattle.bencode_wire.specs.Decoder.{ready_of, rest_of, place_of, fault_of, Shows, IsUnchanged, IsInStep, Stands}
 use Rattle.bencode_wire.specs.declared.ben.Ben.{Ben}
 use Rattle.bencode_wire.specs.declared.cut.Course.{Course}
 use Rattle.bencode_wire.specs.declared.cut.Reader.{Reader}
@@ -102,7 +102,7 @@ feed_rest limit old new all taken m piece course next c streams place fed adv is
     let over = ahead_done old.limit (rest_of old ++ piece) next is.done in
     let end : now.end ≡ rests (next.at - next.begin) (cut_view next.reader) = sym adv.end ∙ ap (λ r. r.end) over in
     let found : Found limit 0 (m ++ piece) now.messages (rests (next.at - next.begin) (cut_view next.reader)) =
-      subst (λ e. Found limit 0 (m ++ piece) now.messages e) end (fed_found limit old m piece course c fed) in
+    subst (λ e. Found limit 0 (m ++ piece) now.messages e) end (fed_found limit old m piece course c fed) in
     let front = found.0 in
     let left = found.1 in
     let bytes : rest_of old ++ piece ≡ front ++ left = ap (λ x. x ++ piece) fed.shown ∙ found.2 in
@@ -119,16 +119,16 @@ feed_rest limit old new all taken m piece course next c streams place fed adv is
     let to = is.place in
     let place_now : place_of new ≡ counted (length (all ++ piece) - length left) = omega arith in
     let messages : (taken ++ ready_of old) ++ now.messages ≡ taken ++ ready_of new =
-      append_assoc taken (ready_of old) now.messages
-      ∙ ap (λ ms. taken ++ ms) (sym adv.messages ∙ ap (λ r. ready_view new.ready.items ++ r.messages) over ∙ append-nil (ready_of new)) in
+    append_assoc taken (ready_of old) now.messages
+    ∙ ap (λ ms. taken ++ ms) (sym adv.messages ∙ ap (λ r. ready_view new.ready.items ++ r.messages) over ∙ append-nil (ready_of new)) in
     let long : length (rest_of new) ≡ next.at - next.begin = ap length now_rest ∙ found.3 in
     let kept : reading new.limit put_pair 0 start 0 (rest_of new) ≡ ended (rests (length (rest_of new)) (cut_view next.reader)) =
-      ap (λ l. reading l put_pair 0 start 0 (rest_of new)) (is.limit ∙ fed.within)
-      ∙ ap (λ x. reading limit put_pair 0 start 0 x) now_rest ∙ found.4 ∙ ap (λ k. ended (rests k (cut_view next.reader))) (sym long) in
+    ap (λ l. reading l put_pair 0 start 0 (rest_of new)) (is.limit ∙ fed.within)
+    ∙ ap (λ x. reading limit put_pair 0 start 0 x) now_rest ∙ found.4 ∙ ap (λ k. ended (rests k (cut_view next.reader))) (sym long) in
     record {
       end = rest left;
       streams = subst (λ ms. Streams limit 0 (all ++ piece) ms (rest left)) messages
-        (streams_join limit 0 all m piece (taken ++ ready_of old) now.messages (rest left) streams
+          (streams_join limit 0 all m piece (taken ++ ready_of old) now.messages (rest left) streams
           (shift_rest limit 0 (0 + (length all - length m)) (m ++ piece) now.messages left found.5));
       shows = (is.fault, now_rest, place_now);
       within = is.limit ∙ fed.within;
@@ -153,11 +153,11 @@ broken_end limit old new all taken m piece f ms (faults rule i) streams place wi
     let messages : (taken ++ ready_of old) ++ ms ≡ taken ++ ready_of new = append_assoc taken (ready_of old) ms ∙ ap (λ ms. taken ++ ms) (sym ready) in
     let none : 0 + k ≡ k + 0 = omega arith in
     let moved : Streams limit (0 + k) (m ++ piece) ms (fault rule (k + i)) =
-      subst (λ p. Streams limit p (m ++ piece) ms (fault rule (k + i))) (sym none) (shift_fault limit 0 k (m ++ piece) ms rule i found) in
+    subst (λ p. Streams limit p (m ++ piece) ms (fault rule (k + i))) (sym none) (shift_fault limit 0 k (m ++ piece) ms rule i found) in
     record {
       end = fault rule (k + i);
       streams = subst (λ ms. Streams limit 0 (all ++ piece) ms (fault rule (k + i))) messages
-        (streams_join limit 0 all m piece (taken ++ ready_of old) ms (fault rule (k + i)) streams moved);
+          (streams_join limit 0 all m piece (taken ++ ready_of old) ms (fault rule (k + i)) streams moved);
       shows = b.fault ∙ sym is ∙ ap (λ p. Some (fault_at rule p)) counts;
       within = b.limit ∙ within;
       in_step = subst (λ r. MatchOption r (Unit {0}) (λ r. reading new.limit put_pair 0 start 0 (rest_of new) ≡ ended (rests (length (rest_of new)) (cut_view r)))) (sym b.reader) tt;
@@ -258,7 +258,12 @@ resumed limit old d all taken reader none s same reads =
 pub fed_by : (limit : ℕ) (d : Decoder) (all : List ℕ) (taken : List Tree) (reader : Reader) (piece : List ℕ) (course : Course) (z : Resumed limit d all taken reader)
     → course.reader ≡ reader → course.begin ≡ 0 → course.at ≡ length (rest_of d) → Fed limit d z.m piece course z.c
 fed_by limit d all taken reader piece course z same begin at = record {
-  within = z.within; shown = z.shown; read = z.read; reader = ap cut_view same ∙ z.is; begin = begin; at = at;
+  within = z.within;
+  shown = z.shown;
+  read = z.read;
+  reader = ap cut_view same ∙ z.is;
+  begin = begin;
+  at = at;
 }
 
 -- a reading from a message's start is what it was
@@ -269,11 +274,11 @@ pub resumes : (limit place : ℕ) (bytes : List ℕ) (course next : Course) (old
 resumes limit place bytes course next old new c fresh begin at done adv read =
     let before : course.at - course.begin ≡ 0 = omega arith in
     let now : ahead limit bytes course ≡ reading limit put_pair 0 start 0 bytes =
-      ap (λ k. reading limit put_pair k (cut_view course.reader) course.at (drop course.at bytes)) before
-      ∙ ap (λ x. reading limit put_pair 0 x course.at (drop course.at bytes)) fresh
-      ∙ ap (λ k. reading limit put_pair 0 start k (drop k bytes)) at in
+    ap (λ k. reading limit put_pair k (cut_view course.reader) course.at (drop course.at bytes)) before
+    ∙ ap (λ x. reading limit put_pair 0 x course.at (drop course.at bytes)) fresh
+    ∙ ap (λ k. reading limit put_pair 0 start k (drop k bytes)) at in
     let e : rests (next.at - next.begin) (cut_view next.reader) ≡ rests (length bytes) c =
-      sym (ap (λ r. r.end) (ahead_done limit bytes next done)) ∙ adv.end ∙ ap (λ r. r.end) (now ∙ read) in
+    sym (ap (λ r. r.end) (ahead_done limit bytes next done)) ∙ adv.end ∙ ap (λ r. r.end) (now ∙ read) in
     cc
 
 pub in_step_some : (d : Decoder) (r : Reader) → d.reader ≡ Some r → IsInStep d

@@ -4,3 +4,6 @@ pub mod Runs
 pub mod Courses
 pub mod Streams
 pub mod Decoders
+pub mod Prefix
+pub mod Spellings
+pub mod Unique

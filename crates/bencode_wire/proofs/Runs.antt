@@ -1,10 +1,10 @@
 -- A run of bytes is read as its bytes one by one.
-use Rattle.std.proofs.Common.{◌≡◌, ℕ, suc, ◌+◌, ◌-◌, ◌<◌, ◌≤◌, Bool, true, false, cond, nat_lt, nat_le, List, [], ◌∷◌, ◌++◌, length, take, drop, refl, sym, ap, ◌∙◌, append_assoc, take-append-drop, drop-drop, length-take, length-drop, arith}
+use Rattle.std.proofs.Common.{◌≡◌, ℕ, suc, ◌+◌, ◌-◌, ◌<◌, ◌≤◌, true, false, cond, nat_lt, nat_le, List, [], ◌∷◌, ◌++◌, length, take, drop, sym, ap, ◌∙◌, append_assoc, take-append-drop, drop-drop, length-take, length-drop, arith}
 use Rattle.std.proofs.lemmas.Bool.Decides.{nat_tests}
 use Rattle.bencode_wire.specs.Cut.{Frame, Token, between, after_i, after_minus, digits, count, part, Cut, cut}
 use Rattle.bencode_wire.specs.Fault.{too_long}
 use Rattle.bencode_wire.specs.Tree.{string}
-use Rattle.bencode_wire.specs.Machine.{Adding, Next, goes, put, text_bytes, step_run, judged, checked, bite, Reading, ended, faults, onward, reading, start, TakesRun}
+use Rattle.bencode_wire.specs.Machine.{Adding, Next, goes, put, text_bytes, step_run, judged, checked, Reading, ended, faults, onward, reading, start, TakesRun}
 
 le_false : (a b : ℕ) → b < a → nat_le a b ≡ false
 le_false a b h = grind (arith, nat_tests)
@@ -64,9 +64,9 @@ string_run limit add before fs bytes left at (b ∷ d ∷ r) more some within ro
     let first : nat_le limit before ≡ false = le_false limit before (omega arith) in
     let goes_on : nat_lt 1 left ≡ true = lt_true 1 left (omega arith) in
     rw (first, goes_on)
-      (string_run limit add (before + 1) fs (bytes ++ b ∷ []) (left - 1) (at + 1) (d ∷ r) more (omega arith) (omega arith) (omega arith)
-      ∙ after_run-shift limit add before at (length (d ∷ r)) more (text_bytes add fs (bytes ++ b ∷ []) (left - 1) (d ∷ r))
-      ∙ ap (λ next. after_run limit add before at (suc (length (d ∷ r))) more next) (text_bytes-cons add fs bytes left b (d ∷ r) (omega arith)))
+    (string_run limit add (before + 1) fs (bytes ++ b ∷ []) (left - 1) (at + 1) (d ∷ r) more (omega arith) (omega arith) (omega arith)
+    ∙ after_run-shift limit add before at (length (d ∷ r)) more (text_bytes add fs (bytes ++ b ∷ []) (left - 1) (d ∷ r))
+    ∙ ap (λ next. after_run limit add before at (suc (length (d ∷ r))) more next) (text_bytes-cons add fs bytes left b (d ∷ r) (omega arith)))
 
 -- a run that may come as one
 pub reading-run : (limit : ℕ) (add : Adding) (before : ℕ) (fs : List Frame) (token : Token) (at : ℕ) (r more : List ℕ)

@@ -1,11 +1,11 @@
 -- A reading from a message's start is a stream, and streams are put together.
-use Rattle.std.proofs.Common.{◌≡◌, ℕ, suc, ◌+◌, ◌-◌, ◌<◌, ◌≤◌, List, [], ◌∷◌, ◌++◌, length, refl, sym, ap, ◌∙◌, subst, append_assoc, append-nil, length-append, arith}
+use Rattle.std.proofs.Common.{◌≡◌, ℕ, suc, ◌+◌, ◌-◌, ◌≤◌, List, [], ◌∷◌, ◌++◌, length, refl, sym, ap, ◌∙◌, subst, append_assoc, append-nil, length-append, arith}
 use Rattle.bencode_wire.specs.Tree.{Tree}
 use Rattle.bencode_wire.specs.Spelling.{put_pair}
 use Rattle.bencode_wire.specs.Cut.{Cut}
 use Rattle.bencode_wire.specs.Fault.{Rule}
-use Rattle.bencode_wire.specs.Machine.{Adding, bite, Judged, reads, whole, refuses, Reading, End, rests, faults, ended, with_message, onward, reading, start}
-use Rattle.bencode_wire.specs.Stream.{IsMessage, Ending, rest, fault, IsRest, Breaks, Ends, Streams}
+use Rattle.bencode_wire.specs.Machine.{Adding, bite, Judged, reads, whole, refuses, Reading, End, rests, faults, ended, onward, reading, start}
+use Rattle.bencode_wire.specs.Stream.{IsMessage, Ending, rest, fault, IsRest, Breaks, Streams}
 
 same_reads : (limit : ℕ) (add : Adding) (a b : ℕ) (c d : Cut) (i j : ℕ) (bs : List ℕ) → a ≡ b → c ≡ d → i ≡ j → reading limit add a c i bs ≡ reading limit add b d j bs
 same_reads limit add a b c d i j bs e f g =
@@ -20,7 +20,7 @@ rests_cut a b c d e = cc
 onward-append : (limit : ℕ) (add : Adding) (j : Judged) (before at n : ℕ) (d : Cut) (xs ys : List ℕ)
     → onward j at (λ next. reading limit add (before + 1) next (at + 1) xs) (reading limit add 0 start (at + 1) xs) ≡ ended (rests n d)
     → ((next : Cut) → reading limit add (before + 1) next (at + 1) xs ≡ ended (rests n d)
-      → reading limit add (before + 1) next (at + 1) (xs ++ ys) ≡ reading limit add n d (at + 1 + length xs) ys)
+    → reading limit add (before + 1) next (at + 1) (xs ++ ys) ≡ reading limit add n d (at + 1 + length xs) ys)
     → onward j at (λ next. reading limit add (before + 1) next (at + 1) (xs ++ ys)) (reading limit add 0 start (at + 1) (xs ++ ys)) ≡ reading limit add n d (at + suc (length xs)) ys
 onward-append limit add (reads next) before at n d xs ys e more =
     more next e ∙ same_reads limit add n n d d (at + 1 + length xs) (at + suc (length xs)) ys refl refl (omega arith)
@@ -56,34 +56,34 @@ found_on : (limit place : ℕ) (m : List ℕ) (b : ℕ) (bs : List ℕ) (c : Cut
     → reading limit put_pair 0 start 0 m ≡ ended (rests (length m) c)
     → bite limit put_pair (length m) c (b ∷ []) ≡ j
     → ((next : Cut) → reading limit put_pair 0 start 0 (m ++ b ∷ []) ≡ ended (rests (length (m ++ b ∷ [])) next)
-      → FoundBy limit place ((m ++ b ∷ []) ++ bs) (reading limit put_pair (length (m ++ b ∷ [])) next (place + length (m ++ b ∷ [])) bs))
+    → FoundBy limit place ((m ++ b ∷ []) ++ bs) (reading limit put_pair (length (m ++ b ∷ [])) next (place + length (m ++ b ∷ [])) bs))
     → FoundBy limit (place + length (m ++ b ∷ [])) bs (reading limit put_pair 0 start (place + length (m ++ b ∷ [])) bs)
     → FoundBy limit place (m ++ b ∷ bs)
-        (onward j (place + length m) (λ next. reading limit put_pair (length m + 1) next (place + length m + 1) bs) (reading limit put_pair 0 start (place + length m + 1) bs))
+    (onward j (place + length m) (λ next. reading limit put_pair (length m + 1) next (place + length m + 1) bs) (reading limit put_pair 0 start (place + length m + 1) bs))
 found_on limit place m b bs c (reads next) e is same fresh =
     let long : length (m ++ b ∷ []) ≡ length m + 1 = length-append m (b ∷ []) in
     let now : reading limit put_pair 0 start 0 (m ++ b ∷ []) ≡ ended (rests (length (m ++ b ∷ [])) next) =
-      reading-append limit put_pair 0 start 0 (length m) c m (b ∷ []) e
-      ∙ ap (λ j. onward j (0 + length m) (λ d. ended (rests (length m + 1) d)) (ended (rests 0 start))) is
-      ∙ ap (λ k. ended (rests k next)) (sym long) in
+    reading-append limit put_pair 0 start 0 (length m) c m (b ∷ []) e
+    ∙ ap (λ j. onward j (0 + length m) (λ d. ended (rests (length m + 1) d)) (ended (rests 0 start))) is
+    ∙ ap (λ k. ended (rests k next)) (sym long) in
     subst (λ bytes. FoundBy limit place bytes (reading limit put_pair (length m + 1) next (place + length m + 1) bs)) (append_assoc m (b ∷ []) bs)
-      (subst (λ r. FoundBy limit place ((m ++ b ∷ []) ++ bs) r)
-        (same_reads limit put_pair _ _ next next _ _ bs long refl (omega arith)) (same next now))
+    (subst (λ r. FoundBy limit place ((m ++ b ∷ []) ++ bs) r)
+    (same_reads limit put_pair _ _ next next _ _ bs long refl (omega arith)) (same next now))
 found_on limit place m b bs c (whole t) e is same fresh =
     let long : length (m ++ b ∷ []) ≡ length m + 1 = length-append m (b ∷ []) in
     let r = reading limit put_pair 0 start (place + length m + 1) bs in
     let message : IsMessage limit t (m ++ b ∷ []) =
-      reading-append limit put_pair 0 start 0 (length m) c m (b ∷ []) e
-      ∙ ap (λ j. onward j (0 + length m) (λ d. ended (rests (length m + 1) d)) (ended (rests 0 start))) is in
+    reading-append limit put_pair 0 start 0 (length m) c m (b ∷ []) e
+    ∙ ap (λ j. onward j (0 + length m) (λ d. ended (rests (length m + 1) d)) (ended (rests 0 start))) is in
     let found : FoundBy limit (place + length (m ++ b ∷ [])) bs r =
-      subst (λ r. FoundBy limit (place + length (m ++ b ∷ [])) bs r) (same_reads limit put_pair 0 0 start start _ _ bs refl refl (omega arith)) fresh in
+    subst (λ r. FoundBy limit (place + length (m ++ b ∷ [])) bs r) (same_reads limit put_pair 0 0 start start _ _ bs refl refl (omega arith)) fresh in
     subst (λ bytes. Found limit place bytes (t ∷ r.messages) r.end) (append_assoc m (b ∷ []) bs)
-      (found_more limit place (m ++ b ∷ []) bs t r.messages r.end message found)
+    (found_more limit place (m ++ b ∷ []) bs t r.messages r.end message found)
 found_on limit place m b bs c (refuses rule) e is same fresh =
     let breaks : Breaks limit m b rule =
-      reading-append limit put_pair 0 start 0 (length m) c m (b ∷ []) e
-      ∙ ap (λ j. onward j (0 + length m) (λ d. ended (rests (length m + 1) d)) (ended (rests 0 start))) is
-      ∙ ap (λ k. ended (faults rule k)) (omega arith) in
+    reading-append limit put_pair 0 start 0 (length m) c m (b ∷ []) e
+    ∙ ap (λ j. onward j (0 + length m) (λ d. ended (rests (length m + 1) d)) (ended (rests 0 start))) is
+    ∙ ap (λ k. ended (faults rule k)) (omega arith) in
     (m, b, bs, (c, e), refl, breaks, refl)
 
 -- reading goes on behind part of a message
@@ -92,10 +92,10 @@ pub found_behind : (limit place : ℕ) (m bs : List ℕ) (c : Cut) → reading l
 found_behind limit place m [] c e = ([], m, append-nil m, refl, e, ((c, e), append-nil m))
 found_behind limit place m (b ∷ bs) c e =
     found_on limit place m b bs c (bite limit put_pair (length m) c (b ∷ [])) e refl
-      (λ next h. found_behind limit place (m ++ b ∷ []) bs next h)
-      (let p = place + length (m ++ b ∷ []) in
-        subst (λ r. FoundBy limit p bs r) (same_reads limit put_pair 0 0 start start (p + 0) p bs refl refl (omega arith))
-          (found_behind limit p [] bs start refl))
+    (λ next h. found_behind limit place (m ++ b ∷ []) bs next h)
+    (let p = place + length (m ++ b ∷ []) in
+    subst (λ r. FoundBy limit p bs r) (same_reads limit put_pair 0 0 start start (p + 0) p bs refl refl (omega arith))
+    (found_behind limit p [] bs start refl))
 
 -- the rest is part of the stream
 pub rest_within : (limit place : ℕ) (all m : List ℕ) (ms : List Tree) → Streams limit place all ms (rest m) → length m ≤ length all
@@ -120,9 +120,13 @@ streams_join limit place all m more [] ns end h g =
 streams_join limit place all m more (t ∷ ms) ns end h g =
     let later = rest_within limit (place + length h.0) h.1 m ms h.4 in
     let long : length all ≡ length h.0 + length h.1 = ap length h.3 ∙ length-append h.0 h.1 in
-    let p : place + (length all - length m) ≡ place + length h.0 + (length h.1 - length m) = omega arith in
-    (h.0, h.1 ++ more, h.2, ap (λ bs. bs ++ more) h.3 ∙ append_assoc h.0 h.1 more,
-      streams_join limit (place + length h.0) h.1 m more ms ns end h.4 (subst (λ k. Streams limit k (m ++ more) ns end) p g))
+    let p : place + (length all - length m) ≡ place + length h.0 + (length h.1 - length m) = omega arith in (
+      h.0,
+      h.1 ++ more,
+      h.2,
+      ap (λ bs. bs ++ more) h.3 ∙ append_assoc h.0 h.1 more,
+      streams_join limit (place + length h.0) h.1 m more ms ns end h.4 (subst (λ k. Streams limit k (m ++ more) ns end) p g),
+    )
 
 -- a stream that ends with a fault stays so
 pub streams_stay : (limit place : ℕ) (all more : List ℕ) (ms : List Tree) (rule : Rule) (at : ℕ) → Streams limit place all ms (fault rule at)

@@ -1,15 +1,13 @@
 -- What the calls that read bytes ensure: what was read and what is ahead are one reading, wherever reading stands.
-use Rattle.std.specs.Prelude.{◌≡◌, ℕ, ◌+◌, ◌-◌, ◌^◌, min, List, ◌++◌, length, map, drop, Option, Some, None, MatchOption, Result, Ok, Err}
+use Rattle.std.specs.Prelude.{◌≡◌, ℕ, ◌+◌, ◌-◌, ◌^◌, min, List, ◌++◌, map, drop, Option, Some, None, Result, Ok, Err}
 use Rattle.bencode_wire.specs.Tree.{Tree}
 use Rattle.bencode_wire.specs.Spelling.{put_pair}
-use Rattle.bencode_wire.specs.Cut.{Cut}
 use Rattle.bencode_wire.specs.Fault.{Rule, malformed, too_long, too_deep}
-use Rattle.bencode_wire.specs.Machine.{Reading, End, rests, faults, reading, start}
+use Rattle.bencode_wire.specs.Machine.{Reading, End, rests, faults, reading}
 use Rattle.bencode_wire.specs.Reader.{cut_view}
 use Rattle.bencode_wire.specs.View.{view}
 use Rattle.bencode_wire.specs.declared.ben.Ben.{Ben}
 use Rattle.bencode_wire.specs.declared.cut.Course.{Course}
-use Rattle.bencode_wire.specs.declared.cut.Reader.{Reader}
 use Rattle.bencode_wire.specs.declared.fault.WireFault.{WireFault}
 
 -- a place in the stream, as far as it is counted

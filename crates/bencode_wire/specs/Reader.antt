@@ -1,5 +1,5 @@
 -- The cut that a reader stands for, and what its functions' results say.
-use Rattle.std.specs.Prelude.{◌≡◌, ℕ, List, map, reverse, Result, Ok, Err}
+use Rattle.std.specs.Prelude.{◌≡◌, List, map, reverse, Result, Ok, Err}
 use Rattle.bencode_wire.specs.Cut as cuts
 use Rattle.bencode_wire.specs.Fault.{malformed, too_long, too_deep}
 use Rattle.bencode_wire.specs.Machine.{Judged, reads, whole, refuses}

@@ -1,11 +1,11 @@
 -- A stream of messages (BEP 3), and where it breaks a rule. A message is one dictionary; a place is a byte's offset in the
 -- stream, from 0.
-use Rattle.std.specs.Prelude.{◌≡◌, ℕ, ◌+◌, ◌<◌, ◌⊎◌, List, [], ◌∷◌, ◌++◌, length}
+use Rattle.std.specs.Prelude.{◌≡◌, ℕ, ◌+◌, List, [], ◌∷◌, ◌++◌, length}
 use Rattle.bencode_wire.specs.Tree.{Tree}
 use Rattle.bencode_wire.specs.Spelling.{put_pair}
 use Rattle.bencode_wire.specs.Cut.{Cut}
 use Rattle.bencode_wire.specs.Machine.{reading, rests, faults, ended, start}
-use Rattle.bencode_wire.specs.Fault.{Rule, malformed, too_long, too_deep}
+use Rattle.bencode_wire.specs.Fault.{Rule}
 
 -- the bytes are read as this message
 abbrev pub IsMessage : ℕ → Tree → List ℕ → Type 0

@@ -58,24 +58,27 @@ fn advance(
     let run = reader.run_len(available);
     let end = at + run;
     match read_run(alloc, limit, reader, &bytes[at..end]) {
-        Ok(Progress::Partial(reader)) => Ok(Course { reader, begin, at: end }),
+        Ok(Progress::Partial(reader)) => Ok(Course {
+            reader,
+            begin,
+            at: end,
+        }),
         Ok(Progress::Whole(message)) => {
             if ready.push_back(message).is_err() {
                 return Err(WireFault::NoMemory);
             }
-            Ok(Course { reader: Reader::new(alloc), begin: end, at: end })
+            Ok(Course {
+                reader: Reader::new(alloc),
+                begin: end,
+                at: end,
+            })
         }
         Err(refusal) => Err(refusal.at(place.saturating_add(run as u64 - 1))),
     }
 }
 
 // Reads a run, whose length `run_len` gave.
-fn read_run(
-    alloc: Global,
-    limit: usize,
-    reader: Reader,
-    run: &[u8],
-) -> Result<Progress, Refusal>
+fn read_run(alloc: Global, limit: usize, reader: Reader, run: &[u8]) -> Result<Progress, Refusal>
     requires { 0 < length run.now }
     ensures { Gives (machine.checked limit (machine.judged (machine.step_run put_pair (frames_view reader.frames.items) (token_view reader.token) run.now))) result }
 {

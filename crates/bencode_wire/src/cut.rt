@@ -41,7 +41,7 @@ pub(crate) enum Token {
 pub(crate) struct PartOfInteger {
     pub(crate) is_negative: bool,
     pub(crate) value: u64,
-    ghost in_range: { value ≤ greatest is_negative }
+    ghost in_range: { value ≤ greatest is_negative },
 }
 
 // A string of which at least one byte is still to come.
@@ -68,12 +68,11 @@ pub(crate) enum Wanted {
     KeyOrEnd,
 }
 
-
 // How far bytes were read: where the unfinished message begins, and what has come of it up to `at`.
 #[derive(Drop)]
 pub(crate) struct Course {
     pub(crate) reader: Reader,
     pub(crate) begin: usize,
     pub(crate) at: usize,
-    ghost begun: { begin ≤ at }
+    ghost begun: { begin ≤ at },
 }

@@ -129,11 +129,26 @@ impl Decoder {
         if self.rest.extend_from_slice(piece).is_err() {
             return Err(WireFault::NoMemory);
         }
-        let begin = Course { reader, begin: 0, at: kept };
+        let begin = Course {
+            reader,
+            begin: 0,
+            at: kept,
+        };
         let bytes = self.rest.as_slice();
-        match read_on(self.alloc, self.limit, self.start, bytes, begin, &mut self.ready) {
+        match read_on(
+            self.alloc,
+            self.limit,
+            self.start,
+            bytes,
+            begin,
+            &mut self.ready,
+        ) {
             Ok(course) => {
-                let Course { reader, begin, at: _ } = course;
+                let Course {
+                    reader,
+                    begin,
+                    at: _,
+                } = course;
                 drop_front(&mut self.rest, begin);
                 self.start = self.start.saturating_add(begin as u64);
                 self.reader = Some(reader);
@@ -164,11 +179,19 @@ impl Decoder {
         }
         let mut none = VecDeque::new(self.alloc);
         let reader = Reader::new(self.alloc);
-        let begin = Course { reader, begin: 0, at: 0 };
+        let begin = Course {
+            reader,
+            begin: 0,
+            at: 0,
+        };
         let bytes = self.rest.as_slice();
         match read_on(self.alloc, self.limit, self.start, bytes, begin, &mut none) {
             Ok(course) => {
-                let Course { reader, begin: _, at: _ } = course;
+                let Course {
+                    reader,
+                    begin: _,
+                    at: _,
+                } = course;
                 Some(reader)
             }
             // No rule is met in them.

@@ -17,6 +17,7 @@ mod course;
 mod cut;
 mod decoder;
 mod fault;
+pub mod laws;
 mod reader;
 mod sign;
 mod write;

@@ -121,11 +121,7 @@ fn begin_message(alloc: Global, frames: Vec<Frame>, sign: Sign) -> Result<Progre
     }
 }
 
-fn begin_value(
-    alloc: Global,
-    frames: Vec<Frame>,
-    sign: Sign,
-) -> Result<Progress, Refusal>
+fn begin_value(alloc: Global, frames: Vec<Frame>, sign: Sign) -> Result<Progress, Refusal>
     ensures { Gives (judged (machine.begin_value (frames_view frames.items) sign)) result }
 {
     match sign {
@@ -137,11 +133,7 @@ fn begin_value(
     }
 }
 
-fn begin_item(
-    alloc: Global,
-    frames: Vec<Frame>,
-    sign: Sign,
-) -> Result<Progress, Refusal>
+fn begin_item(alloc: Global, frames: Vec<Frame>, sign: Sign) -> Result<Progress, Refusal>
     ensures { Gives (judged (machine.begin_item put_pair (frames_view frames.items) sign)) result }
 {
     match sign {
@@ -290,11 +282,7 @@ fn integer_minus(frames: Vec<Frame>, sign: Sign) -> Result<Progress, Refusal>
 }
 
 // Behind a digit of an integer: another digit, unless the number is zero, or the end.
-fn integer_digits(
-    frames: Vec<Frame>,
-    part: PartOfInteger,
-    sign: Sign,
-) -> Result<Progress, Refusal>
+fn integer_digits(frames: Vec<Frame>, part: PartOfInteger, sign: Sign) -> Result<Progress, Refusal>
     ensures { Gives (judged (machine.integer_digits put_pair (frames_view frames.items) part.is_negative part.value sign)) result }
 {
     let PartOfInteger { is_negative, value } = part;
@@ -382,11 +370,7 @@ fn length_digits(
     }
 }
 
-fn more_length(
-    frames: Vec<Frame>,
-    len: usize,
-    digit: u8,
-) -> Result<Progress, Refusal>
+fn more_length(frames: Vec<Frame>, len: usize, digit: u8) -> Result<Progress, Refusal>
     ensures { Gives (judged (machine.more_length (frames_view frames.items) len digit)) result }
 {
     if len == 0 {

@@ -77,11 +77,26 @@ fn reads_at_every_cut(rt: HostRuntime) -> Result<(), AllocError> {
         (b"d2:id1048577:", 0, false, Some(WireFault::TooLong(11))),
         (deep.as_slice(), 0, false, Some(WireFault::TooDeep(67))),
         (full.as_slice(), 0, false, None),
-        (b"d1:ai9223372036854775808ee", 0, false, Some(WireFault::Malformed(23))),
+        (
+            b"d1:ai9223372036854775808ee",
+            0,
+            false,
+            Some(WireFault::Malformed(23)),
+        ),
         (b"d1:ai-9223372036854775808ee", 1, true, None),
         (b"d01:a1:be", 0, false, Some(WireFault::Malformed(2))),
-        (b"d2:idi-0e2:op4:evale", 0, false, Some(WireFault::Malformed(7))),
-        (b"d2:id1:12:id1:2e", 0, false, Some(WireFault::Malformed(11))),
+        (
+            b"d2:idi-0e2:op4:evale",
+            0,
+            false,
+            Some(WireFault::Malformed(7)),
+        ),
+        (
+            b"d2:id1:12:id1:2e",
+            0,
+            false,
+            Some(WireFault::Malformed(11)),
+        ),
     ];
     for (stream, messages, empty, fault) in rows {
         for cut in 0..stream.len() + 1 {

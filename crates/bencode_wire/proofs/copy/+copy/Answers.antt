@@ -14,8 +14,7 @@ copy_pairs-loop-key-preserved t c =
     let left = c.next.new.self in
     let all : c.args.pairs.now.entries ≡ done ++ e ∷ left = l.invariant.1 ∙ ap (λ es. done ++ es) c.in-Some.ensures.steps in
     let last = put_last done e left (subst (λ es. IsStrictlySortedBy key_cmp (keys_of es)) all c.iter-key-items.ensures.ordered) in
-    let named : c.in_ok-name.name.items ≡ e.0.items = c.in_ok-name.ensures in
-    (
+    let named : c.in_ok-name.name.items ≡ e.0.items = c.in_ok-name.ensures in (
       done ++ e ∷ [],
       all ∙ sym (append_assoc done (e ∷ []) left),
       ap pairs_view c.in_ok-insert.ensures.entries ∙ pairs_view-insert_entry l.copies.entries c.in_ok-name.name c.in_ok-copy.field-0 ∙ rw (named, c.in_ok-copy.ensures, l.invariant.2) last,

@@ -18,5 +18,5 @@ returns-in-Ok-clause-reader c = λ x kept read.
     let bytes = c.as_slice-bytes.result.now in
     let is : c.args.self.now.rest.items ≡ bytes = search rules in
     let now : reading c.args.self.now.limit put_pair 0 start 0 bytes ≡ ended (rests (length bytes) x) =
-      subst (λ (b : List ℕ). reading c.args.self.now.limit put_pair 0 start 0 b ≡ ended (rests (length b) x)) is read in
+    subst (λ (b : List ℕ). reading c.args.self.now.limit put_pair 0 start 0 b ≡ ended (rests (length b) x)) is read in
     resumes c.args.self.now.limit c.args.self.now.start bytes course c.in-Ok.course c.new-none.result.items c.read_on.new.ready.items x c.new-reader.ensures refl refl c.in-Ok.ensures.all c.in-Ok.ensures.continues now

@@ -1,12 +1,11 @@
-use Rattle.std.proofs.Common.{◌≡◌, ℕ, List, ◌++◌, length, drop, min, ◌+◌, ◌-◌, ◌^◌, Ok, Err, refl, sym, ap, subst, ◌∙◌, arith, rules, take, map}
-use Rattle.std.proofs.lemmas.Grind.{common_steps}
+use Rattle.std.proofs.Common.{◌≡◌, ℕ, List, ◌++◌, length, drop, Err, refl, ap, subst, ◌∙◌, arith, rules, take, map}
 use Rattle.std.proofs.Math.Seq.{take-append_seam}
 use Rattle.bencode_wire.specs.Course.{Advances, ahead, Continues}
-use Rattle.bencode_wire.specs.Decoder.{rest_of, fault_of, ready_of, IsUnchanged}
+use Rattle.bencode_wire.specs.Decoder.{rest_of}
 use Rattle.bencode_wire.specs.View.{view}
 use Rattle.bencode_wire.specs.declared.ben.Ben.{Ben}
 use Rattle.bencode_wire.specs.declared.cut.Course.{Course}
-use Rattle.bencode_wire.proofs.Decoders.{stands_kept, resumed, fed_by, Fed, IsFed, feed_rest, feed_broken}
+use Rattle.bencode_wire.proofs.Decoders.{stands_kept, resumed, fed_by, feed_rest, feed_broken}
 use Rattle.bencode_wire.proofs.decoder.Decoder.take.Goals as goal
 
 pub returns-in_default-clause-stands : goal.returns-in_default-clause-stands
@@ -48,16 +47,16 @@ returns-in-Ok-clause-stands c = λ limit all taken s other.
     let now : c.as_slice-bytes.result.now ≡ rest_of d ++ piece = c.as_slice-bytes.ensures.value ∙ bytes in
     let kept : c.len-kept.result ≡ length (rest_of d) = search rules in
     let adv : Advances (ahead d.limit (rest_of d ++ piece) course) (ahead d.limit (rest_of d ++ piece) next) d.ready.items c.read_on.new.ready.items =
-      subst (λ (b : List ℕ). Advances (ahead d.limit b course) (ahead d.limit b next) d.ready.items c.read_on.new.ready.items) now c.in-Ok.ensures.continues in
+    subst (λ (b : List ℕ). Advances (ahead d.limit b course) (ahead d.limit b next) d.ready.items c.read_on.new.ready.items) now c.in-Ok.ensures.continues in
     feed_rest limit d _ all taken z.m piece course next z.c z.streams z.place (fed_by limit d all taken c.in-Some.reader piece course z refl refl kept) adv
-      (record {
-        limit = refl;
-        rest = c.drop_front.ensures ∙ ap (λ (x : List ℕ). drop next.begin x) bytes;
-        place = c.saturating_add-self.ensures;
-        reader = refl;
-        fault = c.resume.ensures.same.fault ∙ c.requires;
-        done = c.in-Ok.ensures.all ∙ ap length now;
-      })
+    (record {
+      limit = refl;
+      rest = c.drop_front.ensures ∙ ap (λ (x : List ℕ). drop next.begin x) bytes;
+      place = c.saturating_add-self.ensures;
+      reader = refl;
+      fault = c.resume.ensures.same.fault ∙ c.requires;
+      done = c.in-Ok.ensures.all ∙ ap length now;
+    })
 
 pub returns-in-Err-NoMemory-clause-stands : goal.returns-in-Err-NoMemory-clause-stands
 returns-in-Err-NoMemory-clause-stands c = λ limit all taken s other. absurd (other refl)
@@ -96,6 +95,6 @@ returns-in-Err-clause-stands c = λ limit all taken s other.
     let now : c.as_slice-bytes.result.now ≡ rest_of d ++ piece = c.as_slice-bytes.ensures.value ∙ bytes in
     let kept : c.len-kept.result ≡ length (rest_of d) = search rules in
     let met : Continues d.limit d.start (rest_of d ++ piece) course d.ready.items c.read_on.new.ready.items (Err c.in-Err.fault) =
-      subst (λ (b : List ℕ). Continues d.limit d.start b course d.ready.items c.read_on.new.ready.items (Err c.in-Err.fault)) now c.in-Err.ensures.continues in
+    subst (λ (b : List ℕ). Continues d.limit d.start b course d.ready.items c.read_on.new.ready.items (Err c.in-Err.fault)) now c.in-Err.ensures.continues in
     feed_broken limit d _ all taken z.m piece course z.c c.in-Err.fault z.streams z.place (fed_by limit d all taken c.in-Some.reader piece course z refl refl kept) met
-      (λ e. other (ap Err e)) (record { limit = refl; reader = c.resume.ensures.none; fault = refl })
+    (λ e. other (ap Err e)) (record { limit = refl; reader = c.resume.ensures.none; fault = refl })
