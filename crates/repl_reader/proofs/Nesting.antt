@@ -44,14 +44,14 @@ module _ (depth n : ℕ) (start text : List ℕ) (owed : (r : Reading) → Owed 
   pub owed_one : (n ≡ 0 → ⊥) → (d : Datum) (rest : List ℕ) → Reads depth text (begins d rest) → (r : Reading) → Owed depth (n - 1) rest r → Reads depth start r
   owed_one some d rest i r o = owed r (subst (λ k. Owed depth k text r) (less_and_more n some) (inl (d, rest, i, o)))
     where
-    less_and_more : (m : ℕ) → (m ≡ 0 → ⊥) → suc (m - 1) ≡ m
-    less_and_more m h = omega arith
+      less_and_more : (m : ℕ) → (m ≡ 0 → ⊥) → suc (m - 1) ≡ m
+      less_and_more m h = omega arith
 
   pub owed_short : (n ≡ 0 → ⊥) → (s : Reading) → Reads depth text s → (IsForm s → ⊥) → Reads depth start (wanted s)
   owed_short some s i h = owed (wanted s) (subst (λ k. Owed depth k text (wanted s)) (less_and_more n some) (inr (s, i, h, refl)))
     where
-    less_and_more : (m : ℕ) → (m ≡ 0 → ⊥) → suc (m - 1) ≡ m
-    less_and_more m h = omega arith
+      less_and_more : (m : ℕ) → (m ≡ 0 → ⊥) → suc (m - 1) ≡ m
+      less_and_more m h = omega arith
 
 pub on_ok : {T E : Type 0} {P Q : T → Type 0} (r : Result T E) → ((x : T) → P x → Q x) → IfOk r P → IfOk r Q
 on_ok (Ok x) f h = f x h

@@ -29,25 +29,25 @@ module _ {E : Type 0} (t : List ℕ) (r : Result ℤ E) (h : ParsesSigned w64 10
   unfolding integer_of
   minus e z = rw e (tested r (all_ascii_digits (drop 1 t)) (ltb 0 (length (drop 1 t))) (leb (digits_value 10 (drop 1 t)) (2 ^ 63)) _ (neg_ℤ (pos (digits_value 10 (drop 1 t))))
       (by_tests r _ _ _ (λ p. (p.0, grind (arith, nat_tests), grind (arith, nat_tests))) (λ q. (q.0, grind (arith, nat_tests), grind (arith, nat_tests)))
-        (parse_signed_minus own w64 t r h e)) (rw e at z))
+      (parse_signed_minus own w64 t r h e)) (rw e at z))
 
   plus : get_or t 0 0 ≡ 43 → has_leading_zero (without_sign t) ≡ false → result_ok r ≡ integer_of t
   unfolding integer_of
   plus e z = rw e (tested r (all_ascii_digits (drop 1 t)) (ltb 0 (length (drop 1 t))) (ltb (digits_value 10 (drop 1 t)) (2 ^ 63)) _ (pos (digits_value 10 (drop 1 t)))
       (by_tests r _ _ _ (λ p. (p.0, grind (arith, nat_tests), grind (arith, nat_tests))) (λ q. (q.0, grind (arith, nat_tests), grind (arith, nat_tests)))
-        (parse_signed_plus own w64 t r h e)) (rw e at z))
+      (parse_signed_plus own w64 t r h e)) (rw e at z))
 
   bare_digits : eqb (get_or t 0 0) 45 ≡ false → eqb (get_or t 0 0) 43 ≡ false → get_or t 0 0 ≢ 45 → get_or t 0 0 ≢ 43
       → has_leading_zero (without_sign t) ≡ false → result_ok r ≡ integer_of t
   unfolding integer_of
   bare_digits m p nm np z = rw (p, m) (tested r (all_ascii_digits t) (ltb 0 (length t)) (ltb (digits_value 10 t) (2 ^ 63)) _ (pos (digits_value 10 t))
       (by_tests r _ _ _ (λ q. (q.0, grind (arith, nat_tests), grind (arith, nat_tests))) (λ q. (q.0, grind (arith, nat_tests), grind (arith, nat_tests)))
-        (parse_signed_plain own w64 t r h np nm)) (rw (p, m) at z))
+      (parse_signed_plain own w64 t r h np nm)) (rw (p, m) at z))
 
   pub number_is : has_leading_zero (without_sign t) ≡ false → result_ok r ≡ integer_of t
   number_is z = by_sign (eqb (get_or t 0 0) 45) refl (eqb (get_or t 0 0) 43) refl
     where
-    by_sign : (m : Bool) → m ≡ eqb (get_or t 0 0) 45 → (p : Bool) → p ≡ eqb (get_or t 0 0) 43 → result_ok r ≡ integer_of t
-    by_sign true e p f = minus (grind (arith, nat_tests)) z
-    by_sign false e true f = plus (grind (arith, nat_tests)) z
-    by_sign false e false f = bare_digits (sym e) (sym f) (grind (arith, nat_tests)) (grind (arith, nat_tests)) z
+      by_sign : (m : Bool) → m ≡ eqb (get_or t 0 0) 45 → (p : Bool) → p ≡ eqb (get_or t 0 0) 43 → result_ok r ≡ integer_of t
+      by_sign true e p f = minus (grind (arith, nat_tests)) z
+      by_sign false e true f = plus (grind (arith, nat_tests)) z
+      by_sign false e false f = bare_digits (sym e) (sym f) (grind (arith, nat_tests)) (grind (arith, nat_tests)) z

@@ -16,11 +16,11 @@ pub plain_run : (text s : List ℕ) → string_at (s ++ take (position_or_len en
 plain_run [] s = refl
 plain_run (b ∷ bs) s = step (ends_plain b) refl (plain_run bs (s ++ b ∷ []))
   where
-  step : (t : Bool) → t ≡ ends_plain b
-      → string_at ((s ++ b ∷ []) ++ take (position_or_len ends_plain bs) bs) (drop (position_or_len ends_plain bs) bs) ≡ string_at (s ++ b ∷ []) bs
-      → string_at (s ++ take (cond (not t) (1 + position_or_len ends_plain bs) 0) (b ∷ bs)) (drop (cond (not t) (1 + position_or_len ends_plain bs) 0) (b ∷ bs)) ≡ string_at s (b ∷ bs)
-  step true e rest = ap (λ x. string_at x (b ∷ bs)) (append-nil s)
-  step false e rest = rw one-add (ap (λ x. string_at x (drop (position_or_len ends_plain bs) bs)) (sym (append_assoc s (b ∷ []) (take (position_or_len ends_plain bs) bs))) ∙ rest ∙ sym (plain_byte s bs b (sym e)))
+    step : (t : Bool) → t ≡ ends_plain b
+        → string_at ((s ++ b ∷ []) ++ take (position_or_len ends_plain bs) bs) (drop (position_or_len ends_plain bs) bs) ≡ string_at (s ++ b ∷ []) bs
+        → string_at (s ++ take (cond (not t) (1 + position_or_len ends_plain bs) 0) (b ∷ bs)) (drop (cond (not t) (1 + position_or_len ends_plain bs) 0) (b ∷ bs)) ≡ string_at s (b ∷ bs)
+    step true e rest = ap (λ x. string_at x (b ∷ bs)) (append-nil s)
+    step false e rest = rw one-add (ap (λ x. string_at x (drop (position_or_len ends_plain bs) bs)) (sym (append_assoc s (b ∷ []) (take (position_or_len ends_plain bs) bs))) ∙ rest ∙ sym (plain_byte s bs b (sym e)))
 
 -- what stands behind such a run
 pub plain_run_ends : (text : List ℕ) → 0 < length (drop (position_or_len ends_plain text) text) → ends_plain (get_or (drop (position_or_len ends_plain text) text) 0 0) ≡ true

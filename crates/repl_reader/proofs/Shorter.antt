@@ -134,6 +134,7 @@ commented_by b bs false x y = bared_more _ _ y
 
 mutual
   unfolding IsDark
+
   bared : (text : List ℕ) → IsBared (length text) (bare text)
   bared [] = record { dark = tt; bound = omega arith }
   bared (b ∷ bs) = bared_by b bs (eqb b 59) refl (is_white b) refl (bared bs) (commented bs)

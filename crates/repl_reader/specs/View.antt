@@ -45,7 +45,6 @@ next_view (Next.Opening b rest) = plain.opens (bracket_view b) rest.now
 next_view (Next.Marking m rest) = plain.marks (symbol_of m) rest.now
 next_view (Next.Dropping rest) = plain.drops rest.now
 
-
 -- a value where there is one, and else none
 abbrev pub IsValue : Option Value → Option Datum → Type 0
 IsValue None d = d ≡ None

@@ -47,5 +47,9 @@ fn last_break(alloc: Global, after: Reading<'_>) -> Result<Option<Break>, AllocE
 fn placed(length: usize, fault: Break) -> ReaderFault
     ensures { fault_view result ≡ placed length (break_view fault) }
 {
-    ReaderFault { kind: fault.kind, at: length.saturating_sub(fault.left), text: fault.text }
+    ReaderFault {
+        kind: fault.kind,
+        at: length.saturating_sub(fault.left),
+        text: fault.text,
+    }
 }

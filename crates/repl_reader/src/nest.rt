@@ -151,22 +151,19 @@ fn wanted<'a>(alloc: Global, reading: Reading<'a>) -> Result<Reading<'a>, AllocE
     }
 }
 
-fn unmatched(
-    alloc: Global,
-    bracket: Bracket,
-    rest: &str,
-) -> Result<Reading<'static>, AllocError>
+fn unmatched(alloc: Global, bracket: Bracket, rest: &str) -> Result<Reading<'static>, AllocError>
     ensures { IfOk result (λ r. reading_view r ≡ unmatched (bracket_view bracket) rest.now) }
 {
-    let fault = break_with(alloc, FaultKind::Unmatched, rest.len() + 1, bracket.closing())?;
+    let fault = break_with(
+        alloc,
+        FaultKind::Unmatched,
+        rest.len() + 1,
+        bracket.closing(),
+    )?;
     Ok(Reading::Broken(fault))
 }
 
-fn wrapped<'a>(
-    alloc: Global,
-    mark: Mark,
-    reading: Reading<'a>,
-) -> Result<Reading<'a>, AllocError>
+fn wrapped<'a>(alloc: Global, mark: Mark, reading: Reading<'a>) -> Result<Reading<'a>, AllocError>
     ensures { IfOk result (λ r. reading_view r ≡ wrapped (symbol_of mark) (reading_view reading.entry)) }
 {
     match reading {
@@ -186,11 +183,7 @@ fn listed(alloc: Global, mark: Mark, form: Value) -> Result<Value, AllocError>
     Ok(Value::List(forms))
 }
 
-fn enclosed<'a>(
-    alloc: Global,
-    bracket: Bracket,
-    row: Row<'a>,
-) -> Result<Reading<'a>, AllocError>
+fn enclosed<'a>(alloc: Global, bracket: Bracket, row: Row<'a>) -> Result<Reading<'a>, AllocError>
     ensures { IfOk result (λ r. reading_view r
         ≡ enclosed (bracket_view bracket) (items_view row.entry.forms.items) (reading_view row.entry.after)) }
 {

@@ -51,9 +51,9 @@ pub read_form-returns-in-Err : goal.read_form-returns-in-Err
 read_form-returns-in-Err t c =
     let reads : Reads c.args.depth c.loop-rest.text.now (reading_view c.in-Read.reading) = rw c.in-Read.is at c.in_ok-rest.ensures in
     on_ok _ (λ x e. subst (λ (y : Reading). Reads c.args.depth c.args.text.now y) (sym e)
-        (owed_short c.args.depth c.loop-rest.to_drop c.args.text.now c.loop-rest.text.now c.loop-rest.invariant.owed c.if-to_drop-eq0.false
-          (reading_view c.in-Err.other) (subst (λ (y : Reading). Reads c.args.depth c.loop-rest.text.now y) (sym c.in-Err.ensures.0) reads) c.in-Err.ensures.1))
-      c.wanted.ensures
+    (owed_short c.args.depth c.loop-rest.to_drop c.args.text.now c.loop-rest.text.now c.loop-rest.invariant.owed c.if-to_drop-eq0.false
+    (reading_view c.in-Err.other) (subst (λ (y : Reading). Reads c.args.depth c.loop-rest.text.now y) (sym c.in-Err.ensures.0) reads) c.in-Err.ensures.1))
+    c.wanted.ensures
 
 pub read_form-loop-rest-smaller : goal.read_form-loop-rest-smaller
 read_form-loop-rest-smaller t c =
