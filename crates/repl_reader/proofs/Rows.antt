@@ -54,7 +54,6 @@ abbrev pub behind : Option Value → Items → Option Pairs
 behind None ds = paired ds
 behind (Some key) ds = paired_with (view key) ds
 
-
 pub zip_push : {A B : Type 0} (xs : List A) (ys : List B) (x : A) (y : B) → length xs ≡ length ys → zip (xs ++ x ∷ []) (ys ++ y ∷ []) ≡ zip xs ys ++ (x, y) ∷ []
 zip_push [] [] x y e = refl
 zip_push [] (z ∷ ys) x y e = absurd (omega (arith, e))
@@ -65,9 +64,12 @@ zip_push (u ∷ xs) (w ∷ ys) x y e = ap (λ zs. (u, w) ∷ zs) (zip_push xs ys
 pub halves_push : (keys values : List Value) (key value : Value) (ps : Option Pairs) → length keys ≡ length values
     → in_front (zip (map view (keys ++ key ∷ [])) (map view (values ++ value ∷ []))) ps ≡ in_front (zip (map view keys) (map view values)) (with_pair (view key) (view value) ps)
 halves_push keys values key value ps e =
-    rw (map-push view keys key, map-push view values value,
-        zip_push (map view keys) (map view values) (view key) (view value) (map_length view keys ∙ e ∙ sym (map_length view values)))
-      (in_front_push (zip (map view keys) (map view values)) (view key, view value) ps)
+    rw (
+      map-push view keys key,
+      map-push view values value,
+      zip_push (map view keys) (map view values) (view key) (view value) (map_length view keys ∙ e ∙ sym (map_length view values)),
+    )
+    (in_front_push (zip (map view keys) (map view values)) (view key, view value) ps)
 
 -- the keys of as many keys as values
 pub keys_of_halves : (keys values : List Datum) → length keys ≡ length values → keys_of (pairs_of (zip keys values)) ≡ items_of keys

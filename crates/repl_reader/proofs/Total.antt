@@ -23,9 +23,9 @@ ReachRow n = (depth : ℕ) (text : List ℕ) → 2 * length text + 1 < n → Fou
 has_room : (depth : ℕ) → (depth < most_nested) ⊎ (most_nested ≤ depth)
 has_room depth = by_test (ltb depth most_nested) refl
   where
-  by_test : (t : Bool) → t ≡ ltb depth most_nested → (depth < most_nested) ⊎ (most_nested ≤ depth)
-  by_test true e = inl (grind (arith, nat_tests))
-  by_test false e = inr (grind (arith, nat_tests))
+    by_test : (t : Bool) → t ≡ ltb depth most_nested → (depth < most_nested) ⊎ (most_nested ≤ depth)
+    by_test true e = inl (grind (arith, nat_tests))
+    by_test false e = inr (grind (arith, nat_tests))
 
 by_mark : (depth : ℕ) (text name rest : List ℕ) → next text ≡ marks name rest → (depth < most_nested) ⊎ (most_nested ≤ depth) → Found (depth + 1) rest → Found depth text
 by_mark depth text name rest e (inl k) f = (wrapped name f.0, marked depth text name rest f.0 e k f.1)

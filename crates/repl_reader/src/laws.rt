@@ -4,11 +4,9 @@ ghost use Rattle.repl_reader.specs.Laws.{EveryTextReads, ReadingsAreUnique};
 /// Each text reads as some forms, and a fault or none after them.
 pub fn every_text_reads()
     ensures { EveryTextReads }
-{
-}
+{}
 
 /// No text reads in two ways.
 pub fn readings_are_unique()
     ensures { ReadingsAreUnique }
-{
-}
+{}

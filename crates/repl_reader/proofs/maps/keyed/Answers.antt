@@ -12,7 +12,7 @@ returns-in-Some c =
     let even = map_length view c.args.halves.keys.items ∙ c.requires ∙ sym (map_length view c.args.halves.values.items) in
     let key = rw (c.in-Some.is, c.as_slice.ensures.value) at c.in_ok-repeated.ensures in
     ap breaks c.in_ok-fault.ensures ∙ rw (c.as_str.ensures.value, key.2)
-      (sym (map_with (map view c.args.halves.keys.items) (map view c.args.halves.values.items) c.args.rest.now even key.0 key.1))
+    (sym (map_with (map view c.args.halves.keys.items) (map view c.args.halves.values.items) c.args.rest.now even key.0 key.1))
 
 pub returns : goal.returns
 returns c =
