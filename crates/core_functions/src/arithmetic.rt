@@ -57,11 +57,7 @@ fn difference(alloc: Global, integers: &[i64]) -> Result<i64, ApplyError>
     fold_from_first(alloc, Operation::Subtract, integers)
 }
 
-fn fold_from_first(
-    alloc: Global,
-    operation: Operation,
-    integers: &[i64],
-) -> Result<i64, ApplyError>
+fn fold_from_first(alloc: Global, operation: Operation, integers: &[i64]) -> Result<i64, ApplyError>
     requires { 0 < length integers.now }
     ensures { Gives (λ n. n) result (meant.from_first (operation_of operation) integers.now) }
 {
@@ -83,12 +79,7 @@ fn fold(
     Ok(total)
 }
 
-fn operate(
-    alloc: Global,
-    operation: Operation,
-    left: i64,
-    right: i64,
-) -> Result<i64, ApplyError>
+fn operate(alloc: Global, operation: Operation, left: i64, right: i64) -> Result<i64, ApplyError>
     ensures { Gives (λ n. n) result (operation_of operation left right) }
 {
     match operation {

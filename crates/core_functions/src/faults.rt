@@ -30,7 +30,11 @@ pub(crate) fn divide_by_zero(alloc: Global) -> Result<Fault, AllocError>
 pub(crate) fn too_large(alloc: Global) -> Result<Fault, AllocError>
     ensures { IfOk result (λ f. failure_of f ≡ outcome.too_large) }
 {
-    fault(alloc, "java.lang.IllegalArgumentException", "Value too large")
+    fault(
+        alloc,
+        "java.lang.IllegalArgumentException",
+        "Value too large",
+    )
 }
 
 // `argument` is of a kind that the function does not take.
