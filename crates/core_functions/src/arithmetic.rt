@@ -1,26 +1,154 @@
 // Arithmetic on 64 signed bits.
+ghost use Rattle.std.specs.Prelude.{◌≡◌, ℤ, pos, length, true, SomeIff, FitsSigned, int_div, ◌<◌};
+ghost use Rattle.std.specs.Int.{w64, IsNonZero};
+ghost use Rattle.core_functions.specs.Names.{fits};
+ghost use Rattle.core_functions.specs.View.{Gives};
+ghost use Rattle.core_functions.specs.Arithmetic as meant;
+ghost use Rattle.core_functions.specs.Operation.{operation_of};
+
 use crate::application::ApplyError;
 use crate::faults::{divide_by_zero, integer_overflow};
+use crate::function::CoreFunction;
 use std::alloc::Global;
 
-// Folded from the left; 0 for none.
-pub(crate) fn sum(alloc: Global, integers: &[i64]) -> Result<i64, ApplyError> {
-    let mut total = 0i64;
+// What is folded from the left.
+#[derive(Clone, Copy)]
+enum Operation {
+    Add,
+    Subtract,
+    Multiply,
+    Maximum,
+    Minimum,
+}
+
+// The function at as many integers as it takes.
+#[tactic(auto, unfolding(crate::specs::Arithmetic::arithmetic))]
+pub(crate) fn arithmetic(
+    alloc: Global,
+    function: CoreFunction,
+    integers: &[i64],
+) -> Result<i64, ApplyError>
+    requires { fits function (length integers.now) ≡ true }
+    ensures { Gives (λ n. n) result (meant.arithmetic function integers.now) }
+{
+    match function {
+        CoreFunction::Add => fold(alloc, Operation::Add, 0, integers),
+        CoreFunction::Subtract => difference(alloc, integers),
+        CoreFunction::Multiply => fold(alloc, Operation::Multiply, 1, integers),
+        CoreFunction::Increment => operate(alloc, Operation::Add, integers[0], 1),
+        CoreFunction::Decrement => operate(alloc, Operation::Subtract, integers[0], 1),
+        CoreFunction::Quotient => quotient(alloc, integers[0], integers[1]),
+        CoreFunction::Remainder => remainder(alloc, integers[0], integers[1]),
+        CoreFunction::Modulo => modulo(alloc, integers[0], integers[1]),
+        CoreFunction::Maximum => fold_from_first(alloc, Operation::Maximum, integers),
+        CoreFunction::Minimum => fold_from_first(alloc, Operation::Minimum, integers),
+    }
+}
+
+#[tactic(auto, unfolding(crate::specs::Arithmetic::difference))]
+fn difference(alloc: Global, integers: &[i64]) -> Result<i64, ApplyError>
+    requires { 0 < length integers.now }
+    ensures { Gives (λ n. n) result (meant.difference integers.now) }
+{
+    if integers.len() == 1 {
+        let negated = integers[0].checked_neg();
+        return or_overflow(alloc, negated);
+    }
+    fold_from_first(alloc, Operation::Subtract, integers)
+}
+
+fn fold_from_first(alloc: Global, operation: Operation, integers: &[i64]) -> Result<i64, ApplyError>
+    requires { 0 < length integers.now }
+    ensures { Gives (λ n. n) result (meant.from_first (operation_of operation) integers.now) }
+{
+    fold(alloc, operation, integers[0], &integers[1..])
+}
+
+fn fold(
+    alloc: Global,
+    operation: Operation,
+    start: i64,
+    integers: &[i64],
+) -> Result<i64, ApplyError>
+    ensures { Gives (λ n. n) result (meant.folded (operation_of operation) start integers.now) }
+{
+    let mut total = start;
     for n in integers {
-        match total.checked_add(*n) {
-            Some(more) => total = more,
-            None => return Err(ApplyError::Fault(integer_overflow(alloc)?)),
-        }
+        total = operate(alloc, operation, total, *n)?;
     }
     Ok(total)
 }
 
-// Toward zero.
-pub(crate) fn quotient(alloc: Global, dividend: i64, divisor: i64) -> Result<i64, ApplyError> {
+fn operate(alloc: Global, operation: Operation, left: i64, right: i64) -> Result<i64, ApplyError>
+    ensures { Gives (λ n. n) result (operation_of operation left right) }
+{
+    match operation {
+        Operation::Add => or_overflow(alloc, left.checked_add(right)),
+        Operation::Subtract => or_overflow(alloc, left.checked_sub(right)),
+        Operation::Multiply => or_overflow(alloc, left.checked_mul(right)),
+        Operation::Maximum => Ok(left.max(right)),
+        Operation::Minimum => Ok(left.min(right)),
+    }
+}
+
+#[tactic(auto, unfolding(crate::specs::Arithmetic::quotient))]
+fn quotient(alloc: Global, dividend: i64, divisor: i64) -> Result<i64, ApplyError>
+    ensures { Gives (λ n. n) result (meant.quotient dividend divisor) }
+{
     if divisor == 0 {
         return Err(ApplyError::Fault(divide_by_zero(alloc)?));
     }
-    match dividend.checked_div(divisor) {
+    let divided = divide(dividend, divisor);
+    or_overflow(alloc, divided)
+}
+
+// Nothing where the quotient does not fit, which is at the least number by -1.
+fn divide(dividend: i64, divisor: i64) -> Option<i64>
+    requires { IsNonZero w64 divisor }
+    ensures { SomeIff result (FitsSigned w64 (int_div dividend divisor)) (int_div dividend divisor) }
+{
+    dividend.checked_div(divisor)
+}
+
+#[tactic(auto, unfolding(crate::specs::Arithmetic::remainder))]
+fn remainder(alloc: Global, dividend: i64, divisor: i64) -> Result<i64, ApplyError>
+    ensures { Gives (λ n. n) result (meant.remainder dividend divisor) }
+{
+    if divisor == 0 {
+        return Err(ApplyError::Fault(divide_by_zero(alloc)?));
+    }
+    Ok(dividend.wrapping_rem(divisor))
+}
+
+#[tactic(auto, unfolding(crate::specs::Arithmetic::modulo))]
+fn modulo(alloc: Global, dividend: i64, divisor: i64) -> Result<i64, ApplyError>
+    ensures { Gives (λ n. n) result (meant.modulo dividend divisor) }
+{
+    if divisor == 0 {
+        return Err(ApplyError::Fault(divide_by_zero(alloc)?));
+    }
+    let rest = dividend.wrapping_rem(divisor);
+    Ok(with_sign_of(divisor, rest))
+}
+
+// A remainder other than zero is given the divisor's sign.
+
+fn with_sign_of(divisor: i64, rest: i64) -> i64
+    ensures { result ≡ meant.with_sign_of divisor rest }
+{
+    if rest == 0 || (rest < 0) == (divisor < 0) {
+        rest
+    } else {
+        rest.wrapping_add(divisor)
+    }
+}
+
+// What a checked operation gave, or the fault where it gave nothing.
+
+fn or_overflow(alloc: Global, checked: Option<i64>) -> Result<i64, ApplyError>
+    ensures { (n : ℤ) → SomeIff checked (FitsSigned w64 n) n → Gives (λ n. n) result (meant.held n) }
+{
+    match checked {
         Some(n) => Ok(n),
         None => Err(ApplyError::Fault(integer_overflow(alloc)?)),
     }

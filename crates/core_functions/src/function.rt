@@ -1,13 +1,21 @@
 // Which functions there are, and how many arguments each takes.
 ghost use Rattle.std.specs.Prelude.{◌≡◌, Some, false, is_some};
 ghost use Rattle.std.specs.Option.{option_map_or};
-ghost use Rattle.core_functions.specs.Names.{function_named, fits};
+ghost use Rattle.core_functions.specs.Names.{function_named, name_of, fits};
 
 /// A function of the language that needs no store.
 #[derive(Clone, Copy, Debug, PartialEq, Eq)]
 pub enum CoreFunction {
     Add,
+    Subtract,
+    Multiply,
+    Increment,
+    Decrement,
     Quotient,
+    Remainder,
+    Modulo,
+    Maximum,
+    Minimum,
 }
 
 impl CoreFunction {
@@ -17,18 +25,35 @@ impl CoreFunction {
     {
         match name {
             "+" => Some(CoreFunction::Add),
+            "-" => Some(CoreFunction::Subtract),
+            "*" => Some(CoreFunction::Multiply),
+            "inc" => Some(CoreFunction::Increment),
+            "dec" => Some(CoreFunction::Decrement),
             "quot" => Some(CoreFunction::Quotient),
+            "rem" => Some(CoreFunction::Remainder),
+            "mod" => Some(CoreFunction::Modulo),
+            "max" => Some(CoreFunction::Maximum),
+            "min" => Some(CoreFunction::Minimum),
             _ => None,
         }
     }
 
     /// Its name in `clojure.core`.
     pub fn name(self) -> &'static str
-        ensures { function_named result.now ≡ Some self }
+        ensures text { result.now ≡ name_of self }
+        ensures known { function_named result.now ≡ Some self }
     {
         match self {
             CoreFunction::Add => "+",
+            CoreFunction::Subtract => "-",
+            CoreFunction::Multiply => "*",
+            CoreFunction::Increment => "inc",
+            CoreFunction::Decrement => "dec",
             CoreFunction::Quotient => "quot",
+            CoreFunction::Remainder => "rem",
+            CoreFunction::Modulo => "mod",
+            CoreFunction::Maximum => "max",
+            CoreFunction::Minimum => "min",
         }
     }
 
@@ -37,8 +62,14 @@ impl CoreFunction {
         ensures { result ≡ fits self arguments }
     {
         match self {
-            CoreFunction::Add => true,
-            CoreFunction::Quotient => arguments == 2,
+            CoreFunction::Add | CoreFunction::Multiply => true,
+            CoreFunction::Subtract | CoreFunction::Maximum | CoreFunction::Minimum => {
+                arguments >= 1
+            }
+            CoreFunction::Increment | CoreFunction::Decrement => arguments == 1,
+            CoreFunction::Quotient | CoreFunction::Remainder | CoreFunction::Modulo => {
+                arguments == 2
+            }
         }
     }
 }

@@ -8,6 +8,8 @@ mod application;
 mod arithmetic;
 mod faults;
 mod function;
+#[cfg(test)]
+mod tests;
 
 pub use application::{Applied, ApplyError, apply};
 pub use function::{CoreFunction, arity_fits, knows};

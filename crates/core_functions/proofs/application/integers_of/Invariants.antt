@@ -1,5 +1,10 @@
-use Rattle.std.proofs.Common.{◌≡◌, vec_len}
+use Rattle.std.proofs.Common.{◌≡◌, map, drop, vec_len}
+use Rattle.repl_values.specs.View.{view}
+use Rattle.core_functions.specs.Meaning.{integers_in}
+use Rattle.core_functions.proofs.Values.{with_front}
 use Rattle.core_functions.proofs.application.integers_of.Given as goal
 
 abbrev pub invariant-loop-argument : goal.invariant-loop-argument
-invariant-loop-argument l = vec_len l.integers ≡ l.argument-index
+invariant-loop-argument l =
+    (with_front l.integers.items (integers_in l.function (map view (drop l.argument-index l.args))) ≡ integers_in l.function (map view l.args))
+    × (vec_len l.integers ≡ l.argument-index)

@@ -1,0 +1,13 @@
+-- Integers among the arguments, and the limits.
+use Rattle.std.proofs.Common.{◌≡◌, ℕ, ℤ, List, [], ◌∷◌, ◌++◌, Result, Ok, Err, refl, sym, ap, ◌∙◌, append_assoc, map, drop}
+use Rattle.repl_values.specs.View.{view}
+use Rattle.repl_values.proofs.Views.{value_views}
+use Rattle.core_functions.specs.Outcome.{Failure, ◌>>=◌}
+use Rattle.core_functions.specs.Meaning.{integers_in}
+
+-- what was found before, and what is still found
+abbrev pub with_front : List ℤ → Result (List ℤ) Failure → Result (List ℤ) Failure
+with_front front (Ok ns) = Ok (front ++ ns)
+with_front front (Err f) = Err f
+
+pub ruleset seen = value_views

@@ -1,0 +1,84 @@
+-- Functions of integers. They have 64 signed bits: what does not fit is a fault, never a wrap.
+use Rattle.std.specs.Prelude.{ℕ, ℤ, pos, negsuc, ◌+ℤ◌, ◌-ℤ◌, ◌*ℤ◌, neg_ℤ, int_div, int_rem, int_lt, ◌^◌, ◌==◌, Bool, false, true, not, ◌&&◌, ◌||◌, nat_lt, List, [], ◌∷◌, length, drop, Result, Ok, Err, if◌then◌else◌, slice_index_or}
+use Rattle.std.specs.Int.{int_min, int_max}
+use Rattle.core_functions.specs.Outcome.{Failure, ◌>>=◌, integer_overflow, divide_by_zero}
+use Rattle.core_functions.specs.declared.function.CoreFunction.{CoreFunction}
+
+-- -(2 ^ 63) ≤ n < 2 ^ 63
+abbrev pub fits_64 : ℤ → Bool
+fits_64 (pos n) = nat_lt n (2 ^ 63)
+fits_64 (negsuc n) = nat_lt n (2 ^ 63)
+
+-- the integer, where 64 signed bits hold it
+unfoldable pub held : ℤ → Result ℤ Failure
+held n = if fits_64 n then Ok n else Err integer_overflow
+
+abbrev pub is_zero : ℤ → Bool
+is_zero (pos n) = n == 0
+is_zero (negsuc n) = false
+
+abbrev pub add : ℤ → ℤ → Result ℤ Failure
+add a b = held (a +ℤ b)
+
+abbrev pub subtract : ℤ → ℤ → Result ℤ Failure
+subtract a b = held (a -ℤ b)
+
+abbrev pub multiply : ℤ → ℤ → Result ℤ Failure
+multiply a b = held (a *ℤ b)
+
+-- toward zero
+unfoldable pub quotient : ℤ → ℤ → Result ℤ Failure
+quotient a b = if is_zero b then Err divide_by_zero else held (int_div a b)
+
+-- what is left of `a` when the quotient times `b` is taken away
+unfoldable pub remainder : ℤ → ℤ → Result ℤ Failure
+remainder a b = if is_zero b then Err divide_by_zero else Ok (int_rem a b)
+
+-- whether both are negative, or neither
+abbrev pub same_sign : ℤ → ℤ → Bool
+same_sign a b = if int_lt a (pos 0) then int_lt b (pos 0) else not (int_lt b (pos 0))
+
+-- a remainder other than zero is given the divisor's sign
+abbrev pub with_sign_of : ℤ → ℤ → ℤ
+with_sign_of b r = if is_zero r || same_sign r b then r else r +ℤ b
+
+unfoldable pub modulo : ℤ → ℤ → Result ℤ Failure
+modulo a b = if is_zero b then Err divide_by_zero else Ok (with_sign_of b (int_rem a b))
+
+abbrev pub maximum : ℤ → ℤ → Result ℤ Failure
+maximum a b = Ok (int_max a b)
+
+abbrev pub minimum : ℤ → ℤ → Result ℤ Failure
+minimum a b = Ok (int_min a b)
+
+-- from the left, up to the first failure
+abbrev pub folded : (ℤ → ℤ → Result ℤ Failure) → ℤ → List ℤ → Result ℤ Failure
+folded step total [] = Ok total
+folded step total (n ∷ ns) = step total n >>= λ next. folded step next ns
+
+-- an argument by its place
+abbrev pub first : List ℤ → ℤ
+first ns = slice_index_or ns 0 (pos 0)
+
+abbrev pub second : List ℤ → ℤ
+second ns = slice_index_or ns 1 (pos 0)
+
+-- from the first argument on
+abbrev pub from_first : (ℤ → ℤ → Result ℤ Failure) → List ℤ → Result ℤ Failure
+from_first step ns = folded step (first ns) (drop 1 ns)
+
+-- one argument is negated
+unfoldable pub difference : List ℤ → Result ℤ Failure
+difference ns = if length ns == 1 then held (neg_ℤ (first ns)) else from_first subtract ns
+
+unfoldable pub arithmetic : CoreFunction → List ℤ → Result ℤ Failure
+arithmetic CoreFunction.Add ns = folded add (pos 0) ns
+arithmetic CoreFunction.Subtract ns = difference ns
+arithmetic CoreFunction.Multiply ns = folded multiply (pos 1) ns
+arithmetic CoreFunction.Increment ns = add (first ns) (pos 1)
+arithmetic CoreFunction.Decrement ns = subtract (first ns) (pos 1)
+arithmetic CoreFunction.Quotient ns = quotient (first ns) (second ns)
+arithmetic CoreFunction.Remainder ns = remainder (first ns) (second ns)
+arithmetic CoreFunction.Modulo ns = modulo (first ns) (second ns)
+arithmetic CoreFunction.Maximum ns = from_first maximum ns
+arithmetic CoreFunction.Minimum ns = from_first minimum ns
