@@ -132,7 +132,6 @@ fn modulo(alloc: Global, dividend: i64, divisor: i64) -> Result<i64, ApplyError>
 }
 
 // A remainder other than zero is given the divisor's sign.
-
 fn with_sign_of(divisor: i64, rest: i64) -> i64
     ensures { result ≡ meant.with_sign_of divisor rest }
 {
