@@ -7,3 +7,7 @@ pub mod Decoders
 pub mod Prefix
 pub mod Spellings
 pub mod Unique
+pub mod Sound
+pub mod Complete
+pub mod Close
+pub mod Orders
