@@ -11,3 +11,6 @@ pub mod Sound
 pub mod Complete
 pub mod Close
 pub mod Orders
+pub mod Verdicts
+pub mod Appends
+pub mod Kept

@@ -71,7 +71,7 @@ Sound (names ps key fs) bytes = IsCut (cut (at_value ps key ∷ fs) between) × 
 Sound (ends t) bytes = (ps : Pairs) × (t ≡ dictionary ps) × ArePairs ps × (text t ≡ bytes)
 Sound stuck bytes = Unit {0}
 
-sound_at : (next : Next) (a b : List ℕ) → a ≡ b → Sound next a → Sound next b
+pub sound_at : (next : Next) (a b : List ℕ) → a ≡ b → Sound next a → Sound next b
 sound_at next a b e h = subst (λ x. Sound next x) e h
 
 -- the bound where there are no frames either

@@ -7,7 +7,7 @@ use Rattle.bencode_wire.specs.Cut.{Cut}
 use Rattle.bencode_wire.specs.Fault.{Rule}
 use Rattle.bencode_wire.specs.Machine.{Adding, bite, Judged, reads, whole, refuses, Reading, End, rests, faults, ended, with_message, onward, reading, start}
 use Rattle.bencode_wire.specs.Stream.{Ending, rest, fault, Ends, Streams}
-use Rattle.bencode_wire.proofs.Streams.{reading-append}
+use Rattle.bencode_wire.proofs.Appends.{reading-append}
 
 -- a reading of bytes that lie further on
 abbrev moved_end : ℕ → End → End

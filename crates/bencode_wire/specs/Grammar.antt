@@ -1,6 +1,6 @@
 -- A stream of messages (BEP 3), and where it breaks a rule. A message is one dictionary; a place is a byte's offset in the
 -- stream, from 0.
-use Rattle.std.specs.Prelude.{◌≡◌, ℕ, ◌+◌, ◌<◌, ◌⊎◌, List, [], ◌∷◌, ◌++◌, length}
+use Rattle.std.specs.Prelude.{◌≡◌, ℕ, ◌+◌, ◌<◌, ◌≤◌, ◌⊎◌, List, [], ◌∷◌, ◌++◌, length}
 use Rattle.bencode_wire.specs.Tree.{Tree, dictionary, Trees, no_trees, Pairs, no_pairs, HasKey}
 use Rattle.bencode_wire.specs.Spelling.{text, sorted, ArePairs, AreDistinct}
 use Rattle.bencode_wire.specs.Cut.{Frame, in_list, at_key, at_value, between, count, Cut, cut, cut_text, IsCut}
@@ -25,9 +25,9 @@ IsLarge limit c = (fs : List Frame) × (n : ℕ) × (c ≡ cut fs (count n)) × 
 abbrev pub IsEmpty : Frame → Type 0
 IsEmpty f = (f ≡ in_list no_trees) ⊎ (f ≡ at_key no_pairs)
 
--- the last byte opens nesting 65, the message being nesting 1
+-- the last byte opens a list or a dictionary inside 64 others or more
 abbrev pub IsDeep : Cut → Type 0
-IsDeep c = (f : Frame) × (fs : List Frame) × (c ≡ cut (f ∷ fs) between) × IsEmpty f × (length fs ≡ 64)
+IsDeep c = (f : Frame) × (fs : List Frame) × (c ≡ cut (f ∷ fs) between) × IsEmpty f × (64 ≤ length fs)
 
 -- the rules at the last byte of the bytes of a message, each tried where the earlier ones do not apply
 abbrev pub IsTooLong : ℕ → List ℕ → Type 0
@@ -43,7 +43,7 @@ Meets limit m too_deep = (IsTooLong limit m → ⊥) × (IsMalformed m → ⊥) 
 
 -- no rule applies at a byte of these
 abbrev pub IsClean : ℕ → List ℕ → Type 0
-IsClean limit m = (front : List ℕ) (b : ℕ) (more : List ℕ) (rule : Rule) → m ≡ front ++ b ∷ more → Meets limit (front ++ b ∷ []) rule → ⊥
+IsClean limit m = (front more : List ℕ) (rule : Rule) → m ≡ front ++ more → Meets limit front rule → ⊥
 
 -- the bytes spell a message, which a decoder hands out with its pairs sorted
 abbrev pub IsMessage : ℕ → Tree → List ℕ → Type 0
