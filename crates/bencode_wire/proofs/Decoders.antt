@@ -17,6 +17,7 @@ use Rattle.bencode_wire.specs.declared.cut.Reader.{Reader}
 use Rattle.bencode_wire.specs.declared.decoder.Decoder.{Decoder}
 use Rattle.bencode_wire.specs.declared.fault.WireFault.{WireFault}
 use Rattle.bencode_wire.specs.declared.fault.WireFault.TheVariants as wire
+use Rattle.bencode_wire.proofs.Kept.{Kept, kept_none, rest_of_kept, rest_kept}
 use Rattle.bencode_wire.proofs.Streams.{Found, FoundBy, found_behind, streams_join, streams_stay, rest_within, rest_is}
 
 -- a course at the end has nothing ahead
@@ -61,7 +62,7 @@ shift_fault limit p k bytes (t ∷ ms) rule at h =
 pub record Fed (limit : ℕ) (d : Decoder) (m piece : List ℕ) (course : Course) (c : Cut) : Type 0 where
   pub within : d.limit ≡ limit
   pub shown : rest_of d ≡ m
-  pub read : reading limit put_pair 0 start 0 m ≡ ended (rests (length m) c)
+  pub read : Kept limit m c
   pub reader : cut_view course.reader ≡ c
   pub begin : course.begin ≡ 0
   pub at : course.at ≡ length (rest_of d)
@@ -194,11 +195,10 @@ pub rests_of : (limit : ℕ) (d : Decoder) (all : List ℕ) (taken : List Tree) 
 rests_of limit d all taken none s = rests_at limit d all taken s.end none s.streams s.shows
 
 -- what is kept is a part of a message, as it was read
-pub rests_cut_of : (limit : ℕ) (d : Decoder) (all : List ℕ) (taken : List Tree) (s : Stands limit d all taken) (r : Rests limit d all taken)
-    → (c : Cut) × (reading d.limit put_pair 0 start 0 (rest_of d) ≡ ended (rests (length (rest_of d)) c))
-rests_cut_of limit d all taken s r =
-    let is = rest_is limit 0 all r.m (taken ++ ready_of d) r.streams in
-    (is.0, ap (λ l. reading l put_pair 0 start 0 (rest_of d)) s.within ∙ ap (λ x. reading limit put_pair 0 start 0 x) r.shown ∙ is.1 ∙ ap (λ x. ended (rests (length x) is.0)) (sym r.shown))
+rests_read : (limit : ℕ) (d : Decoder) (all : List ℕ) (taken : List Tree) (s : Stands limit d all taken) (r : Rests limit d all taken) (c : Cut) → Kept limit r.m c
+    → reading d.limit put_pair 0 start 0 (rest_of d) ≡ ended (rests (length (rest_of d)) c)
+rests_read limit d all taken s r c k =
+    ap (λ l. reading l put_pair 0 start 0 (rest_of d)) s.within ∙ ap (λ x. reading limit put_pair 0 start 0 x) r.shown ∙ k.reads ∙ ap (λ x. ended (rests (length x) c)) (sym r.shown)
 
 stays_at : (limit : ℕ) (d : Decoder) (all piece : List ℕ) (ms : List Tree) (end : Ending) (f : WireFault) → fault_of d ≡ Some f → Streams limit 0 all ms end → Shows d all end
     → (e : Ending) × Streams limit 0 (all ++ piece) ms e × Shows d (all ++ piece) e
@@ -233,7 +233,7 @@ pub record Resumed (limit : ℕ) (d : Decoder) (all : List ℕ) (taken : List Tr
   pub place : place_of d ≡ counted (length all - length m)
   pub shown : rest_of d ≡ m
   pub within : d.limit ≡ limit
-  pub read : reading limit put_pair 0 start 0 m ≡ ended (rests (length m) c)
+  pub read : Kept limit m c
   pub is : cut_view reader ≡ c
 
 pub resumed : (limit : ℕ) (old d : Decoder) (all : List ℕ) (taken : List Tree) (reader : Reader) → fault_of old ≡ None → Stands limit old all taken → IsUnchanged old d
@@ -241,17 +241,16 @@ pub resumed : (limit : ℕ) (old d : Decoder) (all : List ℕ) (taken : List Tre
     → Resumed limit d all taken reader
 resumed limit old d all taken reader none s same reads =
     let r = rests_of limit old all taken none s in
-    let cut = rests_cut_of limit old all taken s r in
-    let is = rest_is limit 0 all r.m (taken ++ ready_of old) r.streams in
+    let is = rest_kept limit r.m (rest_is limit 0 all r.m (taken ++ ready_of old) r.streams) in
     record {
       m = r.m;
-      c = cut.0;
+      c = is.0;
       streams = subst (λ ms. Streams limit 0 all (taken ++ ms) (rest r.m)) (sym same.ready) r.streams;
       place = same.place ∙ r.place;
       shown = same.rest ∙ r.shown;
       within = same.limit ∙ s.within;
-      read = ap (λ x. reading limit put_pair 0 start 0 x) (sym r.shown) ∙ ap (λ l. reading l put_pair 0 start 0 (rest_of old)) (sym s.within) ∙ cut.1 ∙ ap (λ x. ended (rests (length x) cut.0)) r.shown;
-      is = reads cut.0 s.in_step cut.1;
+      read = is.1;
+      is = reads is.0 s.in_step (rests_read limit old all taken s r is.0 is.1);
     }
 
 -- the course of a feed
@@ -292,7 +291,7 @@ in_step_none d e = subst (λ o. MatchOption o (Unit {0}) (λ r. reading d.limit 
 pub stands_new : (limit : ℕ) (d : Decoder) → d.limit ≡ limit → d.ready.items ≡ [] → rest_of d ≡ [] → place_of d ≡ 0 → fault_of d ≡ None → d.reader ≡ None → Stands limit d [] []
 stands_new limit d within ready none place sound fresh = record {
   end = rest [];
-  streams = subst (λ vs. Streams limit 0 [] (ready_view vs) (rest [])) (sym ready) ((start, refl), refl);
+  streams = subst (λ vs. Streams limit 0 [] (ready_view vs) (rest [])) (sym ready) (rest_of_kept limit [] start (kept_none limit), refl);
   shows = (sound, none, place);
   within = within;
   in_step = in_step_none d fresh;

@@ -6,7 +6,7 @@ use Rattle.bencode_wire.specs.Spelling.{text, pairs_text, ArePairs, sorted, put_
 use Rattle.bencode_wire.specs.Cut.{Frame, at_value, Token, between, Cut, cut, cut_text, IsCut}
 use Rattle.bencode_wire.specs.Fault.{Rule, malformed, too_long, too_deep}
 use Rattle.bencode_wire.specs.Machine.{Next, goes, opens, names, ends, stuck, Judged, reads, whole, refuses, judged, checked, is_large_token, start, bite, Reading, End, rests, faults, ended, onward, reading}
-use Rattle.bencode_wire.specs.Grammar.{Meets, IsClean, IsMessage, IsRest}
+use Rattle.bencode_wire.specs.Stream.{Meets, IsClean, IsMessage, IsRest}
 use Rattle.bencode_wire.proofs.Sound.{Sound}
 use Rattle.bencode_wire.proofs.Complete.{run, run-append, run-stuck, run-message}
 use Rattle.bencode_wire.proofs.Close.{close, IsFront}

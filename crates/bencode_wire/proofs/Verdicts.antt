@@ -6,7 +6,7 @@ use Rattle.bencode_wire.specs.Spelling.{text, ArePairs, sorted, put_pair}
 use Rattle.bencode_wire.specs.Cut.{Frame, in_list, at_key, at_value, Token, between, after_i, after_minus, digits, count, part, Cut, cut, cut_text, IsCut}
 use Rattle.bencode_wire.specs.Fault.{Rule, malformed, too_long, too_deep}
 use Rattle.bencode_wire.specs.Machine.{Next, goes, opens, names, ends, stuck, step_run, Judged, reads, whole, refuses, judged, checked, bite}
-use Rattle.bencode_wire.specs.Grammar.{Begins, BreaksOff, RepeatsKey, IsLarge, IsEmpty, IsDeep, IsTooLong, IsMalformed, Meets}
+use Rattle.bencode_wire.specs.Stream.{Begins, BreaksOff, RepeatsKey, IsLarge, IsEmpty, IsDeep, IsTooLong, IsMalformed, Meets}
 use Rattle.bencode_wire.proofs.Sound.{Sound, sound_at, step-sound}
 use Rattle.bencode_wire.proofs.Complete.{after, run, run-append, run-stuck, next_of, run-cut, run-message}
 use Rattle.bencode_wire.proofs.Close.{close}

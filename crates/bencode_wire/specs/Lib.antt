@@ -6,7 +6,6 @@ pub mod Fronts
 pub mod Cut
 pub mod Fault
 pub mod Stream
-pub mod Grammar
 pub mod Machine
 pub mod Sign
 pub mod Reader
