@@ -1,16 +1,16 @@
 -- Bytes of a message that are clean, and the cut as which the machine holds them.
 use Rattle.std.proofs.Common.{◌≡◌, ℕ, suc, ◌+◌, ◌-◌, ◌<◌, ◌≤◌, ◌⊎◌, inl, inr, Bool, true, false, cond, nat_lt, nat_le, List, [], ◌∷◌, ◌++◌, length, refl, sym, ap, ◌∙◌, subst, append_assoc, append-nil, length-append, arith}
 use Rattle.std.proofs.lemmas.Bool.Decides.{nat_tests}
-use Rattle.bencode_wire.specs.Tree.{Tree, dictionary, Pairs, no_pairs, has_key}
+use Rattle.bencode_wire.specs.Tree.{Tree, dictionary, Pairs, no_pairs, pair, no_trees, tree, has_key}
 use Rattle.bencode_wire.specs.Spelling.{text, pairs_text, ArePairs, sorted, put_pair}
-use Rattle.bencode_wire.specs.Cut.{Frame, at_value, Token, between, Cut, cut, cut_text, IsCut}
+use Rattle.bencode_wire.specs.Cut.{Frame, at_value, Token, between, Cut, cut, cut_text, IsCut, sorted_cut, in_list, at_key, after_i, after_minus, digits, count, part}
 use Rattle.bencode_wire.specs.Fault.{Rule, malformed, too_long, too_deep}
 use Rattle.bencode_wire.specs.Machine.{Next, goes, opens, names, ends, stuck, Judged, reads, whole, refuses, judged, checked, is_large_token, start, bite, Reading, End, rests, faults, ended, onward, reading}
 use Rattle.bencode_wire.specs.Stream.{Meets, IsClean, IsMessage, IsRest}
 use Rattle.bencode_wire.proofs.Sound.{Sound}
-use Rattle.bencode_wire.proofs.Complete.{run, run-append, run-stuck, run-message}
+use Rattle.bencode_wire.proofs.Complete.{run, run-append, run-stuck, run-message, next_of, resting, run-cut}
 use Rattle.bencode_wire.proofs.Close.{close, IsFront}
-use Rattle.bencode_wire.proofs.Orders.{sorted_cut, sorted_judged}
+use Rattle.bencode_wire.proofs.Orders.{sorted_judged}
 use Rattle.bencode_wire.proofs.Appends.{reading-append}
 use Rattle.bencode_wire.proofs.Verdicts.{read, read-sound, verdict, meets_verdict, verdict_meets, At, bite_at}
 
@@ -244,3 +244,35 @@ message_read limit t m h =
     ap (λ x. reading limit put_pair 0 start 0 x) is
     ∙ reads_more limit front k.0 101 (whole (sorted (dictionary ps))) k.1.reads (kept_bite limit front k.0 101 k.1 ∙ ap sorted_judged v)
     ∙ ap (λ u. record { messages = u ∷ []; end = rests 0 start }) (sym h.3)
+
+cut_at : (next : Next) (d : Cut) (m : List ℕ) → At next d → Sound next m → IsCut d × (cut_text d ≡ m)
+cut_at (goes fs token) d m h s = subst (λ x. IsCut x × (cut_text x ≡ m)) (sym h) s
+cut_at (opens f fs) d m h s = subst (λ x. IsCut x × (cut_text x ≡ m)) (sym h) (s.0, s.1)
+cut_at (names ps key fs) d m h s = subst (λ x. IsCut x × (cut_text x ≡ m)) (sym h) s
+cut_at (ends t) d m h s = absurd h
+cut_at stuck d m h s = absurd h
+
+-- the machine holds the cut whose text has come, its pairs sorted
+pub kept_cut : (limit : ℕ) (m : List ℕ) (c : Cut) → Kept limit m c → (d : Cut) × IsCut d × (cut_text d ≡ m) × (c ≡ sorted_cut d)
+kept_cut limit m c k = let h = cut_at (read m) k.inner m k.at (read-sound m) in (k.inner, h.0, h.1, k.is)
+
+resting_at : (f : Frame) (fs : List Frame) (x : Cut) → At (resting f fs) x → x ≡ cut (f ∷ fs) between
+resting_at (in_list no_trees) fs x h = h
+resting_at (in_list (tree t ts)) fs x h = h
+resting_at (at_key no_pairs) fs x h = h
+resting_at (at_key (pair k t ps)) fs x h = h
+resting_at (at_value ps key) fs x h = h
+
+at_next_of : (d x : Cut) → At (next_of d) x → x ≡ d
+at_next_of (cut [] between) x h = h
+at_next_of (cut (f ∷ fs) between) x h = resting_at f fs x h
+at_next_of (cut fs after_i) x h = h
+at_next_of (cut fs after_minus) x h = h
+at_next_of (cut fs (digits negative n)) x h = h
+at_next_of (cut fs (count n)) x h = h
+at_next_of (cut fs (part bytes left)) x h = h
+
+-- and no other
+pub kept_is : (limit : ℕ) (m : List ℕ) (c d : Cut) → Kept limit m c → IsCut d → cut_text d ≡ m → c ≡ sorted_cut d
+kept_is limit m c d k h e =
+    k.is ∙ ap sorted_cut (at_next_of d k.inner (subst (λ next. At next k.inner) (ap read (sym e) ∙ run-cut d h) k.at))

@@ -7,24 +7,12 @@ use Rattle.std.specs.Cmp.Lexicographic.{slice_cmp}
 use Rattle.std.specs.Ordering.{match_ordering}
 use Rattle.bencode_wire.specs.Tree.{Tree, integer, string, list, dictionary, Trees, no_trees, tree, Pairs, no_pairs, pair, add_tree, add_pair, has_key}
 use Rattle.bencode_wire.specs.Spelling.{put_pair, put_pairs, sorted, sorted_trees}
-use Rattle.bencode_wire.specs.Cut.{Frame, in_list, at_key, at_value, Token, between, after_i, after_minus, digits, count, part, Cut, cut, greatest}
+use Rattle.bencode_wire.specs.Cut.{Frame, in_list, at_key, at_value, Token, between, after_i, after_minus, digits, count, part, Cut, cut, greatest, sorted_frame, sorted_frames, sorted_cut}
 use Rattle.bencode_wire.specs.Sign.{sign_of}
 use Rattle.bencode_wire.specs.Fault.{Rule, malformed, too_long, too_deep}
 use Rattle.bencode_wire.specs.declared.sign.Sign.{Sign}
 use Rattle.bencode_wire.specs.declared.sign.Sign.TheVariants as signs
 use Rattle.bencode_wire.specs.Machine.{Next, goes, opens, names, ends, stuck, put, put_key, close, begin, begin_value, begin_item, begin_key, begin_message, integer_open, integer_minus, more_digits, integer_digits, more_length, open_string, length_digits, text_bytes, signed, step_run, Judged, reads, whole, refuses, judged, checked, is_large_token}
-
-abbrev pub sorted_frame : Frame → Frame
-sorted_frame (in_list ts) = in_list (sorted_trees ts)
-sorted_frame (at_key ps) = at_key (put_pairs no_pairs ps)
-sorted_frame (at_value ps key) = at_value (put_pairs no_pairs ps) key
-
-abbrev pub sorted_frames : List Frame → List Frame
-sorted_frames [] = []
-sorted_frames (f ∷ fs) = sorted_frame f ∷ sorted_frames fs
-
-abbrev pub sorted_cut : Cut → Cut
-sorted_cut (cut fs token) = cut (sorted_frames fs) token
 
 abbrev sorted_next : Next → Next
 sorted_next (goes fs token) = goes (sorted_frames fs) token

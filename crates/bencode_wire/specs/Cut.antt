@@ -1,8 +1,8 @@
 -- A spelling that breaks off at some byte: the lists and dictionaries that are open, the innermost first, and the part of
 -- a token that has come.
 use Rattle.std.specs.Prelude.{◌≡◌, ℕ, ◌+◌, ◌<◌, ◌≤◌, ◌^◌, ◌⊎◌, Bool, true, false, List, [], ◌∷◌, ◌++◌, length, codes, decimal}
-use Rattle.bencode_wire.specs.Tree.{Trees, Pairs}
-use Rattle.bencode_wire.specs.Spelling.{trees_text, pairs_text, string_text, AreSpellable, ArePairs, IsString}
+use Rattle.bencode_wire.specs.Tree.{Trees, Pairs, no_pairs}
+use Rattle.bencode_wire.specs.Spelling.{trees_text, pairs_text, string_text, AreSpellable, ArePairs, IsString, sorted_trees, put_pairs}
 
 pub data Frame : Type 0 where
   -- a list, with the values that it holds
@@ -67,7 +67,6 @@ TakesKey (in_list ts ∷ fs) = ⊥
 TakesKey (at_key ps ∷ fs) = ArePairs ps × IfAny fs (TakesValue fs)
 TakesKey (at_value ps key ∷ fs) = ⊥
 
-
 -- the greatest number behind no minus, and behind one
 abbrev pub greatest : Bool → ℕ
 greatest false = 9223372036854775807
@@ -82,3 +81,16 @@ IsCut (cut fs (digits false n)) = TakesValue fs × (n ≤ greatest false)
 IsCut (cut fs (digits true n)) = TakesValue fs × (0 < n) × (n ≤ greatest true)
 IsCut (cut fs (count n)) = (TakesValue fs ⊎ TakesKey fs) × (n < 2 ^ 64)
 IsCut (cut fs (part bytes left)) = (TakesValue fs ⊎ TakesKey fs) × (0 < left) × (length bytes + left < 2 ^ 64)
+
+-- a cut with the pairs that it holds put in by their keys
+abbrev pub sorted_frame : Frame → Frame
+sorted_frame (in_list ts) = in_list (sorted_trees ts)
+sorted_frame (at_key ps) = at_key (put_pairs no_pairs ps)
+sorted_frame (at_value ps key) = at_value (put_pairs no_pairs ps) key
+
+abbrev pub sorted_frames : List Frame → List Frame
+sorted_frames [] = []
+sorted_frames (f ∷ fs) = sorted_frame f ∷ sorted_frames fs
+
+abbrev pub sorted_cut : Cut → Cut
+sorted_cut (cut fs token) = cut (sorted_frames fs) token
