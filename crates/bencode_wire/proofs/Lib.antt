@@ -14,3 +14,4 @@ pub mod Orders
 pub mod Verdicts
 pub mod Appends
 pub mod Kept
+pub mod Within
