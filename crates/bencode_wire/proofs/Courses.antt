@@ -3,11 +3,11 @@ use Rattle.std.proofs.Common.{◌≡◌, ℕ, ◌+◌, ◌-◌, ◌<◌, ◌≤�
 use Rattle.std.proofs.lemmas.List.{map-append}
 use Rattle.bencode_wire.specs.Spelling.{put_pair}
 use Rattle.bencode_wire.specs.Cut.{Frame, Token, Cut, cut}
-use Rattle.bencode_wire.specs.Fault.{Rule, malformed, too_long, too_deep}
+use Rattle.bencode_wire.specs.Fault.{Rule, malformed, too_long, too_deep, counted, fault_at}
 use Rattle.bencode_wire.specs.Machine.{step_run, Judged, judged, checked, reads, whole, Reading, ended, faults, onward, reading, start, TakesRun}
 use Rattle.bencode_wire.specs.Reader.{Gives}
 use Rattle.bencode_wire.specs.Refusals.{refusal_at}
-use Rattle.bencode_wire.specs.Course.{counted, fault_at, fault_of_end, ahead, ready_view, Advances, Faults, Continues}
+use Rattle.bencode_wire.specs.Course.{fault_of_end, ahead, ready_view, Advances, Faults, Continues}
 use Rattle.bencode_wire.specs.View.{view}
 use Rattle.bencode_wire.specs.declared.ben.Ben.{Ben}
 use Rattle.bencode_wire.specs.declared.cut.Course.{Course}

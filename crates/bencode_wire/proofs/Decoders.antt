@@ -5,18 +5,19 @@ use Rattle.std.proofs.Math.Seq.{drop-append_seam}
 use Rattle.bencode_wire.specs.Tree.{Tree}
 use Rattle.bencode_wire.specs.Spelling.{put_pair}
 use Rattle.bencode_wire.specs.Cut.{Cut}
-use Rattle.bencode_wire.specs.Fault.{Rule}
+use Rattle.bencode_wire.specs.Fault.{Rule, counted, fault_at}
 use Rattle.bencode_wire.specs.Machine.{Reading, End, rests, faults, ended, reading, start}
 use Rattle.bencode_wire.specs.Reader.{cut_view}
-use Rattle.bencode_wire.specs.Stream.{Ending, rest, fault, Streams}
-use Rattle.bencode_wire.specs.Course.{counted, fault_at, fault_of_end, ahead, ready_view, Advances, Faults, Continues}
-use Rattle.bencode_wire.specs.Decoder.{ready_of, rest_of, place_of, fault_of, Shows, IsUnchanged, IsInStep, Stands}
+use Rattle.bencode_wire.specs.Stream.{Ending, rest, fault, IsRest, Streams}
+use Rattle.bencode_wire.specs.Course.{fault_of_end, ahead, ready_view, Advances, Faults, Continues}
+use Rattle.bencode_wire.specs.Decoder.{ready_of, rest_of, place_of, fault_of, Shows, IsUnchanged, Holds, IsInStep, Stands}
 use Rattle.bencode_wire.specs.declared.ben.Ben.{Ben}
 use Rattle.bencode_wire.specs.declared.cut.Course.{Course}
 use Rattle.bencode_wire.specs.declared.cut.Reader.{Reader}
 use Rattle.bencode_wire.specs.declared.decoder.Decoder.{Decoder}
 use Rattle.bencode_wire.specs.declared.fault.WireFault.{WireFault}
 use Rattle.bencode_wire.specs.declared.fault.WireFault.TheVariants as wire
+use Rattle.bencode_wire.proofs.Kept.{Kept, kept_none, rest_of_kept, rest_kept, kept_cut, kept_is}
 use Rattle.bencode_wire.proofs.Streams.{Found, FoundBy, found_behind, streams_join, streams_stay, rest_within, rest_is}
 
 -- a course at the end has nothing ahead
@@ -61,7 +62,7 @@ shift_fault limit p k bytes (t ∷ ms) rule at h =
 pub record Fed (limit : ℕ) (d : Decoder) (m piece : List ℕ) (course : Course) (c : Cut) : Type 0 where
   pub within : d.limit ≡ limit
   pub shown : rest_of d ≡ m
-  pub read : reading limit put_pair 0 start 0 m ≡ ended (rests (length m) c)
+  pub read : Kept limit m c
   pub reader : cut_view course.reader ≡ c
   pub begin : course.begin ≡ 0
   pub at : course.at ≡ length (rest_of d)
@@ -121,10 +122,10 @@ feed_rest limit old new all taken m piece course next c streams place fed adv is
     let messages : (taken ++ ready_of old) ++ now.messages ≡ taken ++ ready_of new =
     append_assoc taken (ready_of old) now.messages
     ∙ ap (λ ms. taken ++ ms) (sym adv.messages ∙ ap (λ r. ready_view new.ready.items ++ r.messages) over ∙ append-nil (ready_of new)) in
-    let long : length (rest_of new) ≡ next.at - next.begin = ap length now_rest ∙ found.3 in
-    let kept : reading new.limit put_pair 0 start 0 (rest_of new) ≡ ended (rests (length (rest_of new)) (cut_view next.reader)) =
-    ap (λ l. reading l put_pair 0 start 0 (rest_of new)) (is.limit ∙ fed.within)
-    ∙ ap (λ x. reading limit put_pair 0 start 0 x) now_rest ∙ found.4 ∙ ap (λ k. ended (rests k (cut_view next.reader))) (sym long) in
+    let k = rest_kept limit left (rest_is limit 0 (m ++ piece) left now.messages found.5) in
+    let same : k.0 ≡ cut_view next.reader = same_cut _ _ k.0 (cut_view next.reader) _ k.1.reads found.4 in
+    let held = kept_cut limit left k.0 k.1 in
+    let kept : Holds (rest_of new) next.reader = (held.0, held.1, held.2 ∙ sym now_rest, sym same ∙ held.3) in
     record {
       end = rest left;
       streams = subst (λ ms. Streams limit 0 (all ++ piece) ms (rest left)) messages
@@ -132,7 +133,7 @@ feed_rest limit old new all taken m piece course next c streams place fed adv is
           (shift_rest limit 0 (0 + (length all - length m)) (m ++ piece) now.messages left found.5));
       shows = (is.fault, now_rest, place_now);
       within = is.limit ∙ fed.within;
-      in_step = subst (λ r. MatchOption r (Unit {0}) (λ r. reading new.limit put_pair 0 start 0 (rest_of new) ≡ ended (rests (length (rest_of new)) (cut_view r)))) (sym is.reader) kept;
+      in_step = subst (λ r. MatchOption r (Unit {0}) (Holds (rest_of new))) (sym is.reader) kept;
     }
 
 -- the decoder after a feed that met a rule
@@ -160,7 +161,7 @@ broken_end limit old new all taken m piece f ms (faults rule i) streams place wi
           (streams_join limit 0 all m piece (taken ++ ready_of old) ms (fault rule (k + i)) streams moved);
       shows = b.fault ∙ sym is ∙ ap (λ p. Some (fault_at rule p)) counts;
       within = b.limit ∙ within;
-      in_step = subst (λ r. MatchOption r (Unit {0}) (λ r. reading new.limit put_pair 0 start 0 (rest_of new) ≡ ended (rests (length (rest_of new)) (cut_view r)))) (sym b.reader) tt;
+      in_step = subst (λ r. MatchOption r (Unit {0}) (Holds (rest_of new))) (sym b.reader) tt;
     }
 
 feed_breaks : (limit : ℕ) (old new : Decoder) (all : List ℕ) (taken : List Tree) (m piece : List ℕ) (course : Course) (c : Cut) (f : WireFault)
@@ -194,11 +195,10 @@ pub rests_of : (limit : ℕ) (d : Decoder) (all : List ℕ) (taken : List Tree) 
 rests_of limit d all taken none s = rests_at limit d all taken s.end none s.streams s.shows
 
 -- what is kept is a part of a message, as it was read
-pub rests_cut_of : (limit : ℕ) (d : Decoder) (all : List ℕ) (taken : List Tree) (s : Stands limit d all taken) (r : Rests limit d all taken)
-    → (c : Cut) × (reading d.limit put_pair 0 start 0 (rest_of d) ≡ ended (rests (length (rest_of d)) c))
-rests_cut_of limit d all taken s r =
-    let is = rest_is limit 0 all r.m (taken ++ ready_of d) r.streams in
-    (is.0, ap (λ l. reading l put_pair 0 start 0 (rest_of d)) s.within ∙ ap (λ x. reading limit put_pair 0 start 0 x) r.shown ∙ is.1 ∙ ap (λ x. ended (rests (length x) is.0)) (sym r.shown))
+rests_read : (limit : ℕ) (d : Decoder) (all : List ℕ) (taken : List Tree) (s : Stands limit d all taken) (r : Rests limit d all taken) (c : Cut) → Kept limit r.m c
+    → reading d.limit put_pair 0 start 0 (rest_of d) ≡ ended (rests (length (rest_of d)) c)
+rests_read limit d all taken s r c k =
+    ap (λ l. reading l put_pair 0 start 0 (rest_of d)) s.within ∙ ap (λ x. reading limit put_pair 0 start 0 x) r.shown ∙ k.reads ∙ ap (λ x. ended (rests (length x) c)) (sym r.shown)
 
 stays_at : (limit : ℕ) (d : Decoder) (all piece : List ℕ) (ms : List Tree) (end : Ending) (f : WireFault) → fault_of d ≡ Some f → Streams limit 0 all ms end → Shows d all end
     → (e : Ending) × Streams limit 0 (all ++ piece) ms e × Shows d (all ++ piece) e
@@ -233,25 +233,26 @@ pub record Resumed (limit : ℕ) (d : Decoder) (all : List ℕ) (taken : List Tr
   pub place : place_of d ≡ counted (length all - length m)
   pub shown : rest_of d ≡ m
   pub within : d.limit ≡ limit
-  pub read : reading limit put_pair 0 start 0 m ≡ ended (rests (length m) c)
+  pub read : Kept limit m c
   pub is : cut_view reader ≡ c
 
 pub resumed : (limit : ℕ) (old d : Decoder) (all : List ℕ) (taken : List Tree) (reader : Reader) → fault_of old ≡ None → Stands limit old all taken → IsUnchanged old d
-    → ((c : Cut) → IsInStep old → reading old.limit put_pair 0 start 0 (rest_of old) ≡ ended (rests (length (rest_of old)) c) → cut_view reader ≡ c)
+    → ((c : Cut) → IsInStep old → IsRest old.limit (rest_of old) → reading old.limit put_pair 0 start 0 (rest_of old) ≡ ended (rests (length (rest_of old)) c) → cut_view reader ≡ c)
     → Resumed limit d all taken reader
 resumed limit old d all taken reader none s same reads =
     let r = rests_of limit old all taken none s in
-    let cut = rests_cut_of limit old all taken s r in
-    let is = rest_is limit 0 all r.m (taken ++ ready_of old) r.streams in
+    let part = rest_is limit 0 all r.m (taken ++ ready_of old) r.streams in
+    let is = rest_kept limit r.m part in
+    let part_of : IsRest old.limit (rest_of old) = subst (λ l. IsRest l (rest_of old)) (sym s.within) (subst (λ x. IsRest limit x) (sym r.shown) part) in
     record {
       m = r.m;
-      c = cut.0;
+      c = is.0;
       streams = subst (λ ms. Streams limit 0 all (taken ++ ms) (rest r.m)) (sym same.ready) r.streams;
       place = same.place ∙ r.place;
       shown = same.rest ∙ r.shown;
       within = same.limit ∙ s.within;
-      read = ap (λ x. reading limit put_pair 0 start 0 x) (sym r.shown) ∙ ap (λ l. reading l put_pair 0 start 0 (rest_of old)) (sym s.within) ∙ cut.1 ∙ ap (λ x. ended (rests (length x) cut.0)) r.shown;
-      is = reads cut.0 s.in_step cut.1;
+      read = is.1;
+      is = reads is.0 s.in_step part_of (rests_read limit old all taken s r is.0 is.1);
     }
 
 -- the course of a feed
@@ -281,18 +282,25 @@ resumes limit place bytes course next old new c fresh begin at done adv read =
     sym (ap (λ r. r.end) (ahead_done limit bytes next done)) ∙ adv.end ∙ ap (λ r. r.end) (now ∙ read) in
     cc
 
+-- what the reader holds is what the machine makes of the bytes
+pub held : (limit : ℕ) (m : List ℕ) (r : Reader) (c : Cut) → Holds m r → IsRest limit m → reading limit put_pair 0 start 0 m ≡ ended (rests (length m) c) → cut_view r ≡ c
+held limit m r c h part e =
+    let k = rest_kept limit m part in
+    let same : k.0 ≡ c = same_cut _ _ k.0 c _ k.1.reads e in
+    h.3 ∙ sym (kept_is limit m k.0 h.0 k.1 h.1 h.2) ∙ same
+
 pub in_step_some : (d : Decoder) (r : Reader) → d.reader ≡ Some r → IsInStep d
-    → reading d.limit put_pair 0 start 0 (rest_of d) ≡ ended (rests (length (rest_of d)) (cut_view r))
-in_step_some d r e kept = subst (λ o. MatchOption o (Unit {0}) (λ r. reading d.limit put_pair 0 start 0 (rest_of d) ≡ ended (rests (length (rest_of d)) (cut_view r)))) e kept
+    → Holds (rest_of d) r
+in_step_some d r e kept = subst (λ o. MatchOption o (Unit {0}) (Holds (rest_of d))) e kept
 
 pub in_step_none : (d : Decoder) → d.reader ≡ None → IsInStep d
-in_step_none d e = subst (λ o. MatchOption o (Unit {0}) (λ r. reading d.limit put_pair 0 start 0 (rest_of d) ≡ ended (rests (length (rest_of d)) (cut_view r)))) (sym e) tt
+in_step_none d e = subst (λ o. MatchOption o (Unit {0}) (Holds (rest_of d))) (sym e) tt
 
 -- before any byte
 pub stands_new : (limit : ℕ) (d : Decoder) → d.limit ≡ limit → d.ready.items ≡ [] → rest_of d ≡ [] → place_of d ≡ 0 → fault_of d ≡ None → d.reader ≡ None → Stands limit d [] []
 stands_new limit d within ready none place sound fresh = record {
   end = rest [];
-  streams = subst (λ vs. Streams limit 0 [] (ready_view vs) (rest [])) (sym ready) ((start, refl), refl);
+  streams = subst (λ vs. Streams limit 0 [] (ready_view vs) (rest [])) (sym ready) (rest_of_kept limit [] start (kept_none limit), refl);
   shows = (sound, none, place);
   within = within;
   in_step = in_step_none d fresh;

@@ -7,3 +7,11 @@ pub mod Decoders
 pub mod Prefix
 pub mod Spellings
 pub mod Unique
+pub mod Sound
+pub mod Complete
+pub mod Close
+pub mod Orders
+pub mod Verdicts
+pub mod Appends
+pub mod Kept
+pub mod Within

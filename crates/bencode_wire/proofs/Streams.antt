@@ -5,37 +5,9 @@ use Rattle.bencode_wire.specs.Spelling.{put_pair}
 use Rattle.bencode_wire.specs.Cut.{Cut}
 use Rattle.bencode_wire.specs.Fault.{Rule}
 use Rattle.bencode_wire.specs.Machine.{Adding, bite, Judged, reads, whole, refuses, Reading, End, rests, faults, ended, onward, reading, start}
-use Rattle.bencode_wire.specs.Stream.{IsMessage, Ending, rest, fault, IsRest, Breaks, Streams}
-
-same_reads : (limit : ℕ) (add : Adding) (a b : ℕ) (c d : Cut) (i j : ℕ) (bs : List ℕ) → a ≡ b → c ≡ d → i ≡ j → reading limit add a c i bs ≡ reading limit add b d j bs
-same_reads limit add a b c d i j bs e f g =
-    ap (λ k. reading limit add k c i bs) e ∙ ap (λ k. reading limit add b k i bs) f ∙ ap (λ k. reading limit add b d k bs) g
-
-rests_before : (a b : ℕ) (c d : Cut) → rests a c ≡ rests b d → a ≡ b
-rests_before a b c d e = cc
-
-rests_cut : (a b : ℕ) (c d : Cut) → rests a c ≡ rests b d → c ≡ d
-rests_cut a b c d e = cc
-
-onward-append : (limit : ℕ) (add : Adding) (j : Judged) (before at n : ℕ) (d : Cut) (xs ys : List ℕ)
-    → onward j at (λ next. reading limit add (before + 1) next (at + 1) xs) (reading limit add 0 start (at + 1) xs) ≡ ended (rests n d)
-    → ((next : Cut) → reading limit add (before + 1) next (at + 1) xs ≡ ended (rests n d)
-    → reading limit add (before + 1) next (at + 1) (xs ++ ys) ≡ reading limit add n d (at + 1 + length xs) ys)
-    → onward j at (λ next. reading limit add (before + 1) next (at + 1) (xs ++ ys)) (reading limit add 0 start (at + 1) (xs ++ ys)) ≡ reading limit add n d (at + suc (length xs)) ys
-onward-append limit add (reads next) before at n d xs ys e more =
-    more next e ∙ same_reads limit add n n d d (at + 1 + length xs) (at + suc (length xs)) ys refl refl (omega arith)
-onward-append limit add (whole t) before at n d xs ys e more = let none : t ∷ (reading limit add 0 start (at + 1) xs).messages ≡ [] = ap (λ r. r.messages) e in absurd (cc)
-onward-append limit add (refuses rule) before at n d xs ys e more = let other : faults rule at ≡ rests n d = ap (λ r. r.end) e in absurd (cc)
-
--- where bytes are part of a message, reading goes on from what they are read as
-pub reading-append : (limit : ℕ) (add : Adding) (before : ℕ) (c : Cut) (at n : ℕ) (d : Cut) (xs ys : List ℕ)
-    → reading limit add before c at xs ≡ ended (rests n d)
-    → reading limit add before c at (xs ++ ys) ≡ reading limit add n d (at + length xs) ys
-reading-append limit add before c at n d [] ys e =
-    let same : rests before c ≡ rests n d = ap (λ r. r.end) e in
-    same_reads limit add before n c d at (at + 0) ys (rests_before before n c d same) (rests_cut before n c d same) (omega arith)
-reading-append limit add before c at n d (b ∷ xs) ys e =
-    onward-append limit add (bite limit add before c (b ∷ [])) before at n d xs ys e (λ next h. reading-append limit add (before + 1) next (at + 1) n d xs ys h)
+use Rattle.bencode_wire.proofs.Appends.{same_reads, reading-append}
+use Rattle.bencode_wire.specs.Stream.{Meets, IsMessage, Ending, rest, fault, IsRest, Streams}
+use Rattle.bencode_wire.proofs.Kept.{Kept, kept_none, kept_reads, kept_whole, kept_refuses, rest_of_kept}
 
 -- what a reading of all bytes of a stream from a place on has found
 abbrev pub Found : ℕ → ℕ → List ℕ → List Tree → End → Type 0
@@ -53,49 +25,38 @@ abbrev pub FoundBy : ℕ → ℕ → List ℕ → Reading → Type 0
 FoundBy limit place bytes r = Found limit place bytes r.messages r.end
 
 found_on : (limit place : ℕ) (m : List ℕ) (b : ℕ) (bs : List ℕ) (c : Cut) (j : Judged)
-    → reading limit put_pair 0 start 0 m ≡ ended (rests (length m) c)
+    → Kept limit m c
     → bite limit put_pair (length m) c (b ∷ []) ≡ j
-    → ((next : Cut) → reading limit put_pair 0 start 0 (m ++ b ∷ []) ≡ ended (rests (length (m ++ b ∷ [])) next)
+    → ((next : Cut) → Kept limit (m ++ b ∷ []) next
     → FoundBy limit place ((m ++ b ∷ []) ++ bs) (reading limit put_pair (length (m ++ b ∷ [])) next (place + length (m ++ b ∷ [])) bs))
     → FoundBy limit (place + length (m ++ b ∷ [])) bs (reading limit put_pair 0 start (place + length (m ++ b ∷ [])) bs)
     → FoundBy limit place (m ++ b ∷ bs)
     (onward j (place + length m) (λ next. reading limit put_pair (length m + 1) next (place + length m + 1) bs) (reading limit put_pair 0 start (place + length m + 1) bs))
-found_on limit place m b bs c (reads next) e is same fresh =
+found_on limit place m b bs c (reads next) k is same fresh =
     let long : length (m ++ b ∷ []) ≡ length m + 1 = length-append m (b ∷ []) in
-    let now : reading limit put_pair 0 start 0 (m ++ b ∷ []) ≡ ended (rests (length (m ++ b ∷ [])) next) =
-    reading-append limit put_pair 0 start 0 (length m) c m (b ∷ []) e
-    ∙ ap (λ j. onward j (0 + length m) (λ d. ended (rests (length m + 1) d)) (ended (rests 0 start))) is
-    ∙ ap (λ k. ended (rests k next)) (sym long) in
     subst (λ bytes. FoundBy limit place bytes (reading limit put_pair (length m + 1) next (place + length m + 1) bs)) (append_assoc m (b ∷ []) bs)
     (subst (λ r. FoundBy limit place ((m ++ b ∷ []) ++ bs) r)
-    (same_reads limit put_pair _ _ next next _ _ bs long refl (omega arith)) (same next now))
-found_on limit place m b bs c (whole t) e is same fresh =
+    (same_reads limit put_pair _ _ next next _ _ bs long refl (omega arith)) (same next (kept_reads limit m c b next k is)))
+found_on limit place m b bs c (whole t) k is same fresh =
     let long : length (m ++ b ∷ []) ≡ length m + 1 = length-append m (b ∷ []) in
     let r = reading limit put_pair 0 start (place + length m + 1) bs in
-    let message : IsMessage limit t (m ++ b ∷ []) =
-    reading-append limit put_pair 0 start 0 (length m) c m (b ∷ []) e
-    ∙ ap (λ j. onward j (0 + length m) (λ d. ended (rests (length m + 1) d)) (ended (rests 0 start))) is in
     let found : FoundBy limit (place + length (m ++ b ∷ [])) bs r =
     subst (λ r. FoundBy limit (place + length (m ++ b ∷ [])) bs r) (same_reads limit put_pair 0 0 start start _ _ bs refl refl (omega arith)) fresh in
     subst (λ bytes. Found limit place bytes (t ∷ r.messages) r.end) (append_assoc m (b ∷ []) bs)
-    (found_more limit place (m ++ b ∷ []) bs t r.messages r.end message found)
-found_on limit place m b bs c (refuses rule) e is same fresh =
-    let breaks : Breaks limit m b rule =
-    reading-append limit put_pair 0 start 0 (length m) c m (b ∷ []) e
-    ∙ ap (λ j. onward j (0 + length m) (λ d. ended (rests (length m + 1) d)) (ended (rests 0 start))) is
-    ∙ ap (λ k. ended (faults rule k)) (omega arith) in
-    (m, b, bs, (c, e), refl, breaks, refl)
+    (found_more limit place (m ++ b ∷ []) bs t r.messages r.end (kept_whole limit m c b t k is) found)
+found_on limit place m b bs c (refuses rule) k is same fresh =
+    (m, b, bs, rest_of_kept limit m c k, refl, kept_refuses limit m c b rule k is, refl)
 
 -- reading goes on behind part of a message
-pub found_behind : (limit place : ℕ) (m bs : List ℕ) (c : Cut) → reading limit put_pair 0 start 0 m ≡ ended (rests (length m) c)
+pub found_behind : (limit place : ℕ) (m bs : List ℕ) (c : Cut) → Kept limit m c
     → FoundBy limit place (m ++ bs) (reading limit put_pair (length m) c (place + length m) bs)
-found_behind limit place m [] c e = ([], m, append-nil m, refl, e, ((c, e), append-nil m))
-found_behind limit place m (b ∷ bs) c e =
-    found_on limit place m b bs c (bite limit put_pair (length m) c (b ∷ [])) e refl
+found_behind limit place m [] c k = ([], m, append-nil m, refl, k.reads, (rest_of_kept limit m c k, append-nil m))
+found_behind limit place m (b ∷ bs) c k =
+    found_on limit place m b bs c (bite limit put_pair (length m) c (b ∷ [])) k refl
     (λ next h. found_behind limit place (m ++ b ∷ []) bs next h)
     (let p = place + length (m ++ b ∷ []) in
     subst (λ r. FoundBy limit p bs r) (same_reads limit put_pair 0 0 start start (p + 0) p bs refl refl (omega arith))
-    (found_behind limit p [] bs start refl))
+    (found_behind limit p [] bs start (kept_none limit)))
 
 -- the rest is part of the stream
 pub rest_within : (limit place : ℕ) (all m : List ℕ) (ms : List Tree) → Streams limit place all ms (rest m) → length m ≤ length all

@@ -7,7 +7,8 @@ use Rattle.bencode_wire.specs.Cut.{Cut}
 use Rattle.bencode_wire.specs.Fault.{Rule}
 use Rattle.bencode_wire.specs.Machine.{Adding, bite, Judged, reads, whole, refuses, Reading, End, rests, faults, ended, with_message, onward, reading, start}
 use Rattle.bencode_wire.specs.Stream.{Ending, rest, fault, Ends, Streams}
-use Rattle.bencode_wire.proofs.Streams.{reading-append}
+use Rattle.bencode_wire.proofs.Kept.{rest_kept, kept_meets, message_read}
+use Rattle.bencode_wire.proofs.Appends.{reading-append}
 
 -- a reading of bytes that lie further on
 abbrev moved_end : ℕ → End → End
@@ -72,27 +73,24 @@ tells_behind : (m more : List ℕ) (e : Ending) (end : End) → Tells more e end
 tells_behind m more (rest r) end h = (h.0, m ++ h.1, h.2, ap (λ x. m ++ x) h.3 ∙ sym (append_assoc m h.1 r))
 tells_behind m more (fault rule at) end h = h
 
-refused : (j : Judged) (at n i : ℕ) (rule : Rule) → onward j at (λ next. ended (rests n next)) (ended (rests 0 start)) ≡ ended (faults rule i) → j ≡ refuses rule
-refused (reads next) at n i rule e = let ends : rests n next ≡ faults rule i = ap (λ r. r.end) e in absurd (cc)
-refused (whole t) at n i rule e = let none : t ∷ [] ≡ [] = ap (λ r. r.messages) e in absurd (cc)
-refused (refuses other) at n i rule e = let ends : faults other at ≡ faults rule i = ap (λ r. r.end) e in cc
-
 ends_read : (limit place : ℕ) (bytes : List ℕ) (e : Ending) → Ends limit place bytes e
     → let r = reading limit put_pair 0 start place bytes in (r.messages ≡ []) × Tells bytes e r.end
 ends_read limit place bytes (rest m) h =
+    let k = rest_kept limit m h.0 in
     let none : place ≡ place + 0 = omega arith in
-    let is : reading limit put_pair 0 start place bytes ≡ ended (rests (length m) h.0.0) =
+    let is : reading limit put_pair 0 start place bytes ≡ ended (rests (length m) k.0) =
     ap (λ bs. reading limit put_pair 0 start place bs) h.1 ∙ ap (λ i. reading limit put_pair 0 start i m) none
-    ∙ reading-moved limit put_pair 0 start place 0 m ∙ ap (moved place) h.0.1 in
-    (ap (λ r. r.messages) is, (h.0.0, [], ap (λ r. r.end) is, h.1))
+    ∙ reading-moved limit put_pair 0 start place 0 m ∙ ap (moved place) k.1.reads in
+    (ap (λ r. r.messages) is, (k.0, [], ap (λ r. r.end) is, h.1))
 ends_read limit place bytes (fault rule at) h =
     let m = h.0 in
-    let c = h.3.0 in
+    let k = rest_kept limit m h.3 in
+    let c = k.0 in
     let none : place ≡ place + 0 = omega arith in
     let part : reading limit put_pair 0 start place m ≡ ended (rests (length m) c) =
-    ap (λ i. reading limit put_pair 0 start i m) none ∙ reading-moved limit put_pair 0 start place 0 m ∙ ap (moved place) h.3.1 in
+    ap (λ i. reading limit put_pair 0 start i m) none ∙ reading-moved limit put_pair 0 start place 0 m ∙ ap (moved place) k.1.reads in
     let j = bite limit put_pair (length m) c (h.1 ∷ []) in
-    let refuse : j ≡ refuses rule = refused j (0 + length m) (length m + 1) (length m) rule (sym (reading-append limit put_pair 0 start 0 (length m) c m (h.1 ∷ []) h.3.1) ∙ h.5) in
+    let refuse : j ≡ refuses rule = kept_meets limit m c h.1 rule k.1 h.5 in
     let is : reading limit put_pair 0 start place bytes ≡ ended (faults rule at) =
     ap (λ bs. reading limit put_pair 0 start place bs) h.4
     ∙ reading-append limit put_pair 0 start place (length m) c m (h.1 ∷ h.2) part
@@ -108,7 +106,7 @@ streams_read limit place bytes (t ∷ ms) e h =
     let more = h.1 in
     let none : place ≡ place + 0 = omega arith in
     let message : reading limit put_pair 0 start place m ≡ record { messages = t ∷ []; end = rests 0 start } =
-    ap (λ i. reading limit put_pair 0 start i m) none ∙ reading-moved limit put_pair 0 start place 0 m ∙ ap (moved place) h.2 in
+    ap (λ i. reading limit put_pair 0 start i m) none ∙ reading-moved limit put_pair 0 start place 0 m ∙ ap (moved place) (message_read limit t m h.2) in
     let is : reading limit put_pair 0 start place bytes ≡ with_message t (reading limit put_pair 0 start (place + length m) more) =
     ap (λ bs. reading limit put_pair 0 start place bs) h.3 ∙ message-append limit put_pair 0 start place t m more message in
     let later = streams_read limit (place + length m) more ms e h.4 in (

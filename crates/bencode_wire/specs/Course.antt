@@ -2,22 +2,13 @@
 use Rattle.std.specs.Prelude.{◌≡◌, ℕ, ◌+◌, ◌-◌, ◌^◌, min, List, ◌++◌, map, drop, Option, Some, None, Result, Ok, Err}
 use Rattle.bencode_wire.specs.Tree.{Tree}
 use Rattle.bencode_wire.specs.Spelling.{put_pair}
-use Rattle.bencode_wire.specs.Fault.{Rule, malformed, too_long, too_deep}
+use Rattle.bencode_wire.specs.Fault.{Rule, counted, fault_at}
 use Rattle.bencode_wire.specs.Machine.{Reading, End, rests, faults, reading}
 use Rattle.bencode_wire.specs.Reader.{cut_view}
 use Rattle.bencode_wire.specs.View.{view}
 use Rattle.bencode_wire.specs.declared.ben.Ben.{Ben}
 use Rattle.bencode_wire.specs.declared.cut.Course.{Course}
 use Rattle.bencode_wire.specs.declared.fault.WireFault.{WireFault}
-
--- a place in the stream, as far as it is counted
-abbrev pub counted : ℕ → ℕ
-counted n = min n (2 ^ 64 - 1)
-
-abbrev pub fault_at : Rule → ℕ → WireFault
-fault_at malformed place = WireFault.Malformed place
-fault_at too_long place = WireFault.TooLong place
-fault_at too_deep place = WireFault.TooDeep place
 
 -- the fault in which reading ends, of bytes that begin at a place
 abbrev pub fault_of_end : ℕ → End → Option WireFault

@@ -3,10 +3,10 @@ use Rattle.std.specs.Prelude.{◌≡◌, ℕ, ◌-◌, List, ◌++◌, length, m
 use Rattle.bencode_wire.specs.Tree.{Tree}
 use Rattle.bencode_wire.specs.View.{view}
 use Rattle.bencode_wire.specs.Stream.{Ending, rest, fault, Streams}
-use Rattle.bencode_wire.specs.Spelling.{put_pair}
-use Rattle.bencode_wire.specs.Machine.{reading, ended, rests, start}
+use Rattle.bencode_wire.specs.Cut.{Cut, IsCut, cut_text, sorted_cut}
 use Rattle.bencode_wire.specs.Reader.{cut_view}
-use Rattle.bencode_wire.specs.Course.{counted, fault_at}
+use Rattle.bencode_wire.specs.Fault.{counted, fault_at}
+use Rattle.bencode_wire.specs.declared.cut.Reader.{Reader}
 use Rattle.bencode_wire.specs.declared.fault.WireFault.{WireFault}
 use Rattle.bencode_wire.specs.declared.decoder.Decoder.{Decoder}
 
@@ -38,9 +38,13 @@ abbrev pub Shows : Decoder → List ℕ → Ending → Type 0
 Shows d all (rest m) = (fault_of d ≡ None) × (rest_of d ≡ m) × (place_of d ≡ counted (length all - length m))
 Shows d all (fault rule at) = fault_of d ≡ Some (fault_at rule (counted at))
 
--- what the decoder keeps beside the rest is what the rest is read as
+-- the reader holds what has come, its pairs sorted
+abbrev pub Holds : List ℕ → Reader → Type 0
+Holds m r = (c : Cut) × IsCut c × (cut_text c ≡ m) × (cut_view r ≡ sorted_cut c)
+
+-- what the decoder keeps beside the rest is what the rest spells so far
 abbrev pub IsInStep : Decoder → Type 0
-IsInStep d = MatchOption d.reader (Unit {0}) (λ r. reading d.limit put_pair 0 start 0 d.rest.items ≡ ended (rests (length d.rest.items) (cut_view r)))
+IsInStep d = MatchOption d.reader (Unit {0}) (Holds (rest_of d))
 
 -- reading all these bytes gives the messages that were taken, those that are ready, and the end that the decoder shows
 pub record Stands (limit : ℕ) (d : Decoder) (all : List ℕ) (taken : List Tree) : Type 0 where

@@ -5,6 +5,7 @@ ghost use Rattle.bencode_wire.specs.Cut.{Cut};
 ghost use Rattle.bencode_wire.specs.Spelling.{put_pair};
 ghost use Rattle.bencode_wire.specs.Machine.{reading, ended, rests, start as message_start};
 ghost use Rattle.bencode_wire.specs.Reader.{cut_view};
+ghost use Rattle.bencode_wire.specs.Stream.{IsRest};
 
 use crate::ben::Ben;
 use crate::copy::{copy_bytes, copy_queue};
@@ -170,7 +171,7 @@ impl Decoder {
     fn resume(&mut self) -> Option<Reader>
         ensures same { IsUnchanged self.old self.new }
         ensures none { self.new.reader ≡ None }
-        ensures reader { (c : Cut) → IsInStep self.old
+        ensures reader { (c : Cut) → IsInStep self.old → IsRest self.old.limit (rest_of self.old)
             → reading self.old.limit put_pair 0 message_start 0 (rest_of self.old) ≡ ended (rests (length (rest_of self.old)) c)
             → IfSome result (λ r. cut_view r ≡ c) }
     {

@@ -1,8 +1,9 @@
 //! Laws of the spelling. The functions do nothing: what they ensure is proved of every value.
-ghost use Rattle.std.specs.Prelude.{◌≡◌, ℕ, List, ◌++◌};
-ghost use Rattle.bencode_wire.specs.Tree.{Tree};
-ghost use Rattle.bencode_wire.specs.Spelling.{text, Spells, IsSpellable};
+ghost use Rattle.std.specs.Prelude.{◌≡◌, ℕ, ◌+◌, ◌≤◌, List, ◌∷◌, ◌++◌, length};
+ghost use Rattle.bencode_wire.specs.Tree.{Tree, Pairs, dictionary};
+ghost use Rattle.bencode_wire.specs.Spelling.{text, sorted, Spells, IsSpellable, ArePairs};
 ghost use Rattle.bencode_wire.specs.Stream.{Ending, Streams};
+ghost use Rattle.bencode_wire.specs.Within.{IsWithin};
 
 /// No spelling of a value is a proper prefix of a spelling of any value: where two begin the same
 /// bytes, they are the same, and so is what follows them.
@@ -20,4 +21,13 @@ pub fn a_text_has_one_value()
 pub fn a_stream_has_one_reading()
     ensures { (limit : ℕ) (bytes : List ℕ) (ms ns : List Tree) (e f : Ending)
         → Streams limit 0 bytes ms e → Streams limit 0 bytes ns f → (ms ≡ ns) × (e ≡ f) }
+{}
+
+/// What is spelled within the limits is read, whatever follows: the text of a dictionary, with its
+/// pairs in any order, is read as the dictionary, and the stream goes on behind it.
+pub fn a_text_is_read()
+    ensures { (limit place : ℕ) (ps : Pairs) (more : List ℕ) (ts : List Tree) (end : Ending)
+        → ArePairs ps → IsWithin limit 64 (dictionary ps) → length (text (dictionary ps)) ≤ limit
+        → Streams limit (place + length (text (dictionary ps))) more ts end
+        → Streams limit place (text (dictionary ps) ++ more) (sorted (dictionary ps) ∷ ts) end }
 {}

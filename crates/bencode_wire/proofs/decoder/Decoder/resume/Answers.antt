@@ -2,18 +2,18 @@ use Rattle.std.proofs.Common.{◌≡◌, ℕ, List, length, refl, sym, subst, �
 use Rattle.bencode_wire.specs.Spelling.{put_pair}
 use Rattle.bencode_wire.specs.Machine.{reading, ended, rests, start}
 use Rattle.bencode_wire.specs.declared.cut.Course.{Course}
-use Rattle.bencode_wire.proofs.Decoders.{same_cut, in_step_some, resumes}
+use Rattle.bencode_wire.proofs.Decoders.{held, in_step_some, resumes}
 use Rattle.bencode_wire.proofs.decoder.Decoder.resume.Goals as goal
 
 pub read_on-requires : goal.read_on-requires
 read_on-requires c = omega arith
 
 pub returns-in-Some-clause-reader : goal.returns-in-Some-clause-reader
-returns-in-Some-clause-reader c = λ x kept read.
-    same_cut _ _ _ x _ (in_step_some c.args.self.now c.in-Some.reader (sym c.take.ensures.value ∙ c.in-Some.is) kept) read
+returns-in-Some-clause-reader c = λ x kept part read.
+    held c.args.self.now.limit _ c.in-Some.reader x (in_step_some c.args.self.now c.in-Some.reader (sym c.take.ensures.value ∙ c.in-Some.is) kept) part read
 
 pub returns-in-Ok-clause-reader : goal.returns-in-Ok-clause-reader
-returns-in-Ok-clause-reader c = λ x kept read.
+returns-in-Ok-clause-reader c = λ x kept part read.
     let course : Course = record { reader = c.new-reader.result; begin = 0; at = 0; begun = omega arith } in
     let bytes = c.as_slice-bytes.result.now in
     let is : c.args.self.now.rest.items ≡ bytes = search rules in

@@ -1,0 +1,218 @@
+-- The rules of the grammar at the last byte of some bytes are what reading them comes to.
+use Rattle.std.proofs.Common.{◌≡◌, ℕ, suc, ◌+◌, ◌-◌, ◌<◌, ◌≤◌, ◌⊎◌, inl, inr, Bool, true, false, cond, nat_lt, nat_le, List, [], ◌∷◌, ◌++◌, length, refl, sym, ap, ◌∙◌, subst, append_assoc, append-nil, length-append, arith}
+use Rattle.std.proofs.lemmas.Bool.Decides.{nat_tests}
+use Rattle.bencode_wire.specs.Tree.{Tree, dictionary, Trees, no_trees, Pairs, no_pairs, add_pair, has_key, HasKey}
+use Rattle.bencode_wire.specs.Spelling.{text, ArePairs, sorted, put_pair}
+use Rattle.bencode_wire.specs.Cut.{Frame, in_list, at_key, at_value, Token, between, after_i, after_minus, digits, count, part, Cut, cut, cut_text, IsCut, sorted_frames, sorted_cut}
+use Rattle.bencode_wire.specs.Fault.{Rule, malformed, too_long, too_deep}
+use Rattle.bencode_wire.specs.Machine.{Next, goes, opens, names, ends, stuck, step_run, Judged, reads, whole, refuses, judged, checked, bite}
+use Rattle.bencode_wire.specs.Stream.{Begins, BreaksOff, RepeatsKey, IsLarge, IsEmpty, IsDeep, IsTooLong, IsMalformed, Meets}
+use Rattle.bencode_wire.proofs.Sound.{Sound, sound_at, step-sound}
+use Rattle.bencode_wire.proofs.Complete.{after, run, run-append, run-stuck, next_of, run-cut, run-message}
+use Rattle.bencode_wire.proofs.Close.{close}
+use Rattle.bencode_wire.proofs.Orders.{sorted_judged, judged-step}
+
+-- what bytes of a message come to
+abbrev pub read : List ℕ → Next
+read m = run (goes [] between) m
+
+after-sound : (next : Next) (m : List ℕ) (b : ℕ) → Sound next m → Sound (after next b) (m ++ b ∷ [])
+after-sound (goes fs token) m b h = sound_at (step_run add_pair fs token (b ∷ [])) _ _ (ap (λ x. x ++ b ∷ []) h.1) (step-sound fs token b h.0)
+after-sound (opens f fs) m b h = sound_at (step_run add_pair (f ∷ fs) between (b ∷ [])) _ _ (ap (λ x. x ++ b ∷ []) h.1) (step-sound (f ∷ fs) between b h.0)
+after-sound (names ps key fs) m b h =
+    sound_at (step_run add_pair (at_value ps key ∷ fs) between (b ∷ [])) _ _ (ap (λ x. x ++ b ∷ []) h.1) (step-sound (at_value ps key ∷ fs) between b h.0)
+after-sound (ends t) m b h = tt
+after-sound stuck m b h = tt
+
+run-sound : (next : Next) (m bs : List ℕ) → Sound next m → Sound (run next bs) (m ++ bs)
+run-sound next m [] h = sound_at next m (m ++ []) (sym (append-nil m)) h
+run-sound next m (b ∷ bs) h = sound_at (run (after next b) bs) _ _ (append_assoc m (b ∷ []) bs) (run-sound (after next b) (m ++ b ∷ []) bs (after-sound next m b h))
+
+-- what has come is what was read
+pub read-sound : (m : List ℕ) → Sound (read m) m
+read-sound m = run-sound (goes [] between) [] m (tt, refl)
+
+begins_cut : (c : Cut) (m : List ℕ) → IsCut c → cut_text c ≡ m → Begins m
+begins_cut c m h e = let front = close c h in (front.0, front.1 ∷ front.2, front.3, front.4 ∙ ap (λ x. x ++ front.1 ∷ front.2) e)
+
+-- bytes that are not stuck begin a message
+begins_next : (next : Next) (m : List ℕ) → (next ≡ stuck → ⊥) → Sound next m → Begins m
+begins_next (goes fs token) m h s = begins_cut (cut fs token) m s.0 s.1
+begins_next (opens f fs) m h s = begins_cut (cut (f ∷ fs) between) m s.0 s.1
+begins_next (names ps key fs) m h s = begins_cut (cut (at_value ps key ∷ fs) between) m s.0 s.1
+begins_next (ends t) m h s = (s.0, [], s.2, ap text (sym s.1) ∙ s.3 ∙ sym (append-nil m))
+begins_next stuck m h s = absurd (h refl)
+
+-- bytes that begin a message are not stuck
+begins_read : (m : List ℕ) → Begins m → read m ≡ stuck → ⊥
+begins_read m h e =
+    let is : ends (dictionary h.0) ≡ stuck = sym (run-message h.0 h.2) ∙ ap read h.3 ∙ run-append (goes [] between) m h.1 ∙ ap (λ next. run next h.1) e ∙ run-stuck h.1 in
+    absurd (cc)
+
+refuses_stuck : (m : List ℕ) → (Begins m → ⊥) → (next : Next) → read m ≡ next → judged next ≡ refuses malformed
+refuses_stuck m h (goes fs token) e = absurd (h (begins_next (goes fs token) m (λ f. cc) (subst (λ n. Sound n m) e (read-sound m))))
+refuses_stuck m h (opens f fs) e = absurd (h (begins_next (opens f fs) m (λ f. cc) (subst (λ n. Sound n m) e (read-sound m))))
+refuses_stuck m h (names ps key fs) e = absurd (h (begins_next (names ps key fs) m (λ f. cc) (subst (λ n. Sound n m) e (read-sound m))))
+refuses_stuck m h (ends t) e = absurd (h (begins_next (ends t) m (λ f. cc) (subst (λ n. Sound n m) e (read-sound m))))
+refuses_stuck m h stuck e = refl
+
+-- a cut's text is read as it
+cut_read : (m : List ℕ) (c d : Cut) → IsCut c → m ≡ cut_text c → c ≡ d → read m ≡ next_of d
+cut_read m c d h e f = ap read e ∙ run-cut c h ∙ ap next_of f
+
+-- malformed bytes are refused
+pub malformed_judged : (m : List ℕ) → IsMalformed m → judged (read m) ≡ refuses malformed
+malformed_judged m (inl h) = refuses_stuck m h (read m) refl
+malformed_judged m (inr h) =
+    let again = h.3 in
+    ap judged (cut_read m h.0 (cut (at_value again.0 again.1 ∷ again.2) between) h.1 h.2 again.3)
+    ∙ ap (λ t. cond t (refuses malformed) (reads (cut (at_value again.0 again.1 ∷ again.2) between))) again.4
+
+-- a length above the limit, as it is read
+large_read : (limit : ℕ) (m : List ℕ) → BreaksOff (IsLarge limit) m → (fs : List Frame) × (n : ℕ) × (read m ≡ goes fs (count n)) × (limit < n)
+large_read limit m h = let is = h.3 in (is.0, is.1, cut_read m h.0 (cut is.0 (count is.1)) h.1 h.2 is.2, is.3)
+
+opened : (f : Frame) (fs : List Frame) → IsEmpty f → next_of (cut (f ∷ fs) between) ≡ opens f fs
+opened f fs (inl e) = ap (λ g. next_of (cut (g ∷ fs) between)) e ∙ ap (λ g. opens g fs) (sym e)
+opened f fs (inr e) = ap (λ g. next_of (cut (g ∷ fs) between)) e ∙ ap (λ g. opens g fs) (sym e)
+
+-- a nesting too deep, as it is read
+deep_read : (m : List ℕ) → BreaksOff IsDeep m → (f : Frame) × (fs : List Frame) × (read m ≡ opens f fs) × (64 ≤ length fs)
+deep_read m h = let is = h.3 in (is.0, is.1, cut_read m h.0 (cut (is.0 ∷ is.1) between) h.1 h.2 is.2 ∙ opened is.0 is.1 is.3, is.4)
+
+-- what the rules make of bytes at their last
+abbrev pub verdict_of : ℕ → List ℕ → Next → Judged
+verdict_of limit m next = cond (nat_lt limit (length m)) (refuses too_long) (checked limit (judged next))
+
+abbrev pub verdict : ℕ → List ℕ → Judged
+verdict limit m = verdict_of limit m (read m)
+
+lt_of : (a b : ℕ) → nat_lt a b ≡ true → a < b
+lt_of a b e = grind (arith, nat_tests)
+
+ge_of : (a b : ℕ) → nat_lt a b ≡ false → b ≤ a
+ge_of a b e = grind (arith, nat_tests)
+
+lt_true : (a b : ℕ) → a < b → nat_lt a b ≡ true
+lt_true a b h = grind (arith, nat_tests)
+
+lt_false : (a b : ℕ) → b ≤ a → nat_lt a b ≡ false
+lt_false a b h = grind (arith, nat_tests)
+
+short : (limit : ℕ) (m : List ℕ) → (IsTooLong limit m → ⊥) → nat_lt limit (length m) ≡ false
+short limit m h = elim (nat_lt limit (length m)) as (λ t. (t ≡ true → limit < length m) → t ≡ false) [ true ↦ λ f. absurd (h (f refl)) | false ↦ λ f. refl ] (λ e. lt_of limit (length m) e)
+
+-- where no rule on lengths applies
+verdict_short : (limit : ℕ) (m : List ℕ) → (IsTooLong limit m → ⊥) → verdict limit m ≡ checked limit (judged (read m))
+verdict_short limit m h = ap (λ t. cond t (refuses too_long) (checked limit (judged (read m)))) (short limit m h)
+
+large_verdict : (limit : ℕ) (m : List ℕ) (t : Bool) → BreaksOff (IsLarge limit) m → cond t (refuses too_long) (checked limit (judged (read m))) ≡ refuses too_long
+large_verdict limit m true h = refl
+large_verdict limit m false h =
+    let is = large_read limit m h in
+    ap (λ next. checked limit (judged next)) is.2 ∙ ap (λ t. cond t (refuses too_long) (reads (cut is.0 (count is.1)))) (lt_true limit is.1 is.3)
+
+-- bytes at which a rule applies are refused by it
+pub meets_verdict : (limit : ℕ) (m : List ℕ) (rule : Rule) → Meets limit m rule → verdict limit m ≡ refuses rule
+meets_verdict limit m malformed h = verdict_short limit m h.0 ∙ ap (λ j. checked limit j) (malformed_judged m h.1)
+meets_verdict limit m too_long (inl h) = ap (λ t. cond t (refuses too_long) (checked limit (judged (read m)))) (lt_true limit (length m) h)
+meets_verdict limit m too_long (inr h) = large_verdict limit m (nat_lt limit (length m)) h.1
+meets_verdict limit m too_deep h =
+    let is = deep_read m h.3 in
+    verdict_short limit m h.0 ∙ ap (λ next. checked limit (judged next)) is.2
+    ∙ ap (λ t. checked limit (cond t (reads (cut (is.0 ∷ is.1) between)) (refuses too_deep))) (lt_false (length is.1) 64 is.3)
+
+not_long : (limit : ℕ) (m : List ℕ) → nat_lt limit (length m) ≡ false → IsTooLong limit m → ⊥
+not_long limit m e h = let f = ge_of limit (length m) e in absurd (omega arith)
+
+not_malformed : (m : List ℕ) (j : Judged) → judged (read m) ≡ j → (j ≡ refuses malformed → ⊥) → IsMalformed m → ⊥
+not_malformed m j e other h = other (sym e ∙ malformed_judged m h)
+
+not_large : (limit : ℕ) (m : List ℕ) (next : Next) → read m ≡ next → ((fs : List Frame) (n : ℕ) → next ≡ goes fs (count n) → ⊥) → BreaksOff (IsLarge limit) m → ⊥
+not_large limit m next e other h = let is = large_read limit m h in other is.0 is.1 (sym e ∙ is.2)
+
+meets_at : (limit : ℕ) (m : List ℕ) (a rule : Rule) → refuses a ≡ refuses rule → Meets limit m a → Meets limit m rule
+meets_at limit m a rule e h = let same : a ≡ rule = cc in subst (λ r. Meets limit m r) same h
+
+reads_refuses : {A : Type 0} → (c : Cut) (rule : Rule) → reads c ≡ refuses rule → A
+reads_refuses c rule e = absurd (cc)
+
+names_meets : (limit : ℕ) (m : List ℕ) (ps : Pairs) (key : List ℕ) (fs : List Frame) (rule : Rule) → (IsTooLong limit m → ⊥) → Sound (names ps key fs) m
+    → (t : Bool) → has_key key ps ≡ t → checked limit (cond t (refuses malformed) (reads (cut (at_value ps key ∷ fs) between))) ≡ refuses rule → Meets limit m rule
+names_meets limit m ps key fs rule brief s true has e =
+    meets_at limit m malformed rule e (brief, inr (cut (at_value ps key ∷ fs) between, s.0, sym s.1, (ps, key, fs, refl, has)))
+names_meets limit m ps key fs rule brief s false has e = reads_refuses (cut (at_value ps key ∷ fs) between) rule e
+
+opens_meets : (limit : ℕ) (m : List ℕ) (f : Frame) (fs : List Frame) (rule : Rule) → (IsTooLong limit m → ⊥) → read m ≡ opens f fs → Sound (opens f fs) m
+    → (t : Bool) → nat_lt (length fs) 64 ≡ t → checked limit (cond t (reads (cut (f ∷ fs) between)) (refuses too_deep)) ≡ refuses rule → Meets limit m rule
+opens_meets limit m f fs rule brief is s true deep e = reads_refuses (cut (f ∷ fs) between) rule e
+opens_meets limit m f fs rule brief is s false deep e =
+    let j : judged (read m) ≡ refuses too_deep = ap judged is ∙ ap (λ t. cond t (reads (cut (f ∷ fs) between)) (refuses too_deep)) deep in
+    meets_at limit m too_deep rule e
+    (brief, not_malformed m (refuses too_deep) j (λ x. cc), not_large limit m (opens f fs) is (λ gs n x. cc),
+      (cut (f ∷ fs) between, s.0, sym s.1, (f, fs, refl, s.2, ge_of (length fs) 64 deep)))
+
+count_meets : (limit : ℕ) (m : List ℕ) (fs : List Frame) (n : ℕ) (rule : Rule) → read m ≡ goes fs (count n) → Sound (goes fs (count n)) m
+    → (t : Bool) → nat_lt limit n ≡ t → cond t (refuses too_long) (reads (cut fs (count n))) ≡ refuses rule → Meets limit m rule
+count_meets limit m fs n rule is s true large e =
+    meets_at limit m too_long rule e
+    (inr (not_malformed m (reads (cut fs (count n))) (ap judged is) (λ x. cc), (cut fs (count n), s.0, sym s.1, (fs, n, refl, lt_of limit n large))))
+count_meets limit m fs n rule is s false large e = reads_refuses (cut fs (count n)) rule e
+
+short_meets : (limit : ℕ) (m : List ℕ) (next : Next) (rule : Rule) → (IsTooLong limit m → ⊥) → read m ≡ next → Sound next m → checked limit (judged next) ≡ refuses rule → Meets limit m rule
+short_meets limit m (goes fs between) rule brief is s e = reads_refuses (cut fs between) rule e
+short_meets limit m (goes fs after_i) rule brief is s e = reads_refuses (cut fs after_i) rule e
+short_meets limit m (goes fs after_minus) rule brief is s e = reads_refuses (cut fs after_minus) rule e
+short_meets limit m (goes fs (digits negative n)) rule brief is s e = reads_refuses (cut fs (digits negative n)) rule e
+short_meets limit m (goes fs (count n)) rule brief is s e = count_meets limit m fs n rule is s (nat_lt limit n) refl e
+short_meets limit m (goes fs (part bytes left)) rule brief is s e = reads_refuses (cut fs (part bytes left)) rule e
+short_meets limit m (opens f fs) rule brief is s e = opens_meets limit m f fs rule brief is s (nat_lt (length fs) 64) refl e
+short_meets limit m (names ps key fs) rule brief is s e = names_meets limit m ps key fs rule brief s (has_key key ps) refl e
+short_meets limit m (ends t) rule brief is s e = let other : whole t ≡ refuses rule = e in absurd (cc)
+short_meets limit m stuck rule brief is s e = meets_at limit m malformed rule e (brief, inl (λ b. begins_read m b is))
+
+verdict_meets_by : (limit : ℕ) (m : List ℕ) (rule : Rule) (t : Bool) → nat_lt limit (length m) ≡ t
+    → cond t (refuses too_long) (checked limit (judged (read m))) ≡ refuses rule → Meets limit m rule
+verdict_meets_by limit m rule true long e = meets_at limit m too_long rule e (inl (lt_of limit (length m) long))
+verdict_meets_by limit m rule false long e = short_meets limit m (read m) rule (not_long limit m long) refl (read-sound m) e
+
+-- bytes that are refused by a rule meet it
+pub verdict_meets : (limit : ℕ) (m : List ℕ) (rule : Rule) → verdict limit m ≡ refuses rule → Meets limit m rule
+verdict_meets limit m rule e = verdict_meets_by limit m rule (nat_lt limit (length m)) refl e
+
+-- what was read is less than a message, and so far this cut
+abbrev pub At : Next → Cut → Type 0
+At (goes fs token) d = d ≡ cut fs token
+At (opens f fs) d = d ≡ cut (f ∷ fs) between
+At (names ps key fs) d = d ≡ cut (at_value ps key ∷ fs) between
+At (ends t) d = ⊥
+At stuck d = ⊥
+
+abbrev step_of : Cut → ℕ → Next
+step_of (cut fs token) b = step_run add_pair fs token (b ∷ [])
+
+after_at : (next : Next) (d : Cut) (b : ℕ) → At next d → after next b ≡ step_of d b
+after_at (goes fs token) d b h = ap (λ x. step_of x b) (sym h)
+after_at (opens f fs) d b h = ap (λ x. step_of x b) (sym h)
+after_at (names ps key fs) d b h = ap (λ x. step_of x b) (sym h)
+after_at (ends t) d b h = absurd h
+after_at stuck d b h = absurd h
+
+le_lt : (limit n k : ℕ) → k ≡ n + 1 → nat_le limit n ≡ nat_lt limit k
+le_lt limit n k e = grind (arith, nat_tests)
+
+sorted_verdict : (t : Bool) (j : Judged) → cond t (refuses too_long) (sorted_judged j) ≡ sorted_judged (cond t (refuses too_long) j)
+sorted_verdict true j = refl
+sorted_verdict false j = refl
+
+-- a byte's verdict is what the machine makes of the byte
+pub bite_at : (limit : ℕ) (m : List ℕ) (d : Cut) (b : ℕ) → At (read m) d
+    → bite limit put_pair (length m) (sorted_cut d) (b ∷ []) ≡ sorted_judged (verdict limit (m ++ b ∷ []))
+bite_at limit m (cut fs token) b h =
+    let long = le_lt limit (length m) (length (m ++ b ∷ [])) (length-append m (b ∷ [])) in
+    let now : read (m ++ b ∷ []) ≡ step_run add_pair fs token (b ∷ []) = run-append (goes [] between) m (b ∷ []) ∙ after_at (read m) (cut fs token) b h in
+    ap (λ t. cond t (refuses too_long) (checked limit (judged (step_run put_pair (sorted_frames fs) token (b ∷ []))))) long
+    ∙ ap (λ j. cond (nat_lt limit (length (m ++ b ∷ []))) (refuses too_long) j) (judged-step limit fs token b)
+    ∙ ap (λ next. cond (nat_lt limit (length (m ++ b ∷ []))) (refuses too_long) (sorted_judged (checked limit (judged next)))) (sym now)
+    ∙ sorted_verdict (nat_lt limit (length (m ++ b ∷ []))) (checked limit (judged (read (m ++ b ∷ []))))
+
