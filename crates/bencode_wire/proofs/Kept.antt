@@ -51,8 +51,8 @@ split_last (x ∷ m) (f ∷ front) more b e = split_more x m f front b (cc) (spl
 clean_more : (limit : ℕ) (m : List ℕ) (b : ℕ) → IsClean limit m → ((rule : Rule) → verdict limit (m ++ b ∷ []) ≡ refuses rule → ⊥) → IsClean limit (m ++ b ∷ [])
 clean_more limit m b h never front more rule e meets =
     elim (split_last m front more b e) [
-      inl p ↦ never rule (meets_verdict limit (m ++ b ∷ []) rule (subst (λ x. Meets limit x rule) p meets))
-    | inr p ↦ h front p.0 rule p.1 meets
+      | inl p ↦ never rule (meets_verdict limit (m ++ b ∷ []) rule (subst (λ x. Meets limit x rule) p meets))
+      | inr p ↦ h front p.0 rule p.1 meets
     ]
 
 clean_front : (limit : ℕ) (m more : List ℕ) → IsClean limit (m ++ more) → IsClean limit m

@@ -74,9 +74,10 @@ has_key-below k key (pair l u ps) t h = or_below (bytes_eq k l) (has_key k ps) (
 AreDistinct-back : (ps : Pairs) (key : List ℕ) (t : Tree) → AreDistinct (add_pair ps key t) → AreDistinct ps × (HasKey key ps → ⊥)
 AreDistinct-back no_pairs key t h = (tt, λ g. absurd (cc))
 AreDistinct-back (pair k u ps) key t h =
-    let more = AreDistinct-back ps key t h.1 in
-    ((λ g. h.0 (has_key-below k key ps t g), more.0),
-      λ g. h.0 (subst (λ x. HasKey x (add_pair ps key t)) (same_key key k (or_left (bytes_eq key k) (has_key key ps) g more.1)) (has_key-added key ps t)))
+    let more = AreDistinct-back ps key t h.1 in (
+      (λ g. h.0 (has_key-below k key ps t g), more.0),
+      λ g. h.0 (subst (λ x. HasKey x (add_pair ps key t)) (same_key key k (or_left (bytes_eq key k) (has_key key ps) g more.1)) (has_key-added key ps t)),
+    )
 
 -- a value that is put within the limits was within them, and so were the frames
 put_key-back : (limit : ℕ) (ps : Pairs) (fs : List Frame) (t : Tree) → NextWithin limit (put add_pair (at_key ps ∷ fs) t)
