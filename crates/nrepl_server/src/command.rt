@@ -15,7 +15,9 @@ pub fn pipe_command<R: Read, W: Write, E: Write>(
     reader: &mut R,
     writer: &mut W,
     errors: &mut E,
-) -> u8 {
+) -> u8
+    ensures { result ≤ 1 }
+{
     match pipe(alloc, config, reader, writer) {
         Ok(PipeEnd::Whole) => 0,
         Ok(PipeEnd::Truncated) => complain(errors, "truncated input"),

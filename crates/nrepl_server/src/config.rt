@@ -1,4 +1,5 @@
 // How a server is set up.
+ghost use Rattle.std.specs.Prelude.{◌≡◌};
 
 /// The steps that a server takes unless configured otherwise.
 pub const STEPS: u32 = 4_194_304;
@@ -15,7 +16,11 @@ pub struct Config {
 }
 
 impl Config {
-    pub fn new() -> Config {
+    /// The numbers that hold unless others are given.
+    pub fn new() -> Config
+        ensures steps { result.steps ≡ STEPS }
+        ensures retries { result.retries ≡ RETRIES }
+    {
         Config {
             steps: STEPS,
             retries: RETRIES,

@@ -1,5 +1,5 @@
 // The server of one tenant without sessions: what is heard, evaluated and answered.
-ghost use Rattle.std.specs.Prelude.{◌≡◌, ◌≤◌, ◌↔◌, IsTrue};
+ghost use Rattle.std.specs.Prelude.{◌≡◌, ◌≤◌, ◌↔◌, [], IsTrue};
 ghost use Rattle.std.specs.VecDeque.{deque_len};
 
 use crate::config::Config;
@@ -48,7 +48,11 @@ struct InHand {
 }
 
 impl Server {
-    pub fn new(alloc: Global, config: Config) -> Server {
+    /// A server that has heard nothing.
+    pub fn new(alloc: Global, config: Config) -> Server
+        ensures steps { result.steps_left ≡ config.steps }
+        ensures quiet { result.outbox.items ≡ [] }
+    {
         Server {
             alloc,
             retries: config.retries,
