@@ -1,11 +1,11 @@
 -- Bytes of a message that are clean, and the cut as which the machine holds them.
-use Rattle.std.proofs.Common.{◌≡◌, ℕ, suc, ◌+◌, ◌-◌, ◌<◌, ◌≤◌, ◌⊎◌, inl, inr, Bool, true, false, cond, nat_lt, nat_le, List, [], ◌∷◌, ◌++◌, length, refl, sym, ap, ◌∙◌, subst, append_assoc, append-nil, length-append, arith}
+use Rattle.std.proofs.Common.{◌≡◌, ℕ, ◌+◌, ◌⊎◌, inl, inr, Bool, true, false, cond, nat_lt, List, [], ◌∷◌, ◌++◌, length, refl, sym, ap, ◌∙◌, subst, append_assoc, append-nil, length-append, arith}
 use Rattle.std.proofs.lemmas.Bool.Decides.{nat_tests}
 use Rattle.bencode_wire.specs.Tree.{Tree, dictionary, Pairs, no_pairs, pair, no_trees, tree, has_key}
-use Rattle.bencode_wire.specs.Spelling.{text, pairs_text, ArePairs, sorted, put_pair}
-use Rattle.bencode_wire.specs.Cut.{Frame, at_value, Token, between, Cut, cut, cut_text, IsCut, sorted_cut, in_list, at_key, after_i, after_minus, digits, count, part}
+use Rattle.bencode_wire.specs.Spelling.{text, pairs_text, sorted, put_pair}
+use Rattle.bencode_wire.specs.Cut.{Frame, at_value, between, Cut, cut, cut_text, IsCut, sorted_cut, in_list, at_key, after_i, after_minus, digits, count, part}
 use Rattle.bencode_wire.specs.Fault.{Rule, malformed, too_long, too_deep}
-use Rattle.bencode_wire.specs.Machine.{Next, goes, opens, names, ends, stuck, Judged, reads, whole, refuses, judged, checked, is_large_token, start, bite, Reading, End, rests, faults, ended, onward, reading}
+use Rattle.bencode_wire.specs.Machine.{Next, goes, opens, names, ends, stuck, Judged, reads, whole, refuses, judged, checked, is_large_token, start, bite, rests, ended, onward, reading}
 use Rattle.bencode_wire.specs.Stream.{Meets, IsClean, IsMessage, IsRest}
 use Rattle.bencode_wire.proofs.Sound.{Sound}
 use Rattle.bencode_wire.proofs.Complete.{run, run-append, run-stuck, run-message, next_of, resting, run-cut}
@@ -51,8 +51,8 @@ split_last (x ∷ m) (f ∷ front) more b e = split_more x m f front b (cc) (spl
 clean_more : (limit : ℕ) (m : List ℕ) (b : ℕ) → IsClean limit m → ((rule : Rule) → verdict limit (m ++ b ∷ []) ≡ refuses rule → ⊥) → IsClean limit (m ++ b ∷ [])
 clean_more limit m b h never front more rule e meets =
     elim (split_last m front more b e) [
-      inl p ↦ never rule (meets_verdict limit (m ++ b ∷ []) rule (subst (λ x. Meets limit x rule) p meets))
-    | inr p ↦ h front p.0 rule p.1 meets
+      | inl p ↦ never rule (meets_verdict limit (m ++ b ∷ []) rule (subst (λ x. Meets limit x rule) p meets))
+      | inr p ↦ h front p.0 rule p.1 meets
     ]
 
 clean_front : (limit : ℕ) (m more : List ℕ) → IsClean limit (m ++ more) → IsClean limit m

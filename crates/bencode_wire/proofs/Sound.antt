@@ -1,14 +1,14 @@
 -- A byte read behind a cut makes a cut whose text is the text and the byte.
-use Rattle.std.proofs.Common.{◌≡◌, ◌≢◌, ℕ, zero, suc, ◌+◌, ◌-◌, ◌*◌, ◌/◌, ◌%◌, ◌^◌, ◌<◌, ◌≤◌, ◌⊎◌, inl, inr, Bool, true, false, cond, nat_lt, nat_le, ◌==◌, ◌&&◌, ℤ, pos, negsuc, List, [], ◌∷◌, ◌++◌, length, codes, decimal, refl, sym, ap, ◌∙◌, subst, append_assoc, append-nil, length-append, arith}
+use Rattle.std.proofs.Common.{◌≡◌, ℕ, suc, ◌+◌, ◌-◌, ◌*◌, ◌/◌, ◌%◌, ◌^◌, ◌<◌, ◌≤◌, ◌⊎◌, inl, inr, Bool, true, false, cond, nat_lt, nat_le, ◌==◌, ◌&&◌, List, [], ◌∷◌, ◌++◌, length, decimal, refl, sym, ap, ◌∙◌, subst, append_assoc, append-nil, length-append, arith}
 use Rattle.std.proofs.lemmas.Bool.Decides.{nat_tests}
 use Rattle.std.proofs.lemmas.Fmt.{decimal_digit, decimal_step}
 use Rattle.bencode_wire.specs.Tree.{Tree, integer, string, list, dictionary, Trees, no_trees, tree, Pairs, no_pairs, pair, add_tree, add_pair}
-use Rattle.bencode_wire.specs.Spelling.{text, trees_text, pairs_text, string_text, integer_text, IsInteger, IsString, IsSpellable, AreSpellable, ArePairs}
-use Rattle.bencode_wire.specs.Cut.{Frame, in_list, at_key, at_value, Token, between, after_i, after_minus, digits, count, part, Cut, cut, frame_text, frames_text, token_text, cut_text, IfAny, TakesValue, TakesKey, greatest, IsCut}
+use Rattle.bencode_wire.specs.Spelling.{text, trees_text, pairs_text, string_text, IsInteger, IsString, IsSpellable, AreSpellable, ArePairs}
+use Rattle.bencode_wire.specs.Cut.{Frame, in_list, at_key, at_value, Token, between, after_i, after_minus, digits, count, part, cut, frames_text, token_text, cut_text, IfAny, TakesValue, TakesKey, greatest, IsCut}
 use Rattle.bencode_wire.specs.Sign.{sign_of}
 use Rattle.bencode_wire.specs.declared.sign.Sign.{Sign}
 use Rattle.bencode_wire.specs.declared.sign.Sign.TheVariants as signs
-use Rattle.bencode_wire.specs.Machine.{Next, goes, opens, names, ends, stuck, put, put_key, close, begin, begin_value, begin_item, begin_key, begin_message, integer_open, integer_minus, more_digits, integer_digits, more_length, open_string, length_digits, text_bytes, signed, step_run, start}
+use Rattle.bencode_wire.specs.Machine.{Next, goes, opens, names, ends, stuck, put, put_key, close, begin, begin_value, begin_item, begin_key, begin_message, integer_open, integer_minus, more_digits, integer_digits, more_length, open_string, length_digits, text_bytes, signed, step_run}
 
 -- the pairs behind others
 pub pairs_text-add_pair : (ps : Pairs) (key : List ℕ) (t : Tree) → pairs_text (add_pair ps key t) ≡ pairs_text ps ++ string_text key ++ text t
@@ -56,12 +56,12 @@ digit_tested : (b : ℕ) → Means b (cond (nat_le 48 b && nat_le b 57) (signs.D
 digit_tested b =
     let P : Bool → Type 0 = λ v. (v ≡ true → (48 ≤ b) × (b ≤ 57)) → Means b (cond v (signs.Digit (b - 48)) signs.Other) in
     (elim (nat_le 48 b && nat_le b 57) as P [ true ↦ λ h. let l = (h refl).0 in let u = (h refl).1 in (omega arith, omega arith) | false ↦ λ h. tt ])
-      (λ h. (grind (arith, nat_tests), grind (arith, nat_tests)))
+    (λ h. (grind (arith, nat_tests), grind (arith, nat_tests)))
 
 pub sign_of-Means : (b : ℕ) → Means b (sign_of b)
 sign_of-Means b =
     tested b 105 signs.Integer _ (λ e. e) (tested b 108 signs.List _ (λ e. e) (tested b 100 signs.Dictionary _ (λ e. e) (tested b 101 signs.End _ (λ e. e)
-      (tested b 45 signs.Minus _ (λ e. e) (tested b 58 signs.Colon _ (λ e. e) (digit_tested b))))))
+    (tested b 45 signs.Minus _ (λ e. e) (tested b 58 signs.Colon _ (λ e. e) (digit_tested b))))))
 
 -- what a byte has made of the bytes before
 abbrev pub Sound : Next → List ℕ → Type 0
@@ -225,8 +225,10 @@ integer_open-sound fs b signs.Other h m = tt
 
 integer_minus-sound : (fs : List Frame) (b : ℕ) (s : Sign) → TakesValue fs → Means b s → Sound (integer_minus fs s) (frames_text fs ++ 105 ∷ 45 ∷ b ∷ [])
 integer_minus-sound fs b (signs.Digit d) h m =
-    unless (d == 0) (goes fs (digits true d)) _ (λ e. ((h, above_zero d e, let small = m.1 in omega arith),
-    ap (λ x. frames_text fs ++ 105 ∷ 45 ∷ x) (decimal_digit d m.1 ∙ ap (λ k. k ∷ []) (sym m.0))))
+    unless (d == 0) (goes fs (digits true d)) _ (λ e. (
+      (h, above_zero d e, let small = m.1 in omega arith),
+      ap (λ x. frames_text fs ++ 105 ∷ 45 ∷ x) (decimal_digit d m.1 ∙ ap (λ k. k ∷ []) (sym m.0)),
+    ))
 integer_minus-sound fs b signs.Minus h m = tt
 integer_minus-sound fs b signs.Integer h m = tt
 integer_minus-sound fs b signs.List h m = tt
@@ -295,8 +297,10 @@ open_string-sound fs n h fits =
     (λ e. let none : n ≡ 0 = grind (arith, nat_tests) in
     sound_at (put add_pair fs (string [])) _ _ (ap (λ x. frames_text fs ++ x) (append-nil (decimal 0 ++ 58 ∷ []) ∙ ap (λ k. decimal k ++ 58 ∷ []) (sym none)))
     (put-sound fs (string []) (puts_string fs [] h (omega arith))))
-    (λ e. ((h, above_zero n e, let all : 0 + n ≡ n = omega arith in omega arith),
-    ap (λ x. frames_text fs ++ x) (append-nil (decimal (0 + n) ++ 58 ∷ []) ∙ (let all : 0 + n ≡ n = omega arith in ap (λ k. decimal k ++ 58 ∷ []) all))))
+    (λ e. (
+      (h, above_zero n e, let all : 0 + n ≡ n = omega arith in omega arith),
+      ap (λ x. frames_text fs ++ x) (append-nil (decimal (0 + n) ++ 58 ∷ []) ∙ (let all : 0 + n ≡ n = omega arith in ap (λ k. decimal k ++ 58 ∷ []) all)),
+    ))
 
 length_digits-sound : (fs : List Frame) (n b : ℕ) (s : Sign) → TakesValue fs ⊎ TakesKey fs → n < 2 ^ 64 → Means b s
     → Sound (length_digits add_pair fs n s) (frames_text fs ++ (decimal n ++ b ∷ []))

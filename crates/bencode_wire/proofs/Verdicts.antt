@@ -1,12 +1,12 @@
 -- The rules of the grammar at the last byte of some bytes are what reading them comes to.
-use Rattle.std.proofs.Common.{◌≡◌, ℕ, suc, ◌+◌, ◌-◌, ◌<◌, ◌≤◌, ◌⊎◌, inl, inr, Bool, true, false, cond, nat_lt, nat_le, List, [], ◌∷◌, ◌++◌, length, refl, sym, ap, ◌∙◌, subst, append_assoc, append-nil, length-append, arith}
+use Rattle.std.proofs.Common.{◌≡◌, ℕ, ◌+◌, ◌<◌, ◌≤◌, inl, inr, Bool, true, false, cond, nat_lt, nat_le, List, [], ◌∷◌, ◌++◌, length, refl, sym, ap, ◌∙◌, subst, append_assoc, append-nil, length-append, arith}
 use Rattle.std.proofs.lemmas.Bool.Decides.{nat_tests}
-use Rattle.bencode_wire.specs.Tree.{Tree, dictionary, Trees, no_trees, Pairs, no_pairs, add_pair, has_key, HasKey}
-use Rattle.bencode_wire.specs.Spelling.{text, ArePairs, sorted, put_pair}
-use Rattle.bencode_wire.specs.Cut.{Frame, in_list, at_key, at_value, Token, between, after_i, after_minus, digits, count, part, Cut, cut, cut_text, IsCut, sorted_frames, sorted_cut}
+use Rattle.bencode_wire.specs.Tree.{dictionary, Pairs, add_pair, has_key}
+use Rattle.bencode_wire.specs.Spelling.{text, put_pair}
+use Rattle.bencode_wire.specs.Cut.{Frame, at_value, between, after_i, after_minus, digits, count, part, Cut, cut, cut_text, IsCut, sorted_frames, sorted_cut}
 use Rattle.bencode_wire.specs.Fault.{Rule, malformed, too_long, too_deep}
 use Rattle.bencode_wire.specs.Machine.{Next, goes, opens, names, ends, stuck, step_run, Judged, reads, whole, refuses, judged, checked, bite}
-use Rattle.bencode_wire.specs.Stream.{Begins, BreaksOff, RepeatsKey, IsLarge, IsEmpty, IsDeep, IsTooLong, IsMalformed, Meets}
+use Rattle.bencode_wire.specs.Stream.{Begins, BreaksOff, IsLarge, IsEmpty, IsDeep, IsTooLong, IsMalformed, Meets}
 use Rattle.bencode_wire.proofs.Sound.{Sound, sound_at, step-sound}
 use Rattle.bencode_wire.proofs.Complete.{after, run, run-append, run-stuck, next_of, run-cut, run-message}
 use Rattle.bencode_wire.proofs.Close.{close}
@@ -148,9 +148,12 @@ opens_meets : (limit : ℕ) (m : List ℕ) (f : Frame) (fs : List Frame) (rule :
 opens_meets limit m f fs rule brief is s true deep e = reads_refuses (cut (f ∷ fs) between) rule e
 opens_meets limit m f fs rule brief is s false deep e =
     let j : judged (read m) ≡ refuses too_deep = ap judged is ∙ ap (λ t. cond t (reads (cut (f ∷ fs) between)) (refuses too_deep)) deep in
-    meets_at limit m too_deep rule e
-    (brief, not_malformed m (refuses too_deep) j (λ x. cc), not_large limit m (opens f fs) is (λ gs n x. cc),
-      (cut (f ∷ fs) between, s.0, sym s.1, (f, fs, refl, s.2, ge_of (length fs) 64 deep)))
+    meets_at limit m too_deep rule e (
+      brief,
+      not_malformed m (refuses too_deep) j (λ x. cc),
+      not_large limit m (opens f fs) is (λ gs n x. cc),
+      (cut (f ∷ fs) between, s.0, sym s.1, (f, fs, refl, s.2, ge_of (length fs) 64 deep)),
+    )
 
 count_meets : (limit : ℕ) (m : List ℕ) (fs : List Frame) (n : ℕ) (rule : Rule) → read m ≡ goes fs (count n) → Sound (goes fs (count n)) m
     → (t : Bool) → nat_lt limit n ≡ t → cond t (refuses too_long) (reads (cut fs (count n))) ≡ refuses rule → Meets limit m rule
@@ -215,4 +218,3 @@ bite_at limit m (cut fs token) b h =
     ∙ ap (λ j. cond (nat_lt limit (length (m ++ b ∷ []))) (refuses too_long) j) (judged-step limit fs token b)
     ∙ ap (λ next. cond (nat_lt limit (length (m ++ b ∷ []))) (refuses too_long) (sorted_judged (checked limit (judged next)))) (sym now)
     ∙ sorted_verdict (nat_lt limit (length (m ++ b ∷ []))) (checked limit (judged (read (m ++ b ∷ []))))
-

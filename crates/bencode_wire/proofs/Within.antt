@@ -10,11 +10,11 @@ use Rattle.bencode_wire.specs.Fault.{Rule, malformed, too_long, too_deep}
 use Rattle.bencode_wire.specs.Sign.{sign_of}
 use Rattle.bencode_wire.specs.declared.sign.Sign.{Sign}
 use Rattle.bencode_wire.specs.declared.sign.Sign.TheVariants as signs
-use Rattle.bencode_wire.specs.Machine.{Next, goes, opens, names, ends, stuck, put, close, begin, begin_value, begin_item, begin_key, begin_message, integer_open, integer_minus, more_digits, integer_digits, more_length, open_string, length_digits, text_bytes, signed, step_run, Judged, reads, whole, refuses, judged, checked}
-use Rattle.bencode_wire.specs.Stream.{Meets, IsClean, IsMessage, Ending, Streams}
+use Rattle.bencode_wire.specs.Machine.{Next, goes, opens, names, ends, stuck, put, begin, begin_value, begin_item, begin_key, integer_open, integer_minus, more_digits, integer_digits, more_length, length_digits, signed, step_run, reads, whole, refuses, judged, checked}
+use Rattle.bencode_wire.specs.Stream.{IsClean, Ending, Streams}
 use Rattle.bencode_wire.specs.Within.{IsWithin, AreWithin, PairsWithin}
 use Rattle.bencode_wire.proofs.Complete.{after, run, run-append, run-message}
-use Rattle.bencode_wire.proofs.Verdicts.{read, verdict, meets_verdict}
+use Rattle.bencode_wire.proofs.Verdicts.{read, meets_verdict}
 
 -- what is open is within the limits, each at its depth
 abbrev FramesWithin : ℕ → List Frame → Type 0
@@ -74,9 +74,10 @@ has_key-below k key (pair l u ps) t h = or_below (bytes_eq k l) (has_key k ps) (
 AreDistinct-back : (ps : Pairs) (key : List ℕ) (t : Tree) → AreDistinct (add_pair ps key t) → AreDistinct ps × (HasKey key ps → ⊥)
 AreDistinct-back no_pairs key t h = (tt, λ g. absurd (cc))
 AreDistinct-back (pair k u ps) key t h =
-    let more = AreDistinct-back ps key t h.1 in
-    ((λ g. h.0 (has_key-below k key ps t g), more.0),
-      λ g. h.0 (subst (λ x. HasKey x (add_pair ps key t)) (same_key key k (or_left (bytes_eq key k) (has_key key ps) g more.1)) (has_key-added key ps t)))
+    let more = AreDistinct-back ps key t h.1 in (
+      (λ g. h.0 (has_key-below k key ps t g), more.0),
+      λ g. h.0 (subst (λ x. HasKey x (add_pair ps key t)) (same_key key k (or_left (bytes_eq key k) (has_key key ps) g more.1)) (has_key-added key ps t)),
+    )
 
 -- a value that is put within the limits was within them, and so were the frames
 put_key-back : (limit : ℕ) (ps : Pairs) (fs : List Frame) (t : Tree) → NextWithin limit (put add_pair (at_key ps ∷ fs) t)
