@@ -206,7 +206,7 @@ append_pairs-first : (k : List ℕ) (t : Tree) (ps qs : Pairs) → append_pairs 
 append_pairs-first k t ps no_pairs = refl
 append_pairs-first k t ps (pair l u qs) = append_pairs-first k t (add_pair ps l u) qs
 
-append_pairs-none : (qs : Pairs) → append_pairs no_pairs qs ≡ qs
+pub append_pairs-none : (qs : Pairs) → append_pairs no_pairs qs ≡ qs
 append_pairs-none no_pairs = refl
 append_pairs-none (pair l u qs) = append_pairs-first l u no_pairs qs ∙ ap (pair l u) (append_pairs-none qs)
 
