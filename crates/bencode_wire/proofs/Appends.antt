@@ -1,6 +1,5 @@
 -- Where bytes are part of a message, reading goes on from what they are read as.
 use Rattle.std.proofs.Common.{◌≡◌, ℕ, suc, ◌+◌, List, [], ◌∷◌, ◌++◌, length, refl, ap, ◌∙◌, arith}
-use Rattle.bencode_wire.specs.Tree.{Tree}
 use Rattle.bencode_wire.specs.Cut.{Cut}
 use Rattle.bencode_wire.specs.Machine.{Adding, bite, Judged, reads, whole, refuses, rests, faults, ended, onward, reading, start}
 

@@ -1,11 +1,11 @@
 -- Each cut is the front of a message's text.
-use Rattle.std.proofs.Common.{◌≡◌, ℕ, suc, ◌+◌, ◌-◌, ◌<◌, ◌≤◌, ◌^◌, ◌⊎◌, inl, inr, Bool, true, false, ℤ, pos, negsuc, List, [], ◌∷◌, ◌++◌, length, decimal, refl, sym, ap, ◌∙◌, subst, append_assoc, append-nil, length-append, arith}
+use Rattle.std.proofs.Common.{◌≡◌, ℕ, suc, ◌+◌, ◌-◌, ◌<◌, ◌^◌, ◌⊎◌, inl, inr, true, false, ℤ, pos, negsuc, List, [], ◌∷◌, ◌++◌, length, decimal, refl, sym, ap, ◌∙◌, append_assoc, append-nil, length-append, arith}
 use Rattle.std.proofs.lemmas.List.{length-replicate}
 use Rattle.std.proofs.lemmas.Fmt.{decimal_digit}
 use Rattle.std.proofs.Math.ListN.{replicate}
-use Rattle.bencode_wire.specs.Tree.{Tree, integer, string, list, dictionary, Trees, no_trees, tree, Pairs, no_pairs, pair, add_tree, add_pair}
-use Rattle.bencode_wire.specs.Spelling.{text, trees_text, pairs_text, string_text, integer_text, IsInteger, IsString, IsSpellable, AreSpellable, ArePairs}
-use Rattle.bencode_wire.specs.Cut.{Frame, in_list, at_key, at_value, Token, between, after_i, after_minus, digits, count, part, Cut, cut, frame_text, frames_text, token_text, cut_text, IfAny, TakesValue, TakesKey, greatest, IsCut}
+use Rattle.bencode_wire.specs.Tree.{Tree, integer, string, list, dictionary, no_trees, Pairs, no_pairs, add_tree, add_pair}
+use Rattle.bencode_wire.specs.Spelling.{text, trees_text, pairs_text, string_text, integer_text, IsInteger, IsString, IsSpellable, ArePairs}
+use Rattle.bencode_wire.specs.Cut.{Frame, in_list, at_key, at_value, between, after_i, after_minus, digits, count, part, Cut, cut, frames_text, cut_text, IfAny, TakesValue, TakesKey, IsCut}
 use Rattle.bencode_wire.proofs.Sound.{pairs_text-add_pair, trees_text-add_tree, ArePairs-add_pair, AreSpellable-add_tree}
 
 -- bytes that are less than a message

@@ -1,15 +1,13 @@
 -- The text of a value is read as the value, and the text of a cut as the cut.
-use Rattle.std.proofs.Common.{◌≡◌, ℕ, suc, ◌+◌, ◌-◌, ◌*◌, ◌/◌, ◌%◌, ◌^◌, ◌<◌, ◌≤◌, ◌⊎◌, inl, inr, Bool, true, false, cond, nat_lt, nat_le, ◌==◌, ◌&&◌, ℤ, pos, negsuc, List, [], ◌∷◌, ◌++◌, length, decimal, refl, sym, ap, ◌∙◌, subst, append_assoc, append-nil, length-append, arith}
-use Rattle.std.specs.Fmt.{signed_decimal}
+use Rattle.std.proofs.Common.{◌≡◌, ℕ, suc, ◌+◌, ◌-◌, ◌*◌, ◌/◌, ◌%◌, ◌^◌, ◌<◌, ◌≤◌, ◌⊎◌, inl, inr, Bool, true, false, cond, nat_lt, nat_le, ◌==◌, ℤ, pos, negsuc, List, [], ◌∷◌, ◌++◌, length, decimal, refl, sym, ap, ◌∙◌, append_assoc, append-nil, arith}
 use Rattle.std.proofs.lemmas.Bool.Decides.{nat_tests}
-use Rattle.std.proofs.lemmas.Fmt.{decimal_digit, decimal_step, decimal_by_steps}
+use Rattle.std.proofs.lemmas.Fmt.{decimal_by_steps}
 use Rattle.bencode_wire.specs.Tree.{Tree, integer, string, list, dictionary, Trees, no_trees, tree, Pairs, no_pairs, pair, add_tree, add_pair}
 use Rattle.bencode_wire.specs.Spelling.{text, trees_text, pairs_text, string_text, integer_text, IsInteger, IsString, IsSpellable, AreSpellable, ArePairs}
-use Rattle.bencode_wire.specs.Cut.{Frame, in_list, at_key, at_value, Token, between, after_i, after_minus, digits, count, part, Cut, cut, frame_text, frames_text, token_text, cut_text, IfAny, TakesValue, TakesKey, greatest, IsCut}
+use Rattle.bencode_wire.specs.Cut.{Frame, in_list, at_key, at_value, between, after_i, after_minus, digits, count, part, Cut, cut, frames_text, token_text, cut_text, IfAny, TakesValue, TakesKey, greatest, IsCut}
 use Rattle.bencode_wire.specs.Sign.{sign_of}
-use Rattle.bencode_wire.specs.declared.sign.Sign.{Sign}
 use Rattle.bencode_wire.specs.declared.sign.Sign.TheVariants as signs
-use Rattle.bencode_wire.specs.Machine.{Next, goes, opens, names, ends, stuck, put, begin, begin_message, more_digits, integer_minus, integer_digits, more_length, length_digits, text_bytes, signed, step_run}
+use Rattle.bencode_wire.specs.Machine.{Next, goes, opens, names, ends, stuck, put, begin, more_digits, integer_minus, integer_digits, more_length, length_digits, step_run}
 
 -- what a byte makes of what has come
 abbrev pub after : Next → ℕ → Next
@@ -208,7 +206,7 @@ append_pairs-first : (k : List ℕ) (t : Tree) (ps qs : Pairs) → append_pairs 
 append_pairs-first k t ps no_pairs = refl
 append_pairs-first k t ps (pair l u qs) = append_pairs-first k t (add_pair ps l u) qs
 
-append_pairs-none : (qs : Pairs) → append_pairs no_pairs qs ≡ qs
+pub append_pairs-none : (qs : Pairs) → append_pairs no_pairs qs ≡ qs
 append_pairs-none no_pairs = refl
 append_pairs-none (pair l u qs) = append_pairs-first l u no_pairs qs ∙ ap (pair l u) (append_pairs-none qs)
 

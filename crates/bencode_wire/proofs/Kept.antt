@@ -1,11 +1,11 @@
 -- Bytes of a message that are clean, and the cut as which the machine holds them.
-use Rattle.std.proofs.Common.{◌≡◌, ℕ, suc, ◌+◌, ◌-◌, ◌<◌, ◌≤◌, ◌⊎◌, inl, inr, Bool, true, false, cond, nat_lt, nat_le, List, [], ◌∷◌, ◌++◌, length, refl, sym, ap, ◌∙◌, subst, append_assoc, append-nil, length-append, arith}
+use Rattle.std.proofs.Common.{◌≡◌, ℕ, ◌+◌, ◌⊎◌, inl, inr, Bool, true, false, cond, nat_lt, List, [], ◌∷◌, ◌++◌, length, refl, sym, ap, ◌∙◌, subst, append_assoc, append-nil, length-append, arith}
 use Rattle.std.proofs.lemmas.Bool.Decides.{nat_tests}
 use Rattle.bencode_wire.specs.Tree.{Tree, dictionary, Pairs, no_pairs, pair, no_trees, tree, has_key}
-use Rattle.bencode_wire.specs.Spelling.{text, pairs_text, ArePairs, sorted, put_pair}
-use Rattle.bencode_wire.specs.Cut.{Frame, at_value, Token, between, Cut, cut, cut_text, IsCut, sorted_cut, in_list, at_key, after_i, after_minus, digits, count, part}
+use Rattle.bencode_wire.specs.Spelling.{text, pairs_text, sorted, put_pair}
+use Rattle.bencode_wire.specs.Cut.{Frame, at_value, between, Cut, cut, cut_text, IsCut, sorted_cut, in_list, at_key, after_i, after_minus, digits, count, part}
 use Rattle.bencode_wire.specs.Fault.{Rule, malformed, too_long, too_deep}
-use Rattle.bencode_wire.specs.Machine.{Next, goes, opens, names, ends, stuck, Judged, reads, whole, refuses, judged, checked, is_large_token, start, bite, Reading, End, rests, faults, ended, onward, reading}
+use Rattle.bencode_wire.specs.Machine.{Next, goes, opens, names, ends, stuck, Judged, reads, whole, refuses, judged, checked, is_large_token, start, bite, rests, ended, onward, reading}
 use Rattle.bencode_wire.specs.Stream.{Meets, IsClean, IsMessage, IsRest}
 use Rattle.bencode_wire.proofs.Sound.{Sound}
 use Rattle.bencode_wire.proofs.Complete.{run, run-append, run-stuck, run-message, next_of, resting, run-cut}

@@ -15,3 +15,4 @@ pub mod Verdicts
 pub mod Appends
 pub mod Kept
 pub mod Within
+pub mod Written

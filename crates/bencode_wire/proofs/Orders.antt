@@ -1,5 +1,5 @@
 -- Reading with the pairs kept sorted is reading in the order in which they come, sorted.
-use Rattle.std.proofs.Common.{◌≡◌, ℕ, suc, ◌+◌, ◌-◌, ◌*◌, ◌<◌, ◌≤◌, Bool, true, false, cond, nat_lt, nat_le, ◌==◌, ◌||◌, Ordering, Less, Equal, Greater, nat_cmp, is_eq, List, [], ◌∷◌, ◌++◌, length, map, refl, sym, ap, ◌∙◌, subst, arith}
+use Rattle.std.proofs.Common.{◌≡◌, ℕ, suc, ◌+◌, ◌-◌, ◌*◌, Bool, true, false, cond, nat_lt, nat_le, ◌==◌, ◌||◌, Ordering, Less, Equal, Greater, nat_cmp, is_eq, List, [], ◌∷◌, ◌++◌, length, refl, sym, ap, ◌∙◌, arith}
 use Rattle.std.proofs.lemmas.Map.Text.{is_eq-slice_cmp}
 use Rattle.std.proofs.lemmas.Slice.Eq.{bytes_eq-Decides}
 use Rattle.std.specs.Str.{bytes_eq}
@@ -7,12 +7,12 @@ use Rattle.std.specs.Cmp.Lexicographic.{slice_cmp}
 use Rattle.std.specs.Ordering.{match_ordering}
 use Rattle.bencode_wire.specs.Tree.{Tree, integer, string, list, dictionary, Trees, no_trees, tree, Pairs, no_pairs, pair, add_tree, add_pair, has_key}
 use Rattle.bencode_wire.specs.Spelling.{put_pair, put_pairs, sorted, sorted_trees}
-use Rattle.bencode_wire.specs.Cut.{Frame, in_list, at_key, at_value, Token, between, after_i, after_minus, digits, count, part, Cut, cut, greatest, sorted_frame, sorted_frames, sorted_cut}
+use Rattle.bencode_wire.specs.Cut.{Frame, in_list, at_key, at_value, Token, between, after_i, after_minus, digits, count, part, cut, greatest, sorted_frame, sorted_frames, sorted_cut}
 use Rattle.bencode_wire.specs.Sign.{sign_of}
-use Rattle.bencode_wire.specs.Fault.{Rule, malformed, too_long, too_deep}
+use Rattle.bencode_wire.specs.Fault.{malformed, too_long, too_deep}
 use Rattle.bencode_wire.specs.declared.sign.Sign.{Sign}
 use Rattle.bencode_wire.specs.declared.sign.Sign.TheVariants as signs
-use Rattle.bencode_wire.specs.Machine.{Next, goes, opens, names, ends, stuck, put, put_key, close, begin, begin_value, begin_item, begin_key, begin_message, integer_open, integer_minus, more_digits, integer_digits, more_length, open_string, length_digits, text_bytes, signed, step_run, Judged, reads, whole, refuses, judged, checked, is_large_token}
+use Rattle.bencode_wire.specs.Machine.{Next, goes, opens, names, ends, stuck, put, begin, begin_value, begin_item, begin_key, begin_message, integer_open, integer_minus, integer_digits, length_digits, text_bytes, signed, step_run, Judged, reads, whole, refuses, judged, checked, is_large_token}
 
 abbrev sorted_next : Next → Next
 sorted_next (goes fs token) = goes (sorted_frames fs) token

@@ -1,14 +1,14 @@
 -- A byte read behind a cut makes a cut whose text is the text and the byte.
-use Rattle.std.proofs.Common.{◌≡◌, ◌≢◌, ℕ, zero, suc, ◌+◌, ◌-◌, ◌*◌, ◌/◌, ◌%◌, ◌^◌, ◌<◌, ◌≤◌, ◌⊎◌, inl, inr, Bool, true, false, cond, nat_lt, nat_le, ◌==◌, ◌&&◌, ℤ, pos, negsuc, List, [], ◌∷◌, ◌++◌, length, codes, decimal, refl, sym, ap, ◌∙◌, subst, append_assoc, append-nil, length-append, arith}
+use Rattle.std.proofs.Common.{◌≡◌, ℕ, suc, ◌+◌, ◌-◌, ◌*◌, ◌/◌, ◌%◌, ◌^◌, ◌<◌, ◌≤◌, ◌⊎◌, inl, inr, Bool, true, false, cond, nat_lt, nat_le, ◌==◌, ◌&&◌, List, [], ◌∷◌, ◌++◌, length, decimal, refl, sym, ap, ◌∙◌, subst, append_assoc, append-nil, length-append, arith}
 use Rattle.std.proofs.lemmas.Bool.Decides.{nat_tests}
 use Rattle.std.proofs.lemmas.Fmt.{decimal_digit, decimal_step}
 use Rattle.bencode_wire.specs.Tree.{Tree, integer, string, list, dictionary, Trees, no_trees, tree, Pairs, no_pairs, pair, add_tree, add_pair}
-use Rattle.bencode_wire.specs.Spelling.{text, trees_text, pairs_text, string_text, integer_text, IsInteger, IsString, IsSpellable, AreSpellable, ArePairs}
-use Rattle.bencode_wire.specs.Cut.{Frame, in_list, at_key, at_value, Token, between, after_i, after_minus, digits, count, part, Cut, cut, frame_text, frames_text, token_text, cut_text, IfAny, TakesValue, TakesKey, greatest, IsCut}
+use Rattle.bencode_wire.specs.Spelling.{text, trees_text, pairs_text, string_text, IsInteger, IsString, IsSpellable, AreSpellable, ArePairs}
+use Rattle.bencode_wire.specs.Cut.{Frame, in_list, at_key, at_value, Token, between, after_i, after_minus, digits, count, part, cut, frames_text, token_text, cut_text, IfAny, TakesValue, TakesKey, greatest, IsCut}
 use Rattle.bencode_wire.specs.Sign.{sign_of}
 use Rattle.bencode_wire.specs.declared.sign.Sign.{Sign}
 use Rattle.bencode_wire.specs.declared.sign.Sign.TheVariants as signs
-use Rattle.bencode_wire.specs.Machine.{Next, goes, opens, names, ends, stuck, put, put_key, close, begin, begin_value, begin_item, begin_key, begin_message, integer_open, integer_minus, more_digits, integer_digits, more_length, open_string, length_digits, text_bytes, signed, step_run, start}
+use Rattle.bencode_wire.specs.Machine.{Next, goes, opens, names, ends, stuck, put, put_key, close, begin, begin_value, begin_item, begin_key, begin_message, integer_open, integer_minus, more_digits, integer_digits, more_length, open_string, length_digits, text_bytes, signed, step_run}
 
 -- the pairs behind others
 pub pairs_text-add_pair : (ps : Pairs) (key : List ℕ) (t : Tree) → pairs_text (add_pair ps key t) ≡ pairs_text ps ++ string_text key ++ text t

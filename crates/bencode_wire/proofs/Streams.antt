@@ -1,12 +1,12 @@
 -- A reading from a message's start is a stream, and streams are put together.
-use Rattle.std.proofs.Common.{◌≡◌, ℕ, suc, ◌+◌, ◌-◌, ◌≤◌, List, [], ◌∷◌, ◌++◌, length, refl, sym, ap, ◌∙◌, subst, append_assoc, append-nil, length-append, arith}
+use Rattle.std.proofs.Common.{◌≡◌, ℕ, ◌+◌, ◌-◌, ◌≤◌, List, [], ◌∷◌, ◌++◌, length, refl, sym, ap, ◌∙◌, subst, append_assoc, append-nil, length-append, arith}
 use Rattle.bencode_wire.specs.Tree.{Tree}
 use Rattle.bencode_wire.specs.Spelling.{put_pair}
 use Rattle.bencode_wire.specs.Cut.{Cut}
 use Rattle.bencode_wire.specs.Fault.{Rule}
-use Rattle.bencode_wire.specs.Machine.{Adding, bite, Judged, reads, whole, refuses, Reading, End, rests, faults, ended, onward, reading, start}
-use Rattle.bencode_wire.proofs.Appends.{same_reads, reading-append}
-use Rattle.bencode_wire.specs.Stream.{Meets, IsMessage, Ending, rest, fault, IsRest, Streams}
+use Rattle.bencode_wire.specs.Machine.{bite, Judged, reads, whole, refuses, Reading, End, rests, faults, ended, onward, reading, start}
+use Rattle.bencode_wire.proofs.Appends.{same_reads}
+use Rattle.bencode_wire.specs.Stream.{IsMessage, Ending, rest, fault, IsRest, Streams}
 use Rattle.bencode_wire.proofs.Kept.{Kept, kept_none, kept_reads, kept_whole, kept_refuses, rest_of_kept}
 
 -- what a reading of all bytes of a stream from a place on has found

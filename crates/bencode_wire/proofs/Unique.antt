@@ -4,7 +4,6 @@ use Rattle.std.proofs.Math.Seq.{drop-append_seam}
 use Rattle.bencode_wire.specs.Tree.{Tree}
 use Rattle.bencode_wire.specs.Spelling.{put_pair}
 use Rattle.bencode_wire.specs.Cut.{Cut}
-use Rattle.bencode_wire.specs.Fault.{Rule}
 use Rattle.bencode_wire.specs.Machine.{Adding, bite, Judged, reads, whole, refuses, Reading, End, rests, faults, ended, with_message, onward, reading, start}
 use Rattle.bencode_wire.specs.Stream.{Ending, rest, fault, Ends, Streams}
 use Rattle.bencode_wire.proofs.Kept.{rest_kept, kept_meets, message_read}

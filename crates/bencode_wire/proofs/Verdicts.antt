@@ -1,12 +1,12 @@
 -- The rules of the grammar at the last byte of some bytes are what reading them comes to.
-use Rattle.std.proofs.Common.{◌≡◌, ℕ, suc, ◌+◌, ◌-◌, ◌<◌, ◌≤◌, ◌⊎◌, inl, inr, Bool, true, false, cond, nat_lt, nat_le, List, [], ◌∷◌, ◌++◌, length, refl, sym, ap, ◌∙◌, subst, append_assoc, append-nil, length-append, arith}
+use Rattle.std.proofs.Common.{◌≡◌, ℕ, ◌+◌, ◌<◌, ◌≤◌, inl, inr, Bool, true, false, cond, nat_lt, nat_le, List, [], ◌∷◌, ◌++◌, length, refl, sym, ap, ◌∙◌, subst, append_assoc, append-nil, length-append, arith}
 use Rattle.std.proofs.lemmas.Bool.Decides.{nat_tests}
-use Rattle.bencode_wire.specs.Tree.{Tree, dictionary, Trees, no_trees, Pairs, no_pairs, add_pair, has_key, HasKey}
-use Rattle.bencode_wire.specs.Spelling.{text, ArePairs, sorted, put_pair}
-use Rattle.bencode_wire.specs.Cut.{Frame, in_list, at_key, at_value, Token, between, after_i, after_minus, digits, count, part, Cut, cut, cut_text, IsCut, sorted_frames, sorted_cut}
+use Rattle.bencode_wire.specs.Tree.{dictionary, Pairs, add_pair, has_key}
+use Rattle.bencode_wire.specs.Spelling.{text, put_pair}
+use Rattle.bencode_wire.specs.Cut.{Frame, at_value, between, after_i, after_minus, digits, count, part, Cut, cut, cut_text, IsCut, sorted_frames, sorted_cut}
 use Rattle.bencode_wire.specs.Fault.{Rule, malformed, too_long, too_deep}
 use Rattle.bencode_wire.specs.Machine.{Next, goes, opens, names, ends, stuck, step_run, Judged, reads, whole, refuses, judged, checked, bite}
-use Rattle.bencode_wire.specs.Stream.{Begins, BreaksOff, RepeatsKey, IsLarge, IsEmpty, IsDeep, IsTooLong, IsMalformed, Meets}
+use Rattle.bencode_wire.specs.Stream.{Begins, BreaksOff, IsLarge, IsEmpty, IsDeep, IsTooLong, IsMalformed, Meets}
 use Rattle.bencode_wire.proofs.Sound.{Sound, sound_at, step-sound}
 use Rattle.bencode_wire.proofs.Complete.{after, run, run-append, run-stuck, next_of, run-cut, run-message}
 use Rattle.bencode_wire.proofs.Close.{close}

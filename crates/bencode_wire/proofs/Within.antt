@@ -10,11 +10,11 @@ use Rattle.bencode_wire.specs.Fault.{Rule, malformed, too_long, too_deep}
 use Rattle.bencode_wire.specs.Sign.{sign_of}
 use Rattle.bencode_wire.specs.declared.sign.Sign.{Sign}
 use Rattle.bencode_wire.specs.declared.sign.Sign.TheVariants as signs
-use Rattle.bencode_wire.specs.Machine.{Next, goes, opens, names, ends, stuck, put, close, begin, begin_value, begin_item, begin_key, begin_message, integer_open, integer_minus, more_digits, integer_digits, more_length, open_string, length_digits, text_bytes, signed, step_run, Judged, reads, whole, refuses, judged, checked}
-use Rattle.bencode_wire.specs.Stream.{Meets, IsClean, IsMessage, Ending, Streams}
+use Rattle.bencode_wire.specs.Machine.{Next, goes, opens, names, ends, stuck, put, begin, begin_value, begin_item, begin_key, integer_open, integer_minus, more_digits, integer_digits, more_length, length_digits, signed, step_run, reads, whole, refuses, judged, checked}
+use Rattle.bencode_wire.specs.Stream.{IsClean, Ending, Streams}
 use Rattle.bencode_wire.specs.Within.{IsWithin, AreWithin, PairsWithin}
 use Rattle.bencode_wire.proofs.Complete.{after, run, run-append, run-message}
-use Rattle.bencode_wire.proofs.Verdicts.{read, verdict, meets_verdict}
+use Rattle.bencode_wire.proofs.Verdicts.{read, meets_verdict}
 
 -- what is open is within the limits, each at its depth
 abbrev FramesWithin : ℕ → List Frame → Type 0

@@ -1,8 +1,8 @@
 -- What the calls that read bytes ensure: what was read and what is ahead are one reading, wherever reading stands.
-use Rattle.std.specs.Prelude.{◌≡◌, ℕ, ◌+◌, ◌-◌, ◌^◌, min, List, ◌++◌, map, drop, Option, Some, None, Result, Ok, Err}
+use Rattle.std.specs.Prelude.{◌≡◌, ℕ, ◌+◌, ◌-◌, List, ◌++◌, map, drop, Option, Some, None, Result, Ok, Err}
 use Rattle.bencode_wire.specs.Tree.{Tree}
 use Rattle.bencode_wire.specs.Spelling.{put_pair}
-use Rattle.bencode_wire.specs.Fault.{Rule, counted, fault_at}
+use Rattle.bencode_wire.specs.Fault.{counted, fault_at}
 use Rattle.bencode_wire.specs.Machine.{Reading, End, rests, faults, reading}
 use Rattle.bencode_wire.specs.Reader.{cut_view}
 use Rattle.bencode_wire.specs.View.{view}

@@ -1,5 +1,5 @@
--- Reading byte by byte: what a byte makes of a cut. `add` puts a pair into a dictionary: behind the others, as they are
--- read, or by its key.
+-- What the private functions that read compute, byte by byte: what a byte makes of a cut. No public clause speaks of it.
+-- `add` puts a pair into a dictionary: behind the others, as they are read, or by its key.
 use Rattle.std.specs.Prelude.{◌≡◌, ℕ, ◌≤◌, ◌+◌, ◌-◌, ◌*◌, Bool, true, false, cond, nat_lt, nat_le, ◌==◌, ℤ, pos, negsuc, List, [], ◌∷◌, ◌++◌, length}
 use Rattle.bencode_wire.specs.Tree.{Tree, integer, string, list, dictionary, no_trees, Pairs, no_pairs, add_tree, has_key}
 use Rattle.bencode_wire.specs.Cut.{Frame, in_list, at_key, at_value, Token, between, after_i, after_minus, digits, count, part, Cut, cut, greatest}

@@ -1,8 +1,8 @@
 -- A stream of messages (BEP 3), and where it breaks a rule. A message is one dictionary; a place is a byte's offset in the
 -- stream, from 0.
 use Rattle.std.specs.Prelude.{◌≡◌, ℕ, ◌+◌, ◌<◌, ◌≤◌, ◌⊎◌, List, [], ◌∷◌, ◌++◌, length}
-use Rattle.bencode_wire.specs.Tree.{Tree, dictionary, Trees, no_trees, Pairs, no_pairs, HasKey}
-use Rattle.bencode_wire.specs.Spelling.{text, sorted, ArePairs, AreDistinct}
+use Rattle.bencode_wire.specs.Tree.{Tree, dictionary, no_trees, Pairs, no_pairs, HasKey}
+use Rattle.bencode_wire.specs.Spelling.{text, sorted, ArePairs}
 use Rattle.bencode_wire.specs.Cut.{Frame, in_list, at_key, at_value, between, count, Cut, cut, cut_text, IsCut}
 use Rattle.bencode_wire.specs.Fault.{Rule, malformed, too_long, too_deep}
 

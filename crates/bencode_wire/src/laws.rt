@@ -1,7 +1,7 @@
 //! Laws of the spelling. The functions do nothing: what they ensure is proved of every value.
 ghost use Rattle.std.specs.Prelude.{◌≡◌, ℕ, ◌+◌, ◌≤◌, List, ◌∷◌, ◌++◌, length};
 ghost use Rattle.bencode_wire.specs.Tree.{Tree, Pairs, dictionary};
-ghost use Rattle.bencode_wire.specs.Spelling.{text, sorted, Spells, IsSpellable, ArePairs};
+ghost use Rattle.bencode_wire.specs.Spelling.{text, canonical, sorted, Spells, IsSpellable, ArePairs};
 ghost use Rattle.bencode_wire.specs.Stream.{Ending, Streams};
 ghost use Rattle.bencode_wire.specs.Within.{IsWithin};
 
@@ -30,4 +30,12 @@ pub fn a_text_is_read()
         → ArePairs ps → IsWithin limit 64 (dictionary ps) → length (text (dictionary ps)) ≤ limit
         → Streams limit (place + length (text (dictionary ps))) more ts end
         → Streams limit place (text (dictionary ps) ++ more) (sorted (dictionary ps) ∷ ts) end }
+{}
+
+/// What `write_into` wrote is read again, whatever follows, within the limits.
+pub fn what_is_written_is_read()
+    ensures { (limit place : ℕ) (ps : Pairs) (more : List ℕ) (ts : List Tree) (end : Ending)
+        → IsSpellable (sorted (dictionary ps)) → IsWithin limit 64 (sorted (dictionary ps)) → length (canonical (dictionary ps)) ≤ limit
+        → Streams limit (place + length (canonical (dictionary ps))) more ts end
+        → Streams limit place (canonical (dictionary ps) ++ more) (sorted (dictionary ps) ∷ ts) end }
 {}

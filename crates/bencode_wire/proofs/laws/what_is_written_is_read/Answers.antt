@@ -1,0 +1,5 @@
+use Rattle.bencode_wire.proofs.Written.{written_read}
+use Rattle.bencode_wire.proofs.laws.what_is_written_is_read.Goals as goal
+
+pub returns : goal.returns
+returns c = written_read
