@@ -1,23 +1,14 @@
--- What each function is. Kinds of all arguments come first, from the left, then the function's own
--- faults, then the limits on its value.
-use Rattle.std.specs.Prelude.{ℕ, ℤ, List, [], ◌∷◌, Result, Ok, Err}
-use Rattle.repl_values.specs.Datum.{Datum, integer}
-use Rattle.core_functions.specs.Outcome.{Outcome, Failure, ◌>>=◌, wrong_argument, settled}
-use Rattle.core_functions.specs.Names.{name_of}
-use Rattle.core_functions.specs.Arithmetic.{arithmetic}
+-- What each function is, group by group. Kinds of all arguments come first, from the left, then the
+-- function's own faults, then the limits on its value.
+use Rattle.std.specs.Prelude.{List, Result}
+use Rattle.repl_values.specs.Datum.{Datum}
+use Rattle.repl_faults.specs.Failure.{Failure}
+use Rattle.core_integers.specs.Meaning as integers
+use Rattle.core_functions.specs.Outcome.{Outcome, settled}
 use Rattle.core_functions.specs.declared.function.CoreFunction.{CoreFunction}
 
-abbrev pub integer_in : List ℕ → Datum → Result ℤ Failure
-integer_in function (integer n) = Ok n
-integer_in function d = Err (wrong_argument function d)
-
--- the arguments of a function that takes integers alone
-abbrev pub integers_in : List ℕ → List Datum → Result (List ℤ) Failure
-integers_in function [] = Ok []
-integers_in function (d ∷ ds) = integer_in function d >>= λ n. (integers_in function ds >>= λ ns. Ok (n ∷ ns))
-
-unfoldable pub value_of : CoreFunction → List Datum → Result Datum Failure
-value_of function args = integers_in (name_of function) args >>= λ ns. (arithmetic function ns >>= λ n. Ok (integer n))
+abbrev pub value_of : CoreFunction → List Datum → Result Datum Failure
+value_of (CoreFunction.Integer f) args = integers.value_of f args
 
 abbrev pub meaning : CoreFunction → List Datum → Outcome
 meaning function args = settled (value_of function args)

@@ -1,54 +1,23 @@
 // Applying a function to values.
-ghost use Rattle.std.specs.Prelude.{◌≡◌, true, length, map, List, ℤ, IfOk, vec_len};
+ghost use Rattle.std.specs.Prelude.{◌≡◌, true, length, map};
 ghost use Rattle.repl_values.specs.View.{view};
-ghost use Rattle.core_functions.specs.Names.{fits, name_of};
+ghost use Rattle.repl_faults.specs.View.{Gives};
+ghost use Rattle.core_functions.specs.Names.{fits};
 ghost use Rattle.core_functions.specs.Outcome.{limited};
-ghost use Rattle.core_functions.specs.Meaning.{meaning, value_of, integer_in, integers_in};
-ghost use Rattle.core_functions.specs.View.{Gives, Answers};
+ghost use Rattle.core_functions.specs.Meaning.{meaning, value_of};
+ghost use Rattle.core_functions.specs.View.{Answers};
 
-use crate::arithmetic::arithmetic;
-use crate::faults::{too_large, wrong_argument};
 use crate::function::CoreFunction;
-use repl_values::{Fault, Value, nesting, weight};
-use std::alloc::{AllocError, AllocFailed, Global};
-use thiserror::Error;
+use core_integers::apply_integers;
+use repl_faults::{ApplyError, too_large};
+use repl_values::{Value, nesting, weight};
+use std::alloc::Global;
 
 /// What a function gave, and the text that it printed.
 #[derive(Debug, Drop)]
 pub struct Applied {
     pub value: Value,
     pub text: String,
-}
-
-/// Why a function gave no value. The program's own fault is `Fault`.
-#[derive(Debug, Drop, Error)]
-pub enum ApplyError {
-    #[error("out of memory")]
-    NoMemory,
-    #[error("{0:?}")]
-    Fault(Fault),
-}
-
-impl From<AllocError> for ApplyError {
-    ghost use Rattle.std.specs.Prelude.{◌≡◌};
-    ghost use Rattle.core_functions.specs.declared.application.ApplyError.TheVariants.{NoMemory};
-
-    ghost from_gives = { λ _ e. e ≡ NoMemory };
-
-    fn from(_e: AllocError) -> ApplyError {
-        ApplyError::NoMemory
-    }
-}
-
-impl<T: Drop> From<AllocFailed<T>> for ApplyError {
-    ghost use Rattle.std.specs.Prelude.{◌≡◌};
-    ghost use Rattle.core_functions.specs.declared.application.ApplyError.TheVariants.{NoMemory};
-
-    ghost from_gives = { λ _ e. e ≡ NoMemory };
-
-    fn from(_e: AllocFailed<T>) -> ApplyError {
-        ApplyError::NoMemory
-    }
 }
 
 // The most that a value may weigh, and the deepest that it may nest.
@@ -67,18 +36,18 @@ pub fn apply(alloc: Global, function: CoreFunction, args: &[Value]) -> Result<Ap
     limited(alloc, value)
 }
 
-#[tactic(auto, using(crate::proofs::Values::seen), unfolding(crate::specs::Meaning::value_of))]
+// The value of the function's own group.
 fn value_of(alloc: Global, function: CoreFunction, args: &[Value]) -> Result<Value, ApplyError>
     requires { fits function (length args.now) ≡ true }
     ensures { Gives view result (value_of function (map view args.now)) }
 {
-    let integers = integers_of(alloc, function.name(), args)?;
-    let n = arithmetic(alloc, function, integers.as_slice())?;
-    Ok(Value::Int(n))
+    match function {
+        CoreFunction::Integer(function) => apply_integers(alloc, function, args),
+    }
 }
 
 // The value with nothing printed, where it keeps within the limits.
-#[tactic(auto, using(crate::proofs::Values::seen), unfolding(crate::specs::Outcome::limited))]
+#[tactic(auto, unfolding(crate::specs::Outcome::limited))]
 fn limited(alloc: Global, value: Value) -> Result<Applied, ApplyError>
     ensures { Answers (limited (view value)) result }
 {
@@ -87,28 +56,4 @@ fn limited(alloc: Global, value: Value) -> Result<Applied, ApplyError>
     }
     let text = String::new(alloc);
     Ok(Applied { value, text })
-}
-
-// The arguments of a function that takes integers alone.
-#[tactic(auto, using(crate::proofs::Values::seen))]
-fn integers_of(alloc: Global, function: &str, args: &[Value]) -> Result<Vec<i64>, ApplyError>
-    ensures each { Gives (λ integers. integers.items) result (integers_in function.now (map view args.now)) }
-    ensures count { IfOk result (λ integers. vec_len integers ≡ length args.now) }
-{
-    let mut integers = Vec::new(alloc);
-    for argument in args {
-        let n = integer_of(alloc, function, argument)?;
-        integers.push(n)?;
-    }
-    Ok(integers)
-}
-
-#[tactic(auto, using(crate::proofs::Values::seen))]
-fn integer_of(alloc: Global, function: &str, argument: &Value) -> Result<i64, ApplyError>
-    ensures { Gives (λ n. n) result (integer_in function.now (view argument.now)) }
-{
-    match argument {
-        Value::Int(n) => Ok(*n),
-        other => Err(ApplyError::Fault(wrong_argument(alloc, function, other)?)),
-    }
 }

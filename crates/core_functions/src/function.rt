@@ -3,19 +3,12 @@ ghost use Rattle.std.specs.Prelude.{◌≡◌, Some, false, is_some};
 ghost use Rattle.std.specs.Option.{option_map_or};
 ghost use Rattle.core_functions.specs.Names.{function_named, name_of, fits};
 
-/// A function of the language that needs no store.
+use core_integers::IntegerFunction;
+
+/// A function of the language that needs no store, by its group.
 #[derive(Clone, Copy, Debug, PartialEq, Eq)]
 pub enum CoreFunction {
-    Add,
-    Subtract,
-    Multiply,
-    Increment,
-    Decrement,
-    Quotient,
-    Remainder,
-    Modulo,
-    Maximum,
-    Minimum,
+    Integer(IntegerFunction),
 }
 
 impl CoreFunction {
@@ -23,19 +16,10 @@ impl CoreFunction {
     pub fn named(name: &str) -> Option<CoreFunction>
         ensures { result ≡ function_named name.now }
     {
-        match name {
-            "+" => Some(CoreFunction::Add),
-            "-" => Some(CoreFunction::Subtract),
-            "*" => Some(CoreFunction::Multiply),
-            "inc" => Some(CoreFunction::Increment),
-            "dec" => Some(CoreFunction::Decrement),
-            "quot" => Some(CoreFunction::Quotient),
-            "rem" => Some(CoreFunction::Remainder),
-            "mod" => Some(CoreFunction::Modulo),
-            "max" => Some(CoreFunction::Maximum),
-            "min" => Some(CoreFunction::Minimum),
-            _ => None,
+        if let Some(function) = IntegerFunction::named(name) {
+            return Some(CoreFunction::Integer(function));
         }
+        None
     }
 
     /// Its name in `clojure.core`.
@@ -44,16 +28,7 @@ impl CoreFunction {
         ensures known { function_named result.now ≡ Some self }
     {
         match self {
-            CoreFunction::Add => "+",
-            CoreFunction::Subtract => "-",
-            CoreFunction::Multiply => "*",
-            CoreFunction::Increment => "inc",
-            CoreFunction::Decrement => "dec",
-            CoreFunction::Quotient => "quot",
-            CoreFunction::Remainder => "rem",
-            CoreFunction::Modulo => "mod",
-            CoreFunction::Maximum => "max",
-            CoreFunction::Minimum => "min",
+            CoreFunction::Integer(function) => function.name(),
         }
     }
 
@@ -62,14 +37,7 @@ impl CoreFunction {
         ensures { result ≡ fits self arguments }
     {
         match self {
-            CoreFunction::Add | CoreFunction::Multiply => true,
-            CoreFunction::Subtract | CoreFunction::Maximum | CoreFunction::Minimum => {
-                arguments >= 1
-            }
-            CoreFunction::Increment | CoreFunction::Decrement => arguments == 1,
-            CoreFunction::Quotient | CoreFunction::Remainder | CoreFunction::Modulo => {
-                arguments == 2
-            }
+            CoreFunction::Integer(function) => function.takes(arguments),
         }
     }
 }

@@ -1,15 +1,13 @@
 //! The functions of the language that need no store, by their names in `clojure.core`.
 //!
-//! A name is looked up once, into a `CoreFunction`; `apply` goes by that. Integers have 64 signed
-//! bits, and a result outside them is a fault, never a wrap.
+//! A name is looked up once, into a `CoreFunction`; `apply` goes by that. Each group of functions has
+//! a crate of its own.
 #![tactic(auto)]
 
 mod application;
-mod arithmetic;
-mod faults;
 mod function;
 #[cfg(test)]
 mod tests;
 
-pub use application::{Applied, ApplyError, apply};
+pub use application::{Applied, apply};
 pub use function::{CoreFunction, arity_fits, knows};

@@ -1,5 +1,6 @@
 // Each function once on its happy path and once on each of its faults, as the language's rules say.
-use crate::{ApplyError, CoreFunction, apply, arity_fits, knows};
+use crate::{CoreFunction, apply, arity_fits, knows};
+use repl_faults::ApplyError;
 use repl_values::{Value, print_into};
 use std::alloc::{AllocError, Global};
 use std::process::Abort;

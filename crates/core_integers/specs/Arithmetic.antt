@@ -1,8 +1,8 @@
 -- Functions of integers. They have 64 signed bits: what does not fit is a fault, never a wrap.
 use Rattle.std.specs.Prelude.{ℕ, ℤ, pos, negsuc, ◌+ℤ◌, ◌-ℤ◌, ◌*ℤ◌, neg_ℤ, int_div, int_rem, int_lt, ◌^◌, ◌==◌, Bool, false, true, not, ◌&&◌, ◌||◌, nat_lt, List, [], ◌∷◌, length, drop, Result, Ok, Err, if◌then◌else◌, slice_index_or}
 use Rattle.std.specs.Int.{int_min, int_max}
-use Rattle.core_functions.specs.Outcome.{Failure, ◌>>=◌, integer_overflow, divide_by_zero}
-use Rattle.core_functions.specs.declared.function.CoreFunction.{CoreFunction}
+use Rattle.repl_faults.specs.Failure.{Failure, ◌>>=◌, integer_overflow, divide_by_zero}
+use Rattle.core_integers.specs.declared.function.IntegerFunction.{IntegerFunction}
 
 -- -(2 ^ 63) ≤ n < 2 ^ 63
 abbrev pub fits_64 : ℤ → Bool
@@ -71,14 +71,14 @@ from_first step ns = folded step (first ns) (drop 1 ns)
 unfoldable pub difference : List ℤ → Result ℤ Failure
 difference ns = if length ns == 1 then held (neg_ℤ (first ns)) else from_first subtract ns
 
-unfoldable pub arithmetic : CoreFunction → List ℤ → Result ℤ Failure
-arithmetic CoreFunction.Add ns = folded add (pos 0) ns
-arithmetic CoreFunction.Subtract ns = difference ns
-arithmetic CoreFunction.Multiply ns = folded multiply (pos 1) ns
-arithmetic CoreFunction.Increment ns = add (first ns) (pos 1)
-arithmetic CoreFunction.Decrement ns = subtract (first ns) (pos 1)
-arithmetic CoreFunction.Quotient ns = quotient (first ns) (second ns)
-arithmetic CoreFunction.Remainder ns = remainder (first ns) (second ns)
-arithmetic CoreFunction.Modulo ns = modulo (first ns) (second ns)
-arithmetic CoreFunction.Maximum ns = from_first maximum ns
-arithmetic CoreFunction.Minimum ns = from_first minimum ns
+unfoldable pub arithmetic : IntegerFunction → List ℤ → Result ℤ Failure
+arithmetic IntegerFunction.Add ns = folded add (pos 0) ns
+arithmetic IntegerFunction.Subtract ns = difference ns
+arithmetic IntegerFunction.Multiply ns = folded multiply (pos 1) ns
+arithmetic IntegerFunction.Increment ns = add (first ns) (pos 1)
+arithmetic IntegerFunction.Decrement ns = subtract (first ns) (pos 1)
+arithmetic IntegerFunction.Quotient ns = quotient (first ns) (second ns)
+arithmetic IntegerFunction.Remainder ns = remainder (first ns) (second ns)
+arithmetic IntegerFunction.Modulo ns = modulo (first ns) (second ns)
+arithmetic IntegerFunction.Maximum ns = from_first maximum ns
+arithmetic IntegerFunction.Minimum ns = from_first minimum ns

@@ -1,14 +1,13 @@
 // Arithmetic on 64 signed bits.
 ghost use Rattle.std.specs.Prelude.{◌≡◌, ℤ, pos, length, true, SomeIff, FitsSigned, int_div, ◌<◌};
 ghost use Rattle.std.specs.Int.{w64, IsNonZero};
-ghost use Rattle.core_functions.specs.Names.{fits};
-ghost use Rattle.core_functions.specs.View.{Gives};
-ghost use Rattle.core_functions.specs.Arithmetic as meant;
-ghost use Rattle.core_functions.specs.Operation.{operation_of};
+ghost use Rattle.core_integers.specs.Names.{fits};
+ghost use Rattle.repl_faults.specs.View.{Gives};
+ghost use Rattle.core_integers.specs.Arithmetic as meant;
+ghost use Rattle.core_integers.specs.Operation.{operation_of};
 
-use crate::application::ApplyError;
-use crate::faults::{divide_by_zero, integer_overflow};
-use crate::function::CoreFunction;
+use crate::function::IntegerFunction;
+use repl_faults::{ApplyError, divide_by_zero, integer_overflow};
 use std::alloc::Global;
 
 // What is folded from the left.
@@ -25,23 +24,23 @@ enum Operation {
 #[tactic(auto, unfolding(crate::specs::Arithmetic::arithmetic))]
 pub(crate) fn arithmetic(
     alloc: Global,
-    function: CoreFunction,
+    function: IntegerFunction,
     integers: &[i64],
 ) -> Result<i64, ApplyError>
     requires { fits function (length integers.now) ≡ true }
     ensures { Gives (λ n. n) result (meant.arithmetic function integers.now) }
 {
     match function {
-        CoreFunction::Add => fold(alloc, Operation::Add, 0, integers),
-        CoreFunction::Subtract => difference(alloc, integers),
-        CoreFunction::Multiply => fold(alloc, Operation::Multiply, 1, integers),
-        CoreFunction::Increment => operate(alloc, Operation::Add, integers[0], 1),
-        CoreFunction::Decrement => operate(alloc, Operation::Subtract, integers[0], 1),
-        CoreFunction::Quotient => quotient(alloc, integers[0], integers[1]),
-        CoreFunction::Remainder => remainder(alloc, integers[0], integers[1]),
-        CoreFunction::Modulo => modulo(alloc, integers[0], integers[1]),
-        CoreFunction::Maximum => fold_from_first(alloc, Operation::Maximum, integers),
-        CoreFunction::Minimum => fold_from_first(alloc, Operation::Minimum, integers),
+        IntegerFunction::Add => fold(alloc, Operation::Add, 0, integers),
+        IntegerFunction::Subtract => difference(alloc, integers),
+        IntegerFunction::Multiply => fold(alloc, Operation::Multiply, 1, integers),
+        IntegerFunction::Increment => operate(alloc, Operation::Add, integers[0], 1),
+        IntegerFunction::Decrement => operate(alloc, Operation::Subtract, integers[0], 1),
+        IntegerFunction::Quotient => quotient(alloc, integers[0], integers[1]),
+        IntegerFunction::Remainder => remainder(alloc, integers[0], integers[1]),
+        IntegerFunction::Modulo => modulo(alloc, integers[0], integers[1]),
+        IntegerFunction::Maximum => fold_from_first(alloc, Operation::Maximum, integers),
+        IntegerFunction::Minimum => fold_from_first(alloc, Operation::Minimum, integers),
     }
 }
 
@@ -143,7 +142,6 @@ fn with_sign_of(divisor: i64, rest: i64) -> i64
 }
 
 // What a checked operation gave, or the fault where it gave nothing.
-
 fn or_overflow(alloc: Global, checked: Option<i64>) -> Result<i64, ApplyError>
     ensures { (n : ℤ) → SomeIff checked (FitsSigned w64 n) n → Gives (λ n. n) result (meant.held n) }
 {

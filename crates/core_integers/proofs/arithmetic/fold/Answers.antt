@@ -2,10 +2,10 @@ use Rattle.std.proofs.Common.{rules, ◌≡◌, ℤ, pos, ap, ◌∙◌, get_or,
 use Rattle.std.specs.Int.{w64}
 use Rattle.std.proofs.lemmas.Int.{to_z-of_z}
 use Rattle.std.proofs.lemmas.Result.{err_from_is_err_and}
-use Rattle.core_functions.specs.Arithmetic.{folded}
-use Rattle.core_functions.specs.Operation.{operation_of}
-use Rattle.core_functions.proofs.Integers.{fold_next, fold_fails}
-use Rattle.core_functions.proofs.arithmetic.fold.Goals as goal
+use Rattle.core_integers.specs.Arithmetic.{folded}
+use Rattle.core_integers.specs.Operation.{operation_of}
+use Rattle.core_integers.proofs.Integers.{fold_next, fold_fails}
+use Rattle.core_integers.proofs.arithmetic.fold.Goals as goal
 
 pub returns-in_err-total : goal.returns-in_err-total
 returns-in_err-total c =

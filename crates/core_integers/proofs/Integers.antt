@@ -5,11 +5,11 @@ use Rattle.std.specs.Int.{w64, CanDivide, IsNonZero}
 use Rattle.std.proofs.lemmas.Int.{to_z-of_z}
 use Rattle.std.proofs.lemmas.Grind.{common_steps}
 use Rattle.std.proofs.lemmas.Bool.Decides.{nat_tests}
-use Rattle.core_functions.specs.Outcome.{Failure, integer_overflow}
-use Rattle.core_functions.specs.View.{Fails, failure_of}
-use Rattle.core_functions.specs.declared.application.ApplyError.{ApplyError}
-use Rattle.core_functions.specs.declared.application.ApplyError.TheVariants as errors
-use Rattle.core_functions.specs.Arithmetic.{fits_64, held, folded}
+use Rattle.repl_faults.specs.Failure.{Failure, integer_overflow}
+use Rattle.repl_faults.specs.View.{Fails, failure_of}
+use Rattle.repl_faults.specs.declared.error.ApplyError.{ApplyError}
+use Rattle.repl_faults.specs.declared.error.ApplyError.TheVariants as errors
+use Rattle.core_integers.specs.Arithmetic.{fits_64, held, folded}
 
 fits_64-true : (n : ℤ) → FitsSigned w64 n → fits_64 n ≡ true
 fits_64-true (pos n) h = grind (arith, common_steps, h.sfits)

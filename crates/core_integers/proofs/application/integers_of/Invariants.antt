@@ -1,8 +1,8 @@
 use Rattle.std.proofs.Common.{◌≡◌, map, drop, vec_len}
 use Rattle.repl_values.specs.View.{view}
-use Rattle.core_functions.specs.Meaning.{integers_in}
-use Rattle.core_functions.proofs.Values.{with_front}
-use Rattle.core_functions.proofs.application.integers_of.Given as goal
+use Rattle.core_integers.specs.Meaning.{integers_in}
+use Rattle.core_integers.proofs.Values.{with_front}
+use Rattle.core_integers.proofs.application.integers_of.Given as goal
 
 abbrev pub invariant-loop-argument : goal.invariant-loop-argument
 invariant-loop-argument l =

@@ -1,6 +1,6 @@
 use Rattle.std.proofs.Common.{Err, sym, ap, ◌∙◌}
-use Rattle.core_functions.proofs.Integers.{held-Some, held-None}
-use Rattle.core_functions.proofs.arithmetic.or_overflow.Goals as goal
+use Rattle.core_integers.proofs.Integers.{held-Some, held-None}
+use Rattle.core_integers.proofs.arithmetic.or_overflow.Goals as goal
 
 pub returns-in-Some : goal.returns-in-Some
 returns-in-Some c = λ n h. held-Some c.args.checked n c.in-Some.n c.in-Some.is h

@@ -1,0 +1,4 @@
+pub mod Names
+pub mod Arithmetic
+pub mod Meaning
+pub mod Operation

@@ -1,0 +1,52 @@
+// Applying a function of integers to values.
+ghost use Rattle.std.specs.Prelude.{◌≡◌, true, length, map, IfOk, vec_len};
+ghost use Rattle.repl_values.specs.View.{view};
+ghost use Rattle.repl_faults.specs.View.{Gives};
+ghost use Rattle.core_integers.specs.Names.{fits};
+ghost use Rattle.core_integers.specs.Meaning.{value_of, integer_in, integers_in};
+
+use crate::arithmetic::arithmetic;
+use crate::function::IntegerFunction;
+use repl_faults::{ApplyError, wrong_argument};
+use repl_values::Value;
+use std::alloc::Global;
+
+/// The function's value at as many arguments as it takes. All arguments' kinds are checked from the
+/// left before anything else.
+#[tactic(auto, using(crate::proofs::Values::seen), unfolding(crate::specs::Meaning::value_of))]
+pub fn apply_integers(
+    alloc: Global,
+    function: IntegerFunction,
+    args: &[Value],
+) -> Result<Value, ApplyError>
+    requires { fits function (length args.now) ≡ true }
+    ensures { Gives view result (value_of function (map view args.now)) }
+{
+    let integers = integers_of(alloc, function.name(), args)?;
+    let n = arithmetic(alloc, function, integers.as_slice())?;
+    Ok(Value::Int(n))
+}
+
+// The arguments of a function that takes integers alone.
+#[tactic(auto, using(crate::proofs::Values::seen))]
+fn integers_of(alloc: Global, function: &str, args: &[Value]) -> Result<Vec<i64>, ApplyError>
+    ensures each { Gives (λ integers. integers.items) result (integers_in function.now (map view args.now)) }
+    ensures count { IfOk result (λ integers. vec_len integers ≡ length args.now) }
+{
+    let mut integers = Vec::new(alloc);
+    for argument in args {
+        let n = integer_of(alloc, function, argument)?;
+        integers.push(n)?;
+    }
+    Ok(integers)
+}
+
+#[tactic(auto, using(crate::proofs::Values::seen))]
+fn integer_of(alloc: Global, function: &str, argument: &Value) -> Result<i64, ApplyError>
+    ensures { Gives (λ n. n) result (integer_in function.now (view argument.now)) }
+{
+    match argument {
+        Value::Int(n) => Ok(*n),
+        other => Err(ApplyError::Fault(wrong_argument(alloc, function, other)?)),
+    }
+}

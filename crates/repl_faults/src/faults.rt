@@ -1,0 +1,196 @@
+// The makers of faults. Each fails only for want of memory.
+ghost use Rattle.std.specs.Prelude.{◌≡◌, ◌++◌, IfOk, string_bytes};
+ghost use Rattle.repl_values.specs.Print.{print};
+ghost use Rattle.repl_values.specs.View.{view};
+ghost use Rattle.repl_faults.specs.Failure as meant;
+ghost use Rattle.repl_faults.specs.View.{failure_of};
+
+use itoa::Buffer;
+use repl_values::{Fault, Value, print_into};
+use std::alloc::{AllocError, Global};
+
+const ARITHMETIC: &str = "java.lang.ArithmeticException";
+
+const CLASS_CAST: &str = "java.lang.ClassCastException";
+
+const ILLEGAL_ARGUMENT: &str = "java.lang.IllegalArgumentException";
+
+const RUNTIME: &str = "java.lang.RuntimeException";
+
+fn fault(alloc: Global, class: &str, text: &str) -> Result<Fault, AllocError>
+    ensures { IfOk result (λ f. failure_of f ≡ record { class = class.now; text = text.now }) }
+{
+    let class = String::from_str(alloc, class)?;
+    let text = String::from_str(alloc, text)?;
+    Ok(Fault { class, text })
+}
+
+// The text is what stands in front, and a name behind it.
+fn named(alloc: Global, class: &str, front: &str, name: &str) -> Result<Fault, AllocError>
+    ensures { IfOk result (λ f. failure_of f ≡ record { class = class.now; text = front.now ++ name.now }) }
+{
+    let class = String::from_str(alloc, class)?;
+    let mut text = String::from_str(alloc, front)?;
+    text.push_str(name)?;
+    Ok(Fault { class, text })
+}
+
+// The text is what stands in front, and a value's print behind it.
+fn printed(alloc: Global, class: &str, front: &str, value: &Value) -> Result<Fault, AllocError>
+    ensures { IfOk result (λ f. failure_of f ≡ record { class = class.now; text = front.now ++ print (view value.now) }) }
+{
+    let class = String::from_str(alloc, class)?;
+    let mut text = String::from_str(alloc, front)?;
+    print_into(alloc, value, &mut text)?;
+    Ok(Fault { class, text })
+}
+
+/// A result outside 64 signed bits.
+pub fn integer_overflow(alloc: Global) -> Result<Fault, AllocError>
+    ensures { IfOk result (λ f. failure_of f ≡ meant.integer_overflow) }
+{
+    fault(alloc, ARITHMETIC, "integer overflow")
+}
+
+/// A divisor of zero.
+pub fn divide_by_zero(alloc: Global) -> Result<Fault, AllocError>
+    ensures { IfOk result (λ f. failure_of f ≡ meant.divide_by_zero) }
+{
+    fault(alloc, ARITHMETIC, "Divide by zero")
+}
+
+/// `argument` is of a kind that the function of this name does not take.
+pub fn wrong_argument(alloc: Global, function: &str, argument: &Value) -> Result<Fault, AllocError>
+    ensures { IfOk result (λ f. failure_of f ≡ meant.wrong_argument function.now (view argument.now)) }
+{
+    let class = String::from_str(alloc, CLASS_CAST)?;
+    let mut text = String::from_str(alloc, "Wrong argument to ")?;
+    text.push_str(function)?;
+    text.push_str(": ")?;
+    print_into(alloc, argument, &mut text)?;
+    Ok(Fault { class, text })
+}
+
+/// This value, or form, stands where a function has to.
+pub fn not_a_function(alloc: Global, value: &Value) -> Result<Fault, AllocError>
+    ensures { IfOk result (λ f. failure_of f ≡ meant.not_a_function (view value.now)) }
+{
+    printed(alloc, CLASS_CAST, "Not a function: ", value)
+}
+
+/// A function, as it is called, with a number of arguments that it does not take.
+pub fn wrong_arity(alloc: Global, function: &str, arguments: usize) -> Result<Fault, AllocError>
+    ensures { IfOk result (λ f. failure_of f ≡ meant.wrong_arity function.now arguments) }
+{
+    let mut digits = Buffer::new();
+    let class = String::from_str(alloc, "clojure.lang.ArityException")?;
+    let mut text = String::from_str(alloc, "Wrong number of args (")?;
+    text.push_str(digits.format(arguments))?;
+    text.push_str(") passed to: ")?;
+    text.push_str(function)?;
+    Ok(Fault { class, text })
+}
+
+/// An index outside a list or a vector.
+pub fn out_of_bounds(alloc: Global) -> Result<Fault, AllocError>
+    ensures { IfOk result (λ f. failure_of f ≡ meant.out_of_bounds) }
+{
+    fault(
+        alloc,
+        "java.lang.IndexOutOfBoundsException",
+        "Index out of bounds",
+    )
+}
+
+/// A value that weighs or nests more than the limits.
+pub fn too_large(alloc: Global) -> Result<Fault, AllocError>
+    ensures { IfOk result (λ f. failure_of f ≡ meant.too_large) }
+{
+    fault(alloc, ILLEGAL_ARGUMENT, "Value too large")
+}
+
+/// A print that would take the printed text past its limit.
+pub fn output_too_long(alloc: Global) -> Result<Fault, AllocError>
+    ensures { IfOk result (λ f. failure_of f ≡ meant.output_too_long) }
+{
+    fault(alloc, ILLEGAL_ARGUMENT, "Output too long")
+}
+
+/// A key of a map to which an equal one stands before.
+pub fn duplicate_key(alloc: Global, key: &Value) -> Result<Fault, AllocError>
+    ensures { IfOk result (λ f. failure_of f ≡ meant.duplicate_key (view key.now)) }
+{
+    printed(alloc, ILLEGAL_ARGUMENT, "Duplicate key: ", key)
+}
+
+/// The last of an odd number of keys and values.
+pub fn no_value_supplied(alloc: Global, key: &Value) -> Result<Fault, AllocError>
+    ensures { IfOk result (λ f. failure_of f ≡ meant.no_value_supplied (view key.now)) }
+{
+    printed(alloc, ILLEGAL_ARGUMENT, "No value supplied for key: ", key)
+}
+
+/// Another shape of the special form of this name.
+pub fn bad_form(alloc: Global, name: &str) -> Result<Fault, AllocError>
+    ensures { IfOk result (λ f. failure_of f ≡ meant.bad_form name.now) }
+{
+    named(alloc, ILLEGAL_ARGUMENT, "Bad form: ", name)
+}
+
+/// A symbol that names nothing.
+pub fn unresolved(alloc: Global, symbol: &str) -> Result<Fault, AllocError>
+    ensures { IfOk result (λ f. failure_of f ≡ meant.unresolved symbol.now) }
+{
+    let class = String::from_str(alloc, RUNTIME)?;
+    let mut text = String::from_str(alloc, "Unable to resolve symbol: ")?;
+    text.push_str(symbol)?;
+    text.push_str(" in this context")?;
+    Ok(Fault { class, text })
+}
+
+/// The namespace of a symbol is not there.
+pub fn no_such_namespace(alloc: Global, name: &str) -> Result<Fault, AllocError>
+    ensures { IfOk result (λ f. failure_of f ≡ meant.no_such_namespace name.now) }
+{
+    named(alloc, RUNTIME, "No such namespace: ", name)
+}
+
+/// A symbol with a namespace that does not bind its name.
+pub fn no_such_var(alloc: Global, symbol: &str) -> Result<Fault, AllocError>
+    ensures { IfOk result (λ f. failure_of f ≡ meant.no_such_var symbol.now) }
+{
+    named(alloc, RUNTIME, "No such var: ", symbol)
+}
+
+/// A symbol that names a function, in a value's place.
+pub fn not_a_value(alloc: Global, symbol: &str) -> Result<Fault, AllocError>
+    ensures { IfOk result (λ f. failure_of f ≡ meant.not_a_value symbol.now) }
+{
+    named(alloc, RUNTIME, "A function isn't a value: ", symbol)
+}
+
+/// A form called more functions than its budget has calls.
+pub fn too_many_calls(alloc: Global) -> Result<Fault, AllocError>
+    ensures { IfOk result (λ f. failure_of f ≡ meant.too_many_calls) }
+{
+    fault(alloc, RUNTIME, "Budget of 10000 calls is passed")
+}
+
+/// A form inside more forms than may be under way at once.
+pub fn too_deep(alloc: Global) -> Result<Fault, AllocError>
+    ensures { IfOk result (λ f. failure_of f ≡ meant.too_deep) }
+{
+    fault(
+        alloc,
+        "java.lang.StackOverflowError",
+        "Depth of 200 is passed",
+    )
+}
+
+/// A value that a program threw and that is no fault, by its text.
+pub fn thrown(alloc: Global, text: String) -> Result<Fault, AllocError>
+    ensures { IfOk result (λ f. failure_of f ≡ meant.thrown (string_bytes text)) }
+{
+    let class = String::from_str(alloc, "clojure.lang.ExceptionInfo")?;
+    Ok(Fault { class, text })
+}
