@@ -14,6 +14,8 @@ pub struct Origin {
 pub enum Body {
     /// A form's value as it is printed, and the namespace after the form.
     Value { value: String, ns: String },
+    /// The text that a form printed.
+    Output(String),
     /// The class of the fault that ended a form.
     Exception { class: String },
     /// The fault once more, as a line of text.
@@ -109,6 +111,7 @@ fn put_body(alloc: Global, fields: &mut Dictionary, body: Body) -> Result<(), Al
             put_text(alloc, fields, "ex", class_text(alloc, class.as_str())?)?;
             put_text(alloc, fields, "root-ex", class_text(alloc, class.as_str())?)
         }
+        Body::Output(text) => put_text(alloc, fields, "out", text),
         Body::ErrorText(text) => put_text(alloc, fields, "err", text),
         Body::UnknownOp(op) => put_given(alloc, fields, "op", op),
         Body::Done => Ok(()),
@@ -129,6 +132,7 @@ fn class_text(alloc: Global, class: &str) -> Result<String, AllocError> {
 fn statuses(body: &Body) -> &'static [&'static str] {
     match body {
         Body::Value { .. } => &[],
+        Body::Output(_) => &[],
         Body::ErrorText(_) => &[],
         Body::Exception { .. } => &["eval-error"],
         Body::Done => &["done"],

@@ -183,7 +183,10 @@ impl Server {
     fn post_end(&mut self, origin: &Origin, ending: Ending) -> Result<(), AllocError>
         ensures steps { self.new.steps_left ≡ self.old.steps_left }
     {
-        let (end, _text, ns) = ending.into_parts();
+        let (end, printed, ns) = ending.into_parts();
+        if !printed.is_empty() {
+            self.post(origin.copy(self.alloc)?, Body::Output(printed))?;
+        }
         match end {
             End::Value(value) => {
                 let mut text = String::new(self.alloc);

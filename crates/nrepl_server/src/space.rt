@@ -1,18 +1,17 @@
 // The one namespace, `user`: what its names are bound to, and how symbols are resolved in it.
-use core_functions::knows;
-use repl_asks::{Answer, Ask};
-use repl_values::{Fault, Value, copy};
+use core_functions::CoreFunction;
+use repl_asks::{Answer, Ask, Binding};
+use repl_faults::{no_such_namespace, no_such_var, unresolved};
+use repl_values::{Value, copy};
 use std::alloc::{AllocError, Global};
 use std::collections::BTreeMap;
 
 /// The namespace in which every request begins.
 pub const USER: &str = "user";
 
-const RUNTIME: &str = "java.lang.RuntimeException";
-
 #[derive(Drop)]
 pub struct Space {
-    bindings: BTreeMap<String, Value>,
+    bindings: BTreeMap<String, Binding>,
 }
 
 impl Space {
@@ -32,8 +31,8 @@ impl Space {
             Ask::Define {
                 namespace,
                 name,
-                value,
-            } => self.define(alloc, namespace, name, value),
+                binding,
+            } => self.define(alloc, namespace, name, binding),
         }
     }
 
@@ -50,16 +49,13 @@ impl Space {
     }
 
     fn resolve_simple(&self, alloc: Global, symbol: &str) -> Result<Answer, AllocError> {
-        if let Some(value) = self.bindings.get(symbol) {
-            return Ok(Answer::Value(copy(alloc, value)?));
+        if let Some(binding) = self.bindings.get(symbol) {
+            return bound(alloc, binding);
         }
-        if knows(symbol) {
-            return Ok(Answer::CoreFunction(String::from_str(alloc, symbol)?));
+        match CoreFunction::named(symbol) {
+            Some(function) => Ok(Answer::CoreFunction(function)),
+            None => Ok(Answer::Fault(unresolved(alloc, symbol)?)),
         }
-        let mut text = String::from_str(alloc, "Unable to resolve symbol: ")?;
-        text.push_str(symbol)?;
-        text.push_str(" in this context")?;
-        fault(alloc, text)
     }
 
     fn resolve_qualified(
@@ -70,17 +66,11 @@ impl Space {
         name: &str,
     ) -> Result<Answer, AllocError> {
         if space != USER {
-            let mut text = String::from_str(alloc, "No such namespace: ")?;
-            text.push_str(space)?;
-            return fault(alloc, text);
+            return Ok(Answer::Fault(no_such_namespace(alloc, space)?));
         }
         match self.bindings.get(name) {
-            Some(value) => Ok(Answer::Value(copy(alloc, value)?)),
-            None => {
-                let mut text = String::from_str(alloc, "No such var: ")?;
-                text.push_str(symbol)?;
-                fault(alloc, text)
-            }
+            Some(binding) => bound(alloc, binding),
+            None => Ok(Answer::Fault(no_such_var(alloc, symbol)?)),
         }
     }
 
@@ -89,15 +79,17 @@ impl Space {
         alloc: Global,
         space: String,
         name: String,
-        value: Value,
+        binding: Binding,
     ) -> Result<Answer, AllocError> {
         let key = String::from_str(alloc, name.as_str())?;
-        drop(self.bindings.insert(key, value)?);
+        drop(self.bindings.insert(key, binding)?);
         Ok(Answer::Value(Value::Var { space, name }))
     }
 }
 
-fn fault(alloc: Global, text: String) -> Result<Answer, AllocError> {
-    let class = String::from_str(alloc, RUNTIME)?;
-    Ok(Answer::Fault(Fault { class, text }))
+fn bound(alloc: Global, binding: &Binding) -> Result<Answer, AllocError> {
+    match binding {
+        Binding::Value(value) => Ok(Answer::Value(copy(alloc, value)?)),
+        Binding::Function(function) => Ok(Answer::Function(function.copy(alloc)?)),
+    }
 }

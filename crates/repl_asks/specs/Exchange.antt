@@ -1,17 +1,24 @@
 -- Asks and answers, without where they lie in memory.
 use Rattle.std.specs.Prelude.{ℕ, List, Bool, ⊤}
-use Rattle.repl_values.specs.Datum.{Datum}
+use Rattle.repl_values.specs.Datum.{Datum, FunctionData}
+use Rattle.core_functions.specs.declared.function.CoreFunction.{CoreFunction}
+
+-- what a name is bound to
+pub data BindingData : Type 0 where
+  bound_value : Datum → BindingData
+  bound_function : FunctionData → BindingData
 
 pub data AskData : Type 0 where
   -- what a symbol names in a namespace
   resolve : List ℕ → List ℕ → AskData
-  -- a namespace, a name and its value
-  define : List ℕ → List ℕ → Datum → AskData
+  -- a namespace, a name and what it is bound to
+  define : List ℕ → List ℕ → BindingData → AskData
 
 pub data AnswerData : Type 0 where
   value : Datum → AnswerData
-  -- by its name in `clojure.core`
-  core_function : List ℕ → AnswerData
+  core_function : CoreFunction → AnswerData
+  -- a function of the program
+  function : FunctionData → AnswerData
   -- a class and a text
   fault : List ℕ → List ℕ → AnswerData
 
@@ -27,6 +34,7 @@ pub record Heard : Type 0 where
 -- the answer is of a kind that the ask has: a definition is answered by its var, or by a fault
 abbrev pub Fits : AskData → AnswerData → Type 0
 Fits (resolve namespace symbol) answer = ⊤
-Fits (define namespace name d) (value v) = ⊤
-Fits (define namespace name d) (core_function f) = ⊥
-Fits (define namespace name d) (fault class text) = ⊤
+Fits (define namespace name b) (value v) = ⊤
+Fits (define namespace name b) (core_function f) = ⊥
+Fits (define namespace name b) (function f) = ⊥
+Fits (define namespace name b) (fault class text) = ⊤

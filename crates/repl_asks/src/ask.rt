@@ -1,8 +1,9 @@
 // The asks and their answers.
 ghost use Rattle.std.specs.Prelude.{◌≡◌, IfOk, string_bytes};
-ghost use Rattle.repl_asks.specs.View.{ask_view, answer_view};
+ghost use Rattle.repl_asks.specs.View.{ask_view, answer_view, binding_view};
 
-use repl_values::{Fault, Value, copy};
+use core_functions::CoreFunction;
+use repl_values::{Fault, Function, Value, copy};
 use std::alloc::{AllocError, Global};
 
 /// What a form asks next.
@@ -17,16 +18,24 @@ pub enum Ask {
     Define {
         namespace: String,
         name: String,
-        value: Value,
+        binding: Binding,
     },
+}
+
+/// What a name is bound to.
+#[derive(Debug, Drop)]
+pub enum Binding {
+    Value(Value),
+    Function(Function),
 }
 
 /// What the store answers.
 #[derive(Debug, Drop)]
 pub enum Answer {
     Value(Value),
-    /// A function of the language, by its name in `clojure.core`.
-    CoreFunction(String),
+    CoreFunction(CoreFunction),
+    /// A function of the program.
+    Function(Function),
     Fault(Fault),
 }
 
@@ -59,12 +68,24 @@ impl Ask {
             Ask::Define {
                 namespace,
                 name,
-                value,
+                binding,
             } => Ok(Ask::Define {
                 namespace: copy_text(alloc, namespace)?,
                 name: copy_text(alloc, name)?,
-                value: copy(alloc, value)?,
+                binding: binding.copy(alloc)?,
             }),
+        }
+    }
+}
+
+impl Binding {
+    /// The same binding once more. It fails only for want of memory.
+    pub fn copy(&self, alloc: Global) -> Result<Binding, AllocError>
+        ensures { IfOk result (λ copied. binding_view copied ≡ binding_view self.now) }
+    {
+        match self {
+            Binding::Value(value) => Ok(Binding::Value(copy(alloc, value)?)),
+            Binding::Function(function) => Ok(Binding::Function(function.copy(alloc)?)),
         }
     }
 }
@@ -76,7 +97,8 @@ impl Answer {
     {
         match self {
             Answer::Value(value) => Ok(Answer::Value(copy(alloc, value)?)),
-            Answer::CoreFunction(name) => Ok(Answer::CoreFunction(copy_text(alloc, name)?)),
+            Answer::CoreFunction(function) => Ok(Answer::CoreFunction(*function)),
+            Answer::Function(function) => Ok(Answer::Function(function.copy(alloc)?)),
             Answer::Fault(fault) => Ok(Answer::Fault(Fault {
                 class: copy_text(alloc, &fault.class)?,
                 text: copy_text(alloc, &fault.text)?,

@@ -39,6 +39,7 @@ fn fits(ask: &Ask, answer: &Answer) -> bool
 {
     match (ask, answer) {
         (Ask::Define { .. }, Answer::CoreFunction(_)) => false,
+        (Ask::Define { .. }, Answer::Function(_)) => false,
         _ => true,
     }
 }

@@ -1,8 +1,8 @@
 // Vectors and maps of values that were evaluated.
-ghost use Rattle.std.specs.Prelude.{◌<◌, IfOk};
-ghost use Rattle.repl_walker.specs.Size.{control_size};
+ghost use Rattle.std.specs.Prelude.{◌≡◌, ◌<◌, IfOk};
+ghost use Rattle.repl_walker.specs.Size.{control_size, spent};
 
-use crate::faults::{duplicate_key, too_large};
+use repl_faults::{duplicate_key, too_large};
 use crate::frames::{Collection, Control};
 use repl_values::{Value, first_repeated, nesting, weight};
 use std::alloc::{AllocError, Global};
@@ -18,7 +18,8 @@ pub(crate) fn collected(
     kind: Collection,
     values: Vec<Value>,
 ) -> Result<Control, AllocError>
-    ensures { IfOk result (λ control. control_size control < 2) }
+    ensures size { IfOk result (λ control. control_size control < 2) }
+    ensures calls { IfOk result (λ control. spent control ≡ 0) }
 {
     match kind {
         Collection::Vector => within_limits(alloc, Value::Vector(values)),
@@ -27,7 +28,8 @@ pub(crate) fn collected(
 }
 
 fn within_limits(alloc: Global, value: Value) -> Result<Control, AllocError>
-    ensures { IfOk result (λ control. control_size control < 2) }
+    ensures size { IfOk result (λ control. control_size control < 2) }
+    ensures calls { IfOk result (λ control. spent control ≡ 0) }
 {
     if weight(&value) > MAX_WEIGHT || nesting(&value) > MAX_NESTING {
         return Ok(Control::Fault(too_large(alloc)?));
@@ -37,7 +39,8 @@ fn within_limits(alloc: Global, value: Value) -> Result<Control, AllocError>
 
 // A map of its keys and values, which stand by turns.
 fn map_of(alloc: Global, values: Vec<Value>) -> Result<Control, AllocError>
-    ensures { IfOk result (λ control. control_size control < 2) }
+    ensures size { IfOk result (λ control. control_size control < 2) }
+    ensures calls { IfOk result (λ control. spent control ≡ 0) }
 {
     let mut keys = Vec::new(alloc);
     let mut found = Vec::new(alloc);

@@ -1,30 +1,17 @@
 // What an evaluation has still to do, from the inside out.
 use core_functions::CoreFunction;
 use repl_asks::Ask;
-use repl_values::{Fault, Value};
+use repl_values::{Fault, Function, Value};
 use std::collections::VecDeque;
 
-// What waits for the value of the form that is evaluated.
+// What is called.
 #[derive(Drop)]
-pub(crate) enum Frame {
-    // A call of this function: the values of its first arguments, and the forms of those behind
-    // the one that is evaluated.
-    Arguments {
-        function: CoreFunction,
-        values: Vec<Value>,
-        forms: VecDeque<Value>,
-    },
-    // The items of a vector or, by turns, the keys and values of a map: those that have values, and
-    // the forms behind the one that is evaluated.
-    Collection {
-        kind: Collection,
-        values: Vec<Value>,
-        forms: VecDeque<Value>,
-    },
-    // The definition of this name.
-    Define {
-        name: String,
-    },
+pub(crate) enum Callee {
+    Core(CoreFunction),
+    // A function of the program.
+    Program(Function),
+    // A keyword looks itself up in its argument.
+    Keyword(String),
 }
 
 // What is made of values in a row.
@@ -34,13 +21,109 @@ pub(crate) enum Collection {
     Map,
 }
 
+// Whether forms in a row are evaluated up to the first that is false, or the first that is true.
+#[derive(Clone, Copy)]
+pub(crate) enum Logic {
+    And,
+    Or,
+}
+
+// A name that `let` binds, and the form of its value.
+#[derive(Drop)]
+pub(crate) struct Binding {
+    pub(crate) name: String,
+    pub(crate) form: Value,
+}
+
+// What waits for the value of the form that is evaluated. Forms that are still to be evaluated have
+// `room` for so many forms inside one another.
+#[derive(Drop)]
+pub(crate) enum Frame {
+    // A call: the values of its first arguments, and the forms of those behind the one that is
+    // evaluated.
+    Arguments {
+        callee: Callee,
+        values: Vec<Value>,
+        forms: VecDeque<Value>,
+        room: u32,
+    },
+    // The items of a vector or, by turns, the keys and values of a map: those that have values, and
+    // the forms behind the one that is evaluated.
+    Collection {
+        kind: Collection,
+        values: Vec<Value>,
+        forms: VecDeque<Value>,
+        room: u32,
+    },
+    // The forms of a body behind the one that is evaluated.
+    Body {
+        forms: VecDeque<Value>,
+        room: u32,
+    },
+    // The bodies of which a condition chooses one.
+    Choice {
+        consequent: VecDeque<Value>,
+        alternative: VecDeque<Value>,
+        room: u32,
+    },
+    // The forms of `and` or `or` behind the one that is evaluated.
+    Logic {
+        logic: Logic,
+        forms: VecDeque<Value>,
+        room: u32,
+    },
+    // The name whose value is evaluated, the bindings behind it and the body.
+    Let {
+        name: String,
+        bindings: VecDeque<Binding>,
+        body: VecDeque<Value>,
+        room: u32,
+    },
+    // The definition of this name.
+    Define {
+        name: String,
+    },
+    Throw,
+    // The newest local goes.
+    Unbind,
+    // A function's body ends, and this is the place of its call.
+    Leave {
+        place: Place,
+    },
+}
+
+#[derive(Drop)]
+pub(crate) struct Local {
+    pub(crate) name: String,
+    pub(crate) value: Value,
+}
+
+// Where a form stands: the locals, newest first, and the namespace in which the function was defined
+// whose body it is in; none outside of functions.
+#[derive(Drop)]
+pub(crate) struct Place {
+    pub(crate) locals: VecDeque<Local>,
+    pub(crate) home: Option<String>,
+}
+
+// The frames of an evaluation, innermost first, where it stands, and what it carries from form to
+// form: how many calls it may still make, its namespace, and the text that it printed.
+#[derive(Drop)]
+pub(crate) struct State {
+    pub(crate) frames: VecDeque<Frame>,
+    pub(crate) place: Place,
+    pub(crate) calls: u32,
+    pub(crate) namespace: String,
+    pub(crate) text: String,
+}
+
 // What an answer is wanted for.
 #[derive(Drop)]
 pub(crate) enum Wanted {
     // The value of this symbol.
     SymbolValue(String),
     // The function at the head of a list, with the forms of its arguments.
-    Head(VecDeque<Value>),
+    Head(VecDeque<Value>, u32),
     // The var of a name that was defined.
     Definition(String),
 }
@@ -48,16 +131,10 @@ pub(crate) enum Wanted {
 // What comes next.
 #[derive(Drop)]
 pub(crate) enum Control {
-    Evaluate(Value),
+    Evaluate(Value, u32),
     Return(Value),
     Fault(Fault),
     Ask(Ask, Wanted),
-}
-
-// The frames of an evaluation, the innermost last, and what it carries from form to form.
-#[derive(Drop)]
-pub(crate) struct State {
-    pub(crate) frames: Vec<Frame>,
-    pub(crate) namespace: String,
-    pub(crate) text: String,
+    // The body of this function, at these arguments.
+    Enter(Function, Vec<Value>, u32),
 }

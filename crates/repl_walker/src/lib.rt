@@ -5,14 +5,21 @@
 //! way at once. `walk` runs one to its end over a `Refs` that answers.
 #![tactic(auto)]
 
+mod answers;
+mod calls;
 mod collect;
 mod evaluate;
-mod faults;
 mod frames;
+mod give;
 mod job;
+mod names;
 mod resume;
+mod rows;
 mod run;
+mod shapes;
+mod special;
 
 pub use job::{End, Ending, Job, Work};
+pub use names::names_function;
 pub use resume::{Progress, Walk, start};
 pub use run::{WalkError, walk};

@@ -1,13 +1,23 @@
 // An evaluation, from one ask to the next.
-ghost use Rattle.std.specs.Prelude.{◌≡◌, ◌+◌, ◌<◌, ◌≤◌, IfOk};
-ghost use Rattle.repl_walker.specs.Size.{control_size, frames_size, walk_size, progress_size};
+ghost use Rattle.std.specs.Prelude.{◌≡◌, ◌+◌, ◌<◌, ◌≤◌, ◌⊎◌, IfOk};
+ghost use Rattle.repl_walker.specs.Size.{control_size, frames_size, walk_size, progress_size, progress_calls, leg_size, leg_spent, spent};
 
-use crate::evaluate::{evaluate, give, take_answer};
-use crate::frames::{Control, State, Wanted};
+use crate::answers::take_answer;
+use crate::calls::enter;
+use crate::evaluate::evaluate;
+use crate::frames::{Control, Place, State, Wanted};
+use crate::give::give;
 use crate::job::{End, Ending, Job, Work};
 use repl_asks::{Answer, Ask};
-use repl_values::copy;
+use repl_values::{Function, Value, copy};
 use std::alloc::{AllocError, Global};
+use std::collections::VecDeque;
+
+/// How many calls an evaluation may make.
+const CALLS: u32 = 10_000;
+
+/// How many lists, vectors and maps may be under way inside one another.
+const ROOM: u32 = 200;
 
 /// An evaluation that waits for the answer to its last ask.
 #[derive(Drop)]
@@ -23,52 +33,103 @@ pub enum Progress {
     Ends(Ending),
 }
 
+impl Progress {
+    // The calls that are left, none behind the end.
+    pub(crate) fn calls_left(&self) -> u32
+        ensures { result ≡ progress_calls self.now }
+    {
+        match self {
+            Progress::Asks(walk, _ask) => walk.state.calls,
+            Progress::Ends(_ending) => 0,
+        }
+    }
+}
+
+// How far an evaluation comes without the body of another function.
+#[derive(Drop)]
+enum Leg {
+    Asks(Ask, Wanted),
+    Enters(Function, Vec<Value>, u32),
+    Ends(End),
+}
+
 /// Begins the job, up to its first ask or its end. It fails only for want of memory.
 pub fn start(alloc: Global, job: &Job) -> Result<Progress, AllocError> {
     let state = State {
-        frames: Vec::new(alloc),
+        frames: VecDeque::new(alloc),
+        place: Place {
+            locals: VecDeque::new(alloc),
+            home: None,
+        },
+        calls: CALLS,
         namespace: String::from_str(alloc, job.namespace.as_str())?,
         text: String::new(alloc),
     };
     let Work::Form(form) = &job.work;
-    run(alloc, state, Control::Evaluate(copy(alloc, form)?))
+    go_on(alloc, state, Control::Evaluate(copy(alloc, form)?, ROOM))
 }
 
 impl Walk {
     /// Goes on with this answer, up to the next ask or the end. It fails only for want of memory.
     pub fn resume(self, alloc: Global, answer: Answer) -> Result<Progress, AllocError>
-        ensures { IfOk result (λ progress. progress_size progress < walk_size self) }
+        ensures calls { IfOk result (λ progress. progress_calls progress ≤ self.state.calls) }
+        ensures falls { IfOk result (λ progress. (progress_calls progress < self.state.calls) ⊎ (progress_size progress < walk_size self)) }
     {
         let Walk { mut state, wanted } = self;
         let control = take_answer(alloc, &mut state, wanted, answer)?;
-        run(alloc, state, control)
+        go_on(alloc, state, control)
     }
 }
 
-fn run(alloc: Global, state: State, control: Control) -> Result<Progress, AllocError>
-    ensures { IfOk result (λ progress. progress_size progress
-        ≤ control_size control + frames_size state.frames.items) }
+// Each further leg has taken a call from the budget.
+fn go_on(alloc: Global, state: State, control: Control) -> Result<Progress, AllocError>
+    ensures calls { IfOk result (λ progress. progress_calls progress ≤ spent control + state.calls) }
+    ensures falls { IfOk result (λ progress. (progress_calls progress < spent control + state.calls)
+        ⊎ (progress_size progress ≤ control_size control + frames_size state.frames.items)) }
 {
     let mut state = state;
     let mut control = control;
     loop {
+        control = match run_leg(alloc, &mut state, control)? {
+            Leg::Ends(end) => return Ok(ended(state, end)),
+            Leg::Asks(ask, wanted) => return Ok(Progress::Asks(Walk { state, wanted }, ask)),
+            Leg::Enters(function, values, room) => {
+                enter(alloc, &mut state, function, values, room)?
+            }
+        };
+    }
+}
+
+fn run_leg(alloc: Global, state: &mut State, control: Control) -> Result<Leg, AllocError>
+    ensures size { IfOk result (λ leg. leg_size leg + frames_size state.new.frames.items
+        ≤ control_size control + frames_size state.old.frames.items) }
+    ensures calls { IfOk result (λ leg. leg_spent leg + state.new.calls ≤ spent control + state.old.calls) }
+{
+    let mut control = control;
+    loop {
         control = match control {
-            Control::Evaluate(form) => evaluate(alloc, &mut state, form)?,
-            Control::Return(value) => match state.frames.pop() {
-                Some(frame) => give(alloc, &mut state, frame, value)?,
-                None => return Ok(ended(state, End::Value(value))),
+            Control::Evaluate(form, room) => evaluate(alloc, state, form, room)?,
+            Control::Return(value) => match state.frames.pop_front() {
+                Some(frame) => give(alloc, state, frame, value)?,
+                None => return Ok(Leg::Ends(End::Value(value))),
             },
-            Control::Fault(fault) => return Ok(ended(state, End::Fault(fault))),
-            Control::Ask(ask, wanted) => return Ok(Progress::Asks(Walk { state, wanted }, ask)),
+            Control::Fault(fault) => return Ok(Leg::Ends(End::Fault(fault))),
+            Control::Ask(ask, wanted) => return Ok(Leg::Asks(ask, wanted)),
+            Control::Enter(function, values, room) => {
+                return Ok(Leg::Enters(function, values, room));
+            }
         };
     }
 }
 
 fn ended(state: State, end: End) -> Progress
-    ensures { progress_size result ≡ 0 }
+    ensures size { progress_size result ≡ 0 }
+    ensures calls { progress_calls result ≡ 0 }
 {
     let State {
         frames: _,
+        place: _,
+        calls: _,
         namespace,
         text,
     } = state;

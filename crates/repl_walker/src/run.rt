@@ -1,5 +1,6 @@
 // An evaluation over somebody who answers.
-ghost use Rattle.std.specs.Prelude.{◌≡◌, false, OnOk, IfErr};
+ghost use Rattle.std.specs.Prelude.{◌≡◌, false, OnOk, IfOk, IfErr};
+ghost use Rattle.repl_walker.specs.Size.{IsFurther};
 ghost use Rattle.repl_walker.specs.Stops.{IsStoppedBy, BeginsWith};
 
 use crate::job::{Ending, Job};
@@ -38,12 +39,37 @@ pub fn walk<R: Refs>(alloc: Global, job: &Job, refs: &mut R) -> Result<Ending, W
 {
     let mut progress = start(alloc, job)?;
     loop {
-        match progress {
+        match until_a_call(alloc, progress, refs)? {
             Progress::Ends(ending) => return Ok(ending),
+            later => progress = later,
+        }
+    }
+}
+
+// Answers asks until a call is taken from the budget, or to the end.
+fn until_a_call<R: Refs>(
+    alloc: Global,
+    progress: Progress,
+    refs: &mut R,
+) -> Result<Progress, WalkError>
+    requires { (R.heard refs.old).stopped ≡ false }
+    ensures ok { OnOk result ((R.heard refs.new).stopped ≡ false) }
+    ensures stopped { IfErr result (λ error. IsStoppedBy error (R.heard refs.new)) }
+    ensures grows { BeginsWith (R.heard refs.new).trace (R.heard refs.old).trace }
+    ensures fewer { IfOk result (λ later. IsFurther progress later) }
+{
+    let calls = progress.calls_left();
+    let mut progress = progress;
+    loop {
+        match progress {
+            Progress::Ends(ending) => return Ok(Progress::Ends(ending)),
             Progress::Asks(walk, ask) => match refs.ask(alloc, ask) {
                 Ok(answer) => progress = walk.resume(alloc, answer)?,
                 Err(stop) => return Err(WalkError::Stopped(stop.ask)),
             },
+        }
+        if progress.calls_left() < calls {
+            return Ok(progress);
         }
     }
 }

@@ -1,13 +1,13 @@
 use Rattle.std.proofs.Common.{◌≡◌, false}
-use Rattle.repl_walker.specs.Size.{progress_size}
+use Rattle.repl_walker.specs.Size.{progress_calls}
 use Rattle.repl_walker.specs.Stops.{BeginsWith}
 use Rattle.repl_walker.proofs.run.walk.Given as goal
 
-abbrev pub invariant-loop-progress : goal.invariant-loop-progress
-invariant-loop-progress g l = record {
+abbrev pub invariant-loop-ending : goal.invariant-loop-ending
+invariant-loop-ending g l = record {
   goes_on : (g.R.Refs.heard l.refs).stopped ≡ false;
   grows : BeginsWith (g.R.Refs.heard l.refs).trace (g.R.Refs.heard l.initial.refs).trace;
 }
 
-abbrev pub decreases-loop-progress : goal.decreases-loop-progress
-decreases-loop-progress g l = progress_size l.progress
+abbrev pub decreases-loop-ending : goal.decreases-loop-ending
+decreases-loop-ending g l = progress_calls l.progress

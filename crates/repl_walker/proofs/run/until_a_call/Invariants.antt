@@ -1,0 +1,14 @@
+use Rattle.std.proofs.Common.{◌≡◌, ◌≤◌, false}
+use Rattle.repl_walker.specs.Size.{progress_size, progress_calls}
+use Rattle.repl_walker.specs.Stops.{BeginsWith}
+use Rattle.repl_walker.proofs.run.until_a_call.Given as goal
+
+abbrev pub invariant-loop-progress : goal.invariant-loop-progress
+invariant-loop-progress g l = record {
+  goes_on : (g.R.Refs.heard l.refs).stopped ≡ false;
+  grows : BeginsWith (g.R.Refs.heard l.refs).trace (g.R.Refs.heard l.initial.refs).trace;
+  calls : progress_calls l.progress ≤ l.calls;
+}
+
+abbrev pub decreases-loop-progress : goal.decreases-loop-progress
+decreases-loop-progress g l = progress_size l.progress

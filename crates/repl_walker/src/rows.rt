@@ -1,0 +1,172 @@
+// Forms in a row: arguments, items, bodies, `and`, `or` and bindings.
+ghost use Rattle.std.specs.Prelude.{◌≡◌, ◌+◌, ◌<◌, ◌≤◌, IfOk};
+ghost use Rattle.repl_walker.specs.Size.{values_size, bindings_size, control_size, frames_size, spent};
+
+use crate::calls::call;
+use crate::collect::collected;
+use crate::frames::{Binding, Callee, Collection, Control, Frame, Local, Logic, State};
+use repl_values::Value;
+use std::alloc::{AllocError, Global};
+use std::collections::VecDeque;
+
+// The next argument is evaluated, or the function is called.
+pub(crate) fn next_argument(
+    alloc: Global,
+    state: &mut State,
+    callee: Callee,
+    values: Vec<Value>,
+    mut forms: VecDeque<Value>,
+    room: u32,
+) -> Result<Control, AllocError>
+    ensures size { IfOk result (λ control. control_size control + frames_size state.new.frames.items
+        < 2 + values_size forms.items + frames_size state.old.frames.items) }
+    ensures calls { IfOk result (λ control. spent control + state.new.calls ≤ state.old.calls) }
+{
+    match forms.pop_front() {
+        None => call(alloc, state, callee, values, room),
+        Some(form) => {
+            let frame = Frame::Arguments {
+                callee,
+                values,
+                forms,
+                room,
+            };
+            state.frames.push_front(frame)?;
+            Ok(Control::Evaluate(form, room))
+        }
+    }
+}
+
+// The next item of a vector or a map is evaluated, or it is made.
+pub(crate) fn next_item(
+    alloc: Global,
+    state: &mut State,
+    kind: Collection,
+    values: Vec<Value>,
+    mut forms: VecDeque<Value>,
+    room: u32,
+) -> Result<Control, AllocError>
+    ensures size { IfOk result (λ control. control_size control + frames_size state.new.frames.items
+        < 2 + values_size forms.items + frames_size state.old.frames.items) }
+    ensures calls { IfOk result (λ control. spent control + state.new.calls ≤ state.old.calls) }
+{
+    match forms.pop_front() {
+        None => collected(alloc, kind, values),
+        Some(form) => {
+            let frame = Frame::Collection {
+                kind,
+                values,
+                forms,
+                room,
+            };
+            state.frames.push_front(frame)?;
+            Ok(Control::Evaluate(form, room))
+        }
+    }
+}
+
+// The next form of a body is evaluated, or its value is that of the last.
+pub(crate) fn next_in_body(
+    state: &mut State,
+    last: Value,
+    mut forms: VecDeque<Value>,
+    room: u32,
+) -> Result<Control, AllocError>
+    ensures size { IfOk result (λ control. control_size control + frames_size state.new.frames.items
+        < 2 + values_size forms.items + frames_size state.old.frames.items) }
+    ensures calls { IfOk result (λ control. spent control + state.new.calls ≤ state.old.calls) }
+{
+    match forms.pop_front() {
+        None => Ok(Control::Return(last)),
+        Some(form) => {
+            state.frames.push_front(Frame::Body { forms, room })?;
+            Ok(Control::Evaluate(form, room))
+        }
+    }
+}
+
+// Only nil and false are false.
+pub(crate) fn is_true(value: &Value) -> bool {
+    match value {
+        Value::Nil => false,
+        Value::Bool(b) => *b,
+        _ => true,
+    }
+}
+
+// The next form of `and` or `or` is evaluated, unless the last value decides.
+pub(crate) fn next_in_logic(
+    state: &mut State,
+    logic: Logic,
+    last: Value,
+    mut forms: VecDeque<Value>,
+    room: u32,
+) -> Result<Control, AllocError>
+    ensures size { IfOk result (λ control. control_size control + frames_size state.new.frames.items
+        < 2 + values_size forms.items + frames_size state.old.frames.items) }
+    ensures calls { IfOk result (λ control. spent control + state.new.calls ≤ state.old.calls) }
+{
+    if decides(logic, &last) {
+        return Ok(Control::Return(last));
+    }
+    match forms.pop_front() {
+        None => Ok(Control::Return(last)),
+        Some(form) => {
+            let frame = Frame::Logic { logic, forms, room };
+            state.frames.push_front(frame)?;
+            Ok(Control::Evaluate(form, room))
+        }
+    }
+}
+
+fn decides(logic: Logic, value: &Value) -> bool {
+    match logic {
+        Logic::And => !is_true(value),
+        Logic::Or => is_true(value),
+    }
+}
+
+// The value of `and` or `or` before its first form.
+pub(crate) fn before(logic: Logic) -> Value {
+    match logic {
+        Logic::And => Value::Bool(true),
+        Logic::Or => Value::Nil,
+    }
+}
+
+// The next binding's form is evaluated, or the body.
+pub(crate) fn next_binding(
+    state: &mut State,
+    mut bindings: VecDeque<Binding>,
+    body: VecDeque<Value>,
+    room: u32,
+) -> Result<Control, AllocError>
+    ensures size { IfOk result (λ control. control_size control + frames_size state.new.frames.items
+        < 2 + bindings_size bindings.items + values_size body.items + frames_size state.old.frames.items) }
+    ensures calls { IfOk result (λ control. spent control + state.new.calls ≤ state.old.calls) }
+{
+    match bindings.pop_front() {
+        None => next_in_body(state, Value::Nil, body, room),
+        Some(binding) => {
+            let Binding { name, form } = binding;
+            let frame = Frame::Let {
+                name,
+                bindings,
+                body,
+                room,
+            };
+            state.frames.push_front(frame)?;
+            Ok(Control::Evaluate(form, room))
+        }
+    }
+}
+
+// The name is a local for what follows in its `let`.
+pub(crate) fn bind(state: &mut State, name: String, value: Value) -> Result<(), AllocError>
+    ensures size { IfOk result (λ _. frames_size state.new.frames.items ≡ 1 + frames_size state.old.frames.items) }
+    ensures calls { state.new.calls ≡ state.old.calls }
+{
+    state.place.locals.push_front(Local { name, value })?;
+    state.frames.push_front(Frame::Unbind)?;
+    Ok(())
+}

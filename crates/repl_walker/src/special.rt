@@ -1,0 +1,111 @@
+// The special forms.
+ghost use Rattle.std.specs.Prelude.{◌≡◌, ◌+◌, ◌<◌, ◌≤◌, IfOk};
+ghost use Rattle.repl_walker.specs.Size.{values_size, shape_size, control_size, frames_size, spent};
+
+use crate::frames::{Control, Frame, State, Wanted};
+use crate::names::space;
+use crate::rows::{before, next_binding, next_in_body, next_in_logic};
+use crate::shapes::{Shape, SpecialForm, shape_of};
+use repl_asks::{Ask, Binding};
+use repl_faults::bad_form;
+use repl_values::{Function, Value};
+use std::alloc::{AllocError, Global};
+use std::collections::VecDeque;
+
+pub(crate) fn evaluate_special(
+    alloc: Global,
+    state: &mut State,
+    special: SpecialForm,
+    forms: VecDeque<Value>,
+    room: u32,
+) -> Result<Control, AllocError>
+    ensures size { IfOk result (λ control. control_size control + frames_size state.new.frames.items
+        < 3 + values_size forms.items + frames_size state.old.frames.items) }
+    ensures calls { IfOk result (λ control. spent control + state.new.calls ≤ state.old.calls) }
+{
+    match shape_of(alloc, special, forms)? {
+        Some(shape) => begin(alloc, state, shape, room),
+        None => Ok(Control::Fault(bad_form(alloc, special.name())?)),
+    }
+}
+
+fn begin(
+    alloc: Global,
+    state: &mut State,
+    shape: Shape,
+    room: u32,
+) -> Result<Control, AllocError>
+    ensures size { IfOk result (λ control. control_size control + frames_size state.new.frames.items
+        < 2 + shape_size shape + frames_size state.old.frames.items) }
+    ensures calls { IfOk result (λ control. spent control + state.new.calls ≤ state.old.calls) }
+{
+    match shape {
+        Shape::Quote(form) => Ok(Control::Return(form)),
+        Shape::Body(forms) => next_in_body(state, Value::Nil, forms, room),
+        Shape::Choice {
+            condition,
+            consequent,
+            alternative,
+        } => {
+            let frame = Frame::Choice {
+                consequent,
+                alternative,
+                room,
+            };
+            state.frames.push_front(frame)?;
+            Ok(Control::Evaluate(condition, room))
+        }
+        Shape::Let { bindings, body } => next_binding(state, bindings, body, room),
+        Shape::Logic(logic, forms) => next_in_logic(state, logic, before(logic), forms, room),
+        Shape::Define { name, form } => {
+            state.frames.push_front(Frame::Define { name })?;
+            Ok(Control::Evaluate(form, room))
+        }
+        Shape::DefineFunction { name, params, body } => {
+            define_function(alloc, state, name, params, body)
+        }
+        Shape::Throw(form) => {
+            state.frames.push_front(Frame::Throw)?;
+            Ok(Control::Evaluate(form, room))
+        }
+    }
+}
+
+fn define_function(
+    alloc: Global,
+    state: &State,
+    name: String,
+    params: Vec<String>,
+    body: Vec<Value>,
+) -> Result<Control, AllocError>
+    ensures size { IfOk result (λ control. control_size control < 3) }
+    ensures calls { IfOk result (λ control. spent control ≡ 0) }
+{
+    let function = Function {
+        space: space(alloc, state)?,
+        name: String::from_str(alloc, name.as_str())?,
+        params,
+        body,
+    };
+    define(alloc, state, name, Binding::Function(function))
+}
+
+// Binds the name in the form's namespace.
+pub(crate) fn define(
+    alloc: Global,
+    state: &State,
+    name: String,
+    binding: Binding,
+) -> Result<Control, AllocError>
+    ensures size { IfOk result (λ control. control_size control < 3) }
+    ensures calls { IfOk result (λ control. spent control ≡ 0) }
+{
+    let wanted = Wanted::Definition(String::from_str(alloc, name.as_str())?);
+    let namespace = space(alloc, state)?;
+    let ask = Ask::Define {
+        namespace,
+        name,
+        binding,
+    };
+    Ok(Control::Ask(ask, wanted))
+}
