@@ -1,2 +1,5 @@
 pub mod Server
 pub mod Shown
+pub mod Written
+pub mod Replies
+pub mod Heard

@@ -1,5 +1,7 @@
 // One stream served to its end: pieces in, replies out.
 ghost use Rattle.std.specs.Prelude.{◌≡◌, ◌≤◌, [], OnOk};
+ghost use Rattle.std.specs.Io.KnownBytes.{Appends, Keeps};
+ghost use Rattle.nrepl_server.specs.Written.{Grows};
 
 use crate::config::Config;
 use crate::server::Server;
@@ -58,7 +60,9 @@ pub fn pipe<R: Read, W: Write>(
     config: Config,
     reader: &mut R,
     writer: &mut W,
-) -> Result<PipeEnd, PipeError> {
+) -> Result<PipeEnd, PipeError>
+    ensures { OnOk result (Grows (W.contents writer.old) (W.contents writer.new)) }
+{
     let mut server = Server::new(alloc, config);
     serve(alloc, &mut server, reader, writer)
 }
@@ -68,7 +72,9 @@ fn serve<C: Core, R: Read, W: Write>(
     core: &mut C,
     reader: &mut R,
     writer: &mut W,
-) -> Result<PipeEnd, PipeError> {
+) -> Result<PipeEnd, PipeError>
+    ensures { OnOk result (Grows (W.contents writer.old) (W.contents writer.new)) }
+{
     loop {
         let Some(piece) = next_piece(alloc, reader)? else {
             return Ok(end_of(core));
@@ -114,7 +120,8 @@ enum Rounds {
 }
 
 fn run_rounds<C: Core, W: Write>(core: &mut C, writer: &mut W) -> Result<Rounds, PipeError>
-    ensures { (C.state core.new).steps ≤ (C.state core.old).steps }
+    ensures steps { (C.state core.new).steps ≤ (C.state core.old).steps }
+    ensures written { OnOk result (Grows (W.contents writer.old) (W.contents writer.new)) }
 {
     loop {
         let gone = core.go(Actor::Bare);
@@ -132,11 +139,28 @@ fn run_rounds<C: Core, W: Write>(core: &mut C, writer: &mut W) -> Result<Rounds,
 fn write_replies<C: Core, W: Write>(core: &mut C, writer: &mut W) -> Result<(), PipeError>
     ensures steps { (C.state core.new).steps ≡ (C.state core.old).steps }
     ensures empty { OnOk result ((C.state core.new).outbox ≡ []) }
+    ensures written { OnOk result (Grows (W.contents writer.old) (W.contents writer.new)) }
 {
     while let Some(reply) = core.drain() {
-        if writer.write_all(reply.as_slice()).is_err() || writer.flush().is_err() {
-            return Err(PipeError::WriteFailed);
-        }
+        write_reply(reply.as_slice(), writer)?;
     }
     Ok(())
+}
+
+fn write_reply<W: Write>(reply: &[u8], writer: &mut W) -> Result<(), PipeError>
+    ensures { OnOk result (Appends (W.contents writer.old) (W.contents writer.new) reply.now) }
+{
+    match writer.write_all(reply) {
+        Ok(()) => flush(writer),
+        Err(_) => Err(PipeError::WriteFailed),
+    }
+}
+
+fn flush<W: Write>(writer: &mut W) -> Result<(), PipeError>
+    ensures { Keeps (W.contents writer.old) (W.contents writer.new) }
+{
+    match writer.flush() {
+        Ok(()) => Ok(()),
+        Err(_) => Err(PipeError::WriteFailed),
+    }
 }

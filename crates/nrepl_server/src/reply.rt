@@ -1,4 +1,7 @@
 // The replies, and their bytes.
+ghost use Rattle.std.specs.Prelude.{◌≡◌, None, IfOk};
+ghost use Rattle.nrepl_server.specs.Replies.{field_view, IsOneMessage};
+
 use bencode_wire::{Ben, Dictionary, write_into};
 use std::alloc::{AllocError, Global};
 
@@ -38,14 +41,21 @@ pub struct Reply {
 
 impl Origin {
     /// The origin of a reply that belongs to no request.
-    pub fn none() -> Origin {
+    pub fn none() -> Origin
+        ensures id { result.id ≡ None }
+        ensures session { result.session ≡ None }
+    {
         Origin {
             id: None,
             session: None,
         }
     }
 
-    pub fn copy(&self, alloc: Global) -> Result<Origin, AllocError> {
+    /// The same origin once more. It fails only for want of memory.
+    pub fn copy(&self, alloc: Global) -> Result<Origin, AllocError>
+        ensures id { IfOk result (λ copied. field_view copied.id ≡ field_view self.now.id) }
+        ensures session { IfOk result (λ copied. field_view copied.session ≡ field_view self.now.session) }
+    {
         Ok(Origin {
             id: copy_field(alloc, &self.id)?,
             session: copy_field(alloc, &self.session)?,
@@ -53,7 +63,9 @@ impl Origin {
     }
 }
 
-fn copy_field(alloc: Global, field: &Option<Ben>) -> Result<Option<Ben>, AllocError> {
+fn copy_field(alloc: Global, field: &Option<Ben>) -> Result<Option<Ben>, AllocError>
+    ensures { IfOk result (λ copied. field_view copied ≡ field_view field.now) }
+{
     match field {
         Some(value) => Ok(Some(value.copy(alloc)?)),
         None => Ok(None),
@@ -61,7 +73,9 @@ fn copy_field(alloc: Global, field: &Option<Ben>) -> Result<Option<Ben>, AllocEr
 }
 
 /// The reply as a message of the stream: a dictionary with its keys sorted.
-pub fn reply_bytes(alloc: Global, reply: Reply) -> Result<Vec<u8>, AllocError> {
+pub fn reply_bytes(alloc: Global, reply: Reply) -> Result<Vec<u8>, AllocError>
+    ensures { IfOk result (λ bytes. IsOneMessage bytes.items) }
+{
     let Reply { origin, body } = reply;
     let Origin { id, session } = origin;
     let mut fields = Dictionary::new(alloc);

@@ -1,4 +1,6 @@
 // What a message asks for.
+ghost use Rattle.nrepl_server.specs.Heard.{IsBare};
+
 use crate::reply::{Body, Origin, Reply};
 use bencode_wire::{Ben, Dictionary};
 
@@ -20,27 +22,30 @@ pub enum Heard {
 
 /// Reads a message. The operation is looked at first, then the session, then the code. Keys that
 /// are not known are ignored.
-pub fn request_of(mut message: Dictionary) -> Heard {
+pub fn request_of(mut message: Dictionary) -> Heard
+    ensures { IsBare result }
+{
     let op = message.remove(b"op".as_slice());
     let code = message.remove(b"code".as_slice());
     let ns = message.remove(b"ns".as_slice());
     let id = message.remove(b"id".as_slice());
     let session = message.remove(b"session".as_slice());
-    let has_session = session.is_some();
-    let origin = Origin { id, session };
     if !is_eval(&op) {
-        return answered(origin, Body::UnknownOp(op));
+        return answered(Origin { id, session }, Body::UnknownOp(op));
     }
-    if has_session {
-        return answered(origin, Body::UnknownSession);
+    if session.is_some() {
+        return answered(Origin { id, session }, Body::UnknownSession);
     }
+    let origin = Origin { id, session: None };
     match text_of(code) {
         Some(code) => Heard::Waits(Request { origin, code, ns }),
         None => answered(origin, Body::NoCode),
     }
 }
 
-fn answered(origin: Origin, body: Body) -> Heard {
+fn answered(origin: Origin, body: Body) -> Heard
+    ensures { IsBare result }
+{
     Heard::Answered(Reply { origin, body })
 }
 

@@ -1,4 +1,9 @@
 // The one namespace, `user`: what its names are bound to, and how symbols are resolved in it.
+ghost use Rattle.std.specs.Prelude.{◌≡◌, [], IfOk, string_bytes};
+ghost use Rattle.repl_values.specs.Datum.{var};
+ghost use Rattle.repl_asks.specs.Exchange.{Fits, value};
+ghost use Rattle.repl_asks.specs.View.{ask_view, answer_view};
+
 use core_functions::CoreFunction;
 use repl_asks::{Answer, Ask, Binding};
 use repl_faults::{no_such_namespace, no_such_var, unresolved};
@@ -15,14 +20,19 @@ pub struct Space {
 }
 
 impl Space {
-    pub fn new(alloc: Global) -> Space {
+    /// A namespace that binds nothing.
+    pub fn new(alloc: Global) -> Space
+        ensures { result.bindings.entries ≡ [] }
+    {
         Space {
             bindings: BTreeMap::new(alloc),
         }
     }
 
     /// Answers an ask. It fails only for want of memory, and has then bound nothing.
-    pub fn answer(&mut self, alloc: Global, ask: Ask) -> Result<Answer, AllocError> {
+    pub fn answer(&mut self, alloc: Global, ask: Ask) -> Result<Answer, AllocError>
+        ensures { IfOk result (λ answer. Fits (ask_view ask) (answer_view answer)) }
+    {
         match ask {
             Ask::Resolve {
                 namespace: _,
@@ -80,7 +90,9 @@ impl Space {
         space: String,
         name: String,
         binding: Binding,
-    ) -> Result<Answer, AllocError> {
+    ) -> Result<Answer, AllocError>
+        ensures { IfOk result (λ answer. answer_view answer ≡ value (var (string_bytes space) (string_bytes name))) }
+    {
         let key = String::from_str(alloc, name.as_str())?;
         drop(self.bindings.insert(key, binding)?);
         Ok(Answer::Value(Value::Var { space, name }))
