@@ -1,6 +1,9 @@
 // The special forms, and the shapes that they have. A form of another shape is a fault before anything
 // in it is evaluated.
-ghost use Rattle.std.specs.Prelude.{◌≡◌, ◌+◌, ◌*◌, ◌≤◌, IfOk, IfSome};
+ghost use Rattle.std.specs.Prelude.{◌≡◌, ◌+◌, ◌*◌, ◌≤◌, IfOk, IfSome, option_map, map, string_bytes};
+ghost use Rattle.repl_values.specs.View.{view};
+ghost use Rattle.repl_walker.specs.Shapes as meant;
+ghost use Rattle.repl_walker.specs.Seen.{views, binding_view, shape_view};
 ghost use Rattle.repl_walker.specs.Size.{value_size, values_size, bindings_size, shape_size};
 
 use crate::frames::{Binding, Logic};
@@ -51,7 +54,9 @@ pub(crate) enum Shape {
 }
 
 impl SpecialForm {
-    pub(crate) fn named(name: &str) -> Option<SpecialForm> {
+    pub(crate) fn named(name: &str) -> Option<SpecialForm>
+        ensures { result ≡ meant.special_named name.now }
+    {
         match name {
             "and" => Some(SpecialForm::And),
             "def" => Some(SpecialForm::Def),
@@ -68,7 +73,9 @@ impl SpecialForm {
         }
     }
 
-    pub(crate) fn name(self) -> &'static str {
+    pub(crate) fn name(self) -> &'static str
+        ensures { result.now ≡ meant.special_name self }
+    {
         match self {
             SpecialForm::And => "and",
             SpecialForm::Def => "def",
@@ -91,7 +98,8 @@ pub(crate) fn shape_of(
     special: SpecialForm,
     forms: VecDeque<Value>,
 ) -> Result<Option<Shape>, AllocError>
-    ensures { IfOk result (λ shape. IfSome shape (λ s. shape_size s ≤ values_size forms.items)) }
+    ensures size { IfOk result (λ shape. IfSome shape (λ s. shape_size s ≤ values_size forms.items)) }
+    ensures exact { IfOk result (λ shape. option_map shape_view shape ≡ meant.shape_of special (views forms.items)) }
 {
     match special {
         SpecialForm::And => Ok(Some(Shape::Logic(Logic::And, forms))),
@@ -109,27 +117,31 @@ pub(crate) fn shape_of(
 
 // The form that stands alone.
 fn only(mut forms: VecDeque<Value>) -> Option<Value>
-    ensures { IfSome result (λ form. 3 * value_size form + 1 ≡ values_size forms.items) }
+    ensures size { IfSome result (λ form. 3 * value_size form + 1 ≡ values_size forms.items) }
+    ensures exact { option_map view result ≡ meant.only (views forms.items) }
 {
     let form = forms.pop_front()?;
     if forms.is_empty() { Some(form) } else { None }
 }
 
 fn quote(forms: VecDeque<Value>) -> Option<Shape>
-    ensures { IfSome result (λ s. shape_size s ≤ values_size forms.items) }
+    ensures size { IfSome result (λ s. shape_size s ≤ values_size forms.items) }
+    ensures exact { option_map shape_view result ≡ option_map meant.quoted (meant.only (views forms.items)) }
 {
     Some(Shape::Quote(only(forms)?))
 }
 
 fn throw(forms: VecDeque<Value>) -> Option<Shape>
-    ensures { IfSome result (λ s. shape_size s ≤ values_size forms.items) }
+    ensures size { IfSome result (λ s. shape_size s ≤ values_size forms.items) }
+    ensures exact { option_map shape_view result ≡ option_map meant.thrown (meant.only (views forms.items)) }
 {
     Some(Shape::Throw(only(forms)?))
 }
 
 // `(if condition form)` or `(if condition form form)`.
 fn choice(alloc: Global, mut forms: VecDeque<Value>) -> Result<Option<Shape>, AllocError>
-    ensures { IfOk result (λ shape. IfSome shape (λ s. shape_size s ≤ values_size forms.items)) }
+    ensures size { IfOk result (λ shape. IfSome shape (λ s. shape_size s ≤ values_size forms.items)) }
+    ensures exact { IfOk result (λ shape. option_map shape_view shape ≡ meant.if_shape (views forms.items)) }
 {
     if forms.len() > 3 {
         return Ok(None);
@@ -151,7 +163,8 @@ fn choice(alloc: Global, mut forms: VecDeque<Value>) -> Result<Option<Shape>, Al
 
 // `(when condition form ..)`.
 fn when(alloc: Global, mut forms: VecDeque<Value>) -> Option<Shape>
-    ensures { IfSome result (λ s. shape_size s ≤ values_size forms.items) }
+    ensures size { IfSome result (λ s. shape_size s ≤ values_size forms.items) }
+    ensures exact { option_map shape_view result ≡ meant.when_shape (views forms.items) }
 {
     let condition = forms.pop_front()?;
     Some(Shape::Choice {
@@ -163,9 +176,13 @@ fn when(alloc: Global, mut forms: VecDeque<Value>) -> Option<Shape>
 
 // `(let [name form ..] form ..)`.
 fn binding_form(alloc: Global, mut forms: VecDeque<Value>) -> Result<Option<Shape>, AllocError>
-    ensures { IfOk result (λ shape. IfSome shape (λ s. shape_size s ≤ values_size forms.items)) }
+    ensures size { IfOk result (λ shape. IfSome shape (λ s. shape_size s ≤ values_size forms.items)) }
+    ensures exact { IfOk result (λ shape. option_map shape_view shape ≡ meant.let_shape (views forms.items)) }
 {
-    let Some(Value::Vector(items)) = forms.pop_front() else {
+    let Some(first) = forms.pop_front() else {
+        return Ok(None);
+    };
+    let Some(items) = vector_items(first) else {
         return Ok(None);
     };
     match bindings_of(alloc, VecDeque::from_vec(items))? {
@@ -182,7 +199,8 @@ fn bindings_of(
     alloc: Global,
     mut items: VecDeque<Value>,
 ) -> Result<Option<VecDeque<Binding>>, AllocError>
-    ensures { IfOk result (λ found. IfSome found (λ bindings. bindings_size bindings.items ≤ values_size items.items)) }
+    ensures size { IfOk result (λ found. IfSome found (λ bindings. bindings_size bindings.items ≤ values_size items.items)) }
+    ensures exact { IfOk result (λ found. option_map (λ bs. map binding_view bs.items) found ≡ meant.bound_forms (views items.items)) }
 {
     let mut bindings = VecDeque::new(alloc);
     while let Some(item) = items.pop_front() {
@@ -199,27 +217,44 @@ fn bindings_of(
 
 // `(def name form)`.
 fn definition(mut forms: VecDeque<Value>) -> Option<Shape>
-    ensures { IfSome result (λ s. shape_size s ≤ values_size forms.items) }
+    ensures size { IfSome result (λ s. shape_size s ≤ values_size forms.items) }
+    ensures exact { option_map shape_view result ≡ meant.def_shape (views forms.items) }
 {
     let name = simple_symbol(forms.pop_front()?)?;
     let form = only(forms)?;
     Some(Shape::Define { name, form })
 }
 
-// `(defn name [name ..] form ..)`, where a string may stand behind the name.
+// `(defn name [name ..] form ..)`, where a string may stand behind the first name.
 fn function_definition(
     alloc: Global,
     mut forms: VecDeque<Value>,
 ) -> Result<Option<Shape>, AllocError>
-    ensures { IfOk result (λ shape. IfSome shape (λ s. shape_size s ≤ values_size forms.items)) }
+    ensures size { IfOk result (λ shape. IfSome shape (λ s. shape_size s ≤ values_size forms.items)) }
+    ensures exact { IfOk result (λ shape. option_map shape_view shape ≡ meant.defn_shape (views forms.items)) }
 {
     let Some(first) = forms.pop_front() else {
         return Ok(None);
     };
-    let Some(name) = simple_symbol(first) else {
+    match simple_symbol(first) {
+        Some(name) => function_behind(alloc, name, without_text(forms)),
+        None => Ok(None),
+    }
+}
+
+// `[name ..] form ..`.
+fn function_behind(
+    alloc: Global,
+    name: String,
+    mut forms: VecDeque<Value>,
+) -> Result<Option<Shape>, AllocError>
+    ensures size { IfOk result (λ shape. IfSome shape (λ s. shape_size s ≡ 1)) }
+    ensures exact { IfOk result (λ shape. option_map shape_view shape ≡ meant.function_shape (string_bytes name) (views forms.items)) }
+{
+    let Some(first) = forms.pop_front() else {
         return Ok(None);
     };
-    let Some(items) = parameter_items(&mut forms) else {
+    let Some(items) = vector_items(first) else {
         return Ok(None);
     };
     match parameters_of(alloc, items)? {
@@ -232,34 +267,86 @@ fn function_definition(
     }
 }
 
-// The vector of parameters, behind which the body stands.
-fn parameter_items(forms: &mut VecDeque<Value>) -> Option<Vec<Value>> {
-    match forms.pop_front()? {
+// The items of a vector.
+#[tactic(auto, using(crate::proofs::Shaping::seen), unfolding(crate::specs::Shapes::in_vector))]
+fn vector_items(form: Value) -> Option<Vec<Value>>
+    ensures exact { option_map (λ items. views items.items) result ≡ meant.in_vector (view form) }
+    ensures size { IfSome result (λ items. 3 + values_size items.items ≤ 3 * value_size form) }
+{
+    match form {
         Value::Vector(items) => Some(items),
-        Value::Str(_text) => match forms.pop_front()? {
-            Value::Vector(items) => Some(items),
-            _other => None,
-        },
         _other => None,
     }
 }
 
-// The names of parameters, which are distinct, and none of which is `&`.
-fn parameters_of(alloc: Global, items: Vec<Value>) -> Result<Option<Vec<String>>, AllocError> {
+// What stands behind the string that may stand in front.
+fn without_text(mut forms: VecDeque<Value>) -> VecDeque<Value>
+    ensures { views result.items ≡ meant.behind_name (views forms.items) }
+{
+    if begins_with_text(&forms) {
+        drop(forms.pop_front());
+    }
+    forms
+}
+
+fn begins_with_text(forms: &VecDeque<Value>) -> bool
+    ensures { result ≡ meant.begins_with_text (views forms.now.items) }
+{
+    match forms.front() {
+        Some(form) => is_text(form),
+        None => false,
+    }
+}
+
+#[tactic(auto, using(crate::proofs::Shaping::seen), unfolding(crate::specs::Shapes::is_text))]
+fn is_text(form: &Value) -> bool
+    ensures { result ≡ meant.is_text (view form.now) }
+{
+    match form {
+        Value::Str(_) => true,
+        _ => false,
+    }
+}
+
+// The names of parameters, which are distinct.
+#[tactic(auto, unfolding(crate::specs::Shapes::parameters))]
+fn parameters_of(alloc: Global, items: Vec<Value>) -> Result<Option<Vec<String>>, AllocError>
+    ensures { IfOk result (λ found. option_map (λ names. map string_bytes names.items) found ≡ meant.parameters (views items.items)) }
+{
     if first_repeated(alloc, items.as_slice())?.is_some() {
         return Ok(None);
     }
-    let mut params = Vec::new(alloc);
-    for item in items {
-        match simple_symbol(item) {
-            Some(name) if name.as_str() != "&" => params.push(name)?,
-            _other => return Ok(None),
-        }
-    }
-    Ok(Some(params))
+    parameter_names(alloc, items)
 }
 
-fn row(alloc: Global, forms: VecDeque<Value>) -> Result<Vec<Value>, AllocError> {
+fn parameter_names(alloc: Global, items: Vec<Value>) -> Result<Option<Vec<String>>, AllocError>
+    ensures { IfOk result (λ found. option_map (λ names. map string_bytes names.items) found ≡ meant.parameter_names (views items.items)) }
+{
+    let mut names = Vec::new(alloc);
+    let mut items = VecDeque::from_vec(items);
+    while let Some(item) = items.pop_front() {
+        let Some(name) = parameter_name(item) else {
+            return Ok(None);
+        };
+        names.push(name)?;
+    }
+    Ok(Some(names))
+}
+
+// A symbol without a slash, other than `&`.
+fn parameter_name(item: Value) -> Option<String>
+    ensures { option_map string_bytes result ≡ meant.parameter_name (view item) }
+{
+    let name = simple_symbol(item)?;
+    if name.as_str() == "&" {
+        return None;
+    }
+    Some(name)
+}
+
+fn row(alloc: Global, forms: VecDeque<Value>) -> Result<Vec<Value>, AllocError>
+    ensures { IfOk result (λ items. items.items ≡ forms.items) }
+{
     let mut items = Vec::with_capacity(alloc, forms.len())?;
     for form in forms {
         items.push(form)?;
@@ -268,15 +355,21 @@ fn row(alloc: Global, forms: VecDeque<Value>) -> Result<Vec<Value>, AllocError> 
 }
 
 // The name that a form is, if it is a symbol without a slash.
-fn simple_symbol(form: Value) -> Option<String> {
+#[tactic(auto, using(crate::proofs::Shaping::seen), unfolding(crate::specs::Shapes::simple_name))]
+fn simple_symbol(form: Value) -> Option<String>
+    ensures { option_map string_bytes result ≡ meant.simple_name (view form) }
+{
     match form {
-        Value::Symbol(name) => {
-            if name.as_str().contains('/') {
-                None
-            } else {
-                Some(name)
-            }
-        }
+        Value::Symbol(name) => without_slash(name),
         _other => None,
     }
+}
+
+fn without_slash(name: String) -> Option<String>
+    ensures { option_map string_bytes result ≡ meant.without_slash (string_bytes name) }
+{
+    if name.as_bytes().contains(&b'/') {
+        return None;
+    }
+    Some(name)
 }
