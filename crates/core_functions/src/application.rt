@@ -1,14 +1,15 @@
 // Applying a function to values.
 ghost use Rattle.std.specs.Prelude.{◌≡◌, true, length, map};
 ghost use Rattle.repl_values.specs.View.{view};
-ghost use Rattle.repl_faults.specs.View.{Gives};
 ghost use Rattle.core_functions.specs.Names.{fits};
 ghost use Rattle.core_functions.specs.Outcome.{limited};
-ghost use Rattle.core_functions.specs.Meaning.{meaning, value_of};
+ghost use Rattle.core_functions.specs.Meaning.{meaning};
 ghost use Rattle.core_functions.specs.View.{Answers};
 
 use crate::function::CoreFunction;
 use core_integers::apply_integers;
+use core_predicates::apply_predicates;
+use core_texts::{apply_texts, printed};
 use repl_faults::{ApplyError, too_large};
 use repl_values::{Value, nesting, weight};
 use std::alloc::Global;
@@ -26,23 +27,32 @@ const MOST_WEIGHT: u64 = 1_048_576;
 const MOST_NESTING: u64 = 128;
 
 /// Applies the function. All arguments' kinds are checked from the left before anything else, and
-/// the size of the value last.
-#[tactic(auto, unfolding(crate::specs::Outcome::settled))]
+/// the size of the value last. A function that prints gives nil.
+#[tactic(auto, using(repl_values::proofs::Views::value_views), unfolding(crate::specs::Outcome::settled))]
 pub fn apply(alloc: Global, function: CoreFunction, args: &[Value]) -> Result<Applied, ApplyError>
     requires { fits function (length args.now) ≡ true }
     ensures { Answers (meaning function (map view args.now)) result }
 {
-    let value = value_of(alloc, function, args)?;
-    limited(alloc, value)
-}
-
-// The value of the function's own group.
-fn value_of(alloc: Global, function: CoreFunction, args: &[Value]) -> Result<Value, ApplyError>
-    requires { fits function (length args.now) ≡ true }
-    ensures { Gives view result (value_of function (map view args.now)) }
-{
     match function {
-        CoreFunction::Integer(function) => apply_integers(alloc, function, args),
+        CoreFunction::Integer(function) => {
+            let value = apply_integers(alloc, function, args)?;
+            limited(alloc, value)
+        }
+        CoreFunction::Predicate(function) => {
+            let value = apply_predicates(alloc, function, args)?;
+            limited(alloc, value)
+        }
+        CoreFunction::Text(function) => {
+            let value = apply_texts(alloc, function, args)?;
+            limited(alloc, value)
+        }
+        CoreFunction::Print(function) => {
+            let text = printed(alloc, function, args)?;
+            Ok(Applied {
+                value: Value::Nil,
+                text,
+            })
+        }
     }
 }
 

@@ -4,11 +4,16 @@ ghost use Rattle.std.specs.Option.{option_map_or};
 ghost use Rattle.core_functions.specs.Names.{function_named, name_of, fits};
 
 use core_integers::IntegerFunction;
+use core_predicates::PredicateFunction;
+use core_texts::{PrintFunction, TextFunction};
 
 /// A function of the language that needs no store, by its group.
 #[derive(Clone, Copy, Debug, PartialEq, Eq)]
 pub enum CoreFunction {
     Integer(IntegerFunction),
+    Predicate(PredicateFunction),
+    Text(TextFunction),
+    Print(PrintFunction),
 }
 
 impl CoreFunction {
@@ -18,6 +23,15 @@ impl CoreFunction {
     {
         if let Some(function) = IntegerFunction::named(name) {
             return Some(CoreFunction::Integer(function));
+        }
+        if let Some(function) = PredicateFunction::named(name) {
+            return Some(CoreFunction::Predicate(function));
+        }
+        if let Some(function) = TextFunction::named(name) {
+            return Some(CoreFunction::Text(function));
+        }
+        if let Some(function) = PrintFunction::named(name) {
+            return Some(CoreFunction::Print(function));
         }
         None
     }
@@ -29,6 +43,9 @@ impl CoreFunction {
     {
         match self {
             CoreFunction::Integer(function) => function.name(),
+            CoreFunction::Predicate(function) => function.name(),
+            CoreFunction::Text(function) => function.name(),
+            CoreFunction::Print(function) => function.name(),
         }
     }
 
@@ -38,6 +55,9 @@ impl CoreFunction {
     {
         match self {
             CoreFunction::Integer(function) => function.takes(arguments),
+            CoreFunction::Predicate(function) => function.takes(arguments),
+            CoreFunction::Text(function) => function.takes(arguments),
+            CoreFunction::Print(_) => true,
         }
     }
 }

@@ -1,5 +1,5 @@
 -- What fits 64 signed bits, and folding from the left.
-use Rattle.std.proofs.Common.{◌≡◌, ℕ, ℤ, pos, negsuc, suc, ◌+◌, ◌<◌, ◌^◌, Bool, true, false, List, [], ◌∷◌, length, drop, get_or, Option, Some, None, Result, Ok, Err, refl, sym, ap, ◌∙◌, add-one, subst, to_z, of_z, SomeIff, FitsSigned, int_div, nat_lt, arith}
+use Rattle.std.proofs.Common.{◌≡◌, ℕ, ℤ, pos, negsuc, suc, ◌+◌, ◌<◌, ◌^◌, Bool, true, false, List, length, drop, get_or, Option, Some, None, Result, Ok, Err, refl, sym, ap, ◌∙◌, add-one, subst, to_z, of_z, SomeIff, FitsSigned, int_div, nat_lt, arith}
 use Rattle.std.proofs.Math.Seq.{drop-cons}
 use Rattle.std.specs.Int.{w64, CanDivide, IsNonZero}
 use Rattle.std.proofs.lemmas.Int.{to_z-of_z}

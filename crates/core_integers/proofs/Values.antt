@@ -1,9 +1,7 @@
 -- Integers among the arguments.
-use Rattle.std.proofs.Common.{◌≡◌, ℕ, ℤ, List, [], ◌∷◌, ◌++◌, Result, Ok, Err, refl, sym, ap, ◌∙◌, append_assoc, map, drop}
-use Rattle.repl_values.specs.View.{view}
+use Rattle.std.proofs.Common.{ℤ, List, ◌++◌, Result, Ok, Err}
 use Rattle.repl_values.proofs.Views.{value_views}
-use Rattle.repl_faults.specs.Failure.{Failure, ◌>>=◌}
-use Rattle.core_integers.specs.Meaning.{integers_in}
+use Rattle.repl_faults.specs.Failure.{Failure}
 
 -- what was found before, and what is still found
 abbrev pub with_front : List ℤ → Result (List ℤ) Failure → Result (List ℤ) Failure

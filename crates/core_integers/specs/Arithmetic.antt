@@ -1,8 +1,8 @@
 -- Functions of integers. They have 64 signed bits: what does not fit is a fault, never a wrap.
-use Rattle.std.specs.Prelude.{ℕ, ℤ, pos, negsuc, ◌+ℤ◌, ◌-ℤ◌, ◌*ℤ◌, neg_ℤ, int_div, int_rem, int_lt, ◌^◌, ◌==◌, Bool, false, true, not, ◌&&◌, ◌||◌, nat_lt, List, [], ◌∷◌, length, drop, Result, Ok, Err, if◌then◌else◌, slice_index_or}
+use Rattle.std.specs.Prelude.{ℤ, pos, negsuc, ◌+ℤ◌, ◌-ℤ◌, ◌*ℤ◌, neg_ℤ, int_div, int_rem, int_lt, ◌^◌, ◌==◌, Bool, false, not, ◌||◌, nat_lt, List, [], ◌∷◌, length, drop, Result, Ok, Err, if◌then◌else◌, slice_index_or}
 use Rattle.std.specs.Int.{int_min, int_max}
 use Rattle.repl_faults.specs.Failure.{Failure, ◌>>=◌, integer_overflow, divide_by_zero}
-use Rattle.core_integers.specs.declared.function.IntegerFunction.{IntegerFunction}
+use Rattle.core_integers.specs.declared.function.ArithmeticFunction.{ArithmeticFunction}
 
 -- -(2 ^ 63) ≤ n < 2 ^ 63
 abbrev pub fits_64 : ℤ → Bool
@@ -71,14 +71,14 @@ from_first step ns = folded step (first ns) (drop 1 ns)
 unfoldable pub difference : List ℤ → Result ℤ Failure
 difference ns = if length ns == 1 then held (neg_ℤ (first ns)) else from_first subtract ns
 
-unfoldable pub arithmetic : IntegerFunction → List ℤ → Result ℤ Failure
-arithmetic IntegerFunction.Add ns = folded add (pos 0) ns
-arithmetic IntegerFunction.Subtract ns = difference ns
-arithmetic IntegerFunction.Multiply ns = folded multiply (pos 1) ns
-arithmetic IntegerFunction.Increment ns = add (first ns) (pos 1)
-arithmetic IntegerFunction.Decrement ns = subtract (first ns) (pos 1)
-arithmetic IntegerFunction.Quotient ns = quotient (first ns) (second ns)
-arithmetic IntegerFunction.Remainder ns = remainder (first ns) (second ns)
-arithmetic IntegerFunction.Modulo ns = modulo (first ns) (second ns)
-arithmetic IntegerFunction.Maximum ns = from_first maximum ns
-arithmetic IntegerFunction.Minimum ns = from_first minimum ns
+unfoldable pub arithmetic : ArithmeticFunction → List ℤ → Result ℤ Failure
+arithmetic ArithmeticFunction.Add ns = folded add (pos 0) ns
+arithmetic ArithmeticFunction.Subtract ns = difference ns
+arithmetic ArithmeticFunction.Multiply ns = folded multiply (pos 1) ns
+arithmetic ArithmeticFunction.Increment ns = add (first ns) (pos 1)
+arithmetic ArithmeticFunction.Decrement ns = subtract (first ns) (pos 1)
+arithmetic ArithmeticFunction.Quotient ns = quotient (first ns) (second ns)
+arithmetic ArithmeticFunction.Remainder ns = remainder (first ns) (second ns)
+arithmetic ArithmeticFunction.Modulo ns = modulo (first ns) (second ns)
+arithmetic ArithmeticFunction.Maximum ns = from_first maximum ns
+arithmetic ArithmeticFunction.Minimum ns = from_first minimum ns

@@ -1,4 +1,5 @@
 pub mod Names
 pub mod Arithmetic
+pub mod Comparison
 pub mod Meaning
 pub mod Operation

@@ -1,10 +1,11 @@
 -- What each function of integers is. Kinds of all arguments come first, from the left, then the function's own
 -- faults.
 use Rattle.std.specs.Prelude.{ℕ, ℤ, List, [], ◌∷◌, Result, Ok, Err}
-use Rattle.repl_values.specs.Datum.{Datum, integer}
+use Rattle.repl_values.specs.Datum.{Datum, boolean, integer}
 use Rattle.repl_faults.specs.Failure.{Failure, ◌>>=◌, wrong_argument}
 use Rattle.core_integers.specs.Names.{name_of}
-use Rattle.core_integers.specs.Arithmetic.{arithmetic}
+use Rattle.core_integers.specs.Arithmetic.{arithmetic, first}
+use Rattle.core_integers.specs.Comparison.{is_ordered, passes}
 use Rattle.core_integers.specs.declared.function.IntegerFunction.{IntegerFunction}
 
 abbrev pub integer_in : List ℕ → Datum → Result ℤ Failure
@@ -16,5 +17,11 @@ abbrev pub integers_in : List ℕ → List Datum → Result (List ℤ) Failure
 integers_in function [] = Ok []
 integers_in function (d ∷ ds) = integer_in function d >>= λ n. (integers_in function ds >>= λ ns. Ok (n ∷ ns))
 
+-- the function at as many integers as it takes
+abbrev pub answer : IntegerFunction → List ℤ → Result Datum Failure
+answer (IntegerFunction.Arithmetic f) ns = arithmetic f ns >>= λ n. Ok (integer n)
+answer (IntegerFunction.Comparison f) ns = Ok (boolean (is_ordered f ns))
+answer (IntegerFunction.Test f) ns = Ok (boolean (passes f (first ns)))
+
 unfoldable pub value_of : IntegerFunction → List Datum → Result Datum Failure
-value_of function args = integers_in (name_of function) args >>= λ ns. (arithmetic function ns >>= λ n. Ok (integer n))
+value_of function args = integers_in (name_of function) args >>= λ ns. answer function ns

@@ -4,8 +4,10 @@ ghost use Rattle.repl_values.specs.View.{view};
 ghost use Rattle.repl_faults.specs.View.{Gives};
 ghost use Rattle.core_integers.specs.Names.{fits};
 ghost use Rattle.core_integers.specs.Meaning.{value_of, integer_in, integers_in};
+ghost use Rattle.core_integers.specs.Meaning as meant;
 
 use crate::arithmetic::arithmetic;
+use crate::comparison::{is_ordered, passes};
 use crate::function::IntegerFunction;
 use repl_faults::{ApplyError, wrong_argument};
 use repl_values::Value;
@@ -23,8 +25,24 @@ pub fn apply_integers(
     ensures { Gives view result (value_of function (map view args.now)) }
 {
     let integers = integers_of(alloc, function.name(), args)?;
-    let n = arithmetic(alloc, function, integers.as_slice())?;
-    Ok(Value::Int(n))
+    answer(alloc, function, integers.as_slice())
+}
+
+// The function at as many integers as it takes.
+#[tactic(auto, using(crate::proofs::Values::seen))]
+fn answer(alloc: Global, function: IntegerFunction, integers: &[i64]) -> Result<Value, ApplyError>
+    requires { fits function (length integers.now) ≡ true }
+    ensures { Gives view result (meant.answer function integers.now) }
+{
+    match function {
+        IntegerFunction::Arithmetic(function) => {
+            Ok(Value::Int(arithmetic(alloc, function, integers)?))
+        }
+        IntegerFunction::Comparison(comparison) => {
+            Ok(Value::Bool(is_ordered(comparison, integers)))
+        }
+        IntegerFunction::Test(test) => Ok(Value::Bool(passes(test, integers[0]))),
+    }
 }
 
 // The arguments of a function that takes integers alone.

@@ -1,12 +1,12 @@
 // Arithmetic on 64 signed bits.
 ghost use Rattle.std.specs.Prelude.{◌≡◌, ℤ, pos, length, true, SomeIff, FitsSigned, int_div, ◌<◌};
 ghost use Rattle.std.specs.Int.{w64, IsNonZero};
-ghost use Rattle.core_integers.specs.Names.{fits};
+ghost use Rattle.core_integers.specs.Names.{fits_arithmetic};
 ghost use Rattle.repl_faults.specs.View.{Gives};
 ghost use Rattle.core_integers.specs.Arithmetic as meant;
 ghost use Rattle.core_integers.specs.Operation.{operation_of};
 
-use crate::function::IntegerFunction;
+use crate::function::ArithmeticFunction;
 use repl_faults::{ApplyError, divide_by_zero, integer_overflow};
 use std::alloc::Global;
 
@@ -24,23 +24,23 @@ enum Operation {
 #[tactic(auto, unfolding(crate::specs::Arithmetic::arithmetic))]
 pub(crate) fn arithmetic(
     alloc: Global,
-    function: IntegerFunction,
+    function: ArithmeticFunction,
     integers: &[i64],
 ) -> Result<i64, ApplyError>
-    requires { fits function (length integers.now) ≡ true }
+    requires { fits_arithmetic function (length integers.now) ≡ true }
     ensures { Gives (λ n. n) result (meant.arithmetic function integers.now) }
 {
     match function {
-        IntegerFunction::Add => fold(alloc, Operation::Add, 0, integers),
-        IntegerFunction::Subtract => difference(alloc, integers),
-        IntegerFunction::Multiply => fold(alloc, Operation::Multiply, 1, integers),
-        IntegerFunction::Increment => operate(alloc, Operation::Add, integers[0], 1),
-        IntegerFunction::Decrement => operate(alloc, Operation::Subtract, integers[0], 1),
-        IntegerFunction::Quotient => quotient(alloc, integers[0], integers[1]),
-        IntegerFunction::Remainder => remainder(alloc, integers[0], integers[1]),
-        IntegerFunction::Modulo => modulo(alloc, integers[0], integers[1]),
-        IntegerFunction::Maximum => fold_from_first(alloc, Operation::Maximum, integers),
-        IntegerFunction::Minimum => fold_from_first(alloc, Operation::Minimum, integers),
+        ArithmeticFunction::Add => fold(alloc, Operation::Add, 0, integers),
+        ArithmeticFunction::Subtract => difference(alloc, integers),
+        ArithmeticFunction::Multiply => fold(alloc, Operation::Multiply, 1, integers),
+        ArithmeticFunction::Increment => operate(alloc, Operation::Add, integers[0], 1),
+        ArithmeticFunction::Decrement => operate(alloc, Operation::Subtract, integers[0], 1),
+        ArithmeticFunction::Quotient => quotient(alloc, integers[0], integers[1]),
+        ArithmeticFunction::Remainder => remainder(alloc, integers[0], integers[1]),
+        ArithmeticFunction::Modulo => modulo(alloc, integers[0], integers[1]),
+        ArithmeticFunction::Maximum => fold_from_first(alloc, Operation::Maximum, integers),
+        ArithmeticFunction::Minimum => fold_from_first(alloc, Operation::Minimum, integers),
     }
 }
 

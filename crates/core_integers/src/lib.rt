@@ -5,7 +5,8 @@
 
 mod application;
 mod arithmetic;
+mod comparison;
 mod function;
 
 pub use application::apply_integers;
-pub use function::IntegerFunction;
+pub use function::{ArithmeticFunction, ComparisonFunction, IntegerFunction, IntegerTest};

@@ -1,4 +1,4 @@
-use Rattle.std.proofs.Common.{rules, ◌≡◌, ℤ, pos, ap, ◌∙◌, get_or, FitsSigned, to_z}
+use Rattle.std.proofs.Common.{rules, ℤ, pos, ap, ◌∙◌, get_or, FitsSigned, to_z}
 use Rattle.std.specs.Int.{w64}
 use Rattle.std.proofs.lemmas.Int.{to_z-of_z}
 use Rattle.std.proofs.lemmas.Result.{err_from_is_err_and}

@@ -1,0 +1,30 @@
+-- Comparisons of neighbours, and tests of one integer.
+use Rattle.std.specs.Prelude.{ℤ, pos, int_lt, int_le, int_rem, Bool, not, List, drop}
+use Rattle.std.specs.List.{list_all, zip}
+use Rattle.core_integers.specs.Arithmetic.{is_zero}
+use Rattle.core_integers.specs.declared.function.ComparisonFunction.{ComparisonFunction}
+use Rattle.core_integers.specs.declared.function.IntegerTest.{IntegerTest}
+
+abbrev pub compare : ComparisonFunction → ℤ → ℤ → Bool
+compare ComparisonFunction.Less m n = int_lt m n
+compare ComparisonFunction.Greater m n = int_lt n m
+compare ComparisonFunction.LessOrEqual m n = int_le m n
+compare ComparisonFunction.GreaterOrEqual m n = int_le n m
+
+-- each integer beside the next
+abbrev pub neighbours : List ℤ → List (ℤ × ℤ)
+neighbours ns = zip ns (drop 1 ns)
+
+abbrev pub is_ordered : ComparisonFunction → List ℤ → Bool
+is_ordered comparison ns = list_all (λ p. compare comparison p.0 p.1) (neighbours ns)
+
+-- 2 divides it
+abbrev pub is_even : ℤ → Bool
+is_even n = is_zero (int_rem n (pos 2))
+
+abbrev pub passes : IntegerTest → ℤ → Bool
+passes IntegerTest.Zero n = is_zero n
+passes IntegerTest.Positive n = int_lt (pos 0) n
+passes IntegerTest.Negative n = int_lt n (pos 0)
+passes IntegerTest.Even n = is_even n
+passes IntegerTest.Odd n = not (is_even n)

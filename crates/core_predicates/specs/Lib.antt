@@ -1,0 +1,3 @@
+pub mod Names
+pub mod Kinds
+pub mod Meaning

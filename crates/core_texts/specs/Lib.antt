@@ -1,0 +1,4 @@
+pub mod Names
+pub mod Printing
+pub mod Spelling
+pub mod Meaning

@@ -1,0 +1,40 @@
+-- What each function that gives a text is.
+use Rattle.std.specs.Prelude.{ℕ, Bool, List, [], ◌∷◌, ◌+◌, ◌==◌, drop, if◌then◌else◌, codes, flat_map, Result, Ok, Err}
+use Rattle.std.specs.Str.{bytes_eq}
+use Rattle.std.specs.List.{position}
+use Rattle.std.specs.Option.{option_map_or}
+use Rattle.repl_values.specs.Datum.{Datum, nil, string, keyword, symbol}
+use Rattle.repl_values.specs.Print.{print}
+use Rattle.repl_faults.specs.Failure.{Failure, ◌>>=◌, wrong_argument}
+use Rattle.core_texts.specs.Printing.{spaced}
+use Rattle.core_texts.specs.declared.function.TextFunction.{TextFunction}
+
+-- nothing for nil, the characters of a string, and the print of all else
+abbrev pub shown : Datum → List ℕ
+shown nil = []
+shown (string s) = s
+shown d = print d
+
+abbrev pub is_slash : ℕ → Bool
+is_slash b = b == 47
+
+-- what follows the first slash, or all of it where there is none; a slash alone is all of it
+unfoldable pub local_part : List ℕ → List ℕ
+local_part text =
+    if bytes_eq text (codes "/") then text else option_map_or (λ i. drop (i + 1) text) (position is_slash text) text
+
+abbrev pub name_in : Datum → Result (List ℕ) Failure
+name_in (string s) = Ok s
+name_in (keyword s) = Ok (local_part s)
+name_in (symbol s) = Ok (local_part s)
+name_in d = Err (wrong_argument (codes "name") d)
+
+-- the argument of a function that takes one
+abbrev pub only : List Datum → Datum
+only [] = nil
+only (d ∷ ds) = d
+
+unfoldable pub value_of : TextFunction → List Datum → Result Datum Failure
+value_of TextFunction.Str args = Ok (string (flat_map shown args))
+value_of TextFunction.PrStr args = Ok (string (spaced print args))
+value_of TextFunction.Name args = name_in (only args) >>= λ s. Ok (string s)

@@ -1,0 +1,70 @@
+// What the functions that print add to the printed text.
+ghost use Rattle.std.specs.Prelude.{◌≡◌, ◌++◌, IfOk, OnOk, map, string_bytes};
+ghost use Rattle.repl_values.specs.View.{view};
+ghost use Rattle.core_texts.specs.Printing as meant;
+ghost use Rattle.core_texts.specs.Spelling.{spelling_of};
+
+use crate::function::PrintFunction;
+use repl_values::{Value, display_into, print_into};
+use std::alloc::{AllocError, Global};
+
+// How a value is spelled: as a reply shows it, or with each string as its characters.
+#[derive(Clone, Copy)]
+pub(crate) enum Spelling {
+    Print,
+    Display,
+}
+
+/// The text that the function prints. It fails only for want of memory.
+pub fn printed(alloc: Global, function: PrintFunction, args: &[Value]) -> Result<String, AllocError>
+    ensures { IfOk result (λ text. string_bytes text ≡ meant.printed function (map view args.now)) }
+{
+    match function {
+        PrintFunction::Print => spaced(alloc, Spelling::Display, args),
+        PrintFunction::Println => line(alloc, Spelling::Display, args),
+        PrintFunction::Pr => spaced(alloc, Spelling::Print, args),
+        PrintFunction::Prn => line(alloc, Spelling::Print, args),
+    }
+}
+
+fn line(alloc: Global, spelling: Spelling, values: &[Value]) -> Result<String, AllocError>
+    ensures { IfOk result (λ text. string_bytes text ≡ meant.spaced (spelling_of spelling) (map view values.now) ++ meant.newline) }
+{
+    let mut text = spaced(alloc, spelling, values)?;
+    text.push_str("\n")?;
+    Ok(text)
+}
+
+// The spelling of each value, joined by a space.
+pub(crate) fn spaced(
+    alloc: Global,
+    spelling: Spelling,
+    values: &[Value],
+) -> Result<String, AllocError>
+    ensures { IfOk result (λ text. string_bytes text ≡ meant.spaced (spelling_of spelling) (map view values.now)) }
+{
+    let mut text = String::new(alloc);
+    let Some((first, rest)) = values.split_first() else {
+        return Ok(text);
+    };
+    spell_into(alloc, spelling, first, &mut text)?;
+    for value in rest {
+        text.push_str(" ")?;
+        spell_into(alloc, spelling, value, &mut text)?;
+    }
+    Ok(text)
+}
+
+fn spell_into(
+    alloc: Global,
+    spelling: Spelling,
+    value: &Value,
+    out: &mut String,
+) -> Result<(), AllocError>
+    ensures { OnOk result (string_bytes out.new ≡ string_bytes out.old ++ spelling_of spelling (view value.now)) }
+{
+    match spelling {
+        Spelling::Print => print_into(alloc, value, out),
+        Spelling::Display => display_into(alloc, value, out),
+    }
+}
