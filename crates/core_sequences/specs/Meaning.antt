@@ -5,8 +5,9 @@ use Rattle.repl_values.specs.Datum.{Datum, nil, boolean, integer, string, list, 
 use Rattle.repl_values.specs.View.{items_of}
 use Rattle.repl_faults.specs.Failure.{Failure, ◌>>=◌, wrong_argument, out_of_bounds}
 use Rattle.core_pairs.specs.Listed.{listed}
+use Rattle.core_pairs.specs.Put.{put_pairs}
 use Rattle.core_sequences.specs.Names.{name_of}
-use Rattle.core_sequences.specs.Items.{items_in, row_in, integer_in}
+use Rattle.core_sequences.specs.Items.{items_in, row_in, integer_in, pairs_in}
 use Rattle.core_sequences.specs.declared.function.SequenceFunction.{SequenceFunction}
 
 -- an argument by its place
@@ -46,11 +47,12 @@ reversed d = items_in (name_of SequenceFunction.Reverse) d >>= λ ds. Ok (list_o
 unfoldable pub cons : Datum → Datum → Result Datum Failure
 cons d e = items_in (name_of SequenceFunction.Cons) e >>= λ ds. Ok (list_of (d ∷ ds))
 
--- put into the collection one after another: in front of a list, at the end of a vector
+-- put into the collection one after another: in front of a list, at the end of a vector, into a map as pairs
 unfoldable pub conj : Datum → List Datum → Result Datum Failure
 conj nil more = Ok (list_or_nil (reverse more))
 conj (list ds) more = Ok (list_of (reverse more ++ listed ds))
 conj (vector ds) more = Ok (vector_of (listed ds ++ more))
+conj (map ps) more = pairs_in (name_of SequenceFunction.Conj) more >>= λ qs. Ok (map (put_pairs ps qs))
 conj d more = Err (wrong_argument (name_of SequenceFunction.Conj) d)
 
 -- how many items, or how many characters of a string

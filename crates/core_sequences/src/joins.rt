@@ -1,13 +1,17 @@
 // Functions that put values into a row: `cons` and `conj`.
 #![tactic(auto, using(crate::proofs::Values::seen))]
 
-ghost use Rattle.std.specs.Prelude.{◌≡◌, ◌++◌, map, reverse, IfOk};
-ghost use Rattle.repl_values.specs.View.{view};
+ghost use Rattle.std.specs.Prelude.{◌≡◌, ◌++◌, map, option_map, reverse, IfOk};
+ghost use Rattle.repl_values.specs.Datum.{vector};
+ghost use Rattle.repl_values.specs.View.{view, items_view};
 ghost use Rattle.repl_faults.specs.View.{Gives};
+ghost use Rattle.core_pairs.specs.Found.{entry_view};
+ghost use Rattle.core_sequences.specs.Items.{as_pair, pair_in, pairs_in};
 ghost use Rattle.core_sequences.specs.Meaning as meant;
 
 use crate::function::SequenceFunction;
 use crate::items::{ItemRow, copy_values};
+use core_pairs::with_pairs;
 use repl_faults::{ApplyError, wrong_argument};
 use repl_values::{Value, copy};
 use std::alloc::{AllocError, Global};
@@ -42,6 +46,10 @@ pub(crate) fn conj(alloc: Global, collection: &Value, more: &[Value]) -> Result<
         Value::Nil => Ok(list_or_nil(reversed(alloc, more)?)),
         Value::List(items) => Ok(Value::List(joined(alloc, reversed(alloc, more)?, items)?)),
         Value::Vector(items) => Ok(Value::Vector(joined(alloc, copy_values(alloc, items)?, more)?)),
+        Value::Map(pairs) => {
+            let more = pairs_of(alloc, SequenceFunction::Conj.name(), more)?;
+            Ok(Value::Map(with_pairs(alloc, pairs, more.as_slice())?))
+        }
         other => {
             let name = SequenceFunction::Conj.name();
             Err(ApplyError::Fault(wrong_argument(alloc, name, other)?))
@@ -66,4 +74,52 @@ fn joined(alloc: Global, mut items: Vec<Value>, more: &[Value]) -> Result<Vec<Va
         items.push(copy(alloc, value)?)?;
     }
     Ok(items)
+}
+
+// What is put into a map: vectors of two, each as its key and its value.
+fn pairs_of<'a>(
+    alloc: Global,
+    function: &str,
+    args: &'a [Value],
+) -> Result<Vec<(&'a Value, &'a Value)>, ApplyError>
+    ensures { Gives (λ pairs. map entry_view pairs.items) result (pairs_in function.now (map view args.now)) }
+{
+    let mut pairs = Vec::new(alloc);
+    for argument in args {
+        let pair = pair_of(alloc, function, argument)?;
+        pairs.push(pair)?;
+    }
+    Ok(pairs)
+}
+
+fn pair_of<'a>(
+    alloc: Global,
+    function: &str,
+    argument: &'a Value,
+) -> Result<(&'a Value, &'a Value), ApplyError>
+    ensures { Gives entry_view result (pair_in function.now (view argument.now)) }
+{
+    match as_pair(argument) {
+        Some(pair) => Ok(pair),
+        None => Err(ApplyError::Fault(wrong_argument(alloc, function, argument)?)),
+    }
+}
+
+fn as_pair(argument: &Value) -> Option<(&Value, &Value)>
+    ensures { option_map entry_view result ≡ as_pair (view argument.now) }
+{
+    match argument {
+        Value::Vector(items) => two_of(items),
+        _other => None,
+    }
+}
+
+fn two_of(items: &[Value]) -> Option<(&Value, &Value)>
+    ensures { option_map entry_view result ≡ as_pair (vector (items_view items.now)) }
+{
+    if items.len() == 2 {
+        Some((&items[0], &items[1]))
+    } else {
+        None
+    }
 }

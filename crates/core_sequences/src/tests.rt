@@ -185,6 +185,50 @@ fn joins(rt: HostRuntime) -> Result<(), Fail> {
 }
 
 #[test]
+fn pairs_join_a_map(rt: HostRuntime) -> Result<(), Fail> {
+    let a = rt.alloc();
+    expect(
+        &rt,
+        a,
+        "conj",
+        &[
+            Given::Map(&[(1, 2), (3, 4)]),
+            Given::Vector(&[1, 5]),
+            Given::Vector(&[6, 7]),
+            Given::Vector(&[6, 8]),
+        ],
+        "{1 5, 3 4, 6 8}",
+    )?;
+    expect(&rt, a, "conj", &[Given::Map(&[])], "{}")?;
+    expect(
+        &rt,
+        a,
+        "conj",
+        &[
+            Given::Map(&[]),
+            Given::Vector(&[1, 2]),
+            Given::List(&[1, 2]),
+        ],
+        "#error{java.lang.ClassCastException: Wrong argument to conj: (1 2)}",
+    )?;
+    expect(
+        &rt,
+        a,
+        "conj",
+        &[Given::Map(&[]), Given::Vector(&[1, 2, 3])],
+        "#error{java.lang.ClassCastException: Wrong argument to conj: [1 2 3]}",
+    )?;
+    expect(
+        &rt,
+        a,
+        "conj",
+        &[Given::Map(&[]), Given::Nil, Given::Vector(&[1])],
+        "#error{java.lang.ClassCastException: Wrong argument to conj: nil}",
+    )?;
+    Ok(())
+}
+
+#[test]
 fn how_many(rt: HostRuntime) -> Result<(), Fail> {
     let a = rt.alloc();
     expect(&rt, a, "count", &[Given::Nil], "0")?;
