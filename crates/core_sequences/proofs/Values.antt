@@ -1,8 +1,8 @@
 -- Values as their data.
-use Rattle.std.proofs.Common.{◌≡◌, ◌≢◌, ℕ, zero, suc, ◌+◌, ◌<◌, ◌≤◌, List, [], ◌∷◌, ◌++◌, get_or, length, map, reverse, Option, Some, None, Result, Ok, Err, refl, sym, ap, ◌∙◌, arith}
+use Rattle.std.proofs.Common.{◌≡◌, ◌≢◌, ℕ, zero, suc, ◌<◌, ◌≤◌, List, [], ◌∷◌, ◌++◌, get_or, length, map, reverse, Some, None, Result, Ok, Err, refl, sym, ap, arith}
 use mathlib.Core.List.{reverse_aux}
 use Rattle.repl_values.specs.Datum.{Datum, nil, vector}
-use Rattle.repl_values.specs.View.{view, items_of, items_view, pair_view, pairs_view, pairs_of}
+use Rattle.repl_values.specs.View.{view, items_view, pair_view}
 use Rattle.repl_values.specs.declared.value.Value.{Value}
 use Rattle.repl_values.proofs.Views.{value_views}
 use Rattle.repl_faults.specs.Failure.{Failure}

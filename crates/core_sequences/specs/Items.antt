@@ -1,6 +1,6 @@
 -- The items of a value.
 use Rattle.std.specs.Prelude.{ℕ, ℤ, List, [], ◌∷◌, map as each, Option, Some, None, ok_or, Result, Ok, Err}
-use Rattle.repl_values.specs.Datum.{Datum, nil, integer, list, vector, map, Items, no_items, item}
+use Rattle.repl_values.specs.Datum.{Datum, nil, integer, list, vector, map, no_items, item}
 use Rattle.repl_faults.specs.Failure.{Failure, ◌>>=◌, wrong_argument}
 use Rattle.core_pairs.specs.Listed.{listed, pairs_listed, vector_of_two}
 
