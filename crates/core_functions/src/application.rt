@@ -8,7 +8,9 @@ ghost use Rattle.core_functions.specs.View.{Answers};
 
 use crate::function::CoreFunction;
 use core_integers::apply_integers;
+use core_maps::apply_maps;
 use core_predicates::apply_predicates;
+use core_sequences::apply_sequences;
 use core_texts::{apply_texts, printed};
 use repl_faults::{ApplyError, too_large};
 use repl_values::{Value, nesting, weight};
@@ -44,6 +46,14 @@ pub fn apply(alloc: Global, function: CoreFunction, args: &[Value]) -> Result<Ap
         }
         CoreFunction::Text(function) => {
             let value = apply_texts(alloc, function, args)?;
+            limited(alloc, value)
+        }
+        CoreFunction::Sequence(function) => {
+            let value = apply_sequences(alloc, function, args)?;
+            limited(alloc, value)
+        }
+        CoreFunction::Map(function) => {
+            let value = apply_maps(alloc, function, args)?;
             limited(alloc, value)
         }
         CoreFunction::Print(function) => {

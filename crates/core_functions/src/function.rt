@@ -4,7 +4,9 @@ ghost use Rattle.std.specs.Option.{option_map_or};
 ghost use Rattle.core_functions.specs.Names.{function_named, name_of, fits};
 
 use core_integers::IntegerFunction;
+use core_maps::MapFunction;
 use core_predicates::PredicateFunction;
+use core_sequences::SequenceFunction;
 use core_texts::{PrintFunction, TextFunction};
 
 /// A function of the language that needs no store, by its group.
@@ -13,6 +15,8 @@ pub enum CoreFunction {
     Integer(IntegerFunction),
     Predicate(PredicateFunction),
     Text(TextFunction),
+    Sequence(SequenceFunction),
+    Map(MapFunction),
     Print(PrintFunction),
 }
 
@@ -30,6 +34,12 @@ impl CoreFunction {
         if let Some(function) = TextFunction::named(name) {
             return Some(CoreFunction::Text(function));
         }
+        if let Some(function) = SequenceFunction::named(name) {
+            return Some(CoreFunction::Sequence(function));
+        }
+        if let Some(function) = MapFunction::named(name) {
+            return Some(CoreFunction::Map(function));
+        }
         if let Some(function) = PrintFunction::named(name) {
             return Some(CoreFunction::Print(function));
         }
@@ -45,6 +55,8 @@ impl CoreFunction {
             CoreFunction::Integer(function) => function.name(),
             CoreFunction::Predicate(function) => function.name(),
             CoreFunction::Text(function) => function.name(),
+            CoreFunction::Sequence(function) => function.name(),
+            CoreFunction::Map(function) => function.name(),
             CoreFunction::Print(function) => function.name(),
         }
     }
@@ -57,6 +69,8 @@ impl CoreFunction {
             CoreFunction::Integer(function) => function.takes(arguments),
             CoreFunction::Predicate(function) => function.takes(arguments),
             CoreFunction::Text(function) => function.takes(arguments),
+            CoreFunction::Sequence(function) => function.takes(arguments),
+            CoreFunction::Map(function) => function.takes(arguments),
             CoreFunction::Print(_) => true,
         }
     }

@@ -1,0 +1,36 @@
+// Applying a function of maps to values.
+ghost use Rattle.std.specs.Prelude.{◌≡◌, true, length, map};
+ghost use Rattle.repl_values.specs.View.{view};
+ghost use Rattle.repl_faults.specs.View.{Gives};
+ghost use Rattle.core_maps.specs.Names.{fits};
+ghost use Rattle.core_maps.specs.Meaning.{value_of};
+
+use crate::arguments::by_turns;
+use crate::changes::{assoc, dissoc};
+use crate::function::MapFunction;
+use crate::lookups::{contains, get};
+use crate::making::{hash_map, keys, vals};
+use repl_faults::ApplyError;
+use repl_values::Value;
+use std::alloc::Global;
+
+/// The function's value at as many arguments as it takes. All arguments' kinds are checked from the
+/// left before anything else.
+#[tactic(auto, using(crate::proofs::Values::seen), unfolding(crate::specs::Meaning::value_of))]
+pub fn apply_maps(alloc: Global, function: MapFunction, args: &[Value]) -> Result<Value, ApplyError>
+    requires { fits function (length args.now) ≡ true }
+    ensures { Gives view result (value_of function (map view args.now)) }
+{
+    match function {
+        MapFunction::HashMap => hash_map(alloc, args),
+        MapFunction::Get => get(alloc, &args[0], &args[1], args.get(2)),
+        MapFunction::Contains => contains(alloc, &args[0], &args[1]),
+        MapFunction::Assoc => {
+            let more = by_turns(alloc, &args[1..])?;
+            assoc(alloc, &args[0], more.pairs.as_slice())
+        }
+        MapFunction::Dissoc => dissoc(alloc, &args[0], &args[1..]),
+        MapFunction::Keys => keys(alloc, &args[0]),
+        MapFunction::Vals => vals(alloc, &args[0]),
+    }
+}

@@ -1,0 +1,117 @@
+// Maps and vectors with more put in or keys taken out.
+#![tactic(auto, using(crate::proofs::Values::seen))]
+
+ghost use Rattle.std.specs.Prelude.{◌≡◌, ◌≤◌, ◌+◌, ◌∷◌, ◌++◌, map, take, drop, vec_len, length, IfOk, IfSome};
+ghost use Rattle.repl_values.specs.View.{view};
+ghost use Rattle.repl_faults.specs.View.{Gives};
+ghost use Rattle.core_pairs.specs.Found.{entry_view};
+ghost use Rattle.core_maps.specs.View.{place_view};
+ghost use Rattle.core_maps.specs.Meaning as meant;
+
+use crate::arguments::places_of;
+use crate::function::MapFunction;
+use crate::making::pairs_of;
+use core_pairs::{with_pairs, without_keys};
+use repl_faults::{ApplyError, out_of_bounds, wrong_argument};
+use repl_values::{Value, copy};
+use std::alloc::{AllocError, Global};
+
+#[tactic(auto, using(crate::proofs::Values::seen), unfolding(crate::specs::Meaning::assoc))]
+pub(crate) fn assoc<'a>(
+    alloc: Global,
+    collection: &'a Value,
+    more: &[(&'a Value, &'a Value)],
+) -> Result<Value, ApplyError>
+    ensures { Gives view result (meant.assoc (view collection.now) (map entry_view more.now)) }
+{
+    let name = MapFunction::Assoc.name();
+    match collection {
+        Value::Vector(items) => {
+            let places = places_of(alloc, name, more)?;
+            Ok(Value::Vector(with_items(alloc, items, places.as_slice())?))
+        }
+        other => {
+            let pairs = pairs_of(alloc, name, other)?;
+            Ok(Value::Map(with_pairs(alloc, pairs, more)?))
+        }
+    }
+}
+
+#[tactic(auto, using(crate::proofs::Values::seen), unfolding(crate::specs::Meaning::dissoc))]
+pub(crate) fn dissoc(alloc: Global, collection: &Value, keys: &[Value]) -> Result<Value, ApplyError>
+    ensures { Gives view result (meant.dissoc (view collection.now) (map view keys.now)) }
+{
+    match collection {
+        Value::Nil => Ok(Value::Nil),
+        Value::Map(pairs) => Ok(Value::Map(without_keys(alloc, pairs, keys)?)),
+        other => {
+            let name = MapFunction::Dissoc.name();
+            Err(ApplyError::Fault(wrong_argument(alloc, name, other)?))
+        }
+    }
+}
+
+// The items with more put in, one after another.
+fn with_items(
+    alloc: Global,
+    items: &[Value],
+    places: &[(i64, &Value)],
+) -> Result<Vec<Value>, ApplyError>
+    ensures { Gives (λ all. map view all.items) result (meant.with_items (map place_view places.now) (map view items.now)) }
+{
+    let mut all = copy_values(alloc, items)?;
+    for (index, value) in places {
+        all = put_at(alloc, all, *index, value)?;
+    }
+    Ok(all)
+}
+
+fn copy_values(alloc: Global, values: &[Value]) -> Result<Vec<Value>, AllocError>
+    ensures { IfOk result (λ copies. map view copies.items ≡ map view values.now) }
+{
+    let mut copies = Vec::with_capacity(alloc, values.len())?;
+    for value in values {
+        copies.push(copy(alloc, value)?)?;
+    }
+    Ok(copies)
+}
+
+// The index as a place from 0 to the count.
+fn place_within(index: i64, count: usize) -> Option<usize>
+    ensures place { result ≡ meant.place_within index count }
+    ensures bound { IfSome result (λ place. place ≤ count) }
+{
+    if index < 0 {
+        return None;
+    }
+    let place = index as usize;
+    if place <= count { Some(place) } else { None }
+}
+
+fn put_at(
+    alloc: Global,
+    all: Vec<Value>,
+    index: i64,
+    value: &Value,
+) -> Result<Vec<Value>, ApplyError>
+    ensures { Gives (λ put. map view put.items) result (meant.put_at (meant.place_within index (vec_len all)) (view value.now) (map view all.items)) }
+{
+    match place_within(index, all.len()) {
+        Some(place) => Ok(replaced(all, place, copy(alloc, value)?)?),
+        None => Err(ApplyError::Fault(out_of_bounds(alloc)?)),
+    }
+}
+
+// Puts the value at the place, in place of what stood there.
+fn replaced(mut all: Vec<Value>, place: usize, value: Value) -> Result<Vec<Value>, AllocError>
+    requires { place ≤ vec_len all }
+    ensures { IfOk result (λ put. map view put.items ≡ take place (map view all.items) ++ view value ∷ drop (place + 1) (map view all.items)) }
+{
+    if place < all.len() {
+        all[place] = value;
+        Ok(all)
+    } else {
+        all.push(value)?;
+        Ok(all)
+    }
+}

@@ -1,0 +1,90 @@
+// Maps made of keys and values, and taken apart into them.
+#![tactic(auto, using(crate::proofs::Values::seen))]
+
+ghost use Rattle.std.specs.Prelude.{◌≡◌, map, IfOk};
+ghost use Rattle.repl_values.specs.View.{view, pair_view, pairs_view};
+ghost use Rattle.repl_faults.specs.View.{Gives};
+ghost use Rattle.core_maps.specs.Arguments.{pairs_in};
+ghost use Rattle.core_maps.specs.Meaning as meant;
+
+use crate::arguments::by_turns;
+use crate::function::MapFunction;
+use core_pairs::with_pairs;
+use repl_faults::{ApplyError, no_value_supplied, wrong_argument};
+use repl_values::{Value, copy};
+use std::alloc::{AllocError, Global};
+
+#[tactic(auto, using(crate::proofs::Values::seen), unfolding(crate::specs::Meaning::hash_map))]
+pub(crate) fn hash_map(alloc: Global, args: &[Value]) -> Result<Value, ApplyError>
+    ensures { Gives view result (meant.hash_map (map view args.now)) }
+{
+    let turns = by_turns(alloc, args)?;
+    match turns.left_alone {
+        Some(key) => Err(ApplyError::Fault(no_value_supplied(alloc, key)?)),
+        None => Ok(Value::Map(with_pairs(alloc, &[], turns.pairs.as_slice())?)),
+    }
+}
+
+// The pairs of a map. Nil stands for an empty one.
+pub(crate) fn pairs_of<'a>(
+    alloc: Global,
+    function: &str,
+    argument: &'a Value,
+) -> Result<&'a [(Value, Value)], ApplyError>
+    ensures { Gives (λ pairs. pairs_view pairs.now) result (pairs_in function.now (view argument.now)) }
+{
+    match argument {
+        Value::Nil => Ok(&[]),
+        Value::Map(pairs) => Ok(pairs.as_slice()),
+        other => Err(ApplyError::Fault(wrong_argument(alloc, function, other)?)),
+    }
+}
+
+#[tactic(auto, using(crate::proofs::Values::seen), unfolding(crate::specs::Meaning::keys))]
+pub(crate) fn keys(alloc: Global, argument: &Value) -> Result<Value, ApplyError>
+    ensures { Gives view result (meant.keys (view argument.now)) }
+{
+    let pairs = pairs_of(alloc, MapFunction::Keys.name(), argument)?;
+    let keys = copy_keys(alloc, pairs)?;
+    Ok(list_or_nil(keys))
+}
+
+#[tactic(auto, using(crate::proofs::Values::seen), unfolding(crate::specs::Meaning::vals))]
+pub(crate) fn vals(alloc: Global, argument: &Value) -> Result<Value, ApplyError>
+    ensures { Gives view result (meant.vals (view argument.now)) }
+{
+    let pairs = pairs_of(alloc, MapFunction::Vals.name(), argument)?;
+    let vals = copy_vals(alloc, pairs)?;
+    Ok(list_or_nil(vals))
+}
+
+fn copy_keys(alloc: Global, pairs: &[(Value, Value)]) -> Result<Vec<Value>, AllocError>
+    ensures { IfOk result (λ keys. map view keys.items ≡ map (λ p. p.0) (map pair_view pairs.now)) }
+{
+    let mut keys = Vec::with_capacity(alloc, pairs.len())?;
+    for (key, _value) in pairs {
+        keys.push(copy(alloc, key)?)?;
+    }
+    Ok(keys)
+}
+
+fn copy_vals(alloc: Global, pairs: &[(Value, Value)]) -> Result<Vec<Value>, AllocError>
+    ensures { IfOk result (λ vals. map view vals.items ≡ map (λ p. p.1) (map pair_view pairs.now)) }
+{
+    let mut vals = Vec::with_capacity(alloc, pairs.len())?;
+    for (_key, value) in pairs {
+        vals.push(copy(alloc, value)?)?;
+    }
+    Ok(vals)
+}
+
+// The list, or nil for an empty one.
+fn list_or_nil(items: Vec<Value>) -> Value
+    ensures { view result ≡ meant.list_or_nil (map view items.items) }
+{
+    if items.is_empty() {
+        Value::Nil
+    } else {
+        Value::List(items)
+    }
+}

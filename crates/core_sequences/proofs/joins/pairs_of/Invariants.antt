@@ -1,0 +1,10 @@
+use Rattle.std.proofs.Common.{◌≡◌, map, drop}
+use Rattle.repl_values.specs.View.{view}
+use Rattle.core_pairs.specs.Found.{entry_view}
+use Rattle.core_sequences.specs.Items.{pairs_in}
+use Rattle.core_sequences.proofs.Values.{with_front}
+use Rattle.core_sequences.proofs.joins.pairs_of.Given as goal
+
+abbrev pub invariant-loop-argument : goal.invariant-loop-argument
+invariant-loop-argument l =
+    with_front (map entry_view l.pairs.items) (pairs_in l.function (map view (drop l.argument-index l.args))) ≡ pairs_in l.function (map view l.args)

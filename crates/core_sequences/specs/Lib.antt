@@ -1,0 +1,4 @@
+pub mod Names
+pub mod Items
+pub mod Meaning
+pub mod View

@@ -1,0 +1,42 @@
+// Applying a function of sequences to values.
+ghost use Rattle.std.specs.Prelude.{◌≡◌, true, length, map};
+ghost use Rattle.repl_values.specs.View.{view};
+ghost use Rattle.repl_faults.specs.View.{Gives};
+ghost use Rattle.core_sequences.specs.Names.{fits};
+ghost use Rattle.core_sequences.specs.Meaning.{value_of};
+
+use crate::ends::{first, last, next, rest, reversed};
+use crate::function::SequenceFunction;
+use crate::items::copy_values;
+use crate::joins::{conj, cons};
+use crate::places::{count, is_empty, nth};
+use repl_faults::ApplyError;
+use repl_values::Value;
+use std::alloc::Global;
+
+/// The function's value at as many arguments as it takes. All arguments' kinds are checked from the
+/// left before anything else.
+#[tactic(auto, using(crate::proofs::Values::seen), unfolding(crate::specs::Meaning::value_of))]
+pub fn apply_sequences(
+    alloc: Global,
+    function: SequenceFunction,
+    args: &[Value],
+) -> Result<Value, ApplyError>
+    requires { fits function (length args.now) ≡ true }
+    ensures { Gives view result (value_of function (map view args.now)) }
+{
+    match function {
+        SequenceFunction::List => Ok(Value::List(copy_values(alloc, args)?)),
+        SequenceFunction::Vector => Ok(Value::Vector(copy_values(alloc, args)?)),
+        SequenceFunction::First => first(alloc, &args[0]),
+        SequenceFunction::Last => last(alloc, &args[0]),
+        SequenceFunction::Rest => rest(alloc, &args[0]),
+        SequenceFunction::Next => next(alloc, &args[0]),
+        SequenceFunction::Reverse => reversed(alloc, &args[0]),
+        SequenceFunction::Cons => cons(alloc, &args[0], &args[1]),
+        SequenceFunction::Conj => conj(alloc, &args[0], &args[1..]),
+        SequenceFunction::Count => count(alloc, &args[0]),
+        SequenceFunction::IsEmpty => is_empty(alloc, &args[0]),
+        SequenceFunction::Nth => nth(alloc, &args[0], &args[1], args.get(2)),
+    }
+}

@@ -1,0 +1,16 @@
+//! The functions of the language on items in order: of lists, vectors and, pair by pair, maps.
+//!
+//! The items of nil are none; those of a map are its pairs, each as a vector of two.
+#![tactic(auto)]
+
+mod application;
+mod ends;
+mod function;
+mod items;
+mod joins;
+mod places;
+#[cfg(test)]
+mod tests;
+
+pub use application::apply_sequences;
+pub use function::SequenceFunction;

@@ -1,0 +1,112 @@
+// How many items there are, and which one stands at a place.
+#![tactic(auto, using(crate::proofs::Values::seen))]
+
+ghost use Rattle.std.specs.Prelude.{◌≡◌, ◌<◌, ◌^◌, length, map, option_map, chars, IfOk};
+ghost use Rattle.repl_values.specs.View.{view};
+ghost use Rattle.repl_faults.specs.View.{Gives};
+ghost use Rattle.core_sequences.specs.Items.{row_in, integer_in};
+ghost use Rattle.core_sequences.specs.Meaning as meant;
+
+use crate::function::SequenceFunction;
+use crate::items::ItemRow;
+use repl_faults::{ApplyError, out_of_bounds, wrong_argument};
+use repl_values::{Value, copy};
+use std::alloc::Global;
+
+#[tactic(auto, using(crate::proofs::Values::seen), unfolding(crate::specs::Meaning::count))]
+pub(crate) fn count(alloc: Global, argument: &Value) -> Result<Value, ApplyError>
+    ensures { Gives view result (meant.count (view argument.now)) }
+{
+    let count = counted(alloc, SequenceFunction::Count.name(), argument)?;
+    Ok(Value::Int(count as i64))
+}
+
+#[tactic(auto, using(crate::proofs::Values::seen), unfolding(crate::specs::Meaning::is_empty))]
+pub(crate) fn is_empty(alloc: Global, argument: &Value) -> Result<Value, ApplyError>
+    ensures { Gives view result (meant.is_empty (view argument.now)) }
+{
+    let count = counted(alloc, SequenceFunction::IsEmpty.name(), argument)?;
+    Ok(Value::Bool(count == 0))
+}
+
+#[tactic(auto, using(crate::proofs::Values::seen), unfolding(crate::specs::Meaning::counted))]
+fn counted(alloc: Global, function: &str, argument: &Value) -> Result<usize, ApplyError>
+    ensures count { Gives (λ n. n) result (meant.counted function.now (view argument.now)) }
+    ensures bound { IfOk result (λ n. n < 2 ^ 63) }
+{
+    match argument {
+        Value::Str(text) => Ok(characters(text.as_str())),
+        other => Ok(ItemRow::of(alloc, function, other)?.len()),
+    }
+}
+
+#[tactic(auto, using(std::proofs::lemmas::Str::chars_from_encodes))]
+fn characters(text: &str) -> usize
+    ensures count { result ≡ length (chars text.now) }
+    ensures bound { result < 2 ^ 63 }
+{
+    text.chars().count()
+}
+
+// The item at the index of a list, a vector or nil. `otherwise` stands in the place of one that is
+// not there.
+#[tactic(auto, using(crate::proofs::Values::seen), unfolding(crate::specs::Meaning::nth))]
+pub(crate) fn nth(
+    alloc: Global,
+    collection: &Value,
+    index: &Value,
+    otherwise: Option<&Value>,
+) -> Result<Value, ApplyError>
+    ensures { Gives view result (meant.nth (view collection.now) (view index.now) (option_map (λ v. view v.now) otherwise.entry)) }
+{
+    let name = SequenceFunction::Nth.name();
+    let row = row_of(alloc, name, collection)?;
+    let index = integer_of(alloc, name, index)?;
+    let found = item_at(row, index);
+    found_or(alloc, found, otherwise, collection)
+}
+
+fn row_of<'a>(alloc: Global, function: &str, argument: &'a Value) -> Result<&'a [Value], ApplyError>
+    ensures { Gives (λ row. map view row.now) result (row_in function.now (view argument.now)) }
+{
+    match argument {
+        Value::Nil => Ok(&[]),
+        Value::List(items) => Ok(items.as_slice()),
+        Value::Vector(items) => Ok(items.as_slice()),
+        other => Err(ApplyError::Fault(wrong_argument(alloc, function, other)?)),
+    }
+}
+
+fn integer_of(alloc: Global, function: &str, argument: &Value) -> Result<i64, ApplyError>
+    ensures { Gives (λ n. n) result (integer_in function.now (view argument.now)) }
+{
+    match argument {
+        Value::Int(n) => Ok(*n),
+        other => Err(ApplyError::Fault(wrong_argument(alloc, function, other)?)),
+    }
+}
+
+fn item_at(row: &[Value], index: i64) -> Option<&Value>
+    ensures { option_map (λ v. view v.now) result ≡ meant.item_at index (map view row.now) }
+{
+    if index < 0 {
+        return None;
+    }
+    row.get(index as usize)
+}
+
+fn found_or(
+    alloc: Global,
+    found: Option<&Value>,
+    otherwise: Option<&Value>,
+    collection: &Value,
+) -> Result<Value, ApplyError>
+    ensures { Gives view result (meant.found_or (option_map (λ v. view v.now) found.entry) (option_map (λ v. view v.now) otherwise.entry) (view collection.now)) }
+{
+    match (found, otherwise, collection) {
+        (Some(item), _, _) => Ok(copy(alloc, item)?),
+        (None, Some(value), _) => Ok(copy(alloc, value)?),
+        (None, None, Value::Nil) => Ok(Value::Nil),
+        _ => Err(ApplyError::Fault(out_of_bounds(alloc)?)),
+    }
+}
