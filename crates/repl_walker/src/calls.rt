@@ -6,6 +6,7 @@ ghost use Rattle.repl_walker.specs.Size.{control_size, frames_size, spent};
 use crate::frames::{Callee, Control, Frame, Local, Place, State};
 use crate::rows::next_in_body;
 use core_functions::{Applied, CoreFunction, apply};
+use core_maps::MapFunction;
 use repl_faults::{ApplyError, output_too_long, too_many_calls, wrong_arity};
 use repl_values::{Function, Value, print_into};
 use std::alloc::{AllocError, Global};
@@ -108,10 +109,8 @@ fn call_keyword(
     if let Some(default) = values.pop_front() {
         args.push(default)?;
     }
-    match CoreFunction::named("get") {
-        Some(get) => call_core(alloc, state, get, args.as_slice()),
-        None => Ok(Control::Return(Value::Nil)),
-    }
+    let get = CoreFunction::Map(MapFunction::Get);
+    call_core(alloc, state, get, args.as_slice())
 }
 
 fn call_function(

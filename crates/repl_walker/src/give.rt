@@ -6,6 +6,7 @@ use crate::frames::{Control, Frame, State};
 use crate::rows::{bind, is_true, next_argument, next_binding, next_in_body, next_in_logic, next_item};
 use crate::special::define;
 use core_functions::{Applied, CoreFunction, apply};
+use core_texts::TextFunction;
 use repl_asks::Binding;
 use repl_faults::{ApplyError, thrown};
 use repl_values::{Fault, Value};
@@ -88,13 +89,7 @@ fn throw_text(alloc: Global, value: Value) -> Result<Control, AllocError>
     ensures calls { IfOk result (λ control. spent control ≡ 0) }
 {
     let args = [value];
-    let Some(function) = CoreFunction::named("str") else {
-        return Ok(Control::Return(Value::Nil));
-    };
-    if !function.takes(1) {
-        return Ok(Control::Return(Value::Nil));
-    }
-    match apply(alloc, function, &args) {
+    match apply(alloc, CoreFunction::Text(TextFunction::Str), &args) {
         Ok(applied) => {
             let Applied { value, text: _ } = applied;
             match value {
