@@ -184,7 +184,7 @@ or_twice true b = refl
 or_twice false b = refl
 
 -- where a key compares equal, it is the key
-same_key : (key l : List ℕ) → slice_cmp nat_cmp key l ≡ Equal → key ≡ l
+pub same_key : (key l : List ℕ) → slice_cmp nat_cmp key l ≡ Equal → key ≡ l
 same_key key l e =
     let eq : bytes_eq key l ≡ true = sym (is_eq-slice_cmp key l) ∙ ap is_eq e in
     grind (arith, bytes_eq-Decides)
@@ -211,7 +211,7 @@ has_key-put_pairs k done (pair key t ps) =
     has_key-put_pairs k (put_pair done key (sorted t)) ps ∙ ap (λ x. x || has_key k ps) (has_key-put_pair k done key (sorted t))
     ∙ or_grouped (bytes_eq k key) (has_key k done) (has_key k ps)
 
-has_key-sorted : (k : List ℕ) (ps : Pairs) → has_key k (put_pairs no_pairs ps) ≡ has_key k ps
+pub has_key-sorted : (k : List ℕ) (ps : Pairs) → has_key k (put_pairs no_pairs ps) ≡ has_key k ps
 has_key-sorted k ps = has_key-put_pairs k no_pairs ps
 
 judged-sorted : (next : Next) → judged (sorted_next next) ≡ sorted_judged (judged next)
