@@ -31,12 +31,12 @@ record Reads (ps : Pairs) (texts : List (List ℕ)) : Type 0 where
 
 add_text : (ps : Pairs) (bytes : List ℕ) (texts : List (List ℕ)) → IsPairOf ps bytes → Reads ps texts → Reads ps (bytes ∷ texts)
 add_text ps bytes texts p more = record {
-    pairs = pair p.0 p.1 more.pairs;
-    spellable = (p.2, p.3, more.spellable);
-    text = ap (λ x. x ++ pairs_text more.pairs) (sym p.4) ∙ ap (λ x. bytes ++ x) more.text;
-    each = ((p.0, p.1, p.2, p.3, p.4, inl (refl, refl)), wider p.0 p.1 more.pairs texts more.each);
-    held = held_in
-  }
+  pairs = pair p.0 p.1 more.pairs;
+  spellable = (p.2, p.3, more.spellable);
+  text = ap (λ x. x ++ pairs_text more.pairs) (sym p.4) ∙ ap (λ x. bytes ++ x) more.text;
+  each = ((p.0, p.1, p.2, p.3, p.4, inl (refl, refl)), wider p.0 p.1 more.pairs texts more.each);
+  held = held_in;
+}
   where
     held_in : (k : List ℕ) (t : Tree) → HoldsSorted k t (pair p.0 p.1 more.pairs) → HoldsSorted k t ps
     held_in k t (inl e) = subst (λ x. HoldsSorted x t ps) (sym e.0) (subst (λ x. HoldsSorted p.0 x ps) (sym e.1) p.5)
