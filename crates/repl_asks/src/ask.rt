@@ -1,8 +1,8 @@
 // The asks and their answers.
-ghost use Rattle.std.specs.Prelude.{◌≡◌, IfOk, string_bytes};
+ghost use Rattle.std.specs.Prelude.{◌≡◌, IfOk};
 ghost use Rattle.repl_asks.specs.View.{ask_view, answer_view};
 
-use repl_values::{Fault, Value, copy};
+use repl_values::{Fault, Value, copy, copy_text};
 use std::alloc::{AllocError, Global};
 
 /// What a form asks next.
@@ -39,12 +39,6 @@ pub struct Exchange {
 
 /// The exchanges of an evaluation so far, in order.
 pub type Trace = Vec<Exchange>;
-
-fn copy_text(alloc: Global, text: &String) -> Result<String, AllocError>
-    ensures { IfOk result (λ copied. string_bytes copied ≡ string_bytes text.now) }
-{
-    String::from_str(alloc, text.as_str())
-}
 
 impl Ask {
     /// The same ask once more. It fails only for want of memory.
