@@ -148,10 +148,16 @@ fn feed(
     Ok(answer.err())
 }
 
+// Writes a copy of the value.
 fn write(value: &Ben, out: &mut Vec<u8>) -> Result<(), AllocError> {
-    match write_into(value, out) {
+    let alloc = *out.allocator();
+    let copied = match value.copy(alloc) {
+        Ok(copied) => copied,
+        Err(_refused) => value.copy(alloc)?,
+    };
+    match write_into(&copied, out) {
         Ok(()) => Ok(()),
-        Err(_refused) => write_into(value, out),
+        Err(_refused) => write_into(&copied, out),
     }
 }
 
