@@ -17,3 +17,4 @@ pub mod Kept
 pub mod Within
 pub mod Written
 pub mod Members
+pub mod Canonical

@@ -196,7 +196,7 @@ has_key-ordered Less k key t l u ps more same e = refl
 has_key-ordered Equal k key t l u ps more same e = or_twice (bytes_eq k l) (has_key k ps) ∙ ap (λ x. bytes_eq k x || (bytes_eq k l || has_key k ps)) (sym (same refl))
 has_key-ordered Greater k key t l u ps more same e = ap (λ x. bytes_eq k l || x) e ∙ or_first (bytes_eq k l) (bytes_eq k key) (has_key k ps)
 
-has_key-put_pair : (k : List ℕ) (ps : Pairs) (key : List ℕ) (t : Tree) → has_key k (put_pair ps key t) ≡ bytes_eq k key || has_key k ps
+pub has_key-put_pair : (k : List ℕ) (ps : Pairs) (key : List ℕ) (t : Tree) → has_key k (put_pair ps key t) ≡ bytes_eq k key || has_key k ps
 has_key-put_pair k no_pairs key t = refl
 has_key-put_pair k (pair l u ps) key t =
     has_key-ordered (slice_cmp nat_cmp key l) k key t l u ps (put_pair ps key t) (same_key key l) (has_key-put_pair k ps key t)
