@@ -48,9 +48,9 @@ apart_one false l k done e other was h = was h
 apart_put : (done : Pairs) (k : List ℕ) (v : Tree) (ps : Pairs) → (HasKey k ps → ⊥) → AreApart done ps → AreApart (put_pair done k v) ps
 apart_put done k v no_pairs h g = tt
 apart_put done k v (pair l u ps) h g = (
-    λ e. apart_one (bytes_eq l k) l k done refl (λ same. h (key_here k l u ps (sym same))) g.0 (sym (has_key-put_pair l done k v) ∙ e),
-    apart_put done k v ps (λ e. h (key_later k l u ps (bytes_eq k l) e)) g.1,
-  )
+  λ e. apart_one (bytes_eq l k) l k done refl (λ same. h (key_here k l u ps (sym same))) g.0 (sym (has_key-put_pair l done k v) ∙ e),
+  apart_put done k v ps (λ e. h (key_later k l u ps (bytes_eq k l) e)) g.1,
+)
 
 put_moves : (o : Ordering) (k : List ℕ) (v : Tree) (l : List ℕ) (u : Tree) (ps more : Pairs) → (o ≡ Equal → ⊥)
     → IsPermutation ((string_text k ++ text v) ∷ pair_texts ps) (pair_texts more)
