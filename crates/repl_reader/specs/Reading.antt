@@ -1,5 +1,5 @@
 -- What a text begins with, as far as its first characters tell.
-use Rattle.std.specs.Prelude.{ℕ, ℤ, List, [], ◌∷◌, ◌++◌, Bool, Option, None, Some, ◌==◌, ◌||◌, ◌+◌, if◌then◌else◌, codes, length}
+use Rattle.std.specs.Prelude.{ℕ, ℤ, List, [], ◌∷◌, Bool, Option, None, Some, ◌==◌, ◌||◌, ◌+◌, if◌then◌else◌, codes, length}
 use Rattle.repl_values.specs.Datum as datum
 use Rattle.repl_values.specs.Datum.{Datum}
 use Rattle.repl_reader.specs.declared.fault.FaultKind.{FaultKind}
