@@ -16,3 +16,5 @@ pub mod Appends
 pub mod Kept
 pub mod Within
 pub mod Written
+pub mod Members
+pub mod Canonical

@@ -184,7 +184,7 @@ or_twice true b = refl
 or_twice false b = refl
 
 -- where a key compares equal, it is the key
-same_key : (key l : List ℕ) → slice_cmp nat_cmp key l ≡ Equal → key ≡ l
+pub same_key : (key l : List ℕ) → slice_cmp nat_cmp key l ≡ Equal → key ≡ l
 same_key key l e =
     let eq : bytes_eq key l ≡ true = sym (is_eq-slice_cmp key l) ∙ ap is_eq e in
     grind (arith, bytes_eq-Decides)
@@ -196,7 +196,7 @@ has_key-ordered Less k key t l u ps more same e = refl
 has_key-ordered Equal k key t l u ps more same e = or_twice (bytes_eq k l) (has_key k ps) ∙ ap (λ x. bytes_eq k x || (bytes_eq k l || has_key k ps)) (sym (same refl))
 has_key-ordered Greater k key t l u ps more same e = ap (λ x. bytes_eq k l || x) e ∙ or_first (bytes_eq k l) (bytes_eq k key) (has_key k ps)
 
-has_key-put_pair : (k : List ℕ) (ps : Pairs) (key : List ℕ) (t : Tree) → has_key k (put_pair ps key t) ≡ bytes_eq k key || has_key k ps
+pub has_key-put_pair : (k : List ℕ) (ps : Pairs) (key : List ℕ) (t : Tree) → has_key k (put_pair ps key t) ≡ bytes_eq k key || has_key k ps
 has_key-put_pair k no_pairs key t = refl
 has_key-put_pair k (pair l u ps) key t =
     has_key-ordered (slice_cmp nat_cmp key l) k key t l u ps (put_pair ps key t) (same_key key l) (has_key-put_pair k ps key t)
@@ -211,7 +211,7 @@ has_key-put_pairs k done (pair key t ps) =
     has_key-put_pairs k (put_pair done key (sorted t)) ps ∙ ap (λ x. x || has_key k ps) (has_key-put_pair k done key (sorted t))
     ∙ or_grouped (bytes_eq k key) (has_key k done) (has_key k ps)
 
-has_key-sorted : (k : List ℕ) (ps : Pairs) → has_key k (put_pairs no_pairs ps) ≡ has_key k ps
+pub has_key-sorted : (k : List ℕ) (ps : Pairs) → has_key k (put_pairs no_pairs ps) ≡ has_key k ps
 has_key-sorted k ps = has_key-put_pairs k no_pairs ps
 
 judged-sorted : (next : Next) → judged (sorted_next next) ≡ sorted_judged (judged next)

@@ -60,7 +60,7 @@ front_same (a ∷ p) (b ∷ q) x y l e =
 string_grouped : (p x : List ℕ) → string_text p ++ x ≡ decimal (length p) ++ 58 ∷ (p ++ x)
 string_grouped p x = append_assoc (decimal (length p) ++ 58 ∷ []) p x ∙ append_assoc (decimal (length p)) (58 ∷ []) (p ++ x)
 
-string_same : (p q x y : List ℕ) → IsString p → IsString q → string_text p ++ x ≡ string_text q ++ y → (p ≡ q) × (x ≡ y)
+pub string_same : (p q x y : List ℕ) → IsString p → IsString q → string_text p ++ x ≡ string_text q ++ y → (p ≡ q) × (x ≡ y)
 string_same p q x y g h e =
     let same = digits_same (decimal (length p)) (decimal (length q)) (p ++ x) (q ++ y) 58 (decimal_IsNumber (length p) g).0 (decimal_IsNumber (length q) h).0 (omega arith)
     (sym (string_grouped p x) ∙ e ∙ string_grouped q y) in

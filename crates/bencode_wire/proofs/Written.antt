@@ -4,22 +4,22 @@ use Rattle.std.proofs.lemmas.Cmp.{nat_list_cmp_total}
 use Rattle.std.specs.Cmp.Lexicographic.{slice_cmp}
 use Rattle.std.specs.Ordering.{match_ordering, ordering_reverse}
 use Rattle.bencode_wire.specs.Tree.{Tree, integer, string, list, dictionary, Trees, no_trees, tree, Pairs, no_pairs, pair, add_pair}
-use Rattle.bencode_wire.specs.Spelling.{text, canonical, IsSpellable, put_pair, put_pairs, sorted, sorted_trees}
+use Rattle.bencode_wire.specs.Spelling.{canonical, IsSpellable, put_pair, put_pairs, sorted, sorted_trees}
 use Rattle.bencode_wire.specs.Stream.{Ending, Streams}
 use Rattle.bencode_wire.specs.Within.{IsWithin}
 use Rattle.bencode_wire.proofs.Complete.{append_pairs, append_pairs-none}
 use Rattle.bencode_wire.proofs.Within.{text_read}
 
-abbrev order : List ℕ → List ℕ → Ordering
+abbrev pub order : List ℕ → List ℕ → Ordering
 order a b = slice_cmp nat_cmp a b
 
 -- each key is above this one
-abbrev Above : List ℕ → Pairs → Type 0
+abbrev pub Above : List ℕ → Pairs → Type 0
 Above key no_pairs = Unit {0}
 Above key (pair k t ps) = (order key k ≡ Less) × Above key ps
 
 -- the keys ascend, and each value is sorted
-abbrev InOrder : Pairs → Type 0
+abbrev pub InOrder : Pairs → Type 0
 InOrder no_pairs = Unit {0}
 InOrder (pair k t ps) = Above k ps × (sorted t ≡ t) × InOrder ps
 
@@ -106,6 +106,10 @@ mutual
   settled : (ps : Pairs) → AreSettled ps
   settled no_pairs = tt
   settled (pair k t ps) = (sorted_twice t, settled ps)
+
+-- the keys of pairs that were put in one by one ascend
+pub put_in_ascending : (ps : Pairs) → InOrder (put_pairs no_pairs ps)
+put_in_ascending ps = in_order_all no_pairs ps tt (settled ps)
 
 -- the canonical spelling is read as what was written
 pub written_read : (limit place : ℕ) (ps : Pairs) (more : List ℕ) (ts : List Tree) (end : Ending)

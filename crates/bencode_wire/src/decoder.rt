@@ -79,6 +79,7 @@ impl Decoder {
     /// Hands out the oldest message that is whole, a dictionary. It takes no memory.
     pub fn next(&mut self) -> Option<Ben>
         ensures value { ready_of self.old ≡ option_to_list (option_map view result) ++ ready_of self.new }
+        ensures none { result ≡ None → ready_of self.old ≡ [] }
         ensures stands { (limit : ℕ) (all : List ℕ) (taken : List Tree) → Stands limit self.old all taken
             → Stands limit self.new all (taken ++ option_to_list (option_map view result)) }
         ensures rest { rest_of self.new ≡ rest_of self.old }
@@ -145,14 +146,9 @@ impl Decoder {
             &mut self.ready,
         ) {
             Ok(course) => {
-                let Course {
-                    reader,
-                    begin,
-                    at: _,
-                } = course;
-                drop_front(&mut self.rest, begin);
-                self.start = self.start.saturating_add(begin as u64);
-                self.reader = Some(reader);
+                drop_front(&mut self.rest, course.begin);
+                self.start = self.start.saturating_add(course.begin as u64);
+                self.reader = Some(course.reader);
                 Ok(())
             }
             Err(WireFault::NoMemory) => {
@@ -187,14 +183,7 @@ impl Decoder {
         };
         let bytes = self.rest.as_slice();
         match read_on(self.alloc, self.limit, self.start, bytes, begin, &mut none) {
-            Ok(course) => {
-                let Course {
-                    reader,
-                    begin: _,
-                    at: _,
-                } = course;
-                Some(reader)
-            }
+            Ok(course) => Some(course.reader),
             // No rule is met in them.
             Err(_) => None,
         }

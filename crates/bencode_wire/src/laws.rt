@@ -11,6 +11,17 @@ pub fn no_spelling_begins_another()
     ensures { (v w : Tree) (a b x y : List ℕ) → Spells v a → Spells w b → a ++ x ≡ b ++ y → (a ≡ b) × (x ≡ y) }
 {}
 
+/// A spelling has one value: the values that it spells differ in the order of their pairs alone.
+pub fn a_spelling_has_one_value()
+    ensures { (v w : Tree) (bytes : List ℕ) → Spells v bytes → Spells w bytes → sorted v ≡ sorted w }
+{}
+
+/// What `write_into` writes of a value is a spelling of it, where it has one: its keys are distinct
+/// and its integers and strings fit.
+pub fn what_is_written_is_a_spelling()
+    ensures { (v : Tree) (bytes : List ℕ) → Spells v bytes → Spells v (canonical v) }
+{}
+
 /// A text is read in one way: its value, with its pairs in the order in which they stand, is known.
 pub fn a_text_has_one_value()
     ensures { (v w : Tree) (x y : List ℕ) → IsSpellable v → IsSpellable w → text v ++ x ≡ text w ++ y → (v ≡ w) × (x ≡ y) }

@@ -1,9 +1,9 @@
 // The asks and their answers.
-ghost use Rattle.std.specs.Prelude.{◌≡◌, IfOk, string_bytes};
+ghost use Rattle.std.specs.Prelude.{◌≡◌, IfOk};
 ghost use Rattle.repl_asks.specs.View.{ask_view, answer_view, binding_view};
 
 use core_functions::CoreFunction;
-use repl_values::{Fault, Function, Value, copy};
+use repl_values::{Fault, Function, Value, copy, copy_text};
 use std::alloc::{AllocError, Global};
 
 /// What a form asks next.
@@ -48,12 +48,6 @@ pub struct Exchange {
 
 /// The exchanges of an evaluation so far, in order.
 pub type Trace = Vec<Exchange>;
-
-fn copy_text(alloc: Global, text: &String) -> Result<String, AllocError>
-    ensures { IfOk result (λ copied. string_bytes copied ≡ string_bytes text.now) }
-{
-    String::from_str(alloc, text.as_str())
-}
 
 impl Ask {
     /// The same ask once more. It fails only for want of memory.

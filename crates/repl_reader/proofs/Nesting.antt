@@ -1,10 +1,10 @@
 -- The grammar's rules, as the code's steps use them.
-use Rattle.std.proofs.Common.{◌≡◌, ◌≢◌, ℕ, zero, suc, ◌+◌, ◌-◌, ◌<◌, ◌≤◌, ◌++◌, ◌∷◌, [], List, length, map, Bool, refl, sym, ap, ◌∙◌, arith, subst, inl, inr, add-one, Result, Ok, Err, IfOk}
+use Rattle.std.proofs.Common.{◌≡◌, ℕ, suc, ◌+◌, ◌-◌, ◌++◌, ◌∷◌, [], List, map, refl, sym, arith, subst, inl, inr, add-one, Result, Ok, Err, IfOk}
 use Rattle.repl_values.specs.Datum.{Datum, Items, no_items, item}
-use Rattle.repl_values.specs.View.{view, items_view, items_of}
+use Rattle.repl_values.specs.View.{view, items_view}
 use Rattle.repl_values.specs.declared.value.Value.{Value}
-use Rattle.repl_reader.specs.Reading.{Bracket, Reading, begins, closes, ends, breaks, next, settled, opens, marks, drops}
-use Rattle.repl_reader.specs.Grammar.{Reads, plain, marked, marked_deep, opened, opened_deep, dropped, undropped, Row, last, more, wanted, wrapped, enclosed, too_deep, IsForm}
+use Rattle.repl_reader.specs.Reading.{Bracket, Reading, begins, next, settled, opens, marks, drops}
+use Rattle.repl_reader.specs.Grammar.{Reads, plain, marked, marked_deep, opened, opened_deep, Row, last, more, wanted, IsForm}
 use Rattle.repl_reader.specs.View.{IsMarked, wraps, wraps_deep, IsOpened, encloses, encloses_deep}
 use Rattle.repl_reader.proofs.Owed.{Owed, owed_drops}
 use Rattle.repl_reader.proofs.Rows.{onto, onto_push, onto_none, map-push}

@@ -8,7 +8,7 @@ use Rattle.repl_reader.specs.declared.fault.FaultKind.TheVariants.{SameKey}
 use Rattle.repl_reader.specs.Fault.{break_of}
 use Rattle.repl_reader.specs.Reading.{begins, breaks}
 use Rattle.repl_values.specs.Datum.{Datum, Items, no_items, item, Pairs, no_pairs, pair}
-use Rattle.repl_values.specs.View.{view, items_of, items_view, pairs_of, pair_view}
+use Rattle.repl_values.specs.View.{view, items_of, items_view, pairs_of}
 use Rattle.repl_values.specs.declared.value.Value.{Value}
 use Rattle.repl_reader.specs.Grammar.{paired, paired_with, with_pair, keys_of, print_at, keyed, map_of}
 

@@ -1,14 +1,13 @@
 -- What follows a form is shorter than the text that begins with it.
-use Rattle.std.proofs.Common.{◌≡◌, ℕ, ℤ, suc, ◌+◌, ◌<◌, ◌≤◌, Bool, true, false, ◌||◌, cond, not, eqb, List, [], ◌∷◌, ◌++◌, length, drop, Option, Some, None, refl, sym, ap, ◌∙◌, arith, subst, one-add, length-drop}
+use Rattle.std.proofs.Common.{◌≡◌, ℕ, suc, ◌<◌, ◌≤◌, Bool, true, false, ◌||◌, cond, eqb, List, [], ◌∷◌, length, Option, Some, None, refl, sym, arith, subst, one-add, length-drop}
 use Rattle.std.specs.List.{position_or_len}
 use Rattle.repl_values.specs.Datum.{Datum, Items, Pairs}
 use Rattle.repl_values.specs.Repeats.{first_repeat}
 use Rattle.repl_reader.specs.declared.fault.FaultKind.{FaultKind}
 use Rattle.repl_reader.specs.declared.fault.FaultKind.TheVariants.{BadNumber, BadToken}
-use Rattle.repl_reader.specs.Fault.{break_of}
 use Rattle.repl_reader.specs.Text.{is_white, is_delimiter, ends_token, bare, after_comment, token, after_token}
-use Rattle.repl_reader.specs.Token.{begins_number, integer_of, name_of}
-use Rattle.repl_reader.specs.Reading.{Bracket, round, square, curly, Reading, begins, closes, ends, breaks, Next, settled, opens, marks, drops, string_at, escape_at, bad_escape, is_escape, escape, found_or, integer_datum, token_at, dispatch_at, is_unsupported, next_by, next_of, next}
+use Rattle.repl_reader.specs.Token.{begins_number}
+use Rattle.repl_reader.specs.Reading.{Bracket, round, square, curly, Reading, begins, closes, ends, breaks, Next, settled, opens, marks, drops, Contents, closed, refused, behind, contents, escaped, string_of, is_escape, escape, found_or, token_at, dispatch_at, is_unsupported, next_by, next_of, next}
 use Rattle.repl_reader.specs.Grammar.{Reads, plain, marked, marked_deep, opened, opened_deep, dropped, undropped, Row, last, more, wanted, wrapped, enclosed, collected, keyed, keys_of, map_of, paired, unmatched, same_bracket}
 
 abbrev pub Shorter : ℕ → Reading → Type 0
@@ -40,23 +39,38 @@ either n true x y h k = h
 either n false x y h k = k
 
 -- strings
-bad_escape_shorter : (n : ℕ) (text : List ℕ) → Shorter n (bad_escape text)
-unfolding bad_escape
-bad_escape_shorter n [] = tt
-bad_escape_shorter n (b ∷ bs) = tt
+abbrev ContentsShorter : ℕ → Contents → Type 0
+ContentsShorter n (closed s rest) = length rest < n
+ContentsShorter n (refused f) = Unit {0}
+
+contents_le : (m n : ℕ) (c : Contents) → m ≤ n → ContentsShorter m c → ContentsShorter n c
+contents_le m n (closed s rest) h k = omega arith
+contents_le m n (refused f) h k = tt
+
+behind_shorter : (n b : ℕ) (c : Contents) → ContentsShorter n c → ContentsShorter n (behind b c)
+behind_shorter n b (closed s rest) k = k
+behind_shorter n b (refused f) k = tt
+
+either_contents : (n : ℕ) (t : Bool) (c d : Contents) → ContentsShorter n c → ContentsShorter n d → ContentsShorter n (cond t c d)
+either_contents n true c d h k = h
+either_contents n false c d h k = k
 
 mutual
-  string_shorter : (text s : List ℕ) → Shorter (length text) (string_at s text)
-  string_shorter [] s = tt
-  string_shorter (b ∷ bs) s = either _ (eqb b 34) _ _ (omega arith) (either _ (eqb b 92) _ _
-      (shorter_le _ _ (escape_at s bs) (omega arith) (escape_shorter bs s))
-      (shorter_le _ _ (string_at (s ++ b ∷ []) bs) (omega arith) (string_shorter bs (s ++ b ∷ []))))
+  contents_shorter : (text : List ℕ) → ContentsShorter (length text) (contents text)
+  contents_shorter [] = tt
+  contents_shorter (b ∷ bs) = either_contents _ (eqb b 34) _ _ (omega arith) (either_contents _ (eqb b 92) _ _
+      (contents_le _ _ (escaped bs) (omega arith) (escaped_shorter bs))
+      (behind_shorter _ b (contents bs) (contents_le _ _ (contents bs) (omega arith) (contents_shorter bs))))
 
-  escape_shorter : (text s : List ℕ) → Shorter (length text) (escape_at s text)
-  escape_shorter [] s = tt
-  escape_shorter (b ∷ bs) s = either _ (is_escape b) _ _
-      (shorter_le _ _ (string_at (s ++ escape b ∷ []) bs) (omega arith) (string_shorter bs (s ++ escape b ∷ [])))
-      (bad_escape_shorter _ (b ∷ bs))
+  escaped_shorter : (text : List ℕ) → ContentsShorter (length text) (escaped text)
+  escaped_shorter [] = tt
+  escaped_shorter (b ∷ bs) = either_contents _ (is_escape b) _ _
+      (behind_shorter _ (escape b) (contents bs) (contents_le _ _ (contents bs) (omega arith) (contents_shorter bs)))
+      tt
+
+string_shorter : (n : ℕ) (c : Contents) → ContentsShorter n c → Shorter n (string_of c)
+string_shorter n (closed s rest) h = h
+string_shorter n (refused f) h = tt
 
 -- tokens
 after_token_shorter : (b : ℕ) (bs : List ℕ) → ends_token b ≡ false → length (after_token (b ∷ bs)) < length (b ∷ bs)
@@ -105,7 +119,7 @@ next_by_shorter b bs dark code =
     choose _ (eqb b 39) _ _ behind (λ e7.
     choose _ (eqb b 64) _ _ behind (λ e8.
     choose _ (eqb b 35) _ _ (dispatch_shorter bs) (λ e9.
-    choose _ (eqb b 34) _ _ (shorter_le _ _ (string_at [] bs) (omega arith) (string_shorter bs [])) (λ e10.
+    choose _ (eqb b 34) _ _ (string_shorter _ (contents bs) (contents_le _ _ (contents bs) (omega arith) (contents_shorter bs))) (λ e10.
     choose _ (is_unsupported b) _ _ tt (λ e11.
     token_shorter b bs (no_end b dark code e1 e2 e3 e4 e5 e6 e8 e10 e11))))))))))))
 

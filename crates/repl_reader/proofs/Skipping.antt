@@ -1,11 +1,10 @@
 -- One byte of white space or of a comment.
-use Rattle.std.proofs.Common.{◌≡◌, ℕ, ◌+◌, ◌<◌, ◌≤◌, ◌≢◌, Bool, true, false, cond, not, eqb, List, [], ◌∷◌, length, get_or, drop, refl, sym, ap, ◌∙◌, arith}
+use Rattle.std.proofs.Common.{◌≡◌, ℕ, ◌+◌, ◌<◌, ◌≢◌, Bool, true, false, cond, not, eqb, List, ◌∷◌, length, get_or, drop, refl, sym, ap, ◌∙◌, arith}
 use Rattle.std.specs.Str.{IsCharBoundary, IsUtf8}
 use Rattle.std.proofs.lemmas.Str.{IsCharBoundary-after_ascii}
 use Rattle.std.proofs.lemmas.Bool.Decides.{nat_tests}
-use Rattle.std.proofs.lemmas.Grind.{common_steps}
 use Rattle.repl_reader.specs.Text.{is_white, bare, after_comment}
-use Rattle.repl_reader.proofs.Bytes.{drop_at, white_ascii}
+use Rattle.repl_reader.proofs.Bytes.{drop_at}
 
 -- what is left, inside a comment or outside of one
 abbrev pub skipped : Bool → List ℕ → List ℕ

@@ -1,11 +1,11 @@
 -- Each text has a reading.
-use Rattle.std.proofs.Common.{◌≡◌, ℕ, zero, suc, ◌+◌, ◌*◌, ◌<◌, ◌≤◌, ◌⊎◌, inl, inr, Bool, true, false, ltb, List, length, refl, sym, ap, ◌∙◌, arith}
+use Rattle.std.proofs.Common.{◌≡◌, ℕ, zero, suc, ◌+◌, ◌*◌, ◌<◌, ◌≤◌, ◌⊎◌, inl, inr, Bool, true, false, ltb, List, length, refl, arith}
 use Rattle.std.proofs.lemmas.Bool.Decides.{nat_tests}
-use Rattle.repl_values.specs.Datum.{Datum, Items, no_items, item}
+use Rattle.repl_values.specs.Datum.{Items, no_items, item}
 use Rattle.repl_reader.specs.Reading.{Bracket, Reading, begins, closes, ends, breaks, Next, settled, opens, marks, drops, next}
-use Rattle.repl_reader.specs.Grammar.{Reads, plain, marked, marked_deep, opened, opened_deep, dropped, undropped, Row, last, more, wanted, wrapped, enclosed, too_deep, most_nested}
+use Rattle.repl_reader.specs.Grammar.{Reads, plain, marked, marked_deep, opened, opened_deep, dropped, undropped, Row, last, more, wrapped, enclosed, too_deep, most_nested}
 use Rattle.repl_reader.specs.Laws.{EveryTextReads}
-use Rattle.repl_reader.proofs.Shorter.{Shorter, NextShorter, next_shorter, reads_shorter}
+use Rattle.repl_reader.proofs.Shorter.{NextShorter, next_shorter, reads_shorter}
 
 abbrev Found : ℕ → List ℕ → Type 0
 Found depth text = (r : Reading) × Reads depth text r

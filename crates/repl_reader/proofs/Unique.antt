@@ -1,9 +1,8 @@
 -- A text has one reading.
-use Rattle.std.proofs.Common.{◌≡◌, ℕ, ◌+◌, ◌<◌, ◌≤◌, ◌⊎◌, inl, inr, List, length, Option, refl, sym, ap, ◌∙◌, arith, subst}
+use Rattle.std.proofs.Common.{◌≡◌, ℕ, ◌+◌, ◌<◌, ◌≤◌, ◌⊎◌, inl, inr, List, length, refl, sym, ap, ◌∙◌, arith, subst}
 use Rattle.repl_values.specs.Datum.{Datum, Items, no_items, item}
-use Rattle.repl_reader.specs.Fault.{FaultData}
-use Rattle.repl_reader.specs.Reading.{Bracket, Reading, begins, closes, ends, breaks, Next, settled, opens, marks, drops, next}
-use Rattle.repl_reader.specs.Grammar.{Reads, plain, marked, marked_deep, opened, opened_deep, dropped, undropped, Row, last, more, IsReading, IsForm, wanted, wrapped, enclosed, too_deep, most_nested, placed_option, last_break}
+use Rattle.repl_reader.specs.Reading.{Bracket, Reading, begins, Next, settled, opens, marks, drops, next}
+use Rattle.repl_reader.specs.Grammar.{Reads, plain, marked, marked_deep, opened, opened_deep, dropped, undropped, Row, last, more, IsForm, wanted, wrapped, enclosed, too_deep, most_nested, placed_option, last_break}
 use Rattle.repl_reader.specs.Laws.{ReadingsAreUnique}
 
 -- what a reading came from, by what comes next in its text

@@ -1,5 +1,5 @@
 -- What a text can be refused for, and what is reported then.
-use Rattle.std.specs.Prelude.{ℕ, List, ◌++◌, codes, length}
+use Rattle.std.specs.Prelude.{ℕ, List, ◌++◌, codes}
 use Rattle.repl_reader.specs.declared.fault.FaultKind.{FaultKind}
 use Rattle.repl_reader.specs.declared.fault.FaultKind.TheVariants.{Eof, Unmatched, BadNumber, BadToken, BadEscape, BadDispatch, BadChar, OddMap, SameKey, TooDeep}
 

@@ -1,5 +1,5 @@
 -- What a text begins with, as far as its first characters tell.
-use Rattle.std.specs.Prelude.{ℕ, ℤ, List, [], ◌∷◌, ◌++◌, Bool, Option, None, Some, ◌==◌, ◌||◌, ◌+◌, if◌then◌else◌, codes, length}
+use Rattle.std.specs.Prelude.{ℕ, ℤ, List, [], ◌∷◌, Bool, Option, None, Some, ◌==◌, ◌||◌, ◌+◌, if◌then◌else◌, codes, length}
 use Rattle.repl_values.specs.Datum as datum
 use Rattle.repl_values.specs.Datum.{Datum}
 use Rattle.repl_reader.specs.declared.fault.FaultKind.{FaultKind}
@@ -40,23 +40,32 @@ escape b =
     if b == 98 then 8 else b))))
 
 -- what stands behind a backslash and escapes nothing
-unfoldable pub bad_escape : List ℕ → Reading
-bad_escape [] = eof
-bad_escape (b ∷ bs) = breaks (break_of BadEscape (length (b ∷ bs) + 1) (character (b ∷ bs)))
+unfoldable pub bad_escape : List ℕ → BreakData
+bad_escape [] = break_of Eof 0 []
+bad_escape (b ∷ bs) = break_of BadEscape (length (b ∷ bs) + 1) (character (b ∷ bs))
 
+-- what stands behind an opening quote: a string's bytes and the text after its closing quote, or what breaks a rule
+pub data Contents : Type 0 where
+  closed : List ℕ → List ℕ → Contents
+  refused : BreakData → Contents
+
+abbrev pub behind : ℕ → Contents → Contents
+behind b (closed s rest) = closed (b ∷ s) rest
+behind b (refused f) = refused f
+
+-- up to the closing quote each byte is itself, or what it stands for behind a backslash
 abbrev mutual
-  -- a string of which `s` was read, up to its closing quote
-  pub string_at : List ℕ → List ℕ → Reading
-  string_at s [] = eof
-  string_at s (b ∷ bs) =
-      if b == 34 then begins (datum.string s) bs else (if b == 92 then escape_at s bs else string_at (s ++ b ∷ []) bs)
+  pub contents : List ℕ → Contents
+  contents [] = refused (break_of Eof 0 [])
+  contents (b ∷ bs) = if b == 34 then closed [] bs else (if b == 92 then escaped bs else behind b (contents bs))
 
-  -- the same behind a backslash
-  pub escape_at : List ℕ → List ℕ → Reading
-  escape_at s [] = eof
-  escape_at s (b ∷ bs) =
-      if is_escape b then string_at (s ++ escape b ∷ []) bs
-      else bad_escape (b ∷ bs)
+  pub escaped : List ℕ → Contents
+  escaped [] = refused (bad_escape [])
+  escaped (b ∷ bs) = if is_escape b then behind (escape b) (contents bs) else refused (bad_escape (b ∷ bs))
+
+abbrev pub string_of : Contents → Reading
+string_of (closed s rest) = begins (datum.string s) rest
+string_of (refused f) = breaks f
 
 -- a value with the text after it, or a fault that names the token
 abbrev pub found_or : FaultKind → List ℕ → Option Datum → Reading
@@ -103,7 +112,7 @@ next_by b bs =
     if b == 39 then marks (codes "quote") bs else (
     if b == 64 then marks (codes "clojure.core/deref") bs else (
     if b == 35 then dispatch_at bs else (
-    if b == 34 then settled (string_at [] bs) else (
+    if b == 34 then settled (string_of (contents bs)) else (
     if is_unsupported b then settled (breaks (break_of BadChar (length (b ∷ bs)) (character (b ∷ bs))))
     else settled (token_at (b ∷ bs))))))))))))
 

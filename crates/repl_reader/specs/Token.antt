@@ -1,13 +1,10 @@
 -- What a token stands for.
-use Rattle.std.specs.Prelude.{ℕ, ℤ, ◌-◌, pos, neg_ℤ, List, [], ◌∷◌, Bool, true, false, Option, None, Some, ◌==◌, ◌||◌, ◌&&◌, not, ◌^◌, if◌then◌else◌, codes, length, take, drop, nat_lt, nat_le, slice_index, count_by}
+use Rattle.std.specs.Prelude.{ℕ, ℤ, ◌-◌, pos, neg_ℤ, List, Bool, true, false, Option, None, Some, ◌==◌, ◌||◌, ◌&&◌, not, ◌^◌, if◌then◌else◌, codes, length, drop, nat_lt, nat_le, slice_index, count_by}
 use Rattle.std.specs.Char.{is_ascii_digit}
 use Rattle.std.specs.Str.{bytes_eq, all_ascii_digits}
 use Rattle.std.specs.Str.Parse.{digits_value}
 use Rattle.repl_values.specs.Datum as datum
 use Rattle.repl_values.specs.Datum.{Datum}
-use Rattle.repl_reader.specs.declared.fault.FaultKind.{FaultKind}
-use Rattle.repl_reader.specs.declared.fault.FaultKind.TheVariants.{BadNumber, BadToken}
-use Rattle.repl_reader.specs.Fault.{BreakData, break_of}
 
 abbrev pub is_sign : ℕ → Bool
 is_sign b = b == 43 || b == 45

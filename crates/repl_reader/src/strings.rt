@@ -1,7 +1,8 @@
 // Strings, from the quote on.
 ghost use Rattle.std.specs.Prelude.{◌≡◌, ℕ, ◌<◌, ◌≤◌, List, [], ◌∷◌, ◌++◌, true, false, MatchOption, IfOk, IfSome, length, slice_index};
 ghost use Rattle.std.specs.List.{position_or_len};
-ghost use Rattle.repl_reader.specs.Reading.{is_escape, escape, string_at, escape_at, bad_escape};
+ghost use Rattle.repl_reader.specs.Reading.{is_escape, escape, contents, string_of, breaks, bad_escape};
+ghost use Rattle.repl_reader.specs.Quoted.{string_from, escape_from};
 ghost use Rattle.repl_reader.specs.View.{reading_view};
 ghost use Rattle.repl_reader.specs.Text.{ends_plain};
 
@@ -13,7 +14,7 @@ use std::alloc::{AllocError, Global};
 
 /// Reads what follows an opening quote, up to the closing one.
 pub(crate) fn read_string(alloc: Global, text: &str) -> Result<Reading<'_>, AllocError>
-    ensures { IfOk result (λ r. reading_view r ≡ string_at [] text.now) }
+    ensures { IfOk result (λ r. reading_view r ≡ string_of (contents text.now)) }
 {
     let mut contents = String::new(alloc);
     let mut text = text;
@@ -36,7 +37,7 @@ pub(crate) fn read_string(alloc: Global, text: &str) -> Result<Reading<'_>, Allo
 
 /// The characters before the first quote or backslash, and the rest.
 fn split_plain(text: &str) -> (&str, &str)
-    ensures same { (s : List ℕ) → string_at (s ++ result.0.now) result.1.now ≡ string_at s text.now }
+    ensures same { (s : List ℕ) → string_from (s ++ result.0.now) result.1.now ≡ string_from s text.now }
     ensures stops { 0 < length result.1.now → ends_plain (slice_index result.1.now 0) ≡ true }
     ensures shorter { length result.1.now ≤ length text.now }
 {
@@ -45,8 +46,8 @@ fn split_plain(text: &str) -> (&str, &str)
 
 /// What an escape stands for, by the text behind its backslash, and the rest.
 fn split_escape(text: &str) -> Option<(&'static str, &str)>
-    ensures same { MatchOption result ((s : List ℕ) → escape_at s text.now ≡ bad_escape text.now)
-        (λ p. (s : List ℕ) → string_at (s ++ p.0.now) p.1.now ≡ escape_at s text.now) }
+    ensures same { MatchOption result ((s : List ℕ) → escape_from s text.now ≡ breaks (bad_escape text.now))
+        (λ p. (s : List ℕ) → string_from (s ++ p.0.now) p.1.now ≡ escape_from s text.now) }
     ensures shorter { IfSome result (λ p. length p.1.now < length text.now) }
 {
     let [first, ..] = text.as_bytes() else {
@@ -61,7 +62,7 @@ fn split_escape(text: &str) -> Option<(&'static str, &str)>
 /// The fault of a text behind a backslash.
 #[tactic(auto, unfolding(crate::specs::Reading::bad_escape))]
 fn refuse_escape(alloc: Global, text: &str) -> Result<Reading<'static>, AllocError>
-    ensures { IfOk result (λ r. reading_view r ≡ bad_escape text.now) }
+    ensures { IfOk result (λ r. reading_view r ≡ breaks (bad_escape text.now)) }
 {
     if text.is_empty() {
         return Ok(Reading::Broken(break_with(alloc, FaultKind::Eof, 0, "")?));

@@ -1,308 +1,186 @@
 // Texts with the print of their forms, and with the kind, place and message of their fault.
-use crate::{FaultKind, ReaderFault, read_all};
+use crate::{FaultKind, read_all};
+use FaultKind::{
+    BadChar, BadDispatch, BadEscape, BadNumber, BadToken, Eof, OddMap, SameKey, TooDeep, Unmatched,
+};
 use repl_values::print_into;
 use std::alloc::{AllocError, Global};
 use std::process::Abort;
 use std::test::Fail;
 
-fn expect_fault(
-    rt: &impl Abort,
-    fault: Option<ReaderFault>,
-    expected: Option<(FaultKind, usize, &str)>,
-) {
-    match (fault, expected) {
-        (None, None) => {}
-        (Some(fault), Some((kind, at, text))) => {
-            assert!(rt; fault.kind == kind);
-            assert!(rt; fault.at == at);
-            assert_eq!(rt; fault.text.as_str(), text);
-        }
-        (Some(_), None) => assert!(rt; false),
-        (None, Some(_)) => assert!(rt; false),
-    }
-}
+// What is told of a fault.
+type Told = (FaultKind, usize, &'static str);
 
-// The forms' print, each with a space behind it.
-fn expect(
-    rt: &impl Abort,
+// Whether the forms' prints, each with a space behind it, and the fault are these.
+fn is_read(
     alloc: Global,
     text: &str,
     forms: &str,
-    fault: Option<(FaultKind, usize, &str)>,
-) -> Result<(), AllocError> {
+    fault: Option<Told>,
+) -> Result<bool, AllocError> {
     let read = read_all(alloc, text)?;
     let mut printed = String::new(alloc);
     for form in &read.forms {
         print_into(alloc, form, &mut printed)?;
         printed.push_str(" ")?;
     }
-    assert_eq!(rt; printed.as_str(), forms);
-    expect_fault(rt, read.fault, fault);
-    Ok(())
-}
-
-fn whole(rt: &impl Abort, alloc: Global, text: &str, forms: &str) -> Result<(), AllocError> {
-    expect(rt, alloc, text, forms, None)
+    let same_fault = match (read.fault, fault) {
+        (None, None) => true,
+        (Some(found), Some((kind, at, text))) => {
+            found.kind == kind && found.at == at && found.text.as_str() == text
+        }
+        _ => false,
+    };
+    Ok(printed.as_str() == forms && same_fault)
 }
 
 #[test]
 fn forms_are_read(rt: HostRuntime) -> Result<(), Fail> {
-    let a = rt.alloc();
-    whole(&rt, a, "", "")?;
-    whole(&rt, a, " ,\t\r\n\u{c}; (only a comment", "")?;
-    whole(&rt, a, "1;\r(13)2", "1 ")?;
-    whole(&rt, a, "1;\n(13)2", "1 (13) 2 ")?;
-    whole(&rt, a, "nil true false nilx", "nil true false nilx ")?;
-    whole(
-        &rt,
-        a,
-        "-0 +0 +7 -7 9223372036854775807",
-        "0 0 7 -7 9223372036854775807 ",
-    )?;
-    whole(
-        &rt,
-        a,
-        "-9223372036854775808 - + -a +a ...",
-        "-9223372036854775808 - + -a +a ... ",
-    )?;
-    whole(&rt, a, ":a :a:b :a/b/c :é", ":a :a:b :a/b/c :é ")?;
-    whole(&rt, a, "/ a/b x' a#b é→", "/ a/b x' a#b é→ ")?;
-    whole(
-        &rt,
-        a,
-        "\"é\\n\\t\\r\\f\\b\\\\\\\"→\"",
-        "\"é\\n\\t\\r\\f\\b\\\\\\\"→\" ",
-    )?;
-    whole(&rt, a, "\"a\nb\"\"\"", "\"a\\nb\" \"\" ")?;
-    whole(&rt, a, "() [] {} (1[2{3 4}])", "() [] {} (1 [2 {3 4}]) ")?;
-    whole(
-        &rt,
-        a,
-        "'x @y ''z",
-        "(quote x) (clojure.core/deref y) (quote (quote z)) ",
-    )?;
-    whole(&rt, a, "#_1 2 #_#_3 4 5 (6 #_ 7)", "2 5 (6) ")?;
-    whole(&rt, a, "' ; é\n #_1 x", "(quote x) ")?;
-    whole(&rt, a, "{1 2 \"1\" 3 [1] 4}", "{1 2, \"1\" 3, [1] 4} ")?;
+    let rows: [(&str, &str); 20] = [
+        ("", ""),
+        (" ,\t\r\n\u{c}; (only a comment", ""),
+        ("1;\r(13)2", "1 "),
+        ("1;\n(13)2", "1 (13) 2 "),
+        ("1 ; é→)\n2;", "1 2 "),
+        ("nil true false nilx", "nil true false nilx "),
+        (
+            "-0 +0 +7 -7 9223372036854775807",
+            "0 0 7 -7 9223372036854775807 ",
+        ),
+        (
+            "-9223372036854775808 - + -a +a ...",
+            "-9223372036854775808 - + -a +a ... ",
+        ),
+        (":a :a:b :a/b/c :é", ":a :a:b :a/b/c :é "),
+        ("/ a/b x' a#b é→", "/ a/b x' a#b é→ "),
+        (
+            "\"é\\n\\t\\r\\f\\b\\\\\\\"→\"",
+            "\"é\\n\\t\\r\\f\\b\\\\\\\"→\" ",
+        ),
+        ("\"a\nb\"\"\"", "\"a\\nb\" \"\" "),
+        ("\"; (\"'a", "\"; (\" (quote a) "),
+        ("() [] {} (1[2{3 4}])", "() [] {} (1 [2 {3 4}]) "),
+        (
+            "'x @y ''z",
+            "(quote x) (clojure.core/deref y) (quote (quote z)) ",
+        ),
+        ("#_1 2 #_#_3 4 5 (6 #_ 7)", "2 5 (6) "),
+        ("#_(é 1)→ [#_\"x\"]", "→ [] "),
+        ("' ; é\n #_1 x", "(quote x) "),
+        ("{1 2 \"1\" 3 [1] 4}", "{1 2, \"1\" 3, [1] 4} "),
+        ("{1 #_2 3}", "{1 3} "),
+    ];
+    for (text, forms) in rows {
+        assert!(rt; is_read(rt.alloc(), text, forms, None)?, "{text}");
+    }
     Ok(())
 }
 
 #[test]
 fn faults_end_a_text(rt: HostRuntime) -> Result<(), Fail> {
-    let a = rt.alloc();
-    expect(
-        &rt,
-        a,
-        "1 (",
-        "1 ",
-        Some((FaultKind::Eof, 3, "EOF while reading")),
-    )?;
-    expect(
-        &rt,
-        a,
-        "\"é\\",
-        "",
-        Some((FaultKind::Eof, 4, "EOF while reading")),
-    )?;
-    expect(
-        &rt,
-        a,
-        "'#_",
-        "",
-        Some((FaultKind::Eof, 3, "EOF while reading")),
-    )?;
-    expect(
-        &rt,
-        a,
-        "#",
-        "",
-        Some((FaultKind::Eof, 1, "EOF while reading")),
-    )?;
-    expect(
-        &rt,
-        a,
-        "é )",
-        "é ",
-        Some((FaultKind::Unmatched, 3, "Unmatched delimiter: )")),
-    )?;
-    expect(
-        &rt,
-        a,
-        "(1]",
-        "",
-        Some((FaultKind::Unmatched, 2, "Unmatched delimiter: ]")),
-    )?;
-    expect(
-        &rt,
-        a,
-        "(1 #_)",
-        "",
-        Some((FaultKind::Unmatched, 5, "Unmatched delimiter: )")),
-    )?;
-    expect(
-        &rt,
-        a,
-        "{'}",
-        "",
-        Some((FaultKind::Unmatched, 2, "Unmatched delimiter: }")),
-    )?;
-    expect(
-        &rt,
-        a,
-        "1 -01",
-        "1 ",
-        Some((FaultKind::BadNumber, 2, "Invalid number: -01")),
-    )?;
-    expect(
-        &rt,
-        a,
-        "1.5",
-        "",
-        Some((FaultKind::BadNumber, 0, "Invalid number: 1.5")),
-    )?;
-    let large = Some((
-        FaultKind::BadNumber,
-        0,
-        "Invalid number: 9223372036854775808",
-    ));
-    expect(&rt, a, "9223372036854775808", "", large)?;
-    expect(
-        &rt,
-        a,
-        "é ::a",
-        "é ",
-        Some((FaultKind::BadToken, 3, "Invalid token: ::a")),
-    )?;
-    expect(
-        &rt,
-        a,
-        ":",
-        "",
-        Some((FaultKind::BadToken, 0, "Invalid token: :")),
-    )?;
-    expect(
-        &rt,
-        a,
-        "a/b/c",
-        "",
-        Some((FaultKind::BadToken, 0, "Invalid token: a/b/c")),
-    )?;
-    expect(
-        &rt,
-        a,
-        "/a",
-        "",
-        Some((FaultKind::BadToken, 0, "Invalid token: /a")),
-    )?;
-    expect(
-        &rt,
-        a,
-        "#_a/",
-        "",
-        Some((FaultKind::BadToken, 2, "Invalid token: a/")),
-    )?;
-    let bare = "Unsupported escape character: \\é";
-    expect(
-        &rt,
-        a,
-        "\"a\\é\"",
-        "",
-        Some((FaultKind::BadEscape, 2, bare)),
-    )?;
-    let unicode = "Unsupported escape character: \\u";
-    expect(
-        &rt,
-        a,
-        "1 \"\\u0041\"",
-        "1 ",
-        Some((FaultKind::BadEscape, 3, unicode)),
-    )?;
-    expect(
-        &rt,
-        a,
-        "#→",
-        "",
-        Some((FaultKind::BadDispatch, 0, "No dispatch macro for: →")),
-    )?;
-    expect(
-        &rt,
-        a,
-        "[#{1}]",
-        "",
-        Some((FaultKind::BadDispatch, 1, "No dispatch macro for: {")),
-    )?;
-    expect(
-        &rt,
-        a,
-        "a^b",
-        "a ",
-        Some((FaultKind::BadChar, 1, "Unsupported reader character: ^")),
-    )?;
-    expect(
-        &rt,
-        a,
-        "\\a",
-        "",
-        Some((FaultKind::BadChar, 0, "Unsupported reader character: \\")),
-    )?;
-    let odd = "Map literal must contain an even number of forms";
-    expect(&rt, a, "{1}", "", Some((FaultKind::OddMap, 2, odd)))?;
-    expect(&rt, a, "{1 2 1}", "", Some((FaultKind::OddMap, 6, odd)))?;
-    expect(
-        &rt,
-        a,
-        "{1 2 1 3}",
-        "",
-        Some((FaultKind::SameKey, 8, "Duplicate key: 1")),
-    )?;
-    let list = Some((FaultKind::SameKey, 12, "Duplicate key: (1)"));
-    expect(&rt, a, "{[1] 1 (1) 2}", "", list)?;
+    let rows: [(&str, &str, FaultKind, usize, &'static str); 30] = [
+        ("1 (", "1 ", Eof, 3, "EOF while reading"),
+        ("\"é\\", "", Eof, 4, "EOF while reading"),
+        ("'#_", "", Eof, 3, "EOF while reading"),
+        ("#", "", Eof, 1, "EOF while reading"),
+        ("é )", "é ", Unmatched, 3, "Unmatched delimiter: )"),
+        ("(1]", "", Unmatched, 2, "Unmatched delimiter: ]"),
+        ("(1 #_)", "", Unmatched, 5, "Unmatched delimiter: )"),
+        ("{'}", "", Unmatched, 2, "Unmatched delimiter: }"),
+        ("1 -01", "1 ", BadNumber, 2, "Invalid number: -01"),
+        ("1.5", "", BadNumber, 0, "Invalid number: 1.5"),
+        ("→ 1é", "→ ", BadNumber, 4, "Invalid number: 1é"),
+        (
+            "9223372036854775808",
+            "",
+            BadNumber,
+            0,
+            "Invalid number: 9223372036854775808",
+        ),
+        ("é ::a", "é ", BadToken, 3, "Invalid token: ::a"),
+        (":", "", BadToken, 0, "Invalid token: :"),
+        ("a/b/c", "", BadToken, 0, "Invalid token: a/b/c"),
+        ("/a", "", BadToken, 0, "Invalid token: /a"),
+        ("#_a/", "", BadToken, 2, "Invalid token: a/"),
+        (
+            "\"a\\é\"",
+            "",
+            BadEscape,
+            2,
+            "Unsupported escape character: \\é",
+        ),
+        (
+            "1 \"\\u0041\"",
+            "1 ",
+            BadEscape,
+            3,
+            "Unsupported escape character: \\u",
+        ),
+        ("#→", "", BadDispatch, 0, "No dispatch macro for: →"),
+        ("[#{1}]", "", BadDispatch, 1, "No dispatch macro for: {"),
+        ("a^b", "a ", BadChar, 1, "Unsupported reader character: ^"),
+        ("é~", "é ", BadChar, 2, "Unsupported reader character: ~"),
+        ("\\a", "", BadChar, 0, "Unsupported reader character: \\"),
+        ("(`a)", "", BadChar, 1, "Unsupported reader character: `"),
+        (
+            "{1}",
+            "",
+            OddMap,
+            2,
+            "Map literal must contain an even number of forms",
+        ),
+        (
+            "{1 2 1}",
+            "",
+            OddMap,
+            6,
+            "Map literal must contain an even number of forms",
+        ),
+        ("{1 2 1 3}", "", SameKey, 8, "Duplicate key: 1"),
+        ("{[1] 1 (1) 2}", "", SameKey, 12, "Duplicate key: (1)"),
+        (
+            "é {\"→\" 1 \"→\" 2 1 2 1 2}",
+            "é ",
+            SameKey,
+            27,
+            "Duplicate key: \"→\"",
+        ),
+    ];
+    for (text, forms, kind, at, told) in rows {
+        assert!(rt;
+            is_read(rt.alloc(), text, forms, Some((kind, at, told)))?,
+            "{text}"
+        );
+    }
     Ok(())
 }
 
-fn nested(alloc: Global, open: &str, levels: usize) -> Result<String, AllocError> {
+fn repeated(alloc: Global, opening: &str, times: usize) -> Result<String, AllocError> {
     let mut text = String::new(alloc);
-    for _ in 0..levels {
-        text.push_str(open)?;
+    for _ in 0..times {
+        text.push_str(opening)?;
     }
     Ok(text)
 }
 
 #[test]
 fn nesting_has_a_limit(rt: HostRuntime) -> Result<(), Fail> {
+    // What is written how often, and the fault.
+    let rows: [(&str, usize, FaultKind, usize, &'static str); 6] = [
+        ("[", 64, Eof, 64, "EOF while reading"),
+        ("[", 65, TooDeep, 64, "Nested too deep"),
+        ("({ é ", 33, TooDeep, 192, "Nested too deep"),
+        ("'@", 33, TooDeep, 64, "Nested too deep"),
+        ("'", 64, Eof, 64, "EOF while reading"),
+        ("#_", 100_000, Eof, 200_000, "EOF while reading"),
+    ];
     let a = rt.alloc();
-    let deep = "Nested too deep";
-    let text = nested(a, "[", 64)?;
-    expect(
-        &rt,
-        a,
-        text.as_str(),
-        "",
-        Some((FaultKind::Eof, 64, "EOF while reading")),
-    )?;
-    let text = nested(a, "[", 65)?;
-    expect(
-        &rt,
-        a,
-        text.as_str(),
-        "",
-        Some((FaultKind::TooDeep, 64, deep)),
-    )?;
-    let text = nested(a, "'@", 33)?;
-    expect(
-        &rt,
-        a,
-        text.as_str(),
-        "",
-        Some((FaultKind::TooDeep, 64, deep)),
-    )?;
-    let text = nested(a, "#_", 100_000)?;
-    expect(
-        &rt,
-        a,
-        text.as_str(),
-        "",
-        Some((FaultKind::Eof, 200_000, "EOF while reading")),
-    )?;
+    for (opening, times, kind, at, told) in rows {
+        let text = repeated(a, opening, times)?;
+        assert!(rt;
+            is_read(a, text.as_str(), "", Some((kind, at, told)))?,
+            "{opening}"
+        );
+    }
     Ok(())
 }

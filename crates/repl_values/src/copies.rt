@@ -5,6 +5,13 @@ ghost use Rattle.repl_values.specs.View.{view, items_view, pairs_view, function_
 use crate::value::{Function, Value};
 use std::alloc::{AllocError, Global};
 
+/// The same text once more. It fails only for want of memory.
+pub fn copy_text(alloc: Global, text: &String) -> Result<String, AllocError>
+    ensures { IfOk result (λ copied. string_bytes copied ≡ string_bytes text.now) }
+{
+    String::from_str(alloc, text.as_str())
+}
+
 /// A value with the same view. It fails only for want of memory.
 #[cycle(copy)]
 pub fn copy(alloc: Global, value: &Value) -> Result<Value, AllocError>
@@ -32,12 +39,6 @@ pub fn copy(alloc: Global, value: &Value) -> Result<Value, AllocError>
             text: copy_text(alloc, text)?,
         }),
     }
-}
-
-fn copy_text(alloc: Global, text: &String) -> Result<String, AllocError>
-    ensures { IfOk result (λ copied. string_bytes copied ≡ string_bytes text.now) }
-{
-    String::from_str(alloc, text.as_str())
 }
 
 #[cycle(copy)]

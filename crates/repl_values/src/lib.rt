@@ -17,7 +17,7 @@ mod repeats;
 mod tests;
 mod value;
 
-pub use copies::copy;
+pub use copies::{copy, copy_text};
 pub use equality::same;
 pub use fault::Fault;
 pub use hashing::hash_of;

@@ -135,12 +135,12 @@ fn push_integer(n: i64, out: &mut String) -> Result<(), AllocError>
 }
 
 // A number in brackets behind the word that opens them.
-fn push_number(open: &str, number: u64, out: &mut String) -> Result<(), AllocError>
+fn push_number(opening: &str, number: u64, out: &mut String) -> Result<(), AllocError>
     ensures { OnOk result (string_bytes out.new ≡ string_bytes out.old
-        ++ (open.now ++ decimal number ++ codes "]")) }
+        ++ (opening.now ++ decimal number ++ codes "]")) }
 {
     let mut digits = Buffer::new();
-    out.push_str(open)?;
+    out.push_str(opening)?;
     out.push_str(digits.format(number))?;
     out.push_str("]")
 }

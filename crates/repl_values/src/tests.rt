@@ -1,166 +1,294 @@
 // The rules' own examples, each call that allocates, and the time that many keys take.
 use crate::{
-    Function, Owner, RefName, Value, copy, display_into, first_repeated, print_into, same,
+    Fault, Function, Owner, RefName, Value, copy, copy_text, display_into, first_repeated, hash_of,
+    is_plain, nesting, print_into, same, weight,
 };
+use Part::{Agent, Atom, Bool, Int, Keyword, List, Map, Nil, Ref, Str, Symbol, Var, Vector};
 use std::alloc::{AllocError, Global};
-use std::process::Abort;
 use std::test::Fail;
 
-fn string(alloc: Global, text: &str) -> Result<Value, AllocError> {
-    Ok(Value::Str(String::from_str(alloc, text)?))
+// A value, written with its parts first: `List(n)` and `Vector(n)` take the last n values, and
+// `Map(n)` the last n pairs.
+#[derive(Clone, Copy)]
+enum Part {
+    Nil,
+    Bool(bool),
+    Int(i64),
+    Str(&'static str),
+    Keyword(&'static str),
+    Symbol(&'static str),
+    Ref(Owner, u64),
+    Atom(u64),
+    Agent(u64),
+    Var(&'static str, &'static str),
+    Error(&'static str, &'static str),
+    List(usize),
+    Vector(usize),
+    Map(usize),
 }
 
-fn keyword(alloc: Global, name: &str) -> Result<Value, AllocError> {
-    Ok(Value::Keyword(String::from_str(alloc, name)?))
+fn text(alloc: Global, text: &str) -> Result<String, AllocError> {
+    String::from_str(alloc, text)
 }
 
-fn symbol(alloc: Global, name: &str) -> Result<Value, AllocError> {
-    Ok(Value::Symbol(String::from_str(alloc, name)?))
+fn taken(values: &mut Vec<Value>, n: usize) -> Result<Vec<Value>, AllocError> {
+    let at = values.len().saturating_sub(n);
+    values.split_off(at)
 }
 
-fn pair(alloc: Global, first: Value, second: Value) -> Result<Vec<Value>, AllocError> {
-    let mut items = Vec::with_capacity(alloc, 2)?;
-    items.push(first)?;
-    items.push(second)?;
-    Ok(items)
+fn taken_pairs(
+    alloc: Global,
+    values: &mut Vec<Value>,
+    n: usize,
+) -> Result<Vec<(Value, Value)>, AllocError> {
+    let mut parts = taken(values, n.saturating_mul(2))?.into_iter();
+    let mut pairs = Vec::new(alloc);
+    for _ in 0..n {
+        if let (Some(key), Some(value)) = (parts.next(), parts.next()) {
+            pairs.push((key, value))?;
+        }
+    }
+    Ok(pairs)
 }
+
+fn with_texts(alloc: Global, part: Part) -> Result<Value, AllocError> {
+    match part {
+        Str(s) => Ok(Value::Str(text(alloc, s)?)),
+        Keyword(s) => Ok(Value::Keyword(text(alloc, s)?)),
+        Symbol(s) => Ok(Value::Symbol(text(alloc, s)?)),
+        Var(space, name) => Ok(Value::Var {
+            space: text(alloc, space)?,
+            name: text(alloc, name)?,
+        }),
+        Part::Error(class, told) => Ok(Fault {
+            class: text(alloc, class)?,
+            text: text(alloc, told)?,
+        }
+        .into_value()),
+        _other => Ok(Value::Nil),
+    }
+}
+
+fn made(alloc: Global, part: Part, values: &mut Vec<Value>) -> Result<Value, AllocError> {
+    match part {
+        Nil => Ok(Value::Nil),
+        Bool(b) => Ok(Value::Bool(b)),
+        Int(n) => Ok(Value::Int(n)),
+        Ref(owner, number) => Ok(Value::Ref(RefName { owner, number })),
+        Atom(number) => Ok(Value::Atom(number)),
+        Agent(number) => Ok(Value::Agent(number)),
+        List(n) => Ok(Value::List(taken(values, n)?)),
+        Vector(n) => Ok(Value::Vector(taken(values, n)?)),
+        Map(n) => Ok(Value::Map(taken_pairs(alloc, values, n)?)),
+        other => with_texts(alloc, other),
+    }
+}
+
+fn value_of(alloc: Global, parts: &[Part]) -> Result<Value, AllocError> {
+    let mut values = Vec::new(alloc);
+    for part in parts {
+        let value = made(alloc, *part, &mut values)?;
+        values.push(value)?;
+    }
+    Ok(values.pop().unwrap_or(Value::Nil))
+}
+
+const OWN: Owner = Owner::Tenant(7);
 
 // {:a 1, "b" (nil "c")}
-fn table(alloc: Global) -> Result<Value, AllocError> {
-    let mut pairs = Vec::new(alloc);
-    pairs.push((keyword(alloc, "a")?, Value::Int(1)))?;
-    let items = pair(alloc, Value::Nil, string(alloc, "c")?)?;
-    pairs.push((string(alloc, "b")?, Value::List(items)))?;
-    Ok(Value::Map(pairs))
-}
+const TABLE: [Part; 7] = [
+    Keyword("a"),
+    Int(1),
+    Str("b"),
+    Nil,
+    Str("c"),
+    List(2),
+    Map(2),
+];
 
-fn expect(
-    rt: &impl Abort,
-    alloc: Global,
-    value: Value,
-    print: &str,
-    display: &str,
-) -> Result<(), AllocError> {
-    let mut printed = String::new(alloc);
-    print_into(alloc, &value, &mut printed)?;
-    assert_eq!(rt; printed.as_str(), print);
-    let mut displayed = String::new(alloc);
-    display_into(alloc, &value, &mut displayed)?;
-    assert_eq!(rt; displayed.as_str(), display);
+#[test]
+fn values_are_spelled(rt: HostRuntime) -> Result<(), Fail> {
+    let rows: [(&[Part], &str, &str); 22] = [
+        (&[Nil], "nil", "nil"),
+        (&[Bool(true)], "true", "true"),
+        (&[Bool(false)], "false", "false"),
+        (&[Int(-12)], "-12", "-12"),
+        (&[Keyword("name")], ":name", ":name"),
+        (&[Symbol("s/n")], "s/n", "s/n"),
+        (&[Str("é→")], "\"é→\"", "é→"),
+        (&[Str("\"\\")], r#""\"\\""#, "\"\\"),
+        (&[Str("\n\t\r")], r#""\n\t\r""#, "\n\t\r"),
+        (&[Str("\u{c}\u{8}")], r#""\f\b""#, "\u{c}\u{8}"),
+        (&[List(0)], "()", "()"),
+        (&[Vector(0)], "[]", "[]"),
+        (&[Map(0)], "{}", "{}"),
+        (&[Int(1), Int(2), List(2)], "(1 2)", "(1 2)"),
+        (&[Int(1), Str("x"), Vector(2)], "[1 \"x\"]", "[1 x]"),
+        (&TABLE, "{:a 1, \"b\" (nil \"c\")}", "{:a 1, b (nil c)}"),
+        (&[Ref(OWN, 3)], "#ref[3]", "#ref[3]"),
+        (&[Ref(Owner::Shared, 0)], "#ref[shared/0]", "#ref[shared/0]"),
+        (&[Atom(1)], "#atom[1]", "#atom[1]"),
+        (&[Agent(0)], "#agent[0]", "#agent[0]"),
+        (&[Var("user", "x")], "#'user/x", "#'user/x"),
+        (
+            &[Part::Error("C", "a \"b\"")],
+            "#error{C: a \"b\"}",
+            "#error{C: a \"b\"}",
+        ),
+    ];
+    let a = rt.alloc();
+    for (parts, print, display) in rows {
+        let value = value_of(a, parts)?;
+        let mut printed = String::new(a);
+        print_into(a, &value, &mut printed)?;
+        assert_eq!(rt; printed.as_str(), print);
+        let mut displayed = String::new(a);
+        display_into(a, &value, &mut displayed)?;
+        assert_eq!(rt; displayed.as_str(), display);
+    }
     Ok(())
 }
 
 #[test]
-fn simple_values_are_spelled(rt: HostRuntime) -> Result<(), Fail> {
-    let a = rt.alloc();
-    expect(&rt, a, Value::Nil, "nil", "nil")?;
-    expect(&rt, a, Value::Bool(true), "true", "true")?;
-    expect(&rt, a, Value::Bool(false), "false", "false")?;
-    expect(&rt, a, Value::Int(-12), "-12", "-12")?;
-    expect(&rt, a, keyword(a, "name")?, ":name", ":name")?;
-    expect(&rt, a, symbol(a, "s/n")?, "s/n", "s/n")?;
-    expect(&rt, a, string(a, "é→")?, "\"é→\"", "é→")?;
+fn equal_values_are_equal(rt: HostRuntime) -> Result<(), Fail> {
+    let rows: [(&[Part], &[Part]); 17] = [
+        (&[Nil], &[Nil]),
+        (&[Bool(true)], &[Bool(true)]),
+        (&[Int(-1)], &[Int(-1)]),
+        (&[Str("é")], &[Str("é")]),
+        (&[Symbol("s/n")], &[Symbol("s/n")]),
+        // A list and a vector by their items, at each depth.
+        (&[List(0)], &[Vector(0)]),
+        (&[Int(1), Int(2), List(2)], &[Int(1), Int(2), Vector(2)]),
+        (&[Nil, List(1), Vector(1)], &[Nil, Vector(1), List(1)]),
+        // Maps in any order.
+        (
+            &[Keyword("a"), Int(1), Keyword("b"), Int(2), Map(2)],
+            &[Keyword("b"), Int(2), Keyword("a"), Int(1), Map(2)],
+        ),
+        (
+            &[Int(1), Vector(1), Nil, List(1), Map(1)],
+            &[Int(1), List(1), Nil, Vector(1), Map(1)],
+        ),
+        (&TABLE, &TABLE),
+        // References by kind, owner and number.
+        (&[Ref(OWN, 3)], &[Ref(OWN, 3)]),
+        (&[Ref(Owner::Shared, 0)], &[Ref(Owner::Shared, 0)]),
+        (&[Atom(1)], &[Atom(1)]),
+        (&[Agent(1)], &[Agent(1)]),
+        (&[Var("user", "x")], &[Var("user", "x")]),
+        (&[Part::Error("C", "t")], &[Part::Error("C", "t")]),
+    ];
+    for (left, right) in rows {
+        let left = value_of(rt.alloc(), left)?;
+        let right = value_of(rt.alloc(), right)?;
+        assert!(rt; same(&left, &right));
+        assert!(rt; same(&right, &left));
+        assert_eq!(rt; hash_of(&left), hash_of(&right));
+    }
     Ok(())
 }
 
 #[test]
-fn escapes_are_spelled(rt: HostRuntime) -> Result<(), Fail> {
-    let a = rt.alloc();
-    expect(&rt, a, string(a, "\"\\")?, r#""\"\\""#, "\"\\")?;
-    expect(&rt, a, string(a, "\n\t\r")?, r#""\n\t\r""#, "\n\t\r")?;
-    expect(&rt, a, string(a, "\u{c}\u{8}")?, r#""\f\b""#, "\u{c}\u{8}")?;
+fn other_values_are_not_equal(rt: HostRuntime) -> Result<(), Fail> {
+    let rows: [(&[Part], &[Part]); 25] = [
+        (&[Nil], &[Bool(false)]),
+        (&[Nil], &[List(0)]),
+        (&[Bool(true)], &[Bool(false)]),
+        (&[Int(1)], &[Int(-1)]),
+        (&[Int(1)], &[Str("1")]),
+        (&[Str("a")], &[Str("ab")]),
+        (&[Keyword("a")], &[Str("a")]),
+        (&[Keyword("a")], &[Symbol("a")]),
+        (&[Symbol("a")], &[Str("a")]),
+        (&[Int(1), Int(2), List(2)], &[Int(2), Int(1), List(2)]),
+        (&[Int(1), List(1)], &[Int(1), Int(1), Vector(2)]),
+        (&[Vector(0)], &[Map(0)]),
+        (&[Nil, Int(1), Map(1)], &[Nil, Int(2), Map(1)]),
+        (&[Nil, Int(1), Map(1)], &[Int(1), Nil, Map(1)]),
+        (&[Nil, Nil, Map(1)], &[Nil, Nil, Int(1), Nil, Map(2)]),
+        (
+            &[Keyword("a"), Int(1), Keyword("b"), Int(2), Map(2)],
+            &[Keyword("a"), Int(2), Keyword("b"), Int(1), Map(2)],
+        ),
+        (&[Ref(OWN, 3)], &[Ref(OWN, 4)]),
+        (&[Ref(OWN, 3)], &[Ref(Owner::Tenant(1), 3)]),
+        (&[Ref(OWN, 3)], &[Ref(Owner::Shared, 3)]),
+        (&[Atom(1)], &[Atom(2)]),
+        (&[Atom(1)], &[Agent(1)]),
+        (&[Var("user", "x")], &[Var("user", "y")]),
+        (&[Var("user", "x")], &[Var("other", "x")]),
+        (&[Part::Error("C", "t")], &[Part::Error("D", "t")]),
+        (&[Part::Error("C", "t")], &[Part::Error("C", "u")]),
+    ];
+    for (left, right) in rows {
+        let left = value_of(rt.alloc(), left)?;
+        let right = value_of(rt.alloc(), right)?;
+        assert!(rt; !same(&left, &right));
+        assert!(rt; !same(&right, &left));
+    }
     Ok(())
 }
 
 #[test]
-fn values_with_parts_are_spelled(rt: HostRuntime) -> Result<(), Fail> {
-    let a = rt.alloc();
-    expect(&rt, a, Value::List(Vec::new(a)), "()", "()")?;
-    expect(&rt, a, Value::Vector(Vec::new(a)), "[]", "[]")?;
-    expect(&rt, a, Value::Map(Vec::new(a)), "{}", "{}")?;
-    let items = pair(a, Value::Int(1), string(a, "x")?)?;
-    expect(&rt, a, Value::Vector(items), "[1 \"x\"]", "[1 x]")?;
-    expect(
-        &rt,
-        a,
-        table(a)?,
-        "{:a 1, \"b\" (nil \"c\")}",
-        "{:a 1, b (nil c)}",
-    )?;
-    Ok(())
-}
-
-#[test]
-fn references_are_spelled(rt: HostRuntime) -> Result<(), Fail> {
-    let a = rt.alloc();
-    let own = RefName {
-        owner: Owner::Tenant(7),
-        number: 3,
-    };
-    let shared = RefName {
-        owner: Owner::Shared,
-        number: 0,
-    };
-    expect(&rt, a, Value::Ref(own), "#ref[3]", "#ref[3]")?;
-    expect(
-        &rt,
-        a,
-        Value::Ref(shared),
-        "#ref[shared/0]",
-        "#ref[shared/0]",
-    )?;
-    expect(&rt, a, Value::Atom(1), "#atom[1]", "#atom[1]")?;
-    expect(&rt, a, Value::Agent(0), "#agent[0]", "#agent[0]")?;
-    let space = String::from_str(a, "user")?;
-    let name = String::from_str(a, "x")?;
-    expect(&rt, a, Value::Var { space, name }, "#'user/x", "#'user/x")?;
-    let class = String::from_str(a, "C")?;
-    let text = String::from_str(a, "a \"b\"")?;
-    expect(
-        &rt,
-        a,
-        Value::Fault { class, text },
-        "#error{C: a \"b\"}",
-        "#error{C: a \"b\"}",
-    )?;
+fn values_are_measured(rt: HostRuntime) -> Result<(), Fail> {
+    // Weight, nesting, and whether it is plain.
+    let rows: [(&[Part], u64, u64, bool); 12] = [
+        (&[Nil], 1, 0, true),
+        (&[Int(-9)], 1, 0, true),
+        (&[Str("é")], 3, 0, true),
+        (&[Keyword("ab")], 3, 0, true),
+        (&[Symbol("a/b")], 4, 0, true),
+        (&[List(0)], 1, 1, true),
+        (&TABLE, 10, 2, true),
+        (&[Part::Error("C", "é")], 4, 0, true),
+        (&[Var("user", "x")], 6, 0, false),
+        (&[Ref(OWN, 3), Vector(1)], 2, 1, false),
+        (&[Atom(1), List(1)], 2, 1, false),
+        (&[Nil, Agent(1), Map(1)], 3, 1, false),
+    ];
+    for (parts, weighs, deep, plain) in rows {
+        let value = value_of(rt.alloc(), parts)?;
+        assert_eq!(rt; weight(&value), weighs);
+        assert_eq!(rt; nesting(&value), deep);
+        assert_eq!(rt; is_plain(&value), plain);
+    }
     Ok(())
 }
 
 #[test]
 fn copies_succeed(rt: HostRuntime) -> Result<(), Fail> {
     let a = rt.alloc();
-    let value = table(a)?;
+    let value = value_of(a, &TABLE)?;
     assert!(rt; same(&value, &copy(a, &value)?));
-    let mut params = Vec::new(a);
-    params.push(String::from_str(a, "n")?)?;
-    let mut body = Vec::new(a);
-    body.push(symbol(a, "n")?)?;
-    let space = String::from_str(a, "user")?;
-    let name = String::from_str(a, "f")?;
+    let space = text(a, "é")?;
+    assert_eq!(rt; copy_text(a, &space)?.as_str(), "é");
     let function = Function {
         space,
-        name,
-        params,
-        body,
+        name: text(a, "f")?,
+        params: Vec::new(a),
+        body: Vec::new(a),
     };
     let copied = function.copy(a)?;
     assert_eq!(rt; copied.name.as_str(), "f");
-    assert_eq!(rt; copied.params.len(), 1);
     Ok(())
 }
 
 #[test]
 fn repeated_keys_are_found(rt: HostRuntime) -> Result<(), Fail> {
-    let a = rt.alloc();
-    let mut keys = pair(
-        a,
-        Value::Vector(pair(a, Value::Int(1), Value::Nil)?),
-        Value::Int(1),
-    )?;
-    assert_eq!(rt; first_repeated(a, &keys)?, None);
-    keys.push(Value::List(pair(a, Value::Int(1), Value::Nil)?))?;
-    keys.push(Value::Int(1))?;
-    assert_eq!(rt; first_repeated(a, &keys)?, Some(2));
+    let rows: [(&[Part], Option<usize>); 3] = [
+        (&[Int(1), Nil, Vector(2), Int(1), List(2)], None),
+        (
+            &[Int(1), Vector(1), Int(1), Int(1), List(1), Int(1), List(4)],
+            Some(2),
+        ),
+        (&[Str("a"), Keyword("a"), Str("a"), List(3)], Some(2)),
+    ];
+    for (parts, repeated) in rows {
+        if let Value::List(keys) = value_of(rt.alloc(), parts)? {
+            assert_eq!(rt; first_repeated(rt.alloc(), &keys)?, repeated);
+        }
+    }
     Ok(())
 }
 

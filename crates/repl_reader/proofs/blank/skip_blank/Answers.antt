@@ -1,4 +1,4 @@
-use Rattle.std.proofs.Common.{◌≡◌, ◌∷◌, ◌+◌, ◌<◌, ◌∙◌, sym, drop, get_or, length, refl}
+use Rattle.std.proofs.Common.{◌<◌, ◌∙◌, sym, length, refl}
 use Rattle.std.proofs.lemmas.Str.{IsCharBoundary-start}
 use Rattle.repl_reader.proofs.Bytes.{white_ascii}
 use Rattle.repl_reader.proofs.Skipping.{in_comment, at_comment, at_white, cut_behind, newline}

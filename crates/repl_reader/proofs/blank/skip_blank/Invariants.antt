@@ -1,4 +1,4 @@
-use Rattle.std.proofs.Common.{◌≡◌, ℕ, drop, false}
+use Rattle.std.proofs.Common.{◌≡◌, drop, false}
 use Rattle.std.specs.Prelude.{if◌then◌else◌, IsCharBoundary}
 use Rattle.repl_reader.specs.Text.{bare, after_comment}
 use Rattle.repl_reader.proofs.blank.skip_blank.Given as goal

@@ -1,4 +1,4 @@
-use Rattle.std.proofs.Common.{◌≡◌, ◌∙◌, sym, ap, map, length}
+use Rattle.std.proofs.Common.{◌∙◌, sym, ap, map}
 use Rattle.repl_values.specs.Datum as datum
 use Rattle.repl_values.specs.Datum.{Datum}
 use Rattle.repl_values.specs.View.{view, pairs_of}

@@ -1,8 +1,8 @@
-use Rattle.std.proofs.Common.{◌≡◌, ◌∙◌, sym, ap, map, [], arith, length}
+use Rattle.std.proofs.Common.{◌∙◌, sym, map, arith}
 use Rattle.std.specs.Prelude.{zip}
 use Rattle.std.proofs.lemmas.List.{nil_from_length}
-use Rattle.repl_values.specs.View.{view, items_view}
-use Rattle.repl_reader.proofs.Rows.{in_front, behind, in_front_some, in_front_none}
+use Rattle.repl_values.specs.View.{view}
+use Rattle.repl_reader.proofs.Rows.{in_front_some, in_front_none}
 use Rattle.repl_reader.proofs.maps.split_forms.Goals as goal
 
 pub returns-in-None-pending-2 : goal.returns-in-None-pending-2

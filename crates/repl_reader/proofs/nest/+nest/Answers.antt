@@ -1,9 +1,9 @@
-use Rattle.std.proofs.Common.{rules, length, ◌<◌, ap, ◌≡◌, ◌∙◌, sym, subst, arith}
+use Rattle.std.proofs.Common.{rules, length, ◌<◌, ◌≡◌, sym, subst, arith}
 use Rattle.repl_values.specs.View.{view}
-use Rattle.repl_reader.specs.Reading.{Reading, next, drops, settled, marks, opens, begins}
+use Rattle.repl_reader.specs.Reading.{Reading, next, drops, begins}
 use Rattle.repl_reader.specs.Grammar.{Reads}
 use Rattle.repl_reader.specs.View.{IsMarked, wraps, wraps_deep, IsOpened, encloses, encloses_deep, bracket_view, symbol_of, reading_view}
-use Rattle.repl_reader.proofs.Nesting.{on_ok, piece_settled, piece_marked, piece_opened, row_push, row_last, owed_more, owed_none, owed_one, owed_short}
+use Rattle.repl_reader.proofs.Nesting.{on_ok, piece_settled, piece_marked, piece_opened, row_push, row_last, owed_more, owed_one, owed_short}
 use Rattle.repl_reader.proofs.Shorter.{next_shorter_is, reads_shorter}
 use Rattle.repl_reader.proofs.nest.+nest.Goals as goal
 

@@ -1,4 +1,4 @@
-use Rattle.std.proofs.Common.{◌≡◌, ℕ, ◌+◌, ◌-◌, ◌*◌, ◌≤◌, length, map}
+use Rattle.std.proofs.Common.{◌+◌, ◌-◌, ◌*◌, ◌≤◌, length, map}
 use Rattle.std.specs.Str.{IsUtf8}
 use Rattle.repl_values.specs.Datum.{Items}
 use Rattle.repl_values.specs.View.{view}

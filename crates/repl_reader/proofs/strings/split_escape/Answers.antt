@@ -1,4 +1,3 @@
-use Rattle.std.proofs.Common.{◌≡◌}
 use Rattle.repl_reader.proofs.Quoted.{no_escape_empty}
 use Rattle.repl_reader.proofs.strings.split_escape.Goals as goal
 

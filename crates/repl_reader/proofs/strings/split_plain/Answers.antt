@@ -1,4 +1,3 @@
-use Rattle.std.proofs.Common.{◌≡◌}
 use Rattle.repl_reader.specs.Text.{ends_plain}
 use Rattle.repl_reader.proofs.Bytes.{cut_at_first, ends_plain_ascii}
 use Rattle.repl_reader.proofs.Quoted.{plain_run, plain_run_ends}

@@ -1,5 +1,4 @@
-use Rattle.std.proofs.Common.{◌≡◌, ◌∙◌, sym}
-use Rattle.repl_reader.specs.Token.{has_leading_zero}
+use Rattle.std.proofs.Common.{◌∙◌, sym}
 use Rattle.repl_reader.proofs.Number.{number_is}
 use Rattle.repl_reader.proofs.tokens.integer_of.Goals as goal
 

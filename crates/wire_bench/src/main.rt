@@ -1,0 +1,50 @@
+//! Counts the messages of a bencode stream on standard input, so that the decoder can be timed
+//! alone. Messages before a fault are counted; what follows one is not read.
+#![tactic(auto)]
+
+use bencode_wire::Decoder;
+use bytes::Bytes;
+use std::alloc::Global;
+use std::io::{self, Read};
+
+/// The greatest length of a message, and of a string in one.
+const LIMIT: usize = 1_048_576;
+
+/// The greatest length of a piece. It bounds how many messages one piece can end.
+const PIECE: usize = 4_096;
+
+// Takes the messages that a piece made whole.
+fn take_ready(decoder: &mut Decoder) -> u64 {
+    let mut taken: u64 = 0;
+    for _ in 0..PIECE {
+        if decoder.next().is_none() {
+            return taken;
+        }
+        taken = taken.saturating_add(1);
+    }
+    taken
+}
+
+fn count_messages<R: Read>(alloc: Global, reader: &mut R) -> io::Result<u64> {
+    let mut decoder = Decoder::new(alloc, LIMIT);
+    let mut buffer = [0u8; PIECE];
+    let mut messages: u64 = 0;
+    for _ in 0..u64::MAX {
+        let n = reader.read(&mut buffer)?;
+        if n == 0 {
+            return Ok(messages);
+        }
+        let piece = Bytes::copy_from_slice(alloc, &buffer[..n])?;
+        let fed = decoder.feed(&piece);
+        messages = messages.saturating_add(take_ready(&mut decoder));
+        if fed.is_err() {
+            return Ok(messages);
+        }
+    }
+    Ok(messages)
+}
+
+fn main(rt: HostRuntime) -> io::Result<()> {
+    let messages = count_messages(rt.alloc(), &mut rt.reader())?;
+    println!(rt; "{messages}")
+}
