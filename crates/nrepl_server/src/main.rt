@@ -4,6 +4,8 @@
 mod command;
 mod config;
 mod pipe;
+#[cfg(test)]
+mod programs;
 mod reply;
 mod request;
 mod server;

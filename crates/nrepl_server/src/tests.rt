@@ -1,6 +1,7 @@
 // Whole streams, with failing readers and writers. The expected bytes are those of the protocol.
 use crate::command::pipe_command;
 use crate::config::Config;
+use crate::programs::PROGRAMS;
 use std::io;
 use std::io::{Error, ErrorKind, Read, Write};
 use std::test::Fail;
@@ -12,11 +13,11 @@ const SUM_REPLIES: &[u8] = b"d2:id1:72:ns4:user5:value1:3ed2:id1:76:statusl4:don
 const MALFORMED: &[u8] = b"d6:statusl5:error9:malformed4:doneee";
 
 // An input, what is written for it, the exit status and the line on standard error.
-struct Case {
-    input: &'static [u8],
-    output: &'static [u8],
-    status: u8,
-    line: &'static str,
+pub(crate) struct Case {
+    pub(crate) input: &'static [u8],
+    pub(crate) output: &'static [u8],
+    pub(crate) status: u8,
+    pub(crate) line: &'static str,
 }
 
 const CASES: [Case; 15] = [
@@ -115,7 +116,7 @@ const CASES: [Case; 15] = [
 
 #[test]
 fn streams(rt: HostRuntime) -> Result<(), Fail> {
-    for case in &CASES {
+    for case in CASES.iter().chain(PROGRAMS.iter()) {
         let mut input = case.input;
         let mut output = Vec::new(rt.alloc());
         let mut errors = Vec::new(rt.alloc());

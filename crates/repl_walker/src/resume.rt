@@ -54,7 +54,9 @@ enum Leg {
 }
 
 /// Begins the job, up to its first ask or its end. It fails only for want of memory.
-pub fn start(alloc: Global, job: &Job) -> Result<Progress, AllocError> {
+pub fn start(alloc: Global, job: &Job) -> Result<Progress, AllocError>
+    ensures { IfOk result (λ progress. progress_calls progress ≤ CALLS) }
+{
     let state = State {
         frames: VecDeque::new(alloc),
         place: Place {
