@@ -359,9 +359,39 @@ const TEXT_NAMES: &[(&str, usize, usize)] = &[
     ("prn", 0, ANY),
 ];
 
+const SEQUENCE_NAMES: &[(&str, usize, usize)] = &[
+    ("list", 0, ANY),
+    ("vector", 0, ANY),
+    ("first", 1, 1),
+    ("last", 1, 1),
+    ("rest", 1, 1),
+    ("next", 1, 1),
+    ("reverse", 1, 1),
+    ("cons", 2, 2),
+    ("conj", 1, ANY),
+    ("count", 1, 1),
+    ("empty?", 1, 1),
+    ("nth", 2, 3),
+];
+
+const MAP_NAMES: &[(&str, usize, usize)] = &[
+    ("hash-map", 0, ANY),
+    ("get", 2, 3),
+    ("contains?", 2, 2),
+    ("dissoc", 1, ANY),
+    ("keys", 1, 1),
+    ("vals", 1, 1),
+];
+
 #[test]
 fn names_and_numbers_of_arguments(rt: HostRuntime) -> Result<(), Fail> {
-    for names in [INTEGER_NAMES, PREDICATE_NAMES, TEXT_NAMES] {
+    for names in [
+        INTEGER_NAMES,
+        PREDICATE_NAMES,
+        TEXT_NAMES,
+        SEQUENCE_NAMES,
+        MAP_NAMES,
+    ] {
         for (name, fewest, most) in names {
             assert!(&rt; knows(name), "{name}");
             for arguments in 0..5 {
@@ -369,6 +399,11 @@ fn names_and_numbers_of_arguments(rt: HostRuntime) -> Result<(), Fail> {
                 assert_eq!(&rt; arity_fits(name, arguments), fits, "{name} of {arguments}");
             }
         }
+    }
+    assert!(&rt; knows("assoc"));
+    for arguments in 0..8usize {
+        let fits = arguments >= 3 && arguments % 2 == 1;
+        assert_eq!(&rt; arity_fits("assoc", arguments), fits, "assoc of {arguments}");
     }
     for name in [
         "",
