@@ -403,7 +403,11 @@ fn names_and_numbers_of_arguments(rt: HostRuntime) -> Result<(), Fail> {
     assert!(&rt; knows("assoc"));
     for arguments in 0..8usize {
         let fits = arguments >= 3 && arguments % 2 == 1;
-        assert_eq!(&rt; arity_fits("assoc", arguments), fits, "assoc of {arguments}");
+        assert_eq!(&rt;
+            arity_fits("assoc", arguments),
+            fits,
+            "assoc of {arguments}"
+        );
     }
     for name in [
         "",

@@ -55,5 +55,5 @@ pub binding_taken : (bs now : List Binding) (ds rest_1 rest_2 : List value.Value
     → with_front (map binding_view bs) (bound_forms (views ds)) ≡ whole → with_front (map binding_view now) (bound_forms (views rest_2)) ≡ whole
 binding_taken bs now ds rest_1 rest_2 d e s whole first second more named taken =
     let one : with_front (map binding_view bs) (bound_forms (views ds)) ≡ with_front (map binding_view bs ++ record { name = string_bytes s; form = view e } ∷ []) (bound_forms (views rest_2)) =
-        rw (first, second) (binding_step (map binding_view bs) (view d) (view e) (views rest_2) (string_bytes s) named) in
+    rw (first, second) (binding_step (map binding_view bs) (view d) (view e) (views rest_2) (string_bytes s) named) in
     rw (more, map-append binding_view bs (record { name = s; form = e } ∷ [])) (sym one ∙ taken)

@@ -63,12 +63,7 @@ fn call_core(
 }
 
 // The value, with this text printed. Text that would pass the limit is not printed at all.
-fn print(
-    alloc: Global,
-    state: &mut State,
-    text: &str,
-    value: Value,
-) -> Result<Control, AllocError>
+fn print(alloc: Global, state: &mut State, text: &str, value: Value) -> Result<Control, AllocError>
     ensures size { IfOk result (λ control. control_size control + frames_size state.new.frames.items
         < 2 + frames_size state.old.frames.items) }
     ensures calls { IfOk result (λ control. spent control + state.new.calls ≤ state.old.calls) }

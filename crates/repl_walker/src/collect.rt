@@ -2,8 +2,8 @@
 ghost use Rattle.std.specs.Prelude.{◌≡◌, ◌<◌, IfOk};
 ghost use Rattle.repl_walker.specs.Size.{control_size, spent};
 
-use repl_faults::{duplicate_key, too_large};
 use crate::frames::{Collection, Control};
+use repl_faults::{duplicate_key, too_large};
 use repl_values::{Value, first_repeated, nesting, weight};
 use std::alloc::{AllocError, Global};
 

@@ -39,11 +39,7 @@ pub(crate) fn evaluate(
     }
 }
 
-fn evaluate_symbol(
-    alloc: Global,
-    state: &State,
-    symbol: String,
-) -> Result<Control, AllocError>
+fn evaluate_symbol(alloc: Global, state: &State, symbol: String) -> Result<Control, AllocError>
     ensures size { IfOk result (λ control. control_size control < 3) }
     ensures calls { IfOk result (λ control. spent control ≡ 0) }
 {

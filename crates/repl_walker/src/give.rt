@@ -3,7 +3,9 @@ ghost use Rattle.std.specs.Prelude.{◌≡◌, ◌+◌, ◌<◌, ◌≤◌, IfOk
 ghost use Rattle.repl_walker.specs.Size.{frame_size, control_size, frames_size, spent};
 
 use crate::frames::{Control, Frame, State};
-use crate::rows::{bind, is_true, next_argument, next_binding, next_in_body, next_in_logic, next_item};
+use crate::rows::{
+    bind, is_true, next_argument, next_binding, next_in_body, next_in_logic, next_item,
+};
 use crate::special::define;
 use core_functions::{Applied, CoreFunction, apply};
 use core_texts::TextFunction;
@@ -47,7 +49,11 @@ pub(crate) fn give(
             alternative,
             room,
         } => {
-            let body = if is_true(&value) { consequent } else { alternative };
+            let body = if is_true(&value) {
+                consequent
+            } else {
+                alternative
+            };
             next_in_body(state, Value::Nil, body, room)
         }
         Frame::Logic { logic, forms, room } => next_in_logic(state, logic, value, forms, room),

@@ -29,12 +29,7 @@ pub(crate) fn evaluate_special(
     }
 }
 
-fn begin(
-    alloc: Global,
-    state: &mut State,
-    shape: Shape,
-    room: u32,
-) -> Result<Control, AllocError>
+fn begin(alloc: Global, state: &mut State, shape: Shape, room: u32) -> Result<Control, AllocError>
     ensures size { IfOk result (λ control. control_size control + frames_size state.new.frames.items
         < 2 + shape_size shape + frames_size state.old.frames.items) }
     ensures calls { IfOk result (λ control. spent control + state.new.calls ≤ state.old.calls) }

@@ -6,7 +6,7 @@ abbrev pub invariant-loop-state : goal.invariant-loop-state
 invariant-loop-state l =
     (spent l.control + l.state.calls ≤ spent l.initial.control + l.initial.state.calls)
     × ((spent l.control + l.state.calls < spent l.initial.control + l.initial.state.calls)
-      ⊎ (control_size l.control + frames_size l.state.frames.items ≤ control_size l.initial.control + frames_size l.initial.state.frames.items))
+    ⊎ (control_size l.control + frames_size l.state.frames.items ≤ control_size l.initial.control + frames_size l.initial.state.frames.items))
 
 abbrev pub decreases-loop-state : goal.decreases-loop-state
 decreases-loop-state l = spent l.control + l.state.calls
