@@ -38,9 +38,10 @@ fn all_shown(alloc: Global, values: &[Value]) -> Result<String, AllocError>
     Ok(text)
 }
 
-// Nothing for nil, the characters of a string, and the print of all else.
+/// Appends nothing for nil, the characters of a string, and the print of all else. It fails only for
+/// want of memory.
 #[tactic(auto, using(repl_values::proofs::Views::value_views))]
-fn show_into(alloc: Global, value: &Value, out: &mut String) -> Result<(), AllocError>
+pub fn show_into(alloc: Global, value: &Value, out: &mut String) -> Result<(), AllocError>
     ensures { OnOk result (string_bytes out.new ≡ string_bytes out.old ++ meant.shown (view value.now)) }
 {
     match value {

@@ -5,6 +5,6 @@ mod application;
 mod function;
 mod printing;
 
-pub use application::apply_texts;
+pub use application::{apply_texts, show_into};
 pub use function::{PrintFunction, TextFunction};
 pub use printing::printed;

@@ -1,7 +1,9 @@
 -- Parts of special forms that are taken one by one.
-use Rattle.std.proofs.Common.{◌≡◌, ℕ, List, [], ◌∷◌, ◌++◌, Option, Some, None, refl, sym, ap, ◌∙◌, append_assoc, append-nil, option_map, map, string_bytes, String, Vec, Global}
+use Rattle.std.proofs.Common.{◌≡◌, ℕ, zero, suc, ◌<◌, ◌≤◌, length, arith, Bor, List, [], ◌∷◌, ◌++◌, Option, Some, None, refl, sym, ap, ◌∙◌, append_assoc, append-nil, option_map, map, string_bytes, String, Vec, Global}
 use Rattle.std.proofs.lemmas.List.{map-append}
-use Rattle.std.specs.Option.{option_and_then}
+use Rattle.std.specs.Option.{option_and_then, MatchOption}
+use Rattle.std.specs.List.{HoldsAt}
+use Rattle.repl_walker.specs.Evaluation.{item_at}
 use Rattle.repl_values.specs.Datum.{Datum}
 use Rattle.repl_values.specs.View.{view, items_of}
 use Rattle.repl_values.specs.declared.value.Value as value
@@ -11,7 +13,7 @@ use Rattle.repl_walker.specs.Seen.{views, binding_view}
 use Rattle.repl_walker.proofs.Sizes.{value_size-Vector}
 use Rattle.repl_walker.specs.Shapes.{list_of, in_vector, BoundForm, simple_name, bound_forms, parameter_name, parameter_names}
 
-list_of-items : (ds : List Datum) → list_of (items_of ds) ≡ ds
+pub list_of-items : (ds : List Datum) → list_of (items_of ds) ≡ ds
 list_of-items [] = refl
 list_of-items (d ∷ ds) = ap (λ (es : List Datum). d ∷ es) (list_of-items ds)
 
@@ -57,3 +59,14 @@ binding_taken bs now ds rest_1 rest_2 d e s whole first second more named taken 
     let one : with_front (map binding_view bs) (bound_forms (views ds)) ≡ with_front (map binding_view bs ++ record { name = string_bytes s; form = view e } ∷ []) (bound_forms (views rest_2)) =
     rw (first, second) (binding_step (map binding_view bs) (view d) (view e) (views rest_2) (string_bytes s) named) in
     rw (more, map-append binding_view bs (record { name = s; form = e } ∷ [])) (sym one ∙ taken)
+
+-- what is read from a place is the item there
+pub item_read : (vs : List value.Value) (i : ℕ) (r : Option (Bor value.Value))
+    → MatchOption r (length vs ≤ i) (λ x. (i < length vs) × HoldsAt (λ y. x.now ≡ y) vs i)
+    → option_map (λ (x : Bor value.Value). view x.now) r ≡ item_at (views vs) i
+item_read [] i None h = refl
+item_read [] i (Some x) h = absurd (omega (arith, h.0))
+item_read (v ∷ vs) zero None h = absurd (omega (arith, h))
+item_read (v ∷ vs) zero (Some x) h = ap (λ (w : value.Value). Some (view w)) (h.1 v)
+item_read (v ∷ vs) (suc i) None h = item_read vs i None (omega (arith, h))
+item_read (v ∷ vs) (suc i) (Some x) h = item_read vs i (Some x) (omega (arith, h.0), h.1)

@@ -1,14 +1,20 @@
 // Calls: first one call is taken from the budget, then the number of arguments is checked, then the
 // function is applied.
-ghost use Rattle.std.specs.Prelude.{◌≡◌, ◌+◌, ◌<◌, ◌≤◌, IfOk};
+ghost use Rattle.std.specs.Prelude.{◌≡◌, ◌+◌, ◌<◌, ◌≤◌, [], map, string_bytes, IfOk};
+ghost use Rattle.repl_values.specs.View.{view, function_view};
+ghost use Rattle.repl_walker.specs.Evaluation as meant;
+ghost use Rattle.repl_walker.specs.Machine.{local_view, callee_view, place_of, from_state, tree};
+ghost use Rattle.repl_walker.specs.Seen.{views};
+ghost use Rattle.repl_walker.specs.declared.frames.State.{State};
 ghost use Rattle.repl_walker.specs.Size.{control_size, frames_size, spent};
 
 use crate::frames::{Callee, Control, Frame, Local, Place, State};
 use crate::rows::next_in_body;
+use crate::shapes::row;
 use core_functions::{Applied, CoreFunction, apply};
 use core_maps::MapFunction;
 use repl_faults::{ApplyError, output_too_long, too_many_calls, wrong_arity};
-use repl_values::{Function, Value, print_into};
+use repl_values::{Function, Value};
 use std::alloc::{AllocError, Global};
 use std::collections::VecDeque;
 use std::mem;
@@ -16,6 +22,7 @@ use std::mem;
 /// The most that an evaluation may print, in bytes.
 const MOST_TEXT: usize = 1_048_576;
 
+#[tactic(auto, unfolding(crate::specs::Evaluation::called))]
 pub(crate) fn call(
     alloc: Global,
     state: &mut State,
@@ -26,6 +33,7 @@ pub(crate) fn call(
     ensures size { IfOk result (λ control. control_size control + frames_size state.new.frames.items
         < 2 + frames_size state.old.frames.items) }
     ensures calls { IfOk result (λ control. spent control + state.new.calls ≤ state.old.calls) }
+    ensures meaning { IfOk result (λ control. tree control state.new ≡ from_state (meant.called (meant.value_at room) (callee_view callee) (views values.items)) state.old) }
 {
     if state.calls == 0 {
         return Ok(Control::Fault(too_many_calls(alloc)?));
@@ -38,6 +46,7 @@ pub(crate) fn call(
     }
 }
 
+#[tactic(auto, unfolding(crate::specs::Evaluation::core_call))]
 fn call_core(
     alloc: Global,
     state: &mut State,
@@ -47,6 +56,7 @@ fn call_core(
     ensures size { IfOk result (λ control. control_size control + frames_size state.new.frames.items
         < 2 + frames_size state.old.frames.items) }
     ensures calls { IfOk result (λ control. spent control + state.new.calls ≤ state.old.calls) }
+    ensures meaning { IfOk result (λ control. tree control state.new ≡ from_state (meant.core_call function (views values.now)) state.old) }
 {
     if !function.takes(values.len()) {
         let fault = wrong_arity(alloc, function.name(), values.len())?;
@@ -63,10 +73,12 @@ fn call_core(
 }
 
 // The value, with this text printed. Text that would pass the limit is not printed at all.
+#[tactic(auto, unfolding(crate::specs::Evaluation::printed))]
 fn print(alloc: Global, state: &mut State, text: &str, value: Value) -> Result<Control, AllocError>
     ensures size { IfOk result (λ control. control_size control + frames_size state.new.frames.items
         < 2 + frames_size state.old.frames.items) }
     ensures calls { IfOk result (λ control. spent control + state.new.calls ≤ state.old.calls) }
+    ensures meaning { IfOk result (λ control. tree control state.new ≡ from_state (meant.printed text.now (view value)) state.old) }
 {
     if state.text.len().saturating_add(text.len()) > MOST_TEXT {
         return Ok(Control::Fault(output_too_long(alloc)?));
@@ -76,6 +88,7 @@ fn print(alloc: Global, state: &mut State, text: &str, value: Value) -> Result<C
 }
 
 // `(:name map)` and `(:name map default)` look the keyword up.
+#[tactic(auto, unfolding(crate::specs::Evaluation::keyword_call))]
 fn call_keyword(
     alloc: Global,
     state: &mut State,
@@ -85,36 +98,41 @@ fn call_keyword(
     ensures size { IfOk result (λ control. control_size control + frames_size state.new.frames.items
         < 2 + frames_size state.old.frames.items) }
     ensures calls { IfOk result (λ control. spent control + state.new.calls ≤ state.old.calls) }
+    ensures meaning { IfOk result (λ control. tree control state.new ≡ from_state (meant.keyword_call (string_bytes name) (views values.items)) state.old) }
 {
-    let arguments = values.len();
-    let mut values = VecDeque::from_vec(values);
-    let keyword = Value::Keyword(name);
-    let mut args = Vec::new(alloc);
-    match values.pop_front() {
-        Some(map) if arguments <= 2 => {
-            args.push(map)?;
-            args.push(keyword)?;
-        }
-        _other => {
-            let mut text = String::new(alloc);
-            print_into(alloc, &keyword, &mut text)?;
-            return Ok(Control::Fault(wrong_arity(alloc, text.as_str(), arguments)?));
-        }
+    if values.len() == 1 || values.len() == 2 {
+        let get = CoreFunction::Map(MapFunction::Get);
+        let args = get_arguments(alloc, name, values)?;
+        return call_core(alloc, state, get, args.as_slice());
     }
-    if let Some(default) = values.pop_front() {
-        args.push(default)?;
-    }
-    let get = CoreFunction::Map(MapFunction::Get);
-    call_core(alloc, state, get, args.as_slice())
+    let mut text = String::from_str(alloc, ":")?;
+    text.push_str(name.as_str())?;
+    let fault = wrong_arity(alloc, text.as_str(), values.len())?;
+    Ok(Control::Fault(fault))
 }
 
+// The map, the keyword and what comes behind the map.
+#[tactic(auto, using(repl_values::proofs::Views::value_views))]
+fn get_arguments(alloc: Global, name: String, values: Vec<Value>) -> Result<Vec<Value>, AllocError>
+    ensures { IfOk result (λ args. views args.items ≡ meant.get_arguments (string_bytes name) (views values.items)) }
+{
+    let mut args = VecDeque::from_vec(values);
+    if let Some(map) = args.pop_front() {
+        args.push_front(Value::Keyword(name))?;
+        args.push_front(map)?;
+    }
+    row(alloc, args)
+}
+
+#[tactic(auto, unfolding(crate::specs::Evaluation::program_call))]
 fn call_function(
     alloc: Global,
     function: Function,
     values: Vec<Value>,
     room: u32,
 ) -> Result<Control, AllocError>
-    ensures { IfOk result (λ control. control_size control < 2) }
+    ensures size { IfOk result (λ control. control_size control < 2) }
+    ensures meaning { IfOk result (λ control. (s : State) → tree control s ≡ from_state (meant.program_call (meant.value_at room) (function_view function) (views values.items)) s) }
 {
     if function.params.len() == values.len() {
         return Ok(Control::Enter(function, values, room));
@@ -134,7 +152,7 @@ pub(crate) fn enter(
     values: Vec<Value>,
     room: u32,
 ) -> Result<Control, AllocError>
-    ensures { IfOk result (λ control. spent control + state.new.calls ≤ state.old.calls) }
+    ensures calls { IfOk result (λ control. spent control + state.new.calls ≤ state.old.calls) }
 {
     let Function {
         space,
@@ -142,12 +160,29 @@ pub(crate) fn enter(
         params,
         body,
     } = function;
-    let mut locals = VecDeque::new(alloc);
-    for (name, value) in params.into_iter().zip(values) {
-        locals.push_front(Local { name, value })?;
-    }
+    let locals = bound(alloc, params, values)?;
     let home = Some(space);
     let place = mem::replace(&mut state.place, Place { locals, home });
     state.frames.push_front(Frame::Leave { place })?;
     next_in_body(state, Value::Nil, VecDeque::from_vec(body), room)
+}
+
+// Each parameter with its argument, the last in front.
+fn bound(
+    alloc: Global,
+    params: Vec<String>,
+    values: Vec<Value>,
+) -> Result<VecDeque<Local>, AllocError>
+    ensures { IfOk result (λ locals. map local_view locals.items ≡ meant.bound_to [] (map string_bytes params.items) (views values.items)) }
+{
+    let mut params = VecDeque::from_vec(params);
+    let mut values = VecDeque::from_vec(values);
+    let mut locals = VecDeque::new(alloc);
+    while let Some(name) = params.pop_front() {
+        let Some(value) = values.pop_front() else {
+            return Ok(locals);
+        };
+        locals.push_front(Local { name, value })?;
+    }
+    Ok(locals)
 }

@@ -1,5 +1,10 @@
 // The value of the innermost form goes to what waits for it.
-ghost use Rattle.std.specs.Prelude.{◌≡◌, ◌+◌, ◌<◌, ◌≤◌, IfOk};
+ghost use Rattle.std.specs.Prelude.{◌≡◌, ◌+◌, ◌<◌, ◌≤◌, string_bytes, IfOk};
+ghost use Rattle.repl_values.specs.View.{view};
+ghost use Rattle.repl_faults.specs.View.{failure_of};
+ghost use Rattle.repl_walker.specs.Evaluation as meant;
+ghost use Rattle.repl_walker.specs.Machine.{from_state, tree};
+ghost use Rattle.repl_walker.specs.declared.frames.State.{State};
 ghost use Rattle.repl_walker.specs.Size.{frame_size, control_size, frames_size, spent};
 
 use crate::frames::{Control, Frame, State};
@@ -7,12 +12,14 @@ use crate::rows::{
     bind, is_true, next_argument, next_binding, next_in_body, next_in_logic, next_item,
 };
 use crate::special::define;
-use core_functions::{Applied, CoreFunction, apply};
-use core_texts::TextFunction;
+use core_texts::show_into;
 use repl_asks::Binding;
-use repl_faults::{ApplyError, thrown};
+use repl_faults::{thrown, too_large};
 use repl_values::{Fault, Value};
 use std::alloc::{AllocError, Global};
+
+/// A text of so many bytes is too large for a value.
+const MOST_WEIGHT: usize = 1_048_576;
 
 pub(crate) fn give(
     alloc: Global,
@@ -80,30 +87,29 @@ pub(crate) fn give(
 }
 
 // A fault is thrown as it is, any other value by its text.
+#[tactic(auto, using(repl_values::proofs::Views::value_views))]
 fn throw(alloc: Global, value: Value) -> Result<Control, AllocError>
     ensures size { IfOk result (λ control. control_size control < 2) }
     ensures calls { IfOk result (λ control. spent control ≡ 0) }
+    ensures meaning { IfOk result (λ control. (s : State) → tree control s ≡ from_state (meant.thrown_value (view value)) s) }
 {
     match value {
         Value::Fault { class, text } => Ok(Control::Fault(Fault { class, text })),
-        other => throw_text(alloc, other),
+        other => {
+            let mut text = String::new(alloc);
+            show_into(alloc, &other, &mut text)?;
+            Ok(Control::Fault(thrown_fault(alloc, text)?))
+        }
     }
 }
 
-fn throw_text(alloc: Global, value: Value) -> Result<Control, AllocError>
-    ensures size { IfOk result (λ control. control_size control < 2) }
-    ensures calls { IfOk result (λ control. spent control ≡ 0) }
+// The text has to be one that a value may have.
+#[tactic(auto, unfolding(crate::specs::Evaluation::thrown_failure))]
+fn thrown_fault(alloc: Global, text: String) -> Result<Fault, AllocError>
+    ensures { IfOk result (λ fault. failure_of fault ≡ meant.thrown_failure (string_bytes text)) }
 {
-    let args = [value];
-    match apply(alloc, CoreFunction::Text(TextFunction::Str), &args) {
-        Ok(applied) => {
-            let Applied { value, text: _ } = applied;
-            match value {
-                Value::Str(text) => Ok(Control::Fault(thrown(alloc, text)?)),
-                _other => Ok(Control::Return(Value::Nil)),
-            }
-        }
-        Err(ApplyError::Fault(fault)) => Ok(Control::Fault(fault)),
-        Err(ApplyError::NoMemory) => Err(AllocError),
+    if text.len() < MOST_WEIGHT {
+        return thrown(alloc, text);
     }
+    too_large(alloc)
 }

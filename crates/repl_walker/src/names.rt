@@ -1,14 +1,24 @@
 // What a symbol names before anybody is asked.
+ghost use Rattle.std.specs.Prelude.{◌≡◌, map, option_map, string_bytes, is_some, IfOk};
+ghost use Rattle.core_functions.specs.Names.{function_named};
+ghost use Rattle.repl_asks.specs.Exchange.{resolve};
+ghost use Rattle.repl_asks.specs.View.{ask_view};
+ghost use Rattle.repl_walker.specs.Evaluation as meant;
+ghost use Rattle.repl_walker.specs.Machine.{local_view, named_view, place_of, kept_of};
+
 use crate::frames::{Local, Place, State};
 use core_functions::{CoreFunction, knows};
 use repl_asks::Ask;
 use repl_values::{Value, copy};
 use std::alloc::{AllocError, Global};
+use std::collections::VecDeque;
 
-const CORE: &str = "clojure.core/";
+const CORE: &str = "clojure.core";
 
 /// Whether a function of the language has this name, without its namespace. It takes no memory.
-pub fn names_function(name: &str) -> bool {
+pub fn names_function(name: &str) -> bool
+    ensures { result ≡ is_some (function_named name.now) }
+{
     knows(name)
 }
 
@@ -23,14 +33,39 @@ pub(crate) enum Named {
     Elsewhere,
 }
 
-pub(crate) fn look_up(alloc: Global, place: &Place, symbol: &str) -> Result<Named, AllocError> {
-    if let Some(name) = symbol.strip_prefix(CORE) {
-        return Ok(match CoreFunction::named(name) {
-            Some(function) => Named::Core(function),
-            None => Named::NoCore,
-        });
+pub(crate) fn look_up(alloc: Global, place: &Place, symbol: &str) -> Result<Named, AllocError>
+    ensures { IfOk result (λ found. named_view found ≡ meant.named (map local_view place.now.locals.items) symbol.now) }
+{
+    match core_name(symbol) {
+        Some(name) => Ok(core_named(name)),
+        None => local_named(alloc, &place.locals, symbol),
     }
-    for local in &place.locals {
+}
+
+// What follows the slash of a name in `clojure.core`.
+#[tactic(auto, unfolding(crate::specs::Evaluation::core_name))]
+fn core_name(symbol: &str) -> Option<&str>
+    ensures { option_map (λ name. name.now) result ≡ meant.core_name symbol.now }
+{
+    match symbol.split_once('/') {
+        Some((space, name)) if space == CORE => Some(name),
+        _ => None,
+    }
+}
+
+fn core_named(name: &str) -> Named
+    ensures { named_view result ≡ meant.core_named (function_named name.now) }
+{
+    match CoreFunction::named(name) {
+        Some(function) => Named::Core(function),
+        None => Named::NoCore,
+    }
+}
+
+fn local_named(alloc: Global, locals: &VecDeque<Local>, symbol: &str) -> Result<Named, AllocError>
+    ensures { IfOk result (λ found. named_view found ≡ meant.named_in (map local_view locals.now.items) symbol.now) }
+{
+    for local in locals {
         if local.name.as_str() == symbol {
             return Ok(Named::Local(copy(alloc, &local.value)?));
         }
@@ -40,14 +75,18 @@ pub(crate) fn look_up(alloc: Global, place: &Place, symbol: &str) -> Result<Name
 
 // The namespace in which a symbol is resolved and a name defined: that of the function whose body
 // the form is in, else the evaluation's own.
-pub(crate) fn space(alloc: Global, state: &State) -> Result<String, AllocError> {
+pub(crate) fn space(alloc: Global, state: &State) -> Result<String, AllocError>
+    ensures { IfOk result (λ name. string_bytes name ≡ meant.space_of (place_of state.now) (kept_of state.now)) }
+{
     match &state.place.home {
         Some(home) => String::from_str(alloc, home.as_str()),
         None => String::from_str(alloc, state.namespace.as_str()),
     }
 }
 
-pub(crate) fn resolve(alloc: Global, state: &State, symbol: &str) -> Result<Ask, AllocError> {
+pub(crate) fn resolve(alloc: Global, state: &State, symbol: &str) -> Result<Ask, AllocError>
+    ensures { IfOk result (λ ask. ask_view ask ≡ resolve (meant.space_of (place_of state.now) (kept_of state.now)) symbol.now) }
+{
     Ok(Ask::Resolve {
         namespace: space(alloc, state)?,
         symbol: String::from_str(alloc, symbol)?,

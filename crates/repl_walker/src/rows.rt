@@ -1,5 +1,9 @@
 // Forms in a row: arguments, items, bodies, `and`, `or` and bindings.
-ghost use Rattle.std.specs.Prelude.{◌≡◌, ◌+◌, ◌<◌, ◌≤◌, IfOk};
+ghost use Rattle.std.specs.Prelude.{◌≡◌, ◌+◌, ◌<◌, ◌≤◌, map, string_bytes, IfOk};
+ghost use Rattle.repl_values.specs.View.{view};
+ghost use Rattle.repl_walker.specs.Evaluation as meant;
+ghost use Rattle.repl_walker.specs.Machine.{call_behind, items_behind, callee_view, place_of, kept_of, next_of, from_state, tree};
+ghost use Rattle.repl_walker.specs.Seen.{views, binding_view};
 ghost use Rattle.repl_walker.specs.Size.{values_size, bindings_size, control_size, frames_size, spent};
 
 use crate::calls::call;
@@ -10,6 +14,7 @@ use std::alloc::{AllocError, Global};
 use std::collections::VecDeque;
 
 // The next argument is evaluated, or the function is called.
+#[tactic(auto, using(crate::proofs::Evaluating::steps))]
 pub(crate) fn next_argument(
     alloc: Global,
     state: &mut State,
@@ -21,6 +26,7 @@ pub(crate) fn next_argument(
     ensures size { IfOk result (λ control. control_size control + frames_size state.new.frames.items
         < 2 + values_size forms.items + frames_size state.old.frames.items) }
     ensures calls { IfOk result (λ control. spent control + state.new.calls ≤ state.old.calls) }
+    ensures meaning { IfOk result (λ control. tree control state.new ≡ from_state (call_behind room (place_of state.old) (callee_view callee) (views values.items) (views forms.items)) state.old) }
 {
     match forms.pop_front() {
         None => call(alloc, state, callee, values, room),
@@ -38,6 +44,7 @@ pub(crate) fn next_argument(
 }
 
 // The next item of a vector or a map is evaluated, or it is made.
+#[tactic(auto, using(crate::proofs::Evaluating::steps))]
 pub(crate) fn next_item(
     alloc: Global,
     state: &mut State,
@@ -49,6 +56,7 @@ pub(crate) fn next_item(
     ensures size { IfOk result (λ control. control_size control + frames_size state.new.frames.items
         < 2 + values_size forms.items + frames_size state.old.frames.items) }
     ensures calls { IfOk result (λ control. spent control + state.new.calls ≤ state.old.calls) }
+    ensures meaning { IfOk result (λ control. tree control state.new ≡ from_state (items_behind room (place_of state.old) kind (views values.items) (views forms.items)) state.old) }
 {
     match forms.pop_front() {
         None => collected(alloc, kind, values),
@@ -75,6 +83,7 @@ pub(crate) fn next_in_body(
     ensures size { IfOk result (λ control. control_size control + frames_size state.new.frames.items
         < 2 + values_size forms.items + frames_size state.old.frames.items) }
     ensures calls { IfOk result (λ control. spent control + state.new.calls ≤ state.old.calls) }
+    ensures meaning { IfOk result (λ control. tree control state.new ≡ from_state (meant.last_of (meant.value_at room (place_of state.old)) (view last) (views forms.items)) state.old) }
 {
     match forms.pop_front() {
         None => Ok(Control::Return(last)),
@@ -86,7 +95,9 @@ pub(crate) fn next_in_body(
 }
 
 // Only nil and false are false.
-pub(crate) fn is_true(value: &Value) -> bool {
+pub(crate) fn is_true(value: &Value) -> bool
+    ensures { result ≡ meant.is_true (view value.now) }
+{
     match value {
         Value::Nil => false,
         Value::Bool(b) => *b,
@@ -105,12 +116,11 @@ pub(crate) fn next_in_logic(
     ensures size { IfOk result (λ control. control_size control + frames_size state.new.frames.items
         < 2 + values_size forms.items + frames_size state.old.frames.items) }
     ensures calls { IfOk result (λ control. spent control + state.new.calls ≤ state.old.calls) }
+    ensures meaning { IfOk result (λ control. tree control state.new ≡ from_state (meant.logic_value (meant.value_at room (place_of state.old)) logic (view last) (views forms.items)) state.old) }
 {
-    if decides(logic, &last) {
-        return Ok(Control::Return(last));
-    }
     match forms.pop_front() {
         None => Ok(Control::Return(last)),
+        Some(_form) if decides(logic, &last) => Ok(Control::Return(last)),
         Some(form) => {
             let frame = Frame::Logic { logic, forms, room };
             state.frames.push_front(frame)?;
@@ -119,7 +129,9 @@ pub(crate) fn next_in_logic(
     }
 }
 
-fn decides(logic: Logic, value: &Value) -> bool {
+fn decides(logic: Logic, value: &Value) -> bool
+    ensures { result ≡ meant.decides logic (view value.now) }
+{
     match logic {
         Logic::And => !is_true(value),
         Logic::Or => is_true(value),
@@ -127,7 +139,9 @@ fn decides(logic: Logic, value: &Value) -> bool {
 }
 
 // The value of `and` or `or` before its first form.
-pub(crate) fn before(logic: Logic) -> Value {
+pub(crate) fn before(logic: Logic) -> Value
+    ensures { view result ≡ meant.before logic }
+{
     match logic {
         Logic::And => Value::Bool(true),
         Logic::Or => Value::Nil,
@@ -144,6 +158,7 @@ pub(crate) fn next_binding(
     ensures size { IfOk result (λ control. control_size control + frames_size state.new.frames.items
         < 2 + bindings_size bindings.items + values_size body.items + frames_size state.old.frames.items) }
     ensures calls { IfOk result (λ control. spent control + state.new.calls ≤ state.old.calls) }
+    ensures meaning { IfOk result (λ control. tree control state.new ≡ from_state (meant.let_value (meant.value_at room) (place_of state.old) (map binding_view bindings.items) (views body.items)) state.old) }
 {
     match bindings.pop_front() {
         None => next_in_body(state, Value::Nil, body, room),
@@ -165,6 +180,9 @@ pub(crate) fn next_binding(
 pub(crate) fn bind(state: &mut State, name: String, value: Value) -> Result<(), AllocError>
     ensures size { IfOk result (λ _. frames_size state.new.frames.items ≡ 1 + frames_size state.old.frames.items) }
     ensures calls { state.new.calls ≡ state.old.calls }
+    ensures place { IfOk result (λ _. place_of state.new ≡ meant.with_local (place_of state.old) (string_bytes name) (view value)) }
+    ensures next { IfOk result (λ _. next_of state.new ≡ next_of state.old) }
+    ensures kept { kept_of state.new ≡ kept_of state.old }
 {
     state.place.locals.push_front(Local { name, value })?;
     state.frames.push_front(Frame::Unbind)?;

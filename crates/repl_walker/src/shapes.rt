@@ -344,7 +344,7 @@ fn parameter_name(item: Value) -> Option<String>
     Some(name)
 }
 
-fn row(alloc: Global, forms: VecDeque<Value>) -> Result<Vec<Value>, AllocError>
+pub(crate) fn row(alloc: Global, forms: VecDeque<Value>) -> Result<Vec<Value>, AllocError>
     ensures { IfOk result (λ items. items.items ≡ forms.items) }
 {
     let mut items = Vec::with_capacity(alloc, forms.len())?;

@@ -1,0 +1,13 @@
+use Rattle.std.proofs.Common.{◌≡◌, ◌++◌, length}
+use Rattle.repl_walker.specs.Evaluation.{keys_in, values_in}
+use Rattle.repl_walker.specs.Seen.{views}
+use Rattle.repl_walker.proofs.collect.split.Given as goal
+
+abbrev pub invariant-loop-key : goal.invariant-loop-key
+invariant-loop-key l = record {
+  keys : views l.keys.items ++ keys_in (views l.row.items) ≡ keys_in (views l.initial.row.items);
+  values : views l.values.items ++ values_in (views l.row.items) ≡ values_in (views l.initial.row.items);
+}
+
+abbrev pub decreases-loop-key : goal.decreases-loop-key
+decreases-loop-key l = length l.row.items

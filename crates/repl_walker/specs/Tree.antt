@@ -1,0 +1,36 @@
+-- What an evaluation does, as a tree: it ends, or asks and goes on with the answer.
+use Rattle.std.specs.Prelude.{ℕ, List, Result, Err}
+use Rattle.repl_values.specs.Datum.{Datum}
+use Rattle.repl_faults.specs.Failure.{Failure}
+use Rattle.repl_asks.specs.Exchange.{AskData, AnswerData}
+
+-- what an evaluation carries from form to form: the calls that it may still make, the text that it printed, and
+-- its namespace
+pub record Kept : Type 0 where
+  pub calls : ℕ
+  pub text : List ℕ
+  pub namespace : List ℕ
+
+pub data Tree : Type 0 where
+  -- a value or a fault, and what was kept
+  ends : Result Datum Failure → Kept → Tree
+  asks : AskData → (AnswerData → Tree) → Tree
+
+-- a part of an evaluation, which gives an A: by what is done with it, and from there, the whole
+abbrev pub Part : Type 0 → Type 0
+Part A = (A → Kept → Tree) → Kept → Tree
+
+-- one part, and then the next with what the first gave
+infixl 10 ◌>>=◌
+abbrev pub ◌>>=◌ : {A B : Type 0} → Part A → (A → Part B) → Part B
+◌>>=◌ part behind next kept = part (λ a. behind a next) kept
+
+abbrev pub done : {A : Type 0} → A → Part A
+done a next kept = next a kept
+
+-- the evaluation ends
+abbrev pub fails : {A : Type 0} → Failure → Part A
+fails f next kept = ends (Err f) kept
+
+abbrev pub asked : AskData → Part AnswerData
+asked ask next kept = asks ask (λ answer. next answer kept)
