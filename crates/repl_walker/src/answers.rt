@@ -1,8 +1,5 @@
 // An answer goes to what it was wanted for.
 ghost use Rattle.std.specs.Prelude.{◌≡◌, ◌+◌, ◌<◌, ◌≤◌, IfOk};
-ghost use Rattle.repl_values.specs.View.{view};
-ghost use Rattle.repl_asks.specs.Exchange as exchange;
-ghost use Rattle.repl_walker.specs.Machine.{answered, tree};
 ghost use Rattle.repl_walker.specs.declared.frames.State.{State};
 ghost use Rattle.repl_walker.specs.Size.{wanted_size, control_size, frames_size, spent};
 
@@ -34,7 +31,6 @@ pub(crate) fn take_answer(
 fn take_value(alloc: Global, wanted: Wanted, value: Value) -> Result<Control, AllocError>
     ensures size { IfOk result (λ control. control_size control < wanted_size wanted) }
     ensures calls { IfOk result (λ control. spent control ≡ 0) }
-    ensures meaning { IfOk result (λ control. (s : State) → tree control s ≡ answered wanted (exchange.value (view value)) s) }
 {
     match wanted {
         Wanted::Head(_forms, _room) => Ok(Control::Fault(not_a_function(alloc, &value)?)),

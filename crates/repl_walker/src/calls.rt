@@ -1,9 +1,8 @@
 // Calls: first one call is taken from the budget, then the number of arguments is checked, then the
 // function is applied.
 ghost use Rattle.std.specs.Prelude.{◌≡◌, ◌+◌, ◌<◌, ◌≤◌, [], map, string_bytes, IfOk};
-ghost use Rattle.repl_values.specs.View.{view, function_view};
 ghost use Rattle.repl_walker.specs.Evaluation as meant;
-ghost use Rattle.repl_walker.specs.Machine.{local_view, callee_view, place_of, from_state, tree};
+ghost use Rattle.repl_walker.specs.Machine.{local_view};
 ghost use Rattle.repl_walker.specs.Seen.{views};
 ghost use Rattle.repl_walker.specs.declared.frames.State.{State};
 ghost use Rattle.repl_walker.specs.Size.{control_size, frames_size, spent};
@@ -33,7 +32,6 @@ pub(crate) fn call(
     ensures size { IfOk result (λ control. control_size control + frames_size state.new.frames.items
         < 2 + frames_size state.old.frames.items) }
     ensures calls { IfOk result (λ control. spent control + state.new.calls ≤ state.old.calls) }
-    ensures meaning { IfOk result (λ control. tree control state.new ≡ from_state (meant.called (meant.value_at room) (callee_view callee) (views values.items)) state.old) }
 {
     if state.calls == 0 {
         return Ok(Control::Fault(too_many_calls(alloc)?));
@@ -56,7 +54,6 @@ fn call_core(
     ensures size { IfOk result (λ control. control_size control + frames_size state.new.frames.items
         < 2 + frames_size state.old.frames.items) }
     ensures calls { IfOk result (λ control. spent control + state.new.calls ≤ state.old.calls) }
-    ensures meaning { IfOk result (λ control. tree control state.new ≡ from_state (meant.core_call function (views values.now)) state.old) }
 {
     if !function.takes(values.len()) {
         let fault = wrong_arity(alloc, function.name(), values.len())?;
@@ -78,7 +75,6 @@ fn print(alloc: Global, state: &mut State, text: &str, value: Value) -> Result<C
     ensures size { IfOk result (λ control. control_size control + frames_size state.new.frames.items
         < 2 + frames_size state.old.frames.items) }
     ensures calls { IfOk result (λ control. spent control + state.new.calls ≤ state.old.calls) }
-    ensures meaning { IfOk result (λ control. tree control state.new ≡ from_state (meant.printed text.now (view value)) state.old) }
 {
     if state.text.len().saturating_add(text.len()) > MOST_TEXT {
         return Ok(Control::Fault(output_too_long(alloc)?));
@@ -98,7 +94,6 @@ fn call_keyword(
     ensures size { IfOk result (λ control. control_size control + frames_size state.new.frames.items
         < 2 + frames_size state.old.frames.items) }
     ensures calls { IfOk result (λ control. spent control + state.new.calls ≤ state.old.calls) }
-    ensures meaning { IfOk result (λ control. tree control state.new ≡ from_state (meant.keyword_call (string_bytes name) (views values.items)) state.old) }
 {
     if values.len() == 1 || values.len() == 2 {
         let get = CoreFunction::Map(MapFunction::Get);
@@ -132,7 +127,6 @@ fn call_function(
     room: u32,
 ) -> Result<Control, AllocError>
     ensures size { IfOk result (λ control. control_size control < 2) }
-    ensures meaning { IfOk result (λ control. (s : State) → tree control s ≡ from_state (meant.program_call (meant.value_at room) (function_view function) (views values.items)) s) }
 {
     if function.params.len() == values.len() {
         return Ok(Control::Enter(function, values, room));

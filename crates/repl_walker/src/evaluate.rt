@@ -1,10 +1,8 @@
 // The first step of a form's evaluation.
-ghost use Rattle.std.specs.Prelude.{◌≡◌, ◌+◌, ◌*◌, ◌<◌, ◌≤◌, string_bytes, IfOk};
-ghost use Rattle.repl_values.specs.View.{view, pairs_view};
+ghost use Rattle.std.specs.Prelude.{◌≡◌, ◌+◌, ◌*◌, ◌<◌, ◌≤◌, IfOk};
+ghost use Rattle.repl_values.specs.View.{pairs_view};
 ghost use Rattle.repl_walker.specs.Evaluation as meant;
-ghost use Rattle.repl_walker.specs.Machine.{items_value, list_at, place_of, from_state, tree};
 ghost use Rattle.repl_walker.specs.Seen.{views};
-ghost use Rattle.repl_walker.specs.Shapes.{special_named};
 ghost use Rattle.repl_walker.specs.Size.{value_size, values_size, pairs_size, control_size, frames_size, spent};
 
 use crate::frames::{Callee, Collection, Control, State, Wanted};
@@ -48,7 +46,6 @@ pub(crate) fn evaluate(
 fn evaluate_symbol(alloc: Global, state: &State, symbol: String) -> Result<Control, AllocError>
     ensures size { IfOk result (λ control. control_size control < 3) }
     ensures calls { IfOk result (λ control. spent control ≡ 0) }
-    ensures meaning { IfOk result (λ control. tree control state.now ≡ from_state (meant.symbol_value (place_of state.now) (string_bytes symbol)) state.now) }
 {
     match look_up(alloc, &state.place, symbol.as_str())? {
         Named::Local(value) => Ok(Control::Return(value)),
@@ -72,7 +69,6 @@ fn evaluate_items(
     ensures size { IfOk result (λ control. control_size control + frames_size state.new.frames.items
         < 2 + values_size forms.items + frames_size state.old.frames.items) }
     ensures calls { IfOk result (λ control. spent control + state.new.calls ≤ state.old.calls) }
-    ensures meaning { IfOk result (λ control. tree control state.new ≡ from_state (items_value room (place_of state.old) kind (views forms.items)) state.old) }
 {
     if room == 0 {
         return Ok(Control::Fault(too_deep(alloc)?));
@@ -106,7 +102,6 @@ fn evaluate_list(
     ensures size { IfOk result (λ control. control_size control + frames_size state.new.frames.items
         < 3 + values_size items.items + frames_size state.old.frames.items) }
     ensures calls { IfOk result (λ control. spent control + state.new.calls ≤ state.old.calls) }
-    ensures meaning { IfOk result (λ control. tree control state.new ≡ from_state (list_at room (place_of state.old) (views items.items)) state.old) }
 {
     let Some(head) = items.pop_front() else {
         return Ok(Control::Return(Value::List(Vec::new(alloc))));
@@ -136,7 +131,6 @@ fn evaluate_headed(
     ensures size { IfOk result (λ control. control_size control + frames_size state.new.frames.items
         < 3 + values_size forms.items + frames_size state.old.frames.items) }
     ensures calls { IfOk result (λ control. spent control + state.new.calls ≤ state.old.calls) }
-    ensures meaning { IfOk result (λ control. tree control state.new ≡ from_state (meant.headed_value (meant.value_at room) (place_of state.old) (string_bytes name) (views forms.items) (special_named (string_bytes name))) state.old) }
 {
     if let Some(special) = SpecialForm::named(name.as_str()) {
         return evaluate_special(alloc, state, special, forms, room);

@@ -1,9 +1,7 @@
 // The value of the innermost form goes to what waits for it.
 ghost use Rattle.std.specs.Prelude.{◌≡◌, ◌+◌, ◌<◌, ◌≤◌, string_bytes, IfOk};
-ghost use Rattle.repl_values.specs.View.{view};
 ghost use Rattle.repl_faults.specs.View.{failure_of};
 ghost use Rattle.repl_walker.specs.Evaluation as meant;
-ghost use Rattle.repl_walker.specs.Machine.{from_state, tree};
 ghost use Rattle.repl_walker.specs.declared.frames.State.{State};
 ghost use Rattle.repl_walker.specs.Size.{frame_size, control_size, frames_size, spent};
 
@@ -91,7 +89,6 @@ pub(crate) fn give(
 fn throw(alloc: Global, value: Value) -> Result<Control, AllocError>
     ensures size { IfOk result (λ control. control_size control < 2) }
     ensures calls { IfOk result (λ control. spent control ≡ 0) }
-    ensures meaning { IfOk result (λ control. (s : State) → tree control s ≡ from_state (meant.thrown_value (view value)) s) }
 {
     match value {
         Value::Fault { class, text } => Ok(Control::Fault(Fault { class, text })),
