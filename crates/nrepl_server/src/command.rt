@@ -1,9 +1,9 @@
 // The exit status of `pipe`, and its line on standard error.
 ghost use Rattle.std.specs.Prelude.{◌≡◌, ◌≤◌};
 
-use crate::config::Config;
 use crate::pipe::{PipeEnd, PipeError, pipe};
 use bencode_wire::WireFault;
+use repl_core::Config;
 use std::alloc::Global;
 use std::io::{Read, Write};
 

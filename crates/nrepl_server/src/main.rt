@@ -2,22 +2,16 @@
 #![tactic(auto)]
 
 mod command;
-mod config;
 mod pipe;
 #[cfg(test)]
 mod programs;
-mod reply;
-mod request;
-mod server;
-mod space;
 #[cfg(test)]
 mod tests;
-mod turns;
 
 use clap::Command;
 use clap::error::ErrorKind;
 use command::{bad_options, out_of_memory, pipe_command};
-use config::Config;
+use repl_core::Config;
 use std::alloc::{AllocError, Global};
 use std::process::ExitCode;
 use std::rt::Env;

@@ -3,11 +3,9 @@ ghost use Rattle.std.specs.Prelude.{◌≡◌, ◌≤◌, [], OnOk};
 ghost use Rattle.std.specs.Io.KnownBytes.{Appends, Keeps};
 ghost use Rattle.nrepl_server.specs.Written.{Grows};
 
-use crate::config::Config;
-use crate::server::Server;
-use crate::turns::{Actor, Core, Refusal, Wire};
 use bencode_wire::WireFault;
 use bytes::Bytes;
+use repl_core::{Actor, Config, Core, Refusal, Server, Wire};
 use std::alloc::{AllocError, Global};
 use std::io::{Read, Write};
 use thiserror::Error;

@@ -1,7 +1,7 @@
 // Whole streams, with failing readers and writers. The expected bytes are those of the protocol.
 use crate::command::pipe_command;
-use crate::config::Config;
 use crate::programs::PROGRAMS;
+use repl_core::Config;
 use std::io;
 use std::io::{Error, ErrorKind, Read, Write};
 use std::test::Fail;

@@ -6,12 +6,12 @@ use Rattle.repl_values.specs.Datum.{Datum, list}
 use Rattle.repl_values.specs.View.{view, items_of, pairs_view}
 use Rattle.repl_values.specs.declared.value.Value as value
 use Rattle.repl_values.proofs.Views.{value_views, view-Symbol, view-List, view-Vector, view-Map}
-use Rattle.repl_walker.proofs.Sizes.{value_size-pos, value_size-List, value_size-Vector, value_size-Map}
+use Rattle.special_forms.proofs.Sizes.{value_size-pos, value_size-List, value_size-Vector, value_size-Map}
 use Rattle.repl_walker.specs.Tree.{Kept, Tree, Part, ◌>>=◌}
 use Rattle.repl_walker.specs.Evaluation.{PlaceData, CalleeData, row, called, symbol_value, list_value, vector_value, in_a_row, value_at}
 use Rattle.repl_walker.specs.Machine.{call_behind, items_behind, collected, items_value, list_at}
-use Rattle.repl_walker.specs.Seen.{views}
-use Rattle.repl_walker.proofs.Shaping.{list_of-items}
+use Rattle.special_forms.specs.Seen.{views}
+use Rattle.special_forms.proofs.Shaping.{list_of-items}
 use Rattle.repl_walker.specs.declared.frames.Collection.{Collection}
 
 -- one more form has its value

@@ -19,9 +19,9 @@ use Rattle.core_functions.specs.declared.function.CoreFunction.{CoreFunction}
 use Rattle.repl_asks.specs.Exchange as exchange
 use Rattle.repl_asks.specs.Exchange.{AnswerData, BindingData, bound_value, bound_function}
 use Rattle.repl_walker.specs.Tree.{Kept, Tree, ends, asks, Part, ◌>>=◌, done, fails, asked}
-use Rattle.repl_walker.specs.Shapes.{is_slash, special_named, special_name, BoundForm, ShapeData, quoted, body, choice, bindings, logic, definition, function_definition, thrown, list_of, shape_of}
-use Rattle.repl_walker.specs.declared.frames.Logic.{Logic}
-use Rattle.repl_walker.specs.declared.shapes.SpecialForm.{SpecialForm}
+use Rattle.special_forms.specs.Shapes.{is_slash, special_named, special_name, BoundForm, ShapeData, quoted, body, choice, bindings, logic, definition, function_definition, thrown, list_of, shape_of}
+use Rattle.special_forms.specs.declared.shapes.Logic.{Logic}
+use Rattle.special_forms.specs.declared.shapes.SpecialForm.{SpecialForm}
 
 pub record LocalData : Type 0 where
   pub name : List ℕ

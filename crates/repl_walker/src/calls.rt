@@ -3,25 +3,23 @@
 ghost use Rattle.std.specs.Prelude.{◌≡◌, ◌+◌, ◌<◌, ◌≤◌, [], map, string_bytes, IfOk};
 ghost use Rattle.repl_walker.specs.Evaluation as meant;
 ghost use Rattle.repl_walker.specs.Machine.{local_view};
-ghost use Rattle.repl_walker.specs.Seen.{views};
-ghost use Rattle.repl_walker.specs.declared.frames.State.{State};
+ghost use Rattle.special_forms.specs.Seen.{views};
 ghost use Rattle.repl_walker.specs.Size.{control_size, frames_size, spent};
 
 use crate::frames::{Callee, Control, Frame, Local, Place, State};
 use crate::rows::next_in_body;
-use crate::shapes::row;
 use core_functions::{Applied, CoreFunction, apply};
 use core_maps::MapFunction;
 use repl_faults::{ApplyError, output_too_long, too_many_calls, wrong_arity};
 use repl_values::{Function, Value};
+use special_forms::row;
 use std::alloc::{AllocError, Global};
 use std::collections::VecDeque;
 use std::mem;
 
-/// The most that an evaluation may print, in bytes.
+// The most that an evaluation may print, in bytes.
 const MOST_TEXT: usize = 1_048_576;
 
-#[tactic(auto, unfolding(crate::specs::Evaluation::called))]
 pub(crate) fn call(
     alloc: Global,
     state: &mut State,
@@ -44,7 +42,6 @@ pub(crate) fn call(
     }
 }
 
-#[tactic(auto, unfolding(crate::specs::Evaluation::core_call))]
 fn call_core(
     alloc: Global,
     state: &mut State,
@@ -70,7 +67,6 @@ fn call_core(
 }
 
 // The value, with this text printed. Text that would pass the limit is not printed at all.
-#[tactic(auto, unfolding(crate::specs::Evaluation::printed))]
 fn print(alloc: Global, state: &mut State, text: &str, value: Value) -> Result<Control, AllocError>
     ensures size { IfOk result (λ control. control_size control + frames_size state.new.frames.items
         < 2 + frames_size state.old.frames.items) }
@@ -84,7 +80,6 @@ fn print(alloc: Global, state: &mut State, text: &str, value: Value) -> Result<C
 }
 
 // `(:name map)` and `(:name map default)` look the keyword up.
-#[tactic(auto, unfolding(crate::specs::Evaluation::keyword_call))]
 fn call_keyword(
     alloc: Global,
     state: &mut State,
@@ -119,7 +114,6 @@ fn get_arguments(alloc: Global, name: String, values: Vec<Value>) -> Result<Vec<
     row(alloc, args)
 }
 
-#[tactic(auto, unfolding(crate::specs::Evaluation::program_call))]
 fn call_function(
     alloc: Global,
     function: Function,

@@ -3,7 +3,7 @@ ghost use Rattle.std.specs.Prelude.{◌≡◌, ◌<◌, map, zip, option_map, If
 ghost use Rattle.std.specs.Option.{option_and_then};
 ghost use Rattle.repl_values.specs.View.{view, pair_view};
 ghost use Rattle.repl_walker.specs.Evaluation as meant;
-ghost use Rattle.repl_walker.specs.Seen.{views};
+ghost use Rattle.special_forms.specs.Seen.{views};
 ghost use Rattle.repl_walker.specs.Size.{control_size, spent};
 
 use crate::frames::{Collection, Control};
@@ -32,7 +32,6 @@ pub(crate) fn collected(
     }
 }
 
-#[tactic(auto, unfolding(core_functions::specs::Outcome::limited))]
 fn within_limits(alloc: Global, value: Value) -> Result<Control, AllocError>
     ensures size { IfOk result (λ control. control_size control < 2) }
     ensures calls { IfOk result (λ control. spent control ≡ 0) }

@@ -2,22 +2,23 @@
 ghost use Rattle.std.specs.Prelude.{◌≡◌, ◌+◌, ◌*◌, ◌<◌, ◌≤◌, IfOk};
 ghost use Rattle.repl_values.specs.View.{pairs_view};
 ghost use Rattle.repl_walker.specs.Evaluation as meant;
-ghost use Rattle.repl_walker.specs.Seen.{views};
-ghost use Rattle.repl_walker.specs.Size.{value_size, values_size, pairs_size, control_size, frames_size, spent};
+ghost use Rattle.special_forms.specs.Seen.{views};
+ghost use Rattle.special_forms.specs.Size.{value_size, values_size, pairs_size};
+ghost use Rattle.repl_walker.specs.Size.{control_size, frames_size, spent};
 
 use crate::frames::{Callee, Collection, Control, State, Wanted};
 use crate::names::{Named, look_up, resolve};
 use crate::rows::{next_argument, next_item};
-use crate::shapes::SpecialForm;
 use crate::special::evaluate_special;
 use repl_faults::{no_such_var, not_a_function, not_a_value, too_deep};
 use repl_values::Value;
+use special_forms::SpecialForm;
 use std::alloc::{AllocError, Global};
 use std::collections::VecDeque;
 
 // The form's value, or what has to be known first. Symbols, lists, vectors and maps apart, a form is
 // its own value. `room` is how many lists, vectors and maps may be under way inside one another.
-#[tactic(auto, using(crate::proofs::Evaluating::first_steps))]
+#[tactic(auto, using(special_forms::proofs::Sizes::sizes))]
 pub(crate) fn evaluate(
     alloc: Global,
     state: &mut State,
@@ -58,7 +59,6 @@ fn evaluate_symbol(alloc: Global, state: &State, symbol: String) -> Result<Contr
     }
 }
 
-#[tactic(auto, unfolding(crate::specs::Machine::items_behind))]
 fn evaluate_items(
     alloc: Global,
     state: &mut State,
@@ -92,7 +92,6 @@ fn in_a_row(alloc: Global, pairs: Vec<(Value, Value)>) -> Result<Vec<Value>, All
 }
 
 // A list's head is looked at first. An empty list is itself.
-#[tactic(auto, using(crate::proofs::Evaluating::steps), unfolding(crate::specs::Machine::call_behind))]
 fn evaluate_list(
     alloc: Global,
     state: &mut State,
@@ -120,7 +119,6 @@ fn evaluate_list(
 }
 
 // A special form's name at the head always is that form.
-#[tactic(auto, unfolding(crate::specs::Machine::call_behind))]
 fn evaluate_headed(
     alloc: Global,
     state: &mut State,

@@ -2,6 +2,7 @@
 use core_functions::CoreFunction;
 use repl_asks::Ask;
 use repl_values::{Fault, Function, Value};
+use special_forms::{Binding, Logic};
 use std::collections::VecDeque;
 
 // What is called.
@@ -19,20 +20,6 @@ pub(crate) enum Callee {
 pub(crate) enum Collection {
     Vector,
     Map,
-}
-
-// Whether forms in a row are evaluated up to the first that is false, or the first that is true.
-#[derive(Clone, Copy)]
-pub(crate) enum Logic {
-    And,
-    Or,
-}
-
-// A name that `let` binds, and the form of its value.
-#[derive(Drop)]
-pub(crate) struct Binding {
-    pub(crate) name: String,
-    pub(crate) form: Value,
 }
 
 // What waits for the value of the form that is evaluated. Forms that are still to be evaluated have

@@ -1,8 +1,8 @@
 // The value of the innermost form goes to what waits for it.
-ghost use Rattle.std.specs.Prelude.{◌≡◌, ◌+◌, ◌<◌, ◌≤◌, string_bytes, IfOk};
+ghost use Rattle.std.specs.Prelude.{◌≡◌, ◌+◌, ◌<◌, ◌≤◌, if◌then◌else◌, string_bytes, IfOk};
+ghost use Rattle.repl_values.specs.View.{view};
 ghost use Rattle.repl_faults.specs.View.{failure_of};
 ghost use Rattle.repl_walker.specs.Evaluation as meant;
-ghost use Rattle.repl_walker.specs.declared.frames.State.{State};
 ghost use Rattle.repl_walker.specs.Size.{frame_size, control_size, frames_size, spent};
 
 use crate::frames::{Control, Frame, State};
@@ -15,8 +15,9 @@ use repl_asks::Binding;
 use repl_faults::{thrown, too_large};
 use repl_values::{Fault, Value};
 use std::alloc::{AllocError, Global};
+use std::collections::VecDeque;
 
-/// A text of so many bytes is too large for a value.
+// A text of so many bytes is too large for a value.
 const MOST_WEIGHT: usize = 1_048_576;
 
 pub(crate) fn give(
@@ -54,11 +55,7 @@ pub(crate) fn give(
             alternative,
             room,
         } => {
-            let body = if is_true(&value) {
-                consequent
-            } else {
-                alternative
-            };
+            let body = chosen(&value, consequent, alternative);
             next_in_body(state, Value::Nil, body, room)
         }
         Frame::Logic { logic, forms, room } => next_in_logic(state, logic, value, forms, room),
@@ -84,8 +81,22 @@ pub(crate) fn give(
     }
 }
 
+// The body that a condition with this value chooses.
+fn chosen(
+    condition: &Value,
+    consequent: VecDeque<Value>,
+    alternative: VecDeque<Value>,
+) -> VecDeque<Value>
+    ensures { result ≡ (if meant.is_true (view condition.now) then consequent else alternative) }
+{
+    if is_true(condition) {
+        consequent
+    } else {
+        alternative
+    }
+}
+
 // A fault is thrown as it is, any other value by its text.
-#[tactic(auto, using(repl_values::proofs::Views::value_views))]
 fn throw(alloc: Global, value: Value) -> Result<Control, AllocError>
     ensures size { IfOk result (λ control. control_size control < 2) }
     ensures calls { IfOk result (λ control. spent control ≡ 0) }

@@ -35,7 +35,11 @@ pub struct Ending {
 }
 
 impl Ending {
-    pub(crate) fn new(end: End, text: String, namespace: String) -> Ending {
+    pub(crate) fn new(end: End, text: String, namespace: String) -> Ending
+        ensures end { result.end ≡ end }
+        ensures text { result.text ≡ text }
+        ensures namespace { result.namespace ≡ namespace }
+    {
         Ending {
             end,
             text,

@@ -16,7 +16,6 @@ mod names;
 mod resume;
 mod rows;
 mod run;
-mod shapes;
 mod special;
 
 pub use job::{End, Ending, Job, Work};

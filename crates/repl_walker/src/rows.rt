@@ -3,17 +3,18 @@ ghost use Rattle.std.specs.Prelude.{◌≡◌, ◌+◌, ◌<◌, ◌≤◌, map,
 ghost use Rattle.repl_values.specs.View.{view};
 ghost use Rattle.repl_walker.specs.Evaluation as meant;
 ghost use Rattle.repl_walker.specs.Machine.{place_of, kept_of, next_of};
-ghost use Rattle.repl_walker.specs.Size.{values_size, bindings_size, control_size, frames_size, spent};
+ghost use Rattle.special_forms.specs.Size.{values_size, bindings_size};
+ghost use Rattle.repl_walker.specs.Size.{control_size, frames_size, spent};
 
 use crate::calls::call;
 use crate::collect::collected;
-use crate::frames::{Binding, Callee, Collection, Control, Frame, Local, Logic, State};
+use crate::frames::{Callee, Collection, Control, Frame, Local, State};
 use repl_values::Value;
+use special_forms::{Binding, Logic};
 use std::alloc::{AllocError, Global};
 use std::collections::VecDeque;
 
 // The next argument is evaluated, or the function is called.
-#[tactic(auto, using(crate::proofs::Evaluating::steps))]
 pub(crate) fn next_argument(
     alloc: Global,
     state: &mut State,
@@ -42,7 +43,6 @@ pub(crate) fn next_argument(
 }
 
 // The next item of a vector or a map is evaluated, or it is made.
-#[tactic(auto, using(crate::proofs::Evaluating::steps))]
 pub(crate) fn next_item(
     alloc: Global,
     state: &mut State,

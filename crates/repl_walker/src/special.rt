@@ -1,15 +1,16 @@
 // The special forms.
 ghost use Rattle.std.specs.Prelude.{◌≡◌, ◌+◌, ◌<◌, ◌≤◌, IfOk};
-ghost use Rattle.repl_walker.specs.Shapes.{shape_of};
-ghost use Rattle.repl_walker.specs.Size.{values_size, shape_size, control_size, frames_size, spent};
+ghost use Rattle.special_forms.specs.Shapes.{shape_of};
+ghost use Rattle.special_forms.specs.Size.{values_size, shape_size};
+ghost use Rattle.repl_walker.specs.Size.{control_size, frames_size, spent};
 
 use crate::frames::{Control, Frame, State, Wanted};
 use crate::names::space;
 use crate::rows::{before, next_binding, next_in_body, next_in_logic};
-use crate::shapes::{Shape, SpecialForm, shape_of};
 use repl_asks::{Ask, Binding};
 use repl_faults::bad_form;
 use repl_values::{Function, Value};
+use special_forms::{Shape, SpecialForm, shape_of};
 use std::alloc::{AllocError, Global};
 use std::collections::VecDeque;
 

@@ -2,6 +2,9 @@
 //! alone. Messages before a fault are counted; what follows one is not read.
 #![tactic(auto)]
 
+ghost use Rattle.std.specs.Prelude.{◌≡◌, ◌+◌, length};
+ghost use Rattle.bencode_wire.specs.Decoder.{ready_of};
+
 use bencode_wire::Decoder;
 use bytes::Bytes;
 use std::alloc::Global;
@@ -14,15 +17,15 @@ const LIMIT: usize = 1_048_576;
 const PIECE: usize = 4_096;
 
 // Takes the messages that a piece made whole.
-fn take_ready(decoder: &mut Decoder) -> u64 {
-    let mut taken: u64 = 0;
-    for _ in 0..PIECE {
+fn take_ready(decoder: &mut Decoder) -> u64
+    ensures { result + length (ready_of decoder.new) ≡ length (ready_of decoder.old) }
+{
+    for taken in 0..MOST_MESSAGES {
         if decoder.next().is_none() {
             return taken;
         }
-        taken = taken.saturating_add(1);
     }
-    taken
+    MOST_MESSAGES
 }
 
 fn count_messages<R: Read>(alloc: Global, reader: &mut R) -> io::Result<u64> {

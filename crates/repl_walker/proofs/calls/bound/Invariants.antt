@@ -1,7 +1,7 @@
 use Rattle.std.proofs.Common.{◌≡◌, [], map, string_bytes, length}
 use Rattle.repl_walker.specs.Evaluation.{bound_to}
 use Rattle.repl_walker.specs.Machine.{local_view}
-use Rattle.repl_walker.specs.Seen.{views}
+use Rattle.special_forms.specs.Seen.{views}
 use Rattle.repl_walker.proofs.calls.bound.Given as goal
 
 abbrev pub invariant-loop-name : goal.invariant-loop-name

@@ -1,4 +1,4 @@
-use Rattle.repl_walker.proofs.Shaping.{item_read}
+use Rattle.repl_walker.proofs.Reading.{item_read}
 use Rattle.repl_walker.proofs.collect.at.Goals as goal
 
 pub returns : goal.returns

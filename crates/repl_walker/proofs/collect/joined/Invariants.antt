@@ -1,7 +1,7 @@
 use Rattle.std.proofs.Common.{◌≡◌, ◌++◌, map}
 use Rattle.std.specs.Prelude.{zip}
 use Rattle.repl_values.specs.View.{pair_view}
-use Rattle.repl_walker.specs.Seen.{views}
+use Rattle.special_forms.specs.Seen.{views}
 use Rattle.repl_walker.proofs.collect.joined.Given as goal
 
 abbrev pub invariant-loop-key : goal.invariant-loop-key

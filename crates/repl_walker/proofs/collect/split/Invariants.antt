@@ -1,6 +1,6 @@
 use Rattle.std.proofs.Common.{◌≡◌, ◌++◌, length}
 use Rattle.repl_walker.specs.Evaluation.{keys_in, values_in}
-use Rattle.repl_walker.specs.Seen.{views}
+use Rattle.special_forms.specs.Seen.{views}
 use Rattle.repl_walker.proofs.collect.split.Given as goal
 
 abbrev pub invariant-loop-key : goal.invariant-loop-key

@@ -1,8 +1,8 @@
 use Rattle.std.proofs.Common.{◌≡◌, ◌+◌, ◌++◌, length}
 use Rattle.repl_values.specs.View.{pairs_view}
 use Rattle.repl_walker.specs.Evaluation.{in_a_row}
-use Rattle.repl_walker.specs.Seen.{views}
-use Rattle.repl_walker.specs.Size.{values_size, pairs_size}
+use Rattle.special_forms.specs.Seen.{views}
+use Rattle.special_forms.specs.Size.{values_size, pairs_size}
 use Rattle.repl_walker.proofs.evaluate.in_a_row.Given as goal
 
 abbrev pub invariant-loop-pair : goal.invariant-loop-pair

@@ -1,0 +1,6 @@
+//! The special forms of the language, and the shapes that they have.
+#![tactic(auto)]
+
+mod shapes;
+
+pub use shapes::{Binding, Logic, Shape, SpecialForm, row, shape_of};
