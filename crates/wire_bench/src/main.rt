@@ -10,11 +10,14 @@ use bytes::Bytes;
 use std::alloc::Global;
 use std::io::{self, Read};
 
-/// The greatest length of a message, and of a string in one.
+// The greatest length of a message, and of a string in one.
 const LIMIT: usize = 1_048_576;
 
-/// The greatest length of a piece. It bounds how many messages one piece can end.
+// The greatest length of a piece.
 const PIECE: usize = 4_096;
+
+// A piece ends no more messages than it has bytes.
+const MOST_MESSAGES: u64 = 4_096;
 
 // Takes the messages that a piece made whole.
 fn take_ready(decoder: &mut Decoder) -> u64
