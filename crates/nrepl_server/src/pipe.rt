@@ -10,7 +10,7 @@ use std::alloc::{AllocError, Global};
 use std::io::{Read, Write};
 use thiserror::Error;
 
-/// The greatest length of a piece.
+// The greatest length of a piece.
 const PIECE: usize = 4_096;
 
 /// How a stream that was served to its end ended.

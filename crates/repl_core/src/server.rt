@@ -14,10 +14,10 @@ use repl_walker::{End, Ending, Job, Progress, Work, start};
 use std::alloc::{AllocError, Global};
 use std::collections::VecDeque;
 
-/// The greatest length of a message, and of a string in one.
+// The greatest length of a message, and of a string in one.
 const MESSAGE_LIMIT: usize = 1_048_576;
 
-/// So many waiting replies hold back whatever may add more.
+// So many waiting replies hold back whatever may add more.
 const OUTBOX_LIMIT: usize = 1_024;
 
 #[derive(Drop)]

@@ -13,10 +13,10 @@ use repl_values::{Function, Value, copy};
 use std::alloc::{AllocError, Global};
 use std::collections::VecDeque;
 
-/// How many calls an evaluation may make.
+// How many calls an evaluation may make.
 const CALLS: u32 = 10_000;
 
-/// How many lists, vectors and maps may be under way inside one another.
+// How many lists, vectors and maps may be under way inside one another.
 const ROOM: u32 = 200;
 
 /// An evaluation that waits for the answer to its last ask.
