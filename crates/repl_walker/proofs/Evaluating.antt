@@ -1,18 +1,23 @@
 -- Forms in a row, of which some have values already.
 use mathlib.Core.Path.{fun_ext}
-use Rattle.std.proofs.Common.{◌≡◌, ℕ, List, [], ◌∷◌, ◌++◌, refl, sym, ap, ◌∙◌, append_assoc, append-nil, map, zero, suc, String, Vec, Global, string_bytes}
+use Rattle.std.specs.declared.collections.VecDeque.{VecDeque}
+use Rattle.std.proofs.Common.{◌≡◌, ℕ, Bool, true, false, if◌then◌else◌, Result, Ok, Err, IfOk, List, [], ◌∷◌, ◌++◌, refl, sym, ap, ◌∙◌, append_assoc, append-nil, map, zero, suc, String, Vec, Global, string_bytes}
 use Rattle.std.proofs.lemmas.List.{map-append}
-use Rattle.repl_values.specs.Datum.{Datum, list}
+use Rattle.repl_values.specs.Datum.{Datum, FunctionData, list}
 use Rattle.repl_values.specs.View.{view, items_of, pairs_view}
 use Rattle.repl_values.specs.declared.value.Value as value
 use Rattle.repl_values.proofs.Views.{value_views, view-Symbol, view-List, view-Vector, view-Map}
 use Rattle.special_forms.proofs.Sizes.{value_size-pos, value_size-List, value_size-Vector, value_size-Map}
-use Rattle.repl_walker.specs.Tree.{Kept, Tree, Part, ◌>>=◌}
-use Rattle.repl_walker.specs.Evaluation.{PlaceData, CalleeData, row, called, symbol_value, list_value, vector_value, in_a_row, value_at}
-use Rattle.repl_walker.specs.Machine.{call_behind, items_behind, collected, items_value, list_at}
+use Rattle.repl_walker.specs.Tree.{Kept, Tree, ends, Part, ◌>>=◌, done}
+use Rattle.repl_walker.specs.Evaluation.{PlaceData, CalleeData, core_callee, program_callee, row, call_value, called, symbol_value, list_value, vector_value, in_a_row, value_at}
+use Rattle.repl_walker.specs.Machine.{kept_of, answered, answered_by, call_behind, items_behind, collected, items_value, list_at}
 use Rattle.special_forms.specs.Seen.{views}
 use Rattle.special_forms.proofs.Shaping.{list_of-items}
 use Rattle.repl_walker.specs.declared.frames.Collection.{Collection}
+use Rattle.repl_walker.specs.declared.frames.State.{State}
+use Rattle.repl_walker.specs.declared.frames.Wanted.{Wanted}
+use Rattle.repl_asks.specs.Exchange as exchange
+use Rattle.core_functions.specs.declared.function.CoreFunction.{CoreFunction}
 
 -- one more form has its value
 row_step : (walk : Datum → Part Datum) (then_ : List Datum → Kept → Tree) (values : List Datum) (d : Datum) (ds : List Datum)
@@ -65,3 +70,37 @@ value_at-Map zero p ps = rw (view-Map ps) refl
 value_at-Map (suc room) p ps = rw (view-Map ps) refl
 
 pub ruleset first_steps = (value_at-Symbol, value_at-List, value_at-Vector, value_at-Map, value_size-pos, value_size-List, value_size-Vector, value_size-Map)
+
+-- whatever a fault was wanted for, it is the end
+pub answered-fault : (w : Wanted) (class text : List ℕ) (s : State) → answered w (exchange.fault class text) s ≡ ends (Err (record { class = class; text = text })) (kept_of s)
+answered-fault (Wanted.SymbolValue name) class text s = refl
+answered-fault (Wanted.Head forms room) class text s = refl
+answered-fault (Wanted.Definition name) class text s = refl
+
+pub answered-core : (w : Wanted) (f : CoreFunction) (s : State) → answered w (exchange.core_function f) s ≡ answered_by w (core_callee f) s
+answered-core (Wanted.SymbolValue name) f s = refl
+answered-core (Wanted.Head forms room) f s = refl
+answered-core (Wanted.Definition name) f s = refl
+
+pub answered-function : (w : Wanted) (f : FunctionData) (s : State) → answered w (exchange.function f) s ≡ answered_by w (program_callee f) s
+answered-function (Wanted.SymbolValue name) f s = refl
+answered-function (Wanted.Head forms room) f s = refl
+answered-function (Wanted.Definition name) f s = refl
+
+pub ruleset answers = (answered-fault, answered-core, answered-function)
+
+-- what comes next is the one, and so the other
+pub if_ok-turned : {A E : Type 0} (F : A → Tree) {t u : Tree} (r : Result A E) → t ≡ u → IfOk r (λ a. F a ≡ t) → IfOk r (λ a. F a ≡ u)
+if_ok-turned F (Ok a) turned h = h ∙ turned
+if_ok-turned F (Err e) turned h = tt
+
+-- no argument has its value yet
+pub call_start : (room : ℕ) (p : PlaceData) (callee : CalleeData) (ds : List Datum) (next : Datum → Kept → Tree)
+    → call_behind room p callee [] ds next ≡ call_value (value_at room) p ds callee next
+unfolding call_behind
+call_start room p callee ds next = refl
+
+pub views-chosen : (b : Bool) (consequent alternative body : VecDeque value.Value Global) → body ≡ (if b then consequent else alternative)
+    → views body.items ≡ (if b then views consequent.items else views alternative.items)
+views-chosen true consequent alternative body chosen = ap (λ (q : VecDeque value.Value Global). views q.items) chosen
+views-chosen false consequent alternative body chosen = ap (λ (q : VecDeque value.Value Global). views q.items) chosen

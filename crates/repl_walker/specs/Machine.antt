@@ -6,7 +6,7 @@ use Rattle.repl_faults.specs.Failure as failures
 use Rattle.repl_faults.specs.View.{failure_of}
 use Rattle.repl_asks.specs.Exchange.{AnswerData, bound_value}
 use Rattle.repl_asks.specs.View.{ask_view}
-use Rattle.repl_walker.specs.Tree.{Kept, Tree, ends, asks, Part, ◌>>=◌, done, fails}
+use Rattle.repl_walker.specs.Tree.{Kept, Tree, finished, ends, asks, Part, ◌>>=◌, done, fails}
 use Rattle.repl_walker.specs.Evaluation.{PlaceData, LocalData, with_local, CalleeData, core_callee, program_callee, keyword_callee, NamedData, a_local, a_core_function, no_core_function, elsewhere, answered_value, answered_callee, row, last_of, called, call_value, body_value, is_true, logic_value, let_value, defined, thrown_value, list_value, vector_value, map_value, value_at}
 use Rattle.special_forms.specs.Seen.{views, binding_view}
 use Rattle.repl_walker.specs.declared.frames.Local.{Local}
@@ -18,6 +18,10 @@ use Rattle.repl_walker.specs.declared.frames.State.{State}
 use Rattle.repl_walker.specs.declared.frames.Wanted.{Wanted}
 use Rattle.repl_walker.specs.declared.frames.Control.{Control}
 use Rattle.repl_walker.specs.declared.names.Named.{Named}
+use Rattle.repl_walker.specs.Job.{end_view, ending_view}
+use Rattle.repl_walker.specs.declared.resume.Leg.{Leg}
+use Rattle.repl_walker.specs.declared.resume.Walk.{Walk}
+use Rattle.repl_walker.specs.declared.resume.Progress.{Progress}
 
 abbrev pub local_view : Local → LocalData
 local_view l = record { name = string_bytes l.name; bound = view l.value }
@@ -116,3 +120,17 @@ abbrev pub answered_by : Wanted → CalleeData → State → Tree
 answered_by (Wanted.SymbolValue name) callee s = ends (Err (failures.not_a_value (string_bytes name))) (kept_of s)
 answered_by (Wanted.Head forms room) callee s = from_state (call_value (value_at room) (place_of s) (views forms.items) callee) s
 answered_by (Wanted.Definition name) callee s = ends (Err (failures.not_a_value (string_bytes name))) (kept_of s)
+
+abbrev pub leg_tree : Leg → State → Tree
+leg_tree (Leg.Asks ask wanted) s = asks (ask_view ask) (λ answer. answered wanted answer s)
+leg_tree (Leg.Enters f values room) s = from_state (body_value (value_at room) (function_view f) (views values.items)) s
+leg_tree (Leg.Ends end) s = ends (end_view end) (kept_of s)
+
+-- what an evaluation does with the answer that it waits for
+abbrev pub behind : Walk → AnswerData → Tree
+behind w answer = answered w.wanted answer w.state
+
+-- what an evaluation that came so far has still to do
+abbrev pub progress_tree : Progress → Tree
+progress_tree (Progress.Asks w ask) = asks (ask_view ask) (λ answer. behind w answer)
+progress_tree (Progress.Ends ending) = finished (ending_view ending)

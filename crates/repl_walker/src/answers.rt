@@ -1,5 +1,10 @@
 // An answer goes to what it was wanted for.
 ghost use Rattle.std.specs.Prelude.{◌≡◌, ◌+◌, ◌<◌, ◌≤◌, IfOk};
+ghost use Rattle.repl_values.specs.View.{view};
+ghost use Rattle.repl_asks.specs.Exchange as exchange;
+ghost use Rattle.repl_asks.specs.View.{answer_view};
+ghost use Rattle.repl_walker.specs.Machine.{answered, answered_by, callee_view, tree};
+ghost use Rattle.repl_walker.specs.declared.frames.State.{State};
 ghost use Rattle.repl_walker.specs.declared.frames.State.{State};
 ghost use Rattle.repl_walker.specs.Size.{wanted_size, control_size, frames_size, spent};
 
@@ -10,6 +15,7 @@ use repl_faults::{not_a_function, not_a_value};
 use repl_values::Value;
 use std::alloc::{AllocError, Global};
 
+#[tactic(auto, using(crate::proofs::Evaluating::answers))]
 pub(crate) fn take_answer(
     alloc: Global,
     state: &mut State,
@@ -19,6 +25,7 @@ pub(crate) fn take_answer(
     ensures size { IfOk result (λ control. control_size control + frames_size state.new.frames.items
         < wanted_size wanted + frames_size state.old.frames.items) }
     ensures calls { IfOk result (λ control. spent control + state.new.calls ≤ state.old.calls) }
+    ensures meaning { IfOk result (λ control. tree control state.new ≡ answered wanted (answer_view answer) state.old) }
 {
     match answer {
         Answer::Fault(fault) => Ok(Control::Fault(fault)),
@@ -31,6 +38,7 @@ pub(crate) fn take_answer(
 fn take_value(alloc: Global, wanted: Wanted, value: Value) -> Result<Control, AllocError>
     ensures size { IfOk result (λ control. control_size control < wanted_size wanted) }
     ensures calls { IfOk result (λ control. spent control ≡ 0) }
+    ensures meaning { IfOk result (λ control. (s : State) → tree control s ≡ answered wanted (exchange.value (view value)) s) }
 {
     match wanted {
         Wanted::Head(_forms, _room) => Ok(Control::Fault(not_a_function(alloc, &value)?)),
@@ -39,6 +47,7 @@ fn take_value(alloc: Global, wanted: Wanted, value: Value) -> Result<Control, Al
     }
 }
 
+#[tactic(auto, unfolding(crate::specs::Machine::call_behind))]
 fn take_callee(
     alloc: Global,
     state: &mut State,
@@ -48,6 +57,7 @@ fn take_callee(
     ensures size { IfOk result (λ control. control_size control + frames_size state.new.frames.items
         < wanted_size wanted + frames_size state.old.frames.items) }
     ensures calls { IfOk result (λ control. spent control + state.new.calls ≤ state.old.calls) }
+    ensures meaning { IfOk result (λ control. tree control state.new ≡ answered_by wanted (callee_view callee) state.old) }
 {
     match wanted {
         Wanted::Head(forms, room) => {

@@ -2,7 +2,9 @@
 // function is applied.
 ghost use Rattle.std.specs.Prelude.{◌≡◌, ◌+◌, ◌<◌, ◌≤◌, [], map, string_bytes, IfOk};
 ghost use Rattle.repl_walker.specs.Evaluation as meant;
-ghost use Rattle.repl_walker.specs.Machine.{local_view};
+ghost use Rattle.repl_values.specs.View.{view, function_view};
+ghost use Rattle.repl_walker.specs.Machine.{local_view, callee_view, place_of, from_state, tree};
+ghost use Rattle.repl_walker.specs.declared.frames.State.{State};
 ghost use Rattle.special_forms.specs.Seen.{views};
 ghost use Rattle.repl_walker.specs.Size.{control_size, frames_size, spent};
 
@@ -20,6 +22,7 @@ use std::mem;
 // The most that an evaluation may print, in bytes.
 const MOST_TEXT: usize = 1_048_576;
 
+#[tactic(auto, unfolding(crate::specs::Evaluation::called))]
 pub(crate) fn call(
     alloc: Global,
     state: &mut State,
@@ -30,6 +33,7 @@ pub(crate) fn call(
     ensures size { IfOk result (λ control. control_size control + frames_size state.new.frames.items
         < 2 + frames_size state.old.frames.items) }
     ensures calls { IfOk result (λ control. spent control + state.new.calls ≤ state.old.calls) }
+    ensures meaning { IfOk result (λ control. tree control state.new ≡ from_state (meant.called (meant.value_at room) (callee_view callee) (views values.items)) state.old) }
 {
     if state.calls == 0 {
         return Ok(Control::Fault(too_many_calls(alloc)?));
@@ -42,6 +46,7 @@ pub(crate) fn call(
     }
 }
 
+#[tactic(auto, unfolding(crate::specs::Evaluation::core_call))]
 fn call_core(
     alloc: Global,
     state: &mut State,
@@ -51,6 +56,7 @@ fn call_core(
     ensures size { IfOk result (λ control. control_size control + frames_size state.new.frames.items
         < 2 + frames_size state.old.frames.items) }
     ensures calls { IfOk result (λ control. spent control + state.new.calls ≤ state.old.calls) }
+    ensures meaning { IfOk result (λ control. tree control state.new ≡ from_state (meant.core_call function (views values.now)) state.old) }
 {
     if !function.takes(values.len()) {
         let fault = wrong_arity(alloc, function.name(), values.len())?;
@@ -67,10 +73,12 @@ fn call_core(
 }
 
 // The value, with this text printed. Text that would pass the limit is not printed at all.
+#[tactic(auto, unfolding(crate::specs::Evaluation::printed))]
 fn print(alloc: Global, state: &mut State, text: &str, value: Value) -> Result<Control, AllocError>
     ensures size { IfOk result (λ control. control_size control + frames_size state.new.frames.items
         < 2 + frames_size state.old.frames.items) }
     ensures calls { IfOk result (λ control. spent control + state.new.calls ≤ state.old.calls) }
+    ensures meaning { IfOk result (λ control. tree control state.new ≡ from_state (meant.printed text.now (view value)) state.old) }
 {
     if state.text.len().saturating_add(text.len()) > MOST_TEXT {
         return Ok(Control::Fault(output_too_long(alloc)?));
@@ -80,6 +88,7 @@ fn print(alloc: Global, state: &mut State, text: &str, value: Value) -> Result<C
 }
 
 // `(:name map)` and `(:name map default)` look the keyword up.
+#[tactic(auto, unfolding(crate::specs::Evaluation::keyword_call))]
 fn call_keyword(
     alloc: Global,
     state: &mut State,
@@ -89,6 +98,7 @@ fn call_keyword(
     ensures size { IfOk result (λ control. control_size control + frames_size state.new.frames.items
         < 2 + frames_size state.old.frames.items) }
     ensures calls { IfOk result (λ control. spent control + state.new.calls ≤ state.old.calls) }
+    ensures meaning { IfOk result (λ control. tree control state.new ≡ from_state (meant.keyword_call (string_bytes name) (views values.items)) state.old) }
 {
     if values.len() == 1 || values.len() == 2 {
         let get = CoreFunction::Map(MapFunction::Get);
@@ -114,6 +124,7 @@ fn get_arguments(alloc: Global, name: String, values: Vec<Value>) -> Result<Vec<
     row(alloc, args)
 }
 
+#[tactic(auto, unfolding(crate::specs::Evaluation::program_call))]
 fn call_function(
     alloc: Global,
     function: Function,
@@ -121,6 +132,7 @@ fn call_function(
     room: u32,
 ) -> Result<Control, AllocError>
     ensures size { IfOk result (λ control. control_size control < 2) }
+    ensures meaning { IfOk result (λ control. (s : State) → tree control s ≡ from_state (meant.program_call (meant.value_at room) (function_view function) (views values.items)) s) }
 {
     if function.params.len() == values.len() {
         return Ok(Control::Enter(function, values, room));
@@ -141,6 +153,7 @@ pub(crate) fn enter(
     room: u32,
 ) -> Result<Control, AllocError>
     ensures calls { IfOk result (λ control. spent control + state.new.calls ≤ state.old.calls) }
+    ensures meaning { IfOk result (λ control. tree control state.new ≡ from_state (meant.body_value (meant.value_at room) (function_view function) (views values.items)) state.old) }
 {
     let Function {
         space,

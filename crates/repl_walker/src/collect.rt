@@ -3,6 +3,9 @@ ghost use Rattle.std.specs.Prelude.{◌≡◌, ◌<◌, map, zip, option_map, If
 ghost use Rattle.std.specs.Option.{option_and_then};
 ghost use Rattle.repl_values.specs.View.{view, pair_view};
 ghost use Rattle.repl_walker.specs.Evaluation as meant;
+ghost use Rattle.repl_walker.specs.Machine.{from_state, tree};
+ghost use Rattle.repl_walker.specs.Machine as machine;
+ghost use Rattle.repl_walker.specs.declared.frames.State.{State};
 ghost use Rattle.special_forms.specs.Seen.{views};
 ghost use Rattle.repl_walker.specs.Size.{control_size, spent};
 
@@ -25,6 +28,7 @@ pub(crate) fn collected(
 ) -> Result<Control, AllocError>
     ensures size { IfOk result (λ control. control_size control < 2) }
     ensures calls { IfOk result (λ control. spent control ≡ 0) }
+    ensures meaning { IfOk result (λ control. (s : State) → tree control s ≡ from_state (machine.collected kind (views values.items)) s) }
 {
     match kind {
         Collection::Vector => within_limits(alloc, Value::Vector(values)),
@@ -32,9 +36,11 @@ pub(crate) fn collected(
     }
 }
 
+#[tactic(auto, unfolding(core_functions::specs::Outcome::limited))]
 fn within_limits(alloc: Global, value: Value) -> Result<Control, AllocError>
     ensures size { IfOk result (λ control. control_size control < 2) }
     ensures calls { IfOk result (λ control. spent control ≡ 0) }
+    ensures meaning { IfOk result (λ control. (s : State) → tree control s ≡ from_state (meant.within_limits (view value)) s) }
 {
     if weight(&value) > MAX_WEIGHT || nesting(&value) > MAX_NESTING {
         return Ok(Control::Fault(too_large(alloc)?));
@@ -46,6 +52,7 @@ fn within_limits(alloc: Global, value: Value) -> Result<Control, AllocError>
 fn map_of(alloc: Global, values: Vec<Value>) -> Result<Control, AllocError>
     ensures size { IfOk result (λ control. control_size control < 2) }
     ensures calls { IfOk result (λ control. spent control ≡ 0) }
+    ensures meaning { IfOk result (λ control. (s : State) → tree control s ≡ from_state (meant.map_value (views values.items)) s) }
 {
     let halves = split(alloc, values)?;
     let repeated = first_repeated(alloc, halves.keys.as_slice())?;

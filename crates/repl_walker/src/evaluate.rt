@@ -1,8 +1,10 @@
 // The first step of a form's evaluation.
-ghost use Rattle.std.specs.Prelude.{◌≡◌, ◌+◌, ◌*◌, ◌<◌, ◌≤◌, IfOk};
-ghost use Rattle.repl_values.specs.View.{pairs_view};
+ghost use Rattle.std.specs.Prelude.{◌≡◌, ◌+◌, ◌*◌, ◌<◌, ◌≤◌, string_bytes, IfOk};
+ghost use Rattle.repl_values.specs.View.{view, pairs_view};
 ghost use Rattle.repl_walker.specs.Evaluation as meant;
+ghost use Rattle.repl_walker.specs.Machine.{items_value, list_at, place_of, from_state, tree};
 ghost use Rattle.special_forms.specs.Seen.{views};
+ghost use Rattle.special_forms.specs.Shapes.{special_named};
 ghost use Rattle.special_forms.specs.Size.{value_size, values_size, pairs_size};
 ghost use Rattle.repl_walker.specs.Size.{control_size, frames_size, spent};
 
@@ -18,7 +20,7 @@ use std::collections::VecDeque;
 
 // The form's value, or what has to be known first. Symbols, lists, vectors and maps apart, a form is
 // its own value. `room` is how many lists, vectors and maps may be under way inside one another.
-#[tactic(auto, using(special_forms::proofs::Sizes::sizes))]
+#[tactic(auto, using(crate::proofs::Evaluating::first_steps))]
 pub(crate) fn evaluate(
     alloc: Global,
     state: &mut State,
@@ -28,6 +30,7 @@ pub(crate) fn evaluate(
     ensures size { IfOk result (λ control. control_size control + frames_size state.new.frames.items
         < 3 * value_size form + frames_size state.old.frames.items) }
     ensures calls { IfOk result (λ control. spent control + state.new.calls ≤ state.old.calls) }
+    ensures meaning { IfOk result (λ control. tree control state.new ≡ from_state (meant.value_at room (place_of state.old) (view form)) state.old) }
 {
     match form {
         Value::Symbol(symbol) => evaluate_symbol(alloc, state, symbol),
@@ -47,6 +50,7 @@ pub(crate) fn evaluate(
 fn evaluate_symbol(alloc: Global, state: &State, symbol: String) -> Result<Control, AllocError>
     ensures size { IfOk result (λ control. control_size control < 3) }
     ensures calls { IfOk result (λ control. spent control ≡ 0) }
+    ensures meaning { IfOk result (λ control. tree control state.now ≡ from_state (meant.symbol_value (place_of state.now) (string_bytes symbol)) state.now) }
 {
     match look_up(alloc, &state.place, symbol.as_str())? {
         Named::Local(value) => Ok(Control::Return(value)),
@@ -59,6 +63,7 @@ fn evaluate_symbol(alloc: Global, state: &State, symbol: String) -> Result<Contr
     }
 }
 
+#[tactic(auto, unfolding(crate::specs::Machine::items_behind))]
 fn evaluate_items(
     alloc: Global,
     state: &mut State,
@@ -69,6 +74,7 @@ fn evaluate_items(
     ensures size { IfOk result (λ control. control_size control + frames_size state.new.frames.items
         < 2 + values_size forms.items + frames_size state.old.frames.items) }
     ensures calls { IfOk result (λ control. spent control + state.new.calls ≤ state.old.calls) }
+    ensures meaning { IfOk result (λ control. tree control state.new ≡ from_state (items_value room (place_of state.old) kind (views forms.items)) state.old) }
 {
     if room == 0 {
         return Ok(Control::Fault(too_deep(alloc)?));
@@ -92,6 +98,7 @@ fn in_a_row(alloc: Global, pairs: Vec<(Value, Value)>) -> Result<Vec<Value>, All
 }
 
 // A list's head is looked at first. An empty list is itself.
+#[tactic(auto, using(crate::proofs::Evaluating::steps), unfolding(crate::specs::Machine::call_behind))]
 fn evaluate_list(
     alloc: Global,
     state: &mut State,
@@ -101,6 +108,7 @@ fn evaluate_list(
     ensures size { IfOk result (λ control. control_size control + frames_size state.new.frames.items
         < 3 + values_size items.items + frames_size state.old.frames.items) }
     ensures calls { IfOk result (λ control. spent control + state.new.calls ≤ state.old.calls) }
+    ensures meaning { IfOk result (λ control. tree control state.new ≡ from_state (list_at room (place_of state.old) (views items.items)) state.old) }
 {
     let Some(head) = items.pop_front() else {
         return Ok(Control::Return(Value::List(Vec::new(alloc))));
@@ -119,6 +127,7 @@ fn evaluate_list(
 }
 
 // A special form's name at the head always is that form.
+#[tactic(auto, unfolding(crate::specs::Machine::call_behind))]
 fn evaluate_headed(
     alloc: Global,
     state: &mut State,
@@ -129,6 +138,7 @@ fn evaluate_headed(
     ensures size { IfOk result (λ control. control_size control + frames_size state.new.frames.items
         < 3 + values_size forms.items + frames_size state.old.frames.items) }
     ensures calls { IfOk result (λ control. spent control + state.new.calls ≤ state.old.calls) }
+    ensures meaning { IfOk result (λ control. tree control state.new ≡ from_state (meant.headed_value (meant.value_at room) (place_of state.old) (string_bytes name) (views forms.items) (special_named (string_bytes name))) state.old) }
 {
     if let Some(special) = SpecialForm::named(name.as_str()) {
         return evaluate_special(alloc, state, special, forms, room);

@@ -1,8 +1,10 @@
 // The value of the innermost form goes to what waits for it.
-ghost use Rattle.std.specs.Prelude.{◌≡◌, ◌+◌, ◌<◌, ◌≤◌, if◌then◌else◌, string_bytes, IfOk};
+ghost use Rattle.std.specs.Prelude.{◌≡◌, ◌+◌, ◌<◌, ◌≤◌, ◌∷◌, if◌then◌else◌, string_bytes, IfOk};
 ghost use Rattle.repl_values.specs.View.{view};
 ghost use Rattle.repl_faults.specs.View.{failure_of};
 ghost use Rattle.repl_walker.specs.Evaluation as meant;
+ghost use Rattle.repl_walker.specs.Machine.{frames_next, place_of, kept_of, from_state, tree};
+ghost use Rattle.repl_walker.specs.declared.frames.State.{State};
 ghost use Rattle.repl_walker.specs.Size.{frame_size, control_size, frames_size, spent};
 
 use crate::frames::{Control, Frame, State};
@@ -29,6 +31,7 @@ pub(crate) fn give(
     ensures size { IfOk result (λ control. control_size control + frames_size state.new.frames.items
         < 1 + frame_size frame + frames_size state.old.frames.items) }
     ensures calls { IfOk result (λ control. spent control + state.new.calls ≤ state.old.calls) }
+    ensures meaning { IfOk result (λ control. tree control state.new ≡ frames_next (frame ∷ state.old.frames.items) (place_of state.old) (view value) (kept_of state.old)) }
 {
     match frame {
         Frame::Arguments {
@@ -55,7 +58,7 @@ pub(crate) fn give(
             alternative,
             room,
         } => {
-            let body = chosen(&value, consequent, alternative);
+            let body = chosen(value, consequent, alternative);
             next_in_body(state, Value::Nil, body, room)
         }
         Frame::Logic { logic, forms, room } => next_in_logic(state, logic, value, forms, room),
@@ -83,13 +86,13 @@ pub(crate) fn give(
 
 // The body that a condition with this value chooses.
 fn chosen(
-    condition: &Value,
+    condition: Value,
     consequent: VecDeque<Value>,
     alternative: VecDeque<Value>,
 ) -> VecDeque<Value>
-    ensures { result ≡ (if meant.is_true (view condition.now) then consequent else alternative) }
+    ensures { result ≡ (if meant.is_true (view condition) then consequent else alternative) }
 {
-    if is_true(condition) {
+    if is_true(&condition) {
         consequent
     } else {
         alternative
@@ -97,9 +100,11 @@ fn chosen(
 }
 
 // A fault is thrown as it is, any other value by its text.
+#[tactic(auto, using(repl_values::proofs::Views::value_views))]
 fn throw(alloc: Global, value: Value) -> Result<Control, AllocError>
     ensures size { IfOk result (λ control. control_size control < 2) }
     ensures calls { IfOk result (λ control. spent control ≡ 0) }
+    ensures meaning { IfOk result (λ control. (s : State) → tree control s ≡ from_state (meant.thrown_value (view value)) s) }
 {
     match value {
         Value::Fault { class, text } => Ok(Control::Fault(Fault { class, text })),

@@ -1,5 +1,7 @@
 // What is evaluated, and how it ends.
 ghost use Rattle.std.specs.Prelude.{◌≡◌};
+ghost use Rattle.repl_values.specs.View.{view};
+ghost use Rattle.repl_walker.specs.Work.{form_of};
 
 use repl_values::{Fault, Value};
 
@@ -7,6 +9,15 @@ use repl_values::{Fault, Value};
 #[derive(Debug, Drop)]
 pub enum Work {
     Form(Value),
+}
+
+impl Work {
+    pub(crate) fn form(&self) -> &Value
+        ensures { view result.now ≡ form_of self.now }
+    {
+        let Work::Form(form) = self;
+        form
+    }
 }
 
 /// An evaluation: its work, the namespace in which it begins, and how many attempts a transaction

@@ -1,5 +1,9 @@
 // An evaluation, from one ask to the next.
 ghost use Rattle.std.specs.Prelude.{◌≡◌, ◌+◌, ◌<◌, ◌≤◌, ◌⊎◌, IfOk};
+ghost use Rattle.repl_asks.specs.View.{answer_view};
+ghost use Rattle.repl_walker.specs.Tree.{ends};
+ghost use Rattle.repl_walker.specs.Job.{evaluation_of, end_view};
+ghost use Rattle.repl_walker.specs.Machine.{tree, leg_tree, behind, progress_tree, kept_of};
 ghost use Rattle.repl_walker.specs.Size.{control_size, frames_size, walk_size, progress_size, progress_calls, leg_size, leg_spent, spent};
 
 use crate::answers::take_answer;
@@ -7,7 +11,7 @@ use crate::calls::enter;
 use crate::evaluate::evaluate;
 use crate::frames::{Control, Place, State, Wanted};
 use crate::give::give;
-use crate::job::{End, Ending, Job, Work};
+use crate::job::{End, Ending, Job};
 use repl_asks::{Answer, Ask};
 use repl_values::{Function, Value, copy};
 use std::alloc::{AllocError, Global};
@@ -55,7 +59,8 @@ enum Leg {
 
 /// Begins the job, up to its first ask or its end. It fails only for want of memory.
 pub fn start(alloc: Global, job: &Job) -> Result<Progress, AllocError>
-    ensures { IfOk result (λ progress. progress_calls progress ≤ CALLS) }
+    ensures meaning { IfOk result (λ progress. progress_tree progress ≡ evaluation_of job.now) }
+    ensures calls { IfOk result (λ progress. progress_calls progress ≤ CALLS) }
 {
     let state = State {
         frames: VecDeque::new(alloc),
@@ -67,13 +72,14 @@ pub fn start(alloc: Global, job: &Job) -> Result<Progress, AllocError>
         namespace: String::from_str(alloc, job.namespace.as_str())?,
         text: String::new(alloc),
     };
-    let Work::Form(form) = &job.work;
-    go_on(alloc, state, Control::Evaluate(copy(alloc, form)?, ROOM))
+    let form = copy(alloc, job.work.form())?;
+    go_on(alloc, state, Control::Evaluate(form, ROOM))
 }
 
 impl Walk {
     /// Goes on with this answer, up to the next ask or the end. It fails only for want of memory.
     pub fn resume(self, alloc: Global, answer: Answer) -> Result<Progress, AllocError>
+        ensures meaning { IfOk result (λ progress. progress_tree progress ≡ behind self (answer_view answer)) }
         ensures calls { IfOk result (λ progress. progress_calls progress ≤ self.state.calls) }
         ensures falls { IfOk result (λ progress. (progress_calls progress < self.state.calls) ⊎ (progress_size progress < walk_size self)) }
     {
@@ -85,6 +91,7 @@ impl Walk {
 
 // Each further leg has taken a call from the budget.
 fn go_on(alloc: Global, state: State, control: Control) -> Result<Progress, AllocError>
+    ensures meaning { IfOk result (λ progress. progress_tree progress ≡ tree control state) }
     ensures calls { IfOk result (λ progress. progress_calls progress ≤ spent control + state.calls) }
     ensures falls { IfOk result (λ progress. (progress_calls progress < spent control + state.calls)
         ⊎ (progress_size progress ≤ control_size control + frames_size state.frames.items)) }
@@ -103,6 +110,7 @@ fn go_on(alloc: Global, state: State, control: Control) -> Result<Progress, Allo
 }
 
 fn run_leg(alloc: Global, state: &mut State, control: Control) -> Result<Leg, AllocError>
+    ensures meaning { IfOk result (λ leg. leg_tree leg state.new ≡ tree control state.old) }
     ensures size { IfOk result (λ leg. leg_size leg + frames_size state.new.frames.items
         ≤ control_size control + frames_size state.old.frames.items) }
     ensures calls { IfOk result (λ leg. leg_spent leg + state.new.calls ≤ spent control + state.old.calls) }
@@ -125,6 +133,7 @@ fn run_leg(alloc: Global, state: &mut State, control: Control) -> Result<Leg, Al
 }
 
 fn ended(state: State, end: End) -> Progress
+    ensures meaning { progress_tree result ≡ ends (end_view end) (kept_of state) }
     ensures size { progress_size result ≡ 0 }
     ensures calls { progress_calls result ≡ 0 }
 {

@@ -2,7 +2,8 @@
 ghost use Rattle.std.specs.Prelude.{◌≡◌, ◌+◌, ◌<◌, ◌≤◌, map, string_bytes, IfOk};
 ghost use Rattle.repl_values.specs.View.{view};
 ghost use Rattle.repl_walker.specs.Evaluation as meant;
-ghost use Rattle.repl_walker.specs.Machine.{place_of, kept_of, next_of};
+ghost use Rattle.repl_walker.specs.Machine.{call_behind, items_behind, callee_view, place_of, kept_of, next_of, from_state, tree};
+ghost use Rattle.special_forms.specs.Seen.{views, binding_view};
 ghost use Rattle.special_forms.specs.Size.{values_size, bindings_size};
 ghost use Rattle.repl_walker.specs.Size.{control_size, frames_size, spent};
 
@@ -15,6 +16,7 @@ use std::alloc::{AllocError, Global};
 use std::collections::VecDeque;
 
 // The next argument is evaluated, or the function is called.
+#[tactic(auto, using(crate::proofs::Evaluating::steps))]
 pub(crate) fn next_argument(
     alloc: Global,
     state: &mut State,
@@ -26,6 +28,7 @@ pub(crate) fn next_argument(
     ensures size { IfOk result (λ control. control_size control + frames_size state.new.frames.items
         < 2 + values_size forms.items + frames_size state.old.frames.items) }
     ensures calls { IfOk result (λ control. spent control + state.new.calls ≤ state.old.calls) }
+    ensures meaning { IfOk result (λ control. tree control state.new ≡ from_state (call_behind room (place_of state.old) (callee_view callee) (views values.items) (views forms.items)) state.old) }
 {
     match forms.pop_front() {
         None => call(alloc, state, callee, values, room),
@@ -43,6 +46,7 @@ pub(crate) fn next_argument(
 }
 
 // The next item of a vector or a map is evaluated, or it is made.
+#[tactic(auto, using(crate::proofs::Evaluating::steps))]
 pub(crate) fn next_item(
     alloc: Global,
     state: &mut State,
@@ -54,6 +58,7 @@ pub(crate) fn next_item(
     ensures size { IfOk result (λ control. control_size control + frames_size state.new.frames.items
         < 2 + values_size forms.items + frames_size state.old.frames.items) }
     ensures calls { IfOk result (λ control. spent control + state.new.calls ≤ state.old.calls) }
+    ensures meaning { IfOk result (λ control. tree control state.new ≡ from_state (items_behind room (place_of state.old) kind (views values.items) (views forms.items)) state.old) }
 {
     match forms.pop_front() {
         None => collected(alloc, kind, values),
@@ -80,6 +85,7 @@ pub(crate) fn next_in_body(
     ensures size { IfOk result (λ control. control_size control + frames_size state.new.frames.items
         < 2 + values_size forms.items + frames_size state.old.frames.items) }
     ensures calls { IfOk result (λ control. spent control + state.new.calls ≤ state.old.calls) }
+    ensures meaning { IfOk result (λ control. tree control state.new ≡ from_state (meant.last_of (meant.value_at room (place_of state.old)) (view last) (views forms.items)) state.old) }
 {
     match forms.pop_front() {
         None => Ok(Control::Return(last)),
@@ -112,6 +118,7 @@ pub(crate) fn next_in_logic(
     ensures size { IfOk result (λ control. control_size control + frames_size state.new.frames.items
         < 2 + values_size forms.items + frames_size state.old.frames.items) }
     ensures calls { IfOk result (λ control. spent control + state.new.calls ≤ state.old.calls) }
+    ensures meaning { IfOk result (λ control. tree control state.new ≡ from_state (meant.logic_value (meant.value_at room (place_of state.old)) logic (view last) (views forms.items)) state.old) }
 {
     match forms.pop_front() {
         None => Ok(Control::Return(last)),
@@ -153,6 +160,7 @@ pub(crate) fn next_binding(
     ensures size { IfOk result (λ control. control_size control + frames_size state.new.frames.items
         < 2 + bindings_size bindings.items + values_size body.items + frames_size state.old.frames.items) }
     ensures calls { IfOk result (λ control. spent control + state.new.calls ≤ state.old.calls) }
+    ensures meaning { IfOk result (λ control. tree control state.new ≡ from_state (meant.let_value (meant.value_at room) (place_of state.old) (map binding_view bindings.items) (views body.items)) state.old) }
 {
     match bindings.pop_front() {
         None => next_in_body(state, Value::Nil, body, room),

@@ -1,5 +1,9 @@
 // The special forms.
-ghost use Rattle.std.specs.Prelude.{◌≡◌, ◌+◌, ◌<◌, ◌≤◌, IfOk};
+ghost use Rattle.std.specs.Prelude.{◌≡◌, ◌+◌, ◌<◌, ◌≤◌, map, string_bytes, IfOk};
+ghost use Rattle.repl_asks.specs.View.{binding_view};
+ghost use Rattle.repl_walker.specs.Evaluation as meant;
+ghost use Rattle.repl_walker.specs.Machine.{place_of, from_state, tree};
+ghost use Rattle.special_forms.specs.Seen.{views, shape_view};
 ghost use Rattle.special_forms.specs.Shapes.{shape_of};
 ghost use Rattle.special_forms.specs.Size.{values_size, shape_size};
 ghost use Rattle.repl_walker.specs.Size.{control_size, frames_size, spent};
@@ -24,6 +28,7 @@ pub(crate) fn evaluate_special(
     ensures size { IfOk result (λ control. control_size control + frames_size state.new.frames.items
         < 3 + values_size forms.items + frames_size state.old.frames.items) }
     ensures calls { IfOk result (λ control. spent control + state.new.calls ≤ state.old.calls) }
+    ensures meaning { IfOk result (λ control. tree control state.new ≡ from_state (meant.special_value (meant.value_at room) (place_of state.old) special (shape_of special (views forms.items))) state.old) }
 {
     match shape_of(alloc, special, forms)? {
         Some(shape) => begin(alloc, state, shape, room),
@@ -35,6 +40,7 @@ fn begin(alloc: Global, state: &mut State, shape: Shape, room: u32) -> Result<Co
     ensures size { IfOk result (λ control. control_size control + frames_size state.new.frames.items
         < 2 + shape_size shape + frames_size state.old.frames.items) }
     ensures calls { IfOk result (λ control. spent control + state.new.calls ≤ state.old.calls) }
+    ensures meaning { IfOk result (λ control. tree control state.new ≡ from_state (meant.shape_value (meant.value_at room) (place_of state.old) (shape_view shape)) state.old) }
 {
     match shape {
         Shape::Quote(form) => Ok(Control::Return(form)),
@@ -77,6 +83,7 @@ fn define_function(
 ) -> Result<Control, AllocError>
     ensures size { IfOk result (λ control. control_size control < 3) }
     ensures calls { IfOk result (λ control. spent control ≡ 0) }
+    ensures meaning { IfOk result (λ control. tree control state.now ≡ from_state (meant.function_defined (place_of state.now) (string_bytes name) (map string_bytes params.items) (views body.items)) state.now) }
 {
     let function = Function {
         space: space(alloc, state)?,
@@ -96,6 +103,7 @@ pub(crate) fn define(
 ) -> Result<Control, AllocError>
     ensures size { IfOk result (λ control. control_size control < 3) }
     ensures calls { IfOk result (λ control. spent control ≡ 0) }
+    ensures meaning { IfOk result (λ control. tree control state.now ≡ from_state (meant.defined (place_of state.now) (string_bytes name) (binding_view binding)) state.now) }
 {
     let wanted = Wanted::Definition(String::from_str(alloc, name.as_str())?);
     let namespace = space(alloc, state)?;

@@ -1,5 +1,6 @@
-use Rattle.std.proofs.Common.{◌≤◌, ◌<◌, ◌+◌, ◌⊎◌}
+use Rattle.std.proofs.Common.{◌≡◌, ◌≤◌, ◌<◌, ◌+◌, ◌⊎◌}
 use Rattle.repl_walker.specs.Size.{control_size, frames_size, spent}
+use Rattle.repl_walker.specs.Machine.{tree}
 use Rattle.repl_walker.proofs.resume.go_on.Given as goal
 
 abbrev pub invariant-loop-state : goal.invariant-loop-state
@@ -7,6 +8,7 @@ invariant-loop-state l =
     (spent l.control + l.state.calls ≤ spent l.initial.control + l.initial.state.calls)
     × ((spent l.control + l.state.calls < spent l.initial.control + l.initial.state.calls)
     ⊎ (control_size l.control + frames_size l.state.frames.items ≤ control_size l.initial.control + frames_size l.initial.state.frames.items))
+    × (tree l.control l.state ≡ tree l.initial.control l.initial.state)
 
 abbrev pub decreases-loop-state : goal.decreases-loop-state
 decreases-loop-state l = spent l.control + l.state.calls
