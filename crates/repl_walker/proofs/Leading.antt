@@ -15,10 +15,11 @@ pub led-nowhere : (start : Tree) (trace : List Exchanged) → Led start trace tr
 led-nowhere start trace = ([], sym (append-nil trace), refl)
 
 pub led-on : (start middle end : Tree) (old now new : List Exchanged) → Led start old now middle → Led middle now new end → Led start old new end
-led-on start middle end old now new first second =
-    (first.0 ++ second.0,
-     second.1 ∙ ap (λ (front : List Exchanged). front ++ second.0) first.1 ∙ append_assoc old first.0 second.0,
-     leads-append start middle end first.0 second.0 first.2 second.2)
+led-on start middle end old now new first second = (
+  first.0 ++ second.0,
+  second.1 ∙ ap (λ (front : List Exchanged). front ++ second.0) first.1 ∙ append_assoc old first.0 second.0,
+  leads-append start middle end first.0 second.0 first.2 second.2,
+)
 
 -- one more ask has its answer
 pub led-answered : (start rest : Tree) (old now new : List Exchanged) (ask : AskData) (answer : AnswerData) (behind : AnswerData → Tree)

@@ -30,19 +30,17 @@ pub(crate) fn next_argument(
     ensures calls { IfOk result (λ control. spent control + state.new.calls ≤ state.old.calls) }
     ensures meaning { IfOk result (λ control. tree control state.new ≡ from_state (call_behind room (place_of state.old) (callee_view callee) (views values.items) (views forms.items)) state.old) }
 {
-    match forms.pop_front() {
-        None => call(alloc, state, callee, values, room),
-        Some(form) => {
-            let frame = Frame::Arguments {
-                callee,
-                values,
-                forms,
-                room,
-            };
-            state.frames.push_front(frame)?;
-            Ok(Control::Evaluate(form, room))
-        }
-    }
+    let Some(form) = forms.pop_front() else {
+        return call(alloc, state, callee, values, room);
+    };
+    let frame = Frame::Arguments {
+        callee,
+        values,
+        forms,
+        room,
+    };
+    state.frames.push_front(frame)?;
+    Ok(Control::Evaluate(form, room))
 }
 
 // The next item of a vector or a map is evaluated, or it is made.

@@ -10,5 +10,5 @@ returns-in-Head-clause-meaning c =
     let s = c.args.state.now in
     let w = c.in-Head in
     if_ok-turned _ _ (rw (w.is, c.new.ensures.items)
-        (ap (λ (part : Kept → Tree). part (kept_of s)) (call_start w.room (place_of s) (callee_view c.args.callee) (views w.forms.items) (next_of s))))
-        c.next_argument.ensures.meaning
+    (ap (λ (part : Kept → Tree). part (kept_of s)) (call_start w.room (place_of s) (callee_view c.args.callee) (views w.forms.items) (next_of s))))
+    c.next_argument.ensures.meaning

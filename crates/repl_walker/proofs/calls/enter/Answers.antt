@@ -7,6 +7,13 @@ use Rattle.repl_walker.proofs.calls.enter.Goals as goal
 
 pub returns-clause-meaning : goal.returns-clause-meaning
 returns-clause-meaning c =
-    if_ok-turned _ _ (rw (view-Nil, c.from_vec.ensures.items, list_of-items (views c.args.function.body.items), c.in_ok-push_front.ensures.items,
-        c.replace-place.ensures.value, c.replace-place.ensures.after, c.in_ok-locals.ensures) refl)
-        c.next_in_body.ensures.meaning
+    if_ok-turned _ _ (rw (
+      view-Nil,
+      c.from_vec.ensures.items,
+      list_of-items (views c.args.function.body.items),
+      c.in_ok-push_front.ensures.items,
+      c.replace-place.ensures.value,
+      c.replace-place.ensures.after,
+      c.in_ok-locals.ensures,
+    ) refl)
+    c.next_in_body.ensures.meaning

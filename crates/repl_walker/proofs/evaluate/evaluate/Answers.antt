@@ -11,8 +11,8 @@ pub returns-in-List-clause-meaning : goal.returns-in-List-clause-meaning
 returns-in-List-clause-meaning c =
     let s = c.args.state.now in
     if_ok-turned _ _ (rw (c.in-List.is, c.from_vec.ensures.items)
-        (ap (λ (part : Part Datum). from_state part s) (sym (value_at-List c.args.room (place_of s) c.in-List.items))))
-        c.evaluate_list.ensures.meaning
+    (ap (λ (part : Part Datum). from_state part s) (sym (value_at-List c.args.room (place_of s) c.in-List.items))))
+    c.evaluate_list.ensures.meaning
 
 pub returns-in_default : goal.returns-in_default
 returns-in_default c =

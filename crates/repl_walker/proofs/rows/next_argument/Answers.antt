@@ -6,8 +6,8 @@ use Rattle.special_forms.specs.Seen.{views}
 use Rattle.repl_walker.proofs.Evaluating.{call_step}
 use Rattle.repl_walker.proofs.rows.next_argument.Goals as goal
 
-pub returns-in_ok-push_front-in-Some-clause-meaning : goal.returns-in_ok-push_front-in-Some-clause-meaning
-returns-in_ok-push_front-in-Some-clause-meaning c =
+pub returns-clause-meaning : goal.returns-clause-meaning
+returns-clause-meaning c =
     let s = c.args.state.now in
     let step = call_step c.args.room (place_of s) (callee_view c.args.callee) (views c.args.values.items) (view c.in-Some.form) (views c.pop_front.new.self.items) (next_of s) in
-    rw (c.in_ok-push_front-in-Some.ensures.items, c.in-Some.ensures.items) (ap (λ (part : Kept → Tree). part (kept_of s)) (sym step))
+    rw (c.in_ok-push_front.ensures.items, c.in-Some.ensures.items) (ap (λ (part : Kept → Tree). part (kept_of s)) (sym step))
