@@ -1,5 +1,5 @@
 -- Asks and answers, without where they lie in memory.
-use Rattle.std.specs.Prelude.{ℕ, List, Bool, ⊤}
+use Rattle.std.specs.Prelude.{ℕ, List, [], ◌∷◌, Bool, ⊤}
 use Rattle.repl_values.specs.Datum.{Datum, FunctionData}
 use Rattle.core_functions.specs.declared.function.CoreFunction.{CoreFunction}
 
@@ -38,3 +38,8 @@ Fits (define namespace name b) (value v) = ⊤
 Fits (define namespace name b) (core_function f) = ⊥
 Fits (define namespace name b) (function f) = ⊥
 Fits (define namespace name b) (fault class text) = ⊤
+
+-- no answer is left for the ask: there is none, or the next is of another kind
+abbrev pub NoneFits : AskData → List AnswerData → Type 0
+NoneFits ask [] = ⊤
+NoneFits ask (answer ∷ answers) = Fits ask answer → ⊥

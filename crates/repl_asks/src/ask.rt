@@ -1,6 +1,6 @@
 // The asks and their answers.
 ghost use Rattle.std.specs.Prelude.{◌≡◌, IfOk};
-ghost use Rattle.repl_asks.specs.View.{ask_view, answer_view, binding_view};
+ghost use Rattle.repl_asks.specs.View.{ask_view, answer_view, binding_view, exchange_view, trace_view};
 
 use core_functions::CoreFunction;
 use repl_values::{Fault, Function, Value, copy, copy_text};
@@ -99,4 +99,27 @@ impl Answer {
             })),
         }
     }
+}
+
+impl Exchange {
+    /// The same exchange once more. It fails only for want of memory.
+    pub fn copy(&self, alloc: Global) -> Result<Exchange, AllocError>
+        ensures { IfOk result (λ copied. exchange_view copied ≡ exchange_view self.now) }
+    {
+        Ok(Exchange {
+            ask: self.ask.copy(alloc)?,
+            answer: self.answer.copy(alloc)?,
+        })
+    }
+}
+
+/// The same trace once more. It fails only for want of memory.
+pub fn copy_trace(alloc: Global, trace: &[Exchange]) -> Result<Trace, AllocError>
+    ensures { IfOk result (λ copied. trace_view copied.items ≡ trace_view trace.now) }
+{
+    let mut copies = Vec::with_capacity(alloc, trace.len())?;
+    for exchange in trace {
+        copies.push(exchange.copy(alloc)?)?;
+    }
+    Ok(copies)
 }

@@ -9,6 +9,6 @@ mod ask;
 mod refs;
 mod replay;
 
-pub use ask::{Answer, Ask, Binding, Exchange, Trace};
+pub use ask::{Answer, Ask, Binding, Exchange, Trace, copy_trace};
 pub use refs::{Refs, Stop, StopReason};
 pub use replay::Replay;

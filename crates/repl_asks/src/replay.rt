@@ -1,11 +1,11 @@
 // Answers that are known beforehand.
-ghost use Rattle.std.specs.Prelude.{◌≡◌, ◌++◌, [], ◌∷◌, true, false, map, IsTrue, IsErr, IfOk, OnErr};
-ghost use Rattle.repl_asks.specs.Exchange.{Heard, Fits};
+ghost use Rattle.std.specs.Prelude.{◌≡◌, ◌++◌, ◌↔◌, ◌⊎◌, [], ◌∷◌, true, false, map, Err, IsTrue, IsErr, IfOk, OnErr};
+ghost use Rattle.repl_asks.specs.Exchange.{Heard, Fits, NoneFits};
 ghost use Rattle.repl_asks.specs.View.{ask_view, answer_view, exchange_view};
 
 use crate::ask::{Answer, Ask, Exchange, Trace};
 use crate::refs::{Refs, Stop, StopReason};
-use std::alloc::Global;
+use std::alloc::{AllocError, Global};
 use std::collections::VecDeque;
 
 /// Gives answers that are known beforehand, in order, and stops where none is left. An answer that
@@ -35,7 +35,7 @@ impl Replay {
 
 // Whether the answer is of a kind that the ask has.
 fn fits(ask: &Ask, answer: &Answer) -> bool
-    ensures { IsTrue result → Fits (ask_view ask.now) (answer_view answer.now) }
+    ensures { IsTrue result ↔ Fits (ask_view ask.now) (answer_view answer.now) }
 {
     match (ask, answer) {
         (Ask::Define { .. }, Answer::CoreFunction(_)) => false,
@@ -63,14 +63,17 @@ impl Refs for Replay {
 impl Replay {
     ghost use Rattle.repl_asks.specs.Replay.{heard_by, answers_left};
 
-    // The next answer, recorded beside its ask.
-    fn next_for(&mut self, alloc: Global, ask: &Ask) -> Result<Answer, StopReason>
+    /// The next answer, recorded beside its ask. There is none where the replay has stopped, where no
+    /// answer is left and where the next does not fit the ask.
+    pub fn next_for(&mut self, alloc: Global, ask: &Ask) -> Result<Answer, StopReason>
         ensures grows { IfOk result (λ answer. (heard_by self.new).trace
             ≡ (heard_by self.old).trace ++ record { ask = ask_view ask.now; answer = answer_view answer } ∷ []) }
         ensures fits { IfOk result (λ answer. Fits (ask_view ask.now) (answer_view answer)) }
         ensures left { IfOk result (λ answer. answers_left self.old ≡ answer_view answer ∷ answers_left self.new) }
         ensures stopped { (heard_by self.new).stopped ≡ (heard_by self.old).stopped }
         ensures stays { OnErr result ((heard_by self.new).trace ≡ (heard_by self.old).trace) }
+        ensures kept { OnErr result (answers_left self.new ≡ answers_left self.old) }
+        ensures none { result ≡ Err StopReason.NoAnswer → ((heard_by self.old).stopped ≡ true) ⊎ NoneFits (ask_view ask.now) (answers_left self.old) }
         ensures no_more { (heard_by self.old).stopped ≡ true → IsErr result }
     {
         if self.has_stopped {
@@ -82,7 +85,9 @@ impl Replay {
         if !fits(ask, answer) {
             return Err(StopReason::NoAnswer);
         }
-        let exchange = recorded(alloc, ask, answer)?;
+        let Ok(exchange) = recorded(alloc, ask, answer) else {
+            return Err(StopReason::NoMemory);
+        };
         if self.trace.push(exchange).is_err() {
             return Err(StopReason::NoMemory);
         }
@@ -93,12 +98,12 @@ impl Replay {
     }
 }
 
-fn recorded(alloc: Global, ask: &Ask, answer: &Answer) -> Result<Exchange, StopReason>
+fn recorded(alloc: Global, ask: &Ask, answer: &Answer) -> Result<Exchange, AllocError>
     ensures { IfOk result (λ made. exchange_view made
         ≡ record { ask = ask_view ask.now; answer = answer_view answer.now }) }
 {
-    match (ask.copy(alloc), answer.copy(alloc)) {
-        (Ok(ask), Ok(answer)) => Ok(Exchange { ask, answer }),
-        _ => Err(StopReason::NoMemory),
-    }
+    Ok(Exchange {
+        ask: ask.copy(alloc)?,
+        answer: answer.copy(alloc)?,
+    })
 }

@@ -18,7 +18,7 @@ use Rattle.repl_walker.specs.declared.frames.State.{State}
 use Rattle.repl_walker.specs.declared.frames.Wanted.{Wanted}
 use Rattle.repl_walker.specs.declared.frames.Control.{Control}
 use Rattle.repl_walker.specs.declared.names.Named.{Named}
-use Rattle.repl_walker.specs.Job.{end_view, ending_view}
+use Rattle.repl_walker.specs.Job.{end_view, finished_view}
 use Rattle.repl_walker.specs.declared.resume.Leg.{Leg}
 use Rattle.repl_walker.specs.declared.resume.Walk.{Walk}
 use Rattle.repl_walker.specs.declared.resume.Progress.{Progress}
@@ -133,4 +133,4 @@ behind w answer = answered w.wanted answer w.state
 -- what an evaluation that came so far has still to do
 abbrev pub progress_tree : Progress → Tree
 progress_tree (Progress.Asks w ask) = asks (ask_view ask) (λ answer. behind w answer)
-progress_tree (Progress.Ends ending) = finished (ending_view ending)
+progress_tree (Progress.Ends end) = finished (finished_view end)

@@ -1,9 +1,16 @@
--- Why an evaluation did not end.
-use Rattle.std.specs.Prelude.{◌≡◌, true, ⊤}
-use Rattle.repl_asks.specs.Exchange.{Heard}
+-- Why an evaluation did not end, and where it was left.
+use Rattle.std.specs.Prelude.{◌≡◌, true, List, ⊤}
+use Rattle.repl_asks.specs.Exchange.{AnswerData, Exchanged, Heard}
+use Rattle.repl_asks.specs.View.{ask_view}
+use Rattle.repl_walker.specs.Tree.{Tree, asks, Led}
 use Rattle.repl_walker.specs.declared.run.WalkError.{WalkError}
 
 -- an ask without an answer leaves who was asked stopped
 abbrev pub IsStoppedBy : WalkError → Heard → Type 0
 IsStoppedBy WalkError.NoMemory heard = ⊤
 IsStoppedBy (WalkError.Stopped ask) heard = heard.stopped ≡ true
+
+-- an evaluation was left at an ask that has no answer, or somewhere on its way for want of memory
+abbrev pub LeftAt : Tree → List Exchanged → List Exchanged → WalkError → Type 0
+LeftAt start old new WalkError.NoMemory = (rest : Tree) × Led start old new rest
+LeftAt start old new (WalkError.Stopped ask) = (behind : AnswerData → Tree) × Led start old new (asks (ask_view ask) behind)

@@ -53,3 +53,7 @@ Leads (asks ask behind) (x ∷ xs) end = (x.ask ≡ ask) × Leads (behind x.answ
 -- a trace grew by exchanges that lead from one tree to the other
 abbrev pub Led : Tree → List Exchanged → List Exchanged → Tree → Type 0
 Led start old new end = (more : List Exchanged) × (new ≡ old ++ more) × Leads start more end
+
+-- the same, and the exchanges were written down
+abbrev pub Recorded : Tree → List Exchanged → List Exchanged → List Exchanged → List Exchanged → Tree → Type 0
+Recorded start old new kept_old kept_new end = (more : List Exchanged) × (new ≡ old ++ more) × (kept_new ≡ kept_old ++ more) × Leads start more end

@@ -1,23 +1,16 @@
 // What is evaluated, and how it ends.
-ghost use Rattle.std.specs.Prelude.{◌≡◌};
+ghost use Rattle.std.specs.Prelude.{◌≡◌, IfOk};
 ghost use Rattle.repl_values.specs.View.{view};
-ghost use Rattle.repl_walker.specs.Work.{form_of};
+ghost use Rattle.repl_walker.specs.Job.{form_of, job_view, end_view, finished_view, ending_view};
 
-use repl_values::{Fault, Value};
+use repl_asks::{Exchange, Trace, copy_trace};
+use repl_values::{Fault, Value, copy, copy_text};
+use std::alloc::{AllocError, Global};
 
 /// What there is to evaluate.
 #[derive(Debug, Drop)]
 pub enum Work {
     Form(Value),
-}
-
-impl Work {
-    pub(crate) fn form(&self) -> &Value
-        ensures { view result.now ≡ form_of self.now }
-    {
-        let Work::Form(form) = self;
-        form
-    }
 }
 
 /// An evaluation: its work, the namespace in which it begins, and how many attempts a transaction
@@ -36,22 +29,74 @@ pub enum End {
     Fault(Fault),
 }
 
-/// How an evaluation ended, the text that it printed, and the namespace after it. Only the walker
-/// makes one.
+/// How an evaluation ended, the text that it printed, and the namespace after it.
 #[derive(Debug, Drop)]
-pub struct Ending {
+pub struct Finished {
     end: End,
     text: String,
     namespace: String,
 }
 
-impl Ending {
-    pub(crate) fn new(end: End, text: String, namespace: String) -> Ending
+/// An evaluation that ended: its job, what was asked and answered, and how it ended. Only the walker
+/// makes one.
+#[derive(Debug, Drop)]
+pub struct Ending {
+    job: Job,
+    trace: Trace,
+    finished: Finished,
+}
+
+impl Work {
+    pub(crate) fn form(&self) -> &Value
+        ensures { view result.now ≡ form_of self.now }
+    {
+        let Work::Form(form) = self;
+        form
+    }
+
+    /// The same work once more. It fails only for want of memory.
+    pub fn copy(&self, alloc: Global) -> Result<Work, AllocError>
+        ensures { IfOk result (λ copied. form_of copied ≡ form_of self.now) }
+    {
+        Ok(Work::Form(copy(alloc, self.form())?))
+    }
+}
+
+impl Job {
+    /// The same job once more. It fails only for want of memory.
+    pub fn copy(&self, alloc: Global) -> Result<Job, AllocError>
+        ensures { IfOk result (λ copied. job_view copied ≡ job_view self.now) }
+    {
+        Ok(Job {
+            work: self.work.copy(alloc)?,
+            namespace: copy_text(alloc, &self.namespace)?,
+            retries: self.retries,
+        })
+    }
+}
+
+impl End {
+    /// The same end once more. It fails only for want of memory.
+    pub fn copy(&self, alloc: Global) -> Result<End, AllocError>
+        ensures { IfOk result (λ copied. end_view copied ≡ end_view self.now) }
+    {
+        match self {
+            End::Value(value) => Ok(End::Value(copy(alloc, value)?)),
+            End::Fault(fault) => Ok(End::Fault(Fault {
+                class: copy_text(alloc, &fault.class)?,
+                text: copy_text(alloc, &fault.text)?,
+            })),
+        }
+    }
+}
+
+impl Finished {
+    pub(crate) fn new(end: End, text: String, namespace: String) -> Finished
         ensures end { result.end ≡ end }
         ensures text { result.text ≡ text }
         ensures namespace { result.namespace ≡ namespace }
     {
-        Ending {
+        Finished {
             end,
             text,
             namespace,
@@ -64,11 +109,68 @@ impl Ending {
         ensures text { result.1 ≡ self.text }
         ensures namespace { result.2 ≡ self.namespace }
     {
-        let Ending {
+        let Finished {
             end,
             text,
             namespace,
         } = self;
         (end, text, namespace)
+    }
+
+    /// The same once more. It fails only for want of memory.
+    pub fn copy(&self, alloc: Global) -> Result<Finished, AllocError>
+        ensures { IfOk result (λ copied. finished_view copied ≡ finished_view self.now) }
+    {
+        Ok(Finished {
+            end: self.end.copy(alloc)?,
+            text: copy_text(alloc, &self.text)?,
+            namespace: copy_text(alloc, &self.namespace)?,
+        })
+    }
+}
+
+impl Ending {
+    pub(crate) fn new(job: Job, trace: Trace, finished: Finished) -> Ending
+        ensures job { result.job ≡ job }
+        ensures trace { result.trace ≡ trace }
+        ensures finished { result.finished ≡ finished }
+    {
+        Ending {
+            job,
+            trace,
+            finished,
+        }
+    }
+
+    /// What was evaluated.
+    pub fn job(&self) -> &Job
+        ensures { result.now ≡ self.now.job }
+    {
+        &self.job
+    }
+
+    /// What was asked and answered, in order.
+    pub fn trace(&self) -> &[Exchange]
+        ensures { result.now ≡ self.now.trace.items }
+    {
+        self.trace.as_slice()
+    }
+
+    /// How it ended.
+    pub fn end(&self) -> &Finished
+        ensures { result.now ≡ self.now.finished }
+    {
+        &self.finished
+    }
+
+    /// The same ending once more. It fails only for want of memory.
+    pub fn copy(&self, alloc: Global) -> Result<Ending, AllocError>
+        ensures { IfOk result (λ copied. ending_view copied ≡ ending_view self.now) }
+    {
+        Ok(Ending {
+            job: self.job.copy(alloc)?,
+            trace: copy_trace(alloc, self.trace.as_slice())?,
+            finished: self.finished.copy(alloc)?,
+        })
     }
 }

@@ -18,7 +18,7 @@ mod rows;
 mod run;
 mod special;
 
-pub use job::{End, Ending, Job, Work};
+pub use job::{End, Ending, Finished, Job, Work};
 pub use names::names_function;
 pub use resume::{Progress, Walk, start};
 pub use run::{WalkError, walk};

@@ -11,7 +11,7 @@ use crate::calls::enter;
 use crate::evaluate::evaluate;
 use crate::frames::{Control, Place, State, Wanted};
 use crate::give::give;
-use crate::job::{End, Ending, Job};
+use crate::job::{End, Finished, Job};
 use repl_asks::{Answer, Ask};
 use repl_values::{Function, Value, copy};
 use std::alloc::{AllocError, Global};
@@ -34,7 +34,7 @@ pub struct Walk {
 #[derive(Drop)]
 pub enum Progress {
     Asks(Walk, Ask),
-    Ends(Ending),
+    Ends(Finished),
 }
 
 impl Progress {
@@ -44,7 +44,7 @@ impl Progress {
     {
         match self {
             Progress::Asks(walk, _ask) => walk.state.calls,
-            Progress::Ends(_ending) => 0,
+            Progress::Ends(_finished) => 0,
         }
     }
 }
@@ -144,5 +144,5 @@ fn ended(state: State, end: End) -> Progress
         namespace,
         text,
     } = state;
-    Progress::Ends(Ending::new(end, text, namespace))
+    Progress::Ends(Finished::new(end, text, namespace))
 }
