@@ -10,7 +10,7 @@ use name_spaces::{Space, USER};
 use repl_reader::{Forms, ReaderFault, read_all};
 use repl_replies::{Body, Heard, Origin, Reply, Request, reply_bytes, request_of};
 use repl_values::{Fault, Value, print_into};
-use repl_walker::{End, Ending, Job, Progress, Work, start};
+use repl_walker::{End, Finished, Job, Progress, Work, start};
 use std::alloc::{AllocError, Global};
 use std::collections::VecDeque;
 
@@ -179,10 +179,10 @@ impl Server {
     }
 
     // Answers how a form ended.
-    fn post_end(&mut self, origin: &Origin, ending: Ending) -> Result<(), AllocError>
+    fn post_end(&mut self, origin: &Origin, finished: Finished) -> Result<(), AllocError>
         ensures steps { self.new.steps_left ≡ self.old.steps_left }
     {
-        let (end, printed, ns) = ending.into_parts();
+        let (end, printed, ns) = finished.into_parts();
         if !printed.is_empty() {
             self.post(origin.copy(self.alloc)?, Body::Output(printed))?;
         }
@@ -220,8 +220,8 @@ impl Server {
                 });
                 Ok(())
             }
-            Some(Progress::Ends(ending)) => {
-                self.post_end(&origin, ending)?;
+            Some(Progress::Ends(finished)) => {
+                self.post_end(&origin, finished)?;
                 if forms.is_empty() {
                     return self.end_request(origin, fault);
                 }

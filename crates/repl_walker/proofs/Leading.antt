@@ -2,10 +2,12 @@
 use Rattle.std.proofs.Common.{◌≡◌, List, [], ◌∷◌, ◌++◌, refl, sym, subst, ap, ◌∙◌, append_assoc, append-nil}
 use Rattle.repl_asks.specs.Exchange.{AskData, AnswerData, Exchanged}
 use Rattle.repl_asks.specs.View.{ask_view}
-use Rattle.repl_walker.specs.Tree.{EndData, Tree, finished, asks, Leads, Led, Recorded}
+use Rattle.repl_walker.specs.Tree.{Tree, finished, asks, Leads, Led, Recorded}
 use Rattle.repl_walker.specs.Stops.{LeftAt}
-use Rattle.repl_walker.specs.Job.{EndingData, job_view, evaluation_of, IsEndOf}
-use Rattle.repl_walker.specs.declared.job.Job.{Job}
+use Rattle.repl_jobs.specs.Job.{job_view}
+use Rattle.repl_jobs.specs.Job.{EndData}
+use Rattle.repl_walker.specs.Ends.{EndingData, evaluation_of, IsEndOf}
+use Rattle.repl_jobs.specs.declared.job.Job.{Job}
 use Rattle.repl_walker.specs.declared.run.WalkError.{WalkError}
 
 leads-append : (start middle end : Tree) (xs ys : List Exchanged) → Leads start xs middle → Leads middle ys end → Leads start (xs ++ ys) end
@@ -35,11 +37,12 @@ left-on start middle old now new (WalkError.Stopped ask) led left = (left.0, led
 
 pub recorded-on : (start middle end : Tree) (old now new kept_old kept_now kept_new : List Exchanged)
     → Recorded start old now kept_old kept_now middle → Recorded middle now new kept_now kept_new end → Recorded start old new kept_old kept_new end
-recorded-on start middle end old now new kept_old kept_now kept_new first second =
-    (first.0 ++ second.0,
-     second.1 ∙ ap (λ (front : List Exchanged). front ++ second.0) first.1 ∙ append_assoc old first.0 second.0,
-     second.2 ∙ ap (λ (front : List Exchanged). front ++ second.0) first.2 ∙ append_assoc kept_old first.0 second.0,
-     leads-append start middle end first.0 second.0 first.3 second.3)
+recorded-on start middle end old now new kept_old kept_now kept_new first second = (
+  first.0 ++ second.0,
+  second.1 ∙ ap (λ (front : List Exchanged). front ++ second.0) first.1 ∙ append_assoc old first.0 second.0,
+  second.2 ∙ ap (λ (front : List Exchanged). front ++ second.0) first.2 ∙ append_assoc kept_old first.0 second.0,
+  leads-append start middle end first.0 second.0 first.3 second.3,
+)
 
 pub recorded-led : (start end : Tree) (old new kept_old kept_new : List Exchanged) → Recorded start old new kept_old kept_new end → Led start old new end
 recorded-led start end old new kept_old kept_new recorded = (recorded.0, recorded.1, recorded.3)
@@ -50,7 +53,7 @@ pub recorded-answered : (start rest : Tree) (old now new kept_old kept_now kept_
     → kept_new ≡ kept_now ++ record { ask = ask; answer = answer } ∷ [] → behind answer ≡ rest → Recorded start old new kept_old kept_new rest
 recorded-answered start rest old now new kept_old kept_now kept_new ask answer behind recorded grown written goes_on =
     recorded-on start (asks ask behind) rest old now new kept_old kept_now kept_new recorded
-        (record { ask = ask; answer = answer } ∷ [], grown, written, (refl, goes_on))
+    (record { ask = ask; answer = answer } ∷ [], grown, written, (refl, goes_on))
 
 -- an ask that was handed back without an answer
 pub led-stayed : (old new : List Exchanged) (ask stopped : AskData) (behind : AnswerData → Tree) → new ≡ old → stopped ≡ ask → Led (asks ask behind) old new (asks stopped behind)

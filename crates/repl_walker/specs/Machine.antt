@@ -18,7 +18,7 @@ use Rattle.repl_walker.specs.declared.frames.State.{State}
 use Rattle.repl_walker.specs.declared.frames.Wanted.{Wanted}
 use Rattle.repl_walker.specs.declared.frames.Control.{Control}
 use Rattle.repl_walker.specs.declared.names.Named.{Named}
-use Rattle.repl_walker.specs.Job.{end_view, finished_view}
+use Rattle.repl_jobs.specs.Job.{end_view, finished_view}
 use Rattle.repl_walker.specs.declared.resume.Leg.{Leg}
 use Rattle.repl_walker.specs.declared.resume.Walk.{Walk}
 use Rattle.repl_walker.specs.declared.resume.Progress.{Progress}

@@ -2,18 +2,13 @@
 use Rattle.std.specs.Prelude.{◌≡◌, ℕ, List, [], ◌∷◌, ◌++◌, Result, Err}
 use Rattle.repl_values.specs.Datum.{Datum}
 use Rattle.repl_faults.specs.Failure.{Failure}
+use Rattle.repl_jobs.specs.Job.{EndData}
 use Rattle.repl_asks.specs.Exchange.{AskData, AnswerData, Exchanged}
 
 -- what an evaluation carries from form to form: the calls that it may still make, the text that it printed, and
 -- its namespace
 pub record Kept : Type 0 where
   pub calls : ℕ
-  pub text : List ℕ
-  pub namespace : List ℕ
-
--- how an evaluation ended: a value or a fault, the text that was printed and the namespace
-pub record EndData : Type 0 where
-  pub result : Result Datum Failure
   pub text : List ℕ
   pub namespace : List ℕ
 

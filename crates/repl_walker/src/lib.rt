@@ -8,17 +8,18 @@
 mod answers;
 mod calls;
 mod collect;
+mod ending;
 mod evaluate;
 mod frames;
 mod give;
-mod job;
 mod names;
 mod resume;
 mod rows;
 mod run;
 mod special;
 
-pub use job::{End, Ending, Finished, Job, Work};
+pub use ending::Ending;
 pub use names::names_function;
+pub use repl_jobs::{End, Finished, Job, Work};
 pub use resume::{Progress, Walk, start};
 pub use run::{WalkError, walk};

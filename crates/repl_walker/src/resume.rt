@@ -2,7 +2,8 @@
 ghost use Rattle.std.specs.Prelude.{◌≡◌, ◌+◌, ◌<◌, ◌≤◌, ◌⊎◌, IfOk};
 ghost use Rattle.repl_asks.specs.View.{answer_view};
 ghost use Rattle.repl_walker.specs.Tree.{ends};
-ghost use Rattle.repl_walker.specs.Job.{evaluation_of, end_view};
+ghost use Rattle.repl_jobs.specs.Job.{end_view};
+ghost use Rattle.repl_walker.specs.Ends.{evaluation_of};
 ghost use Rattle.repl_walker.specs.Machine.{tree, leg_tree, behind, progress_tree, kept_of};
 ghost use Rattle.repl_walker.specs.Size.{control_size, frames_size, walk_size, progress_size, progress_calls, leg_size, leg_spent, spent};
 
@@ -11,8 +12,8 @@ use crate::calls::enter;
 use crate::evaluate::evaluate;
 use crate::frames::{Control, Place, State, Wanted};
 use crate::give::give;
-use crate::job::{End, Finished, Job};
 use repl_asks::{Answer, Ask};
+use repl_jobs::{End, Finished, Job};
 use repl_values::{Function, Value, copy};
 use std::alloc::{AllocError, Global};
 use std::collections::VecDeque;

@@ -4,13 +4,14 @@ ghost use Rattle.repl_asks.specs.Exchange.{AnswerData};
 ghost use Rattle.repl_asks.specs.View.{ask_view, answer_view, trace_view};
 ghost use Rattle.repl_walker.specs.Size.{IsFurther};
 ghost use Rattle.repl_walker.specs.Tree.{Tree, asks, Recorded};
-ghost use Rattle.repl_walker.specs.Job.{evaluation_of, ending_view, IsEndOf};
+ghost use Rattle.repl_walker.specs.Ends.{evaluation_of, ending_view, IsEndOf};
 ghost use Rattle.repl_walker.specs.Machine.{progress_tree};
 ghost use Rattle.repl_walker.specs.Stops.{IsStoppedBy, LeftAt};
 
-use crate::job::{Ending, Job};
+use crate::ending::Ending;
 use crate::resume::{Progress, start};
 use repl_asks::{Answer, Ask, Exchange, Refs, Trace};
+use repl_jobs::Job;
 use std::alloc::{AllocError, Global};
 use thiserror::Error;
 

@@ -2,7 +2,7 @@ use Rattle.std.proofs.Common.{◌≡◌, [], false}
 use Rattle.repl_asks.specs.View.{trace_view}
 use Rattle.repl_walker.specs.Size.{progress_calls}
 use Rattle.repl_walker.specs.Tree.{Recorded}
-use Rattle.repl_walker.specs.Job.{evaluation_of}
+use Rattle.repl_walker.specs.Ends.{evaluation_of}
 use Rattle.repl_walker.specs.Machine.{progress_tree}
 use Rattle.repl_walker.proofs.run.walk.Given as goal
 

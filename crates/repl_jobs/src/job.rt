@@ -1,9 +1,8 @@
 // What is evaluated, and how it ends.
 ghost use Rattle.std.specs.Prelude.{◌≡◌, IfOk};
 ghost use Rattle.repl_values.specs.View.{view};
-ghost use Rattle.repl_walker.specs.Job.{form_of, job_view, end_view, finished_view, ending_view};
+ghost use Rattle.repl_jobs.specs.Job.{form_of, job_view, end_view, finished_view};
 
-use repl_asks::{Exchange, Trace, copy_trace};
 use repl_values::{Fault, Value, copy, copy_text};
 use std::alloc::{AllocError, Global};
 
@@ -37,17 +36,9 @@ pub struct Finished {
     namespace: String,
 }
 
-/// An evaluation that ended: its job, what was asked and answered, and how it ended. Only the walker
-/// makes one.
-#[derive(Debug, Drop)]
-pub struct Ending {
-    job: Job,
-    trace: Trace,
-    finished: Finished,
-}
-
 impl Work {
-    pub(crate) fn form(&self) -> &Value
+    /// The form that there is to evaluate.
+    pub fn form(&self) -> &Value
         ensures { view result.now ≡ form_of self.now }
     {
         let Work::Form(form) = self;
@@ -91,7 +82,8 @@ impl End {
 }
 
 impl Finished {
-    pub(crate) fn new(end: End, text: String, namespace: String) -> Finished
+    /// An end with the text that was printed before it, and the namespace after it.
+    pub fn new(end: End, text: String, namespace: String) -> Finished
         ensures end { result.end ≡ end }
         ensures text { result.text ≡ text }
         ensures namespace { result.namespace ≡ namespace }
@@ -125,52 +117,6 @@ impl Finished {
             end: self.end.copy(alloc)?,
             text: copy_text(alloc, &self.text)?,
             namespace: copy_text(alloc, &self.namespace)?,
-        })
-    }
-}
-
-impl Ending {
-    pub(crate) fn new(job: Job, trace: Trace, finished: Finished) -> Ending
-        ensures job { result.job ≡ job }
-        ensures trace { result.trace ≡ trace }
-        ensures finished { result.finished ≡ finished }
-    {
-        Ending {
-            job,
-            trace,
-            finished,
-        }
-    }
-
-    /// What was evaluated.
-    pub fn job(&self) -> &Job
-        ensures { result.now ≡ self.now.job }
-    {
-        &self.job
-    }
-
-    /// What was asked and answered, in order.
-    pub fn trace(&self) -> &[Exchange]
-        ensures { result.now ≡ self.now.trace.items }
-    {
-        self.trace.as_slice()
-    }
-
-    /// How it ended.
-    pub fn end(&self) -> &Finished
-        ensures { result.now ≡ self.now.finished }
-    {
-        &self.finished
-    }
-
-    /// The same ending once more. It fails only for want of memory.
-    pub fn copy(&self, alloc: Global) -> Result<Ending, AllocError>
-        ensures { IfOk result (λ copied. ending_view copied ≡ ending_view self.now) }
-    {
-        Ok(Ending {
-            job: self.job.copy(alloc)?,
-            trace: copy_trace(alloc, self.trace.as_slice())?,
-            finished: self.finished.copy(alloc)?,
         })
     }
 }

@@ -1,0 +1,6 @@
+//! What is evaluated, and how evaluations end.
+#![tactic(auto)]
+
+mod job;
+
+pub use job::{End, Finished, Job, Work};
