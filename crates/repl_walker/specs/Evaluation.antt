@@ -18,6 +18,7 @@ use Rattle.core_functions.specs.Meaning.{meaning}
 use Rattle.core_functions.specs.declared.function.CoreFunction.{CoreFunction}
 use Rattle.repl_asks.specs.Exchange as exchange
 use Rattle.repl_asks.specs.Exchange.{AnswerData, BindingData, bound_value, bound_function}
+use Rattle.special_forms.specs.Truth.{is_true, decides, before}
 use Rattle.repl_walker.specs.Tree.{Kept, Tree, ends, asks, Part, ◌>>=◌, done, fails, asked}
 use Rattle.special_forms.specs.Shapes.{is_slash, special_named, special_name, BoundForm, ShapeData, quoted, body, choice, bindings, logic, definition, function_definition, thrown, list_of, shape_of}
 use Rattle.special_forms.specs.declared.shapes.Logic.{Logic}
@@ -188,21 +189,6 @@ abbrev pub call_value : Walk → PlaceData → List Datum → CalleeData → Par
 call_value walk p forms callee = row (walk p) forms >>= called walk callee
 
 -- Special forms
-
--- only nil and false are false
-abbrev pub is_true : Datum → Bool
-is_true nil = false
-is_true (boolean b) = b
-is_true d = true
-
--- `and` ends at the first value that is false, `or` at the first that is true
-abbrev pub decides : Logic → Datum → Bool
-decides Logic.And d = not (is_true d)
-decides Logic.Or d = is_true d
-
-abbrev pub before : Logic → Datum
-before Logic.And = boolean true
-before Logic.Or = nil
 
 -- the value of `and` or `or` from here on; `last` is that of the form before
 abbrev pub logic_value : (Datum → Part Datum) → Logic → Datum → List Datum → Part Datum

@@ -7,7 +7,8 @@ use Rattle.repl_faults.specs.View.{failure_of}
 use Rattle.repl_asks.specs.Exchange.{AnswerData, bound_value}
 use Rattle.repl_asks.specs.View.{ask_view}
 use Rattle.repl_walker.specs.Tree.{Kept, Tree, finished, ends, asks, Part, ◌>>=◌, done, fails}
-use Rattle.repl_walker.specs.Evaluation.{PlaceData, LocalData, with_local, CalleeData, core_callee, program_callee, keyword_callee, NamedData, a_local, a_core_function, no_core_function, elsewhere, answered_value, answered_callee, row, last_of, called, call_value, body_value, is_true, logic_value, let_value, defined, thrown_value, list_value, vector_value, map_value, value_at}
+use Rattle.repl_walker.specs.Evaluation.{PlaceData, LocalData, with_local, CalleeData, core_callee, program_callee, keyword_callee, NamedData, a_local, a_core_function, no_core_function, elsewhere, answered_value, answered_callee, row, last_of, called, call_value, body_value, logic_value, let_value, defined, thrown_value, list_value, vector_value, map_value, value_at}
+use Rattle.special_forms.specs.Truth.{is_true}
 use Rattle.special_forms.specs.Seen.{views, binding_view}
 use Rattle.repl_walker.specs.declared.frames.Local.{Local}
 use Rattle.repl_walker.specs.declared.frames.Place.{Place}

@@ -1,5 +1,5 @@
 // The value of the innermost form goes to what waits for it.
-ghost use Rattle.std.specs.Prelude.{◌≡◌, ◌+◌, ◌<◌, ◌≤◌, ◌∷◌, if◌then◌else◌, string_bytes, IfOk};
+ghost use Rattle.std.specs.Prelude.{◌≡◌, ◌+◌, ◌<◌, ◌≤◌, ◌∷◌, string_bytes, IfOk};
 ghost use Rattle.repl_values.specs.View.{view};
 ghost use Rattle.repl_faults.specs.View.{failure_of};
 ghost use Rattle.repl_walker.specs.Evaluation as meant;
@@ -8,16 +8,14 @@ ghost use Rattle.repl_walker.specs.declared.frames.State.{State};
 ghost use Rattle.repl_walker.specs.Size.{frame_size, control_size, frames_size, spent};
 
 use crate::frames::{Control, Frame, State};
-use crate::rows::{
-    bind, is_true, next_argument, next_binding, next_in_body, next_in_logic, next_item,
-};
+use crate::rows::{bind, next_argument, next_binding, next_in_body, next_in_logic, next_item};
 use crate::special::define;
 use core_texts::show_into;
 use repl_asks::Binding;
 use repl_faults::{thrown, too_large};
 use repl_values::{Fault, Value};
+use special_forms::chosen;
 use std::alloc::{AllocError, Global};
-use std::collections::VecDeque;
 
 // A text of so many bytes is too large for a value.
 const MOST_WEIGHT: usize = 1_048_576;
@@ -81,21 +79,6 @@ pub(crate) fn give(
             state.place = place;
             Ok(Control::Return(value))
         }
-    }
-}
-
-// The body that a condition with this value chooses.
-fn chosen(
-    condition: Value,
-    consequent: VecDeque<Value>,
-    alternative: VecDeque<Value>,
-) -> VecDeque<Value>
-    ensures { result ≡ (if meant.is_true (view condition) then consequent else alternative) }
-{
-    if is_true(&condition) {
-        consequent
-    } else {
-        alternative
     }
 }
 

@@ -94,17 +94,6 @@ pub(crate) fn next_in_body(
     }
 }
 
-// Only nil and false are false.
-pub(crate) fn is_true(value: &Value) -> bool
-    ensures { result ≡ meant.is_true (view value.now) }
-{
-    match value {
-        Value::Nil => false,
-        Value::Bool(b) => *b,
-        _ => true,
-    }
-}
-
 // The next form of `and` or `or` is evaluated, unless the last value decides.
 pub(crate) fn next_in_logic(
     state: &mut State,
@@ -120,31 +109,12 @@ pub(crate) fn next_in_logic(
 {
     match forms.pop_front() {
         None => Ok(Control::Return(last)),
-        Some(_form) if decides(logic, &last) => Ok(Control::Return(last)),
+        Some(_form) if logic.decides(&last) => Ok(Control::Return(last)),
         Some(form) => {
             let frame = Frame::Logic { logic, forms, room };
             state.frames.push_front(frame)?;
             Ok(Control::Evaluate(form, room))
         }
-    }
-}
-
-fn decides(logic: Logic, value: &Value) -> bool
-    ensures { result ≡ meant.decides logic (view value.now) }
-{
-    match logic {
-        Logic::And => !is_true(value),
-        Logic::Or => is_true(value),
-    }
-}
-
-// The value of `and` or `or` before its first form.
-pub(crate) fn before(logic: Logic) -> Value
-    ensures { view result ≡ meant.before logic }
-{
-    match logic {
-        Logic::And => Value::Bool(true),
-        Logic::Or => Value::Nil,
     }
 }
 

@@ -10,7 +10,7 @@ ghost use Rattle.repl_walker.specs.Size.{control_size, frames_size, spent};
 
 use crate::frames::{Control, Frame, State, Wanted};
 use crate::names::space;
-use crate::rows::{before, next_binding, next_in_body, next_in_logic};
+use crate::rows::{next_binding, next_in_body, next_in_logic};
 use repl_asks::{Ask, Binding};
 use repl_faults::bad_form;
 use repl_values::{Function, Value};
@@ -59,7 +59,7 @@ fn begin(alloc: Global, state: &mut State, shape: Shape, room: u32) -> Result<Co
             Ok(Control::Evaluate(condition, room))
         }
         Shape::Let { bindings, body } => next_binding(state, bindings, body, room),
-        Shape::Logic(logic, forms) => next_in_logic(state, logic, before(logic), forms, room),
+        Shape::Logic(logic, forms) => next_in_logic(state, logic, logic.before(), forms, room),
         Shape::Define { name, form } => {
             state.frames.push_front(Frame::Define { name })?;
             Ok(Control::Evaluate(form, room))

@@ -1,3 +1,4 @@
 pub mod Shapes
 pub mod Seen
 pub mod Size
+pub mod Truth

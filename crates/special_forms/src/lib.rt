@@ -2,5 +2,7 @@
 #![tactic(auto)]
 
 mod shapes;
+mod truth;
 
 pub use shapes::{Binding, Logic, Shape, SpecialForm, row, shape_of};
+pub use truth::{chosen, is_true};

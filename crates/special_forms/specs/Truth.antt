@@ -1,0 +1,19 @@
+-- What is true (the Clojure reference, Special Forms, `if`; `and` and `or` of clojure.core).
+use Rattle.std.specs.Prelude.{Bool, true, false, not}
+use Rattle.repl_values.specs.Datum.{Datum, nil, boolean}
+use Rattle.special_forms.specs.declared.shapes.Logic.{Logic}
+
+-- only nil and false are false
+abbrev pub is_true : Datum → Bool
+is_true nil = false
+is_true (boolean b) = b
+is_true d = true
+
+-- `and` ends at the first value that is false, `or` at the first that is true
+abbrev pub decides : Logic → Datum → Bool
+decides Logic.And d = not (is_true d)
+decides Logic.Or d = is_true d
+
+abbrev pub before : Logic → Datum
+before Logic.And = boolean true
+before Logic.Or = nil

@@ -1,0 +1,56 @@
+// What is true, and what `and`, `or` and a condition make of it.
+ghost use Rattle.std.specs.Prelude.{◌≡◌, if◌then◌else◌};
+ghost use Rattle.repl_values.specs.View.{view};
+ghost use Rattle.special_forms.specs.Truth as meant;
+
+use crate::shapes::Logic;
+use repl_values::Value;
+use std::collections::VecDeque;
+
+/// Only nil and false are false.
+pub fn is_true(value: &Value) -> bool
+    ensures { result ≡ meant.is_true (view value.now) }
+{
+    match value {
+        Value::Nil => false,
+        Value::Bool(b) => *b,
+        _ => true,
+    }
+}
+
+/// The body that a condition with this value chooses.
+pub fn chosen(
+    condition: Value,
+    consequent: VecDeque<Value>,
+    alternative: VecDeque<Value>,
+) -> VecDeque<Value>
+    ensures { result ≡ (if meant.is_true (view condition) then consequent else alternative) }
+{
+    if is_true(&condition) {
+        consequent
+    } else {
+        alternative
+    }
+}
+
+impl Logic {
+    /// Whether a value ends `and` or `or`.
+    pub fn decides(self, value: &Value) -> bool
+        ensures { result ≡ meant.decides self (view value.now) }
+    {
+        match self {
+            Logic::And => !is_true(value),
+            Logic::Or => is_true(value),
+        }
+    }
+
+    /// The value before the first form.
+    pub fn before(self) -> Value
+        ensures { view result ≡ meant.before self }
+    {
+        match self {
+            Logic::And => Value::Bool(true),
+            Logic::Or => Value::Nil,
+        }
+    }
+}
