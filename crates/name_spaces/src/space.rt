@@ -1,8 +1,11 @@
 // The one namespace, `user`: what its names are bound to, and how symbols are resolved in it.
-ghost use Rattle.std.specs.Prelude.{◌≡◌, [], IfOk, string_bytes};
+ghost use Rattle.std.specs.Prelude.{◌≡◌, ℕ, List, None, if◌then◌else◌, Some, IfOk, OnOk, OnErr, string_bytes};
+ghost use Rattle.std.specs.Str.{bytes_eq};
 ghost use Rattle.repl_values.specs.Datum.{var};
-ghost use Rattle.repl_asks.specs.Exchange.{Fits, value};
-ghost use Rattle.repl_asks.specs.View.{ask_view, answer_view};
+ghost use Rattle.repl_asks.specs.Exchange.{value};
+ghost use Rattle.repl_asks.specs.View.{ask_view, answer_view, binding_view};
+ghost use Rattle.name_spaces.specs.Resolving as meant;
+ghost use Rattle.name_spaces.specs.Bound.{bound_in};
 
 use core_functions::CoreFunction;
 use repl_asks::{Answer, Ask, Binding};
@@ -22,7 +25,7 @@ pub struct Space {
 impl Space {
     /// A namespace that binds nothing.
     pub fn new(alloc: Global) -> Space
-        ensures { result.bindings.entries ≡ [] }
+        ensures { (name : List ℕ) → bound_in result name ≡ None }
     {
         Space {
             bindings: BTreeMap::new(alloc),
@@ -31,7 +34,9 @@ impl Space {
 
     /// Answers an ask. It fails only for want of memory, and has then bound nothing.
     pub fn answer(&mut self, alloc: Global, ask: Ask) -> Result<Answer, AllocError>
-        ensures { IfOk result (λ answer. Fits (ask_view ask) (answer_view answer)) }
+        ensures answer { IfOk result (λ answer. answer_view answer ≡ meant.answered (bound_in self.old) (ask_view ask)) }
+        ensures bound { OnOk result ((name : List ℕ) → bound_in self.new name ≡ meant.bound_after (bound_in self.old) (ask_view ask) name) }
+        ensures kept { OnErr result ((name : List ℕ) → bound_in self.new name ≡ bound_in self.old name) }
     {
         match ask {
             Ask::Resolve {
@@ -48,7 +53,10 @@ impl Space {
 
     // A symbol is resolved in the namespace, then among the core functions. One with a slash names
     // its namespace; `/` alone has no parts.
-    fn resolve(&self, alloc: Global, symbol: &str) -> Result<Answer, AllocError> {
+    #[tactic(auto, unfolding(crate::specs::Resolving::resolved))]
+    fn resolve(&self, alloc: Global, symbol: &str) -> Result<Answer, AllocError>
+        ensures { IfOk result (λ answer. answer_view answer ≡ meant.resolved (bound_in self.now) symbol.now) }
+    {
         if symbol == "/" {
             return self.resolve_simple(alloc, symbol);
         }
@@ -58,7 +66,9 @@ impl Space {
         }
     }
 
-    fn resolve_simple(&self, alloc: Global, symbol: &str) -> Result<Answer, AllocError> {
+    fn resolve_simple(&self, alloc: Global, symbol: &str) -> Result<Answer, AllocError>
+        ensures { IfOk result (λ answer. answer_view answer ≡ meant.simple_answer symbol.now (bound_in self.now symbol.now)) }
+    {
         if let Some(binding) = self.bindings.get(symbol) {
             return bound(alloc, binding);
         }
@@ -74,7 +84,9 @@ impl Space {
         symbol: &str,
         space: &str,
         name: &str,
-    ) -> Result<Answer, AllocError> {
+    ) -> Result<Answer, AllocError>
+        ensures { IfOk result (λ answer. answer_view answer ≡ meant.qualified_answer (bound_in self.now) symbol.now space.now name.now) }
+    {
         if space != USER {
             return Ok(Answer::Fault(no_such_namespace(alloc, space)?));
         }
@@ -91,7 +103,9 @@ impl Space {
         name: String,
         binding: Binding,
     ) -> Result<Answer, AllocError>
-        ensures { IfOk result (λ answer. answer_view answer ≡ value (var (string_bytes space) (string_bytes name))) }
+        ensures answer { IfOk result (λ answer. answer_view answer ≡ value (var (string_bytes space) (string_bytes name))) }
+        ensures bound { OnOk result ((q : List ℕ) → bound_in self.new q ≡ (if bytes_eq q (string_bytes name) then Some (binding_view binding) else bound_in self.old q)) }
+        ensures kept { OnErr result ((q : List ℕ) → bound_in self.new q ≡ bound_in self.old q) }
     {
         let key = String::from_str(alloc, name.as_str())?;
         drop(self.bindings.insert(key, binding)?);
@@ -99,7 +113,9 @@ impl Space {
     }
 }
 
-fn bound(alloc: Global, binding: &Binding) -> Result<Answer, AllocError> {
+fn bound(alloc: Global, binding: &Binding) -> Result<Answer, AllocError>
+    ensures { IfOk result (λ answer. answer_view answer ≡ meant.bound_answer (binding_view binding.now)) }
+{
     match binding {
         Binding::Value(value) => Ok(Answer::Value(copy(alloc, value)?)),
         Binding::Function(function) => Ok(Answer::Function(function.copy(alloc)?)),
