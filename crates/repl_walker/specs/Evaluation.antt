@@ -1,5 +1,6 @@
--- Evaluation, by cases on the form. A form stands in a place, which has its locals, and has room for so many lists,
--- vectors and maps inside one another. `walk` evaluates a form one level further down.
+-- Evaluation, by cases on the form (the Clojure reference, Evaluation and Special Forms). A form stands in a place,
+-- which has its locals, and has room for so many lists, vectors and maps inside one another. `walk` evaluates a form
+-- one level further down.
 use Rattle.std.specs.Prelude.{◌≡◌, ℕ, zero, suc, ◌+◌, List, [], ◌∷◌, ◌++◌, Bool, true, false, not, Option, Some, None, Result, Ok, Err, option_map, if◌then◌else◌, ◌==◌, ◌||◌, nat_le, nat_lt, length, take, drop, zip, codes}
 use Rattle.std.specs.Str.{bytes_eq}
 use Rattle.std.specs.List.{position}
