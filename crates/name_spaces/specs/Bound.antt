@@ -1,5 +1,5 @@
 -- What the names of a namespace are bound to.
-use Rattle.std.specs.Prelude.{ℕ, List, Option, option_map}
+use Rattle.std.specs.Prelude.{option_map}
 use Rattle.std.specs.BTreeMap.{get_by_text}
 use Rattle.repl_asks.specs.View.{binding_view}
 use Rattle.name_spaces.specs.Resolving.{Bindings}

@@ -1,14 +1,14 @@
 -- Forms in a row, of which some have values already.
 use mathlib.Core.Path.{fun_ext}
 use Rattle.std.specs.declared.collections.VecDeque.{VecDeque}
-use Rattle.std.proofs.Common.{◌≡◌, ℕ, Bool, true, false, if◌then◌else◌, Result, Ok, Err, IfOk, List, [], ◌∷◌, ◌++◌, refl, sym, ap, ◌∙◌, append_assoc, append-nil, map, zero, suc, String, Vec, Global, string_bytes}
+use Rattle.std.proofs.Common.{◌≡◌, ℕ, Bool, true, false, if◌then◌else◌, Result, Ok, Err, IfOk, List, [], ◌∷◌, ◌++◌, refl, sym, ap, ◌∙◌, append_assoc, append-nil, zero, suc, String, Vec, Global, string_bytes}
 use Rattle.std.proofs.lemmas.List.{map-append}
 use Rattle.repl_values.specs.Datum.{Datum, FunctionData, list}
 use Rattle.repl_values.specs.View.{view, items_of, pairs_view}
 use Rattle.repl_values.specs.declared.value.Value as value
 use Rattle.repl_values.proofs.Views.{value_views, view-Symbol, view-List, view-Vector, view-Map}
 use Rattle.special_forms.proofs.Sizes.{value_size-pos, value_size-List, value_size-Vector, value_size-Map}
-use Rattle.repl_walker.specs.Tree.{Kept, Tree, ends, Part, ◌>>=◌, done}
+use Rattle.repl_walker.specs.Tree.{Kept, Tree, ends, Part, ◌>>=◌}
 use Rattle.repl_walker.specs.Evaluation.{PlaceData, CalleeData, core_callee, program_callee, row, call_value, called, symbol_value, list_value, vector_value, in_a_row, value_at}
 use Rattle.repl_walker.specs.Machine.{kept_of, answered, answered_by, call_behind, items_behind, collected, items_value, list_at}
 use Rattle.special_forms.specs.Seen.{views}

@@ -1,10 +1,10 @@
 -- Evaluation, by cases on the form (the Clojure reference, Evaluation and Special Forms). A form stands in a place,
 -- which has its locals, and has room for so many lists, vectors and maps inside one another. `walk` evaluates a form
 -- one level further down.
-use Rattle.std.specs.Prelude.{◌≡◌, ℕ, zero, suc, ◌+◌, List, [], ◌∷◌, ◌++◌, Bool, true, false, not, Option, Some, None, Result, Ok, Err, option_map, if◌then◌else◌, ◌==◌, ◌||◌, nat_le, nat_lt, length, take, drop, zip, codes}
+use Rattle.std.specs.Prelude.{ℕ, zero, suc, ◌+◌, List, [], ◌∷◌, ◌++◌, Option, Some, None, Ok, Err, if◌then◌else◌, ◌==◌, ◌||◌, nat_lt, length, take, drop, zip, codes}
 use Rattle.std.specs.Str.{bytes_eq}
 use Rattle.std.specs.List.{position}
-use Rattle.repl_values.specs.Datum.{Datum, nil, boolean, integer, string, keyword, symbol, list, vector, map, ref, atom, agent, var, fault, Items, no_items, item, Pairs, no_pairs, pair, FunctionData}
+use Rattle.repl_values.specs.Datum.{Datum, nil, keyword, symbol, list, vector, map, fault, no_items, item, Pairs, no_pairs, pair, FunctionData}
 use Rattle.std.specs.Option.{option_and_then}
 use Rattle.repl_values.specs.View.{items_of, pairs_of}
 use Rattle.repl_values.specs.Repeats.{first_repeat}

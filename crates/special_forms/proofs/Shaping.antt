@@ -1,8 +1,6 @@
 -- Parts of special forms that are taken one by one.
-use Rattle.std.proofs.Common.{◌≡◌, ℕ, zero, suc, ◌<◌, ◌≤◌, length, arith, Bor, List, [], ◌∷◌, ◌++◌, Option, Some, None, refl, sym, ap, ◌∙◌, append_assoc, append-nil, option_map, map, string_bytes, String, Vec, Global}
+use Rattle.std.proofs.Common.{◌≡◌, ℕ, List, [], ◌∷◌, ◌++◌, Option, Some, None, refl, sym, ap, ◌∙◌, append_assoc, append-nil, option_map, map, string_bytes, String, Vec, Global}
 use Rattle.std.proofs.lemmas.List.{map-append}
-use Rattle.std.specs.Option.{option_and_then, MatchOption}
-use Rattle.std.specs.List.{HoldsAt}
 use Rattle.repl_values.specs.Datum.{Datum}
 use Rattle.repl_values.specs.View.{view, items_of}
 use Rattle.repl_values.specs.declared.value.Value as value

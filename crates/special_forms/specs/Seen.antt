@@ -1,5 +1,5 @@
 -- What the code's parts of a form stand for.
-use Rattle.std.specs.Prelude.{List, map, string_bytes, Option, option_map}
+use Rattle.std.specs.Prelude.{List, map, string_bytes}
 use Rattle.repl_values.specs.Datum.{Datum}
 use Rattle.repl_values.specs.View.{view}
 use Rattle.repl_values.specs.declared.value.Value.{Value}

@@ -1,7 +1,7 @@
 use Rattle.std.proofs.Common.{ap, sym}
 use Rattle.repl_values.specs.View.{view}
 use Rattle.repl_walker.specs.Tree.{Kept, Tree}
-use Rattle.repl_walker.specs.Machine.{callee_view, place_of, next_of, kept_of}
+use Rattle.repl_walker.specs.Machine.{place_of, next_of, kept_of}
 use Rattle.special_forms.specs.Seen.{views}
 use Rattle.repl_walker.proofs.Evaluating.{items_step}
 use Rattle.repl_walker.proofs.rows.next_item.Goals as goal
