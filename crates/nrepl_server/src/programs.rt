@@ -1,7 +1,7 @@
 // Programs with their replies, as the language's rules say. One request each, the bare actor's.
 use crate::tests::Case;
 
-pub(crate) const PROGRAMS: [Case; 42] = [
+pub(crate) const PROGRAMS: [Case; 45] = [
     // (str nil "a" [1 "b"])
     Case {
         input: b"d4:code21:(str nil \"a\" [1 \"b\"])2:id1:12:op4:evale",
@@ -293,6 +293,27 @@ pub(crate) const PROGRAMS: [Case; 42] = [
     Case {
         input: b"d4:code17:(dosync 1) (ns a)2:id1:12:op4:evale",
         output: b"d2:ex32:class java.lang.RuntimeException2:id1:17:root-ex32:class java.lang.RuntimeException6:statusl10:eval-erroreed3:err77:java.lang.RuntimeException: Unable to resolve symbol: dosync in this context\n2:id1:1ed2:ex32:class java.lang.RuntimeException2:id1:17:root-ex32:class java.lang.RuntimeException6:statusl10:eval-erroreed3:err73:java.lang.RuntimeException: Unable to resolve symbol: ns in this context\n2:id1:1ed2:id1:16:statusl4:doneee",
+        status: 0,
+        line: "",
+    },
+    // a form of 10,000 calls, and one of 10,001
+    Case {
+        input: b"d4:code138:(defn f [n] (if (zero? n) 0 (do (f (dec n)) (f (dec n))))) (do (f 10) (f 9) (f 7) (f 2) (f 1)) (do (f 10) (f 9) (f 7) (f 2) (f 1) (inc 0))2:id1:12:op4:evale",
+        output: b"d2:id1:12:ns4:user5:value8:#'user/fed2:id1:12:ns4:user5:value1:0ed2:ex32:class java.lang.RuntimeException2:id1:17:root-ex32:class java.lang.RuntimeException6:statusl10:eval-erroreed3:err60:java.lang.RuntimeException: Budget of 10000 calls is passed\n2:id1:1ed2:id1:16:statusl4:doneee",
+        status: 0,
+        line: "",
+    },
+    // faults of core functions
+    Case {
+        input: b"d4:code95:(inc 9223372036854775807) (- -9223372036854775808) (inc \"a\") (count 5) (hash-map :a) (quot 1 0)2:id1:12:op4:evale",
+        output: b"d2:ex35:class java.lang.ArithmeticException2:id1:17:root-ex35:class java.lang.ArithmeticException6:statusl10:eval-erroreed3:err48:java.lang.ArithmeticException: integer overflow\n2:id1:1ed2:ex35:class java.lang.ArithmeticException2:id1:17:root-ex35:class java.lang.ArithmeticException6:statusl10:eval-erroreed3:err48:java.lang.ArithmeticException: integer overflow\n2:id1:1ed2:ex34:class java.lang.ClassCastException2:id1:17:root-ex34:class java.lang.ClassCastException6:statusl10:eval-erroreed3:err57:java.lang.ClassCastException: Wrong argument to inc: \"a\"\n2:id1:1ed2:ex34:class java.lang.ClassCastException2:id1:17:root-ex34:class java.lang.ClassCastException6:statusl10:eval-erroreed3:err57:java.lang.ClassCastException: Wrong argument to count: 5\n2:id1:1ed2:ex40:class java.lang.IllegalArgumentException2:id1:17:root-ex40:class java.lang.IllegalArgumentException6:statusl10:eval-erroreed3:err66:java.lang.IllegalArgumentException: No value supplied for key: :a\n2:id1:1ed2:ex35:class java.lang.ArithmeticException2:id1:17:root-ex35:class java.lang.ArithmeticException6:statusl10:eval-erroreed3:err46:java.lang.ArithmeticException: Divide by zero\n2:id1:1ed2:id1:16:statusl4:doneee",
+        status: 0,
+        line: "",
+    },
+    // a text of 1,048,575 bytes, and one of a byte more
+    Case {
+        input: b"d4:code509:(let [a \"0123456789abcdef\" b (str a a a a a a a a a a a a a a a a) c (str b b b b b b b b b b b b b b b b) d (str c c c c c c c c c c c c c c c c) e (str d d d d d d d d d d d d d d d)] (let [g (str e c c c c c c c c c c c c c c c b b b b b b b b b b b b b b b a a a a a a a a a a a a a a a \"0123456789abcde\")] (count g))) (let [a \"0123456789abcdef\" b (str a a a a a a a a a a a a a a a a) c (str b b b b b b b b b b b b b b b b) d (str c c c c c c c c c c c c c c c c)] (str d d d d d d d d d d d d d d d d))2:id1:12:op4:evale",
+        output: b"d2:id1:12:ns4:user5:value7:1048575ed2:ex40:class java.lang.IllegalArgumentException2:id1:17:root-ex40:class java.lang.IllegalArgumentException6:statusl10:eval-erroreed3:err52:java.lang.IllegalArgumentException: Value too large\n2:id1:1ed2:id1:16:statusl4:doneee",
         status: 0,
         line: "",
     },
