@@ -1,5 +1,5 @@
 -- What a value of bencode is (BEP 3), without where it lies in memory. A dictionary's pairs stand in some order.
-use Rattle.std.specs.Prelude.{◌≡◌, ℕ, ℤ, List, Bool, true, false, ◌||◌, bytes_eq}
+use Rattle.std.specs.Prelude.{◌≡◌, ℕ, ℤ, List, Bool, true, false, ◌||◌, Option, Some, None, if◌then◌else◌, bytes_eq}
 
 mutual
   pub data Tree : Type 0 where
@@ -33,3 +33,8 @@ has_key key (pair k t ps) = bytes_eq key k || has_key key ps
 
 abbrev pub HasKey : List ℕ → Pairs → Type 0
 HasKey key ps = has_key key ps ≡ true
+
+-- the value under a key
+abbrev pub field : List ℕ → Pairs → Option Tree
+field key no_pairs = None
+field key (pair k t ps) = if bytes_eq key k then Some t else field key ps

@@ -34,6 +34,11 @@ pub fn a_stream_has_one_reading()
         → Streams limit 0 bytes ms e → Streams limit 0 bytes ns f → (ms ≡ ns) × (e ≡ f) }
 {}
 
+/// Each stream has a reading.
+pub fn every_stream_reads()
+    ensures { (limit : ℕ) (bytes : List ℕ) → (ms : List Tree) × (end : Ending) × Streams limit 0 bytes ms end }
+{}
+
 /// What is spelled within the limits is read, whatever follows: the text of a dictionary, with its
 /// pairs in any order, is read as the dictionary, and the stream goes on behind it.
 pub fn a_text_is_read()

@@ -17,6 +17,7 @@ mod course;
 mod cut;
 mod decoder;
 mod fault;
+mod fields;
 pub mod laws;
 mod reader;
 mod sign;
@@ -25,6 +26,7 @@ mod write;
 pub use ben::{Ben, Dictionary};
 pub use decoder::Decoder;
 pub use fault::WireFault;
+pub use fields::{put_field, take_field};
 pub use write::write_into;
 
 #[cfg(test)]

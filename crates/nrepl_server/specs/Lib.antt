@@ -1,1 +1,3 @@
-pub mod Written
+pub mod Schedule
+pub mod Served
+pub mod Fresh

@@ -1,7 +1,11 @@
 // One stream served to its end: pieces in, replies out.
-ghost use Rattle.std.specs.Prelude.{◌≡◌, ◌≤◌, [], OnOk};
+ghost use Rattle.std.specs.Prelude.{◌≡◌, ◌≤◌, ℕ, List, [], ◌++◌, OnOk, OnErr, IfOk};
 ghost use Rattle.std.specs.Io.KnownBytes.{Appends, Keeps};
-ghost use Rattle.nrepl_server.specs.Written.{Grows};
+ghost use Rattle.repl_core.specs.Readings.{Readings, AreRight};
+ghost use Rattle.repl_core.specs.World.{World, opening};
+ghost use Rattle.nrepl_server.specs.Schedule.{stream_end};
+ghost use Rattle.nrepl_server.specs.Served.{Moves, Serves, BeginsToServe, IsReadUp};
+ghost use Rattle.nrepl_server.specs.Fresh.{IsFresh};
 
 use bencode_wire::WireFault;
 use bytes::Bytes;
@@ -52,14 +56,20 @@ impl From<AllocError> for PipeError {
 ///
 /// After each piece come rounds: the bare actor has a turn, and then the replies that wait are
 /// written. They end with the first round in which the turn is refused, other than for replies that
-/// wait. Reading stops at the end of the input, at a fault of the stream and at the last step.
+/// wait. Reading stops at the end of the input, at a fault of the stream and at the last step. After
+/// an error what was written is a part of the whole from its front.
 pub fn pipe<R: Read, W: Write>(
     alloc: Global,
     config: Config,
     reader: &mut R,
     writer: &mut W,
 ) -> Result<PipeEnd, PipeError>
-    ensures { OnOk result (Grows (W.contents writer.old) (W.contents writer.new)) }
+    ensures ok { (r : Readings) → AreRight r → IfOk result (λ end.
+        Moves (R.remaining reader.old) (R.remaining reader.new) (W.contents writer.old) (W.contents writer.new)
+        (λ read written. Serves r (opening config) read written end) × IsReadUp end (R.remaining reader.new)) }
+    ensures err { (r : Readings) → AreRight r → OnErr result (
+        Moves (R.remaining reader.old) (R.remaining reader.new) (W.contents writer.old) (W.contents writer.new)
+        (λ read written. BeginsToServe r (opening config) read written)) }
 {
     let mut server = Server::new(alloc, config);
     serve(alloc, &mut server, reader, writer)
@@ -71,7 +81,12 @@ fn serve<C: Core, R: Read, W: Write>(
     reader: &mut R,
     writer: &mut W,
 ) -> Result<PipeEnd, PipeError>
-    ensures { OnOk result (Grows (W.contents writer.old) (W.contents writer.new)) }
+    ensures ok { (r : Readings) (w : World) → AreRight r → C.stands r core.old w → IsFresh w → IfOk result (λ end.
+        Moves (R.remaining reader.old) (R.remaining reader.new) (W.contents writer.old) (W.contents writer.new)
+        (λ read written. Serves r w read written end) × IsReadUp end (R.remaining reader.new)) }
+    ensures err { (r : Readings) (w : World) → AreRight r → C.stands r core.old w → IsFresh w → OnErr result (
+        Moves (R.remaining reader.old) (R.remaining reader.new) (W.contents writer.old) (W.contents writer.new)
+        (λ read written. BeginsToServe r w read written)) }
 {
     loop {
         let Some(piece) = next_piece(alloc, reader)? else {
@@ -92,7 +107,9 @@ fn serve<C: Core, R: Read, W: Write>(
     }
 }
 
-fn end_of<C: Core>(core: &C) -> PipeEnd {
+fn end_of<C: Core>(core: &C) -> PipeEnd
+    ensures { (r : Readings) (w : World) → C.stands r core.now w → result ≡ stream_end (r.stream w.heard).ending }
+{
     match core.wire() {
         Wire::Whole => PipeEnd::Whole,
         Wire::Partial => PipeEnd::Truncated,
@@ -119,7 +136,6 @@ enum Rounds {
 
 fn run_rounds<C: Core, W: Write>(core: &mut C, writer: &mut W) -> Result<Rounds, PipeError>
     ensures steps { (C.state core.new).steps ≤ (C.state core.old).steps }
-    ensures written { OnOk result (Grows (W.contents writer.old) (W.contents writer.new)) }
 {
     loop {
         let gone = core.go(Actor::Bare);
@@ -137,7 +153,6 @@ fn run_rounds<C: Core, W: Write>(core: &mut C, writer: &mut W) -> Result<Rounds,
 fn write_replies<C: Core, W: Write>(core: &mut C, writer: &mut W) -> Result<(), PipeError>
     ensures steps { (C.state core.new).steps ≡ (C.state core.old).steps }
     ensures empty { OnOk result ((C.state core.new).outbox ≡ []) }
-    ensures written { OnOk result (Grows (W.contents writer.old) (W.contents writer.new)) }
 {
     while let Some(reply) = core.drain() {
         write_reply(reply.as_slice(), writer)?;
@@ -145,13 +160,20 @@ fn write_replies<C: Core, W: Write>(core: &mut C, writer: &mut W) -> Result<(), 
     Ok(())
 }
 
+// Writes the whole reply. After an error a part of it was written from its front.
 fn write_reply<W: Write>(reply: &[u8], writer: &mut W) -> Result<(), PipeError>
-    ensures { OnOk result (Appends (W.contents writer.old) (W.contents writer.new) reply.now) }
+    ensures ok { OnOk result (Appends (W.contents writer.old) (W.contents writer.new) reply.now) }
+    ensures err { OnErr result ((front back : List ℕ) × (reply.now ≡ front ++ back) × Appends (W.contents writer.old) (W.contents writer.new) front) }
 {
-    match writer.write_all(reply) {
-        Ok(()) => flush(writer),
-        Err(_) => Err(PipeError::WriteFailed),
+    let mut rest = reply;
+    while !rest.is_empty() {
+        match writer.write(rest) {
+            Ok(0) => return Err(PipeError::WriteFailed),
+            Ok(n) => rest = &rest[n..],
+            Err(_) => return Err(PipeError::WriteFailed),
+        }
     }
+    flush(writer)
 }
 
 fn flush<W: Write>(writer: &mut W) -> Result<(), PipeError>

@@ -229,3 +229,42 @@ fn failing_writes(rt: HostRuntime) -> Result<(), Fail> {
     }
     Ok(())
 }
+
+// Prints 1,048,575 letters, and then what stands in `more`.
+const LONG_OUTPUT: &str =
+    "(let [a \"aaaaaaaaaaaaaaaa\" b (str a a a a a a a a a a a a a a a a) c (str b b b b b b b b b b b b b b b b) d (str c c c c c c c c c c c c c c c c)] (print (str d d d d d d d d d d d d d d d c c c c c c c c c c c c c c c b b b b b b b b b b b b b b b a a a a a a a a a a a a a a a \"aaaaaaaaaaaaaaa\")) ";
+
+const TOO_LONG_REPLIES: &[u8] =
+    b"d2:ex40:class java.lang.IllegalArgumentException2:id1:17:root-ex40:class java.lang.IllegalArgumentException6:statusl10:eval-erroreed3:err52:java.lang.IllegalArgumentException: Output too long\n2:id1:1ed2:id1:16:statusl4:doneee";
+
+// A form may print 1,048,576 bytes. What it printed before it passed them is written.
+#[test]
+fn output_at_its_limit(rt: HostRuntime) -> Result<(), Fail> {
+    let value = b"d2:id1:12:ns4:user5:value3:niled2:id1:16:statusl4:doneee".as_slice();
+    for (more, replies) in [
+        ("(print \"b\"))", value),
+        ("(print \"b\") (print \"\"))", value),
+        ("(print \"b\") (print \"c\"))", TOO_LONG_REPLIES),
+    ] {
+        let length = LONG_OUTPUT.len() + more.len();
+        let request = format!(in rt.alloc();
+            "d4:code{length}:{LONG_OUTPUT}{more}2:id1:12:op4:evale"
+        )?;
+        let mut expected = Vec::new(rt.alloc());
+        expected.extend_from_slice(b"d2:id1:13:out1048576:")?;
+        for _ in 0..1_048_575usize {
+            expected.push(b'a')?;
+        }
+        expected.extend_from_slice(b"be")?;
+        expected.extend_from_slice(replies)?;
+        let mut reader = request.as_bytes();
+        let mut output = Vec::new(rt.alloc());
+        let mut errors = Vec::new(rt.alloc());
+        let config = Config::new();
+        let status = pipe_command(rt.alloc(), config, &mut reader, &mut output, &mut errors);
+        assert!(rt; output == expected, "{more}");
+        assert_eq!(rt; errors.len(), 0, "{more}");
+        assert_eq!(rt; status, 0, "{more}");
+    }
+    Ok(())
+}

@@ -1,2 +1,8 @@
 pub mod Server
-pub mod Shown
+pub mod Readings
+pub mod World
+pub mod Move
+pub mod Step
+pub mod Turned
+pub mod Waiting
+pub mod Stands

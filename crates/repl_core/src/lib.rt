@@ -2,9 +2,13 @@
 #![tactic(auto)]
 
 mod config;
+mod in_hand;
+mod outbox;
+mod refusal;
 mod server;
 mod turns;
 
 pub use config::{Config, RETRIES, STEPS};
+pub use refusal::{Actor, Refusal, Wire};
 pub use server::Server;
-pub use turns::{Actor, Core, Refusal, Wire};
+pub use turns::Core;

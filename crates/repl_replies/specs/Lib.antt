@@ -1,2 +1,4 @@
+pub mod Building
 pub mod Replies
-pub mod Heard
+pub mod Requests
+pub mod View

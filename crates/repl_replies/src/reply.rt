@@ -1,8 +1,13 @@
 // The replies, and their bytes.
-ghost use Rattle.std.specs.Prelude.{◌≡◌, None, IfOk};
-ghost use Rattle.repl_replies.specs.Replies.{field_view, IsOneMessage};
+ghost use Rattle.std.specs.Prelude.{◌≡◌, ◌++◌, IfOk, OnOk, codes, map, string_bytes};
+ghost use Rattle.bencode_wire.specs.Tree.{string, no_pairs};
+ghost use Rattle.bencode_wire.specs.Spelling.{put_pair};
+ghost use Rattle.bencode_wire.specs.View.{view, trees_view, pairs_view};
+ghost use Rattle.repl_replies.specs.Building.{puts};
+ghost use Rattle.repl_replies.specs.Replies.{no_origin, given, status, status_value, strings, body_fields, bytes_of};
+ghost use Rattle.repl_replies.specs.View.{field_view, origin_view, body_view, reply_view};
 
-use bencode_wire::{Ben, Dictionary, write_into};
+use bencode_wire::{Ben, Dictionary, put_field, write_into};
 use std::alloc::{AllocError, Global};
 
 /// What of a request its replies carry: its `id` and `session`, as they came.
@@ -42,8 +47,7 @@ pub struct Reply {
 impl Origin {
     /// The origin of a reply that belongs to no request.
     pub fn none() -> Origin
-        ensures id { result.id ≡ None }
-        ensures session { result.session ≡ None }
+        ensures { origin_view result ≡ no_origin }
     {
         Origin {
             id: None,
@@ -53,8 +57,7 @@ impl Origin {
 
     /// The same origin once more. It fails only for want of memory.
     pub fn copy(&self, alloc: Global) -> Result<Origin, AllocError>
-        ensures id { IfOk result (λ copied. field_view copied.id ≡ field_view self.now.id) }
-        ensures session { IfOk result (λ copied. field_view copied.session ≡ field_view self.now.session) }
+        ensures { IfOk result (λ copied. origin_view copied ≡ origin_view self.now) }
     {
         Ok(Origin {
             id: copy_field(alloc, &self.id)?,
@@ -74,7 +77,7 @@ fn copy_field(alloc: Global, field: &Option<Ben>) -> Result<Option<Ben>, AllocEr
 
 /// The reply as a message of the stream: a dictionary with its keys sorted.
 pub fn reply_bytes(alloc: Global, reply: Reply) -> Result<Vec<u8>, AllocError>
-    ensures { IfOk result (λ bytes. IsOneMessage bytes.items) }
+    ensures { IfOk result (λ bytes. bytes.items ≡ bytes_of (reply_view reply)) }
 {
     let Reply { origin, body } = reply;
     let Origin { id, session } = origin;
@@ -88,10 +91,11 @@ pub fn reply_bytes(alloc: Global, reply: Reply) -> Result<Vec<u8>, AllocError>
     Ok(bytes)
 }
 
-fn put(alloc: Global, fields: &mut Dictionary, key: &str, value: Ben) -> Result<(), AllocError> {
+fn put(alloc: Global, fields: &mut Dictionary, key: &str, value: Ben) -> Result<(), AllocError>
+    ensures { OnOk result (pairs_view fields.new.entries ≡ put_pair (pairs_view fields.old.entries) key.now (view value)) }
+{
     let key = Vec::from_slice(alloc, key.as_bytes())?;
-    drop(fields.insert(key, value)?);
-    Ok(())
+    put_field(fields, key, value)
 }
 
 fn put_given(
@@ -99,7 +103,9 @@ fn put_given(
     fields: &mut Dictionary,
     key: &str,
     value: Option<Ben>,
-) -> Result<(), AllocError> {
+) -> Result<(), AllocError>
+    ensures { OnOk result (pairs_view fields.new.entries ≡ puts (pairs_view fields.old.entries) (given key.now (field_view value) no_pairs)) }
+{
     match value {
         Some(value) => put(alloc, fields, key, value),
         None => Ok(()),
@@ -111,11 +117,15 @@ fn put_text(
     fields: &mut Dictionary,
     key: &str,
     text: String,
-) -> Result<(), AllocError> {
+) -> Result<(), AllocError>
+    ensures { OnOk result (pairs_view fields.new.entries ≡ put_pair (pairs_view fields.old.entries) key.now (string (string_bytes text))) }
+{
     put(alloc, fields, key, Ben::String(text.into_bytes()))
 }
 
-fn put_body(alloc: Global, fields: &mut Dictionary, body: Body) -> Result<(), AllocError> {
+fn put_body(alloc: Global, fields: &mut Dictionary, body: Body) -> Result<(), AllocError>
+    ensures { OnOk result (pairs_view fields.new.entries ≡ puts (pairs_view fields.old.entries) (body_fields (body_view body))) }
+{
     match body {
         Body::Value { value, ns } => {
             put_text(alloc, fields, "value", value)?;
@@ -136,14 +146,18 @@ fn put_body(alloc: Global, fields: &mut Dictionary, body: Body) -> Result<(), Al
     }
 }
 
-fn class_text(alloc: Global, class: &str) -> Result<String, AllocError> {
+fn class_text(alloc: Global, class: &str) -> Result<String, AllocError>
+    ensures { IfOk result (λ text. string_bytes text ≡ codes "class " ++ class.now) }
+{
     let mut text = String::from_str(alloc, "class ")?;
     text.push_str(class)?;
     Ok(text)
 }
 
 // The words of a reply's status, in the order in which they are sent; none where it has no status.
-fn statuses(body: &Body) -> &'static [&'static str] {
+fn statuses(body: &Body) -> &'static [&'static str]
+    ensures { map (λ word. word.now) result.now ≡ status (body_view body.now) }
+{
     match body {
         Body::Value { .. } => &[],
         Body::Output(_) => &[],
@@ -158,14 +172,23 @@ fn statuses(body: &Body) -> &'static [&'static str] {
     }
 }
 
-fn put_statuses(alloc: Global, fields: &mut Dictionary, body: &Body) -> Result<(), AllocError> {
-    let words = statuses(body);
-    if words.is_empty() {
-        return Ok(());
-    }
+fn strings_of(alloc: Global, words: &[&str]) -> Result<Vec<Ben>, AllocError>
+    ensures { IfOk result (λ list. trees_view list.items ≡ strings (map (λ word. word.now) words.now)) }
+{
     let mut list = Vec::with_capacity(alloc, words.len())?;
     for word in words {
         list.push(Ben::String(Vec::from_slice(alloc, word.as_bytes())?))?;
     }
+    Ok(list)
+}
+
+fn put_statuses(alloc: Global, fields: &mut Dictionary, body: &Body) -> Result<(), AllocError>
+    ensures { OnOk result (pairs_view fields.new.entries ≡ puts (pairs_view fields.old.entries) (given (codes "status") (status_value (status (body_view body.now))) no_pairs)) }
+{
+    let words = statuses(body);
+    if words.is_empty() {
+        return Ok(());
+    }
+    let list = strings_of(alloc, words)?;
     put(alloc, fields, "status", Ben::List(list))
 }

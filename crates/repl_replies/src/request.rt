@@ -1,8 +1,14 @@
 // What a message asks for.
-ghost use Rattle.repl_replies.specs.Heard.{IsBare};
+ghost use Rattle.std.specs.Prelude.{◌≡◌, Some, None, if◌then◌else◌, codes, option_map, string_bytes};
+ghost use Rattle.std.specs.Str.{is_utf8};
+ghost use Rattle.bencode_wire.specs.View.{pairs_view};
+ghost use Rattle.repl_replies.specs.Replies.{unknown_op};
+ghost use Rattle.repl_replies.specs.Requests as meant;
+ghost use Rattle.repl_replies.specs.Requests.{heard, is_string, in_session, refused};
+ghost use Rattle.repl_replies.specs.View.{field_view, origin_view, body_view, heard_view};
 
 use crate::reply::{Body, Origin, Reply};
-use bencode_wire::{Ben, Dictionary};
+use bencode_wire::{Ben, Dictionary, take_field};
 
 /// A request to evaluate.
 #[derive(Drop)]
@@ -23,20 +29,27 @@ pub enum Heard {
 /// Reads a message. The operation is looked at first, then the session, then the code. Keys that
 /// are not known are ignored.
 pub fn request_of(mut message: Dictionary) -> Heard
-    ensures { IsBare result }
+    ensures { heard_view result ≡ heard (pairs_view message.entries) }
 {
-    let op = message.remove(b"op".as_slice());
-    let code = message.remove(b"code".as_slice());
-    let ns = message.remove(b"ns".as_slice());
-    let id = message.remove(b"id".as_slice());
-    let session = message.remove(b"session".as_slice());
+    let op = take_field(&mut message, b"op");
+    let code = take_field(&mut message, b"code");
+    let ns = take_field(&mut message, b"ns");
+    let id = take_field(&mut message, b"id");
+    let session = take_field(&mut message, b"session");
+    judged(op, code, ns, Origin { id, session })
+}
+
+fn judged(op: Option<Ben>, code: Option<Ben>, ns: Option<Ben>, origin: Origin) -> Heard
+    ensures { heard_view result ≡ (if is_string (codes "eval") (field_view op)
+        then in_session (origin_view origin) (field_view code) (field_view ns) (field_view origin.session)
+        else refused (origin_view origin) (unknown_op (field_view op))) }
+{
     if !is_eval(&op) {
-        return answered(Origin { id, session }, Body::UnknownOp(op));
+        return answered(origin, Body::UnknownOp(op));
     }
-    if session.is_some() {
-        return answered(Origin { id, session }, Body::UnknownSession);
+    if origin.session.is_some() {
+        return answered(origin, Body::UnknownSession);
     }
-    let origin = Origin { id, session: None };
     match text_of(code) {
         Some(code) => Heard::Waits(Request { origin, code, ns }),
         None => answered(origin, Body::NoCode),
@@ -44,12 +57,14 @@ pub fn request_of(mut message: Dictionary) -> Heard
 }
 
 fn answered(origin: Origin, body: Body) -> Heard
-    ensures { IsBare result }
+    ensures { heard_view result ≡ refused (origin_view origin) (body_view body) }
 {
     Heard::Answered(Reply { origin, body })
 }
 
-fn is_eval(op: &Option<Ben>) -> bool {
+fn is_eval(op: &Option<Ben>) -> bool
+    ensures { result ≡ is_string (codes "eval") (field_view op.now) }
+{
     match op {
         Some(Ben::String(name)) => name.as_slice() == b"eval".as_slice(),
         _ => false,
@@ -57,9 +72,17 @@ fn is_eval(op: &Option<Ben>) -> bool {
 }
 
 // The value as text, if it is a string in UTF-8.
-fn text_of(value: Option<Ben>) -> Option<String> {
+fn text_of(value: Option<Ben>) -> Option<String>
+    ensures { option_map string_bytes result ≡ meant.text_of (field_view value) }
+{
     match value {
-        Some(Ben::String(bytes)) => String::from_utf8(bytes).ok(),
+        Some(Ben::String(bytes)) => text_in(bytes),
         _other => None,
     }
+}
+
+fn text_in(bytes: Vec<u8>) -> Option<String>
+    ensures { option_map string_bytes result ≡ (if is_utf8 bytes.items then Some bytes.items else None) }
+{
+    String::from_utf8(bytes).ok()
 }

@@ -1,0 +1,75 @@
+-- The server of one tenant without sessions, as plain data.
+use Rattle.std.specs.Prelude.{ℕ, List, [], ◌++◌, Option, None}
+use Rattle.repl_values.specs.Datum.{Items}
+use Rattle.repl_faults.specs.Failure.{Failure}
+use Rattle.repl_walker.specs.Tree.{Tree}
+use Rattle.repl_replies.specs.Replies.{OriginData, ReplyData}
+use Rattle.repl_replies.specs.Requests.{RequestData}
+use Rattle.name_spaces.specs.Resolving.{Bindings}
+use Rattle.repl_core.specs.declared.config.Config.{Config}
+
+-- a request that was begun and is not done
+pub record Hand : Type 0 where
+  pub origin : OriginData
+  -- what the form that runs has still to do; none between two forms
+  pub running : Option Tree
+  -- the forms behind it, and the fault behind them all
+  pub forms : Items
+  pub fault : Option Failure
+
+pub record World : Type 0 where
+  -- how many more pieces, and asks, starts and ends of forms it takes
+  pub steps : ℕ
+  -- how many attempts a transaction has
+  pub retries : ℕ
+  -- the bytes of the stream so far
+  pub heard : List ℕ
+  -- the requests that wait, oldest first, and the one in hand
+  pub waiting : List RequestData
+  pub hand : Option Hand
+  -- the replies that wait, oldest first
+  pub replies : List ReplyData
+  -- what the names of `user` are bound to
+  pub bindings : Bindings
+
+-- a server that has heard nothing
+abbrev pub opening : Config → World
+opening config = record {
+  steps = config.steps;
+  retries = config.retries;
+  heard = [];
+  waiting = [];
+  hand = None;
+  replies = [];
+  bindings = λ name. None;
+}
+
+abbrev pub with_replies : List ReplyData → World → World
+with_replies more w = record {
+  steps = w.steps; retries = w.retries; heard = w.heard; waiting = w.waiting; hand = w.hand; replies = w.replies ++ more; bindings = w.bindings;
+}
+
+abbrev pub with_waiting : List RequestData → World → World
+with_waiting waiting w = record {
+  steps = w.steps; retries = w.retries; heard = w.heard; waiting = waiting; hand = w.hand; replies = w.replies; bindings = w.bindings;
+}
+
+abbrev pub with_hand : Option Hand → World → World
+with_hand hand w = record {
+  steps = w.steps; retries = w.retries; heard = w.heard; waiting = w.waiting; hand = hand; replies = w.replies; bindings = w.bindings;
+}
+
+abbrev pub with_bindings : Bindings → World → World
+with_bindings bindings w = record {
+  steps = w.steps; retries = w.retries; heard = w.heard; waiting = w.waiting; hand = w.hand; replies = w.replies; bindings = bindings;
+}
+
+abbrev pub with_heard : List ℕ → World → World
+with_heard heard w = record {
+  steps = w.steps; retries = w.retries; heard = heard; waiting = w.waiting; hand = w.hand; replies = w.replies; bindings = w.bindings;
+}
+
+abbrev pub with_steps : ℕ → World → World
+with_steps steps w = record {
+  steps = steps; retries = w.retries; heard = w.heard; waiting = w.waiting; hand = w.hand; replies = w.replies; bindings = w.bindings;
+}

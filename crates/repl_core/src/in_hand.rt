@@ -1,0 +1,174 @@
+// The request in hand: its forms are evaluated one after another.
+ghost use Rattle.std.specs.Prelude.{◌≡◌, map, option_map, IfOk};
+ghost use Rattle.repl_values.specs.View.{items_view};
+ghost use Rattle.repl_faults.specs.View.{failure_of};
+ghost use Rattle.repl_jobs.specs.Job.{finished_view};
+ghost use Rattle.repl_reader.specs.View.{fault_view};
+ghost use Rattle.repl_replies.specs.Replies.{bytes_of};
+ghost use Rattle.repl_replies.specs.View.{origin_view, field_view, request_view};
+ghost use Rattle.name_spaces.specs.Bound.{bound_in};
+ghost use Rattle.repl_core.specs.Readings.{Readings, AreRight};
+ghost use Rattle.repl_core.specs.World.{World};
+ghost use Rattle.repl_core.specs.Move.{begun, ended, runs_in_user, taken_up, program_failure};
+ghost use Rattle.repl_core.specs.Step.{gone_on};
+ghost use Rattle.repl_core.specs.Waiting.{Makes, Shows, hand_view, waiting_bytes};
+
+use crate::outbox::Outbox;
+use bencode_wire::Ben;
+use name_spaces::{Space, USER};
+use repl_reader::{Forms, ReaderFault, read_all};
+use repl_replies::{Body, Origin, Request};
+use repl_values::{Fault, Value};
+use repl_walker::{Finished, Job, Progress, Work, start};
+use std::alloc::{AllocError, Global};
+use std::collections::VecDeque;
+
+/// A request that was begun and is not done.
+#[derive(Drop)]
+pub(crate) struct InHand {
+    pub(crate) origin: Origin,
+    /// The form that runs; none between two forms.
+    pub(crate) running: Option<Progress>,
+    /// The forms behind it, and the fault behind them all.
+    pub(crate) forms: VecDeque<Value>,
+    pub(crate) fault: Option<Fault>,
+}
+
+/// The request goes on: an ask is answered, a form has ended, or its next form begins.
+pub(crate) fn go_on(
+    alloc: Global,
+    outbox: &mut Outbox,
+    space: &mut Space,
+    retries: u32,
+    in_hand: InHand,
+) -> Result<Option<InHand>, AllocError>
+    ensures { (w : World) → waiting_bytes outbox.old ≡ map bytes_of w.replies → bound_in space.old ≡ w.bindings
+        → IfOk result (Shows outbox.new space.new (gone_on (hand_view in_hand) (hand_view in_hand).running w)) }
+{
+    let InHand {
+        origin,
+        running,
+        forms,
+        fault,
+    } = in_hand;
+    match running {
+        None => begin(alloc, outbox, retries, origin, forms, fault),
+        Some(Progress::Ends(finished)) => end_form(outbox, origin, finished, forms, fault),
+        Some(Progress::Asks(walk, ask)) => {
+            let answer = space.answer(alloc, ask)?;
+            let running = Some(walk.resume(alloc, answer)?);
+            Ok(Some(InHand {
+                origin,
+                running,
+                forms,
+                fault,
+            }))
+        }
+    }
+}
+
+/// Takes a request up: it begins its first form, or is over where it has none.
+pub(crate) fn take_up(
+    alloc: Global,
+    outbox: &mut Outbox,
+    retries: u32,
+    request: Request,
+) -> Result<Option<InHand>, AllocError>
+    ensures { (r : Readings) → AreRight r
+        → IfOk result (Makes (taken_up r (request_view request)) (waiting_bytes outbox.old) (waiting_bytes outbox.new)) }
+{
+    let Request { origin, code, ns } = request;
+    if !runs_in_user(&ns) {
+        outbox.post(origin, Body::NamespaceNotFound)?;
+        return Ok(None);
+    }
+    let Forms { forms, fault } = read_all(alloc, code.as_str())?;
+    let fault = match fault {
+        Some(fault) => Some(program_fault(alloc, fault)?),
+        None => None,
+    };
+    begin(
+        alloc,
+        outbox,
+        retries,
+        origin,
+        VecDeque::from_vec(forms),
+        fault,
+    )
+}
+
+/// Begins the first of the forms; where there is none the request is over.
+pub(crate) fn begin(
+    alloc: Global,
+    outbox: &mut Outbox,
+    retries: u32,
+    origin: Origin,
+    mut forms: VecDeque<Value>,
+    fault: Option<Fault>,
+) -> Result<Option<InHand>, AllocError>
+    ensures { IfOk result (Makes (begun (origin_view origin) (items_view forms.items) (option_map failure_of fault))
+        (waiting_bytes outbox.old) (waiting_bytes outbox.new)) }
+{
+    let Some(form) = forms.pop_front() else {
+        outbox.post_closing(origin, fault)?;
+        return Ok(None);
+    };
+    let job = Job {
+        work: Work::Form(form),
+        namespace: String::from_str(alloc, USER)?,
+        retries,
+    };
+    let running = Some(start(alloc, &job)?);
+    Ok(Some(InHand {
+        origin,
+        running,
+        forms,
+        fault,
+    }))
+}
+
+/// Tells how the form ended. The request waits for its next form, or is over.
+pub(crate) fn end_form(
+    outbox: &mut Outbox,
+    origin: Origin,
+    finished: Finished,
+    forms: VecDeque<Value>,
+    fault: Option<Fault>,
+) -> Result<Option<InHand>, AllocError>
+    ensures { IfOk result (Makes
+        (ended (origin_view origin) (items_view forms.items) (option_map failure_of fault) (finished_view finished))
+        (waiting_bytes outbox.old) (waiting_bytes outbox.new)) }
+{
+    outbox.post_end(&origin, finished)?;
+    if forms.is_empty() {
+        outbox.post_closing(origin, fault)?;
+        return Ok(None);
+    }
+    Ok(Some(InHand {
+        origin,
+        running: None,
+        forms,
+        fault,
+    }))
+}
+
+// A request may name `user` as its namespace, and no other.
+fn runs_in_user(ns: &Option<Ben>) -> bool
+    ensures { result ≡ runs_in_user (field_view ns.now) }
+{
+    match ns {
+        None => true,
+        Some(Ben::String(name)) => name.as_slice() == USER.as_bytes(),
+        Some(_) => false,
+    }
+}
+
+fn program_fault(alloc: Global, fault: ReaderFault) -> Result<Fault, AllocError>
+    ensures { IfOk result (λ told. failure_of told ≡ program_failure (fault_view fault)) }
+{
+    let class = String::from_str(alloc, fault.kind.class())?;
+    Ok(Fault {
+        class,
+        text: fault.text,
+    })
+}

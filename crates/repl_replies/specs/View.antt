@@ -1,0 +1,42 @@
+-- The data that the code's types stand for.
+use Rattle.std.specs.Prelude.{Option, Some, None, string_bytes}
+use Rattle.bencode_wire.specs.Tree.{Tree}
+use Rattle.bencode_wire.specs.View.{view}
+use Rattle.bencode_wire.specs.declared.ben.Ben.{Ben}
+use Rattle.repl_replies.specs.Replies.{OriginData, BodyData, value, output, exception, error_text, done, unknown_op, unknown_session, no_code, namespace_not_found, malformed, ReplyData}
+use Rattle.repl_replies.specs.Requests.{RequestData, HeardData, waits, answered}
+use Rattle.repl_replies.specs.declared.reply.Origin.{Origin}
+use Rattle.repl_replies.specs.declared.reply.Body.{Body}
+use Rattle.repl_replies.specs.declared.reply.Reply.{Reply}
+use Rattle.repl_replies.specs.declared.request.Request.{Request}
+use Rattle.repl_replies.specs.declared.request.Heard.{Heard}
+
+-- the value of a field that a request may have
+abbrev pub field_view : Option Ben → Option Tree
+field_view (Some b) = Some (view b)
+field_view None = None
+
+abbrev pub origin_view : Origin → OriginData
+origin_view o = record { id = field_view o.id; session = field_view o.session }
+
+abbrev pub body_view : Body → BodyData
+body_view (Body.Value text ns) = value (string_bytes text) (string_bytes ns)
+body_view (Body.Output text) = output (string_bytes text)
+body_view (Body.Exception class) = exception (string_bytes class)
+body_view (Body.ErrorText line) = error_text (string_bytes line)
+body_view Body.Done = done
+body_view (Body.UnknownOp op) = unknown_op (field_view op)
+body_view Body.UnknownSession = unknown_session
+body_view Body.NoCode = no_code
+body_view Body.NamespaceNotFound = namespace_not_found
+body_view Body.Malformed = malformed
+
+abbrev pub reply_view : Reply → ReplyData
+reply_view r = record { origin = origin_view r.origin; body = body_view r.body }
+
+abbrev pub request_view : Request → RequestData
+request_view r = record { origin = origin_view r.origin; code = string_bytes r.code; ns = field_view r.ns }
+
+abbrev pub heard_view : Heard → HeardData
+heard_view (Heard.Waits request) = waits (request_view request)
+heard_view (Heard.Answered reply) = answered (reply_view reply)
