@@ -1,4 +1,5 @@
 pub mod Views
+pub mod Lookups
 pub mod Rules
 pub mod Runs
 pub mod Courses

@@ -96,3 +96,14 @@ streams_stay limit place all more [] rule at h =
     (h.0, h.1, h.2 ++ more, h.3, ap (λ bs. bs ++ more) h.4 ∙ append_assoc h.0 (h.1 ∷ h.2) more, h.5, h.6)
 streams_stay limit place all more (t ∷ ms) rule at h =
     (h.0, h.1 ++ more, h.2, ap (λ bs. bs ++ more) h.3 ∙ append_assoc h.0 h.1 more, streams_stay limit (place + length h.0) h.1 more ms rule at h.4)
+
+stream_of : (limit : ℕ) (bytes : List ℕ) (ms : List Tree) (end : End) → Found limit 0 bytes ms end
+    → (ts : List Tree) × (ending : Ending) × Streams limit 0 bytes ts ending
+stream_of limit bytes ms (rests n c) found = (ms, rest found.1, found.5)
+stream_of limit bytes ms (faults rule at) found = (ms, fault rule at, found)
+
+-- a stream has a reading
+pub stream_read : (limit : ℕ) (bytes : List ℕ) → (ts : List Tree) × (ending : Ending) × Streams limit 0 bytes ts ending
+stream_read limit bytes =
+    let r = reading limit put_pair 0 start 0 bytes in
+    stream_of limit bytes r.messages r.end (found_behind limit 0 [] bytes start (kept_none limit))

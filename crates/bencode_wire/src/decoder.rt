@@ -43,7 +43,8 @@ impl Decoder {
     /// A decoder at the start of a stream. `limit` is the greatest length of a message, and of a
     /// string in one.
     pub fn new(alloc: Global, limit: usize) -> Decoder
-        ensures { Stands limit result [] [] }
+        ensures stands { Stands limit result [] [] }
+        ensures ready { ready_of result ≡ [] }
     {
         Decoder {
             alloc,

@@ -1,0 +1,70 @@
+-- A reply's fields, put in one by one, are spelled as the message that they make.
+use Rattle.std.proofs.Common.{◌≡◌, ℕ, List, [], ◌∷◌, Option, Some, None, Ordering, Less, Equal, Greater, nat_cmp, map, refl, sym, ap, ◌∙◌, codes, rules, Bor}
+use Rattle.std.specs.BTreeMap.{BTreeMap}
+use Rattle.std.specs.Cmp.Lexicographic.{slice_cmp}
+use Rattle.std.specs.Ordering.{match_ordering}
+use Rattle.bencode_wire.specs.Tree.{Tree, string, dictionary, tree, Pairs, no_pairs, pair}
+use Rattle.bencode_wire.specs.Spelling.{text, canonical, put_pair, put_pairs, sorted}
+use Rattle.bencode_wire.specs.View.{view, trees_of, pairs_view}
+use Rattle.bencode_wire.specs.declared.ben.Ben.{Ben, Dictionary, the_lemmas}
+use Rattle.bencode_wire.proofs.Views.{Key, each_sorted}
+use Rattle.bencode_wire.proofs.Written.{sorted_twice}
+use Rattle.repl_replies.specs.Building.{puts}
+use Rattle.repl_replies.specs.Replies.{ReplyData, given, status, status_value, strings, body_fields, message, bytes_of}
+
+-- each word as a string
+pub trees_of-strings : (words : List (Bor (List ℕ))) → trees_of (map (λ word. string word.now) words) ≡ strings (map (λ word. word.now) words)
+trees_of-strings [] = refl
+trees_of-strings (word ∷ words) = ap (tree (string word.now)) (trees_of-strings words)
+
+pub view-Dictionary : (fields : BTreeMap Key Ben) → view (Dictionary fields) ≡ dictionary (pairs_view fields.entries)
+view-Dictionary fields = search (rules, the_lemmas)
+
+each_sorted-match_ordering : (o : Ordering) (a b c : Pairs) → each_sorted (match_ordering o a b c) ≡ match_ordering o (each_sorted a) (each_sorted b) (each_sorted c)
+each_sorted-match_ordering Less a b c = refl
+each_sorted-match_ordering Equal a b c = refl
+each_sorted-match_ordering Greater a b c = refl
+
+each_sorted-put_pair : (ps : Pairs) (key : List ℕ) (t : Tree) → each_sorted (put_pair ps key t) ≡ put_pair (each_sorted ps) key (sorted t)
+each_sorted-put_pair no_pairs key t = refl
+each_sorted-put_pair (pair k u ps) key t = each_sorted-match_ordering (slice_cmp nat_cmp key k) _ _ _ ∙ rw (each_sorted-put_pair ps key t)
+
+each_sorted-puts : (done ps : Pairs) → each_sorted (puts done ps) ≡ put_pairs (each_sorted done) ps
+each_sorted-puts done no_pairs = refl
+each_sorted-puts done (pair key t ps) =
+    each_sorted-puts (put_pair done key t) ps ∙ ap (λ first. put_pairs first ps) (each_sorted-put_pair done key t)
+
+put_pairs-each_sorted : (done ps : Pairs) → put_pairs done (each_sorted ps) ≡ put_pairs done ps
+put_pairs-each_sorted done no_pairs = refl
+put_pairs-each_sorted done (pair key t ps) =
+    ap (λ value. put_pairs (put_pair done key value) (each_sorted ps)) (sorted_twice t) ∙ put_pairs-each_sorted (put_pair done key (sorted t)) ps
+
+-- putting fields in first changes no spelling
+canonical-puts : (ps : Pairs) → canonical (dictionary (puts no_pairs ps)) ≡ canonical (dictionary ps)
+canonical-puts ps =
+    ap (λ all. text (dictionary all)) (sym (put_pairs-each_sorted no_pairs (puts no_pairs ps)) ∙ ap (put_pairs no_pairs) (each_sorted-puts no_pairs ps))
+    ∙ ap text (sorted_twice (dictionary ps))
+
+puts-given : (done : Pairs) (key : List ℕ) (value : Option Tree) (more : Pairs) → puts (puts done (given key value no_pairs)) more ≡ puts done (given key value more)
+puts-given done key None more = refl
+puts-given done key (Some t) more = refl
+
+-- a reply's fields, in the order in which they are put in
+abbrev pub reply_fields : ReplyData → Pairs
+reply_fields reply =
+    puts (puts (puts (puts no_pairs (given (codes "id") reply.origin.id no_pairs)) (given (codes "session") reply.origin.session no_pairs))
+    (given (codes "status") (status_value (status reply.body)) no_pairs))
+    (body_fields reply.body)
+
+pub reply_spelled : (reply : ReplyData) → canonical (dictionary (reply_fields reply)) ≡ bytes_of reply
+unfolding message bytes_of
+reply_spelled reply =
+    let body = body_fields reply.body in
+    let third = given (codes "status") (status_value (status reply.body)) body in
+    let second = given (codes "session") reply.origin.session third in
+    let first = given (codes "id") reply.origin.id second in
+    let begun = puts no_pairs (given (codes "id") reply.origin.id no_pairs) in
+    ap (λ all. canonical (dictionary all))
+    (puts-given (puts begun (given (codes "session") reply.origin.session no_pairs)) (codes "status") (status_value (status reply.body)) body
+    ∙ puts-given begun (codes "session") reply.origin.session third ∙ puts-given no_pairs (codes "id") reply.origin.id second)
+    ∙ canonical-puts first
