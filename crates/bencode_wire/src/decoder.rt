@@ -45,6 +45,7 @@ impl Decoder {
     pub fn new(alloc: Global, limit: usize) -> Decoder
         ensures stands { Stands limit result [] [] }
         ensures ready { ready_of result ≡ [] }
+        ensures fault { fault_of result ≡ None }
     {
         Decoder {
             alloc,

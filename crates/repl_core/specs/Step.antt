@@ -1,5 +1,5 @@
 -- The server's step: what each turn makes of the server, or why it is refused. A refused turn changes nothing.
-use Rattle.std.specs.Prelude.{ℕ, ◌+◌, ◌-◌, List, [], ◌∷◌, ◌++◌, Bool, true, false, ◌&&◌, Option, None, Some, if◌then◌else◌, ◌==◌, nat_le, length, drop}
+use Rattle.std.specs.Prelude.{ℕ, ◌-◌, List, [], ◌∷◌, ◌++◌, Bool, true, false, ◌&&◌, Option, None, Some, if◌then◌else◌, ◌==◌, nat_le, length, drop}
 use Rattle.bencode_wire.specs.Tree as wire
 use Rattle.bencode_wire.specs.Stream.{Ending, rest, fault}
 use Rattle.bencode_wire.specs.Fault.{counted, fault_at}
@@ -72,7 +72,7 @@ fault_told (Some f) = reply no_origin malformed ∷ []
 unfoldable pub taken_in : Readings → List ℕ → World → World
 taken_in r piece w =
     with_replies (fault_told (stream_fault r (w.heard ++ piece)))
-        (with_messages (new_messages r w.heard piece) (with_heard (w.heard ++ piece) w))
+    (with_messages (new_messages r w.heard piece) (with_heard (w.heard ++ piece) w))
 
 abbrev pub hears_more : Readings → List ℕ → World → Option WireFault → Stepped
 hears_more r piece w (Some f) = refused (Refusal.Wire f)
@@ -90,7 +90,10 @@ moved m w = with_replies m.replies (with_hand m.hand w)
 abbrev pub asked : Hand → AskData → (AnswerData → Tree) → World → World
 asked h ask behind w =
     with_bindings (bound_after w.bindings ask) (with_hand (Some (record {
-      origin = h.origin; running = Some (behind (resolving.answered w.bindings ask)); forms = h.forms; fault = h.fault;
+      origin = h.origin;
+      running = Some (behind (resolving.answered w.bindings ask));
+      forms = h.forms;
+      fault = h.fault;
     })) w)
 
 abbrev pub gone_on : Hand → Option Tree → World → World
@@ -135,7 +138,13 @@ abbrev pub drained : World → List ReplyData → Stepped
 drained w [] = refused Refusal.Idle
 drained w (oldest ∷ more) =
     accepted (record {
-      steps = w.steps; retries = w.retries; heard = w.heard; waiting = w.waiting; hand = w.hand; replies = more; bindings = w.bindings;
+      steps = w.steps;
+      retries = w.retries;
+      heard = w.heard;
+      waiting = w.waiting;
+      hand = w.hand;
+      replies = more;
+      bindings = w.bindings;
     }) (bytes_of oldest)
 
 abbrev pub drain : World → Stepped

@@ -1,5 +1,5 @@
 -- What a turn of the code comes to, beside the step.
-use Rattle.std.specs.Prelude.{◌≡◌, ℕ, List}
+use Rattle.std.specs.Prelude.{◌≡◌}
 use Rattle.repl_core.specs.World.{World}
 use Rattle.repl_core.specs.Step.{Stepped, accepted, refused}
 use Rattle.repl_core.specs.declared.refusal.Refusal.{Refusal}

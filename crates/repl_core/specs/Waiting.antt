@@ -9,9 +9,11 @@ use Rattle.repl_replies.specs.declared.request.Request.{Request}
 use Rattle.name_spaces.specs.Bound.{bound_in}
 use Rattle.name_spaces.specs.declared.space.Space.{Space}
 use Rattle.repl_core.specs.World.{Hand, World}
-use Rattle.repl_core.specs.Move.{Move}
+use Rattle.repl_core.specs.Readings.{ProgramData}
+use Rattle.repl_core.specs.Move.{Move, program_failure}
 use Rattle.repl_core.specs.declared.outbox.Outbox.{Outbox}
 use Rattle.repl_core.specs.declared.in_hand.InHand.{InHand}
+use Rattle.repl_core.specs.declared.in_hand.Program.{Program}
 
 abbrev pub waiting_bytes : Outbox → List (List ℕ)
 waiting_bytes o = map vec_items o.replies.items
@@ -35,3 +37,7 @@ Shows outbox space w hand = (option_map hand_view hand ≡ w.hand) × (waiting_b
 -- what hearing may change is as in the world
 abbrev pub Lists : List Request → Outbox → World → Type 0
 Lists requests outbox w = (map request_view requests ≡ w.waiting) × (waiting_bytes outbox ≡ map bytes_of w.replies)
+
+-- the program was read so
+abbrev pub IsProgram : ProgramData → Program → Type 0
+IsProgram program p = (items_view p.forms.items ≡ program.forms) × (option_map failure_of p.fault ≡ option_map program_failure program.fault)

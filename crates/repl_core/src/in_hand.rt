@@ -1,21 +1,23 @@
 // The request in hand: its forms are evaluated one after another.
-ghost use Rattle.std.specs.Prelude.{◌≡◌, map, option_map, IfOk};
-ghost use Rattle.repl_values.specs.View.{items_view};
+ghost use Rattle.std.specs.Prelude.{◌≡◌, [], ◌∷◌, map, option_map, string_bytes, IfOk};
+ghost use Rattle.repl_values.specs.View.{view, items_view};
 ghost use Rattle.repl_faults.specs.View.{failure_of};
 ghost use Rattle.repl_jobs.specs.Job.{finished_view};
-ghost use Rattle.repl_reader.specs.View.{fault_view};
-ghost use Rattle.repl_replies.specs.Replies.{bytes_of};
+ghost use Rattle.repl_walker.specs.Machine.{progress_tree};
+ghost use Rattle.repl_reader.specs.View.{fault_option};
+ghost use Rattle.repl_replies.specs.Replies.{namespace_not_found, bytes_of};
 ghost use Rattle.repl_replies.specs.View.{origin_view, field_view, request_view};
 ghost use Rattle.name_spaces.specs.Bound.{bound_in};
 ghost use Rattle.repl_core.specs.Readings.{Readings, AreRight};
 ghost use Rattle.repl_core.specs.World.{World};
-ghost use Rattle.repl_core.specs.Move.{begun, ended, runs_in_user, taken_up, program_failure};
+ghost use Rattle.repl_core.specs.Move.{reply, over, begun, evaluated, ended, runs_in_user, taken_up, program_failure};
 ghost use Rattle.repl_core.specs.Step.{gone_on};
-ghost use Rattle.repl_core.specs.Waiting.{Makes, Shows, hand_view, waiting_bytes};
+ghost use Rattle.repl_core.specs.Waiting.{Makes, Shows, IsProgram, hand_view, waiting_bytes};
 
 use crate::outbox::Outbox;
 use bencode_wire::Ben;
 use name_spaces::{Space, USER};
+use repl_reader::laws::readings_are_unique;
 use repl_reader::{Forms, ReaderFault, read_all};
 use repl_replies::{Body, Origin, Request};
 use repl_values::{Fault, Value};
@@ -78,27 +80,50 @@ pub(crate) fn take_up(
         → IfOk result (Makes (taken_up r (request_view request)) (waiting_bytes outbox.old) (waiting_bytes outbox.new)) }
 {
     let Request { origin, code, ns } = request;
-    if !runs_in_user(&ns) {
-        outbox.post(origin, Body::NamespaceNotFound)?;
-        return Ok(None);
+    if runs_in_user(ns) {
+        let Program { forms, fault } = read_program(alloc, code)?;
+        begin(alloc, outbox, retries, origin, forms, fault)
+    } else {
+        refuse(outbox, origin)
     }
-    let Forms { forms, fault } = read_all(alloc, code.as_str())?;
-    let fault = match fault {
-        Some(fault) => Some(program_fault(alloc, fault)?),
-        None => None,
-    };
-    begin(
-        alloc,
-        outbox,
-        retries,
-        origin,
-        VecDeque::from_vec(forms),
-        fault,
-    )
 }
 
-/// Begins the first of the forms; where there is none the request is over.
-pub(crate) fn begin(
+fn refuse(outbox: &mut Outbox, origin: Origin) -> Result<Option<InHand>, AllocError>
+    ensures { IfOk result (Makes (over (reply (origin_view origin) namespace_not_found ∷ [])) (waiting_bytes outbox.old) (waiting_bytes outbox.new)) }
+{
+    outbox.post(origin, Body::NamespaceNotFound)?;
+    Ok(None)
+}
+
+// The forms of a program before its text's first fault, and that fault.
+#[derive(Drop)]
+struct Program {
+    forms: VecDeque<Value>,
+    fault: Option<Fault>,
+}
+
+fn read_program(alloc: Global, code: String) -> Result<Program, AllocError>
+    ensures { (r : Readings) → AreRight r → IfOk result (IsProgram (r.program (string_bytes code))) }
+{
+    readings_are_unique();
+    let Forms { forms, fault } = read_all(alloc, code.as_str())?;
+    let forms = VecDeque::from_vec(forms);
+    let fault = program_fault(alloc, fault)?;
+    Ok(Program { forms, fault })
+}
+
+fn program_fault(alloc: Global, fault: Option<ReaderFault>) -> Result<Option<Fault>, AllocError>
+    ensures { IfOk result (λ told. option_map failure_of told ≡ option_map program_failure (fault_option fault)) }
+{
+    let Some(ReaderFault { kind, at: _, text }) = fault else {
+        return Ok(None);
+    };
+    let class = String::from_str(alloc, kind.class())?;
+    Ok(Some(Fault { class, text }))
+}
+
+// Begins the first of the forms; where there is none the request is over.
+fn begin(
     alloc: Global,
     outbox: &mut Outbox,
     retries: u32,
@@ -113,12 +138,7 @@ pub(crate) fn begin(
         outbox.post_closing(origin, fault)?;
         return Ok(None);
     };
-    let job = Job {
-        work: Work::Form(form),
-        namespace: String::from_str(alloc, USER)?,
-        retries,
-    };
-    let running = Some(start(alloc, &job)?);
+    let running = Some(evaluate(alloc, retries, form)?);
     Ok(Some(InHand {
         origin,
         running,
@@ -127,8 +147,20 @@ pub(crate) fn begin(
     }))
 }
 
-/// Tells how the form ended. The request waits for its next form, or is over.
-pub(crate) fn end_form(
+#[tactic(auto, unfolding(crate::specs::Move::evaluated))]
+fn evaluate(alloc: Global, retries: u32, form: Value) -> Result<Progress, AllocError>
+    ensures { IfOk result (λ progress. progress_tree progress ≡ evaluated (view form)) }
+{
+    let job = Job {
+        work: Work::Form(form),
+        namespace: String::from_str(alloc, USER)?,
+        retries,
+    };
+    start(alloc, &job)
+}
+
+// Tells how the form ended. The request waits for its next form, or is over.
+fn end_form(
     outbox: &mut Outbox,
     origin: Origin,
     finished: Finished,
@@ -153,22 +185,12 @@ pub(crate) fn end_form(
 }
 
 // A request may name `user` as its namespace, and no other.
-fn runs_in_user(ns: &Option<Ben>) -> bool
-    ensures { result ≡ runs_in_user (field_view ns.now) }
+fn runs_in_user(ns: Option<Ben>) -> bool
+    ensures { result ≡ runs_in_user (field_view ns) }
 {
     match ns {
         None => true,
         Some(Ben::String(name)) => name.as_slice() == USER.as_bytes(),
         Some(_) => false,
     }
-}
-
-fn program_fault(alloc: Global, fault: ReaderFault) -> Result<Fault, AllocError>
-    ensures { IfOk result (λ told. failure_of told ≡ program_failure (fault_view fault)) }
-{
-    let class = String::from_str(alloc, fault.kind.class())?;
-    Ok(Fault {
-        class,
-        text: fault.text,
-    })
 }

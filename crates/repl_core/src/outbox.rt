@@ -76,11 +76,7 @@ impl Outbox {
     }
 
     /// Tells how a form ended: first what it printed, and then its value or its fault.
-    pub(crate) fn post_end(
-        &mut self,
-        origin: &Origin,
-        finished: Finished,
-    ) -> Result<(), AllocError>
+    pub(crate) fn post_end(&mut self, origin: &Origin, finished: Finished) -> Result<(), AllocError>
         ensures { OnOk result (waiting_bytes self.new
             ≡ waiting_bytes self.old ++ map bytes_of (end_replies (origin_view origin.now) (finished_view finished))) }
     {

@@ -14,6 +14,7 @@ use crate::in_hand::{InHand, go_on, take_up};
 use crate::outbox::Outbox;
 use crate::refusal::{Actor, Refusal, Wire};
 use crate::turns::Core;
+use bencode_wire::laws::a_stream_has_one_reading;
 use bencode_wire::{Ben, Decoder, WireFault};
 use bytes::Bytes;
 use name_spaces::Space;
@@ -40,12 +41,13 @@ pub struct Server {
 }
 
 impl Server {
-    ghost use Rattle.repl_core.specs.Stands.{Stands};
+    ghost use Rattle.repl_core.specs.Stands.{Stands, IsFed};
 
     /// A server that has heard nothing.
     pub fn new(alloc: Global, config: Config) -> Server
         ensures { (r : Readings) → AreRight r → Stands r result (opening config) }
     {
+        a_stream_has_one_reading();
         Server {
             alloc,
             retries: config.retries,
@@ -66,17 +68,27 @@ impl Server {
             → OnOk result (Stands r self.new (taken_in r piece.now w)) }
         ensures err { IfErr result (λ why. why ≡ Refusal.NoMemory) }
     {
-        let fault = match self.decoder.feed(piece) {
-            Ok(()) => None,
-            Err(WireFault::NoMemory) => return Err(Refusal::NoMemory),
-            Err(fault) => Some(fault),
-        };
-        take_messages(&mut self.decoder, &mut self.requests, &mut self.outbox)?;
-        if fault.is_some() {
-            self.outbox.post(Origin::none(), Body::Malformed)?;
+        a_stream_has_one_reading();
+        match self.decoder.feed(piece) {
+            Ok(()) => Ok(self.take_in(None)?),
+            Err(WireFault::NoMemory) => Err(Refusal::NoMemory),
+            Err(fault) => Ok(self.take_in(Some(fault))?),
         }
+    }
+
+    // Takes in what the decoder has read of a piece.
+    fn take_in(&mut self, fault: Option<WireFault>) -> Result<(), AllocError>
+        ensures steps { self.new.steps_left ≡ self.old.steps_left }
+        ensures world { (r : Readings) (w : World) (piece : List ℕ) → AreRight r → IsFed r self.old w piece
+            → fault ≡ stream_fault r (w.heard ++ piece) → OnOk result (Stands r self.new (taken_in r piece w)) }
+    {
+        a_stream_has_one_reading();
+        take_messages(&mut self.decoder, &mut self.requests, &mut self.outbox)?;
         self.fault = fault;
-        Ok(())
+        match fault {
+            Some(_) => self.outbox.post(Origin::none(), Body::Malformed),
+            None => Ok(()),
+        }
     }
 
     fn is_idle(&self) -> bool
@@ -104,14 +116,21 @@ impl Server {
         ensures world { (r : Readings) (w : World) → AreRight r → Stands r self.old w → OnOk result (Stands r self.new (acted r w)) }
     {
         let (alloc, retries) = (self.alloc, self.retries);
-        self.in_hand = match self.in_hand.take() {
-            Some(in_hand) => go_on(alloc, &mut self.outbox, &mut self.space, retries, in_hand)?,
+        match self.in_hand.take() {
+            Some(in_hand) => {
+                let hand = go_on(alloc, &mut self.outbox, &mut self.space, retries, in_hand)?;
+                keep(&mut self.in_hand, hand);
+                Ok(())
+            }
             None => match self.requests.pop_front() {
-                Some(request) => take_up(alloc, &mut self.outbox, retries, request)?,
-                None => None,
+                Some(request) => {
+                    let hand = take_up(alloc, &mut self.outbox, retries, request)?;
+                    keep(&mut self.in_hand, hand);
+                    Ok(())
+                }
+                None => Ok(()),
             },
-        };
-        Ok(())
+        }
     }
 }
 
@@ -119,6 +138,7 @@ impl Core for Server {
     ghost use Rattle.repl_core.specs.Stands.{Stands, state_of};
 
     ghost state = { state_of };
+
     ghost stands = { Stands };
 
     fn hear(&mut self, piece: &Bytes) -> Result<(), Refusal> {
@@ -170,6 +190,12 @@ impl Core for Server {
     }
 }
 
+fn keep(slot: &mut Option<InHand>, hand: Option<InHand>)
+    ensures { slot.new ≡ hand }
+{
+    *slot = hand;
+}
+
 // Takes the messages that are whole.
 fn take_messages(
     decoder: &mut Decoder,
@@ -212,7 +238,10 @@ fn take_heard(
         → OnOk result (Lists requests.new.items outbox.new (with_heard_message (heard_view heard) w)) }
 {
     match heard {
-        Heard::Waits(request) => requests.push_back(request),
+        Heard::Waits(request) => {
+            requests.push_back(request)?;
+            Ok(())
+        }
         Heard::Answered(reply) => {
             let Reply { origin, body } = reply;
             outbox.post(origin, body)
