@@ -3,6 +3,7 @@
 
 mod config;
 mod in_hand;
+pub mod laws;
 mod outbox;
 mod refusal;
 mod server;
