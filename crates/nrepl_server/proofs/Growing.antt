@@ -1,22 +1,26 @@
--- A writer that grows and grows again has grown.
-use Rattle.std.proofs.Common.{◌≡◌, ℕ, List, [], ◌++◌, Option, Some, None, sym, ap, ◌∙◌, append_assoc, append-nil}
-use Rattle.std.specs.Io.KnownBytes.{Appends, Keeps}
-use Rattle.nrepl_server.specs.Written.{Grows}
+-- Bytes that are written part by part, from the front.
+use Rattle.std.proofs.Common.{◌≡◌, ℕ, ◌-◌, ◌≤◌, List, [], ◌∷◌, ◌++◌, length, take, drop, sym, ap, ◌∙◌, append_assoc, append-nil, take-append-drop, take_all, length-drop, le_of_eq, arith, Result, Ok, Err, OnOk, OnErr}
 
-pub grows-not : (a : Option (List ℕ)) → Grows a a
-grows-not None = ([], tt)
-grows-not (Some xs) = ([], sym (append-nil xs))
+pub on_ok : {A E P : Type 0} (result : Result A E) → P → OnOk result P
+on_ok (Ok value) p = p
+on_ok (Err error) p = tt
 
-pub grows-more : (a b c : Option (List ℕ)) → Grows a b → Grows b c → Grows a c
-grows-more None b c p q = ([], tt)
-grows-more (Some xs) None c p q = absurd (p.1)
-grows-more (Some xs) (Some ys) None p q = absurd (q.1)
-grows-more (Some xs) (Some ys) (Some zs) p q =
-    (p.0 ++ q.0, q.1 ∙ ap (λ (front : List ℕ). front ++ q.0) p.1 ∙ append_assoc xs p.0 q.0)
+pub on_err : {A E P : Type 0} (result : Result A E) → P → OnErr result P
+on_err (Ok value) p = tt
+on_err (Err error) p = p
 
--- nothing more is written
-pub appends-kept : (a b c : Option (List ℕ)) (bs : List ℕ) → Appends a b bs → Keeps b c → Appends a c bs
-appends-kept None b c bs p q = tt
-appends-kept (Some xs) None c bs p q = absurd p
-appends-kept (Some xs) (Some ys) None bs p q = absurd q
-appends-kept (Some xs) (Some ys) (Some zs) bs p q = q ∙ p
+-- a part of the rest is in front now
+pub front-grows : (whole front rest : List ℕ) (n : ℕ) → whole ≡ front ++ rest → whole ≡ (front ++ take n rest) ++ drop n rest
+front-grows whole front rest n is =
+    is ∙ ap (λ (bytes : List ℕ). front ++ bytes) (sym (take-append-drop n rest)) ∙ sym (append_assoc front (take n rest) (drop n rest))
+
+pub front-grows_slice : (whole front rest : List ℕ) (n : ℕ) → whole ≡ front ++ rest
+    → whole ≡ (front ++ take n rest) ++ take (length rest - n) (drop n rest)
+front-grows_slice whole front rest n is =
+    let long : length (drop n rest) ≤ length rest - n = le_of_eq (length-drop n rest) in
+    front-grows whole front rest n is ∙ ap (λ (bytes : List ℕ). (front ++ take n rest) ++ bytes) (sym (take_all (length rest - n) (drop n rest) long))
+
+-- all is in front
+pub front-whole : (whole front rest : List ℕ) → whole ≡ front ++ rest → length rest ≡ 0 → front ≡ whole
+front-whole whole front [] is none = sym (is ∙ append-nil front)
+front-whole whole front (byte ∷ rest) is none = absurd (omega arith)

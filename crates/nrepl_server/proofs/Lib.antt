@@ -1,1 +1,8 @@
+pub mod Draining
+pub mod Going
 pub mod Growing
+pub mod Hearing
+pub mod Outcomes
+pub mod Rounding
+pub mod Serving
+pub mod Turns

@@ -1,6 +1,5 @@
 -- The schedule of `pipe`: the turns that the pieces of a stream bring about.
 use Rattle.std.specs.Prelude.{◌≡◌, ◌≢◌, ◌⊎◌, ℕ, ◌≤◌, List, [], ◌∷◌, ◌++◌, length, ⊤, None}
-use Rattle.bencode_wire.specs.Spelling.{joined}
 use Rattle.bencode_wire.specs.Stream.{Ending, rest, fault}
 use Rattle.bencode_wire.specs.Fault.{counted, fault_at}
 use Rattle.repl_replies.specs.Replies.{ReplyData}

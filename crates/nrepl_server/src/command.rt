@@ -1,5 +1,11 @@
 // The exit status of `pipe`, and its line on standard error.
-ghost use Rattle.std.specs.Prelude.{◌≡◌, ◌≤◌};
+ghost use Rattle.std.specs.Prelude.{◌≡◌, Result};
+ghost use Rattle.repl_core.specs.Readings.{Readings, AreRight};
+ghost use Rattle.repl_core.specs.World.{opening};
+ghost use Rattle.nrepl_server.specs.Served.{Outcome};
+ghost use Rattle.nrepl_server.specs.Status.{status_of};
+ghost use Rattle.nrepl_server.specs.declared.pipe.PipeEnd.{PipeEnd};
+ghost use Rattle.nrepl_server.specs.declared.pipe.PipeError.{PipeError};
 
 use crate::pipe::{PipeEnd, PipeError, pipe};
 use bencode_wire::WireFault;
@@ -16,7 +22,9 @@ pub fn pipe_command<R: Read, W: Write, E: Write>(
     writer: &mut W,
     errors: &mut E,
 ) -> u8
-    ensures { result ≤ 1 }
+    ensures { (outcome : Result PipeEnd PipeError) × (result ≡ status_of outcome)
+        × ((r : Readings) → AreRight r → Outcome r (opening config)
+        (R.remaining reader.old) (R.remaining reader.new) (W.contents writer.old) (W.contents writer.new) outcome) }
 {
     match pipe(alloc, config, reader, writer) {
         Ok(PipeEnd::Whole) => 0,

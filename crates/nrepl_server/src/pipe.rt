@@ -1,11 +1,14 @@
 // One stream served to its end: pieces in, replies out.
-ghost use Rattle.std.specs.Prelude.{◌≡◌, ◌≤◌, ℕ, List, [], ◌++◌, OnOk, OnErr, IfOk};
-ghost use Rattle.std.specs.Io.KnownBytes.{Appends, Keeps};
+ghost use Rattle.std.specs.Prelude.{◌≡◌, ◌<◌, ◌≤◌, ◌⊎◌, ⊤, ℕ, List, [], ◌++◌, length, OnOk, OnErr, IfOk, MatchOption};
+ghost use Rattle.std.specs.Io.KnownBytes.{Appends, Keeps, Consumes, IsAtEnd};
 ghost use Rattle.repl_core.specs.Readings.{Readings, AreRight};
 ghost use Rattle.repl_core.specs.World.{World, opening};
-ghost use Rattle.nrepl_server.specs.Schedule.{stream_end};
-ghost use Rattle.nrepl_server.specs.Served.{Moves, Serves, BeginsToServe, IsReadUp};
+ghost use Rattle.repl_core.specs.Step.{goes, step, after};
+ghost use Rattle.repl_core.specs.declared.refusal.Actor.{Actor};
+ghost use Rattle.nrepl_server.specs.Schedule.{drain_all, stream_end};
+ghost use Rattle.nrepl_server.specs.Served.{Moves, Serves, BeginsToServe, IsReadUp, Outcome};
 ghost use Rattle.nrepl_server.specs.Fresh.{IsFresh};
+ghost use Rattle.nrepl_server.specs.Parts.{IsPiece, LosesPiece, Makes, Begins, EndsAt, MakesRounds, BeginsRounds};
 
 use bencode_wire::WireFault;
 use bytes::Bytes;
@@ -64,12 +67,8 @@ pub fn pipe<R: Read, W: Write>(
     reader: &mut R,
     writer: &mut W,
 ) -> Result<PipeEnd, PipeError>
-    ensures ok { (r : Readings) → AreRight r → IfOk result (λ end.
-        Moves (R.remaining reader.old) (R.remaining reader.new) (W.contents writer.old) (W.contents writer.new)
-        (λ read written. Serves r (opening config) read written end) × IsReadUp end (R.remaining reader.new)) }
-    ensures err { (r : Readings) → AreRight r → OnErr result (
-        Moves (R.remaining reader.old) (R.remaining reader.new) (W.contents writer.old) (W.contents writer.new)
-        (λ read written. BeginsToServe r (opening config) read written)) }
+    ensures { (r : Readings) → AreRight r → Outcome r (opening config)
+        (R.remaining reader.old) (R.remaining reader.new) (W.contents writer.old) (W.contents writer.new) result }
 {
     let mut server = Server::new(alloc, config);
     serve(alloc, &mut server, reader, writer)
@@ -98,7 +97,7 @@ fn serve<C: Core, R: Read, W: Write>(
             Err(Refusal::Worn) => return Ok(PipeEnd::Worn),
             Err(_) => return Ok(end_of(core)),
         }
-        if run_rounds(core, writer)? == Rounds::Worn {
+        if let Rounds::Worn = run_rounds(core, writer)? {
             return Ok(PipeEnd::Worn);
         }
         if let Wire::Broken(fault) = core.wire() {
@@ -118,7 +117,12 @@ fn end_of<C: Core>(core: &C) -> PipeEnd
 }
 
 // The next piece; none at the end of the input.
-fn next_piece<R: Read>(alloc: Global, reader: &mut R) -> Result<Option<Bytes>, PipeError> {
+fn next_piece<R: Read>(alloc: Global, reader: &mut R) -> Result<Option<Bytes>, PipeError>
+    ensures ok { IfOk result (λ next. MatchOption next
+        (Consumes (R.remaining reader.old) (R.remaining reader.new) [] × IsAtEnd (R.remaining reader.new))
+        (λ piece. IsPiece piece × Consumes (R.remaining reader.old) (R.remaining reader.new) piece)) }
+    ensures err { OnErr result (LosesPiece (R.remaining reader.old) (R.remaining reader.new)) }
+{
     let mut buffer = [0u8; PIECE];
     match reader.read(&mut buffer) {
         Ok(0) => Ok(None),
@@ -136,23 +140,46 @@ enum Rounds {
 
 fn run_rounds<C: Core, W: Write>(core: &mut C, writer: &mut W) -> Result<Rounds, PipeError>
     ensures steps { (C.state core.new).steps ≤ (C.state core.old).steps }
+    ensures ok { (r : Readings) (w : World) → AreRight r → C.stands r core.old w → IfOk result (λ end.
+        MakesRounds r (C.stands r core.new) w (W.contents writer.old) (W.contents writer.new) end) }
+    ensures err { (r : Readings) (w : World) → AreRight r → C.stands r core.old w → OnErr result (
+        BeginsRounds r w (W.contents writer.old) (W.contents writer.new)) }
 {
     loop {
-        let gone = core.go(Actor::Bare);
+        let ended = take_turn(core)?;
         write_replies(core, writer)?;
-        match gone {
-            Ok(()) => {}
-            Err(Refusal::Held) => {}
-            Err(Refusal::NoMemory) => return Err(PipeError::NoMemory),
-            Err(Refusal::Worn) => return Ok(Rounds::Worn),
-            Err(_) => return Ok(Rounds::Idle),
+        if let Some(end) = ended {
+            return Ok(end);
         }
     }
 }
 
+// The bare actor's turn; how the rounds end with it, if they do.
+fn take_turn<C: Core>(core: &mut C) -> Result<Option<Rounds>, PipeError>
+    ensures steps { (C.state core.new).steps ≤ (C.state core.old).steps }
+    ensures goes_on { IfOk result (λ ended. MatchOption ended
+        (((C.state core.new).steps < (C.state core.old).steps) ⊎ (0 < length (C.state core.old).outbox)) (λ _. ⊤)) }
+    ensures turned { (r : Readings) (w : World) → AreRight r → C.stands r core.old w
+        → IfOk result (λ ended. C.stands r core.new (after r w (goes Actor.Bare)) × EndsAt ended (step r w (goes Actor.Bare))) }
+{
+    match core.go(Actor::Bare) {
+        Ok(()) => Ok(None),
+        Err(Refusal::Held) => Ok(None),
+        Err(Refusal::Worn) => Ok(Some(Rounds::Worn)),
+        Err(Refusal::Idle) => Ok(Some(Rounds::Idle)),
+        Err(Refusal::Wire(_)) => Ok(Some(Rounds::Idle)),
+        Err(Refusal::NoMemory) => Err(PipeError::NoMemory),
+    }
+}
+
+// Takes the replies out, and writes each at once.
 fn write_replies<C: Core, W: Write>(core: &mut C, writer: &mut W) -> Result<(), PipeError>
     ensures steps { (C.state core.new).steps ≡ (C.state core.old).steps }
     ensures empty { OnOk result ((C.state core.new).outbox ≡ []) }
+    ensures ok { (r : Readings) (w : World) → C.stands r core.old w → OnOk result (
+        Makes r (C.stands r core.new) w (drain_all w.replies) (W.contents writer.old) (W.contents writer.new)) }
+    ensures err { (r : Readings) (w : World) → C.stands r core.old w → OnErr result (
+        Begins r w (drain_all w.replies) (W.contents writer.old) (W.contents writer.new)) }
 {
     while let Some(reply) = core.drain() {
         write_reply(reply.as_slice(), writer)?;

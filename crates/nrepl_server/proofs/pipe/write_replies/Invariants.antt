@@ -1,11 +1,14 @@
 use Rattle.std.proofs.Common.{◌≡◌, length}
-use Rattle.nrepl_server.specs.Written.{Grows}
+use Rattle.repl_core.specs.Readings.{Readings}
+use Rattle.repl_core.specs.World.{World}
+use Rattle.nrepl_server.proofs.Draining.{Drains}
 use Rattle.nrepl_server.proofs.pipe.write_replies.Given as goal
 
 abbrev pub invariant-loop-reply : goal.invariant-loop-reply
 invariant-loop-reply g l = record {
   steps : (g.C.Core.state l.core).steps ≡ (g.C.Core.state l.initial.core).steps;
-  written : Grows (g.W.Write.contents l.initial.writer) (g.W.Write.contents l.writer);
+  drains : (r : Readings) (w : World) → g.C.Core.stands r l.initial.core w
+      → Drains r (g.C.Core.stands r l.core) w (g.W.Write.contents l.initial.writer) (g.W.Write.contents l.writer);
 }
 
 abbrev pub decreases-loop-reply : goal.decreases-loop-reply
