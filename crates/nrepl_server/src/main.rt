@@ -2,6 +2,8 @@
 #![tactic(auto)]
 
 mod command;
+#[cfg(test)]
+mod function_programs;
 mod pipe;
 #[cfg(test)]
 mod programs;

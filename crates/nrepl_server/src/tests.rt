@@ -1,9 +1,12 @@
 // Whole streams, with failing readers and writers. The expected bytes are those of the protocol.
 use crate::command::pipe_command;
+use crate::function_programs::FUNCTION_PROGRAMS;
 use crate::programs::PROGRAMS;
 use repl_core::Config;
+use std::alloc::Global;
 use std::io;
 use std::io::{Error, ErrorKind, Read, Write};
+use std::process::Abort;
 use std::test::Fail;
 
 const SUM: &[u8] = b"d4:code7:(+ 1 2)2:id1:72:op4:evale";
@@ -114,20 +117,34 @@ const CASES: [Case; 15] = [
     },
 ];
 
-#[test]
-fn streams(rt: HostRuntime) -> Result<(), Fail> {
-    for case in CASES.iter().chain(PROGRAMS.iter()) {
+fn expect_replies(rt: &impl Abort, alloc: Global, cases: &[Case]) -> Result<(), Fail> {
+    for case in cases {
         let mut input = case.input;
-        let mut output = Vec::new(rt.alloc());
-        let mut errors = Vec::new(rt.alloc());
+        let mut output = Vec::new(alloc);
+        let mut errors = Vec::new(alloc);
         let config = Config::new();
-        let status = pipe_command(rt.alloc(), config, &mut input, &mut output, &mut errors);
+        let status = pipe_command(alloc, config, &mut input, &mut output, &mut errors);
         let text = str::from_utf8(case.input).unwrap_or("");
         assert_eq!(rt; output.as_slice(), case.output, "{text}");
         assert_eq!(rt; errors.as_slice(), case.line.as_bytes(), "{text}");
         assert_eq!(rt; status, case.status, "{text}");
     }
     Ok(())
+}
+
+#[test]
+fn streams(rt: HostRuntime) -> Result<(), Fail> {
+    expect_replies(&rt, rt.alloc(), &CASES)
+}
+
+#[test]
+fn programs(rt: HostRuntime) -> Result<(), Fail> {
+    expect_replies(&rt, rt.alloc(), &PROGRAMS)
+}
+
+#[test]
+fn function_programs(rt: HostRuntime) -> Result<(), Fail> {
+    expect_replies(&rt, rt.alloc(), &FUNCTION_PROGRAMS)
 }
 
 // Gives a few bytes at each read, and fails once its reads are used up.
