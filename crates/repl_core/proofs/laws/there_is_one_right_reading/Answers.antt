@@ -25,10 +25,11 @@ returns-clause-there c =
 
 pub returns-clause-one : goal.returns-clause-one
 unfolding read_so program_of
-returns-clause-one c = λ r q right other.
-    (λ bytes.
+returns-clause-one c = λ r q right other. (
+  λ bytes.
       let same = c.a_stream_has_one_reading.ensures message_limit bytes _ _ _ _ (right.stream bytes) (other.stream bytes) in
       ap₂ read_so same.0 same.1,
-    λ text.
+  λ text.
       let same = c.readings_are_unique.ensures text _ _ _ _ (right.program text) (other.program text) in
-      ap₂ program_of same.0 same.1)
+      ap₂ program_of same.0 same.1,
+)
