@@ -328,8 +328,3 @@ serves-worn r Old w unread left less held holds piece on is consumes told =
     serves-last r Old w unread left less held holds holds piece (round r v) PipeEnd.Worn on is consumes
     (last v (λ (goes_on : GoesOn (step r v (goes Actor.Bare))). subst GoesOn stops goes_on))
     (subst (Appends holds holds) (sym nothing) (Appends-nil holds)) (inl (inl worn, refl))
-
--- it is refused at the end of the steps alone
-pub never-refused : (r : Readings) (Old : World → Type 0) (w : World) (unread left held holds : Option (List ℕ)) (piece : List ℕ) (why : Refusal)
-    (on : Serving r Old w unread left held holds) → hear r piece (run r w on.turns) ≡ refused why → refused Refusal.Worn ≢ refused why → ⊥
-never-refused r Old w unread left held holds piece why on told other = other (hear-refused r (run r w on.turns) piece why on.no_fault on.empty told).1

@@ -24,11 +24,6 @@ pub run-first : (r : Readings) (w now : World) (bytes : List ℕ) (turn : Turn) 
     → step r w turn ≡ accepted now bytes → all ≡ turn ∷ turns → run r w all ≡ run r now turns
 run-first r w now bytes turn turns all is whole = ap (run r w) whole ∙ ap (λ (s : Stepped). run r (world_or w s) turns) is
 
-pub meets-front : (r : Readings) (w : World) (xs ys : List Turn) → MeetsWorn r w xs → MeetsWorn r w (xs ++ ys)
-meets-front r w [] ys meets = absurd meets
-meets-front r w (x ∷ xs) ys (inl here) = inl here
-meets-front r w (x ∷ xs) ys (inr later) = inr (meets-front r (after r w x) xs ys later)
-
 pub meets-behind : (r : Readings) (w : World) (xs ys : List Turn) → MeetsWorn r (run r w xs) ys → MeetsWorn r w (xs ++ ys)
 meets-behind r w [] ys meets = meets
 meets-behind r w (x ∷ xs) ys meets = inr (meets-behind r (after r w x) xs ys meets)
