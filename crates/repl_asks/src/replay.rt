@@ -1,5 +1,5 @@
 // Answers that are known beforehand.
-ghost use Rattle.std.specs.Prelude.{◌≡◌, ◌++◌, ◌↔◌, ◌⊎◌, [], ◌∷◌, true, false, map, Err, IsTrue, IsErr, IfOk, OnErr};
+ghost use Rattle.std.specs.Prelude.{◌≡◌, ◌++◌, ◌↔◌, ◌⊎◌, [], ◌∷◌, true, false, map, Err, IsTrue, IsErr, IfOk, IfErr, OnErr};
 ghost use Rattle.repl_asks.specs.Exchange.{Heard, Fits, NoneFits};
 ghost use Rattle.repl_asks.specs.View.{ask_view, answer_view, exchange_view};
 
@@ -75,6 +75,7 @@ impl Replay {
         ensures kept { OnErr result (answers_left self.new ≡ answers_left self.old) }
         ensures none { result ≡ Err StopReason.NoAnswer → ((heard_by self.old).stopped ≡ true) ⊎ NoneFits (ask_view ask.now) (answers_left self.old) }
         ensures no_more { (heard_by self.old).stopped ≡ true → IsErr result }
+        ensures why { IfErr result (λ why. (why ≡ StopReason.NoAnswer) ⊎ (why ≡ StopReason.NoMemory)) }
     {
         if self.has_stopped {
             return Err(StopReason::NoAnswer);
