@@ -1,3 +1,4 @@
+pub mod Determined
 pub mod Draining
 pub mod Going
 pub mod Growing
