@@ -26,7 +26,15 @@ pub fn pipe_command<R: Read, W: Write, E: Write>(
         × ((r : Readings) → AreRight r → Outcome r (opening config)
         (R.remaining reader.old) (R.remaining reader.new) (W.contents writer.old) (W.contents writer.new) outcome) }
 {
-    match pipe(alloc, config, reader, writer) {
+    let outcome = pipe(alloc, config, reader, writer);
+    tell(outcome, errors)
+}
+
+// The exit status; where it is not 0, a line says why.
+fn tell<E: Write>(outcome: Result<PipeEnd, PipeError>, errors: &mut E) -> u8
+    ensures { result ≡ status_of outcome }
+{
+    match outcome {
         Ok(PipeEnd::Whole) => 0,
         Ok(PipeEnd::Truncated) => complain(errors, "truncated input"),
         Ok(PipeEnd::Worn) => complain(errors, "step limit reached"),
