@@ -70,7 +70,7 @@ none-drained_of w (x ∷ xs) why e = cc
 pub none-drained : (w : World) (why : Refusal) → drain w ≡ refused why → drain_all w.replies ≡ []
 none-drained w why e = none-drained_of w w.replies why e
 
--- ---- the loop that writes the replies
+-- The loop that writes the replies
 
 -- so far: what was written, and the world now
 pub record Drains (r : Readings) (Stands : World → Type 0) (w : World) (held holds : Option (List ℕ)) : Type 0 where

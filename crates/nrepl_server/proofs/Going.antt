@@ -14,7 +14,7 @@ pub step-goes : (r : Readings) (w : World) → step r w (goes Actor.Bare) ≡ go
 unfolding step
 step-goes r w = refl
 
--- ---- by the three tests
+-- By the three tests
 
 abbrev tested : Bool → Bool → Bool → Stepped → Stepped
 tested worn idle held s = if worn then refused Refusal.Worn else if idle then refused Refusal.Idle else if held then refused Refusal.Held else s
@@ -46,7 +46,7 @@ tested-gives false false false v = refl
 pub go-gives : (r : Readings) (w : World) → bytes_given (step r w (goes Actor.Bare)) ≡ []
 go-gives r w = ap bytes_given (step-tested r w) ∙ tested-gives (w.steps == 0) (is_idle w.hand w.waiting) (may_reply w.hand && is_held w) (spent (acted r w))
 
--- ---- what an accepted turn keeps
+-- What an accepted turn keeps
 
 abbrev Keeps : World → World → Type 0
 Keeps w v = (v.steps ≡ w.steps) × (v.heard ≡ w.heard)
@@ -97,7 +97,7 @@ after-heard r w (refused why) e = refl
 pub go-heard : (r : Readings) (w : World) → (after r w (goes Actor.Bare)).heard ≡ w.heard
 go-heard r w = after-heard r w (step r w (goes Actor.Bare)) refl
 
--- ---- the code's turn
+-- The code's turn
 
 pub accepted-stands : (Stands : World → Type 0) (w : World) (s : Stepped) → Accepted Stands s → Stands (world_or w s)
 accepted-stands Stands w (accepted new bytes) stands = stands

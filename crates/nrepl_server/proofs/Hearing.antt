@@ -15,7 +15,7 @@ pub step-hears : (r : Readings) (w : World) (piece : List ℕ) → step r w (hea
 unfolding step
 step-hears r w piece = refl
 
--- ---- the bytes of the piece are heard
+-- The bytes of the piece are heard
 
 heard_message-heard : (h : HeardData) (w : World) → (with_heard_message h w).heard ≡ w.heard
 heard_message-heard (waits request) w = refl
@@ -35,7 +35,7 @@ taken_in-heard : (r : Readings) (piece : List ℕ) (w : World) → (taken_in r p
 unfolding taken_in
 taken_in-heard r piece w = messages-heard (new_messages r w.heard piece) (with_heard (w.heard ++ piece) w)
 
--- ---- by the three tests
+-- By the three tests
 
 abbrev heard_by : Bool → Option WireFault → Bool → World → Stepped
 heard_by worn (Some f) held v = if worn then refused Refusal.Worn else refused (Refusal.Wire f)
@@ -75,7 +75,7 @@ hear-refused r w piece why clean none e =
     by-refused (w.steps == 0) (stream_fault r w.heard) (is_held w) (spent (taken_in r piece w)) why clean (few-held w.replies none)
     (sym (step-heard_by r w piece) ∙ step-hears r w piece ∙ e)
 
--- ---- the code heard it
+-- The code heard it
 
 -- the piece was taken in
 pub record TakesIn (r : Readings) (Stands : World → Type 0) (w : World) (piece : List ℕ) : Type 0 where
@@ -99,7 +99,7 @@ takes-in_by r Stands w piece (refused why) is never = absurd never
 pub takes-in : (r : Readings) (Stands : World → Type 0) (w : World) (piece : List ℕ) → Accepted Stands (hear r piece w) → TakesIn r Stands w piece
 takes-in r Stands w piece h = takes-in_by r Stands w piece (hear r piece w) (step-hears r w piece) h
 
--- ---- no byte has no fault
+-- No byte has no fault
 
 nothing-faulty : (limit place : ℕ) (bytes : List ℕ) (ts : List wire.Tree) (end : Ending) → length bytes ≡ 0 → Streams limit place bytes ts end → fault_in end ≡ None
 nothing-faulty limit place bytes [] (rest m) none s = refl

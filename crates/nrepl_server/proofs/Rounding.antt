@@ -14,7 +14,7 @@ use Rattle.nrepl_server.proofs.Turns.{run-append, served-append, meets-behind, m
 use Rattle.nrepl_server.proofs.Draining.{left, run-drains, drains-never_worn}
 use Rattle.nrepl_server.proofs.Going.{go-gives, go-accepted, zero-tested, go-worn, go-not_held, go-heard}
 
--- ---- one round
+-- One round
 
 pub run-round : (r : Readings) (w : World) → run r w (round r w) ≡ left [] (after r w (goes Actor.Bare))
 run-round r w = run-drains r (after r w (goes Actor.Bare))
@@ -28,7 +28,7 @@ round-heard r w = ap (λ (v : World). v.heard) (run-round r w) ∙ go-heard r w
 pub served-round : (r : Readings) (w : World) → served r w (round r w) ≡ served r (after r w (goes Actor.Bare)) (drain_all (after r w (goes Actor.Bare)).replies)
 served-round r w = ap (λ (bytes : List ℕ). bytes ++ served r (after r w (goes Actor.Bare)) (drain_all (after r w (goes Actor.Bare)).replies)) (go-gives r w)
 
--- ---- what rounds keep
+-- What rounds keep
 
 pub rounds-empty : (r : Readings) (w : World) (turns : List Turn) → AreRounds r w turns → (run r w turns).replies ≡ []
 rounds-empty r w turns (last v end) = round-empty r v
@@ -45,7 +45,7 @@ rounds-front : (r : Readings) (w : World) (turns : List Turn) → AreRounds r w 
 rounds-front r w turns (last v end) = ([], sym (append-nil (round r v)))
 rounds-front r w turns (more v turns_left on rounds) = (turns_left, refl)
 
--- ---- each world has rounds
+-- Each world has rounds
 
 abbrev HasRounds : Readings → World → Type 0
 HasRounds r w = (turns : List Turn) × AreRounds r w turns
@@ -87,7 +87,7 @@ rounds-by r w (refused Refusal.Idle) is = ends-here r w (refused Refusal.Idle) i
 pub rounds-exist : (r : Readings) (w : World) → HasRounds r w
 rounds-exist r w = rounds-by r w (step r w (goes Actor.Bare)) refl
 
--- ---- the loop over the rounds
+-- The loop over the rounds
 
 -- the rounds so far: those of the world now are the rest of them
 pub record RoundsOn (r : Readings) (Stands : World → Type 0) (w : World) (held holds : Option (List ℕ)) : Type 0 where
@@ -159,7 +159,7 @@ rounds-all r Old New w held holds grown end on at drained =
       ends-so r w on.turns end on.never_worn at,
     )
 
--- ---- after an error
+-- After an error
 
 -- a turn for which there was no memory: nothing more was written
 pub rounds-stopped : (r : Readings) (Old : World → Type 0) (w : World) (held holds : Option (List ℕ)) → RoundsOn r Old w held holds → BeginsRounds r w held holds

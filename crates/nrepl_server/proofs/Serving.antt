@@ -24,7 +24,7 @@ use Rattle.nrepl_server.proofs.Going.{go-worn}
 use Rattle.nrepl_server.proofs.Hearing.{step-hears, hear-refused, TakesIn, fresh-clean}
 use Rattle.nrepl_server.proofs.Rounding.{served-round, rounds-empty, rounds-heard, rounds-exist}
 
--- ---- pieces and schedules
+-- Pieces and schedules
 
 pieces-append : (pieces : List (List ℕ)) (piece : List ℕ) → ArePieces pieces → IsPiece piece → ArePieces (pieces ++ piece ∷ [])
 pieces-append [] piece are is = (is.0, is.1, tt)
@@ -39,7 +39,7 @@ schedule-last : (r : Readings) (now : World) (piece : List ℕ) (rounds : List T
 schedule-last r now piece rounds are =
     (rounds, [], are, λ (some : [] ≢ []). absurd (some refl), refl, sym (append-nil (hears piece ∷ rounds)))
 
--- ---- so far
+-- So far
 
 pub record Serving (r : Readings) (Stands : World → Type 0) (w : World) (unread left held holds : Option (List ℕ)) : Type 0 where
   pub pieces : List (List ℕ)
@@ -71,7 +71,7 @@ serving-none r Stands w unread held right stands fresh = record {
   closes = λ more behind schedule. schedule;
 }
 
--- ---- one more piece
+-- One more piece
 
 consumes-more : (unread left less : Option (List ℕ)) (pieces : List (List ℕ)) (piece : List ℕ) → Consumes unread left (joined pieces) → Consumes left less piece
     → Consumes unread less (joined (pieces ++ piece ∷ []))
@@ -121,7 +121,7 @@ serving-more r Old Mid New w unread left less held holds grown piece on is consu
           (subst (IsSchedule r w (on.pieces ++ piece ∷ more)) (sym (append_assoc on.turns turns behind)) whole);
     }
 
--- ---- the ends
+-- The ends
 
 -- at the end of the input
 pub serves-all : (r : Readings) (Old : World → Type 0) (w : World) (unread left less held holds : Option (List ℕ)) (end : PipeEnd) (on : Serving r Old w unread left held holds)
@@ -190,7 +190,7 @@ serves-rounds r Old Mid New w unread left less held holds grown piece end told o
     serves-last r Old w unread left less held holds grown piece made.0 told on is consumes made.1
     (subst (Appends holds grown) (sym (served-heard r now piece made.0 taken.gives)) made.2.appends) ends
 
--- ---- errors
+-- Errors
 
 -- nothing more was read
 pub begins-all : (r : Readings) (Old : World → Type 0) (w : World) (unread left less held holds : Option (List ℕ)) (on : Serving r Old w unread left held holds)
@@ -270,7 +270,7 @@ pub begins-lost : (r : Readings) (Old : World → Type 0) (w : World) (unread le
     → LosesPiece left less → Moves unread less held holds (λ read written. BeginsToServe r w read written)
 begins-lost r Old w unread left less held holds on lost = loses-by r Old w unread left less held holds lost.0 on lost.1 lost.2
 
--- ---- what the code is told
+-- What the code is told
 
 pub read-up : (end : PipeEnd) (left : Option (List ℕ)) → IsAtEnd left → IsReadUp end left
 read-up PipeEnd.Whole left at = at
@@ -302,7 +302,7 @@ ends-broken r Mid New now held holds piece f taken made told =
       wire-broken (r.stream (run r (after r now (hears piece)) made.0).heard).ending f told ∙ ap (λ (bytes : List ℕ). stream_end (r.stream bytes).ending) heard,
     )
 
--- ---- a piece that is refused
+-- A piece that is refused
 
 pub known-refused : (X : Type 0) (s : Stepped) (why known : Refusal) → why ≡ known → known ≢ Refusal.NoMemory → (why ≢ Refusal.NoMemory → (s ≡ refused why) × X)
     → s ≡ refused known

@@ -1,4 +1,4 @@
--- What the loop of `pipe` knows of the server that it drives.
+-- How much is left to do, by which a loop over a server ends.
 use Rattle.std.specs.Prelude.{ℕ, List}
 
 pub record ServerState : Type 0 where

@@ -1,4 +1,4 @@
--- The replies (the nREPL manual, "Operations" and "Message transport"): what each says, and its bytes.
+-- The replies (the nREPL manual, "Supported nREPL operations" and "Transports"): what each says, and its bytes.
 use Rattle.std.specs.Prelude.{ℕ, List, [], ◌∷◌, ◌++◌, Option, Some, None, codes}
 use Rattle.bencode_wire.specs.Tree.{Tree, string, list, dictionary, Pairs, no_pairs, pair, Trees, no_trees, tree}
 use Rattle.bencode_wire.specs.Spelling.{canonical}

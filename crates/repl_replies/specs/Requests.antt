@@ -1,4 +1,4 @@
--- What a message asks for (the nREPL manual, "Operations").
+-- What a message asks for (the nREPL manual, "Supported nREPL operations").
 use Rattle.std.specs.Prelude.{ℕ, List, Bool, false, Option, Some, None, if◌then◌else◌, codes}
 use Rattle.std.specs.Str.{bytes_eq, is_utf8}
 use Rattle.bencode_wire.specs.Tree.{Tree, integer, string, list, dictionary, Pairs, field}
