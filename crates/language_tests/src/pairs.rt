@@ -1,22 +1,9 @@
 // Pairs put in and taken out, as the language's rules say of a map.
-use crate::{pair_as_vector, with_pairs, without_keys};
-use repl_values::{Value, print_into};
+use crate::given::{integers, pairs, printed};
+use core_pairs::{pair_as_vector, with_pairs, without_keys};
+use repl_values::Value;
 use std::alloc::{AllocError, Global};
 use std::test::Fail;
-
-fn pairs(alloc: Global, pairs: &[(i64, i64)]) -> Result<Vec<(Value, Value)>, AllocError> {
-    let mut values = Vec::new(alloc);
-    for (key, value) in pairs {
-        values.push((Value::Int(*key), Value::Int(*value)))?;
-    }
-    Ok(values)
-}
-
-fn printed(alloc: Global, value: &Value) -> Result<String, AllocError> {
-    let mut text = String::new(alloc);
-    print_into(alloc, value, &mut text)?;
-    Ok(text)
-}
 
 // The map of the first pairs with more put in.
 fn put(alloc: Global, first: &[(i64, i64)], more: &[(i64, i64)]) -> Result<String, AllocError> {
@@ -32,11 +19,8 @@ fn put(alloc: Global, first: &[(i64, i64)], more: &[(i64, i64)]) -> Result<Strin
 
 fn removed(alloc: Global, first: &[(i64, i64)], keys: &[i64]) -> Result<String, AllocError> {
     let first = pairs(alloc, first)?;
-    let mut lent = Vec::new(alloc);
-    for key in keys {
-        lent.push(Value::Int(*key))?;
-    }
-    let rest = without_keys(alloc, first.as_slice(), lent.as_slice())?;
+    let keys = integers(alloc, keys)?;
+    let rest = without_keys(alloc, first.as_slice(), keys.as_slice())?;
     printed(alloc, &Value::Map(rest))
 }
 

@@ -1,8 +1,8 @@
 // Texts with the print of their forms, and with the kind, place and message of their fault.
-use crate::{FaultKind, read_all};
 use FaultKind::{
     BadChar, BadDispatch, BadEscape, BadNumber, BadToken, Eof, OddMap, SameKey, TooDeep, Unmatched,
 };
+use repl_reader::{FaultKind, read_all};
 use repl_values::print_into;
 use std::alloc::{AllocError, Global};
 use std::process::Abort;

@@ -1,47 +1,9 @@
 // Each function once on its happy path and once on each of its faults, as the language's rules say.
-use crate::{SequenceFunction, apply_sequences};
-use repl_faults::ApplyError;
-use repl_values::{Value, print_into};
+use crate::given::{Given, OUT_OF_BOUNDS, printed_outcome, values_of, wrong_argument};
+use core_sequences::{SequenceFunction, apply_sequences};
 use std::alloc::{AllocError, Global};
 use std::process::Abort;
 use std::test::Fail;
-
-// An argument, in short.
-enum Given<'a> {
-    Nil,
-    Int(i64),
-    Text(&'a str),
-    List(&'a [i64]),
-    Vector(&'a [i64]),
-    Map(&'a [(i64, i64)]),
-}
-
-fn integers(alloc: Global, items: &[i64]) -> Result<Vec<Value>, AllocError> {
-    let mut values = Vec::new(alloc);
-    for n in items {
-        values.push(Value::Int(*n))?;
-    }
-    Ok(values)
-}
-
-fn pairs(alloc: Global, pairs: &[(i64, i64)]) -> Result<Vec<(Value, Value)>, AllocError> {
-    let mut values = Vec::new(alloc);
-    for (key, value) in pairs {
-        values.push((Value::Int(*key), Value::Int(*value)))?;
-    }
-    Ok(values)
-}
-
-fn value_of(alloc: Global, given: &Given) -> Result<Value, AllocError> {
-    match given {
-        Given::Nil => Ok(Value::Nil),
-        Given::Int(n) => Ok(Value::Int(*n)),
-        Given::Text(text) => Ok(Value::Str(String::from_str(alloc, text)?)),
-        Given::List(items) => Ok(Value::List(integers(alloc, items)?)),
-        Given::Vector(items) => Ok(Value::Vector(integers(alloc, items)?)),
-        Given::Map(items) => Ok(Value::Map(pairs(alloc, items)?)),
-    }
-}
 
 // The value, or the fault as a value, as a reply prints it.
 fn expect(
@@ -54,25 +16,14 @@ fn expect(
     let Some(function) = SequenceFunction::named(name) else {
         panic!(rt; "unknown function");
     };
-    let mut args = Vec::new(alloc);
-    for one in given {
-        args.push(value_of(alloc, one)?)?;
-    }
+    let args = values_of(alloc, given)?;
     if !function.takes(args.len()) {
         panic!(rt; "wrong number of arguments");
     }
-    let value = match apply_sequences(alloc, function, args.as_slice()) {
-        Ok(value) => value,
-        Err(ApplyError::Fault(fault)) => fault.into_value(),
-        Err(ApplyError::NoMemory) => return Err(AllocError),
-    };
-    let mut text = String::new(alloc);
-    print_into(alloc, &value, &mut text)?;
+    let text = printed_outcome(alloc, apply_sequences(alloc, function, args.as_slice()))?;
     assert_eq!(rt; text.as_str(), wanted);
     Ok(())
 }
-
-const OUT_OF_BOUNDS: &str = "#error{java.lang.IndexOutOfBoundsException: Index out of bounds}";
 
 #[test]
 fn makers(rt: HostRuntime) -> Result<(), Fail> {
@@ -115,12 +66,7 @@ fn what_has_no_items(rt: HostRuntime) -> Result<(), Fail> {
     let a = rt.alloc();
     let names = ["first", "last", "rest", "next", "reverse"];
     for name in names {
-        let mut wanted = String::from_str(
-            a,
-            "#error{java.lang.ClassCastException: Wrong argument to ",
-        )?;
-        wanted.push_str(name)?;
-        wanted.push_str(": \"ab\"}")?;
+        let wanted = wrong_argument(a, name, "\"ab\"")?;
         expect(&rt, a, name, &[Given::Text("ab")], wanted.as_str())?;
     }
     Ok(())

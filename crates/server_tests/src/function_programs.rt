@@ -1,6 +1,6 @@
 // Programs of core functions and of the reader with their replies, as the language's rules say. One
 // request each, the bare actor's.
-use crate::tests::Case;
+use crate::cases::Case;
 
 pub(crate) const FUNCTION_PROGRAMS: [Case; 23] = [
     // (list) (vector) (list 1 [2]) (vector nil 'a)

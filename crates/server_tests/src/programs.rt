@@ -1,5 +1,5 @@
 // Programs with their replies, as the language's rules say. One request each, the bare actor's.
-use crate::tests::Case;
+use crate::cases::Case;
 
 pub(crate) const PROGRAMS: [Case; 45] = [
     // (str nil "a" [1 "b"])

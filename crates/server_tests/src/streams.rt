@@ -1,27 +1,12 @@
-// Whole streams, with failing readers and writers. The expected bytes are those of the protocol.
-use crate::command::pipe_command;
+// Whole streams. The expected bytes are those of the protocol.
+use crate::cases::{Case, SUM, SUM_REPLIES, expect_replies};
 use crate::function_programs::FUNCTION_PROGRAMS;
 use crate::programs::PROGRAMS;
+use nrepl_pipe::pipe_command;
 use repl_core::Config;
-use std::alloc::Global;
-use std::io;
-use std::io::{Error, ErrorKind, Read, Write};
-use std::process::Abort;
 use std::test::Fail;
 
-const SUM: &[u8] = b"d4:code7:(+ 1 2)2:id1:72:op4:evale";
-
-const SUM_REPLIES: &[u8] = b"d2:id1:72:ns4:user5:value1:3ed2:id1:76:statusl4:doneee";
-
 const MALFORMED: &[u8] = b"d6:statusl5:error9:malformed4:doneee";
-
-// An input, what is written for it, the exit status and the line on standard error.
-pub(crate) struct Case {
-    pub(crate) input: &'static [u8],
-    pub(crate) output: &'static [u8],
-    pub(crate) status: u8,
-    pub(crate) line: &'static str,
-}
 
 const CASES: [Case; 15] = [
     Case {
@@ -117,21 +102,6 @@ const CASES: [Case; 15] = [
     },
 ];
 
-fn expect_replies(rt: &impl Abort, alloc: Global, cases: &[Case]) -> Result<(), Fail> {
-    for case in cases {
-        let mut input = case.input;
-        let mut output = Vec::new(alloc);
-        let mut errors = Vec::new(alloc);
-        let config = Config::new();
-        let status = pipe_command(alloc, config, &mut input, &mut output, &mut errors);
-        let text = str::from_utf8(case.input).unwrap_or("");
-        assert_eq!(rt; output.as_slice(), case.output, "{text}");
-        assert_eq!(rt; errors.as_slice(), case.line.as_bytes(), "{text}");
-        assert_eq!(rt; status, case.status, "{text}");
-    }
-    Ok(())
-}
-
 #[test]
 fn streams(rt: HostRuntime) -> Result<(), Fail> {
     expect_replies(&rt, rt.alloc(), &CASES)
@@ -145,106 +115,6 @@ fn programs(rt: HostRuntime) -> Result<(), Fail> {
 #[test]
 fn function_programs(rt: HostRuntime) -> Result<(), Fail> {
     expect_replies(&rt, rt.alloc(), &FUNCTION_PROGRAMS)
-}
-
-// Gives a few bytes at each read, and fails once its reads are used up.
-#[derive(Drop)]
-struct FailingReader {
-    input: &'static [u8],
-    reads: usize,
-}
-
-impl Read for FailingReader {
-    fn read(&mut self, buf: &mut [u8]) -> io::Result<usize> {
-        if self.reads == 0 {
-            return Err(Error::from(ErrorKind::Other));
-        }
-        self.reads -= 1;
-        let n = self.input.len().min(buf.len()).min(8);
-        let (front, rest) = self.input.split_at(n);
-        buf[..n].copy_from_slice(front);
-        self.input = rest;
-        Ok(n)
-    }
-}
-
-// Takes a few bytes at each write. Once its writes are used up it fails, or takes nothing.
-#[derive(Drop)]
-struct FailingWriter {
-    written: Vec<u8>,
-    writes: usize,
-    takes_nothing: bool,
-}
-
-impl Write for FailingWriter {
-    fn write(&mut self, buf: &[u8]) -> io::Result<usize> {
-        if self.writes == 0 {
-            if self.takes_nothing {
-                return Ok(0);
-            }
-            return Err(Error::from(ErrorKind::Other));
-        }
-        self.writes -= 1;
-        let n = buf.len().min(8);
-        self.written.extend_from_slice(&buf[..n])?;
-        Ok(n)
-    }
-
-    fn flush(&mut self) -> io::Result<()> {
-        Ok(())
-    }
-}
-
-// The request comes in six reads, the last of them empty.
-#[test]
-fn failing_reads(rt: HostRuntime) -> Result<(), Fail> {
-    for reads in 0..7usize {
-        let mut reader = FailingReader { input: SUM, reads };
-        let mut output = Vec::new(rt.alloc());
-        let mut errors = Vec::new(rt.alloc());
-        let config = Config::new();
-        let status = pipe_command(rt.alloc(), config, &mut reader, &mut output, &mut errors);
-        let is_whole = reads == 6;
-        let line = if is_whole { "" } else { "nrepl: read failed\n" };
-        assert_eq!(rt; errors.as_slice(), line.as_bytes(), "{reads}");
-        assert_eq!(rt; status == 0, is_whole, "{reads}");
-        assert!(rt; SUM_REPLIES.starts_with(output.as_slice()), "{reads}");
-        assert_eq!(rt; output.is_empty(), reads < 5, "{reads}");
-    }
-    Ok(())
-}
-
-// The two replies take four writes each.
-#[test]
-fn failing_writes(rt: HostRuntime) -> Result<(), Fail> {
-    for writes in 0..9usize {
-        for takes_nothing in [false, true] {
-            let mut input = SUM;
-            let written = Vec::new(rt.alloc());
-            let mut writer = FailingWriter {
-                written,
-                writes,
-                takes_nothing,
-            };
-            let mut errors = Vec::new(rt.alloc());
-            let config = Config::new();
-            let status = pipe_command(rt.alloc(), config, &mut input, &mut writer, &mut errors);
-            let is_whole = writes == 8;
-            let line = if is_whole {
-                ""
-            } else {
-                "nrepl: write failed\n"
-            };
-            assert_eq!(rt; errors.as_slice(), line.as_bytes(), "{writes}");
-            assert_eq!(rt; status == 0, is_whole, "{writes}");
-            assert!(rt;
-                SUM_REPLIES.starts_with(writer.written.as_slice()),
-                "{writes}"
-            );
-            assert!(rt; writer.written.len() >= 8 * writes.min(3), "{writes}");
-        }
-    }
-    Ok(())
 }
 
 // Prints 1,048,575 letters, and then what stands in `more`.
