@@ -65,7 +65,7 @@ fn complain_of_error<E: Write>(errors: &mut E, error: PipeError) -> u8
     1
 }
 
-/// The command line is none that the program knows.
+/// Tells `errors` that the command line is none that the program knows, and gives the exit status.
 pub fn bad_options<E: Write>(errors: &mut E) -> u8
     ensures { result ≡ 2 }
 {
@@ -73,7 +73,7 @@ pub fn bad_options<E: Write>(errors: &mut E) -> u8
     2
 }
 
-/// There was no memory to read the command line.
+/// Tells `errors` that there was no memory to read the command line, and gives the exit status.
 pub fn out_of_memory<E: Write>(errors: &mut E) -> u8
     ensures { result ≡ 1 }
 {
