@@ -28,6 +28,3 @@ pub use decoder::Decoder;
 pub use fault::WireFault;
 pub use fields::{put_field, take_field};
 pub use write::write_into;
-
-#[cfg(test)]
-mod tests;

@@ -6,8 +6,6 @@
 
 mod application;
 mod function;
-#[cfg(test)]
-mod tests;
 
 pub use application::{Applied, apply};
 pub use function::{CoreFunction, arity_fits, knows};

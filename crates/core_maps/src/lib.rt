@@ -9,8 +9,6 @@ mod changes;
 mod function;
 mod lookups;
 mod making;
-#[cfg(test)]
-mod tests;
 
 pub use application::apply_maps;
 pub use function::MapFunction;

@@ -8,8 +8,6 @@ mod entry;
 mod join;
 mod places;
 mod remove;
-#[cfg(test)]
-mod tests;
 
 pub use entry::pair_as_vector;
 pub use join::with_pairs;

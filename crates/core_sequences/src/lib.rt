@@ -9,8 +9,6 @@ mod function;
 mod items;
 mod joins;
 mod places;
-#[cfg(test)]
-mod tests;
 
 pub use application::apply_sequences;
 pub use function::SequenceFunction;

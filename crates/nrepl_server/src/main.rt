@@ -1,18 +1,9 @@
 //! An nREPL server: `nrepl_server pipe` serves one stream from standard input to standard output.
 #![tactic(auto)]
 
-mod command;
-#[cfg(test)]
-mod function_programs;
-mod pipe;
-#[cfg(test)]
-mod programs;
-#[cfg(test)]
-mod tests;
-
 use clap::Command;
 use clap::error::ErrorKind;
-use command::{bad_options, out_of_memory, pipe_command};
+use nrepl_pipe::{bad_options, out_of_memory, pipe_command};
 use repl_core::Config;
 use std::alloc::{AllocError, Global};
 use std::process::ExitCode;

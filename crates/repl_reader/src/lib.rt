@@ -15,8 +15,6 @@ mod nest;
 mod next;
 mod reading;
 mod strings;
-#[cfg(test)]
-mod tests;
 mod text;
 mod tokens;
 

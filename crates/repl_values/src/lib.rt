@@ -13,8 +13,6 @@ pub mod laws;
 mod measure;
 mod print;
 mod repeats;
-#[cfg(test)]
-mod tests;
 mod value;
 
 pub use copies::{copy, copy_text};

@@ -1,0 +1,85 @@
+// Arguments in short, and what calls give as a reply prints it.
+use repl_faults::ApplyError;
+use repl_values::{Value, print_into};
+use std::alloc::{AllocError, Global};
+
+// An argument, in short.
+#[derive(Clone, Copy)]
+pub(crate) enum Given<'a> {
+    Nil,
+    Int(i64),
+    Text(&'a str),
+    List(&'a [i64]),
+    Vector(&'a [i64]),
+    Map(&'a [(i64, i64)]),
+}
+
+pub(crate) const OUT_OF_BOUNDS: &str =
+    "#error{java.lang.IndexOutOfBoundsException: Index out of bounds}";
+
+pub(crate) fn integers(alloc: Global, items: &[i64]) -> Result<Vec<Value>, AllocError> {
+    let mut values = Vec::new(alloc);
+    for n in items {
+        values.push(Value::Int(*n))?;
+    }
+    Ok(values)
+}
+
+pub(crate) fn pairs(
+    alloc: Global,
+    pairs: &[(i64, i64)],
+) -> Result<Vec<(Value, Value)>, AllocError> {
+    let mut values = Vec::new(alloc);
+    for (key, value) in pairs {
+        values.push((Value::Int(*key), Value::Int(*value)))?;
+    }
+    Ok(values)
+}
+
+fn value_of(alloc: Global, given: &Given) -> Result<Value, AllocError> {
+    match given {
+        Given::Nil => Ok(Value::Nil),
+        Given::Int(n) => Ok(Value::Int(*n)),
+        Given::Text(text) => Ok(Value::Str(String::from_str(alloc, text)?)),
+        Given::List(items) => Ok(Value::List(integers(alloc, items)?)),
+        Given::Vector(items) => Ok(Value::Vector(integers(alloc, items)?)),
+        Given::Map(items) => Ok(Value::Map(pairs(alloc, items)?)),
+    }
+}
+
+pub(crate) fn values_of(alloc: Global, given: &[Given]) -> Result<Vec<Value>, AllocError> {
+    let mut values = Vec::new(alloc);
+    for one in given {
+        values.push(value_of(alloc, one)?)?;
+    }
+    Ok(values)
+}
+
+pub(crate) fn printed(alloc: Global, value: &Value) -> Result<String, AllocError> {
+    let mut text = String::new(alloc);
+    print_into(alloc, value, &mut text)?;
+    Ok(text)
+}
+
+// The print of the value, or of the fault as a value.
+pub(crate) fn printed_outcome(
+    alloc: Global,
+    outcome: Result<Value, ApplyError>,
+) -> Result<String, AllocError> {
+    match outcome {
+        Ok(value) => printed(alloc, &value),
+        Err(ApplyError::Fault(fault)) => printed(alloc, &fault.into_value()),
+        Err(ApplyError::NoMemory) => Err(AllocError),
+    }
+}
+
+// The print of the fault of a wrong argument.
+pub(crate) fn wrong_argument(
+    alloc: Global,
+    name: &str,
+    argument: &str,
+) -> Result<String, AllocError> {
+    format!(in alloc;
+        "#error{{java.lang.ClassCastException: Wrong argument to {name}: {argument}}}"
+    )
+}

@@ -1,0 +1,22 @@
+//! Tests of the reader and of the functions of the language: of `repl_reader`, `core_pairs`,
+//! `core_sequences`, `core_maps` and `core_functions`, by their public calls alone.
+#![tactic(auto)]
+
+#[cfg(test)]
+mod calls;
+#[cfg(test)]
+mod functions;
+#[cfg(test)]
+mod given;
+#[cfg(test)]
+mod limits;
+#[cfg(test)]
+mod maps;
+#[cfg(test)]
+mod names;
+#[cfg(test)]
+mod pairs;
+#[cfg(test)]
+mod reading;
+#[cfg(test)]
+mod sequences;

@@ -1,0 +1,47 @@
+// Values that are too heavy or too deep for a function to give.
+use crate::calls::apply_named;
+use repl_values::Value;
+use std::test::Fail;
+
+const TOO_LARGE: &str = "#error{java.lang.IllegalArgumentException: Value too large}";
+
+// The most that a value may weigh, with 1 for the string itself.
+#[test]
+fn heavy_values_are_faults(rt: HostRuntime) -> Result<(), Fail> {
+    let a = rt.alloc();
+    let mut text = String::new(a);
+    for _ in 0..1_048_575 {
+        text.push('x')?;
+    }
+    let mut args = Vec::new(a);
+    args.push(Value::Str(text))?;
+    let heaviest = apply_named(&rt, a, "identity", args.as_slice())?;
+    assert_eq!(&rt; heaviest.print.len(), 1_048_577);
+    args.push(Value::Int(1))?;
+    let heavier = apply_named(&rt, a, "str", args.as_slice())?;
+    assert_eq!(&rt; heavier.print.as_str(), TOO_LARGE);
+    let printed = apply_named(&rt, a, "print", args.as_slice())?;
+    assert_eq!(&rt; printed.print.as_str(), "nil");
+    assert_eq!(&rt; printed.text.len(), 1_048_577);
+    Ok(())
+}
+
+#[test]
+fn deep_values_are_faults(rt: HostRuntime) -> Result<(), Fail> {
+    let a = rt.alloc();
+    let mut value = Value::Nil;
+    for _ in 0..128 {
+        let mut items = Vec::new(a);
+        items.push(value)?;
+        value = Value::Vector(items);
+    }
+    let mut args = Vec::new(a);
+    args.push(value)?;
+    let deepest = apply_named(&rt, a, "identity", args.as_slice())?;
+    assert_eq!(&rt; deepest.print.len(), 259);
+    let mut nest = Vec::new(a);
+    nest.push(Value::List(args))?;
+    let deeper = apply_named(&rt, a, "identity", nest.as_slice())?;
+    assert_eq!(&rt; deeper.print.as_str(), TOO_LARGE);
+    Ok(())
+}

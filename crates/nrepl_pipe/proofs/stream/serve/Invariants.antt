@@ -1,0 +1,14 @@
+use Rattle.repl_core.specs.Readings.{Readings, AreRight}
+use Rattle.repl_core.specs.World.{World}
+use Rattle.nrepl_pipe.specs.Fresh.{IsFresh}
+use Rattle.nrepl_pipe.proofs.Serving.{Serving}
+use Rattle.nrepl_pipe.proofs.stream.serve.Given as goal
+
+abbrev pub invariant-loop-piece : goal.invariant-loop-piece
+invariant-loop-piece g l =
+    (r : Readings) (w : World) → AreRight r → g.C.Core.stands r l.initial.core w → IsFresh w
+    → Serving r (g.C.Core.stands r l.core) w (g.R.Read.remaining l.initial.reader) (g.R.Read.remaining l.reader)
+    (g.W.Write.contents l.initial.writer) (g.W.Write.contents l.writer)
+
+abbrev pub decreases-loop-piece : goal.decreases-loop-piece
+decreases-loop-piece g l = (g.C.Core.state l.core).steps

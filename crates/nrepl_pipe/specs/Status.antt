@@ -1,0 +1,12 @@
+-- The exit status of the command `pipe`.
+use Rattle.std.specs.Prelude.{ℕ, Result, Ok, Err}
+use Rattle.nrepl_pipe.specs.declared.stream.PipeEnd.{PipeEnd}
+use Rattle.nrepl_pipe.specs.declared.stream.PipeError.{PipeError}
+
+-- 0 where the input was whole messages and all was answered, else 1
+abbrev pub status_of : Result PipeEnd PipeError → ℕ
+status_of (Ok PipeEnd.Whole) = 0
+status_of (Ok PipeEnd.Truncated) = 1
+status_of (Ok (PipeEnd.Broken f)) = 1
+status_of (Ok PipeEnd.Worn) = 1
+status_of (Err error) = 1

@@ -1,0 +1,81 @@
+// The exit status of `pipe`, and its line on standard error.
+ghost use Rattle.std.specs.Prelude.{◌≡◌, Result};
+ghost use Rattle.repl_core.specs.Readings.{Readings, AreRight};
+ghost use Rattle.repl_core.specs.World.{opening};
+ghost use Rattle.nrepl_pipe.specs.Served.{Outcome};
+ghost use Rattle.nrepl_pipe.specs.Status.{status_of};
+ghost use Rattle.nrepl_pipe.specs.declared.stream.PipeEnd.{PipeEnd};
+ghost use Rattle.nrepl_pipe.specs.declared.stream.PipeError.{PipeError};
+
+use crate::stream::{PipeEnd, PipeError, pipe};
+use bencode_wire::WireFault;
+use repl_core::Config;
+use std::alloc::Global;
+use std::io::{Read, Write};
+
+/// Serves one stream, and gives the exit status: 0 where the input was whole messages and all was
+/// answered, else 1 with one line on `errors`.
+pub fn pipe_command<R: Read, W: Write, E: Write>(
+    alloc: Global,
+    config: Config,
+    reader: &mut R,
+    writer: &mut W,
+    errors: &mut E,
+) -> u8
+    ensures { (outcome : Result PipeEnd PipeError) × (result ≡ status_of outcome)
+        × ((r : Readings) → AreRight r → Outcome r (opening config)
+        (R.remaining reader.old) (R.remaining reader.new) (W.contents writer.old) (W.contents writer.new) outcome) }
+{
+    let outcome = pipe(alloc, config, reader, writer);
+    tell(outcome, errors)
+}
+
+// The exit status; where it is not 0, a line says why.
+fn tell<E: Write>(outcome: Result<PipeEnd, PipeError>, errors: &mut E) -> u8
+    ensures { result ≡ status_of outcome }
+{
+    match outcome {
+        Ok(PipeEnd::Whole) => 0,
+        Ok(PipeEnd::Truncated) => complain(errors, "truncated input"),
+        Ok(PipeEnd::Worn) => complain(errors, "step limit reached"),
+        Ok(PipeEnd::Broken(fault)) => complain_of_fault(errors, fault),
+        Err(error) => complain_of_error(errors, error),
+    }
+}
+
+// A line that cannot be written is no new cause of failure.
+fn complain<E: Write>(errors: &mut E, text: &str) -> u8
+    ensures { result ≡ 1 }
+{
+    let _ = writeln!(errors, "nrepl: {text}");
+    1
+}
+
+fn complain_of_fault<E: Write>(errors: &mut E, fault: WireFault) -> u8
+    ensures { result ≡ 1 }
+{
+    let _ = writeln!(errors, "nrepl: {fault}");
+    1
+}
+
+fn complain_of_error<E: Write>(errors: &mut E, error: PipeError) -> u8
+    ensures { result ≡ 1 }
+{
+    let _ = writeln!(errors, "nrepl: {error}");
+    1
+}
+
+/// Tells `errors` that the command line is none that the program knows, and gives the exit status.
+pub fn bad_options<E: Write>(errors: &mut E) -> u8
+    ensures { result ≡ 2 }
+{
+    let _ = writeln!(errors, "nrepl: bad options");
+    2
+}
+
+/// Tells `errors` that there was no memory to read the command line, and gives the exit status.
+pub fn out_of_memory<E: Write>(errors: &mut E) -> u8
+    ensures { result ≡ 1 }
+{
+    complain(errors, "out of memory")
+}

@@ -1,0 +1,107 @@
+// Readers and writers that fail, at each of their calls in turn.
+use crate::cases::{SUM, SUM_REPLIES};
+use nrepl_pipe::pipe_command;
+use repl_core::Config;
+use std::io;
+use std::io::{Error, ErrorKind, Read, Write};
+use std::test::Fail;
+
+// Gives a few bytes at each read, and fails once its reads are used up.
+#[derive(Drop)]
+struct FailingReader {
+    input: &'static [u8],
+    reads: usize,
+}
+
+impl Read for FailingReader {
+    fn read(&mut self, buf: &mut [u8]) -> io::Result<usize> {
+        if self.reads == 0 {
+            return Err(Error::from(ErrorKind::Other));
+        }
+        self.reads -= 1;
+        let n = self.input.len().min(buf.len()).min(8);
+        let (front, rest) = self.input.split_at(n);
+        buf[..n].copy_from_slice(front);
+        self.input = rest;
+        Ok(n)
+    }
+}
+
+// Takes a few bytes at each write. Once its writes are used up it fails, or takes nothing.
+#[derive(Drop)]
+struct FailingWriter {
+    written: Vec<u8>,
+    writes: usize,
+    takes_nothing: bool,
+}
+
+impl Write for FailingWriter {
+    fn write(&mut self, buf: &[u8]) -> io::Result<usize> {
+        if self.writes == 0 {
+            if self.takes_nothing {
+                return Ok(0);
+            }
+            return Err(Error::from(ErrorKind::Other));
+        }
+        self.writes -= 1;
+        let n = buf.len().min(8);
+        self.written.extend_from_slice(&buf[..n])?;
+        Ok(n)
+    }
+
+    fn flush(&mut self) -> io::Result<()> {
+        Ok(())
+    }
+}
+
+// The request comes in six reads, the last of them empty.
+#[test]
+fn failing_reads(rt: HostRuntime) -> Result<(), Fail> {
+    for reads in 0..7usize {
+        let mut reader = FailingReader { input: SUM, reads };
+        let mut output = Vec::new(rt.alloc());
+        let mut errors = Vec::new(rt.alloc());
+        let config = Config::new();
+        let status = pipe_command(rt.alloc(), config, &mut reader, &mut output, &mut errors);
+        let is_whole = reads == 6;
+        let line = if is_whole { "" } else { "nrepl: read failed\n" };
+        assert_eq!(rt; errors.as_slice(), line.as_bytes(), "{reads}");
+        assert_eq!(rt; status == 0, is_whole, "{reads}");
+        assert!(rt; SUM_REPLIES.starts_with(output.as_slice()), "{reads}");
+        assert_eq!(rt; output.is_empty(), reads < 5, "{reads}");
+    }
+    Ok(())
+}
+
+// The two replies take four writes each.
+#[test]
+fn failing_writes(rt: HostRuntime) -> Result<(), Fail> {
+    for writes in 0..9usize {
+        for takes_nothing in [false, true] {
+            let mut input = SUM;
+            let written = Vec::new(rt.alloc());
+            let mut writer = FailingWriter {
+                written,
+                writes,
+                takes_nothing,
+            };
+            let mut errors = Vec::new(rt.alloc());
+            let config = Config::new();
+            let status = pipe_command(rt.alloc(), config, &mut input, &mut writer, &mut errors);
+            let is_whole = writes == 8;
+            let line = if is_whole {
+                ""
+            } else {
+                "nrepl: write failed\n"
+            };
+            assert_eq!(rt; errors.as_slice(), line.as_bytes(), "{writes}");
+            assert_eq!(rt; status == 0, is_whole, "{writes}");
+            assert!(rt;
+                SUM_REPLIES.starts_with(writer.written.as_slice()),
+                "{writes}"
+            );
+            assert!(rt; writer.written.len() >= 8 * writes.min(3), "{writes}");
+        }
+    }
+    Ok(())
+}

@@ -1,0 +1,13 @@
+//! Tests of `nrepl_pipe`: whole streams, with the bytes that are written for them.
+#![tactic(auto)]
+
+#[cfg(test)]
+mod cases;
+#[cfg(test)]
+mod failures;
+#[cfg(test)]
+mod function_programs;
+#[cfg(test)]
+mod programs;
+#[cfg(test)]
+mod streams;

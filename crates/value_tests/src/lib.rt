@@ -1,0 +1,9 @@
+//! Tests of `repl_values` and of `bencode_wire`, by their public calls alone.
+#![tactic(auto)]
+
+#[cfg(test)]
+mod parts;
+#[cfg(test)]
+mod values;
+#[cfg(test)]
+mod wire;

@@ -1,0 +1,90 @@
+// Values in short.
+use Part::{Agent, Atom, Bool, Int, Keyword, List, Map, Nil, Ref, Str, Symbol, Var, Vector};
+use repl_values::{Fault, Owner, RefName, Value};
+use std::alloc::{AllocError, Global};
+
+// A value, written with its parts first: `List(n)` and `Vector(n)` take the last n values, and
+// `Map(n)` the last n pairs.
+#[derive(Clone, Copy)]
+pub(crate) enum Part {
+    Nil,
+    Bool(bool),
+    Int(i64),
+    Str(&'static str),
+    Keyword(&'static str),
+    Symbol(&'static str),
+    Ref(Owner, u64),
+    Atom(u64),
+    Agent(u64),
+    Var(&'static str, &'static str),
+    Error(&'static str, &'static str),
+    List(usize),
+    Vector(usize),
+    Map(usize),
+}
+
+pub(crate) fn text(alloc: Global, text: &str) -> Result<String, AllocError> {
+    String::from_str(alloc, text)
+}
+
+fn taken(values: &mut Vec<Value>, n: usize) -> Result<Vec<Value>, AllocError> {
+    let at = values.len().saturating_sub(n);
+    values.split_off(at)
+}
+
+fn taken_pairs(
+    alloc: Global,
+    values: &mut Vec<Value>,
+    n: usize,
+) -> Result<Vec<(Value, Value)>, AllocError> {
+    let mut parts = taken(values, n.saturating_mul(2))?.into_iter();
+    let mut pairs = Vec::new(alloc);
+    for _ in 0..n {
+        if let (Some(key), Some(value)) = (parts.next(), parts.next()) {
+            pairs.push((key, value))?;
+        }
+    }
+    Ok(pairs)
+}
+
+fn with_texts(alloc: Global, part: Part) -> Result<Value, AllocError> {
+    match part {
+        Str(s) => Ok(Value::Str(text(alloc, s)?)),
+        Keyword(s) => Ok(Value::Keyword(text(alloc, s)?)),
+        Symbol(s) => Ok(Value::Symbol(text(alloc, s)?)),
+        Var(space, name) => Ok(Value::Var {
+            space: text(alloc, space)?,
+            name: text(alloc, name)?,
+        }),
+        Part::Error(class, told) => Ok(Fault {
+            class: text(alloc, class)?,
+            text: text(alloc, told)?,
+        }
+        .into_value()),
+        _other => Ok(Value::Nil),
+    }
+}
+
+fn made(alloc: Global, part: Part, values: &mut Vec<Value>) -> Result<Value, AllocError> {
+    match part {
+        Nil => Ok(Value::Nil),
+        Bool(b) => Ok(Value::Bool(b)),
+        Int(n) => Ok(Value::Int(n)),
+        Ref(owner, number) => Ok(Value::Ref(RefName { owner, number })),
+        Atom(number) => Ok(Value::Atom(number)),
+        Agent(number) => Ok(Value::Agent(number)),
+        List(n) => Ok(Value::List(taken(values, n)?)),
+        Vector(n) => Ok(Value::Vector(taken(values, n)?)),
+        Map(n) => Ok(Value::Map(taken_pairs(alloc, values, n)?)),
+        other => with_texts(alloc, other),
+    }
+}
+
+pub(crate) fn value_of(alloc: Global, parts: &[Part]) -> Result<Value, AllocError> {
+    let mut values = Vec::new(alloc);
+    for part in parts {
+        let value = made(alloc, *part, &mut values)?;
+        values.push(value)?;
+    }
+    Ok(values.pop().unwrap_or(Value::Nil))
+}

@@ -1,0 +1,232 @@
+// Outside examples, hostile streams, and that each call succeeds with ample memory. What is refused for want of memory is
+// asked for once more, so that with any one allocation refused the answers are the same.
+use bencode_wire::{Ben, Decoder, WireFault, write_into};
+use bytes::Bytes;
+use std::alloc::{AllocError, Global};
+
+const LIMIT: usize = 1_048_576;
+
+// A stream, the decoder's limit, and what comes of it: its messages as they are written, whether
+// the rest is empty, and the fault.
+#[derive(Clone, Copy)]
+struct Row {
+    stream: &'static [u8],
+    limit: usize,
+    written: &'static [u8],
+    rest_is_empty: bool,
+    fault: Option<WireFault>,
+}
+
+// A stream of messages that are written as they were spelled.
+fn whole(stream: &'static [u8]) -> Row {
+    sorted(stream, stream)
+}
+
+fn sorted(stream: &'static [u8], written: &'static [u8]) -> Row {
+    Row {
+        stream,
+        limit: LIMIT,
+        written,
+        rest_is_empty: true,
+        fault: None,
+    }
+}
+
+// The beginning of a message.
+fn rest(stream: &'static [u8]) -> Row {
+    Row {
+        stream,
+        limit: LIMIT,
+        written: b"",
+        rest_is_empty: false,
+        fault: None,
+    }
+}
+
+// Messages, and then a fault.
+fn refused(stream: &'static [u8], written: &'static [u8], fault: WireFault) -> Row {
+    limited(LIMIT, stream, written, fault)
+}
+
+fn limited(limit: usize, stream: &'static [u8], written: &'static [u8], fault: WireFault) -> Row {
+    Row {
+        stream,
+        limit,
+        written,
+        rest_is_empty: false,
+        fault: Some(fault),
+    }
+}
+
+fn rows() -> [Row; 43] {
+    use WireFault::{Malformed, TooDeep, TooLong};
+    [
+        // The examples of the format, as values, and the ones that it calls invalid.
+        whole(b""),
+        whole(b"d1:v4:spame"),
+        whole(b"d1:vi3ee"),
+        whole(b"d1:vi-3ee"),
+        whole(b"d1:vi0ee"),
+        whole(b"d1:vl4:spam4:eggsee"),
+        whole(b"d3:cow3:moo4:spam4:eggsed4:spaml1:a1:bee"),
+        refused(b"d1:vi-0ee", b"", Malformed(6)),
+        refused(b"d1:vi03ee", b"", Malformed(6)),
+        // Requests, whole and broken off, and keys that do not ascend.
+        whole(b"d4:code7:(+ 1 2)2:id1:72:op4:evale"),
+        rest(b"d4:code7:(+ 1"),
+        sorted(
+            b"d2:op4:eval4:code7:(+ 1 2)2:id1:7e",
+            b"d4:code7:(+ 1 2)2:id1:72:op4:evale",
+        ),
+        refused(
+            b"d4:code7:(+ 1 2)2:id1:72:op4:evalex",
+            b"d4:code7:(+ 1 2)2:id1:72:op4:evale",
+            Malformed(34),
+        ),
+        refused(b"d2:idi-0e2:op4:evale", b"", Malformed(7)),
+        refused(b"d2:id1:12:id1:2e", b"", Malformed(11)),
+        // Integers at and past the ends of 64 bits.
+        whole(b"d1:ai9223372036854775807ee"),
+        whole(b"d1:ai-9223372036854775808ee"),
+        refused(b"d1:ai9223372036854775808ee", b"", Malformed(23)),
+        refused(b"d1:ai-9223372036854775809ee", b"", Malformed(24)),
+        // What is no message, no key, no value, no length, no number.
+        refused(b"x", b"", Malformed(0)),
+        refused(b"i3e", b"", Malformed(0)),
+        refused(b"de3:abc", b"de", Malformed(2)),
+        refused(b"di1ei2ee", b"", Malformed(1)),
+        refused(b"d1:ae", b"", Malformed(4)),
+        refused(b"d01:a1:be", b"", Malformed(2)),
+        refused(b"d1:a00:e", b"", Malformed(5)),
+        refused(b"d1:ai-e", b"", Malformed(6)),
+        refused(b"d1:ai-03ee", b"", Malformed(6)),
+        refused(b"d1:ai3x", b"", Malformed(6)),
+        refused(b"d1:axde", b"", Malformed(4)),
+        // Empty strings, and a key inside that stood outside.
+        whole(b"d0:0:e"),
+        whole(b"d1:ad1:a1:bee"),
+        refused(b"d0:0:0:", b"", Malformed(6)),
+        // Nesting of 64, and of 65.
+        whole(
+            b"d1:allllllllllllllllllllllllllllllllllllllllllllllllllllllllllllllleeeeeeeeeeeeeeeeeeeeeeeeeeeeeeeeeeeeeeeeeeeeeeeeeeeeeeeeeeeeeeee",
+        ),
+        rest(b"d1:alllllllllllllllllllllllllllllllllllllllllllllllllllllllllllllll"),
+        refused(
+            b"d1:allllllllllllllllllllllllllllllllllllllllllllllllllllllllllllllll",
+            b"",
+            TooDeep(67),
+        ),
+        // A string and a message that are too long; the length of a message is tried first.
+        refused(b"d2:id1048577:", b"", TooLong(11)),
+        rest(b"d2:id1048576:"),
+        limited(9, b"d1:a10:0123456789e", b"", TooLong(5)),
+        limited(17, b"d1:a10:0123456789e", b"", TooLong(17)),
+        limited(2, b"deded1:a", b"dede", TooLong(6)),
+        limited(4, b"d1:ax", b"", TooLong(4)),
+        limited(5, b"d1:ax", b"", Malformed(4)),
+    ]
+}
+
+fn piece(alloc: Global, bytes: &[u8]) -> Result<Bytes, AllocError> {
+    match Bytes::copy_from_slice(alloc, bytes) {
+        Ok(piece) => Ok(piece),
+        Err(_refused) => Bytes::copy_from_slice(alloc, bytes),
+    }
+}
+
+// Feeds a piece, and notes the fault.
+fn feed(
+    alloc: Global,
+    decoder: &mut Decoder,
+    bytes: &[u8],
+) -> Result<Option<WireFault>, AllocError> {
+    let piece = piece(alloc, bytes)?;
+    let answer = match decoder.feed(&piece) {
+        Err(WireFault::NoMemory) => decoder.feed(&piece),
+        answer => answer,
+    };
+    Ok(answer.err())
+}
+
+// Writes a copy of the value.
+fn write(value: &Ben, out: &mut Vec<u8>) -> Result<(), AllocError> {
+    let alloc = *out.allocator();
+    let copied = match value.copy(alloc) {
+        Ok(copied) => copied,
+        Err(_refused) => value.copy(alloc)?,
+    };
+    match write_into(&copied, out) {
+        Ok(()) => Ok(()),
+        Err(_refused) => write_into(&copied, out),
+    }
+}
+
+fn copied(decoder: &Decoder) -> Result<Decoder, AllocError> {
+    match decoder.copy() {
+        Ok(copied) => Ok(copied),
+        Err(_refused) => decoder.copy(),
+    }
+}
+
+// Writes the messages that are ready.
+fn write_ready(decoder: &mut Decoder, out: &mut Vec<u8>) -> Result<(), AllocError> {
+    for _ in 0..100 {
+        if let Some(message) = decoder.next() {
+            write(&message, out)?;
+        }
+    }
+    Ok(())
+}
+
+// Whether a row's stream, cut into pieces, comes to what the row says.
+fn is_read(alloc: Global, row: Row, pieces: &[&[u8]]) -> Result<bool, AllocError> {
+    let mut decoder = Decoder::new(alloc, row.limit);
+    let mut written = Vec::new(alloc);
+    let mut fault = None;
+    for piece in pieces {
+        fault = feed(alloc, &mut decoder, piece)?;
+        write_ready(&mut decoder, &mut written)?;
+    }
+    Ok(
+        written.as_slice() == row.written
+            && decoder.rest_is_empty() == row.rest_is_empty
+            && fault == row.fault,
+    )
+}
+
+fn is_read_at_every_cut(alloc: Global, row: Row, stream: &[u8]) -> Result<bool, AllocError> {
+    for cut in 0..stream.len() + 1 {
+        let pieces = [&stream[..cut], &stream[cut..]];
+        if !is_read(alloc, row, &pieces)? {
+            return Ok(false);
+        }
+    }
+    Ok(true)
+}
+
+#[test]
+fn reads_at_every_cut(rt: HostRuntime) -> Result<(), AllocError> {
+    for row in rows() {
+        assert!(rt; is_read_at_every_cut(rt.alloc(), row, row.stream)?);
+    }
+    Ok(())
+}
+
+#[test]
+fn reads_byte_by_byte(rt: HostRuntime) -> Result<(), AllocError> {
+    let alloc = rt.alloc();
+    for row in rows() {
+        let mut decoder = Decoder::new(alloc, row.limit);
+        let mut written = Vec::new(alloc);
+        let mut fault = None;
+        for at in 0..row.stream.len() {
+            fault = feed(alloc, &mut decoder, &row.stream[at..at + 1])?;
+            decoder = copied(&decoder)?;
+            write_ready(&mut decoder, &mut written)?;
+        }
+        assert!(rt; written.as_slice() == row.written);
+        assert_eq!(rt; decoder.rest_is_empty(), row.rest_is_empty);
+        assert!(rt; fault == row.fault);
+    }
+    Ok(())
+}
