@@ -18,6 +18,7 @@ import shutil
 import subprocess
 import sys
 import tempfile
+import time
 from concurrent.futures import ThreadPoolExecutor
 
 import build
@@ -62,6 +63,7 @@ def covered():
 
 def run_gate(left_out):
     """Runs `rt ci` over a copy of the tree without the edits of these crates, and returns its status."""
+    began = time.monotonic()
     taken = sum(len(it.edits()) for it in left_out)
     tried = sum(len(it.edits()) for it in workspace.crates()) - taken
     with tempfile.TemporaryDirectory(prefix="gate-") as room:
@@ -77,7 +79,8 @@ def run_gate(left_out):
                 print(last, end="", flush=True)
                 last = line
             status = ran.wait()
-    print(table.text())
+    elapsed = (time.monotonic() - began) / 60
+    print(f"gate: {elapsed:.0f} minutes on {build.PROCESSORS} processors\n{table.text()}")
     print(f"edits: {tried} tried, {taken} taken from the record")
     print(last, end="", flush=True)
     return status

@@ -4,6 +4,8 @@ import contextlib
 import os
 import threading
 
+import workspace
+
 SECONDS_BETWEEN_LOOKS = 0.5
 TICKS = os.sysconf("SC_CLK_TCK")
 COLUMNS = ("proof", "tests", "edits")
@@ -62,13 +64,17 @@ class Table:
         return sum(used for key, used in self.seconds.items() if key[:2] == (crate, column)) / 60
 
     def text(self):
-        """A row for each crate, in the order of their names, and one for all."""
-        crates = sorted({key[0] for key in self.seconds})
-        rows = [(it, *[self.minutes(it, column) for column in COLUMNS]) for it in crates]
-        rows.append(("all", *[sum(row[place] for row in rows) for place in (1, 2, 3)]))
-        lines = ["processor minutes: crate, proof, tests, edits"]
-        lines += [f"  {row[0]:20} {row[1]:7.1f} {row[2]:7.1f} {row[3]:7.1f}" for row in rows]
-        return "\n".join(lines)
+        """The table of docs/GATE.md: a row for each crate, lowest first, and one for all."""
+        rows = []
+        for it in workspace.crates():
+            lines = [it.lines(part) for part in workspace.SOURCES]
+            rows.append([*lines, len(it.edits()), *[self.minutes(it.name, column) for column in COLUMNS]])
+        names = [f"`{it.name}`" for it in workspace.crates()] + ["all"]
+        rows.append([sum(column) for column in zip(*rows)])
+        text = "| Crate | Code | Definitions | Proofs | Edits | Minutes: proof | tests | edits |\n|---|---|---|---|---|---|---|---|\n"
+        for name, row in zip(names, rows):
+            text += f"| {name} | " + " | ".join([str(it) for it in row[:4]] + [f"{it:.1f}" for it in row[4:]]) + " |\n"
+        return text
 
 
 @contextlib.contextmanager

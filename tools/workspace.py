@@ -36,8 +36,8 @@ class Crate:
     def edits(self):
         return [it for it in self.files("must-fail") if it.endswith(".edit")]
 
-    def lines(self):
-        return sum(content(it).count(b"\n") for it in self.files(*SOURCES))
+    def lines(self, *parts):
+        return sum(content(it).count(b"\n") for it in self.files(*(parts or SOURCES)))
 
 
 def content(path):
