@@ -18,6 +18,7 @@ import shutil
 import subprocess
 import sys
 import tempfile
+import threading
 import time
 from concurrent.futures import ThreadPoolExecutor
 
@@ -99,18 +100,23 @@ def try_edits(names):
     below = {it.name: it for crate in asked for it in crate.below()}
     if below and build.main([*below]):
         return 1
-    before = workspace.fingerprints()
+    before, writing = workspace.fingerprints(), threading.Lock()
+
+    def is_recorded(crate):
+        refused = are_refused(crate)
+        with writing:
+            # what changed meanwhile was not tried
+            if refused and workspace.fingerprints()[crate.name] == before[crate.name]:
+                note([crate], before)
+                return True
+        print(f"edits: {crate.name}: no line is written", flush=True)
+        return False
+
     asked.sort(key=lambda it: -it.lines() * len(it.edits()))
     with ThreadPoolExecutor(build.jobs_at_once()) as pool:
-        ran = [*pool.map(lambda it: (it, are_refused(it)), asked)]
-    after = workspace.fingerprints()
-    refused = [it for it, well in ran if well and before[it.name] == after[it.name]]
-    note(refused, after)
-    for it in asked:
-        if it not in refused:
-            print(f"edits: {it.name}: no line is written", flush=True)
-    print(f"edits: {len(refused)} of {len(asked)} crates recorded")
-    return 0 if len(refused) == len(asked) else 1
+        written = [*pool.map(is_recorded, asked)]
+    print(f"edits: {sum(written)} of {len(asked)} crates recorded")
+    return 0 if all(written) else 1
 
 
 def are_refused(crate):
