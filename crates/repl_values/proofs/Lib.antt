@@ -4,5 +4,13 @@ pub mod Hashes
 pub mod Inside
 pub mod Repeating
 pub mod Sameness
+pub mod Size
+pub mod Nodes
+pub mod Tables
+pub mod Editing
 pub mod Transitive
 pub mod Views
+pub mod Growing
+pub mod Lists
+pub mod TailSteps
+pub mod Removing
