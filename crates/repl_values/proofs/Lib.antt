@@ -4,5 +4,9 @@ pub mod Hashes
 pub mod Inside
 pub mod Repeating
 pub mod Sameness
+pub mod Size
+pub mod Nodes
+pub mod Tables
+pub mod Editing
 pub mod Transitive
 pub mod Views

@@ -1,17 +1,23 @@
-// When two values are equal.
-#![tactic(auto, using(crate::proofs::Views::value_views, crate::proofs::Sameness::pair_steps))]
+// When two values are equal, and keys found by it.
+#![tactic(auto, using(crate::proofs::Sameness::pair_steps, crate::proofs::Nodes::node_steps, crate::proofs::Tables::table_steps))]
 
-ghost use Rattle.std.specs.Prelude.{◌≡◌, ◌&&◌, ◌==◌, bytes_eq, string_bytes};
+ghost use Rattle.std.specs.Prelude.{◌≡◌, ◌&&◌, ◌==◌, bytes_eq, option_map};
+ghost use Rattle.std.specs.Arc.{arc_str_bytes};
 ghost use Rattle.repl_values.specs.Datum.{map};
 ghost use Rattle.repl_values.specs.View.{view, items_view, pairs_view, owner_view};
-ghost use Rattle.repl_values.specs.Same.{same as are_same, same_items as items_are_same, within, each_pair, is_among, same_owner as owners_are_same};
+ghost use Rattle.repl_values.specs.Same.{same as are_same, same_items as items_are_same, same_owner as owners_are_same};
+ghost use Rattle.repl_values.specs.Keyed.{value_at, first_place, found_among, is_key_at, all_in, is_value};
+ghost use Rattle.repl_values.specs.Index.{Indexes};
 
-use crate::value::{Owner, RefName, Value};
+use crate::hashing::hash_of;
+use crate::places::{key_at_place, places_at, value_at_place};
+use crate::value::{Owner, RefName, Table, Value};
+use std::collections::BTreeMap;
+use std::sync::ArcStr;
 
 /// Whether the values are equal: a list and a vector by their items, and maps in any order.
 ///
-/// It takes no memory. Lists cost one pass; so do maps whose equal pairs stand at equal places.
-/// Other maps cost the product of their sizes.
+/// It takes no memory, and looks each pair of a map up once.
 #[cycle(same)]
 pub fn same(left: &Value, right: &Value) -> bool
     ensures { result ≡ are_same (view left.now) (view right.now) }
@@ -23,10 +29,10 @@ pub fn same(left: &Value, right: &Value) -> bool
         (Value::Str(a), Value::Str(b)) => same_text(a, b),
         (Value::Keyword(a), Value::Keyword(b)) => same_text(a, b),
         (Value::Symbol(a), Value::Symbol(b)) => same_text(a, b),
-        (Value::List(a), Value::List(b)) => same_items(a, b),
-        (Value::List(a), Value::Vector(b)) => same_items(a, b),
-        (Value::Vector(a), Value::List(b)) => same_items(a, b),
-        (Value::Vector(a), Value::Vector(b)) => same_items(a, b),
+        (Value::List(a), Value::List(b)) => same_items(a.as_slice(), b.as_slice()),
+        (Value::List(a), Value::Vector(b)) => same_items(a.as_slice(), b.as_slice()),
+        (Value::Vector(a), Value::List(b)) => same_items(a.as_slice(), b.as_slice()),
+        (Value::Vector(a), Value::Vector(b)) => same_items(a.as_slice(), b.as_slice()),
         (Value::Map(a), Value::Map(b)) => same_maps(a, b),
         (Value::Ref(a), Value::Ref(b)) => same_ref(*a, *b),
         (Value::Atom(a), Value::Atom(b)) => *a == *b,
@@ -49,8 +55,8 @@ pub fn same(left: &Value, right: &Value) -> bool
     }
 }
 
-fn same_text(left: &String, right: &String) -> bool
-    ensures { result ≡ bytes_eq (string_bytes left.now) (string_bytes right.now) }
+fn same_text(left: &ArcStr, right: &ArcStr) -> bool
+    ensures { result ≡ bytes_eq (arc_str_bytes left.now) (arc_str_bytes right.now) }
 {
     left.as_str() == right.as_str()
 }
@@ -87,46 +93,23 @@ fn same_items(left: &[Value], right: &[Value]) -> bool
 }
 
 #[cycle(same)]
-fn same_maps(left: &[(Value, Value)], right: &[(Value, Value)]) -> bool
-    ensures { result ≡ are_same (map (pairs_view left.now)) (map (pairs_view right.now)) }
+fn same_maps(left: &Table, right: &Table) -> bool
+    ensures { result ≡ are_same (map left.now.pairs) (map right.now.pairs) }
 {
     if left.len() != right.len() {
         return false;
     }
-    if !pairs_within(left, right) {
-        return false;
-    }
-    pairs_cover(left, right)
-}
-
-// Looks first where the equal pair stands if the maps were made in one order.
-#[cycle(same)]
-fn pairs_within(left: &[(Value, Value)], right: &[(Value, Value)]) -> bool
-    ensures { result ≡ within (pairs_view left.now) (pairs_view right.now) }
-{
-    'pairs: for (place, (key, value)) in left.iter().enumerate() {
-        if place < right.len() {
-            let (k, v) = &right[place];
-            if same(key, k) && same(value, v) {
-                continue 'pairs;
-            }
-        }
-        for (k, v) in right {
-            if same(key, k) && same(value, v) {
-                continue 'pairs;
-            }
-        }
-        return false;
-    }
-    true
+    left.keys_are_distinct();
+    right.keys_are_distinct();
+    all_found(left.as_slice(), right)
 }
 
 #[cycle(same)]
-fn pairs_cover(left: &[(Value, Value)], right: &[(Value, Value)]) -> bool
-    ensures { result ≡ each_pair (is_among (pairs_view left.now)) (pairs_view right.now) }
+fn all_found(left: &[(Value, Value)], right: &Table) -> bool
+    ensures { result ≡ all_in (pairs_view left.now) right.now.pairs }
 {
-    for (place, (key, value)) in right.iter().enumerate() {
-        if !one_equals(left, place, key, value) {
+    for (key, value) in left {
+        if !is_pair_of(key, value, right) {
             return false;
         }
     }
@@ -134,18 +117,56 @@ fn pairs_cover(left: &[(Value, Value)], right: &[(Value, Value)]) -> bool
 }
 
 #[cycle(same)]
-fn one_equals(pairs: &[(Value, Value)], place: usize, key: &Value, value: &Value) -> bool
-    ensures { result ≡ is_among (pairs_view pairs.now) (view key.now) (view value.now) }
+fn is_pair_of(key: &Value, value: &Value, right: &Table) -> bool
+    ensures { result ≡ is_value (value_at (view key.now) right.now.pairs) (view value.now) }
 {
-    if let Some((k, v)) = pairs.get(place) {
-        if same(k, key) && same(v, value) {
-            return true;
+    match find(key, right) {
+        Some(other) => same(value, other),
+        None => false,
+    }
+}
+
+// The value under an equal key.
+#[cycle(same)]
+pub(crate) fn find<'a>(key: &Value, table: &'a Table) -> Option<&'a Value>
+    ensures { option_map (λ v. view v.now) result ≡ value_at (view key.now) table.now.pairs }
+{
+    let pairs = table.node.pairs.as_slice();
+    let place = place_of(key, pairs, &table.node.index);
+    value_at_place(pairs, place)
+}
+
+// Where an equal key stands.
+#[cycle(same)]
+pub(crate) fn place_of(
+    key: &Value,
+    pairs: &[(Value, Value)],
+    index: &BTreeMap<u64, Vec<usize>>,
+) -> Option<usize>
+    requires { Indexes index.now (pairs_view pairs.now) }
+    ensures { result ≡ first_place (pairs_view pairs.now) (view key.now) }
+{
+    place_among(key, pairs, places_at(index, hash_of(key)))
+}
+
+#[cycle(same)]
+fn place_among(key: &Value, pairs: &[(Value, Value)], places: &[usize]) -> Option<usize>
+    ensures { result ≡ found_among places.now (pairs_view pairs.now) (view key.now) }
+{
+    for place in places {
+        if stands_at(key, pairs, *place) {
+            return Some(*place);
         }
     }
-    for (k, v) in pairs {
-        if same(k, key) && same(v, value) {
-            return true;
-        }
+    None
+}
+
+#[cycle(same)]
+fn stands_at(key: &Value, pairs: &[(Value, Value)], place: usize) -> bool
+    ensures { result ≡ is_key_at (pairs_view pairs.now) place (view key.now) }
+{
+    match key_at_place(pairs, place) {
+        Some(other) => same(key, other),
+        None => false,
     }
-    false
 }

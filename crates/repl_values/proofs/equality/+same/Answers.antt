@@ -1,17 +1,16 @@
-use Rattle.std.proofs.Common.{sym, ◌∙◌, arith}
-use Rattle.repl_values.specs.View.{view}
-use Rattle.repl_values.specs.Same.{same}
-use Rattle.repl_values.proofs.Sameness.{within-step, has_pair-found}
+use Rattle.std.proofs.Common.{◌≡◌, ℕ, List, ap, ◌∙◌}
+use Rattle.repl_values.specs.View.{view, pairs_view}
+use Rattle.repl_values.specs.Hash.{hash}
+use Rattle.repl_values.specs.Index.{places_under}
+use Rattle.repl_values.specs.Keyed.{found_among}
+use Rattle.repl_values.proofs.Tables.{found-first}
 use Rattle.repl_values.proofs.equality.+same.Goals as goal
 
-pub pairs_within-pairs-preserved-then-same-2 : goal.pairs_within-pairs-preserved-then-same-2
-pairs_within-pairs-preserved-then-same-2 t c =
-    within-step c.args.left.now c.args.right.now c.pairs.place _ (omega arith) c.index-left-place.is
-    (has_pair-found (same (view c.index-left-place.result.0)) (same (view c.index-left-place.result.1)) c.args.right.now c.pairs.place _ (omega arith) c.index-right-place.is (sym c.same.ensures ∙ c.if-same.true) (sym c.same-then-same.ensures ∙ c.if-same-2.true))
-    ∙ c.pairs.invariant
-
-pub pairs_within-pairs-preserved : goal.pairs_within-pairs-preserved
-pairs_within-pairs-preserved t c =
-    within-step c.args.left.now c.args.right.now c.pairs.place _ (omega arith) c.index-left-place.is
-    (has_pair-found (same (view c.index-left-place.result.0)) (same (view c.index-left-place.result.1)) c.args.right.now c.loop-k.k-index _ (omega arith) c.loop-k-item.is (sym c.same-in-loop-k.ensures ∙ c.if-same-3.true) (sym c.same-then-same-3.ensures ∙ c.if-same-4.true))
-    ∙ c.pairs.invariant
+pub place_of-returns : goal.place_of-returns
+place_of-returns t c =
+    let d = view c.args.key.now in
+    let ps = pairs_view c.args.pairs.now in
+    c.place_among.ensures
+    ∙ ap (λ (ns : List ℕ). found_among ns ps d)
+      (c.places_at.ensures ∙ ap (λ (h : ℕ). places_under c.args.index.now h) c.hash_of.ensures ∙ c.requires (hash d))
+    ∙ found-first ps d

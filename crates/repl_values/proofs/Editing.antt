@@ -1,0 +1,130 @@
+-- A pair put into a map's pairs.
+use Rattle.std.proofs.Common.{◌≡◌, ℕ, zero, suc, ◌+◌, ◌<◌, ◌≤◌, Bool, true, false, not, ◌&&◌, ◌||◌, List, [], ◌∷◌, ◌++◌, length, get_or, set, Option, Some, None, option_map, Vec, Global, refl, sym, ap, ◌∙◌, arith}
+use Rattle.std.specs.Prelude.{if◌then◌else◌, ◌==◌}
+use Rattle.std.specs.BTreeMap.{BTreeMap}
+use Rattle.repl_values.specs.Datum.{Datum, Pairs, no_pairs, pair}
+use Rattle.repl_values.specs.View.{view, pair_view, pairs_view, pairs_of}
+use Rattle.repl_values.specs.declared.value.Value.{Value}
+use Rattle.repl_values.specs.Same.{same, size}
+use Rattle.repl_values.specs.Hash.{hash}
+use Rattle.repl_values.specs.Index.{Indexes, places_under}
+use Rattle.repl_values.specs.Keyed.{first_place, has_key, are_distinct, places_with, behind_all, with_value}
+use Rattle.repl_values.specs.Put.{put_pair}
+use Rattle.repl_values.proofs.Sameness.{size-pairs_view}
+use Rattle.repl_values.proofs.Tables.{places-behind, distinct-behind, has_key-first}
+
+suc-Some : (o : Option ℕ) (n : ℕ) → option_map (λ (m : ℕ). suc m) o ≡ Some (suc n) → o ≡ Some n
+suc-Some None n h = cc
+suc-Some (Some m) n h = cc
+
+suc-None : (o : Option ℕ) → option_map (λ (m : ℕ). suc m) o ≡ None → o ≡ None
+suc-None None h = refl
+suc-None (Some m) h = cc
+
+some : (m n : ℕ) → Some m ≡ Some n → m ≡ n
+some m n h = cc
+
+suc-zero : (o : Option ℕ) → option_map (λ (m : ℕ). suc m) o ≡ Some 0 → ⊥
+suc-zero None h = cc
+suc-zero (Some m) h = omega (arith, some (suc m) 0 h)
+
+found-step : (t : Bool) (l w : Datum) (ps : Pairs) (n : ℕ) (k v : Datum)
+    → ((m : ℕ) → first_place ps k ≡ Some m → put_pair k v ps ≡ with_value m v ps)
+    → (if t then Some 0 else option_map (λ (m : ℕ). suc m) (first_place ps k)) ≡ Some n
+    → (if t then pair l v ps else pair l w (put_pair k v ps)) ≡ with_value n v (pair l w ps)
+found-step true l w ps zero k v more h = refl
+found-step true l w ps (suc n) k v more h = absurd (omega (arith, some 0 (suc n) h))
+found-step false l w ps zero k v more h = absurd (suc-zero (first_place ps k) h)
+found-step false l w ps (suc n) k v more h = ap (pair l w) (more n (suc-Some (first_place ps k) n h))
+
+put-found : (ps : Pairs) (k v : Datum) (n : ℕ) → first_place ps k ≡ Some n → put_pair k v ps ≡ with_value n v ps
+put-found no_pairs k v n h = cc
+put-found (pair l w ps) k v n h = found-step (same l k) l w ps n k v (λ m e. put-found ps k v m e) h
+
+new-step : (t : Bool) (l w : Datum) (ps : Pairs) (k v : Datum) → (first_place ps k ≡ None → put_pair k v ps ≡ behind_all ps k v)
+    → (if t then Some 0 else option_map (λ (m : ℕ). suc m) (first_place ps k)) ≡ None
+    → (if t then pair l v ps else pair l w (put_pair k v ps)) ≡ pair l w (behind_all ps k v)
+new-step true l w ps k v more h = cc
+new-step false l w ps k v more h = ap (pair l w) (more (suc-None (first_place ps k) h))
+
+put-new : (ps : Pairs) (k v : Datum) → first_place ps k ≡ None → put_pair k v ps ≡ behind_all ps k v
+put-new no_pairs k v h = refl
+put-new (pair l w ps) k v h = new-step (same l k) l w ps k v (λ e. put-new ps k v e) h
+
+within-step : (t : Bool) (o : Option ℕ) (s n : ℕ) → ((m : ℕ) → o ≡ Some m → m < s)
+    → (if t then Some 0 else option_map (λ (m : ℕ). suc m) o) ≡ Some n → n < suc s
+within-step true o s n h e = omega (arith, some 0 n e)
+within-step false o s zero h e = absurd (suc-zero o e)
+within-step false o s (suc n) h e = omega (arith, h n (suc-Some o n e))
+
+-- what is found stands among the pairs
+pub first_place-within : (xs : List (Value × Value)) (d : Datum) (n : ℕ) → first_place (pairs_view xs) d ≡ Some n → n < length xs
+first_place-within [] d n h = cc
+first_place-within (x ∷ xs) d n h =
+    within-step (same (view x.0) d) (first_place (pairs_view xs) d) (length xs) n (λ m e. first_place-within xs d m e) h
+
+places-with_value : (h n m : ℕ) (v : Datum) (ps : Pairs) → places_with h n (with_value m v ps) ≡ places_with h n ps
+places-with_value h n m v no_pairs = refl
+places-with_value h n zero v (pair k w ps) = refl
+places-with_value h n (suc m) v (pair k w ps) =
+    ap (λ (ns : List ℕ). if hash k == h then n ∷ ns else ns) (places-with_value h (suc n) m v ps)
+
+has_key-with_value : (m : ℕ) (v d : Datum) (ps : Pairs) → has_key (with_value m v ps) d ≡ has_key ps d
+has_key-with_value m v d no_pairs = refl
+has_key-with_value zero v d (pair k w ps) = refl
+has_key-with_value (suc m) v d (pair k w ps) = ap (λ b. same k d || b) (has_key-with_value m v d ps)
+
+distinct-with_value : (m : ℕ) (v : Datum) (ps : Pairs) → are_distinct (with_value m v ps) ≡ are_distinct ps
+distinct-with_value m v no_pairs = refl
+distinct-with_value zero v (pair k w ps) = refl
+distinct-with_value (suc m) v (pair k w ps) = rw (has_key-with_value m v k ps, distinct-with_value m v ps) refl
+
+pub set-value : (xs : List (Value × Value)) (n : ℕ) (p : Value × Value) (w : Value) → n < length xs → p ≡ get_or xs n p
+    → pairs_view (set xs n (p.0, w)) ≡ with_value n (view w) (pairs_view xs)
+set-value [] n p w h is = absurd (omega (arith, h))
+set-value (x ∷ xs) zero p w h is = ap (λ (q : Value × Value). pair (view q.0) (view w) (pairs_view xs)) is
+set-value (x ∷ xs) (suc n) p w h is = ap (pair (view x.0) (view x.1)) (set-value xs n p w (omega (arith, h)) is)
+
+push-value : (xs : List (Value × Value)) (k w : Value) → pairs_view (xs ++ (k, w) ∷ []) ≡ behind_all (pairs_view xs) (view k) (view w)
+push-value [] k w = refl
+push-value (x ∷ xs) k w = ap (pair (view x.0) (view x.1)) (push-value xs k w)
+
+pub found-put : (xs : List (Value × Value)) (k v : Datum) (n : ℕ) (o : Option ℕ) → o ≡ first_place (pairs_view xs) k → o ≡ Some n
+    → with_value n v (pairs_view xs) ≡ put_pair k v (pairs_view xs)
+found-put xs k v n o e f = sym (put-found (pairs_view xs) k v n (sym e ∙ f))
+
+pub found-indexes : (index : BTreeMap ℕ (Vec ℕ Global)) (ps qs : Pairs) (n : ℕ) (v : Datum) → qs ≡ with_value n v ps → Indexes index ps → Indexes index qs
+found-indexes index ps qs n v e h = λ q. h q ∙ sym (places-with_value q 0 n v ps) ∙ ap (places_with q 0) (sym e)
+
+pub found-distinct : (ps qs : Pairs) (n : ℕ) (v : Datum) → qs ≡ with_value n v ps → are_distinct ps ≡ true → are_distinct qs ≡ true
+found-distinct ps qs n v e h = ap are_distinct e ∙ distinct-with_value n v ps ∙ h
+
+pub new-put : (xs ys : List (Value × Value)) (k w : Value) (o : Option ℕ) → o ≡ first_place (pairs_view xs) (view k) → o ≡ None → ys ≡ xs ++ (k, w) ∷ []
+    → pairs_view ys ≡ put_pair (view k) (view w) (pairs_view xs)
+new-put xs ys k w o e f is =
+    ap (λ (zs : List (Value × Value)). pairs_view zs) is ∙ push-value xs k w ∙ sym (put-new (pairs_view xs) (view k) (view w) (sym e ∙ f))
+
+pub new-indexes : (old new : BTreeMap ℕ (Vec ℕ Global)) (xs ys : List (Value × Value)) (k w : Value) (n h : ℕ)
+    → ys ≡ xs ++ (k, w) ∷ [] → n ≡ length xs → h ≡ hash (view k) → Indexes old (pairs_view xs)
+    → ((q : ℕ) → places_under new q ≡ (if h == q then places_under old q ++ n ∷ [] else places_under old q))
+    → Indexes new (pairs_view ys)
+new-indexes old new xs ys k w n h is at hk was now =
+    λ q.
+      now q
+      ∙ ap (λ (m : ℕ). if m == q then places_under old q ++ n ∷ [] else places_under old q) hk
+      ∙ ap (λ (ns : List ℕ). if hash (view k) == q then ns ++ n ∷ [] else ns) (was q)
+      ∙ ap (λ (m : ℕ). if hash (view k) == q then places_with q 0 (pairs_view xs) ++ m ∷ [] else places_with q 0 (pairs_view xs)) sized
+      ∙ sym (places-behind q 0 (pairs_view xs) (view k) (view w))
+      ∙ ap (places_with q 0) (sym (push-value xs k w) ∙ ap (λ (zs : List (Value × Value)). pairs_view zs) (sym is))
+  where
+    sized : n ≡ 0 + size (pairs_view xs)
+    sized = omega (arith, at, size-pairs_view xs)
+
+pub new-distinct : (xs ys : List (Value × Value)) (k w : Value) (o : Option ℕ) → o ≡ first_place (pairs_view xs) (view k) → o ≡ None → ys ≡ xs ++ (k, w) ∷ []
+    → are_distinct (pairs_view xs) ≡ true → are_distinct (pairs_view ys) ≡ true
+new-distinct xs ys k w o e f is d =
+    ap (λ (zs : List (Value × Value)). are_distinct (pairs_view zs)) is
+    ∙ ap are_distinct (push-value xs k w)
+    ∙ distinct-behind (pairs_view xs) (view k) (view w) d (has_key-first (pairs_view xs) (view k) (sym e ∙ f))
+
+pub ruleset edit_steps = (first_place-within, set-value)
