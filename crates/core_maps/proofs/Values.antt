@@ -5,7 +5,7 @@ use Rattle.repl_values.specs.View.{view}
 use Rattle.repl_values.specs.declared.value.Value.{Value}
 use Rattle.repl_values.proofs.Views.{value_views}
 use Rattle.repl_faults.specs.Failure.{Failure}
-use Rattle.core_pairs.proofs.Lists.{lists}
+use Rattle.core_items.proofs.Lists.{lists}
 use Rattle.core_maps.specs.Arguments.{by_turns, left_alone}
 
 pub take-put-drop : (xs : List Value) (n : ℕ) (w : Value) → n < length xs

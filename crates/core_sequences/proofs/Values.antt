@@ -1,15 +1,15 @@
 -- Values as their data.
 use Rattle.std.proofs.Common.{◌≡◌, ◌≢◌, ℕ, zero, suc, ◌<◌, ◌≤◌, List, [], ◌∷◌, ◌++◌, get_or, length, map, reverse, Some, None, Result, Ok, Err, refl, sym, ap, arith}
 use mathlib.Core.List.{reverse_aux}
-use Rattle.repl_values.specs.Datum.{Datum, nil, vector}
-use Rattle.repl_values.specs.View.{view, items_view, pair_view}
+use Rattle.repl_values.specs.Datum.{Datum, vector, Items, no_items, item}
+use Rattle.repl_values.specs.View.{view, items_view}
 use Rattle.repl_values.specs.declared.value.Value.{Value}
 use Rattle.repl_values.proofs.Views.{value_views}
 use Rattle.repl_faults.specs.Failure.{Failure}
-use Rattle.core_pairs.specs.Listed.{vector_of_two}
-use Rattle.core_pairs.proofs.Lists.{lists}
-use Rattle.core_sequences.specs.Items.{as_pair}
-use Rattle.core_sequences.specs.View.{pair_vectors}
+use Rattle.repl_values.specs.Ends.{with_last}
+use Rattle.repl_values.specs.Listed.{listed}
+use Rattle.core_items.proofs.Lists.{lists, behind_first-listed}
+use Rattle.core_sequences.specs.Pairs.{as_pair}
 
 pub as_pair-two : (xs : List Value) (x y : Value) → length xs ≡ 2 → x ≡ get_or xs 0 x → y ≡ get_or xs 1 y
     → as_pair (vector (items_view xs)) ≡ Some (view x, view y)
@@ -30,16 +30,10 @@ abbrev pub with_front : List (Datum × Datum) → Result (List (Datum × Datum))
 with_front front (Ok ps) = Ok (front ++ ps)
 with_front front (Err f) = Err f
 
-pub pair_vectors-at : (ps : List (Value × Value)) (i : ℕ) (p : Value × Value) → i < length ps → p ≡ get_or ps i p
-    → get_or (pair_vectors ps) i nil ≡ vector_of_two (view p.0, view p.1)
-pair_vectors-at [] i p i< is = absurd (omega (arith, i<))
-pair_vectors-at (q ∷ ps) zero p i< is = ap (λ (x : Value × Value). vector_of_two (pair_view x)) (sym is)
-pair_vectors-at (q ∷ ps) (suc i) p i< is = pair_vectors-at ps i p (omega (arith, i<)) is
-
-pub pair_vectors-past : (ps : List (Value × Value)) (i : ℕ) → length ps ≤ i → get_or (pair_vectors ps) i nil ≡ nil
-pair_vectors-past [] i past = refl
-pair_vectors-past (q ∷ ps) zero past = absurd (omega (arith, past))
-pair_vectors-past (q ∷ ps) (suc i) past = pair_vectors-past ps i (omega (arith, past))
+-- one item more behind the others
+pub listed-with_last : (ds : Items) (d : Datum) → listed (with_last ds d) ≡ listed ds ++ d ∷ []
+listed-with_last no_items d = refl
+listed-with_last (item e ds) d = ap (λ (es : List Datum). e ∷ es) (listed-with_last ds d)
 
 map_view-reverse_aux : (vs behind : List Value) → map view (reverse_aux vs behind) ≡ reverse_aux (map view vs) (map view behind)
 map_view-reverse_aux [] behind = refl
@@ -48,4 +42,4 @@ map_view-reverse_aux (v ∷ vs) behind = map_view-reverse_aux vs (v ∷ behind)
 pub map_view-reverse : (vs : List Value) → map view (reverse vs) ≡ reverse (map view vs)
 map_view-reverse vs = map_view-reverse_aux vs []
 
-pub ruleset seen = (value_views, lists, as_pair-two, as_pair-other, pair_vectors-at, pair_vectors-past, map_view-reverse)
+pub ruleset seen = (value_views, lists, behind_first-listed, listed-with_last, as_pair-two, as_pair-other, map_view-reverse)

@@ -71,6 +71,7 @@ impl Outbox {
     {
         let Fault { class, text } = fault;
         let line = line_of(self.alloc, class.as_str(), text.as_str())?;
+        let class = String::from_str(self.alloc, class.as_str())?;
         self.post_for(origin, Body::Exception { class })?;
         self.post_for(origin, Body::ErrorText(line))
     }
@@ -86,6 +87,7 @@ impl Outbox {
             End::Value(value) => {
                 let mut text = String::new(self.alloc);
                 print_into(self.alloc, &value, &mut text)?;
+                let ns = String::from_str(self.alloc, ns.as_str())?;
                 self.post_for(origin, Body::Value { value: text, ns })
             }
             End::Fault(fault) => self.post_fault(origin, fault),

@@ -1,5 +1,6 @@
 -- What jobs and their ends stand for.
 use Rattle.std.specs.Prelude.{ℕ, List, Result, Ok, Err, string_bytes}
+use Rattle.std.specs.Arc.{arc_str_bytes}
 use Rattle.repl_values.specs.Datum.{Datum}
 use Rattle.repl_values.specs.View.{view}
 use Rattle.repl_faults.specs.Failure.{Failure}
@@ -25,11 +26,11 @@ abbrev pub form_of : Work → Datum
 form_of (Work.Form form) = view form
 
 abbrev pub job_view : Job → JobData
-job_view job = record { form = form_of job.work; namespace = string_bytes job.namespace; retries = job.retries }
+job_view job = record { form = form_of job.work; namespace = arc_str_bytes job.namespace; retries = job.retries }
 
 abbrev pub end_view : End → Result Datum Failure
 end_view (End.Value v) = Ok (view v)
 end_view (End.Fault f) = Err (failure_of f)
 
 abbrev pub finished_view : Finished → EndData
-finished_view f = record { result = end_view f.end; text = string_bytes f.text; namespace = string_bytes f.namespace }
+finished_view f = record { result = end_view f.end; text = string_bytes f.text; namespace = arc_str_bytes f.namespace }

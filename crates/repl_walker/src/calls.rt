@@ -1,6 +1,7 @@
 // Calls: first one call is taken from the budget, then the number of arguments is checked, then the
 // function is applied.
-ghost use Rattle.std.specs.Prelude.{◌≡◌, ◌+◌, ◌<◌, ◌≤◌, [], map, string_bytes, IfOk};
+ghost use Rattle.std.specs.Prelude.{◌≡◌, ◌+◌, ◌<◌, ◌≤◌, [], map, IfOk};
+ghost use Rattle.std.specs.Arc.{arc_str_bytes};
 ghost use Rattle.repl_walker.specs.Evaluation as meant;
 ghost use Rattle.repl_values.specs.View.{view, function_view};
 ghost use Rattle.repl_walker.specs.Machine.{local_view, callee_view, place_of, from_state, tree};
@@ -13,11 +14,12 @@ use crate::rows::next_in_body;
 use core_functions::{Applied, CoreFunction, apply};
 use core_maps::MapFunction;
 use repl_faults::{ApplyError, output_too_long, too_many_calls, wrong_arity};
-use repl_values::{Function, Value};
-use special_forms::row;
+use repl_values::{Function, Value, copy_text};
+use special_forms::Forms;
 use std::alloc::{AllocError, Global};
 use std::collections::VecDeque;
 use std::mem;
+use std::sync::ArcStr;
 
 // The most that an evaluation may print, in bytes.
 const MOST_TEXT: usize = 1_048_576;
@@ -92,17 +94,17 @@ fn print(alloc: Global, state: &mut State, text: &str, value: Value) -> Result<C
 fn call_keyword(
     alloc: Global,
     state: &mut State,
-    name: String,
+    name: ArcStr,
     values: Vec<Value>,
 ) -> Result<Control, AllocError>
     ensures size { IfOk result (λ control. control_size control + frames_size state.new.frames.items
         < 2 + frames_size state.old.frames.items) }
     ensures calls { IfOk result (λ control. spent control + state.new.calls ≤ state.old.calls) }
-    ensures meaning { IfOk result (λ control. tree control state.new ≡ from_state (meant.keyword_call (string_bytes name) (views values.items)) state.old) }
+    ensures meaning { IfOk result (λ control. tree control state.new ≡ from_state (meant.keyword_call (arc_str_bytes name) (views values.items)) state.old) }
 {
     if values.len() == 1 || values.len() == 2 {
         let get = CoreFunction::Map(MapFunction::Get);
-        let args = get_arguments(alloc, name, values)?;
+        let args = get_arguments(name, values)?;
         return call_core(alloc, state, get, args.as_slice());
     }
     let mut text = String::from_str(alloc, ":")?;
@@ -113,15 +115,13 @@ fn call_keyword(
 
 // The map, the keyword and what comes behind the map.
 #[tactic(auto, using(repl_values::proofs::Views::value_views))]
-fn get_arguments(alloc: Global, name: String, values: Vec<Value>) -> Result<Vec<Value>, AllocError>
-    ensures { IfOk result (λ args. views args.items ≡ meant.get_arguments (string_bytes name) (views values.items)) }
+fn get_arguments(name: ArcStr, mut values: Vec<Value>) -> Result<Vec<Value>, AllocError>
+    ensures { IfOk result (λ args. views args.items ≡ meant.get_arguments (arc_str_bytes name) (views values.items)) }
 {
-    let mut args = VecDeque::from_vec(values);
-    if let Some(map) = args.pop_front() {
-        args.push_front(Value::Keyword(name))?;
-        args.push_front(map)?;
+    if !values.is_empty() {
+        values.insert(1, Value::Keyword(name))?;
     }
-    row(alloc, args)
+    Ok(values)
 }
 
 #[tactic(auto, unfolding(crate::specs::Evaluation::program_call))]
@@ -161,28 +161,28 @@ pub(crate) fn enter(
         params,
         body,
     } = function;
-    let locals = bound(alloc, params, values)?;
+    let locals = bound(alloc, &params, values)?;
     let home = Some(space);
     let place = mem::replace(&mut state.place, Place { locals, home });
     state.frames.push_front(Frame::Leave { place })?;
-    next_in_body(state, Value::Nil, VecDeque::from_vec(body), room)
+    next_in_body(state, Value::Nil, Forms::of_items(body), room)
 }
 
 // Each parameter with its argument, the last in front.
 fn bound(
     alloc: Global,
-    params: Vec<String>,
+    params: &[ArcStr],
     values: Vec<Value>,
 ) -> Result<VecDeque<Local>, AllocError>
-    ensures { IfOk result (λ locals. map local_view locals.items ≡ meant.bound_to [] (map string_bytes params.items) (views values.items)) }
+    ensures { IfOk result (λ locals. map local_view locals.items ≡ meant.bound_to [] (map arc_str_bytes params.now) (views values.items)) }
 {
-    let mut params = VecDeque::from_vec(params);
     let mut values = VecDeque::from_vec(values);
     let mut locals = VecDeque::new(alloc);
-    while let Some(name) = params.pop_front() {
+    for name in params {
         let Some(value) = values.pop_front() else {
             return Ok(locals);
         };
+        let name = copy_text(name)?;
         locals.push_front(Local { name, value })?;
     }
     Ok(locals)

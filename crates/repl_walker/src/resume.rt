@@ -14,7 +14,7 @@ use crate::frames::{Control, Place, State, Wanted};
 use crate::give::give;
 use repl_asks::{Answer, Ask};
 use repl_jobs::{End, Finished, Job};
-use repl_values::{Function, Value, copy};
+use repl_values::{Function, Value, copy, copy_text};
 use std::alloc::{AllocError, Global};
 use std::collections::VecDeque;
 
@@ -70,10 +70,10 @@ pub fn start(alloc: Global, job: &Job) -> Result<Progress, AllocError>
             home: None,
         },
         calls: CALLS,
-        namespace: String::from_str(alloc, job.namespace.as_str())?,
+        namespace: copy_text(&job.namespace)?,
         text: String::new(alloc),
     };
-    let form = copy(alloc, job.work.form())?;
+    let form = copy(job.work.form())?;
     go_on(alloc, state, Control::Evaluate(form, ROOM))
 }
 

@@ -1,3 +1,4 @@
+pub mod Rows
 pub mod Shapes
 pub mod Seen
 pub mod Size

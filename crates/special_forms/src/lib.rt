@@ -1,8 +1,10 @@
 //! The special forms of the language, and the shapes that they have.
 #![tactic(auto)]
 
+mod forms;
 mod shapes;
 mod truth;
 
-pub use shapes::{Binding, Logic, Shape, SpecialForm, row, shape_of};
+pub use forms::{Binding, Forms};
+pub use shapes::{Logic, Shape, SpecialForm, shape_of};
 pub use truth::{chosen, is_true};
