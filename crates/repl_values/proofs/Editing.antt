@@ -89,9 +89,16 @@ push-value : (xs : List (Value × Value)) (k w : Value) → pairs_view (xs ++ (k
 push-value [] k w = refl
 push-value (x ∷ xs) k w = ap (pair (view x.0) (view x.1)) (push-value xs k w)
 
-pub found-put : (xs : List (Value × Value)) (k v : Datum) (n : ℕ) (o : Option ℕ) → o ≡ first_place (pairs_view xs) k → o ≡ Some n
-    → with_value n v (pairs_view xs) ≡ put_pair k v (pairs_view xs)
-found-put xs k v n o e f = sym (put-found (pairs_view xs) k v n (sym e ∙ f))
+pub pushed-is : (xs ys : List (Value × Value)) (k w : Value) (key value : Datum) → view k ≡ key → view w ≡ value → ys ≡ xs ++ (k, w) ∷ []
+    → pairs_view ys ≡ behind_all (pairs_view xs) key value
+pushed-is xs ys k w key value ek ew is =
+    ap (λ (zs : List (Value × Value)). pairs_view zs) is
+    ∙ push-value xs k w
+    ∙ ap (λ d. behind_all (pairs_view xs) d (view w)) ek
+    ∙ ap (behind_all (pairs_view xs) key) ew
+
+pub found-put : (ps qs : Pairs) (key value : Datum) (n : ℕ) → first_place ps key ≡ Some n → qs ≡ with_value n value ps → qs ≡ put_pair key value ps
+found-put ps qs key value n e is = is ∙ sym (put-found ps key value n e)
 
 pub found-indexes : (index : BTreeMap ℕ (Vec ℕ Global)) (ps qs : Pairs) (n : ℕ) (v : Datum) → qs ≡ with_value n v ps → Indexes index ps → Indexes index qs
 found-indexes index ps qs n v e h = λ q. h q ∙ sym (places-with_value q 0 n v ps) ∙ ap (places_with q 0) (sym e)
@@ -99,32 +106,27 @@ found-indexes index ps qs n v e h = λ q. h q ∙ sym (places-with_value q 0 n v
 pub found-distinct : (ps qs : Pairs) (n : ℕ) (v : Datum) → qs ≡ with_value n v ps → are_distinct ps ≡ true → are_distinct qs ≡ true
 found-distinct ps qs n v e h = ap are_distinct e ∙ distinct-with_value n v ps ∙ h
 
-pub new-put : (xs ys : List (Value × Value)) (k w : Value) (o : Option ℕ) → o ≡ first_place (pairs_view xs) (view k) → o ≡ None → ys ≡ xs ++ (k, w) ∷ []
-    → pairs_view ys ≡ put_pair (view k) (view w) (pairs_view xs)
-new-put xs ys k w o e f is =
-    ap (λ (zs : List (Value × Value)). pairs_view zs) is ∙ push-value xs k w ∙ sym (put-new (pairs_view xs) (view k) (view w) (sym e ∙ f))
+pub new-put : (ps qs : Pairs) (key value : Datum) → first_place ps key ≡ None → qs ≡ behind_all ps key value → qs ≡ put_pair key value ps
+new-put ps qs key value e is = is ∙ sym (put-new ps key value e)
 
-pub new-indexes : (old new : BTreeMap ℕ (Vec ℕ Global)) (xs ys : List (Value × Value)) (k w : Value) (n h : ℕ)
-    → ys ≡ xs ++ (k, w) ∷ [] → n ≡ length xs → h ≡ hash (view k) → Indexes old (pairs_view xs)
+pub new-indexes : (old new : BTreeMap ℕ (Vec ℕ Global)) (ps qs : Pairs) (key value : Datum) (n h : ℕ)
+    → qs ≡ behind_all ps key value → n ≡ size ps → h ≡ hash key → Indexes old ps
     → ((q : ℕ) → places_under new q ≡ (if h == q then places_under old q ++ n ∷ [] else places_under old q))
-    → Indexes new (pairs_view ys)
-new-indexes old new xs ys k w n h is at hk was now =
+    → Indexes new qs
+new-indexes old new ps qs key value n h is at hk was now =
     λ q.
       now q
       ∙ ap (λ (m : ℕ). if m == q then places_under old q ++ n ∷ [] else places_under old q) hk
-      ∙ ap (λ (ns : List ℕ). if hash (view k) == q then ns ++ n ∷ [] else ns) (was q)
-      ∙ ap (λ (m : ℕ). if hash (view k) == q then places_with q 0 (pairs_view xs) ++ m ∷ [] else places_with q 0 (pairs_view xs)) sized
-      ∙ sym (places-behind q 0 (pairs_view xs) (view k) (view w))
-      ∙ ap (places_with q 0) (sym (push-value xs k w) ∙ ap (λ (zs : List (Value × Value)). pairs_view zs) (sym is))
+      ∙ ap (λ (ns : List ℕ). if hash key == q then ns ++ n ∷ [] else ns) (was q)
+      ∙ ap (λ (m : ℕ). if hash key == q then places_with q 0 ps ++ m ∷ [] else places_with q 0 ps) sized
+      ∙ sym (places-behind q 0 ps key value)
+      ∙ ap (places_with q 0) (sym is)
   where
-    sized : n ≡ 0 + size (pairs_view xs)
-    sized = omega (arith, at, size-pairs_view xs)
+    sized : n ≡ 0 + size ps
+    sized = omega (arith, at)
 
-pub new-distinct : (xs ys : List (Value × Value)) (k w : Value) (o : Option ℕ) → o ≡ first_place (pairs_view xs) (view k) → o ≡ None → ys ≡ xs ++ (k, w) ∷ []
-    → are_distinct (pairs_view xs) ≡ true → are_distinct (pairs_view ys) ≡ true
-new-distinct xs ys k w o e f is d =
-    ap (λ (zs : List (Value × Value)). are_distinct (pairs_view zs)) is
-    ∙ ap are_distinct (push-value xs k w)
-    ∙ distinct-behind (pairs_view xs) (view k) (view w) d (has_key-first (pairs_view xs) (view k) (sym e ∙ f))
+pub new-distinct : (ps qs : Pairs) (key value : Datum) → first_place ps key ≡ None → qs ≡ behind_all ps key value → are_distinct ps ≡ true → are_distinct qs ≡ true
+new-distinct ps qs key value e is d =
+    ap are_distinct is ∙ distinct-behind ps key value d (has_key-first ps key e)
 
 pub ruleset edit_steps = (first_place-within, set-value)

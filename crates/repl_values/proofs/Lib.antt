@@ -10,3 +10,7 @@ pub mod Tables
 pub mod Editing
 pub mod Transitive
 pub mod Views
+pub mod Growing
+pub mod Lists
+pub mod TailSteps
+pub mod Removing

@@ -116,22 +116,22 @@ places-behind h n (pair l w ps) k v =
     chosen false true ns e = sym e
     chosen false false ns e = sym e
 
-or-false : (a b : Bool) → (a || b) ≡ false → (a ≡ false) × (b ≡ false)
+pub or-false : (a b : Bool) → (a || b) ≡ false → (a ≡ false) × (b ≡ false)
 or-false true b h = absurd (cc)
 or-false false b h = (refl, h)
 
-false-both : (a b : Bool) → a ≡ false → b ≡ false → (a || b) ≡ false
+pub false-both : (a b : Bool) → a ≡ false → b ≡ false → (a || b) ≡ false
 false-both a b h k = rw (h, k) refl
 
-not-true : (b : Bool) → not b ≡ true → b ≡ false
+pub not-true : (b : Bool) → not b ≡ true → b ≡ false
 not-true true h = cc
 not-true false h = refl
 
-true-not : (b : Bool) → b ≡ false → not b ≡ true
+pub true-not : (b : Bool) → b ≡ false → not b ≡ true
 true-not true h = cc
 true-not false h = refl
 
-differ : (k l : Datum) → same k l ≡ false → (b : Bool) → same l k ≡ b → b ≡ false
+pub differ : (k l : Datum) → same k l ≡ false → (b : Bool) → same l k ≡ b → b ≡ false
 differ k l h true e = let f : same k l ≡ true = same-sym l k e in cc
 differ k l h false e = refl
 
@@ -157,7 +157,7 @@ along : (k l m : Datum) → same k l ≡ true → same m l ≡ false → (b : Bo
 along k l m e n true f = let g : same m l ≡ true = same-trans m k l f e in cc
 along k l m e n false f = refl
 
-has_key-along : (qs : Pairs) (k l : Datum) → same k l ≡ true → has_key qs l ≡ false → has_key qs k ≡ false
+pub has_key-along : (qs : Pairs) (k l : Datum) → same k l ≡ true → has_key qs l ≡ false → has_key qs k ≡ false
 has_key-along no_pairs k l e h = refl
 has_key-along (pair m x qs) k l e h =
     let both : (same m l ≡ false) × (has_key qs l ≡ false) = or-false (same m l) (has_key qs l) h in

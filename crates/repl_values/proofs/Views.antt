@@ -1,7 +1,5 @@
 -- What each kind of value is seen as.
-use Rattle.std.proofs.Common.{◌≡◌, Bool, ℤ, ℕ, Global, refl}
-use Rattle.std.specs.Arc.{arc_str_bytes}
-use Rattle.std.specs.declared.wrapped.ArcStr.{ArcStr}
+use Rattle.std.proofs.Common.{◌≡◌, Bool, ℤ, ℕ, refl}
 use Rattle.repl_values.specs.Datum as datum
 use Rattle.repl_values.specs.Held.{SequenceData, TableData}
 use Rattle.repl_values.specs.View.{view, owner_view}
@@ -16,15 +14,6 @@ view-Bool b = refl
 
 pub view-Int : (n : ℤ) → view (is.Int n) ≡ datum.integer n
 view-Int n = refl
-
-pub view-Str : (s : ArcStr Global) → view (is.Str s) ≡ datum.string (arc_str_bytes s)
-view-Str s = refl
-
-pub view-Keyword : (s : ArcStr Global) → view (is.Keyword s) ≡ datum.keyword (arc_str_bytes s)
-view-Keyword s = refl
-
-pub view-Symbol : (s : ArcStr Global) → view (is.Symbol s) ≡ datum.symbol (arc_str_bytes s)
-view-Symbol s = refl
 
 pub view-List : (s : SequenceData) → view (is.List s) ≡ datum.list s.items
 view-List s = refl
@@ -44,11 +33,5 @@ view-Atom n = refl
 pub view-Agent : (n : ℕ) → view (is.Agent n) ≡ datum.agent n
 view-Agent n = refl
 
-pub view-Var : (space name : ArcStr Global) → view (is.Var space name) ≡ datum.var (arc_str_bytes space) (arc_str_bytes name)
-view-Var space name = refl
-
-pub view-Fault : (class text : ArcStr Global) → view (is.Fault class text) ≡ datum.fault (arc_str_bytes class) (arc_str_bytes text)
-view-Fault class text = refl
-
 -- all of them
-pub ruleset value_views = (view-Nil, view-Bool, view-Int, view-Str, view-Keyword, view-Symbol, view-List, view-Vector, view-Map, view-Ref, view-Atom, view-Agent, view-Var, view-Fault)
+pub ruleset value_views = (view-Nil, view-Bool, view-Int, view-List, view-Vector, view-Map, view-Ref, view-Atom, view-Agent)

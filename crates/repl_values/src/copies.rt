@@ -1,7 +1,7 @@
 // Copies: one more owner of what a value shares.
 ghost use Rattle.std.specs.Prelude.{◌≡◌, IfOk, map};
 ghost use Rattle.std.specs.Arc.{arc_str_bytes};
-ghost use Rattle.repl_values.specs.View.{view};
+ghost use Rattle.repl_values.specs.View.{view, pair_view};
 
 use crate::value::Value;
 use std::alloc::{AllocError, Global};
@@ -50,6 +50,19 @@ pub fn copy_items(alloc: Global, items: &[Value]) -> Result<Vec<Value>, AllocErr
     let mut copies = Vec::with_capacity(alloc, items.len())?;
     for item in items {
         copies.push(copy(item)?)?;
+    }
+    Ok(copies)
+}
+
+pub(crate) fn copy_pairs(
+    alloc: Global,
+    pairs: &[(Value, Value)],
+) -> Result<Vec<(Value, Value)>, AllocError>
+    ensures { IfOk result (λ copies. map pair_view copies.items ≡ map pair_view pairs.now) }
+{
+    let mut copies = Vec::with_capacity(alloc, pairs.len())?;
+    for (key, value) in pairs {
+        copies.push((copy(key)?, copy(value)?))?;
     }
     Ok(copies)
 }

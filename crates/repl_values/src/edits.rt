@@ -1,4 +1,6 @@
 // Pairs put into a map, one after another.
+#![tactic(auto, using(crate::proofs::Editing::edit_steps))]
+
 ghost use Rattle.std.specs.Prelude.{◌≡◌, ◌<◌, true, vec_len, map, IfOk, OnOk};
 ghost use Rattle.repl_values.specs.Datum.{Pairs};
 ghost use Rattle.repl_values.specs.View.{view, pair_view, pairs_view};
@@ -10,7 +12,7 @@ ghost use Rattle.repl_values.specs.Inside.{KeepsPairs};
 ghost use Rattle.repl_values.specs.Seen.{entry_view, MayFit};
 
 use crate::building::sealed;
-use crate::copies::copy;
+use crate::copies::{copy, copy_pairs};
 use crate::equality::place_of;
 use crate::hashing::hash_of;
 use crate::node_measures::PairsMeasure;
@@ -62,10 +64,7 @@ fn copied(alloc: Global, node: &PairsNode) -> Result<PairsNode, AllocError>
     ensures pairs { IfOk result (λ copied. pairs_view copied.pairs.items ≡ pairs_view node.now.pairs.items) }
     ensures keeps { IfOk result (λ copied. KeepsPairs copied) }
 {
-    let mut pairs = Vec::with_capacity(alloc, node.pairs.len())?;
-    for (key, value) in &node.pairs {
-        pairs.push((copy(key)?, copy(value)?))?;
-    }
+    let pairs = copy_pairs(alloc, &node.pairs)?;
     Ok(PairsNode {
         index: index_of(alloc, &pairs)?,
         pairs,
@@ -73,7 +72,7 @@ fn copied(alloc: Global, node: &PairsNode) -> Result<PairsNode, AllocError>
     })
 }
 
-fn index_of(alloc: Global, pairs: &[(Value, Value)]) -> Result<BTreeMap<u64, Vec<usize>>, AllocError>
+pub(crate) fn index_of(alloc: Global, pairs: &[(Value, Value)]) -> Result<BTreeMap<u64, Vec<usize>>, AllocError>
     ensures { IfOk result (λ index. Indexes index (pairs_view pairs.now)) }
 {
     let mut index = BTreeMap::new(alloc);

@@ -1,5 +1,7 @@
 // How large and how deep a value is, read from its node, and whether it is plain. Nothing here takes
 // memory.
+#![tactic(auto, using(crate::proofs::Nodes::node_steps))]
+
 ghost use Rattle.std.specs.Prelude.{◌≡◌, ◌+◌, length};
 ghost use Rattle.std.specs.Arc.{arc_str_bytes};
 ghost use Rattle.repl_values.specs.View.{view, items_view, pairs_view};

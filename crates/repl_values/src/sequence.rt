@@ -1,4 +1,6 @@
 // The items of lists and vectors.
+#![tactic(auto, using(crate::proofs::Growing::item_steps))]
+
 ghost use Rattle.std.specs.Prelude.{◌≡◌, ◌==◌, IfOk, length, map};
 ghost use Rattle.repl_values.specs.Datum.{item};
 ghost use Rattle.repl_values.specs.Listed.{listed};
@@ -96,7 +98,7 @@ impl Sequence {
     pub fn rest(&self, alloc: Global) -> Result<Sequence, AllocError>
         ensures { IfOk result (λ made. made.items ≡ behind_first self.now.items) }
     {
-        let left = self.node.items.len() - self.start;
+        let left = self.node.items.as_slice().len() - self.start;
         if left > 0 {
             if let Some(tail) = self.node.tails.get(left - 1) {
                 if is_half(tail.weight, self.node.whole.weight) {
@@ -133,7 +135,7 @@ impl Sequence {
     fn measure(&self) -> ItemsMeasure
         ensures { FitsItems result self.now.items }
     {
-        let left = self.node.items.len() - self.start;
+        let left = self.node.items.as_slice().len() - self.start;
         match self.node.tails.get(left) {
             Some(tail) => *tail,
             None => self.node.whole,

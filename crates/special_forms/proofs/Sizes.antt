@@ -1,11 +1,14 @@
--- A form is at least one node, and a list, a vector or a map more than what is in it.
-use Rattle.std.proofs.Common.{◌+◌, ◌*◌, ◌≤◌, List, [], ◌∷◌, Vec, Global, subst, sym, arith}
+-- A form is at least one node, and a list, a vector or a map more than what is in it. The parts of a special form are
+-- no larger than the forms behind its name.
+use Rattle.std.proofs.Common.{◌≡◌, ◌+◌, ◌*◌, ◌≤◌, List, [], ◌∷◌, Option, Some, None, option_map, sym, ap, ◌∙◌, arith}
+use Rattle.std.specs.Option.{option_and_then}
+use Rattle.std.specs.Prelude.{IfSome}
 use Rattle.std.proofs.lemmas.List.Sums.{sum_by-cons}
-use Rattle.repl_values.specs.Datum.{Datum, nil, boolean, integer, string, keyword, symbol, list, vector, map, ref, atom, agent, var, fault}
-use Rattle.repl_values.specs.View.{view, items_view, pairs_view}
-use Rattle.repl_values.specs.declared.value.Value as value
-use Rattle.repl_values.proofs.Views.{view-List, view-Vector, view-Map}
-use Rattle.special_forms.specs.Size.{nodes, items_nodes, pairs_nodes, value_size, values_size, pairs_size}
+use Rattle.repl_values.specs.Datum.{Datum, nil, boolean, integer, string, keyword, symbol, list, vector, map, ref, atom, agent, var, fault, Items, no_items, item, Pairs, no_pairs, pair}
+use Rattle.repl_values.specs.Listed.{listed}
+use Rattle.special_forms.specs.Rows.{BoundForm, in_a_row}
+use Rattle.special_forms.specs.Size.{nodes, items_nodes, pairs_nodes, datum_size, forms_size, bindings_size, shape_size}
+use Rattle.special_forms.specs.Shapes.{ShapeData, bound_forms, simple_name}
 
 nodes-pos : (d : Datum) → 1 ≤ nodes d
 nodes-pos nil = omega arith
@@ -23,37 +26,36 @@ nodes-pos (agent n) = omega arith
 nodes-pos (var space name) = omega arith
 nodes-pos (fault class text) = omega arith
 
-pub value_size-pos : (v : value.Value) → 1 ≤ value_size v
-unfolding value_size
-value_size-pos v = nodes-pos (view v)
+pub datum_size-pos : (d : Datum) → 1 ≤ datum_size d
+unfolding datum_size
+datum_size-pos d = nodes-pos d
 
-values_size-le : (vs : List value.Value) → values_size vs ≤ 3 * items_nodes (items_view vs)
-unfolding value_size
-values_size-le [] = omega arith
-values_size-le (v ∷ vs) = omega (arith, values_size-le vs, sum_by-cons (λ (w : value.Value). 3 * value_size w + 1) v vs)
+pub forms_size-cons : (d : Datum) (ds : List Datum) → forms_size (d ∷ ds) ≡ 3 * datum_size d + 1 + forms_size ds
+forms_size-cons d ds = sum_by-cons (λ (e : Datum). 3 * datum_size e + 1) d ds
 
-pairs_size-le : (ps : List (value.Value × value.Value)) → pairs_size ps ≤ 3 * pairs_nodes (pairs_view ps)
-unfolding value_size
-pairs_size-le [] = omega arith
-pairs_size-le (p ∷ ps) =
-    omega (arith, pairs_size-le ps, sum_by-cons (λ (q : value.Value × value.Value). 3 * value_size q.0 + 1 + (3 * value_size q.1 + 1)) p ps)
+bindings_size-cons : (b : BoundForm) (bs : List BoundForm) → bindings_size (b ∷ bs) ≡ 3 * datum_size b.form + 1 + bindings_size bs
+bindings_size-cons b bs = sum_by-cons (λ (c : BoundForm). 3 * datum_size c.form + 1) b bs
 
-pub value_size-List : (vs : Vec value.Value Global) → 3 + values_size vs.items ≤ 3 * value_size (value.List vs)
-unfolding value_size
-value_size-List vs =
-    let P : Datum → Type 0 = λ d. 3 + values_size vs.items ≤ 3 * nodes d in
-    subst P (sym (view-List vs)) (omega (arith, values_size-le vs.items))
+forms_size-listed : (ds : Items) → forms_size (listed ds) ≤ 3 * items_nodes ds
+unfolding datum_size
+forms_size-listed no_items = omega arith
+forms_size-listed (item d ds) = omega (arith, forms_size-listed ds, forms_size-cons d (listed ds))
 
-pub value_size-Vector : (vs : Vec value.Value Global) → 3 + values_size vs.items ≤ 3 * value_size (value.Vector vs)
-unfolding value_size
-value_size-Vector vs =
-    let P : Datum → Type 0 = λ d. 3 + values_size vs.items ≤ 3 * nodes d in
-    subst P (sym (view-Vector vs)) (omega (arith, values_size-le vs.items))
+forms_size-row : (ps : Pairs) → forms_size (in_a_row ps) ≤ 3 * pairs_nodes ps
+unfolding datum_size
+forms_size-row no_pairs = omega arith
+forms_size-row (pair k v ps) = omega (arith, forms_size-row ps, forms_size-cons k (v ∷ in_a_row ps), forms_size-cons v (in_a_row ps))
 
-pub value_size-Map : (ps : Vec (value.Value × value.Value) Global) → 3 + pairs_size ps.items ≤ 3 * value_size (value.Map ps)
-unfolding value_size
-value_size-Map ps =
-    let P : Datum → Type 0 = λ d. 3 + pairs_size ps.items ≤ 3 * nodes d in
-    subst P (sym (view-Map ps)) (omega (arith, pairs_size-le ps.items))
+pub datum_size-list : (ds : Items) → 3 + forms_size (listed ds) ≤ 3 * datum_size (list ds)
+unfolding datum_size
+datum_size-list ds = omega (arith, forms_size-listed ds)
 
-pub ruleset sizes = (value_size-pos, value_size-List, value_size-Vector, value_size-Map)
+pub datum_size-vector : (ds : Items) → 3 + forms_size (listed ds) ≤ 3 * datum_size (vector ds)
+unfolding datum_size
+datum_size-vector ds = omega (arith, forms_size-listed ds)
+
+pub datum_size-map : (ps : Pairs) → 3 + forms_size (in_a_row ps) ≤ 3 * datum_size (map ps)
+unfolding datum_size
+datum_size-map ps = omega (arith, forms_size-row ps)
+
+pub ruleset sizes = (datum_size-pos, datum_size-list, datum_size-vector, datum_size-map, forms_size-cons)
