@@ -1,14 +1,16 @@
 -- Parts of special forms that are taken one by one.
 use Rattle.std.proofs.Common.{◌≡◌, ℕ, ◌<◌, ◌≤◌, Bool, true, false, if◌then◌else◌, List, [], ◌∷◌, ◌++◌, Option, Some, None, get_or, drop, length, refl, sym, ap, ◌∙◌, append_assoc, append-nil, option_map, map, arith}
 use Rattle.std.specs.Arc.{arc_str_bytes}
-use Rattle.repl_values.specs.Datum.{Datum, symbol}
+use Rattle.std.specs.List.{list_any}
+use Rattle.repl_values.specs.Datum as datum
+use Rattle.repl_values.specs.Datum.{Datum, nil, boolean, integer, string, keyword, symbol, list, vector, ref, atom, agent, var, fault}
 use Rattle.repl_values.specs.View.{view}
 use Rattle.repl_values.specs.declared.value.Value.{Value}
 use Rattle.repl_values.proofs.Views.{value_views}
 use Rattle.repl_values.proofs.Lists.{lists}
 use Rattle.special_forms.specs.Rows.{BoundForm, bindings_in, name_in}
 use Rattle.special_forms.specs.Seen.{views}
-use Rattle.special_forms.specs.Shapes.{simple_name, bound_forms, parameter_name, parameter_names}
+use Rattle.special_forms.specs.Shapes.{is_slash, simple_name, bound_forms, parameter_name, parameter_names}
 
 pub ruleset seen = (value_views, lists)
 
@@ -35,3 +37,34 @@ parameter_fails d ds named = rw named refl
 -- whether all names are simple
 abbrev pub bound_if : Bool → List Datum → Option (List BoundForm)
 bound_if t ds = if t then Some (bindings_in ds) else None
+
+chosen_name : (t : Bool) (s r : List ℕ) → (if t then None else Some s) ≡ Some r → s ≡ r
+chosen_name true s r h = cc
+chosen_name false s r h = cc
+
+-- what has a simple name is a symbol of that name
+pub simple_name-name_in : (d : Datum) (s : List ℕ) → simple_name d ≡ Some s → name_in d ≡ s
+unfolding simple_name
+simple_name-name_in nil s h = cc
+simple_name-name_in (boolean b) s h = cc
+simple_name-name_in (integer n) s h = cc
+simple_name-name_in (string t) s h = cc
+simple_name-name_in (keyword t) s h = cc
+simple_name-name_in (symbol t) s h = chosen_name (list_any is_slash t) t s h
+simple_name-name_in (list ds) s h = cc
+simple_name-name_in (vector ds) s h = cc
+simple_name-name_in (datum.map ps) s h = cc
+simple_name-name_in (ref owner n) s h = cc
+simple_name-name_in (atom n) s h = cc
+simple_name-name_in (agent n) s h = cc
+simple_name-name_in (var space name) s h = cc
+simple_name-name_in (fault class text) s h = cc
+
+-- a name and a form more
+pub bound-step : (t : Bool) (d e : Datum) (ds : List Datum) (s : List ℕ) → simple_name d ≡ Some s → bound_forms ds ≡ bound_if t ds
+    → bound_forms (d ∷ e ∷ ds) ≡ bound_if t (d ∷ e ∷ ds)
+bound-step true d e ds s named rest = rw (named, rest, simple_name-name_in d s named) refl
+bound-step false d e ds s named rest = rw (named, rest) refl
+
+pub bound-fails : (d e : Datum) (ds : List Datum) → simple_name d ≡ None → bound_forms (d ∷ e ∷ ds) ≡ None
+bound-fails d e ds named = rw named refl

@@ -115,6 +115,16 @@ pub fn shape_of(
     ensures size { IfOk result (λ shape. IfSome shape (λ s. shape_size (shape_view s) ≤ forms_size (forms_view forms))) }
     ensures exact { IfOk result (λ shape. option_map shape_view shape ≡ meant.shape_of special (forms_view forms)) }
 {
+    parts_of(alloc, special, forms)
+}
+
+fn parts_of(
+    alloc: Global,
+    special: SpecialForm,
+    forms: Forms,
+) -> Result<Option<Shape>, AllocError>
+    ensures { IfOk result (λ shape. option_map shape_view shape ≡ meant.shape_of special (forms_view forms)) }
+{
     match special {
         SpecialForm::And => Ok(Some(Shape::Logic(Logic::And, forms))),
         SpecialForm::Or => Ok(Some(Shape::Logic(Logic::Or, forms))),

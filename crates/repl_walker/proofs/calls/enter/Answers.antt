@@ -1,7 +1,5 @@
 use Rattle.std.proofs.Common.{refl}
 use Rattle.repl_values.proofs.Views.{view-Nil}
-use Rattle.special_forms.proofs.Shaping.{list_of-items}
-use Rattle.special_forms.specs.Seen.{views}
 use Rattle.repl_walker.proofs.Evaluating.{if_ok-turned}
 use Rattle.repl_walker.proofs.calls.enter.Goals as goal
 
@@ -9,8 +7,7 @@ pub returns-clause-meaning : goal.returns-clause-meaning
 returns-clause-meaning c =
     if_ok-turned _ _ (rw (
       view-Nil,
-      c.from_vec.ensures.items,
-      list_of-items (views c.args.function.body.items),
+      c.of_items.ensures,
       c.in_ok-push_front.ensures.items,
       c.replace-place.ensures.value,
       c.replace-place.ensures.after,
