@@ -10,7 +10,7 @@ use Rattle.core_functions.specs.Outcome.{Outcome, gives, fails, most_nesting, li
 
 -- what prints nothing is within bounds
 pub bounded-settled : (r : Result Datum Failure) → bounded (settled r) ≡ settled r
-unfolding settled, limited
+unfolding settled limited
 bounded-settled (Ok d) = by_test (nat_le (weight d) most_weight && nat_le (nesting d) most_nesting)
   where
     by_test : (t : Bool) → bounded (if t then gives d [] else fails too_large) ≡ (if t then gives d [] else fails too_large)
@@ -20,12 +20,11 @@ bounded-settled (Err f) = refl
 
 -- a value that is too heavy was so before
 pub settled-within : (r : Result Datum Failure) → settled (within_weight r) ≡ settled r
-unfolding settled, limited, within_weight
+unfolding settled limited within_weight
 settled-within (Ok d) = by_test (nat_le (weight d) most_weight) refl
   where
     by_test : (t : Bool) → nat_le (weight d) most_weight ≡ t
         → settled (if t then Ok d else Err too_large) ≡ (if t && nat_le (nesting d) most_nesting then gives d [] else fails too_large)
-    unfolding settled, limited
     by_test true e = rw e refl
     by_test false e = refl
 settled-within (Err f) = refl

@@ -22,11 +22,7 @@ pub enum ItemRow<'a> {
 impl<'a> ItemRow<'a> {
     /// The items of an argument of the function of this name. Those of nil are none; those of a map
     /// are its pairs, each as a vector of two.
-    pub fn of(
-        alloc: Global,
-        function: &str,
-        argument: &'a Value,
-    ) -> Result<ItemRow<'a>, ApplyError>
+    pub fn of(alloc: Global, function: &str, argument: &'a Value) -> Result<ItemRow<'a>, ApplyError>
         ensures { Gives row_view result (items_in function.now (view argument.now)) }
     {
         match argument {

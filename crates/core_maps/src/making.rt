@@ -29,11 +29,7 @@ pub(crate) fn hash_map(alloc: Global, args: &[Value]) -> Result<Value, ApplyErro
 }
 
 // The map to put pairs into. Nil stands for an empty one.
-pub(crate) fn table_of(
-    alloc: Global,
-    function: &str,
-    argument: &Value,
-) -> Result<Table, ApplyError>
+pub(crate) fn table_of(alloc: Global, function: &str, argument: &Value) -> Result<Table, ApplyError>
     ensures { Gives (λ table. table.pairs) result (pairs_in function.now (view argument.now)) }
 {
     match argument {

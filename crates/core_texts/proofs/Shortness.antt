@@ -18,7 +18,7 @@ if_short-short s h = grind (arith, common_steps, nat_tests, h)
 
 -- a text that is not short is too heavy
 pub light-if_short : (s : List ℕ) → light (if_short s) ≡ within_weight (Ok (string s))
-unfolding if_short, within_weight
+unfolding if_short within_weight
 light-if_short s = grind (arith, common_steps, nat_tests)
 
 pub ruleset short_steps = (value_views, if_short-long, if_short-short, light-if_short)

@@ -39,11 +39,7 @@ pub fn printed(
     }
 }
 
-fn line(
-    alloc: Global,
-    spelling: Spelling,
-    values: &[Value],
-) -> Result<Option<String>, AllocError>
+fn line(alloc: Global, spelling: Spelling, values: &[Value]) -> Result<Option<String>, AllocError>
     ensures { IfOk result (λ text. option_map string_bytes text ≡ if_short (meant.spaced (spelling_of spelling) (map view values.now) ++ meant.newline)) }
 {
     let Some(mut text) = spaced(alloc, spelling, values)? else {
@@ -56,7 +52,11 @@ fn line(
 fn if_short(text: String) -> Option<String>
     ensures { option_map string_bytes result ≡ if_short (string_bytes text) }
 {
-    if text.len() > MOST_TEXT { None } else { Some(text) }
+    if text.len() > MOST_TEXT {
+        None
+    } else {
+        Some(text)
+    }
 }
 
 // The spelling of each value, joined by a space.

@@ -96,11 +96,7 @@ fn define_function(
 }
 
 // Binds the name in the form's namespace.
-pub(crate) fn define(
-    state: &State,
-    name: ArcStr,
-    binding: Binding,
-) -> Result<Control, AllocError>
+pub(crate) fn define(state: &State, name: ArcStr, binding: Binding) -> Result<Control, AllocError>
     ensures size { IfOk result (λ control. control_size control < 3) }
     ensures calls { IfOk result (λ control. spent control ≡ 0) }
     ensures meaning { IfOk result (λ control. tree control state.now ≡ from_state (meant.defined (place_of state.now) (arc_str_bytes name) (binding_view binding)) state.now) }

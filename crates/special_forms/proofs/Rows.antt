@@ -9,11 +9,8 @@ use Rattle.repl_values.proofs.Lists.{lists}
 use Rattle.special_forms.specs.Rows.{in_a_row, first_of, bindings_in}
 
 pub row-past : (ds : List Datum) (i e : ℕ) → e ≤ i → drop i (take e ds) ≡ []
-row-past [] zero e h = past e
-  where
-    past : (n : ℕ) → take n [] ≡ ([] : List Datum)
-    past zero = refl
-    past (suc n) = refl
+row-past [] zero zero h = refl
+row-past [] zero (suc e) h = absurd (omega (arith, h))
 row-past [] (suc i) zero h = refl
 row-past [] (suc i) (suc e) h = refl
 row-past (d ∷ ds) zero zero h = refl

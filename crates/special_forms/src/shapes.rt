@@ -118,11 +118,7 @@ pub fn shape_of(
     parts_of(alloc, special, forms)
 }
 
-fn parts_of(
-    alloc: Global,
-    special: SpecialForm,
-    forms: Forms,
-) -> Result<Option<Shape>, AllocError>
+fn parts_of(alloc: Global, special: SpecialForm, forms: Forms) -> Result<Option<Shape>, AllocError>
     ensures { IfOk result (λ shape. option_map shape_view shape ≡ meant.shape_of special (forms_view forms)) }
 {
     match special {
