@@ -1,16 +1,15 @@
 -- A pair put into a map's pairs.
-use Rattle.std.proofs.Common.{◌≡◌, ℕ, zero, suc, ◌+◌, ◌<◌, ◌≤◌, Bool, true, false, not, ◌&&◌, ◌||◌, List, [], ◌∷◌, ◌++◌, length, get_or, set, Option, Some, None, option_map, Vec, Global, refl, sym, ap, ◌∙◌, arith}
+use Rattle.std.proofs.Common.{◌≡◌, ℕ, zero, suc, ◌+◌, ◌<◌, Bool, true, false, ◌||◌, List, [], ◌∷◌, ◌++◌, length, get_or, set, Option, Some, None, option_map, Vec, Global, refl, sym, ap, ◌∙◌, arith}
 use Rattle.std.specs.Prelude.{if◌then◌else◌, ◌==◌}
 use Rattle.std.specs.BTreeMap.{BTreeMap}
 use Rattle.repl_values.specs.Datum.{Datum, Pairs, no_pairs, pair}
-use Rattle.repl_values.specs.View.{view, pair_view, pairs_view, pairs_of}
+use Rattle.repl_values.specs.View.{view, pairs_view}
 use Rattle.repl_values.specs.declared.value.Value.{Value}
 use Rattle.repl_values.specs.Same.{same, size}
 use Rattle.repl_values.specs.Hash.{hash}
 use Rattle.repl_values.specs.Index.{Indexes, places_under}
 use Rattle.repl_values.specs.Keyed.{first_place, has_key, are_distinct, places_with, behind_all, with_value}
 use Rattle.repl_values.specs.Put.{put_pair}
-use Rattle.repl_values.proofs.Sameness.{size-pairs_view}
 use Rattle.repl_values.proofs.Tables.{places-behind, distinct-behind, has_key-first}
 
 suc-Some : (o : Option ℕ) (n : ℕ) → option_map (λ (m : ℕ). suc m) o ≡ Some (suc n) → o ≡ Some n
@@ -115,12 +114,12 @@ pub new-indexes : (old new : BTreeMap ℕ (Vec ℕ Global)) (ps qs : Pairs) (key
     → Indexes new qs
 new-indexes old new ps qs key value n h is at hk was now =
     λ q.
-      now q
-      ∙ ap (λ (m : ℕ). if m == q then places_under old q ++ n ∷ [] else places_under old q) hk
-      ∙ ap (λ (ns : List ℕ). if hash key == q then ns ++ n ∷ [] else ns) (was q)
-      ∙ ap (λ (m : ℕ). if hash key == q then places_with q 0 ps ++ m ∷ [] else places_with q 0 ps) sized
-      ∙ sym (places-behind q 0 ps key value)
-      ∙ ap (places_with q 0) (sym is)
+    now q
+    ∙ ap (λ (m : ℕ). if m == q then places_under old q ++ n ∷ [] else places_under old q) hk
+    ∙ ap (λ (ns : List ℕ). if hash key == q then ns ++ n ∷ [] else ns) (was q)
+    ∙ ap (λ (m : ℕ). if hash key == q then places_with q 0 ps ++ m ∷ [] else places_with q 0 ps) sized
+    ∙ sym (places-behind q 0 ps key value)
+    ∙ ap (places_with q 0) (sym is)
   where
     sized : n ≡ 0 + size ps
     sized = omega (arith, at)

@@ -1,5 +1,5 @@
 -- Items and pairs with one more, and what was measured of them.
-use Rattle.std.proofs.Common.{◌≡◌, ℕ, zero, suc, ◌+◌, ◌<◌, ◌≤◌, max, List, [], ◌∷◌, ◌++◌, length, get_or, take, drop, add-one, refl, ap, ◌∙◌, sym, arith}
+use Rattle.std.proofs.Common.{◌≡◌, ℕ, zero, suc, ◌+◌, ◌<◌, max, List, [], ◌∷◌, ◌++◌, length, get_or, take, drop, add-one, refl, ap, sym, arith}
 use Rattle.repl_values.specs.Datum.{Datum, Items, no_items, item, Pairs, no_pairs, pair}
 use Rattle.repl_values.specs.Listed.{listed}
 use Rattle.repl_values.specs.Ends.{with_last, behind_first}

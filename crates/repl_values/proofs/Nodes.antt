@@ -1,6 +1,6 @@
 -- What stands in a value has fewer values in it.
-use Rattle.std.proofs.Common.{◌≡◌, ℕ, zero, suc, ◌+◌, ◌<◌, ◌≤◌, List, [], ◌∷◌, length, get_or, refl, ap, ◌∙◌, sym, arith, rules}
-use Rattle.repl_values.specs.Datum.{Datum, Items, Pairs, list, vector, map}
+use Rattle.std.proofs.Common.{◌≡◌, ℕ, zero, suc, ◌+◌, ◌<◌, ◌≤◌, List, [], ◌∷◌, length, get_or, ap, arith}
+use Rattle.repl_values.specs.Datum.{Datum, list, vector, map}
 use Rattle.repl_values.proofs.Size.{nodes, items_nodes, pairs_nodes}
 use Rattle.repl_values.specs.View.{view, items_view, pairs_view}
 use Rattle.repl_values.specs.declared.value.Value.{Value}
@@ -25,7 +25,7 @@ pub pair_nodes-in : (ps : List (Value × Value)) (i : ℕ) (p : Value × Value) 
     → nodes (view p.0) + nodes (view p.1) ≤ pairs_nodes (pairs_view ps)
 pair_nodes-in ps i p is h =
     let e : nodes (view p.0) + nodes (view p.1) ≡ nodes (view (get_or ps i p).0) + nodes (view (get_or ps i p).1) =
-        ap (λ (x : Value × Value). nodes (view x.0) + nodes (view x.1)) is in
+    ap (λ (x : Value × Value). nodes (view x.0) + nodes (view x.1)) is in
     omega (arith, e, pair_nodes-at ps i p h)
 
 pub nodes-positive : (d : Datum) → 0 < nodes d

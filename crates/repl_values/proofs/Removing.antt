@@ -1,5 +1,5 @@
 -- Keys that are taken out, and keys that are repeated.
-use Rattle.std.proofs.Common.{◌≡◌, ℕ, zero, suc, ◌+◌, ◌<◌, ◌≤◌, Bool, true, false, not, ◌&&◌, ◌||◌, List, [], ◌∷◌, ◌++◌, length, get_or, set, take, drop, map, filter, replicate, IfSome, ◌-◌, Option, Some, None, option_map, add-one, refl, sym, ap, ◌∙◌, arith}
+use Rattle.std.proofs.Common.{◌≡◌, ℕ, zero, suc, ◌+◌, ◌<◌, ◌≤◌, Bool, true, false, not, ◌&&◌, ◌||◌, List, [], ◌∷◌, ◌++◌, length, get_or, set, take, map, filter, replicate, IfSome, ◌-◌, Option, Some, None, option_map, add-one, refl, sym, ap, ◌∙◌, arith}
 use Rattle.std.specs.Prelude.{if◌then◌else◌}
 use Rattle.repl_values.specs.Datum.{Datum, Items, no_items, item, Pairs, no_pairs, pair}
 use Rattle.repl_values.specs.View.{view, pair_view, items_view, pairs_view, pairs_of}
@@ -7,7 +7,7 @@ use Rattle.repl_values.specs.declared.value.Value.{Value}
 use Rattle.repl_values.specs.Same.{same}
 use Rattle.repl_values.specs.Repeats.{is_one_of, repeat_behind, first_repeat}
 use Rattle.repl_values.specs.Keyed.{first_place, has_key, are_distinct, keys_of}
-use Rattle.repl_values.specs.Listed.{pairs_listed, unmarked, with_mark}
+use Rattle.repl_values.specs.Listed.{unmarked, with_mark}
 use Rattle.repl_values.specs.Put.{without_keys}
 use Rattle.repl_values.proofs.Equivalence.{same-sym, and-left, and-right, and-both}
 use Rattle.repl_values.proofs.Lists.{pairs_listed-of}
@@ -65,9 +65,9 @@ repeats-at before (x ∷ xs) (suc n) p is h f d e =
     let apart : has_key ps key ≡ false = not-true _ (and-left (not (has_key ps key)) (are_distinct ps) d) in
     behind (is_one_of before key) _ n (not-true _ (and-left (not (is_one_of before key)) (fresh before ps) f))
     (repeats-at (item key before) xs n p is (omega (arith, h))
-      (fresh-more before ps key (and-right (not (is_one_of before key)) (fresh before ps) f) apart)
-      (and-right (not (has_key ps key)) (are_distinct ps) d)
-      (sym (or-turn (is_one_of before (view p.0)) (same key (view p.0)) (has_key ps (view p.0))) ∙ e))
+    (fresh-more before ps key (and-right (not (is_one_of before key)) (fresh before ps) f) apart)
+    (and-right (not (has_key ps key)) (are_distinct ps) d)
+    (sym (or-turn (is_one_of before (view p.0)) (same key (view p.0)) (has_key ps (view p.0))) ∙ e))
 
 pub first-repeat : (xs : List (Value × Value)) (n : ℕ) (p : Value × Value) → p ≡ get_or xs n p → n < length xs
     → are_distinct (pairs_view (take n xs)) ≡ true → has_key (pairs_view (take n xs)) (view p.0) ≡ true
@@ -82,8 +82,8 @@ repeats-none before no_pairs f d = refl
 repeats-none before (pair k v ps) f d =
     none-behind (is_one_of before k) _ (not-true _ (and-left (not (is_one_of before k)) (fresh before ps) f))
     (repeats-none (item k before) ps
-      (fresh-more before ps k (and-right (not (is_one_of before k)) (fresh before ps) f) (not-true _ (and-left (not (has_key ps k)) (are_distinct ps) d)))
-      (and-right (not (has_key ps k)) (are_distinct ps) d))
+    (fresh-more before ps k (and-right (not (is_one_of before k)) (fresh before ps) f) (not-true _ (and-left (not (has_key ps k)) (are_distinct ps) d)))
+    (and-right (not (has_key ps k)) (are_distinct ps) d))
 
 pub take-past : {A : Type 0} (xs : List A) (n : ℕ) → length xs ≤ n → take n xs ≡ xs
 take-past [] zero h = refl

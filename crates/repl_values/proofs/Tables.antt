@@ -1,9 +1,9 @@
 -- Pairs found by hash, and maps compared by one look-up for each pair.
 use Rattle.std.proofs.Common.{◌≡◌, ◌≢◌, ℕ, zero, suc, ◌+◌, ◌<◌, ◌≤◌, Bool, true, false, not, ◌&&◌, ◌||◌, List, [], ◌∷◌, ◌++◌, length, get_or, map as each, Option, Some, None, option_map, take, add-one, refl, sym, ap, ◌∙◌, arith, eq-eqb}
-use Rattle.std.specs.Prelude.{if◌then◌else◌, ◌==◌, slice_get}
-use Rattle.std.proofs.lemmas.Bool.{eqb-true, lt-ltb}
+use Rattle.std.specs.Prelude.{if◌then◌else◌, ◌==◌}
+use Rattle.std.proofs.lemmas.Bool.{eqb-true}
 use Rattle.repl_values.specs.Datum.{Datum, Pairs, no_pairs, pair, map}
-use Rattle.repl_values.specs.View.{view, pair_view, pairs_view, pairs_of}
+use Rattle.repl_values.specs.View.{view, pairs_view, pairs_of}
 use Rattle.repl_values.specs.declared.value.Value.{Value}
 use Rattle.repl_values.specs.Same.{same, size, within, each_pair, is_among, has_pair}
 use Rattle.repl_values.specs.Hash.{hash}
@@ -279,10 +279,10 @@ none-over (pair k v ps) qs dp dq s h =
     let fewer : 1 + size (removed qs k) ≡ size qs = size-removed qs k v found in
     each-removed ps qs k v found
     (none-over ps (removed qs k)
-      (and-right (not (has_key ps k)) (are_distinct ps) dp)
-      (distinct-removed qs k dq)
-      (omega (arith, s, fewer))
-      (all_in-removed ps qs k (not-true (has_key ps k) (and-left (not (has_key ps k)) (are_distinct ps) dp)) (and-right (is_value (value_at k qs) v) (all_in ps qs) h)))
+    (and-right (not (has_key ps k)) (are_distinct ps) dp)
+    (distinct-removed qs k dq)
+    (omega (arith, s, fewer))
+    (all_in-removed ps qs k (not-true (has_key ps k) (and-left (not (has_key ps k)) (are_distinct ps) dp)) (and-right (is_value (value_at k qs) v) (all_in ps qs) h)))
 
 -- maps with as many pairs are equal where each pair of the first is found in the second
 pub maps-found : (ps qs : Pairs) → are_distinct ps ≡ true → are_distinct qs ≡ true → size ps ≡ size qs → all_in ps qs ≡ same (map ps) (map qs)
@@ -354,11 +354,11 @@ pub indexes-more : (old new : BTreeMap ℕ (Vec ℕ Global)) (xs : List (Value �
     → Indexes new (pairs_view (take (n + 1) xs))
 indexes-more old new xs n p is h was now =
     λ q.
-      now q
-      ∙ ap (λ (ns : List ℕ). if hash (view p.0) == q then ns ++ n ∷ [] else ns) (was q)
-      ∙ ap (λ (m : ℕ). if hash (view p.0) == q then places_with q 0 (pairs_view (take n xs)) ++ m ∷ [] else places_with q 0 (pairs_view (take n xs))) (sized)
-      ∙ sym (places-behind q 0 (pairs_view (take n xs)) (view p.0) (view p.1))
-      ∙ ap (places_with q 0) (sym (take-behind xs n p is h))
+    now q
+    ∙ ap (λ (ns : List ℕ). if hash (view p.0) == q then ns ++ n ∷ [] else ns) (was q)
+    ∙ ap (λ (m : ℕ). if hash (view p.0) == q then places_with q 0 (pairs_view (take n xs)) ++ m ∷ [] else places_with q 0 (pairs_view (take n xs))) (sized)
+    ∙ sym (places-behind q 0 (pairs_view (take n xs)) (view p.0) (view p.1))
+    ∙ ap (places_with q 0) (sym (take-behind xs n p is h))
   where
     sized : n ≡ 0 + size (pairs_view (take n xs))
     sized = omega (arith, size-take xs n (omega (arith, h)))

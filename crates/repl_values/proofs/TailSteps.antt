@@ -65,14 +65,14 @@ tails-more ms ns vs m place is at fits tails i k n e l =
     let long : length ns ≡ length ms + 1 = ap (λ (xs : List ItemsMeasure). length xs) is ∙ length-push ms m in
     ⊎_elim
     (λ (p : k < length ms).
-      subst (λ (x : ItemsMeasure). FitsItems x (items_view (drop i vs)))
-      (sym (ap (λ (xs : List ItemsMeasure). get_or xs k n) is ∙ get-front ms m n k p)) (tails i k n e p))
+    subst (λ (x : ItemsMeasure). FitsItems x (items_view (drop i vs)))
+    (sym (ap (λ (xs : List ItemsMeasure). get_or xs k n) is ∙ get-front ms m n k p)) (tails i k n e p))
     (λ (p : length ms ≤ k).
-      let last : k ≡ length ms = omega arith in
-      let here : place ≡ i = omega arith in
-      subst (λ (x : ItemsMeasure). FitsItems x (items_view (drop i vs)))
-      (sym (ap (λ (xs : List ItemsMeasure). get_or xs k n) is ∙ get-last ms m n k last))
-      (subst (λ (j : ℕ). FitsItems m (items_view (drop j vs))) here fits))
+    let last : k ≡ length ms = omega arith in
+    let here : place ≡ i = omega arith in
+    subst (λ (x : ItemsMeasure). FitsItems x (items_view (drop i vs)))
+    (sym (ap (λ (xs : List ItemsMeasure). get_or xs k n) is ∙ get-last ms m n k last))
+    (subst (λ (j : ℕ). FitsItems m (items_view (drop j vs))) here fits))
     (cases_lt k (length ms))
 
 pub drop-view : (vs : List Value) (i j : ℕ) (v : Value) → j ≡ i + 1 → i < length vs → v ≡ get_or vs i v → items_view (drop i vs) ≡ item (view v) (items_view (drop j vs))

@@ -1,6 +1,5 @@
 -- What the nodes hold, and what they keep of it.
 use Rattle.std.specs.Prelude.{◌≡◌, ℕ, ◌+◌, ◌<◌, ◌≤◌, true, List, [], ◌∷◌, length, drop}
-use Rattle.repl_values.specs.Datum.{Items, Pairs}
 use Rattle.repl_values.specs.Held.{SequenceData, TableData}
 use Rattle.repl_values.specs.View.{items_view, pairs_view}
 use Rattle.repl_values.specs.Keyed.{are_distinct}

@@ -33,8 +33,8 @@ impl Table {
         sealed(alloc, pairs, index, PairsMeasure::of_none())
     }
 
-    /// The pairs of the vector, measured and indexed once. It fails only for want of memory, and takes
-    /// n log n steps unless hashes collide.
+    /// The pairs of the vector, measured and indexed once. It fails only for want of memory, and
+    /// takes n log n steps unless hashes collide.
     pub fn from_pairs(alloc: Global, pairs: Vec<(Value, Value)>) -> Result<Built, AllocError>
         ensures { IfOk result (λ built. IsBuilt built (pairs_view pairs.items)) }
     {

@@ -23,10 +23,11 @@ use std::collections::BTreeMap;
 use std::sync::Arc;
 
 impl Table {
-    /// The pairs with more put in, one after another: a key there keeps its place and takes the later
-    /// value. Where nobody else holds the pairs they are changed in their place; otherwise that
-    /// takes one step for each. It fails only for want of memory, and takes n log n steps for n more
-    /// unless hashes collide; once more one for each pair where a key was there.
+    /// The pairs with more put in, one after another: a key there keeps its place and takes the
+    /// later value. It fails only for want of memory.
+    ///
+    /// It takes n log n steps for n more, unless hashes collide; and one for each pair where
+    /// somebody else holds the pairs too, which are copied then, or where a value was replaced.
     pub fn with_pairs(self, alloc: Global, more: &[(&Value, &Value)]) -> Result<Table, AllocError>
         ensures { IfOk result (λ made. made.pairs ≡ put_pairs self.pairs (map entry_view more.now)) }
     {
@@ -72,7 +73,10 @@ fn copied(alloc: Global, node: &PairsNode) -> Result<PairsNode, AllocError>
     })
 }
 
-pub(crate) fn index_of(alloc: Global, pairs: &[(Value, Value)]) -> Result<BTreeMap<u64, Vec<usize>>, AllocError>
+pub(crate) fn index_of(
+    alloc: Global,
+    pairs: &[(Value, Value)],
+) -> Result<BTreeMap<u64, Vec<usize>>, AllocError>
     ensures { IfOk result (λ index. Indexes index (pairs_view pairs.now)) }
 {
     let mut index = BTreeMap::new(alloc);

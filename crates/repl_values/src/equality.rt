@@ -96,7 +96,7 @@ fn same_items(left: &[Value], right: &[Value]) -> bool
 fn same_maps(left: &Table, right: &Table) -> bool
     ensures { result ≡ are_same (map left.now.pairs) (map right.now.pairs) }
 {
-    if left.len() != right.len() {
+    if right.len() != left.len() {
         return false;
     }
     left.keys_are_distinct();

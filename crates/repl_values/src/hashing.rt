@@ -7,8 +7,8 @@ ghost use Rattle.repl_values.specs.Hash.{hash, mixed, salted, mixed_text, owner_
 use crate::value::{Owner, Value};
 use std::sync::ArcStr;
 
-/// A number that is the same for equal values. It takes no memory. A text is read once; of a list, a
-/// vector or a map it was kept.
+/// A number that is the same for equal values. It takes no memory. A text is read once; that of a
+/// list, a vector or a map was kept.
 pub fn hash_of(value: &Value) -> u64
     ensures { result ≡ hash (view value.now) }
 {

@@ -1,10 +1,10 @@
 //! The values of the language: how they are made, printed, compared, measured and copied.
 //!
-//! The texts, items and pairs of a `Value` are shared nodes that keep what was measured of them, so
-//! that a copy, a weight and a hash take one step. Contracts see a value as plain data,
-//! `specs/Datum.antt`, by `view` of `specs/View.antt`: two values with one view are the same value to
-//! every caller. `specs/Code.antt` has the codes by which a model holds values, and `laws` what holds
-//! of all of them.
+//! The texts, items and pairs of a `Value` are shared nodes that keep what was measured of them,
+//! so that a copy, a weight and a hash take one step. Contracts see a value as plain data,
+//! `specs/Datum.antt`, by `view` of `specs/View.antt`: two values with one view are the same value
+//! to every caller. `specs/Code.antt` has the codes by which a model holds values, and `laws` what
+//! holds of all of them.
 #![tactic(auto)]
 
 mod building;

@@ -1,5 +1,5 @@
-// How large and how deep a value is, read from its node, and whether it is plain. Nothing here takes
-// memory.
+// How large and how deep a value is, read from its node, and whether it is plain. Nothing here
+// takes memory.
 #![tactic(auto, using(crate::proofs::Nodes::node_steps))]
 
 ghost use Rattle.std.specs.Prelude.{◌≡◌, ◌+◌, length};

@@ -16,8 +16,8 @@ use std::alloc::{AllocError, Global};
 use std::collections::BTreeMap;
 
 impl Table {
-    /// The pairs whose keys equal none of these, in their order. It fails only for want of memory, and
-    /// takes n log n steps for n pairs and log n for each key, unless hashes collide.
+    /// The pairs whose keys equal none of these, in their order. It fails only for want of memory,
+    /// and takes n log n steps for n pairs and log n for each key, unless hashes collide.
     pub fn without_keys(&self, alloc: Global, keys: &[Value]) -> Result<Table, AllocError>
         ensures { IfOk result (λ made. made.pairs ≡ without self.now.pairs (items_view keys.now)) }
     {

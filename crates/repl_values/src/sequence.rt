@@ -53,7 +53,8 @@ impl Sequence {
         self.len() == 0
     }
 
-    /// The same items. It takes one step and no memory, and fails only where 2^63 owners share them.
+    /// The same items. It takes one step and no memory, and fails only where 2^63 owners share
+    /// them.
     pub fn copy(&self) -> Result<Sequence, AllocError>
         ensures { IfOk result (λ copied. copied ≡ self.now) }
     {
@@ -92,9 +93,9 @@ impl Sequence {
 
     /// The items behind the first, or none where there is none.
     ///
-    /// It takes one step for each item; and then one for each further rest of what it gave, as long as
-    /// that weighs half of it. A lighter one is copied, so that it holds no more than twice its weight.
-    /// It fails only for want of memory.
+    /// It takes one step for each item. Each further rest of what it gave takes one step in all, as
+    /// long as it weighs half of that. A lighter one is copied, so that no rest holds in memory more
+    /// than twice what it weighs. It fails only for want of memory.
     pub fn rest(&self, alloc: Global) -> Result<Sequence, AllocError>
         ensures { IfOk result (λ made. made.items ≡ behind_first self.now.items) }
     {

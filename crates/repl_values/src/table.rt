@@ -36,7 +36,8 @@ impl Table {
         let _node = &self.node;
     }
 
-    /// The same pairs. It takes one step and no memory, and fails only where 2^63 owners share them.
+    /// The same pairs. It takes one step and no memory, and fails only where 2^63 owners share
+    /// them.
     pub fn copy(&self) -> Result<Table, AllocError>
         ensures { IfOk result (λ copied. copied ≡ self.now) }
     {

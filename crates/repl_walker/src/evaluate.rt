@@ -15,7 +15,7 @@ use crate::names::{Named, look_up, resolve};
 use crate::rows::{next_argument, next_item};
 use crate::special::evaluate_special;
 use repl_faults::{no_such_var, not_a_function, not_a_value, too_deep};
-use repl_values::{Sequence, Value, copy};
+use repl_values::{Sequence, Value};
 use special_forms::{Forms, SpecialForm};
 use std::alloc::{AllocError, Global};
 use std::sync::ArcStr;
@@ -97,14 +97,14 @@ fn evaluate_list(
     ensures calls { IfOk result (λ control. spent control + state.new.calls ≤ state.old.calls) }
     ensures meaning { IfOk result (λ control. tree control state.new ≡ from_state (list_at room (place_of state.old) (listed items.items)) state.old) }
 {
-    if items.is_empty() {
-        return Ok(Control::Return(Value::List(items)));
-    }
+    let mut forms = Forms::of_items(items);
+    let Some(head) = forms.take_first()? else {
+        let none = Sequence::from_vec(alloc, Vec::new(alloc))?;
+        return Ok(Control::Return(Value::List(none)));
+    };
     if room == 0 {
         return Ok(Control::Fault(too_deep(alloc)?));
     }
-    let head = copy(&items.as_slice()[0])?;
-    let forms = Forms::of_items(items).behind_first();
     match head {
         Value::Symbol(name) => evaluate_headed(alloc, state, name, forms, room - 1),
         Value::Keyword(name) => {

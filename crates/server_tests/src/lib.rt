@@ -10,4 +10,6 @@ mod function_programs;
 #[cfg(test)]
 mod programs;
 #[cfg(test)]
+mod sharing;
+#[cfg(test)]
 mod streams;

@@ -86,7 +86,7 @@ impl Forms {
     }
 
     /// The forms behind the first.
-    pub fn behind_first(self) -> Forms
+    pub(crate) fn behind_first(self) -> Forms
         ensures { forms_view result ≡ drop 1 (forms_view self) }
     {
         let Forms { source, start, end } = self;

@@ -1,4 +1,3 @@
-use Rattle.std.proofs.Common.{◌≡◌}
 use Rattle.repl_values.proofs.Tables.{indexes-more}
 use Rattle.repl_values.proofs.edits.index_of.Goals as goal
 

@@ -1,4 +1,4 @@
-use Rattle.std.proofs.Common.{◌≡◌, List, Option, Some, None, length, ap, sym, subst, ◌∙◌}
+use Rattle.std.proofs.Common.{◌≡◌, List, Some, None, length, ap, sym, subst, ◌∙◌}
 use Rattle.repl_values.specs.Datum.{Datum, Pairs}
 use Rattle.repl_values.specs.View.{view, pairs_view}
 use Rattle.repl_values.specs.Keyed.{first_place, with_value}

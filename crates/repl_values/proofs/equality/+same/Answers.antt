@@ -1,4 +1,4 @@
-use Rattle.std.proofs.Common.{◌≡◌, ℕ, List, ap, ◌∙◌, sym}
+use Rattle.std.proofs.Common.{ℕ, List, ap, ◌∙◌, sym}
 use Rattle.repl_values.specs.View.{view, pairs_view}
 use Rattle.repl_values.specs.Hash.{hash}
 use Rattle.repl_values.specs.Index.{places_under}
@@ -12,7 +12,7 @@ place_of-returns t c =
     let ps = pairs_view c.args.pairs.now in
     c.place_among.ensures
     ∙ ap (λ (ns : List ℕ). found_among ns ps d)
-      (c.places_at.ensures ∙ ap (λ (h : ℕ). places_under c.args.index.now h) c.hash_of.ensures ∙ c.requires (hash d))
+    (c.places_at.ensures ∙ ap (λ (h : ℕ). places_under c.args.index.now h) c.hash_of.ensures ∙ c.requires (hash d))
     ∙ found-first ps d
 
 pub stands_at-returns-in-Some : goal.stands_at-returns-in-Some

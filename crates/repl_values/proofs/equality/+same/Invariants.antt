@@ -1,7 +1,7 @@
 use Rattle.std.proofs.Common.{◌≡◌, ◌+◌, ◌*◌, drop}
 use Rattle.repl_values.specs.View.{view, items_view, pairs_view}
 use Rattle.repl_values.proofs.Size.{nodes, items_nodes, pairs_nodes}
-use Rattle.repl_values.specs.Same.{same, same_items}
+use Rattle.repl_values.specs.Same.{same_items}
 use Rattle.repl_values.specs.Keyed.{all_in, found_among}
 use Rattle.repl_values.proofs.equality.+same.Given as goal
 

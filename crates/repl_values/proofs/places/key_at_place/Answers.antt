@@ -1,6 +1,4 @@
-use Rattle.std.proofs.Common.{◌≡◌, sym, ap, ◌∙◌, Option, Some}
-use Rattle.repl_values.specs.View.{pairs_view}
-use Rattle.repl_values.specs.Keyed.{value_of}
+use Rattle.std.proofs.Common.{sym}
 use Rattle.repl_values.proofs.Tables.{key-found, key-past}
 use Rattle.repl_values.proofs.places.key_at_place.Goals as goal
 

@@ -1,6 +1,4 @@
-use Rattle.std.proofs.Common.{◌≡◌, sym, ap, ◌∙◌, Option, Some}
-use Rattle.repl_values.specs.View.{pairs_view}
-use Rattle.repl_values.specs.Keyed.{value_of}
+use Rattle.std.proofs.Common.{◌≡◌, sym, Some}
 use Rattle.repl_values.proofs.Tables.{value-found, value-past}
 use Rattle.repl_values.proofs.places.value_at_place.Goals as goal
 

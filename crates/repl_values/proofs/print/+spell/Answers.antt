@@ -9,12 +9,12 @@ pub spell_pairs-spell-requires-in-loop-key : goal.spell_pairs-spell-requires-in-
 spell_pairs-spell-requires-in-loop-key t c = (
     let inside = pair_nodes-in c.in-Some.rest.now c.loop-key.key-index c.loop-key-item.result c.loop-key-item.is c.loop-key-test.true in
     let whole : pairs_nodes (pairs_view c.args.pairs.now) ≡ pairs_nodes (pairs_view (c.in-Some.field-0-0.now ∷ c.in-Some.rest.now)) =
-        ap (λ (xs : List (Value × Value)). pairs_nodes (pairs_view xs)) c.in-Some.ensures.cases.0 in
+    ap (λ (xs : List (Value × Value)). pairs_nodes (pairs_view xs)) c.in-Some.ensures.cases.0 in
     (omega (arith, inside, whole, c.decreases), tt))
 
 pub spell_pairs-spell-requires-in-loop-key-2 : goal.spell_pairs-spell-requires-in-loop-key-2
 spell_pairs-spell-requires-in-loop-key-2 t c = (
     let inside = pair_nodes-in c.in-Some.rest.now c.loop-key.key-index c.loop-key-item.result c.loop-key-item.is c.loop-key-test.true in
     let whole : pairs_nodes (pairs_view c.args.pairs.now) ≡ pairs_nodes (pairs_view (c.in-Some.field-0-0.now ∷ c.in-Some.rest.now)) =
-        ap (λ (xs : List (Value × Value)). pairs_nodes (pairs_view xs)) c.in-Some.ensures.cases.0 in
+    ap (λ (xs : List (Value × Value)). pairs_nodes (pairs_view xs)) c.in-Some.ensures.cases.0 in
     (omega (arith, inside, whole, c.decreases), tt))

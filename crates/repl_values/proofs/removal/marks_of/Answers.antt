@@ -1,5 +1,5 @@
-use Rattle.std.proofs.Common.{◌≡◌, Bool, List, length, take, ap, ◌∙◌, sym, arith}
-use Rattle.repl_values.specs.View.{view, items_view, pairs_view}
+use Rattle.std.proofs.Common.{Bool, List, length, take, ap, ◌∙◌, arith}
+use Rattle.repl_values.specs.View.{view, items_view}
 use Rattle.repl_values.specs.Repeats.{is_one_of}
 use Rattle.repl_values.specs.declared.value.Value.{Value}
 use Rattle.repl_values.proofs.Removing.{marked, length-marked, marks-resized, place-marked, marks-step, take-past}

@@ -1,4 +1,4 @@
-use Rattle.std.proofs.Common.{◌≡◌, ap, sym, ◌∙◌, arith}
+use Rattle.std.proofs.Common.{ap, sym, ◌∙◌, arith}
 use Rattle.repl_values.specs.View.{view}
 use Rattle.repl_values.specs.Hash.{mixed, items_hash}
 use Rattle.repl_values.proofs.Growing.{items_weight-with_last, items_nesting-with_last, items_hash-with_last}

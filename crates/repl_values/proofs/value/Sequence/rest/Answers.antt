@@ -1,4 +1,4 @@
-use Rattle.std.proofs.Common.{◌≡◌, ◌+◌, drop, ap, ◌∙◌}
+use Rattle.std.proofs.Common.{◌+◌, drop, ap, ◌∙◌}
 use Rattle.std.specs.Arc.{arc_value}
 use Rattle.repl_values.specs.Held.{SequenceData}
 use Rattle.repl_values.specs.View.{items_view}

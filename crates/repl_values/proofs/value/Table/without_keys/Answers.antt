@@ -1,4 +1,4 @@
-use Rattle.std.proofs.Common.{◌≡◌, true, Bool, List, IfOk, map, ap, ◌∙◌, sym, subst}
+use Rattle.std.proofs.Common.{◌≡◌, Bool, List, IfOk, map, ap, ◌∙◌, subst}
 use Rattle.repl_values.specs.Datum.{Pairs}
 use Rattle.repl_values.specs.Held.{TableData}
 use Rattle.repl_values.specs.View.{pair_view, pairs_view, items_view}
@@ -15,8 +15,8 @@ indexed-requires c =
     left-distinct c.args.keys.now c.as_slice-pairs.result.now c.in_ok-left_over.field-0.items c.in_ok-marks.marks.items c.in_ok-marks.ensures
     (c.in_ok-left_over.ensures ∙ ap (λ (bs : List Bool). unmarked bs (map pair_view c.as_slice-pairs.result.now)) c.deref-3.ensures.value)
     (ap (λ (xs : List (Value × Value)). are_distinct (pairs_view xs)) c.as_slice-pairs.ensures.value
-      ∙ ap (λ (n : PairsNode). are_distinct (pairs_view n.pairs.items)) c.deref.ensures
-      ∙ c.self.invariant.distinct)
+    ∙ ap (λ (n : PairsNode). are_distinct (pairs_view n.pairs.items)) c.deref.ensures
+    ∙ c.self.invariant.distinct)
 
 pub returns : goal.returns
 returns c =
