@@ -1,5 +1,5 @@
 -- Arguments that are pairs.
-use Rattle.std.specs.Prelude.{ℕ, List, [], ◌∷◌, Option, Some, None, ok_or, Result, Ok, Err}
+use Rattle.std.specs.Prelude.{ℕ, List, [], ◌∷◌, Option, Some, None, ok_or, Result, Ok}
 use Rattle.repl_values.specs.Datum.{Datum, vector, no_items, item}
 use Rattle.repl_faults.specs.Failure.{Failure, ◌>>=◌, wrong_argument}
 

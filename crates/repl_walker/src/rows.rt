@@ -1,5 +1,5 @@
 // Forms in a row: arguments, items, bodies, `and`, `or` and bindings.
-ghost use Rattle.std.specs.Prelude.{◌≡◌, ◌+◌, ◌<◌, ◌≤◌, map, IfOk};
+ghost use Rattle.std.specs.Prelude.{◌≡◌, ◌+◌, ◌<◌, ◌≤◌, IfOk};
 ghost use Rattle.std.specs.Arc.{arc_str_bytes};
 ghost use Rattle.repl_values.specs.View.{view};
 ghost use Rattle.repl_walker.specs.Evaluation as meant;
