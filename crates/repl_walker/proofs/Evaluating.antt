@@ -10,7 +10,7 @@ use Rattle.repl_values.specs.View.{view}
 use Rattle.repl_values.specs.declared.value.Value as value
 use Rattle.repl_values.proofs.Lists.{lists}
 use Rattle.repl_values.proofs.Views.{value_views}
-use Rattle.repl_faults.specs.Failure.{output_too_long}
+use Rattle.repl_faults.specs.Failure.{Failure, output_too_long}
 use Rattle.core_texts.specs.Limits.{most_text}
 use Rattle.core_functions.specs.Outcome as outcomes
 use Rattle.core_functions.specs.Outcome.{Outcome, bounded}
@@ -121,3 +121,13 @@ outcome-bounded (outcomes.gives d text) next kept = by_test (nat_lt most_text (l
     by_test true e = sym (printed-long text d next kept (grind (arith, nat_tests, e)))
     by_test false e = refl
 outcome-bounded (outcomes.fails f) next kept = refl
+
+pub outcome-gives : (o : Outcome) (d : Datum) (text : List ℕ) (next : Datum → Kept → Tree) (kept : Kept) → bounded o ≡ outcomes.gives d text
+    → outcome o next kept ≡ printed text d next kept
+outcome-gives o d text next kept h = sym (outcome-bounded o next kept) ∙ ap (λ (p : Outcome). outcome p next kept) h
+
+pub outcome-fails : (o : Outcome) (f : Failure) (next : Datum → Kept → Tree) (kept : Kept) → bounded o ≡ outcomes.fails f
+    → outcome o next kept ≡ ends (Err f) kept
+outcome-fails o f next kept h = sym (outcome-bounded o next kept) ∙ ap (λ (p : Outcome). outcome p next kept) h
+
+pub ruleset bounds = (value_views, outcome-gives, outcome-fails)

@@ -48,7 +48,7 @@ pub(crate) fn call(
     }
 }
 
-#[tactic(auto, unfolding(crate::specs::Evaluation::core_call))]
+#[tactic(auto, using(crate::proofs::Evaluating::bounds), unfolding(crate::specs::Evaluation::core_call))]
 fn call_core(
     alloc: Global,
     state: &mut State,
