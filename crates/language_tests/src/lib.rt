@@ -19,4 +19,6 @@ mod pairs;
 #[cfg(test)]
 mod reading;
 #[cfg(test)]
+mod rests;
+#[cfg(test)]
 mod sequences;
