@@ -26,8 +26,9 @@ impl Table {
     /// The pairs with more put in, one after another: a key there keeps its place and takes the
     /// later value. It fails only for want of memory.
     ///
-    /// It takes n log n steps for n more, unless hashes collide; and one for each pair where
-    /// somebody else holds the pairs too, which are copied then, or where a value was replaced.
+    /// It takes n log n steps for n more, unless hashes collide. Where somebody else holds the
+    /// pairs, they are copied first and their places are found anew; where a value was replaced,
+    /// all are measured anew.
     pub fn with_pairs(self, alloc: Global, more: &[(&Value, &Value)]) -> Result<Table, AllocError>
         ensures { IfOk result (λ made. made.pairs ≡ put_pairs self.pairs (map entry_view more.now)) }
     {
