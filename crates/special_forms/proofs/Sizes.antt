@@ -1,6 +1,6 @@
 -- A form is at least one node, and a list, a vector or a map more than what is in it. The parts of a special form are
 -- no larger than the forms behind its name.
-use Rattle.std.proofs.Common.{◌≡◌, ℕ, ◌+◌, ◌*◌, ◌≤◌, List, [], ◌∷◌, Option, Some, None, option_map, subst, sym, arith}
+use Rattle.std.proofs.Common.{◌≡◌, ℕ, ◌+◌, ◌*◌, ◌≤◌, List, [], ◌∷◌, Option, Some, None, option_map, Result, Ok, Err, IfOk, subst, sym, arith}
 use Rattle.std.specs.Option.{option_and_then}
 use Rattle.std.specs.Prelude.{IfSome}
 use Rattle.std.proofs.lemmas.List.Sums.{sum_by-cons}
@@ -174,3 +174,8 @@ pub seen-sized : (o : Option Shape) (special : SpecialForm) (ds : List Datum) �
     → IfSome o (λ s. shape_size (shape_view s) ≤ forms_size ds)
 seen-sized None special ds h = tt
 seen-sized (Some s) special ds h = subst (λ (o : Option ShapeData). Sized o ds) (sym h) (shape-sized special ds)
+
+pub if_ok-sized : {E : Type 0} (special : SpecialForm) (ds : List Datum) (r : Result (Option Shape) E) → IfOk r (λ o. option_map shape_view o ≡ shape_of special ds)
+    → IfOk r (λ o. IfSome o (λ s. shape_size (shape_view s) ≤ forms_size ds))
+if_ok-sized special ds (Ok o) h = seen-sized o special ds h
+if_ok-sized special ds (Err e) h = tt
