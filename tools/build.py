@@ -102,7 +102,8 @@ def side_by_side(crates, built):
                 idle = jobs_at_once() - sum(jobs for _, jobs in running.values())
                 if idle <= 0:
                     break
-                jobs = max(1, min(4, idle // (len(ready) - place)))
+                # the first has the longest chain behind it, and gets all that the others leave
+                jobs = max(1, min(4, idle - (len(ready) - place - 1)))
                 left.remove(crate)
                 running[pool.submit(build, crate, jobs)] = crate, jobs
             for done in wait(running, return_when=FIRST_COMPLETED).done:

@@ -62,6 +62,12 @@ def covered():
     return [it for it in workspace.crates() if it.edits() and stands(it)]
 
 
+def uncovered():
+    """The crates that have edits of which the record says nothing."""
+    names = {it.name for it in covered()}
+    return [it for it in workspace.crates() if it.edits() and it.name not in names]
+
+
 def run_gate(left_out):
     """Runs `rt ci` over a copy of the tree without the edits of these crates, and returns its status."""
     began = time.monotonic()
@@ -94,8 +100,7 @@ def try_edits(names):
     if lost:
         print(f"edits: no such crate: {' '.join(lost)}", file=sys.stderr)
         return 2
-    kept = covered()
-    asked = [known[it] for it in names] or [it for it in known.values() if it not in kept]
+    asked = [known[it] for it in names] or uncovered()
     asked = [it for it in asked if it.edits()]
     below = {it.name: it for crate in asked for it in crate.below()}
     if below and build.main([*below]):

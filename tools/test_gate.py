@@ -42,6 +42,7 @@ class Record(unittest.TestCase):
     def test_change_uncovers_the_crates_above(self):
         self.write("crates/middle/src/lib.rt", "// changed\n")
         self.assert_covered("low", "other")
+        self.assertEqual([it.name for it in gate.uncovered()], ["middle", "high"])
 
     def test_proofs_specifications_and_ground_count(self):
         self.write("crates/low/proofs/Lib.antt", "")
