@@ -1,5 +1,5 @@
-// Outside examples, hostile streams, and that each call succeeds with ample memory. What is refused for want of memory is
-// asked for once more, so that with any one allocation refused the answers are the same.
+// Outside examples, hostile streams, and that each call succeeds with ample memory. What is
+// refused for want of memory is asked for once more: any one refusal changes no answer.
 use bencode_wire::{Ben, Decoder, WireFault, write_into};
 use bytes::Bytes;
 use std::alloc::{AllocError, Global};

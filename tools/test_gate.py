@@ -1,0 +1,82 @@
+"""What the record covers, on a small tree: started by .ci/run before the gate."""
+
+import os
+import tempfile
+import unittest
+
+import gate
+import workspace
+
+
+class Record(unittest.TestCase):
+    def setUp(self):
+        room = tempfile.TemporaryDirectory()
+        self.addCleanup(room.cleanup)
+        self.addCleanup(setattr, workspace, "TOP", workspace.TOP)
+        workspace.TOP = room.name
+        self.write("crates.txt", "low: itoa\nmiddle: low\nhigh: middle # the program\nother:\n")
+        self.write("HANDLES", "Handles allowed: none.\n")
+        for name in ("low", "middle", "high", "other"):
+            self.write(f"crates/{name}/src/lib.rt", f"// {name}\n")
+            self.write(f"crates/{name}/must-fail/turned.edit", "old: a\nnew: b\n")
+        os.mkdir(f"{room.name}/tools")
+        gate.note(workspace.crates(), workspace.fingerprints())
+
+    def write(self, path, text):
+        path = f"{workspace.TOP}/{path}"
+        os.makedirs(os.path.dirname(path), exist_ok=True)
+        with open(path, "w", encoding="utf-8") as file:
+            file.write(text)
+
+    def turn_record(self, old, new):
+        text = workspace.content(gate.record()).decode()
+        self.assertIn(old, text)
+        self.write("tools/refused_edits.txt", text.replace(old, new))
+
+    def assert_covered(self, *names):
+        self.assertEqual({it.name for it in gate.covered()}, {*names})
+
+    def test_unchanged_tree_is_covered(self):
+        self.assert_covered("low", "middle", "high", "other")
+
+    def test_change_uncovers_the_crates_above(self):
+        self.write("crates/middle/src/lib.rt", "// changed\n")
+        self.assert_covered("low", "other")
+        self.assertEqual([it.name for it in gate.uncovered()], ["middle", "high"])
+
+    def test_proofs_specifications_and_ground_count(self):
+        self.write("crates/low/proofs/Lib.antt", "")
+        self.assert_covered("other")
+        self.write("HANDLES", "Handles allowed: Net.\n")
+        self.assert_covered()
+
+    def test_altered_edit_uncovers(self):
+        self.write("crates/other/must-fail/turned.edit", "old: a\nnew: a\n")
+        self.assert_covered("low", "middle", "high")
+
+    def test_added_edit_uncovers(self):
+        self.write("crates/other/must-fail/more.edit", "old: a\nnew: b\n")
+        self.assert_covered("low", "middle", "high")
+
+    def test_line_of_crates_counts(self):
+        self.write("crates.txt", "low: itoa bytes\nmiddle: low\nhigh: middle\nother:\n")
+        self.assert_covered("other")
+
+    def test_wrong_number_covers_nothing(self):
+        number = workspace.fingerprints()["other"]
+        self.turn_record(f"other {number} 1", f"other {number} 2")
+        self.assert_covered("low", "middle", "high")
+
+    def test_wrong_fingerprint_covers_nothing(self):
+        number = workspace.fingerprints()["other"]
+        self.turn_record(f"other {number}", f"other {'0' * len(number)}")
+        self.assert_covered("low", "middle", "high")
+
+    def test_crate_with_two_lines_has_none(self):
+        number = workspace.fingerprints()["other"]
+        self.turn_record(f"other {number} 1", f"other {number} 1\nother {number} 1")
+        self.assert_covered("low", "middle", "high")
+
+
+if __name__ == "__main__":
+    unittest.main()

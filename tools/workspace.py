@@ -1,0 +1,78 @@
+"""The crates of this repository, as the scripts beside this file see them."""
+
+import functools
+import hashlib
+import os
+import re
+import subprocess
+
+TOP = os.path.dirname(os.path.dirname(os.path.abspath(__file__)))
+SOURCES = ("src", "specs", "proofs")
+
+
+class Crate:
+    """A line of crates.txt: a name, and the crates of the repository that it stands on."""
+
+    def __init__(self, name, line):
+        self.name, self.line, self.uses = name, line, []
+        self.folder = f"{TOP}/crates/{name}"
+
+    def below(self):
+        """The crates that this one stands on, each behind those that it stands on itself."""
+        found = []
+        for crate in self.uses:
+            found += [it for it in [*crate.below(), crate] if it not in found]
+        return found
+
+    def files(self, *parts):
+        """The paths of the files in these folders of the crate, in a fixed order."""
+        found = []
+        for part in parts:
+            for at, folders, names in os.walk(f"{self.folder}/{part}"):
+                folders.sort()
+                found += [f"{at}/{name}" for name in sorted(names)]
+        return found
+
+    def edits(self):
+        return [it for it in self.files("must-fail") if it.endswith(".edit")]
+
+    def lines(self, *parts):
+        return sum(content(it).count(b"\n") for it in self.files(*(parts or SOURCES)))
+
+
+def content(path):
+    with open(path, "rb") as file:
+        return file.read()
+
+
+def crates():
+    """All crates, lowest first."""
+    listed = {}
+    for line in content(f"{TOP}/crates.txt").decode().splitlines():
+        line = line.split("#")[0].strip()
+        if line:
+            name = re.match(r"\w+", line)[0]
+            listed[name] = Crate(name, line)
+    for crate in listed.values():
+        names = crate.line.partition(":")[2].split()
+        crate.uses = [listed[it] for it in names if it in listed]
+    return sorted(listed.values(), key=lambda it: len(it.below()))
+
+
+@functools.lru_cache(maxsize=None)
+def kit():
+    """The kit's identity, in one line."""
+    return subprocess.check_output(["rt", "version"])
+
+
+def fingerprints():
+    """For each crate's name a sum over all that its must-fail edits depend on: its sources, its
+    edits, its line of crates.txt, HANDLES, the kit, and the same of each crate below it."""
+    ground = content(f"{TOP}/HANDLES") + kit()
+    found = {}
+    for crate in crates():
+        parts = [ground, crate.line, *[found[it.name] for it in crate.below()]]
+        for path in crate.files(*SOURCES, "must-fail"):
+            parts.append((os.path.relpath(path, crate.folder), content(path)))
+        found[crate.name] = hashlib.sha256(repr(parts).encode()).hexdigest()
+    return found
