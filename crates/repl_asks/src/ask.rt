@@ -3,7 +3,8 @@ ghost use Rattle.std.specs.Prelude.{◌≡◌, IfOk};
 ghost use Rattle.repl_asks.specs.View.{ask_view, answer_view, binding_view, exchange_view, trace_view};
 
 use core_functions::CoreFunction;
-use repl_values::{Fault, Function, Value, copy, copy_text};
+use repl_values::{Fault, Value, copy, copy_text};
+use special_forms::Function;
 use std::alloc::{AllocError, Global};
 use std::sync::ArcStr;
 

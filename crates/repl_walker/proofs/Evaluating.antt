@@ -4,7 +4,8 @@ use Rattle.std.proofs.Common.{◌≡◌, ℕ, ◌<◌, Bool, true, false, if◌t
 use Rattle.std.proofs.lemmas.List.{map-append}
 use Rattle.std.proofs.lemmas.Bool.Decides.{nat_tests}
 use Rattle.std.proofs.lemmas.Grind.{common_steps}
-use Rattle.repl_values.specs.Datum.{Datum, FunctionData, Items, no_items, item, Pairs, list, vector, map}
+use Rattle.special_forms.specs.Functions.{FunctionData}
+use Rattle.repl_values.specs.Datum.{Datum, Items, no_items, item, Pairs, list, vector, map}
 use Rattle.repl_values.specs.Listed.{listed}
 use Rattle.repl_values.specs.View.{view}
 use Rattle.repl_values.specs.declared.value.Value as value

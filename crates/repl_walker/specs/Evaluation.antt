@@ -4,7 +4,7 @@
 use Rattle.std.specs.Prelude.{ℕ, zero, suc, ◌+◌, List, [], ◌∷◌, ◌++◌, Option, Some, None, Ok, Err, if◌then◌else◌, ◌==◌, ◌||◌, nat_lt, length, take, drop, zip, codes}
 use Rattle.std.specs.Str.{bytes_eq}
 use Rattle.std.specs.List.{position}
-use Rattle.repl_values.specs.Datum.{Datum, nil, keyword, symbol, list, vector, map, fault, no_items, item, FunctionData}
+use Rattle.repl_values.specs.Datum.{Datum, nil, keyword, symbol, list, vector, map, fault, no_items, item}
 use Rattle.std.specs.Option.{option_and_then}
 use Rattle.repl_values.specs.Listed.{listed}
 use Rattle.repl_values.specs.View.{items_of, pairs_of}
@@ -21,6 +21,7 @@ use Rattle.core_functions.specs.Meaning.{meaning}
 use Rattle.core_functions.specs.declared.function.CoreFunction.{CoreFunction}
 use Rattle.repl_asks.specs.Exchange as exchange
 use Rattle.repl_asks.specs.Exchange.{AnswerData, BindingData, bound_value, bound_function}
+use Rattle.special_forms.specs.Functions.{FunctionData}
 use Rattle.special_forms.specs.Rows.{BoundForm, in_a_row}
 use Rattle.special_forms.specs.Truth.{is_true, decides, before}
 use Rattle.repl_walker.specs.Tree.{Kept, Tree, ends, asks, Part, ◌>>=◌, done, fails, asked}
@@ -168,7 +169,7 @@ abbrev pub inside : FunctionData → List Datum → PlaceData
 inside f args = record { locals = bound_to [] f.params args; home = Some f.space }
 
 abbrev pub body_value : Walk → FunctionData → List Datum → Part Datum
-body_value walk f args = last_of (walk (inside f args)) nil (listed f.body)
+body_value walk f args = last_of (walk (inside f args)) nil f.body
 
 unfoldable pub program_call : Walk → FunctionData → List Datum → Part Datum
 program_call walk f args =
@@ -210,7 +211,7 @@ defined p s binding next kept = asks (exchange.define (space_of p kept) s bindin
 
 abbrev pub function_defined : PlaceData → List ℕ → List (List ℕ) → List Datum → Part Datum
 function_defined p s params forms next kept =
-    defined p s (bound_function (record { space = space_of p kept; name = s; params = params; body = items_of forms })) next kept
+    defined p s (bound_function (record { space = space_of p kept; name = s; params = params; body = forms })) next kept
 
 -- a fault is thrown as it is, any other value by its text
 unfoldable pub thrown_failure : List ℕ → Failure

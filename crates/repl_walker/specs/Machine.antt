@@ -2,7 +2,8 @@
 use Rattle.std.specs.Prelude.{ℕ, zero, suc, List, [], ◌∷◌, ◌++◌, option_map, Ok, Err, if◌then◌else◌, map as each, string_bytes}
 use Rattle.std.specs.Arc.{arc_str_bytes}
 use Rattle.repl_values.specs.Datum.{Datum, nil, list, no_items}
-use Rattle.repl_values.specs.View.{view, function_view}
+use Rattle.repl_values.specs.View.{view}
+use Rattle.special_forms.specs.Functions.{function_view}
 use Rattle.repl_faults.specs.Failure as failures
 use Rattle.repl_faults.specs.View.{failure_of}
 use Rattle.repl_asks.specs.Exchange.{AnswerData, bound_value}

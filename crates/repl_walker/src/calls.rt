@@ -3,7 +3,8 @@
 ghost use Rattle.std.specs.Prelude.{◌≡◌, ◌+◌, ◌<◌, ◌≤◌, [], map, IfOk};
 ghost use Rattle.std.specs.Arc.{arc_str_bytes};
 ghost use Rattle.repl_walker.specs.Evaluation as meant;
-ghost use Rattle.repl_values.specs.View.{view, function_view};
+ghost use Rattle.repl_values.specs.View.{view};
+ghost use Rattle.special_forms.specs.Functions.{function_view};
 ghost use Rattle.repl_walker.specs.Machine.{local_view, callee_view, place_of, from_state, tree};
 ghost use Rattle.repl_walker.specs.declared.frames.State.{State};
 ghost use Rattle.special_forms.specs.Seen.{views};
@@ -14,8 +15,8 @@ use crate::rows::next_in_body;
 use core_functions::{Applied, CoreFunction, apply};
 use core_maps::MapFunction;
 use repl_faults::{ApplyError, output_too_long, too_many_calls, wrong_arity};
-use repl_values::{Function, Value, copy_text};
-use special_forms::Forms;
+use repl_values::{Value, copy_text};
+use special_forms::Function;
 use std::alloc::{AllocError, Global};
 use std::collections::VecDeque;
 use std::mem;
@@ -165,7 +166,7 @@ pub(crate) fn enter(
     let home = Some(space);
     let place = mem::replace(&mut state.place, Place { locals, home });
     state.frames.push_front(Frame::Leave { place })?;
-    next_in_body(state, Value::Nil, Forms::of_items(body), room)
+    next_in_body(state, Value::Nil, body, room)
 }
 
 // Each parameter with its argument, the last in front.

@@ -1,8 +1,8 @@
 // What an evaluation has still to do, from the inside out.
 use core_functions::CoreFunction;
 use repl_asks::Ask;
-use repl_values::{Fault, Function, Value};
-use special_forms::{Forms, Logic};
+use repl_values::{Fault, Value};
+use special_forms::{Forms, Function, Logic};
 use std::collections::VecDeque;
 use std::sync::ArcStr;
 

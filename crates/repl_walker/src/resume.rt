@@ -14,7 +14,8 @@ use crate::frames::{Control, Place, State, Wanted};
 use crate::give::give;
 use repl_asks::{Answer, Ask};
 use repl_jobs::{End, Finished, Job};
-use repl_values::{Function, Value, copy, copy_text};
+use repl_values::{Value, copy, copy_text};
+use special_forms::Function;
 use std::alloc::{AllocError, Global};
 use std::collections::VecDeque;
 

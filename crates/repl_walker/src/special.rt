@@ -14,8 +14,8 @@ use crate::names::space;
 use crate::rows::{next_binding, next_in_body, next_in_logic};
 use repl_asks::{Ask, Binding};
 use repl_faults::bad_form;
-use repl_values::{Function, Value, copy_text};
-use special_forms::{Forms, Shape, SpecialForm, shape_of};
+use repl_values::{Value, copy_text};
+use special_forms::{Forms, Function, Shape, SpecialForm, shape_of};
 use std::alloc::{AllocError, Global};
 use std::sync::{Arc, ArcStr};
 
@@ -90,7 +90,7 @@ fn define_function(
         space: space(state)?,
         name: copy_text(&name)?,
         params: Arc::new(alloc, params)?,
-        body: body.into_items(alloc)?,
+        body,
     };
     define(state, name, Binding::Function(function))
 }

@@ -4,7 +4,7 @@
 ghost use Rattle.std.specs.Prelude.{◌≡◌, ◌==◌, nat_le, [], ◌∷◌, drop, take, option_map, slice_get, length, IfOk, MatchOption};
 ghost use Rattle.std.specs.Arc.{arc_str_bytes};
 ghost use Rattle.repl_values.specs.Listed.{listed};
-ghost use Rattle.repl_values.specs.View.{view, items_of};
+ghost use Rattle.repl_values.specs.View.{view};
 ghost use Rattle.special_forms.specs.Rows.{in_a_row, first_of, name_in, bindings_in};
 ghost use Rattle.special_forms.specs.Seen.{source_view, forms_view, binding_view};
 
@@ -13,7 +13,7 @@ use std::alloc::{AllocError, Global};
 use std::sync::ArcStr;
 
 // What holds the forms: the items of a list or a vector, or the keys and values of a map, by turns.
-#[derive(Drop)]
+#[derive(Debug, Drop)]
 pub(crate) enum Source {
     Items(Sequence),
     Pairs(Table),
@@ -21,7 +21,7 @@ pub(crate) enum Source {
 
 /// Forms in a row, from one place to another of what holds them. That is shared: the forms are looked
 /// at one after another where they stand.
-#[derive(Drop)]
+#[derive(Debug, Drop)]
 pub struct Forms {
     source: Source,
     start: usize,
@@ -150,16 +150,16 @@ impl Forms {
         })
     }
 
-    /// The forms as items of their own: one step for each. It fails only for want of memory.
-    pub fn into_items(self, alloc: Global) -> Result<Sequence, AllocError>
-        ensures { IfOk result (λ made. made.items ≡ items_of (forms_view self)) }
+    /// The same forms once more. It takes one step and no memory, and fails only where 2^63 owners
+    /// share them.
+    pub fn copy(&self) -> Result<Forms, AllocError>
+        ensures { IfOk result (λ copied. forms_view copied ≡ forms_view self.now) }
     {
-        let mut forms = self;
-        let mut items = Vec::new(alloc);
-        while let Some(form) = forms.take_first()? {
-            items.push(form)?;
-        }
-        Sequence::from_vec(alloc, items)
+        Ok(Forms {
+            source: shared(&self.source)?,
+            start: self.start,
+            end: self.end,
+        })
     }
 }
 
