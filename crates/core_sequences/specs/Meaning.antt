@@ -18,11 +18,15 @@ first d = items_in (name_of SequenceFunction.First) d >>= λ ds. Ok (item_or_nil
 unfoldable pub last : Datum → Result Datum Failure
 last d = items_in (name_of SequenceFunction.Last) d >>= λ ds. Ok (item_or_nil (length ds - 1) ds)
 
+-- the items behind the first
+abbrev pub behind_first : List ℕ → Datum → Result (List Datum) Failure
+behind_first function d = items_in function d >>= λ ds. Ok (drop 1 ds)
+
 unfoldable pub rest : Datum → Result Datum Failure
-rest d = items_in (name_of SequenceFunction.Rest) d >>= λ ds. Ok (list_of (drop 1 ds))
+rest d = behind_first (name_of SequenceFunction.Rest) d >>= λ ds. Ok (list_of ds)
 
 unfoldable pub next : Datum → Result Datum Failure
-next d = items_in (name_of SequenceFunction.Next) d >>= λ ds. Ok (list_or_nil (drop 1 ds))
+next d = behind_first (name_of SequenceFunction.Next) d >>= λ ds. Ok (list_or_nil ds)
 
 unfoldable pub reversed : Datum → Result Datum Failure
 reversed d = items_in (name_of SequenceFunction.Reverse) d >>= λ ds. Ok (list_of (reverse ds))

@@ -2,11 +2,9 @@
 // row turned round.
 #![tactic(auto, using(crate::proofs::Values::seen))]
 
-ghost use Rattle.std.specs.Prelude.{Ok, drop};
-ghost use Rattle.repl_values.specs.View.{view, items_of};
-ghost use Rattle.repl_faults.specs.Failure.{◌>>=◌};
+ghost use Rattle.repl_values.specs.Listed.{listed};
+ghost use Rattle.repl_values.specs.View.{view};
 ghost use Rattle.repl_faults.specs.View.{Gives};
-ghost use Rattle.core_items.specs.Items.{items_in};
 ghost use Rattle.core_sequences.specs.Meaning as meant;
 
 use crate::function::SequenceFunction;
@@ -52,7 +50,7 @@ pub(crate) fn next(alloc: Global, argument: &Value) -> Result<Value, ApplyError>
 
 // The items behind the first. Those of a list or a vector are shared, where that holds little more.
 fn behind_first(alloc: Global, function: &str, argument: &Value) -> Result<Sequence, ApplyError>
-    ensures { Gives (λ made. made.items) result (items_in function.now (view argument.now) >>= λ ds. Ok (items_of (drop 1 ds))) }
+    ensures { Gives (λ made. listed made.items) result (meant.behind_first function.now (view argument.now)) }
 {
     match argument {
         Value::List(items) => Ok(items.rest(alloc)?),

@@ -5,7 +5,7 @@ ghost use Rattle.std.specs.Prelude.{◌≡◌, ◌++◌, map, option_map, revers
 ghost use Rattle.repl_values.specs.Datum.{vector};
 ghost use Rattle.repl_values.specs.Listed.{listed};
 ghost use Rattle.repl_values.specs.Seen.{entry_view};
-ghost use Rattle.repl_values.specs.View.{view, items_view, items_of};
+ghost use Rattle.repl_values.specs.View.{view, items_view};
 ghost use Rattle.repl_faults.specs.View.{Gives};
 ghost use Rattle.core_sequences.specs.Pairs.{as_pair, pair_in, pairs_in};
 ghost use Rattle.core_sequences.specs.Meaning as meant;
@@ -58,7 +58,7 @@ pub(crate) fn conj(alloc: Global, collection: &Value, more: &[Value]) -> Result<
 // The items with more behind them, one after another. The first that is put in copies them, since
 // the collection holds them too; the others stand in their place.
 fn with_all(alloc: Global, items: Sequence, more: &[Value]) -> Result<Sequence, AllocError>
-    ensures { IfOk result (λ all. all.items ≡ items_of (listed items.items ++ map view more.now)) }
+    ensures { IfOk result (λ all. listed all.items ≡ listed items.items ++ map view more.now) }
 {
     let mut items = items;
     for value in more {

@@ -9,7 +9,7 @@ ghost use Rattle.core_texts.specs.Names.{fits};
 ghost use Rattle.core_texts.specs.Meaning as meant;
 
 use crate::function::TextFunction;
-use crate::printing::{MOST_TEXT, Spelling, spaced};
+use crate::printing::{MOST_TEXT, Spelling, if_short, spaced};
 use repl_faults::{ApplyError, too_large, wrong_argument};
 use repl_values::{Value, copy_text, print_into};
 use std::alloc::{AllocError, Global};
@@ -32,24 +32,31 @@ pub fn apply_texts(
     match function {
         TextFunction::Str => value_of_text(alloc, all_shown(alloc, args)?),
         TextFunction::PrStr => value_of_text(alloc, spaced(alloc, Spelling::Print, args)?),
-        TextFunction::Name => {
-            let name = name_in(alloc, &args[0])?;
-            string(alloc, name)
-        }
+        TextFunction::Name => name_of(alloc, &args[0]),
     }
 }
 
+#[tactic(auto, using(crate::proofs::Shortness::short_steps), unfolding(crate::specs::Meaning::name_of))]
+fn name_of(alloc: Global, value: &Value) -> Result<Value, ApplyError>
+    ensures { Gives view result (within_weight (meant.name_of (view value.now))) }
+{
+    let name = name_in(alloc, value)?;
+    string_of(alloc, name)
+}
+
 // The text, where it was short enough to be put together.
+#[tactic(auto, using(crate::proofs::Shortness::short_steps))]
 fn value_of_text(alloc: Global, text: Option<String>) -> Result<Value, ApplyError>
     ensures { Gives view result (light (option_map string_bytes text)) }
 {
     match text {
-        Some(text) => string(alloc, ArcStr::from_string(text)?),
+        Some(text) => string_of(alloc, ArcStr::from_string(text)?),
         None => Err(ApplyError::Fault(too_large(alloc)?)),
     }
 }
 
-fn string(alloc: Global, text: ArcStr) -> Result<Value, ApplyError>
+#[tactic(auto, using(crate::proofs::Shortness::short_steps))]
+fn string_of(alloc: Global, text: ArcStr) -> Result<Value, ApplyError>
     ensures { Gives view result (within_weight (Ok (string (arc_str_bytes text)))) }
 {
     if text.len() < MOST_WEIGHT {
@@ -58,17 +65,18 @@ fn string(alloc: Global, text: ArcStr) -> Result<Value, ApplyError>
     Err(ApplyError::Fault(too_large(alloc)?))
 }
 
+#[tactic(auto, using(crate::proofs::Shortness::short_steps))]
 fn all_shown(alloc: Global, values: &[Value]) -> Result<Option<String>, AllocError>
     ensures { IfOk result (λ text. option_map string_bytes text ≡ if_short (flat_map meant.shown (map view values.now))) }
 {
     let mut text = String::new(alloc);
     for value in values {
-        show_into(alloc, value, &mut text)?;
         if text.len() > MOST_TEXT {
             return Ok(None);
         }
+        show_into(alloc, value, &mut text)?;
     }
-    Ok(Some(text))
+    Ok(if_short(text))
 }
 
 /// Appends nothing for nil, the characters of a string, and the print of all else. It fails only for

@@ -49,7 +49,7 @@ fn line(alloc: Global, spelling: Spelling, values: &[Value]) -> Result<Option<St
     Ok(if_short(text))
 }
 
-fn if_short(text: String) -> Option<String>
+pub(crate) fn if_short(text: String) -> Option<String>
     ensures { option_map string_bytes result ≡ if_short (string_bytes text) }
 {
     if text.len() > MOST_TEXT {

@@ -6,7 +6,7 @@ use std::alloc::{AllocError, Global};
 use std::test::Fail;
 
 // What is written for a request with this code.
-fn replies_to(alloc: Global, code: &str) -> Result<Vec<u8>, AllocError> {
+pub(crate) fn replies_to(alloc: Global, code: &str) -> Result<Vec<u8>, AllocError> {
     let length = code.len();
     let request = format!(in alloc; "d4:code{length}:{code}2:op4:evale")?;
     let mut reader = request.as_bytes();
@@ -16,7 +16,7 @@ fn replies_to(alloc: Global, code: &str) -> Result<Vec<u8>, AllocError> {
     Ok(output)
 }
 
-fn push_times(text: &mut String, part: &str, times: usize) -> Result<(), AllocError> {
+pub(crate) fn push_times(text: &mut String, part: &str, times: usize) -> Result<(), AllocError> {
     for _ in 0..times {
         text.push_str(part)?;
     }

@@ -89,8 +89,11 @@ impl Forms {
     pub(crate) fn behind_first(self) -> Forms
         ensures { forms_view result ≡ drop 1 (forms_view self) }
     {
+        if self.start >= self.end {
+            return self;
+        }
         let Forms { source, start, end } = self;
-        let start = start.saturating_add(1).min(end);
+        let start = start + 1;
         Forms { source, start, end }
     }
 
@@ -131,11 +134,10 @@ impl Forms {
         ensures first { IfOk result (λ parts. forms_view parts.0 ≡ take 1 (forms_view self)) }
         ensures behind { IfOk result (λ parts. forms_view parts.1 ≡ drop 1 (forms_view self)) }
     {
-        let first = Forms {
-            source: shared(&self.source)?,
-            start: self.start,
-            end: self.start.saturating_add(1).min(self.end),
-        };
+        let mut first = self.copy()?;
+        if first.start < first.end {
+            first.end = first.start + 1;
+        }
         Ok((first, self.behind_first()))
     }
 
@@ -168,15 +170,26 @@ fn at(source: &Source, place: usize) -> Option<&Value>
     ensures { option_map (λ v. view v.now) result ≡ slice_get (source_view source.now) place }
 {
     match source {
-        Source::Items(items) => items.as_slice().get(place),
-        Source::Pairs(pairs) => {
-            let (key, value) = pairs.as_slice().get(place / 2)?;
-            if place % 2 == 0 {
-                Some(key)
-            } else {
-                Some(value)
-            }
-        }
+        Source::Items(items) => item_at(items, place),
+        Source::Pairs(pairs) => part_at(pairs, place),
+    }
+}
+
+fn item_at(items: &Sequence, place: usize) -> Option<&Value>
+    ensures { option_map (λ v. view v.now) result ≡ slice_get (listed items.now.items) place }
+{
+    items.as_slice().get(place)
+}
+
+// Keys and values stand by turns.
+fn part_at(pairs: &Table, place: usize) -> Option<&Value>
+    ensures { option_map (λ v. view v.now) result ≡ slice_get (in_a_row pairs.now.pairs) place }
+{
+    let (key, value) = pairs.as_slice().get(place / 2)?;
+    if place % 2 == 0 {
+        Some(key)
+    } else {
+        Some(value)
     }
 }
 

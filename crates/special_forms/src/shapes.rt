@@ -2,6 +2,7 @@
 // in it is evaluated.
 ghost use Rattle.std.specs.Prelude.{◌≡◌, ◌≤◌, Some, None, if◌then◌else◌, IfOk, IfSome, option_map, map};
 ghost use Rattle.std.specs.Arc.{arc_str_bytes};
+ghost use Rattle.repl_values.specs.Listed.{listed};
 ghost use Rattle.repl_values.specs.View.{view};
 ghost use Rattle.special_forms.specs.Rows.{bindings_in};
 ghost use Rattle.special_forms.specs.Shapes as meant;
@@ -9,7 +10,7 @@ ghost use Rattle.special_forms.specs.Seen.{views, forms_view, shape_view};
 ghost use Rattle.special_forms.specs.Size.{forms_size, shape_size};
 
 use crate::forms::Forms;
-use repl_values::{Value, copy_text, first_repeated};
+use repl_values::{Sequence, Value, copy_text, first_repeated};
 use std::alloc::{AllocError, Global};
 use std::sync::ArcStr;
 
@@ -201,10 +202,13 @@ fn when(mut forms: Forms) -> Result<Option<Shape>, AllocError>
 fn binding_form(mut forms: Forms) -> Result<Option<Shape>, AllocError>
     ensures { IfOk result (λ shape. option_map shape_view shape ≡ meant.let_shape (forms_view forms)) }
 {
-    let Some(Value::Vector(items)) = forms.take_first()? else {
+    let Some(form) = forms.take_first()? else {
         return Ok(None);
     };
-    if !are_bindings(items.as_slice()) {
+    let Some(items) = vector_items(form) else {
+        return Ok(None);
+    };
+    if !are_bindings(&items) {
         return Ok(None);
     }
     Ok(Some(Shape::Let {
@@ -213,18 +217,35 @@ fn binding_form(mut forms: Forms) -> Result<Option<Shape>, AllocError>
     }))
 }
 
+// The items of a vector.
+#[tactic(auto, using(crate::proofs::Shaping::seen), unfolding(crate::specs::Shapes::in_vector))]
+fn vector_items(form: Value) -> Option<Sequence>
+    ensures { option_map (λ items. listed items.items) result ≡ meant.in_vector (view form) }
+{
+    match form {
+        Value::Vector(items) => Some(items),
+        _other => None,
+    }
+}
+
 // Whether these are names and forms by turns.
-fn are_bindings(items: &[Value]) -> bool
+fn are_bindings(items: &Sequence) -> bool
+    ensures { meant.bound_forms (listed items.now.items) ≡ (if result then Some (bindings_in (listed items.now.items)) else None) }
+{
+    by_turns(items.as_slice())
+}
+
+fn by_turns(items: &[Value]) -> bool
     ensures { meant.bound_forms (views items.now) ≡ (if result then Some (bindings_in (views items.now)) else None) }
 {
-    let mut left = items;
-    while left.len() >= 2 {
-        if simple_symbol(&left[0]).is_none() {
+    let mut place = 0;
+    while items.len() - place >= 2 {
+        if simple_symbol(&items[place]).is_none() {
             return false;
         }
-        left = &left[2..];
+        place += 2;
     }
-    left.is_empty()
+    place == items.len()
 }
 
 // `(def name form)`.
@@ -265,10 +286,13 @@ fn function_behind(
 ) -> Result<Option<Shape>, AllocError>
     ensures { IfOk result (λ shape. option_map shape_view shape ≡ meant.function_shape (arc_str_bytes name) (forms_view forms)) }
 {
-    let Some(Value::Vector(items)) = forms.take_first()? else {
+    let Some(form) = forms.take_first()? else {
         return Ok(None);
     };
-    match parameters_of(alloc, items.as_slice())? {
+    let Some(items) = vector_items(form) else {
+        return Ok(None);
+    };
+    match parameters_of(alloc, &items)? {
         Some(params) => Ok(Some(Shape::DefineFunction {
             name,
             params,
@@ -309,9 +333,10 @@ fn is_text(form: &Value) -> bool
 
 // The names of parameters, which are distinct.
 #[tactic(auto, unfolding(crate::specs::Shapes::parameters))]
-fn parameters_of(alloc: Global, items: &[Value]) -> Result<Option<Vec<ArcStr>>, AllocError>
-    ensures { IfOk result (λ found. option_map (λ names. map arc_str_bytes names.items) found ≡ meant.parameters (views items.now)) }
+fn parameters_of(alloc: Global, items: &Sequence) -> Result<Option<Vec<ArcStr>>, AllocError>
+    ensures { IfOk result (λ found. option_map (λ names. map arc_str_bytes names.items) found ≡ meant.parameters (listed items.now.items)) }
 {
+    let items = items.as_slice();
     if first_repeated(alloc, items)?.is_some() {
         return Ok(None);
     }

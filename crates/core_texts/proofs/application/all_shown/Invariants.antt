@@ -1,11 +1,8 @@
-use Rattle.std.proofs.Common.{◌≡◌, ◌++◌, ◌≤◌, length, drop, map, flat_map, string_bytes}
+use Rattle.std.proofs.Common.{◌≡◌, ◌++◌, drop, map, flat_map, string_bytes}
 use Rattle.repl_values.specs.View.{view}
-use Rattle.core_texts.specs.Limits.{most_text}
 use Rattle.core_texts.specs.Meaning.{shown}
 use Rattle.core_texts.proofs.application.all_shown.Given as goal
 
 abbrev pub invariant-loop-value : goal.invariant-loop-value
-invariant-loop-value l = record {
-  so_far : string_bytes l.text ++ flat_map shown (map view (drop l.value-index l.values)) ≡ flat_map shown (map view l.values);
-  short : length (string_bytes l.text) ≤ most_text;
-}
+invariant-loop-value l =
+    string_bytes l.text ++ flat_map shown (map view (drop l.value-index l.values)) ≡ flat_map shown (map view l.values)
