@@ -1,11 +1,15 @@
 -- Forms by their places.
-use Rattle.std.proofs.Common.{◌≡◌, ℕ, zero, suc, ◌+◌, ◌*◌, ◌<◌, ◌≤◌, List, [], ◌∷◌, Option, Some, None, slice_get, get_or, length, take, drop, map, refl, sym, ap, ◌∙◌, arith}
-use Rattle.std.specs.Prelude.{◌/◌, ◌%◌}
-use Rattle.repl_values.specs.Datum.{Datum}
-use Rattle.repl_values.specs.View.{view, pair_view, pairs_of, pairs_view}
+use denote.Ref.{Bor}
+use Rattle.std.proofs.Common.{◌≡◌, ℕ, zero, suc, ◌+◌, ◌*◌, ◌<◌, ◌≤◌, List, [], ◌∷◌, Option, Some, None, MatchOption, option_map, slice_get, get_or, length, take, drop, map, refl, sym, ap, ◌∙◌, arith}
+use Rattle.std.proofs.lemmas.Option.{slice_get-map, slice_get_past, slice_get_read}
+use Rattle.std.specs.List.{HoldsAt}
+use Rattle.std.specs.Prelude.{◌/◌, ◌%◌, IfSome}
+use Rattle.repl_values.specs.Datum.{Datum, Items}
+use Rattle.repl_values.specs.Listed.{listed}
+use Rattle.repl_values.specs.View.{view, items_view, pair_view, pairs_of, pairs_view}
 use Rattle.repl_values.specs.declared.value.Value.{Value}
 use Rattle.repl_values.proofs.Views.{value_views}
-use Rattle.repl_values.proofs.Lists.{lists}
+use Rattle.repl_values.proofs.Lists.{listed-of, lists}
 use Rattle.special_forms.specs.Rows.{in_a_row, first_of, bindings_in}
 
 pub row-past : (ds : List Datum) (i e : ℕ) → e ≤ i → drop i (take e ds) ≡ []
@@ -33,6 +37,18 @@ row-step (c ∷ ds) i zero d i< h = absurd (omega (arith, i<))
 row-step (c ∷ ds) zero (suc e) d i< h = let here : d ≡ c = cc in ap (λ (x : Datum). x ∷ take e ds) (sym here)
 row-step (c ∷ ds) (suc i) (suc e) d i< h = row-step ds i e d (omega (arith, i<)) h
 
+pub row-first : (ds : List Datum) (i e : ℕ) → i < e → drop i (take (suc i) ds) ≡ take 1 (drop i (take e ds))
+row-first [] zero zero h = absurd (omega (arith, h))
+row-first [] zero (suc e) h = refl
+row-first [] (suc i) zero h = refl
+row-first [] (suc i) (suc e) h = refl
+row-first (d ∷ ds) i zero h = absurd (omega (arith, h))
+row-first (d ∷ ds) zero (suc e) h = refl
+row-first (d ∷ ds) (suc i) (suc e) h = row-first ds i e (omega (arith, h))
+
+pub row-first_past : (ds : List Datum) (i e : ℕ) → e ≤ i → drop i (take e ds) ≡ take 1 (drop i (take e ds))
+row-first_past ds i e h = let none = row-past ds i e h in none ∙ sym (ap (take 1) none)
+
 pub row-whole : (ds : List Datum) (e : ℕ) → e ≡ length ds → drop 0 (take e ds) ≡ ds
 row-whole [] zero h = refl
 row-whole [] (suc e) h = refl
@@ -48,13 +64,17 @@ pub key-in_a_row : (ps : List (Value × Value)) (n : ℕ) (p : Value × Value) �
     → slice_get (in_a_row (pairs_view ps)) (n * 2) ≡ Some (view p.0)
 key-in_a_row [] n p n< is = absurd (omega (arith, n<))
 key-in_a_row (q ∷ ps) zero p n< is = ap (λ (x : Value × Value). Some (view x.0)) (sym is)
-key-in_a_row (q ∷ ps) (suc n) p n< is = key-in_a_row ps n p (omega (arith, n<)) is
+key-in_a_row (q ∷ ps) (suc n) p n< is =
+    let two : suc n * 2 ≡ suc (suc (n * 2)) = omega arith in
+    ap (slice_get (in_a_row (pairs_view (q ∷ ps)))) two ∙ key-in_a_row ps n p (omega (arith, n<)) is
 
 pub value-in_a_row : (ps : List (Value × Value)) (n : ℕ) (p : Value × Value) → n < length ps → p ≡ get_or ps n p
     → slice_get (in_a_row (pairs_view ps)) (suc (n * 2)) ≡ Some (view p.1)
 value-in_a_row [] n p n< is = absurd (omega (arith, n<))
 value-in_a_row (q ∷ ps) zero p n< is = ap (λ (x : Value × Value). Some (view x.1)) (sym is)
-value-in_a_row (q ∷ ps) (suc n) p n< is = value-in_a_row ps n p (omega (arith, n<)) is
+value-in_a_row (q ∷ ps) (suc n) p n< is =
+    let two : suc (suc n * 2) ≡ suc (suc (suc (n * 2))) = omega arith in
+    ap (slice_get (in_a_row (pairs_view (q ∷ ps)))) two ∙ value-in_a_row ps n p (omega (arith, n<)) is
 
 pub past-in_a_row : (ps : List (Value × Value)) (n : ℕ) → length ps * 2 ≤ n → slice_get (in_a_row (pairs_view ps)) n ≡ None
 past-in_a_row [] n h = refl
@@ -76,4 +96,15 @@ value-at ps n p n< is odd =
 pub past-at : (ps : List (Value × Value)) (n : ℕ) → length ps ≤ n / 2 → slice_get (in_a_row (pairs_view ps)) n ≡ None
 past-at ps n h = past-in_a_row ps n (omega (arith, h))
 
-pub ruleset row_steps = (value_views, lists, row-past, row-end, row-step, row-whole, length-in_a_row, key-at, value-at, past-at)
+-- an item of those that a slice stands for
+pub item-found : (o : Option (Bor Value)) (xs : Items) (vs : List Value) (n : ℕ) → items_view vs ≡ xs
+    → MatchOption o (length vs ≤ n) (λ x. (n < length vs) × HoldsAt (λ y. x.now ≡ y) vs n) → IfSome o (λ x. x.now ≡ get_or vs n x.now)
+    → option_map (λ v. view v.now) o ≡ slice_get (listed xs) n
+item-found None xs vs n is past at =
+    let same = sym (ap listed is) ∙ listed-of (map view vs) in
+    sym (ap (λ (ds : List Datum). slice_get ds n) same ∙ slice_get-map view vs n ∙ ap (option_map view) (slice_get_past vs n past))
+item-found (Some x) xs vs n is within at =
+    let same = sym (ap listed is) ∙ listed-of (map view vs) in
+    sym (ap (λ (ds : List Datum). slice_get ds n) same ∙ slice_get-map view vs n ∙ ap (option_map view) (slice_get_read vs (length vs) n x.now refl within.0 at))
+
+pub ruleset row_steps = (value_views, lists, row-past, row-end, row-step, row-first, row-first_past, row-whole, length-in_a_row, key-at, value-at, past-at)

@@ -1,13 +1,19 @@
 -- Parts of special forms that are taken one by one.
-use Rattle.std.proofs.Common.{◌≡◌, ℕ, ◌<◌, ◌≤◌, Bool, true, false, if◌then◌else◌, List, [], ◌∷◌, ◌++◌, Option, Some, None, get_or, drop, length, refl, sym, ap, ◌∙◌, append_assoc, append-nil, option_map, map, arith}
+use denote.Ref.{Bor}
+use Rattle.std.specs.declared.alloc.Global.{Global}
+use Rattle.std.specs.declared.sync.ArcStr.{ArcStr}
+use Rattle.std.specs.Option.{is_some}
+use Rattle.std.proofs.Common.{◌≡◌, ℕ, ◌<◌, ◌≤◌, ◌+◌, ◌-◌, zero, suc, nat_eq, subst, Bool, true, false, if◌then◌else◌, List, [], ◌∷◌, ◌++◌, Option, Some, None, get_or, drop, length, refl, sym, ap, ◌∙◌, append_assoc, append-nil, option_map, map, arith}
+use Rattle.std.proofs.Math.Dec.{eqb-suc-suc}
 use Rattle.std.specs.Arc.{arc_str_bytes}
 use Rattle.std.specs.List.{list_any}
 use Rattle.repl_values.specs.Datum as datum
-use Rattle.repl_values.specs.Datum.{Datum, nil, boolean, integer, string, keyword, symbol, list, vector, ref, atom, agent, var, fault}
-use Rattle.repl_values.specs.View.{view}
+use Rattle.repl_values.specs.Datum.{Datum, Items, nil, boolean, integer, string, keyword, symbol, list, vector, ref, atom, agent, var, fault}
+use Rattle.repl_values.specs.Listed.{listed}
+use Rattle.repl_values.specs.View.{view, items_view}
 use Rattle.repl_values.specs.declared.value.Value.{Value}
 use Rattle.repl_values.proofs.Views.{value_views}
-use Rattle.repl_values.proofs.Lists.{lists}
+use Rattle.repl_values.proofs.Lists.{listed-of, lists}
 use Rattle.special_forms.specs.Rows.{BoundForm, bindings_in, name_in}
 use Rattle.special_forms.specs.Seen.{views}
 use Rattle.special_forms.specs.Shapes.{is_slash, simple_name, bound_forms, parameter_name, parameter_names}
@@ -68,3 +74,50 @@ bound-step false d e ds s named rest = rw (named, rest) refl
 
 pub bound-fails : (d e : Datum) (ds : List Datum) → simple_name d ≡ None → bound_forms (d ∷ e ∷ ds) ≡ None
 bound-fails d e ds named = rw named refl
+
+-- by their places
+bound_behind : (vs : List Value) (v : Value) (t : Bool) (s : List ℕ) → 2 ≤ suc (length vs) → simple_name (view v) ≡ Some s
+    → bound_forms (drop 1 (views vs)) ≡ bound_if t (drop 1 (views vs)) → bound_forms (view v ∷ views vs) ≡ bound_if t (view v ∷ views vs)
+bound_behind [] v t s h named rest = absurd (omega (arith, h))
+bound_behind (w ∷ vs) v t s h named rest = bound-step t (view v) (view w) (views vs) s named rest
+
+bound_from : (vs : List Value) (n : ℕ) (v : Value) (t : Bool) (s : List ℕ) → suc (suc n) ≤ length vs → v ≡ get_or vs n v → simple_name (view v) ≡ Some s
+    → bound_forms (drop (suc (suc n)) (views vs)) ≡ bound_if t (drop (suc (suc n)) (views vs)) → bound_forms (drop n (views vs)) ≡ bound_if t (drop n (views vs))
+bound_from [] n v t s h is named rest = absurd (omega (arith, h))
+bound_from (u ∷ vs) zero v t s h is named rest = bound_behind vs u t s h (ap (λ (x : Value). simple_name (view x)) (sym is) ∙ named) rest
+bound_from (u ∷ vs) (suc n) v t s h is named rest = bound_from vs n v t s (omega (arith, h)) is named rest
+
+pub bound-at : (vs : List Value) (n : ℕ) (v : Value) (t : Bool) (s : List ℕ) → n + 2 ≤ length vs → v ≡ get_or vs n v → simple_name (view v) ≡ Some s
+    → bound_forms (drop (n + 2) (views vs)) ≡ bound_if t (drop (n + 2) (views vs)) → bound_forms (drop n (views vs)) ≡ bound_if t (drop n (views vs))
+bound-at vs n v t s h is named rest =
+    let two : n + 2 ≡ suc (suc n) = omega arith in
+    bound_from vs n v t s (omega (arith, h)) is named (subst (λ (m : ℕ). bound_forms (drop m (views vs)) ≡ bound_if t (drop m (views vs))) two rest)
+
+none_behind : (vs : List Value) (v : Value) → 2 ≤ suc (length vs) → simple_name (view v) ≡ None → bound_forms (view v ∷ views vs) ≡ None
+none_behind [] v h named = absurd (omega (arith, h))
+none_behind (w ∷ vs) v h named = bound-fails (view v) (view w) (views vs) named
+
+pub none-at : (vs : List Value) (n : ℕ) (v : Value) → n + 2 ≤ length vs → v ≡ get_or vs n v → simple_name (view v) ≡ None → bound_forms (drop n (views vs)) ≡ None
+none-at [] n v h is named = absurd (omega (arith, h))
+none-at (u ∷ vs) zero v h is named = none_behind vs u h (ap (λ (x : Value). simple_name (view x)) (sym is) ∙ named)
+none-at (u ∷ vs) (suc n) v h is named = none-at vs n v (omega (arith, h)) is named
+
+pub bound-end : (vs : List Value) (n : ℕ) → n ≤ length vs → length vs - n < 2 → bound_forms (drop n (views vs)) ≡ bound_if (nat_eq n (length vs)) (drop n (views vs))
+bound-end [] zero h few = refl
+bound-end [] (suc n) h few = absurd (omega (arith, h))
+bound-end (v ∷ []) zero h few = refl
+bound-end (v ∷ w ∷ vs) zero h few = absurd (omega (arith, few))
+bound-end (v ∷ vs) (suc n) h few = rw eqb-suc-suc (bound-end vs n (omega (arith, h)) (omega (arith, few)))
+
+-- the items that a slice stands for
+pub views-listed : (vs : List Value) (xs : Items) → items_view vs ≡ xs → views vs ≡ listed xs
+views-listed vs xs is = sym (listed-of (views vs)) ∙ ap listed is
+
+-- whether a symbol was found
+pub named-none : (o : Option (Bor (ArcStr Global))) (d : Datum) → option_map (λ name. arc_str_bytes name.now) o ≡ simple_name d → is_some o ≡ false → simple_name d ≡ None
+named-none None d is h = sym is
+named-none (Some name) d is h = cc
+
+pub named-some : (o : Option (Bor (ArcStr Global))) (d : Datum) → option_map (λ name. arc_str_bytes name.now) o ≡ simple_name d → is_some o ≡ true → (s : List ℕ) × (simple_name d ≡ Some s)
+named-some None d is h = cc
+named-some (Some name) d is h = (arc_str_bytes name.now, sym is)

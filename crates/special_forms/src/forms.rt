@@ -129,15 +129,28 @@ impl Forms {
         Ok(Some(Binding { name, form }))
     }
 
+    // The first form alone.
+    fn first_alone(self) -> Forms
+        ensures { forms_view result ≡ take 1 (forms_view self) }
+    {
+        if self.start >= self.end {
+            return self;
+        }
+        let Forms {
+            source,
+            start,
+            end: _,
+        } = self;
+        let end = start + 1;
+        Forms { source, start, end }
+    }
+
     /// The first form alone, and the forms behind it.
     pub fn split_first(self) -> Result<(Forms, Forms), AllocError>
         ensures first { IfOk result (λ parts. forms_view parts.0 ≡ take 1 (forms_view self)) }
         ensures behind { IfOk result (λ parts. forms_view parts.1 ≡ drop 1 (forms_view self)) }
     {
-        let mut first = self.copy()?;
-        if first.start < first.end {
-            first.end = first.start + 1;
-        }
+        let first = self.copy()?.first_alone();
         Ok((first, self.behind_first()))
     }
 

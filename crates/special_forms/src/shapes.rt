@@ -292,7 +292,7 @@ fn function_behind(
     let Some(items) = vector_items(form) else {
         return Ok(None);
     };
-    match parameters_of(alloc, &items)? {
+    match parameters_in(alloc, &items)? {
         Some(params) => Ok(Some(Shape::DefineFunction {
             name,
             params,
@@ -331,12 +331,17 @@ fn is_text(form: &Value) -> bool
     }
 }
 
-// The names of parameters, which are distinct.
-#[tactic(auto, unfolding(crate::specs::Shapes::parameters))]
-fn parameters_of(alloc: Global, items: &Sequence) -> Result<Option<Vec<ArcStr>>, AllocError>
+fn parameters_in(alloc: Global, items: &Sequence) -> Result<Option<Vec<ArcStr>>, AllocError>
     ensures { IfOk result (λ found. option_map (λ names. map arc_str_bytes names.items) found ≡ meant.parameters (listed items.now.items)) }
 {
-    let items = items.as_slice();
+    parameters_of(alloc, items.as_slice())
+}
+
+// The names of parameters, which are distinct.
+#[tactic(auto, unfolding(crate::specs::Shapes::parameters))]
+fn parameters_of(alloc: Global, items: &[Value]) -> Result<Option<Vec<ArcStr>>, AllocError>
+    ensures { IfOk result (λ found. option_map (λ names. map arc_str_bytes names.items) found ≡ meant.parameters (views items.now)) }
+{
     if first_repeated(alloc, items)?.is_some() {
         return Ok(None);
     }
