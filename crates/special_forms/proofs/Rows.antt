@@ -1,16 +1,16 @@
 -- Forms by their places.
 use denote.Ref.{Bor}
-use Rattle.std.proofs.Common.{◌≡◌, ℕ, zero, suc, ◌+◌, ◌*◌, ◌<◌, ◌≤◌, List, [], ◌∷◌, Option, Some, None, MatchOption, option_map, slice_get, get_or, length, take, drop, map, refl, sym, ap, ◌∙◌, arith}
+use Rattle.std.proofs.Common.{◌≡◌, ℕ, zero, suc, ◌*◌, ◌<◌, ◌≤◌, List, [], ◌∷◌, Option, Some, None, MatchOption, option_map, slice_get, get_or, length, take, drop, map, refl, sym, ap, ◌∙◌, arith}
 use Rattle.std.proofs.lemmas.Option.{slice_get-map, slice_get_past, slice_get_read}
 use Rattle.std.specs.List.{HoldsAt}
 use Rattle.std.specs.Prelude.{◌/◌, ◌%◌, IfSome}
 use Rattle.repl_values.specs.Datum.{Datum, Items}
 use Rattle.repl_values.specs.Listed.{listed}
-use Rattle.repl_values.specs.View.{view, items_view, pair_view, pairs_of, pairs_view}
+use Rattle.repl_values.specs.View.{view, items_view, pairs_view}
 use Rattle.repl_values.specs.declared.value.Value.{Value}
 use Rattle.repl_values.proofs.Views.{value_views}
 use Rattle.repl_values.proofs.Lists.{listed-of, lists}
-use Rattle.special_forms.specs.Rows.{in_a_row, first_of, bindings_in}
+use Rattle.special_forms.specs.Rows.{in_a_row}
 
 pub row-past : (ds : List Datum) (i e : ℕ) → e ≤ i → drop i (take e ds) ≡ []
 row-past [] zero zero h = refl
