@@ -1,5 +1,5 @@
 -- Values as their data.
-use Rattle.std.proofs.Common.{◌≡◌, ◌≢◌, ℕ, zero, suc, ◌<◌, ◌≤◌, List, [], ◌∷◌, ◌++◌, get_or, length, map, drop, reverse, Some, None, Result, Ok, Err, refl, sym, ap, ◌∙◌, arith}
+use Rattle.std.proofs.Common.{◌≡◌, ◌≢◌, List, [], ◌∷◌, ◌++◌, get_or, length, map, drop, reverse, Some, None, Result, Ok, Err, refl, sym, ap, ◌∙◌, arith}
 use mathlib.Core.List.{reverse_aux}
 use Rattle.repl_values.specs.Datum.{Datum, nil, list, vector, Items, no_items, item}
 use Rattle.repl_values.specs.View.{view, items_view}
@@ -32,21 +32,21 @@ with_front front (Ok ps) = Ok (front ++ ps)
 with_front front (Err f) = Err f
 
 -- what stands behind the first item
-listed-behind_first : (ds : Items) → listed (behind_first ds) ≡ drop 1 (listed ds)
+pub listed-behind_first : (ds : Items) → listed (behind_first ds) ≡ drop 1 (listed ds)
 listed-behind_first no_items = refl
 listed-behind_first (item d ds) = refl
 
 -- a list of no items is nil where nil stands for it
-list_or_nil-empty : (ds : Items) → length (listed ds) ≡ 0 → list_or_nil (listed ds) ≡ nil
+pub list_or_nil-empty : (ds : Items) → length (listed ds) ≡ 0 → list_or_nil (listed ds) ≡ nil
 list_or_nil-empty no_items none = refl
 list_or_nil-empty (item d ds) none = absurd (omega (arith, none))
 
-list_or_nil-full : (ds : Items) → length (listed ds) ≢ 0 → list_or_nil (listed ds) ≡ list ds
+pub list_or_nil-full : (ds : Items) → length (listed ds) ≢ 0 → list_or_nil (listed ds) ≡ list ds
 list_or_nil-full no_items some = absurd (some refl)
 list_or_nil-full (item d ds) some = ap (λ (es : Items). list (item d es)) (of-listed ds)
 
 -- a vector by the list of its items
-vector-listed : (ds : Items) (all : List Datum) → listed ds ≡ all → vector_of all ≡ vector ds
+pub vector-listed : (ds : Items) (all : List Datum) → listed ds ≡ all → vector_of all ≡ vector ds
 vector-listed ds all e = ap vector_of (sym e) ∙ ap vector (of-listed ds)
 
 -- one item more behind the others
@@ -62,5 +62,14 @@ pub map_view-reverse : (vs : List Value) → map view (reverse vs) ≡ reverse (
 map_view-reverse vs = map_view-reverse_aux vs []
 
 pub ruleset seen = (
-    value_views, lists, listed-behind_first, list_or_nil-empty, list_or_nil-full, vector-listed, listed-with_last, as_pair-two,
-    as_pair-other, map_view-reverse)
+  value_views,
+  lists,
+  listed-behind_first,
+  list_or_nil-empty,
+  list_or_nil-full,
+  vector-listed,
+  listed-with_last,
+  as_pair-two,
+  as_pair-other,
+  map_view-reverse,
+)

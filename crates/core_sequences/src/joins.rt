@@ -1,7 +1,7 @@
 // Functions that put values into a row: `cons` and `conj`.
 #![tactic(auto, using(crate::proofs::Values::seen))]
 
-ghost use Rattle.std.specs.Prelude.{◌≡◌, ◌++◌, map, option_map, reverse, IfOk};
+ghost use Rattle.std.specs.Prelude.{◌≡◌, ◌++◌, ◌∷◌, [], map, option_map, reverse, IfOk};
 ghost use Rattle.repl_values.specs.Datum.{vector};
 ghost use Rattle.repl_values.specs.Listed.{listed};
 ghost use Rattle.repl_values.specs.Seen.{entry_view};
@@ -62,9 +62,15 @@ fn with_all(alloc: Global, items: Sequence, more: &[Value]) -> Result<Sequence, 
 {
     let mut items = items;
     for value in more {
-        items = items.with_last(alloc, copy(value)?)?;
+        items = with_one(alloc, items, value)?;
     }
     Ok(items)
+}
+
+fn with_one(alloc: Global, items: Sequence, value: &Value) -> Result<Sequence, AllocError>
+    ensures { IfOk result (λ made. listed made.items ≡ listed items.items ++ view value.now ∷ []) }
+{
+    items.with_last(alloc, copy(value)?)
 }
 
 // Copies, the last first.

@@ -1,5 +1,5 @@
 -- Texts that are too long, and what is put behind them.
-use Rattle.std.proofs.Common.{◌≡◌, ℕ, ◌+◌, ◌<◌, ◌≤◌, Bool, true, false, List, [], ◌∷◌, ◌++◌, length, map, Option, Some, None, Result, Ok, Err, refl, sym, ap, ◌∙◌, arith, nat_lt, nat_le}
+use Rattle.std.proofs.Common.{◌≡◌, ℕ, ◌<◌, ◌≤◌, List, [], ◌∷◌, ◌++◌, length, map, Some, None, Ok, Err, refl, sym, ap, ◌∙◌, arith}
 use Rattle.std.proofs.lemmas.Bool.Decides.{nat_tests}
 use Rattle.std.proofs.lemmas.Grind.{common_steps}
 use Rattle.repl_values.specs.Datum.{Datum, string}
@@ -33,9 +33,9 @@ unfolding if_short
 if_short-kept s t h = grind (arith, common_steps, nat_tests, h)
 
 -- no values are spelled by no bytes
-pub spaced-none : (spelling : Datum → List ℕ) (vs : List Value) → vs ≡ [] → if_short (spaced spelling (map view vs)) ≡ Some []
+pub spaced-none : (spelling : Datum → List ℕ) (vs : List Value) → length vs ≡ 0 → if_short (spaced spelling (map view vs)) ≡ Some []
 spaced-none spelling [] none = if_short-short [] (omega arith)
-spaced-none spelling (v ∷ vs) none = cc
+spaced-none spelling (v ∷ vs) none = absurd (omega (arith, none))
 
 pub within_weight-light : (s : List ℕ) → length s < most_weight → within_weight (Ok (string s)) ≡ Ok (string s)
 unfolding within_weight
@@ -55,5 +55,15 @@ unfolding if_short within_weight
 light-if_short s = grind (arith, common_steps, nat_tests)
 
 pub ruleset short_steps = (
-    value_views, if_short-long, if_short-too_long, long-beginning, if_short-short, if_short-kept, spaced-none,
-    within_weight-light, within_weight-heavy, within_weight-fails, light-if_short)
+  value_views,
+  if_short-long,
+  if_short-too_long,
+  long-beginning,
+  if_short-short,
+  if_short-kept,
+  spaced-none,
+  within_weight-light,
+  within_weight-heavy,
+  within_weight-fails,
+  light-if_short,
+)
