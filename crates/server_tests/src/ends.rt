@@ -25,13 +25,14 @@ impl<'a> Read for PieceReader<'a> {
 }
 
 // The exit status, what is written, and what is told on standard error.
+#[derive(Drop)]
 struct Served {
     status: u8,
     output: Vec<u8>,
     errors: Vec<u8>,
 }
 
-fn served(alloc: Global, config: Config, input: &[u8], piece: usize) -> Served {
+fn serve_in_pieces(alloc: Global, config: Config, input: &[u8], piece: usize) -> Served {
     let mut reader = PieceReader { input, piece };
     let mut output = Vec::new(alloc);
     let mut errors = Vec::new(alloc);
@@ -43,16 +44,20 @@ fn served(alloc: Global, config: Config, input: &[u8], piece: usize) -> Served {
     }
 }
 
-// A piece costs a step, and so does each turn, that in which nothing is to be done too: the first
-// request takes four, and a fifth is left to look whether more comes.
+// A piece costs a step, and so does each turn. The first request takes three turns, of which the last
+// writes its replies, and then comes one in which nothing is to be done.
 #[test]
 fn steps_end_the_stream(rt: HostRuntime) -> Result<(), Fail> {
     let worn = "nrepl: step limit reached\n";
-    for (steps, status, line) in [(3u32, 1u8, worn), (4, 1, worn), (5, 0, "")] {
+    for (steps, output, status, line) in [
+        (3u32, b"".as_slice(), 1u8, worn),
+        (4, SUM_REPLIES, 1, worn),
+        (5, SUM_REPLIES, 0, ""),
+    ] {
         let mut config = Config::new();
         config.steps = steps;
-        let all = served(rt.alloc(), config, SUM, SUM.len());
-        assert_eq!(&rt; all.output.as_slice(), SUM_REPLIES, "{steps}");
+        let all = serve_in_pieces(rt.alloc(), config, SUM, SUM.len());
+        assert_eq!(&rt; all.output.as_slice(), output, "{steps}");
         assert_eq!(&rt; all.errors.as_slice(), line.as_bytes(), "{steps}");
         assert_eq!(&rt; all.status, status, "{steps}");
     }
@@ -80,7 +85,7 @@ fn replies_that_are_held_are_written(rt: HostRuntime) -> Result<(), Fail> {
         1_100,
     )?;
     push_bytes(&mut expected, SUM_REPLIES, 1)?;
-    let all = served(rt.alloc(), Config::new(), &input, input.len());
+    let all = serve_in_pieces(rt.alloc(), Config::new(), &input, input.len());
     assert!(&rt; all.output == expected);
     assert_eq!(&rt; all.errors.len(), 0);
     assert_eq!(&rt; all.status, 0);
@@ -90,7 +95,7 @@ fn replies_that_are_held_are_written(rt: HostRuntime) -> Result<(), Fail> {
 #[test]
 fn pieces_may_be_of_any_size(rt: HostRuntime) -> Result<(), Fail> {
     for piece in 1..34usize {
-        let all = served(rt.alloc(), Config::new(), SUM, piece);
+        let all = serve_in_pieces(rt.alloc(), Config::new(), SUM, piece);
         assert_eq!(&rt; all.output.as_slice(), SUM_REPLIES, "{piece}");
         assert_eq!(&rt; all.errors.len(), 0, "{piece}");
         assert_eq!(&rt; all.status, 0, "{piece}");
@@ -113,7 +118,7 @@ fn long_and_deep_messages_are_faults(rt: HostRuntime) -> Result<(), Fail> {
         (&long, "nrepl: message too long at 1048576\n"),
         (&deep, "nrepl: message too deep at 67\n"),
     ] {
-        let all = served(rt.alloc(), Config::new(), input, 4_096);
+        let all = serve_in_pieces(rt.alloc(), Config::new(), input, 4_096);
         assert_eq!(&rt; all.output.as_slice(), MALFORMED, "{line}");
         assert_eq!(&rt; all.errors.as_slice(), line.as_bytes());
         assert_eq!(&rt; all.status, 1, "{line}");
