@@ -1,16 +1,13 @@
 -- A pair put into a map's pairs.
-use Rattle.std.proofs.Common.{◌≡◌, ℕ, zero, suc, ◌+◌, ◌<◌, Bool, true, false, ◌||◌, List, [], ◌∷◌, ◌++◌, length, get_or, set, Option, Some, None, option_map, Vec, Global, refl, sym, ap, ◌∙◌, arith}
-use Rattle.std.specs.Prelude.{if◌then◌else◌, ◌==◌}
-use Rattle.std.specs.BTreeMap.{BTreeMap}
+use Rattle.std.proofs.Common.{◌≡◌, ℕ, zero, suc, ◌+◌, ◌<◌, Bool, true, false, ◌||◌, List, [], ◌∷◌, ◌++◌, length, get_or, set, Option, Some, None, option_map, refl, sym, ap, ◌∙◌, arith}
+use Rattle.std.specs.Prelude.{if◌then◌else◌}
 use Rattle.repl_values.specs.Datum.{Datum, Pairs, no_pairs, pair}
 use Rattle.repl_values.specs.View.{view, pairs_view}
 use Rattle.repl_values.specs.declared.value.Value.{Value}
-use Rattle.repl_values.specs.Same.{same, size}
-use Rattle.repl_values.specs.Hash.{hash}
-use Rattle.repl_values.specs.Index.{Indexes, places_under}
-use Rattle.repl_values.specs.Keyed.{first_place, has_key, are_distinct, places_with, behind_all, with_value}
+use Rattle.repl_values.specs.Same.{same}
+use Rattle.repl_values.specs.Keyed.{first_place, has_key, are_distinct, behind_all, with_value}
 use Rattle.repl_values.specs.Put.{put_pair}
-use Rattle.repl_values.proofs.Tables.{places-behind, distinct-behind, has_key-first}
+use Rattle.repl_values.proofs.Tables.{distinct-behind, has_key-first}
 
 suc-Some : (o : Option ℕ) (n : ℕ) → option_map (λ (m : ℕ). suc m) o ≡ Some (suc n) → o ≡ Some n
 suc-Some None n h = cc
@@ -62,12 +59,6 @@ first_place-within [] d n h = cc
 first_place-within (x ∷ xs) d n h =
     within-step (same (view x.0) d) (first_place (pairs_view xs) d) (length xs) n (λ m e. first_place-within xs d m e) h
 
-places-with_value : (h n m : ℕ) (v : Datum) (ps : Pairs) → places_with h n (with_value m v ps) ≡ places_with h n ps
-places-with_value h n m v no_pairs = refl
-places-with_value h n zero v (pair k w ps) = refl
-places-with_value h n (suc m) v (pair k w ps) =
-    ap (λ (ns : List ℕ). if hash k == h then n ∷ ns else ns) (places-with_value h (suc n) m v ps)
-
 has_key-with_value : (m : ℕ) (v d : Datum) (ps : Pairs) → has_key (with_value m v ps) d ≡ has_key ps d
 has_key-with_value m v d no_pairs = refl
 has_key-with_value zero v d (pair k w ps) = refl
@@ -99,30 +90,11 @@ pushed-is xs ys k w key value ek ew is =
 pub found-put : (ps qs : Pairs) (key value : Datum) (n : ℕ) → first_place ps key ≡ Some n → qs ≡ with_value n value ps → qs ≡ put_pair key value ps
 found-put ps qs key value n e is = is ∙ sym (put-found ps key value n e)
 
-pub found-indexes : (index : BTreeMap ℕ (Vec ℕ Global)) (ps qs : Pairs) (n : ℕ) (v : Datum) → qs ≡ with_value n v ps → Indexes index ps → Indexes index qs
-found-indexes index ps qs n v e h = λ q. h q ∙ sym (places-with_value q 0 n v ps) ∙ ap (places_with q 0) (sym e)
-
 pub found-distinct : (ps qs : Pairs) (n : ℕ) (v : Datum) → qs ≡ with_value n v ps → are_distinct ps ≡ true → are_distinct qs ≡ true
 found-distinct ps qs n v e h = ap are_distinct e ∙ distinct-with_value n v ps ∙ h
 
 pub new-put : (ps qs : Pairs) (key value : Datum) → first_place ps key ≡ None → qs ≡ behind_all ps key value → qs ≡ put_pair key value ps
 new-put ps qs key value e is = is ∙ sym (put-new ps key value e)
-
-pub new-indexes : (old new : BTreeMap ℕ (Vec ℕ Global)) (ps qs : Pairs) (key value : Datum) (n h : ℕ)
-    → qs ≡ behind_all ps key value → n ≡ size ps → h ≡ hash key → Indexes old ps
-    → ((q : ℕ) → places_under new q ≡ (if h == q then places_under old q ++ n ∷ [] else places_under old q))
-    → Indexes new qs
-new-indexes old new ps qs key value n h is at hk was now =
-    λ q.
-    now q
-    ∙ ap (λ (m : ℕ). if m == q then places_under old q ++ n ∷ [] else places_under old q) hk
-    ∙ ap (λ (ns : List ℕ). if hash key == q then ns ++ n ∷ [] else ns) (was q)
-    ∙ ap (λ (m : ℕ). if hash key == q then places_with q 0 ps ++ m ∷ [] else places_with q 0 ps) sized
-    ∙ sym (places-behind q 0 ps key value)
-    ∙ ap (places_with q 0) (sym is)
-  where
-    sized : n ≡ 0 + size ps
-    sized = omega (arith, at)
 
 pub new-distinct : (ps qs : Pairs) (key value : Datum) → first_place ps key ≡ None → qs ≡ behind_all ps key value → are_distinct ps ≡ true → are_distinct qs ≡ true
 new-distinct ps qs key value e is d =

@@ -1,5 +1,5 @@
 -- Items and pairs with one more, and what was measured of them.
-use Rattle.std.proofs.Common.{◌≡◌, ℕ, zero, suc, ◌+◌, ◌<◌, max, List, [], ◌∷◌, ◌++◌, length, get_or, take, drop, add-one, refl, ap, sym, arith}
+use Rattle.std.proofs.Common.{◌≡◌, ℕ, zero, suc, ◌+◌, ◌<◌, max, List, [], ◌∷◌, ◌++◌, length, get_or, take, drop, add-one, refl, ap, sym, ◌∙◌, subst, ◌≤◌, arith}
 use Rattle.repl_values.specs.Datum.{Datum, Items, no_items, item, Pairs, no_pairs, pair}
 use Rattle.repl_values.specs.Listed.{listed}
 use Rattle.repl_values.specs.Ends.{with_last, behind_first}
@@ -7,6 +7,11 @@ use Rattle.repl_values.specs.Keyed.{behind_all}
 use Rattle.repl_values.specs.Measures.{items_weight, items_nesting, pairs_weight, pairs_nesting, weight, nesting}
 use Rattle.repl_values.specs.Hash.{items_hash, hash, mixed, peak, salted, pair_hash}
 use Rattle.repl_values.specs.View.{view, items_view}
+use Rattle.repl_values.specs.Held.{SequenceData}
+use Rattle.repl_values.specs.Inside.{seen_from}
+use Rattle.repl_values.specs.Fits.{FitsItems}
+use Rattle.repl_values.specs.declared.node_measures.ItemsMeasure.{ItemsMeasure}
+use Rattle.repl_values.specs.declared.value.ItemsNode.{ItemsNode}
 use Rattle.repl_values.specs.declared.value.Value.{Value}
 
 pub items_weight-with_last : (ds : Items) (d : Datum) → items_weight (with_last ds d) ≡ items_weight ds + weight d
@@ -59,5 +64,12 @@ drop-behind vs i = rw (add-one) (more vs i)
 pub length-listed : (vs : List Value) → length (listed (items_view vs)) ≡ length vs
 length-listed [] = refl
 length-listed (v ∷ vs) = ap suc (length-listed vs)
+
+-- what fits the items that are seen from the start fits those of the node
+pub fits-whole : (n : ItemsNode) (start : ℕ) (s : SequenceData) (vs : List Value) (m : ItemsMeasure)
+    → seen_from n start ≡ s → start ≤ 0 → vs ≡ n.items.items → FitsItems m s.items → FitsItems m (items_view vs)
+fits-whole n zero s vs m seen at is fits =
+    subst (λ ds. FitsItems m ds) (sym (ap (λ (t : SequenceData). t.items) seen) ∙ sym (ap items_view is)) fits
+fits-whole n (suc i) s vs m seen at is fits = absurd (omega (arith, at))
 
 pub ruleset item_steps = (items_view-push, length-listed)

@@ -2,7 +2,6 @@ pub mod Equivalence
 pub mod Escapes
 pub mod Hashes
 pub mod Inside
-pub mod Repeating
 pub mod Sameness
 pub mod Size
 pub mod Nodes
@@ -14,3 +13,8 @@ pub mod Growing
 pub mod Lists
 pub mod TailSteps
 pub mod Removing
+mod Ordered
+mod Sorted
+mod Ties
+mod Ranked
+mod Searching

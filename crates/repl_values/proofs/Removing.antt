@@ -2,7 +2,7 @@
 use Rattle.std.proofs.Common.{◌≡◌, ℕ, zero, suc, ◌+◌, ◌<◌, ◌≤◌, Bool, true, false, not, ◌&&◌, ◌||◌, List, [], ◌∷◌, ◌++◌, length, get_or, set, take, map, filter, replicate, IfSome, ◌-◌, Option, Some, None, option_map, add-one, refl, sym, ap, ◌∙◌, arith}
 use Rattle.std.specs.Prelude.{if◌then◌else◌}
 use Rattle.repl_values.specs.Datum.{Datum, Items, no_items, item, Pairs, no_pairs, pair}
-use Rattle.repl_values.specs.View.{view, pair_view, items_view, pairs_view, pairs_of}
+use Rattle.repl_values.specs.View.{view, pair_view, items_view, items_of, pairs_view, pairs_of}
 use Rattle.repl_values.specs.declared.value.Value.{Value}
 use Rattle.repl_values.specs.Same.{same}
 use Rattle.repl_values.specs.Repeats.{is_one_of, repeat_behind, first_repeat}
@@ -15,6 +15,28 @@ use Rattle.repl_values.proofs.Editing.{first_place-within}
 use Rattle.repl_values.proofs.Tables.{has_key-along, has_key-first, or-false, differ, not-true, true-not, false-both}
 
 -- ---- the first repeated key
+
+pub keys-view : (ps : List (Value × Value)) (vs : List Value) → map (λ (p : Value × Value). view p.0) ps ≡ map view vs → keys_of (pairs_view ps) ≡ items_view vs
+keys-view ps vs h = at ps ∙ ap items_of h
+  where
+    at : (qs : List (Value × Value)) → keys_of (pairs_view qs) ≡ items_of (map (λ (p : Value × Value). view p.0) qs)
+    at [] = refl
+    at (q ∷ qs) = ap (item (view q.0)) (at qs)
+
+-- in pairs whose keys are distinct no key stands before
+pub none-before : (xs : List (Value × Value)) (n : ℕ) (p : Value × Value) → p ≡ get_or xs n p → n < length xs → are_distinct (pairs_view xs) ≡ true
+    → has_key (pairs_view (take n xs)) (view p.0) ≡ false
+none-before [] n p is h d = absurd (omega (arith, h))
+none-before (x ∷ xs) zero p is h d = refl
+none-before (x ∷ xs) (suc n) p is h d =
+    false-both (same (view x.0) (view p.0)) (has_key (pairs_view (take n xs)) (view p.0))
+    (differ (view p.0) (view x.0) (apart xs n is (omega (arith, h)) (not-true _ (and-left (not (has_key (pairs_view xs) (view x.0))) (are_distinct (pairs_view xs)) d))) (same (view x.0) (view p.0)) refl)
+    (none-before xs n p is (omega (arith, h)) (and-right (not (has_key (pairs_view xs) (view x.0))) (are_distinct (pairs_view xs)) d))
+  where
+    apart : (ys : List (Value × Value)) (m : ℕ) → p ≡ get_or ys m p → m < length ys → has_key (pairs_view ys) (view x.0) ≡ false → same (view p.0) (view x.0) ≡ false
+    apart [] m e l f = absurd (omega (arith, l))
+    apart (y ∷ ys) zero e l f = ap (λ (q : Value × Value). same (view q.0) (view x.0)) e ∙ (or-false (same (view y.0) (view x.0)) (has_key (pairs_view ys) (view x.0)) f).0
+    apart (y ∷ ys) (suc m) e l f = apart ys m e (omega (arith, l)) (or-false (same (view y.0) (view x.0)) (has_key (pairs_view ys) (view x.0)) f).1
 
 -- none of the keys is one of those before
 abbrev fresh : Items → Pairs → Bool

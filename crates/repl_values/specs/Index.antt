@@ -1,19 +1,36 @@
--- What an index by hashes tells.
-use Rattle.std.specs.Prelude.{◌≡◌, ℕ, List, [], Option, Some, None, Vec}
-use Rattle.std.specs.declared.alloc.Global.{Global}
-use Rattle.std.specs.BTreeMap.{BTreeMap, get}
-use Rattle.std.specs.Ordering.{nat_cmp}
-use Rattle.repl_values.specs.Datum.{Pairs}
-use Rattle.repl_values.specs.Keyed.{places_with}
+-- What a map's index tells: the places of its pairs in the order of their keys.
+use Rattle.std.specs.Prelude.{◌≡◌, ℕ, zero, suc, ◌<◌, ◌≤◌, List, [], ◌∷◌, length, slice_index_or, map as each, None}
+use Rattle.std.specs.List.{All, Contains}
+use Rattle.std.specs.declared.cmp.Ordering.TheVariants.{Less}
+use Rattle.repl_values.specs.Datum.{Datum, Pairs, no_pairs, pair}
+use Rattle.repl_values.specs.Same.{size}
+use Rattle.repl_values.specs.Order.{SortKey, number, both, order, sort_key, chain}
+use Rattle.repl_values.specs.Keyed.{first_place}
 
--- the places under a hash
-abbrev pub noted : Option (Vec ℕ Global) → List ℕ
-noted None = []
-noted (Some v) = v.items
+-- what the key at a place is compared by
+abbrev pub key_at : Pairs → ℕ → SortKey
+key_at no_pairs n = number 0
+key_at (pair k v ps) zero = sort_key k
+key_at (pair k v ps) (suc n) = key_at ps n
 
-abbrev pub places_under : BTreeMap ℕ (Vec ℕ Global) → ℕ → List ℕ
-places_under index h = noted (get nat_cmp index h)
+-- all places, and their keys ascend
+pub record Indexes (places : List ℕ) (ps : Pairs) : Type 0 where
+  pub within : All (λ n. n < size ps) places
+  pub complete : (n : ℕ) → n < size ps → Contains places n
+  pub ascending : (i j : ℕ) → i < j → j < length places → order (key_at ps (slice_index_or places i 0)) (key_at ps (slice_index_or places j 0)) ≡ Less
 
--- under each hash the places of the keys that have it
-abbrev pub Indexes : BTreeMap ℕ (Vec ℕ Global) → Pairs → Type 0
-Indexes index ps = (h : ℕ) → places_under index h ≡ places_with h 0 ps
+-- No key is equal, and the place of this key belongs at the rank.
+pub record Belongs (rank : ℕ) (places : List ℕ) (ps : Pairs) (d : Datum) : Type 0 where
+  pub absent : first_place ps d ≡ None
+  pub in_range : rank ≤ length places
+  pub before : (i : ℕ) → i < rank → order (key_at ps (slice_index_or places i 0)) (sort_key d) ≡ Less
+  pub behind : (i : ℕ) → rank ≤ i → i < length places → order (sort_key d) (key_at ps (slice_index_or places i 0)) ≡ Less
+
+-- what the pair at a place is compared by
+abbrev pub row_at : Pairs → ℕ → SortKey
+row_at no_pairs n = number 0
+row_at (pair k v ps) zero = both (sort_key k) (sort_key v)
+row_at (pair k v ps) (suc n) = row_at ps n
+
+abbrev pub rows_at : Pairs → List ℕ → SortKey
+rows_at ps places = chain (each (row_at ps) places)

@@ -5,6 +5,7 @@ pub mod Measures
 pub mod Parts
 pub mod Hash
 pub mod Same
+pub mod Order
 pub mod View
 pub mod Print
 pub mod Style

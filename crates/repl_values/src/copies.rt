@@ -47,7 +47,18 @@ pub fn copy(value: &Value) -> Result<Value, AllocError>
 pub fn copy_items(alloc: Global, items: &[Value]) -> Result<Vec<Value>, AllocError>
     ensures { IfOk result (λ copies. map view copies.items ≡ map view items.now) }
 {
-    let mut copies = Vec::with_capacity(alloc, items.len())?;
+    copies_with_room(alloc, items, 0)
+}
+
+// The same items, in a vector that has room for more.
+pub(crate) fn copies_with_room(
+    alloc: Global,
+    items: &[Value],
+    more: usize,
+) -> Result<Vec<Value>, AllocError>
+    ensures { IfOk result (λ copies. map view copies.items ≡ map view items.now) }
+{
+    let mut copies = Vec::with_capacity(alloc, items.len().saturating_add(more))?;
     for item in items {
         copies.push(copy(item)?)?;
     }

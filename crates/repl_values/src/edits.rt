@@ -13,22 +13,18 @@ ghost use Rattle.repl_values.specs.Seen.{entry_view, MayFit};
 
 use crate::building::sealed;
 use crate::copies::{copy, copy_pairs};
-use crate::equality::place_of;
-use crate::hashing::hash_of;
 use crate::node_measures::PairsMeasure;
-use crate::places::note;
+use crate::places::search;
 use crate::value::{PairsNode, Table, Value};
 use std::alloc::{AllocError, Global};
-use std::collections::BTreeMap;
 use std::sync::Arc;
 
 impl Table {
     /// The pairs with more put in, one after another: a key there keeps its place and takes the
     /// later value. It fails only for want of memory.
     ///
-    /// It takes n log n steps for n more, unless hashes collide. Where somebody else holds the
-    /// pairs, they are copied first and their places are found anew; where a value was replaced,
-    /// all are measured anew.
+    /// It compares n log n keys for n more. Where somebody else holds the pairs, they are copied
+    /// first; where a value was replaced, all are measured anew.
     pub fn with_pairs(self, alloc: Global, more: &[(&Value, &Value)]) -> Result<Table, AllocError>
         ensures { IfOk result (λ made. made.pairs ≡ put_pairs self.pairs (map entry_view more.now)) }
     {
@@ -39,7 +35,7 @@ impl Table {
         } = opened(alloc, self)?;
         let mut measure = Some(measure);
         for (key, value) in more {
-            measure = put(alloc, &mut pairs, &mut index, measure, key, value)?;
+            measure = put(&mut pairs, &mut index, measure, key, value)?;
         }
         let measure = match measure {
             Some(measure) => measure,
@@ -68,24 +64,10 @@ fn copied(alloc: Global, node: &PairsNode) -> Result<PairsNode, AllocError>
 {
     let pairs = copy_pairs(alloc, &node.pairs)?;
     Ok(PairsNode {
-        index: index_of(alloc, &pairs)?,
+        index: Vec::from_slice(alloc, &node.index)?,
         pairs,
         measure: node.measure,
     })
-}
-
-pub(crate) fn index_of(
-    alloc: Global,
-    pairs: &[(Value, Value)],
-) -> Result<BTreeMap<u64, Vec<usize>>, AllocError>
-    ensures { IfOk result (λ index. Indexes index (pairs_view pairs.now)) }
-{
-    let mut index = BTreeMap::new(alloc);
-    for place in 0..pairs.len() {
-        let pair = &pairs[place];
-        note(alloc, &mut index, hash_of(&pair.0), place)?;
-    }
-    Ok(index)
 }
 
 pub(crate) fn measure_of(pairs: &[(Value, Value)]) -> PairsMeasure
@@ -100,29 +82,27 @@ pub(crate) fn measure_of(pairs: &[(Value, Value)]) -> PairsMeasure
 
 // Puts one pair. The measure goes on with a new pair, and is lost where a value is replaced.
 fn put(
-    alloc: Global,
     pairs: &mut Vec<(Value, Value)>,
-    index: &mut BTreeMap<u64, Vec<usize>>,
+    index: &mut Vec<usize>,
     measure: Option<PairsMeasure>,
     key: &Value,
     value: &Value,
 ) -> Result<Option<PairsMeasure>, AllocError>
     requires distinct { are_distinct (pairs_view pairs.old.items) ≡ true }
-    requires indexed { Indexes index.old (pairs_view pairs.old.items) }
+    requires indexed { Indexes index.old.items (pairs_view pairs.old.items) }
     requires measured { MayFit measure (pairs_view pairs.old.items) }
     ensures put { IfOk result (λ measure. pairs_view pairs.new.items ≡ put_pair (view key.now) (view value.now) (pairs_view pairs.old.items)) }
     ensures distinct { IfOk result (λ measure. are_distinct (pairs_view pairs.new.items) ≡ true) }
-    ensures indexed { IfOk result (λ measure. Indexes index.new (pairs_view pairs.new.items)) }
+    ensures indexed { IfOk result (λ measure. Indexes index.new.items (pairs_view pairs.new.items)) }
     ensures measured { IfOk result (λ measure. MayFit measure (pairs_view pairs.new.items)) }
 {
-    match place_of(key, pairs.as_slice(), index) {
-        Some(place) => {
+    match search(key, pairs.as_slice(), index.as_slice()) {
+        Ok(place) => {
             set_value(pairs, place, copy(value)?);
             Ok(None)
         }
-        None => {
-            let place = pairs.as_slice().len();
-            note(alloc, index, hash_of(key), place)?;
+        Err(rank) => {
+            index.insert(rank, pairs.as_slice().len())?;
             pairs.push((copy(key)?, copy(value)?))?;
             Ok(with_pair(measure, key, value))
         }

@@ -17,6 +17,7 @@ mod hashing;
 pub mod laws;
 mod measure;
 mod node_measures;
+mod order;
 mod places;
 mod print;
 mod removal;

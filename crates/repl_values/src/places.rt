@@ -1,21 +1,48 @@
-// Pairs by their places, and places by hashes.
+// The places of a map's pairs, found by their keys.
 #![tactic(auto, using(crate::proofs::Tables::table_steps))]
 
-ghost use Rattle.std.specs.Prelude.{◌≡◌, ◌++◌, ◌∷◌, [], ◌==◌, OnOk, if◌then◌else◌, option_map, ℕ};
+ghost use Rattle.std.specs.Prelude.{◌≡◌, Some, IfOk, IfErr, option_map};
 ghost use Rattle.repl_values.specs.View.{view, pairs_view};
-ghost use Rattle.repl_values.specs.Keyed.{key_in, value_of};
-ghost use Rattle.repl_values.specs.Index.{places_under};
+ghost use Rattle.repl_values.specs.Keyed.{first_place, value_of};
+ghost use Rattle.repl_values.specs.Index.{Indexes, Belongs};
 
+use crate::order::compare;
 use crate::value::Value;
-use std::alloc::{AllocError, Global};
-use std::collections::BTreeMap;
+use std::cmp::Ordering;
 
-pub(crate) fn key_at_place(pairs: &[(Value, Value)], place: usize) -> Option<&Value>
-    ensures { option_map (λ v. view v.now) result ≡ key_in (pairs_view pairs.now) place }
+// The place of an equal key, or else the rank at which the place of this key belongs. It compares
+// with as many keys as the number of pairs has binary digits.
+pub(crate) fn search(
+    key: &Value,
+    pairs: &[(Value, Value)],
+    index: &[usize],
+) -> Result<usize, usize>
+    requires { Indexes index.now (pairs_view pairs.now) }
+    ensures found { IfOk result (λ place. first_place (pairs_view pairs.now) (view key.now) ≡ Some place) }
+    ensures new { IfErr result (λ rank. Belongs rank index.now (pairs_view pairs.now) (view key.now)) }
 {
-    match pairs.get(place) {
-        Some(pair) => Some(&pair.0),
-        None => None,
+    let mut low = 0;
+    let mut high = index.len();
+    while low < high {
+        let middle = low + (high - low) / 2;
+        let place = index[middle];
+        match compare(&pairs[place].0, key) {
+            Ordering::Less => low = middle + 1,
+            Ordering::Equal => return Ok(place),
+            Ordering::Greater => high = middle,
+        }
+    }
+    Err(low)
+}
+
+// Where an equal key stands.
+pub(crate) fn place_of(key: &Value, pairs: &[(Value, Value)], index: &[usize]) -> Option<usize>
+    requires { Indexes index.now (pairs_view pairs.now) }
+    ensures { result ≡ first_place (pairs_view pairs.now) (view key.now) }
+{
+    match search(key, pairs, index) {
+        Ok(place) => Some(place),
+        Err(_) => None,
     }
 }
 
@@ -26,31 +53,4 @@ pub(crate) fn value_at_place(pairs: &[(Value, Value)], place: Option<usize>) -> 
         Some(pair) => Some(&pair.1),
         None => None,
     }
-}
-
-pub(crate) fn places_at(index: &BTreeMap<u64, Vec<usize>>, hash: u64) -> &[usize]
-    ensures { result.now ≡ places_under index.now hash }
-{
-    match index.get(&hash) {
-        Some(places) => places.as_slice(),
-        None => &[],
-    }
-}
-
-// Notes a place behind those under the hash.
-pub(crate) fn note(
-    alloc: Global,
-    index: &mut BTreeMap<u64, Vec<usize>>,
-    hash: u64,
-    place: usize,
-) -> Result<(), AllocError>
-    ensures { OnOk result ((h : ℕ) → places_under index.new h ≡ (if hash == h then places_under index.old h ++ place ∷ [] else places_under index.old h)) }
-{
-    let mut places = match index.remove(&hash) {
-        Some(places) => places,
-        None => Vec::new(alloc),
-    };
-    places.push(place)?;
-    index.insert(hash, places)?;
-    Ok(())
 }

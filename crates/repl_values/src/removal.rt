@@ -9,15 +9,14 @@ ghost use Rattle.repl_values.specs.Listed.{vector_of_two, unmarked, with_mark};
 
 use crate::building::sealed;
 use crate::copies::copy;
-use crate::edits::{index_of, measure_of};
-use crate::equality::place_of;
+use crate::edits::measure_of;
+use crate::places::{place_of, search};
 use crate::value::{Sequence, Table, Value};
 use std::alloc::{AllocError, Global};
-use std::collections::BTreeMap;
 
 impl Table {
     /// The pairs whose keys equal none of these, in their order. It fails only for want of memory,
-    /// and takes n log n steps for n pairs and log n for each key, unless hashes collide.
+    /// and compares n log n keys for n pairs and log n for each key.
     pub fn without_keys(&self, alloc: Global, keys: &[Value]) -> Result<Table, AllocError>
         ensures { IfOk result (λ made. made.pairs ≡ without self.now.pairs (items_view keys.now)) }
     {
@@ -32,7 +31,7 @@ fn marks_of(
     alloc: Global,
     keys: &[Value],
     pairs: &[(Value, Value)],
-    index: &BTreeMap<u64, Vec<usize>>,
+    index: &[usize],
 ) -> Result<Vec<bool>, AllocError>
     requires distinct { are_distinct (pairs_view pairs.now) ≡ true }
     requires indexed { Indexes index.now (pairs_view pairs.now) }
@@ -81,6 +80,22 @@ fn indexed(alloc: Global, pairs: Vec<(Value, Value)>) -> Result<Table, AllocErro
     let index = index_of(alloc, &pairs)?;
     let measure = measure_of(&pairs);
     sealed(alloc, pairs, index, measure)
+}
+
+// The places of pairs whose keys are distinct.
+fn index_of(alloc: Global, pairs: &[(Value, Value)]) -> Result<Vec<usize>, AllocError>
+    requires { are_distinct (pairs_view pairs.now) ≡ true }
+    ensures { IfOk result (λ index. Indexes index.items (pairs_view pairs.now)) }
+{
+    let mut index = Vec::with_capacity(alloc, pairs.len())?;
+    for place in 0..pairs.len() {
+        let pair = &pairs[place];
+        match search(&pair.0, &pairs[..place], &index) {
+            Ok(_) => {}
+            Err(rank) => index.insert(rank, place)?,
+        }
+    }
+    Ok(index)
 }
 
 /// The vector of a key and its value. It fails only for want of memory.

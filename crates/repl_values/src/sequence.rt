@@ -10,7 +10,7 @@ ghost use Rattle.repl_values.specs.Hash.{items_hash};
 ghost use Rattle.repl_values.specs.Ends.{with_last, behind_first};
 ghost use Rattle.repl_values.specs.Fits.{FitsItems};
 
-use crate::copies::{copy, copy_items};
+use crate::copies::{copies_with_room, copy, copy_items};
 use crate::node_measures::ItemsMeasure;
 use crate::tails::{is_half, tails_of, without_first};
 use crate::value::{ItemsNode, Sequence, Value};
@@ -65,17 +65,19 @@ impl Sequence {
     }
 
     /// The items and one more behind them. Where nobody else holds them it stands in their place,
-    /// and takes one step; otherwise one for each item. It fails only for want of memory.
+    /// and takes one step; otherwise each item is copied, and none is measured anew. It fails only
+    /// for want of memory.
     pub fn with_last(self, alloc: Global, last: Value) -> Result<Sequence, AllocError>
         ensures { IfOk result (λ made. made.items ≡ with_last self.items (view last)) }
     {
+        let measure = self.measure();
         let Sequence { node, start } = self;
         if start > 0 {
-            return with_last_of(alloc, &node.items[start..], last);
+            return with_last_of(alloc, &node.items[start..], measure, last);
         }
         match Arc::try_unwrap(node) {
-            Ok(node) => pushed(alloc, node.items, node.whole, last),
-            Err(shared) => with_last_of(alloc, &shared.items, last),
+            Ok(node) => pushed(alloc, node.items, measure, last),
+            Err(shared) => with_last_of(alloc, &shared.items, measure, last),
         }
     }
 
@@ -175,13 +177,17 @@ fn pushed(
     Ok(Sequence { node, start: 0 })
 }
 
-// Copies of the items and one more behind them.
-fn with_last_of(alloc: Global, items: &[Value], last: Value) -> Result<Sequence, AllocError>
+// Copies of the items, which were measured, and one more behind them.
+fn with_last_of(
+    alloc: Global,
+    items: &[Value],
+    measure: ItemsMeasure,
+    last: Value,
+) -> Result<Sequence, AllocError>
+    requires { FitsItems measure (items_view items.now) }
     ensures { IfOk result (λ made. made.items ≡ with_last (items_view items.now) (view last)) }
 {
-    let mut items = copy_items(alloc, items)?;
-    items.push(last)?;
-    Sequence::from_vec(alloc, items)
+    pushed(alloc, copies_with_room(alloc, items, 1)?, measure, last)
 }
 
 // The items with the measures of their rests.

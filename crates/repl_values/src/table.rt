@@ -1,5 +1,5 @@
 // The pairs of a map.
-#![tactic(auto, using(crate::proofs::Sameness::size_steps))]
+#![tactic(auto, using(crate::proofs::Sameness::size_steps, crate::proofs::Tables::table_steps))]
 
 ghost use Rattle.std.specs.Prelude.{◌≡◌, true, is_some, option_map, IfOk};
 ghost use Rattle.repl_values.specs.Datum.{map};
@@ -9,7 +9,7 @@ ghost use Rattle.repl_values.specs.Measures.{capped, pairs_weight, pairs_nesting
 ghost use Rattle.repl_values.specs.Hash.{hash};
 ghost use Rattle.repl_values.specs.Keyed.{value_at, are_distinct};
 
-use crate::equality::find;
+use crate::places::{place_of, value_at_place};
 use crate::value::{Table, Value};
 use std::alloc::AllocError;
 use std::sync::Arc;
@@ -46,19 +46,20 @@ impl Table {
         })
     }
 
-    /// The value under an equal key. It takes as many steps as the number of pairs has digits,
-    /// unless hashes collide.
+    /// The value under an equal key. It takes as many comparisons as the number of pairs
+    /// has binary digits.
     pub fn get(&self, key: &Value) -> Option<&Value>
         ensures { option_map (λ v. view v.now) result ≡ value_at (view key.now) self.now.pairs }
     {
-        find(key, self)
+        let pairs = self.node.pairs.as_slice();
+        value_at_place(pairs, place_of(key, pairs, &self.node.index))
     }
 
     /// Whether a key is equal, found as `get` finds it.
     pub fn contains(&self, key: &Value) -> bool
         ensures { result ≡ is_some (value_at (view key.now) self.now.pairs) }
     {
-        find(key, self).is_some()
+        self.get(key).is_some()
     }
 
     /// How large the keys and values are, read from their node.

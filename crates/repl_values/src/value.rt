@@ -1,6 +1,5 @@
 // What a program computes with. Functions are no values: they are named by symbols.
 use crate::node_measures::{ItemsMeasure, PairsMeasure};
-use std::collections::BTreeMap;
 use std::marker::Model;
 use std::sync::{Arc, ArcStr};
 
@@ -80,13 +79,13 @@ impl Model for Sequence {
     ghost size_decreases = { λ a h. items-fall a.node.value.items.items };
 }
 
-// Pairs in the order in which they were put in, with their places by the keys' hashes and what was
-// measured of them once.
+// Pairs in the order in which they were put in, with their places in the order of their keys and
+// what was measured of them once.
 #[cycle(value)]
 #[derive(Debug, Drop)]
 pub(crate) struct PairsNode {
     pub(crate) pairs: Vec<(Value, Value)>,
-    pub(crate) index: BTreeMap<u64, Vec<usize>>,
+    pub(crate) index: Vec<usize>,
     pub(crate) measure: PairsMeasure,
 }
 

@@ -1,4 +1,4 @@
-use Rattle.std.proofs.Common.{◌≡◌, true, List, ap, ◌∙◌, subst, sym}
+use Rattle.std.proofs.Common.{◌≡◌, true, ℕ, List, ap, ◌∙◌, subst, sym}
 use Rattle.repl_values.specs.Datum.{Pairs}
 use Rattle.repl_values.specs.View.{pairs_view, pairs_of}
 use Rattle.repl_values.specs.Index.{Indexes}
@@ -14,5 +14,7 @@ returns-clause-keeps c =
     record {
       measured = subst (λ (ps : Pairs). FitsPairs c.args.node.now.measure ps) same c.requires.measured;
       distinct = subst (λ (ps : Pairs). are_distinct ps ≡ true) same c.requires.distinct;
-      indexed = subst (λ (xs : List (Value × Value)). Indexes c.in_ok-index_of.field-0 (pairs_view xs)) c.deref-2.ensures.value c.in_ok-index_of.ensures;
+      indexed =
+          subst (λ (ps : Pairs). Indexes c.in_ok-from_slice.field-0.items ps) same
+          (subst (λ (ns : List ℕ). Indexes ns (pairs_view c.args.node.now.pairs.items)) (sym (c.in_ok-from_slice.ensures.items ∙ c.deref-2.ensures.value)) c.requires.indexed);
     }
