@@ -65,7 +65,7 @@ fn core_named(name: &str) -> Named
 }
 
 fn local_named(value: Option<&Value>) -> Result<Named, AllocError>
-    ensures { IfOk result (λ found. named_view found ≡ meant.local_named (option_map (λ v. view v.now) value)) }
+    ensures { IfOk result (λ found. named_view found ≡ meant.local_named (option_map (λ v. view v.now) value.entry)) }
 {
     match value {
         Some(value) => Ok(Named::Local(copy(value)?)),
