@@ -6,7 +6,7 @@ use Rattle.repl_values.specs.Measures.{weight, nesting}
 use Rattle.repl_values.proofs.Views.{value_views}
 use Rattle.repl_faults.specs.Failure.{Failure, too_large, output_too_long}
 use Rattle.core_texts.specs.Limits.{most_weight, most_text, if_short, within_weight}
-use Rattle.core_functions.specs.Outcome.{Outcome, gives, fails, most_nesting, limited, settled, bounded, printing}
+use Rattle.core_functions.specs.Outcome.{gives, fails, most_nesting, limited, settled, bounded, printing}
 
 -- what prints nothing is within bounds
 pub bounded-settled : (r : Result Datum Failure) → bounded (settled r) ≡ settled r

@@ -1,5 +1,5 @@
 -- Values as their data.
-use Rattle.std.proofs.Common.{◌≡◌, ◌≢◌, ℕ, ℤ, zero, suc, ◌+◌, ◌<◌, ◌≤◌, List, [], ◌∷◌, ◌++◌, get_or, set, take, drop, length, map, Option, Some, None, option_map, slice_get, add-one, Result, Ok, Err, refl, sym, ap, ◌∙◌, arith}
+use Rattle.std.proofs.Common.{◌≡◌, ℕ, ℤ, zero, suc, ◌+◌, ◌<◌, ◌≤◌, List, [], ◌∷◌, ◌++◌, get_or, set, take, drop, length, map, option_map, slice_get, add-one, Result, Ok, Err, refl, ap, arith}
 use Rattle.repl_values.specs.Datum.{Datum}
 use Rattle.repl_values.specs.View.{view}
 use Rattle.repl_values.specs.declared.value.Value.{Value}

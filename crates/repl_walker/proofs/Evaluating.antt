@@ -1,7 +1,7 @@
 -- Forms in a row, of which some have values already.
 use mathlib.Core.Path.{fun_ext}
-use Rattle.std.proofs.Common.{◌≡◌, ℕ, ◌<◌, Bool, true, false, if◌then◌else◌, Result, Ok, Err, IfOk, List, [], ◌∷◌, ◌++◌, refl, sym, ap, ◌∙◌, append_assoc, append-nil, zero, suc, length, nat_lt, arith}
-use Rattle.std.proofs.lemmas.List.{map-append}
+use Rattle.std.proofs.Common.{◌≡◌, ℕ, ◌<◌, Bool, true, false, if◌then◌else◌, Option, Some, None, MatchOption, subst, Result, Ok, Err, IfOk, List, [], ◌∷◌, ◌++◌, refl, sym, ap, ◌∙◌, append_assoc, append-nil, zero, suc, length, nat_lt, arith}
+use Rattle.std.proofs.lemmas.List.{map-append, length-map}
 use Rattle.std.proofs.lemmas.Bool.Decides.{nat_tests}
 use Rattle.std.proofs.lemmas.Grind.{common_steps}
 use Rattle.special_forms.specs.Functions.{FunctionData}
@@ -11,7 +11,13 @@ use Rattle.repl_values.specs.View.{view}
 use Rattle.repl_values.specs.declared.value.Value as value
 use Rattle.repl_values.proofs.Lists.{lists}
 use Rattle.repl_values.proofs.Views.{value_views}
+use Rattle.repl_values.specs.declared.fault.Fault.{Fault}
 use Rattle.repl_faults.specs.Failure.{Failure, output_too_long}
+use Rattle.repl_faults.specs.View.{failure_of}
+use Rattle.repl_faults.specs.declared.error.ApplyError.{ApplyError}
+use Rattle.core_functions.specs.Names.{fits}
+use Rattle.core_functions.specs.Meaning.{meaning}
+use Rattle.core_functions.specs.View.{FailsIn}
 use Rattle.core_texts.specs.Limits.{most_text}
 use Rattle.core_functions.specs.Outcome as outcomes
 use Rattle.core_functions.specs.Outcome.{Outcome, bounded}
@@ -19,10 +25,12 @@ use Rattle.special_forms.proofs.Sizes.{datum_size-pos, datum_size-list, datum_si
 use Rattle.special_forms.specs.Rows.{in_a_row}
 use Rattle.special_forms.specs.Seen.{views, forms_view}
 use Rattle.special_forms.specs.declared.forms.Forms.{Forms}
+use Rattle.special_forms.specs.declared.shapes.SpecialForm.{SpecialForm}
 use Rattle.repl_walker.specs.Tree.{Kept, Tree, ends, Part, ◌>>=◌}
-use Rattle.repl_walker.specs.Evaluation.{PlaceData, CalleeData, core_callee, program_callee, row, call_value, called, printed, outcome, value_at}
-use Rattle.repl_walker.specs.Machine.{kept_of, answered, answered_by, call_behind, items_behind, collected, items_value, list_at}
+use Rattle.repl_walker.specs.Evaluation.{PlaceData, CalleeData, core_callee, program_callee, row, call_value, called, printed, outcome, core_call, named, a_core_function, headed_value, value_at}
+use Rattle.repl_walker.specs.Machine.{kept_of, next_of, from_state, tree, answered, answered_by, call_behind, items_behind, collected, items_value, list_at}
 use Rattle.repl_walker.specs.declared.frames.Collection.{Collection}
+use Rattle.repl_walker.specs.declared.frames.Control.{Control}
 use Rattle.repl_walker.specs.declared.frames.State.{State}
 use Rattle.repl_walker.specs.declared.frames.Wanted.{Wanted}
 use Rattle.repl_asks.specs.Exchange as exchange
@@ -132,3 +140,33 @@ pub outcome-fails : (o : Outcome) (f : Failure) (next : Datum → Kept → Tree)
 outcome-fails o f next kept h = sym (outcome-bounded o next kept) ∙ ap (λ (p : Outcome). outcome p next kept) h
 
 pub ruleset bounds = (value_views, outcome-gives, outcome-fails)
+
+-- a form that was taken from the front
+pub form-taken : (X : Type 0) (o : Option value.Value) (v : value.Value) (old new : List Datum) → MatchOption o X (λ form. old ≡ view form ∷ new) → o ≡ Some v → old ≡ view v ∷ new
+form-taken X o v old new told is = let P : Option value.Value → Type 0 = λ p. MatchOption p X (λ form. old ≡ view form ∷ new) in subst P is told
+
+-- what holds wherever the machine stands holds where it stands
+pub if_ok-part : {E : Type 0} (r : Result Control E) (p q : Part Datum) → p ≡ q
+    → IfOk r (λ control. (s : State) → tree control s ≡ from_state p s) → IfOk r (λ control. (s : State) → tree control s ≡ from_state q s)
+if_ok-part (Ok control) p q same h = λ s. h s ∙ ap (λ (part : Part Datum). from_state part s) same
+if_ok-part (Err e) p q same h = tt
+
+pub if_ok-here : {E : Type 0} (r : Result Control E) (p q : Part Datum) (s : State) → p ≡ q
+    → IfOk r (λ control. (t : State) → tree control t ≡ from_state p t) → IfOk r (λ control. tree control s ≡ from_state q s)
+if_ok-here (Ok control) p q s same h = h s ∙ ap (λ (part : Part Datum). from_state part s) same
+if_ok-here (Err e) p q s same h = tt
+
+pub core_call-fits : (f : CoreFunction) (vs : List value.Value) → true ≡ fits f (length vs) → outcome (meaning f (views vs)) ≡ core_call f (views vs)
+unfolding core_call
+core_call-fits f vs h = let takes : fits f (length (views vs)) ≡ true = ap (fits f) (length-map vs view) ∙ sym h in rw takes refl
+
+-- the fault of a function, which ends the evaluation
+pub fails-told : (o : Outcome) (e : ApplyError) (f : Fault) (s : State) → FailsIn (bounded o) e → e ≡ ApplyError.Fault f
+    → ends (Err (failure_of f)) (kept_of s) ≡ from_state (outcome o) s
+fails-told o e f s told is =
+    let P : ApplyError → Type 0 = λ d. FailsIn (bounded o) d in sym (outcome-fails o (failure_of f) (next_of s) (kept_of s) (subst P is told))
+
+-- a list whose head names a function of the language
+pub headed-core : (room : ℕ) (p : PlaceData) (name : List ℕ) (ds : List Datum) (f : CoreFunction) (special : Option SpecialForm) (next : Datum → Kept → Tree)
+    → special ≡ None → named p.locals name ≡ a_core_function f → call_behind room p (core_callee f) [] ds next ≡ headed_value (value_at room) p name ds special next
+headed-core room p name ds f special next none core = call_start room p (core_callee f) ds next ∙ rw (none, core) refl

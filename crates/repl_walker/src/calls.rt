@@ -2,6 +2,8 @@
 // function is applied.
 ghost use Rattle.std.specs.Prelude.{◌≡◌, ◌+◌, ◌<◌, ◌≤◌, [], map, IfOk};
 ghost use Rattle.std.specs.Arc.{arc_str_bytes};
+ghost use Rattle.core_functions.specs.Outcome.{Outcome, bounded};
+ghost use Rattle.core_functions.specs.View.{FailsIn};
 ghost use Rattle.repl_walker.specs.Evaluation as meant;
 ghost use Rattle.repl_values.specs.View.{view};
 ghost use Rattle.special_forms.specs.Functions.{function_view};
@@ -71,8 +73,19 @@ fn call_core(
             let Applied { value, text } = applied;
             print(alloc, state, text.as_str(), value)
         }
-        Err(ApplyError::Fault(fault)) => Ok(Control::Fault(fault)),
-        Err(ApplyError::NoMemory) => Err(AllocError),
+        Err(error) => failed(error),
+    }
+}
+
+// The fault of a function ends the evaluation.
+fn failed(error: ApplyError) -> Result<Control, AllocError>
+    ensures size { IfOk result (λ control. control_size control < 2) }
+    ensures calls { IfOk result (λ control. spent control ≡ 0) }
+    ensures meaning { (o : Outcome) → FailsIn (bounded o) error → IfOk result (λ control. (s : State) → tree control s ≡ from_state (meant.outcome o) s) }
+{
+    match error {
+        ApplyError::Fault(fault) => Ok(Control::Fault(fault)),
+        ApplyError::NoMemory => Err(AllocError),
     }
 }
 

@@ -105,11 +105,28 @@ fn evaluate_list(
     if room == 0 {
         return Ok(Control::Fault(too_deep(alloc)?));
     }
+    evaluate_behind(alloc, state, head, forms, room - 1)
+}
+
+// The list with this head, and these forms behind it.
+#[tactic(auto, using(crate::proofs::Evaluating::steps), unfolding(crate::specs::Machine::call_behind))]
+fn evaluate_behind(
+    alloc: Global,
+    state: &mut State,
+    head: Value,
+    forms: Forms,
+    room: u32,
+) -> Result<Control, AllocError>
+    ensures size { IfOk result (λ control. control_size control + frames_size state.new.frames.items
+        < 3 + forms_size (forms_view forms) + frames_size state.old.frames.items) }
+    ensures calls { IfOk result (λ control. spent control + state.new.calls ≤ state.old.calls) }
+    ensures meaning { IfOk result (λ control. tree control state.new ≡ from_state (meant.list_value (meant.value_at room) (place_of state.old) (view head) (forms_view forms)) state.old) }
+{
     match head {
-        Value::Symbol(name) => evaluate_headed(alloc, state, name, forms, room - 1),
+        Value::Symbol(name) => evaluate_headed(alloc, state, name, forms, room),
         Value::Keyword(name) => {
             let callee = Callee::Keyword(name);
-            next_argument(alloc, state, callee, Vec::new(alloc), forms, room - 1)
+            next_argument(alloc, state, callee, Vec::new(alloc), forms, room)
         }
         other => Ok(Control::Fault(not_a_function(alloc, &other)?)),
     }

@@ -74,7 +74,10 @@ fn vector_is_doubled(rt: HostRuntime) -> Result<(), Fail> {
     let expected = format!(in a;
         "d2:ex40:class {class}7:root-ex40:class {class}6:statusl10:eval-erroreed3:err52:{class}: Value too large\ned6:statusl4:doneee"
     )?;
-    assert_eq!(&rt; replies_to(a, code.as_str())?.as_slice(), expected.as_bytes());
+    assert_eq!(&rt;
+        replies_to(a, code.as_str())?.as_slice(),
+        expected.as_bytes()
+    );
     Ok(())
 }
 

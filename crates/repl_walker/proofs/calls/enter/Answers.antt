@@ -7,10 +7,11 @@ pub returns-clause-meaning : goal.returns-clause-meaning
 returns-clause-meaning c =
     if_ok-turned _ _ (rw (
       view-Nil,
-      c.of_items.ensures,
       c.in_ok-push_front.ensures.items,
       c.replace-place.ensures.value,
       c.replace-place.ensures.after,
       c.in_ok-locals.ensures,
+      c.deref-2.ensures.value,
+      c.deref.ensures,
     ) refl)
     c.next_in_body.ensures.meaning

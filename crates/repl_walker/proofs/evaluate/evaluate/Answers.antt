@@ -3,7 +3,7 @@ use Rattle.repl_values.specs.Datum.{Datum}
 use Rattle.repl_values.specs.View.{view}
 use Rattle.repl_walker.specs.Tree.{Part}
 use Rattle.repl_walker.specs.Machine.{place_of, from_state}
-use Rattle.repl_values.specs.declared.value.Value.{the_lemmas}
+use Rattle.repl_values.proofs.Views.{value_views}
 use Rattle.special_forms.proofs.Sizes.{datum_size-pos}
 use Rattle.repl_walker.proofs.Evaluating.{if_ok-turned, list-at}
 use Rattle.repl_walker.proofs.evaluate.evaluate.Goals as goal
@@ -20,5 +20,5 @@ returns-in_default c =
     record {
       size = omega (arith, datum_size-pos (view c.args.form));
       calls = omega arith;
-      meaning = search (rules, the_lemmas);
+      meaning = search (rules, value_views);
     }
