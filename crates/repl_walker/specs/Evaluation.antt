@@ -24,14 +24,11 @@ use Rattle.repl_asks.specs.Exchange.{AnswerData, BindingData, bound_value, bound
 use Rattle.special_forms.specs.Functions.{FunctionData}
 use Rattle.special_forms.specs.Rows.{BoundForm, in_a_row}
 use Rattle.special_forms.specs.Truth.{is_true, decides, before}
+use Rattle.local_names.specs.Locals.{LocalData, value_of}
 use Rattle.repl_walker.specs.Tree.{Kept, Tree, ends, asks, Part, ◌>>=◌, done, fails, asked}
 use Rattle.special_forms.specs.Shapes.{is_slash, special_named, special_name, ShapeData, quoted, body, choice, bindings, logic, definition, function_definition, thrown, shape_of}
 use Rattle.special_forms.specs.declared.shapes.Logic.{Logic}
 use Rattle.special_forms.specs.declared.shapes.SpecialForm.{SpecialForm}
-
-pub record LocalData : Type 0 where
-  pub name : List ℕ
-  pub bound : Datum
 
 -- where a form stands: the locals, newest first, and the namespace of the function in whose body it is
 pub record PlaceData : Type 0 where
@@ -63,9 +60,9 @@ pub data NamedData : Type 0 where
   no_core_function : NamedData
   elsewhere : NamedData
 
-abbrev pub named_in : List LocalData → List ℕ → NamedData
-named_in [] s = elsewhere
-named_in (l ∷ ls) s = if bytes_eq l.name s then a_local l.bound else named_in ls s
+abbrev pub local_named : Option Datum → NamedData
+local_named (Some d) = a_local d
+local_named None = elsewhere
 
 abbrev pub core_named : Option CoreFunction → NamedData
 core_named (Some f) = a_core_function f
@@ -82,7 +79,7 @@ core_name s = core_name_at s (position is_slash s)
 -- `clojure.core/f` is the core function f
 abbrev pub named_or_local : List LocalData → List ℕ → Option (List ℕ) → NamedData
 named_or_local locals s (Some name) = core_named (function_named name)
-named_or_local locals s None = named_in locals s
+named_or_local locals s None = local_named (value_of locals s)
 
 abbrev pub named : List LocalData → List ℕ → NamedData
 named locals s = named_or_local locals s (core_name s)

@@ -1,5 +1,5 @@
 -- What the machine has still to do, in the words of the definition. Contracts of private functions speak of it.
-use Rattle.std.specs.Prelude.{ℕ, zero, suc, List, [], ◌∷◌, ◌++◌, option_map, Ok, Err, if◌then◌else◌, map as each, string_bytes}
+use Rattle.std.specs.Prelude.{drop, ℕ, zero, suc, List, [], ◌∷◌, ◌++◌, option_map, Ok, Err, if◌then◌else◌, map as each, string_bytes}
 use Rattle.std.specs.Arc.{arc_str_bytes}
 use Rattle.repl_values.specs.Datum.{Datum, nil, list, no_items}
 use Rattle.repl_values.specs.View.{view}
@@ -9,11 +9,10 @@ use Rattle.repl_faults.specs.View.{failure_of}
 use Rattle.repl_asks.specs.Exchange.{AnswerData, bound_value}
 use Rattle.repl_asks.specs.View.{ask_view}
 use Rattle.repl_walker.specs.Tree.{Kept, Tree, finished, ends, asks, Part, ◌>>=◌, done, fails}
-use Rattle.repl_walker.specs.Evaluation.{PlaceData, LocalData, with_local, CalleeData, core_callee, program_callee, keyword_callee, NamedData, a_local, a_core_function, no_core_function, elsewhere, answered_value, answered_callee, row, last_of, called, call_value, body_value, logic_value, let_value, defined, thrown_value, list_value, vector_value, map_value, value_at}
+use Rattle.repl_walker.specs.Evaluation.{PlaceData, with_local, CalleeData, core_callee, program_callee, keyword_callee, NamedData, a_local, a_core_function, no_core_function, elsewhere, answered_value, answered_callee, row, last_of, called, call_value, body_value, logic_value, let_value, defined, thrown_value, list_value, vector_value, map_value, value_at}
 use Rattle.special_forms.specs.Rows.{bindings_in}
 use Rattle.special_forms.specs.Truth.{is_true}
 use Rattle.special_forms.specs.Seen.{views, forms_view}
-use Rattle.repl_walker.specs.declared.frames.Local.{Local}
 use Rattle.repl_walker.specs.declared.frames.Place.{Place}
 use Rattle.repl_walker.specs.declared.frames.Callee.{Callee}
 use Rattle.repl_walker.specs.declared.frames.Collection.{Collection}
@@ -27,11 +26,8 @@ use Rattle.repl_walker.specs.declared.resume.Leg.{Leg}
 use Rattle.repl_walker.specs.declared.resume.Walk.{Walk}
 use Rattle.repl_walker.specs.declared.resume.Progress.{Progress}
 
-abbrev pub local_view : Local → LocalData
-local_view l = record { name = arc_str_bytes l.name; bound = view l.value }
-
 abbrev pub place_view : Place → PlaceData
-place_view p = record { locals = each local_view p.locals.items; home = option_map arc_str_bytes p.home }
+place_view p = record { locals = p.locals; home = option_map arc_str_bytes p.home }
 
 abbrev pub named_view : Named → NamedData
 named_view (Named.Local v) = a_local (view v)
@@ -58,12 +54,8 @@ list_at room p [] = done (list no_items)
 list_at zero p (d ∷ ds) = fails failures.too_deep
 list_at (suc room) p (d ∷ ds) = list_value (value_at room) p d ds
 
-abbrev pub without_newest : List LocalData → List LocalData
-without_newest [] = []
-without_newest (l ∷ ls) = ls
-
 abbrev pub without_local : PlaceData → PlaceData
-without_local p = record { locals = without_newest p.locals; home = p.home }
+without_local p = record { locals = drop 1 p.locals; home = p.home }
 
 -- arguments behind those that have values
 unfoldable pub call_behind : ℕ → PlaceData → CalleeData → List Datum → List Datum → Part Datum

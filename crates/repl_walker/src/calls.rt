@@ -7,15 +7,16 @@ ghost use Rattle.core_functions.specs.View.{FailsIn};
 ghost use Rattle.repl_walker.specs.Evaluation as meant;
 ghost use Rattle.repl_values.specs.View.{view};
 ghost use Rattle.special_forms.specs.Functions.{function_view};
-ghost use Rattle.repl_walker.specs.Machine.{local_view, callee_view, place_of, from_state, tree};
+ghost use Rattle.repl_walker.specs.Machine.{callee_view, place_of, from_state, tree};
 ghost use Rattle.repl_walker.specs.declared.frames.State.{State};
 ghost use Rattle.special_forms.specs.Seen.{views};
 ghost use Rattle.repl_walker.specs.Size.{control_size, frames_size, spent};
 
-use crate::frames::{Callee, Control, Frame, Local, Place, State};
+use crate::frames::{Callee, Control, Frame, Place, State};
 use crate::rows::next_in_body;
 use core_functions::{Applied, CoreFunction, apply};
 use core_maps::MapFunction;
+use local_names::Locals;
 use repl_faults::{ApplyError, output_too_long, too_many_calls, wrong_arity};
 use repl_values::{Value, copy_text};
 use special_forms::Function;
@@ -187,17 +188,16 @@ fn bound(
     alloc: Global,
     params: &[ArcStr],
     values: Vec<Value>,
-) -> Result<VecDeque<Local>, AllocError>
-    ensures { IfOk result (λ locals. map local_view locals.items ≡ meant.bound_to [] (map arc_str_bytes params.now) (views values.items)) }
+) -> Result<Locals, AllocError>
+    ensures { IfOk result (λ locals. locals ≡ meant.bound_to [] (map arc_str_bytes params.now) (views values.items)) }
 {
     let mut values = VecDeque::from_vec(values);
-    let mut locals = VecDeque::new(alloc);
+    let mut locals = Locals::none(alloc);
     for name in params {
         let Some(value) = values.pop_front() else {
             return Ok(locals);
         };
-        let name = copy_text(name)?;
-        locals.push_front(Local { name, value })?;
+        locals.bind(copy_text(name)?, value)?;
     }
     Ok(locals)
 }

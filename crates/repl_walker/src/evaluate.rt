@@ -54,7 +54,7 @@ fn evaluate_symbol(alloc: Global, state: &State, symbol: ArcStr) -> Result<Contr
     ensures calls { IfOk result (λ control. spent control ≡ 0) }
     ensures meaning { IfOk result (λ control. tree control state.now ≡ from_state (meant.symbol_value (place_of state.now) (arc_str_bytes symbol)) state.now) }
 {
-    match look_up(&state.place, symbol.as_str())? {
+    match look_up(&state.place, &symbol)? {
         Named::Local(value) => Ok(Control::Return(value)),
         Named::Core(_function) => Ok(Control::Fault(not_a_value(alloc, symbol.as_str())?)),
         Named::NoCore => Ok(Control::Fault(no_such_var(alloc, symbol.as_str())?)),
@@ -149,7 +149,7 @@ fn evaluate_headed(
     if let Some(special) = SpecialForm::named(name.as_str()) {
         return evaluate_special(alloc, state, special, forms, room);
     }
-    match look_up(&state.place, name.as_str())? {
+    match look_up(&state.place, &name)? {
         Named::Local(value) => Ok(Control::Fault(not_a_function(alloc, &value)?)),
         Named::Core(function) => {
             let callee = Callee::Core(function);

@@ -1,5 +1,6 @@
 // What an evaluation has still to do, from the inside out.
 use core_functions::CoreFunction;
+use local_names::Locals;
 use repl_asks::Ask;
 use repl_values::{Fault, Value};
 use special_forms::{Forms, Function, Logic};
@@ -80,17 +81,11 @@ pub(crate) enum Frame {
     },
 }
 
-#[derive(Drop)]
-pub(crate) struct Local {
-    pub(crate) name: ArcStr,
-    pub(crate) value: Value,
-}
-
-// Where a form stands: the locals, newest first, and the namespace in which the function was defined
+// Where a form stands: the locals, and the namespace in which the function was defined
 // whose body it is in; none outside of functions.
 #[derive(Drop)]
 pub(crate) struct Place {
-    pub(crate) locals: VecDeque<Local>,
+    pub(crate) locals: Locals,
     pub(crate) home: Option<ArcStr>,
 }
 

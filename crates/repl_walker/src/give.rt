@@ -72,7 +72,7 @@ pub(crate) fn give(
         Frame::Define { name } => define(state, name, Binding::Value(value)),
         Frame::Throw => throw(alloc, value),
         Frame::Unbind => {
-            drop(state.place.locals.pop_front());
+            state.place.locals.unbind();
             Ok(Control::Return(value))
         }
         Frame::Leave { place } => {

@@ -12,6 +12,7 @@ use crate::calls::enter;
 use crate::evaluate::evaluate;
 use crate::frames::{Control, Place, State, Wanted};
 use crate::give::give;
+use local_names::Locals;
 use repl_asks::{Answer, Ask};
 use repl_jobs::{End, Finished, Job};
 use repl_values::{Value, copy, copy_text};
@@ -67,7 +68,7 @@ pub fn start(alloc: Global, job: &Job) -> Result<Progress, AllocError>
     let state = State {
         frames: VecDeque::new(alloc),
         place: Place {
-            locals: VecDeque::new(alloc),
+            locals: Locals::none(alloc),
             home: None,
         },
         calls: CALLS,

@@ -11,7 +11,7 @@ ghost use Rattle.repl_walker.specs.Size.{control_size, frames_size, spent};
 
 use crate::calls::call;
 use crate::collect::collected;
-use crate::frames::{Callee, Collection, Control, Frame, Local, State};
+use crate::frames::{Callee, Collection, Control, Frame, State};
 use repl_values::Value;
 use special_forms::{Binding, Forms, Logic};
 use std::alloc::{AllocError, Global};
@@ -157,7 +157,7 @@ pub(crate) fn bind(state: &mut State, name: ArcStr, value: Value) -> Result<(), 
     ensures next { IfOk result (λ _. next_of state.new ≡ next_of state.old) }
     ensures kept { kept_of state.new ≡ kept_of state.old }
 {
-    state.place.locals.push_front(Local { name, value })?;
+    state.place.locals.bind(name, value)?;
     state.frames.push_front(Frame::Unbind)?;
     Ok(())
 }
