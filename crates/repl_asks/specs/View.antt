@@ -2,7 +2,7 @@
 use Rattle.std.specs.Prelude.{List, map}
 use Rattle.std.specs.Arc.{arc_str_bytes}
 use Rattle.repl_values.specs.View.{view}
-use Rattle.special_forms.specs.Functions.{function_view}
+use Rattle.special_forms.specs.Seen.{function_view}
 use Rattle.repl_asks.specs.Exchange.{BindingData, bound_value, bound_function, AskData, resolve, define, AnswerData, value, core_function, function, fault, Exchanged}
 use Rattle.repl_asks.specs.declared.ask.Ask.{Ask}
 use Rattle.repl_asks.specs.declared.ask.Binding.{Binding}

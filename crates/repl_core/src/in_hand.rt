@@ -2,7 +2,7 @@
 ghost use Rattle.std.specs.Prelude.{◌≡◌, [], ◌∷◌, map, option_map, string_bytes, IfOk};
 ghost use Rattle.repl_values.specs.View.{view, items_view};
 ghost use Rattle.repl_faults.specs.View.{failure_of};
-ghost use Rattle.repl_jobs.specs.Job.{finished_view};
+ghost use Rattle.repl_jobs.specs.View.{finished_view};
 ghost use Rattle.repl_walker.specs.Machine.{progress_tree};
 ghost use Rattle.repl_reader.specs.View.{fault_option};
 ghost use Rattle.repl_replies.specs.Replies.{namespace_not_found, bytes_of};

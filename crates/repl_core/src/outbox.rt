@@ -1,7 +1,7 @@
 // The replies that wait, and what is told of forms.
 ghost use Rattle.std.specs.Prelude.{◌≡◌, ◌≤◌, ◌↔◌, [], ◌∷◌, ◌++◌, length, map, option_map, string_bytes, IsTrue, OnOk, IfOk, MatchOption};
 ghost use Rattle.repl_faults.specs.View.{failure_of};
-ghost use Rattle.repl_jobs.specs.Job.{finished_view};
+ghost use Rattle.repl_jobs.specs.View.{finished_view};
 ghost use Rattle.repl_replies.specs.Replies.{bytes_of};
 ghost use Rattle.repl_replies.specs.View.{origin_view, body_view};
 ghost use Rattle.repl_core.specs.Move.{reply, fault_line, fault_replies, output_replies, end_replies, closing};

@@ -3,7 +3,8 @@ use Rattle.std.proofs.Common.{◌≡◌, ℕ, ◌+◌, List, [], ◌∷◌, ◌+
 use Rattle.repl_values.specs.Print.{print}
 use Rattle.repl_values.specs.Keyed.{keys_of}
 use Rattle.repl_values.specs.Datum.{Datum, Items, no_items, item, Pairs, no_pairs, pair}
-use Rattle.repl_values.specs.View.{view, items_of, items_view, pairs_of}
+use Rattle.repl_values.specs.View.{view, items_view}
+use Rattle.repl_values.specs.Listed.{items_of, pairs_of}
 use Rattle.repl_values.specs.declared.value.Value.{Value}
 use Rattle.repl_reader.specs.Grammar.{paired, paired_with, with_pair, print_at}
 

@@ -1,8 +1,7 @@
 -- Items and pairs as the lists that they were made of.
 use Rattle.std.proofs.Common.{◌≡◌, List, [], ◌∷◌, refl, ap}
 use Rattle.repl_values.specs.Datum.{Datum}
-use Rattle.repl_values.specs.View.{items_of, pairs_of}
-use Rattle.repl_values.specs.Listed.{listed, pairs_listed}
+use Rattle.repl_values.specs.Listed.{listed, pairs_listed, items_of, pairs_of}
 
 pub listed-of : (ds : List Datum) → listed (items_of ds) ≡ ds
 listed-of [] = refl

@@ -2,12 +2,12 @@
 use Rattle.std.proofs.Common.{◌≡◌, ℕ, zero, suc, ◌+◌, ◌<◌, ◌≤◌, Bool, true, false, not, ◌&&◌, ◌||◌, List, [], ◌∷◌, ◌++◌, length, get_or, set, take, map, filter, replicate, IfSome, ◌-◌, Option, Some, None, option_map, add-one, refl, sym, ap, ◌∙◌, arith}
 use Rattle.std.specs.Prelude.{if◌then◌else◌}
 use Rattle.repl_values.specs.Datum.{Datum, Items, no_items, item, Pairs, no_pairs, pair}
-use Rattle.repl_values.specs.View.{view, pair_view, items_view, items_of, pairs_view, pairs_of}
+use Rattle.repl_values.specs.View.{view, pair_view, items_view, pairs_view}
 use Rattle.repl_values.specs.declared.value.Value.{Value}
 use Rattle.repl_values.specs.Same.{same}
 use Rattle.repl_values.specs.Repeats.{is_one_of, repeat_behind, first_repeat}
 use Rattle.repl_values.specs.Keyed.{first_place, has_key, are_distinct, keys_of}
-use Rattle.repl_values.specs.Listed.{unmarked, with_mark}
+use Rattle.repl_values.specs.Listed.{unmarked, with_mark, items_of, pairs_of}
 use Rattle.repl_values.specs.Put.{without_keys}
 use Rattle.repl_values.proofs.Equivalence.{same-sym, and-left, and-right, and-both}
 use Rattle.repl_values.proofs.Lists.{pairs_listed-of}

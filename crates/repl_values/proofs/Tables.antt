@@ -2,7 +2,8 @@
 use Rattle.std.proofs.Common.{◌≡◌, ℕ, zero, suc, ◌+◌, ◌<◌, ◌≤◌, Bool, true, false, not, ◌&&◌, ◌||◌, List, [], ◌∷◌, ◌++◌, length, get_or, Option, Some, None, option_map, take, add-one, refl, sym, ap, ◌∙◌, arith}
 use Rattle.std.specs.Prelude.{if◌then◌else◌}
 use Rattle.repl_values.specs.Datum.{Datum, Pairs, no_pairs, pair}
-use Rattle.repl_values.specs.View.{view, pairs_view, pairs_of}
+use Rattle.repl_values.specs.View.{view, pairs_view}
+use Rattle.repl_values.specs.Listed.{pairs_of}
 use Rattle.repl_values.specs.declared.value.Value.{Value}
 use Rattle.repl_values.specs.Same.{same, size}
 use Rattle.repl_values.specs.Keyed.{value_at, first_place, has_key, are_distinct, value_in, value_of, behind_all}

@@ -1,9 +1,8 @@
 -- Putting pairs into a map, and taking keys out of it.
 use Rattle.std.specs.Prelude.{List, [], ◌∷◌, filter, not, if◌then◌else◌}
 use Rattle.repl_values.specs.Datum.{Datum, Items, Pairs, no_pairs, pair}
-use Rattle.repl_values.specs.View.{pairs_of}
 use Rattle.repl_values.specs.Repeats.{is_one_of}
-use Rattle.repl_values.specs.Listed.{pairs_listed}
+use Rattle.repl_values.specs.Listed.{pairs_listed, pairs_of}
 use Rattle.repl_values.specs.Same.{same}
 
 -- a key there keeps its place and takes the value; another stands behind all

@@ -1,9 +1,9 @@
 -- The data that a `Value` stands for. A list's, a vector's and a map's stand in it already.
 use Rattle.std.specs.Prelude.{List, [], ◌∷◌, map as each}
-use Rattle.std.specs.Arc.{arc_value, arc_str_bytes}
-use Rattle.repl_values.specs.Datum.{OwnerData, shared, tenant, Datum, nil, boolean, integer, string, keyword, symbol, list, vector, map, ref, atom, agent, var, fault, Items, no_items, item, Pairs, no_pairs, pair, FunctionData}
+use Rattle.std.specs.Arc.{arc_str_bytes}
+use Rattle.repl_values.specs.Datum.{OwnerData, shared, tenant, Datum, nil, boolean, integer, string, keyword, symbol, list, vector, map, ref, atom, agent, var, fault, Items, Pairs}
+use Rattle.repl_values.specs.Listed.{items_of, pairs_of}
 use Rattle.repl_values.specs.declared.value.Owner.{Owner}
-use Rattle.repl_values.specs.declared.function.Function.{Function}
 use Rattle.repl_values.specs.declared.value.Value.{Value}
 
 abbrev pub owner_view : Owner → OwnerData
@@ -26,14 +26,6 @@ view (Value.Agent n) = agent n
 view (Value.Var space name) = var (arc_str_bytes space) (arc_str_bytes name)
 view (Value.Fault class text) = fault (arc_str_bytes class) (arc_str_bytes text)
 
-abbrev pub items_of : List Datum → Items
-items_of [] = no_items
-items_of (d ∷ ds) = item d (items_of ds)
-
-abbrev pub pairs_of : List (Datum × Datum) → Pairs
-pairs_of [] = no_pairs
-pairs_of (p ∷ ps) = pair p.0 p.1 (pairs_of ps)
-
 abbrev pub items_view : List Value → Items
 items_view vs = items_of (each view vs)
 
@@ -42,11 +34,3 @@ pair_view p = (view p.0, view p.1)
 
 abbrev pub pairs_view : List (Value × Value) → Pairs
 pairs_view ps = pairs_of (each pair_view ps)
-
-abbrev pub function_view : Function → FunctionData
-function_view f = record {
-  space = arc_str_bytes f.space;
-  name = arc_str_bytes f.name;
-  params = each arc_str_bytes (arc_value f.params).items;
-  body = f.body.items;
-}

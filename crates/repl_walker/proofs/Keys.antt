@@ -4,7 +4,8 @@ use Rattle.std.specs.Prelude.{zip}
 use Rattle.repl_values.specs.Datum.{Datum, Items, no_items, item, Pairs, map}
 use Rattle.repl_values.specs.Keyed.{keys_of}
 use Rattle.repl_values.specs.Repeats.{is_one_of, repeat_behind, first_repeat}
-use Rattle.repl_values.specs.View.{view, items_of, pairs_of}
+use Rattle.repl_values.specs.View.{view}
+use Rattle.repl_values.specs.Listed.{items_of, pairs_of}
 use Rattle.repl_values.specs.BuiltView.{IsBuilt}
 use Rattle.repl_values.specs.Held.{TableData}
 use Rattle.repl_values.specs.declared.building.Built.{Built}

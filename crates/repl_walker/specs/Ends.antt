@@ -3,7 +3,8 @@ use Rattle.std.specs.Prelude.{◌≡◌, List, ◌++◌}
 use Rattle.std.specs.Arc.{arc_str_bytes}
 use Rattle.repl_asks.specs.Exchange.{Exchanged}
 use Rattle.repl_asks.specs.View.{trace_view}
-use Rattle.repl_jobs.specs.Job.{JobData, EndData, form_of, job_view, finished_view}
+use Rattle.repl_jobs.specs.Job.{JobData, EndData}
+use Rattle.repl_jobs.specs.View.{form_of, job_view, finished_view}
 use Rattle.repl_jobs.specs.declared.job.Job.{Job}
 use Rattle.repl_walker.specs.Tree.{Tree, finished, Leads}
 use Rattle.repl_walker.specs.Evaluation.{evaluation}

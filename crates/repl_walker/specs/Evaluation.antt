@@ -6,8 +6,7 @@ use Rattle.std.specs.Str.{bytes_eq}
 use Rattle.std.specs.List.{position}
 use Rattle.repl_values.specs.Datum.{Datum, nil, keyword, symbol, list, vector, map, fault, no_items, item}
 use Rattle.std.specs.Option.{option_and_then}
-use Rattle.repl_values.specs.Listed.{listed}
-use Rattle.repl_values.specs.View.{items_of, pairs_of}
+use Rattle.repl_values.specs.Listed.{listed, items_of, pairs_of}
 use Rattle.repl_values.specs.Repeats.{first_repeat}
 use Rattle.repl_faults.specs.Failure as failures
 use Rattle.repl_faults.specs.Failure.{Failure}

@@ -3,7 +3,6 @@ use Rattle.std.specs.Prelude.{drop, ℕ, zero, suc, List, [], ◌∷◌, ◌++�
 use Rattle.std.specs.Arc.{arc_str_bytes}
 use Rattle.repl_values.specs.Datum.{Datum, nil, list, no_items}
 use Rattle.repl_values.specs.View.{view}
-use Rattle.special_forms.specs.Functions.{function_view}
 use Rattle.repl_faults.specs.Failure as failures
 use Rattle.repl_faults.specs.View.{failure_of}
 use Rattle.repl_asks.specs.Exchange.{AnswerData, bound_value}
@@ -12,7 +11,7 @@ use Rattle.repl_walker.specs.Tree.{Kept, Tree, finished, ends, asks, Part, ◌>>
 use Rattle.repl_walker.specs.Evaluation.{PlaceData, with_local, CalleeData, core_callee, program_callee, keyword_callee, NamedData, a_local, a_core_function, no_core_function, elsewhere, answered_value, answered_callee, row, last_of, called, call_value, body_value, logic_value, let_value, defined, thrown_value, list_value, vector_value, map_value, value_at}
 use Rattle.special_forms.specs.Rows.{bindings_in}
 use Rattle.special_forms.specs.Truth.{is_true}
-use Rattle.special_forms.specs.Seen.{views, forms_view}
+use Rattle.special_forms.specs.Seen.{views, forms_view, function_view}
 use Rattle.repl_walker.specs.declared.frames.Place.{Place}
 use Rattle.repl_walker.specs.declared.frames.Callee.{Callee}
 use Rattle.repl_walker.specs.declared.frames.Collection.{Collection}
@@ -21,7 +20,7 @@ use Rattle.repl_walker.specs.declared.frames.State.{State}
 use Rattle.repl_walker.specs.declared.frames.Wanted.{Wanted}
 use Rattle.repl_walker.specs.declared.frames.Control.{Control}
 use Rattle.repl_walker.specs.declared.names.Named.{Named}
-use Rattle.repl_jobs.specs.Job.{end_view, finished_view}
+use Rattle.repl_jobs.specs.View.{end_view, finished_view}
 use Rattle.repl_walker.specs.declared.resume.Leg.{Leg}
 use Rattle.repl_walker.specs.declared.resume.Walk.{Walk}
 use Rattle.repl_walker.specs.declared.resume.Progress.{Progress}

@@ -6,10 +6,9 @@ ghost use Rattle.core_functions.specs.Outcome.{Outcome, bounded};
 ghost use Rattle.core_functions.specs.View.{FailsIn};
 ghost use Rattle.repl_walker.specs.Evaluation as meant;
 ghost use Rattle.repl_values.specs.View.{view};
-ghost use Rattle.special_forms.specs.Functions.{function_view};
 ghost use Rattle.repl_walker.specs.Machine.{callee_view, place_of, from_state, tree};
 ghost use Rattle.repl_walker.specs.declared.frames.State.{State};
-ghost use Rattle.special_forms.specs.Seen.{views};
+ghost use Rattle.special_forms.specs.Seen.{views, function_view};
 ghost use Rattle.repl_walker.specs.Size.{control_size, frames_size, spent};
 
 use crate::frames::{Callee, Control, Frame, Place, State};
@@ -184,11 +183,7 @@ pub(crate) fn enter(
 }
 
 // Each parameter with its argument, the last in front.
-fn bound(
-    alloc: Global,
-    params: &[ArcStr],
-    values: Vec<Value>,
-) -> Result<Locals, AllocError>
+fn bound(alloc: Global, params: &[ArcStr], values: Vec<Value>) -> Result<Locals, AllocError>
     ensures { IfOk result (λ locals. locals ≡ meant.bound_to [] (map arc_str_bytes params.now) (views values.items)) }
 {
     let mut values = VecDeque::from_vec(values);

@@ -2,7 +2,7 @@
 ghost use Rattle.std.specs.Prelude.{◌≡◌, ◌+◌, ◌<◌, ◌≤◌, ◌⊎◌, IfOk};
 ghost use Rattle.repl_asks.specs.View.{answer_view};
 ghost use Rattle.repl_walker.specs.Tree.{ends};
-ghost use Rattle.repl_jobs.specs.Job.{end_view};
+ghost use Rattle.repl_jobs.specs.View.{end_view};
 ghost use Rattle.repl_walker.specs.Ends.{evaluation_of};
 ghost use Rattle.repl_walker.specs.Machine.{tree, leg_tree, behind, progress_tree, kept_of};
 ghost use Rattle.repl_walker.specs.Size.{control_size, frames_size, walk_size, progress_size, progress_calls, leg_size, leg_spent, spent};

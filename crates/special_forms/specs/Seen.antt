@@ -1,15 +1,17 @@
 -- What the code's parts of a form stand for.
 use Rattle.std.specs.Prelude.{List, map, drop, take}
-use Rattle.std.specs.Arc.{arc_str_bytes}
+use Rattle.std.specs.Arc.{arc_value, arc_str_bytes}
 use Rattle.repl_values.specs.Datum.{Datum}
 use Rattle.repl_values.specs.Listed.{listed}
 use Rattle.repl_values.specs.View.{view}
 use Rattle.repl_values.specs.declared.value.Value.{Value}
+use Rattle.special_forms.specs.Functions.{FunctionData}
 use Rattle.special_forms.specs.Rows.{BoundForm, in_a_row, bindings_in}
 use Rattle.special_forms.specs.Shapes.{ShapeData, quoted, body, choice, bindings, logic, definition, function_definition, thrown}
 use Rattle.special_forms.specs.declared.forms.Source.{Source}
 use Rattle.special_forms.specs.declared.forms.Forms.{Forms}
 use Rattle.special_forms.specs.declared.forms.Binding.{Binding}
+use Rattle.special_forms.specs.declared.function.Function.{Function}
 use Rattle.special_forms.specs.declared.shapes.Shape.{Shape}
 
 abbrev pub views : List Value → List Datum
@@ -35,3 +37,11 @@ shape_view (Shape.Logic which forms) = logic which (forms_view forms)
 shape_view (Shape.Define name form) = definition (arc_str_bytes name) (view form)
 shape_view (Shape.DefineFunction name params forms) = function_definition (arc_str_bytes name) (map arc_str_bytes params.items) (forms_view forms)
 shape_view (Shape.Throw form) = thrown (view form)
+
+abbrev pub function_view : Function → FunctionData
+function_view f = record {
+  space = arc_str_bytes f.space;
+  name = arc_str_bytes f.name;
+  params = map arc_str_bytes (arc_value f.params).items;
+  body = forms_view f.body;
+}

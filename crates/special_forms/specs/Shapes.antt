@@ -4,8 +4,7 @@ use Rattle.std.specs.Option.{option_and_then}
 use Rattle.std.specs.List.{list_any}
 use Rattle.std.specs.Str.{bytes_eq}
 use Rattle.repl_values.specs.Datum.{Datum, nil, boolean, integer, string, keyword, symbol, list, vector, map, ref, atom, agent, var, fault}
-use Rattle.repl_values.specs.Listed.{listed}
-use Rattle.repl_values.specs.View.{items_of}
+use Rattle.repl_values.specs.Listed.{listed, items_of}
 use Rattle.repl_values.specs.Repeats.{first_repeat}
 use Rattle.special_forms.specs.Rows.{BoundForm}
 use Rattle.special_forms.specs.declared.shapes.Logic.{Logic}

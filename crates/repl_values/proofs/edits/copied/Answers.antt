@@ -1,6 +1,7 @@
 use Rattle.std.proofs.Common.{◌≡◌, true, ℕ, List, ap, ◌∙◌, subst, sym}
 use Rattle.repl_values.specs.Datum.{Pairs}
-use Rattle.repl_values.specs.View.{pairs_view, pairs_of}
+use Rattle.repl_values.specs.View.{pairs_view}
+use Rattle.repl_values.specs.Listed.{pairs_of}
 use Rattle.repl_values.specs.Index.{Indexes}
 use Rattle.repl_values.specs.declared.value.Value.{Value}
 use Rattle.repl_values.specs.Keyed.{are_distinct}
