@@ -1,30 +1,23 @@
 -- Chains of sort keys compared step by step, and an index compared, searched and added to.
-use Rattle.std.proofs.Common.{◌≡◌, ◌⊎◌, inl, inr, ⊎_elim, ℕ, zero, suc, ◌+◌, ◌<◌, ◌≤◌, Bool, true, false, List, [], ◌∷◌, ◌++◌, length, get_or, drop, map as each, Option, Some, None, option_map, refl, sym, ap, ◌∙◌, subst, arith}
+use Rattle.std.proofs.Common.{◌≡◌, inl, inr, ⊎_elim, ℕ, zero, suc, ◌+◌, ◌<◌, ◌≤◌, Bool, true, false, List, [], ◌∷◌, length, get_or, drop, map as each, refl, sym, ap, ◌∙◌, subst, arith}
 use Rattle.std.specs.Prelude.{if◌then◌else◌}
 use Rattle.std.proofs.lemmas.Bool.{cases_lt}
-use Rattle.std.specs.List.{All, Contains, insert}
-use Rattle.std.specs.List.Sorted.{IsPermutation}
+use Rattle.std.specs.List.{All, Contains}
 use Rattle.std.specs.declared.cmp.Ordering.{Ordering}
 use Rattle.std.specs.declared.cmp.Ordering.TheVariants.{Less, Equal, Greater}
 use Rattle.std.specs.Ordering.{nat_cmp, bool_cmp, is_ne, ordering_then}
 use Rattle.std.specs.Cmp.{nat_cmp_is}
-use Rattle.std.proofs.lemmas.List.Elements.{All-cons}
-use Rattle.std.proofs.lemmas.List.Sorted.{IsPermutation-insert, All-permutation, Contains-permutation}
-use Rattle.std.proofs.lemmas.List.Edits.{length-insert, get_or-insert_below, get_or-insert_at, get_or-insert_above}
-use Rattle.repl_values.specs.Datum.{Datum, Items, Pairs, no_pairs, pair, map}
+use Rattle.repl_values.specs.Datum.{Pairs, no_pairs, pair}
 use Rattle.repl_values.specs.View.{view, items_view, pairs_view}
 use Rattle.repl_values.specs.declared.value.Value.{Value}
 use Rattle.repl_values.specs.declared.value.PairsNode.{PairsNode}
 use Rattle.repl_values.specs.Held.{TableData}
 use Rattle.repl_values.specs.Inside.{KeepsPairs, seen_pairs}
 use Rattle.repl_values.proofs.Sameness.{size-pairs_view}
-use Rattle.repl_values.specs.Same.{same, size}
-use Rattle.repl_values.specs.Keyed.{first_place, behind_all, with_value}
-use Rattle.repl_values.specs.Order.{SortKey, number, both, order, chain, sorted, rows, sort_key, items_sort_key, content}
-use Rattle.repl_values.specs.Index.{key_at, row_at, rows_at, Indexes, Belongs}
-use Rattle.repl_values.proofs.Ordered.{order-self, order-Less, order-exact}
+use Rattle.repl_values.specs.Same.{size}
+use Rattle.repl_values.specs.Order.{SortKey, number, both, order, chain, sorted, rows, sort_key, items_sort_key}
+use Rattle.repl_values.specs.Index.{key_at, row_at, rows_at, Indexes}
 use Rattle.repl_values.proofs.Sorted.{IsIn, Ascends, ascending-same, sorted-ascends, sorted-in, in-sorted}
-use Rattle.repl_values.proofs.Ties.{same-key, key-same}
 
 -- ---- two chains, in turn
 
@@ -154,11 +147,12 @@ Ascending f ns = (i j : ℕ) → i < j → j < length ns → order (f (get_or ns
 
 each-ascends : (f : ℕ → SortKey) (ns : List ℕ) → Ascending f ns → Ascends (each f ns)
 each-ascends f [] h = tt
-each-ascends f (n ∷ ns) h =
-    (λ z i.
-    let r : (k : ℕ) × (k < length ns) × (z ≡ f (get_or ns k 0)) = each-in f ns z i in
-    ap (order (f n)) r.2 ∙ h 0 (suc r.0) (omega arith) (omega (arith, r.1)),
-    each-ascends f ns (λ i j l k. h (suc i) (suc j) (omega (arith, l)) (omega (arith, k))))
+each-ascends f (n ∷ ns) h = (
+  λ z i.
+      let r : (k : ℕ) × (k < length ns) × (z ≡ f (get_or ns k 0)) = each-in f ns z i in
+      ap (order (f n)) r.2 ∙ h 0 (suc r.0) (omega arith) (omega (arith, r.1)),
+  each-ascends f ns (λ i j l k. h (suc i) (suc j) (omega (arith, l)) (omega (arith, k))),
+)
 
 in-range : (ns : List ℕ) (m : ℕ) → All (λ n. n < m) ns → (k : ℕ) → k < length ns → get_or ns k 0 < m
 in-range ns m h k l = h k 0 l

@@ -1,8 +1,8 @@
 -- A key looked for in an index, and one more place in it.
-use Rattle.std.proofs.Common.{◌≡◌, ◌⊎◌, ⊎_elim, ℕ, zero, suc, ◌+◌, ◌<◌, ◌≤◌, Bool, true, false, List, [], ◌∷◌, ◌++◌, length, get_or, Option, Some, None, option_map, refl, sym, ap, ◌∙◌, subst, arith}
+use Rattle.std.proofs.Common.{◌≡◌, ⊎_elim, ℕ, zero, suc, ◌+◌, ◌<◌, ◌≤◌, Bool, true, false, List, [], ◌∷◌, length, get_or, Some, None, option_map, refl, sym, ap, ◌∙◌, subst, arith}
 use Rattle.std.specs.Prelude.{if◌then◌else◌}
 use Rattle.std.specs.List.{All, Contains, insert}
-use Rattle.std.specs.declared.cmp.Ordering.TheVariants.{Less, Equal, Greater}
+use Rattle.std.specs.declared.cmp.Ordering.TheVariants.{Less, Equal}
 use Rattle.std.proofs.lemmas.Bool.{cases_lt}
 use Rattle.std.proofs.lemmas.List.Elements.{All-cons, All-weaker}
 use Rattle.std.proofs.lemmas.List.Sorted.{IsPermutation-insert, All-permutation, Contains-permutation}
@@ -14,7 +14,7 @@ use Rattle.repl_values.specs.Same.{same, size}
 use Rattle.repl_values.specs.Keyed.{first_place, behind_all, with_value}
 use Rattle.repl_values.specs.Order.{SortKey, order, sort_key}
 use Rattle.repl_values.specs.Index.{key_at, Indexes, Belongs}
-use Rattle.repl_values.proofs.Ordered.{order-self, order-Less, order-exact}
+use Rattle.repl_values.proofs.Ordered.{order-self, order-Less}
 use Rattle.repl_values.proofs.Ties.{same-key, key-same}
 use Rattle.repl_values.proofs.Sameness.{size-pairs_view}
 

@@ -5,16 +5,16 @@ use Rattle.std.specs.Prelude.{◌==◌, if◌then◌else◌}
 use Rattle.std.specs.declared.cmp.Ordering.TheVariants.{Less, Equal, Greater}
 use Rattle.std.specs.declared.cmp.Ordering.{Ordering}
 use Rattle.std.specs.Ordering.{is_eq}
-use Rattle.std.specs.Cmp.{booleans_Decides, both_ways}
+use Rattle.std.specs.Cmp.{both_ways}
 use Rattle.std.specs.Str.{bytes_eq}
 use Rattle.std.proofs.lemmas.Bool.{eqb-true}
 use Rattle.std.proofs.lemmas.Bool.Decides.{Decides-int_eq}
 use Rattle.std.proofs.lemmas.Slice.Eq.{bytes_eq-Decides}
 use Rattle.repl_values.specs.Datum.{OwnerData, shared, tenant, Datum, nil, boolean, integer, string, keyword, symbol, list, vector, map, ref, atom, agent, var, fault, Items, no_items, item, Pairs, no_pairs, pair}
 use Rattle.repl_values.specs.Same.{same, same_owner, same_items, size, within, each_pair, is_among, has_pair}
-use Rattle.repl_values.specs.Hash.{hash, items_hash}
-use Rattle.repl_values.specs.Order.{SortKey, number, signed, text, both, order, sorted, chain, content, sort_key, items_sort_key, owner_sort_key, kind, rows}
-use Rattle.repl_values.proofs.Equivalence.{and-left, and-right, and-both, or-right, or-cases, head-both, same-refl}
+use Rattle.repl_values.specs.Hash.{hash}
+use Rattle.repl_values.specs.Order.{SortKey, number, text, both, order, sorted, chain, sort_key, items_sort_key, owner_sort_key, kind, rows}
+use Rattle.repl_values.proofs.Equivalence.{and-left, and-right, and-both, or-right, head-both}
 use Rattle.repl_values.proofs.Transitive.{is_leaf, leaf-is}
 use Rattle.repl_values.proofs.Hashes.{hash-same, items-hash-same}
 use Rattle.repl_values.proofs.Ordered.{order-exact, order-self}

@@ -12,11 +12,7 @@ use std::cmp::Ordering;
 
 // The place of an equal key, or else the rank at which the place of this key belongs. It compares
 // with as many keys as the number of pairs has binary digits.
-pub(crate) fn search(
-    key: &Value,
-    pairs: &[(Value, Value)],
-    index: &[usize],
-) -> Result<usize, usize>
+pub(crate) fn search(key: &Value, pairs: &[(Value, Value)], index: &[usize]) -> Result<usize, usize>
     requires { Indexes index.now (pairs_view pairs.now) }
     ensures found { IfOk result (λ place. first_place (pairs_view pairs.now) (view key.now) ≡ Some place) }
     ensures new { IfErr result (λ rank. Belongs rank index.now (pairs_view pairs.now) (view key.now)) }

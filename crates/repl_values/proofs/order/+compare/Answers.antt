@@ -1,5 +1,4 @@
-use Rattle.std.proofs.Common.{◌≡◌, ◌+◌, ◌<◌, ℕ, suc, List, drop, length, nat_cmp, sym, ap, ◌∙◌, add-one, arith}
-use Rattle.std.specs.Prelude.{slice_index_or}
+use Rattle.std.proofs.Common.{◌≡◌, ℕ, suc, List, drop, nat_cmp, sym, ap, ◌∙◌, add-one, arith}
 use Rattle.std.specs.Arc.{arc_value}
 use Rattle.repl_values.specs.Datum.{map}
 use Rattle.repl_values.specs.Held.{TableData}
@@ -28,13 +27,16 @@ pub compare_maps-compare_rows-requires : goal.compare_maps-compare_rows-requires
 compare_maps-compare_rows-requires t c =
     let pairs = c.deref-2.ensures.value ∙ ap (λ (n : PairsNode). n.pairs.items) c.deref.ensures in
     let seen : pairs_view c.deref-2.result.now ≡ c.args.left.now.pairs =
-    ap (λ (xs : List (Value × Value)). pairs_view xs) pairs ∙ ap (λ (d : TableData). d.pairs) c.left.view_is in
-    (omega (arith, ap pairs_nodes seen),
-    (node-within (arc_value c.left.inside.node) c.deref-2.result.now c.deref-4.result.now c.left.invariant pairs
-          (c.deref-4.ensures.value ∙ ap (λ (n : PairsNode). n.index.items) c.deref-3.ensures),
-    node-within (arc_value c.right.inside.node) c.deref-6.result.now c.deref-8.result.now c.right.invariant
-          (c.deref-6.ensures.value ∙ ap (λ (n : PairsNode). n.pairs.items) c.deref-5.ensures)
-          (c.deref-8.ensures.value ∙ ap (λ (n : PairsNode). n.index.items) c.deref-7.ensures)))
+    ap (λ (xs : List (Value × Value)). pairs_view xs) pairs ∙ ap (λ (d : TableData). d.pairs) c.left.view_is in (
+      omega (arith, ap pairs_nodes seen),
+      (
+        node-within (arc_value c.left.inside.node) c.deref-2.result.now c.deref-4.result.now c.left.invariant pairs
+            (c.deref-4.ensures.value ∙ ap (λ (n : PairsNode). n.index.items) c.deref-3.ensures),
+        node-within (arc_value c.right.inside.node) c.deref-6.result.now c.deref-8.result.now c.right.invariant
+            (c.deref-6.ensures.value ∙ ap (λ (n : PairsNode). n.pairs.items) c.deref-5.ensures)
+            (c.deref-8.ensures.value ∙ ap (λ (n : PairsNode). n.index.items) c.deref-7.ensures),
+      ),
+    )
 
 pub compare_maps-returns : goal.compare_maps-returns
 compare_maps-returns t c =

@@ -1,7 +1,7 @@
 use Rattle.std.proofs.Common.{◌≡◌, ◌+◌, ◌*◌, ◌≤◌, drop, length, map as each}
 use Rattle.repl_values.specs.View.{view, items_view, pairs_view}
 use Rattle.repl_values.specs.Order.{order, chain, sort_key, items_sort_key}
-use Rattle.repl_values.specs.Index.{row_at, rows_at}
+use Rattle.repl_values.specs.Index.{rows_at}
 use Rattle.repl_values.proofs.Size.{nodes, items_nodes, pairs_nodes}
 use Rattle.repl_values.proofs.order.+compare.Given as goal
 

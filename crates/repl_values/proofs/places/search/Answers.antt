@@ -1,6 +1,5 @@
 use Rattle.std.proofs.Common.{◌≡◌, ◌+◌, ◌-◌, ◌/◌, ◌<◌, ℕ, length, sym, ap, ◌∙◌, arith}
 use Rattle.std.specs.Prelude.{slice_index_or}
-use Rattle.std.specs.declared.cmp.Ordering.TheVariants.{Less, Equal, Greater}
 use Rattle.repl_values.specs.View.{view, pairs_view}
 use Rattle.repl_values.specs.Order.{SortKey, order, sort_key}
 use Rattle.repl_values.specs.Index.{key_at}

@@ -1,4 +1,4 @@
-use Rattle.std.proofs.Common.{◌≡◌, ◌+◌, ℕ, List, Some, true, take, Vec, Global, subst, sym, ap, ◌∙◌, arith}
+use Rattle.std.proofs.Common.{◌≡◌, ◌+◌, ℕ, List, true, take, Vec, Global, subst, sym, ◌∙◌, arith}
 use Rattle.repl_values.specs.View.{view, pairs_view}
 use Rattle.repl_values.specs.Keyed.{has_key}
 use Rattle.repl_values.specs.Index.{Indexes, Belongs}

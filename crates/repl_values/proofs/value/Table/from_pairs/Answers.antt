@@ -1,4 +1,4 @@
-use Rattle.std.proofs.Common.{◌≡◌, ℕ, List, Some, None, take, subst, sym, ap, ◌∙◌, arith}
+use Rattle.std.proofs.Common.{◌≡◌, ℕ, List, Some, take, subst, sym, ap, ◌∙◌, arith}
 use Rattle.repl_values.specs.Datum.{Pairs}
 use Rattle.repl_values.specs.View.{view, pairs_view}
 use Rattle.repl_values.specs.Keyed.{first_place}
