@@ -2,9 +2,10 @@
 use crate::parts::{Part, text, value_of};
 use Part::{Agent, Atom, Bool, Int, Keyword, List, Map, Nil, Ref, Str, Symbol, Var, Vector};
 use repl_values::{
-    Function, Owner, Sequence, Value, copy, copy_text, display_into, first_repeated, hash_of,
+    Owner, Sequence, Value, copy, copy_text, display_into, first_repeated, hash_of,
     is_plain, nesting, print_into, same, weight,
 };
+use special_forms::{Forms, Function};
 use std::sync::Arc;
 use std::test::Fail;
 
@@ -178,14 +179,21 @@ fn copies_succeed(rt: HostRuntime) -> Result<(), Fail> {
     assert!(rt; same(&value, &copy(&value)?));
     let space = text(a, "é")?;
     assert_eq!(rt; copy_text(&space)?.as_str(), "é");
+    let mut params = Vec::new(a);
+    params.push(text(a, "x")?)?;
+    let mut forms = Vec::new(a);
+    forms.push(copy(&value)?)?;
     let function = Function {
         space,
         name: text(a, "f")?,
-        params: Arc::new(a, Vec::new(a))?,
-        body: Sequence::from_vec(a, Vec::new(a))?,
+        params: Arc::new(a, params)?,
+        body: Forms::of_items(Sequence::from_vec(a, forms)?),
     };
     let copied = function.copy()?;
+    assert_eq!(rt; copied.space.as_str(), "é");
     assert_eq!(rt; copied.name.as_str(), "f");
+    assert_eq!(rt; copied.params.len(), 1);
+    assert!(rt; copied.body.first().is_some_and(|form| same(form, &value)));
     Ok(())
 }
 
