@@ -2,8 +2,8 @@
 use crate::parts::{Part, text, value_of};
 use Part::{Agent, Atom, Bool, Int, Keyword, List, Map, Nil, Ref, Str, Symbol, Var, Vector};
 use repl_values::{
-    Owner, Sequence, Value, copy, copy_text, display_into, first_repeated, hash_of,
-    is_plain, nesting, print_into, same, weight,
+    Owner, Sequence, Value, copy, copy_text, display_into, first_repeated, hash_of, is_plain,
+    nesting, print_into, same, weight,
 };
 use special_forms::{Forms, Function};
 use std::sync::Arc;
