@@ -1,6 +1,7 @@
 -- What the struct of the locals is seen as, and what it keeps: where the newest local of each name stands.
-use Rattle.std.specs.Prelude.{◌≡◌, ℕ, List, [], ◌∷◌, length, map, Option, Some, None, if◌then◌else◌, ⊤}
+use Rattle.std.specs.Prelude.{◌≡◌, ℕ, List, [], ◌∷◌, length, map, Option, Some, None, if◌then◌else◌, ⊤, refl}
 use Rattle.std.specs.Str.{bytes_eq}
+use Rattle.std.specs.Coded.{Coded, code_by, coded×, coded_list, coded_ℕ}
 use Rattle.std.specs.Arc.{arc_str_bytes}
 use Rattle.std.specs.BTreeMap.{BTreeMap, get}
 use Rattle.std.specs.Cmp.Lexicographic.{slice_cmp}
@@ -8,9 +9,16 @@ use Rattle.std.specs.Ordering.{nat_cmp}
 use Rattle.std.specs.declared.alloc.Global.{Global}
 use Rattle.std.specs.declared.cmp.Ordering.{Ordering}
 use Rattle.std.specs.declared.sync.ArcStr.{ArcStr}
+use Rattle.repl_values.specs.Datum.{Datum}
+use Rattle.repl_values.specs.Code.{datum_code}
 use Rattle.repl_values.specs.View.{view}
 use Rattle.local_names.specs.Locals.{LocalData}
 use Rattle.local_names.specs.declared.local.Local.{Local}
+
+abbrev pub locals_code : Coded (List LocalData)
+locals_code =
+    coded_list (code_by (List ℕ × Datum) (coded× (coded_list coded_ℕ) datum_code) (λ l. (l.name, l.bound)) (λ p. record { name = p.0; bound = p.1 })
+    (λ _. refl))
 
 abbrev pub local_view : Local → LocalData
 local_view l = record { name = arc_str_bytes l.name; bound = view l.value }

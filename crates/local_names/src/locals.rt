@@ -15,8 +15,8 @@ pub struct Locals {
 
 impl Model for Locals {
     ghost use Rattle.std.specs.Prelude.{List, map};
-    ghost use Rattle.local_names.specs.Locals.{LocalData, locals_code};
-    ghost use Rattle.local_names.specs.View.{local_view, AreLinked, Indexes};
+    ghost use Rattle.local_names.specs.Locals.{LocalData};
+    ghost use Rattle.local_names.specs.View.{locals_code, local_view, AreLinked, Indexes};
 
     ghost Value = { List LocalData };
 
