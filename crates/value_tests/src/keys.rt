@@ -18,11 +18,11 @@ enum Kind {
 }
 
 // Fifteen blocks, by the digits of the number.
-fn spelled(alloc: Global, number: usize) -> Result<String, AllocError> {
+fn spelled(alloc: Global, number: u32) -> Result<String, AllocError> {
     let mut spelled = String::new(alloc);
     let mut left = number;
     for _ in 0..15 {
-        spelled.push_str(BLOCKS[left % 2])?;
+        spelled.push_str(BLOCKS[(left % 2) as usize])?;
         left /= 2;
     }
     Ok(spelled)
@@ -37,7 +37,7 @@ fn map_of(alloc: Global, key: Value, value: Value) -> Result<Value, AllocError> 
     }
 }
 
-fn key_of(alloc: Global, kind: Kind, number: usize) -> Result<Value, AllocError> {
+fn key_of(alloc: Global, kind: Kind, number: u32) -> Result<Value, AllocError> {
     let spelled = text(alloc, spelled(alloc, number)?.as_str())?;
     match kind {
         Kind::Text => Ok(Value::Str(spelled)),
@@ -53,10 +53,10 @@ fn key_of(alloc: Global, kind: Kind, number: usize) -> Result<Value, AllocError>
 }
 
 // From each key to its number.
-fn numbered(alloc: Global, kind: Kind, count: usize) -> Result<Table, AllocError> {
+fn numbered(alloc: Global, kind: Kind, count: u32) -> Result<Table, AllocError> {
     let mut pairs = Vec::new(alloc);
     for number in 0..count {
-        pairs.push((key_of(alloc, kind, number)?, Value::Int(number as i64)))?;
+        pairs.push((key_of(alloc, kind, number)?, Value::Int(i64::from(number))))?;
     }
     match Table::from_pairs(alloc, pairs)? {
         Built::Made(table) => Ok(table),
@@ -66,7 +66,7 @@ fn numbered(alloc: Global, kind: Kind, count: usize) -> Result<Table, AllocError
 
 #[test]
 fn keys_of_one_hash_are_found(rt: HostRuntime) -> Result<(), Fail> {
-    let rows: [(Kind, usize); 5] = [
+    let rows: [(Kind, u32); 5] = [
         (Kind::Text, 20_000),
         (Kind::Word, 2_000),
         (Kind::Items, 2_000),
@@ -76,7 +76,7 @@ fn keys_of_one_hash_are_found(rt: HostRuntime) -> Result<(), Fail> {
     let a = rt.alloc();
     for (kind, count) in rows {
         let table = numbered(a, kind, count)?;
-        assert_eq!(rt; table.len(), count);
+        assert_eq!(rt; table.len(), count as usize);
         let hash = hash_of(&key_of(a, kind, 0)?);
         for number in 0..count {
             let key = key_of(a, kind, number)?;
@@ -85,7 +85,7 @@ fn keys_of_one_hash_are_found(rt: HostRuntime) -> Result<(), Fail> {
                 Some(Value::Int(found)) => *found,
                 _other => -1,
             };
-            assert_eq!(rt; found, number as i64);
+            assert_eq!(rt; found, i64::from(number));
         }
         assert!(rt; table.get(&key_of(a, kind, count)?).is_none());
     }
