@@ -77,9 +77,12 @@ fn rests_are_lists(rt: HostRuntime) -> Result<(), Fail> {
 #[test]
 fn rest_of_a_heavy_item(rt: HostRuntime) -> Result<(), Fail> {
     let a = rt.alloc();
-    let mut items = integers(a, &NUMBERS)?;
     let text = ArcStr::from_str(a, "a text that weighs more than all that follows it")?;
-    items.insert(2, Value::Str(text))?;
+    let mut items = integers(a, &[1, 2])?;
+    items.push(Value::Str(text))?;
+    for n in 3..7i64 {
+        items.push(Value::Int(n))?;
+    }
     let mut row = list(a, items)?;
     for _ in 0..3usize {
         row = value_of(&rt, a, "rest", &[row])?;
