@@ -18,17 +18,12 @@ import shutil
 import subprocess
 import sys
 import tempfile
-import threading
 import time
-from concurrent.futures import ThreadPoolExecutor
 
 import build
+import edits
 import minutes
 import workspace
-
-REFUSED = ": refused, as it must be"
-# What `rt` says of an edit that shows little of a contract.
-FOR_A_LOST_NAME = "only because a proof file names what the edit took away"
 
 
 def main(words):
@@ -100,38 +95,20 @@ def try_edits(names):
     if lost:
         print(f"edits: no such crate: {' '.join(lost)}", file=sys.stderr)
         return 2
-    asked = [known[it] for it in names] or uncovered()
-    asked = [it for it in asked if it.edits()]
-    below = {it.name: it for crate in asked for it in crate.below()}
-    if below and build.main([*below]):
+    asked = [it for it in [known[it] for it in names] or uncovered() if it.edits()]
+    if asked and build.main([it.name for it in asked]):
         return 1
-    before, writing = workspace.fingerprints(), threading.Lock()
-
-    def is_recorded(crate):
-        refused = are_refused(crate)
-        with writing:
-            # what changed meanwhile was not tried
-            if refused and workspace.fingerprints()[crate.name] == before[crate.name]:
-                note([crate], before)
-                return True
-        print(f"edits: {crate.name}: no line is written", flush=True)
-        return False
-
-    asked.sort(key=lambda it: -it.lines() * len(it.edits()))
-    with ThreadPoolExecutor(build.jobs_at_once()) as pool:
-        written = [*pool.map(is_recorded, asked)]
-    print(f"edits: {sum(written)} of {len(asked)} crates recorded")
-    return 0 if all(written) else 1
-
-
-def are_refused(crate):
-    """Tries the crate's edits, and returns whether each was refused for its meaning."""
-    ran = subprocess.run(
-        ["rt", "must-fail", crate.name], cwd=workspace.TOP, stdin=subprocess.DEVNULL, stdout=subprocess.PIPE,
-        stderr=subprocess.STDOUT, errors="replace",
-    )
-    print(ran.stdout, end="", flush=True)
-    return ran.returncode == 0 and ran.stdout.count(REFUSED) == len(crate.edits()) and FOR_A_LOST_NAME not in ran.stdout
+    before = workspace.fingerprints()
+    written = 0
+    for crate, refused in edits.tried(asked):
+        # what changed meanwhile was not tried
+        if refused and workspace.fingerprints()[crate.name] == before[crate.name]:
+            note([crate], before)
+            written += 1
+        else:
+            print(f"edits: {crate.name}: no line is written", flush=True)
+    print(f"edits: {written} of {len(asked)} crates recorded")
+    return 0 if written == len(asked) else 1
 
 
 def note(crates, now):

@@ -1,8 +1,8 @@
 // Applying a function to values.
-ghost use Rattle.std.specs.Prelude.{◌≡◌, true, length, map};
+ghost use Rattle.std.specs.Prelude.{◌≡◌, true, length, map, option_map, string_bytes};
 ghost use Rattle.repl_values.specs.View.{view};
 ghost use Rattle.core_functions.specs.Names.{fits};
-ghost use Rattle.core_functions.specs.Outcome.{limited};
+ghost use Rattle.core_functions.specs.Outcome.{limited, bounded, printing};
 ghost use Rattle.core_functions.specs.Meaning.{meaning};
 ghost use Rattle.core_functions.specs.View.{Answers};
 
@@ -12,7 +12,7 @@ use core_maps::apply_maps;
 use core_predicates::apply_predicates;
 use core_sequences::apply_sequences;
 use core_texts::{apply_texts, printed};
-use repl_faults::{ApplyError, too_large};
+use repl_faults::{ApplyError, output_too_long, too_large};
 use repl_values::{Value, nesting, weight};
 use std::alloc::Global;
 
@@ -29,11 +29,12 @@ const MOST_WEIGHT: u64 = 1_048_576;
 const MOST_NESTING: u64 = 128;
 
 /// Applies the function. All arguments' kinds are checked from the left before anything else, and
-/// the size of the value last. A function that prints gives nil.
-#[tactic(auto, using(repl_values::proofs::Views::value_views), unfolding(crate::specs::Outcome::settled))]
+/// the size of the value last. A function that prints gives nil, and fails where it alone prints more
+/// than 1,048,576 bytes.
+#[tactic(auto, using(crate::proofs::Outcomes::outcomes), unfolding(crate::specs::Outcome::settled))]
 pub fn apply(alloc: Global, function: CoreFunction, args: &[Value]) -> Result<Applied, ApplyError>
     requires { fits function (length args.now) ≡ true }
-    ensures { Answers (meaning function (map view args.now)) result }
+    ensures { Answers (bounded (meaning function (map view args.now))) result }
 {
     match function {
         CoreFunction::Integer(function) => {
@@ -58,11 +59,22 @@ pub fn apply(alloc: Global, function: CoreFunction, args: &[Value]) -> Result<Ap
         }
         CoreFunction::Print(function) => {
             let text = printed(alloc, function, args)?;
-            Ok(Applied {
-                value: Value::Nil,
-                text,
-            })
+            printing(alloc, text)
         }
+    }
+}
+
+// Nil, with this text printed, where there is one.
+#[tactic(auto, using(repl_values::proofs::Views::value_views))]
+fn printing(alloc: Global, text: Option<String>) -> Result<Applied, ApplyError>
+    ensures { Answers (printing (option_map string_bytes text)) result }
+{
+    match text {
+        Some(text) => Ok(Applied {
+            value: Value::Nil,
+            text,
+        }),
+        None => Err(ApplyError::Fault(output_too_long(alloc)?)),
     }
 }
 

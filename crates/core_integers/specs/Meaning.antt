@@ -1,16 +1,13 @@
 -- What each function of integers is. Kinds of all arguments come first, from the left, then the function's own
 -- faults.
-use Rattle.std.specs.Prelude.{ℕ, ℤ, List, [], ◌∷◌, Result, Ok, Err}
+use Rattle.std.specs.Prelude.{ℕ, ℤ, List, [], ◌∷◌, Result, Ok}
 use Rattle.repl_values.specs.Datum.{Datum, boolean, integer}
-use Rattle.repl_faults.specs.Failure.{Failure, ◌>>=◌, wrong_argument}
+use Rattle.repl_faults.specs.Failure.{Failure, ◌>>=◌}
+use Rattle.core_items.specs.Arguments.{integer_in}
 use Rattle.core_integers.specs.Names.{name_of}
 use Rattle.core_integers.specs.Arithmetic.{arithmetic, first}
 use Rattle.core_integers.specs.Comparison.{is_ordered, passes}
 use Rattle.core_integers.specs.declared.function.IntegerFunction.{IntegerFunction}
-
-abbrev pub integer_in : List ℕ → Datum → Result ℤ Failure
-integer_in function (integer n) = Ok n
-integer_in function d = Err (wrong_argument function d)
 
 -- the arguments of a function that takes integers alone
 abbrev pub integers_in : List ℕ → List Datum → Result (List ℤ) Failure

@@ -3,13 +3,14 @@ ghost use Rattle.std.specs.Prelude.{◌≡◌, true, length, map, IfOk, vec_len}
 ghost use Rattle.repl_values.specs.View.{view};
 ghost use Rattle.repl_faults.specs.View.{Gives};
 ghost use Rattle.core_integers.specs.Names.{fits};
-ghost use Rattle.core_integers.specs.Meaning.{value_of, integer_in, integers_in};
+ghost use Rattle.core_integers.specs.Meaning.{value_of, integers_in};
 ghost use Rattle.core_integers.specs.Meaning as meant;
 
 use crate::arithmetic::arithmetic;
 use crate::comparison::{is_ordered, passes};
 use crate::function::IntegerFunction;
-use repl_faults::{ApplyError, wrong_argument};
+use core_items::integer_of;
+use repl_faults::ApplyError;
 use repl_values::Value;
 use std::alloc::Global;
 
@@ -57,14 +58,4 @@ fn integers_of(alloc: Global, function: &str, args: &[Value]) -> Result<Vec<i64>
         integers.push(n)?;
     }
     Ok(integers)
-}
-
-#[tactic(auto, using(crate::proofs::Values::seen))]
-fn integer_of(alloc: Global, function: &str, argument: &Value) -> Result<i64, ApplyError>
-    ensures { Gives (λ n. n) result (integer_in function.now (view argument.now)) }
-{
-    match argument {
-        Value::Int(n) => Ok(*n),
-        other => Err(ApplyError::Fault(wrong_argument(alloc, function, other)?)),
-    }
 }

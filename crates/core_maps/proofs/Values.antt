@@ -1,11 +1,11 @@
 -- Values as their data.
-use Rattle.std.proofs.Common.{◌≡◌, ◌≢◌, ℕ, ℤ, zero, suc, ◌+◌, ◌<◌, ◌≤◌, List, [], ◌∷◌, ◌++◌, get_or, set, take, drop, length, map, Option, Some, None, option_map, slice_get, add-one, Result, Ok, Err, refl, sym, ap, ◌∙◌, arith}
+use Rattle.std.proofs.Common.{◌≡◌, ℕ, ℤ, zero, suc, ◌+◌, ◌<◌, ◌≤◌, List, [], ◌∷◌, ◌++◌, get_or, set, take, drop, length, map, option_map, slice_get, add-one, Result, Ok, Err, refl, ap, arith}
 use Rattle.repl_values.specs.Datum.{Datum}
 use Rattle.repl_values.specs.View.{view}
 use Rattle.repl_values.specs.declared.value.Value.{Value}
 use Rattle.repl_values.proofs.Views.{value_views}
 use Rattle.repl_faults.specs.Failure.{Failure}
-use Rattle.core_pairs.proofs.Lists.{lists}
+use Rattle.core_items.proofs.Lists.{lists}
 use Rattle.core_maps.specs.Arguments.{by_turns, left_alone}
 
 pub take-put-drop : (xs : List Value) (n : ℕ) (w : Value) → n < length xs

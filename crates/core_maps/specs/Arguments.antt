@@ -1,11 +1,8 @@
 -- The arguments of the functions of maps.
-use Rattle.std.specs.Prelude.{ℕ, ℤ, List, [], ◌∷◌, slice_index_or, Option, Some, None, Result, Ok, Err}
-use Rattle.repl_values.specs.Datum.{Datum, nil, integer, map, Pairs, no_pairs}
+use Rattle.std.specs.Prelude.{ℕ, ℤ, List, [], ◌∷◌, Option, Some, None, Result, Ok, Err}
+use Rattle.repl_values.specs.Datum.{Datum, nil, map, Pairs, no_pairs}
 use Rattle.repl_faults.specs.Failure.{Failure, ◌>>=◌, wrong_argument}
-
--- an argument by its place
-abbrev pub argument : ℕ → List Datum → Datum
-argument n args = slice_index_or args n nil
+use Rattle.core_items.specs.Arguments.{integer_in}
 
 -- keys and their values by turns; a last one alone is left out
 abbrev pub by_turns : List Datum → List (Datum × Datum)
@@ -18,10 +15,6 @@ abbrev pub left_alone : List Datum → Option Datum
 left_alone [] = None
 left_alone (k ∷ []) = Some k
 left_alone (k ∷ v ∷ ds) = left_alone ds
-
-abbrev pub integer_in : List ℕ → Datum → Result ℤ Failure
-integer_in function (integer n) = Ok n
-integer_in function d = Err (wrong_argument function d)
 
 -- the pairs of a map; nil stands for an empty one
 abbrev pub pairs_in : List ℕ → Datum → Result Pairs Failure

@@ -1,13 +1,14 @@
 -- What each function of maps is. Kinds of all arguments come first, from the left, then the function's own faults.
-use Rattle.std.specs.Prelude.{ℕ, ◌+◌, ℤ, pos, negsuc, Bool, true, false, ◌||◌, ◌==◌, nat_lt, nat_le, List, [], ◌∷◌, ◌++◌, length, drop, take, slice_get, unwrap_or, map as each, Option, Some, None, is_some, Result, Ok, Err, if◌then◌else◌}
-use Rattle.repl_values.specs.Datum.{Datum, nil, boolean, integer, list, vector, map, Items, Pairs, no_pairs, pair}
-use Rattle.repl_values.specs.View.{items_of}
-use Rattle.repl_values.specs.Same.{same}
+use Rattle.std.specs.Prelude.{ℕ, ◌+◌, ℤ, pos, negsuc, false, nat_le, List, [], ◌∷◌, ◌++◌, length, drop, take, slice_get, unwrap_or, map as each, Option, Some, None, is_some, Result, Ok, Err, if◌then◌else◌}
+use Rattle.repl_values.specs.Datum.{Datum, nil, boolean, integer, vector, map, Items, no_pairs}
+use Rattle.repl_values.specs.Listed.{listed, pairs_listed, items_of}
+use Rattle.repl_values.specs.Keyed.{value_at}
+use Rattle.repl_values.specs.Put.{put_pairs, without_keys}
 use Rattle.repl_faults.specs.Failure.{Failure, ◌>>=◌, wrong_argument, out_of_bounds, no_value_supplied}
-use Rattle.core_pairs.specs.Listed.{listed, pairs_listed}
-use Rattle.core_pairs.specs.Put.{put_pairs, without_keys}
+use Rattle.core_items.specs.Arguments.{argument, at_index}
+use Rattle.core_items.specs.Making.{list_or_nil}
 use Rattle.core_maps.specs.Names.{name_of}
-use Rattle.core_maps.specs.Arguments.{argument, by_turns, left_alone, integer_in, pairs_in, places_in}
+use Rattle.core_maps.specs.Arguments.{by_turns, left_alone, pairs_in, places_in}
 use Rattle.core_maps.specs.declared.function.MapFunction.{MapFunction}
 
 -- pairs put one after another; an odd number faults
@@ -17,16 +18,6 @@ made_of None ds = Ok (map (put_pairs no_pairs (by_turns ds)))
 
 unfoldable pub hash_map : List Datum → Result Datum Failure
 hash_map ds = made_of (left_alone ds) ds
-
--- the value of the first equal key
-abbrev pub value_at : Datum → Pairs → Option Datum
-value_at key no_pairs = None
-value_at key (pair k v ps) = if same k key then Some v else value_at key ps
-
--- the item at a place from 0 to below the count
-abbrev pub at_index : ℤ → List Datum → Option Datum
-at_index (pos n) ds = slice_get ds n
-at_index (negsuc n) ds = None
 
 -- what is no integer has no item
 abbrev pub item_at : Datum → Items → Option Datum
@@ -72,11 +63,6 @@ unfoldable pub dissoc : Datum → List Datum → Result Datum Failure
 dissoc nil keys = Ok nil
 dissoc (map ps) keys = Ok (map (without_keys ps (items_of keys)))
 dissoc d keys = Err (wrong_argument (name_of MapFunction.Dissoc) d)
-
--- a list, but nil for an empty one
-abbrev pub list_or_nil : List Datum → Datum
-list_or_nil [] = nil
-list_or_nil (d ∷ ds) = list (items_of (d ∷ ds))
 
 unfoldable pub keys : Datum → Result Datum Failure
 keys d = pairs_in (name_of MapFunction.Keys) d >>= λ ps. Ok (list_or_nil (each (λ p. p.0) (pairs_listed ps)))

@@ -4,11 +4,12 @@
 ghost use Rattle.std.specs.Prelude.{◌≡◌, map, option_map, IfOk};
 ghost use Rattle.repl_values.specs.View.{view};
 ghost use Rattle.repl_faults.specs.View.{Gives};
-ghost use Rattle.core_pairs.specs.Found.{entry_view};
+ghost use Rattle.repl_values.specs.Seen.{entry_view};
 ghost use Rattle.core_maps.specs.Arguments as meant;
 ghost use Rattle.core_maps.specs.View.{place_view};
 
-use repl_faults::{ApplyError, wrong_argument};
+use core_items::integer_of;
+use repl_faults::ApplyError;
 use repl_values::Value;
 use std::alloc::{AllocError, Global};
 
@@ -49,13 +50,4 @@ pub(crate) fn places_of<'a>(
         places.push((index, *value))?;
     }
     Ok(places)
-}
-
-fn integer_of(alloc: Global, function: &str, argument: &Value) -> Result<i64, ApplyError>
-    ensures { Gives (λ n. n) result (meant.integer_in function.now (view argument.now)) }
-{
-    match argument {
-        Value::Int(n) => Ok(*n),
-        other => Err(ApplyError::Fault(wrong_argument(alloc, function, other)?)),
-    }
 }

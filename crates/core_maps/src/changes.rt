@@ -4,16 +4,16 @@
 ghost use Rattle.std.specs.Prelude.{◌≡◌, ◌≤◌, ◌+◌, ◌∷◌, ◌++◌, map, take, drop, vec_len, length, IfOk, IfSome};
 ghost use Rattle.repl_values.specs.View.{view};
 ghost use Rattle.repl_faults.specs.View.{Gives};
-ghost use Rattle.core_pairs.specs.Found.{entry_view};
+ghost use Rattle.repl_values.specs.Seen.{entry_view};
 ghost use Rattle.core_maps.specs.View.{place_view};
 ghost use Rattle.core_maps.specs.Meaning as meant;
 
 use crate::arguments::places_of;
 use crate::function::MapFunction;
-use crate::making::pairs_of;
-use core_pairs::{with_pairs, without_keys};
+use crate::making::table_of;
+use core_items::vector_of;
 use repl_faults::{ApplyError, out_of_bounds, wrong_argument};
-use repl_values::{Value, copy};
+use repl_values::{Value, copy, copy_items};
 use std::alloc::{AllocError, Global};
 
 #[tactic(auto, using(crate::proofs::Values::seen), unfolding(crate::specs::Meaning::assoc))]
@@ -28,11 +28,12 @@ pub(crate) fn assoc<'a>(
     match collection {
         Value::Vector(items) => {
             let places = places_of(alloc, name, more)?;
-            Ok(Value::Vector(with_items(alloc, items, places.as_slice())?))
+            let all = with_items(alloc, items.as_slice(), places.as_slice())?;
+            Ok(vector_of(alloc, all)?)
         }
         other => {
-            let pairs = pairs_of(alloc, name, other)?;
-            Ok(Value::Map(with_pairs(alloc, pairs, more)?))
+            let pairs = table_of(alloc, name, other)?;
+            Ok(Value::Map(pairs.with_pairs(alloc, more)?))
         }
     }
 }
@@ -43,7 +44,7 @@ pub(crate) fn dissoc(alloc: Global, collection: &Value, keys: &[Value]) -> Resul
 {
     match collection {
         Value::Nil => Ok(Value::Nil),
-        Value::Map(pairs) => Ok(Value::Map(without_keys(alloc, pairs, keys)?)),
+        Value::Map(pairs) => Ok(Value::Map(pairs.without_keys(alloc, keys)?)),
         other => {
             let name = MapFunction::Dissoc.name();
             Err(ApplyError::Fault(wrong_argument(alloc, name, other)?))
@@ -59,21 +60,11 @@ fn with_items(
 ) -> Result<Vec<Value>, ApplyError>
     ensures { Gives (λ all. map view all.items) result (meant.with_items (map place_view places.now) (map view items.now)) }
 {
-    let mut all = copy_values(alloc, items)?;
+    let mut all = copy_items(alloc, items)?;
     for (index, value) in places {
         all = put_at(alloc, all, *index, value)?;
     }
     Ok(all)
-}
-
-fn copy_values(alloc: Global, values: &[Value]) -> Result<Vec<Value>, AllocError>
-    ensures { IfOk result (λ copies. map view copies.items ≡ map view values.now) }
-{
-    let mut copies = Vec::with_capacity(alloc, values.len())?;
-    for value in values {
-        copies.push(copy(alloc, value)?)?;
-    }
-    Ok(copies)
 }
 
 // The index as a place from 0 to the count.
@@ -97,7 +88,7 @@ fn put_at(
     ensures { Gives (λ put. map view put.items) result (meant.put_at (meant.place_within index (vec_len all)) (view value.now) (map view all.items)) }
 {
     match place_within(index, all.len()) {
-        Some(place) => Ok(replaced(all, place, copy(alloc, value)?)?),
+        Some(place) => Ok(replaced(all, place, copy(value)?)?),
         None => Err(ApplyError::Fault(out_of_bounds(alloc)?)),
     }
 }

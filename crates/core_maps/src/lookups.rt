@@ -1,14 +1,15 @@
 // Values by key or by index.
 #![tactic(auto, using(crate::proofs::Values::seen))]
 
-ghost use Rattle.std.specs.Prelude.{◌≡◌, map, option_map};
-ghost use Rattle.repl_values.specs.View.{view, items_view, pairs_view};
+ghost use Rattle.std.specs.Prelude.{◌≡◌, option_map};
+ghost use Rattle.repl_values.specs.View.{view, items_view};
 ghost use Rattle.repl_faults.specs.View.{Gives};
 ghost use Rattle.core_maps.specs.Meaning as meant;
 
 use crate::function::MapFunction;
+use core_items::at_index;
 use repl_faults::{ApplyError, wrong_argument};
-use repl_values::{Value, copy, same};
+use repl_values::{Value, copy};
 use std::alloc::Global;
 
 #[tactic(auto, using(crate::proofs::Values::seen), unfolding(crate::specs::Meaning::get))]
@@ -21,8 +22,8 @@ pub(crate) fn get(
     ensures { Gives view result (meant.get (view collection.now) (view key.now) (option_map (λ v. view v.now) otherwise.entry)) }
 {
     match (found_in(collection, key), otherwise) {
-        (Some(value), _) => Ok(copy(alloc, value)?),
-        (None, Some(value)) => Ok(copy(alloc, value)?),
+        (Some(value), _) => Ok(copy(value)?),
+        (None, Some(value)) => Ok(copy(value)?),
         (None, None) => Ok(Value::Nil),
     }
 }
@@ -31,8 +32,8 @@ fn found_in<'a>(collection: &'a Value, key: &Value) -> Option<&'a Value>
     ensures { option_map (λ v. view v.now) result ≡ meant.found_in (view collection.now) (view key.now) }
 {
     match collection {
-        Value::Map(pairs) => value_at(pairs, key),
-        Value::Vector(items) => item_at(items, key),
+        Value::Map(pairs) => pairs.get(key),
+        Value::Vector(items) => item_at(items.as_slice(), key),
         _other => None,
     }
 }
@@ -43,24 +44,13 @@ pub(crate) fn contains(alloc: Global, collection: &Value, key: &Value) -> Result
 {
     match collection {
         Value::Nil => Ok(Value::Bool(false)),
-        Value::Map(pairs) => Ok(Value::Bool(value_at(pairs, key).is_some())),
-        Value::Vector(items) => Ok(Value::Bool(item_at(items, key).is_some())),
+        Value::Map(pairs) => Ok(Value::Bool(pairs.contains(key))),
+        Value::Vector(items) => Ok(Value::Bool(item_at(items.as_slice(), key).is_some())),
         other => {
             let name = MapFunction::Contains.name();
             Err(ApplyError::Fault(wrong_argument(alloc, name, other)?))
         }
     }
-}
-
-fn value_at<'a>(pairs: &'a [(Value, Value)], key: &Value) -> Option<&'a Value>
-    ensures { option_map (λ v. view v.now) result ≡ meant.value_at (view key.now) (pairs_view pairs.now) }
-{
-    for (known, value) in pairs {
-        if same(known, key) {
-            return Some(value);
-        }
-    }
-    None
 }
 
 fn item_at<'a>(items: &'a [Value], index: &Value) -> Option<&'a Value>
@@ -70,13 +60,4 @@ fn item_at<'a>(items: &'a [Value], index: &Value) -> Option<&'a Value>
         Value::Int(n) => at_index(items, *n),
         _other => None,
     }
-}
-
-fn at_index(items: &[Value], index: i64) -> Option<&Value>
-    ensures { option_map (λ v. view v.now) result ≡ meant.at_index index (map view items.now) }
-{
-    if index < 0 {
-        return None;
-    }
-    items.get(index as usize)
 }

@@ -9,9 +9,9 @@ ghost use Rattle.core_maps.specs.Meaning as meant;
 
 use crate::arguments::by_turns;
 use crate::function::MapFunction;
-use core_pairs::with_pairs;
+use core_items::list_or_nil;
 use repl_faults::{ApplyError, no_value_supplied, wrong_argument};
-use repl_values::{Value, copy};
+use repl_values::{Table, Value, copy};
 use std::alloc::{AllocError, Global};
 
 #[tactic(auto, using(crate::proofs::Values::seen), unfolding(crate::specs::Meaning::hash_map))]
@@ -21,12 +21,26 @@ pub(crate) fn hash_map(alloc: Global, args: &[Value]) -> Result<Value, ApplyErro
     let turns = by_turns(alloc, args)?;
     match turns.left_alone {
         Some(key) => Err(ApplyError::Fault(no_value_supplied(alloc, key)?)),
-        None => Ok(Value::Map(with_pairs(alloc, &[], turns.pairs.as_slice())?)),
+        None => {
+            let none = Table::empty(alloc)?;
+            Ok(Value::Map(none.with_pairs(alloc, turns.pairs.as_slice())?))
+        }
+    }
+}
+
+// The map to put pairs into. Nil stands for an empty one.
+pub(crate) fn table_of(alloc: Global, function: &str, argument: &Value) -> Result<Table, ApplyError>
+    ensures { Gives (λ table. table.pairs) result (pairs_in function.now (view argument.now)) }
+{
+    match argument {
+        Value::Nil => Ok(Table::empty(alloc)?),
+        Value::Map(pairs) => Ok(pairs.copy()?),
+        other => Err(ApplyError::Fault(wrong_argument(alloc, function, other)?)),
     }
 }
 
 // The pairs of a map. Nil stands for an empty one.
-pub(crate) fn pairs_of<'a>(
+fn pairs_of<'a>(
     alloc: Global,
     function: &str,
     argument: &'a Value,
@@ -46,7 +60,7 @@ pub(crate) fn keys(alloc: Global, argument: &Value) -> Result<Value, ApplyError>
 {
     let pairs = pairs_of(alloc, MapFunction::Keys.name(), argument)?;
     let keys = copy_keys(alloc, pairs)?;
-    Ok(list_or_nil(keys))
+    Ok(list_or_nil(alloc, keys)?)
 }
 
 #[tactic(auto, using(crate::proofs::Values::seen), unfolding(crate::specs::Meaning::vals))]
@@ -55,7 +69,7 @@ pub(crate) fn vals(alloc: Global, argument: &Value) -> Result<Value, ApplyError>
 {
     let pairs = pairs_of(alloc, MapFunction::Vals.name(), argument)?;
     let vals = copy_vals(alloc, pairs)?;
-    Ok(list_or_nil(vals))
+    Ok(list_or_nil(alloc, vals)?)
 }
 
 fn copy_keys(alloc: Global, pairs: &[(Value, Value)]) -> Result<Vec<Value>, AllocError>
@@ -63,7 +77,7 @@ fn copy_keys(alloc: Global, pairs: &[(Value, Value)]) -> Result<Vec<Value>, Allo
 {
     let mut keys = Vec::with_capacity(alloc, pairs.len())?;
     for (key, _value) in pairs {
-        keys.push(copy(alloc, key)?)?;
+        keys.push(copy(key)?)?;
     }
     Ok(keys)
 }
@@ -73,18 +87,7 @@ fn copy_vals(alloc: Global, pairs: &[(Value, Value)]) -> Result<Vec<Value>, Allo
 {
     let mut vals = Vec::with_capacity(alloc, pairs.len())?;
     for (_key, value) in pairs {
-        vals.push(copy(alloc, value)?)?;
+        vals.push(copy(value)?)?;
     }
     Ok(vals)
-}
-
-// The list, or nil for an empty one.
-fn list_or_nil(items: Vec<Value>) -> Value
-    ensures { view result ≡ meant.list_or_nil (map view items.items) }
-{
-    if items.is_empty() {
-        Value::Nil
-    } else {
-        Value::List(items)
-    }
 }

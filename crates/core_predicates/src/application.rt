@@ -26,7 +26,7 @@ pub fn apply_predicates(
     match function {
         PredicateFunction::Equal => Ok(Value::Bool(each_equals_the_next(args))),
         PredicateFunction::NotEqual => Ok(Value::Bool(!each_equals_the_next(args))),
-        PredicateFunction::Identity => Ok(copy(alloc, &args[0])?),
+        PredicateFunction::Identity => Ok(copy(&args[0])?),
         PredicateFunction::Test(test) => Ok(Value::Bool(passes(test, &args[0]))),
     }
 }

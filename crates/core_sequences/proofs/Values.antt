@@ -1,15 +1,16 @@
 -- Values as their data.
-use Rattle.std.proofs.Common.{◌≡◌, ◌≢◌, ℕ, zero, suc, ◌<◌, ◌≤◌, List, [], ◌∷◌, ◌++◌, get_or, length, map, reverse, Some, None, Result, Ok, Err, refl, sym, ap, arith}
+use Rattle.std.proofs.Common.{◌≡◌, ◌≢◌, List, [], ◌∷◌, ◌++◌, get_or, length, map, drop, reverse, Some, None, Result, Ok, Err, refl, sym, ap, ◌∙◌, arith}
 use mathlib.Core.List.{reverse_aux}
-use Rattle.repl_values.specs.Datum.{Datum, nil, vector}
-use Rattle.repl_values.specs.View.{view, items_view, pair_view}
+use Rattle.repl_values.specs.Datum.{Datum, nil, list, vector, Items, no_items, item}
+use Rattle.repl_values.specs.View.{view, items_view}
 use Rattle.repl_values.specs.declared.value.Value.{Value}
 use Rattle.repl_values.proofs.Views.{value_views}
 use Rattle.repl_faults.specs.Failure.{Failure}
-use Rattle.core_pairs.specs.Listed.{vector_of_two}
-use Rattle.core_pairs.proofs.Lists.{lists}
-use Rattle.core_sequences.specs.Items.{as_pair}
-use Rattle.core_sequences.specs.View.{pair_vectors}
+use Rattle.repl_values.specs.Ends.{with_last, behind_first}
+use Rattle.repl_values.specs.Listed.{listed}
+use Rattle.core_items.specs.Making.{vector_of, list_or_nil}
+use Rattle.core_items.proofs.Lists.{lists, of-listed}
+use Rattle.core_sequences.specs.Pairs.{as_pair}
 
 pub as_pair-two : (xs : List Value) (x y : Value) → length xs ≡ 2 → x ≡ get_or xs 0 x → y ≡ get_or xs 1 y
     → as_pair (vector (items_view xs)) ≡ Some (view x, view y)
@@ -30,16 +31,28 @@ abbrev pub with_front : List (Datum × Datum) → Result (List (Datum × Datum))
 with_front front (Ok ps) = Ok (front ++ ps)
 with_front front (Err f) = Err f
 
-pub pair_vectors-at : (ps : List (Value × Value)) (i : ℕ) (p : Value × Value) → i < length ps → p ≡ get_or ps i p
-    → get_or (pair_vectors ps) i nil ≡ vector_of_two (view p.0, view p.1)
-pair_vectors-at [] i p i< is = absurd (omega (arith, i<))
-pair_vectors-at (q ∷ ps) zero p i< is = ap (λ (x : Value × Value). vector_of_two (pair_view x)) (sym is)
-pair_vectors-at (q ∷ ps) (suc i) p i< is = pair_vectors-at ps i p (omega (arith, i<)) is
+-- what stands behind the first item
+pub listed-behind_first : (ds : Items) → listed (behind_first ds) ≡ drop 1 (listed ds)
+listed-behind_first no_items = refl
+listed-behind_first (item d ds) = refl
 
-pub pair_vectors-past : (ps : List (Value × Value)) (i : ℕ) → length ps ≤ i → get_or (pair_vectors ps) i nil ≡ nil
-pair_vectors-past [] i past = refl
-pair_vectors-past (q ∷ ps) zero past = absurd (omega (arith, past))
-pair_vectors-past (q ∷ ps) (suc i) past = pair_vectors-past ps i (omega (arith, past))
+-- a list of no items is nil where nil stands for it
+pub list_or_nil-empty : (ds : Items) → length (listed ds) ≡ 0 → list_or_nil (listed ds) ≡ nil
+list_or_nil-empty no_items none = refl
+list_or_nil-empty (item d ds) none = absurd (omega (arith, none))
+
+pub list_or_nil-full : (ds : Items) → length (listed ds) ≢ 0 → list_or_nil (listed ds) ≡ list ds
+list_or_nil-full no_items some = absurd (some refl)
+list_or_nil-full (item d ds) some = ap (λ (es : Items). list (item d es)) (of-listed ds)
+
+-- a vector by the list of its items
+pub vector-listed : (ds : Items) (all : List Datum) → listed ds ≡ all → vector_of all ≡ vector ds
+vector-listed ds all e = ap vector_of (sym e) ∙ ap vector (of-listed ds)
+
+-- one item more behind the others
+pub listed-with_last : (ds : Items) (d : Datum) → listed (with_last ds d) ≡ listed ds ++ d ∷ []
+listed-with_last no_items d = refl
+listed-with_last (item e ds) d = ap (λ (es : List Datum). e ∷ es) (listed-with_last ds d)
 
 map_view-reverse_aux : (vs behind : List Value) → map view (reverse_aux vs behind) ≡ reverse_aux (map view vs) (map view behind)
 map_view-reverse_aux [] behind = refl
@@ -48,4 +61,15 @@ map_view-reverse_aux (v ∷ vs) behind = map_view-reverse_aux vs (v ∷ behind)
 pub map_view-reverse : (vs : List Value) → map view (reverse vs) ≡ reverse (map view vs)
 map_view-reverse vs = map_view-reverse_aux vs []
 
-pub ruleset seen = (value_views, lists, as_pair-two, as_pair-other, pair_vectors-at, pair_vectors-past, map_view-reverse)
+pub ruleset seen = (
+  value_views,
+  lists,
+  listed-behind_first,
+  list_or_nil-empty,
+  list_or_nil-full,
+  vector-listed,
+  listed-with_last,
+  as_pair-two,
+  as_pair-other,
+  map_view-reverse,
+)

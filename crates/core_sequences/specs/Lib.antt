@@ -1,4 +1,3 @@
 pub mod Names
-pub mod Items
+pub mod Pairs
 pub mod Meaning
-pub mod View

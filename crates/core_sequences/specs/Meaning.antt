@@ -1,28 +1,16 @@
 -- What each function of sequences is. Kinds of all arguments come first, from the left, then the function's own
 -- faults.
-use Rattle.std.specs.Prelude.{ℕ, ◌-◌, ℤ, pos, negsuc, ◌==◌, List, [], ◌∷◌, ◌++◌, length, reverse, drop, slice_get, slice_index_or, chars, Option, Some, None, Result, Ok, Err}
+use Rattle.std.specs.Prelude.{ℕ, ◌-◌, pos, ◌==◌, List, ◌∷◌, ◌++◌, length, reverse, drop, slice_get, chars, Option, Some, None, Result, Ok, Err}
 use Rattle.repl_values.specs.Datum.{Datum, nil, boolean, integer, string, list, vector, map}
-use Rattle.repl_values.specs.View.{items_of}
+use Rattle.repl_values.specs.Listed.{listed}
+use Rattle.repl_values.specs.Put.{put_pairs}
 use Rattle.repl_faults.specs.Failure.{Failure, ◌>>=◌, wrong_argument, out_of_bounds}
-use Rattle.core_pairs.specs.Listed.{listed}
-use Rattle.core_pairs.specs.Put.{put_pairs}
+use Rattle.core_items.specs.Arguments.{argument, integer_in, item_or_nil, at_index}
+use Rattle.core_items.specs.Items.{items_in, row_in}
+use Rattle.core_items.specs.Making.{list_of, vector_of, list_or_nil}
 use Rattle.core_sequences.specs.Names.{name_of}
-use Rattle.core_sequences.specs.Items.{items_in, row_in, integer_in, pairs_in}
+use Rattle.core_sequences.specs.Pairs.{pairs_in}
 use Rattle.core_sequences.specs.declared.function.SequenceFunction.{SequenceFunction}
-
--- an argument by its place
-abbrev pub argument : ℕ → List Datum → Datum
-argument n args = slice_index_or args n nil
-
-abbrev pub list_of : List Datum → Datum
-list_of ds = list (items_of ds)
-
-abbrev pub vector_of : List Datum → Datum
-vector_of ds = vector (items_of ds)
-
--- nil where there is no such item
-abbrev pub item_or_nil : ℕ → List Datum → Datum
-item_or_nil n ds = slice_index_or ds n nil
 
 unfoldable pub first : Datum → Result Datum Failure
 first d = items_in (name_of SequenceFunction.First) d >>= λ ds. Ok (item_or_nil 0 ds)
@@ -30,16 +18,15 @@ first d = items_in (name_of SequenceFunction.First) d >>= λ ds. Ok (item_or_nil
 unfoldable pub last : Datum → Result Datum Failure
 last d = items_in (name_of SequenceFunction.Last) d >>= λ ds. Ok (item_or_nil (length ds - 1) ds)
 
-unfoldable pub rest : Datum → Result Datum Failure
-rest d = items_in (name_of SequenceFunction.Rest) d >>= λ ds. Ok (list_of (drop 1 ds))
+-- the items behind the first
+abbrev pub behind_first : List ℕ → Datum → Result (List Datum) Failure
+behind_first function d = items_in function d >>= λ ds. Ok (drop 1 ds)
 
--- a list, but nil for an empty one
-abbrev pub list_or_nil : List Datum → Datum
-list_or_nil [] = nil
-list_or_nil (d ∷ ds) = list_of (d ∷ ds)
+unfoldable pub rest : Datum → Result Datum Failure
+rest d = behind_first (name_of SequenceFunction.Rest) d >>= λ ds. Ok (list_of ds)
 
 unfoldable pub next : Datum → Result Datum Failure
-next d = items_in (name_of SequenceFunction.Next) d >>= λ ds. Ok (list_or_nil (drop 1 ds))
+next d = behind_first (name_of SequenceFunction.Next) d >>= λ ds. Ok (list_or_nil ds)
 
 unfoldable pub reversed : Datum → Result Datum Failure
 reversed d = items_in (name_of SequenceFunction.Reverse) d >>= λ ds. Ok (list_of (reverse ds))
@@ -66,10 +53,6 @@ count d = counted (name_of SequenceFunction.Count) d >>= λ n. Ok (integer (pos 
 unfoldable pub is_empty : Datum → Result Datum Failure
 is_empty d = counted (name_of SequenceFunction.IsEmpty) d >>= λ n. Ok (boolean (n == 0))
 
-abbrev pub item_at : ℤ → List Datum → Option Datum
-item_at (pos n) ds = slice_get ds n
-item_at (negsuc n) ds = None
-
 -- what there is, or else what stands in its place, or else nil of nil, or else the fault
 abbrev pub found_or : Option Datum → Option Datum → Datum → Result Datum Failure
 found_or (Some e) other d = Ok e
@@ -79,7 +62,7 @@ found_or None None d = Err out_of_bounds
 
 unfoldable pub nth : Datum → Datum → Option Datum → Result Datum Failure
 nth d i other =
-    row_in (name_of SequenceFunction.Nth) d >>= λ ds. (integer_in (name_of SequenceFunction.Nth) i >>= λ n. found_or (item_at n ds) other d)
+    row_in (name_of SequenceFunction.Nth) d >>= λ ds. (integer_in (name_of SequenceFunction.Nth) i >>= λ n. found_or (at_index n ds) other d)
 
 unfoldable pub value_of : SequenceFunction → List Datum → Result Datum Failure
 value_of SequenceFunction.List args = Ok (list_of args)

@@ -7,11 +7,11 @@ ghost use Rattle.core_sequences.specs.Meaning.{value_of};
 
 use crate::ends::{first, last, next, rest, reversed};
 use crate::function::SequenceFunction;
-use crate::items::copy_values;
 use crate::joins::{conj, cons};
 use crate::places::{count, is_empty, nth};
+use core_items::{list_of, vector_of};
 use repl_faults::ApplyError;
-use repl_values::Value;
+use repl_values::{Value, copy_items};
 use std::alloc::Global;
 
 /// The function's value at as many arguments as it takes. All arguments' kinds are checked from the
@@ -26,8 +26,8 @@ pub fn apply_sequences(
     ensures { Gives view result (value_of function (map view args.now)) }
 {
     match function {
-        SequenceFunction::List => Ok(Value::List(copy_values(alloc, args)?)),
-        SequenceFunction::Vector => Ok(Value::Vector(copy_values(alloc, args)?)),
+        SequenceFunction::List => Ok(list_of(alloc, copy_items(alloc, args)?)?),
+        SequenceFunction::Vector => Ok(vector_of(alloc, copy_items(alloc, args)?)?),
         SequenceFunction::First => first(alloc, &args[0]),
         SequenceFunction::Last => last(alloc, &args[0]),
         SequenceFunction::Rest => rest(alloc, &args[0]),

@@ -2,15 +2,15 @@
 // row turned round.
 #![tactic(auto, using(crate::proofs::Values::seen))]
 
+ghost use Rattle.repl_values.specs.Listed.{listed};
 ghost use Rattle.repl_values.specs.View.{view};
 ghost use Rattle.repl_faults.specs.View.{Gives};
 ghost use Rattle.core_sequences.specs.Meaning as meant;
 
 use crate::function::SequenceFunction;
-use crate::items::ItemRow;
-use crate::joins::list_or_nil;
+use core_items::{ItemRow, list_of};
 use repl_faults::ApplyError;
-use repl_values::Value;
+use repl_values::{Sequence, Value};
 use std::alloc::Global;
 
 #[tactic(auto, using(crate::proofs::Values::seen), unfolding(crate::specs::Meaning::first))]
@@ -33,17 +33,33 @@ pub(crate) fn last(alloc: Global, argument: &Value) -> Result<Value, ApplyError>
 pub(crate) fn rest(alloc: Global, argument: &Value) -> Result<Value, ApplyError>
     ensures { Gives view result (meant.rest (view argument.now)) }
 {
-    let row = ItemRow::of(alloc, SequenceFunction::Rest.name(), argument)?;
-    Ok(Value::List(row.rest().copies(alloc)?))
+    let items = behind_first(alloc, SequenceFunction::Rest.name(), argument)?;
+    Ok(Value::List(items))
 }
 
 #[tactic(auto, using(crate::proofs::Values::seen), unfolding(crate::specs::Meaning::next))]
 pub(crate) fn next(alloc: Global, argument: &Value) -> Result<Value, ApplyError>
     ensures { Gives view result (meant.next (view argument.now)) }
 {
-    let row = ItemRow::of(alloc, SequenceFunction::Next.name(), argument)?;
-    let rest = row.rest().copies(alloc)?;
-    Ok(list_or_nil(rest))
+    let items = behind_first(alloc, SequenceFunction::Next.name(), argument)?;
+    if items.is_empty() {
+        return Ok(Value::Nil);
+    }
+    Ok(Value::List(items))
+}
+
+// The items behind the first. Those of a list or a vector are shared, where that holds little more.
+fn behind_first(alloc: Global, function: &str, argument: &Value) -> Result<Sequence, ApplyError>
+    ensures { Gives (λ made. listed made.items) result (meant.behind_first function.now (view argument.now)) }
+{
+    match argument {
+        Value::List(items) => Ok(items.rest(alloc)?),
+        Value::Vector(items) => Ok(items.rest(alloc)?),
+        other => {
+            let row = ItemRow::of(alloc, function, other)?;
+            Ok(Sequence::from_vec(alloc, row.rest().copies(alloc)?)?)
+        }
+    }
 }
 
 #[tactic(auto, using(crate::proofs::Values::seen), unfolding(crate::specs::Meaning::reversed))]
@@ -53,5 +69,5 @@ pub(crate) fn reversed(alloc: Global, argument: &Value) -> Result<Value, ApplyEr
     let row = ItemRow::of(alloc, SequenceFunction::Reverse.name(), argument)?;
     let mut items = row.copies(alloc)?;
     items.reverse();
-    Ok(Value::List(items))
+    Ok(list_of(alloc, items)?)
 }

@@ -1,41 +1,36 @@
 // Functions that put values into a row: `cons` and `conj`.
 #![tactic(auto, using(crate::proofs::Values::seen))]
 
-ghost use Rattle.std.specs.Prelude.{◌≡◌, ◌++◌, map, option_map, reverse, IfOk};
+ghost use Rattle.std.specs.Prelude.{◌≡◌, ◌++◌, ◌∷◌, [], map, option_map, reverse, IfOk};
 ghost use Rattle.repl_values.specs.Datum.{vector};
+ghost use Rattle.repl_values.specs.Listed.{listed};
+ghost use Rattle.repl_values.specs.Seen.{entry_view};
 ghost use Rattle.repl_values.specs.View.{view, items_view};
 ghost use Rattle.repl_faults.specs.View.{Gives};
-ghost use Rattle.core_pairs.specs.Found.{entry_view};
-ghost use Rattle.core_sequences.specs.Items.{as_pair, pair_in, pairs_in};
+ghost use Rattle.core_sequences.specs.Pairs.{as_pair, pair_in, pairs_in};
 ghost use Rattle.core_sequences.specs.Meaning as meant;
 
 use crate::function::SequenceFunction;
-use crate::items::{ItemRow, copy_values};
-use core_pairs::with_pairs;
+use core_items::{ItemRow, list_of, list_or_nil};
 use repl_faults::{ApplyError, wrong_argument};
-use repl_values::{Value, copy};
+use repl_values::{Sequence, Value, copy, copy_items};
 use std::alloc::{AllocError, Global};
-
-// The list, or nil for an empty one.
-pub(crate) fn list_or_nil(items: Vec<Value>) -> Value
-    ensures { view result ≡ meant.list_or_nil (map view items.items) }
-{
-    if items.is_empty() {
-        Value::Nil
-    } else {
-        Value::List(items)
-    }
-}
 
 #[tactic(auto, using(crate::proofs::Values::seen), unfolding(crate::specs::Meaning::cons))]
 pub(crate) fn cons(alloc: Global, first: &Value, rest: &Value) -> Result<Value, ApplyError>
     ensures { Gives view result (meant.cons (view first.now) (view rest.now)) }
 {
-    let row = ItemRow::of(alloc, SequenceFunction::Cons.name(), rest)?;
-    let mut items = Vec::with_capacity(alloc, 1)?;
-    items.push(copy(alloc, first)?)?;
-    items.append(&mut row.copies(alloc)?)?;
-    Ok(Value::List(items))
+    match rest {
+        Value::List(items) => Ok(Value::List(items.with_first(alloc, copy(first)?)?)),
+        Value::Vector(items) => Ok(Value::List(items.with_first(alloc, copy(first)?)?)),
+        other => {
+            let row = ItemRow::of(alloc, SequenceFunction::Cons.name(), other)?;
+            let mut items = Vec::with_capacity(alloc, 1)?;
+            items.push(copy(first)?)?;
+            items.append(&mut row.copies(alloc)?)?;
+            Ok(list_of(alloc, items)?)
+        }
+    }
 }
 
 #[tactic(auto, using(crate::proofs::Values::seen), unfolding(crate::specs::Meaning::conj))]
@@ -43,12 +38,15 @@ pub(crate) fn conj(alloc: Global, collection: &Value, more: &[Value]) -> Result<
     ensures { Gives view result (meant.conj (view collection.now) (map view more.now)) }
 {
     match collection {
-        Value::Nil => Ok(list_or_nil(reversed(alloc, more)?)),
-        Value::List(items) => Ok(Value::List(joined(alloc, reversed(alloc, more)?, items)?)),
-        Value::Vector(items) => Ok(Value::Vector(joined(alloc, copy_values(alloc, items)?, more)?)),
+        Value::Nil => Ok(list_or_nil(alloc, reversed(alloc, more)?)?),
+        Value::List(items) => {
+            let all = joined(reversed(alloc, more)?, items.as_slice())?;
+            Ok(list_of(alloc, all)?)
+        }
+        Value::Vector(items) => Ok(Value::Vector(with_all(alloc, items.copy()?, more)?)),
         Value::Map(pairs) => {
             let more = pairs_of(alloc, SequenceFunction::Conj.name(), more)?;
-            Ok(Value::Map(with_pairs(alloc, pairs, more.as_slice())?))
+            Ok(Value::Map(pairs.copy()?.with_pairs(alloc, more.as_slice())?))
         }
         other => {
             let name = SequenceFunction::Conj.name();
@@ -57,21 +55,39 @@ pub(crate) fn conj(alloc: Global, collection: &Value, more: &[Value]) -> Result<
     }
 }
 
+// The items with more behind them, one after another. The first that is put in copies them, since
+// the collection holds them too; the others stand in their place.
+fn with_all(alloc: Global, items: Sequence, more: &[Value]) -> Result<Sequence, AllocError>
+    ensures { IfOk result (λ all. listed all.items ≡ listed items.items ++ map view more.now) }
+{
+    let mut items = items;
+    for value in more {
+        items = with_one(alloc, items, value)?;
+    }
+    Ok(items)
+}
+
+fn with_one(alloc: Global, items: Sequence, value: &Value) -> Result<Sequence, AllocError>
+    ensures { IfOk result (λ made. listed made.items ≡ listed items.items ++ view value.now ∷ []) }
+{
+    items.with_last(alloc, copy(value)?)
+}
+
 // Copies, the last first.
 fn reversed(alloc: Global, values: &[Value]) -> Result<Vec<Value>, AllocError>
     ensures { IfOk result (λ copies. map view copies.items ≡ reverse (map view values.now)) }
 {
-    let mut copies = copy_values(alloc, values)?;
+    let mut copies = copy_items(alloc, values)?;
     copies.reverse();
     Ok(copies)
 }
 
 // The items, with copies of more behind them.
-fn joined(alloc: Global, mut items: Vec<Value>, more: &[Value]) -> Result<Vec<Value>, AllocError>
+fn joined(mut items: Vec<Value>, more: &[Value]) -> Result<Vec<Value>, AllocError>
     ensures { IfOk result (λ all. map view all.items ≡ map view items.items ++ map view more.now) }
 {
     for value in more {
-        items.push(copy(alloc, value)?)?;
+        items.push(copy(value)?)?;
     }
     Ok(items)
 }
@@ -109,7 +125,7 @@ fn as_pair(argument: &Value) -> Option<(&Value, &Value)>
     ensures { option_map entry_view result ≡ as_pair (view argument.now) }
 {
     match argument {
-        Value::Vector(items) => two_of(items),
+        Value::Vector(items) => two_of(items.as_slice()),
         _other => None,
     }
 }

@@ -6,7 +6,6 @@
 mod application;
 mod ends;
 mod function;
-mod items;
 mod joins;
 mod places;
 

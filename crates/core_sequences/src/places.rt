@@ -1,15 +1,14 @@
 // How many items there are, and which one stands at a place.
 #![tactic(auto, using(crate::proofs::Values::seen))]
 
-ghost use Rattle.std.specs.Prelude.{◌≡◌, ◌<◌, ◌^◌, length, map, option_map, chars, IfOk};
+ghost use Rattle.std.specs.Prelude.{◌≡◌, ◌<◌, ◌^◌, length, option_map, chars, IfOk};
 ghost use Rattle.repl_values.specs.View.{view};
 ghost use Rattle.repl_faults.specs.View.{Gives};
-ghost use Rattle.core_sequences.specs.Items.{row_in, integer_in};
 ghost use Rattle.core_sequences.specs.Meaning as meant;
 
 use crate::function::SequenceFunction;
-use crate::items::ItemRow;
-use repl_faults::{ApplyError, out_of_bounds, wrong_argument};
+use core_items::{ItemRow, at_index, integer_of, row_of};
+use repl_faults::{ApplyError, out_of_bounds};
 use repl_values::{Value, copy};
 use std::alloc::Global;
 
@@ -62,37 +61,8 @@ pub(crate) fn nth(
     let name = SequenceFunction::Nth.name();
     let row = row_of(alloc, name, collection)?;
     let index = integer_of(alloc, name, index)?;
-    let found = item_at(row, index);
+    let found = at_index(row, index);
     found_or(alloc, found, otherwise, collection)
-}
-
-fn row_of<'a>(alloc: Global, function: &str, argument: &'a Value) -> Result<&'a [Value], ApplyError>
-    ensures { Gives (λ row. map view row.now) result (row_in function.now (view argument.now)) }
-{
-    match argument {
-        Value::Nil => Ok(&[]),
-        Value::List(items) => Ok(items.as_slice()),
-        Value::Vector(items) => Ok(items.as_slice()),
-        other => Err(ApplyError::Fault(wrong_argument(alloc, function, other)?)),
-    }
-}
-
-fn integer_of(alloc: Global, function: &str, argument: &Value) -> Result<i64, ApplyError>
-    ensures { Gives (λ n. n) result (integer_in function.now (view argument.now)) }
-{
-    match argument {
-        Value::Int(n) => Ok(*n),
-        other => Err(ApplyError::Fault(wrong_argument(alloc, function, other)?)),
-    }
-}
-
-fn item_at(row: &[Value], index: i64) -> Option<&Value>
-    ensures { option_map (λ v. view v.now) result ≡ meant.item_at index (map view row.now) }
-{
-    if index < 0 {
-        return None;
-    }
-    row.get(index as usize)
 }
 
 fn found_or(
@@ -104,8 +74,8 @@ fn found_or(
     ensures { Gives view result (meant.found_or (option_map (λ v. view v.now) found.entry) (option_map (λ v. view v.now) otherwise.entry) (view collection.now)) }
 {
     match (found, otherwise, collection) {
-        (Some(item), _, _) => Ok(copy(alloc, item)?),
-        (None, Some(value), _) => Ok(copy(alloc, value)?),
+        (Some(item), _, _) => Ok(copy(item)?),
+        (None, Some(value), _) => Ok(copy(value)?),
         (None, None, Value::Nil) => Ok(Value::Nil),
         _ => Err(ApplyError::Fault(out_of_bounds(alloc)?)),
     }

@@ -29,6 +29,9 @@ name_in (keyword s) = Ok (local_part s)
 name_in (symbol s) = Ok (local_part s)
 name_in d = Err (wrong_argument (codes "name") d)
 
+unfoldable pub name_of : Datum → Result Datum Failure
+name_of d = name_in d >>= λ s. Ok (string s)
+
 -- the argument of a function that takes one
 abbrev pub only : List Datum → Datum
 only [] = nil
@@ -37,4 +40,4 @@ only (d ∷ ds) = d
 unfoldable pub value_of : TextFunction → List Datum → Result Datum Failure
 value_of TextFunction.Str args = Ok (string (flat_map shown args))
 value_of TextFunction.PrStr args = Ok (string (spaced print args))
-value_of TextFunction.Name args = name_in (only args) >>= λ s. Ok (string s)
+value_of TextFunction.Name args = name_of (only args)

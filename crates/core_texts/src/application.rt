@@ -1,41 +1,82 @@
 // Applying a function that gives a text.
-ghost use Rattle.std.specs.Prelude.{◌≡◌, ◌++◌, true, length, map, flat_map, IfOk, OnOk, string_bytes};
+ghost use Rattle.std.specs.Prelude.{◌≡◌, ◌++◌, Ok, true, length, map, option_map, flat_map, IfOk, OnOk, string_bytes};
+ghost use Rattle.std.specs.Arc.{arc_str_bytes};
+ghost use Rattle.repl_values.specs.Datum.{string};
 ghost use Rattle.repl_values.specs.View.{view};
 ghost use Rattle.repl_faults.specs.View.{Gives};
+ghost use Rattle.core_texts.specs.Limits.{if_short, light, within_weight};
 ghost use Rattle.core_texts.specs.Names.{fits};
 ghost use Rattle.core_texts.specs.Meaning as meant;
 
 use crate::function::TextFunction;
-use crate::printing::{Spelling, spaced};
-use repl_faults::{ApplyError, wrong_argument};
-use repl_values::{Value, print_into};
+use crate::printing::{MOST_TEXT, Spelling, if_short, spaced};
+use repl_faults::{ApplyError, too_large, wrong_argument};
+use repl_values::{Value, copy_text, print_into};
 use std::alloc::{AllocError, Global};
+use std::sync::ArcStr;
 
-/// The function's value at as many arguments as it takes.
-#[tactic(auto, using(repl_values::proofs::Views::value_views), unfolding(crate::specs::Meaning::value_of))]
+// A text of so many bytes is too heavy for a value.
+const MOST_WEIGHT: usize = 1_048_576;
+
+/// The function's value at as many arguments as it takes, or the fault of one that is too heavy. A
+/// text that is too long already is not put together any further.
+#[tactic(auto, using(crate::proofs::Shortness::short_steps), unfolding(crate::specs::Meaning::value_of))]
 pub fn apply_texts(
     alloc: Global,
     function: TextFunction,
     args: &[Value],
 ) -> Result<Value, ApplyError>
     requires { fits function (length args.now) ≡ true }
-    ensures { Gives view result (meant.value_of function (map view args.now)) }
+    ensures { Gives view result (within_weight (meant.value_of function (map view args.now))) }
 {
     match function {
-        TextFunction::Str => Ok(Value::Str(all_shown(alloc, args)?)),
-        TextFunction::PrStr => Ok(Value::Str(spaced(alloc, Spelling::Print, args)?)),
-        TextFunction::Name => Ok(Value::Str(name_in(alloc, &args[0])?)),
+        TextFunction::Str => value_of_text(alloc, all_shown(alloc, args)?),
+        TextFunction::PrStr => value_of_text(alloc, spaced(alloc, Spelling::Print, args)?),
+        TextFunction::Name => name_of(alloc, &args[0]),
     }
 }
 
-fn all_shown(alloc: Global, values: &[Value]) -> Result<String, AllocError>
-    ensures { IfOk result (λ text. string_bytes text ≡ flat_map meant.shown (map view values.now)) }
+#[tactic(auto, using(crate::proofs::Shortness::short_steps), unfolding(crate::specs::Meaning::name_of))]
+fn name_of(alloc: Global, value: &Value) -> Result<Value, ApplyError>
+    ensures { Gives view result (within_weight (meant.name_of (view value.now))) }
+{
+    let name = name_in(alloc, value)?;
+    string_of(alloc, name)
+}
+
+// The text, where it was short enough to be put together.
+#[tactic(auto, using(crate::proofs::Shortness::short_steps))]
+fn value_of_text(alloc: Global, text: Option<String>) -> Result<Value, ApplyError>
+    ensures { Gives view result (light (option_map string_bytes text)) }
+{
+    match text {
+        Some(text) => string_of(alloc, ArcStr::from_string(text)?),
+        None => Err(ApplyError::Fault(too_large(alloc)?)),
+    }
+}
+
+#[tactic(auto, using(crate::proofs::Shortness::short_steps))]
+fn string_of(alloc: Global, text: ArcStr) -> Result<Value, ApplyError>
+    ensures { Gives view result (within_weight (Ok (string (arc_str_bytes text)))) }
+{
+    if text.len() < MOST_WEIGHT {
+        return Ok(Value::Str(text));
+    }
+    Err(ApplyError::Fault(too_large(alloc)?))
+}
+
+#[tactic(auto, using(crate::proofs::Shortness::short_steps))]
+fn all_shown(alloc: Global, values: &[Value]) -> Result<Option<String>, AllocError>
+    ensures { IfOk result (λ text. option_map string_bytes text ≡ if_short (flat_map meant.shown (map view values.now))) }
 {
     let mut text = String::new(alloc);
     for value in values {
+        if text.len() > MOST_TEXT {
+            return Ok(None);
+        }
         show_into(alloc, value, &mut text)?;
     }
-    Ok(text)
+    Ok(if_short(text))
 }
 
 /// Appends nothing for nil, the characters of a string, and the print of all else. It fails only for
@@ -52,13 +93,13 @@ pub fn show_into(alloc: Global, value: &Value, out: &mut String) -> Result<(), A
 }
 
 #[tactic(auto, using(repl_values::proofs::Views::value_views))]
-fn name_in(alloc: Global, value: &Value) -> Result<String, ApplyError>
-    ensures { Gives string_bytes result (meant.name_in (view value.now)) }
+fn name_in(alloc: Global, value: &Value) -> Result<ArcStr, ApplyError>
+    ensures { Gives arc_str_bytes result (meant.name_in (view value.now)) }
 {
     match value {
-        Value::Str(text) => Ok(String::from_str(alloc, text.as_str())?),
-        Value::Keyword(text) => Ok(String::from_str(alloc, local_part(text.as_str()))?),
-        Value::Symbol(text) => Ok(String::from_str(alloc, local_part(text.as_str()))?),
+        Value::Str(text) => Ok(copy_text(text)?),
+        Value::Keyword(text) => Ok(ArcStr::from_str(alloc, local_part(text.as_str()))?),
+        Value::Symbol(text) => Ok(ArcStr::from_str(alloc, local_part(text.as_str()))?),
         other => Err(ApplyError::Fault(wrong_argument(alloc, "name", other)?)),
     }
 }

@@ -1,12 +1,19 @@
-// What the functions that print add to the printed text.
-ghost use Rattle.std.specs.Prelude.{◌≡◌, ◌++◌, IfOk, OnOk, map, string_bytes};
+// What the functions that print add to the printed text. Arguments share what they hold, so a few of
+// them may print more than memory has: a text that is too long already is not put together further.
+#![tactic(auto, using(crate::proofs::Shortness::short_steps))]
+
+ghost use Rattle.std.specs.Prelude.{◌≡◌, ◌++◌, IfOk, OnOk, map, option_map, string_bytes};
 ghost use Rattle.repl_values.specs.View.{view};
+ghost use Rattle.core_texts.specs.Limits.{if_short};
 ghost use Rattle.core_texts.specs.Printing as meant;
 ghost use Rattle.core_texts.specs.Spelling.{spelling_of};
 
 use crate::function::PrintFunction;
 use repl_values::{Value, display_into, print_into};
 use std::alloc::{AllocError, Global};
+
+// The longest text that is put together, in bytes.
+pub(crate) const MOST_TEXT: usize = 1_048_576;
 
 // How a value is spelled: as a reply shows it, or with each string as its characters.
 #[derive(Clone, Copy)]
@@ -15,9 +22,14 @@ pub(crate) enum Spelling {
     Display,
 }
 
-/// The text that the function prints. It fails only for want of memory.
-pub fn printed(alloc: Global, function: PrintFunction, args: &[Value]) -> Result<String, AllocError>
-    ensures { IfOk result (λ text. string_bytes text ≡ meant.printed function (map view args.now)) }
+/// The text that the function prints, or none where it is longer than 1,048,576 bytes. It fails only
+/// for want of memory.
+pub fn printed(
+    alloc: Global,
+    function: PrintFunction,
+    args: &[Value],
+) -> Result<Option<String>, AllocError>
+    ensures { IfOk result (λ text. option_map string_bytes text ≡ if_short (meant.printed function (map view args.now))) }
 {
     match function {
         PrintFunction::Print => spaced(alloc, Spelling::Display, args),
@@ -27,12 +39,24 @@ pub fn printed(alloc: Global, function: PrintFunction, args: &[Value]) -> Result
     }
 }
 
-fn line(alloc: Global, spelling: Spelling, values: &[Value]) -> Result<String, AllocError>
-    ensures { IfOk result (λ text. string_bytes text ≡ meant.spaced (spelling_of spelling) (map view values.now) ++ meant.newline) }
+fn line(alloc: Global, spelling: Spelling, values: &[Value]) -> Result<Option<String>, AllocError>
+    ensures { IfOk result (λ text. option_map string_bytes text ≡ if_short (meant.spaced (spelling_of spelling) (map view values.now) ++ meant.newline)) }
 {
-    let mut text = spaced(alloc, spelling, values)?;
+    let Some(mut text) = spaced(alloc, spelling, values)? else {
+        return Ok(None);
+    };
     text.push_str("\n")?;
-    Ok(text)
+    Ok(if_short(text))
+}
+
+pub(crate) fn if_short(text: String) -> Option<String>
+    ensures { option_map string_bytes result ≡ if_short (string_bytes text) }
+{
+    if text.len() > MOST_TEXT {
+        None
+    } else {
+        Some(text)
+    }
 }
 
 // The spelling of each value, joined by a space.
@@ -40,19 +64,22 @@ pub(crate) fn spaced(
     alloc: Global,
     spelling: Spelling,
     values: &[Value],
-) -> Result<String, AllocError>
-    ensures { IfOk result (λ text. string_bytes text ≡ meant.spaced (spelling_of spelling) (map view values.now)) }
+) -> Result<Option<String>, AllocError>
+    ensures { IfOk result (λ text. option_map string_bytes text ≡ if_short (meant.spaced (spelling_of spelling) (map view values.now))) }
 {
     let mut text = String::new(alloc);
     let Some((first, rest)) = values.split_first() else {
-        return Ok(text);
+        return Ok(Some(text));
     };
     spell_into(alloc, spelling, first, &mut text)?;
     for value in rest {
+        if text.len() > MOST_TEXT {
+            return Ok(None);
+        }
         text.push_str(" ")?;
         spell_into(alloc, spelling, value, &mut text)?;
     }
-    Ok(text)
+    Ok(if_short(text))
 }
 
 fn spell_into(

@@ -45,7 +45,7 @@ pub(crate) fn apply_code(rt: &impl Abort, alloc: Global, code: &str) -> Result<C
     let Some(Value::List(call)) = forms.first() else {
         panic!(rt; "no call: {code}");
     };
-    let Some((Value::Symbol(name), args)) = call.split_first() else {
+    let Some((Value::Symbol(name), args)) = call.as_slice().split_first() else {
         panic!(rt; "no name at the head: {code}");
     };
     apply_named(rt, alloc, name.as_str(), args)

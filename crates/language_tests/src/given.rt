@@ -1,7 +1,8 @@
 // Arguments in short, and what calls give as a reply prints it.
 use repl_faults::ApplyError;
-use repl_values::{Value, print_into};
+use repl_values::{Built, Sequence, Table, Value, print_into};
 use std::alloc::{AllocError, Global};
+use std::sync::ArcStr;
 
 // An argument, in short.
 #[derive(Clone, Copy)]
@@ -25,25 +26,34 @@ pub(crate) fn integers(alloc: Global, items: &[i64]) -> Result<Vec<Value>, Alloc
     Ok(values)
 }
 
-pub(crate) fn pairs(
-    alloc: Global,
-    pairs: &[(i64, i64)],
-) -> Result<Vec<(Value, Value)>, AllocError> {
+pub(crate) fn list(alloc: Global, items: Vec<Value>) -> Result<Value, AllocError> {
+    Ok(Value::List(Sequence::from_vec(alloc, items)?))
+}
+
+pub(crate) fn vector(alloc: Global, items: Vec<Value>) -> Result<Value, AllocError> {
+    Ok(Value::Vector(Sequence::from_vec(alloc, items)?))
+}
+
+// The map of distinct keys.
+pub(crate) fn table(alloc: Global, pairs: &[(i64, i64)]) -> Result<Table, AllocError> {
     let mut values = Vec::new(alloc);
     for (key, value) in pairs {
         values.push((Value::Int(*key), Value::Int(*value)))?;
     }
-    Ok(values)
+    match Table::from_pairs(alloc, values)? {
+        Built::Made(table) => Ok(table),
+        Built::Repeats(_place) => Table::empty(alloc),
+    }
 }
 
 fn value_of(alloc: Global, given: &Given) -> Result<Value, AllocError> {
     match given {
         Given::Nil => Ok(Value::Nil),
         Given::Int(n) => Ok(Value::Int(*n)),
-        Given::Text(text) => Ok(Value::Str(String::from_str(alloc, text)?)),
-        Given::List(items) => Ok(Value::List(integers(alloc, items)?)),
-        Given::Vector(items) => Ok(Value::Vector(integers(alloc, items)?)),
-        Given::Map(items) => Ok(Value::Map(pairs(alloc, items)?)),
+        Given::Text(text) => Ok(Value::Str(ArcStr::from_str(alloc, text)?)),
+        Given::List(items) => list(alloc, integers(alloc, items)?),
+        Given::Vector(items) => vector(alloc, integers(alloc, items)?),
+        Given::Map(items) => Ok(Value::Map(table(alloc, items)?)),
     }
 }
 

@@ -1,5 +1,5 @@
-//! Tests of the reader and of the functions of the language: of `repl_reader`, `core_pairs`,
-//! `core_sequences`, `core_maps` and `core_functions`, by their public calls alone.
+//! Tests of the reader, of maps and of the functions of the language: of `repl_reader`, `Table` of
+//! `repl_values`, `core_sequences`, `core_maps` and `core_functions`, by their public calls alone.
 #![tactic(auto)]
 
 #[cfg(test)]
@@ -18,5 +18,7 @@ mod names;
 mod pairs;
 #[cfg(test)]
 mod reading;
+#[cfg(test)]
+mod rests;
 #[cfg(test)]
 mod sequences;

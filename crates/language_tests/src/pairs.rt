@@ -1,26 +1,26 @@
 // Pairs put in and taken out, as the language's rules say of a map.
-use crate::given::{integers, pairs, printed};
-use core_pairs::{pair_as_vector, with_pairs, without_keys};
-use repl_values::Value;
+use crate::given::{integers, list, printed, table, vector};
+use repl_values::{Table, Value, pair_as_vector};
 use std::alloc::{AllocError, Global};
 use std::test::Fail;
 
 // The map of the first pairs with more put in.
 fn put(alloc: Global, first: &[(i64, i64)], more: &[(i64, i64)]) -> Result<String, AllocError> {
-    let first = pairs(alloc, first)?;
-    let more = pairs(alloc, more)?;
+    let mut values = Vec::new(alloc);
+    for (key, value) in more {
+        values.push((Value::Int(*key), Value::Int(*value)))?;
+    }
     let mut lent = Vec::new(alloc);
-    for (key, value) in &more {
+    for (key, value) in &values {
         lent.push((key, value))?;
     }
-    let all = with_pairs(alloc, first.as_slice(), lent.as_slice())?;
+    let all = table(alloc, first)?.with_pairs(alloc, lent.as_slice())?;
     printed(alloc, &Value::Map(all))
 }
 
 fn removed(alloc: Global, first: &[(i64, i64)], keys: &[i64]) -> Result<String, AllocError> {
-    let first = pairs(alloc, first)?;
     let keys = integers(alloc, keys)?;
-    let rest = without_keys(alloc, first.as_slice(), keys.as_slice())?;
+    let rest = table(alloc, first)?.without_keys(alloc, keys.as_slice())?;
     printed(alloc, &Value::Map(rest))
 }
 
@@ -40,15 +40,14 @@ fn key_keeps_its_place(rt: HostRuntime) -> Result<(), Fail> {
 #[test]
 fn equal_keys_are_one(rt: HostRuntime) -> Result<(), Fail> {
     let a = rt.alloc();
-    let list = Value::List(vec![in a; Value::Int(1)]?);
-    let vector = Value::Vector(vec![in a; Value::Int(1)]?);
+    let list = list(a, vec![in a; Value::Int(1)]?)?;
+    let vector = vector(a, vec![in a; Value::Int(1)]?)?;
     let seven = Value::Int(7);
     let eight = Value::Int(8);
-    let none = pairs(a, &[])?;
     let mut more = Vec::new(a);
     more.push((&list, &seven))?;
     more.push((&vector, &eight))?;
-    let all = with_pairs(a, none.as_slice(), more.as_slice())?;
+    let all = Table::empty(a)?.with_pairs(a, more.as_slice())?;
     let text = printed(a, &Value::Map(all))?;
     assert_eq!(&rt; text.as_str(), "{(1) 8}");
     Ok(())

@@ -1,5 +1,6 @@
 // The one namespace, `user`: what its names are bound to, and how symbols are resolved in it.
-ghost use Rattle.std.specs.Prelude.{◌≡◌, ℕ, List, None, if◌then◌else◌, Some, IfOk, OnOk, OnErr, string_bytes};
+ghost use Rattle.std.specs.Prelude.{◌≡◌, ℕ, List, None, if◌then◌else◌, Some, IfOk, OnOk, OnErr};
+ghost use Rattle.std.specs.Arc.{arc_str_bytes};
 ghost use Rattle.std.specs.Str.{bytes_eq};
 ghost use Rattle.repl_values.specs.Datum.{var};
 ghost use Rattle.repl_asks.specs.Exchange.{value};
@@ -13,6 +14,7 @@ use repl_faults::{no_such_namespace, no_such_var, unresolved};
 use repl_values::{Value, copy};
 use std::alloc::{AllocError, Global};
 use std::collections::BTreeMap;
+use std::sync::ArcStr;
 
 /// The namespace in which every request begins.
 pub const USER: &str = "user";
@@ -70,7 +72,7 @@ impl Space {
         ensures { IfOk result (λ answer. answer_view answer ≡ meant.simple_answer symbol.now (bound_in self.now symbol.now)) }
     {
         if let Some(binding) = self.bindings.get(symbol) {
-            return bound(alloc, binding);
+            return bound(binding);
         }
         match CoreFunction::named(symbol) {
             Some(function) => Ok(Answer::CoreFunction(function)),
@@ -91,7 +93,7 @@ impl Space {
             return Ok(Answer::Fault(no_such_namespace(alloc, space)?));
         }
         match self.bindings.get(name) {
-            Some(binding) => bound(alloc, binding),
+            Some(binding) => bound(binding),
             None => Ok(Answer::Fault(no_such_var(alloc, symbol)?)),
         }
     }
@@ -99,12 +101,12 @@ impl Space {
     fn define(
         &mut self,
         alloc: Global,
-        space: String,
-        name: String,
+        space: ArcStr,
+        name: ArcStr,
         binding: Binding,
     ) -> Result<Answer, AllocError>
-        ensures answer { IfOk result (λ answer. answer_view answer ≡ value (var (string_bytes space) (string_bytes name))) }
-        ensures bound { OnOk result ((q : List ℕ) → bound_in self.new q ≡ (if bytes_eq q (string_bytes name) then Some (binding_view binding) else bound_in self.old q)) }
+        ensures answer { IfOk result (λ answer. answer_view answer ≡ value (var (arc_str_bytes space) (arc_str_bytes name))) }
+        ensures bound { OnOk result ((q : List ℕ) → bound_in self.new q ≡ (if bytes_eq q (arc_str_bytes name) then Some (binding_view binding) else bound_in self.old q)) }
         ensures kept { OnErr result ((q : List ℕ) → bound_in self.new q ≡ bound_in self.old q) }
     {
         let key = String::from_str(alloc, name.as_str())?;
@@ -113,11 +115,11 @@ impl Space {
     }
 }
 
-fn bound(alloc: Global, binding: &Binding) -> Result<Answer, AllocError>
+fn bound(binding: &Binding) -> Result<Answer, AllocError>
     ensures { IfOk result (λ answer. answer_view answer ≡ meant.bound_answer (binding_view binding.now)) }
 {
     match binding {
-        Binding::Value(value) => Ok(Answer::Value(copy(alloc, value)?)),
-        Binding::Function(function) => Ok(Answer::Function(function.copy(alloc)?)),
+        Binding::Value(value) => Ok(Answer::Value(copy(value)?)),
+        Binding::Function(function) => Ok(Answer::Function(function.copy()?)),
     }
 }

@@ -50,7 +50,7 @@ impl Refs for Replay {
     ghost heard = { heard_by };
 
     fn ask(&mut self, alloc: Global, ask: Ask) -> Result<Answer, Stop> {
-        match self.next_for(alloc, &ask) {
+        match self.next_for(&ask) {
             Ok(answer) => Ok(answer),
             Err(why) => {
                 self.has_stopped = true;
@@ -65,7 +65,7 @@ impl Replay {
 
     /// The next answer, recorded beside its ask. There is none where the replay has stopped, where no
     /// answer is left and where the next does not fit the ask.
-    pub fn next_for(&mut self, alloc: Global, ask: &Ask) -> Result<Answer, StopReason>
+    pub fn next_for(&mut self, ask: &Ask) -> Result<Answer, StopReason>
         ensures grows { IfOk result (λ answer. (heard_by self.new).trace
             ≡ (heard_by self.old).trace ++ record { ask = ask_view ask.now; answer = answer_view answer } ∷ []) }
         ensures fits { IfOk result (λ answer. Fits (ask_view ask.now) (answer_view answer)) }
@@ -86,7 +86,7 @@ impl Replay {
         if !fits(ask, answer) {
             return Err(StopReason::NoAnswer);
         }
-        let Ok(exchange) = recorded(alloc, ask, answer) else {
+        let Ok(exchange) = recorded(ask, answer) else {
             return Err(StopReason::NoMemory);
         };
         if self.trace.push(exchange).is_err() {
@@ -99,12 +99,12 @@ impl Replay {
     }
 }
 
-fn recorded(alloc: Global, ask: &Ask, answer: &Answer) -> Result<Exchange, AllocError>
+fn recorded(ask: &Ask, answer: &Answer) -> Result<Exchange, AllocError>
     ensures { IfOk result (λ made. exchange_view made
         ≡ record { ask = ask_view ask.now; answer = answer_view answer.now }) }
 {
     Ok(Exchange {
-        ask: ask.copy(alloc)?,
-        answer: answer.copy(alloc)?,
+        ask: ask.copy()?,
+        answer: answer.copy()?,
     })
 }

@@ -2,7 +2,7 @@
 ghost use Rattle.std.specs.Prelude.{◌≡◌, [], ◌∷◌, map, option_map, string_bytes, IfOk};
 ghost use Rattle.repl_values.specs.View.{view, items_view};
 ghost use Rattle.repl_faults.specs.View.{failure_of};
-ghost use Rattle.repl_jobs.specs.Job.{finished_view};
+ghost use Rattle.repl_jobs.specs.View.{finished_view};
 ghost use Rattle.repl_walker.specs.Machine.{progress_tree};
 ghost use Rattle.repl_reader.specs.View.{fault_option};
 ghost use Rattle.repl_replies.specs.Replies.{namespace_not_found, bytes_of};
@@ -24,6 +24,7 @@ use repl_values::{Fault, Value};
 use repl_walker::{Finished, Job, Progress, Work, start};
 use std::alloc::{AllocError, Global};
 use std::collections::VecDeque;
+use std::sync::ArcStr;
 
 /// A request that was begun and is not done.
 #[derive(Drop)]
@@ -118,7 +119,8 @@ fn program_fault(alloc: Global, fault: Option<ReaderFault>) -> Result<Option<Fau
     let Some(ReaderFault { kind, at: _, text }) = fault else {
         return Ok(None);
     };
-    let class = String::from_str(alloc, kind.class())?;
+    let class = ArcStr::from_str(alloc, kind.class())?;
+    let text = ArcStr::from_string(text)?;
     Ok(Some(Fault { class, text }))
 }
 
@@ -153,7 +155,7 @@ fn evaluate(alloc: Global, retries: u32, form: Value) -> Result<Progress, AllocE
 {
     let job = Job {
         work: Work::Form(form),
-        namespace: String::from_str(alloc, USER)?,
+        namespace: ArcStr::from_str(alloc, USER)?,
         retries,
     };
     start(alloc, &job)

@@ -1,7 +1,7 @@
 // The replies that wait, and what is told of forms.
 ghost use Rattle.std.specs.Prelude.{◌≡◌, ◌≤◌, ◌↔◌, [], ◌∷◌, ◌++◌, length, map, option_map, string_bytes, IsTrue, OnOk, IfOk, MatchOption};
 ghost use Rattle.repl_faults.specs.View.{failure_of};
-ghost use Rattle.repl_jobs.specs.Job.{finished_view};
+ghost use Rattle.repl_jobs.specs.View.{finished_view};
 ghost use Rattle.repl_replies.specs.Replies.{bytes_of};
 ghost use Rattle.repl_replies.specs.View.{origin_view, body_view};
 ghost use Rattle.repl_core.specs.Move.{reply, fault_line, fault_replies, output_replies, end_replies, closing};
@@ -71,6 +71,7 @@ impl Outbox {
     {
         let Fault { class, text } = fault;
         let line = line_of(self.alloc, class.as_str(), text.as_str())?;
+        let class = String::from_str(self.alloc, class.as_str())?;
         self.post_for(origin, Body::Exception { class })?;
         self.post_for(origin, Body::ErrorText(line))
     }
@@ -86,6 +87,7 @@ impl Outbox {
             End::Value(value) => {
                 let mut text = String::new(self.alloc);
                 print_into(self.alloc, &value, &mut text)?;
+                let ns = String::from_str(self.alloc, ns.as_str())?;
                 self.post_for(origin, Body::Value { value: text, ns })
             }
             End::Fault(fault) => self.post_fault(origin, fault),

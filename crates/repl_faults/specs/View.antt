@@ -1,12 +1,13 @@
 -- What the code returns, beside what is meant. Memory may run out at any call, and then nothing is said.
-use Rattle.std.specs.Prelude.{◌≡◌, ℕ, List, Result, Ok, Err, string_bytes}
+use Rattle.std.specs.Prelude.{◌≡◌, ℕ, List, Result, Ok, Err}
+use Rattle.std.specs.Arc.{arc_str_bytes}
 use Rattle.repl_values.specs.declared.fault.Fault.{Fault}
 use Rattle.repl_faults.specs.Failure.{Failure}
 use Rattle.repl_faults.specs.declared.error.ApplyError.{ApplyError}
 use Rattle.repl_faults.specs.declared.error.ApplyError.TheVariants as errors
 
 abbrev pub failure_of : Fault → Failure
-failure_of f = record { class = string_bytes f.class; text = string_bytes f.text }
+failure_of f = record { class = arc_str_bytes f.class; text = arc_str_bytes f.text }
 
 abbrev pub Fails : {Y : Type 0} → ApplyError → Result Y Failure → Type 0
 Fails errors.NoMemory r = Unit {0}

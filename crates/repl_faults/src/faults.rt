@@ -8,6 +8,7 @@ ghost use Rattle.repl_faults.specs.View.{failure_of};
 use itoa::Buffer;
 use repl_values::{Fault, Value, print_into};
 use std::alloc::{AllocError, Global};
+use std::sync::ArcStr;
 
 const ARITHMETIC: &str = "java.lang.ArithmeticException";
 
@@ -20,8 +21,17 @@ const RUNTIME: &str = "java.lang.RuntimeException";
 fn fault(alloc: Global, class: &str, text: &str) -> Result<Fault, AllocError>
     ensures { IfOk result (λ f. failure_of f ≡ record { class = class.now; text = text.now }) }
 {
-    let class = String::from_str(alloc, class)?;
-    let text = String::from_str(alloc, text)?;
+    let class = ArcStr::from_str(alloc, class)?;
+    let text = ArcStr::from_str(alloc, text)?;
+    Ok(Fault { class, text })
+}
+
+// The text is put together already.
+fn told(alloc: Global, class: &str, text: String) -> Result<Fault, AllocError>
+    ensures { IfOk result (λ f. failure_of f ≡ record { class = class.now; text = string_bytes text }) }
+{
+    let class = ArcStr::from_str(alloc, class)?;
+    let text = ArcStr::from_string(text)?;
     Ok(Fault { class, text })
 }
 
@@ -29,20 +39,18 @@ fn fault(alloc: Global, class: &str, text: &str) -> Result<Fault, AllocError>
 fn named(alloc: Global, class: &str, front: &str, name: &str) -> Result<Fault, AllocError>
     ensures { IfOk result (λ f. failure_of f ≡ record { class = class.now; text = front.now ++ name.now }) }
 {
-    let class = String::from_str(alloc, class)?;
     let mut text = String::from_str(alloc, front)?;
     text.push_str(name)?;
-    Ok(Fault { class, text })
+    told(alloc, class, text)
 }
 
 // The text is what stands in front, and a value's print behind it.
 fn printed(alloc: Global, class: &str, front: &str, value: &Value) -> Result<Fault, AllocError>
     ensures { IfOk result (λ f. failure_of f ≡ record { class = class.now; text = front.now ++ print (view value.now) }) }
 {
-    let class = String::from_str(alloc, class)?;
     let mut text = String::from_str(alloc, front)?;
     print_into(alloc, value, &mut text)?;
-    Ok(Fault { class, text })
+    told(alloc, class, text)
 }
 
 /// A result outside 64 signed bits.
@@ -63,12 +71,11 @@ pub fn divide_by_zero(alloc: Global) -> Result<Fault, AllocError>
 pub fn wrong_argument(alloc: Global, function: &str, argument: &Value) -> Result<Fault, AllocError>
     ensures { IfOk result (λ f. failure_of f ≡ meant.wrong_argument function.now (view argument.now)) }
 {
-    let class = String::from_str(alloc, CLASS_CAST)?;
     let mut text = String::from_str(alloc, "Wrong argument to ")?;
     text.push_str(function)?;
     text.push_str(": ")?;
     print_into(alloc, argument, &mut text)?;
-    Ok(Fault { class, text })
+    told(alloc, CLASS_CAST, text)
 }
 
 /// This value, or form, stands where a function has to.
@@ -83,12 +90,11 @@ pub fn wrong_arity(alloc: Global, function: &str, arguments: usize) -> Result<Fa
     ensures { IfOk result (λ f. failure_of f ≡ meant.wrong_arity function.now arguments) }
 {
     let mut digits = Buffer::new();
-    let class = String::from_str(alloc, "clojure.lang.ArityException")?;
     let mut text = String::from_str(alloc, "Wrong number of args (")?;
     text.push_str(digits.format(arguments))?;
     text.push_str(") passed to: ")?;
     text.push_str(function)?;
-    Ok(Fault { class, text })
+    told(alloc, "clojure.lang.ArityException", text)
 }
 
 /// An index outside a list or a vector.
@@ -141,11 +147,10 @@ pub fn bad_form(alloc: Global, name: &str) -> Result<Fault, AllocError>
 pub fn unresolved(alloc: Global, symbol: &str) -> Result<Fault, AllocError>
     ensures { IfOk result (λ f. failure_of f ≡ meant.unresolved symbol.now) }
 {
-    let class = String::from_str(alloc, RUNTIME)?;
     let mut text = String::from_str(alloc, "Unable to resolve symbol: ")?;
     text.push_str(symbol)?;
     text.push_str(" in this context")?;
-    Ok(Fault { class, text })
+    told(alloc, RUNTIME, text)
 }
 
 /// The namespace of a symbol is not there.
@@ -191,6 +196,5 @@ pub fn too_deep(alloc: Global) -> Result<Fault, AllocError>
 pub fn thrown(alloc: Global, text: String) -> Result<Fault, AllocError>
     ensures { IfOk result (λ f. failure_of f ≡ meant.thrown (string_bytes text)) }
 {
-    let class = String::from_str(alloc, "clojure.lang.ExceptionInfo")?;
-    Ok(Fault { class, text })
+    told(alloc, "clojure.lang.ExceptionInfo", text)
 }

@@ -1,13 +1,7 @@
--- What jobs and their ends stand for.
-use Rattle.std.specs.Prelude.{ℕ, List, Result, Ok, Err, string_bytes}
+-- Jobs and how they end.
+use Rattle.std.specs.Prelude.{ℕ, List, Result}
 use Rattle.repl_values.specs.Datum.{Datum}
-use Rattle.repl_values.specs.View.{view}
 use Rattle.repl_faults.specs.Failure.{Failure}
-use Rattle.repl_faults.specs.View.{failure_of}
-use Rattle.repl_jobs.specs.declared.job.Work.{Work}
-use Rattle.repl_jobs.specs.declared.job.Job.{Job}
-use Rattle.repl_jobs.specs.declared.job.End.{End}
-use Rattle.repl_jobs.specs.declared.job.Finished.{Finished}
 
 -- what is evaluated, where, and how many attempts a transaction has
 pub record JobData : Type 0 where
@@ -20,16 +14,3 @@ pub record EndData : Type 0 where
   pub result : Result Datum Failure
   pub text : List ℕ
   pub namespace : List ℕ
-
-abbrev pub form_of : Work → Datum
-form_of (Work.Form form) = view form
-
-abbrev pub job_view : Job → JobData
-job_view job = record { form = form_of job.work; namespace = string_bytes job.namespace; retries = job.retries }
-
-abbrev pub end_view : End → Result Datum Failure
-end_view (End.Value v) = Ok (view v)
-end_view (End.Fault f) = Err (failure_of f)
-
-abbrev pub finished_view : Finished → EndData
-finished_view f = record { result = end_view f.end; text = string_bytes f.text; namespace = string_bytes f.namespace }

@@ -1,10 +1,11 @@
 // What is evaluated, and how it ends.
 ghost use Rattle.std.specs.Prelude.{◌≡◌, IfOk};
 ghost use Rattle.repl_values.specs.View.{view};
-ghost use Rattle.repl_jobs.specs.Job.{form_of, job_view, end_view, finished_view};
+ghost use Rattle.repl_jobs.specs.View.{form_of, job_view, end_view, finished_view};
 
 use repl_values::{Fault, Value, copy, copy_text};
 use std::alloc::{AllocError, Global};
+use std::sync::ArcStr;
 
 /// What there is to evaluate.
 #[derive(Debug, Drop)]
@@ -17,7 +18,7 @@ pub enum Work {
 #[derive(Debug, Drop)]
 pub struct Job {
     pub work: Work,
-    pub namespace: String,
+    pub namespace: ArcStr,
     pub retries: u32,
 }
 
@@ -33,7 +34,7 @@ pub enum End {
 pub struct Finished {
     end: End,
     text: String,
-    namespace: String,
+    namespace: ArcStr,
 }
 
 impl Work {
@@ -45,45 +46,42 @@ impl Work {
         form
     }
 
-    /// The same work once more. It fails only for want of memory.
-    pub fn copy(&self, alloc: Global) -> Result<Work, AllocError>
+    /// The same work once more. It takes one step, and fails only where 2^63 owners share a part of it.
+    pub fn copy(&self) -> Result<Work, AllocError>
         ensures { IfOk result (λ copied. form_of copied ≡ form_of self.now) }
     {
-        Ok(Work::Form(copy(alloc, self.form())?))
+        Ok(Work::Form(copy(self.form())?))
     }
 }
 
 impl Job {
-    /// The same job once more. It fails only for want of memory.
-    pub fn copy(&self, alloc: Global) -> Result<Job, AllocError>
+    /// The same job once more. It takes one step, and fails only where 2^63 owners share a part of it.
+    pub fn copy(&self) -> Result<Job, AllocError>
         ensures { IfOk result (λ copied. job_view copied ≡ job_view self.now) }
     {
         Ok(Job {
-            work: self.work.copy(alloc)?,
-            namespace: copy_text(alloc, &self.namespace)?,
+            work: self.work.copy()?,
+            namespace: copy_text(&self.namespace)?,
             retries: self.retries,
         })
     }
 }
 
 impl End {
-    /// The same end once more. It fails only for want of memory.
-    pub fn copy(&self, alloc: Global) -> Result<End, AllocError>
+    /// The same end once more. It takes one step, and fails only where 2^63 owners share a part of it.
+    pub fn copy(&self) -> Result<End, AllocError>
         ensures { IfOk result (λ copied. end_view copied ≡ end_view self.now) }
     {
         match self {
-            End::Value(value) => Ok(End::Value(copy(alloc, value)?)),
-            End::Fault(fault) => Ok(End::Fault(Fault {
-                class: copy_text(alloc, &fault.class)?,
-                text: copy_text(alloc, &fault.text)?,
-            })),
+            End::Value(value) => Ok(End::Value(copy(value)?)),
+            End::Fault(fault) => Ok(End::Fault(fault.copy()?)),
         }
     }
 }
 
 impl Finished {
     /// An end with the text that was printed before it, and the namespace after it.
-    pub fn new(end: End, text: String, namespace: String) -> Finished
+    pub fn new(end: End, text: String, namespace: ArcStr) -> Finished
         ensures end { result.end ≡ end }
         ensures text { result.text ≡ text }
         ensures namespace { result.namespace ≡ namespace }
@@ -96,7 +94,7 @@ impl Finished {
     }
 
     /// The end, the printed text and the namespace.
-    pub fn into_parts(self) -> (End, String, String)
+    pub fn into_parts(self) -> (End, String, ArcStr)
         ensures end { result.0 ≡ self.end }
         ensures text { result.1 ≡ self.text }
         ensures namespace { result.2 ≡ self.namespace }
@@ -114,9 +112,9 @@ impl Finished {
         ensures { IfOk result (λ copied. finished_view copied ≡ finished_view self.now) }
     {
         Ok(Finished {
-            end: self.end.copy(alloc)?,
-            text: copy_text(alloc, &self.text)?,
-            namespace: copy_text(alloc, &self.namespace)?,
+            end: self.end.copy()?,
+            text: String::from_str(alloc, self.text.as_str())?,
+            namespace: copy_text(&self.namespace)?,
         })
     }
 }

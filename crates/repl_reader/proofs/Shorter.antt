@@ -1,6 +1,7 @@
 -- What follows a form is shorter than the text that begins with it.
 use Rattle.std.proofs.Common.{◌≡◌, ℕ, suc, ◌<◌, ◌≤◌, Bool, true, false, ◌||◌, cond, eqb, List, [], ◌∷◌, length, Option, Some, None, refl, sym, arith, subst, one-add, length-drop}
 use Rattle.std.specs.List.{position_or_len}
+use Rattle.repl_values.specs.Keyed.{keys_of}
 use Rattle.repl_values.specs.Datum.{Datum, Items, Pairs}
 use Rattle.repl_values.specs.Repeats.{first_repeat}
 use Rattle.repl_reader.specs.declared.fault.FaultKind.{FaultKind}
@@ -8,7 +9,7 @@ use Rattle.repl_reader.specs.declared.fault.FaultKind.TheVariants.{BadNumber, Ba
 use Rattle.repl_reader.specs.Text.{is_white, is_delimiter, ends_token, bare, after_comment, token, after_token}
 use Rattle.repl_reader.specs.Token.{begins_number}
 use Rattle.repl_reader.specs.Reading.{Bracket, round, square, curly, Reading, begins, closes, ends, breaks, Next, settled, opens, marks, drops, Contents, closed, refused, behind, contents, escaped, string_of, is_escape, escape, found_or, token_at, dispatch_at, is_unsupported, next_by, next_of, next}
-use Rattle.repl_reader.specs.Grammar.{Reads, plain, marked, marked_deep, opened, opened_deep, dropped, undropped, Row, last, more, wanted, wrapped, enclosed, collected, keyed, keys_of, map_of, paired, unmatched, same_bracket}
+use Rattle.repl_reader.specs.Grammar.{Reads, plain, marked, marked_deep, opened, opened_deep, dropped, undropped, Row, last, more, wanted, wrapped, enclosed, collected, keyed, map_of, paired, unmatched, same_bracket}
 
 abbrev pub Shorter : ℕ → Reading → Type 0
 Shorter n (begins d rest) = length rest < n

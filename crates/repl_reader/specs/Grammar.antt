@@ -2,6 +2,7 @@
 use Rattle.std.specs.Prelude.{◌≡◌, ℕ, zero, suc, ◌+◌, ◌-◌, ◌<◌, ◌≤◌, List, [], Bool, true, false, Option, None, Some, if◌then◌else◌, codes, length}
 use Rattle.repl_values.specs.Datum as datum
 use Rattle.repl_values.specs.Datum.{Datum, Items, no_items, item, Pairs, no_pairs, pair}
+use Rattle.repl_values.specs.Keyed.{keys_of}
 use Rattle.repl_values.specs.Print.{print}
 use Rattle.repl_values.specs.Repeats.{first_repeat}
 use Rattle.repl_reader.specs.declared.fault.FaultKind.TheVariants.{Unmatched, OddMap, SameKey, TooDeep}
@@ -69,10 +70,6 @@ abbrev mutual
   pub paired_with : Datum → Items → Option Pairs
   paired_with k no_items = None
   paired_with k (item v ds) = with_pair k v (paired ds)
-
-abbrev pub keys_of : Pairs → Items
-keys_of no_pairs = no_items
-keys_of (pair k v ps) = item k (keys_of ps)
 
 -- the print of the value at this place
 abbrev pub print_at : ℕ → Items → List ℕ

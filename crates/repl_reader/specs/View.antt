@@ -1,9 +1,8 @@
 -- The data that the code's types stand for.
-use Rattle.std.specs.Prelude.{◌≡◌, String, ◌+◌, ◌<◌, ◌≤◌, ℕ, List, map, zip, length, Option, None, Some, string_bytes, codes}
-use Rattle.std.specs.declared.alloc.Global.{Global}
-use Rattle.repl_values.specs.Repeats.{first_repeat}
+use Rattle.std.specs.Prelude.{◌≡◌, ◌+◌, ◌<◌, ◌≤◌, ℕ, List, Option, None, Some, string_bytes, codes}
 use Rattle.repl_values.specs.Datum.{Datum, Items, Pairs}
-use Rattle.repl_values.specs.View.{view, pairs_of, items_view}
+use Rattle.repl_values.specs.Keyed.{keys_of}
+use Rattle.repl_values.specs.View.{view, items_view, pairs_view}
 use Rattle.repl_values.specs.declared.value.Value.{Value}
 use Rattle.repl_reader.specs.Fault.{BreakData, FaultData}
 use Rattle.repl_reader.specs.Reading as plain
@@ -13,10 +12,10 @@ use Rattle.repl_reader.specs.declared.reading.Bracket.{Bracket}
 use Rattle.repl_reader.specs.declared.reading.Mark.{Mark}
 use Rattle.repl_reader.specs.declared.reading.Reading.{Reading}
 use Rattle.repl_reader.specs.declared.next.Next.{Next}
-use Rattle.repl_reader.specs.declared.halves.Halves.{Halves}
+use Rattle.repl_reader.specs.declared.entries.Entries.{Entries}
 use Rattle.repl_reader.specs.declared.nest.Piece.{Piece}
 use Rattle.repl_reader.specs.declared.nest.Row.{Row as CodeRow}
-use Rattle.repl_reader.specs.Grammar.{Reads, Row, most_nested, too_deep, wrapped, enclosed, print_at}
+use Rattle.repl_reader.specs.Grammar.{Reads, Row, most_nested, too_deep, wrapped, enclosed}
 
 abbrev pub break_view : Break → BreakData
 break_view b = record { kind = b.kind; left = b.left; text = string_bytes b.text }
@@ -50,18 +49,10 @@ abbrev pub IsValue : Option Value → Option Datum → Type 0
 IsValue None d = d ≡ None
 IsValue (Some v) d = d ≡ Some (view v)
 
--- the pairs of keys and values that stand apart
-abbrev pub halves_pairs : Halves → List (Datum × Datum)
-halves_pairs h = zip (map view h.keys.items) (map view h.values.items)
-
-abbrev pub AreHalves : Option Halves → Option Pairs → Type 0
-AreHalves None ps = ps ≡ None
-AreHalves (Some h) ps = (ps ≡ Some (pairs_of (halves_pairs h))) × (length h.keys.items ≡ length h.values.items)
-
--- the print of the first key to which an equal one stands before, if there is one
-abbrev pub IsRepeatedKey : Option (String Global) → Items → Type 0
-IsRepeatedKey None keys = first_repeat keys ≡ None
-IsRepeatedKey (Some text) keys = (place : ℕ) × (first_repeat keys ≡ Some place) × (string_bytes text ≡ print_at place keys)
+-- the pairs of forms by turns, with their keys once more
+abbrev pub AreEntries : Option Entries → Option Pairs → Type 0
+AreEntries None ps = ps ≡ None
+AreEntries (Some e) ps = (ps ≡ Some (pairs_view e.pairs.items)) × (keys_of (pairs_view e.pairs.items) ≡ items_view e.keys.items)
 
 -- what the code knows of the front of a text: a dropped form is to follow, or what is read there
 abbrev pub IsPiece : ℕ → List ℕ → Piece → Type 0

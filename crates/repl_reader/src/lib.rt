@@ -6,9 +6,9 @@
 
 mod blank;
 mod brackets;
+mod entries;
 mod fault;
 mod forms;
-mod halves;
 pub mod laws;
 mod maps;
 mod nest;

@@ -10,8 +10,9 @@ use crate::fault::{FaultKind, break_with};
 use crate::maps::read_map;
 use crate::next::{Next, read_next};
 use crate::reading::{Bracket, Mark, Reading};
-use repl_values::Value;
+use repl_values::{Sequence, Value};
 use std::alloc::{AllocError, Global};
+use std::sync::ArcStr;
 
 /// How deep forms may be nested.
 pub(crate) const MOST_NESTED: usize = 64;
@@ -178,9 +179,9 @@ fn listed(alloc: Global, mark: Mark, form: Value) -> Result<Value, AllocError>
     ensures { IfOk result (λ v. view v ≡ list (item (symbol (symbol_of mark)) (item (view form) no_items))) }
 {
     let mut forms = Vec::with_capacity(alloc, 2)?;
-    forms.push(Value::Symbol(String::from_str(alloc, mark.symbol())?))?;
+    forms.push(Value::Symbol(ArcStr::from_str(alloc, mark.symbol())?))?;
     forms.push(form)?;
-    Ok(Value::List(forms))
+    Ok(Value::List(Sequence::from_vec(alloc, forms)?))
 }
 
 fn enclosed<'a>(alloc: Global, bracket: Bracket, row: Row<'a>) -> Result<Reading<'a>, AllocError>
@@ -212,8 +213,14 @@ fn collected<'a>(
         ≡ collected (bracket_view bracket) (items_view forms.items) rest.now) }
 {
     match bracket {
-        Bracket::Round => Ok(Reading::Form(Value::List(forms), rest)),
-        Bracket::Square => Ok(Reading::Form(Value::Vector(forms), rest)),
+        Bracket::Round => {
+            let items = Sequence::from_vec(alloc, forms)?;
+            Ok(Reading::Form(Value::List(items), rest))
+        }
+        Bracket::Square => {
+            let items = Sequence::from_vec(alloc, forms)?;
+            Ok(Reading::Form(Value::Vector(items), rest))
+        }
         Bracket::Curly => read_map(alloc, forms, rest),
     }
 }

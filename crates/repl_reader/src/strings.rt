@@ -11,6 +11,7 @@ use crate::reading::Reading;
 use crate::text::{first_character, tail};
 use repl_values::Value;
 use std::alloc::{AllocError, Global};
+use std::sync::ArcStr;
 
 /// Reads what follows an opening quote, up to the closing one.
 pub(crate) fn read_string(alloc: Global, text: &str) -> Result<Reading<'_>, AllocError>
@@ -23,7 +24,10 @@ pub(crate) fn read_string(alloc: Global, text: &str) -> Result<Reading<'_>, Allo
         contents.push_str(plain)?;
         match rest.as_bytes() {
             [] => return Ok(Reading::Broken(break_with(alloc, FaultKind::Eof, 0, "")?)),
-            [b'"', ..] => return Ok(Reading::Form(Value::Str(contents), tail(rest))),
+            [b'"', ..] => {
+                let contents = ArcStr::from_string(contents)?;
+                return Ok(Reading::Form(Value::Str(contents), tail(rest)));
+            }
             _ => {}
         }
         let escape = tail(rest);

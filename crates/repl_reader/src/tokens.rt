@@ -14,6 +14,7 @@ use crate::reading::Reading;
 use crate::text::tail;
 use repl_values::Value;
 use std::alloc::{AllocError, Global};
+use std::sync::ArcStr;
 
 /// How many bytes the token has that stands at the front.
 fn token_len(text: &str) -> usize
@@ -136,7 +137,7 @@ fn keyword_of(alloc: Global, name: &str) -> Result<Option<Value>, AllocError>
 {
     match name.as_bytes() {
         [] | [b':', ..] => Ok(None),
-        _ => Ok(Some(Value::Keyword(String::from_str(alloc, name)?))),
+        _ => Ok(Some(Value::Keyword(ArcStr::from_str(alloc, name)?))),
     }
 }
 
@@ -145,7 +146,7 @@ fn symbol_of(alloc: Global, token: &str) -> Result<Option<Value>, AllocError>
     ensures { IfOk result (λ v. IsValue v (symbol_of token.now)) }
 {
     if is_symbol(token.as_bytes()) {
-        Ok(Some(Value::Symbol(String::from_str(alloc, token)?)))
+        Ok(Some(Value::Symbol(ArcStr::from_str(alloc, token)?)))
     } else {
         Ok(None)
     }

@@ -94,7 +94,7 @@ mutual
   hash-same (fault s m) (fault t n) h = two-texts 15 s t m n h
   hash-same d e h = absurd (cc)
 
-  items-hash-same : (ds es : Items) (before : ℕ) → same_items ds es ≡ true → items_hash before ds ≡ items_hash before es
+  pub items-hash-same : (ds es : Items) (before : ℕ) → same_items ds es ≡ true → items_hash before ds ≡ items_hash before es
   items-hash-same no_items no_items before h = refl
   items-hash-same no_items (item e es) before h = cc
   items-hash-same (item d ds) no_items before h = cc

@@ -23,7 +23,7 @@ owner-is (tenant t) shared h = absurd (cc)
 owner-is (tenant t) (tenant u) h = ap tenant (eqb-true t u h)
 
 -- what is equal to a value without parts is that value
-leaf-is : (d e : Datum) → is_leaf d ≡ true → same d e ≡ true → d ≡ e
+pub leaf-is : (d e : Datum) → is_leaf d ≡ true → same d e ≡ true → d ≡ e
 leaf-is nil nil l h = refl
 leaf-is (boolean b) (boolean c) l h = ap boolean ((booleans_Decides b c).0 h)
 leaf-is (integer m) (integer n) l h = ap integer ((Decides-int_eq m n).0 h)

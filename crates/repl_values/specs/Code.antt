@@ -4,7 +4,7 @@ use Rattle.std.specs.Prelude.{◌≡◌, ℕ, ℤ, pos, List, [], ◌∷◌, Boo
 use Rattle.std.proofs.Common.{◌∙◌, ap}
 use Rattle.std.specs.Coded.{Coded, code_by, coded×, coded_ℕ, coded_ℤ, coded_list, coded_option}
 use Rattle.std.specs.Prelude.{Option, Some, None}
-use Rattle.repl_values.specs.Datum.{OwnerData, shared, tenant, Datum, nil, boolean, integer, string, keyword, symbol, list, vector, map, ref, atom, agent, var, fault, Items, no_items, item, Pairs, no_pairs, pair, FunctionData}
+use Rattle.repl_values.specs.Datum.{OwnerData, shared, tenant, Datum, nil, boolean, integer, string, keyword, symbol, list, vector, map, ref, atom, agent, var, fault, Items, no_items, item, Pairs, no_pairs, pair}
 
 abbrev pub owner_number : OwnerData → Option ℕ
 owner_number shared = None
@@ -236,10 +236,3 @@ items_code = code_by (List Node) nodes_code (λ ds. write_items ds []) (λ ns. r
 
 abbrev pub pairs_code : Coded Pairs
 pairs_code = code_by (List Node) nodes_code (λ qs. write_pairs qs []) (λ ns. read_pairs (read ns [])) pairs-read
-
-abbrev pub function_code : Coded FunctionData
-function_code =
-    code_by (List ℕ × (List ℕ × (List (List ℕ) × Items))) (coded× (coded_list coded_ℕ) (coded× (coded_list coded_ℕ) (coded× (coded_list (coded_list coded_ℕ)) items_code)))
-    (λ f. (f.space, (f.name, (f.params, f.body))))
-    (λ t. record { space = t.0; name = t.1.0; params = t.1.1.0; body = t.1.1.1 })
-    (λ _. refl)

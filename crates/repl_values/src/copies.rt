@@ -1,90 +1,79 @@
-// Copies, written out since a derived clone says nothing of a type that holds itself.
-ghost use Rattle.std.specs.Prelude.{◌≡◌, IfOk, map, string_bytes};
-ghost use Rattle.repl_values.specs.View.{view, items_view, pairs_view, function_view};
+// Copies: one more owner of what a value shares.
+ghost use Rattle.std.specs.Prelude.{◌≡◌, IfOk, map};
+ghost use Rattle.std.specs.Arc.{arc_str_bytes};
+ghost use Rattle.repl_values.specs.View.{view, pair_view};
 
-use crate::value::{Function, Value};
+use crate::value::Value;
 use std::alloc::{AllocError, Global};
+use std::sync::ArcStr;
 
-/// The same text once more. It fails only for want of memory.
-pub fn copy_text(alloc: Global, text: &String) -> Result<String, AllocError>
-    ensures { IfOk result (λ copied. string_bytes copied ≡ string_bytes text.now) }
+/// The same text. It takes one step and no memory, and fails only where 2^63 owners share it.
+pub fn copy_text(text: &ArcStr) -> Result<ArcStr, AllocError>
+    ensures { IfOk result (λ copied. arc_str_bytes copied ≡ arc_str_bytes text.now) }
 {
-    String::from_str(alloc, text.as_str())
+    text.clone()
 }
 
-/// A value with the same view. It fails only for want of memory.
-#[cycle(copy)]
-pub fn copy(alloc: Global, value: &Value) -> Result<Value, AllocError>
+/// A value with the same view. It takes one step and no memory, and fails only where 2^63 owners
+/// share a node.
+pub fn copy(value: &Value) -> Result<Value, AllocError>
     ensures { IfOk result (λ copied. view copied ≡ view value.now) }
 {
     match value {
         Value::Nil => Ok(Value::Nil),
         Value::Bool(b) => Ok(Value::Bool(*b)),
         Value::Int(n) => Ok(Value::Int(*n)),
-        Value::Str(text) => Ok(Value::Str(copy_text(alloc, text)?)),
-        Value::Keyword(text) => Ok(Value::Keyword(copy_text(alloc, text)?)),
-        Value::Symbol(text) => Ok(Value::Symbol(copy_text(alloc, text)?)),
-        Value::List(items) => Ok(Value::List(copy_items(alloc, items)?)),
-        Value::Vector(items) => Ok(Value::Vector(copy_items(alloc, items)?)),
-        Value::Map(pairs) => Ok(Value::Map(copy_pairs(alloc, pairs)?)),
+        Value::Str(text) => Ok(Value::Str(copy_text(text)?)),
+        Value::Keyword(text) => Ok(Value::Keyword(copy_text(text)?)),
+        Value::Symbol(text) => Ok(Value::Symbol(copy_text(text)?)),
+        Value::List(items) => Ok(Value::List(items.copy()?)),
+        Value::Vector(items) => Ok(Value::Vector(items.copy()?)),
+        Value::Map(pairs) => Ok(Value::Map(pairs.copy()?)),
         Value::Ref(name) => Ok(Value::Ref(*name)),
         Value::Atom(number) => Ok(Value::Atom(*number)),
         Value::Agent(number) => Ok(Value::Agent(*number)),
         Value::Var { space, name } => Ok(Value::Var {
-            space: copy_text(alloc, space)?,
-            name: copy_text(alloc, name)?,
+            space: copy_text(space)?,
+            name: copy_text(name)?,
         }),
         Value::Fault { class, text } => Ok(Value::Fault {
-            class: copy_text(alloc, class)?,
-            text: copy_text(alloc, text)?,
+            class: copy_text(class)?,
+            text: copy_text(text)?,
         }),
     }
 }
 
-#[cycle(copy)]
-fn copy_items(alloc: Global, items: &Vec<Value>) -> Result<Vec<Value>, AllocError>
-    ensures { IfOk result (λ copied. items_view copied.items ≡ items_view items.now.items) }
+/// The same items in a vector of their own: one step for each. It fails only for want of memory.
+pub fn copy_items(alloc: Global, items: &[Value]) -> Result<Vec<Value>, AllocError>
+    ensures { IfOk result (λ copies. map view copies.items ≡ map view items.now) }
 {
-    let mut copies = Vec::with_capacity(alloc, items.len())?;
+    copies_with_room(alloc, items, 0)
+}
+
+// The same items, in a vector that has room for more.
+pub(crate) fn copies_with_room(
+    alloc: Global,
+    items: &[Value],
+    more: usize,
+) -> Result<Vec<Value>, AllocError>
+    ensures { IfOk result (λ copies. map view copies.items ≡ map view items.now) }
+{
+    let mut copies = Vec::with_capacity(alloc, items.len().saturating_add(more))?;
     for item in items {
-        copies.push(copy(alloc, item)?)?;
+        copies.push(copy(item)?)?;
     }
     Ok(copies)
 }
 
-#[cycle(copy)]
-fn copy_pairs(alloc: Global, pairs: &Vec<(Value, Value)>) -> Result<Vec<(Value, Value)>, AllocError>
-    ensures { IfOk result (λ copied. pairs_view copied.items ≡ pairs_view pairs.now.items) }
+pub(crate) fn copy_pairs(
+    alloc: Global,
+    pairs: &[(Value, Value)],
+) -> Result<Vec<(Value, Value)>, AllocError>
+    ensures { IfOk result (λ copies. map pair_view copies.items ≡ map pair_view pairs.now) }
 {
     let mut copies = Vec::with_capacity(alloc, pairs.len())?;
     for (key, value) in pairs {
-        let key = copy(alloc, key)?;
-        let value = copy(alloc, value)?;
-        copies.push((key, value))?;
-    }
-    Ok(copies)
-}
-
-impl Function {
-    /// A function with the same view. It fails only for want of memory.
-    pub fn copy(&self, alloc: Global) -> Result<Function, AllocError>
-        ensures { IfOk result (λ copied. function_view copied ≡ function_view self.now) }
-    {
-        Ok(Function {
-            space: copy_text(alloc, &self.space)?,
-            name: copy_text(alloc, &self.name)?,
-            params: copy_texts(alloc, &self.params)?,
-            body: copy_items(alloc, &self.body)?,
-        })
-    }
-}
-
-fn copy_texts(alloc: Global, texts: &Vec<String>) -> Result<Vec<String>, AllocError>
-    ensures { IfOk result (λ copied. map string_bytes copied.items ≡ map string_bytes texts.now.items) }
-{
-    let mut copies = Vec::with_capacity(alloc, texts.len())?;
-    for text in texts {
-        copies.push(copy_text(alloc, text)?)?;
+        copies.push((copy(key)?, copy(value)?))?;
     }
     Ok(copies)
 }

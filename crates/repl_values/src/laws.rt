@@ -6,11 +6,14 @@ ghost use Rattle.repl_values.specs.Datum.{Datum, Items, list, vector};
 ghost use Rattle.repl_values.specs.View.{view};
 ghost use Rattle.repl_values.specs.Same.{same};
 ghost use Rattle.repl_values.specs.Hash.{hash};
+ghost use Rattle.repl_values.specs.Order.{order, sort_key};
+ghost use Rattle.std.specs.Ordering.{is_eq, ordering_reverse};
 ghost use Rattle.repl_values.specs.Print.{print};
 ghost use Rattle.repl_values.specs.Measures.{weight, nesting};
 ghost use Rattle.repl_values.specs.Parts.{IsPartOf};
 
 use crate::value::Value;
+use std::cmp::Ordering;
 
 /// A value is equal to itself.
 pub fn same_is_reflexive()
@@ -35,6 +38,21 @@ pub fn list_is_same_as_vector()
 /// Equal values have equal hashes.
 pub fn same_values_hash_alike()
     ensures { (d e : Datum) → same d e ≡ true → hash d ≡ hash e }
+{}
+
+/// Two values tie in the order of keys exactly where they are equal.
+pub fn only_equal_values_tie()
+    ensures { (d e : Datum) → is_eq (order (sort_key d) (sort_key e)) ≡ same d e }
+{}
+
+/// One value comes before another exactly where that one comes behind it.
+pub fn order_is_antisymmetric()
+    ensures { (d e : Datum) → order (sort_key d) (sort_key e) ≡ ordering_reverse (order (sort_key e) (sort_key d)) }
+{}
+
+/// What comes before a value that comes before another comes before that one.
+pub fn order_is_transitive()
+    ensures { (d e f : Datum) → order (sort_key d) (sort_key e) ≡ Ordering.Less → order (sort_key e) (sort_key f) ≡ Ordering.Less → order (sort_key d) (sort_key f) ≡ Ordering.Less }
 {}
 
 /// A copy, which has the view of what it was made from, is equal to it and prints as it does.

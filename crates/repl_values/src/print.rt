@@ -1,4 +1,6 @@
 // The spelling of values, into a text.
+#![tactic(auto, using(crate::proofs::Nodes::node_steps))]
+
 ghost use Rattle.std.specs.Prelude.{◌≡◌, ◌++◌, OnOk, OnErr, string_bytes, codes, decimal, encode_utf8};
 ghost use Rattle.repl_values.specs.View.{view, items_view, pairs_view, owner_view};
 ghost use Rattle.repl_values.specs.Print.{print, display, spelled, texts, pair_texts, joined, escaped, ref_text};
@@ -52,17 +54,17 @@ fn spell(value: &Value, strings: Strings, out: &mut String) -> Result<(), AllocE
         Value::Symbol(name) => out.push_str(name.as_str()),
         Value::List(items) => {
             out.push_str("(")?;
-            spell_items(items, strings, out)?;
+            spell_items(items.as_slice(), strings, out)?;
             out.push_str(")")
         }
         Value::Vector(items) => {
             out.push_str("[")?;
-            spell_items(items, strings, out)?;
+            spell_items(items.as_slice(), strings, out)?;
             out.push_str("]")
         }
         Value::Map(pairs) => {
             out.push_str("{")?;
-            spell_pairs(pairs, strings, out)?;
+            spell_pairs(pairs.as_slice(), strings, out)?;
             out.push_str("}")
         }
         Value::Ref(name) => push_ref(*name, out),

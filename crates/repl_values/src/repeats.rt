@@ -1,64 +1,33 @@
-// The first repeated key, found by the keys' hashes.
-#![tactic(auto, using(crate::proofs::Views::value_views))]
-
-ghost use Rattle.std.specs.Prelude.{◌≡◌, ◌||◌, IfOk, false};
-ghost use Rattle.std.specs.List.{list_any};
-ghost use Rattle.repl_values.specs.Datum.{Datum};
-ghost use Rattle.repl_values.specs.View.{view, items_view};
-ghost use Rattle.repl_values.specs.Same.{same as are_same};
+// The first repeated key.
+ghost use Rattle.std.specs.Prelude.{◌≡◌, IfOk};
+ghost use Rattle.repl_values.specs.View.{items_view};
+ghost use Rattle.repl_values.specs.Datum.{Pairs};
+ghost use Rattle.repl_values.specs.Keyed.{keys_of};
 ghost use Rattle.repl_values.specs.Repeats.{first_repeat};
-ghost use Rattle.repl_values.specs.Seen.{tells};
+ghost use Rattle.repl_values.specs.BuiltView.{IsBuilt};
 
-use crate::equality::same;
-use crate::hashing::hash_of;
-use crate::value::Value;
+use crate::building::Built;
+use crate::copies::copy;
+use crate::value::{Table, Value};
 use std::alloc::{AllocError, Global};
-use std::collections::BTreeMap;
 
 /// The index of the first key, from the left, to which an equal one stands before. It fails only
-/// for want of memory, and takes n log n steps unless hashes collide.
+/// for want of memory, and compares n log n keys.
 pub fn first_repeated(alloc: Global, keys: &[Value]) -> Result<Option<usize>, AllocError>
     ensures { IfOk result (λ found. found ≡ first_repeat (items_view keys.now)) }
 {
-    let mut seen = BTreeMap::new(alloc);
-    for (place, key) in keys.iter().enumerate() {
-        if is_repeated(alloc, &mut seen, key)? {
-            return Ok(Some(place));
-        }
+    let mut pairs = Vec::with_capacity(alloc, keys.len())?;
+    for key in keys {
+        pairs.push((copy(key)?, Value::Nil))?;
     }
-    Ok(None)
+    Ok(repeated(Table::from_pairs(alloc, pairs)?))
 }
 
-// Whether an equal value was noted. If not, this one is noted now.
-fn is_repeated<'a>(
-    alloc: Global,
-    seen: &mut BTreeMap<u64, Vec<&'a Value>>,
-    key: &'a Value,
-) -> Result<bool, AllocError>
-    ensures found { IfOk result (λ found. found ≡ tells seen.old (view key.now)) }
-    ensures noted { IfOk result (λ found. found ≡ false → (d : Datum)
-        → tells seen.new d ≡ (are_same (view key.now) d || tells seen.old d)) }
+fn repeated(built: Built) -> Option<usize>
+    ensures { (ps : Pairs) → IsBuilt built ps → result ≡ first_repeat (keys_of ps) }
 {
-    let hash = hash_of(key);
-    let mut bucket = match seen.remove(&hash) {
-        Some(bucket) => bucket,
-        None => Vec::new(alloc),
-    };
-    if holds_equal(&bucket, key) {
-        return Ok(true);
+    match built {
+        Built::Made(_) => None,
+        Built::Repeats(place) => Some(place),
     }
-    bucket.push(key)?;
-    seen.insert(hash, bucket)?;
-    Ok(false)
-}
-
-fn holds_equal(values: &[&Value], key: &Value) -> bool
-    ensures { result ≡ list_any (λ v. are_same (view v.now) (view key.now)) values.now }
-{
-    for value in values {
-        if same(value, key) {
-            return true;
-        }
-    }
-    false
 }

@@ -1,19 +1,36 @@
 -- Forms in a row, of which some have values already.
 use mathlib.Core.Path.{fun_ext}
-use Rattle.std.specs.declared.collections.VecDeque.{VecDeque}
-use Rattle.std.proofs.Common.{◌≡◌, ℕ, Bool, true, false, if◌then◌else◌, Result, Ok, Err, IfOk, List, [], ◌∷◌, ◌++◌, refl, sym, ap, ◌∙◌, append_assoc, append-nil, zero, suc, String, Vec, Global, string_bytes}
-use Rattle.std.proofs.lemmas.List.{map-append}
-use Rattle.repl_values.specs.Datum.{Datum, FunctionData, list}
-use Rattle.repl_values.specs.View.{view, items_of, pairs_view}
+use Rattle.std.proofs.Common.{◌≡◌, ℕ, ◌<◌, Bool, true, false, if◌then◌else◌, Option, Some, None, MatchOption, subst, Result, Ok, Err, IfOk, List, [], ◌∷◌, ◌++◌, refl, sym, ap, ◌∙◌, append_assoc, append-nil, zero, suc, length, nat_lt, arith}
+use Rattle.std.proofs.lemmas.List.{map-append, length-map}
+use Rattle.std.proofs.lemmas.Bool.Decides.{nat_tests}
+use Rattle.std.proofs.lemmas.Grind.{common_steps}
+use Rattle.special_forms.specs.Functions.{FunctionData}
+use Rattle.repl_values.specs.Datum.{Datum, Items, no_items, item, Pairs, list, vector, map}
+use Rattle.repl_values.specs.Listed.{listed}
+use Rattle.repl_values.specs.View.{view}
 use Rattle.repl_values.specs.declared.value.Value as value
-use Rattle.repl_values.proofs.Views.{value_views, view-Symbol, view-List, view-Vector, view-Map}
-use Rattle.special_forms.proofs.Sizes.{value_size-pos, value_size-List, value_size-Vector, value_size-Map}
+use Rattle.repl_values.proofs.Lists.{lists}
+use Rattle.repl_values.proofs.Views.{value_views}
+use Rattle.repl_values.specs.declared.fault.Fault.{Fault}
+use Rattle.repl_faults.specs.Failure.{Failure, output_too_long}
+use Rattle.repl_faults.specs.View.{failure_of}
+use Rattle.repl_faults.specs.declared.error.ApplyError.{ApplyError}
+use Rattle.core_functions.specs.Names.{fits}
+use Rattle.core_functions.specs.Meaning.{meaning}
+use Rattle.core_functions.specs.View.{FailsIn}
+use Rattle.core_texts.specs.Limits.{most_text}
+use Rattle.core_functions.specs.Outcome as outcomes
+use Rattle.core_functions.specs.Outcome.{Outcome, bounded}
+use Rattle.special_forms.proofs.Sizes.{datum_size-pos, datum_size-list, datum_size-vector, datum_size-map}
+use Rattle.special_forms.specs.Rows.{in_a_row}
+use Rattle.special_forms.specs.Seen.{views, forms_view}
+use Rattle.special_forms.specs.declared.forms.Forms.{Forms}
+use Rattle.special_forms.specs.declared.shapes.SpecialForm.{SpecialForm}
 use Rattle.repl_walker.specs.Tree.{Kept, Tree, ends, Part, ◌>>=◌}
-use Rattle.repl_walker.specs.Evaluation.{PlaceData, CalleeData, core_callee, program_callee, row, call_value, called, symbol_value, list_value, vector_value, in_a_row, value_at}
-use Rattle.repl_walker.specs.Machine.{kept_of, answered, answered_by, call_behind, items_behind, collected, items_value, list_at}
-use Rattle.special_forms.specs.Seen.{views}
-use Rattle.special_forms.proofs.Shaping.{list_of-items}
+use Rattle.repl_walker.specs.Evaluation.{PlaceData, CalleeData, core_callee, program_callee, row, call_value, called, printed, outcome, core_call, named, a_core_function, headed_value, value_at}
+use Rattle.repl_walker.specs.Machine.{kept_of, next_of, from_state, tree, answered, answered_by, call_behind, items_behind, collected, items_value, list_at}
 use Rattle.repl_walker.specs.declared.frames.Collection.{Collection}
+use Rattle.repl_walker.specs.declared.frames.Control.{Control}
 use Rattle.repl_walker.specs.declared.frames.State.{State}
 use Rattle.repl_walker.specs.declared.frames.Wanted.{Wanted}
 use Rattle.repl_asks.specs.Exchange as exchange
@@ -48,28 +65,22 @@ items_last room p kind values next = ap (λ vs. collected kind vs next) (append-
 pub views-last : (vs : List value.Value) (v : value.Value) → views (vs ++ v ∷ []) ≡ views vs ++ view v ∷ []
 views-last vs v = map-append view vs (v ∷ [])
 
-pub ruleset steps = (value_views, call_step, items_step, call_last, items_last, list_of-items)
+pub ruleset steps = (value_views, lists, call_step, items_step, call_last, items_last)
 
-pub value_at-Symbol : (room : ℕ) (p : PlaceData) (s : String Global) → value_at room p (view (value.Symbol s)) ≡ symbol_value p (string_bytes s)
-value_at-Symbol room p s = rw (view-Symbol s) refl
+pub list-at : (room : ℕ) (p : PlaceData) (ds : Items) → value_at room p (list ds) ≡ list_at room p (listed ds)
+list-at room p no_items = refl
+list-at zero p (item d ds) = refl
+list-at (suc room) p (item d ds) = refl
 
-pub value_at-List : (room : ℕ) (p : PlaceData) (vs : Vec value.Value Global) → value_at room p (view (value.List vs)) ≡ list_at room p (views vs.items)
-value_at-List room p vs = rw (view-List vs) (by_items room p (views vs.items))
-  where
-    by_items : (room : ℕ) (p : PlaceData) (ds : List Datum) → value_at room p (list (items_of ds)) ≡ list_at room p ds
-    by_items room p [] = refl
-    by_items zero p (d ∷ ds) = refl
-    by_items (suc room) p (d ∷ ds) = ap (list_value (value_at room) p d) (list_of-items ds)
+pub vector-at : (room : ℕ) (p : PlaceData) (ds : Items) → value_at room p (vector ds) ≡ items_value room p Collection.Vector (listed ds)
+vector-at zero p ds = refl
+vector-at (suc room) p ds = refl
 
-pub value_at-Vector : (room : ℕ) (p : PlaceData) (vs : Vec value.Value Global) → value_at room p (view (value.Vector vs)) ≡ items_value room p Collection.Vector (views vs.items)
-value_at-Vector zero p vs = rw (view-Vector vs) refl
-value_at-Vector (suc room) p vs = rw (view-Vector vs) (ap (λ ds. row (value_at room p) ds >>= vector_value) (list_of-items (views vs.items)))
+pub map-at : (room : ℕ) (p : PlaceData) (ps : Pairs) → value_at room p (map ps) ≡ items_value room p Collection.Map (in_a_row ps)
+map-at zero p ps = refl
+map-at (suc room) p ps = refl
 
-pub value_at-Map : (room : ℕ) (p : PlaceData) (ps : Vec (value.Value × value.Value) Global) → value_at room p (view (value.Map ps)) ≡ items_value room p Collection.Map (in_a_row (pairs_view ps.items))
-value_at-Map zero p ps = rw (view-Map ps) refl
-value_at-Map (suc room) p ps = rw (view-Map ps) refl
-
-pub ruleset first_steps = (value_at-Symbol, value_at-List, value_at-Vector, value_at-Map, value_size-pos, value_size-List, value_size-Vector, value_size-Map)
+pub ruleset first_steps = (value_views, list-at, vector-at, map-at, datum_size-pos, datum_size-list, datum_size-vector, datum_size-map)
 
 -- whatever a fault was wanted for, it is the end
 pub answered-fault : (w : Wanted) (class text : List ℕ) (s : State) → answered w (exchange.fault class text) s ≡ ends (Err (record { class = class; text = text })) (kept_of s)
@@ -100,7 +111,62 @@ pub call_start : (room : ℕ) (p : PlaceData) (callee : CalleeData) (ds : List D
 unfolding call_behind
 call_start room p callee ds next = refl
 
-pub views-chosen : (b : Bool) (consequent alternative body : VecDeque value.Value Global) → body ≡ (if b then consequent else alternative)
-    → views body.items ≡ (if b then views consequent.items else views alternative.items)
-views-chosen true consequent alternative body chosen = ap (λ (q : VecDeque value.Value Global). views q.items) chosen
-views-chosen false consequent alternative body chosen = ap (λ (q : VecDeque value.Value Global). views q.items) chosen
+pub forms-chosen : (b : Bool) (consequent alternative body : Forms) → body ≡ (if b then consequent else alternative)
+    → forms_view body ≡ (if b then forms_view consequent else forms_view alternative)
+forms-chosen true consequent alternative body chosen = ap forms_view chosen
+forms-chosen false consequent alternative body chosen = ap forms_view chosen
+
+-- a text that is longer than all that may be printed passes the limit wherever it stands
+printed-long : (text : List ℕ) (d : Datum) (next : Datum → Kept → Tree) (kept : Kept) → 1048576 < length text
+    → printed text d next kept ≡ ends (Err output_too_long) kept
+unfolding printed
+printed-long text d next kept h = grind (arith, common_steps, nat_tests, h)
+
+pub outcome-bounded : (o : Outcome) (next : Datum → Kept → Tree) (kept : Kept) → outcome (bounded o) next kept ≡ outcome o next kept
+outcome-bounded (outcomes.gives d text) next kept = by_test (nat_lt most_text (length text)) refl
+  where
+    by_test : (t : Bool) → nat_lt most_text (length text) ≡ t
+        → outcome (if t then outcomes.fails output_too_long else outcomes.gives d text) next kept ≡ printed text d next kept
+    by_test true e = sym (printed-long text d next kept (grind (arith, nat_tests, e)))
+    by_test false e = refl
+outcome-bounded (outcomes.fails f) next kept = refl
+
+pub outcome-gives : (o : Outcome) (d : Datum) (text : List ℕ) (next : Datum → Kept → Tree) (kept : Kept) → bounded o ≡ outcomes.gives d text
+    → outcome o next kept ≡ printed text d next kept
+outcome-gives o d text next kept h = sym (outcome-bounded o next kept) ∙ ap (λ (p : Outcome). outcome p next kept) h
+
+pub outcome-fails : (o : Outcome) (f : Failure) (next : Datum → Kept → Tree) (kept : Kept) → bounded o ≡ outcomes.fails f
+    → outcome o next kept ≡ ends (Err f) kept
+outcome-fails o f next kept h = sym (outcome-bounded o next kept) ∙ ap (λ (p : Outcome). outcome p next kept) h
+
+pub ruleset bounds = (value_views, outcome-gives, outcome-fails)
+
+-- a form that was taken from the front
+pub form-taken : (X : Type 0) (o : Option value.Value) (v : value.Value) (old new : List Datum) → MatchOption o X (λ form. old ≡ view form ∷ new) → o ≡ Some v → old ≡ view v ∷ new
+form-taken X o v old new told is = let P : Option value.Value → Type 0 = λ p. MatchOption p X (λ form. old ≡ view form ∷ new) in subst P is told
+
+-- what holds wherever the machine stands holds where it stands
+pub if_ok-part : {E : Type 0} (r : Result Control E) (p q : Part Datum) → p ≡ q
+    → IfOk r (λ control. (s : State) → tree control s ≡ from_state p s) → IfOk r (λ control. (s : State) → tree control s ≡ from_state q s)
+if_ok-part (Ok control) p q same h = λ s. h s ∙ ap (λ (part : Part Datum). from_state part s) same
+if_ok-part (Err e) p q same h = tt
+
+pub if_ok-here : {E : Type 0} (r : Result Control E) (p q : Part Datum) (s : State) → p ≡ q
+    → IfOk r (λ control. (t : State) → tree control t ≡ from_state p t) → IfOk r (λ control. tree control s ≡ from_state q s)
+if_ok-here (Ok control) p q s same h = h s ∙ ap (λ (part : Part Datum). from_state part s) same
+if_ok-here (Err e) p q s same h = tt
+
+pub core_call-fits : (f : CoreFunction) (vs : List value.Value) → true ≡ fits f (length vs) → outcome (meaning f (views vs)) ≡ core_call f (views vs)
+unfolding core_call
+core_call-fits f vs h = let takes : fits f (length (views vs)) ≡ true = ap (fits f) (length-map vs view) ∙ sym h in rw takes refl
+
+-- the fault of a function, which ends the evaluation
+pub fails-told : (o : Outcome) (e : ApplyError) (f : Fault) (s : State) → FailsIn (bounded o) e → e ≡ ApplyError.Fault f
+    → ends (Err (failure_of f)) (kept_of s) ≡ from_state (outcome o) s
+fails-told o e f s told is =
+    let P : ApplyError → Type 0 = λ d. FailsIn (bounded o) d in sym (outcome-fails o (failure_of f) (next_of s) (kept_of s) (subst P is told))
+
+-- a list whose head names a function of the language
+pub headed-core : (room : ℕ) (p : PlaceData) (name : List ℕ) (ds : List Datum) (f : CoreFunction) (special : Option SpecialForm) (next : Datum → Kept → Tree)
+    → special ≡ None → named p.locals name ≡ a_core_function f → call_behind room p (core_callee f) [] ds next ≡ headed_value (value_at room) p name ds special next
+headed-core room p name ds f special next none core = call_start room p (core_callee f) ds next ∙ rw (none, core) refl

@@ -4,7 +4,7 @@ use Rattle.repl_asks.specs.Exchange.{AskData, AnswerData, Exchanged}
 use Rattle.repl_asks.specs.View.{ask_view}
 use Rattle.repl_walker.specs.Tree.{Tree, finished, asks, Leads, Led, Recorded}
 use Rattle.repl_walker.specs.Stops.{LeftAt}
-use Rattle.repl_jobs.specs.Job.{job_view}
+use Rattle.repl_jobs.specs.View.{job_view}
 use Rattle.repl_jobs.specs.Job.{EndData}
 use Rattle.repl_walker.specs.Ends.{EndingData, evaluation_of, IsEndOf}
 use Rattle.repl_jobs.specs.declared.job.Job.{Job}

@@ -4,30 +4,30 @@
 use Rattle.std.specs.Prelude.{ℕ, zero, suc, ◌+◌, List, [], ◌∷◌, ◌++◌, Option, Some, None, Ok, Err, if◌then◌else◌, ◌==◌, ◌||◌, nat_lt, length, take, drop, zip, codes}
 use Rattle.std.specs.Str.{bytes_eq}
 use Rattle.std.specs.List.{position}
-use Rattle.repl_values.specs.Datum.{Datum, nil, keyword, symbol, list, vector, map, fault, no_items, item, Pairs, no_pairs, pair, FunctionData}
+use Rattle.repl_values.specs.Datum.{Datum, nil, keyword, symbol, list, vector, map, fault, no_items, item}
 use Rattle.std.specs.Option.{option_and_then}
-use Rattle.repl_values.specs.View.{items_of, pairs_of}
+use Rattle.repl_values.specs.Listed.{listed, items_of, pairs_of}
 use Rattle.repl_values.specs.Repeats.{first_repeat}
 use Rattle.repl_faults.specs.Failure as failures
 use Rattle.repl_faults.specs.Failure.{Failure}
+use Rattle.core_texts.specs.Limits.{most_weight}
 use Rattle.core_texts.specs.Meaning.{shown}
 use Rattle.core_maps.specs.declared.function.MapFunction.{MapFunction}
 use Rattle.core_functions.specs.Names.{function_named, name_of, fits}
 use Rattle.core_functions.specs.Outcome as outcomes
-use Rattle.core_functions.specs.Outcome.{Outcome, limited, most_weight}
+use Rattle.core_functions.specs.Outcome.{Outcome, limited}
 use Rattle.core_functions.specs.Meaning.{meaning}
 use Rattle.core_functions.specs.declared.function.CoreFunction.{CoreFunction}
 use Rattle.repl_asks.specs.Exchange as exchange
 use Rattle.repl_asks.specs.Exchange.{AnswerData, BindingData, bound_value, bound_function}
+use Rattle.special_forms.specs.Functions.{FunctionData}
+use Rattle.special_forms.specs.Rows.{BoundForm, in_a_row}
 use Rattle.special_forms.specs.Truth.{is_true, decides, before}
+use Rattle.local_names.specs.Locals.{LocalData, value_of}
 use Rattle.repl_walker.specs.Tree.{Kept, Tree, ends, asks, Part, ◌>>=◌, done, fails, asked}
-use Rattle.special_forms.specs.Shapes.{is_slash, special_named, special_name, BoundForm, ShapeData, quoted, body, choice, bindings, logic, definition, function_definition, thrown, list_of, shape_of}
+use Rattle.special_forms.specs.Shapes.{is_slash, special_named, special_name, ShapeData, quoted, body, choice, bindings, logic, definition, function_definition, thrown, shape_of}
 use Rattle.special_forms.specs.declared.shapes.Logic.{Logic}
 use Rattle.special_forms.specs.declared.shapes.SpecialForm.{SpecialForm}
-
-pub record LocalData : Type 0 where
-  pub name : List ℕ
-  pub bound : Datum
 
 -- where a form stands: the locals, newest first, and the namespace of the function in whose body it is
 pub record PlaceData : Type 0 where
@@ -59,9 +59,9 @@ pub data NamedData : Type 0 where
   no_core_function : NamedData
   elsewhere : NamedData
 
-abbrev pub named_in : List LocalData → List ℕ → NamedData
-named_in [] s = elsewhere
-named_in (l ∷ ls) s = if bytes_eq l.name s then a_local l.bound else named_in ls s
+abbrev pub local_named : Option Datum → NamedData
+local_named (Some d) = a_local d
+local_named None = elsewhere
 
 abbrev pub core_named : Option CoreFunction → NamedData
 core_named (Some f) = a_core_function f
@@ -78,7 +78,7 @@ core_name s = core_name_at s (position is_slash s)
 -- `clojure.core/f` is the core function f
 abbrev pub named_or_local : List LocalData → List ℕ → Option (List ℕ) → NamedData
 named_or_local locals s (Some name) = core_named (function_named name)
-named_or_local locals s None = named_in locals s
+named_or_local locals s None = local_named (value_of locals s)
 
 abbrev pub named : List LocalData → List ℕ → NamedData
 named locals s = named_or_local locals s (core_name s)
@@ -165,7 +165,7 @@ abbrev pub inside : FunctionData → List Datum → PlaceData
 inside f args = record { locals = bound_to [] f.params args; home = Some f.space }
 
 abbrev pub body_value : Walk → FunctionData → List Datum → Part Datum
-body_value walk f args = last_of (walk (inside f args)) nil (list_of f.body)
+body_value walk f args = last_of (walk (inside f args)) nil f.body
 
 unfoldable pub program_call : Walk → FunctionData → List Datum → Part Datum
 program_call walk f args =
@@ -207,7 +207,7 @@ defined p s binding next kept = asks (exchange.define (space_of p kept) s bindin
 
 abbrev pub function_defined : PlaceData → List ℕ → List (List ℕ) → List Datum → Part Datum
 function_defined p s params forms next kept =
-    defined p s (bound_function (record { space = space_of p kept; name = s; params = params; body = items_of forms })) next kept
+    defined p s (bound_function (record { space = space_of p kept; name = s; params = params; body = forms })) next kept
 
 -- a fault is thrown as it is, any other value by its text
 unfoldable pub thrown_failure : List ℕ → Failure
@@ -253,11 +253,6 @@ within_limits d = without_text (limited d)
 abbrev pub vector_value : List Datum → Part Datum
 vector_value vs = within_limits (vector (items_of vs))
 
--- keys and values by turns
-abbrev pub in_a_row : Pairs → List Datum
-in_a_row no_pairs = []
-in_a_row (pair k v ps) = k ∷ v ∷ in_a_row ps
-
 abbrev pub keys_in : List Datum → List Datum
 keys_in [] = []
 keys_in (k ∷ []) = []
@@ -290,9 +285,9 @@ abbrev pub value_at : ℕ → PlaceData → Datum → Part Datum
 value_at room p (symbol s) = symbol_value p s
 value_at room p (list no_items) = done (list no_items)
 value_at zero p (list (item d ds)) = fails failures.too_deep
-value_at (suc room) p (list (item d ds)) = list_value (value_at room) p d (list_of ds)
+value_at (suc room) p (list (item d ds)) = list_value (value_at room) p d (listed ds)
 value_at zero p (vector ds) = fails failures.too_deep
-value_at (suc room) p (vector ds) = row (value_at room p) (list_of ds) >>= vector_value
+value_at (suc room) p (vector ds) = row (value_at room p) (listed ds) >>= vector_value
 value_at zero p (map ps) = fails failures.too_deep
 value_at (suc room) p (map ps) = row (value_at room p) (in_a_row ps) >>= map_value
 value_at room p d = done d

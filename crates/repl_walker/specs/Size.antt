@@ -1,6 +1,9 @@
 -- How much an evaluation has still to do, for the proof that it ends. No promise speaks of it.
 use Rattle.std.specs.Prelude.{⊤, ℕ, ◌+◌, ◌*◌, ◌<◌, List, sum_by}
-use Rattle.special_forms.specs.Size.{value_size, values_size, bindings_size}
+use Rattle.repl_values.specs.View.{view}
+use Rattle.special_forms.specs.Rows.{bindings_in}
+use Rattle.special_forms.specs.Seen.{forms_view}
+use Rattle.special_forms.specs.Size.{datum_size, forms_size, bindings_size}
 use Rattle.repl_walker.specs.declared.frames.Frame.{Frame}
 use Rattle.repl_walker.specs.declared.frames.Wanted.{Wanted}
 use Rattle.repl_walker.specs.declared.frames.Control.{Control}
@@ -9,12 +12,12 @@ use Rattle.repl_walker.specs.declared.resume.Progress.{Progress}
 use Rattle.repl_walker.specs.declared.resume.Walk.{Walk}
 
 abbrev pub frame_size : Frame → ℕ
-frame_size (Frame.Arguments callee values forms room) = 1 + values_size forms.items
-frame_size (Frame.Collection kind values forms room) = 1 + values_size forms.items
-frame_size (Frame.Body forms room) = 1 + values_size forms.items
-frame_size (Frame.Choice consequent alternative room) = 1 + (values_size consequent.items + values_size alternative.items)
-frame_size (Frame.Logic logic forms room) = 1 + values_size forms.items
-frame_size (Frame.Let name bindings body room) = 2 + (bindings_size bindings.items + values_size body.items)
+frame_size (Frame.Arguments callee values forms room) = 1 + forms_size (forms_view forms)
+frame_size (Frame.Collection kind values forms room) = 1 + forms_size (forms_view forms)
+frame_size (Frame.Body forms room) = 1 + forms_size (forms_view forms)
+frame_size (Frame.Choice consequent alternative room) = 1 + (forms_size (forms_view consequent) + forms_size (forms_view alternative))
+frame_size (Frame.Logic logic forms room) = 1 + forms_size (forms_view forms)
+frame_size (Frame.Let name bindings body room) = 2 + (bindings_size (bindings_in (forms_view bindings)) + forms_size (forms_view body))
 frame_size (Frame.Define name) = 2
 frame_size Frame.Throw = 1
 frame_size Frame.Unbind = 1
@@ -25,11 +28,11 @@ frames_size = sum_by frame_size
 
 abbrev pub wanted_size : Wanted → ℕ
 wanted_size (Wanted.SymbolValue name) = 2
-wanted_size (Wanted.Head forms room) = 2 + values_size forms.items
+wanted_size (Wanted.Head forms room) = 2 + forms_size (forms_view forms)
 wanted_size (Wanted.Definition name) = 2
 
 abbrev pub control_size : Control → ℕ
-control_size (Control.Evaluate form room) = 3 * value_size form
+control_size (Control.Evaluate form room) = 3 * datum_size (view form)
 control_size (Control.Return v) = 1
 control_size (Control.Fault f) = 0
 control_size (Control.Ask ask wanted) = wanted_size wanted

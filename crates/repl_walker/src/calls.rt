@@ -1,23 +1,28 @@
 // Calls: first one call is taken from the budget, then the number of arguments is checked, then the
 // function is applied.
-ghost use Rattle.std.specs.Prelude.{◌≡◌, ◌+◌, ◌<◌, ◌≤◌, [], map, string_bytes, IfOk};
+ghost use Rattle.std.specs.Prelude.{◌≡◌, ◌+◌, ◌<◌, ◌≤◌, [], map, IfOk};
+ghost use Rattle.std.specs.Arc.{arc_str_bytes};
+ghost use Rattle.core_functions.specs.Outcome.{Outcome, bounded};
+ghost use Rattle.core_functions.specs.View.{FailsIn};
 ghost use Rattle.repl_walker.specs.Evaluation as meant;
-ghost use Rattle.repl_values.specs.View.{view, function_view};
-ghost use Rattle.repl_walker.specs.Machine.{local_view, callee_view, place_of, from_state, tree};
+ghost use Rattle.repl_values.specs.View.{view};
+ghost use Rattle.repl_walker.specs.Machine.{callee_view, place_of, from_state, tree};
 ghost use Rattle.repl_walker.specs.declared.frames.State.{State};
-ghost use Rattle.special_forms.specs.Seen.{views};
+ghost use Rattle.special_forms.specs.Seen.{views, function_view};
 ghost use Rattle.repl_walker.specs.Size.{control_size, frames_size, spent};
 
-use crate::frames::{Callee, Control, Frame, Local, Place, State};
+use crate::frames::{Callee, Control, Frame, Place, State};
 use crate::rows::next_in_body;
 use core_functions::{Applied, CoreFunction, apply};
 use core_maps::MapFunction;
+use local_names::Locals;
 use repl_faults::{ApplyError, output_too_long, too_many_calls, wrong_arity};
-use repl_values::{Function, Value};
-use special_forms::row;
+use repl_values::{Value, copy_text};
+use special_forms::Function;
 use std::alloc::{AllocError, Global};
 use std::collections::VecDeque;
 use std::mem;
+use std::sync::ArcStr;
 
 // The most that an evaluation may print, in bytes.
 const MOST_TEXT: usize = 1_048_576;
@@ -46,7 +51,7 @@ pub(crate) fn call(
     }
 }
 
-#[tactic(auto, unfolding(crate::specs::Evaluation::core_call))]
+#[tactic(auto, using(crate::proofs::Evaluating::bounds), unfolding(crate::specs::Evaluation::core_call))]
 fn call_core(
     alloc: Global,
     state: &mut State,
@@ -67,8 +72,19 @@ fn call_core(
             let Applied { value, text } = applied;
             print(alloc, state, text.as_str(), value)
         }
-        Err(ApplyError::Fault(fault)) => Ok(Control::Fault(fault)),
-        Err(ApplyError::NoMemory) => Err(AllocError),
+        Err(error) => failed(error),
+    }
+}
+
+// The fault of a function ends the evaluation.
+fn failed(error: ApplyError) -> Result<Control, AllocError>
+    ensures size { IfOk result (λ control. control_size control < 2) }
+    ensures calls { IfOk result (λ control. spent control ≡ 0) }
+    ensures meaning { (o : Outcome) → FailsIn (bounded o) error → IfOk result (λ control. (s : State) → tree control s ≡ from_state (meant.outcome o) s) }
+{
+    match error {
+        ApplyError::Fault(fault) => Ok(Control::Fault(fault)),
+        ApplyError::NoMemory => Err(AllocError),
     }
 }
 
@@ -92,17 +108,17 @@ fn print(alloc: Global, state: &mut State, text: &str, value: Value) -> Result<C
 fn call_keyword(
     alloc: Global,
     state: &mut State,
-    name: String,
+    name: ArcStr,
     values: Vec<Value>,
 ) -> Result<Control, AllocError>
     ensures size { IfOk result (λ control. control_size control + frames_size state.new.frames.items
         < 2 + frames_size state.old.frames.items) }
     ensures calls { IfOk result (λ control. spent control + state.new.calls ≤ state.old.calls) }
-    ensures meaning { IfOk result (λ control. tree control state.new ≡ from_state (meant.keyword_call (string_bytes name) (views values.items)) state.old) }
+    ensures meaning { IfOk result (λ control. tree control state.new ≡ from_state (meant.keyword_call (arc_str_bytes name) (views values.items)) state.old) }
 {
     if values.len() == 1 || values.len() == 2 {
         let get = CoreFunction::Map(MapFunction::Get);
-        let args = get_arguments(alloc, name, values)?;
+        let args = get_arguments(name, values)?;
         return call_core(alloc, state, get, args.as_slice());
     }
     let mut text = String::from_str(alloc, ":")?;
@@ -113,15 +129,13 @@ fn call_keyword(
 
 // The map, the keyword and what comes behind the map.
 #[tactic(auto, using(repl_values::proofs::Views::value_views))]
-fn get_arguments(alloc: Global, name: String, values: Vec<Value>) -> Result<Vec<Value>, AllocError>
-    ensures { IfOk result (λ args. views args.items ≡ meant.get_arguments (string_bytes name) (views values.items)) }
+fn get_arguments(name: ArcStr, mut values: Vec<Value>) -> Result<Vec<Value>, AllocError>
+    ensures { IfOk result (λ args. views args.items ≡ meant.get_arguments (arc_str_bytes name) (views values.items)) }
 {
-    let mut args = VecDeque::from_vec(values);
-    if let Some(map) = args.pop_front() {
-        args.push_front(Value::Keyword(name))?;
-        args.push_front(map)?;
+    if !values.is_empty() {
+        values.insert(1, Value::Keyword(name))?;
     }
-    row(alloc, args)
+    Ok(values)
 }
 
 #[tactic(auto, unfolding(crate::specs::Evaluation::program_call))]
@@ -161,29 +175,24 @@ pub(crate) fn enter(
         params,
         body,
     } = function;
-    let locals = bound(alloc, params, values)?;
+    let locals = bound(alloc, &params, values)?;
     let home = Some(space);
     let place = mem::replace(&mut state.place, Place { locals, home });
     state.frames.push_front(Frame::Leave { place })?;
-    next_in_body(state, Value::Nil, VecDeque::from_vec(body), room)
+    next_in_body(state, Value::Nil, body, room)
 }
 
 // Each parameter with its argument, the last in front.
-fn bound(
-    alloc: Global,
-    params: Vec<String>,
-    values: Vec<Value>,
-) -> Result<VecDeque<Local>, AllocError>
-    ensures { IfOk result (λ locals. map local_view locals.items ≡ meant.bound_to [] (map string_bytes params.items) (views values.items)) }
+fn bound(alloc: Global, params: &[ArcStr], values: Vec<Value>) -> Result<Locals, AllocError>
+    ensures { IfOk result (λ locals. locals ≡ meant.bound_to [] (map arc_str_bytes params.now) (views values.items)) }
 {
-    let mut params = VecDeque::from_vec(params);
     let mut values = VecDeque::from_vec(values);
-    let mut locals = VecDeque::new(alloc);
-    while let Some(name) = params.pop_front() {
+    let mut locals = Locals::none(alloc);
+    for name in params {
         let Some(value) = values.pop_front() else {
             return Ok(locals);
         };
-        locals.push_front(Local { name, value })?;
+        locals.bind(copy_text(name)?, value)?;
     }
     Ok(locals)
 }

@@ -1,6 +1,5 @@
 // Vectors and maps of values that were evaluated.
-ghost use Rattle.std.specs.Prelude.{◌≡◌, ◌<◌, map, zip, option_map, IfOk};
-ghost use Rattle.std.specs.Option.{option_and_then};
+ghost use Rattle.std.specs.Prelude.{◌≡◌, ◌<◌, map, zip, IfOk};
 ghost use Rattle.repl_values.specs.View.{view, pair_view};
 ghost use Rattle.repl_walker.specs.Evaluation as meant;
 ghost use Rattle.repl_walker.specs.Machine.{from_state, tree};
@@ -11,7 +10,7 @@ ghost use Rattle.repl_walker.specs.Size.{control_size, spent};
 
 use crate::frames::{Collection, Control};
 use repl_faults::{duplicate_key, too_large};
-use repl_values::{Value, first_repeated, nesting, weight};
+use repl_values::{Built, Sequence, Table, Value, copy, nesting, weight};
 use std::alloc::{AllocError, Global};
 use std::collections::VecDeque;
 
@@ -31,7 +30,10 @@ pub(crate) fn collected(
     ensures meaning { IfOk result (λ control. (s : State) → tree control s ≡ from_state (machine.collected kind (views values.items)) s) }
 {
     match kind {
-        Collection::Vector => within_limits(alloc, Value::Vector(values)),
+        Collection::Vector => {
+            let items = Sequence::from_vec(alloc, values)?;
+            within_limits(alloc, Value::Vector(items))
+        }
         Collection::Map => map_of(alloc, values),
     }
 }
@@ -54,56 +56,33 @@ fn map_of(alloc: Global, values: Vec<Value>) -> Result<Control, AllocError>
     ensures calls { IfOk result (λ control. spent control ≡ 0) }
     ensures meaning { IfOk result (λ control. (s : State) → tree control s ≡ from_state (meant.map_value (views values.items)) s) }
 {
-    let halves = split(alloc, values)?;
-    let repeated = first_repeated(alloc, halves.keys.as_slice())?;
-    if let Some(key) = at(halves.keys.as_slice(), repeated) {
-        return Ok(Control::Fault(duplicate_key(alloc, key)?));
+    let Entries { keys, pairs } = by_turns(alloc, values)?;
+    match Table::from_pairs(alloc, pairs)? {
+        Built::Made(pairs) => within_limits(alloc, Value::Map(pairs)),
+        Built::Repeats(place) => Ok(Control::Fault(duplicate_key(alloc, &keys[place])?)),
     }
-    within_limits(alloc, Value::Map(joined(alloc, halves)?))
 }
 
-// The value at this index, if there is one.
-fn at(values: &[Value], index: Option<usize>) -> Option<&Value>
-    ensures { option_map (λ v. view v.now) result ≡ option_and_then (meant.item_at (views values.now)) index }
-{
-    values.get(index?)
-}
-
-// The keys of a map, and the values that belong to them.
+// The pairs of a map in order, and once more their keys, of which a fault may have to tell.
 #[derive(Drop)]
-struct Halves {
+struct Entries {
     keys: Vec<Value>,
-    values: Vec<Value>,
+    pairs: Vec<(Value, Value)>,
 }
 
-fn split(alloc: Global, row: Vec<Value>) -> Result<Halves, AllocError>
-    ensures keys { IfOk result (λ halves. views halves.keys.items ≡ meant.keys_in (views row.items)) }
-    ensures values { IfOk result (λ halves. views halves.values.items ≡ meant.values_in (views row.items)) }
+fn by_turns(alloc: Global, row: Vec<Value>) -> Result<Entries, AllocError>
+    ensures keys { IfOk result (λ entries. views entries.keys.items ≡ meant.keys_in (views row.items)) }
+    ensures pairs { IfOk result (λ entries. map pair_view entries.pairs.items ≡ zip (meant.keys_in (views row.items)) (meant.values_in (views row.items))) }
 {
     let mut row = VecDeque::from_vec(row);
     let mut keys = Vec::new(alloc);
-    let mut values = Vec::new(alloc);
+    let mut pairs = Vec::new(alloc);
     while let Some(key) = row.pop_front() {
         let Some(value) = row.pop_front() else {
-            return Ok(Halves { keys, values });
+            return Ok(Entries { keys, pairs });
         };
-        keys.push(key)?;
-        values.push(value)?;
-    }
-    Ok(Halves { keys, values })
-}
-
-fn joined(alloc: Global, halves: Halves) -> Result<Vec<(Value, Value)>, AllocError>
-    ensures { IfOk result (λ pairs. map pair_view pairs.items ≡ zip (views halves.keys.items) (views halves.values.items)) }
-{
-    let Halves { keys, values } = halves;
-    let mut values = values.into_iter();
-    let mut pairs = Vec::with_capacity(alloc, keys.len())?;
-    for key in keys {
-        let Some(value) = values.next() else {
-            return Ok(pairs);
-        };
+        keys.push(copy(&key)?)?;
         pairs.push((key, value))?;
     }
-    Ok(pairs)
+    Ok(Entries { keys, pairs })
 }

@@ -54,7 +54,7 @@ impl Ending {
         ensures { IfOk result (λ copied. ending_view copied ≡ ending_view self.now) }
     {
         Ok(Ending {
-            job: self.job.copy(alloc)?,
+            job: self.job.copy()?,
             trace: copy_trace(alloc, self.trace.as_slice())?,
             finished: self.finished.copy(alloc)?,
         })

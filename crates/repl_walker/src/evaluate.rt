@@ -1,11 +1,13 @@
 // The first step of a form's evaluation.
-ghost use Rattle.std.specs.Prelude.{◌≡◌, ◌+◌, ◌*◌, ◌<◌, ◌≤◌, string_bytes, IfOk};
-ghost use Rattle.repl_values.specs.View.{view, pairs_view};
+ghost use Rattle.std.specs.Prelude.{◌≡◌, ◌+◌, ◌*◌, ◌<◌, ◌≤◌, IfOk};
+ghost use Rattle.std.specs.Arc.{arc_str_bytes};
+ghost use Rattle.repl_values.specs.Listed.{listed};
+ghost use Rattle.repl_values.specs.View.{view};
 ghost use Rattle.repl_walker.specs.Evaluation as meant;
 ghost use Rattle.repl_walker.specs.Machine.{items_value, list_at, place_of, from_state, tree};
-ghost use Rattle.special_forms.specs.Seen.{views};
+ghost use Rattle.special_forms.specs.Seen.{forms_view};
 ghost use Rattle.special_forms.specs.Shapes.{special_named};
-ghost use Rattle.special_forms.specs.Size.{value_size, values_size, pairs_size};
+ghost use Rattle.special_forms.specs.Size.{datum_size, forms_size};
 ghost use Rattle.repl_walker.specs.Size.{control_size, frames_size, spent};
 
 use crate::frames::{Callee, Collection, Control, State, Wanted};
@@ -13,10 +15,10 @@ use crate::names::{Named, look_up, resolve};
 use crate::rows::{next_argument, next_item};
 use crate::special::evaluate_special;
 use repl_faults::{no_such_var, not_a_function, not_a_value, too_deep};
-use repl_values::Value;
-use special_forms::SpecialForm;
+use repl_values::{Sequence, Value};
+use special_forms::{Forms, SpecialForm};
 use std::alloc::{AllocError, Global};
-use std::collections::VecDeque;
+use std::sync::ArcStr;
 
 // The form's value, or what has to be known first. Symbols, lists, vectors and maps apart, a form is
 // its own value. `room` is how many lists, vectors and maps may be under way inside one another.
@@ -28,36 +30,36 @@ pub(crate) fn evaluate(
     room: u32,
 ) -> Result<Control, AllocError>
     ensures size { IfOk result (λ control. control_size control + frames_size state.new.frames.items
-        < 3 * value_size form + frames_size state.old.frames.items) }
+        < 3 * datum_size (view form) + frames_size state.old.frames.items) }
     ensures calls { IfOk result (λ control. spent control + state.new.calls ≤ state.old.calls) }
     ensures meaning { IfOk result (λ control. tree control state.new ≡ from_state (meant.value_at room (place_of state.old) (view form)) state.old) }
 {
     match form {
         Value::Symbol(symbol) => evaluate_symbol(alloc, state, symbol),
-        Value::List(items) => evaluate_list(alloc, state, VecDeque::from_vec(items), room),
+        Value::List(items) => evaluate_list(alloc, state, items, room),
         Value::Vector(items) => {
-            let forms = VecDeque::from_vec(items);
+            let forms = Forms::of_items(items);
             evaluate_items(alloc, state, Collection::Vector, forms, room)
         }
         Value::Map(pairs) => {
-            let forms = VecDeque::from_vec(in_a_row(alloc, pairs)?);
+            let forms = Forms::of_pairs(pairs);
             evaluate_items(alloc, state, Collection::Map, forms, room)
         }
         other => Ok(Control::Return(other)),
     }
 }
 
-fn evaluate_symbol(alloc: Global, state: &State, symbol: String) -> Result<Control, AllocError>
+fn evaluate_symbol(alloc: Global, state: &State, symbol: ArcStr) -> Result<Control, AllocError>
     ensures size { IfOk result (λ control. control_size control < 3) }
     ensures calls { IfOk result (λ control. spent control ≡ 0) }
-    ensures meaning { IfOk result (λ control. tree control state.now ≡ from_state (meant.symbol_value (place_of state.now) (string_bytes symbol)) state.now) }
+    ensures meaning { IfOk result (λ control. tree control state.now ≡ from_state (meant.symbol_value (place_of state.now) (arc_str_bytes symbol)) state.now) }
 {
-    match look_up(alloc, &state.place, symbol.as_str())? {
+    match look_up(&state.place, &symbol)? {
         Named::Local(value) => Ok(Control::Return(value)),
         Named::Core(_function) => Ok(Control::Fault(not_a_value(alloc, symbol.as_str())?)),
         Named::NoCore => Ok(Control::Fault(no_such_var(alloc, symbol.as_str())?)),
         Named::Elsewhere => {
-            let ask = resolve(alloc, state, symbol.as_str())?;
+            let ask = resolve(state, &symbol)?;
             Ok(Control::Ask(ask, Wanted::SymbolValue(symbol)))
         }
     }
@@ -68,13 +70,13 @@ fn evaluate_items(
     alloc: Global,
     state: &mut State,
     kind: Collection,
-    forms: VecDeque<Value>,
+    forms: Forms,
     room: u32,
 ) -> Result<Control, AllocError>
     ensures size { IfOk result (λ control. control_size control + frames_size state.new.frames.items
-        < 2 + values_size forms.items + frames_size state.old.frames.items) }
+        < 2 + forms_size (forms_view forms) + frames_size state.old.frames.items) }
     ensures calls { IfOk result (λ control. spent control + state.new.calls ≤ state.old.calls) }
-    ensures meaning { IfOk result (λ control. tree control state.new ≡ from_state (items_value room (place_of state.old) kind (views forms.items)) state.old) }
+    ensures meaning { IfOk result (λ control. tree control state.new ≡ from_state (items_value room (place_of state.old) kind (forms_view forms)) state.old) }
 {
     if room == 0 {
         return Ok(Control::Fault(too_deep(alloc)?));
@@ -82,45 +84,49 @@ fn evaluate_items(
     next_item(alloc, state, kind, Vec::new(alloc), forms, room - 1)
 }
 
-// The keys and values of a map, by turns.
-fn in_a_row(alloc: Global, pairs: Vec<(Value, Value)>) -> Result<Vec<Value>, AllocError>
-    ensures size { IfOk result (λ forms. values_size forms.items ≡ pairs_size pairs.items) }
-    ensures forms { IfOk result (λ forms. views forms.items ≡ meant.in_a_row (pairs_view pairs.items)) }
-{
-    let mut pairs = VecDeque::from_vec(pairs);
-    let mut forms = Vec::new(alloc);
-    while let Some(pair) = pairs.pop_front() {
-        let (key, value) = pair;
-        forms.push(key)?;
-        forms.push(value)?;
-    }
-    Ok(forms)
-}
-
 // A list's head is looked at first. An empty list is itself.
 #[tactic(auto, using(crate::proofs::Evaluating::steps), unfolding(crate::specs::Machine::call_behind))]
 fn evaluate_list(
     alloc: Global,
     state: &mut State,
-    mut items: VecDeque<Value>,
+    items: Sequence,
     room: u32,
 ) -> Result<Control, AllocError>
     ensures size { IfOk result (λ control. control_size control + frames_size state.new.frames.items
-        < 3 + values_size items.items + frames_size state.old.frames.items) }
+        < 3 + forms_size (listed items.items) + frames_size state.old.frames.items) }
     ensures calls { IfOk result (λ control. spent control + state.new.calls ≤ state.old.calls) }
-    ensures meaning { IfOk result (λ control. tree control state.new ≡ from_state (list_at room (place_of state.old) (views items.items)) state.old) }
+    ensures meaning { IfOk result (λ control. tree control state.new ≡ from_state (list_at room (place_of state.old) (listed items.items)) state.old) }
 {
-    let Some(head) = items.pop_front() else {
-        return Ok(Control::Return(Value::List(Vec::new(alloc))));
+    let mut forms = Forms::of_items(items);
+    let Some(head) = forms.take_first()? else {
+        let none = Sequence::from_vec(alloc, Vec::new(alloc))?;
+        return Ok(Control::Return(Value::List(none)));
     };
     if room == 0 {
         return Ok(Control::Fault(too_deep(alloc)?));
     }
+    evaluate_behind(alloc, state, head, forms, room - 1)
+}
+
+// The list with this head, and these forms behind it.
+#[tactic(auto, using(crate::proofs::Evaluating::steps), unfolding(crate::specs::Machine::call_behind))]
+fn evaluate_behind(
+    alloc: Global,
+    state: &mut State,
+    head: Value,
+    forms: Forms,
+    room: u32,
+) -> Result<Control, AllocError>
+    ensures size { IfOk result (λ control. control_size control + frames_size state.new.frames.items
+        < 3 + forms_size (forms_view forms) + frames_size state.old.frames.items) }
+    ensures calls { IfOk result (λ control. spent control + state.new.calls ≤ state.old.calls) }
+    ensures meaning { IfOk result (λ control. tree control state.new ≡ from_state (meant.list_value (meant.value_at room) (place_of state.old) (view head) (forms_view forms)) state.old) }
+{
     match head {
-        Value::Symbol(name) => evaluate_headed(alloc, state, name, items, room - 1),
+        Value::Symbol(name) => evaluate_headed(alloc, state, name, forms, room),
         Value::Keyword(name) => {
             let callee = Callee::Keyword(name);
-            next_argument(alloc, state, callee, Vec::new(alloc), items, room - 1)
+            next_argument(alloc, state, callee, Vec::new(alloc), forms, room)
         }
         other => Ok(Control::Fault(not_a_function(alloc, &other)?)),
     }
@@ -131,19 +137,19 @@ fn evaluate_list(
 fn evaluate_headed(
     alloc: Global,
     state: &mut State,
-    name: String,
-    forms: VecDeque<Value>,
+    name: ArcStr,
+    forms: Forms,
     room: u32,
 ) -> Result<Control, AllocError>
     ensures size { IfOk result (λ control. control_size control + frames_size state.new.frames.items
-        < 3 + values_size forms.items + frames_size state.old.frames.items) }
+        < 3 + forms_size (forms_view forms) + frames_size state.old.frames.items) }
     ensures calls { IfOk result (λ control. spent control + state.new.calls ≤ state.old.calls) }
-    ensures meaning { IfOk result (λ control. tree control state.new ≡ from_state (meant.headed_value (meant.value_at room) (place_of state.old) (string_bytes name) (views forms.items) (special_named (string_bytes name))) state.old) }
+    ensures meaning { IfOk result (λ control. tree control state.new ≡ from_state (meant.headed_value (meant.value_at room) (place_of state.old) (arc_str_bytes name) (forms_view forms) (special_named (arc_str_bytes name))) state.old) }
 {
     if let Some(special) = SpecialForm::named(name.as_str()) {
         return evaluate_special(alloc, state, special, forms, room);
     }
-    match look_up(alloc, &state.place, name.as_str())? {
+    match look_up(&state.place, &name)? {
         Named::Local(value) => Ok(Control::Fault(not_a_function(alloc, &value)?)),
         Named::Core(function) => {
             let callee = Callee::Core(function);
@@ -151,7 +157,7 @@ fn evaluate_headed(
         }
         Named::NoCore => Ok(Control::Fault(no_such_var(alloc, name.as_str())?)),
         Named::Elsewhere => {
-            let ask = resolve(alloc, state, name.as_str())?;
+            let ask = resolve(state, &name)?;
             Ok(Control::Ask(ask, Wanted::Head(forms, room)))
         }
     }

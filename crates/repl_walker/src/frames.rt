@@ -1,9 +1,11 @@
 // What an evaluation has still to do, from the inside out.
 use core_functions::CoreFunction;
+use local_names::Locals;
 use repl_asks::Ask;
-use repl_values::{Fault, Function, Value};
-use special_forms::{Binding, Logic};
+use repl_values::{Fault, Value};
+use special_forms::{Forms, Function, Logic};
 use std::collections::VecDeque;
+use std::sync::ArcStr;
 
 // What is called.
 #[derive(Drop)]
@@ -12,7 +14,7 @@ pub(crate) enum Callee {
     // A function of the program.
     Program(Function),
     // A keyword looks itself up in its argument.
-    Keyword(String),
+    Keyword(ArcStr),
 }
 
 // What is made of values in a row.
@@ -31,7 +33,7 @@ pub(crate) enum Frame {
     Arguments {
         callee: Callee,
         values: Vec<Value>,
-        forms: VecDeque<Value>,
+        forms: Forms,
         room: u32,
     },
     // The items of a vector or, by turns, the keys and values of a map: those that have values, and
@@ -39,36 +41,36 @@ pub(crate) enum Frame {
     Collection {
         kind: Collection,
         values: Vec<Value>,
-        forms: VecDeque<Value>,
+        forms: Forms,
         room: u32,
     },
     // The forms of a body behind the one that is evaluated.
     Body {
-        forms: VecDeque<Value>,
+        forms: Forms,
         room: u32,
     },
     // The bodies of which a condition chooses one.
     Choice {
-        consequent: VecDeque<Value>,
-        alternative: VecDeque<Value>,
+        consequent: Forms,
+        alternative: Forms,
         room: u32,
     },
     // The forms of `and` or `or` behind the one that is evaluated.
     Logic {
         logic: Logic,
-        forms: VecDeque<Value>,
+        forms: Forms,
         room: u32,
     },
-    // The name whose value is evaluated, the bindings behind it and the body.
+    // The name whose value is evaluated, the names and forms behind it by turns, and the body.
     Let {
-        name: String,
-        bindings: VecDeque<Binding>,
-        body: VecDeque<Value>,
+        name: ArcStr,
+        bindings: Forms,
+        body: Forms,
         room: u32,
     },
     // The definition of this name.
     Define {
-        name: String,
+        name: ArcStr,
     },
     Throw,
     // The newest local goes.
@@ -79,18 +81,12 @@ pub(crate) enum Frame {
     },
 }
 
-#[derive(Drop)]
-pub(crate) struct Local {
-    pub(crate) name: String,
-    pub(crate) value: Value,
-}
-
-// Where a form stands: the locals, newest first, and the namespace in which the function was defined
+// Where a form stands: the locals, and the namespace in which the function was defined
 // whose body it is in; none outside of functions.
 #[derive(Drop)]
 pub(crate) struct Place {
-    pub(crate) locals: VecDeque<Local>,
-    pub(crate) home: Option<String>,
+    pub(crate) locals: Locals,
+    pub(crate) home: Option<ArcStr>,
 }
 
 // The frames of an evaluation, innermost first, where it stands, and what it carries from form to
@@ -100,7 +96,7 @@ pub(crate) struct State {
     pub(crate) frames: VecDeque<Frame>,
     pub(crate) place: Place,
     pub(crate) calls: u32,
-    pub(crate) namespace: String,
+    pub(crate) namespace: ArcStr,
     pub(crate) text: String,
 }
 
@@ -108,11 +104,11 @@ pub(crate) struct State {
 #[derive(Drop)]
 pub(crate) enum Wanted {
     // The value of this symbol.
-    SymbolValue(String),
+    SymbolValue(ArcStr),
     // The function at the head of a list, with the forms of its arguments.
-    Head(VecDeque<Value>, u32),
+    Head(Forms, u32),
     // The var of a name that was defined.
-    Definition(String),
+    Definition(ArcStr),
 }
 
 // What comes next.

@@ -67,12 +67,12 @@ pub(crate) fn give(
             room,
         } => {
             bind(state, name, value)?;
-            next_binding(state, bindings, body, room)
+            next_binding(alloc, state, bindings, body, room)
         }
-        Frame::Define { name } => define(alloc, state, name, Binding::Value(value)),
+        Frame::Define { name } => define(state, name, Binding::Value(value)),
         Frame::Throw => throw(alloc, value),
         Frame::Unbind => {
-            drop(state.place.locals.pop_front());
+            state.place.locals.unbind();
             Ok(Control::Return(value))
         }
         Frame::Leave { place } => {

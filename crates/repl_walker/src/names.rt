@@ -1,17 +1,19 @@
 // What a symbol names before anybody is asked.
-ghost use Rattle.std.specs.Prelude.{◌≡◌, map, option_map, string_bytes, is_some, IfOk};
+ghost use Rattle.std.specs.Prelude.{◌≡◌, option_map, is_some, IfOk};
+ghost use Rattle.std.specs.Arc.{arc_str_bytes};
 ghost use Rattle.core_functions.specs.Names.{function_named};
 ghost use Rattle.repl_asks.specs.Exchange.{resolve};
+ghost use Rattle.repl_values.specs.View.{view};
 ghost use Rattle.repl_asks.specs.View.{ask_view};
 ghost use Rattle.repl_walker.specs.Evaluation as meant;
-ghost use Rattle.repl_walker.specs.Machine.{local_view, named_view, place_of, kept_of};
+ghost use Rattle.repl_walker.specs.Machine.{named_view, place_of, kept_of};
 
-use crate::frames::{Local, Place, State};
+use crate::frames::{Place, State};
 use core_functions::{CoreFunction, knows};
 use repl_asks::Ask;
-use repl_values::{Value, copy};
-use std::alloc::{AllocError, Global};
-use std::collections::VecDeque;
+use repl_values::{Value, copy, copy_text};
+use std::alloc::AllocError;
+use std::sync::ArcStr;
 
 const CORE: &str = "clojure.core";
 
@@ -33,12 +35,12 @@ pub(crate) enum Named {
     Elsewhere,
 }
 
-pub(crate) fn look_up(alloc: Global, place: &Place, symbol: &str) -> Result<Named, AllocError>
-    ensures { IfOk result (λ found. named_view found ≡ meant.named (map local_view place.now.locals.items) symbol.now) }
+pub(crate) fn look_up(place: &Place, symbol: &ArcStr) -> Result<Named, AllocError>
+    ensures { IfOk result (λ found. named_view found ≡ meant.named place.now.locals (arc_str_bytes symbol.now)) }
 {
-    match core_name(symbol) {
+    match core_name(symbol.as_str()) {
         Some(name) => Ok(core_named(name)),
-        None => local_named(alloc, &place.locals, symbol),
+        None => local_named(place.locals.value(symbol)),
     }
 }
 
@@ -62,33 +64,31 @@ fn core_named(name: &str) -> Named
     }
 }
 
-fn local_named(alloc: Global, locals: &VecDeque<Local>, symbol: &str) -> Result<Named, AllocError>
-    ensures { IfOk result (λ found. named_view found ≡ meant.named_in (map local_view locals.now.items) symbol.now) }
+fn local_named(value: Option<&Value>) -> Result<Named, AllocError>
+    ensures { IfOk result (λ found. named_view found ≡ meant.local_named (option_map (λ v. view v.now) value.entry)) }
 {
-    for local in locals {
-        if local.name.as_str() == symbol {
-            return Ok(Named::Local(copy(alloc, &local.value)?));
-        }
+    match value {
+        Some(value) => Ok(Named::Local(copy(value)?)),
+        None => Ok(Named::Elsewhere),
     }
-    Ok(Named::Elsewhere)
 }
 
 // The namespace in which a symbol is resolved and a name defined: that of the function whose body
 // the form is in, else the evaluation's own.
-pub(crate) fn space(alloc: Global, state: &State) -> Result<String, AllocError>
-    ensures { IfOk result (λ name. string_bytes name ≡ meant.space_of (place_of state.now) (kept_of state.now)) }
+pub(crate) fn space(state: &State) -> Result<ArcStr, AllocError>
+    ensures { IfOk result (λ name. arc_str_bytes name ≡ meant.space_of (place_of state.now) (kept_of state.now)) }
 {
     match &state.place.home {
-        Some(home) => String::from_str(alloc, home.as_str()),
-        None => String::from_str(alloc, state.namespace.as_str()),
+        Some(home) => copy_text(home),
+        None => copy_text(&state.namespace),
     }
 }
 
-pub(crate) fn resolve(alloc: Global, state: &State, symbol: &str) -> Result<Ask, AllocError>
-    ensures { IfOk result (λ ask. ask_view ask ≡ resolve (meant.space_of (place_of state.now) (kept_of state.now)) symbol.now) }
+pub(crate) fn resolve(state: &State, symbol: &ArcStr) -> Result<Ask, AllocError>
+    ensures { IfOk result (λ ask. ask_view ask ≡ resolve (meant.space_of (place_of state.now) (kept_of state.now)) (arc_str_bytes symbol.now)) }
 {
     Ok(Ask::Resolve {
-        namespace: space(alloc, state)?,
-        symbol: String::from_str(alloc, symbol)?,
+        namespace: space(state)?,
+        symbol: copy_text(symbol)?,
     })
 }

@@ -2,7 +2,7 @@
 ghost use Rattle.std.specs.Prelude.{◌≡◌, ◌+◌, ◌<◌, ◌≤◌, ◌⊎◌, IfOk};
 ghost use Rattle.repl_asks.specs.View.{answer_view};
 ghost use Rattle.repl_walker.specs.Tree.{ends};
-ghost use Rattle.repl_jobs.specs.Job.{end_view};
+ghost use Rattle.repl_jobs.specs.View.{end_view};
 ghost use Rattle.repl_walker.specs.Ends.{evaluation_of};
 ghost use Rattle.repl_walker.specs.Machine.{tree, leg_tree, behind, progress_tree, kept_of};
 ghost use Rattle.repl_walker.specs.Size.{control_size, frames_size, walk_size, progress_size, progress_calls, leg_size, leg_spent, spent};
@@ -12,9 +12,11 @@ use crate::calls::enter;
 use crate::evaluate::evaluate;
 use crate::frames::{Control, Place, State, Wanted};
 use crate::give::give;
+use local_names::Locals;
 use repl_asks::{Answer, Ask};
 use repl_jobs::{End, Finished, Job};
-use repl_values::{Function, Value, copy};
+use repl_values::{Value, copy, copy_text};
+use special_forms::Function;
 use std::alloc::{AllocError, Global};
 use std::collections::VecDeque;
 
@@ -66,14 +68,14 @@ pub fn start(alloc: Global, job: &Job) -> Result<Progress, AllocError>
     let state = State {
         frames: VecDeque::new(alloc),
         place: Place {
-            locals: VecDeque::new(alloc),
+            locals: Locals::none(alloc),
             home: None,
         },
         calls: CALLS,
-        namespace: String::from_str(alloc, job.namespace.as_str())?,
+        namespace: copy_text(&job.namespace)?,
         text: String::new(alloc),
     };
-    let form = copy(alloc, job.work.form())?;
+    let form = copy(job.work.form())?;
     go_on(alloc, state, Control::Evaluate(form, ROOM))
 }
 

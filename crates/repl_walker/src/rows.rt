@@ -1,19 +1,21 @@
 // Forms in a row: arguments, items, bodies, `and`, `or` and bindings.
-ghost use Rattle.std.specs.Prelude.{◌≡◌, ◌+◌, ◌<◌, ◌≤◌, map, string_bytes, IfOk};
+ghost use Rattle.std.specs.Prelude.{◌≡◌, ◌+◌, ◌<◌, ◌≤◌, IfOk};
+ghost use Rattle.std.specs.Arc.{arc_str_bytes};
 ghost use Rattle.repl_values.specs.View.{view};
 ghost use Rattle.repl_walker.specs.Evaluation as meant;
 ghost use Rattle.repl_walker.specs.Machine.{call_behind, items_behind, callee_view, place_of, kept_of, next_of, from_state, tree};
-ghost use Rattle.special_forms.specs.Seen.{views, binding_view};
-ghost use Rattle.special_forms.specs.Size.{values_size, bindings_size};
+ghost use Rattle.special_forms.specs.Rows.{bindings_in};
+ghost use Rattle.special_forms.specs.Seen.{views, forms_view};
+ghost use Rattle.special_forms.specs.Size.{forms_size, bindings_size};
 ghost use Rattle.repl_walker.specs.Size.{control_size, frames_size, spent};
 
 use crate::calls::call;
 use crate::collect::collected;
-use crate::frames::{Callee, Collection, Control, Frame, Local, State};
+use crate::frames::{Callee, Collection, Control, Frame, State};
 use repl_values::Value;
-use special_forms::{Binding, Logic};
+use special_forms::{Binding, Forms, Logic};
 use std::alloc::{AllocError, Global};
-use std::collections::VecDeque;
+use std::sync::ArcStr;
 
 // The next argument is evaluated, or the function is called.
 #[tactic(auto, using(crate::proofs::Evaluating::steps))]
@@ -22,15 +24,15 @@ pub(crate) fn next_argument(
     state: &mut State,
     callee: Callee,
     values: Vec<Value>,
-    mut forms: VecDeque<Value>,
+    mut forms: Forms,
     room: u32,
 ) -> Result<Control, AllocError>
     ensures size { IfOk result (λ control. control_size control + frames_size state.new.frames.items
-        < 2 + values_size forms.items + frames_size state.old.frames.items) }
+        < 2 + forms_size (forms_view forms) + frames_size state.old.frames.items) }
     ensures calls { IfOk result (λ control. spent control + state.new.calls ≤ state.old.calls) }
-    ensures meaning { IfOk result (λ control. tree control state.new ≡ from_state (call_behind room (place_of state.old) (callee_view callee) (views values.items) (views forms.items)) state.old) }
+    ensures meaning { IfOk result (λ control. tree control state.new ≡ from_state (call_behind room (place_of state.old) (callee_view callee) (views values.items) (forms_view forms)) state.old) }
 {
-    let Some(form) = forms.pop_front() else {
+    let Some(form) = forms.take_first()? else {
         return call(alloc, state, callee, values, room);
     };
     let frame = Frame::Arguments {
@@ -50,15 +52,15 @@ pub(crate) fn next_item(
     state: &mut State,
     kind: Collection,
     values: Vec<Value>,
-    mut forms: VecDeque<Value>,
+    mut forms: Forms,
     room: u32,
 ) -> Result<Control, AllocError>
     ensures size { IfOk result (λ control. control_size control + frames_size state.new.frames.items
-        < 2 + values_size forms.items + frames_size state.old.frames.items) }
+        < 2 + forms_size (forms_view forms) + frames_size state.old.frames.items) }
     ensures calls { IfOk result (λ control. spent control + state.new.calls ≤ state.old.calls) }
-    ensures meaning { IfOk result (λ control. tree control state.new ≡ from_state (items_behind room (place_of state.old) kind (views values.items) (views forms.items)) state.old) }
+    ensures meaning { IfOk result (λ control. tree control state.new ≡ from_state (items_behind room (place_of state.old) kind (views values.items) (forms_view forms)) state.old) }
 {
-    match forms.pop_front() {
+    match forms.take_first()? {
         None => collected(alloc, kind, values),
         Some(form) => {
             let frame = Frame::Collection {
@@ -77,15 +79,15 @@ pub(crate) fn next_item(
 pub(crate) fn next_in_body(
     state: &mut State,
     last: Value,
-    mut forms: VecDeque<Value>,
+    mut forms: Forms,
     room: u32,
 ) -> Result<Control, AllocError>
     ensures size { IfOk result (λ control. control_size control + frames_size state.new.frames.items
-        < 2 + values_size forms.items + frames_size state.old.frames.items) }
+        < 2 + forms_size (forms_view forms) + frames_size state.old.frames.items) }
     ensures calls { IfOk result (λ control. spent control + state.new.calls ≤ state.old.calls) }
-    ensures meaning { IfOk result (λ control. tree control state.new ≡ from_state (meant.last_of (meant.value_at room (place_of state.old)) (view last) (views forms.items)) state.old) }
+    ensures meaning { IfOk result (λ control. tree control state.new ≡ from_state (meant.last_of (meant.value_at room (place_of state.old)) (view last) (forms_view forms)) state.old) }
 {
-    match forms.pop_front() {
+    match forms.take_first()? {
         None => Ok(Control::Return(last)),
         Some(form) => {
             state.frames.push_front(Frame::Body { forms, room })?;
@@ -99,15 +101,15 @@ pub(crate) fn next_in_logic(
     state: &mut State,
     logic: Logic,
     last: Value,
-    mut forms: VecDeque<Value>,
+    mut forms: Forms,
     room: u32,
 ) -> Result<Control, AllocError>
     ensures size { IfOk result (λ control. control_size control + frames_size state.new.frames.items
-        < 2 + values_size forms.items + frames_size state.old.frames.items) }
+        < 2 + forms_size (forms_view forms) + frames_size state.old.frames.items) }
     ensures calls { IfOk result (λ control. spent control + state.new.calls ≤ state.old.calls) }
-    ensures meaning { IfOk result (λ control. tree control state.new ≡ from_state (meant.logic_value (meant.value_at room (place_of state.old)) logic (view last) (views forms.items)) state.old) }
+    ensures meaning { IfOk result (λ control. tree control state.new ≡ from_state (meant.logic_value (meant.value_at room (place_of state.old)) logic (view last) (forms_view forms)) state.old) }
 {
-    match forms.pop_front() {
+    match forms.take_first()? {
         None => Ok(Control::Return(last)),
         Some(_form) if logic.decides(&last) => Ok(Control::Return(last)),
         Some(form) => {
@@ -120,17 +122,18 @@ pub(crate) fn next_in_logic(
 
 // The next binding's form is evaluated, or the body.
 pub(crate) fn next_binding(
+    alloc: Global,
     state: &mut State,
-    mut bindings: VecDeque<Binding>,
-    body: VecDeque<Value>,
+    mut bindings: Forms,
+    body: Forms,
     room: u32,
 ) -> Result<Control, AllocError>
     ensures size { IfOk result (λ control. control_size control + frames_size state.new.frames.items
-        < 2 + bindings_size bindings.items + values_size body.items + frames_size state.old.frames.items) }
+        < 2 + bindings_size (bindings_in (forms_view bindings)) + forms_size (forms_view body) + frames_size state.old.frames.items) }
     ensures calls { IfOk result (λ control. spent control + state.new.calls ≤ state.old.calls) }
-    ensures meaning { IfOk result (λ control. tree control state.new ≡ from_state (meant.let_value (meant.value_at room) (place_of state.old) (map binding_view bindings.items) (views body.items)) state.old) }
+    ensures meaning { IfOk result (λ control. tree control state.new ≡ from_state (meant.let_value (meant.value_at room) (place_of state.old) (bindings_in (forms_view bindings)) (forms_view body)) state.old) }
 {
-    match bindings.pop_front() {
+    match bindings.take_binding(alloc)? {
         None => next_in_body(state, Value::Nil, body, room),
         Some(binding) => {
             let Binding { name, form } = binding;
@@ -147,14 +150,14 @@ pub(crate) fn next_binding(
 }
 
 // The name is a local for what follows in its `let`.
-pub(crate) fn bind(state: &mut State, name: String, value: Value) -> Result<(), AllocError>
+pub(crate) fn bind(state: &mut State, name: ArcStr, value: Value) -> Result<(), AllocError>
     ensures size { IfOk result (λ _. frames_size state.new.frames.items ≡ 1 + frames_size state.old.frames.items) }
     ensures calls { state.new.calls ≡ state.old.calls }
-    ensures place { IfOk result (λ _. place_of state.new ≡ meant.with_local (place_of state.old) (string_bytes name) (view value)) }
+    ensures place { IfOk result (λ _. place_of state.new ≡ meant.with_local (place_of state.old) (arc_str_bytes name) (view value)) }
     ensures next { IfOk result (λ _. next_of state.new ≡ next_of state.old) }
     ensures kept { kept_of state.new ≡ kept_of state.old }
 {
-    state.place.locals.push_front(Local { name, value })?;
+    state.place.locals.bind(name, value)?;
     state.frames.push_front(Frame::Unbind)?;
     Ok(())
 }

@@ -33,7 +33,7 @@ pub fn walk<R: Refs>(alloc: Global, job: &Job, refs: &mut R) -> Result<Ending, W
     ensures meaning { IfOk result (λ ending. IsEndOf job.now (R.heard refs.old).trace (R.heard refs.new).trace (ending_view ending)) }
     ensures left_at { IfErr result (λ error. LeftAt (evaluation_of job.now) (R.heard refs.old).trace (R.heard refs.new).trace error) }
 {
-    let Ok(copied) = job.copy(alloc) else {
+    let Ok(copied) = job.copy() else {
         return Err(WalkError::NoMemory);
     };
     let mut progress = match start(alloc, job) {
@@ -101,14 +101,14 @@ fn exchange<R: Refs>(
     ensures left_at { IfErr result (λ error. (behind : AnswerData → Tree)
         → LeftAt (asks (ask_view ask) behind) (R.heard refs.old).trace (R.heard refs.new).trace error) }
 {
-    let Ok(asked) = ask.copy(alloc) else {
+    let Ok(asked) = ask.copy() else {
         return Err(WalkError::NoMemory);
     };
     let answer = match refs.ask(alloc, ask) {
         Ok(answer) => answer,
         Err(stop) => return Err(WalkError::Stopped(stop.ask)),
     };
-    let Ok(copied) = answer.copy(alloc) else {
+    let Ok(copied) = answer.copy() else {
         return Err(WalkError::NoMemory);
     };
     let exchanged = Exchange {

@@ -1,11 +1,12 @@
 // The special forms.
-ghost use Rattle.std.specs.Prelude.{◌≡◌, ◌+◌, ◌<◌, ◌≤◌, map, string_bytes, IfOk};
+ghost use Rattle.std.specs.Prelude.{◌≡◌, ◌+◌, ◌<◌, ◌≤◌, map, IfOk};
+ghost use Rattle.std.specs.Arc.{arc_str_bytes};
 ghost use Rattle.repl_asks.specs.View.{binding_view};
 ghost use Rattle.repl_walker.specs.Evaluation as meant;
 ghost use Rattle.repl_walker.specs.Machine.{place_of, from_state, tree};
-ghost use Rattle.special_forms.specs.Seen.{views, shape_view};
+ghost use Rattle.special_forms.specs.Seen.{forms_view, shape_view};
 ghost use Rattle.special_forms.specs.Shapes.{shape_of};
-ghost use Rattle.special_forms.specs.Size.{values_size, shape_size};
+ghost use Rattle.special_forms.specs.Size.{forms_size, shape_size};
 ghost use Rattle.repl_walker.specs.Size.{control_size, frames_size, spent};
 
 use crate::frames::{Control, Frame, State, Wanted};
@@ -13,22 +14,22 @@ use crate::names::space;
 use crate::rows::{next_binding, next_in_body, next_in_logic};
 use repl_asks::{Ask, Binding};
 use repl_faults::bad_form;
-use repl_values::{Function, Value};
-use special_forms::{Shape, SpecialForm, shape_of};
+use repl_values::{Value, copy_text};
+use special_forms::{Forms, Function, Shape, SpecialForm, shape_of};
 use std::alloc::{AllocError, Global};
-use std::collections::VecDeque;
+use std::sync::{Arc, ArcStr};
 
 pub(crate) fn evaluate_special(
     alloc: Global,
     state: &mut State,
     special: SpecialForm,
-    forms: VecDeque<Value>,
+    forms: Forms,
     room: u32,
 ) -> Result<Control, AllocError>
     ensures size { IfOk result (λ control. control_size control + frames_size state.new.frames.items
-        < 3 + values_size forms.items + frames_size state.old.frames.items) }
+        < 3 + forms_size (forms_view forms) + frames_size state.old.frames.items) }
     ensures calls { IfOk result (λ control. spent control + state.new.calls ≤ state.old.calls) }
-    ensures meaning { IfOk result (λ control. tree control state.new ≡ from_state (meant.special_value (meant.value_at room) (place_of state.old) special (shape_of special (views forms.items))) state.old) }
+    ensures meaning { IfOk result (λ control. tree control state.new ≡ from_state (meant.special_value (meant.value_at room) (place_of state.old) special (shape_of special (forms_view forms))) state.old) }
 {
     match shape_of(alloc, special, forms)? {
         Some(shape) => begin(alloc, state, shape, room),
@@ -38,7 +39,7 @@ pub(crate) fn evaluate_special(
 
 fn begin(alloc: Global, state: &mut State, shape: Shape, room: u32) -> Result<Control, AllocError>
     ensures size { IfOk result (λ control. control_size control + frames_size state.new.frames.items
-        < 2 + shape_size shape + frames_size state.old.frames.items) }
+        < 2 + shape_size (shape_view shape) + frames_size state.old.frames.items) }
     ensures calls { IfOk result (λ control. spent control + state.new.calls ≤ state.old.calls) }
     ensures meaning { IfOk result (λ control. tree control state.new ≡ from_state (meant.shape_value (meant.value_at room) (place_of state.old) (shape_view shape)) state.old) }
 {
@@ -58,7 +59,7 @@ fn begin(alloc: Global, state: &mut State, shape: Shape, room: u32) -> Result<Co
             state.frames.push_front(frame)?;
             Ok(Control::Evaluate(condition, room))
         }
-        Shape::Let { bindings, body } => next_binding(state, bindings, body, room),
+        Shape::Let { bindings, body } => next_binding(alloc, state, bindings, body, room),
         Shape::Logic(logic, forms) => next_in_logic(state, logic, logic.before(), forms, room),
         Shape::Define { name, form } => {
             state.frames.push_front(Frame::Define { name })?;
@@ -77,36 +78,31 @@ fn begin(alloc: Global, state: &mut State, shape: Shape, room: u32) -> Result<Co
 fn define_function(
     alloc: Global,
     state: &State,
-    name: String,
-    params: Vec<String>,
-    body: Vec<Value>,
+    name: ArcStr,
+    params: Vec<ArcStr>,
+    body: Forms,
 ) -> Result<Control, AllocError>
     ensures size { IfOk result (λ control. control_size control < 3) }
     ensures calls { IfOk result (λ control. spent control ≡ 0) }
-    ensures meaning { IfOk result (λ control. tree control state.now ≡ from_state (meant.function_defined (place_of state.now) (string_bytes name) (map string_bytes params.items) (views body.items)) state.now) }
+    ensures meaning { IfOk result (λ control. tree control state.now ≡ from_state (meant.function_defined (place_of state.now) (arc_str_bytes name) (map arc_str_bytes params.items) (forms_view body)) state.now) }
 {
     let function = Function {
-        space: space(alloc, state)?,
-        name: String::from_str(alloc, name.as_str())?,
-        params,
+        space: space(state)?,
+        name: copy_text(&name)?,
+        params: Arc::new(alloc, params)?,
         body,
     };
-    define(alloc, state, name, Binding::Function(function))
+    define(state, name, Binding::Function(function))
 }
 
 // Binds the name in the form's namespace.
-pub(crate) fn define(
-    alloc: Global,
-    state: &State,
-    name: String,
-    binding: Binding,
-) -> Result<Control, AllocError>
+pub(crate) fn define(state: &State, name: ArcStr, binding: Binding) -> Result<Control, AllocError>
     ensures size { IfOk result (λ control. control_size control < 3) }
     ensures calls { IfOk result (λ control. spent control ≡ 0) }
-    ensures meaning { IfOk result (λ control. tree control state.now ≡ from_state (meant.defined (place_of state.now) (string_bytes name) (binding_view binding)) state.now) }
+    ensures meaning { IfOk result (λ control. tree control state.now ≡ from_state (meant.defined (place_of state.now) (arc_str_bytes name) (binding_view binding)) state.now) }
 {
-    let wanted = Wanted::Definition(String::from_str(alloc, name.as_str())?);
-    let namespace = space(alloc, state)?;
+    let wanted = Wanted::Definition(copy_text(&name)?);
+    let namespace = space(state)?;
     let ask = Ask::Define {
         namespace,
         name,

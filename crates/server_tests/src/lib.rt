@@ -4,10 +4,16 @@
 #[cfg(test)]
 mod cases;
 #[cfg(test)]
+mod costs;
+#[cfg(test)]
+mod ends;
+#[cfg(test)]
 mod failures;
 #[cfg(test)]
 mod function_programs;
 #[cfg(test)]
 mod programs;
+#[cfg(test)]
+mod sharing;
 #[cfg(test)]
 mod streams;

@@ -1,24 +1,24 @@
 -- Parts of special forms that are taken one by one.
-use Rattle.std.proofs.Common.{◌≡◌, ℕ, List, [], ◌∷◌, ◌++◌, Option, Some, None, refl, sym, ap, ◌∙◌, append_assoc, append-nil, option_map, map, string_bytes, String, Vec, Global}
-use Rattle.std.proofs.lemmas.List.{map-append}
-use Rattle.repl_values.specs.Datum.{Datum}
-use Rattle.repl_values.specs.View.{view, items_of}
-use Rattle.repl_values.specs.declared.value.Value as value
-use Rattle.repl_values.proofs.Views.{value_views, view-Vector}
-use Rattle.special_forms.specs.declared.shapes.Binding.{Binding}
-use Rattle.special_forms.specs.Seen.{views, binding_view}
-use Rattle.special_forms.proofs.Sizes.{value_size-Vector}
-use Rattle.special_forms.specs.Shapes.{list_of, in_vector, BoundForm, simple_name, bound_forms, parameter_name, parameter_names}
+use denote.Ref.{Bor}
+use Rattle.std.specs.declared.alloc.Global.{Global}
+use Rattle.std.specs.declared.sync.ArcStr.{ArcStr}
+use Rattle.std.specs.Option.{is_some}
+use Rattle.std.proofs.Common.{◌≡◌, ℕ, ◌<◌, ◌≤◌, ◌+◌, ◌-◌, zero, suc, nat_eq, subst, Bool, true, false, if◌then◌else◌, List, [], ◌∷◌, ◌++◌, Option, Some, None, get_or, drop, length, refl, sym, ap, ◌∙◌, append_assoc, append-nil, option_map, arith}
+use Rattle.std.proofs.Math.Dec.{eqb-suc-suc}
+use Rattle.std.specs.Arc.{arc_str_bytes}
+use Rattle.std.specs.List.{list_any}
+use Rattle.repl_values.specs.Datum as datum
+use Rattle.repl_values.specs.Datum.{Datum, Items, nil, boolean, integer, string, keyword, symbol, list, vector, ref, atom, agent, var, fault}
+use Rattle.repl_values.specs.Listed.{listed}
+use Rattle.repl_values.specs.View.{view, items_view}
+use Rattle.repl_values.specs.declared.value.Value.{Value}
+use Rattle.repl_values.proofs.Views.{value_views}
+use Rattle.repl_values.proofs.Lists.{listed-of, lists}
+use Rattle.special_forms.specs.Rows.{BoundForm, bindings_in, name_in}
+use Rattle.special_forms.specs.Seen.{views}
+use Rattle.special_forms.specs.Shapes.{is_slash, simple_name, bound_forms, parameter_name, parameter_names}
 
-pub list_of-items : (ds : List Datum) → list_of (items_of ds) ≡ ds
-list_of-items [] = refl
-list_of-items (d ∷ ds) = ap (λ (es : List Datum). d ∷ es) (list_of-items ds)
-
-pub in_vector-Vector : (vs : Vec value.Value Global) → in_vector (view (value.Vector vs)) ≡ Some (views vs.items)
-unfolding in_vector
-in_vector-Vector vs = rw (view-Vector vs) (ap Some (list_of-items (views vs.items)))
-
-pub ruleset seen = (value_views, in_vector-Vector, value_size-Vector)
+pub ruleset seen = (value_views, lists)
 
 -- what was taken before, and what is still taken
 abbrev pub with_front : {A : Type 0} → List A → Option (List A) → Option (List A)
@@ -32,14 +32,6 @@ with_front-more : {A : Type 0} (front : List A) (x : A) (rest : Option (List A))
 with_front-more front x None = refl
 with_front-more front x (Some xs) = ap Some (sym (append_assoc front (x ∷ []) xs))
 
--- one more binding
-pub binding_step : (front : List BoundForm) (d e : Datum) (ds : List Datum) (s : List ℕ) → simple_name d ≡ Some s
-    → with_front front (bound_forms (d ∷ e ∷ ds)) ≡ with_front (front ++ record { name = s; form = e } ∷ []) (bound_forms ds)
-binding_step front d e ds s named = rw named (with_front-more front (record { name = s; form = e }) (bound_forms ds))
-
-pub binding_fails : (d e : Datum) (ds : List Datum) → simple_name d ≡ None → bound_forms (d ∷ e ∷ ds) ≡ None
-binding_fails d e ds named = rw named refl
-
 -- one more parameter
 pub parameter_step : (front : List (List ℕ)) (d : Datum) (ds : List Datum) (s : List ℕ) → parameter_name d ≡ Some s
     → with_front front (parameter_names (d ∷ ds)) ≡ with_front (front ++ s ∷ []) (parameter_names ds)
@@ -48,11 +40,84 @@ parameter_step front d ds s named = rw named (with_front-more front s (parameter
 pub parameter_fails : (d : Datum) (ds : List Datum) → parameter_name d ≡ None → parameter_names (d ∷ ds) ≡ None
 parameter_fails d ds named = rw named refl
 
--- one more binding of the code's
-pub binding_taken : (bs now : List Binding) (ds rest_1 rest_2 : List value.Value) (d e : value.Value) (s : String Global) (whole : Option (List BoundForm))
-    → ds ≡ d ∷ rest_1 → rest_1 ≡ e ∷ rest_2 → now ≡ bs ++ record { name = s; form = e } ∷ [] → simple_name (view d) ≡ Some (string_bytes s)
-    → with_front (map binding_view bs) (bound_forms (views ds)) ≡ whole → with_front (map binding_view now) (bound_forms (views rest_2)) ≡ whole
-binding_taken bs now ds rest_1 rest_2 d e s whole first second more named taken =
-    let one : with_front (map binding_view bs) (bound_forms (views ds)) ≡ with_front (map binding_view bs ++ record { name = string_bytes s; form = view e } ∷ []) (bound_forms (views rest_2)) =
-    rw (first, second) (binding_step (map binding_view bs) (view d) (view e) (views rest_2) (string_bytes s) named) in
-    rw (more, map-append binding_view bs (record { name = s; form = e } ∷ [])) (sym one ∙ taken)
+-- whether all names are simple
+abbrev pub bound_if : Bool → List Datum → Option (List BoundForm)
+bound_if t ds = if t then Some (bindings_in ds) else None
+
+chosen_name : (t : Bool) (s r : List ℕ) → (if t then None else Some s) ≡ Some r → s ≡ r
+chosen_name true s r h = cc
+chosen_name false s r h = cc
+
+-- what has a simple name is a symbol of that name
+pub simple_name-name_in : (d : Datum) (s : List ℕ) → simple_name d ≡ Some s → name_in d ≡ s
+unfolding simple_name
+simple_name-name_in nil s h = cc
+simple_name-name_in (boolean b) s h = cc
+simple_name-name_in (integer n) s h = cc
+simple_name-name_in (string t) s h = cc
+simple_name-name_in (keyword t) s h = cc
+simple_name-name_in (symbol t) s h = chosen_name (list_any is_slash t) t s h
+simple_name-name_in (list ds) s h = cc
+simple_name-name_in (vector ds) s h = cc
+simple_name-name_in (datum.map ps) s h = cc
+simple_name-name_in (ref owner n) s h = cc
+simple_name-name_in (atom n) s h = cc
+simple_name-name_in (agent n) s h = cc
+simple_name-name_in (var space name) s h = cc
+simple_name-name_in (fault class text) s h = cc
+
+-- a name and a form more
+pub bound-step : (t : Bool) (d e : Datum) (ds : List Datum) (s : List ℕ) → simple_name d ≡ Some s → bound_forms ds ≡ bound_if t ds
+    → bound_forms (d ∷ e ∷ ds) ≡ bound_if t (d ∷ e ∷ ds)
+bound-step true d e ds s named rest = rw (named, rest, simple_name-name_in d s named) refl
+bound-step false d e ds s named rest = rw (named, rest) refl
+
+pub bound-fails : (d e : Datum) (ds : List Datum) → simple_name d ≡ None → bound_forms (d ∷ e ∷ ds) ≡ None
+bound-fails d e ds named = rw named refl
+
+-- by their places
+bound_behind : (vs : List Value) (v : Value) (t : Bool) (s : List ℕ) → 2 ≤ suc (length vs) → simple_name (view v) ≡ Some s
+    → bound_forms (drop 1 (views vs)) ≡ bound_if t (drop 1 (views vs)) → bound_forms (view v ∷ views vs) ≡ bound_if t (view v ∷ views vs)
+bound_behind [] v t s h named rest = absurd (omega (arith, h))
+bound_behind (w ∷ vs) v t s h named rest = bound-step t (view v) (view w) (views vs) s named rest
+
+bound_from : (vs : List Value) (n : ℕ) (v : Value) (t : Bool) (s : List ℕ) → suc (suc n) ≤ length vs → v ≡ get_or vs n v → simple_name (view v) ≡ Some s
+    → bound_forms (drop (suc (suc n)) (views vs)) ≡ bound_if t (drop (suc (suc n)) (views vs)) → bound_forms (drop n (views vs)) ≡ bound_if t (drop n (views vs))
+bound_from [] n v t s h is named rest = absurd (omega (arith, h))
+bound_from (u ∷ vs) zero v t s h is named rest = bound_behind vs u t s h (ap (λ (x : Value). simple_name (view x)) (sym is) ∙ named) rest
+bound_from (u ∷ vs) (suc n) v t s h is named rest = bound_from vs n v t s (omega (arith, h)) is named rest
+
+pub bound-at : (vs : List Value) (n : ℕ) (v : Value) (t : Bool) (s : List ℕ) → n + 2 ≤ length vs → v ≡ get_or vs n v → simple_name (view v) ≡ Some s
+    → bound_forms (drop (n + 2) (views vs)) ≡ bound_if t (drop (n + 2) (views vs)) → bound_forms (drop n (views vs)) ≡ bound_if t (drop n (views vs))
+bound-at vs n v t s h is named rest =
+    let two : n + 2 ≡ suc (suc n) = omega arith in
+    bound_from vs n v t s (omega (arith, h)) is named (subst (λ (m : ℕ). bound_forms (drop m (views vs)) ≡ bound_if t (drop m (views vs))) two rest)
+
+none_behind : (vs : List Value) (v : Value) → 2 ≤ suc (length vs) → simple_name (view v) ≡ None → bound_forms (view v ∷ views vs) ≡ None
+none_behind [] v h named = absurd (omega (arith, h))
+none_behind (w ∷ vs) v h named = bound-fails (view v) (view w) (views vs) named
+
+pub none-at : (vs : List Value) (n : ℕ) (v : Value) → n + 2 ≤ length vs → v ≡ get_or vs n v → simple_name (view v) ≡ None → bound_forms (drop n (views vs)) ≡ None
+none-at [] n v h is named = absurd (omega (arith, h))
+none-at (u ∷ vs) zero v h is named = none_behind vs u h (ap (λ (x : Value). simple_name (view x)) (sym is) ∙ named)
+none-at (u ∷ vs) (suc n) v h is named = none-at vs n v (omega (arith, h)) is named
+
+pub bound-end : (vs : List Value) (n : ℕ) → n ≤ length vs → length vs - n < 2 → bound_forms (drop n (views vs)) ≡ bound_if (nat_eq n (length vs)) (drop n (views vs))
+bound-end [] zero h few = refl
+bound-end [] (suc n) h few = absurd (omega (arith, h))
+bound-end (v ∷ []) zero h few = refl
+bound-end (v ∷ w ∷ vs) zero h few = absurd (omega (arith, few))
+bound-end (v ∷ vs) (suc n) h few = rw eqb-suc-suc (bound-end vs n (omega (arith, h)) (omega (arith, few)))
+
+-- the items that a slice stands for
+pub views-listed : (vs : List Value) (xs : Items) → items_view vs ≡ xs → views vs ≡ listed xs
+views-listed vs xs is = sym (listed-of (views vs)) ∙ ap listed is
+
+-- whether a symbol was found
+pub named-none : (o : Option (Bor (ArcStr Global))) (d : Datum) → option_map (λ name. arc_str_bytes name.now) o ≡ simple_name d → is_some o ≡ false → simple_name d ≡ None
+named-none None d is h = sym is
+named-none (Some name) d is h = cc
+
+pub named-some : (o : Option (Bor (ArcStr Global))) (d : Datum) → option_map (λ name. arc_str_bytes name.now) o ≡ simple_name d → is_some o ≡ true → (s : List ℕ) × (simple_name d ≡ Some s)
+named-some None d is h = cc
+named-some (Some name) d is h = (arc_str_bytes name.now, sym is)

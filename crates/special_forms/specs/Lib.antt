@@ -1,4 +1,6 @@
+pub mod Rows
 pub mod Shapes
 pub mod Seen
+pub mod Functions
 pub mod Size
 pub mod Truth

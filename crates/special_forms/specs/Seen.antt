@@ -1,24 +1,47 @@
 -- What the code's parts of a form stand for.
-use Rattle.std.specs.Prelude.{List, map, string_bytes}
+use Rattle.std.specs.Prelude.{List, map, drop, take}
+use Rattle.std.specs.Arc.{arc_value, arc_str_bytes}
 use Rattle.repl_values.specs.Datum.{Datum}
+use Rattle.repl_values.specs.Listed.{listed}
 use Rattle.repl_values.specs.View.{view}
 use Rattle.repl_values.specs.declared.value.Value.{Value}
-use Rattle.special_forms.specs.Shapes.{BoundForm, ShapeData, quoted, body, choice, bindings, logic, definition, function_definition, thrown}
-use Rattle.special_forms.specs.declared.shapes.Binding.{Binding}
+use Rattle.special_forms.specs.Functions.{FunctionData}
+use Rattle.special_forms.specs.Rows.{BoundForm, in_a_row, bindings_in}
+use Rattle.special_forms.specs.Shapes.{ShapeData, quoted, body, choice, bindings, logic, definition, function_definition, thrown}
+use Rattle.special_forms.specs.declared.forms.Source.{Source}
+use Rattle.special_forms.specs.declared.forms.Forms.{Forms}
+use Rattle.special_forms.specs.declared.forms.Binding.{Binding}
+use Rattle.special_forms.specs.declared.function.Function.{Function}
 use Rattle.special_forms.specs.declared.shapes.Shape.{Shape}
 
 abbrev pub views : List Value → List Datum
 views = map view
 
+abbrev pub source_view : Source → List Datum
+source_view (Source.Items s) = listed s.items
+source_view (Source.Pairs t) = in_a_row t.pairs
+
+-- those from the first place to before the second
+abbrev pub forms_view : Forms → List Datum
+forms_view f = drop f.start (take f.end (source_view f.source))
+
 abbrev pub binding_view : Binding → BoundForm
-binding_view b = record { name = string_bytes b.name; form = view b.form }
+binding_view b = record { name = arc_str_bytes b.name; form = view b.form }
 
 abbrev pub shape_view : Shape → ShapeData
 shape_view (Shape.Quote form) = quoted (view form)
-shape_view (Shape.Body forms) = body (views forms.items)
-shape_view (Shape.Choice condition consequent alternative) = choice (view condition) (views consequent.items) (views alternative.items)
-shape_view (Shape.Let bs forms) = bindings (map binding_view bs.items) (views forms.items)
-shape_view (Shape.Logic which forms) = logic which (views forms.items)
-shape_view (Shape.Define name form) = definition (string_bytes name) (view form)
-shape_view (Shape.DefineFunction name params forms) = function_definition (string_bytes name) (map string_bytes params.items) (views forms.items)
+shape_view (Shape.Body forms) = body (forms_view forms)
+shape_view (Shape.Choice condition consequent alternative) = choice (view condition) (forms_view consequent) (forms_view alternative)
+shape_view (Shape.Let bs forms) = bindings (bindings_in (forms_view bs)) (forms_view forms)
+shape_view (Shape.Logic which forms) = logic which (forms_view forms)
+shape_view (Shape.Define name form) = definition (arc_str_bytes name) (view form)
+shape_view (Shape.DefineFunction name params forms) = function_definition (arc_str_bytes name) (map arc_str_bytes params.items) (forms_view forms)
 shape_view (Shape.Throw form) = thrown (view form)
+
+abbrev pub function_view : Function → FunctionData
+function_view f = record {
+  space = arc_str_bytes f.space;
+  name = arc_str_bytes f.name;
+  params = map arc_str_bytes (arc_value f.params).items;
+  body = forms_view f.body;
+}

@@ -3,9 +3,10 @@ use Rattle.std.specs.Prelude.{ℕ, List, [], ◌∷◌, Bool, true, false, Optio
 use Rattle.std.specs.Option.{option_and_then}
 use Rattle.std.specs.List.{list_any}
 use Rattle.std.specs.Str.{bytes_eq}
-use Rattle.repl_values.specs.Datum.{Datum, nil, boolean, integer, string, keyword, symbol, list, vector, map, ref, atom, agent, var, fault, Items, no_items, item}
-use Rattle.repl_values.specs.View.{items_of}
+use Rattle.repl_values.specs.Datum.{Datum, nil, boolean, integer, string, keyword, symbol, list, vector, map, ref, atom, agent, var, fault}
+use Rattle.repl_values.specs.Listed.{listed, items_of}
 use Rattle.repl_values.specs.Repeats.{first_repeat}
+use Rattle.special_forms.specs.Rows.{BoundForm}
 use Rattle.special_forms.specs.declared.shapes.Logic.{Logic}
 use Rattle.special_forms.specs.declared.shapes.SpecialForm.{SpecialForm}
 
@@ -36,11 +37,6 @@ special_name SpecialForm.Quote = codes "quote"
 special_name SpecialForm.Throw = codes "throw"
 special_name SpecialForm.When = codes "when"
 
--- a name that `let` binds, and the form of its value
-pub record BoundForm : Type 0 where
-  pub name : List ℕ
-  pub form : Datum
-
 -- a special form's parts
 pub data ShapeData : Type 0 where
   quoted : Datum → ShapeData
@@ -54,10 +50,6 @@ pub data ShapeData : Type 0 where
   -- a name, parameters and a body
   function_definition : List ℕ → List (List ℕ) → List Datum → ShapeData
   thrown : Datum → ShapeData
-
-abbrev pub list_of : Items → List Datum
-list_of no_items = []
-list_of (item d ds) = d ∷ list_of ds
 
 abbrev pub is_slash : ℕ → Bool
 is_slash b = b == 47
@@ -91,7 +83,7 @@ in_vector (string s) = None
 in_vector (keyword s) = None
 in_vector (symbol s) = None
 in_vector (list ds) = None
-in_vector (vector ds) = Some (list_of ds)
+in_vector (vector ds) = Some (listed ds)
 in_vector (map ps) = None
 in_vector (ref owner n) = None
 in_vector (atom n) = None

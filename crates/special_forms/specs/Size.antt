@@ -1,10 +1,8 @@
 -- How much there is in a form, for the proof that an evaluation ends.
 use Rattle.std.specs.Prelude.{ℕ, ◌+◌, ◌*◌, List, sum_by}
 use Rattle.repl_values.specs.Datum.{Datum, nil, boolean, integer, string, keyword, symbol, list, vector, map, ref, atom, agent, var, fault, Items, no_items, item, Pairs, no_pairs, pair}
-use Rattle.repl_values.specs.View.{view}
-use Rattle.repl_values.specs.declared.value.Value.{Value}
-use Rattle.special_forms.specs.declared.shapes.Binding.{Binding}
-use Rattle.special_forms.specs.declared.shapes.Shape.{Shape}
+use Rattle.special_forms.specs.Rows.{BoundForm}
+use Rattle.special_forms.specs.Shapes.{ShapeData, quoted, body, choice, bindings, logic, definition, function_definition, thrown}
 
 -- the forms in a form
 abbrev mutual
@@ -32,25 +30,21 @@ abbrev mutual
   pairs_nodes no_pairs = 0
   pairs_nodes (pair k v ps) = 2 + nodes k + nodes v + pairs_nodes ps
 
-unfoldable pub value_size : Value → ℕ
-value_size v = nodes (view v)
+unfoldable pub datum_size : Datum → ℕ
+datum_size d = nodes d
 
-abbrev pub values_size : List Value → ℕ
-values_size = sum_by (λ v. 3 * value_size v + 1)
+abbrev pub forms_size : List Datum → ℕ
+forms_size = sum_by (λ d. 3 * datum_size d + 1)
 
--- the keys and values of a map, by turns
-abbrev pub pairs_size : List (Value × Value) → ℕ
-pairs_size = sum_by (λ p. 3 * value_size p.0 + 1 + (3 * value_size p.1 + 1))
+abbrev pub bindings_size : List BoundForm → ℕ
+bindings_size = sum_by (λ b. 3 * datum_size b.form + 1)
 
-abbrev pub bindings_size : List Binding → ℕ
-bindings_size = sum_by (λ b. 3 * value_size b.form + 1)
-
-abbrev pub shape_size : Shape → ℕ
-shape_size (Shape.Quote form) = 0
-shape_size (Shape.Body forms) = values_size forms.items
-shape_size (Shape.Choice condition consequent alternative) = 3 * value_size condition + 1 + (values_size consequent.items + values_size alternative.items)
-shape_size (Shape.Let bindings body) = bindings_size bindings.items + values_size body.items
-shape_size (Shape.Logic logic forms) = values_size forms.items
-shape_size (Shape.Define name form) = 3 * value_size form + 1
-shape_size (Shape.DefineFunction name params body) = 1
-shape_size (Shape.Throw form) = 3 * value_size form + 1
+abbrev pub shape_size : ShapeData → ℕ
+shape_size (quoted form) = 0
+shape_size (body forms) = forms_size forms
+shape_size (choice condition consequent alternative) = 3 * datum_size condition + 1 + (forms_size consequent + forms_size alternative)
+shape_size (bindings bs forms) = bindings_size bs + forms_size forms
+shape_size (logic which forms) = forms_size forms
+shape_size (definition name form) = 3 * datum_size form + 1
+shape_size (function_definition name params forms) = 1
+shape_size (thrown form) = 3 * datum_size form + 1

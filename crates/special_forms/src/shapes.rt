@@ -1,14 +1,18 @@
 // The special forms, and the shapes that they have. A form of another shape is a fault before anything
 // in it is evaluated.
-ghost use Rattle.std.specs.Prelude.{◌≡◌, ◌+◌, ◌*◌, ◌≤◌, IfOk, IfSome, option_map, map, string_bytes};
+ghost use Rattle.std.specs.Prelude.{◌≡◌, ◌≤◌, Some, None, if◌then◌else◌, IfOk, IfSome, option_map, map};
+ghost use Rattle.std.specs.Arc.{arc_str_bytes};
+ghost use Rattle.repl_values.specs.Listed.{listed};
 ghost use Rattle.repl_values.specs.View.{view};
+ghost use Rattle.special_forms.specs.Rows.{bindings_in};
 ghost use Rattle.special_forms.specs.Shapes as meant;
-ghost use Rattle.special_forms.specs.Seen.{views, binding_view, shape_view};
-ghost use Rattle.special_forms.specs.Size.{value_size, values_size, bindings_size, shape_size};
+ghost use Rattle.special_forms.specs.Seen.{views, forms_view, shape_view};
+ghost use Rattle.special_forms.specs.Size.{forms_size, shape_size};
 
-use repl_values::{Value, first_repeated};
+use crate::forms::Forms;
+use repl_values::{Sequence, Value, copy_text, first_repeated};
 use std::alloc::{AllocError, Global};
-use std::collections::VecDeque;
+use std::sync::ArcStr;
 
 /// The special forms, each by its name.
 #[derive(Clone, Copy, PartialEq, Eq)]
@@ -33,36 +37,30 @@ pub enum Logic {
     Or,
 }
 
-/// A name that `let` binds, and the form of its value.
-#[derive(Drop)]
-pub struct Binding {
-    pub name: String,
-    pub form: Value,
-}
-
 /// A special form's parts.
 #[derive(Drop)]
 pub enum Shape {
     Quote(Value),
-    Body(VecDeque<Value>),
+    Body(Forms),
     Choice {
         condition: Value,
-        consequent: VecDeque<Value>,
-        alternative: VecDeque<Value>,
+        consequent: Forms,
+        alternative: Forms,
     },
+    /// Names and their forms by turns, and the body behind them.
     Let {
-        bindings: VecDeque<Binding>,
-        body: VecDeque<Value>,
+        bindings: Forms,
+        body: Forms,
     },
-    Logic(Logic, VecDeque<Value>),
+    Logic(Logic, Forms),
     Define {
-        name: String,
+        name: ArcStr,
         form: Value,
     },
     DefineFunction {
-        name: String,
-        params: Vec<String>,
-        body: Vec<Value>,
+        name: ArcStr,
+        params: Vec<ArcStr>,
+        body: Forms,
     },
     Throw(Value),
 }
@@ -113,182 +111,116 @@ impl SpecialForm {
 pub fn shape_of(
     alloc: Global,
     special: SpecialForm,
-    forms: VecDeque<Value>,
+    forms: Forms,
 ) -> Result<Option<Shape>, AllocError>
-    ensures size { IfOk result (λ shape. IfSome shape (λ s. shape_size s ≤ values_size forms.items)) }
-    ensures exact { IfOk result (λ shape. option_map shape_view shape ≡ meant.shape_of special (views forms.items)) }
+    ensures size { IfOk result (λ shape. IfSome shape (λ s. shape_size (shape_view s) ≤ forms_size (forms_view forms))) }
+    ensures exact { IfOk result (λ shape. option_map shape_view shape ≡ meant.shape_of special (forms_view forms)) }
+{
+    parts_of(alloc, special, forms)
+}
+
+fn parts_of(alloc: Global, special: SpecialForm, forms: Forms) -> Result<Option<Shape>, AllocError>
+    ensures { IfOk result (λ shape. option_map shape_view shape ≡ meant.shape_of special (forms_view forms)) }
 {
     match special {
         SpecialForm::And => Ok(Some(Shape::Logic(Logic::And, forms))),
         SpecialForm::Or => Ok(Some(Shape::Logic(Logic::Or, forms))),
         SpecialForm::Do | SpecialForm::Io => Ok(Some(Shape::Body(forms))),
-        SpecialForm::Quote => Ok(quote(forms)),
-        SpecialForm::Throw => Ok(throw(forms)),
-        SpecialForm::If => choice(alloc, forms),
-        SpecialForm::When => Ok(when(alloc, forms)),
-        SpecialForm::Let => binding_form(alloc, forms),
-        SpecialForm::Def => Ok(definition(forms)),
+        SpecialForm::Quote => quote(forms),
+        SpecialForm::Throw => throw(forms),
+        SpecialForm::If => choice(forms),
+        SpecialForm::When => when(forms),
+        SpecialForm::Let => binding_form(forms),
+        SpecialForm::Def => definition(forms),
         SpecialForm::Defn => function_definition(alloc, forms),
     }
 }
 
 // The form that stands alone.
-fn only(mut forms: VecDeque<Value>) -> Option<Value>
-    ensures size { IfSome result (λ form. 3 * value_size form + 1 ≡ values_size forms.items) }
-    ensures exact { option_map view result ≡ meant.only (views forms.items) }
+fn only(mut forms: Forms) -> Result<Option<Value>, AllocError>
+    ensures { IfOk result (λ form. option_map view form ≡ meant.only (forms_view forms)) }
 {
-    let form = forms.pop_front()?;
-    if forms.is_empty() { Some(form) } else { None }
+    let form = forms.take_first()?;
+    if forms.is_empty() { Ok(form) } else { Ok(None) }
 }
 
-fn quote(forms: VecDeque<Value>) -> Option<Shape>
-    ensures size { IfSome result (λ s. shape_size s ≤ values_size forms.items) }
-    ensures exact { option_map shape_view result ≡ option_map meant.quoted (meant.only (views forms.items)) }
+fn quote(forms: Forms) -> Result<Option<Shape>, AllocError>
+    ensures { IfOk result (λ shape. option_map shape_view shape ≡ option_map meant.quoted (meant.only (forms_view forms))) }
 {
-    Some(Shape::Quote(only(forms)?))
+    match only(forms)? {
+        Some(form) => Ok(Some(Shape::Quote(form))),
+        None => Ok(None),
+    }
 }
 
-fn throw(forms: VecDeque<Value>) -> Option<Shape>
-    ensures size { IfSome result (λ s. shape_size s ≤ values_size forms.items) }
-    ensures exact { option_map shape_view result ≡ option_map meant.thrown (meant.only (views forms.items)) }
+fn throw(forms: Forms) -> Result<Option<Shape>, AllocError>
+    ensures { IfOk result (λ shape. option_map shape_view shape ≡ option_map meant.thrown (meant.only (forms_view forms))) }
 {
-    Some(Shape::Throw(only(forms)?))
+    match only(forms)? {
+        Some(form) => Ok(Some(Shape::Throw(form))),
+        None => Ok(None),
+    }
 }
 
 // `(if condition form)` or `(if condition form form)`.
-fn choice(alloc: Global, mut forms: VecDeque<Value>) -> Result<Option<Shape>, AllocError>
-    ensures size { IfOk result (λ shape. IfSome shape (λ s. shape_size s ≤ values_size forms.items)) }
-    ensures exact { IfOk result (λ shape. option_map shape_view shape ≡ meant.if_shape (views forms.items)) }
+fn choice(mut forms: Forms) -> Result<Option<Shape>, AllocError>
+    ensures { IfOk result (λ shape. option_map shape_view shape ≡ meant.if_shape (forms_view forms)) }
 {
-    if forms.len() > 3 {
+    let Some(condition) = forms.take_first()? else {
+        return Ok(None);
+    };
+    if forms.is_empty() {
         return Ok(None);
     }
-    let Some(condition) = forms.pop_front() else {
+    let (consequent, alternative) = forms.split_first()?;
+    if alternative.has_two() {
         return Ok(None);
-    };
-    let Some(form) = forms.pop_front() else {
-        return Ok(None);
-    };
-    let mut consequent = VecDeque::new(alloc);
-    consequent.push_front(form)?;
+    }
     Ok(Some(Shape::Choice {
         condition,
         consequent,
-        alternative: forms,
+        alternative,
     }))
 }
 
 // `(when condition form ..)`.
-fn when(alloc: Global, mut forms: VecDeque<Value>) -> Option<Shape>
-    ensures size { IfSome result (λ s. shape_size s ≤ values_size forms.items) }
-    ensures exact { option_map shape_view result ≡ meant.when_shape (views forms.items) }
+fn when(mut forms: Forms) -> Result<Option<Shape>, AllocError>
+    ensures { IfOk result (λ shape. option_map shape_view shape ≡ meant.when_shape (forms_view forms)) }
 {
-    let condition = forms.pop_front()?;
-    Some(Shape::Choice {
+    let Some(condition) = forms.take_first()? else {
+        return Ok(None);
+    };
+    let alternative = forms.none()?;
+    Ok(Some(Shape::Choice {
         condition,
         consequent: forms,
-        alternative: VecDeque::new(alloc),
-    })
+        alternative,
+    }))
 }
 
 // `(let [name form ..] form ..)`.
-fn binding_form(alloc: Global, mut forms: VecDeque<Value>) -> Result<Option<Shape>, AllocError>
-    ensures size { IfOk result (λ shape. IfSome shape (λ s. shape_size s ≤ values_size forms.items)) }
-    ensures exact { IfOk result (λ shape. option_map shape_view shape ≡ meant.let_shape (views forms.items)) }
+fn binding_form(mut forms: Forms) -> Result<Option<Shape>, AllocError>
+    ensures { IfOk result (λ shape. option_map shape_view shape ≡ meant.let_shape (forms_view forms)) }
 {
-    let Some(first) = forms.pop_front() else {
+    let Some(form) = forms.take_first()? else {
         return Ok(None);
     };
-    let Some(items) = vector_items(first) else {
+    let Some(items) = vector_items(form) else {
         return Ok(None);
     };
-    match bindings_of(alloc, VecDeque::from_vec(items))? {
-        Some(bindings) => Ok(Some(Shape::Let {
-            bindings,
-            body: forms,
-        })),
-        None => Ok(None),
+    if !are_bindings(&items) {
+        return Ok(None);
     }
-}
-
-// Names and forms by turns.
-fn bindings_of(
-    alloc: Global,
-    mut items: VecDeque<Value>,
-) -> Result<Option<VecDeque<Binding>>, AllocError>
-    ensures size { IfOk result (λ found. IfSome found (λ bindings. bindings_size bindings.items ≤ values_size items.items)) }
-    ensures exact { IfOk result (λ found. option_map (λ bs. map binding_view bs.items) found ≡ meant.bound_forms (views items.items)) }
-{
-    let mut bindings = VecDeque::new(alloc);
-    while let Some(item) = items.pop_front() {
-        let Some(name) = simple_symbol(item) else {
-            return Ok(None);
-        };
-        let Some(form) = items.pop_front() else {
-            return Ok(None);
-        };
-        bindings.push_back(Binding { name, form })?;
-    }
-    Ok(Some(bindings))
-}
-
-// `(def name form)`.
-fn definition(mut forms: VecDeque<Value>) -> Option<Shape>
-    ensures size { IfSome result (λ s. shape_size s ≤ values_size forms.items) }
-    ensures exact { option_map shape_view result ≡ meant.def_shape (views forms.items) }
-{
-    let name = simple_symbol(forms.pop_front()?)?;
-    let form = only(forms)?;
-    Some(Shape::Define { name, form })
-}
-
-// `(defn name [name ..] form ..)`, where a string may stand behind the first name.
-fn function_definition(
-    alloc: Global,
-    mut forms: VecDeque<Value>,
-) -> Result<Option<Shape>, AllocError>
-    ensures size { IfOk result (λ shape. IfSome shape (λ s. shape_size s ≤ values_size forms.items)) }
-    ensures exact { IfOk result (λ shape. option_map shape_view shape ≡ meant.defn_shape (views forms.items)) }
-{
-    let Some(first) = forms.pop_front() else {
-        return Ok(None);
-    };
-    match simple_symbol(first) {
-        Some(name) => function_behind(alloc, name, without_text(forms)),
-        None => Ok(None),
-    }
-}
-
-// `[name ..] form ..`.
-fn function_behind(
-    alloc: Global,
-    name: String,
-    mut forms: VecDeque<Value>,
-) -> Result<Option<Shape>, AllocError>
-    ensures size { IfOk result (λ shape. IfSome shape (λ s. shape_size s ≡ 1)) }
-    ensures exact { IfOk result (λ shape. option_map shape_view shape ≡ meant.function_shape (string_bytes name) (views forms.items)) }
-{
-    let Some(first) = forms.pop_front() else {
-        return Ok(None);
-    };
-    let Some(items) = vector_items(first) else {
-        return Ok(None);
-    };
-    match parameters_of(alloc, items)? {
-        Some(params) => Ok(Some(Shape::DefineFunction {
-            name,
-            params,
-            body: row(alloc, forms)?,
-        })),
-        None => Ok(None),
-    }
+    Ok(Some(Shape::Let {
+        bindings: Forms::of_items(items),
+        body: forms,
+    }))
 }
 
 // The items of a vector.
 #[tactic(auto, using(crate::proofs::Shaping::seen), unfolding(crate::specs::Shapes::in_vector))]
-fn vector_items(form: Value) -> Option<Vec<Value>>
-    ensures exact { option_map (λ items. views items.items) result ≡ meant.in_vector (view form) }
-    ensures size { IfSome result (λ items. 3 + values_size items.items ≤ 3 * value_size form) }
+fn vector_items(form: Value) -> Option<Sequence>
+    ensures { option_map (λ items. listed items.items) result ≡ meant.in_vector (view form) }
 {
     match form {
         Value::Vector(items) => Some(items),
@@ -296,20 +228,94 @@ fn vector_items(form: Value) -> Option<Vec<Value>>
     }
 }
 
+// Whether these are names and forms by turns.
+fn are_bindings(items: &Sequence) -> bool
+    ensures { meant.bound_forms (listed items.now.items) ≡ (if result then Some (bindings_in (listed items.now.items)) else None) }
+{
+    by_turns(items.as_slice())
+}
+
+fn by_turns(items: &[Value]) -> bool
+    ensures { meant.bound_forms (views items.now) ≡ (if result then Some (bindings_in (views items.now)) else None) }
+{
+    let mut place = 0;
+    while items.len() - place >= 2 {
+        if simple_symbol(&items[place]).is_none() {
+            return false;
+        }
+        place += 2;
+    }
+    place == items.len()
+}
+
+// `(def name form)`.
+fn definition(mut forms: Forms) -> Result<Option<Shape>, AllocError>
+    ensures { IfOk result (λ shape. option_map shape_view shape ≡ meant.def_shape (forms_view forms)) }
+{
+    let Some(first) = forms.take_first()? else {
+        return Ok(None);
+    };
+    let Some(name) = simple_symbol(&first) else {
+        return Ok(None);
+    };
+    let name = copy_text(name)?;
+    match only(forms)? {
+        Some(form) => Ok(Some(Shape::Define { name, form })),
+        None => Ok(None),
+    }
+}
+
+// `(defn name [name ..] form ..)`, where a string may stand behind the first name.
+fn function_definition(alloc: Global, mut forms: Forms) -> Result<Option<Shape>, AllocError>
+    ensures { IfOk result (λ shape. option_map shape_view shape ≡ meant.defn_shape (forms_view forms)) }
+{
+    let Some(first) = forms.take_first()? else {
+        return Ok(None);
+    };
+    match simple_symbol(&first) {
+        Some(name) => function_behind(alloc, copy_text(name)?, without_text(forms)),
+        None => Ok(None),
+    }
+}
+
+// `[name ..] form ..`.
+fn function_behind(
+    alloc: Global,
+    name: ArcStr,
+    mut forms: Forms,
+) -> Result<Option<Shape>, AllocError>
+    ensures { IfOk result (λ shape. option_map shape_view shape ≡ meant.function_shape (arc_str_bytes name) (forms_view forms)) }
+{
+    let Some(form) = forms.take_first()? else {
+        return Ok(None);
+    };
+    let Some(items) = vector_items(form) else {
+        return Ok(None);
+    };
+    match parameters_in(alloc, &items)? {
+        Some(params) => Ok(Some(Shape::DefineFunction {
+            name,
+            params,
+            body: forms,
+        })),
+        None => Ok(None),
+    }
+}
+
 // What stands behind the string that may stand in front.
-fn without_text(mut forms: VecDeque<Value>) -> VecDeque<Value>
-    ensures { views result.items ≡ meant.behind_name (views forms.items) }
+fn without_text(forms: Forms) -> Forms
+    ensures { forms_view result ≡ meant.behind_name (forms_view forms) }
 {
     if begins_with_text(&forms) {
-        drop(forms.pop_front());
+        return forms.behind_first();
     }
     forms
 }
 
-fn begins_with_text(forms: &VecDeque<Value>) -> bool
-    ensures { result ≡ meant.begins_with_text (views forms.now.items) }
+fn begins_with_text(forms: &Forms) -> bool
+    ensures { result ≡ meant.begins_with_text (forms_view forms.now) }
 {
-    match forms.front() {
+    match forms.first() {
         Some(form) => is_text(form),
         None => false,
     }
@@ -325,34 +331,39 @@ fn is_text(form: &Value) -> bool
     }
 }
 
+fn parameters_in(alloc: Global, items: &Sequence) -> Result<Option<Vec<ArcStr>>, AllocError>
+    ensures { IfOk result (λ found. option_map (λ names. map arc_str_bytes names.items) found ≡ meant.parameters (listed items.now.items)) }
+{
+    parameters_of(alloc, items.as_slice())
+}
+
 // The names of parameters, which are distinct.
 #[tactic(auto, unfolding(crate::specs::Shapes::parameters))]
-fn parameters_of(alloc: Global, items: Vec<Value>) -> Result<Option<Vec<String>>, AllocError>
-    ensures { IfOk result (λ found. option_map (λ names. map string_bytes names.items) found ≡ meant.parameters (views items.items)) }
+fn parameters_of(alloc: Global, items: &[Value]) -> Result<Option<Vec<ArcStr>>, AllocError>
+    ensures { IfOk result (λ found. option_map (λ names. map arc_str_bytes names.items) found ≡ meant.parameters (views items.now)) }
 {
-    if first_repeated(alloc, items.as_slice())?.is_some() {
+    if first_repeated(alloc, items)?.is_some() {
         return Ok(None);
     }
     parameter_names(alloc, items)
 }
 
-fn parameter_names(alloc: Global, items: Vec<Value>) -> Result<Option<Vec<String>>, AllocError>
-    ensures { IfOk result (λ found. option_map (λ names. map string_bytes names.items) found ≡ meant.parameter_names (views items.items)) }
+fn parameter_names(alloc: Global, items: &[Value]) -> Result<Option<Vec<ArcStr>>, AllocError>
+    ensures { IfOk result (λ found. option_map (λ names. map arc_str_bytes names.items) found ≡ meant.parameter_names (views items.now)) }
 {
     let mut names = Vec::new(alloc);
-    let mut items = VecDeque::from_vec(items);
-    while let Some(item) = items.pop_front() {
+    for item in items {
         let Some(name) = parameter_name(item) else {
             return Ok(None);
         };
-        names.push(name)?;
+        names.push(copy_text(name)?)?;
     }
     Ok(Some(names))
 }
 
 // A symbol without a slash, other than `&`.
-fn parameter_name(item: Value) -> Option<String>
-    ensures { option_map string_bytes result ≡ meant.parameter_name (view item) }
+fn parameter_name(item: &Value) -> Option<&ArcStr>
+    ensures { option_map (λ name. arc_str_bytes name.now) result ≡ meant.parameter_name (view item.now) }
 {
     let name = simple_symbol(item)?;
     if name.as_str() == "&" {
@@ -361,21 +372,10 @@ fn parameter_name(item: Value) -> Option<String>
     Some(name)
 }
 
-/// The forms of a queue, in their order. It fails only for want of memory.
-pub fn row(alloc: Global, forms: VecDeque<Value>) -> Result<Vec<Value>, AllocError>
-    ensures { IfOk result (λ items. items.items ≡ forms.items) }
-{
-    let mut items = Vec::with_capacity(alloc, forms.len())?;
-    for form in forms {
-        items.push(form)?;
-    }
-    Ok(items)
-}
-
 // The name that a form is, if it is a symbol without a slash.
 #[tactic(auto, using(crate::proofs::Shaping::seen), unfolding(crate::specs::Shapes::simple_name))]
-fn simple_symbol(form: Value) -> Option<String>
-    ensures { option_map string_bytes result ≡ meant.simple_name (view form) }
+fn simple_symbol(form: &Value) -> Option<&ArcStr>
+    ensures { option_map (λ name. arc_str_bytes name.now) result ≡ meant.simple_name (view form.now) }
 {
     match form {
         Value::Symbol(name) => without_slash(name),
@@ -383,10 +383,10 @@ fn simple_symbol(form: Value) -> Option<String>
     }
 }
 
-fn without_slash(name: String) -> Option<String>
-    ensures { option_map string_bytes result ≡ meant.without_slash (string_bytes name) }
+fn without_slash(name: &ArcStr) -> Option<&ArcStr>
+    ensures { option_map (λ found. arc_str_bytes found.now) result ≡ meant.without_slash (arc_str_bytes name.now) }
 {
-    if name.as_bytes().contains(&b'/') {
+    if name.as_str().as_bytes().contains(&b'/') {
         return None;
     }
     Some(name)

@@ -3,9 +3,9 @@ ghost use Rattle.std.specs.Prelude.{◌≡◌, if◌then◌else◌};
 ghost use Rattle.repl_values.specs.View.{view};
 ghost use Rattle.special_forms.specs.Truth as meant;
 
+use crate::forms::Forms;
 use crate::shapes::Logic;
 use repl_values::Value;
-use std::collections::VecDeque;
 
 /// Only nil and false are false.
 pub fn is_true(value: &Value) -> bool
@@ -19,11 +19,7 @@ pub fn is_true(value: &Value) -> bool
 }
 
 /// The body that a condition with this value chooses.
-pub fn chosen(
-    condition: Value,
-    consequent: VecDeque<Value>,
-    alternative: VecDeque<Value>,
-) -> VecDeque<Value>
+pub fn chosen(condition: Value, consequent: Forms, alternative: Forms) -> Forms
     ensures { result ≡ (if meant.is_true (view condition) then consequent else alternative) }
 {
     if is_true(&condition) {

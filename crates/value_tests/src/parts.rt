@@ -1,7 +1,8 @@
 // Values in short.
 use Part::{Agent, Atom, Bool, Int, Keyword, List, Map, Nil, Ref, Str, Symbol, Var, Vector};
-use repl_values::{Fault, Owner, RefName, Value};
+use repl_values::{Built, Fault, Owner, RefName, Sequence, Table, Value};
 use std::alloc::{AllocError, Global};
+use std::sync::ArcStr;
 
 // A value, written with its parts first: `List(n)` and `Vector(n)` take the last n values, and
 // `Map(n)` the last n pairs.
@@ -23,8 +24,8 @@ pub(crate) enum Part {
     Map(usize),
 }
 
-pub(crate) fn text(alloc: Global, text: &str) -> Result<String, AllocError> {
-    String::from_str(alloc, text)
+pub(crate) fn text(alloc: Global, text: &str) -> Result<ArcStr, AllocError> {
+    ArcStr::from_str(alloc, text)
 }
 
 fn taken(values: &mut Vec<Value>, n: usize) -> Result<Vec<Value>, AllocError> {
@@ -32,11 +33,12 @@ fn taken(values: &mut Vec<Value>, n: usize) -> Result<Vec<Value>, AllocError> {
     values.split_off(at)
 }
 
-fn taken_pairs(
-    alloc: Global,
-    values: &mut Vec<Value>,
-    n: usize,
-) -> Result<Vec<(Value, Value)>, AllocError> {
+fn items(alloc: Global, values: &mut Vec<Value>, n: usize) -> Result<Sequence, AllocError> {
+    Sequence::from_vec(alloc, taken(values, n)?)
+}
+
+// The map of distinct keys.
+fn taken_pairs(alloc: Global, values: &mut Vec<Value>, n: usize) -> Result<Table, AllocError> {
     let mut parts = taken(values, n.saturating_mul(2))?.into_iter();
     let mut pairs = Vec::new(alloc);
     for _ in 0..n {
@@ -44,7 +46,10 @@ fn taken_pairs(
             pairs.push((key, value))?;
         }
     }
-    Ok(pairs)
+    match Table::from_pairs(alloc, pairs)? {
+        Built::Made(table) => Ok(table),
+        Built::Repeats(_place) => Table::empty(alloc),
+    }
 }
 
 fn with_texts(alloc: Global, part: Part) -> Result<Value, AllocError> {
@@ -73,8 +78,8 @@ fn made(alloc: Global, part: Part, values: &mut Vec<Value>) -> Result<Value, All
         Ref(owner, number) => Ok(Value::Ref(RefName { owner, number })),
         Atom(number) => Ok(Value::Atom(number)),
         Agent(number) => Ok(Value::Agent(number)),
-        List(n) => Ok(Value::List(taken(values, n)?)),
-        Vector(n) => Ok(Value::Vector(taken(values, n)?)),
+        List(n) => Ok(Value::List(items(alloc, values, n)?)),
+        Vector(n) => Ok(Value::Vector(items(alloc, values, n)?)),
         Map(n) => Ok(Value::Map(taken_pairs(alloc, values, n)?)),
         other => with_texts(alloc, other),
     }

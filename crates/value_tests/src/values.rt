@@ -2,9 +2,11 @@
 use crate::parts::{Part, text, value_of};
 use Part::{Agent, Atom, Bool, Int, Keyword, List, Map, Nil, Ref, Str, Symbol, Var, Vector};
 use repl_values::{
-    Function, Owner, Value, copy, copy_text, display_into, first_repeated, hash_of, is_plain,
+    Owner, Sequence, Value, copy, copy_text, display_into, first_repeated, hash_of, is_plain,
     nesting, print_into, same, weight,
 };
+use special_forms::{Forms, Function};
+use std::sync::Arc;
 use std::test::Fail;
 
 const OWN: Owner = Owner::Tenant(7);
@@ -174,17 +176,24 @@ fn values_are_measured(rt: HostRuntime) -> Result<(), Fail> {
 fn copies_succeed(rt: HostRuntime) -> Result<(), Fail> {
     let a = rt.alloc();
     let value = value_of(a, &TABLE)?;
-    assert!(rt; same(&value, &copy(a, &value)?));
+    assert!(rt; same(&value, &copy(&value)?));
     let space = text(a, "é")?;
-    assert_eq!(rt; copy_text(a, &space)?.as_str(), "é");
+    assert_eq!(rt; copy_text(&space)?.as_str(), "é");
+    let mut params = Vec::new(a);
+    params.push(text(a, "x")?)?;
+    let mut forms = Vec::new(a);
+    forms.push(copy(&value)?)?;
     let function = Function {
         space,
         name: text(a, "f")?,
-        params: Vec::new(a),
-        body: Vec::new(a),
+        params: Arc::new(a, params)?,
+        body: Forms::of_items(Sequence::from_vec(a, forms)?),
     };
-    let copied = function.copy(a)?;
+    let copied = function.copy()?;
+    assert_eq!(rt; copied.space.as_str(), "é");
     assert_eq!(rt; copied.name.as_str(), "f");
+    assert_eq!(rt; copied.params.len(), 1);
+    assert!(rt; copied.body.first().is_some_and(|form| same(form, &value)));
     Ok(())
 }
 
@@ -200,7 +209,7 @@ fn repeated_keys_are_found(rt: HostRuntime) -> Result<(), Fail> {
     ];
     for (parts, repeated) in rows {
         if let Value::List(keys) = value_of(rt.alloc(), parts)? {
-            assert_eq!(rt; first_repeated(rt.alloc(), &keys)?, repeated);
+            assert_eq!(rt; first_repeated(rt.alloc(), keys.as_slice())?, repeated);
         }
     }
     Ok(())

@@ -1,6 +1,6 @@
 use Rattle.std.proofs.Common.{◌≡◌, ◌++◌, map, length}
 use Rattle.repl_values.specs.View.{view}
-use Rattle.core_pairs.specs.Found.{entry_view}
+use Rattle.repl_values.specs.Seen.{entry_view}
 use Rattle.core_maps.specs.Arguments as meant
 use Rattle.core_maps.proofs.arguments.by_turns.Given as goal
 

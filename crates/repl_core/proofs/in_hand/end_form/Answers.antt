@@ -1,6 +1,6 @@
 use Rattle.std.proofs.Common.{◌≡◌, ◌∙◌, ◌++◌, ◌==◌, sym, ap, append-nil, map, option_map, false, length}
 use Rattle.repl_faults.specs.View.{failure_of}
-use Rattle.repl_jobs.specs.Job.{finished_view}
+use Rattle.repl_jobs.specs.View.{finished_view}
 use Rattle.repl_replies.specs.Replies.{bytes_of}
 use Rattle.repl_replies.specs.View.{origin_view}
 use Rattle.repl_core.specs.Move.{end_replies}

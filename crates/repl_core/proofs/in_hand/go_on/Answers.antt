@@ -6,7 +6,7 @@ use Rattle.repl_faults.specs.View.{failure_of}
 use Rattle.repl_replies.specs.View.{origin_view}
 use Rattle.repl_values.specs.View.{items_view}
 use Rattle.name_spaces.specs.Resolving.{answered, bound_after}
-use Rattle.repl_jobs.specs.Job.{finished_view}
+use Rattle.repl_jobs.specs.View.{finished_view}
 use Rattle.repl_core.specs.Move.{begun, ended}
 use Rattle.repl_core.proofs.Moving.{if_ok-map, move-shown, to_do-same}
 use Rattle.repl_core.proofs.in_hand.go_on.Goals as goal

@@ -1,7 +1,17 @@
-use Rattle.std.proofs.Common.{◌≡◌, drop}
-use Rattle.repl_values.specs.View.{items_view, pairs_view}
+use Rattle.std.proofs.Common.{◌≡◌, ◌+◌, ◌*◌, drop}
+use Rattle.repl_values.specs.View.{view, items_view, pairs_view}
+use Rattle.repl_values.proofs.Size.{nodes, items_nodes, pairs_nodes}
 use Rattle.repl_values.specs.Measures.{are_plain, pairs_are_plain}
 use Rattle.repl_values.proofs.measure.+is_plain.Given as goal
+
+abbrev pub decreases-is_plain : goal.decreases-is_plain
+decreases-is_plain l = 2 * nodes (view l.value.now)
+
+abbrev pub decreases-items_are_plain : goal.decreases-items_are_plain
+decreases-items_are_plain l = 2 * items_nodes (items_view l.items.now) + 1
+
+abbrev pub decreases-all_pairs_are_plain : goal.decreases-all_pairs_are_plain
+decreases-all_pairs_are_plain l = 2 * pairs_nodes (pairs_view l.pairs.now) + 1
 
 abbrev pub invariant-items_are_plain-loop-item : goal.invariant-items_are_plain-loop-item
 invariant-items_are_plain-loop-item l =

@@ -1,13 +1,20 @@
-use Rattle.std.proofs.Common.{rules, arith, append_assoc}
-use Rattle.std.proofs.lemmas.Grind.{common_steps}
-use Rattle.repl_values.proofs.Views as views
+use Rattle.std.proofs.Common.{◌≡◌, ◌∷◌, arith, ap, List}
+use Rattle.repl_values.specs.View.{pairs_view}
+use Rattle.repl_values.proofs.Size.{pairs_nodes}
+use Rattle.repl_values.specs.declared.value.Value.{Value}
+use Rattle.repl_values.proofs.Nodes.{pair_nodes-in}
 use Rattle.repl_values.proofs.print.+spell.Goals as goal
 
-pub spell-returns-in_ok-spell_pairs-in-Map : goal.spell-returns-in_ok-spell_pairs-in-Map
-spell-returns-in_ok-spell_pairs-in-Map t c = rw (c.in-Map.is, views.view-Map) (grind (arith, common_steps, append_assoc))
+pub spell_pairs-spell-requires-in-loop-key : goal.spell_pairs-spell-requires-in-loop-key
+spell_pairs-spell-requires-in-loop-key t c = (
+    let inside = pair_nodes-in c.in-Some.rest.now c.loop-key.key-index c.loop-key-item.result c.loop-key-item.is c.loop-key-test.true in
+    let whole : pairs_nodes (pairs_view c.args.pairs.now) ≡ pairs_nodes (pairs_view (c.in-Some.field-0-0.now ∷ c.in-Some.rest.now)) =
+    ap (λ (xs : List (Value × Value)). pairs_nodes (pairs_view xs)) c.in-Some.ensures.cases.0 in
+    (omega (arith, inside, whole, c.decreases), tt))
 
-pub spell-returns-in_ok-push_two-in-Var : goal.spell-returns-in_ok-push_two-in-Var
-spell-returns-in_ok-push_two-in-Var t c = rw (c.in-Var.is, views.view-Var) (grind (arith, common_steps, append_assoc))
-
-pub spell-returns-in_ok-push_two-in-Fault-2 : goal.spell-returns-in_ok-push_two-in-Fault-2
-spell-returns-in_ok-push_two-in-Fault-2 t c = rw (c.in-Fault.is, views.view-Fault) (search (rules, append_assoc))
+pub spell_pairs-spell-requires-in-loop-key-2 : goal.spell_pairs-spell-requires-in-loop-key-2
+spell_pairs-spell-requires-in-loop-key-2 t c = (
+    let inside = pair_nodes-in c.in-Some.rest.now c.loop-key.key-index c.loop-key-item.result c.loop-key-item.is c.loop-key-test.true in
+    let whole : pairs_nodes (pairs_view c.args.pairs.now) ≡ pairs_nodes (pairs_view (c.in-Some.field-0-0.now ∷ c.in-Some.rest.now)) =
+    ap (λ (xs : List (Value × Value)). pairs_nodes (pairs_view xs)) c.in-Some.ensures.cases.0 in
+    (omega (arith, inside, whole, c.decreases), tt))

@@ -1,8 +1,18 @@
-use Rattle.std.proofs.Common.{◌≡◌, ◌++◌, codes, drop, string_bytes}
-use Rattle.repl_values.specs.View.{items_view, pairs_view}
+use Rattle.std.proofs.Common.{◌≡◌, ◌+◌, ◌*◌, ◌++◌, codes, drop, string_bytes}
+use Rattle.repl_values.proofs.Size.{nodes, items_nodes, pairs_nodes}
+use Rattle.repl_values.specs.View.{view, items_view, pairs_view}
 use Rattle.repl_values.specs.Print.{texts, pair_texts, behind}
 use Rattle.repl_values.specs.Style.{spelling_of}
 use Rattle.repl_values.proofs.print.+spell.Given as goal
+
+abbrev pub decreases-spell : goal.decreases-spell
+decreases-spell l = 2 * nodes (view l.value.now)
+
+abbrev pub decreases-spell_items : goal.decreases-spell_items
+decreases-spell_items l = 2 * items_nodes (items_view l.items.now) + 1
+
+abbrev pub decreases-spell_pairs : goal.decreases-spell_pairs
+decreases-spell_pairs l = 2 * pairs_nodes (pairs_view l.pairs.now) + 1
 
 abbrev pub invariant-spell_items-loop-item : goal.invariant-spell_items-loop-item
 invariant-spell_items-loop-item l =

@@ -1,7 +1,7 @@
 use Rattle.std.proofs.Common.{ap}
 use Rattle.repl_walker.specs.Tree.{Kept, Tree}
 use Rattle.repl_walker.specs.Machine.{callee_view, place_of, kept_of, next_of}
-use Rattle.special_forms.specs.Seen.{views}
+use Rattle.special_forms.specs.Seen.{forms_view}
 use Rattle.repl_walker.proofs.Evaluating.{if_ok-turned, call_start}
 use Rattle.repl_walker.proofs.answers.take_callee.Goals as goal
 
@@ -10,5 +10,5 @@ returns-in-Head-clause-meaning c =
     let s = c.args.state.now in
     let w = c.in-Head in
     if_ok-turned _ _ (rw (w.is, c.new.ensures.items)
-    (ap (λ (part : Kept → Tree). part (kept_of s)) (call_start w.room (place_of s) (callee_view c.args.callee) (views w.forms.items) (next_of s))))
+    (ap (λ (part : Kept → Tree). part (kept_of s)) (call_start w.room (place_of s) (callee_view c.args.callee) (forms_view w.forms) (next_of s))))
     c.next_argument.ensures.meaning

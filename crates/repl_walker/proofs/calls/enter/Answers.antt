@@ -1,7 +1,5 @@
 use Rattle.std.proofs.Common.{refl}
 use Rattle.repl_values.proofs.Views.{view-Nil}
-use Rattle.special_forms.proofs.Shaping.{list_of-items}
-use Rattle.special_forms.specs.Seen.{views}
 use Rattle.repl_walker.proofs.Evaluating.{if_ok-turned}
 use Rattle.repl_walker.proofs.calls.enter.Goals as goal
 
@@ -9,11 +7,11 @@ pub returns-clause-meaning : goal.returns-clause-meaning
 returns-clause-meaning c =
     if_ok-turned _ _ (rw (
       view-Nil,
-      c.from_vec.ensures.items,
-      list_of-items (views c.args.function.body.items),
       c.in_ok-push_front.ensures.items,
       c.replace-place.ensures.value,
       c.replace-place.ensures.after,
       c.in_ok-locals.ensures,
+      c.deref-2.ensures.value,
+      c.deref.ensures,
     ) refl)
     c.next_in_body.ensures.meaning

@@ -1,23 +1,24 @@
 use Rattle.std.proofs.Common.{ap, sym, arith, rules}
 use Rattle.repl_values.specs.Datum.{Datum}
+use Rattle.repl_values.specs.View.{view}
 use Rattle.repl_walker.specs.Tree.{Part}
 use Rattle.repl_walker.specs.Machine.{place_of, from_state}
-use Rattle.repl_values.specs.declared.value.Value.{the_lemmas}
-use Rattle.special_forms.proofs.Sizes.{value_size-pos}
-use Rattle.repl_walker.proofs.Evaluating.{if_ok-turned, value_at-List}
+use Rattle.repl_values.proofs.Views.{value_views}
+use Rattle.special_forms.proofs.Sizes.{datum_size-pos}
+use Rattle.repl_walker.proofs.Evaluating.{if_ok-turned, list-at}
 use Rattle.repl_walker.proofs.evaluate.evaluate.Goals as goal
 
 pub returns-in-List-clause-meaning : goal.returns-in-List-clause-meaning
 returns-in-List-clause-meaning c =
     let s = c.args.state.now in
-    if_ok-turned _ _ (rw (c.in-List.is, c.from_vec.ensures.items)
-    (ap (λ (part : Part Datum). from_state part s) (sym (value_at-List c.args.room (place_of s) c.in-List.items))))
+    if_ok-turned _ _ (rw c.in-List.is
+    (ap (λ (part : Part Datum). from_state part s) (sym (list-at c.args.room (place_of s) c.in-List.items.items))))
     c.evaluate_list.ensures.meaning
 
 pub returns-in_default : goal.returns-in_default
 returns-in_default c =
     record {
-      size = omega (arith, value_size-pos c.args.form);
+      size = omega (arith, datum_size-pos (view c.args.form));
       calls = omega arith;
-      meaning = search (rules, the_lemmas);
+      meaning = search (rules, value_views);
     }

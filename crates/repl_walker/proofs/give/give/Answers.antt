@@ -5,8 +5,8 @@ use Rattle.repl_walker.specs.Evaluation.{last_of, value_at}
 use Rattle.repl_walker.specs.Machine.{callee_view, place_of, kept_of, next_of, call_behind, items_behind}
 use Rattle.repl_values.proofs.Views.{view-Nil}
 use Rattle.special_forms.specs.Truth.{is_true}
-use Rattle.special_forms.specs.Seen.{views}
-use Rattle.repl_walker.proofs.Evaluating.{if_ok-turned, views-last, views-chosen}
+use Rattle.special_forms.specs.Seen.{forms_view}
+use Rattle.repl_walker.proofs.Evaluating.{if_ok-turned, views-last, forms-chosen}
 use Rattle.repl_walker.proofs.give.give.Goals as goal
 
 pub returns-in_ok-push-in-Arguments-clause-meaning : goal.returns-in_ok-push-in-Arguments-clause-meaning
@@ -14,7 +14,7 @@ returns-in_ok-push-in-Arguments-clause-meaning c =
     let s = c.args.state.now in
     let f = c.in-Arguments in
     if_ok-turned _ _ (rw (f.is, c.in_ok-push-in-Arguments.ensures.items)
-    (ap (λ (vs : List Datum). call_behind f.room (place_of s) (callee_view f.callee) vs (views f.forms.items) (next_of s) (kept_of s)) (views-last f.values.items c.args.value)))
+    (ap (λ (vs : List Datum). call_behind f.room (place_of s) (callee_view f.callee) vs (forms_view f.forms) (next_of s) (kept_of s)) (views-last f.values.items c.args.value)))
     c.next_argument.ensures.meaning
 
 pub returns-in_ok-push-in-Collection-clause-meaning : goal.returns-in_ok-push-in-Collection-clause-meaning
@@ -22,7 +22,7 @@ returns-in_ok-push-in-Collection-clause-meaning c =
     let s = c.args.state.now in
     let f = c.in-Collection in
     if_ok-turned _ _ (rw (f.is, c.in_ok-push-in-Collection.ensures.items)
-    (ap (λ (vs : List Datum). items_behind f.room (place_of s) f.kind vs (views f.forms.items) (next_of s) (kept_of s)) (views-last f.values.items c.args.value)))
+    (ap (λ (vs : List Datum). items_behind f.room (place_of s) f.kind vs (forms_view f.forms) (next_of s) (kept_of s)) (views-last f.values.items c.args.value)))
     c.next_item.ensures.meaning
 
 pub returns-in-Choice-clause-meaning : goal.returns-in-Choice-clause-meaning
@@ -30,7 +30,7 @@ returns-in-Choice-clause-meaning c =
     let s = c.args.state.now in
     let f = c.in-Choice in
     if_ok-turned _ _ (rw (f.is, view-Nil)
-    (ap (λ (ds : List Datum). last_of (value_at f.room (place_of s)) nil ds (next_of s) (kept_of s)) (views-chosen (is_true (view c.args.value)) f.consequent f.alternative c.chosen-body.result c.chosen-body.ensures)))
+    (ap (λ (ds : List Datum). last_of (value_at f.room (place_of s)) nil ds (next_of s) (kept_of s)) (forms-chosen (is_true (view c.args.value)) f.consequent f.alternative c.chosen-body.result c.chosen-body.ensures)))
     c.next_in_body-in-Choice.ensures.meaning
 
 pub returns-in_ok-bind-in-Let-clause-meaning : goal.returns-in_ok-bind-in-Let-clause-meaning

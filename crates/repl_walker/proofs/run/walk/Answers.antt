@@ -2,7 +2,7 @@ use Rattle.std.proofs.Common.{[], refl, ap, subst, ◌∙◌}
 use Rattle.repl_asks.specs.View.{trace_view}
 use Rattle.repl_walker.specs.Tree.{Recorded}
 use Rattle.repl_walker.specs.Machine.{progress_tree}
-use Rattle.repl_jobs.specs.Job.{job_view, finished_view}
+use Rattle.repl_jobs.specs.View.{job_view, finished_view}
 use Rattle.repl_walker.specs.Ends.{ending_view, evaluation_of}
 use Rattle.repl_walker.specs.declared.resume.Progress.{Progress}
 use Rattle.repl_walker.proofs.Leading.{led-nowhere, recorded-on, recorded-led, end-recorded, left-on}

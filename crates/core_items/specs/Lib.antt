@@ -1,0 +1,4 @@
+pub mod Items
+pub mod Making
+pub mod Arguments
+pub mod View

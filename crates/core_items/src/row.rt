@@ -1,0 +1,94 @@
+// The items of a value, without copying them.
+#![tactic(auto, using(crate::proofs::Values::seen))]
+
+ghost use Rattle.std.specs.Prelude.{◌≡◌, ◌<◌, ◌^◌, length, drop, map, IfOk};
+ghost use Rattle.repl_values.specs.View.{view};
+ghost use Rattle.repl_faults.specs.View.{Gives};
+ghost use Rattle.core_items.specs.Items.{items_in};
+ghost use Rattle.core_items.specs.Arguments.{item_or_nil};
+ghost use Rattle.core_items.specs.View.{row_view, pair_vectors};
+
+use repl_faults::{ApplyError, wrong_argument};
+use repl_values::{Value, copy, copy_items, pair_as_vector};
+use std::alloc::{AllocError, Global};
+
+/// Where the items stand: as values, or as a map's pairs.
+#[derive(Clone, Copy)]
+pub enum ItemRow<'a> {
+    Values(&'a [Value]),
+    Pairs(&'a [(Value, Value)]),
+}
+
+impl<'a> ItemRow<'a> {
+    /// The items of an argument of the function of this name. Those of nil are none; those of a map
+    /// are its pairs, each as a vector of two.
+    pub fn of(alloc: Global, function: &str, argument: &'a Value) -> Result<ItemRow<'a>, ApplyError>
+        ensures { Gives row_view result (items_in function.now (view argument.now)) }
+    {
+        match argument {
+            Value::Nil => Ok(ItemRow::Values(&[])),
+            Value::List(items) => Ok(ItemRow::Values(items.as_slice())),
+            Value::Vector(items) => Ok(ItemRow::Values(items.as_slice())),
+            Value::Map(pairs) => Ok(ItemRow::Pairs(pairs.as_slice())),
+            other => Err(ApplyError::Fault(wrong_argument(alloc, function, other)?)),
+        }
+    }
+
+    /// How many items there are.
+    pub fn len(self) -> usize
+        ensures count { result ≡ length (row_view self.entry) }
+        ensures bound { result < 2 ^ 63 }
+    {
+        match self {
+            ItemRow::Values(values) => values.len(),
+            ItemRow::Pairs(pairs) => pairs.len(),
+        }
+    }
+
+    /// What stands behind the first item.
+    pub fn rest(self) -> ItemRow<'a>
+        ensures { row_view result ≡ drop 1 (row_view self.entry) }
+    {
+        match self {
+            ItemRow::Values([_, rest @ ..]) => ItemRow::Values(rest),
+            ItemRow::Pairs([_, rest @ ..]) => ItemRow::Pairs(rest),
+            none => none,
+        }
+    }
+
+    /// The item at this place, or nil. It fails only for want of memory.
+    pub fn item_or_nil(self, alloc: Global, place: usize) -> Result<Value, AllocError>
+        ensures { IfOk result (λ item. view item ≡ item_or_nil place (row_view self.entry)) }
+    {
+        match self {
+            ItemRow::Values(values) => match values.get(place) {
+                Some(value) => copy(value),
+                None => Ok(Value::Nil),
+            },
+            ItemRow::Pairs(pairs) => match pairs.get(place) {
+                Some((key, value)) => pair_as_vector(alloc, key, value),
+                None => Ok(Value::Nil),
+            },
+        }
+    }
+
+    /// All items in a vector of their own. It fails only for want of memory.
+    pub fn copies(self, alloc: Global) -> Result<Vec<Value>, AllocError>
+        ensures { IfOk result (λ copies. map view copies.items ≡ row_view self.entry) }
+    {
+        match self {
+            ItemRow::Values(values) => copy_items(alloc, values),
+            ItemRow::Pairs(pairs) => copy_pairs(alloc, pairs),
+        }
+    }
+}
+
+fn copy_pairs(alloc: Global, pairs: &[(Value, Value)]) -> Result<Vec<Value>, AllocError>
+    ensures { IfOk result (λ copies. map view copies.items ≡ pair_vectors pairs.now) }
+{
+    let mut copies = Vec::with_capacity(alloc, pairs.len())?;
+    for (key, value) in pairs {
+        copies.push(pair_as_vector(alloc, key, value)?)?;
+    }
+    Ok(copies)
+}

@@ -1,0 +1,13 @@
+-- Names that are bound to values, the newest first.
+use Rattle.std.specs.Prelude.{ℕ, List, [], ◌∷◌, Option, Some, None, if◌then◌else◌}
+use Rattle.std.specs.Str.{bytes_eq}
+use Rattle.repl_values.specs.Datum.{Datum}
+
+pub record LocalData : Type 0 where
+  pub name : List ℕ
+  pub bound : Datum
+
+-- the value of the newest local of this name
+abbrev pub value_of : List LocalData → List ℕ → Option Datum
+value_of [] s = None
+value_of (l ∷ ls) s = if bytes_eq l.name s then Some l.bound else value_of ls s

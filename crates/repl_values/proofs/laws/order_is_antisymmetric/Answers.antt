@@ -1,0 +1,6 @@
+use Rattle.repl_values.specs.Order.{sort_key}
+use Rattle.repl_values.proofs.Ordered.{order-reverse}
+use Rattle.repl_values.proofs.laws.order_is_antisymmetric.Goals as goal
+
+pub returns : goal.returns
+returns c = λ d e. order-reverse (sort_key d) (sort_key e)

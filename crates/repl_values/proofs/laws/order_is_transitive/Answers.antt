@@ -1,0 +1,6 @@
+use Rattle.repl_values.specs.Order.{sort_key}
+use Rattle.repl_values.proofs.Ordered.{order-Less}
+use Rattle.repl_values.proofs.laws.order_is_transitive.Goals as goal
+
+pub returns : goal.returns
+returns c = λ d e f. order-Less (sort_key d) (sort_key e) (sort_key f)

@@ -1,0 +1,73 @@
+use Rattle.std.proofs.Common.{◌≡◌, ◌+◌, ◌-◌, ◌/◌, ◌<◌, ℕ, length, sym, ap, ◌∙◌, arith}
+use Rattle.std.specs.Prelude.{slice_index_or}
+use Rattle.repl_values.specs.View.{view, pairs_view}
+use Rattle.repl_values.specs.Order.{SortKey, order, sort_key}
+use Rattle.repl_values.specs.Index.{key_at}
+use Rattle.repl_values.proofs.Ordered.{order-exact}
+use Rattle.repl_values.proofs.Sorted.{order-Greater}
+use Rattle.repl_values.proofs.Searching.{found-place, absent-place, before-more, behind-more, key-got, index-within}
+use Rattle.repl_values.proofs.places.search.Goals as goal
+
+pub loop-low-init : goal.loop-low-init
+loop-low-init c = record {
+  places = index-within c.args.pairs.now c.args.index.now c.requires;
+  ordered = omega arith;
+  within = omega arith;
+  before = λ i l. absurd (omega (arith, l));
+  behind = λ i l m. absurd (omega (arith, l, m));
+}
+
+pub loop-low-preserved-in-Less : goal.loop-low-preserved-in-Less
+loop-low-preserved-in-Less c =
+    let ps = pairs_view c.args.pairs.now in
+    let key = sort_key (view c.args.key.now) in
+    let middle : ℕ = c.loop-low.low + (c.loop-low.high - c.loop-low.low) / 2 in
+    let below : middle < length c.args.index.now = omega (arith, c.loop-low-test.true, c.loop-low.invariant.within) in
+    let compared : c.compare.result ≡ order (key_at ps (slice_index_or c.args.index.now middle 0)) key =
+    c.compare.ensures ∙ ap (λ (k : SortKey). order k key) (key-got c.args.pairs.now (slice_index_or c.args.index.now middle 0) c.index-pairs-place.result (c.loop-low.invariant.places middle 0 below)) in
+    record {
+      places = c.loop-low.invariant.places;
+      ordered = omega (arith, c.loop-low-test.true);
+      within = c.loop-low.invariant.within;
+      before = before-more c.args.index.now ps (view c.args.key.now) middle c.requires below (sym compared ∙ c.in-Less.is);
+      behind = c.loop-low.invariant.behind;
+    }
+
+pub returns-in-Equal-clause-found : goal.returns-in-Equal-clause-found
+returns-in-Equal-clause-found c =
+    let ps = pairs_view c.args.pairs.now in
+    let key = sort_key (view c.args.key.now) in
+    let middle : ℕ = c.loop-low.low + (c.loop-low.high - c.loop-low.low) / 2 in
+    let below : middle < length c.args.index.now = omega (arith, c.loop-low-test.true, c.loop-low.invariant.within) in
+    let compared : c.compare.result ≡ order (key_at ps (slice_index_or c.args.index.now middle 0)) key =
+    c.compare.ensures ∙ ap (λ (k : SortKey). order k key) (key-got c.args.pairs.now (slice_index_or c.args.index.now middle 0) c.index-pairs-place.result (c.loop-low.invariant.places middle 0 below)) in
+    found-place c.args.index.now ps (view c.args.key.now) middle c.requires below
+    (order-exact (key_at ps (slice_index_or c.args.index.now middle 0)) key (sym compared ∙ c.in-Equal.is))
+
+pub loop-low-preserved : goal.loop-low-preserved
+loop-low-preserved c =
+    let ps = pairs_view c.args.pairs.now in
+    let key = sort_key (view c.args.key.now) in
+    let middle : ℕ = c.loop-low.low + (c.loop-low.high - c.loop-low.low) / 2 in
+    let below : middle < length c.args.index.now = omega (arith, c.loop-low-test.true, c.loop-low.invariant.within) in
+    let compared : c.compare.result ≡ order (key_at ps (slice_index_or c.args.index.now middle 0)) key =
+    c.compare.ensures ∙ ap (λ (k : SortKey). order k key) (key-got c.args.pairs.now (slice_index_or c.args.index.now middle 0) c.index-pairs-place.result (c.loop-low.invariant.places middle 0 below)) in
+    record {
+      places = c.loop-low.invariant.places;
+      ordered = omega arith;
+      within = omega (arith, below);
+      before = c.loop-low.invariant.before;
+      behind =
+          behind-more c.args.index.now ps (view c.args.key.now) middle c.requires
+          (order-Greater (key_at ps (slice_index_or c.args.index.now middle 0)) key (sym compared ∙ c.in-Greater.is));
+    }
+
+pub returns-clause-new : goal.returns-clause-new
+returns-clause-new c =
+    record {
+      absent = absent-place c.args.index.now (pairs_view c.args.pairs.now) (view c.args.key.now) c.loop-low.low c.requires c.loop-low.invariant.before
+          (λ i l m. c.loop-low.invariant.behind i (omega (arith, l, c.loop-low-test.false)) m);
+      in_range = omega (arith, c.loop-low.invariant.ordered, c.loop-low.invariant.within);
+      before = c.loop-low.invariant.before;
+      behind = λ i l m. c.loop-low.invariant.behind i (omega (arith, l, c.loop-low-test.false)) m;
+    }

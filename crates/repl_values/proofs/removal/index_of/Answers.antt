@@ -1,0 +1,28 @@
+use Rattle.std.proofs.Common.{◌≡◌, ◌+◌, ℕ, List, true, take, Vec, Global, subst, sym, ◌∙◌, arith}
+use Rattle.repl_values.specs.View.{view, pairs_view}
+use Rattle.repl_values.specs.Keyed.{has_key}
+use Rattle.repl_values.specs.Index.{Indexes, Belongs}
+use Rattle.repl_values.proofs.Tables.{has_key-placed, size-take, take-behind}
+use Rattle.repl_values.proofs.Removing.{none-before}
+use Rattle.repl_values.proofs.Searching.{noted}
+use Rattle.repl_values.proofs.removal.index_of.Goals as goal
+use Rattle.repl_values.proofs.removal.index_of.Goals.{in-Err+in_ok-insert-in-Err, in-Ok}
+
+pub loop-place-preserved : goal.loop-place-preserved
+loop-place-preserved c =
+    let p = c.index-pairs-place.result in
+    let n = c.loop-place.place in
+    let before = pairs_view (take n c.args.pairs.now) in
+    elim c.match-search.branch [
+      | in-Err+in_ok-insert-in-Err w ↦
+          let belongs : Belongs w.in-Err.rank c.loop-place.index.items before (view p.0) =
+          subst (λ (ns : List ℕ). Belongs w.in-Err.rank ns before (view p.0)) c.deref.ensures.value w.in-Err.ensures.new in
+          subst (λ (v : Vec ℕ Global). Indexes v.items (pairs_view (take (n + 1) c.args.pairs.now))) (sym w.index-is)
+          (noted c.loop-place.index.items w.insert.new.self.items before (pairs_view (take (n + 1) c.args.pairs.now)) (view p.0) (view p.1) w.in-Err.rank n
+          (take-behind c.args.pairs.now n p c.index-pairs-place.is c.loop-place-test.true)
+          w.in_ok-insert-in-Err.ensures.items (sym (size-take c.args.pairs.now n (omega (arith, c.loop-place-test.true)))) c.loop-place.invariant belongs)
+      | in-Ok w ↦
+          let there : has_key before (view p.0) ≡ true = has_key-placed before (view p.0) w.in-Ok.field-0 w.in-Ok.ensures.found in
+          let clash = sym (none-before c.args.pairs.now n p c.index-pairs-place.is c.loop-place-test.true c.requires) ∙ there in
+          absurd (cc)
+    ]

@@ -1,0 +1,15 @@
+use Rattle.std.proofs.Common.{◌≡◌, true, drop, map}
+use Rattle.repl_values.specs.View.{pairs_view}
+use Rattle.repl_values.specs.Keyed.{are_distinct}
+use Rattle.repl_values.specs.Put.{put_pairs}
+use Rattle.repl_values.specs.Index.{Indexes}
+use Rattle.repl_values.specs.Seen.{entry_view, MayFit}
+use Rattle.repl_values.proofs.value.Table.with_pairs.Given as goal
+
+abbrev pub invariant-loop-key : goal.invariant-loop-key
+invariant-loop-key l = record {
+  so_far : put_pairs (pairs_view l.pairs.items) (map entry_view (drop l.key-index l.more)) ≡ put_pairs l.fn.self.pairs (map entry_view l.more);
+  distinct : are_distinct (pairs_view l.pairs.items) ≡ true;
+  indexed : Indexes l.index.items (pairs_view l.pairs.items);
+  measured : MayFit l.measure (pairs_view l.pairs.items);
+}

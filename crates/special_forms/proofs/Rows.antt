@@ -1,0 +1,110 @@
+-- Forms by their places.
+use denote.Ref.{Bor}
+use Rattle.std.proofs.Common.{◌≡◌, ℕ, zero, suc, ◌*◌, ◌<◌, ◌≤◌, List, [], ◌∷◌, Option, Some, None, MatchOption, option_map, slice_get, get_or, length, take, drop, map, refl, sym, ap, ◌∙◌, arith}
+use Rattle.std.proofs.lemmas.Option.{slice_get-map, slice_get_past, slice_get_read}
+use Rattle.std.specs.List.{HoldsAt}
+use Rattle.std.specs.Prelude.{◌/◌, ◌%◌, IfSome}
+use Rattle.repl_values.specs.Datum.{Datum, Items}
+use Rattle.repl_values.specs.Listed.{listed}
+use Rattle.repl_values.specs.View.{view, items_view, pairs_view}
+use Rattle.repl_values.specs.declared.value.Value.{Value}
+use Rattle.repl_values.proofs.Views.{value_views}
+use Rattle.repl_values.proofs.Lists.{listed-of, lists}
+use Rattle.special_forms.specs.Rows.{in_a_row}
+
+pub row-past : (ds : List Datum) (i e : ℕ) → e ≤ i → drop i (take e ds) ≡ []
+row-past [] zero zero h = refl
+row-past [] zero (suc e) h = absurd (omega (arith, h))
+row-past [] (suc i) zero h = refl
+row-past [] (suc i) (suc e) h = refl
+row-past (d ∷ ds) zero zero h = refl
+row-past (d ∷ ds) zero (suc e) h = absurd (omega (arith, h))
+row-past (d ∷ ds) (suc i) zero h = refl
+row-past (d ∷ ds) (suc i) (suc e) h = row-past ds i e (omega (arith, h))
+
+pub row-end : (ds : List Datum) (i e : ℕ) → None ≡ slice_get ds i → drop i (take e ds) ≡ []
+row-end [] zero zero h = refl
+row-end [] zero (suc e) h = refl
+row-end [] (suc i) zero h = refl
+row-end [] (suc i) (suc e) h = refl
+row-end (d ∷ ds) zero e h = cc
+row-end (d ∷ ds) (suc i) zero h = refl
+row-end (d ∷ ds) (suc i) (suc e) h = row-end ds i e h
+
+pub row-step : (ds : List Datum) (i e : ℕ) (d : Datum) → i < e → Some d ≡ slice_get ds i → drop i (take e ds) ≡ d ∷ drop (suc i) (take e ds)
+row-step [] i e d i< h = cc
+row-step (c ∷ ds) i zero d i< h = absurd (omega (arith, i<))
+row-step (c ∷ ds) zero (suc e) d i< h = let here : d ≡ c = cc in ap (λ (x : Datum). x ∷ take e ds) (sym here)
+row-step (c ∷ ds) (suc i) (suc e) d i< h = row-step ds i e d (omega (arith, i<)) h
+
+pub row-first : (ds : List Datum) (i e : ℕ) → i < e → drop i (take (suc i) ds) ≡ take 1 (drop i (take e ds))
+row-first [] zero zero h = absurd (omega (arith, h))
+row-first [] zero (suc e) h = refl
+row-first [] (suc i) zero h = refl
+row-first [] (suc i) (suc e) h = refl
+row-first (d ∷ ds) i zero h = absurd (omega (arith, h))
+row-first (d ∷ ds) zero (suc e) h = refl
+row-first (d ∷ ds) (suc i) (suc e) h = row-first ds i e (omega (arith, h))
+
+pub row-first_past : (ds : List Datum) (i e : ℕ) → e ≤ i → drop i (take e ds) ≡ take 1 (drop i (take e ds))
+row-first_past ds i e h = let none = row-past ds i e h in none ∙ sym (ap (take 1) none)
+
+pub row-whole : (ds : List Datum) (e : ℕ) → e ≡ length ds → drop 0 (take e ds) ≡ ds
+row-whole [] zero h = refl
+row-whole [] (suc e) h = refl
+row-whole (d ∷ ds) zero h = absurd (omega (arith, h))
+row-whole (d ∷ ds) (suc e) h = ap (λ (es : List Datum). d ∷ es) (row-whole ds e (omega (arith, h)))
+
+-- a map's keys and values are two for each pair
+pub length-in_a_row : (ps : List (Value × Value)) → length (in_a_row (pairs_view ps)) ≡ length ps * 2
+length-in_a_row [] = refl
+length-in_a_row (p ∷ ps) = omega (arith, length-in_a_row ps)
+
+pub key-in_a_row : (ps : List (Value × Value)) (n : ℕ) (p : Value × Value) → n < length ps → p ≡ get_or ps n p
+    → slice_get (in_a_row (pairs_view ps)) (n * 2) ≡ Some (view p.0)
+key-in_a_row [] n p n< is = absurd (omega (arith, n<))
+key-in_a_row (q ∷ ps) zero p n< is = ap (λ (x : Value × Value). Some (view x.0)) (sym is)
+key-in_a_row (q ∷ ps) (suc n) p n< is =
+    let two : suc n * 2 ≡ suc (suc (n * 2)) = omega arith in
+    ap (slice_get (in_a_row (pairs_view (q ∷ ps)))) two ∙ key-in_a_row ps n p (omega (arith, n<)) is
+
+pub value-in_a_row : (ps : List (Value × Value)) (n : ℕ) (p : Value × Value) → n < length ps → p ≡ get_or ps n p
+    → slice_get (in_a_row (pairs_view ps)) (suc (n * 2)) ≡ Some (view p.1)
+value-in_a_row [] n p n< is = absurd (omega (arith, n<))
+value-in_a_row (q ∷ ps) zero p n< is = ap (λ (x : Value × Value). Some (view x.1)) (sym is)
+value-in_a_row (q ∷ ps) (suc n) p n< is =
+    let two : suc (suc n * 2) ≡ suc (suc (suc (n * 2))) = omega arith in
+    ap (slice_get (in_a_row (pairs_view (q ∷ ps)))) two ∙ value-in_a_row ps n p (omega (arith, n<)) is
+
+pub past-in_a_row : (ps : List (Value × Value)) (n : ℕ) → length ps * 2 ≤ n → slice_get (in_a_row (pairs_view ps)) n ≡ None
+past-in_a_row [] n h = refl
+past-in_a_row (p ∷ ps) zero h = absurd (omega (arith, h))
+past-in_a_row (p ∷ ps) (suc zero) h = absurd (omega (arith, h))
+past-in_a_row (p ∷ ps) (suc (suc n)) h = past-in_a_row ps n (omega (arith, h))
+
+-- by what is left when halved
+pub key-at : (ps : List (Value × Value)) (n : ℕ) (p : Value × Value) → n / 2 < length ps → p ≡ get_or ps (n / 2) p → n % 2 ≡ 0
+    → slice_get (in_a_row (pairs_view ps)) n ≡ Some (view p.0)
+key-at ps n p n< is even =
+    let whole : n ≡ (n / 2) * 2 = omega (arith, even) in ap (slice_get (in_a_row (pairs_view ps))) whole ∙ key-in_a_row ps (n / 2) p n< is
+
+pub value-at : (ps : List (Value × Value)) (n : ℕ) (p : Value × Value) → n / 2 < length ps → p ≡ get_or ps (n / 2) p → ¬ (n % 2 ≡ 0)
+    → slice_get (in_a_row (pairs_view ps)) n ≡ Some (view p.1)
+value-at ps n p n< is odd =
+    let whole : n ≡ suc ((n / 2) * 2) = omega (arith, odd) in ap (slice_get (in_a_row (pairs_view ps))) whole ∙ value-in_a_row ps (n / 2) p n< is
+
+pub past-at : (ps : List (Value × Value)) (n : ℕ) → length ps ≤ n / 2 → slice_get (in_a_row (pairs_view ps)) n ≡ None
+past-at ps n h = past-in_a_row ps n (omega (arith, h))
+
+-- an item of those that a slice stands for
+pub item-found : (o : Option (Bor Value)) (xs : Items) (vs : List Value) (n : ℕ) → items_view vs ≡ xs
+    → MatchOption o (length vs ≤ n) (λ x. (n < length vs) × HoldsAt (λ y. x.now ≡ y) vs n) → IfSome o (λ x. x.now ≡ get_or vs n x.now)
+    → option_map (λ v. view v.now) o ≡ slice_get (listed xs) n
+item-found None xs vs n is past at =
+    let same = sym (ap listed is) ∙ listed-of (map view vs) in
+    sym (ap (λ (ds : List Datum). slice_get ds n) same ∙ slice_get-map view vs n ∙ ap (option_map view) (slice_get_past vs n past))
+item-found (Some x) xs vs n is within at =
+    let same = sym (ap listed is) ∙ listed-of (map view vs) in
+    sym (ap (λ (ds : List Datum). slice_get ds n) same ∙ slice_get-map view vs n ∙ ap (option_map view) (slice_get_read vs (length vs) n x.now refl within.0 at))
+
+pub ruleset row_steps = (value_views, lists, row-past, row-end, row-step, row-first, row-first_past, row-whole, length-in_a_row, key-at, value-at, past-at)

@@ -1,0 +1,11 @@
+use Rattle.std.proofs.Common.{◌≡◌, List, IfOk, option_map, map, subst}
+use Rattle.std.specs.Arc.{arc_str_bytes}
+use Rattle.repl_values.specs.Datum.{Datum}
+use Rattle.special_forms.specs.Shapes.{parameters}
+use Rattle.special_forms.proofs.Shaping.{views-listed}
+use Rattle.special_forms.proofs.shapes.parameters_in.Goals as goal
+
+pub returns : goal.returns
+returns c =
+    let P : List Datum → Type 0 = λ ds. IfOk c.parameters_of.result (λ found. option_map (λ names. map arc_str_bytes names.items) found ≡ parameters ds) in
+    subst P (views-listed _ _ c.as_slice.ensures) c.parameters_of.ensures

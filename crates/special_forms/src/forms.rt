@@ -1,0 +1,226 @@
+// Forms in a row, by index in what holds them.
+#![tactic(auto, using(crate::proofs::Rows::row_steps))]
+
+ghost use Rattle.std.specs.Prelude.{◌≡◌, ◌==◌, nat_le, [], ◌∷◌, drop, take, option_map, slice_get, length, IfOk, MatchOption};
+ghost use Rattle.std.specs.Arc.{arc_str_bytes};
+ghost use Rattle.repl_values.specs.Listed.{listed};
+ghost use Rattle.repl_values.specs.View.{view};
+ghost use Rattle.special_forms.specs.Rows.{in_a_row, first_of, name_in, bindings_in};
+ghost use Rattle.special_forms.specs.Seen.{source_view, forms_view, binding_view};
+
+use repl_values::{Sequence, Table, Value, copy, copy_text};
+use std::alloc::{AllocError, Global};
+use std::sync::ArcStr;
+
+// What holds the forms: the items of a list or a vector, or the keys and values of a map, by turns.
+#[derive(Debug, Drop)]
+pub(crate) enum Source {
+    Items(Sequence),
+    Pairs(Table),
+}
+
+/// Forms in a row, from one place to another of what holds them. That is shared: the forms are looked
+/// at one after another where they stand.
+#[derive(Debug, Drop)]
+pub struct Forms {
+    source: Source,
+    start: usize,
+    end: usize,
+}
+
+/// A name that `let` binds, and the form of its value.
+#[derive(Drop)]
+pub struct Binding {
+    pub name: ArcStr,
+    pub form: Value,
+}
+
+impl Forms {
+    /// The items of a list or a vector.
+    pub fn of_items(items: Sequence) -> Forms
+        ensures { forms_view result ≡ listed items.items }
+    {
+        let end = items.len();
+        Forms {
+            source: Source::Items(items),
+            start: 0,
+            end,
+        }
+    }
+
+    /// The keys and values of a map, by turns.
+    pub fn of_pairs(pairs: Table) -> Forms
+        ensures { forms_view result ≡ in_a_row pairs.pairs }
+    {
+        let end = pairs.as_slice().len() * 2;
+        Forms {
+            source: Source::Pairs(pairs),
+            start: 0,
+            end,
+        }
+    }
+
+    /// The first form, if there is one.
+    pub fn first(&self) -> Option<&Value>
+        ensures { option_map (λ v. view v.now) result ≡ first_of (forms_view self.now) }
+    {
+        if self.start >= self.end {
+            return None;
+        }
+        at(&self.source, self.start)
+    }
+
+    /// Whether there is no form.
+    pub fn is_empty(&self) -> bool
+        ensures { result ≡ (length (forms_view self.now) == 0) }
+    {
+        self.first().is_none()
+    }
+
+    /// Whether there are two forms or more.
+    pub(crate) fn has_two(&self) -> bool
+        ensures { result ≡ nat_le 2 (length (forms_view self.now)) }
+    {
+        let second = self.start.saturating_add(1);
+        second < self.end && at(&self.source, second).is_some()
+    }
+
+    /// The forms behind the first.
+    pub(crate) fn behind_first(self) -> Forms
+        ensures { forms_view result ≡ drop 1 (forms_view self) }
+    {
+        if self.start >= self.end {
+            return self;
+        }
+        let Forms { source, start, end } = self;
+        let start = start + 1;
+        Forms { source, start, end }
+    }
+
+    /// Takes the first form out. It fails only where 2^63 owners share it.
+    pub fn take_first(&mut self) -> Result<Option<Value>, AllocError>
+        ensures { IfOk result (λ taken. MatchOption taken ((forms_view self.old ≡ []) × (forms_view self.new ≡ []))
+            (λ form. forms_view self.old ≡ view form ∷ forms_view self.new)) }
+    {
+        if self.start >= self.end {
+            return Ok(None);
+        }
+        let Some(form) = at(&self.source, self.start) else {
+            return Ok(None);
+        };
+        let form = copy(form)?;
+        self.start += 1;
+        Ok(Some(form))
+    }
+
+    /// Takes the first two forms out, a name and the form of its value. It fails only for want of
+    /// memory.
+    pub fn take_binding(&mut self, alloc: Global) -> Result<Option<Binding>, AllocError>
+        ensures { IfOk result (λ taken. MatchOption taken (bindings_in (forms_view self.old) ≡ [])
+            (λ bound. bindings_in (forms_view self.old) ≡ binding_view bound ∷ bindings_in (forms_view self.new))) }
+    {
+        let Some(symbol) = self.take_first()? else {
+            return Ok(None);
+        };
+        let Some(form) = self.take_first()? else {
+            return Ok(None);
+        };
+        let name = name_in(alloc, &symbol)?;
+        Ok(Some(Binding { name, form }))
+    }
+
+    // The first form alone.
+    fn first_alone(self) -> Forms
+        ensures { forms_view result ≡ take 1 (forms_view self) }
+    {
+        if self.start >= self.end {
+            return self;
+        }
+        let Forms {
+            source,
+            start,
+            end: _,
+        } = self;
+        let end = start + 1;
+        Forms { source, start, end }
+    }
+
+    /// The first form alone, and the forms behind it.
+    pub fn split_first(self) -> Result<(Forms, Forms), AllocError>
+        ensures first { IfOk result (λ parts. forms_view parts.0 ≡ take 1 (forms_view self)) }
+        ensures behind { IfOk result (λ parts. forms_view parts.1 ≡ drop 1 (forms_view self)) }
+    {
+        let first = self.copy()?.first_alone();
+        Ok((first, self.behind_first()))
+    }
+
+    /// No forms, out of what holds these.
+    pub fn none(&self) -> Result<Forms, AllocError>
+        ensures { IfOk result (λ none. forms_view none ≡ []) }
+    {
+        Ok(Forms {
+            source: shared(&self.source)?,
+            start: self.start,
+            end: self.start,
+        })
+    }
+
+    /// The same forms once more. It takes one step and no memory, and fails only where 2^63 owners
+    /// share them.
+    pub fn copy(&self) -> Result<Forms, AllocError>
+        ensures { IfOk result (λ copied. forms_view copied ≡ forms_view self.now) }
+    {
+        Ok(Forms {
+            source: shared(&self.source)?,
+            start: self.start,
+            end: self.end,
+        })
+    }
+}
+
+// The form at a place.
+fn at(source: &Source, place: usize) -> Option<&Value>
+    ensures { option_map (λ v. view v.now) result ≡ slice_get (source_view source.now) place }
+{
+    match source {
+        Source::Items(items) => item_at(items, place),
+        Source::Pairs(pairs) => part_at(pairs, place),
+    }
+}
+
+fn item_at(items: &Sequence, place: usize) -> Option<&Value>
+    ensures { option_map (λ v. view v.now) result ≡ slice_get (listed items.now.items) place }
+{
+    items.as_slice().get(place)
+}
+
+// Keys and values stand by turns.
+fn part_at(pairs: &Table, place: usize) -> Option<&Value>
+    ensures { option_map (λ v. view v.now) result ≡ slice_get (in_a_row pairs.now.pairs) place }
+{
+    let (key, value) = pairs.as_slice().get(place / 2)?;
+    if place % 2 == 0 {
+        Some(key)
+    } else {
+        Some(value)
+    }
+}
+
+fn shared(source: &Source) -> Result<Source, AllocError>
+    ensures { IfOk result (λ shared. source_view shared ≡ source_view source.now) }
+{
+    match source {
+        Source::Items(items) => Ok(Source::Items(items.copy()?)),
+        Source::Pairs(pairs) => Ok(Source::Pairs(pairs.copy()?)),
+    }
+}
+
+// The name that a symbol is; what is none has no characters.
+fn name_in(alloc: Global, symbol: &Value) -> Result<ArcStr, AllocError>
+    ensures { IfOk result (λ name. arc_str_bytes name ≡ name_in (view symbol.now)) }
+{
+    match symbol {
+        Value::Symbol(name) => copy_text(name),
+        _other => ArcStr::from_str(alloc, ""),
+    }
+}
