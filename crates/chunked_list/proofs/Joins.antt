@@ -1,8 +1,12 @@
 -- Chunks and the list that they make.
-use Rattle.std.proofs.Common.{◌≡◌, ℕ, zero, suc, ◌+◌, ◌<◌, ◌≤◌, List, [], ◌∷◌, ◌++◌, length, get_or, set, take, drop, Vec, Global, refl, sym, ap, ◌∙◌, add-one, arith}
+use Rattle.std.proofs.Common.{◌≡◌, ℕ, zero, suc, ◌+◌, ◌<◌, ◌≤◌, List, [], ◌∷◌, ◌++◌, length, get_or, set, take, drop, Vec, Global, refl, sym, ap, ◌∙◌, add-one, arith, Result, Ok, Err, OnErr}
 use Rattle.std.specs.List.{insert}
 use Rattle.std.proofs.lemmas.List.{append-nil, append_assoc, length-append, take-append-le, drop-append-le, get_or_append_left, get_or-append-add}
 use Rattle.chunked_list.specs.Joined.{joined}
+
+pub on_err : {A E P : Type 0} (result : Result A E) → P → OnErr result P
+on_err (Ok a) p = _
+on_err (Err e) p = p
 
 pub any-chunk : (cs : List (Vec ℕ Global)) (n : ℕ) (d e : Vec ℕ Global) → n < length cs → get_or cs n d ≡ get_or cs n e
 any-chunk [] n d e h = absurd (omega (arith, h))
@@ -68,6 +72,12 @@ insert-joined (c ∷ cs) (suc n) i y d v h k e =
     ap (λ (ns : List ℕ). c.items ++ ns) (insert-joined cs n i y d v (omega (arith, h)) k e)
     ∙ sym (insert-behind c.items (joined cs) (length (joined (take n cs)) + i) y)
     ∙ ap (λ (m : ℕ). insert (c.items ++ joined cs) m y) (sym more)
+
+-- a chunk with the same numbers
+pub same-joined : (cs : List (Vec ℕ Global)) (n : ℕ) (d v : Vec ℕ Global) → n < length cs → v.items ≡ (get_or cs n d).items → joined (set cs n v) ≡ joined cs
+same-joined [] n d v h e = absurd (omega (arith, h))
+same-joined (c ∷ cs) zero d v h e = ap (λ (ns : List ℕ). ns ++ joined cs) e
+same-joined (c ∷ cs) (suc n) d v h e = ap (λ (ns : List ℕ). c.items ++ ns) (same-joined cs n d v (omega (arith, h)) e)
 
 -- two chunks in place of one
 pub split-joined : (cs : List (Vec ℕ Global)) (n : ℕ) (d a b : Vec ℕ Global) → n < length cs → a.items ++ b.items ≡ (get_or cs n d).items

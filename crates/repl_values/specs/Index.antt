@@ -13,8 +13,14 @@ key_at no_pairs n = number 0
 key_at (pair k v ps) zero = sort_key k
 key_at (pair k v ps) (suc n) = key_at ps n
 
+-- as many places as pairs, each below their number
+pub record ArePlaces (places : List ℕ) (count : ℕ) : Type 0 where
+  pub counted : length places ≡ count
+  pub within : All (λ n. n < count) places
+
 -- all places, and their keys ascend
 pub record Indexes (places : List ℕ) (ps : Pairs) : Type 0 where
+  pub counted : length places ≡ size ps
   pub within : All (λ n. n < size ps) places
   pub complete : (n : ℕ) → n < size ps → Contains places n
   pub ascending : (i j : ℕ) → i < j → j < length places → order (key_at ps (slice_index_or places i 0)) (key_at ps (slice_index_or places j 0)) ≡ Less

@@ -43,4 +43,4 @@ seen_pairs n = record { pairs = pairs_view n.pairs.items; held = pairs_held n.pa
 pub record KeepsPairs (n : PairsNode) : Type 0 where
   pub measured : FitsPairs n.measure (pairs_view n.pairs.items)
   pub distinct : are_distinct (pairs_view n.pairs.items) ≡ true
-  pub indexed : Indexes n.index.items (pairs_view n.pairs.items)
+  pub indexed : Indexes n.index (pairs_view n.pairs.items)

@@ -15,7 +15,8 @@ pub data SortKey : Type 0 where
   text : List ℕ → SortKey
   both : SortKey → SortKey → SortKey
 
--- Of two parts the first decides, and then the second. Parts of different kinds never meet but at the ends of lists.
+-- Of two parts the first decides, and then the second. Parts of
+-- different kinds meet only where a list ends, and where the text that all share is compared with a tenant, as owners of refs.
 abbrev pub order : SortKey → SortKey → Ordering
 order (number m) (number n) = nat_cmp m n
 order (number m) b = Less

@@ -10,6 +10,7 @@ ghost use Rattle.repl_values.specs.BuiltView.{IsBuilt};
 use crate::node_measures::PairsMeasure;
 use crate::places::search;
 use crate::value::{PairsNode, Table, Value};
+use chunked_list::ChunkedList;
 use std::alloc::{AllocError, Global};
 use std::sync::Arc;
 
@@ -26,7 +27,7 @@ impl Table {
         ensures { IfOk result (λ made. made.pairs ≡ no_pairs) }
     {
         let pairs = Vec::new(alloc);
-        let index = Vec::new(alloc);
+        let index = ChunkedList::new(alloc);
         sealed(alloc, pairs, index, PairsMeasure::of_none())
     }
 
@@ -35,13 +36,13 @@ impl Table {
     pub fn from_pairs(alloc: Global, pairs: Vec<(Value, Value)>) -> Result<Built, AllocError>
         ensures { IfOk result (λ built. IsBuilt built (pairs_view pairs.items)) }
     {
-        let mut index = Vec::with_capacity(alloc, pairs.len())?;
+        let mut index = ChunkedList::new(alloc);
         let mut measure = PairsMeasure::of_none();
         for place in 0..pairs.len() {
             let pair = &pairs[place];
             match search(&pair.0, &pairs[..place], &index) {
                 Ok(_) => return Ok(Built::Repeats(place)),
-                Err(rank) => index.insert(rank, place)?,
+                Err(rank) => index.insert(alloc, rank, place)?,
             }
             measure = measure.with_pair(&pair.0, &pair.1);
         }
@@ -53,11 +54,11 @@ impl Table {
 pub(crate) fn sealed(
     alloc: Global,
     pairs: Vec<(Value, Value)>,
-    index: Vec<usize>,
+    index: ChunkedList,
     measure: PairsMeasure,
 ) -> Result<Table, AllocError>
     requires distinct { are_distinct (pairs_view pairs.items) ≡ true }
-    requires indexed { Indexes index.items (pairs_view pairs.items) }
+    requires indexed { Indexes index (pairs_view pairs.items) }
     requires measured { FitsPairs measure (pairs_view pairs.items) }
     ensures { IfOk result (λ made. made.pairs ≡ pairs_view pairs.items) }
 {

@@ -16,6 +16,7 @@ use crate::copies::{copy, copy_pairs};
 use crate::node_measures::PairsMeasure;
 use crate::places::search;
 use crate::value::{PairsNode, Table, Value};
+use chunked_list::ChunkedList;
 use std::alloc::{AllocError, Global};
 use std::sync::Arc;
 
@@ -35,7 +36,7 @@ impl Table {
         } = opened(alloc, self)?;
         let mut measure = Some(measure);
         for (key, value) in more {
-            measure = put(&mut pairs, &mut index, measure, key, value)?;
+            measure = put(alloc, &mut pairs, &mut index, measure, key, value)?;
         }
         let measure = match measure {
             Some(measure) => measure,
@@ -64,7 +65,7 @@ fn copied(alloc: Global, node: &PairsNode) -> Result<PairsNode, AllocError>
 {
     let pairs = copy_pairs(alloc, &node.pairs)?;
     Ok(PairsNode {
-        index: Vec::from_slice(alloc, &node.index)?,
+        index: node.index.copy(alloc)?,
         pairs,
         measure: node.measure,
     })
@@ -82,27 +83,28 @@ pub(crate) fn measure_of(pairs: &[(Value, Value)]) -> PairsMeasure
 
 // Puts one pair. The measure goes on with a new pair, and is lost where a value is replaced.
 fn put(
+    alloc: Global,
     pairs: &mut Vec<(Value, Value)>,
-    index: &mut Vec<usize>,
+    index: &mut ChunkedList,
     measure: Option<PairsMeasure>,
     key: &Value,
     value: &Value,
 ) -> Result<Option<PairsMeasure>, AllocError>
     requires distinct { are_distinct (pairs_view pairs.old.items) ≡ true }
-    requires indexed { Indexes index.old.items (pairs_view pairs.old.items) }
+    requires indexed { Indexes index.old (pairs_view pairs.old.items) }
     requires measured { MayFit measure (pairs_view pairs.old.items) }
     ensures put { IfOk result (λ measure. pairs_view pairs.new.items ≡ put_pair (view key.now) (view value.now) (pairs_view pairs.old.items)) }
     ensures distinct { IfOk result (λ measure. are_distinct (pairs_view pairs.new.items) ≡ true) }
-    ensures indexed { IfOk result (λ measure. Indexes index.new.items (pairs_view pairs.new.items)) }
+    ensures indexed { IfOk result (λ measure. Indexes index.new (pairs_view pairs.new.items)) }
     ensures measured { IfOk result (λ measure. MayFit measure (pairs_view pairs.new.items)) }
 {
-    match search(key, pairs.as_slice(), index.as_slice()) {
+    match search(key, pairs.as_slice(), index) {
         Ok(place) => {
             set_value(pairs, place, copy(value)?);
             Ok(None)
         }
         Err(rank) => {
-            index.insert(rank, pairs.as_slice().len())?;
+            index.insert(alloc, rank, pairs.as_slice().len())?;
             pairs.push((copy(key)?, copy(value)?))?;
             Ok(with_pair(measure, key, value))
         }

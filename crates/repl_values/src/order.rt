@@ -3,14 +3,14 @@
 
 ghost use Rattle.std.specs.Prelude.{◌≡◌, ◌<◌, length};
 ghost use Rattle.std.specs.Arc.{arc_str_bytes};
-ghost use Rattle.std.specs.List.{All};
 ghost use Rattle.repl_values.specs.Datum.{list, map};
 ghost use Rattle.repl_values.specs.View.{view, items_view, pairs_view, owner_view};
 ghost use Rattle.repl_values.specs.Same.{size};
 ghost use Rattle.repl_values.specs.Order.{text, both, number, order, sort_key, content, kind, items_sort_key, owner_sort_key, chain, sorted, rows};
-ghost use Rattle.repl_values.specs.Index.{row_at, rows_at};
+ghost use Rattle.repl_values.specs.Index.{rows_at, ArePlaces};
 
 use crate::value::{Owner, RefName, Sequence, Table, Value};
+use chunked_list::ChunkedList;
 use std::cmp::Ordering;
 use std::sync::ArcStr;
 
@@ -144,28 +144,26 @@ fn compare_maps(left: &Table, right: &Table) -> Ordering
     )
 }
 
-// The pairs at some places, in turn.
+// Of as many pairs each, those at the places of two indexes, in turn.
 #[cycle(compare)]
 fn compare_rows(
     left: &[(Value, Value)],
-    left_places: &[usize],
+    left_index: &ChunkedList,
     right: &[(Value, Value)],
-    right_places: &[usize],
+    right_index: &ChunkedList,
 ) -> Ordering
-    requires left { All (λ n. n < length left.now) left_places.now }
-    requires right { All (λ n. n < length right.now) right_places.now }
-    ensures { result ≡ order (rows_at (pairs_view left.now) left_places.now) (rows_at (pairs_view right.now) right_places.now) }
+    requires left { ArePlaces left_index.now (length left.now) }
+    requires right { ArePlaces right_index.now (length right.now) }
+    requires equal { length left.now ≡ length right.now }
+    ensures { result ≡ order (rows_at (pairs_view left.now) left_index.now) (rows_at (pairs_view right.now) right_index.now) }
 {
-    for (rank, place) in left_places.iter().enumerate() {
-        let Some(other) = right_places.get(rank) else {
-            return Ordering::Greater;
-        };
-        let compared = compare_pairs(&left[*place], &right[*other]);
+    for rank in 0..left.len() {
+        let compared = compare_pairs(&left[left_index.at(rank)], &right[right_index.at(rank)]);
         if compared.is_ne() {
             return compared;
         }
     }
-    left_places.len().cmp(&right_places.len())
+    Ordering::Equal
 }
 
 // The keys decide, and then the values.

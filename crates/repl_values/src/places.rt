@@ -8,20 +8,25 @@ ghost use Rattle.repl_values.specs.Index.{Indexes, Belongs};
 
 use crate::order::compare;
 use crate::value::Value;
+use chunked_list::ChunkedList;
 use std::cmp::Ordering;
 
 // The place of an equal key, or else the rank at which the place of this key belongs. It compares
 // with as many keys as the number of pairs has binary digits.
-pub(crate) fn search(key: &Value, pairs: &[(Value, Value)], index: &[usize]) -> Result<usize, usize>
+pub(crate) fn search(
+    key: &Value,
+    pairs: &[(Value, Value)],
+    index: &ChunkedList,
+) -> Result<usize, usize>
     requires { Indexes index.now (pairs_view pairs.now) }
     ensures found { IfOk result (λ place. first_place (pairs_view pairs.now) (view key.now) ≡ Some place) }
     ensures new { IfErr result (λ rank. Belongs rank index.now (pairs_view pairs.now) (view key.now)) }
 {
     let mut low = 0;
-    let mut high = index.len();
+    let mut high = pairs.len();
     while low < high {
         let middle = low + (high - low) / 2;
-        let place = index[middle];
+        let place = index.at(middle);
         match compare(&pairs[place].0, key) {
             Ordering::Less => low = middle + 1,
             Ordering::Equal => return Ok(place),
@@ -32,7 +37,11 @@ pub(crate) fn search(key: &Value, pairs: &[(Value, Value)], index: &[usize]) -> 
 }
 
 // Where an equal key stands.
-pub(crate) fn place_of(key: &Value, pairs: &[(Value, Value)], index: &[usize]) -> Option<usize>
+pub(crate) fn place_of(
+    key: &Value,
+    pairs: &[(Value, Value)],
+    index: &ChunkedList,
+) -> Option<usize>
     requires { Indexes index.now (pairs_view pairs.now) }
     ensures { result ≡ first_place (pairs_view pairs.now) (view key.now) }
 {

@@ -12,6 +12,7 @@ use crate::copies::copy;
 use crate::edits::measure_of;
 use crate::places::{place_of, search};
 use crate::value::{Sequence, Table, Value};
+use chunked_list::ChunkedList;
 use std::alloc::{AllocError, Global};
 
 impl Table {
@@ -31,7 +32,7 @@ fn marks_of(
     alloc: Global,
     keys: &[Value],
     pairs: &[(Value, Value)],
-    index: &[usize],
+    index: &ChunkedList,
 ) -> Result<Vec<bool>, AllocError>
     requires distinct { are_distinct (pairs_view pairs.now) ≡ true }
     requires indexed { Indexes index.now (pairs_view pairs.now) }
@@ -83,16 +84,16 @@ fn indexed(alloc: Global, pairs: Vec<(Value, Value)>) -> Result<Table, AllocErro
 }
 
 // The places of pairs whose keys are distinct.
-fn index_of(alloc: Global, pairs: &[(Value, Value)]) -> Result<Vec<usize>, AllocError>
+fn index_of(alloc: Global, pairs: &[(Value, Value)]) -> Result<ChunkedList, AllocError>
     requires { are_distinct (pairs_view pairs.now) ≡ true }
-    ensures { IfOk result (λ index. Indexes index.items (pairs_view pairs.now)) }
+    ensures { IfOk result (λ index. Indexes index (pairs_view pairs.now)) }
 {
-    let mut index = Vec::with_capacity(alloc, pairs.len())?;
+    let mut index = ChunkedList::new(alloc);
     for place in 0..pairs.len() {
         let pair = &pairs[place];
         match search(&pair.0, &pairs[..place], &index) {
             Ok(_) => {}
-            Err(rank) => index.insert(rank, place)?,
+            Err(rank) => index.insert(alloc, rank, place)?,
         }
     }
     Ok(index)

@@ -1,5 +1,6 @@
 // What a program computes with. Functions are no values: they are named by symbols.
 use crate::node_measures::{ItemsMeasure, PairsMeasure};
+use chunked_list::ChunkedList;
 use std::marker::Model;
 use std::sync::{Arc, ArcStr};
 
@@ -85,7 +86,7 @@ impl Model for Sequence {
 #[derive(Debug, Drop)]
 pub(crate) struct PairsNode {
     pub(crate) pairs: Vec<(Value, Value)>,
-    pub(crate) index: Vec<usize>,
+    pub(crate) index: ChunkedList,
     pub(crate) measure: PairsMeasure,
 }
 
