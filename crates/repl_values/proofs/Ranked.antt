@@ -16,7 +16,7 @@ use Rattle.repl_values.specs.Inside.{KeepsPairs, seen_pairs}
 use Rattle.repl_values.proofs.Sameness.{size-pairs_view}
 use Rattle.repl_values.specs.Same.{size}
 use Rattle.repl_values.specs.Order.{SortKey, number, both, order, chain, sorted, rows, sort_key, items_sort_key}
-use Rattle.repl_values.specs.Index.{key_at, row_at, rows_at, Indexes}
+use Rattle.repl_values.specs.Index.{key_at, row_at, rows_at, ArePlaces, Indexes}
 use Rattle.repl_values.proofs.Sorted.{IsIn, Ascends, ascending-same, sorted-ascends, sorted-in, in-sorted}
 
 -- ---- two chains, in turn
@@ -43,6 +43,10 @@ module _ {A B : Type 0} (f : A → SortKey) (g : B → SortKey) where
       more [] j l = absurd (omega (arith, l))
       more (z ∷ zs) zero l = refl
       more (z ∷ zs) (suc j) l = more zs j (omega (arith, l))
+
+  -- two chains that end together
+  pub chain-none : (xs : List A) (ys : List B) (i : ℕ) → length xs ≤ i → length ys ≤ i → Equal ≡ order (chain (each f (drop i xs))) (chain (each g (drop i ys)))
+  chain-none xs ys i h k = sym (rw (past xs i h, past ys i k) refl)
 
   pub chain-end : (xs : List A) (ys : List B) (i : ℕ) → length xs ≡ i → i ≤ length ys
       → nat_cmp (length xs) (length ys) ≡ order (chain (each f (drop i xs))) (chain (each g (drop i ys)))
@@ -88,6 +92,22 @@ two-open Equal Less r h = absurd (cc)
 two-open Equal Equal r h = refl
 two-open Equal Greater r h = absurd (cc)
 two-open Greater q r h = absurd (cc)
+
+pub two-equal : (p q : Ordering) → is_ne (ordering_then p q) ≡ false → q ≡ Equal
+two-equal Less q h = absurd (cc)
+two-equal Equal Less h = absurd (cc)
+two-equal Equal Equal h = refl
+two-equal Equal Greater h = absurd (cc)
+two-equal Greater q h = absurd (cc)
+
+pub equal-numbers : (m n : ℕ) → nat_cmp m n ≡ Equal → m ≡ n
+equal-numbers m n h =
+    ⊎_elim
+    (λ (l : m < n). let f : Less ≡ Equal = nat_cmp_is m n Less l ∙ h in absurd (cc))
+    (λ (l : n ≤ m).
+    ⊎_elim (λ (k : n < m). let f : Greater ≡ Equal = nat_cmp_is m n Greater k ∙ h in absurd (cc)) (λ (k : m ≤ n). let e : m ≡ n = omega (arith, l, k) in e)
+    (cases_lt n m))
+    (cases_lt m n)
 
 pub bool-order : (a b : Bool) → bool_cmp a b ≡ nat_cmp (if a then 1 else 0) (if b then 1 else 0)
 bool-order false false = refl
@@ -178,17 +198,20 @@ items-order xs ys = rw (items-chain xs, items-chain ys) refl
 pub two-open-at : (o p q r s : Ordering) → is_ne o ≡ false → o ≡ ordering_then p q → s ≡ r → s ≡ ordering_then p (ordering_then q r)
 two-open-at o p q r s h e f = f ∙ sym (two-open p q r (sym h ∙ ap is_ne e))
 
-pub node-rows : (n : PairsNode) (t : TableData) (xs : List (Value × Value)) (ns : List ℕ) → KeepsPairs n → seen_pairs n ≡ t → xs ≡ n.pairs.items → ns ≡ n.index.items
+pub node-rows : (n : PairsNode) (t : TableData) (xs : List (Value × Value)) (ns : List ℕ) → KeepsPairs n → seen_pairs n ≡ t → xs ≡ n.pairs.items → ns ≡ n.index
     → rows_at (pairs_view xs) ns ≡ chain (sorted (rows t.pairs))
 node-rows n t xs ns keeps seen e f =
     ap (λ (ys : List (Value × Value)). rows_at (pairs_view ys) ns) e
     ∙ ap (λ (ms : List ℕ). rows_at (pairs_view n.pairs.items) ms) f
-    ∙ sym (index-rows n.index.items (pairs_view n.pairs.items) keeps.indexed)
+    ∙ sym (index-rows n.index (pairs_view n.pairs.items) keeps.indexed)
     ∙ ap (λ (d : TableData). chain (sorted (rows d.pairs))) seen
 
-pub node-within : (n : PairsNode) (xs : List (Value × Value)) (ns : List ℕ) → KeepsPairs n → xs ≡ n.pairs.items → ns ≡ n.index.items → All (λ m. m < length xs) ns
+pub node-within : (n : PairsNode) (xs : List (Value × Value)) (ns : List ℕ) → KeepsPairs n → xs ≡ n.pairs.items → ns ≡ n.index → ArePlaces ns (length xs)
 node-within n xs ns keeps e f =
-    rw (e, f) (λ k d l. omega (arith, keeps.indexed.within k d l, size-pairs_view n.pairs.items))
+    rw (e, f) (record {
+      counted = omega (arith, keeps.indexed.counted, size-pairs_view n.pairs.items);
+      within = λ k d l. omega (arith, keeps.indexed.within k d l, size-pairs_view n.pairs.items);
+    })
 
 -- a row is made of its pair
 pub row-is : (xs : List (Value × Value)) (n : ℕ) (p : Value × Value) → p ≡ get_or xs n p → n < length xs → both (sort_key (view p.0)) (sort_key (view p.1)) ≡ row_at (pairs_view xs) n
@@ -196,16 +219,17 @@ row-is [] n p e h = absurd (omega (arith, h))
 row-is (x ∷ xs) zero p e h = ap (λ (q : Value × Value). both (sort_key (view q.0)) (sort_key (view q.1))) e
 row-is (x ∷ xs) (suc n) p e h = row-is xs n p e (omega (arith, h))
 
-pub rows-step : (ls rs : List (Value × Value)) (ms ns : List ℕ) (i y : ℕ) (p q : Value × Value) → i < length ms → i < length ns → y ≡ get_or ns i y
-    → p ≡ get_or ls (get_or ms i 0) p → All (λ n. n < length ls) ms → q ≡ get_or rs y q → All (λ n. n < length rs) ns
+pub rows-step : (ls rs : List (Value × Value)) (ms ns : List ℕ) (i x y : ℕ) (p q : Value × Value) → i < length ms → i < length ns → x ≡ get_or ms i 0 → y ≡ get_or ns i 0
+    → p ≡ get_or ls x p → All (λ n. n < length ls) ms → q ≡ get_or rs y q → All (λ n. n < length rs) ns
     → order (rows_at (pairs_view ls) (drop i ms)) (rows_at (pairs_view rs) (drop i ns))
     ≡ ordering_then (order (both (sort_key (view p.0)) (sort_key (view p.1))) (both (sort_key (view q.0)) (sort_key (view q.1))))
     (order (rows_at (pairs_view ls) (drop (suc i) ms)) (rows_at (pairs_view rs) (drop (suc i) ns)))
-rows-step ls rs ms ns i y p q h k at ep lp eq lq =
+rows-step ls rs ms ns i x y p q h k at there ep lp eq lq =
     let rest = order (rows_at (pairs_view ls) (drop (suc i) ms)) (rows_at (pairs_view rs) (drop (suc i) ns)) in
-    chain-step (row_at (pairs_view ls)) (row_at (pairs_view rs)) ms ns i 0 y h k
-    ∙ ap (λ (n : ℕ). ordering_then (order (row_at (pairs_view ls) (get_or ms i 0)) (row_at (pairs_view rs) n)) rest) (sym at)
-    ∙ ap (λ (w : SortKey). ordering_then (order w (row_at (pairs_view rs) y)) rest) (sym (row-is ls (get_or ms i 0) p ep (lp i 0 h)))
-    ∙ ap (λ (w : SortKey). ordering_then (order (both (sort_key (view p.0)) (sort_key (view p.1))) w) rest) (sym (row-is rs y q eq (subst (λ (n : ℕ). n < length rs) (sym at) (lq i y k))))
+    chain-step (row_at (pairs_view ls)) (row_at (pairs_view rs)) ms ns i 0 0 h k
+    ∙ ap (λ (n : ℕ). ordering_then (order (row_at (pairs_view ls) n) (row_at (pairs_view rs) (get_or ns i 0))) rest) (sym at)
+    ∙ ap (λ (n : ℕ). ordering_then (order (row_at (pairs_view ls) x) (row_at (pairs_view rs) n)) rest) (sym there)
+    ∙ ap (λ (w : SortKey). ordering_then (order w (row_at (pairs_view rs) y)) rest) (sym (row-is ls x p ep (omega (arith, at, lp i 0 h))))
+    ∙ ap (λ (w : SortKey). ordering_then (order (both (sort_key (view p.0)) (sort_key (view p.1))) w) rest) (sym (row-is rs y q eq (omega (arith, there, lq i 0 k))))
 
 pub ruleset order_steps = (bool-order, then-done)

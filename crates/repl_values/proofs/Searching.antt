@@ -129,7 +129,7 @@ key_at-last (pair l w ps) k v (suc n) h = key_at-last ps k v n (omega (arith, h)
 
 -- an index of no pairs
 pub no-index : (ns : List ℕ) → ns ≡ [] → Indexes ns no_pairs
-no-index [] e = record { within = λ k d l. absurd (omega (arith, l)); complete = λ n l. absurd (omega (arith, l)); ascending = λ i j p l. absurd (omega (arith, l)) }
+no-index [] e = record { counted = refl; within = λ k d l. absurd (omega (arith, l)); complete = λ n l. absurd (omega (arith, l)); ascending = λ i j p l. absurd (omega (arith, l)) }
 no-index (n ∷ ns) e = absurd (cc)
 
 module _ (ns : List ℕ) (ps : Pairs) (k v : Datum) (rank : ℕ) (h : Indexes ns ps) (b : Belongs rank ns ps k) where
@@ -194,6 +194,7 @@ module _ (ns : List ℕ) (ps : Pairs) (k v : Datum) (rank : ℕ) (h : Indexes ns
 
   new-index : Indexes (insert ns rank (size ps)) (behind_all ps k v)
   new-index = record {
+    counted = omega (arith, length-insert ns rank (size ps) b.in_range, h.counted, size-behind ps k v);
     within =
         All-permutation (λ n. n < size (behind_all ps k v)) (size ps ∷ ns) (insert ns rank (size ps)) (IsPermutation-insert ns rank (size ps))
         (All-cons (λ n. n < size (behind_all ps k v)) (size ps) ns (omega (arith, size-behind ps k v))
@@ -225,6 +226,7 @@ key_at-with_value (suc m) (suc n) v (pair k w ps) = key_at-with_value m n v ps
 
 kept : (ns : List ℕ) (ps : Pairs) (m : ℕ) (v : Datum) → Indexes ns ps → Indexes ns (with_value m v ps)
 kept ns ps m v h = record {
+  counted = omega (arith, h.counted, size-with_value m v ps);
   within = All-weaker (λ n. n < size ps) (λ n. n < size (with_value m v ps)) (λ n l. omega (arith, l, size-with_value m v ps)) ns h.within;
   complete = λ n l. h.complete n (omega (arith, l, size-with_value m v ps));
   ascending =

@@ -15,8 +15,8 @@ pub data SortKey : Type 0 where
   text : List ℕ → SortKey
   both : SortKey → SortKey → SortKey
 
--- Of two parts the first decides, and then the second. Parts of
--- different kinds meet only where a list ends, and where the text that all share is compared with a tenant, as owners of refs.
+-- Of two parts the first decides, and then the second. Parts of different kinds meet only where one list ends before another,
+-- and where the owners of refs are compared, since what all share has another kind than a tenant.
 abbrev pub order : SortKey → SortKey → Ordering
 order (number m) (number n) = nat_cmp m n
 order (number m) b = Less

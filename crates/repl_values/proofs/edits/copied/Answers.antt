@@ -16,6 +16,6 @@ returns-clause-keeps c =
       measured = subst (λ (ps : Pairs). FitsPairs c.args.node.now.measure ps) same c.requires.measured;
       distinct = subst (λ (ps : Pairs). are_distinct ps ≡ true) same c.requires.distinct;
       indexed =
-          subst (λ (ps : Pairs). Indexes c.in_ok-from_slice.field-0.items ps) same
-          (subst (λ (ns : List ℕ). Indexes ns (pairs_view c.args.node.now.pairs.items)) (sym (c.in_ok-from_slice.ensures.items ∙ c.deref-2.ensures.value)) c.requires.indexed);
+          subst (λ (ps : Pairs). Indexes c.in_ok-copy.field-0 ps) same
+          (subst (λ (ns : List ℕ). Indexes ns (pairs_view c.args.node.now.pairs.items)) (sym c.in_ok-copy.ensures) c.requires.indexed);
     }

@@ -25,7 +25,7 @@ returns-in_ok-copy-in-Ok-clause-distinct c =
 
 pub returns-in_ok-copy-in-Ok-clause-indexed : goal.returns-in_ok-copy-in-Ok-clause-indexed
 returns-in_ok-copy-in-Ok-clause-indexed c =
-    found-indexes c.args.index.now.items (pairs_view c.args.pairs.now.items) (pairs_view c.set_value.new.all.items) c.in-Ok.place (view c.in_ok-copy-in-Ok.field-0) c.set_value.ensures c.requires.indexed
+    found-indexes c.args.index.now (pairs_view c.args.pairs.now.items) (pairs_view c.set_value.new.all.items) c.in-Ok.place (view c.in_ok-copy-in-Ok.field-0) c.set_value.ensures c.requires.indexed
 
 pub returns-in_ok-push-in-Err-clause-put : goal.returns-in_ok-push-in-Err-clause-put
 returns-in_ok-push-in-Err-clause-put c =
@@ -51,12 +51,11 @@ returns-in_ok-push-in-Err-clause-indexed c =
     let ps = pairs_view c.args.pairs.now.items in
     let key = view c.args.key.now in
     let sized = ap (λ (xs : List (Value × Value)). length xs) c.as_slice-in-Err.ensures.value ∙ sym (size-pairs_view c.args.pairs.now.items) in
-    let belongs : Belongs c.in-Err.rank c.args.index.now.items ps key =
-    subst (λ (ns : List ℕ). Belongs c.in-Err.rank ns ps key) c.as_slice-2.ensures.value
-    (subst (λ (xs : List (Value × Value)). Belongs c.in-Err.rank c.as_slice-2.result.now (pairs_view xs) key) c.as_slice.ensures.value c.in-Err.ensures.new) in
-    noted c.args.index.now.items c.insert.new.self.items ps (pairs_view c.push.new.self.items) key (view c.args.value.now) c.in-Err.rank _
+    let belongs : Belongs c.in-Err.rank c.args.index.now ps key =
+    subst (λ (xs : List (Value × Value)). Belongs c.in-Err.rank c.args.index.now (pairs_view xs) key) c.as_slice.ensures.value c.in-Err.ensures.new in
+    noted c.args.index.now c.insert.new.self ps (pairs_view c.push.new.self.items) key (view c.args.value.now) c.in-Err.rank _
     (pushed-is c.args.pairs.now.items c.push.new.self.items c.in_ok-copy-in-Err.field-0 c.in_ok-copy-in-Err-2.field-0 key (view c.args.value.now) c.in_ok-copy-in-Err.ensures c.in_ok-copy-in-Err-2.ensures c.in_ok-push-in-Err.ensures.items)
-    c.in_ok-insert-in-Err.ensures.items sized c.requires.indexed belongs
+    c.in_ok-insert-in-Err.ensures.inserted sized c.requires.indexed belongs
 
 pub returns-in_ok-push-in-Err-clause-measured : goal.returns-in_ok-push-in-Err-clause-measured
 returns-in_ok-push-in-Err-clause-measured c =

@@ -31,8 +31,6 @@ invariant-compare_items-loop-place l = record {
 }
 
 abbrev pub invariant-compare_rows-loop-rank : goal.invariant-compare_rows-loop-rank
-invariant-compare_rows-loop-rank l = record {
-  known : order (rows_at (pairs_view l.left) (drop l.rank l.left_places)) (rows_at (pairs_view l.right) (drop l.rank l.right_places))
-      ≡ order (rows_at (pairs_view l.left) l.left_places) (rows_at (pairs_view l.right) l.right_places);
-  within : l.rank ≤ length l.right_places;
-}
+invariant-compare_rows-loop-rank l =
+    order (rows_at (pairs_view l.left) (drop l.rank l.left_index)) (rows_at (pairs_view l.right) (drop l.rank l.right_index))
+    ≡ order (rows_at (pairs_view l.left) l.left_index) (rows_at (pairs_view l.right) l.right_index)

@@ -1,9 +1,10 @@
-use Rattle.std.proofs.Common.{◌≡◌, ◌+◌, ◌-◌, ◌/◌, ◌<◌, ℕ, length, sym, ap, ◌∙◌, arith}
+use Rattle.std.proofs.Common.{◌≡◌, ◌+◌, ◌-◌, ◌/◌, ◌<◌, ℕ, length, Some, sym, ap, ◌∙◌, arith}
 use Rattle.std.specs.Prelude.{slice_index_or}
 use Rattle.repl_values.specs.View.{view, pairs_view}
 use Rattle.repl_values.specs.Order.{SortKey, order, sort_key}
 use Rattle.repl_values.specs.Index.{key_at}
 use Rattle.repl_values.proofs.Ordered.{order-exact}
+use Rattle.repl_values.proofs.Sameness.{size-pairs_view}
 use Rattle.repl_values.proofs.Sorted.{order-Greater}
 use Rattle.repl_values.proofs.Searching.{found-place, absent-place, before-more, behind-more, key-got, index-within}
 use Rattle.repl_values.proofs.places.search.Goals as goal
@@ -12,9 +13,9 @@ pub loop-low-init : goal.loop-low-init
 loop-low-init c = record {
   places = index-within c.args.pairs.now c.args.index.now c.requires;
   ordered = omega arith;
-  within = omega arith;
+  within = omega (arith, c.requires.counted, size-pairs_view c.args.pairs.now);
   before = λ i l. absurd (omega (arith, l));
-  behind = λ i l m. absurd (omega (arith, l, m));
+  behind = λ i l m. absurd (omega (arith, l, m, c.requires.counted, size-pairs_view c.args.pairs.now));
 }
 
 pub loop-low-preserved-in-Less : goal.loop-low-preserved-in-Less
@@ -23,8 +24,11 @@ loop-low-preserved-in-Less c =
     let key = sort_key (view c.args.key.now) in
     let middle : ℕ = c.loop-low.low + (c.loop-low.high - c.loop-low.low) / 2 in
     let below : middle < length c.args.index.now = omega (arith, c.loop-low-test.true, c.loop-low.invariant.within) in
+    let inside : c.at-place.result < length c.args.pairs.now = omega (arith, c.at-place.ensures, c.loop-low.invariant.places middle 0 below) in
     let compared : c.compare.result ≡ order (key_at ps (slice_index_or c.args.index.now middle 0)) key =
-    c.compare.ensures ∙ ap (λ (k : SortKey). order k key) (key-got c.args.pairs.now (slice_index_or c.args.index.now middle 0) c.index-pairs-place.result (c.loop-low.invariant.places middle 0 below)) in
+    c.compare.ensures
+    ∙ ap (λ (k : SortKey). order k key) (key-got c.args.pairs.now c.at-place.result c.index-pairs-place.result inside)
+    ∙ ap (λ (n : ℕ). order (key_at ps n) key) c.at-place.ensures in
     record {
       places = c.loop-low.invariant.places;
       ordered = omega (arith, c.loop-low-test.true);
@@ -39,10 +43,14 @@ returns-in-Equal-clause-found c =
     let key = sort_key (view c.args.key.now) in
     let middle : ℕ = c.loop-low.low + (c.loop-low.high - c.loop-low.low) / 2 in
     let below : middle < length c.args.index.now = omega (arith, c.loop-low-test.true, c.loop-low.invariant.within) in
+    let inside : c.at-place.result < length c.args.pairs.now = omega (arith, c.at-place.ensures, c.loop-low.invariant.places middle 0 below) in
     let compared : c.compare.result ≡ order (key_at ps (slice_index_or c.args.index.now middle 0)) key =
-    c.compare.ensures ∙ ap (λ (k : SortKey). order k key) (key-got c.args.pairs.now (slice_index_or c.args.index.now middle 0) c.index-pairs-place.result (c.loop-low.invariant.places middle 0 below)) in
+    c.compare.ensures
+    ∙ ap (λ (k : SortKey). order k key) (key-got c.args.pairs.now c.at-place.result c.index-pairs-place.result inside)
+    ∙ ap (λ (n : ℕ). order (key_at ps n) key) c.at-place.ensures in
     found-place c.args.index.now ps (view c.args.key.now) middle c.requires below
     (order-exact (key_at ps (slice_index_or c.args.index.now middle 0)) key (sym compared ∙ c.in-Equal.is))
+    ∙ ap Some (sym c.at-place.ensures)
 
 pub loop-low-preserved : goal.loop-low-preserved
 loop-low-preserved c =
@@ -50,8 +58,11 @@ loop-low-preserved c =
     let key = sort_key (view c.args.key.now) in
     let middle : ℕ = c.loop-low.low + (c.loop-low.high - c.loop-low.low) / 2 in
     let below : middle < length c.args.index.now = omega (arith, c.loop-low-test.true, c.loop-low.invariant.within) in
+    let inside : c.at-place.result < length c.args.pairs.now = omega (arith, c.at-place.ensures, c.loop-low.invariant.places middle 0 below) in
     let compared : c.compare.result ≡ order (key_at ps (slice_index_or c.args.index.now middle 0)) key =
-    c.compare.ensures ∙ ap (λ (k : SortKey). order k key) (key-got c.args.pairs.now (slice_index_or c.args.index.now middle 0) c.index-pairs-place.result (c.loop-low.invariant.places middle 0 below)) in
+    c.compare.ensures
+    ∙ ap (λ (k : SortKey). order k key) (key-got c.args.pairs.now c.at-place.result c.index-pairs-place.result inside)
+    ∙ ap (λ (n : ℕ). order (key_at ps n) key) c.at-place.ensures in
     record {
       places = c.loop-low.invariant.places;
       ordered = omega arith;

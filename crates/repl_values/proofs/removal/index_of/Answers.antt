@@ -15,12 +15,10 @@ loop-place-preserved c =
     let before = pairs_view (take n c.args.pairs.now) in
     elim c.match-search.branch [
       | in-Err+in_ok-insert-in-Err w ↦
-          let belongs : Belongs w.in-Err.rank c.loop-place.index.items before (view p.0) =
-          subst (λ (ns : List ℕ). Belongs w.in-Err.rank ns before (view p.0)) c.deref.ensures.value w.in-Err.ensures.new in
-          subst (λ (v : Vec ℕ Global). Indexes v.items (pairs_view (take (n + 1) c.args.pairs.now))) (sym w.index-is)
-          (noted c.loop-place.index.items w.insert.new.self.items before (pairs_view (take (n + 1) c.args.pairs.now)) (view p.0) (view p.1) w.in-Err.rank n
+          subst (λ (ns : List ℕ). Indexes ns (pairs_view (take (n + 1) c.args.pairs.now))) (sym w.index-is)
+          (noted c.loop-place.index w.insert.new.self before (pairs_view (take (n + 1) c.args.pairs.now)) (view p.0) (view p.1) w.in-Err.rank n
           (take-behind c.args.pairs.now n p c.index-pairs-place.is c.loop-place-test.true)
-          w.in_ok-insert-in-Err.ensures.items (sym (size-take c.args.pairs.now n (omega (arith, c.loop-place-test.true)))) c.loop-place.invariant belongs)
+          w.in_ok-insert-in-Err.ensures.inserted (sym (size-take c.args.pairs.now n (omega (arith, c.loop-place-test.true)))) c.loop-place.invariant w.in-Err.ensures.new)
       | in-Ok w ↦
           let there : has_key before (view p.0) ≡ true = has_key-placed before (view p.0) w.in-Ok.field-0 w.in-Ok.ensures.found in
           let clash = sym (none-before c.args.pairs.now n p c.index-pairs-place.is c.loop-place-test.true c.requires) ∙ there in

@@ -14,16 +14,15 @@ pub loop-place-preserved : goal.loop-place-preserved
 loop-place-preserved c =
     let p = c.index-pair.result.now in
     let n = c.loop-place.place in
-    let belongs : Belongs c.in-Err.rank c.loop-place.index.items (pairs_view (take n c.args.pairs.items)) (view p.0) =
-    subst (λ (ns : List ℕ). Belongs c.in-Err.rank ns (pairs_view (take n c.args.pairs.items)) (view p.0)) c.deref-in-loop-place.ensures.value
-    (subst (λ (xs : List (Value × Value)). Belongs c.in-Err.rank c.deref-in-loop-place.result.now (pairs_view (take n xs)) (view p.0)) c.deref.ensures.value
-    c.in-Err.ensures.new) in
+    let belongs : Belongs c.in-Err.rank c.loop-place.index (pairs_view (take n c.args.pairs.items)) (view p.0) =
+    subst (λ (xs : List (Value × Value)). Belongs c.in-Err.rank c.loop-place.index (pairs_view (take n xs)) (view p.0)) c.deref.ensures.value
+    c.in-Err.ensures.new in
     let behind = take-behind c.args.pairs.items n p c.index-pair.ensures (omega arith) in
     record {
       distinct = distinct-more c.args.pairs.items n p c.index-pair.ensures (omega arith) c.loop-place.invariant.distinct belongs.absent;
       indexed =
-          noted c.loop-place.index.items c.insert.new.self.items (pairs_view (take n c.args.pairs.items)) _ (view p.0) (view p.1) c.in-Err.rank n behind
-          c.in_ok-insert-in-Err.ensures.items (sym (size-take c.args.pairs.items n (omega arith))) c.loop-place.invariant.indexed belongs;
+          noted c.loop-place.index c.insert.new.self (pairs_view (take n c.args.pairs.items)) _ (view p.0) (view p.1) c.in-Err.rank n behind
+          c.in_ok-insert-in-Err.ensures.inserted (sym (size-take c.args.pairs.items n (omega arith))) c.loop-place.invariant.indexed belongs;
       measured = subst (λ (ps : Pairs). FitsPairs c.with_pair-measure.result ps) (sym behind) (c.with_pair-measure.ensures _ c.loop-place.invariant.measured);
     }
 

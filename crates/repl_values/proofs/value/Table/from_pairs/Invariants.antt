@@ -8,6 +8,6 @@ use Rattle.repl_values.proofs.value.Table.from_pairs.Given as goal
 abbrev pub invariant-loop-place : goal.invariant-loop-place
 invariant-loop-place l = record {
   distinct : are_distinct (pairs_view (take l.place l.pairs.items)) ≡ true;
-  indexed : Indexes l.index.items (pairs_view (take l.place l.pairs.items));
+  indexed : Indexes l.index (pairs_view (take l.place l.pairs.items));
   measured : FitsPairs l.measure (pairs_view (take l.place l.pairs.items));
 }

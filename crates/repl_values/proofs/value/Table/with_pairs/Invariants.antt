@@ -10,6 +10,6 @@ abbrev pub invariant-loop-key : goal.invariant-loop-key
 invariant-loop-key l = record {
   so_far : put_pairs (pairs_view l.pairs.items) (map entry_view (drop l.key-index l.more)) ≡ put_pairs l.fn.self.pairs (map entry_view l.more);
   distinct : are_distinct (pairs_view l.pairs.items) ≡ true;
-  indexed : Indexes l.index.items (pairs_view l.pairs.items);
+  indexed : Indexes l.index (pairs_view l.pairs.items);
   measured : MayFit l.measure (pairs_view l.pairs.items);
 }
