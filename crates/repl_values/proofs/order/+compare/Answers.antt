@@ -35,8 +35,8 @@ compare_maps-compare_rows-requires t c =
     let right : pairs_view c.deref-5.result.now ≡ r = ap (λ (xs : List (Value × Value)). pairs_view xs) theirs ∙ ap (λ (d : TableData). d.pairs) c.right.view_is in
     let sizes : c.cmp-2.result ≡ nat_cmp (size l) (size r) =
     c.cmp-2.ensures ∙ ap (λ (n : ℕ). nat_cmp n c.len-2.result) c.len.ensures ∙ ap (λ (n : ℕ). nat_cmp (size l) n) c.len-2.ensures in
-    let open : is_ne (ordering_then c.cmp.result c.cmp-2.result) ≡ false = ap is_ne (sym c.then-numbers.ensures) ∙ sym c.is_ne.ensures ∙ c.if-is_ne.false in
-    let equal : size l ≡ size r = equal-numbers (size l) (size r) (sym sizes ∙ two-equal c.cmp.result c.cmp-2.result open) in (
+    let undecided : is_ne (ordering_then c.cmp.result c.cmp-2.result) ≡ false = ap is_ne (sym c.then-numbers.ensures) ∙ sym c.is_ne.ensures ∙ c.if-is_ne.false in
+    let equal : size l ≡ size r = equal-numbers (size l) (size r) (sym sizes ∙ two-equal c.cmp.result c.cmp-2.result undecided) in (
       omega (arith, ap pairs_nodes left),
       (
         node-within (arc_value c.left.inside.node) c.deref-2.result.now c.deref-3.result.now.index c.left.invariant ours (ap (λ (n : PairsNode). n.index) c.deref-3.ensures),
