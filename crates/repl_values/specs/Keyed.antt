@@ -1,5 +1,5 @@
 -- Pairs by their keys. A key that stands comes first in each comparison with one that is looked for.
-use Rattle.std.specs.Prelude.{ℕ, zero, suc, Bool, true, false, not, ◌&&◌, ◌||◌, Option, Some, None, option_map, if◌then◌else◌}
+use Rattle.std.specs.Prelude.{◌≡◌, ℕ, zero, suc, Bool, true, false, not, ◌&&◌, ◌||◌, Option, Some, None, option_map, if◌then◌else◌}
 use Rattle.repl_values.specs.Datum.{Datum, Items, no_items, item, Pairs, no_pairs, pair}
 use Rattle.repl_values.specs.Same.{same}
 
@@ -36,6 +36,12 @@ value_in (pair k v ps) (suc n) = value_in ps n
 abbrev pub value_of : Pairs → Option ℕ → Option Datum
 value_of ps None = None
 value_of ps (Some n) = value_in ps n
+
+-- the key and the value that stand at a place
+abbrev pub StandsAt : Pairs → ℕ → Datum → Datum → Type 0
+StandsAt no_pairs n key value = ⊥
+StandsAt (pair k v ps) zero key value = (k ≡ key) × (v ≡ value)
+StandsAt (pair k v ps) (suc n) key value = StandsAt ps n key value
 
 -- the pairs and one more
 abbrev pub behind_all : Pairs → Datum → Datum → Pairs

@@ -1,10 +1,10 @@
 // Pairs put into a map, one after another.
 #![tactic(auto, using(crate::proofs::Editing::edit_steps))]
 
-ghost use Rattle.std.specs.Prelude.{◌≡◌, ◌<◌, true, vec_len, map, IfOk, OnOk};
+ghost use Rattle.std.specs.Prelude.{◌≡◌, ◌<◌, ℕ, true, vec_len, map, IfOk, OnOk};
 ghost use Rattle.repl_values.specs.Datum.{Pairs};
 ghost use Rattle.repl_values.specs.View.{view, pair_view, pairs_view};
-ghost use Rattle.repl_values.specs.Keyed.{are_distinct, behind_all, with_value};
+ghost use Rattle.repl_values.specs.Keyed.{are_distinct, behind_all, with_value, StandsAt};
 ghost use Rattle.repl_values.specs.Put.{put_pair, put_pairs};
 ghost use Rattle.repl_values.specs.Index.{Indexes};
 ghost use Rattle.repl_values.specs.Fits.{FitsPairs};
@@ -25,7 +25,8 @@ impl Table {
     /// later value. It fails only for want of memory.
     ///
     /// It compares n log n keys for n more. Where somebody else holds the pairs, they are copied
-    /// first; where a value was replaced, all are measured anew.
+    /// first. They are measured anew only where a replaced value was the deepest of all, or decided
+    /// the hash of the map.
     pub fn with_pairs(self, alloc: Global, more: &[(&Value, &Value)]) -> Result<Table, AllocError>
         ensures { IfOk result (λ made. made.pairs ≡ put_pairs self.pairs (map entry_view more.now)) }
     {
@@ -81,7 +82,7 @@ pub(crate) fn measure_of(pairs: &[(Value, Value)]) -> PairsMeasure
     measure
 }
 
-// Puts one pair. The measure goes on with a new pair, and is lost where a value is replaced.
+// Puts one pair. The measure goes on, and is lost only where it needs all pairs.
 fn put(
     alloc: Global,
     pairs: &mut Vec<(Value, Value)>,
@@ -100,8 +101,9 @@ fn put(
 {
     match search(key, pairs.as_slice(), index) {
         Ok(place) => {
+            let measure = replaced(measure, &pairs[place], value);
             set_value(pairs, place, copy(value)?);
-            Ok(None)
+            Ok(measure)
         }
         Err(rank) => {
             index.insert(alloc, rank, pairs.as_slice().len())?;
@@ -115,6 +117,16 @@ fn with_pair(measure: Option<PairsMeasure>, key: &Value, value: &Value) -> Optio
     ensures { (ps : Pairs) → MayFit measure ps → MayFit result (behind_all ps (view key.now) (view value.now)) }
 {
     Some(measure?.with_pair(key, value))
+}
+
+fn replaced(
+    measure: Option<PairsMeasure>,
+    pair: &(Value, Value),
+    value: &Value,
+) -> Option<PairsMeasure>
+    ensures { (ps : Pairs) (n : ℕ) → MayFit measure ps → StandsAt ps n (view pair.now.0) (view pair.now.1) → MayFit result (with_value n (view value.now) ps) }
+{
+    measure?.with_value(&pair.0, &pair.1, value)
 }
 
 // The key at the place stays.

@@ -45,6 +45,13 @@ pub(crate) fn raise(top: u64, salt: u64, word: u64) -> u64
     top.max(word.wrapping_mul(salt))
 }
 
+#[tactic(auto, unfolding(crate::specs::Hash::salted))]
+pub(crate) fn salt(by: u64, word: u64) -> u64
+    ensures { result ≡ salted by word }
+{
+    word.wrapping_mul(by)
+}
+
 fn mix_text(seed: u64, text: &ArcStr) -> u64
     ensures { result ≡ mixed_text seed (arc_str_bytes text.now) }
 {

@@ -1,14 +1,15 @@
 // What is kept of the items of a list or a vector, and of the pairs of a map.
-ghost use Rattle.std.specs.Prelude.{◌≡◌};
+ghost use Rattle.std.specs.Prelude.{◌≡◌, ℕ, max, IfSome};
 ghost use Rattle.repl_values.specs.Datum.{Items, no_items, Pairs, no_pairs, map};
 ghost use Rattle.repl_values.specs.View.{view};
 ghost use Rattle.repl_values.specs.Same.{size};
-ghost use Rattle.repl_values.specs.Hash.{hash};
+ghost use Rattle.repl_values.specs.Hash.{hash, salted};
 ghost use Rattle.repl_values.specs.Ends.{with_last};
-ghost use Rattle.repl_values.specs.Keyed.{behind_all};
+ghost use Rattle.repl_values.specs.Keyed.{behind_all, with_value, StandsAt};
+ghost use Rattle.repl_values.specs.Seen.{MayFit};
 ghost use Rattle.repl_values.specs.Fits.{FitsItems, FitsPairs};
 
-use crate::hashing::{hash_of, mix, raise};
+use crate::hashing::{hash_of, mix, raise, salt};
 use crate::measure::{nesting, weight};
 use crate::value::Value;
 
@@ -88,6 +89,29 @@ impl PairsMeasure {
         }
     }
 
+    // Of the pairs with another value under a key, where that can be told without the others.
+    pub(crate) fn with_value(self, key: &Value, old: &Value, new: &Value) -> Option<PairsMeasure>
+        ensures { (ps : Pairs) (n : ℕ) → FitsPairs self ps → StandsAt ps n (view key.now) (view old.now) → MayFit result (with_value n (view new.now) ps) }
+    {
+        if self.weight == u64::MAX {
+            return None;
+        }
+        let hashed = mix(9, hash_of(key));
+        let before = mix(hashed, hash_of(old));
+        let now = mix(hashed, hash_of(new));
+        Some(PairsMeasure {
+            weight: self
+                .weight
+                .saturating_sub(weight(old))
+                .saturating_add(weight(new)),
+            nesting: greatest(self.nesting, nesting(old), nesting(new))?,
+            first: peak(self.first, 0xD6E8FEB86659FD93, before, now)?,
+            second: peak(self.second, 0x2917014799A6026D, before, now)?,
+            third: peak(self.third, 0xBF58476D1CE4E5B9, before, now)?,
+            fourth: peak(self.fourth, 0x40A7B892E31B1A47, before, now)?,
+        })
+    }
+
     // What a map of so many pairs hashes to.
     pub(crate) fn hash(self, count: usize) -> u64
         ensures { (ps : Pairs) → FitsPairs self ps → count ≡ size ps → result ≡ hash (map ps) }
@@ -98,4 +122,23 @@ impl PairsMeasure {
             self.fourth,
         )
     }
+}
+
+// The greatest of some numbers of which one was `old` and is `new`, where that can be told without
+// the others: it cannot where the old one was the greatest and the new one is less.
+fn greatest(top: u64, old: u64, new: u64) -> Option<u64>
+    ensures { IfSome result (λ found. (others : ℕ) → top ≡ max others old → found ≡ max others new) }
+{
+    if old < top || old <= new {
+        Some(top.max(new))
+    } else {
+        None
+    }
+}
+
+// The same of numbers that were multiplied by a salt.
+fn peak(top: u64, by: u64, old: u64, new: u64) -> Option<u64>
+    ensures { IfSome result (λ found. (others : ℕ) → top ≡ max others (salted by old) → found ≡ max others (salted by new)) }
+{
+    greatest(top, salt(by, old), salt(by, new))
 }
