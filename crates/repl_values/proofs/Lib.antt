@@ -13,6 +13,7 @@ pub mod Growing
 pub mod Lists
 pub mod TailSteps
 pub mod Removing
+pub mod Replacing
 mod Ordered
 mod Sorted
 mod Ties
