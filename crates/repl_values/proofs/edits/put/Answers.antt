@@ -5,7 +5,8 @@ use Rattle.repl_values.specs.Keyed.{first_place, with_value}
 use Rattle.repl_values.specs.Seen.{MayFit}
 use Rattle.repl_values.specs.declared.value.Value.{Value}
 use Rattle.repl_values.proofs.Sameness.{size-pairs_view}
-use Rattle.repl_values.proofs.Editing.{pushed-is, found-put, found-distinct, new-put, new-distinct}
+use Rattle.repl_values.proofs.Editing.{first_place-within, pushed-is, found-put, found-distinct, new-put, new-distinct}
+use Rattle.repl_values.proofs.Replacing.{stands-at}
 use Rattle.repl_values.proofs.Searching.{found-indexes, noted}
 use Rattle.repl_values.specs.Index.{Belongs}
 use Rattle.repl_values.proofs.edits.put.Goals as goal
@@ -62,3 +63,14 @@ returns-in_ok-push-in-Err-clause-measured c =
     subst (λ (qs : Pairs). MayFit c.with_pair.result qs)
     (sym (pushed-is c.args.pairs.now.items c.push.new.self.items c.in_ok-copy-in-Err.field-0 c.in_ok-copy-in-Err-2.field-0 (view c.args.key.now) (view c.args.value.now) c.in_ok-copy-in-Err.ensures c.in_ok-copy-in-Err-2.ensures c.in_ok-push-in-Err.ensures.items))
     (c.with_pair.ensures (pairs_view c.args.pairs.now.items) c.requires.measured)
+
+pub returns-in_ok-copy-in-Ok-clause-measured : goal.returns-in_ok-copy-in-Ok-clause-measured
+returns-in_ok-copy-in-Ok-clause-measured c =
+    let ps = pairs_view c.args.pairs.now.items in
+    let key = view c.args.key.now in
+    let placed : first_place ps key ≡ Some c.in-Ok.place =
+    sym (ap (λ (xs : List (Value × Value)). first_place (pairs_view xs) key) c.as_slice.ensures.value) ∙ c.in-Ok.ensures.found in
+    subst (λ (qs : Pairs). MayFit c.replaced-measure.result qs)
+    (sym (c.set_value.ensures ∙ ap (λ (d : Datum). with_value c.in-Ok.place d ps) c.in_ok-copy-in-Ok.ensures))
+    (c.replaced-measure.ensures ps c.in-Ok.place c.requires.measured
+    (stands-at c.args.pairs.now.items c.in-Ok.place c.index.result.now c.index.ensures (first_place-within c.args.pairs.now.items key c.in-Ok.place placed)))
