@@ -13,7 +13,7 @@ use Rattle.repl_values.proofs.value.Table.without_keys.Goals as goal
 pub indexed-requires : goal.indexed-requires
 indexed-requires c =
     left-distinct c.args.keys.now c.as_slice-pairs.result.now c.in_ok-left_over.field-0.items c.in_ok-marks.marks.items c.in_ok-marks.ensures
-    (c.in_ok-left_over.ensures ∙ ap (λ (bs : List Bool). unmarked bs (map pair_view c.as_slice-pairs.result.now)) c.deref-4.ensures.value)
+    (c.in_ok-left_over.ensures ∙ ap (λ (bs : List Bool). unmarked bs (map pair_view c.as_slice-pairs.result.now)) c.deref-3.ensures.value)
     (ap (λ (xs : List (Value × Value)). are_distinct (pairs_view xs)) c.as_slice-pairs.ensures.value
     ∙ ap (λ (n : PairsNode). are_distinct (pairs_view n.pairs.items)) c.deref.ensures
     ∙ c.self.invariant.distinct)
@@ -26,6 +26,6 @@ returns c =
     ∙ ap (λ (t : TableData). t.pairs) c.self.view_is in
     let left =
     left-is c.args.keys.now c.as_slice-pairs.result.now c.in_ok-left_over.field-0.items c.in_ok-marks.marks.items c.in_ok-marks.ensures
-    (c.in_ok-left_over.ensures ∙ ap (λ (bs : List Bool). unmarked bs (map pair_view c.as_slice-pairs.result.now)) c.deref-4.ensures.value)
+    (c.in_ok-left_over.ensures ∙ ap (λ (bs : List Bool). unmarked bs (map pair_view c.as_slice-pairs.result.now)) c.deref-3.ensures.value)
     ∙ ap (λ (ps : Pairs). without_keys ps (items_view c.args.keys.now)) seen in
     subst (λ (ps : Pairs). IfOk c.indexed.result (λ made. made.pairs ≡ ps)) left c.indexed.ensures
