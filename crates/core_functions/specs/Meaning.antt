@@ -1,7 +1,7 @@
 -- What each function is, group by group. Kinds of all arguments come first, from the left, then the
 -- function's own faults, then the limits on its value. A function that prints gives nil.
 use Rattle.std.specs.Prelude.{List}
-use Rattle.repl_values.specs.Datum.{Datum, nil}
+use Rattle.value_data.specs.Datum.{Datum, nil}
 use Rattle.core_integers.specs.Meaning as integers
 use Rattle.core_predicates.specs.Meaning as predicates
 use Rattle.core_texts.specs.Meaning as texts

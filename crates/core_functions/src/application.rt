@@ -1,6 +1,6 @@
 // Applying a function to values.
 ghost use Rattle.std.specs.Prelude.{◌≡◌, true, length, map, option_map, string_bytes};
-ghost use Rattle.repl_values.specs.View.{view};
+ghost use Rattle.value_data.specs.View.{view};
 ghost use Rattle.core_functions.specs.Names.{fits};
 ghost use Rattle.core_functions.specs.Outcome.{limited, bounded, printing};
 ghost use Rattle.core_functions.specs.Meaning.{meaning};
@@ -65,7 +65,7 @@ pub fn apply(alloc: Global, function: CoreFunction, args: &[Value]) -> Result<Ap
 }
 
 // Nil, with this text printed, where there is one.
-#[tactic(auto, using(repl_values::proofs::Views::value_views))]
+#[tactic(auto, using(value_data::proofs::Views::value_views))]
 fn printing(alloc: Global, text: Option<String>) -> Result<Applied, ApplyError>
     ensures { Answers (printing (option_map string_bytes text)) result }
 {

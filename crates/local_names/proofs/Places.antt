@@ -8,7 +8,7 @@ use Rattle.std.specs.declared.alloc.Global.{Global}
 use Rattle.std.specs.declared.sync.ArcStr.{ArcStr}
 use Rattle.std.proofs.lemmas.Map.Text.{is_eq-slice_cmp}
 use Rattle.std.proofs.lemmas.Slice.Eq.{bytes_eq-Decides}
-use Rattle.repl_values.specs.View.{view}
+use Rattle.value_data.specs.View.{view}
 use Rattle.local_names.specs.Locals.{LocalData, value_of}
 use Rattle.local_names.specs.View.{local_view, place_of, by_bytes, AreLinked, Indexes}
 use Rattle.local_names.specs.declared.local.Local.{Local}

@@ -9,9 +9,9 @@ use Rattle.std.specs.Ordering.{nat_cmp}
 use Rattle.std.specs.declared.alloc.Global.{Global}
 use Rattle.std.specs.declared.cmp.Ordering.{Ordering}
 use Rattle.std.specs.declared.sync.ArcStr.{ArcStr}
-use Rattle.repl_values.specs.Datum.{Datum}
-use Rattle.repl_values.specs.Code.{datum_code}
-use Rattle.repl_values.specs.View.{view}
+use Rattle.value_data.specs.Datum.{Datum}
+use Rattle.value_data.specs.Code.{datum_code}
+use Rattle.value_data.specs.View.{view}
 use Rattle.local_names.specs.Locals.{LocalData}
 use Rattle.local_names.specs.declared.local.Local.{Local}
 

@@ -2,7 +2,7 @@
 use Rattle.std.specs.Prelude.{ℕ, List, Bool, Option, Some, None, ◌+◌, ◌==◌, if◌then◌else◌, take, drop, codes}
 use Rattle.std.specs.List.{position}
 use Rattle.std.specs.Str.{bytes_eq}
-use Rattle.repl_values.specs.Datum.{var}
+use Rattle.value_data.specs.Datum.{var}
 use Rattle.repl_faults.specs.Failure as failures
 use Rattle.repl_faults.specs.Failure.{Failure}
 use Rattle.core_functions.specs.Names.{function_named}

@@ -2,7 +2,7 @@
 ghost use Rattle.std.specs.Prelude.{◌≡◌, ℕ, List, None, if◌then◌else◌, Some, IfOk, OnOk, OnErr};
 ghost use Rattle.std.specs.Arc.{arc_str_bytes};
 ghost use Rattle.std.specs.Str.{bytes_eq};
-ghost use Rattle.repl_values.specs.Datum.{var};
+ghost use Rattle.value_data.specs.Datum.{var};
 ghost use Rattle.repl_asks.specs.Exchange.{value};
 ghost use Rattle.repl_asks.specs.View.{ask_view, answer_view, binding_view};
 ghost use Rattle.name_spaces.specs.Resolving as meant;

@@ -1,6 +1,6 @@
 -- Asks and answers, without where they lie in memory.
 use Rattle.std.specs.Prelude.{ℕ, List, [], ◌∷◌, Bool, ⊤}
-use Rattle.repl_values.specs.Datum.{Datum}
+use Rattle.value_data.specs.Datum.{Datum}
 use Rattle.special_forms.specs.Functions.{FunctionData}
 use Rattle.core_functions.specs.declared.function.CoreFunction.{CoreFunction}
 

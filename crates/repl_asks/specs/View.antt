@@ -1,7 +1,7 @@
 -- The data that asks, answers and a trace stand for.
 use Rattle.std.specs.Prelude.{List, map}
 use Rattle.std.specs.Arc.{arc_str_bytes}
-use Rattle.repl_values.specs.View.{view}
+use Rattle.value_data.specs.View.{view}
 use Rattle.special_forms.specs.Seen.{function_view}
 use Rattle.repl_asks.specs.Exchange.{BindingData, bound_value, bound_function, AskData, resolve, define, AnswerData, value, core_function, function, fault, Exchanged}
 use Rattle.repl_asks.specs.declared.ask.Ask.{Ask}

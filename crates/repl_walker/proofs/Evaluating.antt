@@ -5,12 +5,12 @@ use Rattle.std.proofs.lemmas.List.{map-append, length-map}
 use Rattle.std.proofs.lemmas.Bool.Decides.{nat_tests}
 use Rattle.std.proofs.lemmas.Grind.{common_steps}
 use Rattle.special_forms.specs.Functions.{FunctionData}
-use Rattle.repl_values.specs.Datum.{Datum, Items, no_items, item, Pairs, list, vector, map}
-use Rattle.repl_values.specs.Listed.{listed}
-use Rattle.repl_values.specs.View.{view}
-use Rattle.repl_values.specs.declared.value.Value as value
-use Rattle.repl_values.proofs.Lists.{lists}
-use Rattle.repl_values.proofs.Views.{value_views}
+use Rattle.value_data.specs.Datum.{Datum, Items, no_items, item, Pairs, list, vector, map}
+use Rattle.value_data.specs.Listed.{listed}
+use Rattle.value_data.specs.View.{view}
+use Rattle.value_data.specs.declared.value.Value as value
+use Rattle.value_data.proofs.Lists.{lists}
+use Rattle.value_data.proofs.Views.{value_views}
 use Rattle.repl_values.specs.declared.fault.Fault.{Fault}
 use Rattle.repl_faults.specs.Failure.{Failure, output_too_long}
 use Rattle.repl_faults.specs.View.{failure_of}

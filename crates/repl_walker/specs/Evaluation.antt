@@ -4,10 +4,10 @@
 use Rattle.std.specs.Prelude.{ℕ, zero, suc, ◌+◌, List, [], ◌∷◌, ◌++◌, Option, Some, None, Ok, Err, if◌then◌else◌, ◌==◌, ◌||◌, nat_lt, length, take, drop, zip, codes}
 use Rattle.std.specs.Str.{bytes_eq}
 use Rattle.std.specs.List.{position}
-use Rattle.repl_values.specs.Datum.{Datum, nil, keyword, symbol, list, vector, map, fault, no_items, item}
+use Rattle.value_data.specs.Datum.{Datum, nil, keyword, symbol, list, vector, map, fault, no_items, item}
 use Rattle.std.specs.Option.{option_and_then}
-use Rattle.repl_values.specs.Listed.{listed, items_of, pairs_of}
-use Rattle.repl_values.specs.Repeats.{first_repeat}
+use Rattle.value_data.specs.Listed.{listed, items_of, pairs_of}
+use Rattle.value_data.specs.Repeats.{first_repeat}
 use Rattle.repl_faults.specs.Failure as failures
 use Rattle.repl_faults.specs.Failure.{Failure}
 use Rattle.core_texts.specs.Limits.{most_weight}

@@ -1,8 +1,8 @@
 -- What the machine has still to do, in the words of the definition. Contracts of private functions speak of it.
 use Rattle.std.specs.Prelude.{drop, ℕ, zero, suc, List, [], ◌∷◌, ◌++◌, option_map, Ok, Err, if◌then◌else◌, map as each, string_bytes}
 use Rattle.std.specs.Arc.{arc_str_bytes}
-use Rattle.repl_values.specs.Datum.{Datum, nil, list, no_items}
-use Rattle.repl_values.specs.View.{view}
+use Rattle.value_data.specs.Datum.{Datum, nil, list, no_items}
+use Rattle.value_data.specs.View.{view}
 use Rattle.repl_faults.specs.Failure as failures
 use Rattle.repl_faults.specs.View.{failure_of}
 use Rattle.repl_asks.specs.Exchange.{AnswerData, bound_value}

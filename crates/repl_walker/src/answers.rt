@@ -1,6 +1,6 @@
 // An answer goes to what it was wanted for.
 ghost use Rattle.std.specs.Prelude.{◌≡◌, ◌+◌, ◌<◌, ◌≤◌, IfOk};
-ghost use Rattle.repl_values.specs.View.{view};
+ghost use Rattle.value_data.specs.View.{view};
 ghost use Rattle.repl_asks.specs.Exchange as exchange;
 ghost use Rattle.repl_asks.specs.View.{answer_view};
 ghost use Rattle.repl_walker.specs.Machine.{answered, answered_by, callee_view, tree};

@@ -1,0 +1,6 @@
+use Rattle.std.proofs.Common.{◌≡◌, take, map}
+use Rattle.value_data.specs.View.{pair_view}
+use Rattle.value_data.proofs.copies.copy_pairs.Given as goal
+
+abbrev pub invariant-loop-key : goal.invariant-loop-key
+invariant-loop-key l = map pair_view l.copies.items ≡ map pair_view (take l.key-index l.pairs)
