@@ -37,5 +37,5 @@ abbrev pub by_bytes : ArcStr Global → ArcStr Global → Ordering
 by_bytes x y = slice_cmp nat_cmp (arc_str_bytes x) (arc_str_bytes y)
 
 -- the index has the place of the newest local of each name
-abbrev pub Indexes : BTreeMap (ArcStr Global) ℕ → List LocalData → Type 0
-Indexes index ls = (name : ArcStr Global) → get by_bytes index name ≡ place_of ls (arc_str_bytes name)
+abbrev pub HasNewest : BTreeMap (ArcStr Global) ℕ → List LocalData → Type 0
+HasNewest index ls = (name : ArcStr Global) → get by_bytes index name ≡ place_of ls (arc_str_bytes name)
