@@ -37,11 +37,7 @@ pub(crate) fn search(
 }
 
 // Where an equal key stands.
-pub(crate) fn place_of(
-    key: &Value,
-    pairs: &[(Value, Value)],
-    index: &ChunkedList,
-) -> Option<usize>
+pub(crate) fn place_of(key: &Value, pairs: &[(Value, Value)], index: &ChunkedList) -> Option<usize>
     requires { Indexes index.now (pairs_view pairs.now) }
     ensures { result ≡ first_place (pairs_view pairs.now) (view key.now) }
 {

@@ -1,4 +1,4 @@
-use Rattle.std.proofs.Common.{◌≡◌, ◌+◌, ◌/◌, ◌++◌, ℕ, List, Vec, Global, length, get_or, set, take, drop, ap, sym, ◌∙◌, arith}
+use Rattle.std.proofs.Common.{◌≡◌, ◌+◌, ◌/◌, ◌++◌, ℕ, List, Vec, Global, length, get_or, set, take, ap, sym, ◌∙◌, arith}
 use Rattle.std.specs.List.{insert}
 use Rattle.std.proofs.lemmas.List.{take-append-drop, take_rest}
 use Rattle.std.proofs.lemmas.List.Edits.{get_or-insert_below}

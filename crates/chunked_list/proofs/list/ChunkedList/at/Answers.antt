@@ -1,4 +1,4 @@
-use Rattle.std.proofs.Common.{◌≡◌, ◌+◌, ◌<◌, ℕ, List, Vec, Global, length, get_or, take, ap, sym, ◌∙◌, arith}
+use Rattle.std.proofs.Common.{◌<◌, ℕ, List, Vec, Global, length, get_or, ap, sym, ◌∙◌, arith}
 use Rattle.std.proofs.lemmas.List.{get_or_default}
 use Rattle.chunked_list.specs.Joined.{joined}
 use Rattle.chunked_list.proofs.Joins.{length-more, joined-all, joined-at}

@@ -1,4 +1,4 @@
-use Rattle.std.proofs.Common.{◌≡◌, ◌+◌, ◌++◌, ℕ, List, [], Vec, Global, take, ap, sym, ◌∙◌}
+use Rattle.std.proofs.Common.{◌++◌, ℕ, List, [], Vec, Global, take, ap, sym, ◌∙◌}
 use Rattle.std.proofs.lemmas.List.{append-nil}
 use Rattle.std.proofs.lemmas.List.Concat.{flat_map-append}
 use Rattle.chunked_list.specs.Joined.{joined}

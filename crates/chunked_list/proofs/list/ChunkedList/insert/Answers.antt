@@ -1,4 +1,4 @@
-use Rattle.std.proofs.Common.{◌≡◌, ◌+◌, ℕ, List, Vec, Global, length, get_or, take, ap, sym, ◌∙◌}
+use Rattle.std.proofs.Common.{◌≡◌, ℕ, List, Vec, Global, get_or, ap, sym, ◌∙◌}
 use Rattle.std.specs.List.{insert}
 use Rattle.chunked_list.specs.Joined.{joined}
 use Rattle.chunked_list.proofs.Joins.{insert-joined, same-joined, on_err}
