@@ -1,5 +1,5 @@
 -- Pairs with another value at one place, and what was measured of them.
-use Rattle.std.proofs.Common.{◌≡◌, ℕ, zero, suc, ◌+◌, ◌≤◌, max, List, [], ◌∷◌, length, get_or, ◌<◌, refl, ap, sym, ◌∙◌, arith}
+use Rattle.std.proofs.Common.{◌≡◌, ℕ, zero, suc, ◌+◌, ◌≤◌, max, List, [], ◌∷◌, length, get_or, ◌<◌, ap, sym, arith}
 use Rattle.value_data.specs.Datum.{Datum, Pairs, no_pairs, pair}
 use Rattle.value_data.specs.View.{view, pairs_view}
 use Rattle.value_data.specs.Keyed.{with_value, StandsAt}

@@ -1,4 +1,4 @@
-use Rattle.std.proofs.Common.{◌≡◌, ℕ, List, Some, None, length, ap, sym, subst, ◌∙◌}
+use Rattle.std.proofs.Common.{◌≡◌, List, Some, None, length, ap, sym, subst, ◌∙◌}
 use Rattle.value_data.specs.Datum.{Datum, Pairs}
 use Rattle.value_data.specs.View.{view, pairs_view}
 use Rattle.value_data.specs.Keyed.{first_place, with_value}

@@ -1,7 +1,7 @@
-use Rattle.std.proofs.Common.{◌≡◌, ◌+◌, ℕ, List, true, take, Vec, Global, subst, sym, ◌∙◌, arith}
+use Rattle.std.proofs.Common.{◌≡◌, ◌+◌, ℕ, List, true, take, subst, sym, ◌∙◌, arith}
 use Rattle.value_data.specs.View.{view, pairs_view}
 use Rattle.value_data.specs.Keyed.{has_key}
-use Rattle.value_data.specs.Index.{Indexes, Belongs}
+use Rattle.value_data.specs.Index.{Indexes}
 use Rattle.value_data.proofs.Tables.{has_key-placed, size-take, take-behind}
 use Rattle.value_data.proofs.Removing.{none-before}
 use Rattle.value_data.proofs.Searching.{noted}

@@ -1,4 +1,4 @@
-use Rattle.std.proofs.Common.{◌≡◌, ℕ, List, Some, take, subst, sym, ap, ◌∙◌, arith}
+use Rattle.std.proofs.Common.{◌≡◌, List, Some, take, subst, sym, ap, ◌∙◌, arith}
 use Rattle.value_data.specs.Datum.{Pairs}
 use Rattle.value_data.specs.View.{view, pairs_view}
 use Rattle.value_data.specs.Keyed.{first_place}
