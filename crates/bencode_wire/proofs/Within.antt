@@ -1,5 +1,5 @@
 -- A dictionary's text within the limits is read as the dictionary.
-use Rattle.std.proofs.Common.{◌≡◌, ℕ, suc, ◌+◌, ◌-◌, ◌*◌, ◌<◌, ◌≤◌, Bool, true, false, cond, nat_lt, nat_le, ◌==◌, ◌||◌, List, [], ◌∷◌, ◌++◌, length, refl, sym, ap, ◌∙◌, subst, length-append, arith}
+use Rattle.std.proofs.Common.{◌≡◌, ℕ, suc, ◌+◌, ◌-◌, ◌*◌, ◌^◌, ◌<◌, ◌≤◌, Bool, true, false, cond, nat_lt, nat_le, ◌==◌, ◌||◌, List, [], ◌∷◌, ◌++◌, length, refl, sym, ap, ◌∙◌, subst, length-append, arith}
 use Rattle.std.proofs.lemmas.Bool.Decides.{nat_tests}
 use Rattle.std.proofs.lemmas.Slice.Eq.{bytes_eq-Decides}
 use Rattle.std.specs.Str.{bytes_eq}
@@ -194,8 +194,8 @@ integer_digits-back limit fs negative n signs.Other h = absurd h
 more_length-back : (limit : ℕ) (fs : List Frame) (n d : ℕ) → NextWithin limit (more_length fs n d) → FramesWithin limit fs × (n ≤ limit)
 more_length-back limit fs n d h =
     let token = count (10 * n + d) in
-    let g = where-back limit (nat_le (10 * n + d) 18446744073709551615) (goes fs token)
-    (unless-back limit (n == 0) (cond (nat_le (10 * n + d) 18446744073709551615) (goes fs token) stuck) h) in
+    let g = where-back limit (nat_lt (10 * n + d) (10 ^ 64)) (goes fs token)
+    (unless-back limit (n == 0) (cond (nat_lt (10 * n + d) (10 ^ 64)) (goes fs token) stuck) h) in
     let fits : 10 * n + d ≤ limit = g.1 in
     (g.0, omega arith)
 

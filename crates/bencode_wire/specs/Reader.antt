@@ -1,8 +1,8 @@
 -- The cut that a reader stands for, and what its functions' results say.
-use Rattle.std.specs.Prelude.{◌≡◌, List, map, reverse, Result, Ok, Err}
+use Rattle.std.specs.Prelude.{◌≡◌, ℕ, ◌<◌, ◌^◌, List, map, reverse, Result, Ok, Err}
 use Rattle.bencode_wire.specs.Cut as cuts
 use Rattle.bencode_wire.specs.Fault.{malformed, too_long, too_deep}
-use Rattle.bencode_wire.specs.Machine.{Judged, reads, whole, refuses}
+use Rattle.bencode_wire.specs.Machine.{Judged, reads, whole, refuses, checked}
 use Rattle.bencode_wire.specs.View.{view, trees_view, pairs_view}
 use Rattle.bencode_wire.specs.declared.fault.Refusal.{Refusal}
 use Rattle.bencode_wire.specs.declared.cut.Frame.{Frame}
@@ -36,5 +36,6 @@ Gives j (Ok (Progress.Partial r)) = j ≡ reads (cut_view r)
 Gives j (Ok (Progress.Whole v)) = j ≡ whole (view v)
 Gives j (Err Refusal.NoMemory) = Unit {0}
 Gives j (Err Refusal.Malformed) = j ≡ refuses malformed
-Gives j (Err Refusal.TooLong) = j ≡ refuses too_long
+-- under each limit that the code can hold
+Gives j (Err Refusal.TooLong) = (limit : ℕ) → limit < 2 ^ 64 → checked limit j ≡ refuses too_long
 Gives j (Err Refusal.TooDeep) = j ≡ refuses too_deep

@@ -32,8 +32,12 @@ abbrev pub IsInteger : ℤ → Type 0
 IsInteger (pos n) = n < 2 ^ 63
 IsInteger (negsuc n) = n < 2 ^ 63
 
+-- a length, of at most 64 digits. A decoder's limit is below 2 ^ 64, so a length passes the limit before it passes this
+abbrev pub IsLength : ℕ → Type 0
+IsLength n = n < 10 ^ 64
+
 abbrev pub IsString : List ℕ → Type 0
-IsString bytes = length bytes < 2 ^ 64
+IsString bytes = IsLength (length bytes)
 
 -- a value of the grammar, equal keys being let pass
 abbrev mutual

@@ -378,7 +378,8 @@ fn more_length(frames: Vec<Frame>, len: usize, digit: u8) -> Result<Progress, Re
     }
     match longer(len as u64, digit, u64::MAX) {
         Some(len) => partial(frames, Token::Length(len as usize)),
-        None => Err(Refusal::Malformed),
+        // It is above each limit.
+        None => Err(Refusal::TooLong),
     }
 }
 
