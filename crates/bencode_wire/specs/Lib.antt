@@ -11,4 +11,4 @@ pub mod Sign
 pub mod Reader
 pub mod Course
 pub mod Refusals
-pub mod Within
+pub mod Nesting
