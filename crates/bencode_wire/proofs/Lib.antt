@@ -11,11 +11,14 @@ pub mod Unique
 pub mod Sound
 pub mod Complete
 pub mod Close
+pub mod Awaits
+pub mod Repeats
+pub mod Messages
 pub mod Orders
 pub mod Verdicts
 pub mod Appends
 pub mod Kept
 pub mod Within
 pub mod Written
-pub mod Members
+pub mod Limits
 pub mod Canonical

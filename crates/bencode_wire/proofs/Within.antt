@@ -52,7 +52,7 @@ or_true : (a : Bool) → a || true ≡ true
 or_true true = refl
 or_true false = refl
 
-has_key-added : (key : List ℕ) (ps : Pairs) (t : Tree) → HasKey key (add_pair ps key t)
+pub has_key-added : (key : List ℕ) (ps : Pairs) (t : Tree) → HasKey key (add_pair ps key t)
 has_key-added key no_pairs t = let same : bytes_eq key key ≡ true = grind (arith, bytes_eq-Decides) in ap (λ b. b || false) same
 has_key-added key (pair k u ps) t = ap (λ b. bytes_eq key k || b) (has_key-added key ps t) ∙ or_true (bytes_eq key k)
 
@@ -67,7 +67,7 @@ or_left false b h other = absurd (other h)
 same_key : (key k : List ℕ) → bytes_eq key k ≡ true → key ≡ k
 same_key key k e = grind (arith, bytes_eq-Decides)
 
-has_key-below : (k key : List ℕ) (ps : Pairs) (t : Tree) → HasKey k ps → HasKey k (add_pair ps key t)
+pub has_key-below : (k key : List ℕ) (ps : Pairs) (t : Tree) → HasKey k ps → HasKey k (add_pair ps key t)
 has_key-below k key no_pairs t h = absurd (cc)
 has_key-below k key (pair l u ps) t h = or_below (bytes_eq k l) (has_key k ps) (has_key k (add_pair ps key t)) (λ g. has_key-below k key ps t g) h
 

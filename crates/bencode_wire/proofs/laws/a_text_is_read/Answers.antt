@@ -1,4 +1,4 @@
-use Rattle.bencode_wire.proofs.Within.{text_read}
+use Rattle.bencode_wire.proofs.Messages.{text_read}
 use Rattle.bencode_wire.proofs.laws.a_text_is_read.Goals as goal
 
 pub returns : goal.returns
