@@ -1,5 +1,5 @@
 -- Values within the limits that a decoder sets, and that a short text without deep nesting is of one.
-use Rattle.std.proofs.Common.{◌≡◌, ℕ, suc, ◌+◌, ◌-◌, ◌<◌, ◌≤◌, max, List, [], ◌∷◌, length, decimal, codes, ◌++◌, length-append, arith}
+use Rattle.std.proofs.Common.{ℕ, ◌-◌, ◌<◌, ◌≤◌, List, [], ◌∷◌, length, decimal, codes, ◌++◌, length-append, arith}
 use Rattle.bencode_wire.specs.Tree.{Tree, integer, string, list, dictionary, Trees, no_trees, tree, Pairs, no_pairs, pair, HasKey}
 use Rattle.bencode_wire.specs.Spelling.{text, trees_text, pairs_text, string_text, IsDistinct, AreDistinct, PairsDistinct}
 use Rattle.bencode_wire.specs.Nesting.{nesting, trees_nesting, pairs_nesting}

@@ -1,7 +1,7 @@
 -- A message is the text of a dictionary of the grammar that is clean, and is handed out sorted.
-use Rattle.std.proofs.Common.{◌≡◌, ℕ, ◌+◌, ◌≤◌, List, ◌∷◌, ◌++◌, length, refl, sym, ap, ◌∙◌, subst, arith}
+use Rattle.std.proofs.Common.{◌≡◌, ℕ, ◌+◌, ◌≤◌, List, ◌∷◌, ◌++◌, length, refl, sym, ◌∙◌, subst, arith}
 use Rattle.bencode_wire.specs.Tree.{Tree, integer, string, list, dictionary, Pairs, no_pairs}
-use Rattle.bencode_wire.specs.Spelling.{text, canonical, ArePairs, IsSpellable, IsDistinct, PairsDistinct, sorted, put_pairs}
+use Rattle.bencode_wire.specs.Spelling.{text, canonical, ArePairs, IsSpellable, PairsDistinct, sorted, put_pairs}
 use Rattle.bencode_wire.specs.Nesting.{nesting}
 use Rattle.bencode_wire.specs.Stream.{IsClean, IsMessage, Ending, Streams}
 use Rattle.bencode_wire.proofs.Canonical.{distinct_sorted, spellable_sorted, nesting_sorted}

@@ -1,9 +1,9 @@
 -- A value in whose text no key is repeated has distinct keys at every level.
-use Rattle.std.proofs.Common.{◌≡◌, ℕ, suc, Bool, true, false, ◌||◌, List, [], ◌∷◌, ◌++◌, codes, refl, sym, ap, ◌∙◌, subst, append_assoc, inl, inr, arith}
+use Rattle.std.proofs.Common.{◌≡◌, ℕ, suc, Bool, true, false, ◌||◌, List, [], ◌∷◌, ◌++◌, refl, sym, ap, ◌∙◌, subst, append_assoc, inl, inr, arith}
 use Rattle.std.proofs.lemmas.Slice.Eq.{bytes_eq-Decides}
 use Rattle.std.specs.Str.{bytes_eq}
 use Rattle.bencode_wire.specs.Tree.{Tree, integer, string, list, dictionary, Trees, no_trees, tree, Pairs, no_pairs, pair, add_tree, add_pair, has_key, HasKey}
-use Rattle.bencode_wire.specs.Spelling.{text, trees_text, pairs_text, string_text, IsString, IsSpellable, AreSpellable, ArePairs, IsDistinct, AreDistinct, PairsDistinct}
+use Rattle.bencode_wire.specs.Spelling.{text, trees_text, pairs_text, string_text, IsSpellable, AreSpellable, ArePairs, IsDistinct, AreDistinct, PairsDistinct}
 use Rattle.bencode_wire.specs.Fault.{malformed, too_long}
 use Rattle.bencode_wire.specs.Stream.{AwaitsValue, behind_items, behind_key, AwaitsKey, of_message, of_value, RepeatsKey, IsClean}
 use Rattle.bencode_wire.proofs.Sound.{pairs_text-add_pair, trees_text-add_tree, ArePairs-add_pair, AreSpellable-add_tree}
@@ -70,9 +70,9 @@ mutual
   distinct_items no_trees ts n m x a k g never = tt
   distinct_items (tree u us) ts n m x a k g never = (
     distinct_value u (suc n) (m ++ (108 ∷ trees_text ts)) (trees_text us ++ x) (behind_items n m ts a k) g.0
-    (never_at _ _ (item_here (m ++ (108 ∷ trees_text ts)) (text u) (trees_text us) x) never),
+        (never_at _ _ (item_here (m ++ (108 ∷ trees_text ts)) (text u) (trees_text us) x) never),
     distinct_items us (add_tree ts u) n m x a (AreSpellable-add_tree ts u k g.0) g.1
-    (never_at _ _ (next_item m (trees_text ts) (text u) (trees_text us) x ∙ ap (λ y. (m ++ (108 ∷ y)) ++ (trees_text us ++ x)) (sym (trees_text-add_tree ts u))) never),
+        (never_at _ _ (next_item m (trees_text ts) (text u) (trees_text us) x ∙ ap (λ y. (m ++ (108 ∷ y)) ++ (trees_text us ++ x)) (sym (trees_text-add_tree ts u))) never),
   )
 
   distinct_pairs : (qs ps : Pairs) (n : ℕ) (m x : List ℕ) → Opens n m → ArePairs ps → ArePairs qs
