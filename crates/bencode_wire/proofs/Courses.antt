@@ -5,7 +5,7 @@ use Rattle.bencode_wire.specs.Spelling.{put_pair}
 use Rattle.bencode_wire.specs.Cut.{Frame, Token, Cut, cut}
 use Rattle.bencode_wire.specs.Fault.{Rule, malformed, too_long, too_deep, counted, fault_at}
 use Rattle.bencode_wire.specs.Machine.{step_run, Judged, judged, is_large, checked, reads, whole, refuses, Reading, ended, faults, onward, reading, start, TakesRun}
-use Rattle.bencode_wire.specs.Reader.{Gives}
+use Rattle.bencode_wire.specs.Gives.{Gives}
 use Rattle.bencode_wire.specs.Refusals.{refusal_at}
 use Rattle.bencode_wire.specs.Course.{fault_of_end, ahead, ready_view, Advances, Faults, Continues}
 use Rattle.bencode_wire.specs.View.{view}

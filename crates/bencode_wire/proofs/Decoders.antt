@@ -10,7 +10,8 @@ use Rattle.bencode_wire.specs.Machine.{Reading, End, rests, faults, ended, readi
 use Rattle.bencode_wire.specs.Reader.{cut_view}
 use Rattle.bencode_wire.specs.Stream.{Ending, rest, fault, IsRest, Streams}
 use Rattle.bencode_wire.specs.Course.{fault_of_end, ahead, ready_view, Advances, Faults, Continues}
-use Rattle.bencode_wire.specs.Decoder.{ready_of, rest_of, place_of, fault_of, Shows, IsUnchanged, Holds, IsInStep, Stands}
+use Rattle.bencode_wire.specs.Decoder.{ready_of, rest_of, place_of, fault_of, Shows, IsUnchanged, Stands}
+use Rattle.bencode_wire.specs.Held.{Holds}
 use Rattle.bencode_wire.specs.declared.ben.Ben.{Ben}
 use Rattle.bencode_wire.specs.declared.cut.Course.{Course}
 use Rattle.bencode_wire.specs.declared.cut.Reader.{Reader}
@@ -90,13 +91,12 @@ pub record IsFed (old new : Decoder) (piece : List ℕ) (next : Course) : Type 0
   pub limit : new.limit ≡ old.limit
   pub rest : rest_of new ≡ drop next.begin (rest_of old ++ piece)
   pub place : place_of new ≡ min (place_of old + next.begin) (2 ^ 64 - 1)
-  pub reader : new.reader ≡ Some next.reader
   pub fault : fault_of new ≡ None
   pub done : next.at ≡ length (rest_of old ++ piece)
 
 pub feed_rest : (limit : ℕ) (old new : Decoder) (all : List ℕ) (taken : List Tree) (m piece : List ℕ) (course next : Course) (c : Cut)
     → Streams limit 0 all (taken ++ ready_of old) (rest m) → place_of old ≡ counted (length all - length m)
-    → Fed limit old m piece course c → Advances (ahead old.limit (rest_of old ++ piece) course) (ahead old.limit (rest_of old ++ piece) next) old.ready.items new.ready.items
+    → Fed limit old m piece course c → Advances (ahead old.limit (rest_of old ++ piece) course) (ahead old.limit (rest_of old ++ piece) next) old.ready new.ready
     → IsFed old new piece next → Stands limit new (all ++ piece) taken
 feed_rest limit old new all taken m piece course next c streams place fed adv is =
     let now = ahead old.limit (rest_of old ++ piece) course in
@@ -121,11 +121,7 @@ feed_rest limit old new all taken m piece course next c streams place fed adv is
     let place_now : place_of new ≡ counted (length (all ++ piece) - length left) = omega arith in
     let messages : (taken ++ ready_of old) ++ now.messages ≡ taken ++ ready_of new =
     append_assoc taken (ready_of old) now.messages
-    ∙ ap (λ ms. taken ++ ms) (sym adv.messages ∙ ap (λ r. ready_view new.ready.items ++ r.messages) over ∙ append-nil (ready_of new)) in
-    let k = rest_kept limit left (rest_is limit 0 (m ++ piece) left now.messages found.5) in
-    let same : k.0 ≡ cut_view next.reader = same_cut _ _ k.0 (cut_view next.reader) _ k.1.reads found.4 in
-    let held = kept_cut limit left k.0 k.1 in
-    let kept : Holds (rest_of new) next.reader = (held.0, held.1, held.2 ∙ sym now_rest, sym same ∙ held.3) in
+    ∙ ap (λ ms. taken ++ ms) (sym adv.messages ∙ ap (λ r. ready_view new.ready ++ r.messages) over ∙ append-nil (ready_of new)) in
     record {
       end = rest left;
       streams = subst (λ ms. Streams limit 0 (all ++ piece) ms (rest left)) messages
@@ -133,13 +129,37 @@ feed_rest limit old new all taken m piece course next c streams place fed adv is
           (shift_rest limit 0 (0 + (length all - length m)) (m ++ piece) now.messages left found.5));
       shows = (is.fault, now_rest, place_now);
       within = is.limit ∙ fed.within;
-      in_step = subst (λ r. MatchOption r (Unit {0}) (Holds (rest_of new))) (sym is.reader) kept;
     }
+
+-- what is kept after it is part of a message, which the reader holds
+pub feed_held : (old : Decoder) (piece : List ℕ) (course next : Course) (c : Cut) (was now : List Ben) → Fed old.limit old old.rest piece course c
+    → Advances (ahead old.limit (old.rest ++ piece) course) (ahead old.limit (old.rest ++ piece) next) was now → next.at ≡ length (old.rest ++ piece)
+    → IsRest old.limit (drop next.begin (old.rest ++ piece)) × Holds (drop next.begin (old.rest ++ piece)) next.reader
+feed_held old piece course next c was new fed adv done =
+    let limit = old.limit in
+    let m = old.rest in
+    let now = ahead limit (m ++ piece) course in
+    let over = ahead_done limit (m ++ piece) next done in
+    let end : now.end ≡ rests (next.at - next.begin) (cut_view next.reader) = sym adv.end ∙ ap (λ r. r.end) over in
+    let found : Found limit 0 (m ++ piece) now.messages (rests (next.at - next.begin) (cut_view next.reader)) =
+    subst (λ e. Found limit 0 (m ++ piece) now.messages e) end (fed_found limit old m piece course c fed) in
+    let front = found.0 in
+    let left = found.1 in
+    let size : length (m ++ piece) ≡ length front + length left = ap length found.2 ∙ length-append front left in
+    let begun = next.begun in
+    let ended = done in
+    let count = found.3 in
+    let cutting : next.begin ≡ length front = omega arith in
+    let now_rest : drop next.begin (m ++ piece) ≡ left = ap (λ k. drop k (m ++ piece)) cutting ∙ ap (λ x. drop (length front) x) found.2 ∙ drop-append_seam front left in
+    let part = rest_is limit 0 (m ++ piece) left now.messages found.5 in
+    let k = rest_kept limit left part in
+    let same : k.0 ≡ cut_view next.reader = same_cut _ _ k.0 (cut_view next.reader) _ k.1.reads found.4 in
+    let held = kept_cut limit left k.0 k.1 in
+    (subst (λ x. IsRest limit x) (sym now_rest) part, (held.0, held.1, held.2 ∙ sym now_rest, sym same ∙ held.3))
 
 -- the decoder after a feed that met a rule
 pub record IsBroken (old new : Decoder) (f : WireFault) : Type 0 where
   pub limit : new.limit ≡ old.limit
-  pub reader : new.reader ≡ None
   pub fault : fault_of new ≡ Some f
 
 broken_end : (limit : ℕ) (old new : Decoder) (all : List ℕ) (taken : List Tree) (m piece : List ℕ) (f : WireFault) (ms : List Tree) (end : End)
@@ -161,19 +181,18 @@ broken_end limit old new all taken m piece f ms (faults rule i) streams place wi
           (streams_join limit 0 all m piece (taken ++ ready_of old) ms (fault rule (k + i)) streams moved);
       shows = b.fault ∙ sym is ∙ ap (λ p. Some (fault_at rule p)) counts;
       within = b.limit ∙ within;
-      in_step = subst (λ r. MatchOption r (Unit {0}) (Holds (rest_of new))) (sym b.reader) tt;
     }
 
 feed_breaks : (limit : ℕ) (old new : Decoder) (all : List ℕ) (taken : List Tree) (m piece : List ℕ) (course : Course) (c : Cut) (f : WireFault)
     → Streams limit 0 all (taken ++ ready_of old) (rest m) → place_of old ≡ counted (length all - length m)
-    → Fed limit old m piece course c → Faults (place_of old) (ahead old.limit (rest_of old ++ piece) course) old.ready.items new.ready.items f
+    → Fed limit old m piece course c → Faults (place_of old) (ahead old.limit (rest_of old ++ piece) course) old.ready new.ready f
     → IsBroken old new f → Stands limit new (all ++ piece) taken
 feed_breaks limit old new all taken m piece course c f streams place fed met b =
     broken_end limit old new all taken m piece f _ _ streams place fed.within met.messages met.end (fed_found limit old m piece course c fed) b
 
 pub feed_broken : (limit : ℕ) (old new : Decoder) (all : List ℕ) (taken : List Tree) (m piece : List ℕ) (course : Course) (c : Cut) (f : WireFault)
     → Streams limit 0 all (taken ++ ready_of old) (rest m) → place_of old ≡ counted (length all - length m)
-    → Fed limit old m piece course c → Continues old.limit (place_of old) (rest_of old ++ piece) course old.ready.items new.ready.items (Err f)
+    → Fed limit old m piece course c → Continues old.limit (place_of old) (rest_of old ++ piece) course old.ready new.ready (Err f)
     → (f ≡ wire.NoMemory → ⊥) → IsBroken old new f → Stands limit new (all ++ piece) taken
 feed_broken limit old new all taken m piece course c wire.NoMemory streams place fed met other b = absurd (other refl)
 feed_broken limit old new all taken m piece course c (wire.Malformed p) streams place fed met other b = feed_breaks limit old new all taken m piece course c (wire.Malformed p) streams place fed met b
@@ -194,12 +213,6 @@ rests_at limit d all taken (fault rule at) none streams shows = absurd (none_som
 pub rests_of : (limit : ℕ) (d : Decoder) (all : List ℕ) (taken : List Tree) → fault_of d ≡ None → Stands limit d all taken → Rests limit d all taken
 rests_of limit d all taken none s = rests_at limit d all taken s.end none s.streams s.shows
 
--- what is kept is a part of a message, as it was read
-rests_read : (limit : ℕ) (d : Decoder) (all : List ℕ) (taken : List Tree) (s : Stands limit d all taken) (r : Rests limit d all taken) (c : Cut) → Kept limit r.m c
-    → reading d.limit put_pair 0 start 0 (rest_of d) ≡ ended (rests (length (rest_of d)) c)
-rests_read limit d all taken s r c k =
-    ap (λ l. reading l put_pair 0 start 0 (rest_of d)) s.within ∙ ap (λ x. reading limit put_pair 0 start 0 x) r.shown ∙ k.reads ∙ ap (λ x. ended (rests (length x) c)) (sym r.shown)
-
 stays_at : (limit : ℕ) (d : Decoder) (all piece : List ℕ) (ms : List Tree) (end : Ending) (f : WireFault) → fault_of d ≡ Some f → Streams limit 0 all ms end → Shows d all end
     → (e : Ending) × Streams limit 0 (all ++ piece) ms e × Shows d (all ++ piece) e
 stays_at limit d all piece ms (rest m) f is streams shows = absurd (none_some f (fault_of d) shows.0 is)
@@ -209,62 +222,52 @@ stays_at limit d all piece ms (fault rule at) f is streams shows = (fault rule a
 pub feed_stays : (limit : ℕ) (d : Decoder) (all : List ℕ) (taken : List Tree) (piece : List ℕ) (f : WireFault) → fault_of d ≡ Some f → Stands limit d all taken → Stands limit d (all ++ piece) taken
 feed_stays limit d all taken piece f is s =
     let g = stays_at limit d all piece (taken ++ ready_of d) s.end f is s.streams s.shows in
-    record { end = g.0; streams = g.1; shows = g.2; within = s.within; in_step = s.in_step }
+    record { end = g.0; streams = g.1; shows = g.2; within = s.within }
 
 shows_same : (old new : Decoder) (all : List ℕ) (end : Ending) → IsUnchanged old new → Shows old all end → Shows new all end
 shows_same old new all (rest m) same h = (same.fault ∙ h.0, same.rest ∙ h.1, same.place ∙ h.2)
 shows_same old new all (fault rule at) same is = same.fault ∙ is
 
 -- a decoder that shows the same stands for the same
-pub stands_same : (limit : ℕ) (old new : Decoder) (all : List ℕ) (taken : List Tree) → IsUnchanged old new → IsInStep new → Stands limit old all taken → Stands limit new all taken
-stands_same limit old new all taken same kept s = record {
+pub stands_same : (limit : ℕ) (old new : Decoder) (all : List ℕ) (taken : List Tree) → IsUnchanged old new → Stands limit old all taken → Stands limit new all taken
+stands_same limit old new all taken same s = record {
   end = s.end;
   streams = subst (λ ms. Streams limit 0 all (taken ++ ms) s.end) (sym same.ready) s.streams;
   shows = shows_same old new all s.end same s.shows;
   within = same.limit ∙ s.within;
-  in_step = kept;
 }
 
--- where a decoder's reading is taken up again
-pub record Resumed (limit : ℕ) (d : Decoder) (all : List ℕ) (taken : List Tree) (reader : Reader) : Type 0 where
-  pub m : List ℕ
-  pub c : Cut
-  pub streams : Streams limit 0 all (taken ++ ready_of d) (rest m)
-  pub place : place_of d ≡ counted (length all - length m)
-  pub shown : rest_of d ≡ m
-  pub within : d.limit ≡ limit
-  pub read : Kept limit m c
-  pub is : cut_view reader ≡ c
-
-pub resumed : (limit : ℕ) (old d : Decoder) (all : List ℕ) (taken : List Tree) (reader : Reader) → fault_of old ≡ None → Stands limit old all taken → IsUnchanged old d
-    → ((c : Cut) → IsInStep old → IsRest old.limit (rest_of old) → reading old.limit put_pair 0 start 0 (rest_of old) ≡ ended (rests (length (rest_of old)) c) → cut_view reader ≡ c)
-    → Resumed limit d all taken reader
-resumed limit old d all taken reader none s same reads =
-    let r = rests_of limit old all taken none s in
-    let part = rest_is limit 0 all r.m (taken ++ ready_of old) r.streams in
-    let is = rest_kept limit r.m part in
-    let part_of : IsRest old.limit (rest_of old) = subst (λ l. IsRest l (rest_of old)) (sym s.within) (subst (λ x. IsRest limit x) (sym r.shown) part) in
-    record {
-      m = r.m;
-      c = is.0;
-      streams = subst (λ ms. Streams limit 0 all (taken ++ ms) (rest r.m)) (sym same.ready) r.streams;
-      place = same.place ∙ r.place;
-      shown = same.rest ∙ r.shown;
-      within = same.limit ∙ s.within;
-      read = is.1;
-      is = reads is.0 s.in_step part_of (rests_read limit old all taken s r is.0 is.1);
-    }
+-- what is kept is read as its cut
+pub resumed : (d : Decoder) (o old : Option Reader) (bytes : List ℕ) (reader : Reader) → o ≡ old → bytes ≡ d.rest → MatchOption old (Unit {0}) (Holds d.rest)
+    → (part : IsRest d.limit d.rest)
+    → ((c : Cut) → MatchOption o (Unit {0}) (Holds bytes) → IsRest d.limit bytes → reading d.limit put_pair 0 start 0 bytes ≡ ended (rests (length bytes) c) → cut_view reader ≡ c)
+    → cut_view reader ≡ (rest_kept d.limit d.rest part).0
+resumed d o old bytes reader e f held part reads =
+    let k = rest_kept d.limit d.rest part in
+    reads k.0 (subst (λ x. MatchOption x (Unit {0}) (Holds bytes)) (sym e) (subst (λ x. MatchOption old (Unit {0}) (Holds x)) (sym f) held))
+    (subst (λ x. IsRest d.limit x) (sym f) part) (subst (λ x. reading d.limit put_pair 0 start 0 x ≡ ended (rests (length x) k.0)) (sym f) k.1.reads)
 
 -- the course of a feed
-pub fed_by : (limit : ℕ) (d : Decoder) (all : List ℕ) (taken : List Tree) (reader : Reader) (piece : List ℕ) (course : Course) (z : Resumed limit d all taken reader)
-    → course.reader ≡ reader → course.begin ≡ 0 → course.at ≡ length (rest_of d) → Fed limit d z.m piece course z.c
-fed_by limit d all taken reader piece course z same begin at = record {
-  within = z.within;
-  shown = z.shown;
-  read = z.read;
-  reader = ap cut_view same ∙ z.is;
+pub fed_by : (d : Decoder) (reader : Reader) (piece : List ℕ) (course : Course) (part : IsRest d.limit d.rest) → cut_view reader ≡ (rest_kept d.limit d.rest part).0
+    → course.reader ≡ reader → course.begin ≡ 0 → course.at ≡ length d.rest → Fed d.limit d d.rest piece course (rest_kept d.limit d.rest part).0
+fed_by d reader piece course part is same begin at = record {
+  within = refl;
+  shown = refl;
+  read = (rest_kept d.limit d.rest part).1;
+  reader = ap cut_view same ∙ is;
   begin = begin;
   at = at;
+}
+
+-- the course of a feed, for whoever the decoder stands for
+pub fed_for : (limit : ℕ) (d : Decoder) (m piece : List ℕ) (course : Course) (c : Cut) → d.limit ≡ limit → d.rest ≡ m → Fed d.limit d d.rest piece course c → Fed limit d m piece course c
+fed_for limit d m piece course c within shown fed = record {
+  within = within;
+  shown = shown;
+  read = subst (λ l. Kept l m c) within (subst (λ x. Kept d.limit x c) shown fed.read);
+  reader = fed.reader;
+  begin = fed.begin;
+  at = fed.at;
 }
 
 -- a reading from a message's start is what it was
@@ -289,22 +292,17 @@ held limit m r c h part e =
     let same : k.0 ≡ c = same_cut _ _ k.0 c _ k.1.reads e in
     h.3 ∙ sym (kept_is limit m k.0 h.0 k.1 h.1 h.2) ∙ same
 
-pub in_step_some : (d : Decoder) (r : Reader) → d.reader ≡ Some r → IsInStep d
-    → Holds (rest_of d) r
-in_step_some d r e kept = subst (λ o. MatchOption o (Unit {0}) (Holds (rest_of d))) e kept
-
-pub in_step_none : (d : Decoder) → d.reader ≡ None → IsInStep d
-in_step_none d e = subst (λ o. MatchOption o (Unit {0}) (Holds (rest_of d))) (sym e) tt
+pub holds_some : (m : List ℕ) (o : Option Reader) (r : Reader) → o ≡ Some r → MatchOption o (Unit {0}) (Holds m) → Holds m r
+holds_some m o r e kept = subst (λ o. MatchOption o (Unit {0}) (Holds m)) e kept
 
 -- before any byte
-pub stands_new : (limit : ℕ) (d : Decoder) → d.limit ≡ limit → d.ready.items ≡ [] → rest_of d ≡ [] → place_of d ≡ 0 → fault_of d ≡ None → d.reader ≡ None → Stands limit d [] []
-stands_new limit d within ready none place sound fresh = record {
+pub stands_new : (limit : ℕ) (d : Decoder) → d.limit ≡ limit → d.ready ≡ [] → d.rest ≡ [] → d.place ≡ 0 → d.fault ≡ None → Stands limit d [] []
+stands_new limit d within ready none place sound = record {
   end = rest [];
   streams = subst (λ vs. Streams limit 0 [] (ready_view vs) (rest [])) (sym ready) (rest_of_kept limit [] start (kept_none limit), refl);
   shows = (sound, none, place);
   within = within;
-  in_step = in_step_none d fresh;
 }
 
-pub stands_kept : (limit : ℕ) (old new : Decoder) (all : List ℕ) (taken : List Tree) → IsUnchanged old new → new.reader ≡ None → Stands limit old all taken → Stands limit new all taken
-stands_kept limit old new all taken same none s = stands_same limit old new all taken same (in_step_none new none) s
+pub none_is_rest : (limit : ℕ) (m : List ℕ) → m ≡ [] → IsRest limit m
+none_is_rest limit m e = subst (λ x. IsRest limit x) (sym e) (rest_of_kept limit [] start (kept_none limit))

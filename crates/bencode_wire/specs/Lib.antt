@@ -12,3 +12,7 @@ pub mod Reader
 pub mod Course
 pub mod Refusals
 pub mod Nesting
+pub mod State
+pub mod Held
+pub mod Inside
+pub mod Gives
