@@ -1,5 +1,5 @@
 -- How a decoder is kept. No public clause speaks of it.
-use Rattle.std.specs.Prelude.{◌≡◌, List, ℕ, None, MatchOption}
+use Rattle.std.specs.Prelude.{◌≡◌, None, MatchOption}
 use Rattle.bencode_wire.specs.State.{State}
 use Rattle.bencode_wire.specs.Held.{Holds}
 use Rattle.bencode_wire.specs.Stream.{IsRest}

@@ -1,5 +1,5 @@
 // A stream of messages, fed in pieces of any size.
-ghost use Rattle.std.specs.Prelude.{◌≡◌, ◌≢◌, ◌↔◌, ◌++◌, ◌≤◌, ℕ, List, [], ◌∷◌, length, drop, IsTrue, None, Some, Err, OnOk, IfOk, IfErr, IfSome, option_map, option_to_list};
+ghost use Rattle.std.specs.Prelude.{◌≡◌, ◌≢◌, ◌↔◌, ◌++◌, ◌≤◌, ℕ, List, [], ◌∷◌, length, drop, IsTrue, None, Some, Err, OnOk, IfOk, IfErr, option_map, option_to_list};
 ghost use Rattle.bencode_wire.specs.Tree.{Tree};
 
 use crate::ben::Ben;
@@ -16,7 +16,7 @@ use std::marker::Model;
 ///
 /// The bytes of the unfinished message are kept beside what they were read as. So a piece costs the
 /// reading of its own bytes, however the stream is cut; only after want of memory are the kept
-/// bytes read once more.
+/// bytes read once more. Contracts see what it shows, a `State`, and not how it is kept.
 #[derive(Drop)]
 pub struct Decoder {
     alloc: Global,
@@ -137,14 +137,8 @@ impl Decoder {
         ensures fault { IfErr result (λ f. f ≢ WireFault.NoMemory → fault_of self.new ≡ Some f) }
         ensures memory { result ≡ Err WireFault.NoMemory → IsUnchanged self.old self.new }
     {
-        let kept_reader = self.reader.take();
-        let Some(reader) = resume(
-            self.alloc,
-            self.limit,
-            self.start,
-            self.rest.as_slice(),
-            kept_reader,
-        ) else {
+        let cached = self.reader.take();
+        let Some(reader) = resume(self.alloc, self.limit, self.start, &self.rest, cached) else {
             return Err(WireFault::NoMemory);
         };
         let kept = self.rest.len();

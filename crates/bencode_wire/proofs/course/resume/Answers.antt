@@ -1,6 +1,4 @@
-use Rattle.std.proofs.Common.{◌≡◌, ℕ, refl, subst, sym, arith, rules, length}
-use Rattle.bencode_wire.specs.Spelling.{put_pair}
-use Rattle.bencode_wire.specs.Machine.{reading, ended, rests, start}
+use Rattle.std.proofs.Common.{refl, arith}
 use Rattle.bencode_wire.specs.declared.cut.Course.{Course}
 use Rattle.bencode_wire.proofs.Decoders.{held, holds_some, resumes}
 use Rattle.bencode_wire.proofs.course.resume.Goals as goal
