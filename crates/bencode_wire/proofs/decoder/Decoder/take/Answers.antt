@@ -18,7 +18,7 @@ invariant_of-self-in-Ok c =
     let part = c.self.invariant.rests none in
     let k = rest_kept d.limit d.rest part in
     let course : Course = record { reader = c.in-Some.reader; begin = 0; at = c.len-kept.result; begun = omega arith } in
-    let is = resumed d c.take-cached.result c.self.inside.reader d.rest c.in-Some.reader c.take-cached.ensures.value refl c.self.invariant.held part c.in-Some.ensures in
+    let is = resumed d c.take-cached.result c.self.inside.reader c.deref.result.now c.in-Some.reader c.take-cached.ensures.value (search rules) c.self.invariant.held part c.in-Some.ensures in
     let kept : c.len-kept.result ≡ length d.rest = search rules in
     let fed = fed_by d c.in-Some.reader piece course part is refl refl kept in
     let bytes : c.extend_from_slice.new.self.items ≡ d.rest ++ piece = grind (arith, c.extend_from_slice.ensures.items, c.if-is_err.ensures.negation) in
@@ -38,7 +38,7 @@ returns-in-Ok-clause-stands c = λ limit all taken s other.
     let part = c.self.invariant.rests none in
     let k = rest_kept d.limit d.rest part in
     let course : Course = record { reader = c.in-Some.reader; begin = 0; at = c.len-kept.result; begun = omega arith } in
-    let is = resumed d c.take-cached.result c.self.inside.reader d.rest c.in-Some.reader c.take-cached.ensures.value refl c.self.invariant.held part c.in-Some.ensures in
+    let is = resumed d c.take-cached.result c.self.inside.reader c.deref.result.now c.in-Some.reader c.take-cached.ensures.value (search rules) c.self.invariant.held part c.in-Some.ensures in
     let kept : c.len-kept.result ≡ length d.rest = search rules in
     let fed = fed_by d c.in-Some.reader piece course part is refl refl kept in
     let bytes : c.extend_from_slice.new.self.items ≡ d.rest ++ piece = grind (arith, c.extend_from_slice.ensures.items, c.if-is_err.ensures.negation) in
@@ -60,7 +60,7 @@ returns-in-Err-clause-stands c = λ limit all taken s other.
     let part = c.self.invariant.rests none in
     let k = rest_kept d.limit d.rest part in
     let course : Course = record { reader = c.in-Some.reader; begin = 0; at = c.len-kept.result; begun = omega arith } in
-    let is = resumed d c.take-cached.result c.self.inside.reader d.rest c.in-Some.reader c.take-cached.ensures.value refl c.self.invariant.held part c.in-Some.ensures in
+    let is = resumed d c.take-cached.result c.self.inside.reader c.deref.result.now c.in-Some.reader c.take-cached.ensures.value (search rules) c.self.invariant.held part c.in-Some.ensures in
     let kept : c.len-kept.result ≡ length d.rest = search rules in
     let fed = fed_by d c.in-Some.reader piece course part is refl refl kept in
     let bytes : c.extend_from_slice.new.self.items ≡ d.rest ++ piece = grind (arith, c.extend_from_slice.ensures.items, c.if-is_err.ensures.negation) in
