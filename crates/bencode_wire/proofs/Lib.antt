@@ -22,3 +22,4 @@ pub mod Within
 pub mod Written
 pub mod Limits
 pub mod Canonical
+pub mod Depths

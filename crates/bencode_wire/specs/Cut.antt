@@ -1,5 +1,5 @@
--- A spelling that breaks off at some byte: the lists and dictionaries that are open, the innermost first, and the part of
--- a token that has come.
+-- What the reader holds, a text that breaks off at some byte: the lists and dictionaries that are open, the innermost first,
+-- and the part of a token that has come. No public clause speaks of it.
 use Rattle.std.specs.Prelude.{ℕ, ◌+◌, ◌<◌, ◌≤◌, ◌⊎◌, Bool, true, false, List, [], ◌∷◌, ◌++◌, length, codes, decimal}
 use Rattle.bencode_wire.specs.Tree.{Trees, Pairs, no_pairs}
 use Rattle.bencode_wire.specs.Spelling.{trees_text, pairs_text, string_text, AreSpellable, ArePairs, IsLength, IsString, sorted_trees, put_pairs}

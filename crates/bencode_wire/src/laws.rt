@@ -1,7 +1,7 @@
 //! Laws of the spelling. The functions do nothing: what they ensure is proved of every value.
 ghost use Rattle.std.specs.Prelude.{◌≡◌, ℕ, ◌+◌, ◌≤◌, List, ◌∷◌, ◌++◌, length};
 ghost use Rattle.bencode_wire.specs.Tree.{Tree, Pairs, dictionary};
-ghost use Rattle.bencode_wire.specs.Spelling.{text, canonical, sorted, Spells, IsSpellable, ArePairs, IsDistinct};
+ghost use Rattle.bencode_wire.specs.Spelling.{text, canonical, sorted, Spells, IsSpellable, IsDistinct};
 ghost use Rattle.bencode_wire.specs.Stream.{Ending, Streams};
 ghost use Rattle.bencode_wire.specs.Nesting.{nesting};
 
@@ -40,13 +40,13 @@ pub fn every_stream_reads()
     ensures { (limit : ℕ) (bytes : List ℕ) → (ms : List Tree) × (end : Ending) × Streams limit 0 bytes ms end }
 {}
 
-/// What is spelled within the limits is read, whatever follows: the text of a dictionary, with its
-/// pairs in any order, is read as the dictionary, and the stream goes on behind it.
-pub fn a_text_is_read()
-    ensures { (limit place : ℕ) (ps : Pairs) (more : List ℕ) (ts : List Tree) (end : Ending)
-        → ArePairs ps → IsDistinct (dictionary ps) → nesting (dictionary ps) ≤ 64 → length (text (dictionary ps)) ≤ limit
-        → Streams limit (place + length (text (dictionary ps))) more ts end
-        → Streams limit place (text (dictionary ps) ++ more) (sorted (dictionary ps) ∷ ts) end }
+/// What is spelled within the limits is read, whatever follows: each spelling of a dictionary is read
+/// as the dictionary, and the stream goes on behind it.
+pub fn a_spelling_is_read()
+    ensures { (limit place : ℕ) (ps : Pairs) (bytes more : List ℕ) (ts : List Tree) (end : Ending)
+        → Spells (dictionary ps) bytes → nesting (dictionary ps) ≤ 64 → length bytes ≤ limit
+        → Streams limit (place + length bytes) more ts end
+        → Streams limit place (bytes ++ more) (sorted (dictionary ps) ∷ ts) end }
 {}
 
 /// What `write_into` wrote is read again, whatever follows, within the limits: of every dictionary
