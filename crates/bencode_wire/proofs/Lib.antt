@@ -5,6 +5,7 @@ pub mod Runs
 pub mod Courses
 pub mod Streams
 pub mod Decoders
+pub mod Feeds
 pub mod Prefix
 pub mod Spellings
 pub mod Unique

@@ -6,7 +6,8 @@ use Rattle.bencode_wire.specs.Inside.{state_of}
 use Rattle.bencode_wire.specs.Stream.{IsRest}
 use Rattle.bencode_wire.specs.declared.cut.Course.{Course}
 use Rattle.bencode_wire.specs.declared.decoder.Decoder.{Decoder}
-use Rattle.bencode_wire.proofs.Decoders.{resumed, fed_by, fed_for, rests_of, feed_rest, feed_held, feed_broken}
+use Rattle.bencode_wire.proofs.Decoders.{resumed, rests_of}
+use Rattle.bencode_wire.proofs.Feeds.{fed_by, fed_for, feed_rest, feed_held, feed_broken}
 use Rattle.bencode_wire.proofs.Kept.{rest_kept}
 use Rattle.bencode_wire.proofs.decoder.Decoder.take.Goals as goal
 
