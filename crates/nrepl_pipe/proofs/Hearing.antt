@@ -77,6 +77,11 @@ hear-refused r w piece why clean none e =
 
 -- The code heard it
 
+pub known-refused : (X : Type 0) (s : Stepped) (why known : Refusal) → why ≡ known → known ≢ Refusal.NoMemory → (why ≢ Refusal.NoMemory → (s ≡ refused why) × X)
+    → s ≡ refused known
+known-refused X s why known same other h =
+    (h (λ (none : why ≡ Refusal.NoMemory). other (sym same ∙ none))).0 ∙ ap refused same
+
 -- the piece was taken in
 pub record TakesIn (r : Readings) (Stands : World → Type 0) (w : World) (piece : List ℕ) : Type 0 where
   pub stands : Stands (after r w (hears piece))
