@@ -162,7 +162,9 @@ fn take_piece<C: Core>(core: &mut C, piece: &Bytes) -> Result<Heard, PipeError>
         Ok(()) => Ok(Heard::Taken),
         Err(Refusal::Worn) => Ok(Heard::Worn),
         Err(Refusal::NoMemory) => Err(PipeError::NoMemory),
-        Err(Refusal::Wire(_) | Refusal::Held | Refusal::Idle) => unreachable!(),
+        Err(Refusal::Wire(_)) => unreachable!(),
+        Err(Refusal::Held) => unreachable!(),
+        Err(Refusal::Idle) => unreachable!(),
     }
 }
 
@@ -192,7 +194,8 @@ fn run_rounds<C: Core, W: Sink>(core: &mut C, writer: &mut W) -> Result<Rounds, 
     }
 }
 
-// The bare actor's turn; how the rounds end with it, if they do. The stream is none of its business.
+// The bare actor's turn; how the rounds end with it, if they do. A fault of the stream refuses pieces
+// alone.
 fn take_turn<C: Core>(core: &mut C) -> Result<Option<Rounds>, PipeError>
     requires { (r : Readings) × (w : World) × AreRight r × C.stands r core.old w }
     ensures steps { (C.state core.new).steps ≤ (C.state core.old).steps }

@@ -39,3 +39,9 @@ loop-ended-preserved g c = record {
       let at = subst (λ (ended : Option Rounds). EndsAt ended (step r (run r w on.turns) (goes Actor.Bare))) c.in_default.is turned.1 in
       rounds-more r _ (g.C.Core.stands r c.write_replies.new.core) w _ _ _ on at (c.in_ok-write_replies.ensures.ok r _ turned.0);
 }
+
+pub take_turn-requires : goal.take_turn-requires
+take_turn-requires g c =
+    let s = c.requires in
+    let on = c.loop-ended.invariant.rounds s.0 s.1 s.2 s.3 in
+    (s.0, run s.0 s.1 on.turns, s.2, on.makes.stands)

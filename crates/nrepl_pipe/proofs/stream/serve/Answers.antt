@@ -21,18 +21,30 @@ returns-in_default-clause-ok g c = λ r w right stands fresh.
     let none = rw c.in_default.is at c.in_ok-piece.ensures.ok in
     (serves-all r _ w _ _ _ _ _ c.end_of.result on none.0 (c.end_of.ensures r _ on.stands), read-up c.end_of.result _ none.1)
 
-pub returns-in-Err-NoMemory-clause-err : goal.returns-in-Err-NoMemory-clause-err
-returns-in-Err-NoMemory-clause-err g c = λ r w right stands fresh.
-    let on = c.loop-piece.invariant.serving r w right stands fresh in
-    let piece = rw c.in-Some.is at c.in_ok-piece.ensures.ok in
-    begins-unheard r _ w _ _ _ _ _ c.in-Some.piece on piece.0 piece.1
+pub take_piece-requires : goal.take_piece-requires
+take_piece-requires g c =
+    let s = c.requires in
+    let on = c.loop-piece.invariant.serving s.0 s.1 s.2 s.3 (s.4, s.5) in
+    (s.0, run s.0 s.1 on.turns, s.2, on.stands, on.no_fault, on.empty)
 
-pub returns-in-Err-Worn-clause-ok : goal.returns-in-Err-Worn-clause-ok
-returns-in-Err-Worn-clause-ok g c = λ r w right stands fresh.
+pub run_rounds-requires : goal.run_rounds-requires
+run_rounds-requires g c =
+    let s = c.requires in
+    let on = c.loop-piece.invariant.serving s.0 s.1 s.2 s.3 (s.4, s.5) in
+    let heard = c.in_ok-take_piece.ensures.heard s.0 (run s.0 s.1 on.turns) s.2 on.stands in
+    (s.0, _, s.2, (takes-in s.0 (g.C.Core.stands s.0 c.take_piece.new.core) (run s.0 s.1 on.turns) c.in-Some.piece heard).stands)
+
+pub returns-in_err-take_piece-clause-err : goal.returns-in_err-take_piece-clause-err
+returns-in_err-take_piece-clause-err g c = λ r w right stands fresh.
     let on = c.loop-piece.invariant.serving r w right stands fresh in
     let piece = rw c.in-Some.is at c.in_ok-piece.ensures.ok in
-    let other : Refusal.Worn ≡ Refusal.NoMemory → ⊥ = λ (e : Refusal.Worn ≡ Refusal.NoMemory). cc in
-    let told = known-refused _ (hear r c.in-Some.piece (run r w on.turns)) _ Refusal.Worn c.in-Err-Worn.field-0-is other (c.in-Err-Worn.ensures.as_it_was r (run r w on.turns) right on.stands) in
+    on_err c.from_residual-in_err-take_piece.result (begins-unheard r _ w _ _ _ _ _ c.in-Some.piece on piece.0 piece.1)
+
+pub returns-in-Worn-clause-ok : goal.returns-in-Worn-clause-ok
+returns-in-Worn-clause-ok g c = λ r w right stands fresh.
+    let on = c.loop-piece.invariant.serving r w right stands fresh in
+    let piece = rw c.in-Some.is at c.in_ok-piece.ensures.ok in
+    let told = rw c.in-Worn.is at c.in_ok-take_piece.ensures.heard r (run r w on.turns) right on.stands in
     (serves-worn r _ w _ _ _ _ _ c.in-Some.piece on piece.0 piece.1 told, tt)
 
 pub returns-in_err-run_rounds-clause-err : goal.returns-in_err-run_rounds-clause-err
