@@ -6,7 +6,7 @@ use Rattle.nrepl_pipe.proofs.stream.pipe.Goals as goal
 pub serve-requires : goal.serve-requires
 serve-requires g c =
     let there = c.there_is_one_right_reading.ensures.there in
-    (there.0, opening c.args.config, there.1, c.new-server.ensures there.0 there.1, refl, refl)
+    (there.0, opening c.args.config, there.1, c.new-server.ensures there.0 there.1, (refl, refl))
 
 pub returns-clause-served : goal.returns-clause-served
 returns-clause-served g c = λ r right.

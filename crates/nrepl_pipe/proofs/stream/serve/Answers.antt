@@ -5,10 +5,16 @@ use Rattle.nrepl_pipe.specs.declared.stream.Rounds.{Rounds}
 use Rattle.nrepl_pipe.proofs.Growing.{on_err}
 use Rattle.nrepl_pipe.proofs.Hearing.{takes-in}
 use Rattle.nrepl_pipe.proofs.Serving.{serving-none, serving-more, serves-all, serves-rounds, begins-lost, begins-unheard, begins-rounds, read-up, broken-read_up, wire-clean, ends-worn, ends-broken, serves-worn}
+use Rattle.nrepl_pipe.proofs.Marking.{marks-none, marks-behind}
 use Rattle.nrepl_pipe.proofs.stream.serve.Goals as goal
 
 pub loop-piece-init : goal.loop-piece-init
-loop-piece-init g c = λ r w right stands fresh. serving-none r _ w _ _ right stands fresh
+loop-piece-init g c = record {
+  serving = λ r w right stands fresh. serving-none r _ w _ _ right stands fresh;
+  reads = marks-none _;
+  writes = marks-none _;
+}
+
 
 pub returns-in_err-piece-clause-err : goal.returns-in_err-piece-clause-err
 returns-in_err-piece-clause-err g c = λ r w right stands fresh.
@@ -24,13 +30,13 @@ returns-in_default-clause-ok g c = λ r w right stands fresh.
 pub take_piece-requires : goal.take_piece-requires
 take_piece-requires g c =
     let s = c.requires in
-    let on = c.loop-piece.invariant.serving s.0 s.1 s.2 s.3 (s.4, s.5) in
-    (s.0, run s.0 s.1 on.turns, s.2, on.stands, on.no_fault, on.empty)
+    let on = c.loop-piece.invariant.serving s.0 s.1 s.2 s.3 s.4 in
+    (s.0, run s.0 s.1 on.turns, s.2, on.stands, (on.no_fault, on.empty))
 
 pub run_rounds-requires : goal.run_rounds-requires
 run_rounds-requires g c =
     let s = c.requires in
-    let on = c.loop-piece.invariant.serving s.0 s.1 s.2 s.3 (s.4, s.5) in
+    let on = c.loop-piece.invariant.serving s.0 s.1 s.2 s.3 s.4 in
     let heard = rw c.in_default-2.is at c.in_ok-take_piece.ensures.heard s.0 (run s.0 s.1 on.turns) s.2 on.stands in
     (s.0, _, s.2, (takes-in s.0 (g.C.Core.stands s.0 c.take_piece.new.core) (run s.0 s.1 on.turns) c.in-Some.piece heard).stands)
 
@@ -76,26 +82,35 @@ returns-in-Broken-clause-ok g c = λ r w right stands fresh.
     (g.W.Sink.contents c.loop-piece.writer) (g.W.Sink.contents c.run_rounds.new.writer) end) c.in_default-3.is (c.in_ok-run_rounds.ensures.ok r _ right taken.stands) in (
       serves-rounds r _ (g.C.Core.stands r c.take_piece.new.core) (g.C.Core.stands r c.run_rounds.new.core) w _ _ _ _ _ _ c.in-Some.piece Rounds.Idle _ on piece.0 piece.1 taken made
           (ends-broken r (g.C.Core.stands r c.take_piece.new.core) (g.C.Core.stands r c.run_rounds.new.core) (run r w on.turns) _ _ c.in-Some.piece _ taken made
-          (c.end_of-2.ensures r _ made.2.stands)),
-      broken-read_up c.in-Broken.field-0 _ _ _ (c.in-Broken.ensures r _ made.2.stands) (c.end_of-2.ensures r _ made.2.stands),
+          (c.end_of-in-Broken.ensures r _ made.2.stands)),
+      broken-read_up c.in-Broken.field-0 _ _ _ (c.in-Broken.ensures r _ made.2.stands) (c.end_of-in-Broken.ensures r _ made.2.stands),
     )
 
 pub loop-piece-preserved-in_default-wire : goal.loop-piece-preserved-in_default-wire
-loop-piece-preserved-in_default-wire g c = λ r w right stands fresh.
-    let on = c.loop-piece.invariant.serving r w right stands fresh in
-    let piece = rw c.in-Some.is at c.in_ok-piece.ensures.ok in
-    let taken = takes-in r (g.C.Core.stands r c.take_piece.new.core) (run r w on.turns) c.in-Some.piece (rw c.in_default-2.is at c.in_ok-take_piece.ensures.heard r (run r w on.turns) right on.stands) in
-    let made = subst (λ (end : Rounds). MakesRounds r (g.C.Core.stands r c.run_rounds.new.core) (after r (run r w on.turns) (hears c.in-Some.piece))
-    (g.W.Sink.contents c.loop-piece.writer) (g.W.Sink.contents c.run_rounds.new.writer) end) c.in_default-3.is (c.in_ok-run_rounds.ensures.ok r _ right taken.stands) in
-    serving-more r _ (g.C.Core.stands r c.take_piece.new.core) (g.C.Core.stands r c.run_rounds.new.core) w _ _ _ _ _ _ c.in-Some.piece on piece.0 piece.1 taken made
-    (wire-clean c.wire.result _ (c.wire.ensures r _ made.2.stands) c.in_default-wire.not-Broken)
+loop-piece-preserved-in_default-wire g c = record {
+  serving = λ r w right stands fresh.
+      let on = c.loop-piece.invariant.serving r w right stands fresh in
+      let piece = rw c.in-Some.is at c.in_ok-piece.ensures.ok in
+      let taken = takes-in r (g.C.Core.stands r c.take_piece.new.core) (run r w on.turns) c.in-Some.piece (rw c.in_default-2.is at c.in_ok-take_piece.ensures.heard r (run r w on.turns) right on.stands) in
+      let made = subst (λ (end : Rounds). MakesRounds r (g.C.Core.stands r c.run_rounds.new.core) (after r (run r w on.turns) (hears c.in-Some.piece))
+      (g.W.Sink.contents c.loop-piece.writer) (g.W.Sink.contents c.run_rounds.new.writer) end) c.in_default-3.is (c.in_ok-run_rounds.ensures.ok r _ right taken.stands) in
+      serving-more r _ (g.C.Core.stands r c.take_piece.new.core) (g.C.Core.stands r c.run_rounds.new.core) w _ _ _ _ _ _ c.in-Some.piece on piece.0 piece.1 taken made
+      (wire-clean c.wire.result _ (c.wire.ensures r _ made.2.stands) c.in_default-wire.not-Broken);
+  reads = marks-behind _ _ _ _ c.loop-piece.invariant.reads c.in_ok-piece.ensures.told;
+  writes = marks-behind _ _ _ _ c.loop-piece.invariant.writes c.in_ok-run_rounds.ensures.told;
+}
+
 
 pub loop-piece-preserved : goal.loop-piece-preserved
-loop-piece-preserved g c = λ r w right stands fresh.
-    let on = c.loop-piece.invariant.serving r w right stands fresh in
-    let piece = rw c.in-Some.is at c.in_ok-piece.ensures.ok in
-    let taken = takes-in r (g.C.Core.stands r c.take_piece.new.core) (run r w on.turns) c.in-Some.piece (rw c.in_default-2.is at c.in_ok-take_piece.ensures.heard r (run r w on.turns) right on.stands) in
-    let made = subst (λ (end : Rounds). MakesRounds r (g.C.Core.stands r c.run_rounds.new.core) (after r (run r w on.turns) (hears c.in-Some.piece))
-    (g.W.Sink.contents c.loop-piece.writer) (g.W.Sink.contents c.run_rounds.new.writer) end) c.in_default-3.is (c.in_ok-run_rounds.ensures.ok r _ right taken.stands) in
-    serving-more r _ (g.C.Core.stands r c.take_piece.new.core) (g.C.Core.stands r c.run_rounds.new.core) w _ _ _ _ _ _ c.in-Some.piece on piece.0 piece.1 taken made
-    (wire-clean c.wire.result _ (c.wire.ensures r _ made.2.stands) c.in_default-wire.not-Broken)
+loop-piece-preserved g c = record {
+  serving = λ r w right stands fresh.
+      let on = c.loop-piece.invariant.serving r w right stands fresh in
+      let piece = rw c.in-Some.is at c.in_ok-piece.ensures.ok in
+      let taken = takes-in r (g.C.Core.stands r c.take_piece.new.core) (run r w on.turns) c.in-Some.piece (rw c.in_default-2.is at c.in_ok-take_piece.ensures.heard r (run r w on.turns) right on.stands) in
+      let made = subst (λ (end : Rounds). MakesRounds r (g.C.Core.stands r c.run_rounds.new.core) (after r (run r w on.turns) (hears c.in-Some.piece))
+      (g.W.Sink.contents c.loop-piece.writer) (g.W.Sink.contents c.run_rounds.new.writer) end) c.in_default-3.is (c.in_ok-run_rounds.ensures.ok r _ right taken.stands) in
+      serving-more r _ (g.C.Core.stands r c.take_piece.new.core) (g.C.Core.stands r c.run_rounds.new.core) w _ _ _ _ _ _ c.in-Some.piece on piece.0 piece.1 taken made
+      (wire-clean c.wire.result _ (c.wire.ensures r _ made.2.stands) c.in_default-wire.not-Broken);
+  reads = marks-behind _ _ _ _ c.loop-piece.invariant.reads c.in_ok-piece.ensures.told;
+  writes = marks-behind _ _ _ _ c.loop-piece.invariant.writes c.in_ok-run_rounds.ensures.told;
+}

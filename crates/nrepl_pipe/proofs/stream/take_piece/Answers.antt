@@ -15,18 +15,18 @@ unreachable-requires g c =
     let known = Refusal.Wire c.in-Err-Wire.field-0-0 in
     let some : known ≡ Refusal.NoMemory → ⊥ = λ (e : known ≡ Refusal.NoMemory). cc in
     let other : known ≡ Refusal.Worn → ⊥ = λ (e : known ≡ Refusal.Worn). cc in
-    never-refused _ s.0 s.1 _ _ known s.4 s.5 c.in-Err-Wire.field-0-is some other (c.in-Err-Wire.ensures.as_it_was s.0 s.1 s.2 s.3)
+    never-refused _ s.0 s.1 _ _ known s.4.0 s.4.1 c.in-Err-Wire.field-0-is some other (c.in-Err-Wire.ensures.as_it_was s.0 s.1 s.2 s.3)
 
 pub unreachable-requires-in-Err-Held : goal.unreachable-requires-in-Err-Held
 unreachable-requires-in-Err-Held g c =
     let s = c.requires in
     let some : Refusal.Held ≡ Refusal.NoMemory → ⊥ = λ (e : Refusal.Held ≡ Refusal.NoMemory). cc in
     let other : Refusal.Held ≡ Refusal.Worn → ⊥ = λ (e : Refusal.Held ≡ Refusal.Worn). cc in
-    never-refused _ s.0 s.1 _ _ Refusal.Held s.4 s.5 c.in-Err-Held.field-0-is some other (c.in-Err-Held.ensures.as_it_was s.0 s.1 s.2 s.3)
+    never-refused _ s.0 s.1 _ _ Refusal.Held s.4.0 s.4.1 c.in-Err-Held.field-0-is some other (c.in-Err-Held.ensures.as_it_was s.0 s.1 s.2 s.3)
 
 pub unreachable-requires-in-Err-Idle : goal.unreachable-requires-in-Err-Idle
 unreachable-requires-in-Err-Idle g c =
     let s = c.requires in
     let some : Refusal.Idle ≡ Refusal.NoMemory → ⊥ = λ (e : Refusal.Idle ≡ Refusal.NoMemory). cc in
     let other : Refusal.Idle ≡ Refusal.Worn → ⊥ = λ (e : Refusal.Idle ≡ Refusal.Worn). cc in
-    never-refused _ s.0 s.1 _ _ Refusal.Idle s.4 s.5 c.in-Err-Idle.field-0-is some other (c.in-Err-Idle.ensures.as_it_was s.0 s.1 s.2 s.3)
+    never-refused _ s.0 s.1 _ _ Refusal.Idle s.4.0 s.4.1 c.in-Err-Idle.field-0-is some other (c.in-Err-Idle.ensures.as_it_was s.0 s.1 s.2 s.3)
