@@ -81,7 +81,9 @@ pub fn pipe<R: Source, W: Sink>(
 {
     there_is_one_right_reading();
     let mut server = Server::new(alloc, config);
-    serve(alloc, &mut server, reader, writer)
+    let outcome = serve(alloc, &mut server, reader, writer);
+    server.close();
+    outcome
 }
 
 fn serve<C: Core, R: Source, W: Sink>(
