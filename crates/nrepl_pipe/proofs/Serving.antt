@@ -9,7 +9,7 @@ use Rattle.bencode_wire.specs.declared.fault.WireFault.{WireFault}
 use Rattle.repl_replies.specs.Replies.{ReplyData}
 use Rattle.repl_core.specs.Readings.{Readings, AreRight}
 use Rattle.repl_core.specs.World.{World}
-use Rattle.repl_core.specs.Step.{Turn, hears, goes, Stepped, refused, step, hear, stream_fault, fault_in, world_or, bytes_given, after, run, served, wire_at}
+use Rattle.repl_core.specs.Step.{Turn, hears, goes, refused, step, hear, stream_fault, fault_in, world_or, bytes_given, after, run, served, wire_at}
 use Rattle.repl_core.specs.declared.refusal.Actor.{Actor}
 use Rattle.repl_core.specs.declared.refusal.Refusal.{Refusal}
 use Rattle.repl_core.specs.declared.refusal.Wire.{Wire}

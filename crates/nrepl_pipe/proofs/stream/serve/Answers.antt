@@ -1,4 +1,4 @@
-use Rattle.std.proofs.Common.{◌≡◌, subst}
+use Rattle.std.proofs.Common.{subst}
 use Rattle.repl_core.specs.Step.{hears, after, run}
 use Rattle.nrepl_pipe.specs.Parts.{MakesRounds}
 use Rattle.nrepl_pipe.specs.declared.stream.Rounds.{Rounds}
@@ -14,7 +14,6 @@ loop-piece-init g c = record {
   reads = marks-none _;
   writes = marks-none _;
 }
-
 
 pub returns-in_err-piece-clause-err : goal.returns-in_err-piece-clause-err
 returns-in_err-piece-clause-err g c = λ r w right stands fresh.
@@ -99,7 +98,6 @@ loop-piece-preserved-in_default-wire g c = record {
   reads = marks-behind _ _ _ _ c.loop-piece.invariant.reads c.in_ok-piece.ensures.told;
   writes = marks-behind _ _ _ _ c.loop-piece.invariant.writes c.in_ok-run_rounds.ensures.told;
 }
-
 
 pub loop-piece-preserved : goal.loop-piece-preserved
 loop-piece-preserved g c = record {
