@@ -9,7 +9,7 @@ use Rattle.core_texts.specs.Printing.{printed}
 use Rattle.core_sequences.specs.Meaning as sequences
 use Rattle.core_maps.specs.Meaning as maps
 use Rattle.core_functions.specs.Outcome.{Outcome, gives, settled}
-use Rattle.core_functions.specs.declared.function.CoreFunction.{CoreFunction}
+use Rattle.function_names.specs.declared.function.CoreFunction.{CoreFunction}
 
 abbrev pub meaning : CoreFunction → List Datum → Outcome
 meaning (CoreFunction.Integer f) args = settled (integers.value_of f args)

@@ -5,8 +5,8 @@ use Rattle.std.specs.Str.{bytes_eq}
 use Rattle.repl_values.specs.Datum.{var}
 use Rattle.repl_faults.specs.Failure as failures
 use Rattle.repl_faults.specs.Failure.{Failure}
-use Rattle.core_functions.specs.Names.{function_named}
-use Rattle.core_functions.specs.declared.function.CoreFunction.{CoreFunction}
+use Rattle.function_names.specs.Names.{function_named}
+use Rattle.function_names.specs.declared.function.CoreFunction.{CoreFunction}
 use Rattle.repl_asks.specs.Exchange as exchange
 use Rattle.repl_asks.specs.Exchange.{AskData, AnswerData, BindingData, bound_value, bound_function}
 

@@ -8,7 +8,7 @@ ghost use Rattle.repl_asks.specs.View.{ask_view, answer_view, binding_view};
 ghost use Rattle.name_spaces.specs.Resolving as meant;
 ghost use Rattle.name_spaces.specs.Bound.{bound_in};
 
-use core_functions::CoreFunction;
+use function_names::CoreFunction;
 use repl_asks::{Answer, Ask, Binding};
 use repl_faults::{no_such_namespace, no_such_var, unresolved};
 use repl_values::{Value, copy};

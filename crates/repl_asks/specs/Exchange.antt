@@ -2,7 +2,7 @@
 use Rattle.std.specs.Prelude.{ℕ, List, [], ◌∷◌, Bool, ⊤}
 use Rattle.repl_values.specs.Datum.{Datum}
 use Rattle.special_forms.specs.Functions.{FunctionData}
-use Rattle.core_functions.specs.declared.function.CoreFunction.{CoreFunction}
+use Rattle.function_names.specs.declared.function.CoreFunction.{CoreFunction}
 
 -- what a name is bound to
 pub data BindingData : Type 0 where

@@ -2,7 +2,7 @@
 ghost use Rattle.std.specs.Prelude.{◌≡◌, IfOk};
 ghost use Rattle.repl_asks.specs.View.{ask_view, answer_view, binding_view, exchange_view, trace_view};
 
-use core_functions::CoreFunction;
+use function_names::CoreFunction;
 use repl_values::{Fault, Value, copy, copy_text};
 use special_forms::Function;
 use std::alloc::{AllocError, Global};

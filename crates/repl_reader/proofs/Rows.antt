@@ -1,8 +1,8 @@
 -- Forms in a row, as they are put together.
-use Rattle.std.proofs.Common.{◌≡◌, ℕ, ◌+◌, List, [], ◌∷◌, ◌++◌, map, length, Option, Some, None, refl, sym, ap, ◌∙◌, arith, get_or, suc, zero, ◌<◌, ◌≤◌}
+use Rattle.std.proofs.Common.{◌≡◌, ℕ, ◌+◌, List, [], ◌∷◌, ◌++◌, map, length, Option, Some, None, refl, ap, arith, get_or, suc, zero, ◌<◌, ◌≤◌}
 use Rattle.repl_values.specs.Print.{print}
 use Rattle.repl_values.specs.Keyed.{keys_of}
-use Rattle.repl_values.specs.Datum.{Datum, Items, no_items, item, Pairs, no_pairs, pair}
+use Rattle.repl_values.specs.Datum.{Datum, Items, no_items, item, Pairs, no_pairs}
 use Rattle.repl_values.specs.View.{view, items_view}
 use Rattle.repl_values.specs.Listed.{items_of, pairs_of}
 use Rattle.repl_values.specs.declared.value.Value.{Value}

@@ -15,7 +15,7 @@ use Rattle.repl_values.specs.declared.fault.Fault.{Fault}
 use Rattle.repl_faults.specs.Failure.{Failure, output_too_long}
 use Rattle.repl_faults.specs.View.{failure_of}
 use Rattle.repl_faults.specs.declared.error.ApplyError.{ApplyError}
-use Rattle.core_functions.specs.Names.{fits}
+use Rattle.function_names.specs.Names.{fits}
 use Rattle.core_functions.specs.Meaning.{meaning}
 use Rattle.core_functions.specs.View.{FailsIn}
 use Rattle.core_texts.specs.Limits.{most_text}
@@ -26,7 +26,7 @@ use Rattle.special_forms.specs.Rows.{in_a_row}
 use Rattle.special_forms.specs.Seen.{views, forms_view}
 use Rattle.special_forms.specs.declared.forms.Forms.{Forms}
 use Rattle.special_forms.specs.declared.shapes.SpecialForm.{SpecialForm}
-use Rattle.repl_walker.specs.Tree.{Kept, Tree, ends, Part, ◌>>=◌}
+use Rattle.repl_walker.specs.Tree.{Kept, Tree, ends, Part}
 use Rattle.repl_walker.specs.Evaluation.{PlaceData, CalleeData, core_callee, program_callee, row, call_value, called, printed, outcome, core_call, named, a_core_function, headed_value, value_at}
 use Rattle.repl_walker.specs.Machine.{kept_of, next_of, from_state, tree, answered, answered_by, call_behind, items_behind, collected, items_value, list_at}
 use Rattle.repl_walker.specs.declared.frames.Collection.{Collection}
@@ -34,7 +34,7 @@ use Rattle.repl_walker.specs.declared.frames.Control.{Control}
 use Rattle.repl_walker.specs.declared.frames.State.{State}
 use Rattle.repl_walker.specs.declared.frames.Wanted.{Wanted}
 use Rattle.repl_asks.specs.Exchange as exchange
-use Rattle.core_functions.specs.declared.function.CoreFunction.{CoreFunction}
+use Rattle.function_names.specs.declared.function.CoreFunction.{CoreFunction}
 
 -- one more form has its value
 row_step : (walk : Datum → Part Datum) (then_ : List Datum → Kept → Tree) (values : List Datum) (d : Datum) (ds : List Datum)

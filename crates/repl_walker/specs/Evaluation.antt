@@ -13,11 +13,11 @@ use Rattle.repl_faults.specs.Failure.{Failure}
 use Rattle.core_texts.specs.Limits.{most_weight}
 use Rattle.core_texts.specs.Meaning.{shown}
 use Rattle.core_maps.specs.declared.function.MapFunction.{MapFunction}
-use Rattle.core_functions.specs.Names.{function_named, name_of, fits}
+use Rattle.function_names.specs.Names.{function_named, name_of, fits}
 use Rattle.core_functions.specs.Outcome as outcomes
 use Rattle.core_functions.specs.Outcome.{Outcome, limited}
 use Rattle.core_functions.specs.Meaning.{meaning}
-use Rattle.core_functions.specs.declared.function.CoreFunction.{CoreFunction}
+use Rattle.function_names.specs.declared.function.CoreFunction.{CoreFunction}
 use Rattle.repl_asks.specs.Exchange as exchange
 use Rattle.repl_asks.specs.Exchange.{AnswerData, BindingData, bound_value, bound_function}
 use Rattle.special_forms.specs.Functions.{FunctionData}

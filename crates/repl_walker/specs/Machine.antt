@@ -1,5 +1,5 @@
 -- What the machine has still to do, in the words of the definition. Contracts of private functions speak of it.
-use Rattle.std.specs.Prelude.{drop, ℕ, zero, suc, List, [], ◌∷◌, ◌++◌, option_map, Ok, Err, if◌then◌else◌, map as each, string_bytes}
+use Rattle.std.specs.Prelude.{drop, ℕ, zero, suc, List, [], ◌∷◌, ◌++◌, option_map, Ok, Err, if◌then◌else◌, string_bytes}
 use Rattle.std.specs.Arc.{arc_str_bytes}
 use Rattle.repl_values.specs.Datum.{Datum, nil, list, no_items}
 use Rattle.repl_values.specs.View.{view}

@@ -1,5 +1,5 @@
 // What an evaluation has still to do, from the inside out.
-use core_functions::CoreFunction;
+use function_names::CoreFunction;
 use local_names::Locals;
 use repl_asks::Ask;
 use repl_values::{Fault, Value};

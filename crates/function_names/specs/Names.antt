@@ -5,7 +5,7 @@ use Rattle.core_predicates.specs.Names as predicates
 use Rattle.core_texts.specs.Names as texts
 use Rattle.core_sequences.specs.Names as sequences
 use Rattle.core_maps.specs.Names as maps
-use Rattle.core_functions.specs.declared.function.CoreFunction.{CoreFunction}
+use Rattle.function_names.specs.declared.function.CoreFunction.{CoreFunction}
 
 -- the first of two groups that has the name
 abbrev pub or_else : Option CoreFunction → Option CoreFunction → Option CoreFunction

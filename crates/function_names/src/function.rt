@@ -1,7 +1,7 @@
 // Which functions there are, and how many arguments each takes.
 ghost use Rattle.std.specs.Prelude.{◌≡◌, Some, false, is_some};
 ghost use Rattle.std.specs.Option.{option_map_or};
-ghost use Rattle.core_functions.specs.Names.{function_named, name_of, fits};
+ghost use Rattle.function_names.specs.Names.{function_named, name_of, fits};
 
 use core_integers::IntegerFunction;
 use core_maps::MapFunction;
