@@ -91,7 +91,7 @@ abbrev pub answered_value : List ℕ → AnswerData → Part Datum
 answered_value s (exchange.value d) = done d
 answered_value s exchange.done = done nil
 answered_value s (exchange.fault class text) = fails (record { class = class; text = text })
-answered_value s function = fails (failures.not_a_value s)
+answered_value s other = fails (failures.not_a_value s)
 
 abbrev pub named_value : PlaceData → List ℕ → NamedData → Part Datum
 named_value p s (a_local d) = done d

@@ -96,10 +96,13 @@ kept_of s = record { calls = s.calls; text = string_bytes s.text; namespace = ar
 abbrev pub from_state : Part Datum → State → Tree
 from_state part s = part (next_of s) (kept_of s)
 
+-- the call of the function that an answer names
+abbrev pub answered_call : ℕ → PlaceData → List Datum → AnswerData → Part Datum
+answered_call room p forms answer = answered_callee answer >>= call_value (value_at room) p forms
+
 abbrev pub answered : Wanted → AnswerData → State → Tree
 answered (Wanted.SymbolValue name) answer s = from_state (answered_value (arc_str_bytes name) answer) s
-answered (Wanted.Head forms room) answer s =
-    from_state (answered_callee answer >>= call_value (value_at room) (place_of s) (forms_view forms)) s
+answered (Wanted.Head forms room) answer s = from_state (answered_call room (place_of s) (forms_view forms) answer) s
 answered (Wanted.Done v) answer s = from_state (done (view v)) s
 
 -- what is still done, from here

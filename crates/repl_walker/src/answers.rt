@@ -4,9 +4,8 @@ ghost use Rattle.std.specs.Arc.{arc_str_bytes};
 ghost use Rattle.repl_asks.specs.View.{answer_view};
 ghost use Rattle.special_forms.specs.Seen.{forms_view};
 ghost use Rattle.special_forms.specs.Size.{forms_size};
-ghost use Rattle.repl_walker.specs.Tree.{◌>>=◌};
 ghost use Rattle.repl_walker.specs.Evaluation as meant;
-ghost use Rattle.repl_walker.specs.Machine.{answered, callee_view, from_state, place_of, tree};
+ghost use Rattle.repl_walker.specs.Machine.{answered, answered_call, callee_view, from_state, place_of, tree};
 ghost use Rattle.repl_walker.specs.declared.frames.State.{State};
 ghost use Rattle.repl_walker.specs.Size.{wanted_size, control_size, frames_size, spent};
 
@@ -65,7 +64,7 @@ fn take_callee(
     ensures size { IfOk result (λ control. control_size control + frames_size state.new.frames.items
         < 2 + forms_size (forms_view forms) + frames_size state.old.frames.items) }
     ensures calls { IfOk result (λ control. spent control + state.new.calls ≤ state.old.calls) }
-    ensures meaning { IfOk result (λ control. tree control state.new ≡ from_state (meant.answered_callee (answer_view answer) >>= meant.call_value (meant.value_at room) (place_of state.old) (forms_view forms)) state.old) }
+    ensures meaning { IfOk result (λ control. tree control state.new ≡ from_state (answered_call room (place_of state.old) (forms_view forms) (answer_view answer)) state.old) }
 {
     match answer {
         Answer::CoreFunction(function) => {
