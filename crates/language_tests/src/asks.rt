@@ -177,7 +177,10 @@ fn a_replay_gives_its_answers_in_order(rt: HostRuntime) -> Result<(), Fail> {
     left.push(Answer::Value(Value::Int(2)))?;
     let mut replay = Replay::new(a, left);
     for told in &ANSWERS[..4] {
-        assert_eq!(rt; asked(a, &mut replay, resolve(a)?, RESOLVE)?.as_str(), *told);
+        assert_eq!(rt;
+            asked(a, &mut replay, resolve(a)?, RESOLVE)?.as_str(),
+            *told
+        );
     }
     let definition = define(a, Binding::Value(Value::Nil))?;
     assert_eq!(rt; asked(a, &mut replay, definition, "")?.as_str(), "done");
@@ -197,11 +200,17 @@ fn an_answer_of_another_kind_counts_as_none(rt: HostRuntime) -> Result<(), Fail>
         left.push(Answer::Done)?;
         let mut replay = Replay::new(a, left);
         if told == "done" {
-            assert_eq!(rt; asked(a, &mut replay, resolve(a)?, RESOLVE)?.as_str(), "no answer");
+            assert_eq!(rt;
+                asked(a, &mut replay, resolve(a)?, RESOLVE)?.as_str(),
+                "no answer"
+            );
         }
         for _ in 0..2 {
             let definition = define(a, Binding::Function(function(a)?))?;
-            assert_eq!(rt; asked(a, &mut replay, definition, DEFINE)?.as_str(), "no answer");
+            assert_eq!(rt;
+                asked(a, &mut replay, definition, DEFINE)?.as_str(),
+                "no answer"
+            );
         }
     }
     Ok(())
