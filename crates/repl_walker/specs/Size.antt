@@ -29,7 +29,7 @@ frames_size = sum_by frame_size
 abbrev pub wanted_size : Wanted → ℕ
 wanted_size (Wanted.SymbolValue name) = 2
 wanted_size (Wanted.Head forms room) = 2 + forms_size (forms_view forms)
-wanted_size (Wanted.Definition name) = 2
+wanted_size (Wanted.Done v) = 2
 
 abbrev pub control_size : Control → ℕ
 control_size (Control.Evaluate form room) = 3 * datum_size (view form)

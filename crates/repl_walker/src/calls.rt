@@ -6,7 +6,7 @@ ghost use Rattle.core_functions.specs.Outcome.{Outcome, bounded};
 ghost use Rattle.core_functions.specs.View.{FailsIn};
 ghost use Rattle.repl_walker.specs.Evaluation as meant;
 ghost use Rattle.value_data.specs.View.{view};
-ghost use Rattle.repl_walker.specs.Machine.{callee_view, place_of, from_state, tree};
+ghost use Rattle.repl_walker.specs.Machine.{callee_view, from_state, tree};
 ghost use Rattle.repl_walker.specs.declared.frames.State.{State};
 ghost use Rattle.special_forms.specs.Seen.{views, function_view};
 ghost use Rattle.repl_walker.specs.Size.{control_size, frames_size, spent};

@@ -1,7 +1,7 @@
 // What a symbol names before anybody is asked.
 ghost use Rattle.std.specs.Prelude.{◌≡◌, option_map, is_some, IfOk};
 ghost use Rattle.std.specs.Arc.{arc_str_bytes};
-ghost use Rattle.core_functions.specs.Names.{function_named};
+ghost use Rattle.function_names.specs.Names.{function_named};
 ghost use Rattle.repl_asks.specs.Exchange.{resolve};
 ghost use Rattle.value_data.specs.View.{view};
 ghost use Rattle.repl_asks.specs.View.{ask_view};

@@ -1,4 +1,5 @@
-//! Tests of `nrepl_pipe`: whole streams, with the bytes that are written for them.
+//! Tests of `nrepl_pipe`: whole streams, with the bytes that are written for them; and of `repl_walker`:
+//! evaluations over answers that are known.
 #![tactic(auto)]
 
 #[cfg(test)]
@@ -17,3 +18,5 @@ mod programs;
 mod sharing;
 #[cfg(test)]
 mod streams;
+#[cfg(test)]
+mod walks;

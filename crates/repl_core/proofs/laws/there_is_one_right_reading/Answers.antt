@@ -1,4 +1,4 @@
-use Rattle.std.proofs.Common.{◌≡◌, ℕ, List, Option, refl, ap₂}
+use Rattle.std.proofs.Common.{List, Option, ap₂}
 use Rattle.bencode_wire.specs.Tree.{Tree}
 use Rattle.bencode_wire.specs.Stream.{Ending}
 use Rattle.value_data.specs.Datum.{Items}
