@@ -1,5 +1,4 @@
-//! Tests of `nrepl_pipe`: whole streams, with the bytes that are written for them; and of `repl_walker`:
-//! evaluations over answers that are known.
+//! Tests of `nrepl_pipe`: whole streams, with the bytes that are written for them.
 #![tactic(auto)]
 
 #[cfg(test)]
@@ -18,5 +17,3 @@ mod programs;
 mod sharing;
 #[cfg(test)]
 mod streams;
-#[cfg(test)]
-mod walks;

@@ -1,8 +1,7 @@
 // What is asked and answered, as texts by which a test compares it.
-use crate::given::printed;
 use repl_asks::{Answer, Ask, Binding, Exchange};
 use repl_reader::read_all;
-use repl_values::{Fault, Sequence, Value};
+use repl_values::{Fault, Sequence, Value, print_into};
 use special_forms::{Forms, Function};
 use std::alloc::{AllocError, Global};
 use std::sync::{Arc, ArcStr};
@@ -12,6 +11,12 @@ const MOST_FORMS: usize = 9;
 
 pub(crate) fn text(alloc: Global, text: &str) -> Result<ArcStr, AllocError> {
     ArcStr::from_str(alloc, text)
+}
+
+pub(crate) fn printed(alloc: Global, value: &Value) -> Result<String, AllocError> {
+    let mut text = String::new(alloc);
+    print_into(alloc, value, &mut text)?;
+    Ok(text)
 }
 
 // The last form of the code.

@@ -1,7 +1,7 @@
 // What is asked, answered, evaluated and ended is copied, and a replay gives its answers.
-use crate::given::printed;
 use crate::told::{
-    FUNCTION, answer_told, ask_told, binding_told, exchange_told, fault, form, function, text,
+    FUNCTION, answer_told, ask_told, binding_told, exchange_told, fault, form, function, printed,
+    text,
 };
 use core_functions::CoreFunction;
 use repl_asks::{Answer, Ask, Binding, Exchange, Refs, Replay, StopReason, copy_trace};
