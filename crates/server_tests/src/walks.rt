@@ -189,40 +189,41 @@ fn definitions_give_their_vars(rt: HostRuntime) -> Result<(), Fail> {
     Ok(())
 }
 
+const FORMS: [(&str, &[Given], &str); 8] = [
+    ("7", &[], "7 -- '' in user 7"),
+    (
+        "x",
+        &[Given::Int(5)],
+        "x -- resolve user x: 5; '' in user 5",
+    ),
+    ("x", &[Given::Done], "stopped at resolve user x"),
+    (
+        "x",
+        &[Given::Fault],
+        "x -- resolve user x: t; '' in user #error{C: t}",
+    ),
+    (
+        "(+ x y)",
+        &[Given::Core("+"), Given::Int(3), Given::Int(4)],
+        "(+ x y) -- resolve user +: +; resolve user x: 3; resolve user y: 4; '' in user 7",
+    ),
+    (
+        "(+ x y)",
+        &[Given::Core("+"), Given::Int(3)],
+        "stopped at resolve user y",
+    ),
+    ("(+ x y)", &[], "stopped at resolve user +"),
+    (
+        "(println x)",
+        &[Given::Core("println"), Given::Int(3)],
+        "(println x) -- resolve user println: println; resolve user x: 3; '3\n' in user nil",
+    ),
+];
+
 #[test]
 fn forms_ask_in_their_order(rt: HostRuntime) -> Result<(), Fail> {
-    let rows: [(&str, &[Given], &str); 8] = [
-        ("7", &[], "7 -- '' in user 7"),
-        (
-            "x",
-            &[Given::Int(5)],
-            "x -- resolve user x: 5; '' in user 5",
-        ),
-        ("x", &[Given::Done], "stopped at resolve user x"),
-        (
-            "x",
-            &[Given::Fault],
-            "x -- resolve user x: t; '' in user #error{C: t}",
-        ),
-        (
-            "(+ x y)",
-            &[Given::Core("+"), Given::Int(3), Given::Int(4)],
-            "(+ x y) -- resolve user +: +; resolve user x: 3; resolve user y: 4; '' in user 7",
-        ),
-        (
-            "(+ x y)",
-            &[Given::Core("+"), Given::Int(3)],
-            "stopped at resolve user y",
-        ),
-        ("(+ x y)", &[], "stopped at resolve user +"),
-        (
-            "(println x)",
-            &[Given::Core("println"), Given::Int(3)],
-            "(println x) -- resolve user println: println; resolve user x: 3; '3\n' in user nil",
-        ),
-    ];
     let a = rt.alloc();
-    for (code, given, told) in rows {
+    for (code, given, told) in FORMS {
         assert_eq!(rt; walked(&rt, a, code, given)?.as_str(), told);
     }
     Ok(())
