@@ -122,7 +122,22 @@ fn ending_told(alloc: Global, ending: &Ending) -> Result<String, AllocError> {
     Ok(told)
 }
 
-// How the walk ended, twice: of the ending and of its copy; or the ask at which it stopped.
+// The ending, told of itself and of its copy.
+fn told_twice(rt: &impl Abort, alloc: Global, ending: &Ending) -> Result<String, AllocError> {
+    let told = ending_told(alloc, ending)?;
+    let copied = ending.copy(alloc)?;
+    let again = ending_told(alloc, &copied)?;
+    assert_eq!(rt; again.as_str(), told.as_str());
+    Ok(told)
+}
+
+fn stop_told(alloc: Global, ask: &Ask) -> Result<String, AllocError> {
+    let mut told = String::from_str(alloc, "stopped at ")?;
+    tell_ask(alloc, ask, &mut told)?;
+    Ok(told)
+}
+
+// How the walk over these answers ended, or the ask at which it stopped.
 fn walked(
     rt: &impl Abort,
     alloc: Global,
@@ -132,17 +147,8 @@ fn walked(
     let job = job(alloc, code)?;
     let mut replay = Replay::new(alloc, answers(rt, alloc, given)?);
     match walk(alloc, &job, &mut replay) {
-        Ok(ending) => {
-            let told = ending_told(alloc, &ending)?;
-            let copied = ending_told(alloc, &ending.copy(alloc)?)?;
-            assert_eq!(rt; copied.as_str(), told.as_str());
-            Ok(told)
-        }
-        Err(WalkError::Stopped(ask)) => {
-            let mut told = String::from_str(alloc, "stopped at ")?;
-            tell_ask(alloc, &ask, &mut told)?;
-            Ok(told)
-        }
+        Ok(ending) => told_twice(rt, alloc, &ending),
+        Err(WalkError::Stopped(ask)) => stop_told(alloc, &ask),
         Err(WalkError::NoMemory) => Err(AllocError),
     }
 }
@@ -183,42 +189,41 @@ fn definitions_give_their_vars(rt: HostRuntime) -> Result<(), Fail> {
     Ok(())
 }
 
+const FORMS: [(&str, &[Given], &str); 8] = [
+    ("7", &[], "7 -- '' in user 7"),
+    (
+        "x",
+        &[Given::Int(5)],
+        "x -- resolve user x: 5; '' in user 5",
+    ),
+    ("x", &[Given::Done], "stopped at resolve user x"),
+    (
+        "x",
+        &[Given::Fault],
+        "x -- resolve user x: t; '' in user #error{C: t}",
+    ),
+    (
+        "(+ x y)",
+        &[Given::Core("+"), Given::Int(3), Given::Int(4)],
+        "(+ x y) -- resolve user +: +; resolve user x: 3; resolve user y: 4; '' in user 7",
+    ),
+    (
+        "(+ x y)",
+        &[Given::Core("+"), Given::Int(3)],
+        "stopped at resolve user y",
+    ),
+    ("(+ x y)", &[], "stopped at resolve user +"),
+    (
+        "(println x)",
+        &[Given::Core("println"), Given::Int(3)],
+        "(println x) -- resolve user println: println; resolve user x: 3; '3\n' in user nil",
+    ),
+];
+
 #[test]
 fn forms_ask_in_their_order(rt: HostRuntime) -> Result<(), Fail> {
-    let plus = Given::Core("+");
-    let println = Given::Core("println");
-    let rows: [(&str, &[Given], &str); 8] = [
-        ("7", &[], "7 -- '' in user 7"),
-        (
-            "x",
-            &[Given::Int(5)],
-            "x -- resolve user x: 5; '' in user 5",
-        ),
-        ("x", &[Given::Done], "stopped at resolve user x"),
-        (
-            "x",
-            &[Given::Fault],
-            "x -- resolve user x: t; '' in user #error{C: t}",
-        ),
-        (
-            "(+ x y)",
-            &[plus, Given::Int(3), Given::Int(4)],
-            "(+ x y) -- resolve user +: +; resolve user x: 3; resolve user y: 4; '' in user 7",
-        ),
-        (
-            "(+ x y)",
-            &[plus, Given::Int(3)],
-            "stopped at resolve user y",
-        ),
-        ("(+ x y)", &[], "stopped at resolve user +"),
-        (
-            "(println x)",
-            &[println, Given::Int(3)],
-            "(println x) -- resolve user println: println; resolve user x: 3; '3\n' in user nil",
-        ),
-    ];
     let a = rt.alloc();
-    for (code, given, told) in rows {
+    for (code, given, told) in FORMS {
         assert_eq!(rt; walked(&rt, a, code, given)?.as_str(), told);
     }
     Ok(())
