@@ -11,6 +11,7 @@ pub mod Growing
 pub mod Lists
 pub mod TailSteps
 pub mod Removing
+pub mod Leaving
 pub mod Replacing
 pub mod Ordered
 pub mod Sorted

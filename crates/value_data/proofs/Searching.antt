@@ -18,7 +18,7 @@ use Rattle.value_data.proofs.Ordered.{order-self, order-Less}
 use Rattle.value_data.proofs.Ties.{same-key, key-same}
 use Rattle.value_data.proofs.Sameness.{size-pairs_view}
 
-not-below : (x y : SortKey) → x ≡ y → order x y ≡ Less → ⊥
+pub not-below : (x y : SortKey) → x ≡ y → order x y ≡ Less → ⊥
 not-below x y e h = let f : Equal ≡ Less = sym (order-self y) ∙ sym (ap (λ w. order w y) e) ∙ h in absurd (cc)
 
 unequal : (k d : Datum) → (sort_key k ≡ sort_key d → ⊥) → same k d ≡ false
@@ -42,7 +42,7 @@ none-at (pair k v ps) d f =
     ap (λ t. if t then Some 0 else option_map (λ n. suc n) (first_place ps d)) (unequal k d (f 0 (omega arith)))
     ∙ ap (option_map (λ (n : ℕ). suc n)) (none-at ps d (λ m l. f (suc m) (omega (arith, l))))
 
-any-default : (ns : List ℕ) (i a b : ℕ) → i < length ns → get_or ns i a ≡ get_or ns i b
+pub any-default : (ns : List ℕ) (i a b : ℕ) → i < length ns → get_or ns i a ≡ get_or ns i b
 any-default [] i a b h = absurd (omega (arith, h))
 any-default (n ∷ ns) zero a b h = refl
 any-default (n ∷ ns) (suc i) a b h = any-default ns i a b (omega (arith, h))

@@ -19,3 +19,4 @@ pub mod Inside
 pub mod Falls
 pub mod Seen
 pub mod BuiltView
+pub mod Left

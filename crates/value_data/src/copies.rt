@@ -60,7 +60,7 @@ pub(crate) fn copies_with_room(
 {
     let mut copies = Vec::with_capacity(alloc, items.len().saturating_add(more))?;
     for item in items {
-        copies.push(copy(item)?)?;
+        copies.push_reserved(copy(item)?);
     }
     Ok(copies)
 }
@@ -73,7 +73,7 @@ pub(crate) fn copy_pairs(
 {
     let mut copies = Vec::with_capacity(alloc, pairs.len())?;
     for (key, value) in pairs {
-        copies.push((copy(key)?, copy(value)?))?;
+        copies.push_reserved((copy(key)?, copy(value)?));
     }
     Ok(copies)
 }

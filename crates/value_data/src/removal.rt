@@ -3,27 +3,31 @@ ghost use Rattle.std.specs.Prelude.{◌≡◌, ◌<◌, true, map, length, vec_l
 ghost use Rattle.value_data.specs.View.{view, pair_view, items_view, pairs_view};
 ghost use Rattle.value_data.specs.Repeats.{is_one_of};
 ghost use Rattle.value_data.specs.Keyed.{are_distinct};
-ghost use Rattle.value_data.specs.Index.{Indexes};
+ghost use Rattle.value_data.specs.Index.{Indexes, ArePlaces};
+ghost use Rattle.value_data.specs.Left.{numbers_from, places_left};
 ghost use Rattle.value_data.specs.Put.{without_keys as without};
 ghost use Rattle.value_data.specs.Listed.{vector_of_two, unmarked, with_mark};
 
 use crate::building::sealed;
 use crate::copies::copy;
 use crate::edits::measure_of;
-use crate::places::{place_of, search};
+use crate::places::place_of;
 use crate::value::{Sequence, Table, Value};
 use chunked_list::ChunkedList;
 use std::alloc::{AllocError, Global};
 
 impl Table {
     /// The pairs whose keys equal none of these, in their order. It fails only for want of memory,
-    /// and compares n log n keys for n pairs and log n for each key.
+    /// and takes a few steps for each pair and log n comparisons for each key.
     pub fn without_keys(&self, alloc: Global, keys: &[Value]) -> Result<Table, AllocError>
         ensures { IfOk result (λ made. made.pairs ≡ without self.now.pairs (items_view keys.now)) }
     {
         let pairs = self.node.pairs.as_slice();
         let marks = marks_of(alloc, keys, pairs, &self.node.index)?;
-        indexed(alloc, left_over(alloc, pairs, &marks)?)
+        let left = left_over(alloc, pairs, &marks)?;
+        let index = renumbered(alloc, &self.node.index, &marks)?;
+        let measure = measure_of(&left);
+        sealed(alloc, left, index, measure)
     }
 }
 
@@ -73,30 +77,41 @@ fn left_over(
     Ok(rest)
 }
 
-// A map of pairs whose keys are known to be distinct.
-fn indexed(alloc: Global, pairs: Vec<(Value, Value)>) -> Result<Table, AllocError>
-    requires { are_distinct (pairs_view pairs.items) ≡ true }
-    ensures { IfOk result (λ made. made.pairs ≡ pairs_view pairs.items) }
+// The places that are not marked, each less by the marked ones before it.
+fn renumbered(
+    alloc: Global,
+    index: &ChunkedList,
+    marks: &[bool],
+) -> Result<ChunkedList, AllocError>
+    requires { ArePlaces index.now (length marks.now) }
+    ensures { IfOk result (λ left. left ≡ places_left marks.now index.now) }
 {
-    let index = index_of(alloc, &pairs)?;
-    let measure = measure_of(&pairs);
-    sealed(alloc, pairs, index, measure)
-}
-
-// The places of pairs whose keys are distinct.
-fn index_of(alloc: Global, pairs: &[(Value, Value)]) -> Result<ChunkedList, AllocError>
-    requires { are_distinct (pairs_view pairs.now) ≡ true }
-    ensures { IfOk result (λ index. Indexes index (pairs_view pairs.now)) }
-{
-    let mut index = ChunkedList::new(alloc);
-    for place in 0..pairs.len() {
-        let pair = &pairs[place];
-        match search(&pair.0, &pairs[..place], &index) {
-            Ok(_) => {}
-            Err(rank) => index.insert(alloc, rank, place)?,
+    let numbers = numbers_of(alloc, marks)?;
+    let mut left = ChunkedList::new(alloc);
+    let mut count = 0;
+    for rank in 0..marks.len() {
+        let place = index.at(rank);
+        if !marks[place] {
+            left.insert(alloc, count, numbers[place])?;
+            count += 1;
         }
     }
-    Ok(index)
+    Ok(left)
+}
+
+// For each mark how many before it are not set.
+fn numbers_of(alloc: Global, marks: &[bool]) -> Result<Vec<usize>, AllocError>
+    ensures { IfOk result (λ numbers. numbers.items ≡ numbers_from 0 marks.now) }
+{
+    let mut numbers = Vec::with_capacity(alloc, marks.len())?;
+    let mut count = 0;
+    for mark in marks {
+        numbers.push(count)?;
+        if !*mark {
+            count += 1;
+        }
+    }
+    Ok(numbers)
 }
 
 /// The vector of a key and its value. It fails only for want of memory.
