@@ -1,10 +1,11 @@
 -- The index of the pairs that are left once some are taken out.
-use Rattle.std.proofs.Common.{◌≡◌, ⊎_elim, ℕ, zero, suc, ◌+◌, ◌-◌, ◌<◌, ◌≤◌, min, Bool, true, false, not, List, [], ◌∷◌, ◌++◌, length, get_or, take, map, filter, add-one, refl, sym, ap, ◌∙◌, subst, arith}
+use Rattle.std.proofs.Common.{◌≡◌, ⊎_elim, ℕ, zero, suc, ◌+◌, ◌-◌, ◌<◌, ◌≤◌, min, Bool, true, false, List, [], ◌∷◌, ◌++◌, length, get_or, take, drop, map, filter, refl, sym, ap, ◌∙◌, subst, arith}
 use Rattle.std.specs.Prelude.{if◌then◌else◌}
-use Rattle.std.specs.List.{All, Contains}
+use Rattle.std.specs.List.{Contains, insert}
 use Rattle.std.specs.declared.cmp.Ordering.TheVariants.{Less}
 use Rattle.std.proofs.lemmas.Bool.{cases_lt}
-use Rattle.std.proofs.lemmas.List.{length-map, get_or-map}
+use Rattle.std.proofs.lemmas.List.{append-nil, length-map, get_or-map, map-append, take_more, take_all, drop_all}
+use Rattle.std.proofs.lemmas.List.Elements.{filter-append}
 use Rattle.value_data.specs.Datum.{Datum, Pairs}
 use Rattle.value_data.specs.View.{pair_view, pairs_view}
 use Rattle.value_data.specs.Same.{size}
@@ -18,11 +19,11 @@ use Rattle.value_data.proofs.Searching.{not-below, any-default}
 -- ---- how many places there are
 
 -- how many numbers are below m, and how many are m
-below : ℕ → List ℕ → ℕ
+abbrev below : ℕ → List ℕ → ℕ
 below m [] = 0
 below m (n ∷ ns) = min 1 (m - n) + below m ns
 
-times : ℕ → List ℕ → ℕ
+abbrev times : ℕ → List ℕ → ℕ
 times m [] = 0
 times m (n ∷ ns) = (min 1 (suc m - n) - min 1 (m - n)) + times m ns
 
@@ -75,7 +76,7 @@ as-many m ns w c d = sym (below-all m ns w) ∙ below-is m m ns (omega arith) c 
 
 -- ---- where a place goes
 
-before : List Bool → ℕ → ℕ
+abbrev before : List Bool → ℕ → ℕ
 before [] p = 0
 before (m ∷ ms) zero = 0
 before (true ∷ ms) (suc p) = before ms p
@@ -126,15 +127,16 @@ Passed t all some k = (r : ℕ) × (r < length all) × (get_or some k 0 ≡ get_
 
 passed : (t : ℕ → Bool) (ns : List ℕ) (k : ℕ) → k < length (filter t ns) → Passed t ns (filter t ns) k
 passed t [] k h = absurd (omega (arith, h))
-passed t (n ∷ ns) k h = at (t n) refl k h
+passed t (n ∷ ns) k h = at (t n) refl (λ i l. passed t ns i l) k h
   where
-    at : (b : Bool) → t n ≡ b → (j : ℕ) → j < length (if b then n ∷ filter t ns else filter t ns) → Passed t (n ∷ ns) (if b then n ∷ filter t ns else filter t ns) j
-    at true e zero l = (0, omega arith, refl, e)
-    at true e (suc j) l =
-        let r : Passed t ns (filter t ns) j = passed t ns j (omega (arith, l)) in
+    at : (b : Bool) → t n ≡ b → ((i : ℕ) → i < length (filter t ns) → Passed t ns (filter t ns) i) → (j : ℕ) → j < length (if b then n ∷ filter t ns else filter t ns)
+        → Passed t (n ∷ ns) (if b then n ∷ filter t ns else filter t ns) j
+    at true e more zero l = (0, omega arith, refl, e)
+    at true e more (suc j) l =
+        let r : Passed t ns (filter t ns) j = more j (omega (arith, l)) in
         (suc r.0, omega (arith, r.1), r.2, r.3)
-    at false e j l =
-        let r : Passed t ns (filter t ns) j = passed t ns j l in
+    at false e more j l =
+        let r : Passed t ns (filter t ns) j = more j l in
         (suc r.0, omega (arith, r.1), r.2, r.3)
 
 abbrev TwoPassed : List ℕ → List ℕ → ℕ → ℕ → Type 0
@@ -142,18 +144,20 @@ TwoPassed all some i j = (r : ℕ) × (s : ℕ) × (r < s) × (s < length all) �
 
 two-passed : (t : ℕ → Bool) (ns : List ℕ) (i j : ℕ) → i < j → j < length (filter t ns) → TwoPassed ns (filter t ns) i j
 two-passed t [] i j l h = absurd (omega (arith, h))
-two-passed t (n ∷ ns) i j l h = at (t n) i j l h
+two-passed t (n ∷ ns) i j l h = at (t n) (λ a m. passed t ns a m) (λ a c m k. two-passed t ns a c m k) i j l h
   where
-    at : (b : Bool) (a c : ℕ) → a < c → c < length (if b then n ∷ filter t ns else filter t ns) → TwoPassed (n ∷ ns) (if b then n ∷ filter t ns else filter t ns) a c
-    at true a zero m k = absurd (omega (arith, m))
-    at true zero (suc c) m k =
-        let r : Passed t ns (filter t ns) c = passed t ns c (omega (arith, k)) in
+    at : (b : Bool) → ((a : ℕ) → a < length (filter t ns) → Passed t ns (filter t ns) a)
+        → ((a c : ℕ) → a < c → c < length (filter t ns) → TwoPassed ns (filter t ns) a c)
+        → (a c : ℕ) → a < c → c < length (if b then n ∷ filter t ns else filter t ns) → TwoPassed (n ∷ ns) (if b then n ∷ filter t ns else filter t ns) a c
+    at true one two a zero m k = absurd (omega (arith, m))
+    at true one two zero (suc c) m k =
+        let r : Passed t ns (filter t ns) c = one c (omega (arith, k)) in
         (0, suc r.0, omega arith, omega (arith, r.1), refl, r.2)
-    at true (suc a) (suc c) m k =
-        let r : TwoPassed ns (filter t ns) a c = two-passed t ns a c (omega (arith, m)) (omega (arith, k)) in
+    at true one two (suc a) (suc c) m k =
+        let r : TwoPassed ns (filter t ns) a c = two a c (omega (arith, m)) (omega (arith, k)) in
         (suc r.0, suc r.1, omega (arith, r.2), omega (arith, r.3), r.4, r.5)
-    at false a c m k =
-        let r : TwoPassed ns (filter t ns) a c = two-passed t ns a c m k in
+    at false one two a c m k =
+        let r : TwoPassed ns (filter t ns) a c = two a c m k in
         (suc r.0, suc r.1, omega (arith, r.2), omega (arith, r.3), r.4, r.5)
 
 abbrev Kept : List ℕ → ℕ → Type 0
@@ -175,13 +179,13 @@ passes t (n ∷ ns) (suc k) h e = at (t n) (passes t ns k (omega (arith, h)) e)
 -- ---- the index of what is left
 
 module _ (ms : List Bool) (qs : List (Datum × Datum)) (ns : List ℕ) (sized : length ms ≡ length qs) (h : Indexes ns (pairs_of qs)) where
-  rest : Pairs
+  abbrev rest : Pairs
   rest = pairs_of (unmarked ms qs)
 
-  to : ℕ → ℕ
+  abbrev to : ℕ → ℕ
   to p = get_or (numbers_from 0 ms) p 0
 
-  some : List ℕ
+  abbrev some : List ℕ
   some = filter (is_left ms) ns
 
   size-pairs : (xs : List (Datum × Datum)) → size (pairs_of xs) ≡ length xs
@@ -249,8 +253,45 @@ module _ (ms : List Bool) (qs : List (Datum × Datum)) (ns : List ℕ) (sized : 
     ascending = rises;
   }
 
-pub left-index : (ms : List Bool) (xs rest : List (Value × Value)) (ns : List ℕ) → length ms ≡ length xs → map pair_view rest ≡ unmarked ms (map pair_view xs)
-    → Indexes ns (pairs_view xs) → Indexes (places_left ms ns) (pairs_view rest)
-left-index ms xs rest ns sized is h =
+pub left-index : (ms : List Bool) (xs ys : List (Value × Value)) (ns : List ℕ) → length ms ≡ length xs → map pair_view ys ≡ unmarked ms (map pair_view xs)
+    → Indexes ns (pairs_view xs) → Indexes (places_left ms ns) (pairs_view ys)
+left-index ms xs ys ns sized is h =
     subst (λ (ps : Pairs). Indexes (places_left ms ns) ps) (ap pairs_of (sym is))
     (left-indexes ms (map pair_view xs) ns (sized ∙ sym (length-map xs pair_view)) h)
+
+-- ---- steps of the functions
+
+pub length-numbers : (ms : List Bool) (n : ℕ) → length (numbers_from n ms) ≡ length ms
+length-numbers [] n = refl
+length-numbers (true ∷ ms) n = omega (arith, length-numbers ms n)
+length-numbers (false ∷ ms) n = omega (arith, length-numbers ms (n + 1))
+
+pub any-mark : (ms : List Bool) (p : ℕ) (d e : Bool) → p < length ms → get_or ms p d ≡ get_or ms p e
+any-mark [] p d e h = absurd (omega (arith, h))
+any-mark (m ∷ ms) zero d e h = refl
+any-mark (m ∷ ms) (suc p) d e h = any-mark ms p d e (omega (arith, h))
+
+one-more : (ms : List Bool) (ns : List ℕ) (rank : ℕ) → rank < length ns
+    → places_left ms (take (rank + 1) ns)
+    ≡ places_left ms (take rank ns) ++ map (λ p. get_or (numbers_from 0 ms) p 0) (if is_left ms (get_or ns rank 0) then get_or ns rank 0 ∷ [] else [])
+one-more ms ns rank h =
+    ap (places_left ms) (take_more ns rank 0 h)
+    ∙ ap (λ (xs : List ℕ). map (λ p. get_or (numbers_from 0 ms) p 0) xs) (filter-append (is_left ms) (take rank ns) (get_or ns rank 0 ∷ []))
+    ∙ map-append (λ p. get_or (numbers_from 0 ms) p 0) (filter (is_left ms) (take rank ns)) _
+
+pub left-more : (ms : List Bool) (ns : List ℕ) (rank : ℕ) → rank < length ns → is_left ms (get_or ns rank 0) ≡ true
+    → places_left ms (take (rank + 1) ns) ≡ places_left ms (take rank ns) ++ get_or (numbers_from 0 ms) (get_or ns rank 0) 0 ∷ []
+left-more ms ns rank h e =
+    one-more ms ns rank h
+    ∙ ap (λ (b : Bool). places_left ms (take rank ns) ++ map (λ p. get_or (numbers_from 0 ms) p 0) (if b then get_or ns rank 0 ∷ [] else [])) e
+
+pub left-same : (ms : List Bool) (ns : List ℕ) (rank : ℕ) → rank < length ns → is_left ms (get_or ns rank 0) ≡ false
+    → places_left ms (take (rank + 1) ns) ≡ places_left ms (take rank ns)
+left-same ms ns rank h e =
+    one-more ms ns rank h
+    ∙ ap (λ (b : Bool). places_left ms (take rank ns) ++ map (λ p. get_or (numbers_from 0 ms) p 0) (if b then get_or ns rank 0 ∷ [] else [])) e
+    ∙ append-nil (places_left ms (take rank ns))
+
+pub insert-end : (xs : List ℕ) (n y : ℕ) → n ≡ length xs → insert xs n y ≡ xs ++ y ∷ []
+insert-end xs n y e =
+    ap (λ (zs : List ℕ). zs ++ y ∷ drop n xs) (take_all n xs (omega (arith, e))) ∙ ap (λ (zs : List ℕ). xs ++ y ∷ zs) (drop_all n xs (omega (arith, e)))

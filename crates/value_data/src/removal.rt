@@ -78,11 +78,7 @@ fn left_over(
 }
 
 // The places that are not marked, each less by the marked ones before it.
-fn renumbered(
-    alloc: Global,
-    index: &ChunkedList,
-    marks: &[bool],
-) -> Result<ChunkedList, AllocError>
+fn renumbered(alloc: Global, index: &ChunkedList, marks: &[bool]) -> Result<ChunkedList, AllocError>
     requires { ArePlaces index.now (length marks.now) }
     ensures { IfOk result (λ left. left ≡ places_left marks.now index.now) }
 {
