@@ -123,7 +123,12 @@ fn rows() -> [Row; 46] {
         // A length that passes 64 bits is above each limit, be it a key's or a value's.
         limited(usize::MAX, b"d18446744073709551616", b"", TooLong(20)),
         limited(usize::MAX, b"d1:a99999999999999999999", b"", TooLong(23)),
-        limited(10_000_000_000_000_000_000, b"d99999999999999999999", b"", TooLong(20)),
+        limited(
+            10_000_000_000_000_000_000,
+            b"d99999999999999999999",
+            b"",
+            TooLong(20),
+        ),
         limited(17, b"d1:a10:0123456789e", b"", TooLong(17)),
         limited(2, b"deded1:a", b"dede", TooLong(6)),
         limited(4, b"d1:ax", b"", TooLong(4)),
