@@ -1,105 +1,136 @@
 -- What is written with its keys sorted is a spelling of the value.
-use Rattle.std.proofs.Common.{◌≡◌, ℕ, Bool, true, false, ◌||◌, Ordering, Less, Equal, Greater, List, [], ◌∷◌, ◌++◌, codes, refl, sym, ap, ◌∙◌, subst, append-nil, arith}
-use Rattle.std.proofs.lemmas.List.Sorted.{IsPermutation-refl, IsPermutation-trans, IsPermutation-cons, IsPermutation-middle, IsPermutation-append_left}
+use Rattle.std.proofs.Common.{◌≡◌, ℕ, ◌≤◌, Bool, true, false, ◌||◌, Ordering, Less, Equal, Greater, List, refl, sym, ap, ◌∙◌, subst, arith}
+use Rattle.std.proofs.lemmas.Cmp.{nat_list_cmp_total}
 use Rattle.std.proofs.lemmas.Slice.Eq.{bytes_eq-Decides}
-use Rattle.std.specs.List.Sorted.{IsPermutation}
-use Rattle.std.specs.Ordering.{match_ordering}
+use Rattle.std.specs.Ordering.{match_ordering, ordering_reverse}
 use Rattle.std.specs.Str.{bytes_eq}
 use Rattle.bencode_wire.specs.Tree.{Tree, integer, string, list, dictionary, Trees, no_trees, tree, Pairs, no_pairs, pair, has_key, HasKey}
-use Rattle.bencode_wire.specs.Spelling.{text, trees_text, pairs_text, string_text, joined, canonical, sorted, sorted_trees, put_pair, put_pairs, AreDistinct, Spells, SpellsAll, SpellsPairs}
-use Rattle.bencode_wire.proofs.Orders.{same_key, has_key-put_pair}
-use Rattle.bencode_wire.proofs.Written.{order}
+use Rattle.bencode_wire.specs.Spelling.{canonical, sorted, sorted_trees, put_pair, put_pairs, IsString, IsSpellable, AreSpellable, ArePairs, IsDistinct, AreDistinct, PairsDistinct, Spells}
+use Rattle.bencode_wire.specs.Nesting.{nesting, trees_nesting, pairs_nesting}
+use Rattle.bencode_wire.proofs.Orders.{same_key}
+use Rattle.bencode_wire.proofs.Written.{order, Above, InOrder, put_in_ascending, sorted_twice}
 
--- the text of each pair
-abbrev pair_texts : Pairs → List (List ℕ)
-pair_texts no_pairs = []
-pair_texts (pair k t ps) = (string_text k ++ text t) ∷ pair_texts ps
+-- what holds of each key with its value
+abbrev Each : (List ℕ → Tree → Type 0) → Pairs → Type 0
+Each P no_pairs = Unit {0}
+Each P (pair k t ps) = P k t × Each P ps
 
 -- the same, with the values sorted
-abbrev sorted_texts : Pairs → List (List ℕ)
-sorted_texts no_pairs = []
-sorted_texts (pair k t ps) = (string_text k ++ text (sorted t)) ∷ sorted_texts ps
+abbrev EachSorted : (List ℕ → Tree → Type 0) → Pairs → Type 0
+EachSorted P no_pairs = Unit {0}
+EachSorted P (pair k t ps) = P k (sorted t) × EachSorted P ps
 
-joined_texts : (ps : Pairs) → joined (pair_texts ps) ≡ pairs_text ps
-joined_texts no_pairs = refl
-joined_texts (pair k t ps) = ap (λ x. string_text k ++ text t ++ x) (joined_texts ps)
+each_ordered : (P : List ℕ → Tree → Type 0) (o : Ordering) (key : List ℕ) (t : Tree) (l : List ℕ) (u : Tree) (ps more : Pairs) → (o ≡ Equal → key ≡ l)
+    → P key t → P l u → Each P ps → Each P more → Each P (match_ordering o (pair key t (pair l u ps)) (pair l t ps) (pair l u more))
+each_ordered P Less key t l u ps more same new old h g = (new, (old, h))
+each_ordered P Equal key t l u ps more same new old h g = (subst (λ x. P x t) (same refl) new, h)
+each_ordered P Greater key t l u ps more same new old h g = (old, g)
 
--- no key of `ps` stands in `done`
-abbrev AreApart : Pairs → Pairs → Type 0
-AreApart done no_pairs = Unit {0}
-AreApart done (pair k t ps) = (HasKey k done → ⊥) × AreApart done ps
+each_put : (P : List ℕ → Tree → Type 0) (ps : Pairs) (key : List ℕ) (t : Tree) → Each P ps → P key t → Each P (put_pair ps key t)
+each_put P no_pairs key t h new = (new, tt)
+each_put P (pair l u ps) key t h new = each_ordered P (order key l) key t l u ps (put_pair ps key t) (same_key key l) new h.0 h.1 (each_put P ps key t h.1 new)
 
-apart_none : (ps : Pairs) → AreApart no_pairs ps
-apart_none no_pairs = tt
-apart_none (pair k t ps) = ((λ e. absurd (cc)), apart_none ps)
+each_puts : (P : List ℕ → Tree → Type 0) (done ps : Pairs) → Each P done → EachSorted P ps → Each P (put_pairs done ps)
+each_puts P done no_pairs h g = h
+each_puts P done (pair k t ps) h g = each_puts P (put_pair done k (sorted t)) ps (each_put P done k (sorted t) h g.0) g.1
 
-key_here : (k l : List ℕ) (u : Tree) (ps : Pairs) → k ≡ l → HasKey k (pair l u ps)
-key_here k l u ps e = let same : bytes_eq k l ≡ true = grind (arith, bytes_eq-Decides) in ap (λ b. b || has_key k ps) same
+-- Keys
 
-key_later : (k l : List ℕ) (u : Tree) (ps : Pairs) (b : Bool) → HasKey k ps → b || has_key k ps ≡ true
-key_later k l u ps true e = refl
-key_later k l u ps false e = e
+less_greater : Less ≡ Greater → ⊥
+less_greater e = absurd (cc)
 
--- a key that is found among the pairs and one more is that one's, or was there
-apart_one : (b : Bool) (l k : List ℕ) (done : Pairs) → bytes_eq l k ≡ b → (l ≡ k → ⊥) → (HasKey l done → ⊥) → b || has_key l done ≡ true → ⊥
-apart_one true l k done e other was h = other (grind (arith, bytes_eq-Decides))
-apart_one false l k done e other was h = was h
+less_apart : (a b : List ℕ) → order a b ≡ Less → a ≡ b → ⊥
+less_apart a b h e =
+    let same : order a a ≡ Less = ap (order a) e ∙ h in
+    less_greater (sym same ∙ nat_list_cmp_total.antisymm a a ∙ ap ordering_reverse same)
 
-apart_put : (done : Pairs) (k : List ℕ) (v : Tree) (ps : Pairs) → (HasKey k ps → ⊥) → AreApart done ps → AreApart (put_pair done k v) ps
-apart_put done k v no_pairs h g = tt
-apart_put done k v (pair l u ps) h g = (
-  λ e. apart_one (bytes_eq l k) l k done refl (λ same. h (key_here k l u ps (sym same))) g.0 (sym (has_key-put_pair l done k v) ∙ e),
-  apart_put done k v ps (λ e. h (key_later k l u ps (bytes_eq k l) e)) g.1,
-)
+other_key : (b : Bool) (low k : List ℕ) (ps : Pairs) → bytes_eq low k ≡ b → order low k ≡ Less → (HasKey low ps → ⊥) → b || has_key low ps ≡ true → ⊥
+other_key true low k ps e above other h = let same : low ≡ k = grind (arith, bytes_eq-Decides) in less_apart low k above same
+other_key false low k ps e above other h = other h
 
-put_moves : (o : Ordering) (k : List ℕ) (v : Tree) (l : List ℕ) (u : Tree) (ps more : Pairs) → (o ≡ Equal → ⊥)
-    → IsPermutation ((string_text k ++ text v) ∷ pair_texts ps) (pair_texts more)
-    → IsPermutation ((string_text k ++ text v) ∷ pair_texts (pair l u ps)) (pair_texts (match_ordering o (pair k v (pair l u ps)) (pair l v ps) (pair l u more)))
-put_moves Less k v l u ps more other moved = IsPermutation-refl _
-put_moves Equal k v l u ps more other moved = absurd (other refl)
-put_moves Greater k v l u ps more other moved =
-    let x = string_text k ++ text v in
-    let y = string_text l ++ text u in
-    IsPermutation-trans (x ∷ y ∷ pair_texts ps) (y ∷ x ∷ pair_texts ps) (y ∷ pair_texts more)
-    (IsPermutation-middle (x ∷ []) y (pair_texts ps)) (IsPermutation-cons y (x ∷ pair_texts ps) (pair_texts more) moved)
+above_other : (low : List ℕ) (ps : Pairs) → Above low ps → HasKey low ps → ⊥
+above_other low no_pairs h g = absurd (cc)
+above_other low (pair k t ps) h g = other_key (bytes_eq low k) low k ps refl h.0 (above_other low ps h.1) g
 
--- putting a pair in moves the texts alone
-put_texts : (ps : Pairs) (k : List ℕ) (v : Tree) → (HasKey k ps → ⊥) → IsPermutation ((string_text k ++ text v) ∷ pair_texts ps) (pair_texts (put_pair ps k v))
-put_texts no_pairs k v h = IsPermutation-refl _
-put_texts (pair l u ps) k v h =
-    put_moves (order k l) k v l u ps (put_pair ps k v) (λ e. h (key_here k l u ps (same_key k l e))) (put_texts ps k v (λ e. h (key_later k l u ps (bytes_eq k l) e)))
+abbrev OfDistinct : List ℕ → Tree → Type 0
+OfDistinct k t = IsDistinct t
 
-puts_texts : (done ps : Pairs) → AreApart done ps → AreDistinct ps → IsPermutation (pair_texts done ++ sorted_texts ps) (pair_texts (put_pairs done ps))
-puts_texts done no_pairs g d = subst (λ x. IsPermutation x (pair_texts done)) (sym (append-nil (pair_texts done))) (IsPermutation-refl (pair_texts done))
-puts_texts done (pair k t ps) g d =
-    let x = string_text k ++ text (sorted t) in
-    let all = put_pair done k (sorted t) in
-    let front = IsPermutation-append_left (sorted_texts ps) (x ∷ pair_texts done) (pair_texts all) (put_texts done k (sorted t) g.0) in
-    let later = puts_texts all ps (apart_put done k (sorted t) ps d.0 g.1) d.1 in
-    IsPermutation-trans (pair_texts done ++ x ∷ sorted_texts ps) (x ∷ (pair_texts done ++ sorted_texts ps)) (pair_texts (put_pairs all ps))
-    (IsPermutation-middle (pair_texts done) x (sorted_texts ps))
-    (IsPermutation-trans (x ∷ (pair_texts done ++ sorted_texts ps)) (pair_texts all ++ sorted_texts ps) (pair_texts (put_pairs all ps)) front later)
+distinct_in_order : (ps : Pairs) → InOrder ps → Each OfDistinct ps → PairsDistinct ps
+distinct_in_order no_pairs h g = tt
+distinct_in_order (pair k t ps) h g = (above_other k ps h.0, g.0, distinct_in_order ps h.2 g.1)
 
 mutual
-  -- a value that has a spelling is spelled by what is written
-  pub canonical_spells : (v : Tree) (bytes : List ℕ) → Spells v bytes → Spells v (canonical v)
-  canonical_spells (integer n) bytes h = (h.0, refl)
-  canonical_spells (string s) bytes h = (h.0, refl)
-  canonical_spells (list ts) bytes h = (trees_text (sorted_trees ts), canonical_all ts h.0 h.1, refl)
-  canonical_spells (dictionary ps) bytes h =
-      let qs = put_pairs no_pairs ps in (
-        sorted_texts ps,
-        pair_texts qs,
-        canonical_pairs ps h.0 h.2,
-        h.3,
-        puts_texts no_pairs ps (apart_none ps) h.3,
-        ap (λ x. codes "d" ++ x ++ codes "e") (sym (joined_texts qs)),
-      )
+  -- no key stands twice in what is sorted
+  pub distinct_sorted : (t : Tree) → IsDistinct (sorted t)
+  distinct_sorted (integer n) = tt
+  distinct_sorted (string bytes) = tt
+  distinct_sorted (list ts) = distinct_trees ts
+  distinct_sorted (dictionary ps) = distinct_in_order (put_pairs no_pairs ps) (put_in_ascending ps) (each_puts OfDistinct no_pairs ps tt (distinct_each ps))
 
-  canonical_all : (ts : Trees) (bytes : List ℕ) → SpellsAll ts bytes → SpellsAll ts (trees_text (sorted_trees ts))
-  canonical_all no_trees bytes h = refl
-  canonical_all (tree t ts) bytes h = (canonical t, trees_text (sorted_trees ts), canonical_spells t h.0 h.2, canonical_all ts h.1 h.3, refl)
+  distinct_trees : (ts : Trees) → AreDistinct (sorted_trees ts)
+  distinct_trees no_trees = tt
+  distinct_trees (tree t ts) = (distinct_sorted t, distinct_trees ts)
 
-  canonical_pairs : (ps : Pairs) (texts : List (List ℕ)) → SpellsPairs ps texts → SpellsPairs ps (sorted_texts ps)
-  canonical_pairs no_pairs texts h = refl
-  canonical_pairs (pair k t ps) texts h = (canonical t, sorted_texts ps, h.2, canonical_spells t h.0 h.3, canonical_pairs ps h.1 h.4, refl)
+  distinct_each : (ps : Pairs) → EachSorted OfDistinct ps
+  distinct_each no_pairs = tt
+  distinct_each (pair k t ps) = (distinct_sorted t, distinct_each ps)
+
+-- The grammar
+
+abbrev OfGrammar : List ℕ → Tree → Type 0
+OfGrammar k t = IsString k × IsSpellable t
+
+are_pairs : (ps : Pairs) → Each OfGrammar ps → ArePairs ps
+are_pairs no_pairs h = tt
+are_pairs (pair k t ps) h = (h.0.0, h.0.1, are_pairs ps h.1)
+
+mutual
+  pub spellable_sorted : (t : Tree) → IsSpellable t → IsSpellable (sorted t)
+  spellable_sorted (integer n) h = h
+  spellable_sorted (string bytes) h = h
+  spellable_sorted (list ts) h = spellable_trees ts h
+  spellable_sorted (dictionary ps) h = are_pairs (put_pairs no_pairs ps) (each_puts OfGrammar no_pairs ps tt (spellable_each ps h))
+
+  spellable_trees : (ts : Trees) → AreSpellable ts → AreSpellable (sorted_trees ts)
+  spellable_trees no_trees h = tt
+  spellable_trees (tree t ts) h = (spellable_sorted t h.0, spellable_trees ts h.1)
+
+  spellable_each : (ps : Pairs) → ArePairs ps → EachSorted OfGrammar ps
+  spellable_each no_pairs h = tt
+  spellable_each (pair k t ps) h = ((h.0, spellable_sorted t h.1), spellable_each ps h.2)
+
+-- Nesting
+
+abbrev OfNesting : ℕ → List ℕ → Tree → Type 0
+OfNesting n k t = nesting t ≤ n
+
+pairs_nested : (n : ℕ) (ps : Pairs) → Each (OfNesting n) ps → pairs_nesting ps ≤ n
+pairs_nested n no_pairs h = omega arith
+pairs_nested n (pair k t ps) h = let first = h.0 in let more = pairs_nested n ps h.1 in omega arith
+
+mutual
+  -- sorting nests nothing deeper
+  pub nesting_sorted : (t : Tree) → nesting (sorted t) ≤ nesting t
+  nesting_sorted (integer n) = omega arith
+  nesting_sorted (string bytes) = omega arith
+  nesting_sorted (list ts) = let inner = nesting_trees ts in omega arith
+  nesting_sorted (dictionary ps) =
+      let inner = pairs_nested (pairs_nesting ps) (put_pairs no_pairs ps) (each_puts (OfNesting (pairs_nesting ps)) no_pairs ps tt (nesting_each (pairs_nesting ps) ps (omega arith))) in
+      omega arith
+
+  nesting_trees : (ts : Trees) → trees_nesting (sorted_trees ts) ≤ trees_nesting ts
+  nesting_trees no_trees = omega arith
+  nesting_trees (tree t ts) = let first = nesting_sorted t in let more = nesting_trees ts in omega arith
+
+  nesting_each : (n : ℕ) (ps : Pairs) → pairs_nesting ps ≤ n → EachSorted (OfNesting n) ps
+  nesting_each n no_pairs h = tt
+  nesting_each n (pair k t ps) h = let first = nesting_sorted t in (omega arith, nesting_each n ps (omega arith))
+
+-- a value of the grammar is spelled by what is written
+pub canonical_of : (v : Tree) → IsSpellable v → IsDistinct v → Spells v (canonical v)
+canonical_of v g d = (sorted v, spellable_sorted v g, (d, distinct_sorted v, sym (sorted_twice v)), refl)
+
+-- a value that has a spelling is spelled by what is written
+pub canonical_spells : (v : Tree) (bytes : List ℕ) → Spells v bytes → Spells v (canonical v)
+canonical_spells v bytes h =
+    (sorted v, subst IsSpellable (sym h.2.2) (spellable_sorted h.0 h.1), (h.2.0, distinct_sorted v, sym (sorted_twice v)), refl)

@@ -77,7 +77,7 @@ in_part : (xs ds bytes more : List ℕ) → xs ++ (ds ++ (bytes ++ more)) ≡ (x
 in_part xs ds bytes more = simp append_assoc
 
 -- part of a string
-close_part : (fs : List Frame) (bytes : List ℕ) (left : ℕ) → TakesValue fs ⊎ TakesKey fs → 0 < left → length bytes + left < 2 ^ 64 → IsFront (cut_text (cut fs (part bytes left)))
+close_part : (fs : List Frame) (bytes : List ℕ) (left : ℕ) → TakesValue fs ⊎ TakesKey fs → 0 < left → length bytes + left < 10 ^ 64 → IsFront (cut_text (cut fs (part bytes left)))
 close_part fs bytes left h some fits =
     let all = bytes ++ 0 ∷ zeros (left - 1) in
     let zs : length (zeros (left - 1)) ≡ left - 1 = length-replicate (left - 1) 0 in
@@ -89,7 +89,7 @@ close_part fs bytes left h some fits =
 in_count : (xs ds more : List ℕ) → xs ++ ((ds ++ 58 ∷ []) ++ more) ≡ (xs ++ ds) ++ 58 ∷ more
 in_count xs ds more = simp append_assoc
 
-close_count : (fs : List Frame) (n : ℕ) → TakesValue fs ⊎ TakesKey fs → n < 2 ^ 64 → IsFront (cut_text (cut fs (count n)))
+close_count : (fs : List Frame) (n : ℕ) → TakesValue fs ⊎ TakesKey fs → n < 10 ^ 64 → IsFront (cut_text (cut fs (count n)))
 close_count fs n h fits =
     let long : length (zeros n) ≡ n = length-replicate n 0 in
     front_by (frames_text fs ++ string_text (zeros n)) (frames_text fs ++ decimal n) (zeros n) 58

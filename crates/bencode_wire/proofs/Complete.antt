@@ -1,7 +1,7 @@
 -- The text of a value is read as the value, and the text of a cut as the cut.
 use Rattle.std.proofs.Common.{◌≡◌, ℕ, suc, ◌+◌, ◌-◌, ◌*◌, ◌/◌, ◌%◌, ◌^◌, ◌<◌, ◌≤◌, ◌⊎◌, inl, inr, Bool, true, false, cond, nat_lt, nat_le, ◌==◌, ℤ, pos, negsuc, List, [], ◌∷◌, ◌++◌, length, decimal, refl, sym, ap, ◌∙◌, append_assoc, append-nil, arith}
 use Rattle.std.proofs.lemmas.Bool.Decides.{nat_tests}
-use Rattle.std.proofs.lemmas.Fmt.{decimal_by_steps}
+use Rattle.std.proofs.lemmas.Fmt.{decimal_by_steps, decimal_by_steps_wide}
 use Rattle.bencode_wire.specs.Tree.{Tree, integer, string, list, dictionary, Trees, no_trees, tree, Pairs, no_pairs, pair, add_tree, add_pair}
 use Rattle.bencode_wire.specs.Spelling.{text, trees_text, pairs_text, string_text, integer_text, IsInteger, IsString, IsSpellable, AreSpellable, ArePairs}
 use Rattle.bencode_wire.specs.Cut.{Frame, in_list, at_key, at_value, between, after_i, after_minus, digits, count, part, Cut, cut, frames_text, token_text, cut_text, IfAny, TakesValue, TakesKey, greatest, IsCut}
@@ -94,15 +94,18 @@ not_zero n h = grind (arith, nat_tests)
 is_within : (n m : ℕ) → n ≤ m → nat_le n m ≡ true
 is_within n m h = grind (arith, nat_tests)
 
-more_length-fits : (fs : List Frame) (n d : ℕ) → 0 < n → 10 * n + d < 2 ^ 64 → more_length fs n d ≡ goes fs (count (10 * n + d))
-more_length-fits fs n d some fits = rw (not_zero n some, is_within (10 * n + d) 18446744073709551615 (omega arith))
+is_below : (n m : ℕ) → n < m → nat_lt n m ≡ true
+is_below n m h = grind (arith, nat_tests)
+
+more_length-fits : (fs : List Frame) (n d : ℕ) → 0 < n → 10 * n + d < 10 ^ 64 → more_length fs n d ≡ goes fs (count (10 * n + d))
+more_length-fits fs n d some fits = rw (not_zero n some, is_below (10 * n + d) (10 ^ 64) fits)
 
 more_digits-fits : (fs : List Frame) (negative : Bool) (n d : ℕ) → 0 < n → 10 * n + d ≤ greatest negative → more_digits fs negative n d ≡ goes fs (digits negative (10 * n + d))
 more_digits-fits fs negative n d some fits = rw (not_zero n some, is_within (10 * n + d) (greatest negative) fits)
 
 -- the digits of a string's length
-run-count : (fs : List Frame) → Takes fs → (n : ℕ) → n < 2 ^ 64 → (n < 2 ^ 64 → run (between_in fs) (decimal n) ≡ goes fs (count n))
-run-count fs h = decimal_by_steps (λ n ds. n < 2 ^ 64 → run (between_in fs) ds ≡ goes fs (count n))
+run-count : (fs : List Frame) → Takes fs → (n : ℕ) → n < 10 ^ 64 → (n < 10 ^ 64 → run (between_in fs) (decimal n) ≡ goes fs (count n))
+run-count fs h = decimal_by_steps_wide (λ n ds. n < 10 ^ 64 → run (between_in fs) ds ≡ goes fs (count n))
     (λ n small fits. run-between fs (48 + n) [] ∙ ap (λ s. begin add_pair fs s) (sign_of-digit n small) ∙ begin_digit fs n h)
     (λ n ds big before fits.
     let digit : n % 10 < 10 = omega arith in
@@ -176,7 +179,7 @@ run-opened fs (b ∷ bs) =
     let test : suc (length bs) == 0 ≡ false = grind (arith, nat_tests) in
     ap (λ t. run (cond t (put add_pair fs (string [])) (goes fs (part [] (suc (length bs))))) (b ∷ bs)) test ∙ run-last fs [] (b ∷ bs) (omega arith)
 
-pub run-length : (fs : List Frame) (n : ℕ) → Takes fs → n < 2 ^ 64 → run (between_in fs) (decimal n) ≡ goes fs (count n)
+pub run-length : (fs : List Frame) (n : ℕ) → Takes fs → n < 10 ^ 64 → run (between_in fs) (decimal n) ≡ goes fs (count n)
 run-length fs n h fits = run-count fs h n fits fits
 
 run-string : (fs : List Frame) (bytes : List ℕ) → Takes fs → IsString bytes → run (between_in fs) (string_text bytes) ≡ put add_pair fs (string bytes)

@@ -1,11 +1,11 @@
 -- What one run makes of what is ahead, by what it comes to.
-use Rattle.std.proofs.Common.{◌≡◌, ℕ, ◌+◌, ◌-◌, ◌<◌, ◌≤◌, ◌^◌, min, List, [], ◌∷◌, ◌++◌, length, take, drop, Some, Err, sym, ap, ◌∙◌, subst, append-nil, append_assoc, length-drop, arith}
+use Rattle.std.proofs.Common.{◌≡◌, ℕ, ◌+◌, ◌-◌, ◌<◌, ◌≤◌, ◌^◌, min, Bool, true, false, cond, List, [], ◌∷◌, ◌++◌, length, take, drop, Some, Err, refl, sym, ap, ◌∙◌, subst, append-nil, append_assoc, length-drop, arith}
 use Rattle.std.proofs.lemmas.List.{map-append}
 use Rattle.bencode_wire.specs.Spelling.{put_pair}
 use Rattle.bencode_wire.specs.Cut.{Frame, Token, Cut, cut}
 use Rattle.bencode_wire.specs.Fault.{Rule, malformed, too_long, too_deep, counted, fault_at}
-use Rattle.bencode_wire.specs.Machine.{step_run, Judged, judged, checked, reads, whole, Reading, ended, faults, onward, reading, start, TakesRun}
-use Rattle.bencode_wire.specs.Reader.{Gives}
+use Rattle.bencode_wire.specs.Machine.{step_run, Judged, judged, is_large, checked, reads, whole, refuses, Reading, ended, faults, onward, reading, start, TakesRun}
+use Rattle.bencode_wire.specs.Gives.{Gives}
 use Rattle.bencode_wire.specs.Refusals.{refusal_at}
 use Rattle.bencode_wire.specs.Course.{fault_of_end, ahead, ready_view, Advances, Faults, Continues}
 use Rattle.bencode_wire.specs.View.{view}
@@ -85,18 +85,29 @@ pub faults_over : (limit place : ℕ) (course : Course) (bytes : List ℕ) (old 
 faults_over limit place course bytes old p within over is =
     faults_by place _ old too_long course.at p (reading-over limit put_pair (course.at - course.begin) _ course.at (drop course.at bytes) (let long = length-drop course.at bytes in omega arith) over) is
 
+cond_twice : (t : Bool) (c : Cut) (limit : ℕ) → is_large limit c ≡ t → checked limit (cond t (refuses too_long) (reads c)) ≡ cond t (refuses too_long) (reads c)
+cond_twice true c limit e = refl
+cond_twice false c limit e = ap (λ t. cond t (refuses too_long) (reads c)) e
+
+-- what was checked passes
+pub checked_twice : (limit : ℕ) (j : Judged) → checked limit (checked limit j) ≡ checked limit j
+checked_twice limit (reads c) = cond_twice (is_large limit c) c limit refl
+checked_twice limit (whole t) = refl
+checked_twice limit (refuses rule) = refl
+
 pub faults_in : (limit place : ℕ) (course : Course) (fs : List Frame) (token : Token) (n : ℕ) (bytes : List ℕ) (old : List Ben) (refusal : Refusal) (p q : ℕ) (fault : WireFault)
-    → ahead limit bytes course ≡ reading limit put_pair (course.at - course.begin) (cut fs token) course.at (drop course.at bytes)
+    → limit < 2 ^ 64 → ahead limit bytes course ≡ reading limit put_pair (course.at - course.begin) (cut fs token) course.at (drop course.at bytes)
     → Runs limit course.begin fs token course.at n bytes → Gives (outcome limit fs token course.at n bytes) (Err refusal)
     → p ≡ counted (place + course.at) → q ≡ counted (p + (n - 1)) → fault ≡ refusal_at refusal q
     → Continues limit place bytes course old old (Err fault)
-faults_in limit place course fs token n bytes old refusals.NoMemory p q fault is h g from to e = subst (λ f. Continues limit place bytes course old old (Err f)) (sym e) tt
-faults_in limit place course fs token n bytes old refusals.Malformed p q fault is h g from to e =
+faults_in limit place course fs token n bytes old refusals.NoMemory p q fault small is h g from to e = subst (λ f. Continues limit place bytes course old old (Err f)) (sym e) tt
+faults_in limit place course fs token n bytes old refusals.Malformed p q fault small is h g from to e =
     subst (λ f. Continues limit place bytes course old old (Err f)) (sym e)
     (faults_by place _ old malformed (course.at + n - 1) q (is ∙ run_onward limit course.begin fs token course.at n bytes _ h g) (let some = h.some in omega arith))
-faults_in limit place course fs token n bytes old refusals.TooLong p q fault is h g from to e =
+faults_in limit place course fs token n bytes old refusals.TooLong p q fault small is h g from to e =
+    let now = sym (checked_twice limit (judged (step_run put_pair fs token (take (course.at + n - course.at) (drop course.at bytes))))) ∙ g limit small in
     subst (λ f. Continues limit place bytes course old old (Err f)) (sym e)
-    (faults_by place _ old too_long (course.at + n - 1) q (is ∙ run_onward limit course.begin fs token course.at n bytes _ h g) (let some = h.some in omega arith))
-faults_in limit place course fs token n bytes old refusals.TooDeep p q fault is h g from to e =
+    (faults_by place _ old too_long (course.at + n - 1) q (is ∙ run_onward limit course.begin fs token course.at n bytes _ h now) (let some = h.some in omega arith))
+faults_in limit place course fs token n bytes old refusals.TooDeep p q fault small is h g from to e =
     subst (λ f. Continues limit place bytes course old old (Err f)) (sym e)
     (faults_by place _ old too_deep (course.at + n - 1) q (is ∙ run_onward limit course.begin fs token course.at n bytes _ h g) (let some = h.some in omega arith))

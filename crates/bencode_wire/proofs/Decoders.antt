@@ -1,24 +1,24 @@
 -- A decoder that stands for some bytes stands for more after a feed.
-use Rattle.std.proofs.Common.{◌≡◌, ℕ, ◌+◌, ◌-◌, ◌^◌, min, List, [], ◌∷◌, ◌++◌, length, drop, Option, Some, None, MatchOption, Err, refl, sym, ap, ◌∙◌, subst, append_assoc, append-nil, length-append, arith}
+use Rattle.std.proofs.Common.{◌≡◌, ℕ, ◌+◌, ◌-◌, List, [], ◌∷◌, ◌++◌, length, drop, Option, Some, None, MatchOption, Err, refl, sym, ap, ◌∙◌, subst, arith}
 use Rattle.std.proofs.lemmas.List.{drop_all}
-use Rattle.std.proofs.Math.Seq.{drop-append_seam}
 use Rattle.bencode_wire.specs.Tree.{Tree}
 use Rattle.bencode_wire.specs.Spelling.{put_pair}
 use Rattle.bencode_wire.specs.Cut.{Cut}
 use Rattle.bencode_wire.specs.Fault.{Rule, counted, fault_at}
-use Rattle.bencode_wire.specs.Machine.{Reading, End, rests, faults, ended, reading, start}
+use Rattle.bencode_wire.specs.Machine.{Reading, rests, ended, reading, start}
 use Rattle.bencode_wire.specs.Reader.{cut_view}
 use Rattle.bencode_wire.specs.Stream.{Ending, rest, fault, IsRest, Streams}
-use Rattle.bencode_wire.specs.Course.{fault_of_end, ahead, ready_view, Advances, Faults, Continues}
-use Rattle.bencode_wire.specs.Decoder.{ready_of, rest_of, place_of, fault_of, Shows, IsUnchanged, Holds, IsInStep, Stands}
+use Rattle.bencode_wire.specs.Course.{fault_of_end, ahead, ready_view, Advances, Continues}
+use Rattle.bencode_wire.specs.Decoder.{ready_of, rest_of, place_of, fault_of, Shows, IsUnchanged, Stands}
+use Rattle.bencode_wire.specs.Held.{Holds}
 use Rattle.bencode_wire.specs.declared.ben.Ben.{Ben}
 use Rattle.bencode_wire.specs.declared.cut.Course.{Course}
 use Rattle.bencode_wire.specs.declared.cut.Reader.{Reader}
 use Rattle.bencode_wire.specs.declared.decoder.Decoder.{Decoder}
 use Rattle.bencode_wire.specs.declared.fault.WireFault.{WireFault}
 use Rattle.bencode_wire.specs.declared.fault.WireFault.TheVariants as wire
-use Rattle.bencode_wire.proofs.Kept.{Kept, kept_none, rest_of_kept, rest_kept, kept_cut, kept_is}
-use Rattle.bencode_wire.proofs.Streams.{Found, FoundBy, found_behind, streams_join, streams_stay, rest_within, rest_is}
+use Rattle.bencode_wire.proofs.Kept.{kept_none, rest_of_kept, rest_kept, kept_is}
+use Rattle.bencode_wire.proofs.Streams.{streams_stay}
 
 -- a course at the end has nothing ahead
 pub ahead_done : (limit : ℕ) (bytes : List ℕ) (next : Course) → next.at ≡ length bytes
@@ -30,7 +30,7 @@ ahead_done limit bytes next e =
 pub same_cut : (a b : ℕ) (c d : Cut) (r : Reading) → r ≡ ended (rests a c) → r ≡ ended (rests b d) → c ≡ d
 same_cut a b c d r e f = let g : rests a c ≡ rests b d = ap (λ r. r.end) (sym e ∙ f) in cc
 
-none_some : (f : WireFault) (o : Option WireFault) → o ≡ None → o ≡ Some f → ⊥
+pub none_some : (f : WireFault) (o : Option WireFault) → o ≡ None → o ≡ Some f → ⊥
 none_some f o e h = cc
 
 not_fault : (place n : ℕ) (c : Cut) (now : Reading) (f : WireFault) → now ≡ ended (rests n c) → fault_of_end place now.end ≡ Some f → ⊥
@@ -45,11 +45,11 @@ only_memory limit place bytes course old new n c (wire.TooLong p) e h = absurd (
 only_memory limit place bytes course old new n c (wire.TooDeep p) e h = absurd (not_fault place n c (ahead limit bytes course) (wire.TooDeep p) e h.end)
 
 -- the place does not matter to a rest, and moves with a fault
-shift_rest : (limit p q : ℕ) (bytes : List ℕ) (ms : List Tree) (m : List ℕ) → Streams limit p bytes ms (rest m) → Streams limit q bytes ms (rest m)
+pub shift_rest : (limit p q : ℕ) (bytes : List ℕ) (ms : List Tree) (m : List ℕ) → Streams limit p bytes ms (rest m) → Streams limit q bytes ms (rest m)
 shift_rest limit p q bytes [] m h = h
 shift_rest limit p q bytes (t ∷ ms) m h = (h.0, h.1, h.2, h.3, shift_rest limit (p + length h.0) (q + length h.0) h.1 ms m h.4)
 
-shift_fault : (limit p k : ℕ) (bytes : List ℕ) (ms : List Tree) (rule : Rule) (at : ℕ) → Streams limit p bytes ms (fault rule at)
+pub shift_fault : (limit p k : ℕ) (bytes : List ℕ) (ms : List Tree) (rule : Rule) (at : ℕ) → Streams limit p bytes ms (fault rule at)
     → Streams limit (k + p) bytes ms (fault rule (k + at))
 shift_fault limit p k bytes [] rule at h =
     let e = h.6 in
@@ -57,128 +57,6 @@ shift_fault limit p k bytes [] rule at h =
 shift_fault limit p k bytes (t ∷ ms) rule at h =
     let e : k + (p + length h.0) ≡ k + p + length h.0 = omega arith in
     (h.0, h.1, h.2, h.3, subst (λ q. Streams limit q h.1 ms (fault rule (k + at))) e (shift_fault limit (p + length h.0) k h.1 ms rule at h.4))
-
--- what a feed reads on from
-pub record Fed (limit : ℕ) (d : Decoder) (m piece : List ℕ) (course : Course) (c : Cut) : Type 0 where
-  pub within : d.limit ≡ limit
-  pub shown : rest_of d ≡ m
-  pub read : Kept limit m c
-  pub reader : cut_view course.reader ≡ c
-  pub begin : course.begin ≡ 0
-  pub at : course.at ≡ length (rest_of d)
-
-fed_ahead : (limit : ℕ) (d : Decoder) (m piece : List ℕ) (course : Course) (c : Cut) → Fed limit d m piece course c
-    → ahead d.limit (rest_of d ++ piece) course ≡ reading limit put_pair (length m) c (0 + length m) piece
-fed_ahead limit d m piece course c f =
-    let long : course.at ≡ length m = f.at ∙ ap length f.shown in
-    let before : course.at - course.begin ≡ length m = let b = f.begin in omega arith in
-    let at : course.at ≡ 0 + length m = omega arith in
-    let left : drop course.at (rest_of d ++ piece) ≡ piece = ap (λ k. drop k (rest_of d ++ piece)) f.at ∙ drop-append_seam (rest_of d) piece in
-    ap (λ l. reading l put_pair (course.at - course.begin) (cut_view course.reader) course.at (drop course.at (rest_of d ++ piece))) f.within
-    ∙ ap (λ bs. reading limit put_pair (course.at - course.begin) (cut_view course.reader) course.at bs) left
-    ∙ ap (λ k. reading limit put_pair k (cut_view course.reader) course.at piece) before
-    ∙ ap (λ x. reading limit put_pair (length m) x course.at piece) f.reader
-    ∙ ap (λ k. reading limit put_pair (length m) c k piece) at
-
-fed_found : (limit : ℕ) (d : Decoder) (m piece : List ℕ) (course : Course) (c : Cut) → Fed limit d m piece course c
-    → FoundBy limit 0 (m ++ piece) (ahead d.limit (rest_of d ++ piece) course)
-fed_found limit d m piece course c f =
-    subst (λ r. FoundBy limit 0 (m ++ piece) r) (sym (fed_ahead limit d m piece course c f)) (found_behind limit 0 m piece c f.read)
-
--- the decoder after a feed that met no rule
-pub record IsFed (old new : Decoder) (piece : List ℕ) (next : Course) : Type 0 where
-  pub limit : new.limit ≡ old.limit
-  pub rest : rest_of new ≡ drop next.begin (rest_of old ++ piece)
-  pub place : place_of new ≡ min (place_of old + next.begin) (2 ^ 64 - 1)
-  pub reader : new.reader ≡ Some next.reader
-  pub fault : fault_of new ≡ None
-  pub done : next.at ≡ length (rest_of old ++ piece)
-
-pub feed_rest : (limit : ℕ) (old new : Decoder) (all : List ℕ) (taken : List Tree) (m piece : List ℕ) (course next : Course) (c : Cut)
-    → Streams limit 0 all (taken ++ ready_of old) (rest m) → place_of old ≡ counted (length all - length m)
-    → Fed limit old m piece course c → Advances (ahead old.limit (rest_of old ++ piece) course) (ahead old.limit (rest_of old ++ piece) next) old.ready.items new.ready.items
-    → IsFed old new piece next → Stands limit new (all ++ piece) taken
-feed_rest limit old new all taken m piece course next c streams place fed adv is =
-    let now = ahead old.limit (rest_of old ++ piece) course in
-    let over = ahead_done old.limit (rest_of old ++ piece) next is.done in
-    let end : now.end ≡ rests (next.at - next.begin) (cut_view next.reader) = sym adv.end ∙ ap (λ r. r.end) over in
-    let found : Found limit 0 (m ++ piece) now.messages (rests (next.at - next.begin) (cut_view next.reader)) =
-    subst (λ e. Found limit 0 (m ++ piece) now.messages e) end (fed_found limit old m piece course c fed) in
-    let front = found.0 in
-    let left = found.1 in
-    let bytes : rest_of old ++ piece ≡ front ++ left = ap (λ x. x ++ piece) fed.shown ∙ found.2 in
-    let size : length (rest_of old ++ piece) ≡ length front + length left = ap length bytes ∙ length-append front left in
-    let sizes : length (rest_of old ++ piece) ≡ length m + length piece = length-append (rest_of old) piece ∙ ap (λ x. length x + length piece) fed.shown in
-    let begun = next.begun in
-    let done = is.done in
-    let count = found.3 in
-    let cutting : next.begin ≡ length front = omega arith in
-    let now_rest : rest_of new ≡ left = is.rest ∙ ap (λ k. drop k (rest_of old ++ piece)) cutting ∙ ap (λ x. drop (length front) x) bytes ∙ drop-append_seam front left in
-    let inside = rest_within limit 0 all m (taken ++ ready_of old) streams in
-    let total : length (all ++ piece) ≡ length all + length piece = length-append all piece in
-    let from = place in
-    let to = is.place in
-    let place_now : place_of new ≡ counted (length (all ++ piece) - length left) = omega arith in
-    let messages : (taken ++ ready_of old) ++ now.messages ≡ taken ++ ready_of new =
-    append_assoc taken (ready_of old) now.messages
-    ∙ ap (λ ms. taken ++ ms) (sym adv.messages ∙ ap (λ r. ready_view new.ready.items ++ r.messages) over ∙ append-nil (ready_of new)) in
-    let k = rest_kept limit left (rest_is limit 0 (m ++ piece) left now.messages found.5) in
-    let same : k.0 ≡ cut_view next.reader = same_cut _ _ k.0 (cut_view next.reader) _ k.1.reads found.4 in
-    let held = kept_cut limit left k.0 k.1 in
-    let kept : Holds (rest_of new) next.reader = (held.0, held.1, held.2 ∙ sym now_rest, sym same ∙ held.3) in
-    record {
-      end = rest left;
-      streams = subst (λ ms. Streams limit 0 (all ++ piece) ms (rest left)) messages
-          (streams_join limit 0 all m piece (taken ++ ready_of old) now.messages (rest left) streams
-          (shift_rest limit 0 (0 + (length all - length m)) (m ++ piece) now.messages left found.5));
-      shows = (is.fault, now_rest, place_now);
-      within = is.limit ∙ fed.within;
-      in_step = subst (λ r. MatchOption r (Unit {0}) (Holds (rest_of new))) (sym is.reader) kept;
-    }
-
--- the decoder after a feed that met a rule
-pub record IsBroken (old new : Decoder) (f : WireFault) : Type 0 where
-  pub limit : new.limit ≡ old.limit
-  pub reader : new.reader ≡ None
-  pub fault : fault_of new ≡ Some f
-
-broken_end : (limit : ℕ) (old new : Decoder) (all : List ℕ) (taken : List Tree) (m piece : List ℕ) (f : WireFault) (ms : List Tree) (end : End)
-    → Streams limit 0 all (taken ++ ready_of old) (rest m) → place_of old ≡ counted (length all - length m) → old.limit ≡ limit
-    → ready_of new ≡ ready_of old ++ ms → fault_of_end (place_of old) end ≡ Some f → Found limit 0 (m ++ piece) ms end
-    → IsBroken old new f → Stands limit new (all ++ piece) taken
-broken_end limit old new all taken m piece f ms (rests n c) streams place within ready is found b = absurd (none_some f None refl is)
-broken_end limit old new all taken m piece f ms (faults rule i) streams place within ready is found b =
-    let k = length all - length m in
-    let from = place in
-    let counts : counted (place_of old + i) ≡ counted (k + i) = omega arith in
-    let messages : (taken ++ ready_of old) ++ ms ≡ taken ++ ready_of new = append_assoc taken (ready_of old) ms ∙ ap (λ ms. taken ++ ms) (sym ready) in
-    let none : 0 + k ≡ k + 0 = omega arith in
-    let moved : Streams limit (0 + k) (m ++ piece) ms (fault rule (k + i)) =
-    subst (λ p. Streams limit p (m ++ piece) ms (fault rule (k + i))) (sym none) (shift_fault limit 0 k (m ++ piece) ms rule i found) in
-    record {
-      end = fault rule (k + i);
-      streams = subst (λ ms. Streams limit 0 (all ++ piece) ms (fault rule (k + i))) messages
-          (streams_join limit 0 all m piece (taken ++ ready_of old) ms (fault rule (k + i)) streams moved);
-      shows = b.fault ∙ sym is ∙ ap (λ p. Some (fault_at rule p)) counts;
-      within = b.limit ∙ within;
-      in_step = subst (λ r. MatchOption r (Unit {0}) (Holds (rest_of new))) (sym b.reader) tt;
-    }
-
-feed_breaks : (limit : ℕ) (old new : Decoder) (all : List ℕ) (taken : List Tree) (m piece : List ℕ) (course : Course) (c : Cut) (f : WireFault)
-    → Streams limit 0 all (taken ++ ready_of old) (rest m) → place_of old ≡ counted (length all - length m)
-    → Fed limit old m piece course c → Faults (place_of old) (ahead old.limit (rest_of old ++ piece) course) old.ready.items new.ready.items f
-    → IsBroken old new f → Stands limit new (all ++ piece) taken
-feed_breaks limit old new all taken m piece course c f streams place fed met b =
-    broken_end limit old new all taken m piece f _ _ streams place fed.within met.messages met.end (fed_found limit old m piece course c fed) b
-
-pub feed_broken : (limit : ℕ) (old new : Decoder) (all : List ℕ) (taken : List Tree) (m piece : List ℕ) (course : Course) (c : Cut) (f : WireFault)
-    → Streams limit 0 all (taken ++ ready_of old) (rest m) → place_of old ≡ counted (length all - length m)
-    → Fed limit old m piece course c → Continues old.limit (place_of old) (rest_of old ++ piece) course old.ready.items new.ready.items (Err f)
-    → (f ≡ wire.NoMemory → ⊥) → IsBroken old new f → Stands limit new (all ++ piece) taken
-feed_broken limit old new all taken m piece course c wire.NoMemory streams place fed met other b = absurd (other refl)
-feed_broken limit old new all taken m piece course c (wire.Malformed p) streams place fed met other b = feed_breaks limit old new all taken m piece course c (wire.Malformed p) streams place fed met b
-feed_broken limit old new all taken m piece course c (wire.TooLong p) streams place fed met other b = feed_breaks limit old new all taken m piece course c (wire.TooLong p) streams place fed met b
-feed_broken limit old new all taken m piece course c (wire.TooDeep p) streams place fed met other b = feed_breaks limit old new all taken m piece course c (wire.TooDeep p) streams place fed met b
 
 -- what a decoder without a fault that stands shows
 pub record Rests (limit : ℕ) (d : Decoder) (all : List ℕ) (taken : List Tree) : Type 0 where
@@ -194,12 +72,6 @@ rests_at limit d all taken (fault rule at) none streams shows = absurd (none_som
 pub rests_of : (limit : ℕ) (d : Decoder) (all : List ℕ) (taken : List Tree) → fault_of d ≡ None → Stands limit d all taken → Rests limit d all taken
 rests_of limit d all taken none s = rests_at limit d all taken s.end none s.streams s.shows
 
--- what is kept is a part of a message, as it was read
-rests_read : (limit : ℕ) (d : Decoder) (all : List ℕ) (taken : List Tree) (s : Stands limit d all taken) (r : Rests limit d all taken) (c : Cut) → Kept limit r.m c
-    → reading d.limit put_pair 0 start 0 (rest_of d) ≡ ended (rests (length (rest_of d)) c)
-rests_read limit d all taken s r c k =
-    ap (λ l. reading l put_pair 0 start 0 (rest_of d)) s.within ∙ ap (λ x. reading limit put_pair 0 start 0 x) r.shown ∙ k.reads ∙ ap (λ x. ended (rests (length x) c)) (sym r.shown)
-
 stays_at : (limit : ℕ) (d : Decoder) (all piece : List ℕ) (ms : List Tree) (end : Ending) (f : WireFault) → fault_of d ≡ Some f → Streams limit 0 all ms end → Shows d all end
     → (e : Ending) × Streams limit 0 (all ++ piece) ms e × Shows d (all ++ piece) e
 stays_at limit d all piece ms (rest m) f is streams shows = absurd (none_some f (fault_of d) shows.0 is)
@@ -209,63 +81,30 @@ stays_at limit d all piece ms (fault rule at) f is streams shows = (fault rule a
 pub feed_stays : (limit : ℕ) (d : Decoder) (all : List ℕ) (taken : List Tree) (piece : List ℕ) (f : WireFault) → fault_of d ≡ Some f → Stands limit d all taken → Stands limit d (all ++ piece) taken
 feed_stays limit d all taken piece f is s =
     let g = stays_at limit d all piece (taken ++ ready_of d) s.end f is s.streams s.shows in
-    record { end = g.0; streams = g.1; shows = g.2; within = s.within; in_step = s.in_step }
+    record { end = g.0; streams = g.1; shows = g.2; within = s.within }
 
 shows_same : (old new : Decoder) (all : List ℕ) (end : Ending) → IsUnchanged old new → Shows old all end → Shows new all end
 shows_same old new all (rest m) same h = (same.fault ∙ h.0, same.rest ∙ h.1, same.place ∙ h.2)
 shows_same old new all (fault rule at) same is = same.fault ∙ is
 
 -- a decoder that shows the same stands for the same
-pub stands_same : (limit : ℕ) (old new : Decoder) (all : List ℕ) (taken : List Tree) → IsUnchanged old new → IsInStep new → Stands limit old all taken → Stands limit new all taken
-stands_same limit old new all taken same kept s = record {
+pub stands_same : (limit : ℕ) (old new : Decoder) (all : List ℕ) (taken : List Tree) → IsUnchanged old new → Stands limit old all taken → Stands limit new all taken
+stands_same limit old new all taken same s = record {
   end = s.end;
   streams = subst (λ ms. Streams limit 0 all (taken ++ ms) s.end) (sym same.ready) s.streams;
   shows = shows_same old new all s.end same s.shows;
   within = same.limit ∙ s.within;
-  in_step = kept;
 }
 
--- where a decoder's reading is taken up again
-pub record Resumed (limit : ℕ) (d : Decoder) (all : List ℕ) (taken : List Tree) (reader : Reader) : Type 0 where
-  pub m : List ℕ
-  pub c : Cut
-  pub streams : Streams limit 0 all (taken ++ ready_of d) (rest m)
-  pub place : place_of d ≡ counted (length all - length m)
-  pub shown : rest_of d ≡ m
-  pub within : d.limit ≡ limit
-  pub read : Kept limit m c
-  pub is : cut_view reader ≡ c
-
-pub resumed : (limit : ℕ) (old d : Decoder) (all : List ℕ) (taken : List Tree) (reader : Reader) → fault_of old ≡ None → Stands limit old all taken → IsUnchanged old d
-    → ((c : Cut) → IsInStep old → IsRest old.limit (rest_of old) → reading old.limit put_pair 0 start 0 (rest_of old) ≡ ended (rests (length (rest_of old)) c) → cut_view reader ≡ c)
-    → Resumed limit d all taken reader
-resumed limit old d all taken reader none s same reads =
-    let r = rests_of limit old all taken none s in
-    let part = rest_is limit 0 all r.m (taken ++ ready_of old) r.streams in
-    let is = rest_kept limit r.m part in
-    let part_of : IsRest old.limit (rest_of old) = subst (λ l. IsRest l (rest_of old)) (sym s.within) (subst (λ x. IsRest limit x) (sym r.shown) part) in
-    record {
-      m = r.m;
-      c = is.0;
-      streams = subst (λ ms. Streams limit 0 all (taken ++ ms) (rest r.m)) (sym same.ready) r.streams;
-      place = same.place ∙ r.place;
-      shown = same.rest ∙ r.shown;
-      within = same.limit ∙ s.within;
-      read = is.1;
-      is = reads is.0 s.in_step part_of (rests_read limit old all taken s r is.0 is.1);
-    }
-
--- the course of a feed
-pub fed_by : (limit : ℕ) (d : Decoder) (all : List ℕ) (taken : List Tree) (reader : Reader) (piece : List ℕ) (course : Course) (z : Resumed limit d all taken reader)
-    → course.reader ≡ reader → course.begin ≡ 0 → course.at ≡ length (rest_of d) → Fed limit d z.m piece course z.c
-fed_by limit d all taken reader piece course z same begin at = record {
-  within = z.within;
-  shown = z.shown;
-  read = z.read;
-  reader = ap cut_view same ∙ z.is;
-  begin = begin;
-  at = at;
-}
+-- what is kept is read as its cut
+pub resumed : (d : Decoder) (o old : Option Reader) (bytes : List ℕ) (reader : Reader) → o ≡ old → bytes ≡ d.rest → MatchOption old (Unit {0}) (Holds d.rest)
+    → (part : IsRest d.limit d.rest)
+    → ((c : Cut) → MatchOption o (Unit {0}) (Holds bytes) → IsRest d.limit bytes → reading d.limit put_pair 0 start 0 bytes ≡ ended (rests (length bytes) c) → cut_view reader ≡ c)
+    → cut_view reader ≡ (rest_kept d.limit d.rest part).0
+resumed d o old bytes reader e f held part reads =
+    let k = rest_kept d.limit d.rest part in
+    reads k.0 (subst (λ x. MatchOption x (Unit {0}) (Holds bytes)) (sym e) (subst (λ x. MatchOption old (Unit {0}) (Holds x)) (sym f) held))
+    (subst (λ x. IsRest d.limit x) (sym f) part) (subst (λ x. reading d.limit put_pair 0 start 0 x ≡ ended (rests (length x) k.0)) (sym f) k.1.reads)
 
 -- a reading from a message's start is what it was
 pub resumes : (limit place : ℕ) (bytes : List ℕ) (course next : Course) (old new : List Ben) (c : Cut)
@@ -289,22 +128,17 @@ held limit m r c h part e =
     let same : k.0 ≡ c = same_cut _ _ k.0 c _ k.1.reads e in
     h.3 ∙ sym (kept_is limit m k.0 h.0 k.1 h.1 h.2) ∙ same
 
-pub in_step_some : (d : Decoder) (r : Reader) → d.reader ≡ Some r → IsInStep d
-    → Holds (rest_of d) r
-in_step_some d r e kept = subst (λ o. MatchOption o (Unit {0}) (Holds (rest_of d))) e kept
-
-pub in_step_none : (d : Decoder) → d.reader ≡ None → IsInStep d
-in_step_none d e = subst (λ o. MatchOption o (Unit {0}) (Holds (rest_of d))) (sym e) tt
+pub holds_some : (m : List ℕ) (o : Option Reader) (r : Reader) → o ≡ Some r → MatchOption o (Unit {0}) (Holds m) → Holds m r
+holds_some m o r e kept = subst (λ o. MatchOption o (Unit {0}) (Holds m)) e kept
 
 -- before any byte
-pub stands_new : (limit : ℕ) (d : Decoder) → d.limit ≡ limit → d.ready.items ≡ [] → rest_of d ≡ [] → place_of d ≡ 0 → fault_of d ≡ None → d.reader ≡ None → Stands limit d [] []
-stands_new limit d within ready none place sound fresh = record {
+pub stands_new : (limit : ℕ) (d : Decoder) → d.limit ≡ limit → d.ready ≡ [] → d.rest ≡ [] → d.place ≡ 0 → d.fault ≡ None → Stands limit d [] []
+stands_new limit d within ready none place sound = record {
   end = rest [];
   streams = subst (λ vs. Streams limit 0 [] (ready_view vs) (rest [])) (sym ready) (rest_of_kept limit [] start (kept_none limit), refl);
   shows = (sound, none, place);
   within = within;
-  in_step = in_step_none d fresh;
 }
 
-pub stands_kept : (limit : ℕ) (old new : Decoder) (all : List ℕ) (taken : List Tree) → IsUnchanged old new → new.reader ≡ None → Stands limit old all taken → Stands limit new all taken
-stands_kept limit old new all taken same none s = stands_same limit old new all taken same (in_step_none new none) s
+pub none_is_rest : (limit : ℕ) (m : List ℕ) → m ≡ [] → IsRest limit m
+none_is_rest limit m e = subst (λ x. IsRest limit x) (sym e) (rest_of_kept limit [] start (kept_none limit))

@@ -12,6 +12,7 @@ use Rattle.bencode_wire.proofs.Complete.{run, run-append, run-stuck, run-message
 use Rattle.bencode_wire.proofs.Close.{close, IsFront}
 use Rattle.bencode_wire.proofs.Orders.{sorted_judged}
 use Rattle.bencode_wire.proofs.Appends.{reading-append}
+use Rattle.bencode_wire.proofs.Messages.{clean_message, message_text}
 use Rattle.bencode_wire.proofs.Verdicts.{read, read-sound, verdict, meets_verdict, verdict_meets, At, bite_at}
 
 pub record Kept (limit : ℕ) (m : List ℕ) (c : Cut) : Type 0 where
@@ -163,7 +164,7 @@ kept_reads limit m c b next k e =
 ends_message : (limit : ℕ) (m : List ℕ) (u : Tree) → read m ≡ ends u → IsClean limit m → IsMessage limit (sorted u) m
 ends_message limit m u e clean =
     let s : Sound (ends u) m = subst (λ next. Sound next m) e (read-sound m) in
-    (s.0, s.2, sym s.3 ∙ ap text s.1, ap sorted s.1, clean)
+    subst (λ x. IsMessage limit x m) (ap sorted (sym s.1)) (clean_message limit s.0 m s.2 (ap text (sym s.1) ∙ s.3) clean)
 
 -- a message is whole
 pub kept_whole : (limit : ℕ) (m : List ℕ) (c : Cut) (b : ℕ) (t : Tree) → Kept limit m c → bite limit put_pair (length m) c (b ∷ []) ≡ whole t → IsMessage limit t (m ++ b ∷ [])
@@ -235,15 +236,16 @@ message_verdict limit m u false clean long e =
 -- a message is read as the message
 pub message_read : (limit : ℕ) (t : Tree) (m : List ℕ) → IsMessage limit t m → reading limit put_pair 0 start 0 m ≡ record { messages = t ∷ []; end = rests 0 start }
 message_read limit t m h =
-    let ps = h.0 in
+    let by = message_text limit t m h in
+    let ps = by.pairs in
     let front = 100 ∷ pairs_text ps in
-    let is : m ≡ front ++ 101 ∷ [] = h.2 in
+    let is : m ≡ front ++ 101 ∷ [] = by.text in
     let clean : IsClean limit (front ++ 101 ∷ []) = subst (λ x. IsClean limit x) is h.4 in
-    let k = rest_kept limit front (clean_front limit front (101 ∷ []) clean, (ps, 101, [], h.1, refl)) in
-    let v = message_verdict limit (front ++ 101 ∷ []) (dictionary ps) (nat_lt limit (length (front ++ 101 ∷ []))) clean refl (run-message ps h.1) in
+    let k = rest_kept limit front (clean_front limit front (101 ∷ []) clean, (ps, 101, [], by.spellable, refl)) in
+    let v = message_verdict limit (front ++ 101 ∷ []) (dictionary ps) (nat_lt limit (length (front ++ 101 ∷ []))) clean refl (run-message ps by.spellable) in
     ap (λ x. reading limit put_pair 0 start 0 x) is
     ∙ reads_more limit front k.0 101 (whole (sorted (dictionary ps))) k.1.reads (kept_bite limit front k.0 101 k.1 ∙ ap sorted_judged v)
-    ∙ ap (λ u. record { messages = u ∷ []; end = rests 0 start }) (sym h.3)
+    ∙ ap (λ u. record { messages = u ∷ []; end = rests 0 start }) (sym by.sorted)
 
 cut_at : (next : Next) (d : Cut) (m : List ℕ) → At next d → Sound next m → IsCut d × (cut_text d ≡ m)
 cut_at (goes fs token) d m h s = subst (λ x. IsCut x × (cut_text x ≡ m)) (sym h) s

@@ -1,5 +1,5 @@
 -- Reading with the pairs kept sorted is reading in the order in which they come, sorted.
-use Rattle.std.proofs.Common.{◌≡◌, ℕ, suc, ◌+◌, ◌-◌, ◌*◌, Bool, true, false, cond, nat_lt, nat_le, ◌==◌, ◌||◌, Ordering, Less, Equal, Greater, nat_cmp, is_eq, List, [], ◌∷◌, ◌++◌, length, refl, sym, ap, ◌∙◌, arith}
+use Rattle.std.proofs.Common.{◌≡◌, ℕ, suc, ◌+◌, ◌-◌, ◌*◌, ◌^◌, Bool, true, false, cond, nat_lt, nat_le, ◌==◌, ◌||◌, Ordering, Less, Equal, Greater, nat_cmp, is_eq, List, [], ◌∷◌, ◌++◌, length, refl, sym, ap, ◌∙◌, arith}
 use Rattle.std.proofs.lemmas.Map.Text.{is_eq-slice_cmp}
 use Rattle.std.proofs.lemmas.Slice.Eq.{bytes_eq-Decides}
 use Rattle.std.specs.Str.{bytes_eq}
@@ -138,7 +138,7 @@ length_digits-sorted fs n signs.End = refl
 length_digits-sorted fs n signs.Minus = refl
 length_digits-sorted fs n signs.Colon =
     cond_same (n == 0) _ _ _ _ (put-sorted fs (string [])) refl ∙ sym (sorted_next-cond (n == 0) (put add_pair fs (string [])) (goes fs (part [] n)))
-length_digits-sorted fs n (signs.Digit d) = twice_tested (n == 0) (nat_le (10 * n + d) 18446744073709551615) fs (count (10 * n + d))
+length_digits-sorted fs n (signs.Digit d) = twice_tested (n == 0) (nat_lt (10 * n + d) (10 ^ 64)) fs (count (10 * n + d))
 length_digits-sorted fs n signs.Other = refl
 
 text_bytes-sorted : (fs : List Frame) (bytes : List ℕ) (left : ℕ) (bs : List ℕ) → text_bytes put_pair (sorted_frames fs) bytes left bs ≡ sorted_next (text_bytes add_pair fs bytes left bs)

@@ -1,7 +1,8 @@
 -- No text is a proper prefix of another: where two texts begin the same bytes, the values are the same.
 use Rattle.std.proofs.Common.{◌≡◌, ℕ, suc, ◌+◌, ◌%◌, ◌^◌, ◌<◌, ◌≤◌, ℤ, pos, negsuc, List, [], ◌∷◌, ◌++◌, length, decimal, refl, sym, ap, ◌∙◌, append_assoc, length-append, arith}
 use Rattle.std.specs.Fmt.{signed_decimal}
-use Rattle.std.proofs.lemmas.Fmt.{decimal_by_steps, decimal_injective}
+use Rattle.std.proofs.lemmas.Fmt.{decimal_by_steps_wide, decimal_is_IsNumeral_wide}
+use Rattle.std.specs.Str.Parse.{digits_value}
 use Rattle.bencode_wire.specs.Tree.{Tree, integer, string, list, dictionary, Trees, no_trees, tree, Pairs, no_pairs, pair}
 use Rattle.bencode_wire.specs.Spelling.{text, trees_text, pairs_text, string_text, IsInteger, IsString, IsSpellable, AreSpellable, ArePairs}
 
@@ -16,10 +17,13 @@ AreDigits-more (b ∷ bs) d h small = (h.0, h.1, AreDigits-more bs d h.2 small)
 abbrev IsNumber : List ℕ → Type 0
 IsNumber ds = AreDigits ds × (0 < length ds)
 
-decimal_IsNumber : (n : ℕ) → n < 2 ^ 64 → IsNumber (decimal n)
-decimal_IsNumber = decimal_by_steps (λ n ds. IsNumber ds)
+decimal_IsNumber : (n : ℕ) → n < 10 ^ 64 → IsNumber (decimal n)
+decimal_IsNumber = decimal_by_steps_wide (λ n ds. IsNumber ds)
     (λ n small. ((omega arith, omega arith, tt), omega arith))
     (λ n ds big h. (AreDigits-more ds (n % 10) h.0 (omega arith), let long = length-append ds ((48 + n % 10) ∷ []) in omega arith))
+
+decimal_same : (m n : ℕ) → m < 10 ^ 64 → n < 10 ^ 64 → decimal m ≡ decimal n → m ≡ n
+decimal_same m n p q e = sym (decimal_is_IsNumeral_wide m p).1 ∙ ap (digits_value 10) e ∙ (decimal_is_IsNumeral_wide n q).1
 
 tail_same : (a b : ℕ) (xs ys : List ℕ) → a ∷ xs ≡ b ∷ ys → xs ≡ ys
 tail_same a b xs ys e = cc
@@ -64,7 +68,7 @@ pub string_same : (p q x y : List ℕ) → IsString p → IsString q → string_
 string_same p q x y g h e =
     let same = digits_same (decimal (length p)) (decimal (length q)) (p ++ x) (q ++ y) 58 (decimal_IsNumber (length p) g).0 (decimal_IsNumber (length q) h).0 (omega arith)
     (sym (string_grouped p x) ∙ e ∙ string_grouped q y) in
-    front_same p q x y (decimal_injective (length p) (length q) g h same.0) same.1
+    front_same p q x y (decimal_same (length p) (length q) g h same.0) same.1
 
 string_first : (p x z : List ℕ) (c : ℕ) → IsString p → string_text p ++ x ≡ c ∷ z → (48 ≤ c) × (c < 58)
 string_first p x z c g e = first_digit (decimal (length p)) (58 ∷ (p ++ x)) z c (decimal_IsNumber (length p) g) (sym (string_grouped p x) ∙ e)
@@ -76,7 +80,7 @@ signed_grouped n x = append_assoc (signed_decimal n) (101 ∷ []) x
 signed_same : (n m : ℤ) (x y : List ℕ) → IsInteger n → IsInteger m → signed_decimal n ++ 101 ∷ x ≡ signed_decimal m ++ 101 ∷ y → (n ≡ m) × (x ≡ y)
 signed_same (pos n) (pos m) x y g h e =
     let same = digits_same (decimal n) (decimal m) x y 101 (decimal_IsNumber n (omega arith)).0 (decimal_IsNumber m (omega arith)).0 (omega arith) e in
-    (ap pos (decimal_injective n m (omega arith) (omega arith) same.0), same.1)
+    (ap pos (decimal_same n m (omega arith) (omega arith) same.0), same.1)
 signed_same (pos n) (negsuc m) x y g h e =
     let first = first_digit (decimal n) (101 ∷ x) (decimal (suc m) ++ 101 ∷ y) 45 (decimal_IsNumber n (omega arith)) e in
     let low = first.0 in absurd (omega arith)
@@ -86,7 +90,7 @@ signed_same (negsuc n) (pos m) x y g h e =
 signed_same (negsuc n) (negsuc m) x y g h e =
     let same = digits_same (decimal (suc n)) (decimal (suc m)) x y 101 (decimal_IsNumber (suc n) (omega arith)).0 (decimal_IsNumber (suc m) (omega arith)).0 (omega arith)
     (tail_same 45 45 (decimal (suc n) ++ 101 ∷ x) (decimal (suc m) ++ 101 ∷ y) e) in
-    let by : suc n ≡ suc m = decimal_injective (suc n) (suc m) (omega arith) (omega arith) same.0 in
+    let by : suc n ≡ suc m = decimal_same (suc n) (suc m) (omega arith) (omega arith) same.0 in
     let back : n ≡ m = omega arith in
     (ap negsuc back, same.1)
 

@@ -1,7 +1,7 @@
 -- A byte read behind a cut makes a cut whose text is the text and the byte.
 use Rattle.std.proofs.Common.{◌≡◌, ℕ, suc, ◌+◌, ◌-◌, ◌*◌, ◌/◌, ◌%◌, ◌^◌, ◌<◌, ◌≤◌, ◌⊎◌, inl, inr, Bool, true, false, cond, nat_lt, nat_le, ◌==◌, ◌&&◌, List, [], ◌∷◌, ◌++◌, length, decimal, refl, sym, ap, ◌∙◌, subst, append_assoc, append-nil, length-append, arith}
 use Rattle.std.proofs.lemmas.Bool.Decides.{nat_tests}
-use Rattle.std.proofs.lemmas.Fmt.{decimal_digit, decimal_step}
+use Rattle.std.proofs.lemmas.Fmt.{decimal_digit, decimal_step_wide}
 use Rattle.bencode_wire.specs.Tree.{Tree, integer, string, list, dictionary, Trees, no_trees, tree, Pairs, no_pairs, pair, add_tree, add_pair}
 use Rattle.bencode_wire.specs.Spelling.{text, trees_text, pairs_text, string_text, IsInteger, IsString, IsSpellable, AreSpellable, ArePairs}
 use Rattle.bencode_wire.specs.Cut.{Frame, in_list, at_key, at_value, Token, between, after_i, after_minus, digits, count, part, cut, frames_text, token_text, cut_text, IfAny, TakesValue, TakesKey, greatest, IsCut}
@@ -29,12 +29,12 @@ AreSpellable-add_tree no_trees t h g = (g, tt)
 AreSpellable-add_tree (tree u ts) t h g = (h.0, AreSpellable-add_tree ts t h.1 g)
 
 -- one digit more
-pub decimal-more : (n d : ℕ) → 0 < n → d < 10 → 10 * n + d < 2 ^ 64 → decimal (10 * n + d) ≡ decimal n ++ (48 + d) ∷ []
+pub decimal-more : (n d : ℕ) → 0 < n → d < 10 → 10 * n + d < 10 ^ 64 → decimal (10 * n + d) ≡ decimal n ++ (48 + d) ∷ []
 decimal-more n d some digit fits =
     let ten : 10 ≤ 10 * n + d = omega arith in
     let front : (10 * n + d) / 10 ≡ n = omega arith in
     let last : (10 * n + d) % 10 ≡ d = omega arith in
-    decimal_step (10 * n + d) ten fits ∙ ap (λ k. decimal k ++ (48 + (10 * n + d) % 10) ∷ []) front ∙ ap (λ k. decimal n ++ (48 + k) ∷ []) last
+    decimal_step_wide (10 * n + d) ten fits ∙ ap (λ k. decimal k ++ (48 + (10 * n + d) % 10) ∷ []) front ∙ ap (λ k. decimal n ++ (48 + k) ∷ []) last
 
 -- the bytes that have a sign
 abbrev pub Means : ℕ → Sign → Type 0
@@ -213,6 +213,9 @@ above_zero n e = grind (arith, nat_tests)
 within : (n m : ℕ) → nat_le n m ≡ true → n ≤ m
 within n m e = grind (arith, nat_tests)
 
+below : (n m : ℕ) → nat_lt n m ≡ true → n < m
+below n m e = grind (arith, nat_tests)
+
 integer_open-sound : (fs : List Frame) (b : ℕ) (s : Sign) → TakesValue fs → Means b s → Sound (integer_open fs s) (frames_text fs ++ 105 ∷ b ∷ [])
 integer_open-sound fs b signs.Minus h m = (h, ap (λ x. frames_text fs ++ 105 ∷ x ∷ []) (sym m))
 integer_open-sound fs b (signs.Digit d) h m = ((h, let small = m.1 in omega arith), ap (λ x. frames_text fs ++ 105 ∷ x) (decimal_digit d m.1 ∙ ap (λ k. k ∷ []) (sym m.0)))
@@ -284,14 +287,14 @@ integer_digits-sound fs negative n b signs.Other h fits some m = tt
 more_length-sound : (fs : List Frame) (n d b : ℕ) → TakesValue fs ⊎ TakesKey fs → (b ≡ 48 + d) × (d < 10)
     → Sound (more_length fs n d) (frames_text fs ++ (decimal n ++ b ∷ []))
 more_length-sound fs n d b h m =
-    unless (n == 0) (cond (nat_le (10 * n + d) 18446744073709551615) (goes fs (count (10 * n + d))) stuck) _ (λ e.
-    where_true (nat_le (10 * n + d) 18446744073709551615) (goes fs (count (10 * n + d))) _ (λ f.
+    unless (n == 0) (cond (nat_lt (10 * n + d) (10 ^ 64)) (goes fs (count (10 * n + d))) stuck) _ (λ e.
+    where_true (nat_lt (10 * n + d) (10 ^ 64)) (goes fs (count (10 * n + d))) _ (λ f.
     let some : 0 < n = above_zero n e in
-    let fits : 10 * n + d ≤ 18446744073709551615 = within _ _ f in
+    let fits : 10 * n + d < 10 ^ 64 = below _ _ f in
     let more = decimal-more n d some m.1 (omega arith) in
     ((h, omega arith), ap (λ x. frames_text fs ++ x) (more ∙ ap (λ k. decimal n ++ k ∷ []) (sym m.0)))))
 
-open_string-sound : (fs : List Frame) (n : ℕ) → TakesValue fs ⊎ TakesKey fs → n < 2 ^ 64 → Sound (open_string add_pair fs n) (frames_text fs ++ (decimal n ++ 58 ∷ []))
+open_string-sound : (fs : List Frame) (n : ℕ) → TakesValue fs ⊎ TakesKey fs → n < 10 ^ 64 → Sound (open_string add_pair fs n) (frames_text fs ++ (decimal n ++ 58 ∷ []))
 open_string-sound fs n h fits =
     either (n == 0) (put add_pair fs (string [])) (goes fs (part [] n)) _
     (λ e. let none : n ≡ 0 = grind (arith, nat_tests) in
@@ -302,7 +305,7 @@ open_string-sound fs n h fits =
       ap (λ x. frames_text fs ++ x) (append-nil (decimal (0 + n) ++ 58 ∷ []) ∙ (let all : 0 + n ≡ n = omega arith in ap (λ k. decimal k ++ 58 ∷ []) all)),
     ))
 
-length_digits-sound : (fs : List Frame) (n b : ℕ) (s : Sign) → TakesValue fs ⊎ TakesKey fs → n < 2 ^ 64 → Means b s
+length_digits-sound : (fs : List Frame) (n b : ℕ) (s : Sign) → TakesValue fs ⊎ TakesKey fs → n < 10 ^ 64 → Means b s
     → Sound (length_digits add_pair fs n s) (frames_text fs ++ (decimal n ++ b ∷ []))
 length_digits-sound fs n b signs.Colon h fits m =
     sound_at (open_string add_pair fs n) _ _ (ap (λ k. frames_text fs ++ (decimal n ++ k ∷ [])) (sym m)) (open_string-sound fs n h fits)
@@ -314,7 +317,7 @@ length_digits-sound fs n b signs.Dictionary h fits m = tt
 length_digits-sound fs n b signs.End h fits m = tt
 length_digits-sound fs n b signs.Other h fits m = tt
 
-text_bytes-sound : (fs : List Frame) (bytes : List ℕ) (left b : ℕ) → TakesValue fs ⊎ TakesKey fs → 0 < left → length bytes + left < 2 ^ 64
+text_bytes-sound : (fs : List Frame) (bytes : List ℕ) (left b : ℕ) → TakesValue fs ⊎ TakesKey fs → 0 < left → length bytes + left < 10 ^ 64
     → Sound (text_bytes add_pair fs bytes left (b ∷ [])) (frames_text fs ++ ((decimal (length bytes + left) ++ 58 ∷ bytes) ++ b ∷ []))
 text_bytes-sound fs bytes left b h some fits =
     let long : length (bytes ++ b ∷ []) ≡ length bytes + 1 = length-append bytes (b ∷ []) in

@@ -6,10 +6,11 @@ use Rattle.bencode_wire.specs.Spelling.{text, put_pair}
 use Rattle.bencode_wire.specs.Cut.{Frame, at_value, between, after_i, after_minus, digits, count, part, Cut, cut, cut_text, IsCut, sorted_frames, sorted_cut}
 use Rattle.bencode_wire.specs.Fault.{Rule, malformed, too_long, too_deep}
 use Rattle.bencode_wire.specs.Machine.{Next, goes, opens, names, ends, stuck, step_run, Judged, reads, whole, refuses, judged, checked, bite}
-use Rattle.bencode_wire.specs.Stream.{Begins, BreaksOff, IsLarge, IsEmpty, IsDeep, IsTooLong, IsMalformed, Meets}
+use Rattle.bencode_wire.specs.Stream.{Begins, IsLarge, IsDeep, IsTooLong, IsMalformed, Meets}
 use Rattle.bencode_wire.proofs.Sound.{Sound, sound_at, step-sound}
 use Rattle.bencode_wire.proofs.Complete.{after, run, run-append, run-stuck, next_of, run-cut, run-message}
 use Rattle.bencode_wire.proofs.Close.{close}
+use Rattle.bencode_wire.proofs.Awaits.{IsEmpty, repeats_at, repeats_key, large_at, is_large, deep_at, is_deep}
 use Rattle.bencode_wire.proofs.Orders.{sorted_judged, judged-step}
 
 -- what bytes of a message come to
@@ -57,28 +58,28 @@ refuses_stuck m h (ends t) e = absurd (h (begins_next (ends t) m (λ f. cc) (sub
 refuses_stuck m h stuck e = refl
 
 -- a cut's text is read as it
-cut_read : (m : List ℕ) (c d : Cut) → IsCut c → m ≡ cut_text c → c ≡ d → read m ≡ next_of d
-cut_read m c d h e f = ap read e ∙ run-cut c h ∙ ap next_of f
+cut_read : (m : List ℕ) (c : Cut) → IsCut c → cut_text c ≡ m → read m ≡ next_of c
+cut_read m c h e = ap read (sym e) ∙ run-cut c h
 
 -- malformed bytes are refused
 pub malformed_judged : (m : List ℕ) → IsMalformed m → judged (read m) ≡ refuses malformed
 malformed_judged m (inl h) = refuses_stuck m h (read m) refl
 malformed_judged m (inr h) =
-    let again = h.3 in
-    ap judged (cut_read m h.0 (cut (at_value again.0 again.1 ∷ again.2) between) h.1 h.2 again.3)
-    ∙ ap (λ t. cond t (refuses malformed) (reads (cut (at_value again.0 again.1 ∷ again.2) between))) again.4
+    let r = repeats_at m h in
+    ap judged (cut_read m (cut (at_value r.pairs r.key ∷ r.frames) between) r.is r.text)
+    ∙ ap (λ t. cond t (refuses malformed) (reads (cut (at_value r.pairs r.key ∷ r.frames) between))) r.has
 
 -- a length above the limit, as it is read
-large_read : (limit : ℕ) (m : List ℕ) → BreaksOff (IsLarge limit) m → (fs : List Frame) × (n : ℕ) × (read m ≡ goes fs (count n)) × (limit < n)
-large_read limit m h = let is = h.3 in (is.0, is.1, cut_read m h.0 (cut is.0 (count is.1)) h.1 h.2 is.2, is.3)
+large_read : (limit : ℕ) (m : List ℕ) → IsLarge limit m → (fs : List Frame) × (n : ℕ) × (read m ≡ goes fs (count n)) × (limit < n)
+large_read limit m h = let r = large_at limit m h in (r.frames, r.len, cut_read m (cut r.frames (count r.len)) r.is r.text, r.large)
 
 opened : (f : Frame) (fs : List Frame) → IsEmpty f → next_of (cut (f ∷ fs) between) ≡ opens f fs
 opened f fs (inl e) = ap (λ g. next_of (cut (g ∷ fs) between)) e ∙ ap (λ g. opens g fs) (sym e)
 opened f fs (inr e) = ap (λ g. next_of (cut (g ∷ fs) between)) e ∙ ap (λ g. opens g fs) (sym e)
 
 -- a nesting too deep, as it is read
-deep_read : (m : List ℕ) → BreaksOff IsDeep m → (f : Frame) × (fs : List Frame) × (read m ≡ opens f fs) × (64 ≤ length fs)
-deep_read m h = let is = h.3 in (is.0, is.1, cut_read m h.0 (cut (is.0 ∷ is.1) between) h.1 h.2 is.2 ∙ opened is.0 is.1 is.3, is.4)
+deep_read : (m : List ℕ) → IsDeep m → (f : Frame) × (fs : List Frame) × (read m ≡ opens f fs) × (64 ≤ length fs)
+deep_read m h = let r = deep_at m h in (r.frame, r.frames, cut_read m (cut (r.frame ∷ r.frames) between) r.is r.text ∙ opened r.frame r.frames r.empty, r.deep)
 
 -- what the rules make of bytes at their last
 abbrev pub verdict_of : ℕ → List ℕ → Next → Judged
@@ -106,7 +107,7 @@ short limit m h = elim (nat_lt limit (length m)) as (λ t. (t ≡ true → limit
 verdict_short : (limit : ℕ) (m : List ℕ) → (IsTooLong limit m → ⊥) → verdict limit m ≡ checked limit (judged (read m))
 verdict_short limit m h = ap (λ t. cond t (refuses too_long) (checked limit (judged (read m)))) (short limit m h)
 
-large_verdict : (limit : ℕ) (m : List ℕ) (t : Bool) → BreaksOff (IsLarge limit) m → cond t (refuses too_long) (checked limit (judged (read m))) ≡ refuses too_long
+large_verdict : (limit : ℕ) (m : List ℕ) (t : Bool) → IsLarge limit m → cond t (refuses too_long) (checked limit (judged (read m))) ≡ refuses too_long
 large_verdict limit m true h = refl
 large_verdict limit m false h =
     let is = large_read limit m h in
@@ -128,7 +129,7 @@ not_long limit m e h = let f = ge_of limit (length m) e in absurd (omega arith)
 not_malformed : (m : List ℕ) (j : Judged) → judged (read m) ≡ j → (j ≡ refuses malformed → ⊥) → IsMalformed m → ⊥
 not_malformed m j e other h = other (sym e ∙ malformed_judged m h)
 
-not_large : (limit : ℕ) (m : List ℕ) (next : Next) → read m ≡ next → ((fs : List Frame) (n : ℕ) → next ≡ goes fs (count n) → ⊥) → BreaksOff (IsLarge limit) m → ⊥
+not_large : (limit : ℕ) (m : List ℕ) (next : Next) → read m ≡ next → ((fs : List Frame) (n : ℕ) → next ≡ goes fs (count n) → ⊥) → IsLarge limit m → ⊥
 not_large limit m next e other h = let is = large_read limit m h in other is.0 is.1 (sym e ∙ is.2)
 
 meets_at : (limit : ℕ) (m : List ℕ) (a rule : Rule) → refuses a ≡ refuses rule → Meets limit m a → Meets limit m rule
@@ -140,7 +141,7 @@ reads_refuses c rule e = absurd (cc)
 names_meets : (limit : ℕ) (m : List ℕ) (ps : Pairs) (key : List ℕ) (fs : List Frame) (rule : Rule) → (IsTooLong limit m → ⊥) → Sound (names ps key fs) m
     → (t : Bool) → has_key key ps ≡ t → checked limit (cond t (refuses malformed) (reads (cut (at_value ps key ∷ fs) between))) ≡ refuses rule → Meets limit m rule
 names_meets limit m ps key fs rule brief s true has e =
-    meets_at limit m malformed rule e (brief, inr (cut (at_value ps key ∷ fs) between, s.0, sym s.1, (ps, key, fs, refl, has)))
+    meets_at limit m malformed rule e (brief, inr (repeats_key m ps key fs s.0 s.1 has))
 names_meets limit m ps key fs rule brief s false has e = reads_refuses (cut (at_value ps key ∷ fs) between) rule e
 
 opens_meets : (limit : ℕ) (m : List ℕ) (f : Frame) (fs : List Frame) (rule : Rule) → (IsTooLong limit m → ⊥) → read m ≡ opens f fs → Sound (opens f fs) m
@@ -152,14 +153,14 @@ opens_meets limit m f fs rule brief is s false deep e =
       brief,
       not_malformed m (refuses too_deep) j (λ x. cc),
       not_large limit m (opens f fs) is (λ gs n x. cc),
-      (cut (f ∷ fs) between, s.0, sym s.1, (f, fs, refl, s.2, ge_of (length fs) 64 deep)),
+      is_deep m f fs s.0 s.1 s.2 (ge_of (length fs) 64 deep),
     )
 
 count_meets : (limit : ℕ) (m : List ℕ) (fs : List Frame) (n : ℕ) (rule : Rule) → read m ≡ goes fs (count n) → Sound (goes fs (count n)) m
     → (t : Bool) → nat_lt limit n ≡ t → cond t (refuses too_long) (reads (cut fs (count n))) ≡ refuses rule → Meets limit m rule
 count_meets limit m fs n rule is s true large e =
     meets_at limit m too_long rule e
-    (inr (not_malformed m (reads (cut fs (count n))) (ap judged is) (λ x. cc), (cut fs (count n), s.0, sym s.1, (fs, n, refl, lt_of limit n large))))
+    (inr (not_malformed m (reads (cut fs (count n))) (ap judged is) (λ x. cc), is_large limit m fs n s.0 s.1 (lt_of limit n large)))
 count_meets limit m fs n rule is s false large e = reads_refuses (cut fs (count n)) rule e
 
 short_meets : (limit : ℕ) (m : List ℕ) (next : Next) (rule : Rule) → (IsTooLong limit m → ⊥) → read m ≡ next → Sound next m → checked limit (judged next) ≡ refuses rule → Meets limit m rule

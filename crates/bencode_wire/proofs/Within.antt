@@ -1,28 +1,28 @@
 -- A dictionary's text within the limits is read as the dictionary.
-use Rattle.std.proofs.Common.{◌≡◌, ℕ, suc, ◌+◌, ◌-◌, ◌*◌, ◌<◌, ◌≤◌, Bool, true, false, cond, nat_lt, nat_le, ◌==◌, ◌||◌, List, [], ◌∷◌, ◌++◌, length, refl, sym, ap, ◌∙◌, subst, length-append, arith}
+use Rattle.std.proofs.Common.{◌≡◌, ℕ, suc, ◌+◌, ◌-◌, ◌*◌, ◌^◌, ◌<◌, ◌≤◌, Bool, true, false, cond, nat_lt, nat_le, ◌==◌, ◌||◌, List, [], ◌∷◌, ◌++◌, length, refl, sym, ap, ◌∙◌, subst, length-append, arith}
 use Rattle.std.proofs.lemmas.Bool.Decides.{nat_tests}
 use Rattle.std.proofs.lemmas.Slice.Eq.{bytes_eq-Decides}
 use Rattle.std.specs.Str.{bytes_eq}
 use Rattle.bencode_wire.specs.Tree.{Tree, integer, string, list, dictionary, Trees, no_trees, tree, Pairs, no_pairs, pair, add_tree, add_pair, has_key, HasKey}
-use Rattle.bencode_wire.specs.Spelling.{text, ArePairs, AreDistinct, sorted}
+use Rattle.bencode_wire.specs.Spelling.{text, ArePairs}
 use Rattle.bencode_wire.specs.Cut.{Frame, in_list, at_key, at_value, Token, between, after_i, after_minus, digits, count, part, Cut, cut, greatest}
 use Rattle.bencode_wire.specs.Fault.{Rule, malformed, too_long, too_deep}
 use Rattle.bencode_wire.specs.Sign.{sign_of}
 use Rattle.bencode_wire.specs.declared.sign.Sign.{Sign}
 use Rattle.bencode_wire.specs.declared.sign.Sign.TheVariants as signs
 use Rattle.bencode_wire.specs.Machine.{Next, goes, opens, names, ends, stuck, put, begin, begin_value, begin_item, begin_key, integer_open, integer_minus, more_digits, integer_digits, more_length, length_digits, signed, step_run, reads, whole, refuses, judged, checked}
-use Rattle.bencode_wire.specs.Stream.{IsClean, Ending, Streams}
-use Rattle.bencode_wire.specs.Within.{IsWithin, AreWithin, PairsWithin}
+use Rattle.bencode_wire.specs.Stream.{IsClean}
 use Rattle.bencode_wire.proofs.Complete.{after, run, run-append, run-message}
+use Rattle.bencode_wire.proofs.Limits.{KeysDiffer, IsWithin, AreWithin, PairsWithin}
 use Rattle.bencode_wire.proofs.Verdicts.{read, meets_verdict}
 
 -- what is open is within the limits, each at its depth
 abbrev FramesWithin : ℕ → List Frame → Type 0
 FramesWithin limit [] = Unit {0}
 FramesWithin limit (in_list ts ∷ fs) = (length fs < 64) × AreWithin limit (64 - suc (length fs)) ts × FramesWithin limit fs
-FramesWithin limit (at_key ps ∷ fs) = (length fs < 64) × AreDistinct ps × PairsWithin limit (64 - suc (length fs)) ps × FramesWithin limit fs
+FramesWithin limit (at_key ps ∷ fs) = (length fs < 64) × KeysDiffer ps × PairsWithin limit (64 - suc (length fs)) ps × FramesWithin limit fs
 FramesWithin limit (at_value ps key ∷ fs) =
-    (length fs < 64) × AreDistinct ps × PairsWithin limit (64 - suc (length fs)) ps × FramesWithin limit fs × (HasKey key ps → ⊥) × (length key ≤ limit)
+    (length fs < 64) × KeysDiffer ps × PairsWithin limit (64 - suc (length fs)) ps × FramesWithin limit fs × (HasKey key ps → ⊥) × (length key ≤ limit)
 
 abbrev TokenWithin : ℕ → Token → Type 0
 TokenWithin limit between = Unit {0}
@@ -52,7 +52,7 @@ or_true : (a : Bool) → a || true ≡ true
 or_true true = refl
 or_true false = refl
 
-has_key-added : (key : List ℕ) (ps : Pairs) (t : Tree) → HasKey key (add_pair ps key t)
+pub has_key-added : (key : List ℕ) (ps : Pairs) (t : Tree) → HasKey key (add_pair ps key t)
 has_key-added key no_pairs t = let same : bytes_eq key key ≡ true = grind (arith, bytes_eq-Decides) in ap (λ b. b || false) same
 has_key-added key (pair k u ps) t = ap (λ b. bytes_eq key k || b) (has_key-added key ps t) ∙ or_true (bytes_eq key k)
 
@@ -67,14 +67,14 @@ or_left false b h other = absurd (other h)
 same_key : (key k : List ℕ) → bytes_eq key k ≡ true → key ≡ k
 same_key key k e = grind (arith, bytes_eq-Decides)
 
-has_key-below : (k key : List ℕ) (ps : Pairs) (t : Tree) → HasKey k ps → HasKey k (add_pair ps key t)
+pub has_key-below : (k key : List ℕ) (ps : Pairs) (t : Tree) → HasKey k ps → HasKey k (add_pair ps key t)
 has_key-below k key no_pairs t h = absurd (cc)
 has_key-below k key (pair l u ps) t h = or_below (bytes_eq k l) (has_key k ps) (has_key k (add_pair ps key t)) (λ g. has_key-below k key ps t g) h
 
-AreDistinct-back : (ps : Pairs) (key : List ℕ) (t : Tree) → AreDistinct (add_pair ps key t) → AreDistinct ps × (HasKey key ps → ⊥)
-AreDistinct-back no_pairs key t h = (tt, λ g. absurd (cc))
-AreDistinct-back (pair k u ps) key t h =
-    let more = AreDistinct-back ps key t h.1 in (
+KeysDiffer-back : (ps : Pairs) (key : List ℕ) (t : Tree) → KeysDiffer (add_pair ps key t) → KeysDiffer ps × (HasKey key ps → ⊥)
+KeysDiffer-back no_pairs key t h = (tt, λ g. absurd (cc))
+KeysDiffer-back (pair k u ps) key t h =
+    let more = KeysDiffer-back ps key t h.1 in (
       (λ g. h.0 (has_key-below k key ps t g), more.0),
       λ g. h.0 (subst (λ x. HasKey x (add_pair ps key t)) (same_key key k (or_left (bytes_eq key k) (has_key key ps) g more.1)) (has_key-added key ps t)),
     )
@@ -93,7 +93,7 @@ put-back limit (in_list ts ∷ fs) t h = let b = AreWithin-back limit (64 - suc 
 put-back limit (at_key ps ∷ fs) t h = put_key-back limit ps fs t h
 put-back limit (at_value ps key ∷ fs) t h =
     let b = PairsWithin-back limit (64 - suc (length fs)) ps key t h.0.2 in
-    let d = AreDistinct-back ps key t h.0.1 in
+    let d = KeysDiffer-back ps key t h.0.1 in
     ((h.0.0, d.0, b.0, h.0.3, d.1, b.1), b.2)
 
 depth_same : (n : ℕ) → 64 - n - 1 ≡ 64 - suc n
@@ -194,8 +194,8 @@ integer_digits-back limit fs negative n signs.Other h = absurd h
 more_length-back : (limit : ℕ) (fs : List Frame) (n d : ℕ) → NextWithin limit (more_length fs n d) → FramesWithin limit fs × (n ≤ limit)
 more_length-back limit fs n d h =
     let token = count (10 * n + d) in
-    let g = where-back limit (nat_le (10 * n + d) 18446744073709551615) (goes fs token)
-    (unless-back limit (n == 0) (cond (nat_le (10 * n + d) 18446744073709551615) (goes fs token) stuck) h) in
+    let g = where-back limit (nat_lt (10 * n + d) (10 ^ 64)) (goes fs token)
+    (unless-back limit (n == 0) (cond (nat_lt (10 * n + d) (10 ^ 64)) (goes fs token) stuck) h) in
     let fits : 10 * n + d ≤ limit = g.1 in
     (g.0, omega arith)
 
@@ -288,7 +288,7 @@ next_passes limit (ends t) h rule e = let f : whole t ≡ refuses rule = e in ab
 next_passes limit stuck h rule e = absurd h
 
 -- a dictionary's text within the limits is clean
-text_clean : (limit : ℕ) (ps : Pairs) → ArePairs ps → IsWithin limit 64 (dictionary ps) → length (text (dictionary ps)) ≤ limit → IsClean limit (text (dictionary ps))
+pub text_clean : (limit : ℕ) (ps : Pairs) → ArePairs ps → IsWithin limit 64 (dictionary ps) → length (text (dictionary ps)) ≤ limit → IsClean limit (text (dictionary ps))
 text_clean limit ps g h fits front more rule e meets =
     let all : run (read front) more ≡ ends (dictionary ps) = sym (run-append (goes [] between) front more) ∙ ap read (sym e) ∙ run-message ps g in
     let now : NextWithin limit (read front) = run-back limit (read front) more (subst (λ next. NextWithin limit next) (sym all) h) in
@@ -296,8 +296,3 @@ text_clean limit ps g h fits front more rule e meets =
     let brief : nat_lt limit (length front) ≡ false = lt_false limit (length front) (omega arith) in
     next_passes limit (read front) now rule
     (ap (λ t. cond t (refuses too_long) (checked limit (judged (read front)))) (sym brief) ∙ meets_verdict limit front rule meets)
-
--- and so is read, whatever follows
-pub text_read : (limit place : ℕ) (ps : Pairs) (more : List ℕ) (ts : List Tree) (end : Ending) → ArePairs ps → IsWithin limit 64 (dictionary ps) → length (text (dictionary ps)) ≤ limit
-    → Streams limit (place + length (text (dictionary ps))) more ts end → Streams limit place (text (dictionary ps) ++ more) (sorted (dictionary ps) ∷ ts) end
-text_read limit place ps more ts end g h fits later = (text (dictionary ps), more, (ps, g, refl, refl, text_clean limit ps g h fits), refl, later)

@@ -1,14 +1,11 @@
--- What is written, with the keys sorted, is read again.
-use Rattle.std.proofs.Common.{◌≡◌, ℕ, ◌+◌, ◌≤◌, Ordering, Less, Equal, Greater, nat_cmp, List, ◌∷◌, ◌++◌, length, refl, ap, ◌∙◌, subst}
+-- Sorting twice is sorting once.
+use Rattle.std.proofs.Common.{◌≡◌, ℕ, Ordering, Less, Equal, Greater, nat_cmp, List, refl, ap, ◌∙◌}
 use Rattle.std.proofs.lemmas.Cmp.{nat_list_cmp_total}
 use Rattle.std.specs.Cmp.Lexicographic.{slice_cmp}
 use Rattle.std.specs.Ordering.{match_ordering, ordering_reverse}
 use Rattle.bencode_wire.specs.Tree.{Tree, integer, string, list, dictionary, Trees, no_trees, tree, Pairs, no_pairs, pair, add_pair}
-use Rattle.bencode_wire.specs.Spelling.{canonical, IsSpellable, put_pair, put_pairs, sorted, sorted_trees}
-use Rattle.bencode_wire.specs.Stream.{Ending, Streams}
-use Rattle.bencode_wire.specs.Within.{IsWithin}
+use Rattle.bencode_wire.specs.Spelling.{put_pair, put_pairs, sorted, sorted_trees}
 use Rattle.bencode_wire.proofs.Complete.{append_pairs, append_pairs-none}
-use Rattle.bencode_wire.proofs.Within.{text_read}
 
 abbrev pub order : List ℕ → List ℕ → Ordering
 order a b = slice_cmp nat_cmp a b
@@ -110,11 +107,3 @@ mutual
 -- the keys of pairs that were put in one by one ascend
 pub put_in_ascending : (ps : Pairs) → InOrder (put_pairs no_pairs ps)
 put_in_ascending ps = in_order_all no_pairs ps tt (settled ps)
-
--- the canonical spelling is read as what was written
-pub written_read : (limit place : ℕ) (ps : Pairs) (more : List ℕ) (ts : List Tree) (end : Ending)
-    → IsSpellable (sorted (dictionary ps)) → IsWithin limit 64 (sorted (dictionary ps)) → length (canonical (dictionary ps)) ≤ limit
-    → Streams limit (place + length (canonical (dictionary ps))) more ts end → Streams limit place (canonical (dictionary ps) ++ more) (sorted (dictionary ps) ∷ ts) end
-written_read limit place ps more ts end g h fits later =
-    subst (λ x. Streams limit place (canonical (dictionary ps) ++ more) (x ∷ ts) end) (sorted_twice (dictionary ps))
-    (text_read limit place (put_pairs no_pairs ps) more ts end g h fits later)

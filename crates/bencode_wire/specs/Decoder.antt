@@ -1,12 +1,9 @@
 -- What a decoder shows: its messages that were not handed out, what has come of the next one and where, and its fault.
-use Rattle.std.specs.Prelude.{◌≡◌, ℕ, ◌-◌, List, ◌++◌, length, map, Option, Some, None, MatchOption}
+use Rattle.std.specs.Prelude.{◌≡◌, ℕ, ◌-◌, List, ◌++◌, length, map, Option, Some, None}
 use Rattle.bencode_wire.specs.Tree.{Tree}
 use Rattle.bencode_wire.specs.View.{view}
 use Rattle.bencode_wire.specs.Stream.{Ending, rest, fault, Streams}
-use Rattle.bencode_wire.specs.Cut.{Cut, IsCut, cut_text, sorted_cut}
-use Rattle.bencode_wire.specs.Reader.{cut_view}
 use Rattle.bencode_wire.specs.Fault.{counted, fault_at}
-use Rattle.bencode_wire.specs.declared.cut.Reader.{Reader}
 use Rattle.bencode_wire.specs.declared.fault.WireFault.{WireFault}
 use Rattle.bencode_wire.specs.declared.decoder.Decoder.{Decoder}
 
@@ -14,14 +11,14 @@ abbrev pub limit_of : Decoder → ℕ
 limit_of d = d.limit
 
 abbrev pub ready_of : Decoder → List Tree
-ready_of d = map view d.ready.items
+ready_of d = map view d.ready
 
 abbrev pub rest_of : Decoder → List ℕ
-rest_of d = d.rest.items
+rest_of d = d.rest
 
 -- the place in the stream at which the rest begins
 abbrev pub place_of : Decoder → ℕ
-place_of d = d.start
+place_of d = d.place
 
 abbrev pub fault_of : Decoder → Option WireFault
 fault_of d = d.fault
@@ -38,18 +35,9 @@ abbrev pub Shows : Decoder → List ℕ → Ending → Type 0
 Shows d all (rest m) = (fault_of d ≡ None) × (rest_of d ≡ m) × (place_of d ≡ counted (length all - length m))
 Shows d all (fault rule at) = fault_of d ≡ Some (fault_at rule (counted at))
 
--- the reader holds what has come, its pairs sorted
-abbrev pub Holds : List ℕ → Reader → Type 0
-Holds m r = (c : Cut) × IsCut c × (cut_text c ≡ m) × (cut_view r ≡ sorted_cut c)
-
--- what the decoder keeps beside the rest is what the rest spells so far
-abbrev pub IsInStep : Decoder → Type 0
-IsInStep d = MatchOption d.reader (Unit {0}) (Holds (rest_of d))
-
 -- reading all these bytes gives the messages that were taken, those that are ready, and the end that the decoder shows
 pub record Stands (limit : ℕ) (d : Decoder) (all : List ℕ) (taken : List Tree) : Type 0 where
   pub end : Ending
   pub streams : Streams limit 0 all (taken ++ ready_of d) end
   pub shows : Shows d all end
   pub within : limit_of d ≡ limit
-  pub in_step : IsInStep d

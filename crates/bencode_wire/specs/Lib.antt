@@ -11,4 +11,8 @@ pub mod Sign
 pub mod Reader
 pub mod Course
 pub mod Refusals
-pub mod Within
+pub mod Nesting
+pub mod State
+pub mod Held
+pub mod Inside
+pub mod Gives

@@ -1,6 +1,6 @@
 -- What the private functions that read compute, byte by byte: what a byte makes of a cut. No public clause speaks of it.
 -- `add` puts a pair into a dictionary: behind the others, as they are read, or by its key.
-use Rattle.std.specs.Prelude.{◌≡◌, ℕ, ◌≤◌, ◌+◌, ◌-◌, ◌*◌, Bool, true, false, cond, nat_lt, nat_le, ◌==◌, ℤ, pos, negsuc, List, [], ◌∷◌, ◌++◌, length}
+use Rattle.std.specs.Prelude.{◌≡◌, ℕ, ◌≤◌, ◌+◌, ◌-◌, ◌*◌, ◌^◌, Bool, true, false, cond, nat_lt, nat_le, ◌==◌, ℤ, pos, negsuc, List, [], ◌∷◌, ◌++◌, length}
 use Rattle.bencode_wire.specs.Tree.{Tree, integer, string, list, dictionary, no_trees, Pairs, no_pairs, add_tree, has_key}
 use Rattle.bencode_wire.specs.Cut.{Frame, in_list, at_key, at_value, Token, between, after_i, after_minus, digits, count, part, Cut, cut, greatest}
 use Rattle.bencode_wire.specs.Sign.{sign_of}
@@ -134,7 +134,7 @@ integer_digits add fs negative n Sign.Colon = stuck
 integer_digits add fs negative n Sign.Other = stuck
 
 abbrev pub more_length : List Frame → ℕ → ℕ → Next
-more_length fs n d = cond (n == 0) stuck (cond (nat_le (10 * n + d) 18446744073709551615) (goes fs (count (10 * n + d))) stuck)
+more_length fs n d = cond (n == 0) stuck (cond (nat_lt (10 * n + d) (10 ^ 64)) (goes fs (count (10 * n + d))) stuck)
 
 abbrev pub open_string : Adding → List Frame → ℕ → Next
 open_string add fs n = cond (n == 0) (put add fs (string [])) (goes fs (part [] n))

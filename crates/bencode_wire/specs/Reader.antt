@@ -1,14 +1,10 @@
 -- The cut that a reader stands for, and what its functions' results say.
-use Rattle.std.specs.Prelude.{◌≡◌, List, map, reverse, Result, Ok, Err}
+use Rattle.std.specs.Prelude.{List, map, reverse}
 use Rattle.bencode_wire.specs.Cut as cuts
-use Rattle.bencode_wire.specs.Fault.{malformed, too_long, too_deep}
-use Rattle.bencode_wire.specs.Machine.{Judged, reads, whole, refuses}
-use Rattle.bencode_wire.specs.View.{view, trees_view, pairs_view}
-use Rattle.bencode_wire.specs.declared.fault.Refusal.{Refusal}
+use Rattle.bencode_wire.specs.View.{trees_view, pairs_view}
 use Rattle.bencode_wire.specs.declared.cut.Frame.{Frame}
 use Rattle.bencode_wire.specs.declared.cut.Token.{Token}
 use Rattle.bencode_wire.specs.declared.cut.Reader.{Reader}
-use Rattle.bencode_wire.specs.declared.cut.Progress.{Progress}
 
 abbrev pub frame_view : Frame → cuts.Frame
 frame_view (Frame.List items) = cuts.in_list (trees_view items.items)
@@ -29,12 +25,3 @@ token_view (Token.Text p) = cuts.part p.bytes.items p.left
 
 abbrev pub cut_view : Reader → cuts.Cut
 cut_view r = cuts.cut (frames_view r.frames.items) (token_view r.token)
-
--- the result is what is judged, unless memory is refused
-abbrev pub Gives : Judged → Result Progress Refusal → Type 0
-Gives j (Ok (Progress.Partial r)) = j ≡ reads (cut_view r)
-Gives j (Ok (Progress.Whole v)) = j ≡ whole (view v)
-Gives j (Err Refusal.NoMemory) = Unit {0}
-Gives j (Err Refusal.Malformed) = j ≡ refuses malformed
-Gives j (Err Refusal.TooLong) = j ≡ refuses too_long
-Gives j (Err Refusal.TooDeep) = j ≡ refuses too_deep

@@ -1,5 +1,5 @@
 -- How a value is spelled (BEP 3, "Bencoding").
-use Rattle.std.specs.Prelude.{◌≡◌, ℕ, ◌<◌, ◌^◌, ℤ, pos, negsuc, List, [], ◌∷◌, ◌++◌, length, codes, decimal, IsPermutation}
+use Rattle.std.specs.Prelude.{◌≡◌, ℕ, ◌<◌, ◌^◌, ℤ, pos, negsuc, List, [], ◌∷◌, ◌++◌, length, codes, decimal}
 use Rattle.std.specs.Fmt.{signed_decimal}
 use Rattle.std.specs.Ordering.{nat_cmp, match_ordering}
 use Rattle.std.specs.Cmp.Lexicographic.{slice_cmp}
@@ -32,8 +32,12 @@ abbrev pub IsInteger : ℤ → Type 0
 IsInteger (pos n) = n < 2 ^ 63
 IsInteger (negsuc n) = n < 2 ^ 63
 
+-- a length, of at most 64 digits. A decoder's limit is below 2 ^ 64, so a length passes the limit before it passes this
+abbrev pub IsLength : ℕ → Type 0
+IsLength n = n < 10 ^ 64
+
 abbrev pub IsString : List ℕ → Type 0
-IsString bytes = length bytes < 2 ^ 64
+IsString bytes = IsLength (length bytes)
 
 -- a value of the grammar, equal keys being let pass
 abbrev mutual
@@ -55,30 +59,21 @@ abbrev pub joined : List (List ℕ) → List ℕ
 joined [] = []
 joined (bytes ∷ more) = bytes ++ joined more
 
-abbrev pub AreDistinct : Pairs → Type 0
-AreDistinct no_pairs = Unit {0}
-AreDistinct (pair key t ps) = (HasKey key ps → ⊥) × AreDistinct ps
-
--- `bytes` is a spelling of the value: of a dictionary its pairs' in any order
+-- at every level no key stands twice
 abbrev mutual
-  pub Spells : Tree → List ℕ → Type 0
-  Spells (integer n) bytes = IsInteger n × (bytes ≡ integer_text n)
-  Spells (string s) bytes = IsString s × (bytes ≡ string_text s)
-  Spells (list ts) bytes = (inner : List ℕ) × SpellsAll ts inner × (bytes ≡ codes "l" ++ inner ++ codes "e")
-  Spells (dictionary ps) bytes =
-      (texts : List (List ℕ)) × (order : List (List ℕ)) × SpellsPairs ps texts × AreDistinct ps × IsPermutation texts order
-      × (bytes ≡ codes "d" ++ joined order ++ codes "e")
+  pub IsDistinct : Tree → Type 0
+  IsDistinct (integer n) = Unit {0}
+  IsDistinct (string bytes) = Unit {0}
+  IsDistinct (list ts) = AreDistinct ts
+  IsDistinct (dictionary ps) = PairsDistinct ps
 
-  pub SpellsAll : Trees → List ℕ → Type 0
-  SpellsAll no_trees bytes = bytes ≡ []
-  SpellsAll (tree t ts) bytes = (first : List ℕ) × (more : List ℕ) × Spells t first × SpellsAll ts more × (bytes ≡ first ++ more)
+  pub AreDistinct : Trees → Type 0
+  AreDistinct no_trees = Unit {0}
+  AreDistinct (tree t ts) = IsDistinct t × AreDistinct ts
 
-  -- the spelling of each pair
-  pub SpellsPairs : Pairs → List (List ℕ) → Type 0
-  SpellsPairs no_pairs texts = texts ≡ []
-  SpellsPairs (pair key t ps) texts =
-      (value : List ℕ) × (more : List (List ℕ)) × IsString key × Spells t value × SpellsPairs ps more
-      × (texts ≡ (string_text key ++ value) ∷ more)
+  pub PairsDistinct : Pairs → Type 0
+  PairsDistinct no_pairs = Unit {0}
+  PairsDistinct (pair key t ps) = (HasKey key ps → ⊥) × IsDistinct t × PairsDistinct ps
 
 -- the pairs, sorted by their keys as raw bytes, with one more; a key that stands there takes the new value
 abbrev pub put_pair : Pairs → List ℕ → Tree → Pairs
@@ -105,3 +100,11 @@ abbrev mutual
 -- the spelling whose keys are sorted
 abbrev pub canonical : Tree → List ℕ
 canonical t = text (sorted t)
+
+-- the values differ in the order of their pairs alone, at every level
+abbrev pub IsReordered : Tree → Tree → Type 0
+IsReordered t u = IsDistinct t × IsDistinct u × (sorted t ≡ sorted u)
+
+-- `bytes` is a spelling of the value: the text of one that differs from it in the order of pairs alone
+abbrev pub Spells : Tree → List ℕ → Type 0
+Spells t bytes = (u : Tree) × IsSpellable u × IsReordered t u × (bytes ≡ text u)

@@ -1,45 +1,53 @@
 -- A stream of messages (BEP 3), and where it breaks a rule. A message is one dictionary; a place is a byte's offset in the
 -- stream, from 0.
-use Rattle.std.specs.Prelude.{◌≡◌, ℕ, ◌+◌, ◌<◌, ◌≤◌, ◌⊎◌, List, [], ◌∷◌, ◌++◌, length}
-use Rattle.bencode_wire.specs.Tree.{Tree, dictionary, no_trees, Pairs, no_pairs, HasKey}
-use Rattle.bencode_wire.specs.Spelling.{text, sorted, ArePairs}
-use Rattle.bencode_wire.specs.Cut.{Frame, in_list, at_key, at_value, between, count, Cut, cut, cut_text, IsCut}
+use Rattle.std.specs.Prelude.{◌≡◌, ℕ, suc, ◌+◌, ◌<◌, ◌≤◌, ◌⊎◌, List, [], ◌∷◌, ◌++◌, length, codes, decimal}
+use Rattle.bencode_wire.specs.Tree.{Tree, dictionary, Trees, Pairs, HasKey}
+use Rattle.bencode_wire.specs.Spelling.{text, trees_text, pairs_text, string_text, IsLength, IsString, AreSpellable, ArePairs, sorted, Spells}
 use Rattle.bencode_wire.specs.Fault.{Rule, malformed, too_long, too_deep}
 
 -- the bytes begin a dictionary of the grammar, equal keys being let pass
 abbrev pub Begins : List ℕ → Type 0
 Begins m = (ps : Pairs) × (more : List ℕ) × ArePairs ps × (text (dictionary ps) ≡ m ++ more)
 
--- the bytes are a cut of the grammar that is as told
-abbrev pub BreaksOff : (Cut → Type 0) → List ℕ → Type 0
-BreaksOff is m = (c : Cut) × IsCut c × (m ≡ cut_text c) × is c
+mutual
+  -- behind these bytes of a message a value is awaited, inside so many lists and dictionaries
+  pub data AwaitsValue : ℕ → List ℕ → Type 0 where
+    behind_items : (n : ℕ) (m : List ℕ) (ts : Trees) → AwaitsValue n m → AreSpellable ts → AwaitsValue (suc n) (m ++ (codes "l" ++ trees_text ts))
+    behind_key : (n : ℕ) (ps : Pairs) (m key : List ℕ) → AwaitsKey n ps m → IsString key → AwaitsValue n (m ++ string_text key)
+
+  -- a key is awaited, in a dictionary that has these pairs so far
+  pub data AwaitsKey : ℕ → Pairs → List ℕ → Type 0 where
+    of_message : (ps : Pairs) → ArePairs ps → AwaitsKey 1 ps (codes "d" ++ pairs_text ps)
+    of_value : (n : ℕ) (m : List ℕ) (ps : Pairs) → AwaitsValue n m → ArePairs ps → AwaitsKey (suc n) ps (m ++ (codes "d" ++ pairs_text ps))
+
+-- a string may begin behind these bytes
+abbrev pub AwaitsString : List ℕ → Type 0
+AwaitsString m = ((n : ℕ) × AwaitsValue n m) ⊎ ((n : ℕ) × (ps : Pairs) × AwaitsKey n ps m)
 
 -- the last byte ends a key that stood before in its dictionary
-abbrev pub RepeatsKey : Cut → Type 0
-RepeatsKey c = (ps : Pairs) × (key : List ℕ) × (fs : List Frame) × (c ≡ cut (at_value ps key ∷ fs) between) × HasKey key ps
+abbrev pub RepeatsKey : List ℕ → Type 0
+RepeatsKey m =
+    (n : ℕ) × (ps : Pairs) × (front : List ℕ) × (key : List ℕ) × AwaitsKey n ps front × IsString key × HasKey key ps × (m ≡ front ++ string_text key)
 
 -- the last byte is a digit that makes a string's length greater than the limit
-abbrev pub IsLarge : ℕ → Cut → Type 0
-IsLarge limit c = (fs : List Frame) × (n : ℕ) × (c ≡ cut fs (count n)) × (limit < n)
-
-abbrev pub IsEmpty : Frame → Type 0
-IsEmpty f = (f ≡ in_list no_trees) ⊎ (f ≡ at_key no_pairs)
+abbrev pub IsLarge : ℕ → List ℕ → Type 0
+IsLarge limit m = (front : List ℕ) × (len : ℕ) × AwaitsString front × IsLength len × (limit < len) × (m ≡ front ++ decimal len)
 
 -- the last byte opens a list or a dictionary inside 64 others or more
-abbrev pub IsDeep : Cut → Type 0
-IsDeep c = (f : Frame) × (fs : List Frame) × (c ≡ cut (f ∷ fs) between) × IsEmpty f × (64 ≤ length fs)
+abbrev pub IsDeep : List ℕ → Type 0
+IsDeep m = (front : List ℕ) × (n : ℕ) × AwaitsValue n front × (64 ≤ n) × ((m ≡ front ++ codes "l") ⊎ (m ≡ front ++ codes "d"))
 
 -- the rules at the last byte of the bytes of a message, each tried where the earlier ones do not apply
 abbrev pub IsTooLong : ℕ → List ℕ → Type 0
 IsTooLong limit m = limit < length m
 
 abbrev pub IsMalformed : List ℕ → Type 0
-IsMalformed m = (Begins m → ⊥) ⊎ BreaksOff RepeatsKey m
+IsMalformed m = (Begins m → ⊥) ⊎ RepeatsKey m
 
 abbrev pub Meets : ℕ → List ℕ → Rule → Type 0
 Meets limit m malformed = (IsTooLong limit m → ⊥) × IsMalformed m
-Meets limit m too_long = IsTooLong limit m ⊎ ((IsMalformed m → ⊥) × BreaksOff (IsLarge limit) m)
-Meets limit m too_deep = (IsTooLong limit m → ⊥) × (IsMalformed m → ⊥) × (BreaksOff (IsLarge limit) m → ⊥) × BreaksOff IsDeep m
+Meets limit m too_long = IsTooLong limit m ⊎ ((IsMalformed m → ⊥) × IsLarge limit m)
+Meets limit m too_deep = (IsTooLong limit m → ⊥) × (IsMalformed m → ⊥) × (IsLarge limit m → ⊥) × IsDeep m
 
 -- no rule applies at a byte of these
 abbrev pub IsClean : ℕ → List ℕ → Type 0
@@ -47,7 +55,7 @@ IsClean limit m = (front more : List ℕ) (rule : Rule) → m ≡ front ++ more 
 
 -- the bytes spell a message, which a decoder hands out with its pairs sorted
 abbrev pub IsMessage : ℕ → Tree → List ℕ → Type 0
-IsMessage limit t m = (ps : Pairs) × ArePairs ps × (m ≡ text (dictionary ps)) × (t ≡ sorted (dictionary ps)) × IsClean limit m
+IsMessage limit t m = (ps : Pairs) × (t ≡ dictionary ps) × (sorted t ≡ t) × Spells t m × IsClean limit m
 
 -- how a stream ends: with less than a message, or with a byte at which a rule applies
 pub data Ending : Type 0 where

@@ -1,10 +1,14 @@
 // Reading bytes on, run by run.
-ghost use Rattle.std.specs.Prelude.{◌≡◌, ◌<◌, ◌≤◌, length, take, IfOk, OnOk};
+ghost use Rattle.std.specs.Prelude.{◌≡◌, ◌<◌, ◌≤◌, length, take, IfOk, IfSome, OnOk, MatchOption};
 ghost use Rattle.bencode_wire.specs.Fronts.{BeginsWith};
 ghost use Rattle.bencode_wire.specs.Machine as machine;
 ghost use Rattle.bencode_wire.specs.Spelling.{put_pair};
-ghost use Rattle.bencode_wire.specs.Reader.{Gives, frames_view, token_view, cut_view};
+ghost use Rattle.bencode_wire.specs.Reader.{frames_view, token_view, cut_view};
+ghost use Rattle.bencode_wire.specs.Gives.{Gives};
 ghost use Rattle.bencode_wire.specs.Course.{Continues};
+ghost use Rattle.bencode_wire.specs.Cut.{Cut};
+ghost use Rattle.bencode_wire.specs.Held.{Holds};
+ghost use Rattle.bencode_wire.specs.Stream.{IsRest};
 
 use crate::ben::Ben;
 use crate::cut::{Course, Progress, Reader, Token};
@@ -31,6 +35,34 @@ pub(crate) fn read_on(
         now = advance(alloc, limit, start, bytes, now, ready)?;
     }
     Ok(now)
+}
+
+// What the kept bytes are read as, unless memory is refused.
+pub(crate) fn resume(
+    alloc: Global,
+    limit: usize,
+    start: u64,
+    kept: &[u8],
+    reader: Option<Reader>,
+) -> Option<Reader>
+    ensures { (c : Cut) → MatchOption reader (Unit {0}) (Holds kept.now) → IsRest limit kept.now
+        → machine.reading limit put_pair 0 machine.start 0 kept.now ≡ machine.ended (machine.rests (length kept.now) c)
+        → IfSome result (λ r. cut_view r ≡ c) }
+{
+    if let Some(reader) = reader {
+        return Some(reader);
+    }
+    let mut none = VecDeque::new(alloc);
+    let begin = Course {
+        reader: Reader::new(alloc),
+        begin: 0,
+        at: 0,
+    };
+    match read_on(alloc, limit, start, kept, begin, &mut none) {
+        Ok(course) => Some(course.reader),
+        // No rule is met in them.
+        Err(_) => None,
+    }
 }
 
 // Reads one run more.

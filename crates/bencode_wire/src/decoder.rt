@@ -1,26 +1,22 @@
 // A stream of messages, fed in pieces of any size.
-ghost use Rattle.std.specs.Prelude.{◌≡◌, ◌≢◌, ◌↔◌, ◌++◌, ◌≤◌, ℕ, List, [], ◌∷◌, length, drop, IsTrue, None, Some, Err, OnOk, IfOk, IfErr, IfSome, option_map, option_to_list};
+ghost use Rattle.std.specs.Prelude.{◌≡◌, ◌≢◌, ◌↔◌, ◌++◌, ◌≤◌, ℕ, List, [], ◌∷◌, length, drop, IsTrue, None, Some, Err, OnOk, IfOk, IfErr, option_map, option_to_list};
 ghost use Rattle.bencode_wire.specs.Tree.{Tree};
-ghost use Rattle.bencode_wire.specs.Cut.{Cut};
-ghost use Rattle.bencode_wire.specs.Spelling.{put_pair};
-ghost use Rattle.bencode_wire.specs.Machine.{reading, ended, rests, start as message_start};
-ghost use Rattle.bencode_wire.specs.Reader.{cut_view};
-ghost use Rattle.bencode_wire.specs.Stream.{IsRest};
 
 use crate::ben::Ben;
 use crate::copy::{copy_bytes, copy_queue};
-use crate::course::read_on;
+use crate::course::{read_on, resume};
 use crate::cut::{Course, Reader};
 use crate::fault::WireFault;
 use bytes::Bytes;
 use std::alloc::{AllocError, Global};
 use std::collections::VecDeque;
+use std::marker::Model;
 
 /// Reads a stream of messages.
 ///
 /// The bytes of the unfinished message are kept beside what they were read as. So a piece costs the
 /// reading of its own bytes, however the stream is cut; only after want of memory are the kept
-/// bytes read once more.
+/// bytes read once more. Contracts see what it shows, a `State`, and not how it is kept.
 #[derive(Drop)]
 pub struct Decoder {
     alloc: Global,
@@ -36,9 +32,25 @@ pub struct Decoder {
     fault: Option<WireFault>,
 }
 
+impl Model for Decoder {
+    ghost use Rattle.bencode_wire.specs.State.{State};
+    ghost use Rattle.bencode_wire.specs.contracts.ben.Ben as messages;
+    ghost use Rattle.std.specs.Coded.{codes};
+
+    ghost Value = { State };
+
+    ghost coded = { Prim.hlevel (codes, messages.the_row.coded) };
+
+    ghost use Rattle.bencode_wire.specs.Inside.{state_of, IsInStep};
+
+    ghost view = { state_of };
+
+    ghost invariant = { IsInStep };
+}
+
 impl Decoder {
     ghost use Rattle.bencode_wire.specs.View.{view};
-    ghost use Rattle.bencode_wire.specs.Decoder.{ready_of, rest_of, fault_of, IsUnchanged, IsInStep, Stands};
+    ghost use Rattle.bencode_wire.specs.Decoder.{ready_of, rest_of, fault_of, IsUnchanged, Stands};
 
     /// A decoder at the start of a stream. `limit` is the greatest length of a message, and of a
     /// string in one.
@@ -125,7 +137,8 @@ impl Decoder {
         ensures fault { IfErr result (λ f. f ≢ WireFault.NoMemory → fault_of self.new ≡ Some f) }
         ensures memory { result ≡ Err WireFault.NoMemory → IsUnchanged self.old self.new }
     {
-        let Some(reader) = self.resume() else {
+        let cached = self.reader.take();
+        let Some(reader) = resume(self.alloc, self.limit, self.start, &self.rest, cached) else {
             return Err(WireFault::NoMemory);
         };
         let kept = self.rest.len();
@@ -162,32 +175,6 @@ impl Decoder {
                 self.fault = Some(fault);
                 Err(fault)
             }
-        }
-    }
-
-    // What the kept bytes are read as, unless memory is refused.
-    fn resume(&mut self) -> Option<Reader>
-        ensures same { IsUnchanged self.old self.new }
-        ensures none { self.new.reader ≡ None }
-        ensures reader { (c : Cut) → IsInStep self.old → IsRest self.old.limit (rest_of self.old)
-            → reading self.old.limit put_pair 0 message_start 0 (rest_of self.old) ≡ ended (rests (length (rest_of self.old)) c)
-            → IfSome result (λ r. cut_view r ≡ c) }
-    {
-        if let Some(reader) = self.reader.take() {
-            return Some(reader);
-        }
-        let mut none = VecDeque::new(self.alloc);
-        let reader = Reader::new(self.alloc);
-        let begin = Course {
-            reader,
-            begin: 0,
-            at: 0,
-        };
-        let bytes = self.rest.as_slice();
-        match read_on(self.alloc, self.limit, self.start, bytes, begin, &mut none) {
-            Ok(course) => Some(course.reader),
-            // No rule is met in them.
-            Err(_) => None,
         }
     }
 }

@@ -1,9 +1,9 @@
 //! Laws of the spelling. The functions do nothing: what they ensure is proved of every value.
 ghost use Rattle.std.specs.Prelude.{◌≡◌, ℕ, ◌+◌, ◌≤◌, List, ◌∷◌, ◌++◌, length};
 ghost use Rattle.bencode_wire.specs.Tree.{Tree, Pairs, dictionary};
-ghost use Rattle.bencode_wire.specs.Spelling.{text, canonical, sorted, Spells, IsSpellable, ArePairs};
+ghost use Rattle.bencode_wire.specs.Spelling.{text, canonical, sorted, Spells, IsSpellable, IsDistinct};
 ghost use Rattle.bencode_wire.specs.Stream.{Ending, Streams};
-ghost use Rattle.bencode_wire.specs.Within.{IsWithin};
+ghost use Rattle.bencode_wire.specs.Nesting.{nesting};
 
 /// No spelling of a value is a proper prefix of a spelling of any value: where two begin the same
 /// bytes, they are the same, and so is what follows them.
@@ -16,10 +16,11 @@ pub fn a_spelling_has_one_value()
     ensures { (v w : Tree) (bytes : List ℕ) → Spells v bytes → Spells w bytes → sorted v ≡ sorted w }
 {}
 
-/// What `write_into` writes of a value is a spelling of it, where it has one: its keys are distinct
-/// and its integers and strings fit.
+/// What `write_into` writes of a value is a spelling of it, where its keys are distinct and its
+/// integers and strings fit; so it is of each value that has a spelling.
 pub fn what_is_written_is_a_spelling()
-    ensures { (v : Tree) (bytes : List ℕ) → Spells v bytes → Spells v (canonical v) }
+    ensures value { (v : Tree) → IsSpellable v → IsDistinct v → Spells v (canonical v) }
+    ensures spelled { (v : Tree) (bytes : List ℕ) → Spells v bytes → Spells v (canonical v) }
 {}
 
 /// A text is read in one way: its value, with its pairs in the order in which they stand, is known.
@@ -39,19 +40,20 @@ pub fn every_stream_reads()
     ensures { (limit : ℕ) (bytes : List ℕ) → (ms : List Tree) × (end : Ending) × Streams limit 0 bytes ms end }
 {}
 
-/// What is spelled within the limits is read, whatever follows: the text of a dictionary, with its
-/// pairs in any order, is read as the dictionary, and the stream goes on behind it.
-pub fn a_text_is_read()
-    ensures { (limit place : ℕ) (ps : Pairs) (more : List ℕ) (ts : List Tree) (end : Ending)
-        → ArePairs ps → IsWithin limit 64 (dictionary ps) → length (text (dictionary ps)) ≤ limit
-        → Streams limit (place + length (text (dictionary ps))) more ts end
-        → Streams limit place (text (dictionary ps) ++ more) (sorted (dictionary ps) ∷ ts) end }
+/// What is spelled within the limits is read, whatever follows: each spelling of a dictionary is read
+/// as the dictionary, and the stream goes on behind it.
+pub fn a_spelling_is_read()
+    ensures { (limit place : ℕ) (ps : Pairs) (bytes more : List ℕ) (ts : List Tree) (end : Ending)
+        → Spells (dictionary ps) bytes → nesting (dictionary ps) ≤ 64 → length bytes ≤ limit
+        → Streams limit (place + length bytes) more ts end
+        → Streams limit place (bytes ++ more) (sorted (dictionary ps) ∷ ts) end }
 {}
 
-/// What `write_into` wrote is read again, whatever follows, within the limits.
+/// What `write_into` wrote is read again, whatever follows, within the limits: of every dictionary
+/// whose integers and strings fit, as those of each `Ben` do (`write_into` says so).
 pub fn what_is_written_is_read()
     ensures { (limit place : ℕ) (ps : Pairs) (more : List ℕ) (ts : List Tree) (end : Ending)
-        → IsSpellable (sorted (dictionary ps)) → IsWithin limit 64 (sorted (dictionary ps)) → length (canonical (dictionary ps)) ≤ limit
+        → IsSpellable (dictionary ps) → nesting (dictionary ps) ≤ 64 → length (canonical (dictionary ps)) ≤ limit
         → Streams limit (place + length (canonical (dictionary ps))) more ts end
         → Streams limit place (canonical (dictionary ps) ++ more) (sorted (dictionary ps) ∷ ts) end }
 {}

@@ -10,7 +10,8 @@ ghost use Rattle.bencode_wire.specs.Cut.{in_list, at_key, at_value};
 ghost use Rattle.bencode_wire.specs.Spelling.{put_pair};
 ghost use Rattle.bencode_wire.specs.View.{view, trees_view, pairs_view};
 ghost use Rattle.bencode_wire.specs.Sign.{sign_of};
-ghost use Rattle.bencode_wire.specs.Reader.{frame_view, frames_view, token_view, cut_view, Gives};
+ghost use Rattle.bencode_wire.specs.Reader.{frame_view, frames_view, token_view, cut_view};
+ghost use Rattle.bencode_wire.specs.Gives.{Gives};
 
 use crate::ben::{Ben, Dictionary};
 use crate::cut::{Frame, PartOfInteger, PartOfString, Progress, Reader, Token, Wanted};
@@ -378,7 +379,8 @@ fn more_length(frames: Vec<Frame>, len: usize, digit: u8) -> Result<Progress, Re
     }
     match longer(len as u64, digit, u64::MAX) {
         Some(len) => partial(frames, Token::Length(len as usize)),
-        None => Err(Refusal::Malformed),
+        // It is above each limit.
+        None => Err(Refusal::TooLong),
     }
 }
 

@@ -1,17 +1,19 @@
 // Spelling a value. A dictionary's keys come sorted as raw bytes, which is the order of its map.
 ghost use Rattle.std.specs.Prelude.{◌≡◌, ◌++◌, OnOk, OnErr, codes, length};
 ghost use Rattle.bencode_wire.specs.View.{view, trees_view, pairs_view};
-ghost use Rattle.bencode_wire.specs.Spelling.{canonical, sorted_trees, put_pairs, trees_text, pairs_text, string_text, integer_text};
+ghost use Rattle.bencode_wire.specs.Spelling.{canonical, sorted_trees, put_pairs, trees_text, pairs_text, string_text, integer_text, IsInteger, IsString, IsSpellable, AreSpellable, ArePairs};
 ghost use Rattle.bencode_wire.specs.Tree.{no_pairs};
 
 use crate::ben::{Ben, Dictionary};
 use itoa::Buffer;
 use std::alloc::AllocError;
 
-/// Appends the value's canonical spelling. After want of memory `out` is as it was.
+/// Appends the value's canonical spelling. After want of memory `out` is as it was. The integers and
+/// strings of each `Ben` fit into the grammar, which is what the law that it is read again asks.
 pub fn write_into(value: &Ben, out: &mut Vec<u8>) -> Result<(), AllocError>
     ensures ok { OnOk result (out.new.items ≡ out.old.items ++ canonical (view value.now)) }
     ensures err { OnErr result (out.new.items ≡ out.old.items) }
+    ensures fits { OnOk result (IsSpellable (view value.now)) }
 {
     let mut bytes = Vec::new(*out.allocator());
     spell(value, &mut bytes)?;
@@ -20,7 +22,8 @@ pub fn write_into(value: &Ben, out: &mut Vec<u8>) -> Result<(), AllocError>
 
 #[cycle(spell)]
 fn spell(value: &Ben, out: &mut Vec<u8>) -> Result<(), AllocError>
-    ensures { OnOk result (out.new.items ≡ out.old.items ++ canonical (view value.now)) }
+    ensures fits { OnOk result (IsSpellable (view value.now)) }
+    ensures text { OnOk result (out.new.items ≡ out.old.items ++ canonical (view value.now)) }
 {
     match value {
         Ben::Integer(n) => spell_integer(*n, out),
@@ -40,7 +43,8 @@ fn spell(value: &Ben, out: &mut Vec<u8>) -> Result<(), AllocError>
 
 #[cycle(spell)]
 fn spell_items(items: &[Ben], out: &mut Vec<u8>) -> Result<(), AllocError>
-    ensures { OnOk result (out.new.items ≡ out.old.items ++ trees_text (sorted_trees (trees_view items.now))) }
+    ensures fits { OnOk result (AreSpellable (trees_view items.now)) }
+    ensures text { OnOk result (out.new.items ≡ out.old.items ++ trees_text (sorted_trees (trees_view items.now))) }
 {
     for item in items {
         spell(item, out)?;
@@ -50,7 +54,8 @@ fn spell_items(items: &[Ben], out: &mut Vec<u8>) -> Result<(), AllocError>
 
 #[cycle(spell)]
 fn spell_pairs(pairs: &Dictionary, out: &mut Vec<u8>) -> Result<(), AllocError>
-    ensures { OnOk result (out.new.items ≡ out.old.items ++ pairs_text (put_pairs no_pairs (pairs_view pairs.now.entries))) }
+    ensures fits { OnOk result (ArePairs (pairs_view pairs.now.entries)) }
+    ensures text { OnOk result (out.new.items ≡ out.old.items ++ pairs_text (put_pairs no_pairs (pairs_view pairs.now.entries))) }
 {
     for (key, value) in pairs.iter() {
         spell_string(key, out)?;
@@ -60,7 +65,8 @@ fn spell_pairs(pairs: &Dictionary, out: &mut Vec<u8>) -> Result<(), AllocError>
 }
 
 fn spell_integer(n: i64, out: &mut Vec<u8>) -> Result<(), AllocError>
-    ensures { OnOk result (out.new.items ≡ out.old.items ++ integer_text n) }
+    ensures fits { IsInteger n }
+    ensures text { OnOk result (out.new.items ≡ out.old.items ++ integer_text n) }
 {
     let mut digits = Buffer::new();
     out.extend_from_slice(b"i")?;
@@ -69,7 +75,8 @@ fn spell_integer(n: i64, out: &mut Vec<u8>) -> Result<(), AllocError>
 }
 
 fn spell_string(bytes: &[u8], out: &mut Vec<u8>) -> Result<(), AllocError>
-    ensures { OnOk result (out.new.items ≡ out.old.items ++ string_text bytes.now) }
+    ensures fits { IsString bytes.now }
+    ensures text { OnOk result (out.new.items ≡ out.old.items ++ string_text bytes.now) }
 {
     let mut digits = Buffer::new();
     out.extend_from_slice(digits.format(bytes.len()).as_bytes())?;

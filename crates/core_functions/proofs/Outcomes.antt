@@ -1,9 +1,9 @@
 -- Limits that are kept twice.
 use Rattle.std.proofs.Common.{◌≡◌, ℕ, Bool, true, false, List, [], Some, None, Result, Ok, Err, refl, length, nat_lt, nat_le}
 use Rattle.std.specs.Prelude.{◌&&◌, if◌then◌else◌}
-use Rattle.repl_values.specs.Datum.{Datum, nil}
-use Rattle.repl_values.specs.Measures.{weight, nesting}
-use Rattle.repl_values.proofs.Views.{value_views}
+use Rattle.value_data.specs.Datum.{Datum, nil}
+use Rattle.value_data.specs.Measures.{weight, nesting}
+use Rattle.value_data.proofs.Views.{value_views}
 use Rattle.repl_faults.specs.Failure.{Failure, too_large, output_too_long}
 use Rattle.core_texts.specs.Limits.{most_weight, most_text, if_short, within_weight}
 use Rattle.core_functions.specs.Outcome.{gives, fails, most_nesting, limited, settled, bounded, printing}

@@ -1,4 +1,3 @@
-pub mod Names
 pub mod Outcome
 pub mod Meaning
 pub mod View

@@ -1,7 +1,7 @@
 -- What each function is, group by group. Kinds of all arguments come first, from the left, then the
 -- function's own faults, then the limits on its value. A function that prints gives nil.
 use Rattle.std.specs.Prelude.{List}
-use Rattle.repl_values.specs.Datum.{Datum, nil}
+use Rattle.value_data.specs.Datum.{Datum, nil}
 use Rattle.core_integers.specs.Meaning as integers
 use Rattle.core_predicates.specs.Meaning as predicates
 use Rattle.core_texts.specs.Meaning as texts
@@ -9,7 +9,7 @@ use Rattle.core_texts.specs.Printing.{printed}
 use Rattle.core_sequences.specs.Meaning as sequences
 use Rattle.core_maps.specs.Meaning as maps
 use Rattle.core_functions.specs.Outcome.{Outcome, gives, settled}
-use Rattle.core_functions.specs.declared.function.CoreFunction.{CoreFunction}
+use Rattle.function_names.specs.declared.function.CoreFunction.{CoreFunction}
 
 abbrev pub meaning : CoreFunction → List Datum → Outcome
 meaning (CoreFunction.Integer f) args = settled (integers.value_of f args)

@@ -1,7 +1,7 @@
 -- What applying a function to values comes to.
 use Rattle.std.specs.Prelude.{ℕ, List, [], length, Option, Some, None, Result, Ok, Err, nat_le, nat_lt, ◌&&◌, if◌then◌else◌}
-use Rattle.repl_values.specs.Datum.{Datum, nil}
-use Rattle.repl_values.specs.Measures.{weight, nesting}
+use Rattle.value_data.specs.Datum.{Datum, nil}
+use Rattle.value_data.specs.Measures.{weight, nesting}
 use Rattle.repl_faults.specs.Failure.{Failure, too_large, output_too_long}
 use Rattle.core_texts.specs.Limits.{most_weight, most_text}
 

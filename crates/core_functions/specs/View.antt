@@ -1,6 +1,6 @@
 -- What the code returns, as an outcome. Memory may run out at any call, and then nothing is said.
 use Rattle.std.specs.Prelude.{◌≡◌, Result, Ok, Err, string_bytes}
-use Rattle.repl_values.specs.View.{view}
+use Rattle.value_data.specs.View.{view}
 use Rattle.repl_faults.specs.View.{failure_of}
 use Rattle.repl_faults.specs.declared.error.ApplyError.{ApplyError}
 use Rattle.repl_faults.specs.declared.error.ApplyError.TheVariants as errors

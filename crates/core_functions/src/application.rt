@@ -1,17 +1,17 @@
 // Applying a function to values.
 ghost use Rattle.std.specs.Prelude.{◌≡◌, true, length, map, option_map, string_bytes};
-ghost use Rattle.repl_values.specs.View.{view};
-ghost use Rattle.core_functions.specs.Names.{fits};
+ghost use Rattle.value_data.specs.View.{view};
+ghost use Rattle.function_names.specs.Names.{fits};
 ghost use Rattle.core_functions.specs.Outcome.{limited, bounded, printing};
 ghost use Rattle.core_functions.specs.Meaning.{meaning};
 ghost use Rattle.core_functions.specs.View.{Answers};
 
-use crate::function::CoreFunction;
 use core_integers::apply_integers;
 use core_maps::apply_maps;
 use core_predicates::apply_predicates;
 use core_sequences::apply_sequences;
 use core_texts::{apply_texts, printed};
+use function_names::CoreFunction;
 use repl_faults::{ApplyError, output_too_long, too_large};
 use repl_values::{Value, nesting, weight};
 use std::alloc::Global;
@@ -65,7 +65,7 @@ pub fn apply(alloc: Global, function: CoreFunction, args: &[Value]) -> Result<Ap
 }
 
 // Nil, with this text printed, where there is one.
-#[tactic(auto, using(repl_values::proofs::Views::value_views))]
+#[tactic(auto, using(value_data::proofs::Views::value_views))]
 fn printing(alloc: Global, text: Option<String>) -> Result<Applied, ApplyError>
     ensures { Answers (printing (option_map string_bytes text)) result }
 {

@@ -1,11 +1,10 @@
-//! The functions of the language that need no store, by their names in `clojure.core`.
+//! The functions of the language that need no store: what each gives for its arguments.
 //!
-//! A name is looked up once, into a `CoreFunction`; `apply` goes by that. Each group of functions has
-//! a crate of its own.
+//! Which there are is said by `function_names`, whose calls stand here too. `apply` goes by the
+//! `CoreFunction` of a name. Each group of functions has a crate of its own.
 #![tactic(auto)]
 
 mod application;
-mod function;
 
 pub use application::{Applied, apply};
-pub use function::{CoreFunction, arity_fits, knows};
+pub use function_names::{CoreFunction, arity_fits, knows};

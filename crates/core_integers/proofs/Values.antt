@@ -1,6 +1,6 @@
 -- Integers among the arguments.
 use Rattle.std.proofs.Common.{ℤ, List, ◌++◌, Result, Ok, Err}
-use Rattle.repl_values.proofs.Views.{value_views}
+use Rattle.value_data.proofs.Views.{value_views}
 use Rattle.repl_faults.specs.Failure.{Failure}
 
 -- what was found before, and what is still found

@@ -1,7 +1,7 @@
 -- What each function of integers is. Kinds of all arguments come first, from the left, then the function's own
 -- faults.
 use Rattle.std.specs.Prelude.{ℕ, ℤ, List, [], ◌∷◌, Result, Ok}
-use Rattle.repl_values.specs.Datum.{Datum, boolean, integer}
+use Rattle.value_data.specs.Datum.{Datum, boolean, integer}
 use Rattle.repl_faults.specs.Failure.{Failure, ◌>>=◌}
 use Rattle.core_items.specs.Arguments.{integer_in}
 use Rattle.core_integers.specs.Names.{name_of}

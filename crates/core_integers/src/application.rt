@@ -1,6 +1,6 @@
 // Applying a function of integers to values.
 ghost use Rattle.std.specs.Prelude.{◌≡◌, true, length, map, IfOk, vec_len};
-ghost use Rattle.repl_values.specs.View.{view};
+ghost use Rattle.value_data.specs.View.{view};
 ghost use Rattle.repl_faults.specs.View.{Gives};
 ghost use Rattle.core_integers.specs.Names.{fits};
 ghost use Rattle.core_integers.specs.Meaning.{value_of, integers_in};

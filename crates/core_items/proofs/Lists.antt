@@ -1,8 +1,8 @@
 -- Items as lists, and back.
 use Rattle.std.proofs.Common.{◌≡◌, refl, ap}
-use Rattle.repl_values.specs.Datum.{Items, no_items, item}
-use Rattle.repl_values.specs.Listed.{listed, items_of}
-use Rattle.repl_values.proofs.Lists as values
+use Rattle.value_data.specs.Datum.{Items, no_items, item}
+use Rattle.value_data.specs.Listed.{listed, items_of}
+use Rattle.value_data.proofs.Lists as values
 
 pub of-listed : (ds : Items) → items_of (listed ds) ≡ ds
 of-listed no_items = refl

@@ -1,10 +1,10 @@
 -- Values as their data.
 use Rattle.std.proofs.Common.{◌≡◌, ℕ, zero, suc, ◌<◌, ◌≤◌, List, [], ◌∷◌, get_or, length, refl, sym, ap, arith}
-use Rattle.repl_values.specs.Datum.{nil}
-use Rattle.repl_values.specs.View.{view, pair_view}
-use Rattle.repl_values.specs.declared.value.Value.{Value}
-use Rattle.repl_values.specs.Listed.{vector_of_two}
-use Rattle.repl_values.proofs.Views.{value_views}
+use Rattle.value_data.specs.Datum.{nil}
+use Rattle.value_data.specs.View.{view, pair_view}
+use Rattle.value_data.specs.declared.value.Value.{Value}
+use Rattle.value_data.specs.Listed.{vector_of_two}
+use Rattle.value_data.proofs.Views.{value_views}
 use Rattle.core_items.proofs.Lists.{lists}
 use Rattle.core_items.specs.View.{pair_vectors}
 

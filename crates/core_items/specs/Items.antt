@@ -1,7 +1,7 @@
 -- The items of a value.
 use Rattle.std.specs.Prelude.{ℕ, List, [], map as each, Result, Ok, Err}
-use Rattle.repl_values.specs.Datum.{Datum, nil, list, vector, map}
-use Rattle.repl_values.specs.Listed.{listed, pairs_listed, vector_of_two}
+use Rattle.value_data.specs.Datum.{Datum, nil, list, vector, map}
+use Rattle.value_data.specs.Listed.{listed, pairs_listed, vector_of_two}
 use Rattle.repl_faults.specs.Failure.{Failure, wrong_argument}
 
 -- of nil none, of a list or a vector its own, of a map its pairs as vectors of two

@@ -1,7 +1,7 @@
 -- What is made of items.
 use Rattle.std.specs.Prelude.{List, [], ◌∷◌}
-use Rattle.repl_values.specs.Datum.{Datum, nil, list, vector}
-use Rattle.repl_values.specs.Listed.{items_of}
+use Rattle.value_data.specs.Datum.{Datum, nil, list, vector}
+use Rattle.value_data.specs.Listed.{items_of}
 
 abbrev pub list_of : List Datum → Datum
 list_of ds = list (items_of ds)

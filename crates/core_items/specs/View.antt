@@ -1,9 +1,9 @@
 -- The items that the code goes by.
 use Rattle.std.specs.Prelude.{List, map}
-use Rattle.repl_values.specs.Datum.{Datum}
-use Rattle.repl_values.specs.View.{view, pair_view}
-use Rattle.repl_values.specs.Listed.{vector_of_two}
-use Rattle.repl_values.specs.declared.value.Value.{Value}
+use Rattle.value_data.specs.Datum.{Datum}
+use Rattle.value_data.specs.View.{view, pair_view}
+use Rattle.value_data.specs.Listed.{vector_of_two}
+use Rattle.value_data.specs.declared.value.Value.{Value}
 use Rattle.core_items.specs.declared.row.ItemRow.{ItemRow}
 
 abbrev pub pair_vectors : List (Value × Value) → List Datum

@@ -1,6 +1,6 @@
 -- The arguments of the functions of maps.
 use Rattle.std.specs.Prelude.{ℕ, ℤ, List, [], ◌∷◌, Option, Some, None, Result, Ok, Err}
-use Rattle.repl_values.specs.Datum.{Datum, nil, map, Pairs, no_pairs}
+use Rattle.value_data.specs.Datum.{Datum, nil, map, Pairs, no_pairs}
 use Rattle.repl_faults.specs.Failure.{Failure, ◌>>=◌, wrong_argument}
 use Rattle.core_items.specs.Arguments.{integer_in}
 

@@ -1,9 +1,9 @@
 -- What each function of maps is. Kinds of all arguments come first, from the left, then the function's own faults.
 use Rattle.std.specs.Prelude.{ℕ, ◌+◌, ℤ, pos, negsuc, false, nat_le, List, [], ◌∷◌, ◌++◌, length, drop, take, slice_get, unwrap_or, map as each, Option, Some, None, is_some, Result, Ok, Err, if◌then◌else◌}
-use Rattle.repl_values.specs.Datum.{Datum, nil, boolean, integer, vector, map, Items, no_pairs}
-use Rattle.repl_values.specs.Listed.{listed, pairs_listed, items_of}
-use Rattle.repl_values.specs.Keyed.{value_at}
-use Rattle.repl_values.specs.Put.{put_pairs, without_keys}
+use Rattle.value_data.specs.Datum.{Datum, nil, boolean, integer, vector, map, Items, no_pairs}
+use Rattle.value_data.specs.Listed.{listed, pairs_listed, items_of}
+use Rattle.value_data.specs.Keyed.{value_at}
+use Rattle.value_data.specs.Put.{put_pairs, without_keys}
 use Rattle.repl_faults.specs.Failure.{Failure, ◌>>=◌, wrong_argument, out_of_bounds, no_value_supplied}
 use Rattle.core_items.specs.Arguments.{argument, at_index}
 use Rattle.core_items.specs.Making.{list_or_nil}

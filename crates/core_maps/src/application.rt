@@ -1,6 +1,6 @@
 // Applying a function of maps to values.
 ghost use Rattle.std.specs.Prelude.{◌≡◌, true, length, map};
-ghost use Rattle.repl_values.specs.View.{view};
+ghost use Rattle.value_data.specs.View.{view};
 ghost use Rattle.repl_faults.specs.View.{Gives};
 ghost use Rattle.core_maps.specs.Names.{fits};
 ghost use Rattle.core_maps.specs.Meaning.{value_of};

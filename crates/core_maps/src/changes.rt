@@ -2,9 +2,9 @@
 #![tactic(auto, using(crate::proofs::Values::seen))]
 
 ghost use Rattle.std.specs.Prelude.{◌≡◌, ◌≤◌, ◌+◌, ◌∷◌, ◌++◌, map, take, drop, vec_len, length, IfOk, IfSome};
-ghost use Rattle.repl_values.specs.View.{view};
+ghost use Rattle.value_data.specs.View.{view};
 ghost use Rattle.repl_faults.specs.View.{Gives};
-ghost use Rattle.repl_values.specs.Seen.{entry_view};
+ghost use Rattle.value_data.specs.Seen.{entry_view};
 ghost use Rattle.core_maps.specs.View.{place_view};
 ghost use Rattle.core_maps.specs.Meaning as meant;
 

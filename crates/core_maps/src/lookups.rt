@@ -2,7 +2,7 @@
 #![tactic(auto, using(crate::proofs::Values::seen))]
 
 ghost use Rattle.std.specs.Prelude.{◌≡◌, option_map};
-ghost use Rattle.repl_values.specs.View.{view, items_view};
+ghost use Rattle.value_data.specs.View.{view, items_view};
 ghost use Rattle.repl_faults.specs.View.{Gives};
 ghost use Rattle.core_maps.specs.Meaning as meant;
 

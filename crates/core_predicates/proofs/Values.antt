@@ -1,10 +1,10 @@
 -- Values, seen as data, alone and beside their neighbours.
 use Rattle.std.proofs.Common.{◌≡◌, List, [], ◌∷◌, drop, map, refl}
 use Rattle.std.specs.List.{list_all, zip, drop-map}
-use Rattle.repl_values.specs.View.{view}
-use Rattle.repl_values.specs.Same.{same}
-use Rattle.repl_values.specs.declared.value.Value.{Value}
-use Rattle.repl_values.proofs.Views.{value_views}
+use Rattle.value_data.specs.View.{view}
+use Rattle.value_data.specs.Same.{same}
+use Rattle.value_data.specs.declared.value.Value.{Value}
+use Rattle.value_data.proofs.Views.{value_views}
 use Rattle.core_predicates.specs.Meaning.{neighbours, each_equals_the_next}
 
 list_all-zip : (xs ys : List Value) → list_all (λ p. same p.0 p.1) (zip (map view xs) (map view ys)) ≡ list_all (λ p. same (view p.0) (view p.1)) (zip xs ys)

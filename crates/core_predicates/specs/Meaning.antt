@@ -1,8 +1,8 @@
 -- What each predicate is. None of them has a fault.
 use Rattle.std.specs.Prelude.{Bool, not, List, [], ◌∷◌, drop, Result, Ok}
 use Rattle.std.specs.List.{list_all, zip}
-use Rattle.repl_values.specs.Datum.{Datum, nil, boolean}
-use Rattle.repl_values.specs.Same.{same}
+use Rattle.value_data.specs.Datum.{Datum, nil, boolean}
+use Rattle.value_data.specs.Same.{same}
 use Rattle.repl_faults.specs.Failure.{Failure}
 use Rattle.core_predicates.specs.Kinds.{passes}
 use Rattle.core_predicates.specs.declared.function.PredicateFunction.{PredicateFunction}

@@ -1,8 +1,8 @@
 // Applying a predicate to values.
 ghost use Rattle.std.specs.Prelude.{◌≡◌, true, length, map};
 ghost use Rattle.std.specs.List.{list_all};
-ghost use Rattle.repl_values.specs.View.{view};
-ghost use Rattle.repl_values.specs.Same.{same as are_same};
+ghost use Rattle.value_data.specs.View.{view};
+ghost use Rattle.value_data.specs.Same.{same as are_same};
 ghost use Rattle.repl_faults.specs.View.{Gives};
 ghost use Rattle.core_predicates.specs.Names.{fits};
 ghost use Rattle.core_predicates.specs.Meaning as meant;

@@ -1,13 +1,13 @@
 -- Values as their data.
 use Rattle.std.proofs.Common.{◌≡◌, ◌≢◌, List, [], ◌∷◌, ◌++◌, get_or, length, map, drop, reverse, Some, None, Result, Ok, Err, refl, sym, ap, ◌∙◌, arith}
 use mathlib.Core.List.{reverse_aux}
-use Rattle.repl_values.specs.Datum.{Datum, nil, list, vector, Items, no_items, item}
-use Rattle.repl_values.specs.View.{view, items_view}
-use Rattle.repl_values.specs.declared.value.Value.{Value}
-use Rattle.repl_values.proofs.Views.{value_views}
+use Rattle.value_data.specs.Datum.{Datum, nil, list, vector, Items, no_items, item}
+use Rattle.value_data.specs.View.{view, items_view}
+use Rattle.value_data.specs.declared.value.Value.{Value}
+use Rattle.value_data.proofs.Views.{value_views}
 use Rattle.repl_faults.specs.Failure.{Failure}
-use Rattle.repl_values.specs.Ends.{with_last, behind_first}
-use Rattle.repl_values.specs.Listed.{listed}
+use Rattle.value_data.specs.Ends.{with_last, behind_first}
+use Rattle.value_data.specs.Listed.{listed}
 use Rattle.core_items.specs.Making.{vector_of, list_or_nil}
 use Rattle.core_items.proofs.Lists.{lists, of-listed}
 use Rattle.core_sequences.specs.Pairs.{as_pair}

@@ -1,9 +1,9 @@
 -- What each function of sequences is. Kinds of all arguments come first, from the left, then the function's own
 -- faults.
 use Rattle.std.specs.Prelude.{ℕ, ◌-◌, pos, ◌==◌, List, ◌∷◌, ◌++◌, length, reverse, drop, slice_get, chars, Option, Some, None, Result, Ok, Err}
-use Rattle.repl_values.specs.Datum.{Datum, nil, boolean, integer, string, list, vector, map}
-use Rattle.repl_values.specs.Listed.{listed}
-use Rattle.repl_values.specs.Put.{put_pairs}
+use Rattle.value_data.specs.Datum.{Datum, nil, boolean, integer, string, list, vector, map}
+use Rattle.value_data.specs.Listed.{listed}
+use Rattle.value_data.specs.Put.{put_pairs}
 use Rattle.repl_faults.specs.Failure.{Failure, ◌>>=◌, wrong_argument, out_of_bounds}
 use Rattle.core_items.specs.Arguments.{argument, integer_in, item_or_nil, at_index}
 use Rattle.core_items.specs.Items.{items_in, row_in}

@@ -1,6 +1,6 @@
 -- Arguments that are pairs.
 use Rattle.std.specs.Prelude.{ℕ, List, [], ◌∷◌, Option, Some, None, ok_or, Result, Ok}
-use Rattle.repl_values.specs.Datum.{Datum, vector, no_items, item}
+use Rattle.value_data.specs.Datum.{Datum, vector, no_items, item}
 use Rattle.repl_faults.specs.Failure.{Failure, ◌>>=◌, wrong_argument}
 
 -- a vector of two is a pair

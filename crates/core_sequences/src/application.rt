@@ -1,6 +1,6 @@
 // Applying a function of sequences to values.
 ghost use Rattle.std.specs.Prelude.{◌≡◌, true, length, map};
-ghost use Rattle.repl_values.specs.View.{view};
+ghost use Rattle.value_data.specs.View.{view};
 ghost use Rattle.repl_faults.specs.View.{Gives};
 ghost use Rattle.core_sequences.specs.Names.{fits};
 ghost use Rattle.core_sequences.specs.Meaning.{value_of};

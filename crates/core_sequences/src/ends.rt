@@ -2,8 +2,8 @@
 // row turned round.
 #![tactic(auto, using(crate::proofs::Values::seen))]
 
-ghost use Rattle.repl_values.specs.Listed.{listed};
-ghost use Rattle.repl_values.specs.View.{view};
+ghost use Rattle.value_data.specs.Listed.{listed};
+ghost use Rattle.value_data.specs.View.{view};
 ghost use Rattle.repl_faults.specs.View.{Gives};
 ghost use Rattle.core_sequences.specs.Meaning as meant;
 

@@ -2,10 +2,10 @@
 #![tactic(auto, using(crate::proofs::Values::seen))]
 
 ghost use Rattle.std.specs.Prelude.{◌≡◌, ◌++◌, ◌∷◌, [], map, option_map, reverse, IfOk};
-ghost use Rattle.repl_values.specs.Datum.{vector};
-ghost use Rattle.repl_values.specs.Listed.{listed};
-ghost use Rattle.repl_values.specs.Seen.{entry_view};
-ghost use Rattle.repl_values.specs.View.{view, items_view};
+ghost use Rattle.value_data.specs.Datum.{vector};
+ghost use Rattle.value_data.specs.Listed.{listed};
+ghost use Rattle.value_data.specs.Seen.{entry_view};
+ghost use Rattle.value_data.specs.View.{view, items_view};
 ghost use Rattle.repl_faults.specs.View.{Gives};
 ghost use Rattle.core_sequences.specs.Pairs.{as_pair, pair_in, pairs_in};
 ghost use Rattle.core_sequences.specs.Meaning as meant;

@@ -2,10 +2,10 @@
 use Rattle.std.proofs.Common.{◌≡◌, ℕ, ◌<◌, ◌≤◌, List, [], ◌∷◌, ◌++◌, length, map, Some, None, Ok, Err, refl, sym, ap, ◌∙◌, arith}
 use Rattle.std.proofs.lemmas.Bool.Decides.{nat_tests}
 use Rattle.std.proofs.lemmas.Grind.{common_steps}
-use Rattle.repl_values.specs.Datum.{Datum, string}
-use Rattle.repl_values.specs.View.{view}
-use Rattle.repl_values.specs.declared.value.Value.{Value}
-use Rattle.repl_values.proofs.Views.{value_views}
+use Rattle.value_data.specs.Datum.{Datum, string}
+use Rattle.value_data.specs.View.{view}
+use Rattle.value_data.specs.declared.value.Value.{Value}
+use Rattle.value_data.proofs.Views.{value_views}
 use Rattle.repl_faults.specs.Failure.{Failure, too_large}
 use Rattle.core_texts.specs.Limits.{most_text, most_weight, if_short, light, within_weight}
 use Rattle.core_texts.specs.Printing.{spaced}

@@ -1,7 +1,7 @@
 -- How long a text may be.
 use Rattle.std.specs.Prelude.{ℕ, List, length, nat_le, nat_lt, Option, Some, None, Result, Ok, Err, if◌then◌else◌}
-use Rattle.repl_values.specs.Datum.{Datum, string}
-use Rattle.repl_values.specs.Measures.{weight}
+use Rattle.value_data.specs.Datum.{Datum, string}
+use Rattle.value_data.specs.Measures.{weight}
 use Rattle.repl_faults.specs.Failure.{Failure, too_large}
 
 -- the most that a value may weigh

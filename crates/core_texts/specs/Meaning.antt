@@ -3,7 +3,7 @@ use Rattle.std.specs.Prelude.{ℕ, Bool, List, [], ◌∷◌, ◌+◌, ◌==◌,
 use Rattle.std.specs.Str.{bytes_eq}
 use Rattle.std.specs.List.{position}
 use Rattle.std.specs.Option.{option_map_or}
-use Rattle.repl_values.specs.Datum.{Datum, nil, string, keyword, symbol}
+use Rattle.value_data.specs.Datum.{Datum, nil, string, keyword, symbol}
 use Rattle.repl_values.specs.Print.{print}
 use Rattle.repl_faults.specs.Failure.{Failure, ◌>>=◌, wrong_argument}
 use Rattle.core_texts.specs.Printing.{spaced}

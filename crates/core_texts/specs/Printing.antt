@@ -1,6 +1,6 @@
 -- What the functions that print add to the printed text.
 use Rattle.std.specs.Prelude.{ℕ, List, [], ◌∷◌, ◌++◌, codes, map}
-use Rattle.repl_values.specs.Datum.{Datum}
+use Rattle.value_data.specs.Datum.{Datum}
 use Rattle.repl_values.specs.Print.{print, display, joined}
 use Rattle.core_texts.specs.declared.function.PrintFunction.{PrintFunction}
 

@@ -1,6 +1,6 @@
 -- The two ways to spell a value.
 use Rattle.std.specs.Prelude.{ℕ, List}
-use Rattle.repl_values.specs.Datum.{Datum}
+use Rattle.value_data.specs.Datum.{Datum}
 use Rattle.repl_values.specs.Print.{print, display}
 use Rattle.core_texts.specs.declared.printing.Spelling.{Spelling}
 

@@ -1,8 +1,8 @@
 // Applying a function that gives a text.
-ghost use Rattle.std.specs.Prelude.{◌≡◌, ◌++◌, Ok, true, length, map, option_map, flat_map, IfOk, OnOk, string_bytes};
+ghost use Rattle.std.specs.Prelude.{◌≡◌, ◌++◌, Ok, true, length, map, option_map, flat_map, IfOk, OnOk, OnErr, string_bytes};
 ghost use Rattle.std.specs.Arc.{arc_str_bytes};
-ghost use Rattle.repl_values.specs.Datum.{string};
-ghost use Rattle.repl_values.specs.View.{view};
+ghost use Rattle.value_data.specs.Datum.{string};
+ghost use Rattle.value_data.specs.View.{view};
 ghost use Rattle.repl_faults.specs.View.{Gives};
 ghost use Rattle.core_texts.specs.Limits.{if_short, light, within_weight};
 ghost use Rattle.core_texts.specs.Names.{fits};
@@ -79,11 +79,12 @@ fn all_shown(alloc: Global, values: &[Value]) -> Result<Option<String>, AllocErr
     Ok(if_short(text))
 }
 
-/// Appends nothing for nil, the characters of a string, and the print of all else. It fails only for
-/// want of memory.
-#[tactic(auto, using(repl_values::proofs::Views::value_views))]
+/// Appends nothing for nil, the characters of a string, and the print of all else. After want of memory
+/// `out` is as it was.
+#[tactic(auto, using(value_data::proofs::Views::value_views))]
 pub fn show_into(alloc: Global, value: &Value, out: &mut String) -> Result<(), AllocError>
-    ensures { OnOk result (string_bytes out.new ≡ string_bytes out.old ++ meant.shown (view value.now)) }
+    ensures ok { OnOk result (string_bytes out.new ≡ string_bytes out.old ++ meant.shown (view value.now)) }
+    ensures err { OnErr result (string_bytes out.new ≡ string_bytes out.old) }
 {
     match value {
         Value::Nil => Ok(()),
@@ -92,7 +93,7 @@ pub fn show_into(alloc: Global, value: &Value, out: &mut String) -> Result<(), A
     }
 }
 
-#[tactic(auto, using(repl_values::proofs::Views::value_views))]
+#[tactic(auto, using(value_data::proofs::Views::value_views))]
 fn name_in(alloc: Global, value: &Value) -> Result<ArcStr, ApplyError>
     ensures { Gives arc_str_bytes result (meant.name_in (view value.now)) }
 {

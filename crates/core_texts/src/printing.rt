@@ -3,7 +3,7 @@
 #![tactic(auto, using(crate::proofs::Shortness::short_steps))]
 
 ghost use Rattle.std.specs.Prelude.{◌≡◌, ◌++◌, IfOk, OnOk, map, option_map, string_bytes};
-ghost use Rattle.repl_values.specs.View.{view};
+ghost use Rattle.value_data.specs.View.{view};
 ghost use Rattle.core_texts.specs.Limits.{if_short};
 ghost use Rattle.core_texts.specs.Printing as meant;
 ghost use Rattle.core_texts.specs.Spelling.{spelling_of};

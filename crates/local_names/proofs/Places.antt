@@ -8,9 +8,9 @@ use Rattle.std.specs.declared.alloc.Global.{Global}
 use Rattle.std.specs.declared.sync.ArcStr.{ArcStr}
 use Rattle.std.proofs.lemmas.Map.Text.{is_eq-slice_cmp}
 use Rattle.std.proofs.lemmas.Slice.Eq.{bytes_eq-Decides}
-use Rattle.repl_values.specs.View.{view}
+use Rattle.value_data.specs.View.{view}
 use Rattle.local_names.specs.Locals.{LocalData, value_of}
-use Rattle.local_names.specs.View.{local_view, place_of, by_bytes, AreLinked, Indexes}
+use Rattle.local_names.specs.View.{local_view, place_of, by_bytes, AreLinked, HasNewest}
 use Rattle.local_names.specs.declared.local.Local.{Local}
 
 pub place-below : (ls : List LocalData) (s : List ℕ) (p : ℕ) → place_of ls s ≡ Some p → p < length ls
@@ -50,7 +50,7 @@ bound-at (y ∷ ys) s p i x e n is = at (bytes_eq (arc_str_bytes y.name) s) i n 
 
 -- the index once a local was bound
 pub bound-indexes : (old new : BTreeMap (ArcStr Global) ℕ) (key : ArcStr Global) (ls : List LocalData) (l : LocalData) (n : ℕ) → l.name ≡ arc_str_bytes key → n ≡ length ls
-    → Indexes old ls → Updates by_bytes old new key (Some n) → Indexes new (l ∷ ls)
+    → HasNewest old ls → Updates by_bytes old new key (Some n) → HasNewest new (l ∷ ls)
 bound-indexes old new key ls l n e is was now name =
     now.0 name ∙ ap (λ b. cond b (Some n) (get by_bytes old name)) (is_eq-slice_cmp (arc_str_bytes key) (arc_str_bytes name))
     ∙ ap (λ o. cond (bytes_eq (arc_str_bytes key) (arc_str_bytes name)) (Some n) o) (was name)
@@ -59,7 +59,7 @@ bound-indexes old new key ls l n e is was now name =
 
 -- the index once the newest local was taken out
 pub unbound-indexes : (old new : BTreeMap (ArcStr Global) ℕ) (key : ArcStr Global) (ls : List LocalData) (l : LocalData) → l.name ≡ arc_str_bytes key
-    → Indexes old (l ∷ ls) → Updates by_bytes old new key (place_of ls l.name) → Indexes new ls
+    → HasNewest old (l ∷ ls) → Updates by_bytes old new key (place_of ls l.name) → HasNewest new ls
 unbound-indexes old new key ls l e was now name =
     now.0 name ∙ ap (λ b. cond b (place_of ls l.name) (get by_bytes old name)) (is_eq-slice_cmp (arc_str_bytes key) (arc_str_bytes name))
     ∙ ap (λ k. cond (bytes_eq k (arc_str_bytes name)) (place_of ls l.name) (get by_bytes old name)) (sym e)
@@ -72,7 +72,7 @@ unbound-indexes old new key ls l e was now name =
     at false h = refl
 
 abbrev Keeps : BTreeMap (ArcStr Global) ℕ → List Local → Type 0
-Keeps index xs = AreLinked xs × Indexes index (each local_view xs)
+Keeps index xs = AreLinked xs × HasNewest index (each local_view xs)
 
 pub bound-keeps : (xs ys : List Local) (l : Local) (old new : BTreeMap (ArcStr Global) ℕ) (key : ArcStr Global) (n : ℕ) → ys ≡ l ∷ xs
     → arc_str_bytes key ≡ arc_str_bytes l.name → n ≡ length xs → l.older ≡ get by_bytes old key → Keeps old xs → Updates by_bytes old new key (Some n) → Keeps new ys

@@ -1,7 +1,7 @@
 -- Names that are bound to values, the newest first.
 use Rattle.std.specs.Prelude.{ℕ, List, [], ◌∷◌, Option, Some, None, if◌then◌else◌}
 use Rattle.std.specs.Str.{bytes_eq}
-use Rattle.repl_values.specs.Datum.{Datum}
+use Rattle.value_data.specs.Datum.{Datum}
 
 pub record LocalData : Type 0 where
   pub name : List ℕ

@@ -9,9 +9,9 @@ use Rattle.std.specs.Ordering.{nat_cmp}
 use Rattle.std.specs.declared.alloc.Global.{Global}
 use Rattle.std.specs.declared.cmp.Ordering.{Ordering}
 use Rattle.std.specs.declared.sync.ArcStr.{ArcStr}
-use Rattle.repl_values.specs.Datum.{Datum}
-use Rattle.repl_values.specs.Code.{datum_code}
-use Rattle.repl_values.specs.View.{view}
+use Rattle.value_data.specs.Datum.{Datum}
+use Rattle.value_data.specs.Code.{datum_code}
+use Rattle.value_data.specs.View.{view}
 use Rattle.local_names.specs.Locals.{LocalData}
 use Rattle.local_names.specs.declared.local.Local.{Local}
 
@@ -37,5 +37,5 @@ abbrev pub by_bytes : ArcStr Global → ArcStr Global → Ordering
 by_bytes x y = slice_cmp nat_cmp (arc_str_bytes x) (arc_str_bytes y)
 
 -- the index has the place of the newest local of each name
-abbrev pub Indexes : BTreeMap (ArcStr Global) ℕ → List LocalData → Type 0
-Indexes index ls = (name : ArcStr Global) → get by_bytes index name ≡ place_of ls (arc_str_bytes name)
+abbrev pub HasNewest : BTreeMap (ArcStr Global) ℕ → List LocalData → Type 0
+HasNewest index ls = (name : ArcStr Global) → get by_bytes index name ≡ place_of ls (arc_str_bytes name)

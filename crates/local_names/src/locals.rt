@@ -16,7 +16,7 @@ pub struct Locals {
 impl Model for Locals {
     ghost use Rattle.std.specs.Prelude.{List, map};
     ghost use Rattle.local_names.specs.Locals.{LocalData};
-    ghost use Rattle.local_names.specs.View.{locals_code, local_view, AreLinked, Indexes};
+    ghost use Rattle.local_names.specs.View.{locals_code, local_view, AreLinked, HasNewest};
 
     ghost Value = { List LocalData };
 
@@ -24,5 +24,5 @@ impl Model for Locals {
 
     ghost view = { λ a. map local_view a.locals.items };
 
-    ghost invariant = { λ a. AreLinked a.locals.items × Indexes a.index (map local_view a.locals.items) };
+    ghost invariant = { λ a. AreLinked a.locals.items × HasNewest a.index (map local_view a.locals.items) };
 }

@@ -5,7 +5,7 @@ ghost use Rattle.std.specs.Prelude.{◌≡◌, ◌<◌, ℕ, List, ◌∷◌, []
 ghost use Rattle.std.specs.VecDeque.{deque_len};
 ghost use Rattle.std.specs.BTreeMap.{get, Updates};
 ghost use Rattle.std.specs.Arc.{arc_str_bytes};
-ghost use Rattle.repl_values.specs.View.{view};
+ghost use Rattle.value_data.specs.View.{view};
 ghost use Rattle.local_names.specs.Locals.{LocalData, value_of};
 ghost use Rattle.local_names.specs.View.{by_bytes, local_view, place_of};
 

@@ -2,11 +2,10 @@
 use Rattle.std.specs.Prelude.{ℕ, List, Bool, Option, Some, None, ◌+◌, ◌==◌, if◌then◌else◌, take, drop, codes}
 use Rattle.std.specs.List.{position}
 use Rattle.std.specs.Str.{bytes_eq}
-use Rattle.repl_values.specs.Datum.{var}
 use Rattle.repl_faults.specs.Failure as failures
 use Rattle.repl_faults.specs.Failure.{Failure}
-use Rattle.core_functions.specs.Names.{function_named}
-use Rattle.core_functions.specs.declared.function.CoreFunction.{CoreFunction}
+use Rattle.function_names.specs.Names.{function_named}
+use Rattle.function_names.specs.declared.function.CoreFunction.{CoreFunction}
 use Rattle.repl_asks.specs.Exchange as exchange
 use Rattle.repl_asks.specs.Exchange.{AskData, AnswerData, BindingData, bound_value, bound_function}
 
@@ -51,7 +50,7 @@ resolved bindings symbol = answer_by_slash bindings symbol (if bytes_eq symbol (
 
 abbrev pub answered : Bindings → AskData → AnswerData
 answered bindings (exchange.resolve namespace symbol) = resolved bindings symbol
-answered bindings (exchange.define namespace name binding) = exchange.value (var namespace name)
+answered bindings (exchange.define namespace name binding) = exchange.done
 
 -- a definition binds its name, in place of what it was bound to
 abbrev pub bound_after : Bindings → AskData → Bindings

@@ -2,16 +2,14 @@
 ghost use Rattle.std.specs.Prelude.{◌≡◌, ℕ, List, None, if◌then◌else◌, Some, IfOk, OnOk, OnErr};
 ghost use Rattle.std.specs.Arc.{arc_str_bytes};
 ghost use Rattle.std.specs.Str.{bytes_eq};
-ghost use Rattle.repl_values.specs.Datum.{var};
-ghost use Rattle.repl_asks.specs.Exchange.{value};
 ghost use Rattle.repl_asks.specs.View.{ask_view, answer_view, binding_view};
 ghost use Rattle.name_spaces.specs.Resolving as meant;
 ghost use Rattle.name_spaces.specs.Bound.{bound_in};
 
-use core_functions::CoreFunction;
+use function_names::CoreFunction;
 use repl_asks::{Answer, Ask, Binding};
 use repl_faults::{no_such_namespace, no_such_var, unresolved};
-use repl_values::{Value, copy};
+use repl_values::copy;
 use std::alloc::{AllocError, Global};
 use std::collections::BTreeMap;
 use std::sync::ArcStr;
@@ -46,10 +44,13 @@ impl Space {
                 symbol,
             } => self.resolve(alloc, symbol.as_str()),
             Ask::Define {
-                namespace,
+                namespace: _,
                 name,
                 binding,
-            } => self.define(alloc, namespace, name, binding),
+            } => {
+                self.define(alloc, name, binding)?;
+                Ok(Answer::Done)
+            }
         }
     }
 
@@ -98,20 +99,13 @@ impl Space {
         }
     }
 
-    fn define(
-        &mut self,
-        alloc: Global,
-        space: ArcStr,
-        name: ArcStr,
-        binding: Binding,
-    ) -> Result<Answer, AllocError>
-        ensures answer { IfOk result (λ answer. answer_view answer ≡ value (var (arc_str_bytes space) (arc_str_bytes name))) }
+    fn define(&mut self, alloc: Global, name: ArcStr, binding: Binding) -> Result<(), AllocError>
         ensures bound { OnOk result ((q : List ℕ) → bound_in self.new q ≡ (if bytes_eq q (arc_str_bytes name) then Some (binding_view binding) else bound_in self.old q)) }
         ensures kept { OnErr result ((q : List ℕ) → bound_in self.new q ≡ bound_in self.old q) }
     {
         let key = String::from_str(alloc, name.as_str())?;
         drop(self.bindings.insert(key, binding)?);
-        Ok(Answer::Value(Value::Var { space, name }))
+        Ok(())
     }
 }
 

@@ -1,5 +1,6 @@
 -- What the bare actor's turn does to the steps, the replies and what was heard.
 use Rattle.std.proofs.Common.{◌≡◌, ◌≢◌, ℕ, ◌+◌, ◌-◌, Bool, true, false, ◌&&◌, List, [], ◌∷◌, length, nat_le, ◌==◌, if◌then◌else◌, Option, Some, None, refl, sym, ap, ◌∙◌, subst, arith}
+use Rattle.bencode_wire.specs.declared.fault.WireFault.{WireFault}
 use Rattle.repl_replies.specs.Replies.{ReplyData}
 use Rattle.repl_replies.specs.Requests.{RequestData}
 use Rattle.repl_core.specs.Readings.{Readings}
@@ -61,6 +62,19 @@ acted_on-keeps : (r : Readings) (hand : Option Hand) (waiting : List RequestData
 acted_on-keeps r (Some h) waiting w = (gone_on-steps h w, gone_on-heard h w)
 acted_on-keeps r None (q ∷ waiting) w = (refl, refl)
 acted_on-keeps r None [] w = (refl, refl)
+
+-- a fault of the stream is no reason to refuse it
+
+tested-not_wire : (worn idle held : Bool) (v : World) (f : WireFault) → tested worn idle held (accepted v []) ≡ refused (Refusal.Wire f) → ⊥
+tested-not_wire true idle held v f e = cc
+tested-not_wire false true held v f e = cc
+tested-not_wire false false true v f e = cc
+tested-not_wire false false false v f e = cc
+
+pub go-not_wire : (r : Readings) (w : World) (f : WireFault) → go r w ≡ refused (Refusal.Wire f) → ⊥
+go-not_wire r w f e =
+    tested-not_wire (w.steps == 0) (is_idle w.hand w.waiting) (may_reply w.hand && is_held w) (spent (acted r w)) f
+    (sym (step-tested r w) ∙ step-goes r w ∙ e)
 
 pub zero-tested : (n : ℕ) → n ≡ 0 → (n == 0) ≡ true
 zero-tested n e = ap (λ (k : ℕ). k == 0) e

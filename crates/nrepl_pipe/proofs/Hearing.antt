@@ -75,6 +75,24 @@ hear-refused r w piece why clean none e =
     by-refused (w.steps == 0) (stream_fault r w.heard) (is_held w) (spent (taken_in r piece w)) why clean (few-held w.replies none)
     (sym (step-heard_by r w piece) ∙ step-hears r w piece ∙ e)
 
+-- The code was refused
+
+pub known-refused : (X : Type 0) (s : Stepped) (why known : Refusal) → why ≡ known → known ≢ Refusal.NoMemory → (why ≢ Refusal.NoMemory → (s ≡ refused why) × X)
+    → s ≡ refused known
+known-refused X s why known same other h =
+    (h (λ (none : why ≡ Refusal.NoMemory). other (sym same ∙ none))).0 ∙ ap refused same
+
+abbrev reason_or : Refusal → Stepped → Refusal
+reason_or none (accepted new bytes) = none
+reason_or none (refused why) = why
+
+-- nor for another reason, but for want of memory
+pub never-refused : (X : Type 0) (r : Readings) (w : World) (piece : List ℕ) (why known : Refusal) → stream_fault r w.heard ≡ None → w.replies ≡ []
+    → why ≡ known → known ≢ Refusal.NoMemory → known ≢ Refusal.Worn → (why ≢ Refusal.NoMemory → (hear r piece w ≡ refused why) × X) → ⊥
+never-refused X r w piece why known clean none same some other h =
+    let told : hear r piece w ≡ refused known = known-refused X (hear r piece w) why known same some h in
+    other (sym (ap (reason_or known) (hear-refused r w piece known clean none told).1))
+
 -- The code heard it
 
 -- the piece was taken in

@@ -3,6 +3,7 @@ pub mod Draining
 pub mod Going
 pub mod Growing
 pub mod Hearing
+pub mod Marking
 pub mod Outcomes
 pub mod Rounding
 pub mod Serving

@@ -9,7 +9,7 @@ use Rattle.bencode_wire.specs.declared.fault.WireFault.{WireFault}
 use Rattle.repl_replies.specs.Replies.{ReplyData}
 use Rattle.repl_core.specs.Readings.{Readings, AreRight}
 use Rattle.repl_core.specs.World.{World}
-use Rattle.repl_core.specs.Step.{Turn, hears, goes, Stepped, refused, step, hear, stream_fault, fault_in, world_or, bytes_given, after, run, served, wire_at}
+use Rattle.repl_core.specs.Step.{Turn, hears, goes, refused, step, hear, stream_fault, fault_in, world_or, bytes_given, after, run, served, wire_at}
 use Rattle.repl_core.specs.declared.refusal.Actor.{Actor}
 use Rattle.repl_core.specs.declared.refusal.Refusal.{Refusal}
 use Rattle.repl_core.specs.declared.refusal.Wire.{Wire}
@@ -278,10 +278,11 @@ read-up PipeEnd.Truncated left at = at
 read-up (PipeEnd.Broken f) left at = tt
 read-up PipeEnd.Worn left at = tt
 
-wire-broken : (end : Ending) (f : WireFault) → Wire.Broken f ≡ wire_at end → PipeEnd.Broken f ≡ stream_end end
-wire-broken (rest []) f e = cc
-wire-broken (rest (byte ∷ m)) f e = cc
-wire-broken (fault rule at) f e = cc
+pub broken-read_up : (f : WireFault) (ending : Ending) (end : PipeEnd) (left : Option (List ℕ)) → Wire.Broken f ≡ wire_at ending → end ≡ stream_end ending
+    → IsReadUp end left
+broken-read_up f (rest []) end left told is = cc
+broken-read_up f (rest (byte ∷ m)) end left told is = cc
+broken-read_up f (fault rule at) end left told is = subst (λ (e : PipeEnd). IsReadUp e left) (sym is) tt
 
 pub wire-clean : (wire : Wire) (end : Ending) → wire ≡ wire_at end → ((f : WireFault) → wire ≡ Wire.Broken f → ⊥) → fault_in end ≡ None
 wire-clean wire (rest m) e never = refl
@@ -291,23 +292,18 @@ pub ends-worn : (r : Readings) (New : World → Type 0) (now : World) (held hold
     → (made : MakesRounds r New (after r now (hears piece)) held holds Rounds.Worn) → EndsWith r now piece (hears piece ∷ made.0) PipeEnd.Worn
 ends-worn r New now held holds piece made = inl (inr made.3, refl)
 
-pub ends-broken : (r : Readings) (Mid New : World → Type 0) (now : World) (held holds : Option (List ℕ)) (piece : List ℕ) (f : WireFault) → TakesIn r Mid now piece
+pub ends-broken : (r : Readings) (Mid New : World → Type 0) (now : World) (held holds : Option (List ℕ)) (piece : List ℕ) (end : PipeEnd) → TakesIn r Mid now piece
     → (made : MakesRounds r New (after r now (hears piece)) held holds Rounds.Idle)
-    → Wire.Broken f ≡ wire_at (r.stream (run r (after r now (hears piece)) made.0).heard).ending
-    → EndsWith r now piece (hears piece ∷ made.0) (PipeEnd.Broken f)
-ends-broken r Mid New now held holds piece f taken made told =
+    → end ≡ stream_end (r.stream (run r (after r now (hears piece)) made.0).heard).ending
+    → EndsWith r now piece (hears piece ∷ made.0) end
+ends-broken r Mid New now held holds piece end taken made is =
     let heard : (run r (after r now (hears piece)) made.0).heard ≡ now.heard ++ piece = rounds-heard r (after r now (hears piece)) made.0 made.1 ∙ taken.heard in
     inr (
       heard-never_worn r now piece made.0 taken.not_worn made.3,
-      wire-broken (r.stream (run r (after r now (hears piece)) made.0).heard).ending f told ∙ ap (λ (bytes : List ℕ). stream_end (r.stream bytes).ending) heard,
+      is ∙ ap (λ (bytes : List ℕ). stream_end (r.stream bytes).ending) heard,
     )
 
 -- A piece that is refused
-
-pub known-refused : (X : Type 0) (s : Stepped) (why known : Refusal) → why ≡ known → known ≢ Refusal.NoMemory → (why ≢ Refusal.NoMemory → (s ≡ refused why) × X)
-    → s ≡ refused known
-known-refused X s why known same other h =
-    (h (λ (none : why ≡ Refusal.NoMemory). other (sym same ∙ none))).0 ∙ ap refused same
 
 worn-serves_nothing : (r : Readings) (v : World) → step r v (goes Actor.Bare) ≡ refused Refusal.Worn → v.replies ≡ [] → served r v (round r v) ≡ []
 worn-serves_nothing r v is none =

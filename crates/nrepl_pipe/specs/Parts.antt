@@ -4,8 +4,10 @@ use Rattle.std.specs.Io.KnownBytes.{Consumes, Appends}
 use Rattle.repl_core.specs.Readings.{Readings}
 use Rattle.repl_core.specs.World.{World}
 use Rattle.repl_core.specs.Step.{Turn, Stepped, refused, run, served}
+use Rattle.repl_core.specs.Turned.{Accepted}
 use Rattle.repl_core.specs.declared.refusal.Refusal.{Refusal}
 use Rattle.nrepl_pipe.specs.Schedule.{GoesOn, AreRounds, MeetsWorn}
+use Rattle.nrepl_pipe.specs.declared.stream.Heard.{Heard}
 use Rattle.nrepl_pipe.specs.declared.stream.Rounds.{Rounds}
 
 abbrev pub IsPiece : List ℕ → Type 0
@@ -14,6 +16,11 @@ IsPiece bytes = (1 ≤ length bytes) × (length bytes ≤ 4096)
 -- a read that failed consumed nothing, or a piece for which there was no memory
 abbrev pub LosesPiece : Option (List ℕ) → Option (List ℕ) → Type 0
 LosesPiece unread left = (bytes : List ℕ) × ((bytes ≡ []) ⊎ IsPiece bytes) × Consumes unread left bytes
+
+-- what came of a piece
+abbrev pub HearsSo : Heard → (World → Type 0) → Stepped → Type 0
+HearsSo Heard.Taken Stands stepped = Accepted Stands stepped
+HearsSo Heard.Worn Stands stepped = stepped ≡ refused Refusal.Worn
 
 -- the turns were made, and what they serve was written
 pub record Makes (r : Readings) (Stands : World → Type 0) (w : World) (turns : List Turn) (held holds : Option (List ℕ)) : Type 0 where

@@ -2,20 +2,22 @@
 ghost use Rattle.std.specs.Prelude.{◌≡◌, Result};
 ghost use Rattle.repl_core.specs.Readings.{Readings, AreRight};
 ghost use Rattle.repl_core.specs.World.{opening};
+ghost use Rattle.nrepl_pipe.specs.Failing.{Tells};
 ghost use Rattle.nrepl_pipe.specs.Served.{Outcome};
 ghost use Rattle.nrepl_pipe.specs.Status.{status_of};
 ghost use Rattle.nrepl_pipe.specs.declared.stream.PipeEnd.{PipeEnd};
 ghost use Rattle.nrepl_pipe.specs.declared.stream.PipeError.{PipeError};
 
+use crate::ports::{Sink, Source};
 use crate::stream::{PipeEnd, PipeError, pipe};
 use bencode_wire::WireFault;
 use repl_core::Config;
 use std::alloc::Global;
-use std::io::{Read, Write};
+use std::io::Write;
 
 /// Serves one stream, and gives the exit status: 0 where the input was whole messages and all was
 /// answered, else 1 with one line on `errors`.
-pub fn pipe_command<R: Read, W: Write, E: Write>(
+pub fn pipe_command<R: Source, W: Sink, E: Write>(
     alloc: Global,
     config: Config,
     reader: &mut R,
@@ -23,6 +25,7 @@ pub fn pipe_command<R: Read, W: Write, E: Write>(
     errors: &mut E,
 ) -> u8
     ensures { (outcome : Result PipeEnd PipeError) × (result ≡ status_of outcome)
+        × Tells (R.failed reader.old) (R.failed reader.new) (W.failed writer.old) (W.failed writer.new) outcome
         × ((r : Readings) → AreRight r → Outcome r (opening config)
         (R.remaining reader.old) (R.remaining reader.new) (W.contents writer.old) (W.contents writer.new) outcome) }
 {

@@ -5,7 +5,9 @@
 #![tactic(auto)]
 
 mod command;
+mod ports;
 mod stream;
 
 pub use command::{bad_options, out_of_memory, pipe_command};
+pub use ports::{Sink, Source};
 pub use stream::{PipeEnd, PipeError, pipe};

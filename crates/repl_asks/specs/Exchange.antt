@@ -1,8 +1,8 @@
 -- Asks and answers, without where they lie in memory.
 use Rattle.std.specs.Prelude.{ℕ, List, [], ◌∷◌, Bool, ⊤}
-use Rattle.repl_values.specs.Datum.{Datum}
+use Rattle.value_data.specs.Datum.{Datum}
 use Rattle.special_forms.specs.Functions.{FunctionData}
-use Rattle.core_functions.specs.declared.function.CoreFunction.{CoreFunction}
+use Rattle.function_names.specs.declared.function.CoreFunction.{CoreFunction}
 
 -- what a name is bound to
 pub data BindingData : Type 0 where
@@ -20,6 +20,8 @@ pub data AnswerData : Type 0 where
   core_function : CoreFunction → AnswerData
   -- a function of the program
   function : FunctionData → AnswerData
+  -- what was asked for is done, and gives no value
+  done : AnswerData
   -- a class and a text
   fault : List ℕ → List ℕ → AnswerData
 
@@ -32,13 +34,15 @@ pub record Heard : Type 0 where
   pub trace : List Exchanged
   pub stopped : Bool
 
--- the answer is of a kind that the ask has: a definition is answered by its var, or by a fault
+-- the answer is of a kind that the ask has: a symbol names a value or a function, or meets a fault; a definition is done
 abbrev pub Fits : AskData → AnswerData → Type 0
-Fits (resolve namespace symbol) answer = ⊤
-Fits (define namespace name b) (value v) = ⊤
-Fits (define namespace name b) (core_function f) = ⊥
-Fits (define namespace name b) (function f) = ⊥
-Fits (define namespace name b) (fault class text) = ⊤
+Fits (resolve namespace symbol) (value v) = ⊤
+Fits (resolve namespace symbol) (core_function f) = ⊤
+Fits (resolve namespace symbol) (function f) = ⊤
+Fits (resolve namespace symbol) (fault class text) = ⊤
+Fits (resolve namespace symbol) done = ⊥
+Fits (define namespace name b) done = ⊤
+Fits (define namespace name b) answer = ⊥
 
 -- no answer is left for the ask: there is none, or the next is of another kind
 abbrev pub NoneFits : AskData → List AnswerData → Type 0

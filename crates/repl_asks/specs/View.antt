@@ -1,9 +1,9 @@
 -- The data that asks, answers and a trace stand for.
 use Rattle.std.specs.Prelude.{List, map}
 use Rattle.std.specs.Arc.{arc_str_bytes}
-use Rattle.repl_values.specs.View.{view}
+use Rattle.value_data.specs.View.{view}
 use Rattle.special_forms.specs.Seen.{function_view}
-use Rattle.repl_asks.specs.Exchange.{BindingData, bound_value, bound_function, AskData, resolve, define, AnswerData, value, core_function, function, fault, Exchanged}
+use Rattle.repl_asks.specs.Exchange.{BindingData, bound_value, bound_function, AskData, resolve, define, AnswerData, value, core_function, function, done, fault, Exchanged}
 use Rattle.repl_asks.specs.declared.ask.Ask.{Ask}
 use Rattle.repl_asks.specs.declared.ask.Binding.{Binding}
 use Rattle.repl_asks.specs.declared.ask.Answer.{Answer}
@@ -21,6 +21,7 @@ abbrev pub answer_view : Answer → AnswerData
 answer_view (Answer.Value v) = value (view v)
 answer_view (Answer.CoreFunction f) = core_function f
 answer_view (Answer.Function f) = function (function_view f)
+answer_view Answer.Done = done
 answer_view (Answer.Fault f) = fault (arc_str_bytes f.class) (arc_str_bytes f.text)
 
 abbrev pub exchange_view : Exchange → Exchanged

@@ -2,7 +2,7 @@
 ghost use Rattle.std.specs.Prelude.{◌≡◌, IfOk};
 ghost use Rattle.repl_asks.specs.View.{ask_view, answer_view, binding_view, exchange_view, trace_view};
 
-use core_functions::CoreFunction;
+use function_names::CoreFunction;
 use repl_values::{Fault, Value, copy, copy_text};
 use special_forms::Function;
 use std::alloc::{AllocError, Global};
@@ -16,7 +16,7 @@ pub enum Ask {
         namespace: ArcStr,
         symbol: ArcStr,
     },
-    /// Binds a name in a namespace. Answered by the var, or by a fault.
+    /// Binds a name in a namespace. Answered by `Done`; the value of the form is the var.
     Define {
         namespace: ArcStr,
         name: ArcStr,
@@ -38,6 +38,8 @@ pub enum Answer {
     CoreFunction(CoreFunction),
     /// A function of the program.
     Function(Function),
+    /// What was asked for is done, and gives no value.
+    Done,
     Fault(Fault),
 }
 
@@ -95,6 +97,7 @@ impl Answer {
             Answer::Value(value) => Ok(Answer::Value(copy(value)?)),
             Answer::CoreFunction(function) => Ok(Answer::CoreFunction(*function)),
             Answer::Function(function) => Ok(Answer::Function(function.copy()?)),
+            Answer::Done => Ok(Answer::Done),
             Answer::Fault(fault) => Ok(Answer::Fault(fault.copy()?)),
         }
     }

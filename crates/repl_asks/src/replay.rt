@@ -1,6 +1,6 @@
 // Answers that are known beforehand.
-ghost use Rattle.std.specs.Prelude.{◌≡◌, ◌++◌, ◌↔◌, ◌⊎◌, [], ◌∷◌, true, false, map, Err, IsTrue, IsErr, IfOk, IfErr, OnErr};
-ghost use Rattle.repl_asks.specs.Exchange.{Heard, Fits, NoneFits};
+ghost use Rattle.std.specs.Prelude.{◌≡◌, ◌++◌, ◌↔◌, [], ◌∷◌, true, false, map, IsTrue, IsErr, IfOk, IfErr, OnErr};
+ghost use Rattle.repl_asks.specs.Exchange.{Fits};
 ghost use Rattle.repl_asks.specs.View.{ask_view, answer_view, exchange_view};
 
 use crate::ask::{Answer, Ask, Exchange, Trace};
@@ -38,18 +38,32 @@ fn fits(ask: &Ask, answer: &Answer) -> bool
     ensures { IsTrue result ↔ Fits (ask_view ask.now) (answer_view answer.now) }
 {
     match (ask, answer) {
-        (Ask::Define { .. }, Answer::CoreFunction(_)) => false,
-        (Ask::Define { .. }, Answer::Function(_)) => false,
-        _ => true,
+        (Ask::Resolve { .. }, Answer::Done) => false,
+        (Ask::Resolve { .. }, _) => true,
+        (Ask::Define { .. }, Answer::Done) => true,
+        (Ask::Define { .. }, _) => false,
     }
 }
 
 impl Refs for Replay {
-    ghost use Rattle.repl_asks.specs.Replay.{heard_by};
+    ghost use Rattle.repl_asks.specs.Replay.{heard_by, answers_left, MaySay};
 
     ghost heard = { heard_by };
 
-    fn ask(&mut self, alloc: Global, ask: Ask) -> Result<Answer, Stop> {
+    /// The next answer, recorded beside its ask.
+    fn ask(&mut self, alloc: Global, ask: Ask) -> Result<Answer, Stop>
+        ensures grows { IfOk result (λ answer. (heard_by self.new).trace
+            ≡ (heard_by self.old).trace ++ record { ask = ask_view ask; answer = answer_view answer } ∷ []) }
+        ensures fits { IfOk result (λ answer. Fits (ask_view ask) (answer_view answer)) }
+        ensures left { IfOk result (λ answer. answers_left self.old ≡ answer_view answer ∷ answers_left self.new) }
+        ensures goes_on { IfOk result (λ _. (heard_by self.new).stopped ≡ (heard_by self.old).stopped) }
+        ensures stays { IfErr result (λ _. (heard_by self.new).trace ≡ (heard_by self.old).trace) }
+        ensures kept { IfErr result (λ _. answers_left self.new ≡ answers_left self.old) }
+        ensures stops { IfErr result (λ _. (heard_by self.new).stopped ≡ true) }
+        ensures handed_back { IfErr result (λ stop. ask_view stop.ask ≡ ask_view ask) }
+        ensures why { IfErr result (λ stop. MaySay stop.why self.old (ask_view ask)) }
+        ensures no_more { (heard_by self.old).stopped ≡ true → IsErr result }
+    {
         match self.next_for(&ask) {
             Ok(answer) => Ok(answer),
             Err(why) => {
@@ -61,11 +75,9 @@ impl Refs for Replay {
 }
 
 impl Replay {
-    ghost use Rattle.repl_asks.specs.Replay.{heard_by, answers_left};
+    ghost use Rattle.repl_asks.specs.Replay.{heard_by, answers_left, MaySay};
 
-    /// The next answer, recorded beside its ask. There is none where the replay has stopped, where no
-    /// answer is left and where the next does not fit the ask.
-    pub fn next_for(&mut self, ask: &Ask) -> Result<Answer, StopReason>
+    fn next_for(&mut self, ask: &Ask) -> Result<Answer, StopReason>
         ensures grows { IfOk result (λ answer. (heard_by self.new).trace
             ≡ (heard_by self.old).trace ++ record { ask = ask_view ask.now; answer = answer_view answer } ∷ []) }
         ensures fits { IfOk result (λ answer. Fits (ask_view ask.now) (answer_view answer)) }
@@ -73,9 +85,8 @@ impl Replay {
         ensures stopped { (heard_by self.new).stopped ≡ (heard_by self.old).stopped }
         ensures stays { OnErr result ((heard_by self.new).trace ≡ (heard_by self.old).trace) }
         ensures kept { OnErr result (answers_left self.new ≡ answers_left self.old) }
-        ensures none { result ≡ Err StopReason.NoAnswer → ((heard_by self.old).stopped ≡ true) ⊎ NoneFits (ask_view ask.now) (answers_left self.old) }
+        ensures why { IfErr result (λ why. MaySay why self.old (ask_view ask.now)) }
         ensures no_more { (heard_by self.old).stopped ≡ true → IsErr result }
-        ensures why { IfErr result (λ why. (why ≡ StopReason.NoAnswer) ⊎ (why ≡ StopReason.NoMemory)) }
     {
         if self.has_stopped {
             return Err(StopReason::NoAnswer);

@@ -1,10 +1,10 @@
 -- Moves: what the code keeps of a request and posts for it, beside the world.
 use Rattle.std.proofs.Common.{◌≡◌, ℕ, List, [], ◌∷◌, ◌++◌, true, false, Option, Some, None, Result, Ok, Err, IfOk, refl, sym, ap, ◌∙◌, true≢false, map, length, ◌==◌}
 use Rattle.std.proofs.lemmas.List.{map-append}
-use Rattle.repl_values.specs.Datum.{Items}
+use Rattle.value_data.specs.Datum.{Items}
 use Rattle.repl_walker.specs.Tree.{Tree, finished, asks}
-use Rattle.repl_values.specs.View.{items_view}
-use Rattle.repl_values.specs.declared.value.Value.{Value}
+use Rattle.value_data.specs.View.{items_view}
+use Rattle.value_data.specs.declared.value.Value.{Value}
 use Rattle.repl_faults.specs.Failure.{Failure}
 use Rattle.repl_replies.specs.Replies.{OriginData, namespace_not_found, bytes_of}
 use Rattle.repl_replies.specs.Requests.{RequestData}

@@ -1,7 +1,7 @@
 -- What becomes of a request: whether it is still in hand, and the replies to it (the nREPL manual, "Supported nREPL operations", `eval`).
 use Rattle.std.specs.Prelude.{ℕ, List, [], ◌∷◌, ◌++◌, Bool, true, Option, None, Some, option_map, Result, Ok, Err, if◌then◌else◌, codes}
 use Rattle.bencode_wire.specs.Tree as wire
-use Rattle.repl_values.specs.Datum.{Datum, Items, no_items, item}
+use Rattle.value_data.specs.Datum.{Datum, Items, no_items, item}
 use Rattle.repl_values.specs.Print.{print}
 use Rattle.repl_faults.specs.Failure.{Failure}
 use Rattle.repl_reader.specs.Fault.{FaultData, class_of}

@@ -3,7 +3,7 @@
 use Rattle.std.specs.Prelude.{ℕ, List, Option}
 use Rattle.bencode_wire.specs.Tree.{Tree}
 use Rattle.bencode_wire.specs.Stream.{Ending, Streams}
-use Rattle.repl_values.specs.Datum.{Items}
+use Rattle.value_data.specs.Datum.{Items}
 use Rattle.repl_reader.specs.Fault.{FaultData}
 use Rattle.repl_reader.specs.Grammar.{IsReading}
 

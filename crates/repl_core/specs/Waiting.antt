@@ -1,6 +1,6 @@
 -- The replies that wait in the code, and what it keeps of a request, beside the move that is meant.
 use Rattle.std.specs.Prelude.{◌≡◌, ℕ, List, ◌++◌, map, option_map, vec_items, Option}
-use Rattle.repl_values.specs.View.{items_view}
+use Rattle.value_data.specs.View.{items_view}
 use Rattle.repl_faults.specs.View.{failure_of}
 use Rattle.repl_walker.specs.Machine.{progress_tree}
 use Rattle.repl_replies.specs.Replies.{bytes_of}

@@ -1,6 +1,6 @@
 -- The server of one tenant without sessions, as plain data.
 use Rattle.std.specs.Prelude.{ℕ, List, [], ◌++◌, Option, None}
-use Rattle.repl_values.specs.Datum.{Items}
+use Rattle.value_data.specs.Datum.{Items}
 use Rattle.repl_faults.specs.Failure.{Failure}
 use Rattle.repl_walker.specs.Tree.{Tree}
 use Rattle.repl_replies.specs.Replies.{OriginData, ReplyData}

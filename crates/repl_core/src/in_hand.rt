@@ -1,6 +1,6 @@
 // The request in hand: its forms are evaluated one after another.
 ghost use Rattle.std.specs.Prelude.{◌≡◌, [], ◌∷◌, map, option_map, string_bytes, IfOk};
-ghost use Rattle.repl_values.specs.View.{view, items_view};
+ghost use Rattle.value_data.specs.View.{view, items_view};
 ghost use Rattle.repl_faults.specs.View.{failure_of};
 ghost use Rattle.repl_jobs.specs.View.{finished_view};
 ghost use Rattle.repl_walker.specs.Machine.{progress_tree};

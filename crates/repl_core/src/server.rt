@@ -61,6 +61,9 @@ impl Server {
         }
     }
 
+    /// Ends the server, and lets go of all that it holds.
+    pub fn close(self) {}
+
     // Takes a piece in: its messages, and a fault of the stream, which is told once.
     fn take_piece(&mut self, piece: &Bytes) -> Result<(), Refusal>
         ensures steps { self.new.steps_left ≡ self.old.steps_left }

@@ -1,6 +1,6 @@
 -- The faults of evaluation: their classes and texts.
 use Rattle.std.specs.Prelude.{ℕ, List, ◌++◌, Result, Ok, Err, codes, decimal}
-use Rattle.repl_values.specs.Datum.{Datum}
+use Rattle.value_data.specs.Datum.{Datum}
 use Rattle.repl_values.specs.Print.{print}
 
 -- why an evaluation has no value

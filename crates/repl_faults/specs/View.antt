@@ -1,5 +1,5 @@
 -- What the code returns, beside what is meant. Memory may run out at any call, and then nothing is said.
-use Rattle.std.specs.Prelude.{◌≡◌, ℕ, List, Result, Ok, Err}
+use Rattle.std.specs.Prelude.{◌≡◌, Result, Ok, Err}
 use Rattle.std.specs.Arc.{arc_str_bytes}
 use Rattle.repl_values.specs.declared.fault.Fault.{Fault}
 use Rattle.repl_faults.specs.Failure.{Failure}

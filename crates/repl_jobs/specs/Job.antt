@@ -1,6 +1,6 @@
 -- Jobs and how they end.
 use Rattle.std.specs.Prelude.{ℕ, List, Result}
-use Rattle.repl_values.specs.Datum.{Datum}
+use Rattle.value_data.specs.Datum.{Datum}
 use Rattle.repl_faults.specs.Failure.{Failure}
 
 -- what is evaluated, where, and how many attempts a transaction has

@@ -1,8 +1,8 @@
 -- What the code's jobs and ends stand for.
 use Rattle.std.specs.Prelude.{Result, Ok, Err, string_bytes}
 use Rattle.std.specs.Arc.{arc_str_bytes}
-use Rattle.repl_values.specs.Datum.{Datum}
-use Rattle.repl_values.specs.View.{view}
+use Rattle.value_data.specs.Datum.{Datum}
+use Rattle.value_data.specs.View.{view}
 use Rattle.repl_faults.specs.Failure.{Failure}
 use Rattle.repl_faults.specs.View.{failure_of}
 use Rattle.repl_jobs.specs.Job.{JobData, EndData}

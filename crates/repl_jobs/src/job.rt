@@ -1,6 +1,6 @@
 // What is evaluated, and how it ends.
 ghost use Rattle.std.specs.Prelude.{◌≡◌, IfOk};
-ghost use Rattle.repl_values.specs.View.{view};
+ghost use Rattle.value_data.specs.View.{view};
 ghost use Rattle.repl_jobs.specs.View.{form_of, job_view, end_view, finished_view};
 
 use repl_values::{Fault, Value, copy, copy_text};

@@ -1,8 +1,8 @@
 -- The grammar's rules, as the code's steps use them.
 use Rattle.std.proofs.Common.{◌≡◌, ℕ, suc, ◌+◌, ◌-◌, ◌++◌, ◌∷◌, [], List, map, refl, sym, arith, subst, inl, inr, add-one, Result, Ok, Err, IfOk}
-use Rattle.repl_values.specs.Datum.{Datum, Items, no_items, item}
-use Rattle.repl_values.specs.View.{view, items_view}
-use Rattle.repl_values.specs.declared.value.Value.{Value}
+use Rattle.value_data.specs.Datum.{Datum, Items, no_items, item}
+use Rattle.value_data.specs.View.{view, items_view}
+use Rattle.value_data.specs.declared.value.Value.{Value}
 use Rattle.repl_reader.specs.Reading.{Bracket, Reading, begins, next, settled, opens, marks, drops}
 use Rattle.repl_reader.specs.Grammar.{Reads, plain, marked, marked_deep, opened, opened_deep, Row, last, more, wanted, IsForm}
 use Rattle.repl_reader.specs.View.{IsMarked, wraps, wraps_deep, IsOpened, encloses, encloses_deep}

@@ -1,6 +1,6 @@
 -- What a text reads as once some forms at its front are dropped.
 use Rattle.std.proofs.Common.{◌≡◌, ℕ, zero, suc, ◌⊎◌, inl, inr, List, refl, sym, ◌∙◌, subst}
-use Rattle.repl_values.specs.Datum.{Datum}
+use Rattle.value_data.specs.Datum.{Datum}
 use Rattle.repl_reader.specs.Reading.{Reading, begins, closes, ends, breaks, next, drops}
 use Rattle.repl_reader.specs.Grammar.{Reads, dropped, undropped, IsForm, wanted}
 

@@ -1,11 +1,11 @@
 -- Forms in a row, as they are put together.
-use Rattle.std.proofs.Common.{◌≡◌, ℕ, ◌+◌, List, [], ◌∷◌, ◌++◌, map, length, Option, Some, None, refl, sym, ap, ◌∙◌, arith, get_or, suc, zero, ◌<◌, ◌≤◌}
+use Rattle.std.proofs.Common.{◌≡◌, ℕ, ◌+◌, List, [], ◌∷◌, ◌++◌, map, length, Option, Some, None, refl, ap, arith, get_or, suc, zero, ◌<◌, ◌≤◌}
 use Rattle.repl_values.specs.Print.{print}
-use Rattle.repl_values.specs.Keyed.{keys_of}
-use Rattle.repl_values.specs.Datum.{Datum, Items, no_items, item, Pairs, no_pairs, pair}
-use Rattle.repl_values.specs.View.{view, items_view}
-use Rattle.repl_values.specs.Listed.{items_of, pairs_of}
-use Rattle.repl_values.specs.declared.value.Value.{Value}
+use Rattle.value_data.specs.Keyed.{keys_of}
+use Rattle.value_data.specs.Datum.{Datum, Items, no_items, item, Pairs, no_pairs}
+use Rattle.value_data.specs.View.{view, items_view}
+use Rattle.value_data.specs.Listed.{items_of, pairs_of}
+use Rattle.value_data.specs.declared.value.Value.{Value}
 use Rattle.repl_reader.specs.Grammar.{paired, paired_with, with_pair, print_at}
 
 -- these before those

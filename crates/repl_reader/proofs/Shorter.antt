@@ -1,9 +1,9 @@
 -- What follows a form is shorter than the text that begins with it.
 use Rattle.std.proofs.Common.{◌≡◌, ℕ, suc, ◌<◌, ◌≤◌, Bool, true, false, ◌||◌, cond, eqb, List, [], ◌∷◌, length, Option, Some, None, refl, sym, arith, subst, one-add, length-drop}
 use Rattle.std.specs.List.{position_or_len}
-use Rattle.repl_values.specs.Keyed.{keys_of}
-use Rattle.repl_values.specs.Datum.{Datum, Items, Pairs}
-use Rattle.repl_values.specs.Repeats.{first_repeat}
+use Rattle.value_data.specs.Keyed.{keys_of}
+use Rattle.value_data.specs.Datum.{Datum, Items, Pairs}
+use Rattle.value_data.specs.Repeats.{first_repeat}
 use Rattle.repl_reader.specs.declared.fault.FaultKind.{FaultKind}
 use Rattle.repl_reader.specs.declared.fault.FaultKind.TheVariants.{BadNumber, BadToken}
 use Rattle.repl_reader.specs.Text.{is_white, is_delimiter, ends_token, bare, after_comment, token, after_token}

@@ -1,7 +1,7 @@
 -- Each text has a reading.
 use Rattle.std.proofs.Common.{◌≡◌, ℕ, zero, suc, ◌+◌, ◌*◌, ◌<◌, ◌≤◌, ◌⊎◌, inl, inr, Bool, true, false, ltb, List, length, refl, arith}
 use Rattle.std.proofs.lemmas.Bool.Decides.{nat_tests}
-use Rattle.repl_values.specs.Datum.{Items, no_items, item}
+use Rattle.value_data.specs.Datum.{Items, no_items, item}
 use Rattle.repl_reader.specs.Reading.{Bracket, Reading, begins, closes, ends, breaks, Next, settled, opens, marks, drops, next}
 use Rattle.repl_reader.specs.Grammar.{Reads, plain, marked, marked_deep, opened, opened_deep, dropped, undropped, Row, last, more, wrapped, enclosed, too_deep, most_nested}
 use Rattle.repl_reader.specs.Laws.{EveryTextReads}

@@ -1,6 +1,6 @@
 -- A text has one reading.
 use Rattle.std.proofs.Common.{◌≡◌, ℕ, ◌+◌, ◌<◌, ◌≤◌, ◌⊎◌, inl, inr, List, length, refl, sym, ap, ◌∙◌, arith, subst}
-use Rattle.repl_values.specs.Datum.{Datum, Items, no_items, item}
+use Rattle.value_data.specs.Datum.{Datum, Items, no_items, item}
 use Rattle.repl_reader.specs.Reading.{Bracket, Reading, begins, Next, settled, opens, marks, drops, next}
 use Rattle.repl_reader.specs.Grammar.{Reads, plain, marked, marked_deep, opened, opened_deep, dropped, undropped, Row, last, more, IsForm, wanted, wrapped, enclosed, too_deep, most_nested, placed_option, last_break}
 use Rattle.repl_reader.specs.Laws.{ReadingsAreUnique}

@@ -1,10 +1,10 @@
 -- What a text reads as. `Reads depth text r`: inside `depth` openings the text begins with r, once what `#_` drops is gone.
 use Rattle.std.specs.Prelude.{◌≡◌, ℕ, zero, suc, ◌+◌, ◌-◌, ◌<◌, ◌≤◌, List, [], Bool, true, false, Option, None, Some, if◌then◌else◌, codes, length}
-use Rattle.repl_values.specs.Datum as datum
-use Rattle.repl_values.specs.Datum.{Datum, Items, no_items, item, Pairs, no_pairs, pair}
-use Rattle.repl_values.specs.Keyed.{keys_of}
+use Rattle.value_data.specs.Datum as datum
+use Rattle.value_data.specs.Datum.{Datum, Items, no_items, item, Pairs, no_pairs, pair}
+use Rattle.value_data.specs.Keyed.{keys_of}
 use Rattle.repl_values.specs.Print.{print}
-use Rattle.repl_values.specs.Repeats.{first_repeat}
+use Rattle.value_data.specs.Repeats.{first_repeat}
 use Rattle.repl_reader.specs.declared.fault.FaultKind.TheVariants.{Unmatched, OddMap, SameKey, TooDeep}
 use Rattle.repl_reader.specs.Fault.{BreakData, FaultData, break_of}
 use Rattle.repl_reader.specs.Reading.{Bracket, round, square, curly, Reading, begins, closes, ends, breaks, eof, settled, opens, marks, drops, next}

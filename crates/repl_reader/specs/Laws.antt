@@ -1,6 +1,6 @@
 -- The grammar as a whole.
 use Rattle.std.specs.Prelude.{◌≡◌, ℕ, List, Option}
-use Rattle.repl_values.specs.Datum.{Items}
+use Rattle.value_data.specs.Datum.{Items}
 use Rattle.repl_reader.specs.Fault.{FaultData}
 use Rattle.repl_reader.specs.Grammar.{IsReading}
 

@@ -1,7 +1,7 @@
 -- What a text begins with, as far as its first characters tell.
 use Rattle.std.specs.Prelude.{ℕ, ℤ, List, [], ◌∷◌, Bool, Option, None, Some, ◌==◌, ◌||◌, ◌+◌, if◌then◌else◌, codes, length}
-use Rattle.repl_values.specs.Datum as datum
-use Rattle.repl_values.specs.Datum.{Datum}
+use Rattle.value_data.specs.Datum as datum
+use Rattle.value_data.specs.Datum.{Datum}
 use Rattle.repl_reader.specs.declared.fault.FaultKind.{FaultKind}
 use Rattle.repl_reader.specs.declared.fault.FaultKind.TheVariants.{Eof, BadNumber, BadToken, BadEscape, BadDispatch, BadChar}
 use Rattle.repl_reader.specs.Fault.{BreakData, break_of}

@@ -3,8 +3,8 @@ use Rattle.std.specs.Prelude.{ℕ, ℤ, ◌-◌, pos, neg_ℤ, List, Bool, true,
 use Rattle.std.specs.Char.{is_ascii_digit}
 use Rattle.std.specs.Str.{bytes_eq, all_ascii_digits}
 use Rattle.std.specs.Str.Parse.{digits_value}
-use Rattle.repl_values.specs.Datum as datum
-use Rattle.repl_values.specs.Datum.{Datum}
+use Rattle.value_data.specs.Datum as datum
+use Rattle.value_data.specs.Datum.{Datum}
 
 abbrev pub is_sign : ℕ → Bool
 is_sign b = b == 43 || b == 45

@@ -1,9 +1,9 @@
 -- The data that the code's types stand for.
 use Rattle.std.specs.Prelude.{◌≡◌, ◌+◌, ◌<◌, ◌≤◌, ℕ, List, Option, None, Some, string_bytes, codes}
-use Rattle.repl_values.specs.Datum.{Datum, Items, Pairs}
-use Rattle.repl_values.specs.Keyed.{keys_of}
-use Rattle.repl_values.specs.View.{view, items_view, pairs_view}
-use Rattle.repl_values.specs.declared.value.Value.{Value}
+use Rattle.value_data.specs.Datum.{Datum, Items, Pairs}
+use Rattle.value_data.specs.Keyed.{keys_of}
+use Rattle.value_data.specs.View.{view, items_view, pairs_view}
+use Rattle.value_data.specs.declared.value.Value.{Value}
 use Rattle.repl_reader.specs.Fault.{BreakData, FaultData}
 use Rattle.repl_reader.specs.Reading as plain
 use Rattle.repl_reader.specs.declared.fault.Break.{Break}

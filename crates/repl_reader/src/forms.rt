@@ -1,6 +1,6 @@
 // All forms of a text.
 ghost use Rattle.std.specs.Prelude.{◌≡◌, IfOk, length};
-ghost use Rattle.repl_values.specs.View.{items_view};
+ghost use Rattle.value_data.specs.View.{items_view};
 ghost use Rattle.repl_reader.specs.Grammar.{IsReading, placed, last_break};
 ghost use Rattle.repl_reader.specs.View.{reading_view, break_view, break_option, fault_view, fault_option};
 

@@ -1,7 +1,7 @@
 // A map from the forms between its braces.
 ghost use Rattle.std.specs.Prelude.{◌≡◌, Some, IfOk, string_bytes};
-ghost use Rattle.repl_values.specs.View.{items_view, pairs_view};
-ghost use Rattle.repl_values.specs.Keyed.{keys_of};
+ghost use Rattle.value_data.specs.View.{items_view, pairs_view};
+ghost use Rattle.value_data.specs.Keyed.{keys_of};
 ghost use Rattle.repl_reader.specs.Grammar.{paired, map_of, print_at};
 ghost use Rattle.repl_reader.specs.View.{reading_view, AreEntries};
 

@@ -1,7 +1,7 @@
 // Forms inside forms.
 ghost use Rattle.std.specs.Prelude.{◌≡◌, IfOk, MatchResult};
-ghost use Rattle.repl_values.specs.Datum.{Datum, list, symbol, item, no_items};
-ghost use Rattle.repl_values.specs.View.{view, items_view};
+ghost use Rattle.value_data.specs.Datum.{Datum, list, symbol, item, no_items};
+ghost use Rattle.value_data.specs.View.{view, items_view};
 ghost use Rattle.repl_reader.specs.Reading.{begins};
 ghost use Rattle.repl_reader.specs.Grammar.{Reads, IsForm, unmatched, too_deep, wanted, wrapped, collected, enclosed};
 ghost use Rattle.repl_reader.specs.View.{bracket_view, symbol_of, reading_view, IsPiece, IsRow, IsMarked, IsOpened};

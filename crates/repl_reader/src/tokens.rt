@@ -1,7 +1,7 @@
 // Tokens: the longest runs of characters that are neither white space nor delimiters.
 ghost use Rattle.std.specs.Prelude.{◌≡◌, IfOk};
 ghost use Rattle.std.specs.List.{position_or_len};
-ghost use Rattle.repl_values.specs.View.{view};
+ghost use Rattle.value_data.specs.View.{view};
 ghost use Rattle.repl_reader.specs.Text.{ends_token, token, after_token};
 ghost use Rattle.repl_reader.specs.Token.{begins_number, without_sign, has_leading_zero, integer_of, keyword_of, slashes, touches_slash, is_symbol, symbol_of, word_of, name_of};
 ghost use Rattle.repl_reader.specs.Reading.{token_at, breaks};

@@ -1,8 +1,7 @@
 // What a program does wrong.
-use crate::copies::copy_text;
-use crate::value::Value;
 use std::alloc::AllocError;
 use std::sync::ArcStr;
+use value_data::{Value, copy_text};
 
 /// A fault of evaluation or of the reader, by its class and its text. It ends a form, and is
 /// answered as an exception of that class.
@@ -15,8 +14,8 @@ pub struct Fault {
 impl Fault {
     ghost use Rattle.std.specs.Prelude.{◌≡◌, IfOk};
     ghost use Rattle.std.specs.Arc.{arc_str_bytes};
-    ghost use Rattle.repl_values.specs.Datum.{fault};
-    ghost use Rattle.repl_values.specs.View.{view};
+    ghost use Rattle.value_data.specs.Datum.{fault};
+    ghost use Rattle.value_data.specs.View.{view};
 
     /// The fault as a value, which `throw` and `*e` know. It takes no memory.
     pub fn into_value(self) -> Value

@@ -2,18 +2,18 @@
 #![tactic(auto)]
 
 ghost use Rattle.std.specs.Prelude.{◌≡◌, ◌<◌, true};
-ghost use Rattle.repl_values.specs.Datum.{Datum, Items, list, vector};
-ghost use Rattle.repl_values.specs.View.{view};
-ghost use Rattle.repl_values.specs.Same.{same};
-ghost use Rattle.repl_values.specs.Hash.{hash};
-ghost use Rattle.repl_values.specs.Order.{order, sort_key};
+ghost use Rattle.value_data.specs.Datum.{Datum, Items, list, vector};
+ghost use Rattle.value_data.specs.View.{view};
+ghost use Rattle.value_data.specs.Same.{same};
+ghost use Rattle.value_data.specs.Hash.{hash};
+ghost use Rattle.value_data.specs.Order.{order, sort_key};
 ghost use Rattle.std.specs.Ordering.{is_eq, ordering_reverse};
 ghost use Rattle.repl_values.specs.Print.{print};
-ghost use Rattle.repl_values.specs.Measures.{weight, nesting};
+ghost use Rattle.value_data.specs.Measures.{weight, nesting};
 ghost use Rattle.repl_values.specs.Parts.{IsPartOf};
 
-use crate::value::Value;
 use std::cmp::Ordering;
+use value_data::Value;
 
 /// A value is equal to itself.
 pub fn same_is_reflexive()

@@ -1,15 +1,15 @@
 // The spelling of values, into a text.
-#![tactic(auto, using(crate::proofs::Nodes::node_steps))]
+#![tactic(auto, using(value_data::proofs::Nodes::node_steps))]
 
 ghost use Rattle.std.specs.Prelude.{◌≡◌, ◌++◌, OnOk, OnErr, string_bytes, codes, decimal, encode_utf8};
-ghost use Rattle.repl_values.specs.View.{view, items_view, pairs_view, owner_view};
+ghost use Rattle.value_data.specs.View.{view, items_view, pairs_view, owner_view};
 ghost use Rattle.repl_values.specs.Print.{print, display, spelled, texts, pair_texts, joined, escaped, ref_text};
 ghost use Rattle.std.specs.Fmt.{signed_decimal};
 ghost use Rattle.repl_values.specs.Style.{spelling_of};
 
-use crate::value::{Owner, RefName, Value};
 use itoa::Buffer;
 use std::alloc::{AllocError, Global};
+use value_data::{Owner, RefName, Value};
 
 /// How the strings inside a value are spelled.
 #[derive(Clone, Copy)]

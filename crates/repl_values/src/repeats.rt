@@ -1,15 +1,13 @@
 // The first repeated key.
 ghost use Rattle.std.specs.Prelude.{◌≡◌, IfOk};
-ghost use Rattle.repl_values.specs.View.{items_view};
-ghost use Rattle.repl_values.specs.Datum.{Pairs};
-ghost use Rattle.repl_values.specs.Keyed.{keys_of};
-ghost use Rattle.repl_values.specs.Repeats.{first_repeat};
-ghost use Rattle.repl_values.specs.BuiltView.{IsBuilt};
+ghost use Rattle.value_data.specs.View.{items_view};
+ghost use Rattle.value_data.specs.Datum.{Pairs};
+ghost use Rattle.value_data.specs.Keyed.{keys_of};
+ghost use Rattle.value_data.specs.Repeats.{first_repeat};
+ghost use Rattle.value_data.specs.BuiltView.{IsBuilt};
 
-use crate::building::Built;
-use crate::copies::copy;
-use crate::value::{Table, Value};
 use std::alloc::{AllocError, Global};
+use value_data::{Built, Table, Value, copy};
 
 /// The index of the first key, from the left, to which an equal one stands before. It fails only
 /// for want of memory, and compares n log n keys.

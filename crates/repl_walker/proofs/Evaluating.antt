@@ -4,18 +4,17 @@ use Rattle.std.proofs.Common.{◌≡◌, ℕ, ◌<◌, Bool, true, false, if◌t
 use Rattle.std.proofs.lemmas.List.{map-append, length-map}
 use Rattle.std.proofs.lemmas.Bool.Decides.{nat_tests}
 use Rattle.std.proofs.lemmas.Grind.{common_steps}
-use Rattle.special_forms.specs.Functions.{FunctionData}
-use Rattle.repl_values.specs.Datum.{Datum, Items, no_items, item, Pairs, list, vector, map}
-use Rattle.repl_values.specs.Listed.{listed}
-use Rattle.repl_values.specs.View.{view}
-use Rattle.repl_values.specs.declared.value.Value as value
-use Rattle.repl_values.proofs.Lists.{lists}
-use Rattle.repl_values.proofs.Views.{value_views}
+use Rattle.value_data.specs.Datum.{Datum, Items, no_items, item, Pairs, list, vector, map}
+use Rattle.value_data.specs.Listed.{listed}
+use Rattle.value_data.specs.View.{view}
+use Rattle.value_data.specs.declared.value.Value as value
+use Rattle.value_data.proofs.Lists.{lists}
+use Rattle.value_data.proofs.Views.{value_views}
 use Rattle.repl_values.specs.declared.fault.Fault.{Fault}
 use Rattle.repl_faults.specs.Failure.{Failure, output_too_long}
 use Rattle.repl_faults.specs.View.{failure_of}
 use Rattle.repl_faults.specs.declared.error.ApplyError.{ApplyError}
-use Rattle.core_functions.specs.Names.{fits}
+use Rattle.function_names.specs.Names.{fits}
 use Rattle.core_functions.specs.Meaning.{meaning}
 use Rattle.core_functions.specs.View.{FailsIn}
 use Rattle.core_texts.specs.Limits.{most_text}
@@ -26,15 +25,13 @@ use Rattle.special_forms.specs.Rows.{in_a_row}
 use Rattle.special_forms.specs.Seen.{views, forms_view}
 use Rattle.special_forms.specs.declared.forms.Forms.{Forms}
 use Rattle.special_forms.specs.declared.shapes.SpecialForm.{SpecialForm}
-use Rattle.repl_walker.specs.Tree.{Kept, Tree, ends, Part, ◌>>=◌}
-use Rattle.repl_walker.specs.Evaluation.{PlaceData, CalleeData, core_callee, program_callee, row, call_value, called, printed, outcome, core_call, named, a_core_function, headed_value, value_at}
-use Rattle.repl_walker.specs.Machine.{kept_of, next_of, from_state, tree, answered, answered_by, call_behind, items_behind, collected, items_value, list_at}
+use Rattle.repl_walker.specs.Tree.{Kept, Tree, ends, Part}
+use Rattle.repl_walker.specs.Evaluation.{PlaceData, CalleeData, core_callee, row, call_value, called, printed, outcome, core_call, named, a_core_function, headed_value, value_at}
+use Rattle.repl_walker.specs.Machine.{kept_of, next_of, from_state, tree, call_behind, items_behind, collected, items_value, list_at}
 use Rattle.repl_walker.specs.declared.frames.Collection.{Collection}
 use Rattle.repl_walker.specs.declared.frames.Control.{Control}
 use Rattle.repl_walker.specs.declared.frames.State.{State}
-use Rattle.repl_walker.specs.declared.frames.Wanted.{Wanted}
-use Rattle.repl_asks.specs.Exchange as exchange
-use Rattle.core_functions.specs.declared.function.CoreFunction.{CoreFunction}
+use Rattle.function_names.specs.declared.function.CoreFunction.{CoreFunction}
 
 -- one more form has its value
 row_step : (walk : Datum → Part Datum) (then_ : List Datum → Kept → Tree) (values : List Datum) (d : Datum) (ds : List Datum)
@@ -81,24 +78,6 @@ map-at zero p ps = refl
 map-at (suc room) p ps = refl
 
 pub ruleset first_steps = (value_views, list-at, vector-at, map-at, datum_size-pos, datum_size-list, datum_size-vector, datum_size-map)
-
--- whatever a fault was wanted for, it is the end
-pub answered-fault : (w : Wanted) (class text : List ℕ) (s : State) → answered w (exchange.fault class text) s ≡ ends (Err (record { class = class; text = text })) (kept_of s)
-answered-fault (Wanted.SymbolValue name) class text s = refl
-answered-fault (Wanted.Head forms room) class text s = refl
-answered-fault (Wanted.Definition name) class text s = refl
-
-pub answered-core : (w : Wanted) (f : CoreFunction) (s : State) → answered w (exchange.core_function f) s ≡ answered_by w (core_callee f) s
-answered-core (Wanted.SymbolValue name) f s = refl
-answered-core (Wanted.Head forms room) f s = refl
-answered-core (Wanted.Definition name) f s = refl
-
-pub answered-function : (w : Wanted) (f : FunctionData) (s : State) → answered w (exchange.function f) s ≡ answered_by w (program_callee f) s
-answered-function (Wanted.SymbolValue name) f s = refl
-answered-function (Wanted.Head forms room) f s = refl
-answered-function (Wanted.Definition name) f s = refl
-
-pub ruleset answers = (answered-fault, answered-core, answered-function)
 
 -- what comes next is the one, and so the other
 pub if_ok-turned : {A E : Type 0} (F : A → Tree) {t u : Tree} (r : Result A E) → t ≡ u → IfOk r (λ a. F a ≡ t) → IfOk r (λ a. F a ≡ u)

@@ -1,15 +1,15 @@
 -- Keys of pairs, and the first that stands twice.
 use Rattle.std.proofs.Common.{◌≡◌, ℕ, zero, suc, ◌<◌, Bool, true, false, if◌then◌else◌, List, [], ◌∷◌, Option, Some, None, Err, option_map, get_or, length, refl, sym, subst, ap, ◌∙◌, arith}
 use Rattle.std.specs.Prelude.{zip}
-use Rattle.repl_values.specs.Datum.{Datum, Items, no_items, item, Pairs, map}
-use Rattle.repl_values.specs.Keyed.{keys_of}
-use Rattle.repl_values.specs.Repeats.{is_one_of, repeat_behind, first_repeat}
-use Rattle.repl_values.specs.View.{view}
-use Rattle.repl_values.specs.Listed.{items_of, pairs_of}
-use Rattle.repl_values.specs.BuiltView.{IsBuilt}
-use Rattle.repl_values.specs.Held.{TableData}
-use Rattle.repl_values.specs.declared.building.Built.{Built}
-use Rattle.repl_values.specs.declared.value.Value.{Value}
+use Rattle.value_data.specs.Datum.{Datum, Items, no_items, item, Pairs, map}
+use Rattle.value_data.specs.Keyed.{keys_of}
+use Rattle.value_data.specs.Repeats.{is_one_of, repeat_behind, first_repeat}
+use Rattle.value_data.specs.View.{view}
+use Rattle.value_data.specs.Listed.{items_of, pairs_of}
+use Rattle.value_data.specs.BuiltView.{IsBuilt}
+use Rattle.value_data.specs.Held.{TableData}
+use Rattle.value_data.specs.declared.building.Built.{Built}
+use Rattle.value_data.specs.declared.value.Value.{Value}
 use Rattle.special_forms.specs.Seen.{views}
 use Rattle.repl_faults.specs.Failure.{Failure, duplicate_key}
 use Rattle.repl_walker.specs.Tree.{Part, ends, fails}

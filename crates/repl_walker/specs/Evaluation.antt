@@ -4,20 +4,20 @@
 use Rattle.std.specs.Prelude.{ℕ, zero, suc, ◌+◌, List, [], ◌∷◌, ◌++◌, Option, Some, None, Ok, Err, if◌then◌else◌, ◌==◌, ◌||◌, nat_lt, length, take, drop, zip, codes}
 use Rattle.std.specs.Str.{bytes_eq}
 use Rattle.std.specs.List.{position}
-use Rattle.repl_values.specs.Datum.{Datum, nil, keyword, symbol, list, vector, map, fault, no_items, item}
+use Rattle.value_data.specs.Datum.{Datum, nil, keyword, symbol, list, vector, map, var, fault, no_items, item}
 use Rattle.std.specs.Option.{option_and_then}
-use Rattle.repl_values.specs.Listed.{listed, items_of, pairs_of}
-use Rattle.repl_values.specs.Repeats.{first_repeat}
+use Rattle.value_data.specs.Listed.{listed, items_of, pairs_of}
+use Rattle.value_data.specs.Repeats.{first_repeat}
 use Rattle.repl_faults.specs.Failure as failures
 use Rattle.repl_faults.specs.Failure.{Failure}
 use Rattle.core_texts.specs.Limits.{most_weight}
 use Rattle.core_texts.specs.Meaning.{shown}
 use Rattle.core_maps.specs.declared.function.MapFunction.{MapFunction}
-use Rattle.core_functions.specs.Names.{function_named, name_of, fits}
+use Rattle.function_names.specs.Names.{function_named, name_of, fits}
 use Rattle.core_functions.specs.Outcome as outcomes
 use Rattle.core_functions.specs.Outcome.{Outcome, limited}
 use Rattle.core_functions.specs.Meaning.{meaning}
-use Rattle.core_functions.specs.declared.function.CoreFunction.{CoreFunction}
+use Rattle.function_names.specs.declared.function.CoreFunction.{CoreFunction}
 use Rattle.repl_asks.specs.Exchange as exchange
 use Rattle.repl_asks.specs.Exchange.{AnswerData, BindingData, bound_value, bound_function}
 use Rattle.special_forms.specs.Functions.{FunctionData}
@@ -86,12 +86,12 @@ named locals s = named_or_local locals s (core_name s)
 abbrev pub resolved : PlaceData → List ℕ → Part AnswerData
 resolved p s next kept = asked (exchange.resolve (space_of p kept) s) next kept
 
--- the answer to what a symbol's value is, or what a name was defined as
+-- the answer to what a symbol's value is; one that is only done fits no symbol, and would be nil
 abbrev pub answered_value : List ℕ → AnswerData → Part Datum
 answered_value s (exchange.value d) = done d
-answered_value s (exchange.core_function f) = fails (failures.not_a_value s)
-answered_value s (exchange.function f) = fails (failures.not_a_value s)
+answered_value s exchange.done = done nil
 answered_value s (exchange.fault class text) = fails (record { class = class; text = text })
+answered_value s other = fails (failures.not_a_value s)
 
 abbrev pub named_value : PlaceData → List ℕ → NamedData → Part Datum
 named_value p s (a_local d) = done d
@@ -113,6 +113,7 @@ abbrev pub answered_callee : AnswerData → Part CalleeData
 answered_callee (exchange.value d) = fails (failures.not_a_function d)
 answered_callee (exchange.core_function f) = done (core_callee f)
 answered_callee (exchange.function f) = done (program_callee f)
+answered_callee exchange.done = fails (failures.not_a_function nil)
 answered_callee (exchange.fault class text) = fails (record { class = class; text = text })
 
 abbrev pub named_callee : PlaceData → List ℕ → NamedData → Part CalleeData
@@ -203,7 +204,7 @@ let_value walk p [] forms = last_of (walk p) nil forms
 let_value walk p (b ∷ bs) forms = walk p b.form >>= λ v. let_value walk (with_local p b.name v) bs forms
 
 abbrev pub defined : PlaceData → List ℕ → BindingData → Part Datum
-defined p s binding next kept = asks (exchange.define (space_of p kept) s binding) (λ answer. answered_value s answer next kept)
+defined p s binding next kept = asks (exchange.define (space_of p kept) s binding) (λ answer. next (var (space_of p kept) s) kept)
 
 abbrev pub function_defined : PlaceData → List ℕ → List (List ℕ) → List Datum → Part Datum
 function_defined p s params forms next kept =

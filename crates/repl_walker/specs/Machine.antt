@@ -1,8 +1,8 @@
 -- What the machine has still to do, in the words of the definition. Contracts of private functions speak of it.
-use Rattle.std.specs.Prelude.{drop, ℕ, zero, suc, List, [], ◌∷◌, ◌++◌, option_map, Ok, Err, if◌then◌else◌, map as each, string_bytes}
+use Rattle.std.specs.Prelude.{drop, ℕ, zero, suc, List, [], ◌∷◌, ◌++◌, option_map, Ok, Err, if◌then◌else◌, string_bytes}
 use Rattle.std.specs.Arc.{arc_str_bytes}
-use Rattle.repl_values.specs.Datum.{Datum, nil, list, no_items}
-use Rattle.repl_values.specs.View.{view}
+use Rattle.value_data.specs.Datum.{Datum, nil, list, no_items}
+use Rattle.value_data.specs.View.{view}
 use Rattle.repl_faults.specs.Failure as failures
 use Rattle.repl_faults.specs.View.{failure_of}
 use Rattle.repl_asks.specs.Exchange.{AnswerData, bound_value}
@@ -96,11 +96,14 @@ kept_of s = record { calls = s.calls; text = string_bytes s.text; namespace = ar
 abbrev pub from_state : Part Datum → State → Tree
 from_state part s = part (next_of s) (kept_of s)
 
+-- the call of the function that an answer names
+abbrev pub answered_call : ℕ → PlaceData → List Datum → AnswerData → Part Datum
+answered_call room p forms answer = answered_callee answer >>= call_value (value_at room) p forms
+
 abbrev pub answered : Wanted → AnswerData → State → Tree
 answered (Wanted.SymbolValue name) answer s = from_state (answered_value (arc_str_bytes name) answer) s
-answered (Wanted.Head forms room) answer s =
-    from_state (answered_callee answer >>= call_value (value_at room) (place_of s) (forms_view forms)) s
-answered (Wanted.Definition name) answer s = from_state (answered_value (arc_str_bytes name) answer) s
+answered (Wanted.Head forms room) answer s = from_state (answered_call room (place_of s) (forms_view forms) answer) s
+answered (Wanted.Done v) answer s = from_state (done (view v)) s
 
 -- what is still done, from here
 abbrev pub tree : Control → State → Tree
@@ -109,12 +112,6 @@ tree (Control.Return v) s = from_state (done (view v)) s
 tree (Control.Fault f) s = ends (Err (failure_of f)) (kept_of s)
 tree (Control.Ask ask wanted) s = asks (ask_view ask) (λ answer. answered wanted answer s)
 tree (Control.Enter f values room) s = from_state (body_value (value_at room) (function_view f) (views values.items)) s
-
--- the same, where the answer was a function
-abbrev pub answered_by : Wanted → CalleeData → State → Tree
-answered_by (Wanted.SymbolValue name) callee s = ends (Err (failures.not_a_value (arc_str_bytes name))) (kept_of s)
-answered_by (Wanted.Head forms room) callee s = from_state (call_value (value_at room) (place_of s) (forms_view forms) callee) s
-answered_by (Wanted.Definition name) callee s = ends (Err (failures.not_a_value (arc_str_bytes name))) (kept_of s)
 
 abbrev pub leg_tree : Leg → State → Tree
 leg_tree (Leg.Asks ask wanted) s = asks (ask_view ask) (λ answer. answered wanted answer s)

@@ -1,6 +1,6 @@
 -- How much an evaluation has still to do, for the proof that it ends. No promise speaks of it.
 use Rattle.std.specs.Prelude.{⊤, ℕ, ◌+◌, ◌*◌, ◌<◌, List, sum_by}
-use Rattle.repl_values.specs.View.{view}
+use Rattle.value_data.specs.View.{view}
 use Rattle.special_forms.specs.Rows.{bindings_in}
 use Rattle.special_forms.specs.Seen.{forms_view}
 use Rattle.special_forms.specs.Size.{datum_size, forms_size, bindings_size}
@@ -29,7 +29,7 @@ frames_size = sum_by frame_size
 abbrev pub wanted_size : Wanted → ℕ
 wanted_size (Wanted.SymbolValue name) = 2
 wanted_size (Wanted.Head forms room) = 2 + forms_size (forms_view forms)
-wanted_size (Wanted.Definition name) = 2
+wanted_size (Wanted.Done v) = 2
 
 abbrev pub control_size : Control → ℕ
 control_size (Control.Evaluate form room) = 3 * datum_size (view form)

@@ -1,13 +1,13 @@
 -- Why an evaluation did not end, and where it was left.
-use Rattle.std.specs.Prelude.{◌≡◌, true, List, ⊤}
+use Rattle.std.specs.Prelude.{◌≡◌, true, false, List}
 use Rattle.repl_asks.specs.Exchange.{AnswerData, Exchanged, Heard}
 use Rattle.repl_asks.specs.View.{ask_view}
 use Rattle.repl_walker.specs.Tree.{Tree, asks, Led}
 use Rattle.repl_walker.specs.declared.run.WalkError.{WalkError}
 
--- an ask without an answer leaves who was asked stopped
+-- an ask without an answer leaves who was asked stopped, and want of memory for the walk does not
 abbrev pub IsStoppedBy : WalkError → Heard → Type 0
-IsStoppedBy WalkError.NoMemory heard = ⊤
+IsStoppedBy WalkError.NoMemory heard = heard.stopped ≡ false
 IsStoppedBy (WalkError.Stopped ask) heard = heard.stopped ≡ true
 
 -- an evaluation was left at an ask that has no answer, or somewhere on its way for want of memory

@@ -1,6 +1,6 @@
 -- What an evaluation does, as a tree: it ends, or asks and goes on with the answer.
 use Rattle.std.specs.Prelude.{◌≡◌, ℕ, List, [], ◌∷◌, ◌++◌, Result, Err}
-use Rattle.repl_values.specs.Datum.{Datum}
+use Rattle.value_data.specs.Datum.{Datum}
 use Rattle.repl_faults.specs.Failure.{Failure}
 use Rattle.repl_jobs.specs.Job.{EndData}
 use Rattle.repl_asks.specs.Exchange.{AskData, AnswerData, Exchanged}

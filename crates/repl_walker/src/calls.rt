@@ -5,8 +5,8 @@ ghost use Rattle.std.specs.Arc.{arc_str_bytes};
 ghost use Rattle.core_functions.specs.Outcome.{Outcome, bounded};
 ghost use Rattle.core_functions.specs.View.{FailsIn};
 ghost use Rattle.repl_walker.specs.Evaluation as meant;
-ghost use Rattle.repl_values.specs.View.{view};
-ghost use Rattle.repl_walker.specs.Machine.{callee_view, place_of, from_state, tree};
+ghost use Rattle.value_data.specs.View.{view};
+ghost use Rattle.repl_walker.specs.Machine.{callee_view, from_state, tree};
 ghost use Rattle.repl_walker.specs.declared.frames.State.{State};
 ghost use Rattle.special_forms.specs.Seen.{views, function_view};
 ghost use Rattle.repl_walker.specs.Size.{control_size, frames_size, spent};
@@ -128,7 +128,7 @@ fn call_keyword(
 }
 
 // The map, the keyword and what comes behind the map.
-#[tactic(auto, using(repl_values::proofs::Views::value_views))]
+#[tactic(auto, using(value_data::proofs::Views::value_views))]
 fn get_arguments(name: ArcStr, mut values: Vec<Value>) -> Result<Vec<Value>, AllocError>
     ensures { IfOk result (λ args. views args.items ≡ meant.get_arguments (arc_str_bytes name) (views values.items)) }
 {

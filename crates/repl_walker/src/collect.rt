@@ -1,6 +1,6 @@
 // Vectors and maps of values that were evaluated.
 ghost use Rattle.std.specs.Prelude.{◌≡◌, ◌<◌, map, zip, IfOk};
-ghost use Rattle.repl_values.specs.View.{view, pair_view};
+ghost use Rattle.value_data.specs.View.{view, pair_view};
 ghost use Rattle.repl_walker.specs.Evaluation as meant;
 ghost use Rattle.repl_walker.specs.Machine.{from_state, tree};
 ghost use Rattle.repl_walker.specs.Machine as machine;

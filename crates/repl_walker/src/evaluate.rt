@@ -1,8 +1,8 @@
 // The first step of a form's evaluation.
 ghost use Rattle.std.specs.Prelude.{◌≡◌, ◌+◌, ◌*◌, ◌<◌, ◌≤◌, IfOk};
 ghost use Rattle.std.specs.Arc.{arc_str_bytes};
-ghost use Rattle.repl_values.specs.Listed.{listed};
-ghost use Rattle.repl_values.specs.View.{view};
+ghost use Rattle.value_data.specs.Listed.{listed};
+ghost use Rattle.value_data.specs.View.{view};
 ghost use Rattle.repl_walker.specs.Evaluation as meant;
 ghost use Rattle.repl_walker.specs.Machine.{items_value, list_at, place_of, from_state, tree};
 ghost use Rattle.special_forms.specs.Seen.{forms_view};

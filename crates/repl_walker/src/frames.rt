@@ -1,5 +1,5 @@
 // What an evaluation has still to do, from the inside out.
-use core_functions::CoreFunction;
+use function_names::CoreFunction;
 use local_names::Locals;
 use repl_asks::Ask;
 use repl_values::{Fault, Value};
@@ -107,8 +107,8 @@ pub(crate) enum Wanted {
     SymbolValue(ArcStr),
     // The function at the head of a list, with the forms of its arguments.
     Head(Forms, u32),
-    // The var of a name that was defined.
-    Definition(ArcStr),
+    // That something is done; the form's value is this one.
+    Done(Value),
 }
 
 // What comes next.

@@ -1,6 +1,6 @@
 // The value of the innermost form goes to what waits for it.
 ghost use Rattle.std.specs.Prelude.{◌≡◌, ◌+◌, ◌<◌, ◌≤◌, ◌∷◌, string_bytes, IfOk};
-ghost use Rattle.repl_values.specs.View.{view};
+ghost use Rattle.value_data.specs.View.{view};
 ghost use Rattle.repl_faults.specs.View.{failure_of};
 ghost use Rattle.repl_walker.specs.Evaluation as meant;
 ghost use Rattle.repl_walker.specs.Machine.{frames_next, place_of, kept_of, from_state, tree};
@@ -83,7 +83,7 @@ pub(crate) fn give(
 }
 
 // A fault is thrown as it is, any other value by its text.
-#[tactic(auto, using(repl_values::proofs::Views::value_views))]
+#[tactic(auto, using(value_data::proofs::Views::value_views))]
 fn throw(alloc: Global, value: Value) -> Result<Control, AllocError>
     ensures size { IfOk result (λ control. control_size control < 2) }
     ensures calls { IfOk result (λ control. spent control ≡ 0) }

@@ -1,9 +1,9 @@
 // What a symbol names before anybody is asked.
 ghost use Rattle.std.specs.Prelude.{◌≡◌, option_map, is_some, IfOk};
 ghost use Rattle.std.specs.Arc.{arc_str_bytes};
-ghost use Rattle.core_functions.specs.Names.{function_named};
+ghost use Rattle.function_names.specs.Names.{function_named};
 ghost use Rattle.repl_asks.specs.Exchange.{resolve};
-ghost use Rattle.repl_values.specs.View.{view};
+ghost use Rattle.value_data.specs.View.{view};
 ghost use Rattle.repl_asks.specs.View.{ask_view};
 ghost use Rattle.repl_walker.specs.Evaluation as meant;
 ghost use Rattle.repl_walker.specs.Machine.{named_view, place_of, kept_of};

@@ -1,7 +1,7 @@
 // Forms in a row: arguments, items, bodies, `and`, `or` and bindings.
 ghost use Rattle.std.specs.Prelude.{◌≡◌, ◌+◌, ◌<◌, ◌≤◌, IfOk};
 ghost use Rattle.std.specs.Arc.{arc_str_bytes};
-ghost use Rattle.repl_values.specs.View.{view};
+ghost use Rattle.value_data.specs.View.{view};
 ghost use Rattle.repl_walker.specs.Evaluation as meant;
 ghost use Rattle.repl_walker.specs.Machine.{call_behind, items_behind, callee_view, place_of, kept_of, next_of, from_state, tree};
 ghost use Rattle.special_forms.specs.Rows.{bindings_in};

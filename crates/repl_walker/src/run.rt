@@ -25,7 +25,7 @@ pub enum WalkError {
 }
 
 /// Evaluates the job, each ask answered by `refs`, which must not have stopped before. `Stopped` comes
-/// only where the ask left `refs` stopped.
+/// only where the ask left `refs` stopped; after `NoMemory` it has not stopped.
 pub fn walk<R: Refs>(alloc: Global, job: &Job, refs: &mut R) -> Result<Ending, WalkError>
     requires { (R.heard refs.old).stopped ≡ false }
     ensures ok { OnOk result ((R.heard refs.new).stopped ≡ false) }

@@ -95,18 +95,22 @@ fn define_function(
     define(state, name, Binding::Function(function))
 }
 
-// Binds the name in the form's namespace.
+// Binds the name in the form's namespace. The form's value is the var.
+#[tactic(auto, using(value_data::proofs::Views::value_views))]
 pub(crate) fn define(state: &State, name: ArcStr, binding: Binding) -> Result<Control, AllocError>
     ensures size { IfOk result (λ control. control_size control < 3) }
     ensures calls { IfOk result (λ control. spent control ≡ 0) }
     ensures meaning { IfOk result (λ control. tree control state.now ≡ from_state (meant.defined (place_of state.now) (arc_str_bytes name) (binding_view binding)) state.now) }
 {
-    let wanted = Wanted::Definition(copy_text(&name)?);
     let namespace = space(state)?;
+    let var = Value::Var {
+        space: copy_text(&namespace)?,
+        name: copy_text(&name)?,
+    };
     let ask = Ask::Define {
         namespace,
         name,
         binding,
     };
-    Ok(Control::Ask(ask, wanted))
+    Ok(Control::Ask(ask, Wanted::Done(var)))
 }

@@ -1,7 +1,11 @@
 // Readers and writers that fail, at each of their calls in turn.
+ghost use Rattle.std.specs.Prelude.{◌≡◌, Some, None, false};
+ghost use Rattle.nrepl_pipe.specs.Failing.{Marks, read_fails, write_fails, is_read_failed, is_write_failed};
+
 use crate::cases::{SUM, SUM_REPLIES};
-use nrepl_pipe::pipe_command;
+use nrepl_pipe::{PipeEnd, PipeError, Sink, Source, pipe, pipe_command};
 use repl_core::Config;
+use std::alloc::Global;
 use std::io;
 use std::io::{Error, ErrorKind, Read, Write};
 use std::test::Fail;
@@ -102,6 +106,79 @@ fn failing_writes(rt: HostRuntime) -> Result<(), Fail> {
             );
             assert!(rt; writer.written.len() >= 8 * writes.min(3), "{writes}");
         }
+    }
+    Ok(())
+}
+
+// Remembers whether a read or a write of it has failed, as no `Read` and no `Write` does.
+#[derive(Drop)]
+struct Remembering<T> {
+    inner: T,
+    has_failed: bool,
+}
+
+impl<R: Read> Source for Remembering<R> {
+    ghost remaining = { λ it. R.remaining it.inner };
+
+    ghost failed = { λ it. Some it.has_failed };
+
+    fn read_bytes(&mut self, buf: &mut [u8]) -> io::Result<usize> {
+        let answer = self.inner.read(buf);
+        self.has_failed = self.has_failed || answer.is_err();
+        answer
+    }
+}
+
+impl<W: Write> Sink for Remembering<W> {
+    ghost contents = { λ it. W.contents it.inner };
+
+    ghost failed = { λ it. Some it.has_failed };
+
+    fn write_bytes(&mut self, bytes: &[u8]) -> io::Result<usize> {
+        let answer = self.inner.write(bytes);
+        self.has_failed = self.has_failed || matches!(answer, Ok(0) | Err(_));
+        answer
+    }
+
+    fn pass_on(&mut self) {
+        let _ = self.inner.flush();
+    }
+}
+
+fn served<R: Read, W: Write>(
+    alloc: Global,
+    reader: &mut Remembering<R>,
+    writer: &mut Remembering<W>,
+) -> Result<PipeEnd, PipeError>
+    requires { (reader.old.has_failed ≡ false) × (writer.old.has_failed ≡ false) }
+    ensures reads { reader.new.has_failed ≡ is_read_failed result }
+    ensures writes { writer.new.has_failed ≡ is_write_failed result }
+{
+    pipe(alloc, Config::new(), reader, writer)
+}
+
+// The last write fails, and then the last read.
+#[test]
+fn failures_that_are_remembered(rt: HostRuntime) -> Result<(), Fail> {
+    for (reads, writes, expected) in [
+        (6usize, 7usize, Err(PipeError::WriteFailed)),
+        (5, 8, Err(PipeError::ReadFailed)),
+        (6, 8, Ok(PipeEnd::Whole)),
+    ] {
+        let mut reader = Remembering {
+            inner: FailingReader { input: SUM, reads },
+            has_failed: false,
+        };
+        let mut writer = Remembering {
+            inner: FailingWriter {
+                written: Vec::new(rt.alloc()),
+                writes,
+                takes_nothing: false,
+            },
+            has_failed: false,
+        };
+        let outcome = served(rt.alloc(), &mut reader, &mut writer);
+        assert!(&rt; outcome == expected, "{reads} {writes}");
     }
     Ok(())
 }

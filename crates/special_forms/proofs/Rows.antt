@@ -4,12 +4,12 @@ use Rattle.std.proofs.Common.{◌≡◌, ℕ, zero, suc, ◌*◌, ◌<◌, ◌�
 use Rattle.std.proofs.lemmas.Option.{slice_get-map, slice_get_past, slice_get_read}
 use Rattle.std.specs.List.{HoldsAt}
 use Rattle.std.specs.Prelude.{◌/◌, ◌%◌, IfSome}
-use Rattle.repl_values.specs.Datum.{Datum, Items}
-use Rattle.repl_values.specs.Listed.{listed}
-use Rattle.repl_values.specs.View.{view, items_view, pairs_view}
-use Rattle.repl_values.specs.declared.value.Value.{Value}
-use Rattle.repl_values.proofs.Views.{value_views}
-use Rattle.repl_values.proofs.Lists.{listed-of, lists}
+use Rattle.value_data.specs.Datum.{Datum, Items}
+use Rattle.value_data.specs.Listed.{listed}
+use Rattle.value_data.specs.View.{view, items_view, pairs_view}
+use Rattle.value_data.specs.declared.value.Value.{Value}
+use Rattle.value_data.proofs.Views.{value_views}
+use Rattle.value_data.proofs.Lists.{listed-of, lists}
 use Rattle.special_forms.specs.Rows.{in_a_row}
 
 pub row-past : (ds : List Datum) (i e : ℕ) → e ≤ i → drop i (take e ds) ≡ []

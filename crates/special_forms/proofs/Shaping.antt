@@ -7,13 +7,13 @@ use Rattle.std.proofs.Common.{◌≡◌, ℕ, ◌<◌, ◌≤◌, ◌+◌, ◌-�
 use Rattle.std.proofs.Math.Dec.{eqb-suc-suc}
 use Rattle.std.specs.Arc.{arc_str_bytes}
 use Rattle.std.specs.List.{list_any}
-use Rattle.repl_values.specs.Datum as datum
-use Rattle.repl_values.specs.Datum.{Datum, Items, nil, boolean, integer, string, keyword, symbol, list, vector, ref, atom, agent, var, fault}
-use Rattle.repl_values.specs.Listed.{listed}
-use Rattle.repl_values.specs.View.{view, items_view}
-use Rattle.repl_values.specs.declared.value.Value.{Value}
-use Rattle.repl_values.proofs.Views.{value_views}
-use Rattle.repl_values.proofs.Lists.{listed-of, lists}
+use Rattle.value_data.specs.Datum as datum
+use Rattle.value_data.specs.Datum.{Datum, Items, nil, boolean, integer, string, keyword, symbol, list, vector, ref, atom, agent, var, fault}
+use Rattle.value_data.specs.Listed.{listed}
+use Rattle.value_data.specs.View.{view, items_view}
+use Rattle.value_data.specs.declared.value.Value.{Value}
+use Rattle.value_data.proofs.Views.{value_views}
+use Rattle.value_data.proofs.Lists.{listed-of, lists}
 use Rattle.special_forms.specs.Rows.{BoundForm, bindings_in, name_in}
 use Rattle.special_forms.specs.Seen.{views}
 use Rattle.special_forms.specs.Shapes.{is_slash, simple_name, bound_forms, parameter_name, parameter_names}

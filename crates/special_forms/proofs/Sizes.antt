@@ -4,8 +4,8 @@ use Rattle.std.proofs.Common.{◌≡◌, ℕ, ◌+◌, ◌*◌, ◌≤◌, List,
 use Rattle.std.specs.Option.{option_and_then}
 use Rattle.std.specs.Prelude.{IfSome}
 use Rattle.std.proofs.lemmas.List.Sums.{sum_by-cons}
-use Rattle.repl_values.specs.Datum.{Datum, nil, boolean, integer, string, keyword, symbol, list, vector, map, ref, atom, agent, var, fault, Items, no_items, item, Pairs, no_pairs, pair}
-use Rattle.repl_values.specs.Listed.{listed}
+use Rattle.value_data.specs.Datum.{Datum, nil, boolean, integer, string, keyword, symbol, list, vector, map, ref, atom, agent, var, fault, Items, no_items, item, Pairs, no_pairs, pair}
+use Rattle.value_data.specs.Listed.{listed}
 use Rattle.special_forms.specs.Rows.{BoundForm, in_a_row}
 use Rattle.special_forms.specs.Size.{nodes, items_nodes, pairs_nodes, datum_size, forms_size, bindings_size, shape_size}
 use Rattle.special_forms.specs.Shapes.{ShapeData, quoted, bindings, definition, function_definition, thrown, only, simple_name, in_vector, bound_forms, parameters, if_shape, when_shape, let_shape, def_shape, function_shape, behind_name, defn_shape, shape_of}

@@ -1,6 +1,6 @@
 -- A function that a program defined.
 use Rattle.std.specs.Prelude.{ℕ, List}
-use Rattle.repl_values.specs.Datum.{Datum}
+use Rattle.value_data.specs.Datum.{Datum}
 
 -- where it was defined, its parameters and its body
 pub record FunctionData : Type 0 where

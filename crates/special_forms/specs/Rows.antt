@@ -1,6 +1,6 @@
 -- Forms in a row.
 use Rattle.std.specs.Prelude.{ℕ, List, [], ◌∷◌, Option, Some, None}
-use Rattle.repl_values.specs.Datum.{Datum, symbol, Pairs, no_pairs, pair}
+use Rattle.value_data.specs.Datum.{Datum, symbol, Pairs, no_pairs, pair}
 
 -- a name that `let` binds, and the form of its value
 pub record BoundForm : Type 0 where

@@ -1,10 +1,10 @@
 -- What the code's parts of a form stand for.
 use Rattle.std.specs.Prelude.{List, map, drop, take}
 use Rattle.std.specs.Arc.{arc_value, arc_str_bytes}
-use Rattle.repl_values.specs.Datum.{Datum}
-use Rattle.repl_values.specs.Listed.{listed}
-use Rattle.repl_values.specs.View.{view}
-use Rattle.repl_values.specs.declared.value.Value.{Value}
+use Rattle.value_data.specs.Datum.{Datum}
+use Rattle.value_data.specs.Listed.{listed}
+use Rattle.value_data.specs.View.{view}
+use Rattle.value_data.specs.declared.value.Value.{Value}
 use Rattle.special_forms.specs.Functions.{FunctionData}
 use Rattle.special_forms.specs.Rows.{BoundForm, in_a_row, bindings_in}
 use Rattle.special_forms.specs.Shapes.{ShapeData, quoted, body, choice, bindings, logic, definition, function_definition, thrown}

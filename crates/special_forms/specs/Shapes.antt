@@ -3,9 +3,9 @@ use Rattle.std.specs.Prelude.{ℕ, List, [], ◌∷◌, Bool, true, false, Optio
 use Rattle.std.specs.Option.{option_and_then}
 use Rattle.std.specs.List.{list_any}
 use Rattle.std.specs.Str.{bytes_eq}
-use Rattle.repl_values.specs.Datum.{Datum, nil, boolean, integer, string, keyword, symbol, list, vector, map, ref, atom, agent, var, fault}
-use Rattle.repl_values.specs.Listed.{listed, items_of}
-use Rattle.repl_values.specs.Repeats.{first_repeat}
+use Rattle.value_data.specs.Datum.{Datum, nil, boolean, integer, string, keyword, symbol, list, vector, map, ref, atom, agent, var, fault}
+use Rattle.value_data.specs.Listed.{listed, items_of}
+use Rattle.value_data.specs.Repeats.{first_repeat}
 use Rattle.special_forms.specs.Rows.{BoundForm}
 use Rattle.special_forms.specs.declared.shapes.Logic.{Logic}
 use Rattle.special_forms.specs.declared.shapes.SpecialForm.{SpecialForm}

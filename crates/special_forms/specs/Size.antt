@@ -1,6 +1,6 @@
 -- How much there is in a form, for the proof that an evaluation ends.
 use Rattle.std.specs.Prelude.{ℕ, ◌+◌, ◌*◌, List, sum_by}
-use Rattle.repl_values.specs.Datum.{Datum, nil, boolean, integer, string, keyword, symbol, list, vector, map, ref, atom, agent, var, fault, Items, no_items, item, Pairs, no_pairs, pair}
+use Rattle.value_data.specs.Datum.{Datum, nil, boolean, integer, string, keyword, symbol, list, vector, map, ref, atom, agent, var, fault, Items, no_items, item, Pairs, no_pairs, pair}
 use Rattle.special_forms.specs.Rows.{BoundForm}
 use Rattle.special_forms.specs.Shapes.{ShapeData, quoted, body, choice, bindings, logic, definition, function_definition, thrown}
 

@@ -1,6 +1,6 @@
 -- What is true (the Clojure reference, Special Forms, `if`; `and` and `or` of clojure.core).
 use Rattle.std.specs.Prelude.{Bool, true, false, not}
-use Rattle.repl_values.specs.Datum.{Datum, nil, boolean}
+use Rattle.value_data.specs.Datum.{Datum, nil, boolean}
 use Rattle.special_forms.specs.declared.shapes.Logic.{Logic}
 
 -- only nil and false are false

@@ -3,8 +3,8 @@
 
 ghost use Rattle.std.specs.Prelude.{◌≡◌, ◌==◌, nat_le, [], ◌∷◌, drop, take, option_map, slice_get, length, IfOk, MatchOption};
 ghost use Rattle.std.specs.Arc.{arc_str_bytes};
-ghost use Rattle.repl_values.specs.Listed.{listed};
-ghost use Rattle.repl_values.specs.View.{view};
+ghost use Rattle.value_data.specs.Listed.{listed};
+ghost use Rattle.value_data.specs.View.{view};
 ghost use Rattle.special_forms.specs.Rows.{in_a_row, first_of, name_in, bindings_in};
 ghost use Rattle.special_forms.specs.Seen.{source_view, forms_view, binding_view};
 

@@ -2,8 +2,8 @@
 // in it is evaluated.
 ghost use Rattle.std.specs.Prelude.{◌≡◌, ◌≤◌, Some, None, if◌then◌else◌, IfOk, IfSome, option_map, map};
 ghost use Rattle.std.specs.Arc.{arc_str_bytes};
-ghost use Rattle.repl_values.specs.Listed.{listed};
-ghost use Rattle.repl_values.specs.View.{view};
+ghost use Rattle.value_data.specs.Listed.{listed};
+ghost use Rattle.value_data.specs.View.{view};
 ghost use Rattle.special_forms.specs.Rows.{bindings_in};
 ghost use Rattle.special_forms.specs.Shapes as meant;
 ghost use Rattle.special_forms.specs.Seen.{views, forms_view, shape_view};

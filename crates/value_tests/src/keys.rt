@@ -92,6 +92,52 @@ fn keys_of_one_hash_are_found(rt: HostRuntime) -> Result<(), Fail> {
     Ok(())
 }
 
+// The order in which keys are put in: each is noted before all others, behind them, or among them.
+#[derive(Clone, Copy)]
+enum Order {
+    Falling,
+    Rising,
+    Scattered,
+}
+
+// The key that is put in at a place. A prime that does not divide the count scatters them all.
+fn key_at(order: Order, place: u32, count: u32) -> Value {
+    match order {
+        Order::Falling => Value::Int(-i64::from(place)),
+        Order::Rising => Value::Int(i64::from(place)),
+        Order::Scattered => Value::Int(i64::from(place.wrapping_mul(7_919) % count.max(1))),
+    }
+}
+
+#[test]
+fn keys_are_found_in_whatever_order_they_came(rt: HostRuntime) -> Result<(), Fail> {
+    let rows: [(Order, u32); 3] = [
+        (Order::Falling, 300_000),
+        (Order::Rising, 300_000),
+        (Order::Scattered, 100_000),
+    ];
+    let a = rt.alloc();
+    for (order, count) in rows {
+        let mut pairs = Vec::new(a);
+        for place in 0..count {
+            pairs.push((key_at(order, place, count), Value::Int(i64::from(place))))?;
+        }
+        let table = match Table::from_pairs(a, pairs)? {
+            Built::Made(table) => table,
+            Built::Repeats(_place) => Table::empty(a)?,
+        };
+        for place in 0..count {
+            let found = match table.get(&key_at(order, place, count)) {
+                Some(Value::Int(found)) => *found,
+                _other => -1,
+            };
+            assert_eq!(rt; found, i64::from(place));
+        }
+        assert!(rt; !table.contains(&Value::Int(i64::from(count))));
+    }
+    Ok(())
+}
+
 #[test]
 fn equal_maps_are_one_key(rt: HostRuntime) -> Result<(), Fail> {
     let rows: [(&[Part], &[Part], bool); 5] = [

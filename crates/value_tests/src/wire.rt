@@ -58,7 +58,7 @@ fn limited(limit: usize, stream: &'static [u8], written: &'static [u8], fault: W
     }
 }
 
-fn rows() -> [Row; 43] {
+fn rows() -> [Row; 46] {
     use WireFault::{Malformed, TooDeep, TooLong};
     [
         // The examples of the format, as values, and the ones that it calls invalid.
@@ -120,6 +120,15 @@ fn rows() -> [Row; 43] {
         refused(b"d2:id1048577:", b"", TooLong(11)),
         rest(b"d2:id1048576:"),
         limited(9, b"d1:a10:0123456789e", b"", TooLong(5)),
+        // A length that passes 64 bits is above each limit, be it a key's or a value's.
+        limited(usize::MAX, b"d18446744073709551616", b"", TooLong(20)),
+        limited(usize::MAX, b"d1:a99999999999999999999", b"", TooLong(23)),
+        limited(
+            10_000_000_000_000_000_000,
+            b"d99999999999999999999",
+            b"",
+            TooLong(20),
+        ),
         limited(17, b"d1:a10:0123456789e", b"", TooLong(17)),
         limited(2, b"deded1:a", b"dede", TooLong(6)),
         limited(4, b"d1:ax", b"", TooLong(4)),

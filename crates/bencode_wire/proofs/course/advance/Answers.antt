@@ -29,4 +29,4 @@ returns-in-Err-clause-continues c =
     let n = c.run_len-run.result in
     let runs : Runs c.args.limit u.begin (frames_view u.reader.frames.items) (token_view u.reader.token) u.at n c.args.bytes.now =
     record { begun = u.begun; some = c.run_len-run.ensures.some; within = omega (arith, c.run_len-run.ensures.within); takes = c.run_len-run.ensures.run; room = omega (arith, c.run_len-run.ensures.within) } in
-    faults_in c.args.limit c.args.start u (frames_view u.reader.frames.items) (token_view u.reader.token) n c.args.bytes.now c.args.ready.now.items c.in-Err.refusal c.saturating_add-place.result c.saturating_add.result c.at.result refl runs c.in-Err.ensures c.saturating_add-place.ensures c.saturating_add.ensures c.at.ensures
+    faults_in c.args.limit c.args.start u (frames_view u.reader.frames.items) (token_view u.reader.token) n c.args.bytes.now c.args.ready.now.items c.in-Err.refusal c.saturating_add-place.result c.saturating_add.result c.at.result (omega arith) refl runs c.in-Err.ensures c.saturating_add-place.ensures c.saturating_add.ensures c.at.ensures

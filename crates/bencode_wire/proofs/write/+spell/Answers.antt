@@ -4,6 +4,6 @@ use Rattle.bencode_wire.proofs.Views.{put_pairs-pairs_view}
 use Rattle.bencode_wire.proofs.write.+spell.Goals as goal
 
 -- the map's order is that of sorting
-pub spell_pairs-returns : goal.spell_pairs-returns
-spell_pairs-returns t c =
+pub spell_pairs-returns-clause-text : goal.spell_pairs-returns-clause-text
+spell_pairs-returns-clause-text t c =
     rw (put_pairs-pairs_view c.args.pairs.now.entries c.iter-key-items.ensures.ordered) (grind (arith, common_steps))

@@ -1,5 +1,5 @@
 use Rattle.std.proofs.Common.{◌≡◌, take, map}
-use Rattle.repl_values.specs.View.{view}
+use Rattle.value_data.specs.View.{view}
 use Rattle.core_items.specs.View.{pair_vectors}
 use Rattle.core_items.proofs.row.copy_pairs.Given as goal
 

@@ -1,5 +1,5 @@
 use Rattle.std.proofs.Common.{◌≡◌, map, drop}
-use Rattle.repl_values.specs.Seen.{entry_view}
+use Rattle.value_data.specs.Seen.{entry_view}
 use Rattle.core_maps.specs.Arguments.{places_in}
 use Rattle.core_maps.specs.View.{place_view}
 use Rattle.core_maps.proofs.Values.{with_front}

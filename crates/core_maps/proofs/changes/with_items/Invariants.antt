@@ -1,5 +1,5 @@
 use Rattle.std.proofs.Common.{◌≡◌, drop, map}
-use Rattle.repl_values.specs.View.{view}
+use Rattle.value_data.specs.View.{view}
 use Rattle.core_maps.specs.View.{place_view}
 use Rattle.core_maps.specs.Meaning as meant
 use Rattle.core_maps.proofs.changes.with_items.Given as goal

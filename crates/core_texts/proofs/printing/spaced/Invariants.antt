@@ -1,5 +1,5 @@
 use Rattle.std.proofs.Common.{◌≡◌, ◌++◌, codes, drop, map, string_bytes}
-use Rattle.repl_values.specs.View.{view}
+use Rattle.value_data.specs.View.{view}
 use Rattle.repl_values.specs.Print.{behind}
 use Rattle.core_texts.specs.Spelling.{spelling_of}
 use Rattle.core_texts.proofs.printing.spaced.Given as goal

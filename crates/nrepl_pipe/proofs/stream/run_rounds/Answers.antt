@@ -5,12 +5,14 @@ use Rattle.nrepl_pipe.specs.Parts.{EndsAt}
 use Rattle.nrepl_pipe.specs.declared.stream.Rounds.{Rounds}
 use Rattle.nrepl_pipe.proofs.Growing.{on_err}
 use Rattle.nrepl_pipe.proofs.Rounding.{rounds-none, rounds-more, rounds-all, rounds-stopped, rounds-broken}
+use Rattle.nrepl_pipe.proofs.Marking.{marks-none, marks-behind}
 use Rattle.nrepl_pipe.proofs.stream.run_rounds.Goals as goal
 
 pub loop-ended-init : goal.loop-ended-init
 loop-ended-init g c = record {
   steps = le_refl _;
   rounds = λ r w right stands. rounds-none r _ w _ stands;
+  writes = marks-none _;
 }
 
 pub returns-in_err-ended-clause-err : goal.returns-in_err-ended-clause-err
@@ -38,4 +40,11 @@ loop-ended-preserved g c = record {
       let turned = c.in_ok-ended.ensures.turned r _ right on.makes.stands in
       let at = subst (λ (ended : Option Rounds). EndsAt ended (step r (run r w on.turns) (goes Actor.Bare))) c.in_default.is turned.1 in
       rounds-more r _ (g.C.Core.stands r c.write_replies.new.core) w _ _ _ on at (c.in_ok-write_replies.ensures.ok r _ turned.0);
+  writes = marks-behind _ _ _ _ c.loop-ended.invariant.writes c.in_ok-write_replies.ensures.told;
 }
+
+pub take_turn-requires : goal.take_turn-requires
+take_turn-requires g c =
+    let s = c.requires in
+    let on = c.loop-ended.invariant.rounds s.0 s.1 s.2 s.3 in
+    (s.0, run s.0 s.1 on.turns, s.2, on.makes.stands)

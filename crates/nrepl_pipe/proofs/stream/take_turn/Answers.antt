@@ -1,8 +1,9 @@
 use Rattle.std.proofs.Common.{◌≡◌, sym, subst, ◌∙◌}
-use Rattle.repl_core.specs.Step.{refused}
+use Rattle.repl_core.specs.Step.{refused, go}
 use Rattle.repl_core.specs.declared.refusal.Refusal.{Refusal}
 use Rattle.nrepl_pipe.specs.Schedule.{GoesOn}
-use Rattle.nrepl_pipe.proofs.Going.{turned-accepted, turned-known}
+use Rattle.nrepl_pipe.proofs.Going.{turned-accepted, turned-known, go-not_wire}
+use Rattle.nrepl_pipe.proofs.Hearing.{known-refused}
 use Rattle.nrepl_pipe.proofs.stream.take_turn.Goals as goal
 
 pub returns-in-Ok-clause-turned : goal.returns-in-Ok-clause-turned
@@ -26,3 +27,11 @@ returns-in-Err-Idle-clause-turned g c = λ r w right stands.
       turned.0,
       (λ on. subst GoesOn turned.1 on, λ worn. let same : refused Refusal.Idle ≡ refused Refusal.Worn = sym turned.1 ∙ worn in cc),
     )
+
+pub unreachable-requires : goal.unreachable-requires
+unreachable-requires g c =
+    let s = c.requires in
+    let known = Refusal.Wire c.in-Err-Wire.field-0-0 in
+    let some : known ≡ Refusal.NoMemory → ⊥ = λ (e : known ≡ Refusal.NoMemory). cc in
+    go-not_wire s.0 s.1 c.in-Err-Wire.field-0-0
+    (known-refused _ (go s.0 s.1) _ known c.in-Err-Wire.field-0-is some (c.in-Err-Wire.ensures.as_it_was s.0 s.1 s.2 s.3))

@@ -3,12 +3,14 @@ use Rattle.std.specs.Io.KnownBytes.{Appends}
 use Rattle.repl_core.specs.declared.refusal.Refusal.{Refusal}
 use Rattle.nrepl_pipe.proofs.Growing.{on_err}
 use Rattle.nrepl_pipe.proofs.Draining.{drains-none, drains-more, drains-all, drains-broken}
+use Rattle.nrepl_pipe.proofs.Marking.{marks-none, marks-behind}
 use Rattle.nrepl_pipe.proofs.stream.write_replies.Goals as goal
 
 pub loop-reply-init : goal.loop-reply-init
 loop-reply-init g c = record {
   steps = refl;
   drains = λ r w stands. drains-none r _ w _ stands;
+  writes = marks-none _;
 }
 
 pub returns-in_err-write_reply-clause-err : goal.returns-in_err-write_reply-clause-err
@@ -24,6 +26,7 @@ loop-reply-preserved g c = record {
       let d = c.loop-reply.invariant.drains r w stands in
       drains-more r _ _ w _ _ _ _ d (c.in-Some.ensures.drained r d.now d.stands)
       (subst (Appends _ _) c.as_slice.ensures.value c.in_ok-write_reply.ensures.ok);
+  writes = marks-behind _ _ _ _ c.loop-reply.invariant.writes c.in_ok-write_reply.ensures.told;
 }
 
 pub returns-clause-ok : goal.returns-clause-ok

@@ -4,7 +4,7 @@ use Rattle.repl_walker.specs.Machine.{behind}
 use Rattle.repl_asks.specs.View.{ask_view}
 use Rattle.repl_faults.specs.View.{failure_of}
 use Rattle.repl_replies.specs.View.{origin_view}
-use Rattle.repl_values.specs.View.{items_view}
+use Rattle.value_data.specs.View.{items_view}
 use Rattle.name_spaces.specs.Resolving.{answered, bound_after}
 use Rattle.repl_jobs.specs.View.{finished_view}
 use Rattle.repl_core.specs.Move.{begun, ended}

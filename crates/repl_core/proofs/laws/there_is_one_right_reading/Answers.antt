@@ -1,7 +1,7 @@
-use Rattle.std.proofs.Common.{◌≡◌, ℕ, List, Option, refl, ap₂}
+use Rattle.std.proofs.Common.{List, Option, ap₂}
 use Rattle.bencode_wire.specs.Tree.{Tree}
 use Rattle.bencode_wire.specs.Stream.{Ending}
-use Rattle.repl_values.specs.Datum.{Items}
+use Rattle.value_data.specs.Datum.{Items}
 use Rattle.repl_reader.specs.Fault.{FaultData}
 use Rattle.repl_core.specs.Readings.{Readings, StreamData, ProgramData, message_limit}
 use Rattle.repl_core.proofs.laws.there_is_one_right_reading.Goals as goal

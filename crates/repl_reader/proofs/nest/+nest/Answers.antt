@@ -1,5 +1,5 @@
 use Rattle.std.proofs.Common.{rules, length, ◌<◌, ◌≡◌, sym, subst, arith}
-use Rattle.repl_values.specs.View.{view}
+use Rattle.value_data.specs.View.{view}
 use Rattle.repl_reader.specs.Reading.{Reading, next, drops, begins}
 use Rattle.repl_reader.specs.Grammar.{Reads}
 use Rattle.repl_reader.specs.View.{IsMarked, wraps, wraps_deep, IsOpened, encloses, encloses_deep, bracket_view, symbol_of, reading_view}

@@ -1,5 +1,5 @@
 use Rattle.std.proofs.Common.{ap}
-use Rattle.repl_values.specs.View.{view}
+use Rattle.value_data.specs.View.{view}
 use Rattle.repl_reader.specs.View.{reading_view}
 use Rattle.repl_reader.proofs.nest.behind_form.Goals as goal
 

@@ -1,9 +1,9 @@
 use Rattle.std.proofs.Common.{◌≡◌, true, subst, sym, ap}
-use Rattle.repl_values.specs.Datum.{Datum}
-use Rattle.repl_values.specs.View.{view}
-use Rattle.repl_values.specs.Same.{same}
+use Rattle.value_data.specs.Datum.{Datum}
+use Rattle.value_data.specs.View.{view}
+use Rattle.value_data.specs.Same.{same}
 use Rattle.repl_values.specs.Print.{print}
-use Rattle.repl_values.proofs.Equivalence.{same-refl}
+use Rattle.value_data.proofs.Equivalence.{same-refl}
 use Rattle.repl_values.proofs.laws.copy_is_same.Goals as goal
 
 pub returns-clause-equal : goal.returns-clause-equal

@@ -1,4 +1,4 @@
-use Rattle.repl_values.proofs.Equivalence.{items-refl}
+use Rattle.value_data.proofs.Equivalence.{items-refl}
 use Rattle.repl_values.proofs.laws.list_is_same_as_vector.Goals as goal
 
 pub returns : goal.returns

@@ -1,4 +1,4 @@
-use Rattle.repl_values.proofs.Ties.{ties}
+use Rattle.value_data.proofs.Ties.{ties}
 use Rattle.repl_values.proofs.laws.only_equal_values_tie.Goals as goal
 
 pub returns : goal.returns

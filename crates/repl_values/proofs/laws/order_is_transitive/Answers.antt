@@ -1,5 +1,5 @@
-use Rattle.repl_values.specs.Order.{sort_key}
-use Rattle.repl_values.proofs.Ordered.{order-Less}
+use Rattle.value_data.specs.Order.{sort_key}
+use Rattle.value_data.proofs.Ordered.{order-Less}
 use Rattle.repl_values.proofs.laws.order_is_transitive.Goals as goal
 
 pub returns : goal.returns

@@ -1,6 +1,6 @@
 use Rattle.std.specs.Cmp.{both_ways}
-use Rattle.repl_values.specs.Same.{same}
-use Rattle.repl_values.proofs.Equivalence.{same-sym}
+use Rattle.value_data.specs.Same.{same}
+use Rattle.value_data.proofs.Equivalence.{same-sym}
 use Rattle.repl_values.proofs.laws.same_is_symmetric.Goals as goal
 
 pub returns : goal.returns

@@ -1,4 +1,4 @@
-use Rattle.repl_values.proofs.Transitive.{same-trans}
+use Rattle.value_data.proofs.Transitive.{same-trans}
 use Rattle.repl_values.proofs.laws.same_is_transitive.Goals as goal
 
 pub returns : goal.returns

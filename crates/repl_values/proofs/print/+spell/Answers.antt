@@ -1,8 +1,8 @@
 use Rattle.std.proofs.Common.{◌≡◌, ◌∷◌, arith, ap, List}
-use Rattle.repl_values.specs.View.{pairs_view}
-use Rattle.repl_values.proofs.Size.{pairs_nodes}
-use Rattle.repl_values.specs.declared.value.Value.{Value}
-use Rattle.repl_values.proofs.Nodes.{pair_nodes-in}
+use Rattle.value_data.specs.View.{pairs_view}
+use Rattle.value_data.proofs.Size.{pairs_nodes}
+use Rattle.value_data.specs.declared.value.Value.{Value}
+use Rattle.value_data.proofs.Nodes.{pair_nodes-in}
 use Rattle.repl_values.proofs.print.+spell.Goals as goal
 
 pub spell_pairs-spell-requires-in-loop-key : goal.spell_pairs-spell-requires-in-loop-key

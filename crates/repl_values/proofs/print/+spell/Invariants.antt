@@ -1,6 +1,6 @@
 use Rattle.std.proofs.Common.{◌≡◌, ◌+◌, ◌*◌, ◌++◌, codes, drop, string_bytes}
-use Rattle.repl_values.proofs.Size.{nodes, items_nodes, pairs_nodes}
-use Rattle.repl_values.specs.View.{view, items_view, pairs_view}
+use Rattle.value_data.proofs.Size.{nodes, items_nodes, pairs_nodes}
+use Rattle.value_data.specs.View.{view, items_view, pairs_view}
 use Rattle.repl_values.specs.Print.{texts, pair_texts, behind}
 use Rattle.repl_values.specs.Style.{spelling_of}
 use Rattle.repl_values.proofs.print.+spell.Given as goal

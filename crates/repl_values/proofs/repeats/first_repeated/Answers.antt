@@ -1,8 +1,8 @@
 use Rattle.std.proofs.Common.{List, map, ap, ◌∙◌, arith}
-use Rattle.repl_values.specs.View.{view, pairs_view}
-use Rattle.repl_values.specs.Repeats.{first_repeat}
-use Rattle.repl_values.specs.declared.value.Value.{Value}
-use Rattle.repl_values.proofs.Removing.{keys-view, take-past}
+use Rattle.value_data.specs.View.{view, pairs_view}
+use Rattle.value_data.specs.Repeats.{first_repeat}
+use Rattle.value_data.specs.declared.value.Value.{Value}
+use Rattle.value_data.proofs.Removing.{keys-view, take-past}
 use Rattle.repl_values.proofs.repeats.first_repeated.Goals as goal
 
 pub returns : goal.returns

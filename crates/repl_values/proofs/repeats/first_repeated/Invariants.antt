@@ -1,6 +1,6 @@
 use Rattle.std.proofs.Common.{◌≡◌, take, map}
-use Rattle.repl_values.specs.View.{view}
-use Rattle.repl_values.specs.declared.value.Value.{Value}
+use Rattle.value_data.specs.View.{view}
+use Rattle.value_data.specs.declared.value.Value.{Value}
 use Rattle.repl_values.proofs.repeats.first_repeated.Given as goal
 
 abbrev pub invariant-loop-key : goal.invariant-loop-key

@@ -1,5 +1,5 @@
 use Rattle.std.proofs.Common.{refl}
-use Rattle.repl_values.proofs.Views.{view-Nil}
+use Rattle.value_data.proofs.Views.{view-Nil}
 use Rattle.repl_walker.proofs.Evaluating.{if_ok-turned}
 use Rattle.repl_walker.proofs.calls.enter.Goals as goal
 

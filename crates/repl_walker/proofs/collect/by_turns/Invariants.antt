@@ -1,6 +1,6 @@
 use Rattle.std.proofs.Common.{◌≡◌, ◌++◌, length, map}
 use Rattle.std.specs.Prelude.{zip}
-use Rattle.repl_values.specs.View.{pair_view}
+use Rattle.value_data.specs.View.{pair_view}
 use Rattle.repl_walker.specs.Evaluation.{keys_in, values_in}
 use Rattle.special_forms.specs.Seen.{views}
 use Rattle.repl_walker.proofs.collect.by_turns.Given as goal

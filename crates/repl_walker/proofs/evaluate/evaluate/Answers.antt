@@ -1,9 +1,9 @@
 use Rattle.std.proofs.Common.{ap, sym, arith, rules}
-use Rattle.repl_values.specs.Datum.{Datum}
-use Rattle.repl_values.specs.View.{view}
+use Rattle.value_data.specs.Datum.{Datum}
+use Rattle.value_data.specs.View.{view}
 use Rattle.repl_walker.specs.Tree.{Part}
 use Rattle.repl_walker.specs.Machine.{place_of, from_state}
-use Rattle.repl_values.proofs.Views.{value_views}
+use Rattle.value_data.proofs.Views.{value_views}
 use Rattle.special_forms.proofs.Sizes.{datum_size-pos}
 use Rattle.repl_walker.proofs.Evaluating.{if_ok-turned, list-at}
 use Rattle.repl_walker.proofs.evaluate.evaluate.Goals as goal

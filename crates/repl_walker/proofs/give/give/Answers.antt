@@ -1,9 +1,9 @@
 use Rattle.std.proofs.Common.{refl, ap, List}
-use Rattle.repl_values.specs.Datum.{Datum, nil}
-use Rattle.repl_values.specs.View.{view}
+use Rattle.value_data.specs.Datum.{Datum, nil}
+use Rattle.value_data.specs.View.{view}
 use Rattle.repl_walker.specs.Evaluation.{last_of, value_at}
 use Rattle.repl_walker.specs.Machine.{callee_view, place_of, kept_of, next_of, call_behind, items_behind}
-use Rattle.repl_values.proofs.Views.{view-Nil}
+use Rattle.value_data.proofs.Views.{view-Nil}
 use Rattle.special_forms.specs.Truth.{is_true}
 use Rattle.special_forms.specs.Seen.{forms_view}
 use Rattle.repl_walker.proofs.Evaluating.{if_ok-turned, views-last, forms-chosen}

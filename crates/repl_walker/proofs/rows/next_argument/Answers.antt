@@ -1,5 +1,5 @@
 use Rattle.std.proofs.Common.{ap, sym}
-use Rattle.repl_values.specs.View.{view}
+use Rattle.value_data.specs.View.{view}
 use Rattle.repl_walker.specs.Tree.{Kept, Tree}
 use Rattle.repl_walker.specs.Machine.{callee_view, place_of, next_of, kept_of}
 use Rattle.special_forms.specs.Seen.{views, forms_view}

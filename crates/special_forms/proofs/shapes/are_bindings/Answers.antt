@@ -1,5 +1,5 @@
 use Rattle.std.proofs.Common.{◌≡◌, List, Some, None, if◌then◌else◌, subst}
-use Rattle.repl_values.specs.Datum.{Datum}
+use Rattle.value_data.specs.Datum.{Datum}
 use Rattle.special_forms.specs.Rows.{bindings_in}
 use Rattle.special_forms.specs.Shapes.{bound_forms}
 use Rattle.special_forms.proofs.Shaping.{views-listed}

@@ -1,6 +1,6 @@
 use Rattle.std.proofs.Common.{◌≡◌, List, IfOk, option_map, map, subst}
 use Rattle.std.specs.Arc.{arc_str_bytes}
-use Rattle.repl_values.specs.Datum.{Datum}
+use Rattle.value_data.specs.Datum.{Datum}
 use Rattle.special_forms.specs.Shapes.{parameters}
 use Rattle.special_forms.proofs.Shaping.{views-listed}
 use Rattle.special_forms.proofs.shapes.parameters_in.Goals as goal

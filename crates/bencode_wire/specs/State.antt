@@ -1,0 +1,12 @@
+-- What a decoder shows, however it is kept: its limit, the messages that were not handed out, what has come of the next one
+-- and where it begins in the stream, and its fault.
+use Rattle.std.specs.Prelude.{ℕ, List, Option}
+use Rattle.bencode_wire.specs.declared.ben.Ben.{Ben}
+use Rattle.bencode_wire.specs.declared.fault.WireFault.{WireFault}
+
+pub record State : Type 0 where
+  pub limit : ℕ
+  pub ready : List Ben
+  pub rest : List ℕ
+  pub place : ℕ
+  pub fault : Option WireFault

@@ -1,0 +1,95 @@
+// Which functions there are, and how many arguments each takes.
+ghost use Rattle.std.specs.Prelude.{◌≡◌, Some, false, is_some};
+ghost use Rattle.std.specs.Option.{option_map_or};
+ghost use Rattle.function_names.specs.Names.{function_named, name_of, fits};
+
+use core_integers::IntegerFunction;
+use core_maps::MapFunction;
+use core_predicates::PredicateFunction;
+use core_sequences::SequenceFunction;
+use core_texts::{PrintFunction, TextFunction};
+
+/// A function of the language that needs no store, by its group.
+#[derive(Clone, Copy, Debug, PartialEq, Eq)]
+pub enum CoreFunction {
+    Integer(IntegerFunction),
+    Predicate(PredicateFunction),
+    Text(TextFunction),
+    Sequence(SequenceFunction),
+    Map(MapFunction),
+    Print(PrintFunction),
+}
+
+impl CoreFunction {
+    /// The function of this name, without a namespace. It takes no memory.
+    pub fn named(name: &str) -> Option<CoreFunction>
+        ensures { result ≡ function_named name.now }
+    {
+        if let Some(function) = IntegerFunction::named(name) {
+            return Some(CoreFunction::Integer(function));
+        }
+        if let Some(function) = PredicateFunction::named(name) {
+            return Some(CoreFunction::Predicate(function));
+        }
+        if let Some(function) = TextFunction::named(name) {
+            return Some(CoreFunction::Text(function));
+        }
+        if let Some(function) = SequenceFunction::named(name) {
+            return Some(CoreFunction::Sequence(function));
+        }
+        if let Some(function) = MapFunction::named(name) {
+            return Some(CoreFunction::Map(function));
+        }
+        if let Some(function) = PrintFunction::named(name) {
+            return Some(CoreFunction::Print(function));
+        }
+        None
+    }
+
+    /// Its name in `clojure.core`.
+    pub fn name(self) -> &'static str
+        ensures text { result.now ≡ name_of self }
+        ensures known { function_named result.now ≡ Some self }
+    {
+        match self {
+            CoreFunction::Integer(function) => function.name(),
+            CoreFunction::Predicate(function) => function.name(),
+            CoreFunction::Text(function) => function.name(),
+            CoreFunction::Sequence(function) => function.name(),
+            CoreFunction::Map(function) => function.name(),
+            CoreFunction::Print(function) => function.name(),
+        }
+    }
+
+    /// Whether it takes this many arguments. It takes no memory.
+    pub fn takes(self, arguments: usize) -> bool
+        ensures { result ≡ fits self arguments }
+    {
+        match self {
+            CoreFunction::Integer(function) => function.takes(arguments),
+            CoreFunction::Predicate(function) => function.takes(arguments),
+            CoreFunction::Text(function) => function.takes(arguments),
+            CoreFunction::Sequence(function) => function.takes(arguments),
+            CoreFunction::Map(function) => function.takes(arguments),
+            CoreFunction::Print(_) => true,
+        }
+    }
+}
+
+/// Whether there is a function of this name. It takes no memory.
+pub fn knows(name: &str) -> bool
+    ensures { result ≡ is_some (function_named name.now) }
+{
+    CoreFunction::named(name).is_some()
+}
+
+/// Whether the function of this name takes this many arguments; false for a name that is unknown.
+/// It takes no memory.
+pub fn arity_fits(name: &str, arguments: usize) -> bool
+    ensures { result ≡ option_map_or (λ f. fits f arguments) (function_named name.now) false }
+{
+    match CoreFunction::named(name) {
+        Some(function) => function.takes(arguments),
+        None => false,
+    }
+}

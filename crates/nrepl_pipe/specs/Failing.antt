@@ -1,0 +1,37 @@
+-- Which reads and writes fail, and which results tell it.
+use Rattle.std.specs.Prelude.{◌≡◌, ℕ, zero, suc, Bool, true, false, ◌||◌, ⊤, Option, None, Some, Result, Ok, Err}
+use Rattle.nrepl_pipe.specs.declared.stream.PipeError.{PipeError}
+
+-- a read fails where it answers an error
+abbrev pub read_fails : {E : Type 0} → Result ℕ E → Bool
+read_fails (Ok n) = false
+read_fails (Err error) = true
+
+-- a write fails where it answers an error or takes nothing
+abbrev pub write_fails : {E : Type 0} → Result ℕ E → Bool
+write_fails (Ok zero) = true
+write_fails (Ok (suc n)) = false
+write_fails (Err error) = true
+
+-- a call has failed by now where one had failed before or one failed since, as far as that is known
+abbrev pub Marks : Option Bool → Option Bool → Bool → Type 0
+Marks None now since = ⊤
+Marks (Some before) None since = ⊥
+Marks (Some before) (Some now) since = now ≡ (before || since)
+
+abbrev pub is_read_failed : {A : Type 0} → Result A PipeError → Bool
+is_read_failed (Ok answer) = false
+is_read_failed (Err PipeError.NoMemory) = false
+is_read_failed (Err PipeError.ReadFailed) = true
+is_read_failed (Err PipeError.WriteFailed) = false
+
+abbrev pub is_write_failed : {A : Type 0} → Result A PipeError → Bool
+is_write_failed (Ok answer) = false
+is_write_failed (Err PipeError.NoMemory) = false
+is_write_failed (Err PipeError.ReadFailed) = false
+is_write_failed (Err PipeError.WriteFailed) = true
+
+-- `ReadFailed` is answered where a read failed, `WriteFailed` where a write failed, and neither elsewhere
+abbrev pub Tells : {A : Type 0} → Option Bool → Option Bool → Option Bool → Option Bool → Result A PipeError → Type 0
+Tells read_before read_now write_before write_now result =
+    Marks read_before read_now (is_read_failed result) × Marks write_before write_now (is_write_failed result)

@@ -1,6 +1,0 @@
-use Rattle.std.proofs.Common.{◌≡◌, take, map}
-use Rattle.repl_values.specs.View.{pair_view}
-use Rattle.repl_values.proofs.copies.copy_pairs.Given as goal
-
-abbrev pub invariant-loop-key : goal.invariant-loop-key
-invariant-loop-key l = map pair_view l.copies.items ≡ map pair_view (take l.key-index l.pairs)

@@ -1,8 +1,0 @@
-use Rattle.std.proofs.Common.{◌≡◌, take}
-use Rattle.repl_values.specs.View.{items_view}
-use Rattle.repl_values.specs.Repeats.{is_one_of}
-use Rattle.repl_values.proofs.Removing.{marked}
-use Rattle.repl_values.proofs.removal.marks_of.Given as goal
-
-abbrev pub invariant-loop-key : goal.invariant-loop-key
-invariant-loop-key l = l.marks.items ≡ marked (is_one_of (items_view (take l.key-index l.keys))) l.pairs

@@ -1,0 +1,36 @@
+use Rattle.std.proofs.Common.{◌≡◌, ◌+◌, ◌*◌, ◌≤◌, drop, length, map as each}
+use Rattle.value_data.specs.View.{view, items_view, pairs_view}
+use Rattle.value_data.specs.Order.{order, chain, sort_key, items_sort_key}
+use Rattle.value_data.specs.Index.{rows_at}
+use Rattle.value_data.proofs.Size.{nodes, items_nodes, pairs_nodes}
+use Rattle.value_data.proofs.order.+compare.Given as goal
+
+abbrev pub decreases-compare : goal.decreases-compare
+decreases-compare l = 8 * nodes (view l.left.now)
+
+abbrev pub decreases-compare_sequences : goal.decreases-compare_sequences
+decreases-compare_sequences l = 8 * items_nodes l.left.now.items + 2
+
+abbrev pub decreases-compare_items : goal.decreases-compare_items
+decreases-compare_items l = 8 * items_nodes (items_view l.left.now) + 1
+
+abbrev pub decreases-compare_maps : goal.decreases-compare_maps
+decreases-compare_maps l = 8 * pairs_nodes l.left.now.pairs + 3
+
+abbrev pub decreases-compare_rows : goal.decreases-compare_rows
+decreases-compare_rows l = 8 * pairs_nodes (pairs_view l.left.now) + 2
+
+abbrev pub decreases-compare_pairs : goal.decreases-compare_pairs
+decreases-compare_pairs l = 8 * (nodes (view l.left.now.0) + nodes (view l.left.now.1)) + 1
+
+abbrev pub invariant-compare_items-loop-place : goal.invariant-compare_items-loop-place
+invariant-compare_items-loop-place l = record {
+  known : order (chain (each (λ v. sort_key (view v)) (drop l.place l.left))) (chain (each (λ v. sort_key (view v)) (drop l.place l.right)))
+      ≡ order (items_sort_key (items_view l.left)) (items_sort_key (items_view l.right));
+  within : l.place ≤ length l.right;
+}
+
+abbrev pub invariant-compare_rows-loop-rank : goal.invariant-compare_rows-loop-rank
+invariant-compare_rows-loop-rank l =
+    order (rows_at (pairs_view l.left) (drop l.rank l.left_index)) (rows_at (pairs_view l.right) (drop l.rank l.right_index))
+    ≡ order (rows_at (pairs_view l.left) l.left_index) (rows_at (pairs_view l.right) l.right_index)

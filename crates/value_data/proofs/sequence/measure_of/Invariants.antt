@@ -1,0 +1,7 @@
+use Rattle.std.proofs.Common.{take}
+use Rattle.value_data.specs.View.{items_view}
+use Rattle.value_data.specs.Fits.{FitsItems}
+use Rattle.value_data.proofs.sequence.measure_of.Given as goal
+
+abbrev pub invariant-loop-item : goal.invariant-loop-item
+invariant-loop-item l = FitsItems l.measure (items_view (take l.item-index l.items))

@@ -1,0 +1,31 @@
+//! What a value is, as data and as shared nodes: made, copied, compared, hashed and measured.
+//!
+//! The texts, items and pairs of a `Value` are shared nodes that keep what was measured of them,
+//! so that a copy, a weight and a hash take one step. Contracts see a value as plain data,
+//! `specs/Datum.antt`, by `view` of `specs/View.antt`: two values with one view are the same value
+//! to every caller. `specs/Code.antt` has the codes by which a model holds values. `repl_values`
+//! hands all of this on, with printing, faults and laws.
+#![tactic(auto)]
+
+mod building;
+mod copies;
+mod edits;
+mod equality;
+mod hashing;
+mod measure;
+mod node_measures;
+mod order;
+mod places;
+mod removal;
+mod sequence;
+mod table;
+mod tails;
+mod value;
+
+pub use building::Built;
+pub use copies::{copy, copy_items, copy_text};
+pub use equality::same;
+pub use hashing::hash_of;
+pub use measure::{nesting, weight};
+pub use removal::pair_as_vector;
+pub use value::{Owner, RefName, Sequence, Table, Value};

@@ -1,0 +1,66 @@
+// How large and how deep a value is, read from its node. Nothing here takes memory.
+#![tactic(auto, using(crate::proofs::Nodes::node_steps))]
+
+ghost use Rattle.std.specs.Prelude.{◌≡◌, ◌+◌, length};
+ghost use Rattle.std.specs.Arc.{arc_str_bytes};
+ghost use Rattle.value_data.specs.View.{view};
+ghost use Rattle.value_data.specs.Measures.{capped, weight as weight_of, nesting as nesting_of};
+
+use crate::value::Value;
+use std::sync::ArcStr;
+
+/// How large the value is: 1 for each value in it, and the bytes of its texts.
+pub fn weight(value: &Value) -> u64
+    ensures { result ≡ capped (weight_of (view value.now)) }
+{
+    match value {
+        Value::Str(text) => text_weight(text),
+        Value::Keyword(text) => text_weight(text),
+        Value::Symbol(text) => text_weight(text),
+        Value::List(items) => items.weight().saturating_add(1),
+        Value::Vector(items) => items.weight().saturating_add(1),
+        Value::Map(pairs) => pairs.weight().saturating_add(1),
+        Value::Var { space, name } => two_texts_weight(space, name),
+        Value::Fault { class, text } => two_texts_weight(class, text),
+        Value::Nil
+        | Value::Bool(_)
+        | Value::Int(_)
+        | Value::Ref(_)
+        | Value::Atom(_)
+        | Value::Agent(_) => 1,
+    }
+}
+
+fn text_weight(text: &ArcStr) -> u64
+    ensures { result ≡ capped (1 + length (arc_str_bytes text.now)) }
+{
+    (text.len() as u64).saturating_add(1)
+}
+
+fn two_texts_weight(first: &ArcStr, second: &ArcStr) -> u64
+    ensures { result ≡ capped (1 + length (arc_str_bytes first.now) + length (arc_str_bytes second.now)) }
+{
+    text_weight(first).saturating_add(second.len() as u64)
+}
+
+/// How many lists, vectors and maps stand one inside another.
+pub fn nesting(value: &Value) -> u64
+    ensures { result ≡ capped (nesting_of (view value.now)) }
+{
+    match value {
+        Value::List(items) => items.nesting().saturating_add(1),
+        Value::Vector(items) => items.nesting().saturating_add(1),
+        Value::Map(pairs) => pairs.nesting().saturating_add(1),
+        Value::Nil
+        | Value::Bool(_)
+        | Value::Int(_)
+        | Value::Str(_)
+        | Value::Keyword(_)
+        | Value::Symbol(_)
+        | Value::Ref(_)
+        | Value::Atom(_)
+        | Value::Agent(_)
+        | Value::Var { .. }
+        | Value::Fault { .. } => 0,
+    }
+}

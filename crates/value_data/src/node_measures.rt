@@ -1,0 +1,144 @@
+// What is kept of the items of a list or a vector, and of the pairs of a map.
+ghost use Rattle.std.specs.Prelude.{◌≡◌, ℕ, max, IfSome};
+ghost use Rattle.value_data.specs.Datum.{Items, no_items, Pairs, no_pairs, map};
+ghost use Rattle.value_data.specs.View.{view};
+ghost use Rattle.value_data.specs.Same.{size};
+ghost use Rattle.value_data.specs.Hash.{hash, salted};
+ghost use Rattle.value_data.specs.Ends.{with_last};
+ghost use Rattle.value_data.specs.Keyed.{behind_all, with_value, StandsAt};
+ghost use Rattle.value_data.specs.Seen.{MayFit};
+ghost use Rattle.value_data.specs.Fits.{FitsItems, FitsPairs};
+
+use crate::hashing::{hash_of, mix, raise, salt};
+use crate::measure::{nesting, weight};
+use crate::value::Value;
+
+// Their weight and nesting, and what a list of them hashes to.
+#[derive(Clone, Copy, Debug)]
+pub(crate) struct ItemsMeasure {
+    pub(crate) weight: u64,
+    pub(crate) nesting: u64,
+    pub(crate) hash: u64,
+}
+
+// Their weight and nesting, and the four numbers that a map's hash is made of beside its size.
+#[derive(Clone, Copy, Debug)]
+pub(crate) struct PairsMeasure {
+    pub(crate) weight: u64,
+    pub(crate) nesting: u64,
+    pub(crate) first: u64,
+    pub(crate) second: u64,
+    pub(crate) third: u64,
+    pub(crate) fourth: u64,
+}
+
+impl ItemsMeasure {
+    // Of no items.
+    pub(crate) fn of_none() -> ItemsMeasure
+        ensures { FitsItems result no_items }
+    {
+        ItemsMeasure {
+            weight: 0,
+            nesting: 0,
+            hash: 7,
+        }
+    }
+
+    // Of the items with one more behind them.
+    pub(crate) fn with_last(self, last: &Value) -> ItemsMeasure
+        ensures { (ds : Items) → FitsItems self ds → FitsItems result (with_last ds (view last.now)) }
+    {
+        ItemsMeasure {
+            weight: self.weight.saturating_add(weight(last)),
+            nesting: self.nesting.max(nesting(last)),
+            hash: mix(self.hash, hash_of(last)),
+        }
+    }
+}
+
+impl PairsMeasure {
+    // Of no pairs.
+    pub(crate) fn of_none() -> PairsMeasure
+        ensures { FitsPairs result no_pairs }
+    {
+        PairsMeasure {
+            weight: 0,
+            nesting: 0,
+            first: 0,
+            second: 0,
+            third: 0,
+            fourth: 0,
+        }
+    }
+
+    // Of the pairs with one more behind them.
+    pub(crate) fn with_pair(self, key: &Value, value: &Value) -> PairsMeasure
+        ensures { (ps : Pairs) → FitsPairs self ps → FitsPairs result (behind_all ps (view key.now) (view value.now)) }
+    {
+        let word = mix(mix(9, hash_of(key)), hash_of(value));
+        PairsMeasure {
+            weight: self
+                .weight
+                .saturating_add(weight(key))
+                .saturating_add(weight(value)),
+            nesting: self.nesting.max(nesting(key)).max(nesting(value)),
+            first: raise(self.first, 0xD6E8FEB86659FD93, word),
+            second: raise(self.second, 0x2917014799A6026D, word),
+            third: raise(self.third, 0xBF58476D1CE4E5B9, word),
+            fourth: raise(self.fourth, 0x40A7B892E31B1A47, word),
+        }
+    }
+
+    // Of the pairs with another value under a key, where that can be told without the others.
+    pub(crate) fn with_value(self, key: &Value, old: &Value, new: &Value) -> Option<PairsMeasure>
+        ensures { (ps : Pairs) (n : ℕ) → FitsPairs self ps → StandsAt ps n (view key.now) (view old.now) → MayFit result (with_value n (view new.now) ps) }
+    {
+        if self.weight == u64::MAX {
+            return None;
+        }
+        let hashed = mix(9, hash_of(key));
+        let before = mix(hashed, hash_of(old));
+        let now = mix(hashed, hash_of(new));
+        Some(PairsMeasure {
+            weight: self
+                .weight
+                .saturating_sub(weight(old))
+                .saturating_add(weight(new)),
+            nesting: greatest(self.nesting, nesting(old), nesting(new))?,
+            first: peak(self.first, 0xD6E8FEB86659FD93, before, now)?,
+            second: peak(self.second, 0x2917014799A6026D, before, now)?,
+            third: peak(self.third, 0xBF58476D1CE4E5B9, before, now)?,
+            fourth: peak(self.fourth, 0x40A7B892E31B1A47, before, now)?,
+        })
+    }
+
+    // What a map of so many pairs hashes to.
+    pub(crate) fn hash(self, count: usize) -> u64
+        ensures { (ps : Pairs) → FitsPairs self ps → count ≡ size ps → result ≡ hash (map ps) }
+    {
+        let sized = mix(8, count as u64);
+        mix(
+            mix(mix(mix(sized, self.first), self.second), self.third),
+            self.fourth,
+        )
+    }
+}
+
+// The greatest of some numbers of which one was `old` and is `new`, where that can be told without
+// the others: it cannot where the old one was the greatest and the new one is less.
+fn greatest(top: u64, old: u64, new: u64) -> Option<u64>
+    ensures { IfSome result (λ found. (others : ℕ) → top ≡ max others old → found ≡ max others new) }
+{
+    if old < top || old <= new {
+        Some(top.max(new))
+    } else {
+        None
+    }
+}
+
+// The same of numbers that were multiplied by a salt.
+fn peak(top: u64, by: u64, old: u64, new: u64) -> Option<u64>
+    ensures { IfSome result (λ found. (others : ℕ) → top ≡ max others (salted by old) → found ≡ max others (salted by new)) }
+{
+    greatest(top, salt(by, old), salt(by, new))
+}

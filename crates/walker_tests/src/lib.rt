@@ -1,0 +1,10 @@
+//! Tests of what is asked, answered and evaluated: of `repl_asks`, `repl_jobs` and `repl_walker`, by
+//! their public calls alone.
+#![tactic(auto)]
+
+#[cfg(test)]
+mod asks;
+#[cfg(test)]
+mod told;
+#[cfg(test)]
+mod walks;
