@@ -2,12 +2,12 @@
 ghost use Rattle.std.specs.Prelude.{◌≡◌, ℕ, List, None, if◌then◌else◌, Some, IfOk, OnOk, OnErr};
 ghost use Rattle.std.specs.Arc.{arc_str_bytes};
 ghost use Rattle.std.specs.Str.{bytes_eq};
-ghost use Rattle.repl_asks.specs.View.{ask_view, answer_view, binding_view};
+ghost use Rattle.repl_asks.specs.View.{ask_view, answer_view, resolution_view, binding_view};
 ghost use Rattle.name_spaces.specs.Resolving as meant;
 ghost use Rattle.name_spaces.specs.Bound.{bound_in};
 
 use function_names::CoreFunction;
-use repl_asks::{Answer, Ask, Binding};
+use repl_asks::{Answer, Ask, Binding, NamedFunction, Resolution};
 use repl_faults::{no_such_namespace, no_such_var, unresolved};
 use repl_values::copy;
 use std::alloc::{AllocError, Global};
@@ -42,7 +42,7 @@ impl Space {
             Ask::Resolve {
                 namespace: _,
                 symbol,
-            } => self.resolve(alloc, symbol.as_str()),
+            } => Ok(Answer::Resolution(self.resolve(alloc, symbol.as_str())?)),
             Ask::Define {
                 namespace: _,
                 name,
@@ -57,8 +57,8 @@ impl Space {
     // A symbol is resolved in the namespace, then among the core functions. One with a slash names
     // its namespace; `/` alone has no parts.
     #[tactic(auto, unfolding(crate::specs::Resolving::resolved))]
-    fn resolve(&self, alloc: Global, symbol: &str) -> Result<Answer, AllocError>
-        ensures { IfOk result (λ answer. answer_view answer ≡ meant.resolved (bound_in self.now) symbol.now) }
+    fn resolve(&self, alloc: Global, symbol: &str) -> Result<Resolution, AllocError>
+        ensures { IfOk result (λ found. resolution_view found ≡ meant.resolved (bound_in self.now) symbol.now) }
     {
         if symbol == "/" {
             return self.resolve_simple(alloc, symbol);
@@ -69,15 +69,15 @@ impl Space {
         }
     }
 
-    fn resolve_simple(&self, alloc: Global, symbol: &str) -> Result<Answer, AllocError>
-        ensures { IfOk result (λ answer. answer_view answer ≡ meant.simple_answer symbol.now (bound_in self.now symbol.now)) }
+    fn resolve_simple(&self, alloc: Global, symbol: &str) -> Result<Resolution, AllocError>
+        ensures { IfOk result (λ found. resolution_view found ≡ meant.simple_resolution symbol.now (bound_in self.now symbol.now)) }
     {
         if let Some(binding) = self.bindings.get(symbol) {
             return bound(binding);
         }
         match CoreFunction::named(symbol) {
-            Some(function) => Ok(Answer::CoreFunction(function)),
-            None => Ok(Answer::Fault(unresolved(alloc, symbol)?)),
+            Some(function) => Ok(Resolution::Function(NamedFunction::Core(function))),
+            None => Ok(Resolution::Nothing(unresolved(alloc, symbol)?)),
         }
     }
 
@@ -87,15 +87,15 @@ impl Space {
         symbol: &str,
         space: &str,
         name: &str,
-    ) -> Result<Answer, AllocError>
-        ensures { IfOk result (λ answer. answer_view answer ≡ meant.qualified_answer (bound_in self.now) symbol.now space.now name.now) }
+    ) -> Result<Resolution, AllocError>
+        ensures { IfOk result (λ found. resolution_view found ≡ meant.qualified_resolution (bound_in self.now) symbol.now space.now name.now) }
     {
         if space != USER {
-            return Ok(Answer::Fault(no_such_namespace(alloc, space)?));
+            return Ok(Resolution::Nothing(no_such_namespace(alloc, space)?));
         }
         match self.bindings.get(name) {
             Some(binding) => bound(binding),
-            None => Ok(Answer::Fault(no_such_var(alloc, symbol)?)),
+            None => Ok(Resolution::Nothing(no_such_var(alloc, symbol)?)),
         }
     }
 
@@ -109,11 +109,13 @@ impl Space {
     }
 }
 
-fn bound(binding: &Binding) -> Result<Answer, AllocError>
-    ensures { IfOk result (λ answer. answer_view answer ≡ meant.bound_answer (binding_view binding.now)) }
+fn bound(binding: &Binding) -> Result<Resolution, AllocError>
+    ensures { IfOk result (λ found. resolution_view found ≡ meant.bound_resolution (binding_view binding.now)) }
 {
     match binding {
-        Binding::Value(value) => Ok(Answer::Value(copy(value)?)),
-        Binding::Function(function) => Ok(Answer::Function(function.copy()?)),
+        Binding::Value(value) => Ok(Resolution::Value(copy(value)?)),
+        Binding::Function(function) => {
+            Ok(Resolution::Function(NamedFunction::Program(function.copy()?)))
+        }
     }
 }

@@ -5,10 +5,14 @@
 //! exchanges in a row are its trace.
 #![tactic(auto)]
 
+mod answer;
 mod ask;
+mod exchange;
 mod refs;
 mod replay;
 
-pub use ask::{Answer, Ask, Binding, Exchange, Trace, copy_trace};
+pub use answer::{Answer, NamedFunction, Resolution};
+pub use ask::{AnswerKind, Ask, Binding};
+pub use exchange::{Exchange, Trace, copy_trace};
 pub use refs::{Refs, Stop, StopReason};
 pub use replay::Replay;

@@ -3,7 +3,8 @@ ghost use Rattle.std.specs.Prelude.{◌≡◌, ◌++◌, [], ◌∷◌, true, If
 ghost use Rattle.repl_asks.specs.Exchange.{Heard, Fits};
 ghost use Rattle.repl_asks.specs.View.{ask_view, answer_view};
 
-use crate::ask::{Answer, Ask};
+use crate::answer::Answer;
+use crate::ask::Ask;
 use std::alloc::Global;
 
 /// Why an ask has no answer.

@@ -1,11 +1,13 @@
 // Answers that are known beforehand.
 ghost use Rattle.std.specs.Prelude.{◌≡◌, ◌++◌, ◌↔◌, [], ◌∷◌, true, false, map, IsTrue, IsErr, IfOk, IfErr, OnErr};
 ghost use Rattle.repl_asks.specs.Exchange.{Fits};
-ghost use Rattle.repl_asks.specs.View.{ask_view, answer_view, exchange_view};
+ghost use Rattle.repl_asks.specs.View.{ask_view, answer_view};
 
-use crate::ask::{Answer, Ask, Exchange, Trace};
+use crate::answer::Answer;
+use crate::ask::Ask;
+use crate::exchange::{Exchange, Trace};
 use crate::refs::{Refs, Stop, StopReason};
-use std::alloc::{AllocError, Global};
+use std::alloc::Global;
 use std::collections::VecDeque;
 
 /// Gives answers that are known beforehand, in order, and stops where none is left. An answer that
@@ -33,16 +35,11 @@ impl Replay {
     }
 }
 
-// Whether the answer is of a kind that the ask has.
+// Whether the answer is of the kind that the ask wants.
 fn fits(ask: &Ask, answer: &Answer) -> bool
     ensures { IsTrue result ↔ Fits (ask_view ask.now) (answer_view answer.now) }
 {
-    match (ask, answer) {
-        (Ask::Resolve { .. }, Answer::Done) => false,
-        (Ask::Resolve { .. }, _) => true,
-        (Ask::Define { .. }, Answer::Done) => true,
-        (Ask::Define { .. }, _) => false,
-    }
+    answer.kind() == ask.kind()
 }
 
 impl Refs for Replay {
@@ -97,7 +94,10 @@ impl Replay {
         if !fits(ask, answer) {
             return Err(StopReason::NoAnswer);
         }
-        let Ok(exchange) = recorded(ask, answer) else {
+        let Ok(asked) = ask.copy() else {
+            return Err(StopReason::NoMemory);
+        };
+        let Ok(exchange) = Exchange::of(asked, answer) else {
             return Err(StopReason::NoMemory);
         };
         if self.trace.push(exchange).is_err() {
@@ -108,14 +108,4 @@ impl Replay {
             None => Err(StopReason::NoAnswer),
         }
     }
-}
-
-fn recorded(ask: &Ask, answer: &Answer) -> Result<Exchange, AllocError>
-    ensures { IfOk result (λ made. exchange_view made
-        ≡ record { ask = ask_view ask.now; answer = answer_view answer.now }) }
-{
-    Ok(Exchange {
-        ask: ask.copy()?,
-        answer: answer.copy()?,
-    })
 }

@@ -2,7 +2,7 @@
 use Rattle.std.proofs.Common.{◌≡◌, ℕ, List, [], ◌∷◌, ◌++◌, true, false, Option, Some, None, Result, Ok, Err, IfOk, refl, sym, ap, ◌∙◌, true≢false, map, length, ◌==◌}
 use Rattle.std.proofs.lemmas.List.{map-append}
 use Rattle.value_data.specs.Datum.{Items}
-use Rattle.repl_walker.specs.Tree.{Tree, finished, asks}
+use Rattle.walker_machine.specs.Tree.{Tree, finished, asks}
 use Rattle.value_data.specs.View.{items_view}
 use Rattle.value_data.specs.declared.value.Value.{Value}
 use Rattle.repl_faults.specs.Failure.{Failure}
@@ -32,13 +32,15 @@ pub move-shown : (m : Move) (w : World) (old new : List (List ℕ)) (hand : Opti
 move-shown m w old new hand bound held same h =
     (h.0, h.1 ∙ ap (λ front. front ++ map bytes_of m.replies) held ∙ sym (map-append bytes_of w.replies m.replies), same)
 
-pub taken_up-here : (r : Readings) (q : RequestData) → runs_in_user q.ns ≡ true → program_begun q.origin (r.program q.code) ≡ taken_up r q
+pub taken_up-here : (r : Readings) (retries : ℕ) (q : RequestData) → runs_in_user q.ns ≡ true
+    → program_begun retries q.origin (r.program q.code) ≡ taken_up r retries q
 unfolding taken_up
-taken_up-here r q e = rw e refl
+taken_up-here r retries q e = rw e refl
 
-pub taken_up-elsewhere : (r : Readings) (q : RequestData) → runs_in_user q.ns ≡ false → over (reply q.origin namespace_not_found ∷ []) ≡ taken_up r q
+pub taken_up-elsewhere : (r : Readings) (retries : ℕ) (q : RequestData) → runs_in_user q.ns ≡ false
+    → over (reply q.origin namespace_not_found ∷ []) ≡ taken_up r retries q
 unfolding taken_up
-taken_up-elsewhere r q e = rw e refl
+taken_up-elsewhere r retries q e = rw e refl
 
 -- a request whose form is to do this
 abbrev pub to_do : OriginData → Items → Option Failure → Tree → Option Hand

@@ -5,9 +5,10 @@ use Rattle.value_data.specs.Datum.{Datum, Items, no_items, item}
 use Rattle.repl_values.specs.Print.{print}
 use Rattle.repl_faults.specs.Failure.{Failure}
 use Rattle.repl_reader.specs.Fault.{FaultData, class_of}
+use Rattle.repl_jobs.specs.Job as jobs
 use Rattle.repl_jobs.specs.Job.{EndData}
-use Rattle.repl_walker.specs.Tree.{Tree}
-use Rattle.repl_walker.specs.Evaluation.{evaluation}
+use Rattle.walker_machine.specs.Tree.{Tree}
+use Rattle.walker_machine.specs.Evaluation.{evaluation}
 use Rattle.repl_replies.specs.Replies.{OriginData, BodyData, value, output, exception, error_text, done, namespace_not_found, ReplyData}
 use Rattle.repl_replies.specs.Requests.{RequestData, is_string}
 use Rattle.repl_core.specs.Readings.{Readings, ProgramData}
@@ -58,14 +59,15 @@ in_hand h = record { hand = Some h; replies = [] }
 abbrev pub preceded_by : List ReplyData → Move → Move
 preceded_by replies m = record { hand = m.hand; replies = replies ++ m.replies }
 
--- forms are evaluated in `user`
-unfoldable pub evaluated : Datum → Tree
-evaluated form = evaluation form (codes "user")
+-- forms are evaluated in `user`, with so many attempts for a transaction
+unfoldable pub evaluated : ℕ → Datum → Tree
+evaluated retries form = evaluation (record { work = jobs.form form; namespace = codes "user"; retries = retries })
 
 -- the first of the forms begins; where there is none the request is over
-abbrev pub begun : OriginData → Items → Option Failure → Move
-begun origin no_items fault = over (closing origin fault)
-begun origin (item d ds) fault = in_hand (record { origin = origin; running = Some (evaluated d); forms = ds; fault = fault })
+abbrev pub begun : ℕ → OriginData → Items → Option Failure → Move
+begun retries origin no_items fault = over (closing origin fault)
+begun retries origin (item d ds) fault =
+    in_hand (record { origin = origin; running = Some (evaluated retries d); forms = ds; fault = fault })
 
 -- behind a form that ended: the request waits for its next form, or is over
 abbrev pub left : OriginData → Items → Option Failure → Move
@@ -84,10 +86,11 @@ runs_in_user (Some t) = is_string (codes "user") (Some t)
 abbrev pub program_failure : FaultData → Failure
 program_failure f = record { class = class_of f.kind; text = f.text }
 
-abbrev pub program_begun : OriginData → ProgramData → Move
-program_begun origin p = begun origin p.forms (option_map program_failure p.fault)
+abbrev pub program_begun : ℕ → OriginData → ProgramData → Move
+program_begun retries origin p = begun retries origin p.forms (option_map program_failure p.fault)
 
 -- a request is begun
-unfoldable pub taken_up : Readings → RequestData → Move
-taken_up r q =
-    if runs_in_user q.ns then program_begun q.origin (r.program q.code) else over (reply q.origin namespace_not_found ∷ [])
+unfoldable pub taken_up : Readings → ℕ → RequestData → Move
+taken_up r retries q =
+    if runs_in_user q.ns then program_begun retries q.origin (r.program q.code)
+    else over (reply q.origin namespace_not_found ∷ [])

@@ -5,7 +5,7 @@ use Rattle.bencode_wire.specs.Stream.{Ending, rest, fault}
 use Rattle.bencode_wire.specs.Fault.{counted, fault_at}
 use Rattle.bencode_wire.specs.declared.fault.WireFault.{WireFault}
 use Rattle.repl_asks.specs.Exchange.{AskData, AnswerData}
-use Rattle.repl_walker.specs.Tree.{Tree, finished, asks}
+use Rattle.walker_machine.specs.Tree.{Tree, finished, asks}
 use Rattle.repl_replies.specs.Replies.{no_origin, malformed, ReplyData, bytes_of}
 use Rattle.repl_replies.specs.Requests.{RequestData, HeardData, waits, answered, heard}
 use Rattle.name_spaces.specs.Resolving as resolving
@@ -97,14 +97,14 @@ asked h ask behind w =
     })) w)
 
 abbrev pub gone_on : Hand → Option Tree → World → World
-gone_on h None w = moved (begun h.origin h.forms h.fault) w
+gone_on h None w = moved (begun w.retries h.origin h.forms h.fault) w
 gone_on h (Some (finished e)) w = moved (ended h.origin h.forms h.fault e) w
 gone_on h (Some (asks ask behind)) w = asked h ask behind w
 
 -- the request in hand goes on; where there is none, the oldest that waits is taken up
 abbrev pub acted_on : Readings → Option Hand → List RequestData → World → World
 acted_on r (Some h) waiting w = gone_on h h.running w
-acted_on r None (q ∷ waiting) w = moved (taken_up r q) (with_waiting waiting w)
+acted_on r None (q ∷ waiting) w = moved (taken_up r w.retries q) (with_waiting waiting w)
 acted_on r None [] w = w
 
 abbrev pub acted : Readings → World → World

@@ -2,7 +2,7 @@
 use Rattle.std.specs.Prelude.{◌≡◌, ℕ, List, ◌++◌, map, option_map, vec_items, Option}
 use Rattle.value_data.specs.View.{items_view}
 use Rattle.repl_faults.specs.View.{failure_of}
-use Rattle.repl_walker.specs.Machine.{progress_tree}
+use Rattle.repl_walker.specs.Waits.{progress_tree}
 use Rattle.repl_replies.specs.Replies.{bytes_of}
 use Rattle.repl_replies.specs.View.{origin_view, request_view}
 use Rattle.repl_replies.specs.declared.request.Request.{Request}

@@ -3,7 +3,7 @@ ghost use Rattle.std.specs.Prelude.{◌≡◌, [], ◌∷◌, map, option_map, s
 ghost use Rattle.value_data.specs.View.{view, items_view};
 ghost use Rattle.repl_faults.specs.View.{failure_of};
 ghost use Rattle.repl_jobs.specs.View.{finished_view};
-ghost use Rattle.repl_walker.specs.Machine.{progress_tree};
+ghost use Rattle.repl_walker.specs.Waits.{progress_tree};
 ghost use Rattle.repl_reader.specs.View.{fault_option};
 ghost use Rattle.repl_replies.specs.Replies.{namespace_not_found, bytes_of};
 ghost use Rattle.repl_replies.specs.View.{origin_view, field_view, request_view};
@@ -45,7 +45,7 @@ pub(crate) fn go_on(
     retries: u32,
     in_hand: InHand,
 ) -> Result<Option<InHand>, AllocError>
-    ensures { (w : World) → waiting_bytes outbox.old ≡ map bytes_of w.replies → bound_in space.old ≡ w.bindings
+    ensures { (w : World) → waiting_bytes outbox.old ≡ map bytes_of w.replies → bound_in space.old ≡ w.bindings → retries ≡ w.retries
         → IfOk result (Shows outbox.new space.new (gone_on (hand_view in_hand) (hand_view in_hand).running w)) }
 {
     let InHand {
@@ -56,8 +56,9 @@ pub(crate) fn go_on(
     } = in_hand;
     match running {
         None => begin(alloc, outbox, retries, origin, forms, fault),
-        Some(Progress::Ends(finished)) => end_form(outbox, origin, finished, forms, fault),
-        Some(Progress::Asks(walk, ask)) => {
+        Some(Progress::Ends(ending)) => end_form(outbox, origin, ending.end(), forms, fault),
+        Some(Progress::Asks(walk)) => {
+            let ask = walk.ask().copy()?;
             let answer = space.answer(alloc, ask)?;
             let running = Some(walk.resume(alloc, answer)?);
             Ok(Some(InHand {
@@ -78,7 +79,7 @@ pub(crate) fn take_up(
     request: Request,
 ) -> Result<Option<InHand>, AllocError>
     ensures { (r : Readings) → AreRight r
-        → IfOk result (Makes (taken_up r (request_view request)) (waiting_bytes outbox.old) (waiting_bytes outbox.new)) }
+        → IfOk result (Makes (taken_up r retries (request_view request)) (waiting_bytes outbox.old) (waiting_bytes outbox.new)) }
 {
     let Request { origin, code, ns } = request;
     if runs_in_user(ns) {
@@ -133,7 +134,7 @@ fn begin(
     mut forms: VecDeque<Value>,
     fault: Option<Fault>,
 ) -> Result<Option<InHand>, AllocError>
-    ensures { IfOk result (Makes (begun (origin_view origin) (items_view forms.items) (option_map failure_of fault))
+    ensures { IfOk result (Makes (begun retries (origin_view origin) (items_view forms.items) (option_map failure_of fault))
         (waiting_bytes outbox.old) (waiting_bytes outbox.new)) }
 {
     let Some(form) = forms.pop_front() else {
@@ -151,7 +152,7 @@ fn begin(
 
 #[tactic(auto, unfolding(crate::specs::Move::evaluated))]
 fn evaluate(alloc: Global, retries: u32, form: Value) -> Result<Progress, AllocError>
-    ensures { IfOk result (λ progress. progress_tree progress ≡ evaluated (view form)) }
+    ensures { IfOk result (λ progress. progress_tree progress ≡ evaluated retries (view form)) }
 {
     let job = Job {
         work: Work::Form(form),
@@ -165,12 +166,12 @@ fn evaluate(alloc: Global, retries: u32, form: Value) -> Result<Progress, AllocE
 fn end_form(
     outbox: &mut Outbox,
     origin: Origin,
-    finished: Finished,
+    finished: &Finished,
     forms: VecDeque<Value>,
     fault: Option<Fault>,
 ) -> Result<Option<InHand>, AllocError>
     ensures { IfOk result (Makes
-        (ended (origin_view origin) (items_view forms.items) (option_map failure_of fault) (finished_view finished))
+        (ended (origin_view origin) (items_view forms.items) (option_map failure_of fault) (finished_view finished.now))
         (waiting_bytes outbox.old) (waiting_bytes outbox.new)) }
 {
     outbox.post_end(&origin, finished)?;

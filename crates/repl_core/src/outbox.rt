@@ -65,9 +65,9 @@ impl Outbox {
     }
 
     // A fault is told twice: its class, and the whole as a line of text.
-    fn post_fault(&mut self, origin: &Origin, fault: Fault) -> Result<(), AllocError>
+    fn post_fault(&mut self, origin: &Origin, fault: &Fault) -> Result<(), AllocError>
         ensures { OnOk result (waiting_bytes self.new
-            ≡ waiting_bytes self.old ++ map bytes_of (fault_replies (origin_view origin.now) (failure_of fault))) }
+            ≡ waiting_bytes self.old ++ map bytes_of (fault_replies (origin_view origin.now) (failure_of fault.now))) }
     {
         let Fault { class, text } = fault;
         let line = line_of(self.alloc, class.as_str(), text.as_str())?;
@@ -77,30 +77,34 @@ impl Outbox {
     }
 
     /// Tells how a form ended: first what it printed, and then its value or its fault.
-    pub(crate) fn post_end(&mut self, origin: &Origin, finished: Finished) -> Result<(), AllocError>
+    pub(crate) fn post_end(
+        &mut self,
+        origin: &Origin,
+        finished: &Finished,
+    ) -> Result<(), AllocError>
         ensures { OnOk result (waiting_bytes self.new
-            ≡ waiting_bytes self.old ++ map bytes_of (end_replies (origin_view origin.now) (finished_view finished))) }
+            ≡ waiting_bytes self.old ++ map bytes_of (end_replies (origin_view origin.now) (finished_view finished.now))) }
     {
-        let (end, printed, ns) = finished.into_parts();
-        self.post_output(origin, printed)?;
-        match end {
+        self.post_output(origin, finished.text())?;
+        match finished.end() {
             End::Value(value) => {
                 let mut text = String::new(self.alloc);
-                print_into(self.alloc, &value, &mut text)?;
-                let ns = String::from_str(self.alloc, ns.as_str())?;
+                print_into(self.alloc, value, &mut text)?;
+                let ns = String::from_str(self.alloc, finished.namespace().as_str())?;
                 self.post_for(origin, Body::Value { value: text, ns })
             }
             End::Fault(fault) => self.post_fault(origin, fault),
         }
     }
 
-    fn post_output(&mut self, origin: &Origin, printed: String) -> Result<(), AllocError>
+    fn post_output(&mut self, origin: &Origin, printed: &str) -> Result<(), AllocError>
         ensures { OnOk result (waiting_bytes self.new
-            ≡ waiting_bytes self.old ++ map bytes_of (output_replies (origin_view origin.now) (string_bytes printed))) }
+            ≡ waiting_bytes self.old ++ map bytes_of (output_replies (origin_view origin.now) printed.now)) }
     {
         if printed.is_empty() {
             return Ok(());
         }
+        let printed = String::from_str(self.alloc, printed)?;
         self.post_for(origin, Body::Output(printed))
     }
 
@@ -113,7 +117,7 @@ impl Outbox {
         ensures { OnOk result (waiting_bytes self.new
             ≡ waiting_bytes self.old ++ map bytes_of (closing (origin_view origin) (option_map failure_of fault))) }
     {
-        if let Some(fault) = fault {
+        if let Some(fault) = &fault {
             self.post_fault(&origin, fault)?;
         }
         self.post(origin, Body::Done)

@@ -106,7 +106,7 @@ impl Server {
     {
         match &self.in_hand {
             Some(in_hand) => match &in_hand.running {
-                Some(Progress::Asks(_, _)) => false,
+                Some(Progress::Asks(_)) => false,
                 _ => true,
             },
             None => true,

@@ -3,9 +3,13 @@ use Rattle.std.specs.Prelude.{ℕ, List, Result}
 use Rattle.value_data.specs.Datum.{Datum}
 use Rattle.repl_faults.specs.Failure.{Failure}
 
+-- what there is to evaluate: a form; actions of agents and forms of the shared text come later
+pub data WorkData : Type 0 where
+  form : Datum → WorkData
+
 -- what is evaluated, where, and how many attempts a transaction has
 pub record JobData : Type 0 where
-  pub form : Datum
+  pub work : WorkData
   pub namespace : List ℕ
   pub retries : ℕ
 

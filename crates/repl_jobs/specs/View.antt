@@ -5,17 +5,18 @@ use Rattle.value_data.specs.Datum.{Datum}
 use Rattle.value_data.specs.View.{view}
 use Rattle.repl_faults.specs.Failure.{Failure}
 use Rattle.repl_faults.specs.View.{failure_of}
-use Rattle.repl_jobs.specs.Job.{JobData, EndData}
+use Rattle.repl_jobs.specs.Job as jobs
+use Rattle.repl_jobs.specs.Job.{WorkData, JobData, EndData}
 use Rattle.repl_jobs.specs.declared.job.Work.{Work}
 use Rattle.repl_jobs.specs.declared.job.Job.{Job}
 use Rattle.repl_jobs.specs.declared.job.End.{End}
 use Rattle.repl_jobs.specs.declared.job.Finished.{Finished}
 
-abbrev pub form_of : Work → Datum
-form_of (Work.Form form) = view form
+abbrev pub work_view : Work → WorkData
+work_view (Work.Form form) = jobs.form (view form)
 
 abbrev pub job_view : Job → JobData
-job_view job = record { form = form_of job.work; namespace = arc_str_bytes job.namespace; retries = job.retries }
+job_view job = record { work = work_view job.work; namespace = arc_str_bytes job.namespace; retries = job.retries }
 
 abbrev pub end_view : End → Result Datum Failure
 end_view (End.Value v) = Ok (view v)

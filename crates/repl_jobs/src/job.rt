@@ -1,7 +1,8 @@
 // What is evaluated, and how it ends.
-ghost use Rattle.std.specs.Prelude.{◌≡◌, IfOk};
+ghost use Rattle.std.specs.Prelude.{◌≡◌, string_bytes, IfOk};
 ghost use Rattle.value_data.specs.View.{view};
-ghost use Rattle.repl_jobs.specs.View.{form_of, job_view, end_view, finished_view};
+ghost use Rattle.repl_jobs.specs.Job as jobs;
+ghost use Rattle.repl_jobs.specs.View.{work_view, job_view, end_view, finished_view};
 
 use repl_values::{Fault, Value, copy, copy_text};
 use std::alloc::{AllocError, Global};
@@ -40,7 +41,7 @@ pub struct Finished {
 impl Work {
     /// The form that there is to evaluate.
     pub fn form(&self) -> &Value
-        ensures { view result.now ≡ form_of self.now }
+        ensures { jobs.form (view result.now) ≡ work_view self.now }
     {
         let Work::Form(form) = self;
         form
@@ -48,7 +49,7 @@ impl Work {
 
     /// The same work once more. It takes one step, and fails only where 2^63 owners share a part of it.
     pub fn copy(&self) -> Result<Work, AllocError>
-        ensures { IfOk result (λ copied. form_of copied ≡ form_of self.now) }
+        ensures { IfOk result (λ copied. work_view copied ≡ work_view self.now) }
     {
         Ok(Work::Form(copy(self.form())?))
     }
@@ -93,18 +94,25 @@ impl Finished {
         }
     }
 
-    /// The end, the printed text and the namespace.
-    pub fn into_parts(self) -> (End, String, ArcStr)
-        ensures end { result.0 ≡ self.end }
-        ensures text { result.1 ≡ self.text }
-        ensures namespace { result.2 ≡ self.namespace }
+    /// The value or the fault.
+    pub fn end(&self) -> &End
+        ensures { result.now ≡ self.now.end }
     {
-        let Finished {
-            end,
-            text,
-            namespace,
-        } = self;
-        (end, text, namespace)
+        &self.end
+    }
+
+    /// The text that was printed.
+    pub fn text(&self) -> &str
+        ensures { result.now ≡ string_bytes self.now.text }
+    {
+        self.text.as_str()
+    }
+
+    /// The namespace after it.
+    pub fn namespace(&self) -> &ArcStr
+        ensures { result.now ≡ self.now.namespace }
+    {
+        &self.namespace
     }
 
     /// The same once more. It fails only for want of memory.

@@ -1,19 +1,48 @@
 -- Exchanges that lead on, one after another.
-use Rattle.std.proofs.Common.{◌≡◌, List, [], ◌∷◌, ◌++◌, refl, sym, subst, ap, ◌∙◌, append_assoc, append-nil}
+use Rattle.std.proofs.Common.{◌≡◌, ◌↔◌, List, [], ◌∷◌, ◌++◌, refl, sym, subst, ap, ◌∙◌, append_assoc, append-nil}
+use Rattle.std.proofs.Math.Logic.{∥∥₁_map}
 use Rattle.repl_asks.specs.Exchange.{AskData, AnswerData, Exchanged}
-use Rattle.repl_asks.specs.View.{ask_view}
-use Rattle.repl_walker.specs.Tree.{Tree, finished, asks, Leads, Led, Recorded}
+use Rattle.repl_asks.specs.View.{ask_view, exchange_view, trace_view}
+use Rattle.repl_asks.specs.declared.exchange.Exchange.{Exchange}
+use Rattle.std.proofs.lemmas.List.{map-append}
+use Rattle.repl_jobs.specs.Job.{JobData, EndData}
+use Rattle.walker_machine.specs.Tree.{Tree, finished, asks, Leads, after, AreItsAsks}
+use Rattle.walker_machine.specs.Evaluation.{evaluation}
+use Rattle.repl_walker.specs.Led.{LedTo, Led, Recorded}
+use Rattle.repl_walker.specs.Ends.{EndingData, IsEndOf}
 use Rattle.repl_walker.specs.Stops.{LeftAt}
-use Rattle.repl_jobs.specs.View.{job_view}
-use Rattle.repl_jobs.specs.Job.{EndData}
-use Rattle.repl_walker.specs.Ends.{EndingData, evaluation_of, IsEndOf}
-use Rattle.repl_jobs.specs.declared.job.Job.{Job}
 use Rattle.repl_walker.specs.declared.run.WalkError.{WalkError}
 
 leads-append : (start middle end : Tree) (xs ys : List Exchanged) → Leads start xs middle → Leads middle ys end → Leads start (xs ++ ys) end
 leads-append start middle end [] ys first second = subst (λ (t : Tree). Leads t ys end) (sym first) second
 leads-append (finished e) middle end (x ∷ xs) ys first second = absurd first
 leads-append (asks ask behind) middle end (x ∷ xs) ys first second = (first.0, leads-append (behind x.answer) middle end xs ys first.1 second)
+
+-- The trace of a job
+
+pub led-begun : (job : JobData) (trace : List Exchanged) (t : Tree) → trace ≡ [] → t ≡ evaluation job → LedTo job trace t
+led-begun job trace t none is =
+    let P : List Exchanged → Type 0 = λ xs. Leads (evaluation job) xs t in ∣ (subst P (sym none) (sym is)) ∣₁
+
+pub led-to-answered : (job : JobData) (old new : List Exchanged) (ask : AskData) (answer : AnswerData) (behind : AnswerData → Tree) (rest : Tree)
+    → LedTo job old (asks ask behind) → new ≡ old ++ record { ask = ask; answer = answer } ∷ [] → rest ≡ behind answer → LedTo job new rest
+led-to-answered job old new ask answer behind rest led grown goes_on =
+    ∥∥₁_map led (λ h.
+    let P : List Exchanged → Type 0 = λ xs. Leads (evaluation job) xs rest in
+    subst P (sym grown) (leads-append (evaluation job) (asks ask behind) rest old (record { ask = ask; answer = answer } ∷ []) h (refl, sym goes_on)))
+
+pub led-to-same : (job other : JobData) (trace more : List Exchanged) (t u : Tree) → other ≡ job → more ≡ trace → u ≡ t → LedTo job trace t → LedTo other more u
+led-to-same job other trace more t u same traced is led =
+    let P : JobData → Type 0 = λ j. LedTo j more u in
+    let Q : List Exchanged → Type 0 = λ xs. LedTo job xs u in
+    let R : Tree → Type 0 = λ v. LedTo job trace v in
+    subst P (sym same) (subst Q (sym traced) (subst R (sym is) led))
+
+pub trace-pushed : (old new : List Exchange) (x : Exchange) (e : Exchanged) → new ≡ old ++ x ∷ [] → exchange_view x ≡ e → trace_view new ≡ trace_view old ++ e ∷ []
+trace-pushed old new x e grown is =
+    ap trace_view grown ∙ map-append exchange_view old (x ∷ []) ∙ ap (λ (y : Exchanged). trace_view old ++ y ∷ []) is
+
+-- The trace of who answers
 
 pub led-nowhere : (start : Tree) (trace : List Exchanged) → Led start trace trace start
 led-nowhere start trace = ([], sym (append-nil trace), refl)
@@ -44,6 +73,9 @@ recorded-on start middle end old now new kept_old kept_now kept_new first second
   leads-append start middle end first.0 second.0 first.3 second.3,
 )
 
+pub recorded-nothing : (start : Tree) (trace kept : List Exchanged) → Recorded start trace trace kept kept start
+recorded-nothing start trace kept = ([], sym (append-nil trace), sym (append-nil kept), refl)
+
 pub recorded-led : (start end : Tree) (old new kept_old kept_new : List Exchanged) → Recorded start old new kept_old kept_new end → Led start old new end
 recorded-led start end old new kept_old kept_new recorded = (recorded.0, recorded.1, recorded.3)
 
@@ -60,10 +92,25 @@ pub led-stayed : (old new : List Exchanged) (ask stopped : AskData) (behind : An
 led-stayed old new ask stopped behind stays handed_back =
     ([], stays ∙ sym (append-nil old), ap (λ (a : AskData). asks a behind) (sym handed_back))
 
-pub end-recorded : (job : Job) (old new kept : List Exchanged) (e : EndingData) (end : EndData) → e.job ≡ job_view job → e.trace ≡ kept → e.end ≡ end
-    → Recorded (evaluation_of job) old new [] kept (finished end) → IsEndOf job old new e
-end-recorded job old new kept e end same traced ended r =
+pub end-recorded : (job : JobData) (old new kept : List Exchanged) (e : EndingData) → e.job ≡ job → e.trace ≡ kept
+    → Recorded (evaluation job) old new [] kept (finished e.end) → IsEndOf job old new e
+end-recorded job old new kept e same traced r =
     let whole : e.trace ≡ r.0 = traced ∙ r.2 in
-    let P : List Exchanged → Type 0 = λ xs. Leads (evaluation_of job) xs (finished e.end) in
-    let Q : EndData → Type 0 = λ d. Leads (evaluation_of job) r.0 (finished d) in
-    (same, r.1 ∙ ap (λ (xs : List Exchanged). old ++ xs) (sym whole), subst P (sym whole) (subst Q (sym ended) r.3))
+    let P : List Exchanged → Type 0 = λ xs. Leads (evaluation job) xs (finished e.end) in
+    (same, r.1 ∙ ap (λ (xs : List Exchanged). old ++ xs) (sym whole), subst P (sym whole) r.3)
+
+-- What comes after a trace
+
+its-asks : (start end : Tree) (trace : List Exchanged) → Leads start trace end → AreItsAsks start trace × (after start trace ≡ end)
+its-asks start end [] leads = (tt, leads)
+its-asks (finished e) end (x ∷ xs) leads = absurd leads
+its-asks (asks ask behind) end (x ∷ xs) leads =
+    let more = its-asks (behind x.answer) end xs leads.1 in ((leads.0, more.0), more.1)
+
+leads-after : (start end : Tree) (trace : List Exchanged) → AreItsAsks start trace → after start trace ≡ end → Leads start trace end
+leads-after start end [] asked comes = comes
+leads-after (finished e) end (x ∷ xs) asked comes = absurd asked
+leads-after (asks ask behind) end (x ∷ xs) asked comes = (asked.0, leads-after (behind x.answer) end xs asked.1 comes)
+
+pub leads-as-after : (start end : Tree) (trace : List Exchanged) → (Leads start trace end ↔ AreItsAsks start trace × (after start trace ≡ end))
+leads-as-after start end trace = (its-asks start end trace, λ h. leads-after start end trace h.0 h.1)

@@ -1,13 +1,11 @@
 -- What endings stand for.
 use Rattle.std.specs.Prelude.{◌≡◌, List, ◌++◌}
-use Rattle.std.specs.Arc.{arc_str_bytes}
 use Rattle.repl_asks.specs.Exchange.{Exchanged}
 use Rattle.repl_asks.specs.View.{trace_view}
 use Rattle.repl_jobs.specs.Job.{JobData, EndData}
-use Rattle.repl_jobs.specs.View.{form_of, job_view, finished_view}
-use Rattle.repl_jobs.specs.declared.job.Job.{Job}
-use Rattle.repl_walker.specs.Tree.{Tree, finished, Leads}
-use Rattle.repl_walker.specs.Evaluation.{evaluation}
+use Rattle.repl_jobs.specs.View.{job_view, finished_view}
+use Rattle.walker_machine.specs.Tree.{finished, Leads}
+use Rattle.walker_machine.specs.Evaluation.{evaluation}
 use Rattle.repl_walker.specs.declared.ending.Ending.{Ending}
 
 pub record EndingData : Type 0 where
@@ -18,9 +16,6 @@ pub record EndingData : Type 0 where
 abbrev pub ending_view : Ending → EndingData
 ending_view e = record { job = job_view e.job; trace = trace_view e.trace.items; end = finished_view e.finished }
 
-abbrev pub evaluation_of : Job → Tree
-evaluation_of job = evaluation (form_of job.work) (arc_str_bytes job.namespace)
-
 -- The job's evaluation was led to this end by the exchanges that a trace grew by.
-abbrev pub IsEndOf : Job → List Exchanged → List Exchanged → EndingData → Type 0
-IsEndOf job old new e = (e.job ≡ job_view job) × (new ≡ old ++ e.trace) × Leads (evaluation_of job) e.trace (finished e.end)
+abbrev pub IsEndOf : JobData → List Exchanged → List Exchanged → EndingData → Type 0
+IsEndOf job old new e = (e.job ≡ job) × (new ≡ old ++ e.trace) × Leads (evaluation job) e.trace (finished e.end)

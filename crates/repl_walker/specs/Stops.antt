@@ -2,7 +2,8 @@
 use Rattle.std.specs.Prelude.{◌≡◌, true, false, List}
 use Rattle.repl_asks.specs.Exchange.{AnswerData, Exchanged, Heard}
 use Rattle.repl_asks.specs.View.{ask_view}
-use Rattle.repl_walker.specs.Tree.{Tree, asks, Led}
+use Rattle.walker_machine.specs.Tree.{Tree, asks}
+use Rattle.repl_walker.specs.Led.{Led}
 use Rattle.repl_walker.specs.declared.run.WalkError.{WalkError}
 
 -- an ask without an answer leaves who was asked stopped, and want of memory for the walk does not

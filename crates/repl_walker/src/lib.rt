@@ -5,21 +5,15 @@
 //! way at once. `walk` runs one to its end over a `Refs` that answers.
 #![tactic(auto)]
 
-mod answers;
-mod calls;
-mod collect;
 mod ending;
-mod evaluate;
-mod frames;
-mod give;
-mod names;
+pub mod laws;
 mod resume;
-mod rows;
 mod run;
-mod special;
+mod waiting;
 
 pub use ending::Ending;
-pub use names::names_function;
 pub use repl_jobs::{End, Finished, Job, Work};
-pub use resume::{Progress, Walk, start};
+pub use resume::start;
 pub use run::{WalkError, walk};
+pub use waiting::{Progress, Walk};
+pub use walker_machine::names_function;

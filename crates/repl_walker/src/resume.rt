@@ -1,43 +1,49 @@
 // An evaluation, from one ask to the next.
-ghost use Rattle.std.specs.Prelude.{◌≡◌, ◌+◌, ◌<◌, ◌≤◌, ◌⊎◌, IfOk};
-ghost use Rattle.repl_asks.specs.View.{answer_view};
-ghost use Rattle.repl_walker.specs.Tree.{ends};
-ghost use Rattle.repl_jobs.specs.View.{end_view};
-ghost use Rattle.repl_walker.specs.Ends.{evaluation_of};
-ghost use Rattle.repl_walker.specs.Machine.{tree, leg_tree, behind, progress_tree, kept_of};
-ghost use Rattle.repl_walker.specs.Size.{control_size, frames_size, walk_size, progress_size, progress_calls, leg_size, leg_spent, spent};
+ghost use Rattle.std.specs.Prelude.{◌≡◌, ◌≤◌, [], IfOk};
+ghost use Rattle.repl_asks.specs.View.{answer_view, trace_view};
+ghost use Rattle.repl_jobs.specs.View.{job_view};
+ghost use Rattle.walker_machine.specs.Evaluation.{evaluation};
+ghost use Rattle.walker_machine.specs.Waits.{reached_tree, reached_size, reached_calls};
+ghost use Rattle.repl_walker.specs.Led.{LedTo};
+ghost use Rattle.repl_walker.specs.Waits.{behind, progress_tree, progress_job, progress_trace, trace_with};
+ghost use Rattle.repl_walker.specs.Further.{progress_size, progress_calls, IsFurther};
 
-use crate::answers::take_answer;
-use crate::calls::enter;
-use crate::evaluate::evaluate;
-use crate::frames::{Control, Place, State, Wanted};
-use crate::give::give;
-use local_names::Locals;
-use repl_asks::{Answer, Ask};
-use repl_jobs::{End, Finished, Job};
-use repl_values::{Value, copy, copy_text};
-use special_forms::Function;
+use crate::ending::Ending;
+use crate::waiting::{Progress, Walk};
+use repl_asks::{Answer, Exchange, Trace};
+use repl_jobs::Job;
 use std::alloc::{AllocError, Global};
-use std::collections::VecDeque;
+use walker_machine::{Reached, begin};
 
-// How many calls an evaluation may make.
-const CALLS: u32 = 10_000;
-
-// How many lists, vectors and maps may be under way inside one another.
-const ROOM: u32 = 200;
-
-/// An evaluation that waits for the answer to its last ask.
-#[derive(Drop)]
-pub struct Walk {
-    state: State,
-    wanted: Wanted,
+/// Begins the job, up to its first ask or its end. It fails only for want of memory.
+pub fn start(alloc: Global, job: &Job) -> Result<Progress, AllocError>
+    ensures meaning { IfOk result (λ progress. progress_tree progress ≡ evaluation (job_view job.now)) }
+    ensures job { IfOk result (λ progress. progress_job progress ≡ job_view job.now) }
+    ensures trace { IfOk result (λ progress. progress_trace progress ≡ []) }
+{
+    let copied = job.copy()?;
+    let reached = begin(alloc, job)?;
+    Ok(progress(copied, Vec::new(alloc), reached))
 }
 
-/// How far an evaluation came: to its next ask, or to its end.
-#[derive(Drop)]
-pub enum Progress {
-    Asks(Walk, Ask),
-    Ends(Finished),
+impl Walk {
+    /// Goes on with this answer, up to the next ask or the end. It fails only for want of memory.
+    pub fn resume(self, alloc: Global, answer: Answer) -> Result<Progress, AllocError>
+        ensures meaning { IfOk result (λ later. progress_tree later ≡ behind self (answer_view answer)) }
+        ensures job { IfOk result (λ later. progress_job later ≡ job_view self.job) }
+        ensures trace { IfOk result (λ later. progress_trace later ≡ trace_with self (answer_view answer)) }
+        ensures further { IfOk result (IsFurther self) }
+    {
+        let Walk {
+            job,
+            mut trace,
+            ask,
+            waiting,
+        } = self;
+        trace.push(Exchange::of(ask, &answer)?)?;
+        let reached = waiting.go_on(alloc, answer)?;
+        Ok(progress(job, trace, reached))
+    }
 }
 
 impl Progress {
@@ -46,106 +52,28 @@ impl Progress {
         ensures { result ≡ progress_calls self.now }
     {
         match self {
-            Progress::Asks(walk, _ask) => walk.state.calls,
-            Progress::Ends(_finished) => 0,
+            Progress::Asks(walk) => walk.waiting.calls_left(),
+            Progress::Ends(_ending) => 0,
         }
     }
 }
 
-// How far an evaluation comes without the body of another function.
-#[derive(Drop)]
-enum Leg {
-    Asks(Ask, Wanted),
-    Enters(Function, Vec<Value>, u32),
-    Ends(End),
-}
-
-/// Begins the job, up to its first ask or its end. It fails only for want of memory.
-pub fn start(alloc: Global, job: &Job) -> Result<Progress, AllocError>
-    ensures meaning { IfOk result (λ progress. progress_tree progress ≡ evaluation_of job.now) }
-    ensures calls { IfOk result (λ progress. progress_calls progress ≤ CALLS) }
+// How far the job came by this trace.
+fn progress(job: Job, trace: Trace, reached: Reached) -> Progress
+    requires { LedTo (job_view job) (trace_view trace.items) (reached_tree reached) }
+    ensures meaning { progress_tree result ≡ reached_tree reached }
+    ensures job { progress_job result ≡ job_view job }
+    ensures trace { progress_trace result ≡ trace_view trace.items }
+    ensures calls { progress_calls result ≡ reached_calls reached }
+    ensures size { progress_size result ≡ reached_size reached }
 {
-    let state = State {
-        frames: VecDeque::new(alloc),
-        place: Place {
-            locals: Locals::none(alloc),
-            home: None,
-        },
-        calls: CALLS,
-        namespace: copy_text(&job.namespace)?,
-        text: String::new(alloc),
-    };
-    let form = copy(job.work.form())?;
-    go_on(alloc, state, Control::Evaluate(form, ROOM))
-}
-
-impl Walk {
-    /// Goes on with this answer, up to the next ask or the end. It fails only for want of memory.
-    pub fn resume(self, alloc: Global, answer: Answer) -> Result<Progress, AllocError>
-        ensures meaning { IfOk result (λ progress. progress_tree progress ≡ behind self (answer_view answer)) }
-        ensures calls { IfOk result (λ progress. progress_calls progress ≤ self.state.calls) }
-        ensures falls { IfOk result (λ progress. (progress_calls progress < self.state.calls) ⊎ (progress_size progress < walk_size self)) }
-    {
-        let Walk { mut state, wanted } = self;
-        let control = take_answer(alloc, &mut state, wanted, answer)?;
-        go_on(alloc, state, control)
+    match reached {
+        Reached::Asks(waiting, ask) => Progress::Asks(Walk {
+            job,
+            trace,
+            ask,
+            waiting,
+        }),
+        Reached::Ends(finished) => Progress::Ends(Ending::new(job, trace, finished)),
     }
-}
-
-// Each further leg has taken a call from the budget.
-fn go_on(alloc: Global, state: State, control: Control) -> Result<Progress, AllocError>
-    ensures meaning { IfOk result (λ progress. progress_tree progress ≡ tree control state) }
-    ensures calls { IfOk result (λ progress. progress_calls progress ≤ spent control + state.calls) }
-    ensures falls { IfOk result (λ progress. (progress_calls progress < spent control + state.calls)
-        ⊎ (progress_size progress ≤ control_size control + frames_size state.frames.items)) }
-{
-    let mut state = state;
-    let mut control = control;
-    loop {
-        control = match run_leg(alloc, &mut state, control)? {
-            Leg::Ends(end) => return Ok(ended(state, end)),
-            Leg::Asks(ask, wanted) => return Ok(Progress::Asks(Walk { state, wanted }, ask)),
-            Leg::Enters(function, values, room) => {
-                enter(alloc, &mut state, function, values, room)?
-            }
-        };
-    }
-}
-
-fn run_leg(alloc: Global, state: &mut State, control: Control) -> Result<Leg, AllocError>
-    ensures meaning { IfOk result (λ leg. leg_tree leg state.new ≡ tree control state.old) }
-    ensures size { IfOk result (λ leg. leg_size leg + frames_size state.new.frames.items
-        ≤ control_size control + frames_size state.old.frames.items) }
-    ensures calls { IfOk result (λ leg. leg_spent leg + state.new.calls ≤ spent control + state.old.calls) }
-{
-    let mut control = control;
-    loop {
-        control = match control {
-            Control::Evaluate(form, room) => evaluate(alloc, state, form, room)?,
-            Control::Return(value) => match state.frames.pop_front() {
-                Some(frame) => give(alloc, state, frame, value)?,
-                None => return Ok(Leg::Ends(End::Value(value))),
-            },
-            Control::Fault(fault) => return Ok(Leg::Ends(End::Fault(fault))),
-            Control::Ask(ask, wanted) => return Ok(Leg::Asks(ask, wanted)),
-            Control::Enter(function, values, room) => {
-                return Ok(Leg::Enters(function, values, room));
-            }
-        };
-    }
-}
-
-fn ended(state: State, end: End) -> Progress
-    ensures meaning { progress_tree result ≡ ends (end_view end) (kept_of state) }
-    ensures size { progress_size result ≡ 0 }
-    ensures calls { progress_calls result ≡ 0 }
-{
-    let State {
-        frames: _,
-        place: _,
-        calls: _,
-        namespace,
-        text,
-    } = state;
-    Progress::Ends(Finished::new(end, text, namespace))
 }

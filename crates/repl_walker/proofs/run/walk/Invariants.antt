@@ -1,17 +1,18 @@
 use Rattle.std.proofs.Common.{◌≡◌, [], false}
-use Rattle.repl_asks.specs.View.{trace_view}
-use Rattle.repl_walker.specs.Size.{progress_calls}
-use Rattle.repl_walker.specs.Tree.{Recorded}
-use Rattle.repl_walker.specs.Ends.{evaluation_of}
-use Rattle.repl_walker.specs.Machine.{progress_tree}
+use Rattle.repl_jobs.specs.View.{job_view}
+use Rattle.walker_machine.specs.Evaluation.{evaluation}
+use Rattle.repl_walker.specs.Led.{Recorded}
+use Rattle.repl_walker.specs.Waits.{progress_tree, progress_job, progress_trace}
+use Rattle.repl_walker.specs.Further.{progress_calls}
 use Rattle.repl_walker.proofs.run.walk.Given as goal
 
-abbrev pub invariant-loop-end : goal.invariant-loop-end
-invariant-loop-end g l = record {
+abbrev pub invariant-loop-ending : goal.invariant-loop-ending
+invariant-loop-ending g l = record {
   goes_on : (g.R.Refs.heard l.refs).stopped ≡ false;
-  recorded : Recorded (evaluation_of l.initial.job) (g.R.Refs.heard l.initial.refs).trace (g.R.Refs.heard l.refs).trace
-      [] (trace_view l.trace.items) (progress_tree l.progress);
+  recorded : Recorded (evaluation (job_view l.initial.job)) (g.R.Refs.heard l.initial.refs).trace (g.R.Refs.heard l.refs).trace
+      [] (progress_trace l.progress) (progress_tree l.progress);
+  job : progress_job l.progress ≡ job_view l.initial.job;
 }
 
-abbrev pub decreases-loop-end : goal.decreases-loop-end
-decreases-loop-end g l = progress_calls l.progress
+abbrev pub decreases-loop-ending : goal.decreases-loop-ending
+decreases-loop-ending g l = progress_calls l.progress

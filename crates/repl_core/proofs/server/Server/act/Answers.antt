@@ -12,7 +12,7 @@ pub returns-in_ok-hand-in-Some-clause-world : goal.returns-in_ok-hand-in-Some-cl
 returns-in_ok-hand-in-Some-clause-world c = λ r w right h.
     let in_hand = hand_view c.in-Some.in_hand in
     let leaves = gone_on-leaves in_hand in_hand.running w in
-    let shown = c.in_ok-hand-in-Some.ensures w h.replies h.bindings in
+    let shown = c.in_ok-hand-in-Some.ensures w h.replies h.bindings h.retries in
     let server : Server = record {
       alloc = c.args.self.now.alloc;
       retries = c.args.self.now.retries;

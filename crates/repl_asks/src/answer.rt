@@ -1,0 +1,94 @@
+// The answers, by their kinds.
+ghost use Rattle.std.specs.Prelude.{◌≡◌, IfOk};
+ghost use Rattle.repl_asks.specs.Exchange.{kind_of, resolution_in};
+ghost use Rattle.repl_asks.specs.View.{answer_view, named_view, resolution_view};
+
+use crate::ask::AnswerKind;
+use function_names::CoreFunction;
+use repl_values::{Fault, Value, copy};
+use special_forms::Function;
+use std::alloc::AllocError;
+
+/// A function that has a name.
+#[derive(Debug, Drop)]
+pub enum NamedFunction {
+    /// One of the language.
+    Core(CoreFunction),
+    /// One that the program defined.
+    Program(Function),
+}
+
+/// What a symbol names.
+#[derive(Debug, Drop)]
+pub enum Resolution {
+    Value(Value),
+    Function(NamedFunction),
+    /// Nothing, and why.
+    Nothing(Fault),
+}
+
+/// What the store answers.
+#[derive(Debug, Drop)]
+pub enum Answer {
+    Resolution(Resolution),
+    /// What was asked for is done, and gives no value.
+    Done,
+}
+
+impl NamedFunction {
+    /// The same function once more. It takes one step, and fails only where 2^63 owners share a part of it.
+    pub fn copy(&self) -> Result<NamedFunction, AllocError>
+        ensures { IfOk result (λ copied. named_view copied ≡ named_view self.now) }
+    {
+        match self {
+            NamedFunction::Core(function) => Ok(NamedFunction::Core(*function)),
+            NamedFunction::Program(function) => Ok(NamedFunction::Program(function.copy()?)),
+        }
+    }
+}
+
+impl Resolution {
+    /// The same once more. It takes one step, and fails only where 2^63 owners share a part of it.
+    pub fn copy(&self) -> Result<Resolution, AllocError>
+        ensures { IfOk result (λ copied. resolution_view copied ≡ resolution_view self.now) }
+    {
+        match self {
+            Resolution::Value(value) => Ok(Resolution::Value(copy(value)?)),
+            Resolution::Function(function) => Ok(Resolution::Function(function.copy()?)),
+            Resolution::Nothing(fault) => Ok(Resolution::Nothing(fault.copy()?)),
+        }
+    }
+}
+
+impl Answer {
+    /// What kind of answer it is.
+    pub fn kind(&self) -> AnswerKind
+        ensures { result ≡ kind_of (answer_view self.now) }
+    {
+        match self {
+            Answer::Resolution(_) => AnswerKind::Resolution,
+            Answer::Done => AnswerKind::Completion,
+        }
+    }
+
+    /// What it says of a symbol. An answer of another kind, which fits no symbol, counts as nil.
+    #[tactic(auto, using(value_data::proofs::Views::value_views))]
+    pub fn into_resolution(self) -> Resolution
+        ensures { resolution_view result ≡ resolution_in (answer_view self) }
+    {
+        match self {
+            Answer::Resolution(resolution) => resolution,
+            Answer::Done => Resolution::Value(Value::Nil),
+        }
+    }
+
+    /// The same answer once more. It takes one step, and fails only where 2^63 owners share a part of it.
+    pub fn copy(&self) -> Result<Answer, AllocError>
+        ensures { IfOk result (λ copied. answer_view copied ≡ answer_view self.now) }
+    {
+        match self {
+            Answer::Resolution(resolution) => Ok(Answer::Resolution(resolution.copy()?)),
+            Answer::Done => Ok(Answer::Done),
+        }
+    }
+}

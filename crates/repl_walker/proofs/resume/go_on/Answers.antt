@@ -1,9 +1,0 @@
-use Rattle.std.proofs.Common.{◌≡◌, ◌∙◌, subst}
-use Rattle.repl_walker.specs.Machine.{leg_tree, tree}
-use Rattle.repl_walker.specs.declared.resume.Leg.{Leg}
-use Rattle.repl_walker.proofs.resume.go_on.Goals as goal
-
-pub returns-in-Asks-clause-meaning : goal.returns-in-Asks-clause-meaning
-returns-in-Asks-clause-meaning c =
-    let P : Leg → Type 0 = λ leg. leg_tree leg c.run_leg.new.state ≡ tree c.args.control c.args.state in
-    subst P c.in-Asks.is (c.in_ok-end.ensures.meaning ∙ c.loop-state.invariant.2)

@@ -1,0 +1,32 @@
+-- What an evaluation that came so far has still to do, of which job, and after what.
+use Rattle.std.specs.Prelude.{◌≡◌, List, [], ◌∷◌, ◌++◌}
+use Rattle.repl_asks.specs.Exchange.{AskData, AnswerData, Exchanged}
+use Rattle.repl_asks.specs.View.{ask_view, trace_view}
+use Rattle.repl_jobs.specs.Job.{JobData}
+use Rattle.repl_jobs.specs.View.{job_view, finished_view}
+use Rattle.walker_machine.specs.Tree.{Tree, finished, asks}
+use Rattle.walker_machine.specs.Waits as machine
+use Rattle.repl_walker.specs.declared.waiting.Walk.{Walk}
+use Rattle.repl_walker.specs.declared.waiting.Progress.{Progress}
+
+abbrev pub behind : Walk → AnswerData → Tree
+behind w = machine.behind w.waiting
+
+abbrev pub walk_tree : Walk → Tree
+walk_tree w = asks (ask_view w.ask) (behind w)
+
+abbrev pub progress_tree : Progress → Tree
+progress_tree (Progress.Asks w) = walk_tree w
+progress_tree (Progress.Ends e) = finished (finished_view e.finished)
+
+abbrev pub progress_job : Progress → JobData
+progress_job (Progress.Asks w) = job_view w.job
+progress_job (Progress.Ends e) = job_view e.job
+
+abbrev pub progress_trace : Progress → List Exchanged
+progress_trace (Progress.Asks w) = trace_view w.trace.items
+progress_trace (Progress.Ends e) = trace_view e.trace.items
+
+-- the trace with one more answer, to what a walk asks
+abbrev pub trace_with : Walk → AnswerData → List Exchanged
+trace_with w answer = trace_view w.trace.items ++ record { ask = ask_view w.ask; answer = answer } ∷ []

@@ -1,0 +1,60 @@
+// An evaluation that waits for an answer.
+ghost use Rattle.std.specs.Prelude.{◌≡◌};
+ghost use Rattle.repl_asks.specs.View.{ask_view, trace_view};
+ghost use Rattle.repl_jobs.specs.View.{job_view};
+ghost use Rattle.walker_machine.specs.Tree.{asks};
+ghost use Rattle.walker_machine.specs.Waits.{behind};
+ghost use Rattle.repl_walker.specs.Led.{LedTo};
+
+use crate::ending::Ending;
+use repl_asks::{Ask, Exchange, Trace};
+use repl_jobs::Job;
+use walker_machine::Waiting;
+
+/// An evaluation that waits for the answer to its ask: its job, and what was asked and answered before.
+#[derive(Drop)]
+pub struct Walk {
+    pub(crate) job: Job,
+    pub(crate) trace: Trace,
+    pub(crate) ask: Ask,
+    pub(crate) waiting: Waiting,
+    // Its trace led its job to this ask.
+    ghost led: { LedTo (job_view job) (trace_view trace.items) (asks (ask_view ask) (behind waiting)) },
+}
+
+/// How far an evaluation came: to its next ask, or to its end.
+#[derive(Drop)]
+pub enum Progress {
+    Asks(Walk),
+    Ends(Ending),
+}
+
+impl Walk {
+    /// What is evaluated.
+    pub fn job(&self) -> &Job
+        ensures { result.now ≡ self.now.job }
+    {
+        &self.job
+    }
+
+    /// What was asked and answered so far, in order.
+    pub fn trace(&self) -> &[Exchange]
+        ensures { result.now ≡ self.now.trace.items }
+    {
+        self.trace.as_slice()
+    }
+
+    /// What is asked.
+    pub fn ask(&self) -> &Ask
+        ensures { result.now ≡ self.now.ask }
+    {
+        &self.ask
+    }
+
+    /// Its trace led its job to its ask. The function does nothing: whoever is lent a walk can use what
+    /// it ensures.
+    pub fn comes_from_its_job(&self)
+        ensures { LedTo (job_view self.now.job) (trace_view self.now.trace.items)
+            (asks (ask_view self.now.ask) (behind self.now.waiting)) }
+    {}
+}

@@ -1,0 +1,157 @@
+-- Forms in a row, of which some have values already.
+use mathlib.Core.Path.{fun_ext}
+use Rattle.std.specs.Prelude.{string_bytes}
+use Rattle.std.proofs.Common.{◌≡◌, ℕ, ◌<◌, Bool, true, false, if◌then◌else◌, Option, Some, None, MatchOption, subst, Result, Ok, Err, IfOk, List, [], ◌∷◌, ◌++◌, refl, sym, ap, ◌∙◌, append_assoc, append-nil, zero, suc, length, nat_lt, arith}
+use Rattle.std.proofs.lemmas.List.{map-append, length-map}
+use Rattle.std.proofs.lemmas.Bool.Decides.{nat_tests}
+use Rattle.std.proofs.lemmas.Grind.{common_steps}
+use Rattle.value_data.specs.Datum.{Datum, Items, no_items, item, Pairs, list, vector, map}
+use Rattle.value_data.specs.Listed.{listed}
+use Rattle.value_data.specs.View.{view}
+use Rattle.value_data.specs.declared.value.Value as value
+use Rattle.value_data.proofs.Lists.{lists}
+use Rattle.value_data.proofs.Views.{value_views}
+use Rattle.repl_values.specs.declared.fault.Fault.{Fault}
+use Rattle.repl_faults.specs.Failure.{Failure, output_too_long}
+use Rattle.repl_faults.specs.View.{failure_of}
+use Rattle.repl_faults.specs.declared.error.ApplyError.{ApplyError}
+use Rattle.function_names.specs.Names.{fits}
+use Rattle.core_functions.specs.Meaning.{meaning}
+use Rattle.core_functions.specs.View.{FailsIn}
+use Rattle.core_texts.specs.Limits.{most_text}
+use Rattle.core_functions.specs.Outcome as outcomes
+use Rattle.core_functions.specs.Outcome.{Outcome, bounded}
+use Rattle.special_forms.proofs.Sizes.{datum_size-pos, datum_size-list, datum_size-vector, datum_size-map}
+use Rattle.special_forms.specs.Rows.{BoundForm, in_a_row}
+use Rattle.special_forms.specs.Seen.{views, forms_view, binding_view}
+use Rattle.special_forms.specs.declared.forms.Binding.{Binding}
+use Rattle.special_forms.specs.declared.forms.Forms.{Forms}
+use Rattle.special_forms.specs.declared.shapes.SpecialForm.{SpecialForm}
+use Rattle.walker_machine.specs.Doing.{Kept, Doing, Part}
+use Rattle.walker_machine.specs.Tree.{Tree, ends}
+use Rattle.walker_machine.specs.Places.{PlaceData}
+use Rattle.walker_machine.specs.Calls.{CalleeData, row, call_value, called, printed, outcome, core_call}
+use Rattle.walker_machine.specs.Evaluation.{value_at}
+use Rattle.walker_machine.specs.Machine.{kept_of, next_of, from_state, tree, call_behind, items_behind, collected, items_value, list_at}
+use Rattle.walker_machine.specs.declared.frames.Collection.{Collection}
+use Rattle.walker_machine.specs.declared.frames.Control.{Control}
+use Rattle.walker_machine.specs.declared.frames.State.{State}
+use Rattle.function_names.specs.declared.function.CoreFunction.{CoreFunction}
+
+-- one more form has its value
+row_step : (walk : Datum → Part Datum) (then_ : List Datum → Kept → Doing) (values : List Datum) (d : Datum) (ds : List Datum)
+    → row walk (d ∷ ds) (λ vs. then_ (values ++ vs)) ≡ walk d (λ v. row walk ds (λ vs. then_ ((values ++ v ∷ []) ++ vs)))
+row_step walk then_ values d ds =
+    ap (walk d) (fun_ext (λ v. ap (row walk ds) (fun_ext (λ vs. ap then_ (sym (append_assoc values (v ∷ []) vs))))))
+
+pub call_step : (room : ℕ) (p : PlaceData) (callee : CalleeData) (values : List Datum) (d : Datum) (ds : List Datum) (next : Datum → Kept → Doing)
+    → call_behind room p callee values (d ∷ ds) next ≡ value_at room p d (λ v. call_behind room p callee (values ++ v ∷ []) ds next)
+unfolding call_behind
+call_step room p callee values d ds next = row_step (value_at room p) (λ vs. called (value_at room) callee vs next) values d ds
+
+pub items_step : (room : ℕ) (p : PlaceData) (kind : Collection) (values : List Datum) (d : Datum) (ds : List Datum) (next : Datum → Kept → Doing)
+    → items_behind room p kind values (d ∷ ds) next ≡ value_at room p d (λ v. items_behind room p kind (values ++ v ∷ []) ds next)
+unfolding items_behind
+items_step room p kind values d ds next = row_step (value_at room p) (λ vs. collected kind vs next) values d ds
+
+pub call_last : (room : ℕ) (p : PlaceData) (callee : CalleeData) (values : List Datum) (next : Datum → Kept → Doing)
+    → call_behind room p callee values [] next ≡ called (value_at room) callee values next
+unfolding call_behind
+call_last room p callee values next = ap (λ vs. called (value_at room) callee vs next) (append-nil values)
+
+pub items_last : (room : ℕ) (p : PlaceData) (kind : Collection) (values : List Datum) (next : Datum → Kept → Doing)
+    → items_behind room p kind values [] next ≡ collected kind values next
+unfolding items_behind
+items_last room p kind values next = ap (λ vs. collected kind vs next) (append-nil values)
+
+pub views-last : (vs : List value.Value) (v : value.Value) → views (vs ++ v ∷ []) ≡ views vs ++ view v ∷ []
+views-last vs v = map-append view vs (v ∷ [])
+
+pub ruleset steps = (value_views, lists, call_step, items_step, call_last, items_last)
+
+pub list-at : (room : ℕ) (p : PlaceData) (ds : Items) → value_at room p (list ds) ≡ list_at room p (listed ds)
+list-at room p no_items = refl
+list-at zero p (item d ds) = refl
+list-at (suc room) p (item d ds) = refl
+
+pub vector-at : (room : ℕ) (p : PlaceData) (ds : Items) → value_at room p (vector ds) ≡ items_value room p Collection.Vector (listed ds)
+vector-at zero p ds = refl
+vector-at (suc room) p ds = refl
+
+pub map-at : (room : ℕ) (p : PlaceData) (ps : Pairs) → value_at room p (map ps) ≡ items_value room p Collection.Map (in_a_row ps)
+map-at zero p ps = refl
+map-at (suc room) p ps = refl
+
+pub ruleset first_steps = (value_views, list-at, vector-at, map-at, datum_size-pos, datum_size-list, datum_size-vector, datum_size-map)
+
+-- what comes next is the one, and so the other
+pub if_ok-turned : {A E : Type 0} (F : A → Tree) {t u : Tree} (r : Result A E) → t ≡ u → IfOk r (λ a. F a ≡ t) → IfOk r (λ a. F a ≡ u)
+if_ok-turned F (Ok a) turned h = h ∙ turned
+if_ok-turned F (Err e) turned h = tt
+
+-- no argument has its value yet
+pub call_start : (room : ℕ) (p : PlaceData) (callee : CalleeData) (ds : List Datum) (next : Datum → Kept → Doing)
+    → call_behind room p callee [] ds next ≡ call_value (value_at room) p ds callee next
+unfolding call_behind
+call_start room p callee ds next = refl
+
+pub forms-chosen : (b : Bool) (consequent alternative body : Forms) → body ≡ (if b then consequent else alternative)
+    → forms_view body ≡ (if b then forms_view consequent else forms_view alternative)
+forms-chosen true consequent alternative body chosen = ap forms_view chosen
+forms-chosen false consequent alternative body chosen = ap forms_view chosen
+
+-- a text that is longer than all that may be printed passes the limit wherever it stands
+printed-long : (text : List ℕ) (d : Datum) (s : State) → most_text < length text
+    → from_state (printed text d) s ≡ ends (Err output_too_long) (string_bytes s.text) (kept_of s)
+unfolding printed
+printed-long text d s h = grind (arith, common_steps, nat_tests, h)
+
+pub outcome-bounded : (o : Outcome) (s : State) → from_state (outcome (bounded o)) s ≡ from_state (outcome o) s
+outcome-bounded (outcomes.gives d text) s = by_test (nat_lt most_text (length text)) refl
+  where
+    by_test : (t : Bool) → nat_lt most_text (length text) ≡ t
+        → from_state (outcome (if t then outcomes.fails output_too_long else outcomes.gives d text)) s ≡ from_state (printed text d) s
+    by_test true e = sym (printed-long text d s (grind (arith, nat_tests, e)))
+    by_test false e = refl
+outcome-bounded (outcomes.fails f) s = refl
+
+pub outcome-gives : (o : Outcome) (d : Datum) (text : List ℕ) (s : State) → bounded o ≡ outcomes.gives d text
+    → from_state (outcome o) s ≡ from_state (printed text d) s
+outcome-gives o d text s h = sym (outcome-bounded o s) ∙ ap (λ (p : Outcome). from_state (outcome p) s) h
+
+pub outcome-fails : (o : Outcome) (f : Failure) (s : State) → bounded o ≡ outcomes.fails f
+    → from_state (outcome o) s ≡ ends (Err f) (string_bytes s.text) (kept_of s)
+outcome-fails o f s h = sym (outcome-bounded o s) ∙ ap (λ (p : Outcome). from_state (outcome p) s) h
+
+pub ruleset bounds = (value_views, outcome-gives, outcome-fails)
+
+-- a form that was taken from the front
+pub form-taken : (X : Type 0) (o : Option value.Value) (v : value.Value) (old new : List Datum) → MatchOption o X (λ form. old ≡ view form ∷ new) → o ≡ Some v → old ≡ view v ∷ new
+form-taken X o v old new told is = let P : Option value.Value → Type 0 = λ p. MatchOption p X (λ form. old ≡ view form ∷ new) in subst P is told
+
+-- and so of a name and a form of `let`
+pub binding-taken : (X : Type 0) (o : Option Binding) (b : Binding) (old new : List BoundForm)
+    → MatchOption o X (λ bound. old ≡ binding_view bound ∷ new) → o ≡ Some b → old ≡ binding_view b ∷ new
+binding-taken X o b old new told is =
+    let P : Option Binding → Type 0 = λ p. MatchOption p X (λ bound. old ≡ binding_view bound ∷ new) in subst P is told
+
+-- what holds wherever the machine stands holds where it stands
+pub if_ok-part : {E : Type 0} (r : Result Control E) (p q : Part Datum) → p ≡ q
+    → IfOk r (λ control. (s : State) → tree control s ≡ from_state p s) → IfOk r (λ control. (s : State) → tree control s ≡ from_state q s)
+if_ok-part (Ok control) p q same h = λ s. h s ∙ ap (λ (part : Part Datum). from_state part s) same
+if_ok-part (Err e) p q same h = tt
+
+pub if_ok-here : {E : Type 0} (r : Result Control E) (p q : Part Datum) (s : State) → p ≡ q
+    → IfOk r (λ control. (t : State) → tree control t ≡ from_state p t) → IfOk r (λ control. tree control s ≡ from_state q s)
+if_ok-here (Ok control) p q s same h = h s ∙ ap (λ (part : Part Datum). from_state part s) same
+if_ok-here (Err e) p q s same h = tt
+
+pub core_call-fits : (f : CoreFunction) (vs : List value.Value) → true ≡ fits f (length vs) → outcome (meaning f (views vs)) ≡ core_call f (views vs)
+unfolding core_call
+core_call-fits f vs h = let takes : fits f (length (views vs)) ≡ true = ap (fits f) (length-map vs view) ∙ sym h in rw takes refl
+
+-- the fault of a function, which ends the evaluation
+pub fails-told : (o : Outcome) (e : ApplyError) (f : Fault) (s : State) → FailsIn (bounded o) e → e ≡ ApplyError.Fault f
+    → ends (Err (failure_of f)) (string_bytes s.text) (kept_of s) ≡ from_state (outcome o) s
+fails-told o e f s told is =
+    let P : ApplyError → Type 0 = λ d. FailsIn (bounded o) d in sym (outcome-fails o (failure_of f) s (subst P is told))

@@ -1,0 +1,12 @@
+use Rattle.walker_machine.specs.Calls.{outcome, core_call}
+use Rattle.special_forms.specs.Seen.{views}
+use Rattle.core_functions.specs.Meaning.{meaning}
+use Rattle.walker_machine.proofs.Evaluating.{if_ok-here, core_call-fits}
+use Rattle.walker_machine.proofs.calls.call_core.Goals as goal
+
+pub returns-in-Err-clause-meaning : goal.returns-in-Err-clause-meaning
+returns-in-Err-clause-meaning c =
+    let f = c.args.function in
+    let values = c.args.values.now in
+    if_ok-here _ (outcome (meaning f (views values))) (core_call f (views values)) c.args.state.now (core_call-fits f values (c.if-not-takes.ensures))
+    (c.failed.ensures.meaning (meaning f (views values)) c.in-Err.ensures)

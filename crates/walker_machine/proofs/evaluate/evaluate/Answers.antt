@@ -1,0 +1,24 @@
+use Rattle.std.proofs.Common.{ap, sym, arith, rules}
+use Rattle.value_data.specs.Datum.{Datum}
+use Rattle.value_data.specs.View.{view}
+use Rattle.walker_machine.specs.Doing.{Part}
+use Rattle.walker_machine.specs.Machine.{place_of, from_state}
+use Rattle.value_data.proofs.Views.{value_views}
+use Rattle.special_forms.proofs.Sizes.{datum_size-pos}
+use Rattle.walker_machine.proofs.Evaluating.{if_ok-turned, list-at}
+use Rattle.walker_machine.proofs.evaluate.evaluate.Goals as goal
+
+pub returns-in-List-clause-meaning : goal.returns-in-List-clause-meaning
+returns-in-List-clause-meaning c =
+    let s = c.args.state.now in
+    if_ok-turned _ _ (rw c.in-List.is
+    (ap (λ (part : Part Datum). from_state part s) (sym (list-at c.args.room (place_of s) c.in-List.items.items))))
+    c.evaluate_list.ensures.meaning
+
+pub returns-in_default : goal.returns-in_default
+returns-in_default c =
+    record {
+      size = omega (arith, datum_size-pos (view c.args.form));
+      calls = omega arith;
+      meaning = search (rules, value_views);
+    }

@@ -1,0 +1,49 @@
+-- How much an evaluation has still to do, for the proof that it ends. No promise speaks of it.
+use Rattle.std.specs.Prelude.{ℕ, ◌+◌, ◌*◌, List, sum_by}
+use Rattle.value_data.specs.View.{view}
+use Rattle.special_forms.specs.Rows.{bindings_in}
+use Rattle.special_forms.specs.Seen.{forms_view}
+use Rattle.special_forms.specs.Size.{datum_size, forms_size, bindings_size}
+use Rattle.walker_machine.specs.declared.frames.Frame.{Frame}
+use Rattle.walker_machine.specs.declared.frames.State.{State}
+use Rattle.walker_machine.specs.declared.frames.SymbolUse.{SymbolUse}
+use Rattle.walker_machine.specs.declared.frames.Wanted.{Wanted}
+use Rattle.walker_machine.specs.declared.frames.Control.{Control}
+
+abbrev pub frame_size : Frame → ℕ
+frame_size (Frame.Arguments callee values forms room) = 1 + forms_size (forms_view forms)
+frame_size (Frame.Collection kind values forms room) = 1 + forms_size (forms_view forms)
+frame_size (Frame.Body forms room) = 1 + forms_size (forms_view forms)
+frame_size (Frame.Choice consequent alternative room) = 1 + (forms_size (forms_view consequent) + forms_size (forms_view alternative))
+frame_size (Frame.Logic logic forms room) = 1 + forms_size (forms_view forms)
+frame_size (Frame.Let name bindings body room) = 2 + (bindings_size (bindings_in (forms_view bindings)) + forms_size (forms_view body))
+frame_size (Frame.Define name) = 2
+frame_size Frame.Throw = 1
+frame_size Frame.Unbind = 1
+frame_size (Frame.Leave place) = 1
+
+abbrev pub frames_size : List Frame → ℕ
+frames_size = sum_by frame_size
+
+abbrev pub use_size : SymbolUse → ℕ
+use_size (SymbolUse.Value name) = 2
+use_size (SymbolUse.Head forms room) = 2 + forms_size (forms_view forms)
+
+abbrev pub wanted_size : Wanted → ℕ
+wanted_size (Wanted.Resolution purpose) = use_size purpose
+wanted_size (Wanted.Completion v) = 2
+
+abbrev pub control_size : Control → ℕ
+control_size (Control.Evaluate form room) = 3 * datum_size (view form)
+control_size (Control.Return v) = 1
+control_size (Control.Fault f) = 0
+control_size (Control.Ask ask wanted) = wanted_size wanted
+control_size (Control.Enter function values room) = 0
+
+-- a call is taken from the budget before a function's body is entered
+abbrev pub spent : Control → ℕ
+spent (Control.Evaluate form room) = 0
+spent (Control.Return v) = 0
+spent (Control.Fault f) = 0
+spent (Control.Ask ask wanted) = 0
+spent (Control.Enter function values room) = 1

@@ -1,0 +1,52 @@
+-- An evaluation as others see it: it ends, or asks and goes on with the answer.
+use Rattle.std.specs.Prelude.{◌≡◌, ⊤, ℕ, ◌+◌, List, [], ◌∷◌, ◌++◌, Result, Ok, Err, length, nat_lt, if◌then◌else◌, codes}
+use Rattle.value_data.specs.Datum.{Datum}
+use Rattle.core_texts.specs.Limits.{most_text}
+use Rattle.repl_faults.specs.Failure as failures
+use Rattle.repl_faults.specs.Failure.{Failure}
+use Rattle.repl_jobs.specs.Job.{EndData}
+use Rattle.repl_asks.specs.Exchange.{AskData, AnswerData, Exchanged}
+use Rattle.walker_machine.specs.Doing.{Kept, Exit, gave, failed, retried, Doing, left, asking, printing, looking, noting}
+
+pub data Tree : Type 0 where
+  finished : EndData → Tree
+  asks : AskData → (AnswerData → Tree) → Tree
+
+abbrev pub ends : Result Datum Failure → List ℕ → Kept → Tree
+ends r text kept = finished (record { result = r; text = text; namespace = kept.namespace })
+
+-- outside of transactions there is no attempt to make again
+abbrev pub ended : Exit → List ℕ → Kept → Tree
+ended (gave d) text kept = ends (Ok d) text kept
+ended (failed f) text kept = ends (Err f) text kept
+ended retried text kept = ends (Err (failures.runtime (codes "Transaction failed after reaching retry limit"))) text kept
+
+-- The whole, where `before` was printed so far. Text that would pass the limit is not printed at all. Outside of
+-- transactions no operations are noted.
+abbrev pub written : List ℕ → Doing → Tree
+written before (left exit kept) = ended exit before kept
+written before (asking ask behind) = asks ask (λ answer. written before (behind answer))
+written before (printing text kept d) =
+    if nat_lt most_text (length before + length text) then ends (Err failures.output_too_long) before kept
+    else written (before ++ text) d
+written before (looking behind) = written before (behind [])
+written before (noting operation d) = written before d
+
+-- The exchanges lead from one tree to the other: each ask is what the evaluation asks next, after the answers before
+-- it, and the evaluation goes on with its answer.
+abbrev pub Leads : Tree → List Exchanged → Tree → Type 0
+Leads start [] end = start ≡ end
+Leads (finished e) (x ∷ xs) end = ⊥
+Leads (asks ask behind) (x ∷ xs) end = (x.ask ≡ ask) × Leads (behind x.answer) xs end
+
+-- what is still done after these answers; behind the end there is nothing
+abbrev pub after : Tree → List Exchanged → Tree
+after t [] = t
+after (finished e) (x ∷ xs) = finished e
+after (asks ask behind) (x ∷ xs) = after (behind x.answer) xs
+
+-- each ask of a trace is what the evaluation asks next
+abbrev pub AreItsAsks : Tree → List Exchanged → Type 0
+AreItsAsks t [] = ⊤
+AreItsAsks (finished e) (x ∷ xs) = ⊥
+AreItsAsks (asks ask behind) (x ∷ xs) = (x.ask ≡ ask) × AreItsAsks (behind x.answer) xs

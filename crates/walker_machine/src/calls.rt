@@ -1,0 +1,204 @@
+// Calls: first one call is taken from the budget, then the number of arguments is checked, then the
+// function is applied.
+ghost use Rattle.std.specs.Prelude.{◌≡◌, ◌+◌, ◌<◌, ◌≤◌, [], map, IfOk};
+ghost use Rattle.std.specs.Arc.{arc_str_bytes};
+ghost use Rattle.core_functions.specs.Outcome.{Outcome, bounded};
+ghost use Rattle.core_functions.specs.View.{FailsIn};
+ghost use Rattle.value_data.specs.View.{view};
+ghost use Rattle.walker_machine.specs.Machine.{callee_view, from_state, tree};
+ghost use Rattle.walker_machine.specs.declared.frames.State.{State};
+ghost use Rattle.special_forms.specs.Seen.{views, function_view};
+ghost use Rattle.walker_machine.specs.Size.{control_size, frames_size, spent};
+ghost use Rattle.walker_machine.specs.Calls.{body_value, bound_to, called, core_call, get_arguments, keyword_call, outcome, printed, program_call};
+ghost use Rattle.walker_machine.specs.Evaluation.{value_at};
+
+use crate::frames::{Callee, Control, Frame, Place, State};
+use crate::rows::next_in_body;
+use core_functions::{Applied, CoreFunction, apply};
+use core_maps::MapFunction;
+use local_names::Locals;
+use repl_asks::NamedFunction;
+use repl_faults::{ApplyError, output_too_long, too_many_calls, wrong_arity};
+use repl_values::{Value, copy_text};
+use special_forms::Function;
+use std::alloc::{AllocError, Global};
+use std::collections::VecDeque;
+use std::mem;
+use std::sync::ArcStr;
+
+// The most that an evaluation may print, in bytes.
+const MOST_TEXT: usize = 1_048_576;
+
+#[tactic(auto, unfolding(crate::specs::Calls::called))]
+pub(crate) fn call(
+    alloc: Global,
+    state: &mut State,
+    callee: Callee,
+    values: Vec<Value>,
+    room: u32,
+) -> Result<Control, AllocError>
+    ensures size { IfOk result (λ control. control_size control + frames_size state.new.frames.items
+        < 2 + frames_size state.old.frames.items) }
+    ensures calls { IfOk result (λ control. spent control + state.new.calls ≤ state.old.calls) }
+    ensures meaning { IfOk result (λ control. tree control state.new ≡ from_state (called (value_at room) (callee_view callee) (views values.items)) state.old) }
+{
+    if state.calls == 0 {
+        return Ok(Control::Fault(too_many_calls(alloc)?));
+    }
+    state.calls -= 1;
+    match callee {
+        Callee::Named(NamedFunction::Core(function)) => {
+            call_core(alloc, state, function, values.as_slice())
+        }
+        Callee::Named(NamedFunction::Program(function)) => {
+            call_function(alloc, function, values, room)
+        }
+        Callee::Keyword(name) => call_keyword(alloc, state, name, values),
+    }
+}
+
+#[tactic(auto, using(crate::proofs::Evaluating::bounds), unfolding(crate::specs::Calls::core_call))]
+fn call_core(
+    alloc: Global,
+    state: &mut State,
+    function: CoreFunction,
+    values: &[Value],
+) -> Result<Control, AllocError>
+    ensures size { IfOk result (λ control. control_size control + frames_size state.new.frames.items
+        < 2 + frames_size state.old.frames.items) }
+    ensures calls { IfOk result (λ control. spent control + state.new.calls ≤ state.old.calls) }
+    ensures meaning { IfOk result (λ control. tree control state.new ≡ from_state (core_call function (views values.now)) state.old) }
+{
+    if !function.takes(values.len()) {
+        let fault = wrong_arity(alloc, function.name(), values.len())?;
+        return Ok(Control::Fault(fault));
+    }
+    match apply(alloc, function, values) {
+        Ok(applied) => {
+            let Applied { value, text } = applied;
+            print(alloc, state, text.as_str(), value)
+        }
+        Err(error) => failed(error),
+    }
+}
+
+// The fault of a function ends the evaluation.
+fn failed(error: ApplyError) -> Result<Control, AllocError>
+    ensures size { IfOk result (λ control. control_size control < 2) }
+    ensures calls { IfOk result (λ control. spent control ≡ 0) }
+    ensures meaning { (o : Outcome) → FailsIn (bounded o) error → IfOk result (λ control. (s : State) → tree control s ≡ from_state (outcome o) s) }
+{
+    match error {
+        ApplyError::Fault(fault) => Ok(Control::Fault(fault)),
+        ApplyError::NoMemory => Err(AllocError),
+    }
+}
+
+// The value, with this text printed. Text that would pass the limit is not printed at all.
+#[tactic(auto, unfolding(crate::specs::Calls::printed))]
+fn print(alloc: Global, state: &mut State, text: &str, value: Value) -> Result<Control, AllocError>
+    ensures size { IfOk result (λ control. control_size control + frames_size state.new.frames.items
+        < 2 + frames_size state.old.frames.items) }
+    ensures calls { IfOk result (λ control. spent control + state.new.calls ≤ state.old.calls) }
+    ensures meaning { IfOk result (λ control. tree control state.new ≡ from_state (printed text.now (view value)) state.old) }
+{
+    if state.text.len().saturating_add(text.len()) > MOST_TEXT {
+        return Ok(Control::Fault(output_too_long(alloc)?));
+    }
+    state.text.push_str(text)?;
+    Ok(Control::Return(value))
+}
+
+// `(:name map)` and `(:name map default)` look the keyword up.
+#[tactic(auto, unfolding(crate::specs::Calls::keyword_call))]
+fn call_keyword(
+    alloc: Global,
+    state: &mut State,
+    name: ArcStr,
+    values: Vec<Value>,
+) -> Result<Control, AllocError>
+    ensures size { IfOk result (λ control. control_size control + frames_size state.new.frames.items
+        < 2 + frames_size state.old.frames.items) }
+    ensures calls { IfOk result (λ control. spent control + state.new.calls ≤ state.old.calls) }
+    ensures meaning { IfOk result (λ control. tree control state.new ≡ from_state (keyword_call (arc_str_bytes name) (views values.items)) state.old) }
+{
+    if values.len() == 1 || values.len() == 2 {
+        let get = CoreFunction::Map(MapFunction::Get);
+        let args = get_arguments(name, values)?;
+        return call_core(alloc, state, get, args.as_slice());
+    }
+    let mut text = String::from_str(alloc, ":")?;
+    text.push_str(name.as_str())?;
+    let fault = wrong_arity(alloc, text.as_str(), values.len())?;
+    Ok(Control::Fault(fault))
+}
+
+// The map, the keyword and what comes behind the map.
+#[tactic(auto, using(value_data::proofs::Views::value_views))]
+fn get_arguments(name: ArcStr, mut values: Vec<Value>) -> Result<Vec<Value>, AllocError>
+    ensures { IfOk result (λ args. views args.items ≡ get_arguments (arc_str_bytes name) (views values.items)) }
+{
+    if !values.is_empty() {
+        values.insert(1, Value::Keyword(name))?;
+    }
+    Ok(values)
+}
+
+#[tactic(auto, unfolding(crate::specs::Calls::program_call))]
+fn call_function(
+    alloc: Global,
+    function: Function,
+    values: Vec<Value>,
+    room: u32,
+) -> Result<Control, AllocError>
+    ensures size { IfOk result (λ control. control_size control < 2) }
+    ensures meaning { IfOk result (λ control. (s : State) → tree control s ≡ from_state (program_call (value_at room) (function_view function) (views values.items)) s) }
+{
+    if function.params.len() == values.len() {
+        return Ok(Control::Enter(function, values, room));
+    }
+    let mut name = String::from_str(alloc, function.space.as_str())?;
+    name.push_str("/")?;
+    name.push_str(function.name.as_str())?;
+    let fault = wrong_arity(alloc, name.as_str(), values.len())?;
+    Ok(Control::Fault(fault))
+}
+
+// The function's body is evaluated with its parameters as the only locals.
+pub(crate) fn enter(
+    alloc: Global,
+    state: &mut State,
+    function: Function,
+    values: Vec<Value>,
+    room: u32,
+) -> Result<Control, AllocError>
+    ensures calls { IfOk result (λ control. spent control + state.new.calls ≤ state.old.calls) }
+    ensures meaning { IfOk result (λ control. tree control state.new ≡ from_state (body_value (value_at room) (function_view function) (views values.items)) state.old) }
+{
+    let Function {
+        space,
+        name: _,
+        params,
+        body,
+    } = function;
+    let locals = bound(alloc, &params, values)?;
+    let home = Some(space);
+    let place = mem::replace(&mut state.place, Place { locals, home });
+    state.frames.push_front(Frame::Leave { place })?;
+    next_in_body(state, Value::Nil, body, room)
+}
+
+// Each parameter with its argument, the last in front.
+fn bound(alloc: Global, params: &[ArcStr], values: Vec<Value>) -> Result<Locals, AllocError>
+    ensures { IfOk result (λ locals. locals ≡ bound_to [] (map arc_str_bytes params.now) (views values.items)) }
+{
+    let mut values = VecDeque::from_vec(values);
+    let mut locals = Locals::none(alloc);
+    for name in params {
+        let Some(value) = values.pop_front() else {
+            return Ok(locals);
+        };
+        locals.bind(copy_text(name)?, value)?;
+    }
+    Ok(locals)
+}

@@ -1,0 +1,19 @@
+//! The machine of the walker: the frames of an evaluation, and its steps from one ask to the next.
+//!
+//! It has no store and no stack of its own calls. `begin` evaluates a job up to its first ask, and
+//! `Waiting::go_on` goes on with an answer.
+#![tactic(auto)]
+
+mod answers;
+mod calls;
+mod collect;
+mod evaluate;
+mod frames;
+mod give;
+mod names;
+mod rows;
+mod special;
+mod steps;
+
+pub use names::names_function;
+pub use steps::{Reached, Waiting, begin};

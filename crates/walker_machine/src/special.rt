@@ -1,0 +1,117 @@
+// The special forms.
+ghost use Rattle.std.specs.Prelude.{◌≡◌, ◌+◌, ◌<◌, ◌≤◌, map, IfOk};
+ghost use Rattle.std.specs.Arc.{arc_str_bytes};
+ghost use Rattle.repl_asks.specs.View.{binding_view};
+ghost use Rattle.walker_machine.specs.Machine.{place_of, from_state, tree};
+ghost use Rattle.special_forms.specs.Seen.{forms_view, shape_view};
+ghost use Rattle.special_forms.specs.Shapes.{shape_of};
+ghost use Rattle.special_forms.specs.Size.{forms_size, shape_size};
+ghost use Rattle.walker_machine.specs.Size.{control_size, frames_size, spent};
+ghost use Rattle.walker_machine.specs.Evaluation.{value_at};
+ghost use Rattle.walker_machine.specs.SpecialForms.{defined, function_defined, shape_value, special_value};
+
+use crate::frames::{Control, Frame, State, Wanted};
+use crate::names::space;
+use crate::rows::{next_binding, next_in_body, next_in_logic};
+use repl_asks::{Ask, Binding};
+use repl_faults::bad_form;
+use repl_values::{Value, copy_text};
+use special_forms::{Forms, Function, Shape, SpecialForm, shape_of};
+use std::alloc::{AllocError, Global};
+use std::sync::{Arc, ArcStr};
+
+pub(crate) fn evaluate_special(
+    alloc: Global,
+    state: &mut State,
+    special: SpecialForm,
+    forms: Forms,
+    room: u32,
+) -> Result<Control, AllocError>
+    ensures size { IfOk result (λ control. control_size control + frames_size state.new.frames.items
+        < 3 + forms_size (forms_view forms) + frames_size state.old.frames.items) }
+    ensures calls { IfOk result (λ control. spent control + state.new.calls ≤ state.old.calls) }
+    ensures meaning { IfOk result (λ control. tree control state.new ≡ from_state (special_value (value_at room) (place_of state.old) special (shape_of special (forms_view forms))) state.old) }
+{
+    match shape_of(alloc, special, forms)? {
+        Some(shape) => begin(alloc, state, shape, room),
+        None => Ok(Control::Fault(bad_form(alloc, special.name())?)),
+    }
+}
+
+fn begin(alloc: Global, state: &mut State, shape: Shape, room: u32) -> Result<Control, AllocError>
+    ensures size { IfOk result (λ control. control_size control + frames_size state.new.frames.items
+        < 2 + shape_size (shape_view shape) + frames_size state.old.frames.items) }
+    ensures calls { IfOk result (λ control. spent control + state.new.calls ≤ state.old.calls) }
+    ensures meaning { IfOk result (λ control. tree control state.new ≡ from_state (shape_value (value_at room) (place_of state.old) (shape_view shape)) state.old) }
+{
+    match shape {
+        Shape::Quote(form) => Ok(Control::Return(form)),
+        Shape::Body(forms) => next_in_body(state, Value::Nil, forms, room),
+        Shape::Choice {
+            condition,
+            consequent,
+            alternative,
+        } => {
+            let frame = Frame::Choice {
+                consequent,
+                alternative,
+                room,
+            };
+            state.frames.push_front(frame)?;
+            Ok(Control::Evaluate(condition, room))
+        }
+        Shape::Let { bindings, body } => next_binding(alloc, state, bindings, body, room),
+        Shape::Logic(logic, forms) => next_in_logic(state, logic, logic.before(), forms, room),
+        Shape::Define { name, form } => {
+            state.frames.push_front(Frame::Define { name })?;
+            Ok(Control::Evaluate(form, room))
+        }
+        Shape::DefineFunction { name, params, body } => {
+            define_function(alloc, state, name, params, body)
+        }
+        Shape::Throw(form) => {
+            state.frames.push_front(Frame::Throw)?;
+            Ok(Control::Evaluate(form, room))
+        }
+    }
+}
+
+fn define_function(
+    alloc: Global,
+    state: &State,
+    name: ArcStr,
+    params: Vec<ArcStr>,
+    body: Forms,
+) -> Result<Control, AllocError>
+    ensures size { IfOk result (λ control. control_size control < 3) }
+    ensures calls { IfOk result (λ control. spent control ≡ 0) }
+    ensures meaning { IfOk result (λ control. tree control state.now ≡ from_state (function_defined (place_of state.now) (arc_str_bytes name) (map arc_str_bytes params.items) (forms_view body)) state.now) }
+{
+    let function = Function {
+        space: space(state)?,
+        name: copy_text(&name)?,
+        params: Arc::new(alloc, params)?,
+        body,
+    };
+    define(state, name, Binding::Function(function))
+}
+
+// Binds the name in the form's namespace. The form's value is the var.
+#[tactic(auto, using(value_data::proofs::Views::value_views))]
+pub(crate) fn define(state: &State, name: ArcStr, binding: Binding) -> Result<Control, AllocError>
+    ensures size { IfOk result (λ control. control_size control < 3) }
+    ensures calls { IfOk result (λ control. spent control ≡ 0) }
+    ensures meaning { IfOk result (λ control. tree control state.now ≡ from_state (defined (place_of state.now) (arc_str_bytes name) (binding_view binding)) state.now) }
+{
+    let namespace = space(state)?;
+    let var = Value::Var {
+        space: copy_text(&namespace)?,
+        name: copy_text(&name)?,
+    };
+    let ask = Ask::Define {
+        namespace,
+        name,
+        binding,
+    };
+    Ok(Control::Ask(ask, Wanted::Completion(var)))
+}
