@@ -89,12 +89,8 @@ moved m w = with_replies m.replies (with_hand m.hand w)
 -- an ask is answered, and the form goes on with the answer
 abbrev pub asked : Hand → AskData → (AnswerData → Tree) → World → World
 asked h ask behind w =
-    with_bindings (bound_after w.bindings ask) (with_hand (Some (record {
-      origin = h.origin;
-      running = Some (behind (resolving.answered w.bindings ask));
-      forms = h.forms;
-      fault = h.fault;
-    })) w)
+    with_bindings (bound_after w.bindings ask)
+    (with_hand (Some (record h { running = Some (behind (resolving.answered w.bindings ask)) })) w)
 
 abbrev pub gone_on : Hand → Option Tree → World → World
 gone_on h None w = moved (begun w.retries h.origin h.forms h.fault) w
@@ -136,16 +132,7 @@ go r w =
 
 abbrev pub drained : World → List ReplyData → Stepped
 drained w [] = refused Refusal.Idle
-drained w (oldest ∷ more) =
-    accepted (record {
-      steps = w.steps;
-      retries = w.retries;
-      heard = w.heard;
-      waiting = w.waiting;
-      hand = w.hand;
-      replies = more;
-      bindings = w.bindings;
-    }) (bytes_of oldest)
+drained w (oldest ∷ more) = accepted (record w { replies = more }) (bytes_of oldest)
 
 abbrev pub drain : World → Stepped
 drain w = drained w w.replies

@@ -45,67 +45,19 @@ opening config = record {
 }
 
 abbrev pub with_replies : List ReplyData → World → World
-with_replies more w = record {
-  steps = w.steps;
-  retries = w.retries;
-  heard = w.heard;
-  waiting = w.waiting;
-  hand = w.hand;
-  replies = w.replies ++ more;
-  bindings = w.bindings;
-}
+with_replies more w = record w { replies = w.replies ++ more }
 
 abbrev pub with_waiting : List RequestData → World → World
-with_waiting waiting w = record {
-  steps = w.steps;
-  retries = w.retries;
-  heard = w.heard;
-  waiting = waiting;
-  hand = w.hand;
-  replies = w.replies;
-  bindings = w.bindings;
-}
+with_waiting waiting w = record w { waiting = waiting }
 
 abbrev pub with_hand : Option Hand → World → World
-with_hand hand w = record {
-  steps = w.steps;
-  retries = w.retries;
-  heard = w.heard;
-  waiting = w.waiting;
-  hand = hand;
-  replies = w.replies;
-  bindings = w.bindings;
-}
+with_hand hand w = record w { hand = hand }
 
 abbrev pub with_bindings : Bindings → World → World
-with_bindings bindings w = record {
-  steps = w.steps;
-  retries = w.retries;
-  heard = w.heard;
-  waiting = w.waiting;
-  hand = w.hand;
-  replies = w.replies;
-  bindings = bindings;
-}
+with_bindings bindings w = record w { bindings = bindings }
 
 abbrev pub with_heard : List ℕ → World → World
-with_heard heard w = record {
-  steps = w.steps;
-  retries = w.retries;
-  heard = heard;
-  waiting = w.waiting;
-  hand = w.hand;
-  replies = w.replies;
-  bindings = w.bindings;
-}
+with_heard heard w = record w { heard = heard }
 
 abbrev pub with_steps : ℕ → World → World
-with_steps steps w = record {
-  steps = steps;
-  retries = w.retries;
-  heard = w.heard;
-  waiting = w.waiting;
-  hand = w.hand;
-  replies = w.replies;
-  bindings = w.bindings;
-}
+with_steps steps w = record w { steps = steps }

@@ -14,7 +14,8 @@ use Rattle.value_data.specs.View.{view, items_view}
 use Rattle.value_data.specs.declared.value.Value.{Value}
 use Rattle.value_data.proofs.Views.{value_views}
 use Rattle.value_data.proofs.Lists.{listed-of, lists}
-use Rattle.special_forms.specs.Rows.{BoundForm, bindings_in, name_in}
+use Rattle.special_forms.specs.Rows.{BoundForm}
+use Rattle.special_forms.specs.Bindings.{bindings_in, name_in}
 use Rattle.special_forms.specs.Seen.{views}
 use Rattle.special_forms.specs.Shapes.{is_slash, simple_name, bound_forms, parameter_name, parameter_names}
 

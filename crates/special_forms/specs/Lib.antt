@@ -1,4 +1,5 @@
 pub mod Rows
+pub mod Bindings
 pub mod Shapes
 pub mod Seen
 pub mod Functions

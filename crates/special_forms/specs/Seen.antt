@@ -6,7 +6,8 @@ use Rattle.value_data.specs.Listed.{listed}
 use Rattle.value_data.specs.View.{view}
 use Rattle.value_data.specs.declared.value.Value.{Value}
 use Rattle.special_forms.specs.Functions.{FunctionData}
-use Rattle.special_forms.specs.Rows.{BoundForm, in_a_row, bindings_in}
+use Rattle.special_forms.specs.Rows.{BoundForm, in_a_row}
+use Rattle.special_forms.specs.Bindings.{bindings_in}
 use Rattle.special_forms.specs.Shapes.{ShapeData, quoted, body, choice, bindings, logic, definition, function_definition, thrown}
 use Rattle.special_forms.specs.declared.forms.Source.{Source}
 use Rattle.special_forms.specs.declared.forms.Forms.{Forms}

@@ -5,7 +5,8 @@ ghost use Rattle.std.specs.Prelude.{◌≡◌, ◌==◌, nat_le, [], ◌∷◌, 
 ghost use Rattle.std.specs.Arc.{arc_str_bytes};
 ghost use Rattle.value_data.specs.Listed.{listed};
 ghost use Rattle.value_data.specs.View.{view};
-ghost use Rattle.special_forms.specs.Rows.{in_a_row, first_of, name_in, bindings_in};
+ghost use Rattle.special_forms.specs.Rows.{in_a_row};
+ghost use Rattle.special_forms.specs.Bindings.{first_of, name_in, bindings_in};
 ghost use Rattle.special_forms.specs.Seen.{source_view, forms_view, binding_view};
 
 use repl_values::{Sequence, Table, Value, copy, copy_text};
@@ -75,6 +76,26 @@ impl Forms {
         ensures { result ≡ (length (forms_view self.now) == 0) }
     {
         self.first().is_none()
+    }
+
+    /// How many forms there are.
+    pub fn len(&self) -> usize
+        ensures { result ≡ length (forms_view self.now) }
+    {
+        self.end
+            .min(places(&self.source))
+            .saturating_sub(self.start)
+    }
+
+    /// The form at a place, counted from 0, if there is one. It takes one step and no memory.
+    pub fn get(&self, place: usize) -> Option<&Value>
+        ensures { option_map (λ v. view v.now) result ≡ slice_get (forms_view self.now) place }
+    {
+        let place = self.start.saturating_add(place);
+        if place >= self.end {
+            return None;
+        }
+        at(&self.source, place)
     }
 
     /// Whether there are two forms or more.
@@ -175,6 +196,16 @@ impl Forms {
             start: self.start,
             end: self.end,
         })
+    }
+}
+
+// How many forms there are in all.
+fn places(source: &Source) -> usize
+    ensures { result ≡ length (source_view source.now) }
+{
+    match source {
+        Source::Items(items) => items.len(),
+        Source::Pairs(pairs) => pairs.as_slice().len() * 2,
     }
 }
 

@@ -4,7 +4,7 @@ ghost use Rattle.std.specs.Prelude.{◌≡◌, ◌≤◌, Some, None, if◌then�
 ghost use Rattle.std.specs.Arc.{arc_str_bytes};
 ghost use Rattle.value_data.specs.Listed.{listed};
 ghost use Rattle.value_data.specs.View.{view};
-ghost use Rattle.special_forms.specs.Rows.{bindings_in};
+ghost use Rattle.special_forms.specs.Bindings.{bindings_in};
 ghost use Rattle.special_forms.specs.Shapes as meant;
 ghost use Rattle.special_forms.specs.Seen.{views, forms_view, shape_view};
 ghost use Rattle.special_forms.specs.Size.{forms_size, shape_size};

@@ -5,7 +5,8 @@ use Rattle.value_data.specs.Datum.{Datum, Pairs, no_pairs, pair}
 use Rattle.value_data.specs.View.{view, pairs_view}
 use Rattle.value_data.specs.declared.value.Value.{Value}
 use Rattle.value_data.specs.Same.{same}
-use Rattle.value_data.specs.Keyed.{first_place, has_key, are_distinct, behind_all, with_value}
+use Rattle.value_data.specs.Keyed.{has_key, behind_all}
+use Rattle.value_data.specs.Placed.{first_place, are_distinct, with_value}
 use Rattle.value_data.specs.Put.{put_pair}
 use Rattle.value_data.proofs.Tables.{distinct-behind, has_key-first}
 

@@ -11,7 +11,8 @@ use Rattle.value_data.specs.View.{pair_view, pairs_view}
 use Rattle.value_data.specs.Same.{size}
 use Rattle.value_data.specs.Order.{SortKey, order}
 use Rattle.value_data.specs.Index.{key_at, Indexes}
-use Rattle.value_data.specs.Listed.{unmarked, pairs_of}
+use Rattle.value_data.specs.Listed.{pairs_of}
+use Rattle.value_data.specs.Marked.{unmarked}
 use Rattle.value_data.specs.Left.{numbers_from, is_left, places_left}
 use Rattle.value_data.specs.declared.value.Value.{Value}
 use Rattle.value_data.proofs.Searching.{not-below, any-default}

@@ -6,8 +6,10 @@ use Rattle.value_data.specs.View.{view, pair_view, items_view, pairs_view}
 use Rattle.value_data.specs.declared.value.Value.{Value}
 use Rattle.value_data.specs.Same.{same}
 use Rattle.value_data.specs.Repeats.{is_one_of, repeat_behind, first_repeat}
-use Rattle.value_data.specs.Keyed.{first_place, has_key, are_distinct, keys_of}
-use Rattle.value_data.specs.Listed.{unmarked, with_mark, items_of, pairs_of}
+use Rattle.value_data.specs.Keyed.{has_key, keys_of}
+use Rattle.value_data.specs.Placed.{first_place, are_distinct}
+use Rattle.value_data.specs.Listed.{items_of, pairs_of}
+use Rattle.value_data.specs.Marked.{unmarked, with_mark}
 use Rattle.value_data.specs.Put.{without_keys}
 use Rattle.value_data.proofs.Equivalence.{same-sym, and-left, and-right, and-both}
 use Rattle.value_data.proofs.Lists.{pairs_listed-of}

@@ -2,7 +2,7 @@
 use Rattle.std.proofs.Common.{◌≡◌, ℕ, zero, suc, ◌+◌, ◌≤◌, max, List, [], ◌∷◌, length, get_or, ◌<◌, ap, sym, arith}
 use Rattle.value_data.specs.Datum.{Datum, Pairs, no_pairs, pair}
 use Rattle.value_data.specs.View.{view, pairs_view}
-use Rattle.value_data.specs.Keyed.{with_value, StandsAt}
+use Rattle.value_data.specs.Placed.{with_value, StandsAt}
 use Rattle.value_data.specs.Measures.{weight, nesting, pairs_weight, pairs_nesting}
 use Rattle.value_data.specs.Hash.{hash, peak, salted, pair_hash}
 use Rattle.value_data.specs.declared.value.Value.{Value}

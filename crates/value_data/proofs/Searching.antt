@@ -11,7 +11,8 @@ use Rattle.value_data.specs.Datum.{Datum, Pairs, no_pairs, pair}
 use Rattle.value_data.specs.View.{view, pairs_view}
 use Rattle.value_data.specs.declared.value.Value.{Value}
 use Rattle.value_data.specs.Same.{same, size}
-use Rattle.value_data.specs.Keyed.{first_place, behind_all, with_value}
+use Rattle.value_data.specs.Keyed.{behind_all}
+use Rattle.value_data.specs.Placed.{first_place, with_value}
 use Rattle.value_data.specs.Order.{SortKey, order, sort_key}
 use Rattle.value_data.specs.Index.{key_at, Indexes, Belongs}
 use Rattle.value_data.proofs.Ordered.{order-self, order-Less}

@@ -6,7 +6,8 @@ use Rattle.value_data.specs.View.{view, pairs_view}
 use Rattle.value_data.specs.Listed.{pairs_of}
 use Rattle.value_data.specs.declared.value.Value.{Value}
 use Rattle.value_data.specs.Same.{same, size}
-use Rattle.value_data.specs.Keyed.{value_at, first_place, has_key, are_distinct, value_in, value_of, behind_all}
+use Rattle.value_data.specs.Keyed.{value_at, has_key, value_in, value_of, behind_all}
+use Rattle.value_data.specs.Placed.{first_place, are_distinct}
 use Rattle.value_data.proofs.Equivalence.{same-sym, and-left, and-right, and-both}
 use Rattle.value_data.proofs.Transitive.{same-trans}
 

@@ -5,7 +5,7 @@ use Rattle.std.specs.declared.cmp.Ordering.TheVariants.{Less}
 use Rattle.value_data.specs.Datum.{Datum, Pairs, no_pairs, pair}
 use Rattle.value_data.specs.Same.{size}
 use Rattle.value_data.specs.Order.{SortKey, number, both, order, sort_key, chain}
-use Rattle.value_data.specs.Keyed.{first_place}
+use Rattle.value_data.specs.Placed.{first_place}
 
 -- what the key at a place is compared by
 abbrev pub key_at : Pairs → ℕ → SortKey

@@ -2,7 +2,7 @@
 use Rattle.std.specs.Prelude.{◌≡◌, ℕ, ◌+◌, ◌<◌, ◌≤◌, true, List, [], ◌∷◌, length, drop}
 use Rattle.value_data.specs.Held.{SequenceData, TableData}
 use Rattle.value_data.specs.View.{items_view, pairs_view}
-use Rattle.value_data.specs.Keyed.{are_distinct}
+use Rattle.value_data.specs.Placed.{are_distinct}
 use Rattle.value_data.specs.Index.{Indexes}
 use Rattle.value_data.specs.Fits.{FitsItems, FitsPairs}
 use Rattle.value_data.specs.Tails.{AreTails}

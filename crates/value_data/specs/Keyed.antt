@@ -1,5 +1,5 @@
 -- Pairs by their keys. A key that stands comes first in each comparison with one that is looked for.
-use Rattle.std.specs.Prelude.{◌≡◌, ℕ, zero, suc, Bool, true, false, not, ◌&&◌, ◌||◌, Option, Some, None, option_map, if◌then◌else◌}
+use Rattle.std.specs.Prelude.{ℕ, zero, suc, Bool, true, false, ◌||◌, Option, Some, None, if◌then◌else◌}
 use Rattle.value_data.specs.Datum.{Datum, Items, no_items, item, Pairs, no_pairs, pair}
 use Rattle.value_data.specs.Same.{same}
 
@@ -8,20 +8,10 @@ abbrev pub value_at : Datum → Pairs → Option Datum
 value_at d no_pairs = None
 value_at d (pair k v ps) = if same k d then Some v else value_at d ps
 
--- the place of the first key that is equal
-abbrev pub first_place : Pairs → Datum → Option ℕ
-first_place no_pairs d = None
-first_place (pair k v ps) d = if same k d then Some 0 else option_map (λ n. suc n) (first_place ps d)
-
 -- whether a key is equal
 abbrev pub has_key : Pairs → Datum → Bool
 has_key no_pairs d = false
 has_key (pair k v ps) d = same k d || has_key ps d
-
--- no key is equal to a later one
-abbrev pub are_distinct : Pairs → Bool
-are_distinct no_pairs = true
-are_distinct (pair k v ps) = not (has_key ps k) && are_distinct ps
 
 abbrev pub keys_of : Pairs → Items
 keys_of no_pairs = no_items
@@ -37,19 +27,7 @@ abbrev pub value_of : Pairs → Option ℕ → Option Datum
 value_of ps None = None
 value_of ps (Some n) = value_in ps n
 
--- the key and the value that stand at a place
-abbrev pub StandsAt : Pairs → ℕ → Datum → Datum → Type 0
-StandsAt no_pairs n key value = ⊥
-StandsAt (pair k v ps) zero key value = (k ≡ key) × (v ≡ value)
-StandsAt (pair k v ps) (suc n) key value = StandsAt ps n key value
-
 -- the pairs and one more
 abbrev pub behind_all : Pairs → Datum → Datum → Pairs
 behind_all no_pairs key value = pair key value no_pairs
 behind_all (pair k v ps) key value = pair k v (behind_all ps key value)
-
--- the pairs with another value at the place
-abbrev pub with_value : ℕ → Datum → Pairs → Pairs
-with_value n value no_pairs = no_pairs
-with_value zero value (pair k v ps) = pair k value ps
-with_value (suc n) value (pair k v ps) = pair k v (with_value n value ps)

@@ -8,9 +8,11 @@ pub mod Order
 pub mod View
 pub mod Repeats
 pub mod Listed
+pub mod Marked
 pub mod Put
 pub mod Ends
 pub mod Keyed
+pub mod Placed
 pub mod Index
 pub mod Fits
 pub mod Tails

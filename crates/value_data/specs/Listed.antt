@@ -1,5 +1,5 @@
--- Items and pairs as lists, and those of a list that are not marked.
-use Rattle.std.specs.Prelude.{ℕ, List, [], ◌∷◌, Bool, true, false, Option, Some, None, slice_set}
+-- Items and pairs as lists.
+use Rattle.std.specs.Prelude.{List, [], ◌∷◌}
 use Rattle.value_data.specs.Datum.{Datum, vector, Items, no_items, item, Pairs, no_pairs, pair}
 
 abbrev pub listed : Items → List Datum
@@ -20,13 +20,3 @@ pairs_of (p ∷ ps) = pair p.0 p.1 (pairs_of ps)
 
 abbrev pub vector_of_two : Datum × Datum → Datum
 vector_of_two p = vector (item p.0 (item p.1 no_items))
-
-abbrev pub unmarked : List Bool → List (Datum × Datum) → List (Datum × Datum)
-unmarked (false ∷ ms) (p ∷ ps) = p ∷ unmarked ms ps
-unmarked (true ∷ ms) (p ∷ ps) = unmarked ms ps
-unmarked _ _ = []
-
--- the marks with that at a place set
-abbrev pub with_mark : Option ℕ → List Bool → List Bool
-with_mark None ms = ms
-with_mark (Some n) ms = slice_set ms n true

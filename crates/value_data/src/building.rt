@@ -2,7 +2,7 @@
 ghost use Rattle.std.specs.Prelude.{◌≡◌, true, IfOk};
 ghost use Rattle.value_data.specs.Datum.{no_pairs};
 ghost use Rattle.value_data.specs.View.{pairs_view};
-ghost use Rattle.value_data.specs.Keyed.{are_distinct};
+ghost use Rattle.value_data.specs.Placed.{are_distinct};
 ghost use Rattle.value_data.specs.Index.{Indexes};
 ghost use Rattle.value_data.specs.Fits.{FitsPairs};
 ghost use Rattle.value_data.specs.BuiltView.{IsBuilt};

@@ -60,7 +60,11 @@ pub(crate) fn copies_with_room(
 {
     let mut copies = Vec::with_capacity(alloc, items.len().saturating_add(more))?;
     for item in items {
-        copies.push_reserved(copy(item)?);
+        // A row of numbers is copied without a call for each.
+        match item {
+            Value::Int(n) => copies.push_reserved(Value::Int(*n)),
+            other => copies.push_reserved(copy(other)?),
+        }
     }
     Ok(copies)
 }

@@ -4,7 +4,8 @@
 ghost use Rattle.std.specs.Prelude.{◌≡◌, ◌<◌, ℕ, true, vec_len, map, IfOk, OnOk};
 ghost use Rattle.value_data.specs.Datum.{Pairs};
 ghost use Rattle.value_data.specs.View.{view, pair_view, pairs_view};
-ghost use Rattle.value_data.specs.Keyed.{are_distinct, behind_all, with_value, StandsAt};
+ghost use Rattle.value_data.specs.Keyed.{behind_all};
+ghost use Rattle.value_data.specs.Placed.{are_distinct, with_value, StandsAt};
 ghost use Rattle.value_data.specs.Put.{put_pair, put_pairs};
 ghost use Rattle.value_data.specs.Index.{Indexes};
 ghost use Rattle.value_data.specs.Fits.{FitsPairs};

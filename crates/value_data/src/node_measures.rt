@@ -5,7 +5,8 @@ ghost use Rattle.value_data.specs.View.{view};
 ghost use Rattle.value_data.specs.Same.{size};
 ghost use Rattle.value_data.specs.Hash.{hash, salted};
 ghost use Rattle.value_data.specs.Ends.{with_last};
-ghost use Rattle.value_data.specs.Keyed.{behind_all, with_value, StandsAt};
+ghost use Rattle.value_data.specs.Keyed.{behind_all};
+ghost use Rattle.value_data.specs.Placed.{with_value, StandsAt};
 ghost use Rattle.value_data.specs.Seen.{MayFit};
 ghost use Rattle.value_data.specs.Fits.{FitsItems, FitsPairs};
 

@@ -3,7 +3,8 @@
 
 ghost use Rattle.std.specs.Prelude.{◌≡◌, Some, IfOk, IfErr, option_map};
 ghost use Rattle.value_data.specs.View.{view, pairs_view};
-ghost use Rattle.value_data.specs.Keyed.{first_place, value_of};
+ghost use Rattle.value_data.specs.Keyed.{value_of};
+ghost use Rattle.value_data.specs.Placed.{first_place};
 ghost use Rattle.value_data.specs.Index.{Indexes, Belongs};
 
 use crate::order::compare;

@@ -2,11 +2,12 @@
 ghost use Rattle.std.specs.Prelude.{◌≡◌, ◌<◌, true, map, length, vec_len, IfOk, IfSome};
 ghost use Rattle.value_data.specs.View.{view, pair_view, items_view, pairs_view};
 ghost use Rattle.value_data.specs.Repeats.{is_one_of};
-ghost use Rattle.value_data.specs.Keyed.{are_distinct};
+ghost use Rattle.value_data.specs.Placed.{are_distinct};
 ghost use Rattle.value_data.specs.Index.{Indexes, ArePlaces};
 ghost use Rattle.value_data.specs.Left.{numbers_from, places_left};
 ghost use Rattle.value_data.specs.Put.{without_keys as without};
-ghost use Rattle.value_data.specs.Listed.{vector_of_two, unmarked, with_mark};
+ghost use Rattle.value_data.specs.Listed.{vector_of_two};
+ghost use Rattle.value_data.specs.Marked.{unmarked, with_mark};
 
 use crate::building::sealed;
 use crate::copies::copy;

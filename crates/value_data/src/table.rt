@@ -7,7 +7,8 @@ ghost use Rattle.value_data.specs.View.{view, pairs_view};
 ghost use Rattle.value_data.specs.Same.{size};
 ghost use Rattle.value_data.specs.Measures.{capped, pairs_weight, pairs_nesting};
 ghost use Rattle.value_data.specs.Hash.{hash};
-ghost use Rattle.value_data.specs.Keyed.{value_at, are_distinct};
+ghost use Rattle.value_data.specs.Keyed.{value_at};
+ghost use Rattle.value_data.specs.Placed.{are_distinct};
 
 use crate::places::{place_of, value_at_place};
 use crate::value::{Table, Value};

@@ -1,6 +1,6 @@
 // Outside examples, hostile streams, and that each call succeeds with ample memory. What is
 // refused for want of memory is asked for once more: any one refusal changes no answer.
-use bencode_wire::{Ben, Decoder, WireFault, write_into};
+use bencode_wire::{Ben, Decoder, Dictionary, WireFault, put_field, write_into};
 use bytes::Bytes;
 use std::alloc::{AllocError, Global};
 
@@ -237,5 +237,44 @@ fn reads_byte_by_byte(rt: HostRuntime) -> Result<(), AllocError> {
         assert_eq!(rt; decoder.rest_is_empty(), row.rest_is_empty);
         assert!(rt; fault == row.fault);
     }
+    Ok(())
+}
+
+// A message of 65,536 bytes, the most that a connection hands over at once.
+fn large_message(alloc: Global) -> Result<Vec<u8>, AllocError> {
+    let mut message = Vec::from_slice(alloc, b"d1:a65525:")?;
+    for _ in 0..65_525 {
+        message.push(b'x')?;
+    }
+    message.push(b'e')?;
+    Ok(message)
+}
+
+#[test]
+fn a_large_piece_is_read_at_once(rt: HostRuntime) -> Result<(), AllocError> {
+    let alloc = rt.alloc();
+    let message = large_message(alloc)?;
+    assert_eq!(rt; message.len(), 65_536);
+    let mut decoder = Decoder::new(alloc, LIMIT);
+    let fault = feed(alloc, &mut decoder, message.as_slice())?;
+    assert!(rt; fault == None);
+    let mut written = Vec::new(alloc);
+    write_ready(&mut decoder, &mut written)?;
+    assert!(rt; written.as_slice() == message.as_slice());
+    assert!(rt; decoder.rest_is_empty());
+    Ok(())
+}
+
+#[test]
+fn a_field_is_put_over_another(rt: HostRuntime) -> Result<(), AllocError> {
+    let alloc = rt.alloc();
+    let mut fields = Dictionary::new(alloc);
+    for n in 1..3 {
+        let key = Vec::from_slice(alloc, b"a")?;
+        put_field(&mut fields, key, Ben::Integer(n))?;
+    }
+    let mut written = Vec::new(alloc);
+    write(&Ben::Dictionary(fields), &mut written)?;
+    assert!(rt; written.as_slice() == b"d1:ai2ee".as_slice());
     Ok(())
 }

@@ -1,5 +1,6 @@
 pub mod Doing
 pub mod Tree
+pub mod Leading
 pub mod Places
 pub mod Naming
 pub mod Calls

@@ -8,7 +8,7 @@ use Rattle.repl_faults.specs.View.{failure_of}
 use Rattle.repl_asks.specs.Exchange.{AnswerData, bound_value, ResolutionData, resolution_in}
 use Rattle.repl_asks.specs.View.{ask_view, named_view, resolution_view}
 use Rattle.repl_asks.specs.declared.answer.Resolution.{Resolution}
-use Rattle.special_forms.specs.Rows.{bindings_in}
+use Rattle.special_forms.specs.Bindings.{bindings_in}
 use Rattle.special_forms.specs.Truth.{is_true}
 use Rattle.special_forms.specs.Seen.{views, forms_view, function_view}
 use Rattle.walker_machine.specs.Doing.{Kept, Doing, gave, left, Part, ◌>>=◌, done, fails}

@@ -1,7 +1,7 @@
 -- How much an evaluation has still to do, for the proof that it ends. No promise speaks of it.
 use Rattle.std.specs.Prelude.{ℕ, ◌+◌, ◌*◌, List, sum_by}
 use Rattle.value_data.specs.View.{view}
-use Rattle.special_forms.specs.Rows.{bindings_in}
+use Rattle.special_forms.specs.Bindings.{bindings_in}
 use Rattle.special_forms.specs.Seen.{forms_view}
 use Rattle.special_forms.specs.Size.{datum_size, forms_size, bindings_size}
 use Rattle.walker_machine.specs.declared.frames.Frame.{Frame}

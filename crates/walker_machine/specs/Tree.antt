@@ -1,11 +1,11 @@
 -- An evaluation as others see it: it ends, or asks and goes on with the answer.
-use Rattle.std.specs.Prelude.{◌≡◌, ⊤, ℕ, ◌+◌, List, [], ◌∷◌, ◌++◌, Result, Ok, Err, length, nat_lt, if◌then◌else◌, codes}
+use Rattle.std.specs.Prelude.{ℕ, ◌+◌, List, [], ◌++◌, Result, Ok, Err, length, nat_lt, if◌then◌else◌, codes}
 use Rattle.value_data.specs.Datum.{Datum}
 use Rattle.core_texts.specs.Limits.{most_text}
 use Rattle.repl_faults.specs.Failure as failures
 use Rattle.repl_faults.specs.Failure.{Failure}
 use Rattle.repl_jobs.specs.Job.{EndData}
-use Rattle.repl_asks.specs.Exchange.{AskData, AnswerData, Exchanged}
+use Rattle.repl_asks.specs.Exchange.{AskData, AnswerData}
 use Rattle.walker_machine.specs.Doing.{Kept, Exit, gave, failed, retried, Doing, left, asking, printing, looking, noting}
 
 pub data Tree : Type 0 where
@@ -31,22 +31,3 @@ written before (printing text kept d) =
     else written (before ++ text) d
 written before (looking behind) = written before (behind [])
 written before (noting operation d) = written before d
-
--- The exchanges lead from one tree to the other: each ask is what the evaluation asks next, after the answers before
--- it, and the evaluation goes on with its answer.
-abbrev pub Leads : Tree → List Exchanged → Tree → Type 0
-Leads start [] end = start ≡ end
-Leads (finished e) (x ∷ xs) end = ⊥
-Leads (asks ask behind) (x ∷ xs) end = (x.ask ≡ ask) × Leads (behind x.answer) xs end
-
--- what is still done after these answers; behind the end there is nothing
-abbrev pub after : Tree → List Exchanged → Tree
-after t [] = t
-after (finished e) (x ∷ xs) = finished e
-after (asks ask behind) (x ∷ xs) = after (behind x.answer) xs
-
--- each ask of a trace is what the evaluation asks next
-abbrev pub AreItsAsks : Tree → List Exchanged → Type 0
-AreItsAsks t [] = ⊤
-AreItsAsks (finished e) (x ∷ xs) = ⊥
-AreItsAsks (asks ask behind) (x ∷ xs) = (x.ask ≡ ask) × AreItsAsks (behind x.answer) xs

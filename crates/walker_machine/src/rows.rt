@@ -3,7 +3,7 @@ ghost use Rattle.std.specs.Prelude.{◌≡◌, ◌+◌, ◌<◌, ◌≤◌, IfOk
 ghost use Rattle.std.specs.Arc.{arc_str_bytes};
 ghost use Rattle.value_data.specs.View.{view};
 ghost use Rattle.walker_machine.specs.Machine.{call_behind, items_behind, callee_view, place_of, kept_of, next_of, from_state, tree};
-ghost use Rattle.special_forms.specs.Rows.{bindings_in};
+ghost use Rattle.special_forms.specs.Bindings.{bindings_in};
 ghost use Rattle.special_forms.specs.Seen.{views, forms_view};
 ghost use Rattle.special_forms.specs.Size.{forms_size, bindings_size};
 ghost use Rattle.walker_machine.specs.Size.{control_size, frames_size, spent};

@@ -4,7 +4,9 @@ use crate::told::{
     text,
 };
 use core_functions::CoreFunction;
-use repl_asks::{Answer, Ask, Binding, Exchange, Refs, Replay, StopReason, copy_trace};
+use repl_asks::{
+    Answer, Ask, Binding, Exchange, NamedFunction, Refs, Replay, Resolution, StopReason, copy_trace,
+};
 use repl_jobs::{End, Finished, Job, Work};
 use repl_values::{Owner, RefName, Value, copy};
 use std::alloc::{AllocError, Global};
@@ -36,10 +38,12 @@ fn answers(rt: &impl Abort, alloc: Global) -> Result<Vec<Answer>, AllocError> {
     let Some(plus) = CoreFunction::named("+") else {
         panic!(rt; "no function +");
     };
-    answers.push(Answer::Value(form(alloc, "[1 \"é\"]")?))?;
-    answers.push(Answer::CoreFunction(plus))?;
-    answers.push(Answer::Function(function(alloc)?))?;
-    answers.push(Answer::Fault(fault(alloc)?))?;
+    answers.push(Answer::Resolution(Resolution::Value(form(alloc, "[1 \"é\"]")?)))?;
+    answers.push(Answer::Resolution(Resolution::Function(NamedFunction::Core(plus))))?;
+    answers.push(Answer::Resolution(Resolution::Function(NamedFunction::Program(function(
+        alloc,
+    )?))))?;
+    answers.push(Answer::Resolution(Resolution::Nothing(fault(alloc)?)))?;
     answers.push(Answer::Done)?;
     Ok(answers)
 }
@@ -108,7 +112,7 @@ fn traces_are_copied(rt: HostRuntime) -> Result<(), Fail> {
     assert!(rt; copy_trace(a, trace.as_slice())?.is_empty());
     trace.push(Exchange {
         ask: resolve(a)?,
-        answer: Answer::Value(Value::Int(3)),
+        answer: Answer::Resolution(Resolution::Value(Value::Int(3))),
     })?;
     trace.push(Exchange {
         ask: define(a, Binding::Function(function(a)?))?,
@@ -144,14 +148,14 @@ fn jobs_and_ends_are_copied(rt: HostRuntime) -> Result<(), Fail> {
     ] {
         let printed_text = String::from_str(a, "out")?;
         let finished = Finished::new(end.copy()?, printed_text, text(a, "user")?);
-        let (end, out, namespace) = finished.copy(a)?.into_parts();
-        let print = match end {
-            End::Value(value) => printed(a, &value)?,
-            End::Fault(fault) => printed(a, &fault.into_value())?,
+        let copied = finished.copy(a)?;
+        let print = match copied.end() {
+            End::Value(value) => printed(a, value)?,
+            End::Fault(fault) => printed(a, &fault.copy()?.into_value())?,
         };
         assert_eq!(rt; print.as_str(), told);
-        assert_eq!(rt; out.as_str(), "out");
-        assert_eq!(rt; namespace.as_str(), "user");
+        assert_eq!(rt; copied.text(), "out");
+        assert_eq!(rt; copied.namespace().as_str(), "user");
     }
     Ok(())
 }
@@ -174,7 +178,7 @@ fn asked(alloc: Global, replay: &mut Replay, ask: Ask, told: &str) -> Result<Str
 fn a_replay_gives_its_answers_in_order(rt: HostRuntime) -> Result<(), Fail> {
     let a = rt.alloc();
     let mut left = answers(&rt, a)?;
-    left.push(Answer::Value(Value::Int(2)))?;
+    left.push(Answer::Resolution(Resolution::Value(Value::Int(2))))?;
     let mut replay = Replay::new(a, left);
     for told in &ANSWERS[..4] {
         assert_eq!(rt;

@@ -5,6 +5,8 @@
 #[cfg(test)]
 mod asks;
 #[cfg(test)]
+mod steps;
+#[cfg(test)]
 mod told;
 #[cfg(test)]
 mod walks;

@@ -1,5 +1,5 @@
 // What is asked and answered, as texts by which a test compares it.
-use repl_asks::{Answer, Ask, Binding, Exchange};
+use repl_asks::{Answer, Ask, Binding, Exchange, NamedFunction, Resolution};
 use repl_reader::read_all;
 use repl_values::{Fault, Sequence, Value, print_into};
 use special_forms::{Forms, Function};
@@ -94,11 +94,19 @@ pub(crate) fn ask_told(alloc: Global, ask: &Ask) -> Result<String, AllocError> {
 
 pub(crate) fn answer_told(alloc: Global, answer: &Answer) -> Result<String, AllocError> {
     match answer {
-        Answer::Value(value) => printed(alloc, value),
-        Answer::CoreFunction(function) => String::from_str(alloc, function.name()),
-        Answer::Function(function) => function_told(alloc, function),
+        Answer::Resolution(Resolution::Value(value)) => printed(alloc, value),
+        Answer::Resolution(Resolution::Function(NamedFunction::Core(function))) => String::from_str(
+            alloc,
+            function.name(),
+        ),
+        Answer::Resolution(Resolution::Function(NamedFunction::Program(function))) => function_told(
+            alloc, function,
+        ),
         Answer::Done => String::from_str(alloc, "done"),
-        Answer::Fault(fault) => printed(alloc, &fault.copy()?.into_value()),
+        Answer::Resolution(Resolution::Nothing(fault)) => printed(
+            alloc,
+            &fault.copy()?.into_value(),
+        ),
     }
 }
 

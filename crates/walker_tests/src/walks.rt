@@ -1,6 +1,6 @@
 // Evaluations over answers that are known beforehand: what each asks, prints and comes to.
 use core_functions::CoreFunction;
-use repl_asks::{Answer, Ask, Binding, Exchange, Replay};
+use repl_asks::{Answer, Ask, Binding, Exchange, NamedFunction, Replay, Resolution};
 use repl_reader::read_all;
 use repl_values::{Fault, Sequence, Value, print_into};
 use repl_walker::{End, Ending, Job, WalkError, Work, walk};
@@ -48,17 +48,21 @@ fn definer(alloc: Global) -> Result<Function, AllocError> {
 
 fn answer(rt: &impl Abort, alloc: Global, given: Given) -> Result<Answer, AllocError> {
     match given {
-        Given::Int(n) => Ok(Answer::Value(Value::Int(n))),
+        Given::Int(n) => Ok(Answer::Resolution(Resolution::Value(Value::Int(n)))),
         Given::Core(name) => match CoreFunction::named(name) {
-            Some(function) => Ok(Answer::CoreFunction(function)),
+            Some(function) => Ok(Answer::Resolution(Resolution::Function(NamedFunction::Core(
+                function,
+            )))),
             None => panic!(rt; "no function {name}"),
         },
-        Given::Definer => Ok(Answer::Function(definer(alloc)?)),
+        Given::Definer => Ok(Answer::Resolution(Resolution::Function(NamedFunction::Program(definer(
+            alloc,
+        )?)))),
         Given::Done => Ok(Answer::Done),
-        Given::Fault => Ok(Answer::Fault(Fault {
+        Given::Fault => Ok(Answer::Resolution(Resolution::Nothing(Fault {
             class: text(alloc, "C")?,
             text: text(alloc, "t")?,
-        })),
+        }))),
     }
 }
 
@@ -95,11 +99,15 @@ fn tell_exchange(alloc: Global, exchange: &Exchange, told: &mut String) -> Resul
     tell_ask(alloc, &exchange.ask, told)?;
     told.push_str(": ")?;
     match &exchange.answer {
-        Answer::Value(value) => print_into(alloc, value, told)?,
-        Answer::CoreFunction(function) => told.push_str(function.name())?,
-        Answer::Function(function) => told.push_str(function.name.as_str())?,
+        Answer::Resolution(Resolution::Value(value)) => print_into(alloc, value, told)?,
+        Answer::Resolution(Resolution::Function(NamedFunction::Core(function))) => told.push_str(
+            function.name(),
+        )?,
+        Answer::Resolution(Resolution::Function(NamedFunction::Program(function))) => told.push_str(
+            function.name.as_str(),
+        )?,
         Answer::Done => told.push_str("done")?,
-        Answer::Fault(fault) => told.push_str(fault.text.as_str())?,
+        Answer::Resolution(Resolution::Nothing(fault)) => told.push_str(fault.text.as_str())?,
     }
     told.push_str("; ")
 }
@@ -112,12 +120,12 @@ fn ending_told(alloc: Global, ending: &Ending) -> Result<String, AllocError> {
     for exchange in ending.trace() {
         tell_exchange(alloc, exchange, &mut told)?;
     }
-    let (end, text, namespace) = ending.end().copy(alloc)?.into_parts();
-    let (text, namespace) = (text.as_str(), namespace.as_str());
+    let finished = ending.end();
+    let (text, namespace) = (finished.text(), finished.namespace().as_str());
     write!(told, "'{text}' in {namespace} ")?;
-    match end {
-        End::Value(value) => print_into(alloc, &value, &mut told)?,
-        End::Fault(fault) => print_into(alloc, &fault.into_value(), &mut told)?,
+    match finished.end() {
+        End::Value(value) => print_into(alloc, value, &mut told)?,
+        End::Fault(fault) => print_into(alloc, &fault.copy()?.into_value(), &mut told)?,
     }
     Ok(told)
 }

@@ -4,7 +4,7 @@ use Rattle.value_data.specs.View.{pairs_view}
 use Rattle.value_data.specs.Listed.{pairs_of}
 use Rattle.value_data.specs.Index.{Indexes}
 use Rattle.value_data.specs.declared.value.Value.{Value}
-use Rattle.value_data.specs.Keyed.{are_distinct}
+use Rattle.value_data.specs.Placed.{are_distinct}
 use Rattle.value_data.specs.Fits.{FitsPairs}
 use Rattle.value_data.proofs.edits.copied.Goals as goal
 

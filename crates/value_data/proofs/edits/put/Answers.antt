@@ -1,7 +1,7 @@
 use Rattle.std.proofs.Common.{◌≡◌, List, Some, None, length, ap, sym, subst, ◌∙◌}
 use Rattle.value_data.specs.Datum.{Datum, Pairs}
 use Rattle.value_data.specs.View.{view, pairs_view}
-use Rattle.value_data.specs.Keyed.{first_place, with_value}
+use Rattle.value_data.specs.Placed.{first_place, with_value}
 use Rattle.value_data.specs.Seen.{MayFit}
 use Rattle.value_data.specs.declared.value.Value.{Value}
 use Rattle.value_data.proofs.Sameness.{size-pairs_view}

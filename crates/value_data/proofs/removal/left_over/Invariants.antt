@@ -1,6 +1,6 @@
 use Rattle.std.proofs.Common.{◌≡◌, ◌++◌, drop, map}
 use Rattle.value_data.specs.View.{pair_view}
-use Rattle.value_data.specs.Listed.{unmarked}
+use Rattle.value_data.specs.Marked.{unmarked}
 use Rattle.value_data.proofs.removal.left_over.Given as goal
 
 abbrev pub invariant-loop-place : goal.invariant-loop-place

@@ -1,7 +1,7 @@
 use Rattle.std.proofs.Common.{◌≡◌, List, Some, take, subst, sym, ap, ◌∙◌, arith}
 use Rattle.value_data.specs.Datum.{Pairs}
 use Rattle.value_data.specs.View.{view, pairs_view}
-use Rattle.value_data.specs.Keyed.{first_place}
+use Rattle.value_data.specs.Placed.{first_place}
 use Rattle.value_data.specs.Index.{Belongs}
 use Rattle.value_data.specs.Fits.{FitsPairs}
 use Rattle.value_data.specs.declared.value.Value.{Value}

@@ -1,6 +1,6 @@
 use Rattle.std.proofs.Common.{◌≡◌, true, take}
 use Rattle.value_data.specs.View.{pairs_view}
-use Rattle.value_data.specs.Keyed.{are_distinct}
+use Rattle.value_data.specs.Placed.{are_distinct}
 use Rattle.value_data.specs.Index.{Indexes}
 use Rattle.value_data.specs.Fits.{FitsPairs}
 use Rattle.value_data.proofs.value.Table.from_pairs.Given as goal

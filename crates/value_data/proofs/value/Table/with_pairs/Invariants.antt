@@ -1,6 +1,6 @@
 use Rattle.std.proofs.Common.{◌≡◌, true, drop, map}
 use Rattle.value_data.specs.View.{pairs_view}
-use Rattle.value_data.specs.Keyed.{are_distinct}
+use Rattle.value_data.specs.Placed.{are_distinct}
 use Rattle.value_data.specs.Put.{put_pairs}
 use Rattle.value_data.specs.Index.{Indexes}
 use Rattle.value_data.specs.Seen.{entry_view, MayFit}

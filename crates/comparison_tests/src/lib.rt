@@ -1,0 +1,11 @@
+//! Tests of `trace_comparison`, by its public calls alone.
+#![tactic(auto)]
+
+#[cfg(test)]
+mod exchanges;
+#[cfg(test)]
+mod parts;
+#[cfg(test)]
+mod steps;
+#[cfg(test)]
+mod values;

@@ -1,0 +1,109 @@
+// Values in short.
+use Part::{Agent, Atom, Bool, Int, Keyword, List, Map, Nil, Ref, Str, Symbol, Var, Vector};
+use repl_jobs::{Job, Work};
+use repl_values::{Built, Fault, Owner, RefName, Sequence, Table, Value};
+use std::alloc::{AllocError, Global};
+use std::sync::ArcStr;
+
+// A value, written with its parts first: `List(n)` and `Vector(n)` take the last n values, and
+// `Map(n)` the last n pairs.
+#[derive(Clone, Copy)]
+pub(crate) enum Part {
+    Nil,
+    Bool(bool),
+    Int(i64),
+    Str(&'static str),
+    Keyword(&'static str),
+    Symbol(&'static str),
+    Ref(Owner, u64),
+    Atom(u64),
+    Agent(u64),
+    Var(&'static str, &'static str),
+    Error(&'static str, &'static str),
+    List(usize),
+    Vector(usize),
+    Map(usize),
+}
+
+pub(crate) fn text(alloc: Global, text: &str) -> Result<ArcStr, AllocError> {
+    ArcStr::from_str(alloc, text)
+}
+
+fn taken(values: &mut Vec<Value>, n: usize) -> Result<Vec<Value>, AllocError> {
+    let at = values.len().saturating_sub(n);
+    values.split_off(at)
+}
+
+fn items(alloc: Global, values: &mut Vec<Value>, n: usize) -> Result<Sequence, AllocError> {
+    Sequence::from_vec(alloc, taken(values, n)?)
+}
+
+// The map of distinct keys.
+fn taken_pairs(alloc: Global, values: &mut Vec<Value>, n: usize) -> Result<Table, AllocError> {
+    let mut parts = taken(values, n.saturating_mul(2))?.into_iter();
+    let mut pairs = Vec::new(alloc);
+    for _ in 0..n {
+        if let (Some(key), Some(value)) = (parts.next(), parts.next()) {
+            pairs.push((key, value))?;
+        }
+    }
+    match Table::from_pairs(alloc, pairs)? {
+        Built::Made(table) => Ok(table),
+        Built::Repeats(_place) => Table::empty(alloc),
+    }
+}
+
+fn with_texts(alloc: Global, part: Part) -> Result<Value, AllocError> {
+    match part {
+        Str(s) => Ok(Value::Str(text(alloc, s)?)),
+        Keyword(s) => Ok(Value::Keyword(text(alloc, s)?)),
+        Symbol(s) => Ok(Value::Symbol(text(alloc, s)?)),
+        Var(space, name) => Ok(Value::Var {
+            space: text(alloc, space)?,
+            name: text(alloc, name)?,
+        }),
+        Part::Error(class, told) => Ok(Fault {
+            class: text(alloc, class)?,
+            text: text(alloc, told)?,
+        }
+        .into_value()),
+        _other => Ok(Value::Nil),
+    }
+}
+
+fn made(alloc: Global, part: Part, values: &mut Vec<Value>) -> Result<Value, AllocError> {
+    match part {
+        Nil => Ok(Value::Nil),
+        Bool(b) => Ok(Value::Bool(b)),
+        Int(n) => Ok(Value::Int(n)),
+        Ref(owner, number) => Ok(Value::Ref(RefName { owner, number })),
+        Atom(number) => Ok(Value::Atom(number)),
+        Agent(number) => Ok(Value::Agent(number)),
+        List(n) => Ok(Value::List(items(alloc, values, n)?)),
+        Vector(n) => Ok(Value::Vector(items(alloc, values, n)?)),
+        Map(n) => Ok(Value::Map(taken_pairs(alloc, values, n)?)),
+        other => with_texts(alloc, other),
+    }
+}
+
+pub(crate) fn value_of(alloc: Global, parts: &[Part]) -> Result<Value, AllocError> {
+    let mut values = Vec::new(alloc);
+    for part in parts {
+        let value = made(alloc, *part, &mut values)?;
+        values.push(value)?;
+    }
+    Ok(values.pop().unwrap_or(Value::Nil))
+}
+
+pub(crate) fn job_of(
+    alloc: Global,
+    parts: &[Part],
+    namespace: &str,
+    retries: u32,
+) -> Result<Job, AllocError> {
+    Ok(Job {
+        work: Work::Form(value_of(alloc, parts)?),
+        namespace: text(alloc, namespace)?,
+        retries,
+    })
+}

@@ -1,0 +1,19 @@
+-- Names and forms by turns, as the code takes them.
+use Rattle.std.specs.Prelude.{ℕ, List, [], ◌∷◌, Option, Some, None}
+use Rattle.value_data.specs.Datum.{Datum, symbol}
+use Rattle.special_forms.specs.Rows.{BoundForm}
+
+abbrev pub first_of : List Datum → Option Datum
+first_of [] = None
+first_of (d ∷ ds) = Some d
+
+-- the name that a symbol is; what is none has no characters
+abbrev pub name_in : Datum → List ℕ
+name_in (symbol s) = s
+name_in _ = []
+
+-- names and forms by turns, where they are known to be such
+abbrev pub bindings_in : List Datum → List BoundForm
+bindings_in [] = []
+bindings_in (d ∷ []) = []
+bindings_in (d ∷ e ∷ ds) = record { name = name_in d; form = e } ∷ bindings_in ds

@@ -1,0 +1,62 @@
+-- Two lists compared place by place: what is equal before a place, at it, and in all.
+use Rattle.std.proofs.Common.{◌≡◌, ◌≢◌, ℕ, zero, suc, ◌+◌, ◌<◌, List, [], ◌∷◌, Some, length, get_or, take, slice_get, map, option_map, refl, sym, ap, ◌∙◌, add-one, arith}
+use Rattle.std.proofs.lemmas.List.{length-map}
+use Rattle.std.proofs.lemmas.Option.{slice_get-map, slice_get_read}
+use Rattle.value_data.specs.Listed.{listed, pairs_listed}
+use Rattle.value_data.proofs.Lists.{listed-of, pairs_listed-of}
+use Rattle.value_data.specs.View.{view, pair_view, items_view, pairs_view}
+use Rattle.value_data.specs.declared.value.Value.{Value}
+
+module _ {A : Type 0} where
+  -- one place more
+  pub take-next : (xs ys : List A) (i : ℕ) → take i xs ≡ take i ys → slice_get xs i ≡ slice_get ys i → take (suc i) xs ≡ take (suc i) ys
+  take-next [] [] i h at = refl
+  take-next [] (y ∷ ys) zero h at = absurd (cc)
+  take-next [] (y ∷ ys) (suc i) h at = absurd (cc)
+  take-next (x ∷ xs) [] zero h at = absurd (cc)
+  take-next (x ∷ xs) [] (suc i) h at = absurd (cc)
+  take-next (x ∷ xs) (y ∷ ys) zero h at = let e : x ≡ y = cc in rw e refl
+  take-next (x ∷ xs) (y ∷ ys) (suc i) h at =
+      let e : x ≡ y = cc in
+      let f : take i xs ≡ take i ys = cc in
+      let g : take (suc i) xs ≡ take (suc i) ys = take-next xs ys i f at in cc
+
+module _ {A B : Type 0} (f : A → B) where
+  -- what stands at a place of both
+  pub at-place : (xs : List A) (i : ℕ) (x : A) → i < length xs → x ≡ get_or xs i x → slice_get (map f xs) i ≡ Some (f x)
+  at-place xs i x within is = slice_get-map f xs i ∙ ap (option_map f) (slice_get_read xs (length xs) i x refl within is)
+
+  pub equal-next : (xs ys : List A) (i : ℕ) (x y : A) → i < length xs → i < length ys → x ≡ get_or xs i x → y ≡ get_or ys i y → f x ≡ f y
+      → take i (map f xs) ≡ take i (map f ys) → take (i + 1) (map f xs) ≡ take (i + 1) (map f ys)
+  equal-next xs ys i x y k l is at same before =
+      rw add-one
+      (take-next (map f xs) (map f ys) i before (at-place xs i x k is ∙ ap Some same ∙ sym (at-place ys i y l at)))
+
+  pub unequal-at : (xs ys : List A) (i : ℕ) (x y : A) → i < length xs → i < length ys → x ≡ get_or xs i x → y ≡ get_or ys i y → (f x ≡ f y → ⊥)
+      → slice_get (map f xs) i ≢ slice_get (map f ys) i
+  unequal-at xs ys i x y k l is at differ e =
+      let both : Some (f x) ≡ Some (f y) = sym (at-place xs i x k is) ∙ e ∙ at-place ys i y l at in
+      differ (cc)
+
+  pub differ-at : (xs ys : List A) (i : ℕ) (x y : A) → i < length xs → i < length ys → x ≡ get_or xs i x → y ≡ get_or ys i y → (f x ≡ f y → ⊥)
+      → map f xs ≡ map f ys → ⊥
+  differ-at xs ys i x y k l is at differ e = unequal-at xs ys i x y k l is at differ (ap (λ (zs : List B). slice_get zs i) e)
+
+  -- where one list ends the longer one goes on
+  pub goes-on : (xs ys : List A) → length xs < length ys → slice_get (map f xs) (length xs) ≢ slice_get (map f ys) (length xs)
+  goes-on [] [] h e = absurd (omega (arith, h))
+  goes-on [] (y ∷ ys) h e = absurd (cc)
+  goes-on (x ∷ xs) [] h e = absurd (omega (arith, h))
+  goes-on (x ∷ xs) (y ∷ ys) h e = goes-on xs ys (omega (arith, h)) e
+
+  pub unequal-lengths : (xs ys : List A) → length xs ≢ length ys → map f xs ≡ map f ys → ⊥
+  unequal-lengths xs ys differ e = differ (sym (length-map xs f) ∙ ap length e ∙ length-map ys f)
+
+-- items and pairs as the lists that they were made of
+pub items-listed : (xs ys : List Value) → items_view xs ≡ items_view ys → map view xs ≡ map view ys
+items-listed xs ys e = sym (listed-of (map view xs)) ∙ ap listed e ∙ listed-of (map view ys)
+
+pub pairs-listed : (xs ys : List (Value × Value)) → pairs_view xs ≡ pairs_view ys → map pair_view xs ≡ map pair_view ys
+pairs-listed xs ys e = sym (pairs_listed-of (map pair_view xs)) ∙ ap pairs_listed e ∙ pairs_listed-of (map pair_view ys)
+
+pub ruleset place_steps = (equal-next, take-next, differ-at, goes-on, unequal-lengths, items-listed, pairs-listed)

@@ -1,0 +1,28 @@
+use Rattle.std.proofs.Common.{◌≡◌, ◌+◌, ◌*◌, take, map as each}
+use Rattle.value_data.specs.View.{view, pair_view, items_view, pairs_view}
+use Rattle.value_data.proofs.Size.{nodes, items_nodes, pairs_nodes}
+use Rattle.trace_comparison.proofs.values.+same_value.Given as goal
+
+abbrev pub decreases-same_value : goal.decreases-same_value
+decreases-same_value l = 8 * nodes (view l.left.now)
+
+abbrev pub decreases-same_sequence : goal.decreases-same_sequence
+decreases-same_sequence l = 8 * items_nodes l.left.now.items + 2
+
+abbrev pub decreases-same_items : goal.decreases-same_items
+decreases-same_items l = 8 * items_nodes (items_view l.left.now) + 1
+
+abbrev pub decreases-same_table : goal.decreases-same_table
+decreases-same_table l = 8 * pairs_nodes l.left.now.pairs + 3
+
+abbrev pub decreases-same_pairs : goal.decreases-same_pairs
+decreases-same_pairs l = 8 * pairs_nodes (pairs_view l.left.now) + 2
+
+abbrev pub decreases-same_pair : goal.decreases-same_pair
+decreases-same_pair l = 8 * (nodes (view l.left.now.0) + nodes (view l.left.now.1)) + 1
+
+abbrev pub invariant-same_items-loop-place : goal.invariant-same_items-loop-place
+invariant-same_items-loop-place l = take l.place (each view l.left) ≡ take l.place (each view l.right)
+
+abbrev pub invariant-same_pairs-loop-place : goal.invariant-same_pairs-loop-place
+invariant-same_pairs-loop-place l = take l.place (each pair_view l.left) ≡ take l.place (each pair_view l.right)

@@ -1,0 +1,23 @@
+// When two jobs are the same.
+ghost use Rattle.std.specs.Prelude.{◌≡◌, ◌↔◌, IsTrue};
+ghost use Rattle.repl_jobs.specs.View.{work_view, job_view};
+
+use crate::values::{same_text, same_value};
+use repl_jobs::{Job, Work};
+
+/// Whether there is the same to evaluate.
+pub fn same_work(left: &Work, right: &Work) -> bool
+    ensures { IsTrue result ↔ (work_view left.now ≡ work_view right.now) }
+{
+    let (Work::Form(form), Work::Form(other)) = (left, right);
+    same_value(form, other)
+}
+
+/// Whether the jobs have the same work, namespace and number of attempts.
+pub fn same_job(left: &Job, right: &Job) -> bool
+    ensures { IsTrue result ↔ (job_view left.now ≡ job_view right.now) }
+{
+    left.retries == right.retries
+        && same_text(&left.namespace, &right.namespace)
+        && same_work(&left.work, &right.work)
+}

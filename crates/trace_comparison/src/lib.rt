@@ -1,0 +1,22 @@
+//! Whether two values, jobs or traces are the same, print for print.
+//!
+//! Equality of the language does not tell: there a list equals a vector, and maps forget their
+//! order. Here two things are the same where the data that they stand for is equal. Whoever hands
+//! an evaluation to another and gets an ending back so compares its job and its trace with those
+//! that were recorded. Nothing here takes memory, and every call returns.
+#![tactic(auto)]
+
+mod asks;
+mod functions;
+mod jobs;
+pub mod laws;
+mod traces;
+mod values;
+
+pub use asks::{
+    same_answer, same_ask, same_binding, same_exchange, same_named_function, same_resolution,
+};
+pub use functions::{same_fault, same_function};
+pub use jobs::{same_job, same_work};
+pub use traces::{first_difference, same_trace};
+pub use values::same_value;

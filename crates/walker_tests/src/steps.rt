@@ -1,0 +1,114 @@
+// Evaluations that are led by hand from ask to ask: each keeps its job and its trace.
+use crate::told::{ask_told, exchange_told, form, printed, text};
+use repl_asks::{Answer, Exchange, Resolution};
+use repl_jobs::{Finished, Job, Work};
+use repl_values::Value;
+use repl_walker::{End, Progress, start};
+use std::alloc::{AllocError, Global};
+use std::test::Fail;
+
+fn job(alloc: Global, code: &str) -> Result<Job, AllocError> {
+    Ok(Job {
+        work: Work::Form(form(alloc, code)?),
+        namespace: text(alloc, "user")?,
+        retries: 1,
+    })
+}
+
+fn tell_trace(alloc: Global, trace: &[Exchange], told: &mut String) -> Result<(), AllocError> {
+    for exchange in trace {
+        told.push_str(exchange_told(alloc, exchange)?.as_str())?;
+        told.push_str("; ")?;
+    }
+    Ok(())
+}
+
+fn tell_end(alloc: Global, finished: &Finished, told: &mut String) -> Result<(), AllocError> {
+    match finished.end() {
+        End::Value(value) => told.push_str(printed(alloc, value)?.as_str()),
+        End::Fault(fault) => told.push_str(fault.text.as_str()),
+    }
+}
+
+// The form, what was asked and answered, and then the next ask or the end.
+fn told(alloc: Global, progress: &Progress) -> Result<String, AllocError> {
+    let mut told = String::new(alloc);
+    match progress {
+        Progress::Asks(walk) => {
+            told.push_str(printed(alloc, walk.job().work.form())?.as_str())?;
+            told.push_str(" -- ")?;
+            tell_trace(alloc, walk.trace(), &mut told)?;
+            told.push_str(ask_told(alloc, walk.ask())?.as_str())?;
+        }
+        Progress::Ends(ending) => {
+            told.push_str(printed(alloc, ending.job().work.form())?.as_str())?;
+            told.push_str(" -- ")?;
+            tell_trace(alloc, ending.trace(), &mut told)?;
+            tell_end(alloc, ending.end(), &mut told)?;
+        }
+    }
+    Ok(told)
+}
+
+// Goes on with an integer where an answer is waited for.
+fn went_on(alloc: Global, progress: Progress, n: i64) -> Result<Progress, AllocError> {
+    match progress {
+        Progress::Asks(walk) => {
+            walk.resume(alloc, Answer::Resolution(Resolution::Value(Value::Int(n))))
+        }
+        Progress::Ends(ending) => Ok(Progress::Ends(ending)),
+    }
+}
+
+fn told_after(alloc: Global, code: &str, given: &[i64]) -> Result<String, AllocError> {
+    let mut progress = start(alloc, &job(alloc, code)?)?;
+    for n in given {
+        progress = went_on(alloc, progress, *n)?;
+    }
+    told(alloc, &progress)
+}
+
+#[test]
+fn a_walk_keeps_its_job_and_its_trace(rt: HostRuntime) -> Result<(), Fail> {
+    let rows: [(&str, &[i64], &str); 5] = [
+        ("7", &[], "7 -- 7"),
+        ("[x y]", &[], "[x y] -- resolve user x"),
+        ("[x y]", &[1], "[x y] -- resolve user x: 1; resolve user y"),
+        (
+            "[x y]",
+            &[1, 2],
+            "[x y] -- resolve user x: 1; resolve user y: 2; [1 2]",
+        ),
+        (
+            "(f x)",
+            &[1],
+            "(f x) -- resolve user f: 1; Not a function: 1",
+        ),
+    ];
+    let a = rt.alloc();
+    for (code, given, expected) in rows {
+        assert_eq!(rt; told_after(a, code, given)?.as_str(), expected);
+    }
+    Ok(())
+}
+
+// One goes on while the other waits.
+fn told_of_two(alloc: Global) -> Result<(String, String), AllocError> {
+    let one = start(alloc, &job(alloc, "[x y]")?)?;
+    let other = start(alloc, &job(alloc, "z")?)?;
+    let one = went_on(alloc, one, 1)?;
+    let other = went_on(alloc, other, 3)?;
+    let one = went_on(alloc, one, 2)?;
+    Ok((told(alloc, &one)?, told(alloc, &other)?))
+}
+
+#[test]
+fn walks_are_kept_apart(rt: HostRuntime) -> Result<(), Fail> {
+    let (one, other) = told_of_two(rt.alloc())?;
+    assert_eq!(rt;
+        one.as_str(),
+        "[x y] -- resolve user x: 1; resolve user y: 2; [1 2]"
+    );
+    assert_eq!(rt; other.as_str(), "z -- resolve user z: 3; 3");
+    Ok(())
+}
