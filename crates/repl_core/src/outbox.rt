@@ -51,7 +51,7 @@ impl Outbox {
         ensures { OnOk result (waiting_bytes self.new
             ≡ waiting_bytes self.old ++ map bytes_of (reply (origin_view origin) (body_view body) ∷ [])) }
     {
-        let bytes = reply_bytes(self.alloc, Reply { origin, body })?;
+        let bytes = reply_bytes(self.alloc, &Reply { origin, body })?;
         self.replies.push_back(bytes)?;
         Ok(())
     }

@@ -1,2 +1,3 @@
+pub mod Operations
 pub mod Replies
 pub mod Requests

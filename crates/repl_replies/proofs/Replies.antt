@@ -1,5 +1,5 @@
 -- A reply's fields, put in one by one, are spelled as the message that they make.
-use Rattle.std.proofs.Common.{◌≡◌, ℕ, List, [], ◌∷◌, Option, Some, None, Ordering, Less, Equal, Greater, nat_cmp, map, refl, sym, ap, ◌∙◌, codes, rules, Bor}
+use Rattle.std.proofs.Common.{◌≡◌, ℕ, List, [], ◌∷◌, Option, Some, None, Ordering, Less, Equal, Greater, nat_cmp, map, refl, sym, ap, ◌∙◌, codes, rules}
 use Rattle.std.specs.BTreeMap.{BTreeMap}
 use Rattle.std.specs.Cmp.Lexicographic.{slice_cmp}
 use Rattle.std.specs.Ordering.{match_ordering}
@@ -12,10 +12,10 @@ use Rattle.bencode_wire.proofs.Written.{sorted_twice}
 use Rattle.repl_replies.specs.Building.{puts}
 use Rattle.repl_replies.specs.Replies.{ReplyData, given, status, status_value, strings, body_fields, message, bytes_of}
 
--- each word as a string
-pub trees_of-strings : (words : List (Bor (List ℕ))) → trees_of (map (λ word. string word.now) words) ≡ strings (map (λ word. word.now) words)
-trees_of-strings [] = refl
-trees_of-strings (word ∷ words) = ap (tree (string word.now)) (trees_of-strings words)
+-- each text as a string
+pub trees_of-strings : {X : Type 0} (text : X → List ℕ) (xs : List X) → trees_of (map (λ x. string (text x)) xs) ≡ strings (map text xs)
+trees_of-strings text [] = refl
+trees_of-strings text (x ∷ xs) = ap (tree (string (text x))) (trees_of-strings text xs)
 
 pub view-Dictionary : (fields : BTreeMap Key Ben) → view (Dictionary fields) ≡ dictionary (pairs_view fields.entries)
 view-Dictionary fields = search (rules, the_lemmas)

@@ -1,4 +1,8 @@
 pub mod Building
+pub mod Description
+pub mod Fields
+pub mod OperationNames
+pub mod Operations
 pub mod Replies
 pub mod Requests
 pub mod View

@@ -1,7 +1,8 @@
 -- What a message asks for (the nREPL manual, "Supported nREPL operations").
 use Rattle.std.specs.Prelude.{ℕ, List, Bool, false, Option, Some, None, if◌then◌else◌, codes}
-use Rattle.std.specs.Str.{bytes_eq, is_utf8}
+use Rattle.std.specs.Str.{bytes_eq}
 use Rattle.bencode_wire.specs.Tree.{Tree, integer, string, list, dictionary, Pairs, field}
+pub use Rattle.repl_replies.specs.Fields.{text_of}
 use Rattle.repl_replies.specs.Replies.{OriginData, BodyData, unknown_op, unknown_session, no_code, ReplyData}
 
 -- a request to evaluate: its code, and the namespace that it names, as it came
@@ -22,14 +23,6 @@ is_string text (Some (integer n)) = false
 is_string text (Some (string bytes)) = bytes_eq bytes text
 is_string text (Some (list ts)) = false
 is_string text (Some (dictionary ps)) = false
-
--- a field's text, if it is a string in UTF-8
-abbrev pub text_of : Option Tree → Option (List ℕ)
-text_of None = None
-text_of (Some (integer n)) = None
-text_of (Some (string bytes)) = if is_utf8 bytes then Some bytes else None
-text_of (Some (list ts)) = None
-text_of (Some (dictionary ps)) = None
 
 abbrev pub refused : OriginData → BodyData → HeardData
 refused origin body = answered (record { origin = origin; body = body })

@@ -1,10 +1,18 @@
 -- The data that the code's types stand for.
-use Rattle.std.specs.Prelude.{Option, Some, None, string_bytes}
+use Rattle.std.specs.Prelude.{Option, Some, None, map, string_bytes}
 use Rattle.bencode_wire.specs.Tree.{Tree}
 use Rattle.bencode_wire.specs.View.{view}
 use Rattle.bencode_wire.specs.declared.ben.Ben.{Ben}
-use Rattle.repl_replies.specs.Replies.{OriginData, BodyData, value, output, exception, error_text, done, unknown_op, unknown_session, no_code, namespace_not_found, malformed, ReplyData}
+use Rattle.repl_replies.specs.Replies.{OriginData, BodyData, ReplyData}
+use Rattle.repl_replies.specs.Replies.{value, output, exception, error_text, done}
+use Rattle.repl_replies.specs.Replies.{unknown_op, unknown_session, no_code, no_file}
+use Rattle.repl_replies.specs.Replies.{namespace_not_found, malformed, new_session, sessions}
+use Rattle.repl_replies.specs.Replies.{described, closed, interrupted}
 use Rattle.repl_replies.specs.Requests.{RequestData, HeardData, waits, answered}
+use Rattle.repl_replies.specs.Operations as meant
+use Rattle.repl_replies.specs.Operations.{OperationData, AskedData}
+use Rattle.repl_replies.specs.declared.operation.Operation.{Operation}
+use Rattle.repl_replies.specs.declared.operation.Asked.{Asked}
 use Rattle.repl_replies.specs.declared.reply.Origin.{Origin}
 use Rattle.repl_replies.specs.declared.reply.Body.{Body}
 use Rattle.repl_replies.specs.declared.reply.Reply.{Reply}
@@ -28,15 +36,34 @@ body_view Body.Done = done
 body_view (Body.UnknownOp op) = unknown_op (field_view op)
 body_view Body.UnknownSession = unknown_session
 body_view Body.NoCode = no_code
+body_view Body.NoFile = no_file
 body_view Body.NamespaceNotFound = namespace_not_found
 body_view Body.Malformed = malformed
+body_view (Body.NewSession id) = new_session (string_bytes id)
+body_view (Body.Sessions ids) = sessions (map string_bytes ids.items)
+body_view Body.Described = described
+body_view Body.Closed = closed
+body_view Body.Interrupted = interrupted
 
 abbrev pub reply_view : Reply → ReplyData
 reply_view r = record { origin = origin_view r.origin; body = body_view r.body }
 
 abbrev pub request_view : Request → RequestData
-request_view r = record { origin = origin_view r.origin; code = string_bytes r.code; ns = field_view r.ns }
+request_view r =
+    record { origin = origin_view r.origin; code = string_bytes r.code; ns = field_view r.ns }
 
 abbrev pub heard_view : Heard → HeardData
 heard_view (Heard.Waits request) = waits (request_view request)
 heard_view (Heard.Answered reply) = answered (reply_view reply)
+
+abbrev pub operation_view : Operation → OperationData
+operation_view (Operation.Clone session) = meant.clone session
+operation_view (Operation.Close session) = meant.close session
+operation_view (Operation.Describe session) = meant.describe session
+operation_view (Operation.ListSessions session) = meant.list_sessions session
+operation_view (Operation.Eval session code ns) =
+    meant.eval session (string_bytes code) (field_view ns)
+operation_view (Operation.LoadFile session file) = meant.load_file session (string_bytes file)
+
+abbrev pub asked_view : Asked → AskedData
+asked_view a = record { origin = origin_view a.origin; operation = operation_view a.operation }

@@ -1,12 +1,11 @@
 // What a message asks for.
-ghost use Rattle.std.specs.Prelude.{◌≡◌, Some, None, if◌then◌else◌, codes, option_map, string_bytes};
-ghost use Rattle.std.specs.Str.{is_utf8};
+ghost use Rattle.std.specs.Prelude.{◌≡◌, if◌then◌else◌, codes};
 ghost use Rattle.bencode_wire.specs.View.{pairs_view};
 ghost use Rattle.repl_replies.specs.Replies.{unknown_op};
-ghost use Rattle.repl_replies.specs.Requests as meant;
 ghost use Rattle.repl_replies.specs.Requests.{heard, is_string, in_session, refused};
 ghost use Rattle.repl_replies.specs.View.{field_view, origin_view, body_view, heard_view};
 
+use crate::fields::text_of;
 use crate::reply::{Body, Origin, Reply};
 use bencode_wire::{Ben, Dictionary, take_field};
 
@@ -69,20 +68,4 @@ fn is_eval(op: &Option<Ben>) -> bool
         Some(Ben::String(name)) => name.as_slice() == b"eval".as_slice(),
         _ => false,
     }
-}
-
-// The value as text, if it is a string in UTF-8.
-fn text_of(value: Option<Ben>) -> Option<String>
-    ensures { option_map string_bytes result ≡ meant.text_of (field_view value) }
-{
-    match value {
-        Some(Ben::String(bytes)) => text_in(bytes),
-        _other => None,
-    }
-}
-
-fn text_in(bytes: Vec<u8>) -> Option<String>
-    ensures { option_map string_bytes result ≡ (if is_utf8 bytes.items then Some bytes.items else None) }
-{
-    String::from_utf8(bytes).ok()
 }

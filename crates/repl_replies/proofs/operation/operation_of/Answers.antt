@@ -1,0 +1,27 @@
+use Rattle.std.proofs.Common.{◌∙◌, ap, codes}
+use Rattle.bencode_wire.specs.View.{pairs_view}
+use Rattle.repl_replies.specs.Operations.{of_origin}
+use Rattle.repl_replies.specs.View.{field_view}
+use Rattle.repl_replies.proofs.Operations.{Taken, asked-taken}
+use Rattle.repl_replies.proofs.Requests.{field_view-option_map}
+use Rattle.repl_replies.proofs.operation.operation_of.Goals as goal
+
+pub returns : goal.returns
+returns g c =
+    let id = c.take_field-id in
+    let session = c.take_field-session in
+    let op = c.take_field-op in
+    let all = pairs_view c.args.message.entries in
+    let left = pairs_view op.new.fields.entries in
+    let taken : Taken (field_view id.result) (field_view session.result) (field_view op.result) left all = record {
+      id_is = field_view-option_map id.result ∙ id.ensures.value;
+      session_is = field_view-option_map session.result ∙ session.ensures.value ∙ id.ensures.others (codes "session");
+      op_is = field_view-option_map op.result ∙ op.ensures.value ∙ session.ensures.others (codes "op") ∙ id.ensures.others (codes "op");
+      needs = record {
+        code = op.ensures.others (codes "code") ∙ session.ensures.others (codes "code") ∙ id.ensures.others (codes "code");
+        ns = op.ensures.others (codes "ns") ∙ session.ensures.others (codes "ns") ∙ id.ensures.others (codes "ns");
+        file = op.ensures.others (codes "file") ∙ session.ensures.others (codes "file") ∙ id.ensures.others (codes "file");
+      };
+    } in
+    c.of_origin.ensures ∙ ap (of_origin (record { id = field_view id.result; session = field_view session.result })) c.served-operation.ensures
+    ∙ asked-taken (g.S.OpenSessions.number c.args.sessions.now) _ _ _ left all taken

@@ -1,0 +1,26 @@
+-- What `describe` tells (the nREPL manual, "Supported nREPL operations").
+use Rattle.std.specs.Prelude.{List, [], ◌∷◌, pos, codes}
+use Rattle.bencode_wire.specs.Tree.{Tree, integer, dictionary, Pairs, no_pairs, pair}
+use Rattle.repl_replies.specs.OperationNames.{name_of, operations}
+use Rattle.repl_replies.specs.declared.names.OperationName.{OperationName}
+
+-- each operation under its name, with nothing further said of it
+abbrev pub ops : List OperationName → Pairs
+ops [] = no_pairs
+ops (operation ∷ more) = pair (name_of operation) (dictionary no_pairs) (ops more)
+
+-- the server is of version 1.0
+abbrev pub version : Tree
+version =
+    dictionary
+    (pair (codes "major") (integer (pos 1))
+    (pair (codes "minor") (integer (pos 0)) no_pairs))
+
+abbrev pub versions : Tree
+versions = dictionary (pair (codes "server") version no_pairs)
+
+abbrev pub description : Pairs
+description =
+    pair (codes "aux") (dictionary no_pairs)
+    (pair (codes "ops") (dictionary (ops operations))
+    (pair (codes "versions") versions no_pairs))

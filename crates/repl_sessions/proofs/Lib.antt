@@ -1,0 +1,7 @@
+pub mod Words
+pub mod Numbers
+pub mod SeenSessions
+pub mod Keeping
+pub mod Naming
+pub mod SessionLaws
+pub mod KnownAnswers
