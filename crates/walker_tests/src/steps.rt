@@ -91,24 +91,3 @@ fn a_walk_keeps_its_job_and_its_trace(rt: HostRuntime) -> Result<(), Fail> {
     }
     Ok(())
 }
-
-// One goes on while the other waits.
-fn told_of_two(alloc: Global) -> Result<(String, String), AllocError> {
-    let one = start(alloc, &job(alloc, "[x y]")?)?;
-    let other = start(alloc, &job(alloc, "z")?)?;
-    let one = went_on(alloc, one, 1)?;
-    let other = went_on(alloc, other, 3)?;
-    let one = went_on(alloc, one, 2)?;
-    Ok((told(alloc, &one)?, told(alloc, &other)?))
-}
-
-#[test]
-fn walks_are_kept_apart(rt: HostRuntime) -> Result<(), Fail> {
-    let (one, other) = told_of_two(rt.alloc())?;
-    assert_eq!(rt;
-        one.as_str(),
-        "[x y] -- resolve user x: 1; resolve user y: 2; [1 2]"
-    );
-    assert_eq!(rt; other.as_str(), "z -- resolve user z: 3; 3");
-    Ok(())
-}
