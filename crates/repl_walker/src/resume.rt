@@ -20,6 +20,7 @@ pub fn start(alloc: Global, job: &Job) -> Result<Progress, AllocError>
     ensures meaning { IfOk result (λ progress. progress_tree progress ≡ evaluation (job_view job.now)) }
     ensures job { IfOk result (λ progress. progress_job progress ≡ job_view job.now) }
     ensures trace { IfOk result (λ progress. progress_trace progress ≡ []) }
+    ensures calls { IfOk result (λ progress. progress_calls progress ≤ 10_000) }
 {
     let copied = job.copy()?;
     let reached = begin(alloc, job)?;
