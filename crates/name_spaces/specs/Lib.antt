@@ -1,7 +1,2 @@
 pub mod Resolving
 pub mod Bound
-pub mod Namespaces
-pub mod Latest
-pub mod Found
-pub mod Seen
-pub mod View

@@ -37,24 +37,18 @@ qualified_resolution bindings symbol space name =
     if bytes_eq space (codes "user") then var_resolution symbol (bindings name) else names_nothing (failures.no_such_namespace space)
 
 -- a symbol with a slash names its namespace in front of the first; `/` alone has no parts
-abbrev pub slash_of : List ℕ → Option ℕ
-slash_of symbol = if bytes_eq symbol (codes "/") then None else position is_slash symbol
-
 abbrev pub resolution_by_slash : Bindings → List ℕ → Option ℕ → ResolutionData
 resolution_by_slash bindings symbol None = simple_resolution symbol (bindings symbol)
 resolution_by_slash bindings symbol (Some slash) = qualified_resolution bindings symbol (take slash symbol) (drop (slash + 1) symbol)
 
 unfoldable pub resolved : Bindings → List ℕ → ResolutionData
-resolved bindings symbol = resolution_by_slash bindings symbol (slash_of symbol)
+resolved bindings symbol = resolution_by_slash bindings symbol (if bytes_eq symbol (codes "/") then None else position is_slash symbol)
 
 abbrev pub answered : Bindings → AskData → AnswerData
 answered bindings (exchange.resolve namespace symbol) = exchange.resolution (resolved bindings symbol)
 answered bindings (exchange.define namespace name binding) = exchange.done
 
 -- a definition binds its name, in place of what it was bound to
-abbrev pub rebound : Bindings → List ℕ → BindingData → Bindings
-rebound bindings name binding q = if bytes_eq q name then Some binding else bindings q
-
 abbrev pub bound_after : Bindings → AskData → Bindings
 bound_after bindings (exchange.resolve namespace symbol) q = bindings q
-bound_after bindings (exchange.define namespace name binding) q = rebound bindings name binding q
+bound_after bindings (exchange.define namespace name binding) q = if bytes_eq q name then Some binding else bindings q

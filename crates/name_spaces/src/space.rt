@@ -1,5 +1,5 @@
 // The one namespace, `user`: what its names are bound to, and how symbols are resolved in it.
-ghost use Rattle.std.specs.Prelude.{◌≡◌, ℕ, List, None, if◌then◌else◌, Some, IfOk, OnOk, OnErr, option_map};
+ghost use Rattle.std.specs.Prelude.{◌≡◌, ℕ, List, None, if◌then◌else◌, Some, IfOk, OnOk, OnErr};
 ghost use Rattle.std.specs.Arc.{arc_str_bytes};
 ghost use Rattle.std.specs.Str.{bytes_eq};
 ghost use Rattle.repl_asks.specs.View.{ask_view, answer_view, resolution_view, binding_view};
@@ -99,19 +99,7 @@ impl Space {
         }
     }
 
-    // What the name is bound to.
-    pub(crate) fn binding(&self, name: &str) -> Option<&Binding>
-        ensures { option_map (λ b. binding_view b.now) result ≡ bound_in self.now name.now }
-    {
-        self.bindings.get(name)
-    }
-
-    pub(crate) fn define(
-        &mut self,
-        alloc: Global,
-        name: ArcStr,
-        binding: Binding,
-    ) -> Result<(), AllocError>
+    fn define(&mut self, alloc: Global, name: ArcStr, binding: Binding) -> Result<(), AllocError>
         ensures bound { OnOk result ((q : List ℕ) → bound_in self.new q ≡ (if bytes_eq q (arc_str_bytes name) then Some (binding_view binding) else bound_in self.old q)) }
         ensures kept { OnErr result ((q : List ℕ) → bound_in self.new q ≡ bound_in self.old q) }
     {
@@ -121,7 +109,7 @@ impl Space {
     }
 }
 
-pub(crate) fn bound(binding: &Binding) -> Result<Resolution, AllocError>
+fn bound(binding: &Binding) -> Result<Resolution, AllocError>
     ensures { IfOk result (λ found. resolution_view found ≡ meant.bound_resolution (binding_view binding.now)) }
 {
     match binding {
