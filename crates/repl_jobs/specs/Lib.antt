@@ -1,2 +1,4 @@
 pub mod Job
 pub mod View
+pub mod Tree
+pub mod Leading

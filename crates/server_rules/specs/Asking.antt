@@ -1,0 +1,107 @@
+-- Asking: the ask of a form that runs is answered, and the pair recorded.
+use Rattle.std.specs.Prelude.{ℕ, List, [], ◌∷◌, ◌++◌, Bool, true, not, Option, None, Some}
+use Rattle.std.specs.Prelude.{if◌then◌else◌}
+use Rattle.value_data.specs.Datum.{Datum}
+use Rattle.repl_asks.specs.Namespaces.{is_fixed}
+use Rattle.repl_asks.specs.Exchange as exchange
+use Rattle.repl_asks.specs.Exchange.{AskData, AnswerData, ResolutionData, names_value}
+use Rattle.repl_sessions.specs.State.{StateData}
+use Rattle.name_spaces.specs.Namespaces.{Namespaces, entered, defined}
+use Rattle.name_spaces.specs.Resolving as names
+use Rattle.name_spaces.specs.Resolving.{FoundData, found_resolution, found_latest}
+use Rattle.name_spaces.specs.declared.latest.Latest.{Latest}
+use Rattle.server_rules.specs.Calls.{Call, nothing, makes, begins, reads, counts}
+use Rattle.server_rules.specs.Calls.{tells_least, tells_most, sets_least, sets_most}
+use Rattle.server_rules.specs.Calls.{commits, gives_up}
+use Rattle.server_rules.specs.Ground.{Ground}
+use Rattle.server_rules.specs.Request.{Hand, Run}
+use Rattle.server_rules.specs.Tenant.{ActorData, seat_of, Quiet, with_actor, state_of}
+use Rattle.server_rules.specs.Starting.{interrupted_in}
+use Rattle.server_rules.specs.Plan.{Outcome, refuses, leaves, ask_answered, Plan, quietly, spent}
+use Rattle.server_rules.specs.declared.actor.Actor.{Actor}
+use Rattle.server_rules.specs.declared.refusal.Refusal.{Refusal}
+
+-- what is asked of the refs
+abbrev pub call_of : ℕ → AskData → Call
+call_of seat (exchange.resolve namespace symbol) = nothing
+call_of seat (exchange.define namespace name binding) = nothing
+call_of seat (exchange.enter name) = nothing
+call_of seat (exchange.new_ref d least most) = makes d least most
+call_of seat exchange.begin = begins seat
+call_of seat (exchange.read name) = reads seat name
+call_of seat (exchange.history name) = counts seat name
+call_of seat (exchange.min_history name None) = tells_least name
+call_of seat (exchange.min_history name (Some n)) = sets_least name n
+call_of seat (exchange.max_history name None) = tells_most name
+call_of seat (exchange.max_history name (Some n)) = sets_most name n
+call_of seat (exchange.commit intent) = commits seat intent
+
+-- nothing is defined in a namespace that is fixed, and nobody enters it
+abbrev pub is_allowed : AskData → Bool
+is_allowed (exchange.define namespace name binding) = not (is_fixed namespace)
+is_allowed (exchange.enter name) = not (is_fixed name)
+is_allowed _ = true
+
+abbrev pub latest_of : Latest → StateData → Datum
+latest_of Latest.One state = state.one
+latest_of Latest.Two state = state.two
+latest_of Latest.Three state = state.three
+latest_of Latest.Fault state = state.fault
+
+abbrev pub resolution_of : StateData → FoundData → ResolutionData
+resolution_of state (found_resolution r) = r
+resolution_of state (found_latest latest) = names_value (latest_of latest state)
+
+abbrev pub resolved : Ground → Actor → Quiet → List ℕ → List ℕ → ResolutionData
+resolved g a q namespace symbol =
+    resolution_of (state_of a q) (names.resolved g.shared_names q.spaces namespace symbol)
+
+-- the answer is what the refs told, but for symbols
+abbrev pub answer_to : Ground → Actor → Quiet → AskData → AnswerData → AnswerData
+answer_to g a q (exchange.resolve namespace symbol) told =
+    exchange.resolution (resolved g a q namespace symbol)
+answer_to g a q _ told = told
+
+abbrev pub spaces_after : AskData → Namespaces → Namespaces
+spaces_after (exchange.define namespace name binding) spaces =
+    defined spaces namespace name binding
+spaces_after (exchange.enter name) spaces = entered spaces name
+spaces_after _ spaces = spaces
+
+abbrev pub recorded : Actor → ActorData → Hand → Run → AskData → AnswerData → Quiet → Quiet
+recorded a actor h run ask answer q =
+    let more : Run = record run { trace = run.trace ++ record { ask = ask; answer = answer } ∷ [] } in
+    with_actor a (record actor { hand = Some (record h { running = Some more }) }) q
+
+abbrev pub answered : Ground → Actor → ActorData → Hand → Run → AskData → Quiet → AnswerData → Outcome
+answered g a actor h run ask q told =
+    let answer = answer_to g a q ask told in
+    leaves (spent (recorded a actor h run ask answer
+        (record q { spaces = spaces_after ask q.spaces }))) (ask_answered answer)
+
+-- an ask that breaks a rule is none of an evaluation's
+abbrev pub when_told : Option AnswerData → (AnswerData → Outcome) → Outcome
+when_told None next = refuses Refusal.Idle
+when_told (Some told) next = next told
+
+abbrev pub asked_allowed : Ground → Actor → ActorData → Hand → Run → AskData → Quiet → Plan
+asked_allowed g a actor h run ask q =
+    if actor.is_closed
+    then record {
+      call = gives_up (seat_of a) (call_of (seat_of a) ask);
+      next = λ told. when_told told (λ _. interrupted_in a h q);
+    }
+    else record {
+      call = call_of (seat_of a) ask;
+      next = λ told. when_told told (answered g a actor h run ask q);
+    }
+
+abbrev pub asked_running : Ground → Actor → ActorData → Hand → AskData → Quiet → Option Run → Plan
+asked_running g a actor h ask q None = quietly (refuses Refusal.Idle)
+asked_running g a actor h ask q (Some run) =
+    if is_allowed ask then asked_allowed g a actor h run ask q
+    else quietly (refuses Refusal.Idle)
+
+abbrev pub asked_of : Ground → Actor → ActorData → AskData → Quiet → Option Hand → Plan
+asked_of g a actor ask q None = quietly (refuses Refusal.Idle)
+asked_of g a actor ask q (Some h) = asked_running g a actor h ask q h.running

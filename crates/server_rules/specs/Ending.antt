@@ -1,0 +1,44 @@
+-- Ending: an evaluation comes back at its end, and its form is answered.
+use Rattle.std.specs.Prelude.{ℕ, List, Bool, true, false, Option, None, Some}
+use Rattle.std.specs.Prelude.{if◌then◌else◌}
+use Rattle.server_rules.specs.Calls.{leaves_attempt}
+use Rattle.server_rules.specs.Ground.{Ground}
+use Rattle.server_rules.specs.Request.{Hand, Run}
+use Rattle.server_rules.specs.Tenant.{ActorData, seat_of, Quiet, is_held, state_of}
+use Rattle.server_rules.specs.Moves.{form_ended}
+use Rattle.server_rules.specs.Starting.{moved, interrupted_in}
+use Rattle.server_rules.specs.Plan.{EndingData, Outcome, refuses, leaves, form_finished}
+use Rattle.server_rules.specs.Plan.{Plan, quietly, spent}
+use Rattle.server_rules.specs.declared.actor.Actor.{Actor}
+use Rattle.server_rules.specs.declared.refusal.Refusal.{Refusal}
+
+-- with the form also its attempt is left, where one runs
+abbrev pub with_left_attempt : Actor → Outcome → Plan
+with_left_attempt a outcome =
+    record { call = leaves_attempt (seat_of a); next = λ told. outcome }
+
+abbrev pub end_accepted : Actor → ActorData → Hand → EndingData → Quiet → Plan
+end_accepted a actor h e q = with_left_attempt a
+    (leaves (spent (moved a actor (form_ended h e.end (state_of a q)) q)) form_finished)
+
+abbrev pub end_compared
+    : Actor → ActorData → Hand → EndingData → Quiet → Bool → Option ℕ → Plan
+end_compared a actor h e q false difference = quietly (refuses (Refusal.TraceMismatch 0))
+end_compared a actor h e q true (Some place) = quietly (refuses (Refusal.TraceMismatch place))
+end_compared a actor h e q true None = end_accepted a actor h e q
+
+-- its job is the one that runs, and its trace the recorded one
+abbrev pub end_checked : Ground → Actor → ActorData → Hand → Run → EndingData → Quiet → Plan
+end_checked g a actor h run e q = end_compared a actor h e q
+    (g.comparisons.is_same_job e.job run.job) (g.comparisons.difference e.trace run.trace)
+
+abbrev pub end_running : Ground → Actor → ActorData → Hand → EndingData → Quiet → Option Run → Plan
+end_running g a actor h e q None = quietly (refuses Refusal.Idle)
+end_running g a actor h e q (Some run) =
+    if actor.is_closed then with_left_attempt a (interrupted_in a h q)
+    else if is_held q then quietly (refuses Refusal.Held)
+    else end_checked g a actor h run e q
+
+abbrev pub end_of : Ground → Actor → ActorData → EndingData → Quiet → Option Hand → Plan
+end_of g a actor e q None = quietly (refuses Refusal.Idle)
+end_of g a actor e q (Some h) = end_running g a actor h e q h.running

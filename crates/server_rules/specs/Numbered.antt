@@ -1,0 +1,32 @@
+-- Lists as finite maps from numbers.
+use Rattle.std.specs.Prelude.{ℕ, zero, suc, ◌==◌, List, [], ◌∷◌, Option, None, Some}
+use Rattle.std.specs.Prelude.{if◌then◌else◌}
+
+-- the element at a place is changed; where there is none, nothing is
+abbrev pub changed_at : {A : Type 0} → ℕ → (A → A) → List A → List A
+changed_at n f [] = []
+changed_at zero f (x ∷ xs) = f x ∷ xs
+changed_at (suc n) f (x ∷ xs) = x ∷ changed_at n f xs
+
+-- what is kept under a number
+pub record Entry (A : Type 0) : Type 0 where
+  pub number : ℕ
+  pub part : A
+
+abbrev pub entry : {A : Type 0} → ℕ → A → Entry A
+entry n part = record { number = n; part = part }
+
+abbrev pub found : {A : Type 0} → ℕ → List (Entry A) → Option A
+found n [] = None
+found n (e ∷ es) = if n == e.number then Some e.part else found n es
+
+abbrev pub replaced : {A : Type 0} → ℕ → A → List (Entry A) → List (Entry A)
+replaced n part [] = []
+replaced n part (e ∷ es) = if n == e.number then entry n part ∷ es else e ∷ replaced n part es
+
+abbrev pub without : {A : Type 0} → ℕ → List (Entry A) → List (Entry A)
+without n [] = []
+without n (e ∷ es) = if n == e.number then without n es else e ∷ without n es
+
+abbrev pub map_entry : {A B : Type 0} → (A → B) → Entry A → Entry B
+map_entry f e = entry e.number (f e.part)

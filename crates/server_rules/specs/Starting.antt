@@ -1,0 +1,123 @@
+-- Starting: an actor begins the next form of the request in hand, or takes up its next request.
+use Rattle.std.specs.Prelude.{ℕ, List, [], ◌∷◌, Bool, true, false, Option, None, Some}
+use Rattle.std.specs.Prelude.{option_map, option_and_then, if◌then◌else◌}
+use Rattle.bencode_wire.specs.Tree.{Tree}
+use Rattle.value_data.specs.Datum.{nil, Items, no_items, item}
+use Rattle.repl_faults.specs.Failure.{Failure}
+use Rattle.repl_reader.specs.Fault.{FaultData, class_of}
+use Rattle.repl_jobs.specs.Job as jobs
+use Rattle.repl_jobs.specs.Job.{JobData}
+use Rattle.repl_sessions.specs.State.{StateData, fresh}
+use Rattle.name_spaces.specs.Namespaces.{Namespaces, is_there}
+use Rattle.repl_replies.specs.Fields.{as_string}
+use Rattle.repl_replies.specs.Replies.{OriginData, namespace_not_found, interrupted}
+use Rattle.server_rules.specs.Numbered.{without}
+use Rattle.server_rules.specs.Readings.{ProgramData}
+use Rattle.server_rules.specs.Ground.{Ground}
+use Rattle.server_rules.specs.Request.{Waiting, ProgramText, code, file, Manner, Hand}
+use Rattle.server_rules.specs.Request.{each_form, each_form_elsewhere, last_form}
+use Rattle.server_rules.specs.Tenant.{ActorData, seat_of, Quiet, is_held, with_actor}
+use Rattle.server_rules.specs.Tenant.{with_replies, state_of, with_state}
+use Rattle.server_rules.specs.Replying.{reply}
+use Rattle.server_rules.specs.Moves.{Move, over, in_hand, closing}
+use Rattle.server_rules.specs.Plan.{Outcome, refuses, leaves, StepAnswer, form_begun}
+use Rattle.server_rules.specs.Plan.{request_answered, request_interrupted, spent}
+use Rattle.server_rules.specs.declared.actor.Actor.{Actor}
+use Rattle.server_rules.specs.declared.refusal.Refusal.{Refusal}
+
+-- what comes of a start: a form runs, or the request is done
+pub record Started : Type 0 where
+  pub move : Move
+  pub answer : StepAnswer
+
+abbrev pub form_job : Ground → Hand → jobs.WorkData → JobData
+form_job g h work = record { work = work; namespace = h.namespace; retries = g.retries }
+
+-- the first of the forms begins
+abbrev pub next_begun : Ground → Hand → StateData → Items → Started
+next_begun g h state no_items =
+    record { move = closing h.origin h.manner h.fault state; answer = request_answered }
+next_begun g h state (item d ds) =
+    let job = form_job g h (jobs.form d) in
+    record {
+      move = in_hand (record h { running = Some (record { job = job; trace = [] }); forms = ds }) state;
+      answer = form_begun job;
+    }
+
+-- the fault of a program's text, as a fault of evaluation is told
+abbrev pub text_failure : FaultData → Failure
+text_failure f = record { class = class_of f.kind; text = f.text }
+
+abbrev pub hand_of : OriginData → Manner → List ℕ → ProgramData → Hand
+hand_of origin manner namespace p = record {
+  origin = origin;
+  manner = manner;
+  namespace = namespace;
+  running = None;
+  forms = p.forms;
+  fault = option_map text_failure p.fault;
+}
+
+abbrev pub program_begun : Ground → OriginData → Manner → List ℕ → StateData → ProgramData → Started
+program_begun g origin manner namespace state p =
+    next_begun g (hand_of origin manner namespace p) state p.forms
+
+-- the namespace that a request names, if it is there
+abbrev pub there : Namespaces → List ℕ → Option (List ℕ)
+there spaces name = if is_there spaces name then Some name else None
+
+abbrev pub elsewhere_begun : Ground → OriginData → List ℕ → StateData → Option (List ℕ) → Started
+elsewhere_begun g origin text state None =
+    record { move = over (reply origin namespace_not_found ∷ []) state; answer = request_answered }
+elsewhere_begun g origin text state (Some name) =
+    program_begun g origin each_form_elsewhere name state (g.readings.program text)
+
+abbrev pub code_begun : Ground → Namespaces → OriginData → List ℕ → StateData → Option Tree → Started
+code_begun g spaces origin text state None =
+    program_begun g origin each_form state.namespace state (g.readings.program text)
+code_begun g spaces origin text state (Some ns) =
+    elsewhere_begun g origin text state (option_and_then (there spaces) (as_string ns))
+
+abbrev pub text_begun : Ground → Namespaces → OriginData → StateData → ProgramText → Started
+text_begun g spaces origin state (code text ns) = code_begun g spaces origin text state ns
+text_begun g spaces origin state (file text) =
+    program_begun g origin (last_form nil) state.namespace state (g.readings.program text)
+
+-- a request without a session remembers nothing of another
+abbrev pub first_state : Actor → Quiet → StateData
+first_state Actor.Bare q = fresh
+first_state (Actor.Session n) q = state_of (Actor.Session n) q
+
+-- the actor goes on with what is still to do
+abbrev pub moved : Actor → ActorData → Move → Quiet → Quiet
+moved a actor m q = with_replies m.replies
+    (with_state a m.state (with_actor a (record actor { hand = m.hand }) q))
+
+abbrev pub started : Actor → ActorData → Started → Quiet → Outcome
+started a actor s q = leaves (spent (moved a actor s.move q)) s.answer
+
+-- Interrupting: the request is answered so, and the actor of the closed session is gone
+abbrev pub interrupted_in : Actor → Hand → Quiet → Outcome
+interrupted_in a h q = leaves
+    (spent (with_replies (reply h.origin interrupted ∷ [])
+    (record q { actors = without (seat_of a) q.actors })))
+    request_interrupted
+
+abbrev pub held_or : Quiet → Outcome → Outcome
+held_or q outcome = if is_held q then refuses Refusal.Held else outcome
+
+-- a form of the request in hand
+abbrev pub next_of : Ground → Actor → ActorData → Hand → Quiet → Outcome
+next_of g a actor h q =
+    if actor.is_closed then interrupted_in a h q
+    else held_or q (started a actor (next_begun g h (state_of a q) h.forms) q)
+
+abbrev pub start_in_hand : Ground → Actor → ActorData → Hand → Quiet → Bool → Outcome
+start_in_hand g a actor h q true = refuses Refusal.Idle
+start_in_hand g a actor h q false = next_of g a actor h q
+
+abbrev pub start_waiting : Ground → Actor → ActorData → Quiet → List Waiting → Outcome
+start_waiting g a actor q [] = refuses Refusal.Idle
+start_waiting g a actor q (w ∷ ws) = held_or q
+    (started a (record actor { waiting = ws })
+    (text_begun g q.spaces w.origin (first_state a q) w.text) q)

@@ -1,0 +1,56 @@
+-- The refs that a tenant reaches: its own and the shared ones.
+use Rattle.std.specs.Prelude.{ℕ, ◌==◌, List, Option, None, slice_get, if◌then◌else◌}
+use Rattle.value_data.specs.Datum.{OwnerData, shared, tenant}
+use Rattle.repl_asks.specs.Transactions.{RefNameData}
+use Rattle.server_rules.specs.Numbered.{changed_at, Entry, without}
+use Rattle.server_rules.specs.Versions.{Ref}
+
+-- what all tenants have in common
+pub record Around : Type 0 where
+  -- how many commits there were that changed a ref
+  pub counter : ℕ
+  -- the shared refs, by their numbers
+  pub refs : List Ref
+
+-- what a tenant has of its own
+pub record Own : Type 0 where
+  -- its refs, by their numbers
+  pub refs : List Ref
+  -- the read point of each actor in whose transaction an attempt runs
+  pub points : List (Entry ℕ)
+
+pub record Store : Type 0 where
+  pub around : Around
+  -- whose it is
+  pub tenant : ℕ
+  pub mine : Own
+
+-- a tenant reaches no other tenant's refs
+abbrev pub ref_of : OwnerData → ℕ → Store → Option Ref
+ref_of shared n s = slice_get s.around.refs n
+ref_of (tenant t) n s = if t == s.tenant then slice_get s.mine.refs n else None
+
+abbrev pub named : RefNameData → Store → Option Ref
+named name s = ref_of name.owner name.number s
+
+abbrev pub with_mine : Own → Store → Store
+with_mine mine s = record s { mine = mine }
+
+abbrev pub with_refs : List Ref → Store → Store
+with_refs refs s = with_mine (record { refs = refs; points = s.mine.points }) s
+
+abbrev pub with_points : List (Entry ℕ) → Store → Store
+with_points points s = with_mine (record { refs = s.mine.refs; points = points }) s
+
+abbrev pub changed_of : OwnerData → ℕ → (Ref → Ref) → Store → Store
+changed_of shared n f s =
+    record s { around = record { counter = s.around.counter; refs = changed_at n f s.around.refs } }
+changed_of (tenant t) n f s =
+    if t == s.tenant then with_refs (changed_at n f s.mine.refs) s else s
+
+-- one ref is changed, where it is there
+abbrev pub changed : RefNameData → (Ref → Ref) → Store → Store
+changed name f s = changed_of name.owner name.number f s
+
+abbrev pub left_attempt : ℕ → Store → Store
+left_attempt seat s = with_points (without seat s.mine.points) s

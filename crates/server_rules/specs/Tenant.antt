@@ -1,0 +1,73 @@
+-- A tenant, without its refs and read points.
+use Rattle.std.specs.Prelude.{ℕ, suc, List, [], ◌∷◌, ◌++◌, Bool, false, Option, None, nat_le, length}
+use Rattle.std.specs.Prelude.{unwrap_or}
+use Rattle.repl_sessions.specs.State.{StateData, fresh}
+use Rattle.repl_sessions.specs.Sessions as sessions
+use Rattle.repl_sessions.specs.Sessions.{SessionsData, none_open, with_change}
+use Rattle.name_spaces.specs.Namespaces.{Namespaces, at_start}
+use Rattle.repl_replies.specs.Replies.{ReplyData}
+use Rattle.server_rules.specs.Numbered.{Entry, entry, replaced}
+use Rattle.server_rules.specs.Request.{Waiting, Hand}
+use Rattle.server_rules.specs.Ground.{Ground}
+use Rattle.server_rules.specs.declared.actor.Actor.{Actor}
+
+-- an actor runs the forms of its requests, one after another
+pub record ActorData : Type 0 where
+  -- the requests that wait, oldest first, and the one in hand
+  pub waiting : List Waiting
+  pub hand : Option Hand
+  -- whether its session was closed while that one was in hand
+  pub is_closed : Bool
+
+abbrev pub unoccupied : ActorData
+unoccupied = record { waiting = []; hand = None; is_closed = false }
+
+-- the number by which an actor is named: that of the session and one, or 0 for requests without one
+abbrev pub seat_of : Actor → ℕ
+seat_of Actor.Bare = 0
+seat_of (Actor.Session n) = suc n
+
+pub record Quiet : Type 0 where
+  -- how many more pieces, and starts, asks and ends of forms it takes
+  pub steps : ℕ
+  -- the bytes of the stream so far
+  pub heard : List ℕ
+  pub sessions : SessionsData
+  -- what a request without a session remembers
+  pub bare : StateData
+  pub spaces : Namespaces
+  -- by their seats: first the one without a session, then those of sessions in order of creation
+  pub actors : List (Entry ActorData)
+  -- the replies that wait, oldest first
+  pub replies : List ReplyData
+
+abbrev pub opened_quiet : Ground → Quiet
+opened_quiet g = record {
+  steps = g.steps;
+  heard = [];
+  sessions = none_open;
+  bare = fresh;
+  spaces = at_start;
+  actors = entry (seat_of Actor.Bare) unoccupied ∷ [];
+  replies = [];
+}
+
+-- so many waiting replies hold back whatever may add more
+abbrev pub is_held : Quiet → Bool
+is_held q = nat_le 1024 (length q.replies)
+
+abbrev pub with_actor : Actor → ActorData → Quiet → Quiet
+with_actor a actor q = record q { actors = replaced (seat_of a) actor q.actors }
+
+abbrev pub with_replies : List ReplyData → Quiet → Quiet
+with_replies more q = record q { replies = q.replies ++ more }
+
+-- what the session of an actor remembers
+abbrev pub state_of : Actor → Quiet → StateData
+state_of Actor.Bare q = q.bare
+state_of (Actor.Session n) q = unwrap_or (sessions.state_of q.sessions n) fresh
+
+abbrev pub with_state : Actor → StateData → Quiet → Quiet
+with_state Actor.Bare state q = record q { bare = state }
+with_state (Actor.Session n) state q =
+    record q { sessions = with_change q.sessions n (λ old. state) }

@@ -1,0 +1,86 @@
+-- Turns: lists of them are every interleaving of the tenants' steps, and what they serve each.
+use Rattle.std.specs.Prelude.{ℕ, ◌==◌, List, [], ◌∷◌, ◌++◌, Option, None, Some, if◌then◌else◌}
+use Rattle.repl_jobs.specs.Tree.{Tree, finished, asks}
+use Rattle.repl_jobs.specs.Leading.{after}
+use Rattle.server_rules.specs.Numbered.{found}
+use Rattle.server_rules.specs.Ground.{Ground}
+use Rattle.server_rules.specs.Request.{Hand, Run}
+use Rattle.server_rules.specs.Tenant.{ActorData, seat_of}
+use Rattle.server_rules.specs.Plan.{Deed, starts, asks_for, ends}
+use Rattle.server_rules.specs.Plan.{StepAnswer, tenant_opened, messages_heard, form_begun}
+use Rattle.server_rules.specs.Plan.{request_answered, ask_answered, form_finished}
+use Rattle.server_rules.specs.Plan.{request_interrupted, reply_given, tenant_gone}
+use Rattle.server_rules.specs.World.{TenantData, World, Step, opens, does, closes}
+use Rattle.server_rules.specs.World.{Stepped, accepted, refused, step, world_or}
+use Rattle.server_rules.specs.declared.actor.Actor.{Actor}
+
+-- a step as it is given, or an actor goes on as its evaluation says
+pub data Turn : Type 0 where
+  given : Step → Turn
+  goes : ℕ → Actor → Turn
+
+abbrev pub whose_step : Step → ℕ
+whose_step (opens t) = t
+whose_step (does t d) = t
+whose_step (closes t) = t
+
+abbrev pub whose : Turn → ℕ
+whose (given s) = whose_step s
+whose (goes t a) = t
+
+-- The honest step of an actor
+
+-- its form asks what its evaluation asks next, or ends as that ends
+abbrev pub honest_at : Actor → Run → Tree → Deed
+honest_at a run (asks ask behind) = asks_for a ask
+honest_at a run (finished e) = ends a (record { job = run.job; trace = run.trace; end = e })
+
+abbrev pub honest_of : Ground → Actor → Option Run → Deed
+honest_of g a None = starts a
+honest_of g a (Some run) = honest_at a run (after (g.evaluation run.job) run.trace)
+
+abbrev pub honest_in : Ground → Actor → Option Hand → Deed
+honest_in g a None = starts a
+honest_in g a (Some h) = honest_of g a h.running
+
+abbrev pub honest_by : Ground → Actor → Option ActorData → Deed
+honest_by g a None = starts a
+honest_by g a (Some actor) = honest_in g a actor.hand
+
+abbrev pub honest : Ground → Actor → Option (Option TenantData) → Deed
+honest g a None = starts a
+honest g a (Some None) = starts a
+honest g a (Some (Some tenant)) = honest_by g a (found (seat_of a) tenant.quiet.actors)
+
+-- Runs of turns
+
+abbrev pub step_of : Ground → World → Turn → Step
+step_of g w (given s) = s
+step_of g w (goes t a) = does t (honest g a (found t w.tenants))
+
+abbrev pub stepped : Ground → World → Turn → Stepped
+stepped g w turn = step g w (step_of g w turn)
+
+abbrev pub next : Ground → World → Turn → World
+next g w turn = world_or w (stepped g w turn)
+
+-- the bytes that an answer gives
+abbrev pub bytes_in : StepAnswer → List ℕ
+bytes_in (reply_given bytes) = bytes
+bytes_in _ = []
+
+abbrev pub bytes_given : Stepped → List ℕ
+bytes_given (accepted w answer) = bytes_in answer
+bytes_given (refused why) = []
+
+-- what a tenant is given, from a state on: the replies that it takes out, joined
+abbrev pub serve : Ground → World → List Turn → ℕ → List ℕ
+serve g w [] t = []
+serve g w (turn ∷ turns) t =
+    (if t == whose turn then bytes_given (stepped g w turn) else [])
+    ++ serve g (next g w turn) turns t
+
+-- the turns of one tenant, in order
+abbrev pub only : ℕ → List Turn → List Turn
+only t [] = []
+only t (turn ∷ turns) = if t == whose turn then turn ∷ only t turns else only t turns
