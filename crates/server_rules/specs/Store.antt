@@ -46,7 +46,7 @@ abbrev pub changed_of : OwnerData → ℕ → (Ref → Ref) → Store → Store
 changed_of shared n f s =
     record s { around = record { counter = s.around.counter; refs = changed_at n f s.around.refs } }
 changed_of (tenant t) n f s =
-    if t == s.tenant then with_refs (changed_at n f s.mine.refs) s else s
+    with_refs (if t == s.tenant then changed_at n f s.mine.refs else s.mine.refs) s
 
 -- one ref is changed, where it is there
 abbrev pub changed : RefNameData → (Ref → Ref) → Store → Store

@@ -1,11 +1,12 @@
 -- Turns: lists of them are every interleaving of the tenants' steps, and what they serve each.
-use Rattle.std.specs.Prelude.{ℕ, ◌==◌, List, [], ◌∷◌, ◌++◌, Option, None, Some, if◌then◌else◌}
+use Rattle.std.specs.Prelude.{ℕ, ◌==◌, List, [], ◌∷◌, ◌++◌, Option, None, Some}
+use Rattle.std.specs.Prelude.{option_map, if◌then◌else◌}
 use Rattle.repl_jobs.specs.Tree.{Tree, finished, asks}
 use Rattle.repl_jobs.specs.Leading.{after}
 use Rattle.server_rules.specs.Numbered.{found}
 use Rattle.server_rules.specs.Ground.{Ground}
 use Rattle.server_rules.specs.Request.{Hand, Run}
-use Rattle.server_rules.specs.Tenant.{ActorData, seat_of}
+use Rattle.server_rules.specs.Tenant.{ActorData, seat_of, Quiet}
 use Rattle.server_rules.specs.Plan.{Deed, starts, asks_for, ends}
 use Rattle.server_rules.specs.Plan.{StepAnswer, tenant_opened, messages_heard, form_begun}
 use Rattle.server_rules.specs.Plan.{request_answered, ask_answered, form_finished}
@@ -47,16 +48,19 @@ abbrev pub honest_by : Ground → Actor → Option ActorData → Deed
 honest_by g a None = starts a
 honest_by g a (Some actor) = honest_in g a actor.hand
 
-abbrev pub honest : Ground → Actor → Option (Option TenantData) → Deed
+abbrev pub honest : Ground → Actor → Option (Option Quiet) → Deed
 honest g a None = starts a
 honest g a (Some None) = starts a
-honest g a (Some (Some tenant)) = honest_by g a (found (seat_of a) tenant.quiet.actors)
+honest g a (Some (Some q)) = honest_by g a (found (seat_of a) q.actors)
+
+abbrev pub quiet_of : Option TenantData → Option Quiet
+quiet_of = option_map (λ tenant. tenant.quiet)
 
 -- Runs of turns
 
 abbrev pub step_of : Ground → World → Turn → Step
 step_of g w (given s) = s
-step_of g w (goes t a) = does t (honest g a (found t w.tenants))
+step_of g w (goes t a) = does t (honest g a (option_map quiet_of (found t w.tenants)))
 
 abbrev pub stepped : Ground → World → Turn → Stepped
 stepped g w turn = step g w (step_of g w turn)

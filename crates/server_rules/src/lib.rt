@@ -5,6 +5,7 @@
 #![tactic(auto)]
 
 mod actor;
+pub mod laws;
 mod refusal;
 
 pub use actor::Actor;

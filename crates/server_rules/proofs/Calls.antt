@@ -1,0 +1,401 @@
+-- What is seen of a call is the call over what is seen.
+use Rattle.std.proofs.Common.{◌≡◌, ℕ, zero, suc, ◌+◌, ◌-◌, ◌<◌, ◌≤◌, ◌==◌, List, [], ◌∷◌, ◌++◌}
+use Rattle.std.proofs.Common.{Bool, true, false, ◌&&◌, ◌||◌, if◌then◌else◌, Option, Some, None}
+use Rattle.std.proofs.Common.{refl, sym, ap, ap₂, ◌∙◌, subst, map, length, is_some, slice_get, arith}
+use Rattle.std.specs.Prelude.{option_map}
+use Rattle.std.proofs.lemmas.List.{length-map, map-append}
+use Rattle.std.proofs.lemmas.Bool.{le-leb}
+use Rattle.value_data.specs.Datum as datum
+use Rattle.value_data.specs.Datum.{Datum, OwnerData, shared, tenant}
+use Rattle.repl_asks.specs.Transactions.{RefNameData, ChangeData, IntentData}
+use Rattle.repl_asks.specs.Exchange as exchange
+use Rattle.repl_asks.specs.Exchange.{AnswerData}
+use Rattle.server_rules.specs.Numbered.{changed_at, Entry, entry, found, without, map_entry}
+use Rattle.server_rules.specs.Versions.{RefOf, new_ref, with_version, faulted, with_least, with_most}
+use Rattle.server_rules.specs.Versions.{Ref, readable}
+use Rattle.server_rules.specs.Store.{Store, ref_of, named, changed, changed_of, left_attempt}
+use Rattle.server_rules.specs.Performed.{Performed, as_was, tells}
+use Rattle.server_rules.specs.Commit.{touched, all_there, all_fit, is_newer_ref, any_newer}
+use Rattle.server_rules.specs.Commit.{with_changes, raised, with_sets, checked, commit_by}
+use Rattle.server_rules.specs.Calls.{Call, nothing, makes, begins, leaves_attempt, reads, counts}
+use Rattle.server_rules.specs.Calls.{tells_least, tells_most, sets_least, sets_most, commits}
+use Rattle.server_rules.specs.Calls.{gives_up, begun, read_at, read_by, number_told, count_told}
+use Rattle.server_rules.specs.Calls.{bound_set, given_up, performed}
+use Rattle.server_rules.specs.View.{map_ref, content_of, count_at, counts_at, Seen, seen}
+use Rattle.server_rules.specs.Privacy.{IsOwned, AreOwned}
+use Rattle.server_rules.proofs.Numbered.{none-some, some-same, slice_get-map, changed_at-map}
+use Rattle.server_rules.proofs.Numbered.{changed_at-unseen, found-map, without-map}
+use Rattle.server_rules.proofs.Seen.{first, readable_seen, ref_seen, named_seen, changed_seen_of}
+use Rattle.server_rules.proofs.Seen.{changed_seen, left_seen, begun_seen, made_seen, read_at_seen}
+use Rattle.server_rules.proofs.Seen.{read_in_seen, read_by_seen, bound_seen, all_there_seen}
+use Rattle.server_rules.proofs.Seen.{is_newer_seen, any_newer_seen, with_changes_seen, checked_seen}
+use Rattle.server_rules.proofs.Seen.{commit_seen, given_up_seen, performed_seen, IsPrivateCall}
+use Rattle.server_rules.proofs.Counting.{Fall, count_at-all, read-count, newer-count}
+use Rattle.server_rules.proofs.Counting.{newest-first, count_at-later}
+use Rattle.server_rules.proofs.Sound.{AllFall, AllBelow, Sound, version_with}
+
+-- what is seen of what a call comes to
+abbrev pub seen_performed : Performed Store → Performed Seen
+seen_performed p = record { told = p.told; store = seen p.store.mine }
+
+abbrev contents : List Ref → List (RefOf Datum)
+contents refs = map (map_ref content_of) refs
+
+-- an equation of what is seen, by its parts
+seen-parts : (r q : List (RefOf Datum)) (a b : List (Entry (List ℕ))) → r ≡ q → a ≡ b
+    → ◌≡◌ {A = Seen} (record { refs = r; attempts = a }) (record { refs = q; attempts = b })
+seen-parts r q a b e f =
+    ap₂ (λ refs attempts. let s : Seen = record { refs = refs; attempts = attempts } in s) e f
+
+-- the stamps of one ref fall
+fall_at : (top n : ℕ) (refs : List Ref) (r : Ref) → AllFall top refs → slice_get refs n ≡ Some r
+    → Fall top r.versions
+fall_at top n [] r fall here = absurd (none-some here)
+fall_at top zero (q ∷ refs) r fall here =
+    subst (λ x. Fall top x.versions) (some-same q r here) fall.0
+fall_at top (suc n) (q ∷ refs) r fall here = fall_at top n refs r fall.1 here
+
+-- all versions are before a point that is as high as the counter
+counts-all : (top : ℕ) (refs : List Ref) → AllFall top refs
+    → counts_at refs top ≡ map (λ r. length r.versions) (contents refs)
+counts-all top [] fall = refl
+counts-all top (r ∷ refs) fall =
+    ap₂ (λ n ns. n ∷ ns)
+    (count_at-all top top r.versions fall.0 (omega arith) ∙ sym (length-map r.versions content_of))
+    (counts-all top refs fall.1)
+
+-- attempts see the same where each count stays, for the points below the counter
+attempts-below : (top : ℕ) (old new : List Ref)
+    → ((p : ℕ) → p ≤ top → counts_at new p ≡ counts_at old p)
+    → (points : List (Entry ℕ)) → AllBelow top points
+    → map (map_entry (counts_at new)) points ≡ map (map_entry (counts_at old)) points
+attempts-below top old new same [] below = refl
+attempts-below top old new same (e ∷ es) below =
+    ap₂ (λ n rest. entry e.number n ∷ rest)
+    (same e.part below.0) (attempts-below top old new same es below.1)
+
+-- Names
+
+ref-seen : (owner : OwnerData) (n : ℕ) (s : Store) → IsOwned owner
+    → ref_seen s.tenant owner n (seen s.mine) ≡ option_map (map_ref content_of) (ref_of owner n s)
+ref-seen shared n s private = absurd private
+ref-seen (tenant u) n s private =
+    elim (u == s.tenant) as (λ b.
+      (if b then slice_get (contents s.mine.refs) n else None)
+      ≡ option_map (map_ref content_of) (if b then slice_get s.mine.refs n else None)) [
+      | true ↦ slice_get-map (map_ref content_of) n s.mine.refs
+      | false ↦ refl
+    ]
+
+ref-there : (owner : OwnerData) (n : ℕ) (s : Store) (r : Ref) → IsOwned owner
+    → ref_of owner n s ≡ Some r → slice_get s.mine.refs n ≡ Some r
+ref-there shared n s r private here = absurd private
+ref-there (tenant u) n s r private here = by (u == s.tenant) here where
+  by : (b : Bool) → (if b then slice_get s.mine.refs n else None) ≡ Some r
+      → slice_get s.mine.refs n ≡ Some r
+  by true here = here
+  by false here = absurd (none-some here)
+
+-- Changes of a ref
+
+pub record IsSeenAs (top : ℕ) (f : Ref → Ref) (g : RefOf Datum → RefOf Datum) : Type 0 where
+  pub same : (r : Ref) → map_ref content_of (f r) ≡ g (map_ref content_of r)
+  pub kept : (p : ℕ) → p ≤ top → (r : Ref)
+      → count_at p (f r).versions ≡ count_at p r.versions
+
+change-seen
+    : (top : ℕ) (owner : OwnerData) (n : ℕ) (f : Ref → Ref) (g : RefOf Datum → RefOf Datum)
+    (s : Store) → IsSeenAs top f g → AllBelow top s.mine.points → IsOwned owner
+    → seen (changed_of owner n f s).mine ≡ changed_seen_of s.tenant owner n g (seen s.mine)
+change-seen top shared n f g s seen_as below private = absurd private
+change-seen top (tenant u) n f g s seen_as below private =
+    elim (u == s.tenant) as (λ b.
+      seen (record {
+        refs = if b then changed_at n f s.mine.refs else s.mine.refs;
+        points = s.mine.points;
+      }) ≡ (let after : Seen = record {
+        refs = if b then changed_at n g (contents s.mine.refs) else contents s.mine.refs;
+        attempts = (seen s.mine).attempts;
+      } in after)) [
+      | true ↦ seen-parts _ _ _ _
+          (changed_at-map (map_ref content_of) f g seen_as.same n s.mine.refs)
+          (attempts-below top s.mine.refs (changed_at n f s.mine.refs)
+          (λ p h. changed_at-unseen (λ r. count_at p r.versions) f (seen_as.kept p h) n
+          s.mine.refs) s.mine.points below)
+      | false ↦ refl
+    ]
+
+unstamped : (top : ℕ) (f : Ref → Ref) (g : RefOf Datum → RefOf Datum)
+    → ((r : Ref) → map_ref content_of (f r) ≡ g (map_ref content_of r))
+    → ((r : Ref) → (f r).versions ≡ r.versions) → IsSeenAs top f g
+unstamped top f g same versions =
+    record { same = same; kept = λ p h r. ap (count_at p) (versions r) }
+
+-- Leaving an attempt
+
+left-seen : (seat : ℕ) (s : Store) → seen (left_attempt seat s).mine ≡ left_seen seat (seen s.mine)
+left-seen seat s =
+    seen-parts _ _ _ _ refl (sym (without-map (counts_at s.mine.refs) seat s.mine.points))
+
+points-kept : (owner : OwnerData) (n : ℕ) (f : Ref → Ref) (s : Store)
+    → (changed_of owner n f s).mine.points ≡ s.mine.points
+points-kept shared n f s = refl
+points-kept (tenant u) n f s = refl
+
+tenant-kept : (owner : OwnerData) (n : ℕ) (f : Ref → Ref) (s : Store)
+    → (changed_of owner n f s).tenant ≡ s.tenant
+tenant-kept shared n f s = refl
+tenant-kept (tenant u) n f s = refl
+
+-- Making
+
+made-attempts : (refs : List Ref) (r : Ref) → ((p : ℕ) → count_at p r.versions ≡ 1)
+    → (points : List (Entry ℕ))
+    → map (map_entry (counts_at (refs ++ r ∷ []))) points
+    ≡ map (map_entry (λ ns. ns ++ 1 ∷ [])) (map (map_entry (counts_at refs)) points)
+made-attempts refs r one [] = refl
+made-attempts refs r one (e ∷ es) =
+    ap₂ (λ n rest. entry e.number n ∷ rest)
+    (map-append (λ r. count_at e.part r.versions) refs (r ∷ [])
+    ∙ ap (λ n. counts_at refs e.part ++ n ∷ []) (one e.part))
+    (made-attempts refs r one es)
+
+-- Reading
+
+read_at-seen
+    : (seat : ℕ) (name : RefNameData) (s : Store) (d : Option Datum)
+    → AllBelow s.around.counter s.mine.points → IsOwned name.owner
+    → read_at_seen s.tenant seat name (seen s.mine) d ≡ seen_performed (read_at seat name s d)
+read_at-seen seat name s (Some d) below private = refl
+read_at-seen seat name s None below private =
+    ap (λ after. let p : Performed Seen = tells (exchange.reading exchange.retry) after in p)
+    (ap (left_seen seat) (sym (change-seen s.around.counter name.owner name.number faulted faulted s
+    (unstamped s.around.counter faulted faulted (λ r. refl) (λ r. refl)) below private))
+    ∙ sym (left-seen seat (changed name faulted s)))
+
+read_in-seen
+    : (seat p : ℕ) (name : RefNameData) (s : Store) (r : Ref) → Sound s.around.counter s.mine
+    → IsOwned name.owner → named name s ≡ Some r
+    → read_in_seen s.tenant seat name (seen s.mine) (map_ref content_of r)
+    (slice_get (counts_at s.mine.refs p) name.number)
+    ≡ seen_performed (read_at seat name s (readable p r))
+read_in-seen seat p name s r sound private here =
+    let there = ref-there name.owner name.number s r private here in
+    ap (read_in_seen s.tenant seat name (seen s.mine) (map_ref content_of r))
+    (slice_get-map (λ r. count_at p r.versions) name.number s.mine.refs
+    ∙ ap (option_map (λ r. count_at p r.versions)) there)
+    ∙ ap (read_at_seen s.tenant seat name (seen s.mine))
+    (read-count s.around.counter p (r.kept + 1) r.versions
+    (fall_at s.around.counter name.number s.mine.refs r sound.stamps there))
+    ∙ read_at-seen seat name s (readable p r) sound.points private
+
+read-seen
+    : (seat : ℕ) (name : RefNameData) (s : Store) (point : Option ℕ) (r : Option Ref)
+    → Sound s.around.counter s.mine → IsOwned name.owner → named name s ≡ r
+    → read_by_seen s.tenant seat name (seen s.mine) (option_map (counts_at s.mine.refs) point)
+    (option_map (map_ref content_of) r) ≡ seen_performed (read_by seat name s point r)
+read-seen seat name s None None sound private here = refl
+read-seen seat name s (Some p) None sound private here = refl
+read-seen seat name s None (Some r) sound private here =
+    ap (λ d. as_was (seen s.mine) (option_map (λ d. exchange.reading (exchange.found d)) d))
+    (newest-first r.versions)
+read-seen seat name s (Some p) (Some r) sound private here =
+    read_in-seen seat p name s r sound private here
+
+-- Histories
+
+told-seen : (f : Ref → AnswerData) (g : RefOf Datum → AnswerData)
+    → ((r : Ref) → g (map_ref content_of r) ≡ f r) → (s : Store) (r : Option Ref)
+    → as_was (seen s.mine) (option_map g (option_map (map_ref content_of) r))
+    ≡ as_was (seen s.mine) (option_map f r)
+told-seen f g same s None = refl
+told-seen f g same s (Some r) = ap (λ a. as_was (seen s.mine) (Some a)) (same r)
+
+count-told : (owner : OwnerData) (point : Option ℕ) (r : Option Ref) → IsOwned owner
+    → count_told owner point r ≡ option_map (λ r. number_told r.kept) r
+count-told shared point r private = absurd private
+count-told (tenant u) point r private = refl
+
+bound-seen
+    : (name : RefNameData) (owner : OwnerData) (f : Ref → Ref) (g : RefOf Datum → RefOf Datum)
+    (s : Store) (r : Option Ref) → owner ≡ name.owner → IsOwned owner
+    → IsSeenAs s.around.counter f g → AllBelow s.around.counter s.mine.points
+    → bound_seen s.tenant name owner g (seen s.mine) (option_map (map_ref content_of) r)
+    ≡ seen_performed (bound_set name owner f s r)
+bound-seen name owner f g s None is private seen_as below = refl
+bound-seen name shared f g s (Some r) is private seen_as below = absurd private
+bound-seen name (tenant u) f g s (Some r) is private seen_as below =
+    ap (tells (exchange.value (datum.ref (tenant u) name.number)))
+    (sym (change-seen s.around.counter name.owner name.number f g s seen_as below
+    (subst IsOwned is private)))
+
+-- Committing
+
+all_there-seen : (s : Store) (names : List RefNameData) → AreOwned names
+    → all_there_seen s.tenant names (seen s.mine) ≡ all_there names s
+all_there-seen s [] private = refl
+all_there-seen s (name ∷ names) private =
+    ap₂ ◌&&◌
+    (ap is_some (ref-seen name.owner name.number s private.0) ∙ is_some-map (named name s))
+    (all_there-seen s names private.1) where
+  is_some-map : (r : Option Ref) → is_some (option_map (map_ref content_of) r) ≡ is_some r
+  is_some-map None = refl
+  is_some-map (Some r) = refl
+
+newer-seen
+    : (s : Store) (p : ℕ) (name : RefNameData) (r : Option Ref) → Sound s.around.counter s.mine
+    → IsOwned name.owner → named name s ≡ r
+    → is_newer_seen (slice_get (counts_at s.mine.refs p) name.number)
+    (option_map (map_ref content_of) r) ≡ is_newer_ref p r
+newer-seen s p name None sound private here = refl
+newer-seen s p name (Some r) sound private here =
+    let there = ref-there name.owner name.number s r private here in
+    ap (λ n. is_newer_seen n (Some (map_ref content_of r)))
+    (slice_get-map (λ r. count_at p r.versions) name.number s.mine.refs
+    ∙ ap (option_map (λ r. count_at p r.versions)) there)
+    ∙ newer-count s.around.counter p r.versions
+    (fall_at s.around.counter name.number s.mine.refs r sound.stamps there)
+
+any_newer-seen
+    : (s : Store) (p : ℕ) (names : List RefNameData) → Sound s.around.counter s.mine
+    → AreOwned names
+    → any_newer_seen s.tenant (counts_at s.mine.refs p) names (seen s.mine) ≡ any_newer p names s
+any_newer-seen s p [] sound private = refl
+any_newer-seen s p (name ∷ names) sound private =
+    ap₂ ◌||◌
+    (ap (is_newer_seen (slice_get (counts_at s.mine.refs p) name.number))
+    (ref-seen name.owner name.number s private.0)
+    ∙ newer-seen s p name (named name s) sound private.0 refl)
+    (any_newer-seen s p names sound private.1)
+
+version-seen : (below stamp : ℕ) (c : ChangeData) → below < stamp
+    → IsSeenAs below (version_with stamp c) (with_version c.now)
+version-seen below stamp c under = record {
+  same = λ r. refl;
+  kept = λ p h r. count_at-later p stamp c.now r (omega (arith, h, under));
+}
+
+changes-seen
+    : (below stamp : ℕ) (sets : List ChangeData) (ensured : List RefNameData) (s : Store)
+    → below < stamp → AllBelow below s.mine.points → AreOwned (map (λ c. c.name) sets ++ ensured)
+    → seen (with_changes stamp sets s).mine ≡ with_changes_seen s.tenant sets (seen s.mine)
+changes-seen below stamp [] ensured s under points private = refl
+changes-seen below stamp (c ∷ cs) ensured s under points private =
+    let f = version_with stamp c in
+    let kept = points-kept c.name.owner c.name.number f s in
+    let whose = tenant-kept c.name.owner c.name.number f s in
+    changes-seen below stamp cs ensured (changed c.name f s) under
+    (subst (AllBelow below) (sym kept) points) private.1
+    ∙ ap (λ t. with_changes_seen t cs (seen (changed c.name f s).mine)) whose
+    ∙ ap (with_changes_seen s.tenant cs)
+    (change-seen below c.name.owner c.name.number f (with_version c.now) s
+    (version-seen below stamp c under) points private.0)
+
+sets-seen
+    : (sets : List ChangeData) (ensured : List RefNameData) (s : Store)
+    → AllBelow s.around.counter s.mine.points → AreOwned (map (λ c. c.name) sets ++ ensured)
+    → seen (with_sets sets s).mine ≡ with_changes_seen s.tenant sets (seen s.mine)
+sets-seen [] ensured s points private = refl
+sets-seen (c ∷ cs) ensured s points private =
+    changes-seen s.around.counter (s.around.counter + 1) (c ∷ cs) ensured (raised s) (omega arith)
+    points private
+
+checked-seen
+    : (seat : ℕ) (intent : IntentData) (s : Store) (fits newer : Bool)
+    → AllBelow s.around.counter s.mine.points → AreOwned (touched intent)
+    → checked_seen s.tenant seat intent (seen s.mine) fits newer
+    ≡ seen_performed (checked seat intent s fits newer)
+checked-seen seat intent s false newer points private = refl
+checked-seen seat intent s true true points private =
+    ap (tells (exchange.verdict exchange.conflict)) (sym (left-seen seat s))
+checked-seen seat intent s true false points private =
+    ap (tells (exchange.verdict exchange.committed))
+    (ap (left_seen seat) (sym (sets-seen intent.sets intent.ensured s points private))
+    ∙ sym (left-seen seat (with_sets intent.sets s)))
+
+commit-seen
+    : (seat : ℕ) (intent : IntentData) (s : Store) (point : Option ℕ)
+    → Sound s.around.counter s.mine → AreOwned (touched intent)
+    → commit_seen s.tenant seat intent (seen s.mine) (option_map (counts_at s.mine.refs) point)
+    ≡ seen_performed (commit_by seat intent s point)
+commit-seen seat intent s None sound private = refl
+commit-seen seat intent s (Some p) sound private =
+    ap₂ (λ there newer.
+      checked_seen s.tenant seat intent (seen s.mine) (there && all_fit intent.sets) newer)
+    (all_there-seen s (touched intent) private) (any_newer-seen s p (touched intent) sound private)
+    ∙ checked-seen seat intent s (all_there (touched intent) s && all_fit intent.sets)
+    (any_newer p (touched intent) s) sound.points private
+
+-- Each call
+
+begun-seen : (seat : ℕ) (s : Store) (point : Option ℕ) → Sound s.around.counter s.mine
+    → begun_seen seat (seen s.mine) (option_map (counts_at s.mine.refs) point)
+    ≡ seen_performed (begun seat s point)
+begun-seen seat s (Some p) sound = refl
+begun-seen seat s None sound =
+    ap (λ ns. let after : Seen = record {
+      refs = contents s.mine.refs;
+      attempts = entry seat ns ∷ map (map_entry (counts_at s.mine.refs)) s.mine.points;
+    } in tells exchange.done after)
+    (sym (counts-all s.around.counter s.mine.refs sound.stamps))
+
+given_up-seen : (seat : ℕ) (s : Store) (told : Option AnswerData)
+    → given_up_seen seat (seen s.mine) told ≡ seen_performed (given_up seat s told)
+given_up-seen seat s None = refl
+given_up-seen seat s (Some answer) = ap (tells exchange.done) (sym (left-seen seat s))
+
+pub performed-seen
+    : (s : Store) (call : Call) → Sound s.around.counter s.mine → IsPrivateCall call
+    → performed_seen s.tenant (seen s.mine) call ≡ seen_performed (performed s call)
+performed-seen s nothing sound private = refl
+performed-seen s (makes d least most) sound private =
+    let r : Ref = new_ref (record { stamp = 0; content = d }) least most in
+    ap₂ (λ n after. let p : Performed Seen =
+      tells (exchange.value (datum.ref (tenant s.tenant) n)) after in p)
+    (length-map s.mine.refs (map_ref content_of))
+    (seen-parts _ _ _ _
+    (sym (map-append (map_ref content_of) s.mine.refs (r ∷ [])))
+    (sym (made-attempts s.mine.refs r
+    (λ p. ap (λ b. if b then 1 else 0) (le-leb 0 p (omega arith))) s.mine.points)))
+performed-seen s (begins seat) sound private =
+    ap (begun_seen seat (seen s.mine)) (found-map (counts_at s.mine.refs) seat s.mine.points)
+    ∙ begun-seen seat s (found seat s.mine.points) sound
+performed-seen s (leaves_attempt seat) sound private =
+    ap (tells exchange.done) (sym (left-seen seat s))
+performed-seen s (reads seat name) sound private =
+    ap₂ (read_by_seen s.tenant seat name (seen s.mine))
+    (found-map (counts_at s.mine.refs) seat s.mine.points)
+    (ref-seen name.owner name.number s private)
+    ∙ read-seen seat name s (found seat s.mine.points) (named name s) sound private refl
+performed-seen s (counts seat name) sound private =
+    ap (λ r. as_was (seen s.mine) (option_map (λ r. number_told r.kept) r))
+    (ref-seen name.owner name.number s private)
+    ∙ told-seen (λ r. number_told r.kept) (λ r. number_told r.kept) (λ r. refl) s (named name s)
+    ∙ ap (as_was (seen s.mine))
+    (sym (count-told name.owner (found seat s.mine.points) (named name s) private))
+performed-seen s (tells_least name) sound private =
+    ap (λ r. as_was (seen s.mine) (option_map (λ r. number_told r.least) r))
+    (ref-seen name.owner name.number s private)
+    ∙ told-seen (λ r. number_told r.least) (λ r. number_told r.least) (λ r. refl) s (named name s)
+performed-seen s (tells_most name) sound private =
+    ap (λ r. as_was (seen s.mine) (option_map (λ r. number_told r.most) r))
+    (ref-seen name.owner name.number s private)
+    ∙ told-seen (λ r. number_told r.most) (λ r. number_told r.most) (λ r. refl) s (named name s)
+performed-seen s (sets_least name n) sound private =
+    ap (bound_seen s.tenant name name.owner (with_least n) (seen s.mine))
+    (ref-seen name.owner name.number s private)
+    ∙ bound-seen name name.owner (with_least n) (with_least n) s (named name s) refl private
+    (unstamped s.around.counter (with_least n) (with_least n) (λ r. refl) (λ r. refl)) sound.points
+performed-seen s (sets_most name n) sound private =
+    ap (bound_seen s.tenant name name.owner (with_most n) (seen s.mine))
+    (ref-seen name.owner name.number s private)
+    ∙ bound-seen name name.owner (with_most n) (with_most n) s (named name s) refl private
+    (unstamped s.around.counter (with_most n) (with_most n) (λ r. refl) (λ r. refl)) sound.points
+performed-seen s (commits seat intent) sound private =
+    ap (commit_seen s.tenant seat intent (seen s.mine))
+    (found-map (counts_at s.mine.refs) seat s.mine.points)
+    ∙ commit-seen seat intent s (found seat s.mine.points) sound private
+performed-seen s (gives_up seat call) sound private =
+    ap (λ p. let q : Performed Seen = p in given_up_seen seat (seen s.mine) q.told)
+    (performed-seen s call sound private)
+    ∙ given_up-seen seat s (performed s call).told

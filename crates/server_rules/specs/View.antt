@@ -1,0 +1,59 @@
+-- What a tenant can see of the server: its own part, without the stamps of its refs' versions, which
+-- the commits of others move.
+use Rattle.std.specs.Prelude.{ℕ, ◌+◌, List, [], ◌∷◌, nat_le, map, Option, option_map}
+use Rattle.std.specs.Prelude.{if◌then◌else◌}
+use Rattle.value_data.specs.Datum.{Datum}
+use Rattle.server_rules.specs.Numbered.{Entry, found, map_entry}
+use Rattle.server_rules.specs.Versions.{RefOf, Version, Ref}
+use Rattle.server_rules.specs.Store.{Own}
+use Rattle.server_rules.specs.Tenant.{Quiet}
+use Rattle.server_rules.specs.World.{TenantData, World}
+
+-- the values that a ref ever had, without their stamps
+abbrev pub map_ref : {V W : Type 0} → (V → W) → RefOf V → RefOf W
+map_ref f r = record {
+  versions = map f r.versions;
+  kept = r.kept;
+  faults = r.faults;
+  least = r.least;
+  most = r.most;
+}
+
+abbrev pub content_of : Version → Datum
+content_of v = v.content
+
+-- how many versions are at or before a point
+abbrev pub count_at : ℕ → List Version → ℕ
+count_at point [] = 0
+count_at point (v ∷ vs) =
+    if nat_le v.stamp point then count_at point vs + 1 else count_at point vs
+
+-- the same, for each ref
+abbrev pub counts_at : List Ref → ℕ → List ℕ
+counts_at refs point = map (λ r. count_at point r.versions) refs
+
+pub record Seen : Type 0 where
+  pub refs : List (RefOf Datum)
+  -- for each actor in whose transaction an attempt runs, how many versions of each ref were there
+  -- when it began
+  pub attempts : List (Entry (List ℕ))
+
+abbrev pub seen : Own → Seen
+seen o = record {
+  refs = map (map_ref content_of) o.refs;
+  attempts = map (map_entry (counts_at o.refs)) o.points;
+}
+
+pub record View : Type 0 where
+  pub quiet : Quiet
+  pub mine : Seen
+
+abbrev pub tenant_view : TenantData → View
+tenant_view tenant = record { quiet = tenant.quiet; mine = seen tenant.mine }
+
+abbrev pub part_view : Option TenantData → Option View
+part_view = option_map tenant_view
+
+-- nothing where the tenant was never opened, and then its part, if it is not gone
+abbrev pub view : ℕ → World → Option (Option View)
+view t w = option_map part_view (found t w.tenants)

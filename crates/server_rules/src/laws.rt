@@ -1,0 +1,18 @@
+//! Laws of the server's definitions. The functions do nothing: what they ensure is proved.
+ghost use Rattle.server_rules.specs.Laws.{OthersLeaveIt, AlikeStaysAlike, ServedAlone};
+
+/// Another tenant's step leaves what a tenant sees.
+pub fn others_leave_it()
+    ensures { OthersLeaveIt }
+{}
+
+/// Where two servers look alike to a tenant, a step of it that names no shared ref is answered
+/// alike, and leaves them looking alike.
+pub fn alike_stays_alike()
+    ensures { AlikeStaysAlike }
+{}
+
+/// A tenant that names no shared ref is served, byte for byte, as if its turns were alone.
+pub fn served_alone()
+    ensures { ServedAlone }
+{}
