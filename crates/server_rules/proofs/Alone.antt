@@ -27,11 +27,11 @@ comes t = given (opens t)
 
 -- What a step of a tenant that was opened comes to, as far as it is seen by that tenant
 
-abbrev closed_seen : Option View → SeenStepped
+abbrev pub closed_seen : Option View → SeenStepped
 closed_seen None = not_done Refusal.NoSuchTenant
 closed_seen (Some v) = done_so (Some None) tenant_gone
 
-abbrev by_step_seen : Ground → ℕ → Option View → Step → SeenStepped
+abbrev pub by_step_seen : Ground → ℕ → Option View → Step → SeenStepped
 by_step_seen g t v (opens u) = not_done Refusal.NumberUsed
 by_step_seen g t v (does u d) = step_seen g t (Some v) d
 by_step_seen g t v (closes u) = closed_seen v
@@ -66,7 +66,7 @@ close-seen w t (Some (Some tenant)) v here e =
 none-asked : (t : ℕ) (d : Deed) → IsPrivateFor t (does t d) → NamesNoShared d
 none-asked t d h = MatchBool-at_true (NamesNoShared d) _ (eq-eqb t t refl) h
 
-own-step
+pub own-step
     : (g : Ground) (w : World) (s : Step) (v : Option View) → SoundWorld w
     → view (whose_step s) w ≡ Some v → IsPrivateFor (whose_step s) s
     → seen_step (whose_step s) (step g w s) ≡ by_step_seen g (whose_step s) v s

@@ -15,7 +15,7 @@ use Rattle.server_rules.specs.Versions.{RefOf, new_ref, with_version, faulted, w
 use Rattle.server_rules.specs.Versions.{Ref, readable}
 use Rattle.server_rules.specs.Store.{Store, ref_of, named, changed, changed_of, left_attempt}
 use Rattle.server_rules.specs.Performed.{Performed, as_was, tells}
-use Rattle.server_rules.specs.Commit.{touched, all_there, all_fit, is_newer_ref, any_newer}
+use Rattle.server_rules.specs.Commit.{touched, all_there, fits, is_newer_ref, any_newer}
 use Rattle.server_rules.specs.Commit.{with_changes, raised, with_sets, checked, commit_by}
 use Rattle.server_rules.specs.Calls.{Call, nothing, makes, begins, leaves_attempt, reads, counts}
 use Rattle.server_rules.specs.Calls.{tells_least, tells_most, sets_least, sets_most, commits}
@@ -321,9 +321,9 @@ commit-seen
 commit-seen seat intent s None sound private = refl
 commit-seen seat intent s (Some p) sound private =
     ap₂ (λ there newer.
-      checked_seen s.tenant seat intent (seen s.mine) (there && all_fit intent.sets) newer)
+      checked_seen s.tenant seat intent (seen s.mine) (there && fits intent) newer)
     (all_there-seen s (touched intent) private) (any_newer-seen s p (touched intent) sound private)
-    ∙ checked-seen seat intent s (all_there (touched intent) s && all_fit intent.sets)
+    ∙ checked-seen seat intent s (all_there (touched intent) s && fits intent)
     (any_newer p (touched intent) s) sound.points private
 
 -- Each call

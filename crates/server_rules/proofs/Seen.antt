@@ -12,7 +12,7 @@ use Rattle.server_rules.specs.Numbered as numbered
 use Rattle.server_rules.specs.Numbered.{changed_at, Entry, entry, without, map_entry}
 use Rattle.server_rules.specs.Versions.{RefOf, new_ref, with_version, faulted, with_least, with_most}
 use Rattle.server_rules.specs.Performed.{Performed, as_was, tells}
-use Rattle.server_rules.specs.Commit.{touched, all_fit}
+use Rattle.server_rules.specs.Commit.{touched, fits}
 use Rattle.server_rules.specs.Calls.{Call, nothing, makes, begins, leaves_attempt, reads, counts}
 use Rattle.server_rules.specs.Calls.{tells_least, tells_most, sets_least, sets_most, commits}
 use Rattle.server_rules.specs.Calls.{gives_up, number_told}
@@ -113,7 +113,7 @@ checked_seen t seat intent s true false =
 abbrev pub commit_seen : ℕ → ℕ → IntentData → Seen → Option (List ℕ) → Performed Seen
 commit_seen t seat intent s None = as_was s None
 commit_seen t seat intent s (Some ns) = checked_seen t seat intent s
-    (all_there_seen t (touched intent) s && all_fit intent.sets)
+    (all_there_seen t (touched intent) s && fits intent)
     (any_newer_seen t ns (touched intent) s)
 
 abbrev pub given_up_seen : ℕ → Seen → Option AnswerData → Performed Seen

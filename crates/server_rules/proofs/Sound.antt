@@ -7,7 +7,7 @@ use Rattle.server_rules.specs.Numbered.{changed_at, Entry, found, without}
 use Rattle.server_rules.specs.Versions.{Ref, new_ref, with_version, faulted, with_least, with_most}
 use Rattle.server_rules.specs.Versions.{readable}
 use Rattle.server_rules.specs.Store.{Own, Store, named, changed, changed_of, left_attempt}
-use Rattle.server_rules.specs.Commit.{touched, all_there, all_fit, any_newer, with_changes, raised}
+use Rattle.server_rules.specs.Commit.{touched, all_there, fits, any_newer, with_changes, raised}
 use Rattle.server_rules.specs.Commit.{with_sets, checked, commit_by}
 use Rattle.server_rules.specs.Calls.{Call, nothing, makes, begins, leaves_attempt, reads, counts}
 use Rattle.server_rules.specs.Calls.{tells_least, tells_most, sets_least, sets_most, commits}
@@ -177,7 +177,7 @@ commit-rises
 commit-rises counter seat intent s None h = h
 commit-rises counter seat intent s (Some p) h =
     checked-rises counter seat intent s
-    (all_there (touched intent) s && all_fit intent.sets) (any_newer p (touched intent) s) h
+    (all_there (touched intent) s && fits intent) (any_newer p (touched intent) s) h
 
 given_up-rises : (counter seat : ℕ) (s : Store) (told : Option AnswerData) → Rises counter s
     → Rises counter (given_up seat s told).store

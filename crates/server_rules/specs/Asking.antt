@@ -1,6 +1,6 @@
 -- Asking: the ask of a form that runs is answered, and the pair recorded.
 use Rattle.std.specs.Prelude.{ℕ, List, [], ◌∷◌, ◌++◌, Bool, true, not, Option, None, Some}
-use Rattle.std.specs.Prelude.{if◌then◌else◌}
+use Rattle.std.specs.Prelude.{◌&&◌, ◌^◌, nat_lt, if◌then◌else◌}
 use Rattle.value_data.specs.Datum.{Datum}
 use Rattle.repl_asks.specs.Namespaces.{is_fixed}
 use Rattle.repl_asks.specs.Exchange as exchange
@@ -36,10 +36,21 @@ call_of seat (exchange.max_history name None) = tells_most name
 call_of seat (exchange.max_history name (Some n)) = sets_most name n
 call_of seat (exchange.commit intent) = commits seat intent
 
+-- a bound of a history is a number of the language
+abbrev pub is_bound : ℕ → Bool
+is_bound n = nat_lt n (2 ^ 63)
+
+abbrev pub may_be_set : Option ℕ → Bool
+may_be_set None = true
+may_be_set (Some n) = is_bound n
+
 -- nothing is defined in a namespace that is fixed, and nobody enters it
 abbrev pub is_allowed : AskData → Bool
 is_allowed (exchange.define namespace name binding) = not (is_fixed namespace)
 is_allowed (exchange.enter name) = not (is_fixed name)
+is_allowed (exchange.new_ref d least most) = is_bound least && is_bound most
+is_allowed (exchange.min_history name set) = may_be_set set
+is_allowed (exchange.max_history name set) = may_be_set set
 is_allowed _ = true
 
 abbrev pub latest_of : Latest → StateData → Datum
@@ -56,7 +67,8 @@ abbrev pub resolved : Ground → Actor → Quiet → List ℕ → List ℕ → R
 resolved g a q namespace symbol =
     resolution_of (state_of a q) (names.resolved g.shared_names q.spaces namespace symbol)
 
--- the answer is what the refs told, but for symbols
+-- the answer is what the refs told, but for symbols; to a definition and to an entered namespace they
+-- told `done`
 abbrev pub answer_to : Ground → Actor → Quiet → AskData → AnswerData → AnswerData
 answer_to g a q (exchange.resolve namespace symbol) told =
     exchange.resolution (resolved g a q namespace symbol)

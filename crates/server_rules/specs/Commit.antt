@@ -1,6 +1,9 @@
 -- The commit of an attempt (the Clojure reference, Refs and Transactions): it meets no newer version
--- of what it set or ensured and adds one to each ref that was set, or it changes nothing.
-use Rattle.std.specs.Prelude.{ℕ, ◌+◌, List, [], ◌∷◌, ◌++◌, Bool, true, false, ◌&&◌, ◌||◌}
+-- of what it set or ensured and adds one to each ref that was set, or it changes no ref. The attempt
+-- ends either way.
+use Rattle.std.specs.Prelude.{ℕ, ◌+◌, ◌==◌, List, [], ◌∷◌, ◌++◌, Bool, true, false}
+use Rattle.std.specs.Prelude.{not, ◌&&◌, ◌||◌}
+use Rattle.std.specs.List.{list_any}
 use Rattle.std.specs.Prelude.{Option, None, Some, is_some, map}
 use Rattle.value_data.specs.Datum.{Datum, OwnerData, shared, tenant}
 use Rattle.value_data.specs.Measures.{is_plain}
@@ -26,6 +29,23 @@ may_hold (tenant t) d = true
 abbrev pub all_fit : List ChangeData → Bool
 all_fit [] = true
 all_fit (c ∷ cs) = may_hold c.name.owner c.now && all_fit cs
+
+-- each ref is set once, to its last value
+abbrev pub same_owner : OwnerData → OwnerData → Bool
+same_owner shared shared = true
+same_owner shared (tenant t) = false
+same_owner (tenant t) shared = false
+same_owner (tenant t) (tenant u) = t == u
+
+abbrev pub same_name : RefNameData → RefNameData → Bool
+same_name a b = same_owner a.owner b.owner && a.number == b.number
+
+abbrev pub are_distinct : List ChangeData → Bool
+are_distinct [] = true
+are_distinct (c ∷ cs) = not (list_any (λ d. same_name c.name d.name) cs) && are_distinct cs
+
+abbrev pub fits : IntentData → Bool
+fits intent = all_fit intent.sets && are_distinct intent.sets
 
 abbrev pub is_newer_ref : ℕ → Option Ref → Bool
 is_newer_ref point None = false
@@ -59,4 +79,5 @@ checked seat intent s true false =
 abbrev pub commit_by : ℕ → IntentData → Store → Option ℕ → Performed Store
 commit_by seat intent s None = as_was s None
 commit_by seat intent s (Some point) = checked seat intent s
-    (all_there (touched intent) s && all_fit intent.sets) (any_newer point (touched intent) s)
+    (all_there (touched intent) s && fits intent)
+    (any_newer point (touched intent) s)

@@ -1,13 +1,13 @@
 -- What is proved of every run of the server.
-use Rattle.std.specs.Prelude.{◌≡◌, ◌≢◌, ℕ, List, Result, Ok, Err}
+use Rattle.std.specs.Prelude.{◌≡◌, ◌≢◌, ℕ, List, Option, Some, Result, Ok, Err}
 use Rattle.server_rules.specs.Versions.{Ref}
 use Rattle.server_rules.specs.Ground.{Ground}
-use Rattle.server_rules.specs.Plan.{Deed, StepAnswer}
-use Rattle.server_rules.specs.World.{World, Step, does, Stepped, accepted, refused, step}
+use Rattle.server_rules.specs.Plan.{StepAnswer}
+use Rattle.server_rules.specs.World.{World, Step, Stepped, accepted, refused, step}
 use Rattle.server_rules.specs.World.{world_or, opening, run}
 use Rattle.server_rules.specs.Turns.{whose_step, Turn, serve, only}
-use Rattle.server_rules.specs.View.{view}
-use Rattle.server_rules.specs.Privacy.{NamesNoShared, Private, FirstOpen}
+use Rattle.server_rules.specs.View.{View, view}
+use Rattle.server_rules.specs.Privacy.{IsPrivateFor, Private, FirstOpen}
 use Rattle.server_rules.specs.declared.refusal.Refusal.{Refusal}
 
 -- another tenant's step leaves what a tenant sees
@@ -20,19 +20,20 @@ abbrev pub answer_in : Stepped → Result StepAnswer Refusal
 answer_in (accepted w answer) = Ok answer
 answer_in (refused why) = Err why
 
-pub record SameStep (g : Ground) (t : ℕ) (d : Deed) (w x : World) : Type 0 where
-  pub answer : answer_in (step g w (does t d)) ≡ answer_in (step g x (does t d))
-  pub view : view t (world_or w (step g w (does t d))) ≡ view t (world_or x (step g x (does t d)))
+pub record SameStep (g : Ground) (t : ℕ) (s : Step) (w x : World) : Type 0 where
+  pub answer : answer_in (step g w s) ≡ answer_in (step g x s)
+  pub view : view t (world_or w (step g w s)) ≡ view t (world_or x (step g x s))
 
--- Whatever happened on two servers: where they look alike to a tenant, a step of it that names no
--- shared ref is answered alike, and leaves them looking alike.
+-- Whatever happened on two servers: where they look alike to a tenant that was opened, a step of it
+-- that names no shared ref is answered alike, and leaves them looking alike.
 abbrev pub AlikeStaysAlike : Type 0
 AlikeStaysAlike =
     (g : Ground) (shared_refs other_refs : List Ref) (steps other_steps : List Step)
-    (t : ℕ) (d : Deed) → NamesNoShared d
-    → let w = run g (opening shared_refs) steps in
+    (s : Step) (v : Option View)
+    → let t = whose_step s in
+    let w = run g (opening shared_refs) steps in
     let x = run g (opening other_refs) other_steps in
-    view t w ≡ view t x → SameStep g t d w x
+    IsPrivateFor t s → view t w ≡ Some v → view t x ≡ Some v → SameStep g t s w x
 
 -- A tenant that names no shared ref is served as if its turns were alone.
 abbrev pub ServedAlone : Type 0

@@ -38,7 +38,7 @@ IsPrivateFor t (opens u) = ⊤
 IsPrivateFor t (does u d) = MatchBool (t == u) (NamesNoShared d) ⊤
 IsPrivateFor t (closes u) = ⊤
 
--- no ask of the tenant in the run names a shared ref
+-- no ask of the tenant in the run names a shared ref, not even one that is refused
 abbrev pub Private : Ground → World → List Turn → ℕ → Type 0
 Private g w [] t = ⊤
 Private g w (turn ∷ turns) t =

@@ -6,8 +6,8 @@ pub fn others_leave_it()
     ensures { OthersLeaveIt }
 {}
 
-/// Where two servers look alike to a tenant, a step of it that names no shared ref is answered
-/// alike, and leaves them looking alike.
+/// Where two servers look alike to a tenant that was opened, a step of it that names no shared ref is
+/// answered alike, and leaves them looking alike.
 pub fn alike_stays_alike()
     ensures { AlikeStaysAlike }
 {}

@@ -1,0 +1,25 @@
+-- The runs, computed.
+use Rattle.std.proofs.Common.{refl}
+use Rattle.std.specs.Char.{encode_utf8}
+use Rattle.std.specs.Str.{is_utf8, chars}
+use Rattle.rand_core.specs.Steps.{u32_at}
+use Rattle.rand_chacha.specs.Block.{quarter_round, column_round, diagonal_round, double_rounds}
+use Rattle.rand_chacha.specs.Block.{block_word}
+use Rattle.uuid.specs.Text.{by_index}
+use Rattle.repl_sessions.specs.Ids.{session_id, id_text}
+use Rattle.name_spaces.specs.Resolving.{resolved}
+use Rattle.repl_asks.specs.Namespaces.{is_fixed}
+use Rattle.repl_replies.specs.Operations.{asked}
+use Rattle.server_rules.specs.Operating.{with_message}
+use Rattle.server_rules.specs.Hearing.{taken_in}
+use Rattle.server_rules.specs.Moves.{form_ended}
+use Rattle.server_rules.specs.World.{step}
+use Rattle.server_examples.specs.Examples.{ReadIsRetried, CloseInterrupts}
+
+pub close-interrupts : CloseInterrupts
+unfolding step form_ended taken_in with_message asked is_fixed resolved is_utf8 chars encode_utf8 id_text session_id by_index u32_at quarter_round column_round diagonal_round double_rounds block_word
+close-interrupts = refl
+
+pub read-is-retried : ReadIsRetried
+unfolding step form_ended taken_in with_message asked is_fixed resolved is_utf8 chars encode_utf8 id_text session_id by_index u32_at quarter_round column_round diagonal_round double_rounds block_word
+read-is-retried = refl
