@@ -14,12 +14,34 @@ use Rattle.server_rules.specs.Operating.{with_message}
 use Rattle.server_rules.specs.Hearing.{taken_in}
 use Rattle.server_rules.specs.Moves.{form_ended}
 use Rattle.server_rules.specs.World.{step}
-use Rattle.server_examples.specs.Examples.{ReadIsRetried, CloseInterrupts}
+use Rattle.server_examples.specs.Examples.{ReadIsRetried, TwoAreApart, CloseInterrupts}
+use Rattle.server_examples.specs.Examples.{OtherTraceIsRefused, PlaceIsFreed, NothingIsLeft}
+use Rattle.server_examples.specs.Examples.{IdleCostsNothing}
+
+pub read-is-retried : ReadIsRetried
+unfolding step form_ended taken_in with_message asked is_fixed resolved is_utf8 chars encode_utf8 id_text session_id by_index u32_at quarter_round column_round diagonal_round double_rounds block_word
+read-is-retried = refl
+
+pub two-are-apart : TwoAreApart
+unfolding step form_ended taken_in with_message asked is_fixed resolved is_utf8 chars encode_utf8 id_text session_id by_index u32_at quarter_round column_round diagonal_round double_rounds block_word
+two-are-apart = (refl, refl)
 
 pub close-interrupts : CloseInterrupts
 unfolding step form_ended taken_in with_message asked is_fixed resolved is_utf8 chars encode_utf8 id_text session_id by_index u32_at quarter_round column_round diagonal_round double_rounds block_word
 close-interrupts = refl
 
-pub read-is-retried : ReadIsRetried
+pub other-trace-is-refused : OtherTraceIsRefused
 unfolding step form_ended taken_in with_message asked is_fixed resolved is_utf8 chars encode_utf8 id_text session_id by_index u32_at quarter_round column_round diagonal_round double_rounds block_word
-read-is-retried = refl
+other-trace-is-refused = refl
+
+pub place-is-freed : PlaceIsFreed
+unfolding step form_ended taken_in with_message asked is_fixed resolved is_utf8 chars encode_utf8 id_text session_id by_index u32_at quarter_round column_round diagonal_round double_rounds block_word
+place-is-freed = (refl, refl)
+
+pub nothing-is-left : NothingIsLeft
+unfolding step form_ended taken_in with_message asked is_fixed resolved is_utf8 chars encode_utf8 id_text session_id by_index u32_at quarter_round column_round diagonal_round double_rounds block_word
+nothing-is-left = (refl, refl)
+
+pub idle-costs-nothing : IdleCostsNothing
+unfolding step form_ended taken_in with_message asked is_fixed resolved is_utf8 chars encode_utf8 id_text session_id by_index u32_at quarter_round column_round diagonal_round double_rounds block_word
+idle-costs-nothing = refl

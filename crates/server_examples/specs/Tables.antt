@@ -1,45 +1,40 @@
--- A server for runs that the prover computes. What is
--- evaluated is given as tables: each byte of a stream stands for a message, and each byte of a text
--- for a form, of which a table says what it asks.
-use Rattle.std.specs.Prelude.{ℕ, zero, suc, ◌==◌, List, [], ◌∷◌, ◌++◌, true}
-use Rattle.std.specs.Prelude.{Option, Some, None, map, codes, replicate, slice_get}
-use Rattle.std.specs.Prelude.{unwrap_or, if◌then◌else◌}
-use Rattle.std.specs.Prelude.{pos, Ok}
+-- A server for runs that the prover computes. What is evaluated is given as tables: each byte of a
+-- stream stands for a message, and each byte of a text for a form, of which a table says what it
+-- asks.
+use Rattle.std.specs.Prelude.{ℕ, zero, suc, ◌+◌, ◌*◌, ◌==◌, List, [], ◌∷◌, ◌++◌, Bool, true, false}
+use Rattle.std.specs.Prelude.{Option, Some, None, map, length, codes, replicate, slice_get}
+use Rattle.std.specs.Prelude.{unwrap_or, if◌then◌else◌, pos, Ok}
 use Rattle.bencode_wire.specs.Tree as wire
 use Rattle.bencode_wire.specs.Tree.{no_pairs, pair}
 use Rattle.bencode_wire.specs.Stream as streams
 use Rattle.value_data.specs.Datum as datum
 use Rattle.value_data.specs.Datum.{Datum, tenant}
 use Rattle.value_data.specs.Listed.{items_of}
-use Rattle.repl_values.specs.Print.{print}
 use Rattle.repl_asks.specs.Transactions.{RefNameData, ChangeData}
 use Rattle.repl_asks.specs.Exchange as exchange
-use Rattle.repl_asks.specs.Exchange.{AnswerData, bound_value}
+use Rattle.repl_asks.specs.Exchange.{AskData, AnswerData, bound_value}
 use Rattle.repl_jobs.specs.Job as jobs
 use Rattle.repl_jobs.specs.Job.{WorkData, JobData}
 use Rattle.repl_jobs.specs.Tree.{Tree, finished, asks}
-use Rattle.repl_replies.specs.Replies as replies
-use Rattle.repl_replies.specs.Replies.{BodyData, bytes_of}
 use Rattle.server_rules.specs.Readings.{Readings, StreamData, ProgramData}
 use Rattle.server_rules.specs.Comparisons.{Comparisons}
 use Rattle.server_rules.specs.Ground.{Ground}
-use Rattle.server_rules.specs.Plan.{hears, drains}
-use Rattle.server_rules.specs.World.{World, opens, does, opening}
-use Rattle.server_rules.specs.Turns.{Turn, given, goes, next, serve}
-use Rattle.server_rules.specs.declared.actor.Actor.{Actor}
 
 -- Messages
 
-abbrev pub first_id : List ℕ
-first_id = codes "76b8e0ad-a0f1-4d90-805d-6ae55386bd28"
+-- the first two ids of the tenants 0 and 1 where the seed is zero
+abbrev pub first_id : ℕ → List ℕ
+first_id zero = codes "76b8e0ad-a0f1-4d90-805d-6ae55386bd28"
+first_id (suc t) = codes "ef3fdfd6-c615-48fb-b5cf-35bd3dd33b80"
 
-abbrev pub second_id : List ℕ
-second_id = codes "bdd219b8-a08d-4d1a-a836-efcc8b770dc7"
+abbrev pub second_id : ℕ → List ℕ
+second_id zero = codes "bdd219b8-a08d-4d1a-a836-efcc8b770dc7"
+second_id (suc t) = codes "09631634-d21e-42ac-b396-0bd138e50d32"
 
 abbrev pub text : List ℕ → wire.Tree
 text bytes = wire.string bytes
 
--- `(id, session, code)`
+-- with an id, in a session
 abbrev pub eval_of : List ℕ → List ℕ → List ℕ → wire.Tree
 eval_of id session code = wire.dictionary (pair (codes "op") (text (codes "eval"))
     (pair (codes "id") (text id) (pair (codes "session") (text session)
@@ -52,25 +47,23 @@ abbrev pub closing_of : List ℕ → List ℕ → wire.Tree
 closing_of id session = wire.dictionary (pair (codes "op") (text (codes "close"))
     (pair (codes "id") (text id) (pair (codes "session") (text session) no_pairs)))
 
--- a clone, evals of the forms `d`, `r`, `s`, `h` and `t` in one of the sessions, and a close
-abbrev pub messages : List wire.Tree
-messages =
+-- what a tenant sends: a clone, evals of the forms `d`, `r`, `s`, `h` and `t` in one of its sessions,
+-- and a close
+abbrev pub messages : ℕ → List wire.Tree
+messages t =
     cloning
-    ∷ eval_of (codes "1") first_id (codes "d")
-    ∷ eval_of (codes "2") first_id (codes "r")
-    ∷ eval_of (codes "3") second_id (codes "s")
-    ∷ eval_of (codes "4") first_id (codes "h")
-    ∷ eval_of (codes "5") second_id (codes "t")
-    ∷ closing_of (codes "7") first_id ∷ []
+    ∷ eval_of (codes "1") (first_id t) (codes "d")
+    ∷ eval_of (codes "2") (first_id t) (codes "r")
+    ∷ eval_of (codes "3") (second_id t) (codes "s")
+    ∷ eval_of (codes "4") (first_id t) (codes "h")
+    ∷ eval_of (codes "5") (second_id t) (codes "t")
+    ∷ closing_of (codes "7") (first_id t) ∷ []
 
--- the message at this place among them
+-- the message at this place among those of the tenants 0 and 1
 abbrev pub message_of : ℕ → wire.Tree
-message_of n = unwrap_or (slice_get messages n) cloning
+message_of n = unwrap_or (slice_get (messages 0 ++ messages 1) n) cloning
 
 -- Forms
-
-abbrev pub r : RefNameData
-r = record { owner = tenant 0; number = 0 }
 
 abbrev pub number : ℕ → Datum
 number n = datum.integer (pos n)
@@ -82,8 +75,14 @@ abbrev pub value_told : AnswerData → Datum
 value_told (exchange.value d) = d
 value_told _ = datum.nil
 
-abbrev pub resolving : List ℕ → Tree → Tree
-resolving symbol behind = asks (exchange.resolve (codes "user") symbol) (λ a. behind)
+-- what a symbol names, where that is a ref
+abbrev pub ref_in : AnswerData → RefNameData
+ref_in (exchange.resolution (exchange.names_value (datum.ref owner n))) =
+    record { owner = owner; number = n }
+ref_in _ = record { owner = tenant 9; number = 0 }
+
+abbrev pub symbol : List ℕ → AskData
+symbol name = exchange.resolve (codes "user") name
 
 -- what is done with a ref's value, or again where it is kept no longer
 abbrev pub when_found : AnswerData → (Datum → Tree) → Tree → Tree
@@ -102,27 +101,30 @@ committing sets behind again =
 -- `(dosync @r)`, with so many attempts
 abbrev pub reading : ℕ → Tree
 reading zero = ends_with datum.nil
-reading (suc n) = asks exchange.begin (λ b. resolving (codes "r")
-    (asks (exchange.read r) (λ a.
+reading (suc n) = asks exchange.begin (λ b. asks (symbol (codes "r"))
+    (λ r. asks (exchange.read (ref_in r)) (λ a.
     when_found a (λ d. committing [] (ends_with d) (reading n)) (reading n))))
 
 -- `(dosync (ref-set r n))`
 abbrev pub setting : ℕ → ℕ → Tree
 setting n zero = ends_with datum.nil
-setting n (suc k) = asks exchange.begin (λ b. resolving (codes "ref-set") (resolving (codes "r")
-    (committing (record { name = r; now = number n } ∷ []) (ends_with (number n)) (setting n k))))
+setting n (suc k) = asks exchange.begin (λ b. asks (symbol (codes "ref-set"))
+    (λ f. asks (symbol (codes "r")) (λ r.
+    committing (record { name = ref_in r; now = number n } ∷ []) (ends_with (number n))
+    (setting n k))))
 
 -- `(def r (ref 0))`
 abbrev pub defining : Tree
-defining = resolving (codes "ref") (asks (exchange.new_ref (number 0) 0 10) (λ a.
+defining = asks (symbol (codes "ref")) (λ f. asks (exchange.new_ref (number 0) 0 10) (λ a.
     asks (exchange.define (codes "user") (codes "r") (bound_value (value_told a)))
     (λ b. ends_with (value_told a))))
 
 -- `(ref-history-count r)`
 abbrev pub counting : Tree
-counting = resolving (codes "ref-history-count") (resolving (codes "r")
-    (asks (exchange.history r) (λ a. ends_with (value_told a))))
+counting = asks (symbol (codes "ref-history-count")) (λ f. asks (symbol (codes "r")) (λ r.
+    asks (exchange.history (ref_in r)) (λ a. ends_with (value_told a))))
 
+-- the forms `d`, `r`, `s`, `h` and `t`
 abbrev pub form_named : ℕ → Tree
 form_named n =
     if n == 100 then defining else (
@@ -134,13 +136,17 @@ abbrev pub work_tree : WorkData → Tree
 work_tree (jobs.form (datum.integer (pos n))) = form_named n
 work_tree w = ends_with datum.nil
 
+-- jobs are all the same to this server, and traces where they are of one length
 abbrev pub ground : Ground
 ground = record {
   readings = record {
     stream = λ bytes. record { messages = map message_of bytes; ending = streams.rest [] };
     program = λ bytes. record { forms = items_of (map number bytes); fault = None };
   };
-  comparisons = record { is_same_job = λ j k. true; difference = λ xs ys. None };
+  comparisons = record {
+    is_same_job = λ j k. true;
+    difference = λ xs ys. if length xs == length ys then None else Some (length xs);
+  };
   evaluation = λ job. work_tree job.work;
   seed = replicate 32 0;
   steps = 1000;
@@ -148,49 +154,3 @@ ground = record {
   places = 2;
   shared_names = λ name. None;
 }
-
--- Turns
-
-abbrev pub heard : ℕ → Turn
-heard message = given (does 0 (hears (message ∷ [])))
-
-abbrev pub drained : ℕ → List Turn
-drained zero = []
-drained (suc n) = given (does 0 drains) ∷ drained n
-
--- so many turns of one of the sessions
-abbrev pub turns_of : ℕ → ℕ → List Turn
-turns_of session zero = []
-turns_of session (suc n) = goes 0 (Actor.Session session) ∷ turns_of session n
-
--- two sessions, and `r` defined in the first; the replies are taken out
-abbrev pub begun : List Turn
-begun = given (opens 0) ∷ heard 0 ∷ heard 0 ∷ heard 1 ∷ turns_of 0 5 ++ drained 4
-
-abbrev pub after_turns : World → List Turn → World
-after_turns w [] = w
-after_turns w (turn ∷ turns) = after_turns (next ground w turn) turns
-
--- what the tenant is given in these turns, behind those
-abbrev pub given_by : List Turn → List ℕ
-given_by turns = serve ground (after_turns (opening []) begun) turns 0
-
-abbrev pub first_reply : List ℕ → BodyData → List ℕ
-first_reply id body = bytes_of (record {
-  origin = record { id = Some (text id); session = Some (text first_id) };
-  body = body;
-})
-
-abbrev pub second_reply : List ℕ → BodyData → List ℕ
-second_reply id body = bytes_of (record {
-  origin = record { id = Some (text id); session = Some (text second_id) };
-  body = body;
-})
-
-abbrev pub value_of : ℕ → BodyData
-value_of n = replies.value (print (number n)) (codes "user")
-
--- replies in a row
-abbrev pub joined : List (List ℕ) → List ℕ
-joined [] = []
-joined (bytes ∷ more) = bytes ++ joined more

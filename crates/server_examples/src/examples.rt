@@ -1,5 +1,7 @@
 //! The runs. The functions do nothing: what they ensure is proved by computing it.
-ghost use Rattle.server_examples.specs.Examples.{ReadIsRetried, CloseInterrupts};
+ghost use Rattle.server_examples.specs.Examples.{ReadIsRetried, TwoAreApart, CloseInterrupts};
+ghost use Rattle.server_examples.specs.Examples.{OtherTraceIsRefused, PlaceIsFreed, NothingIsLeft};
+ghost use Rattle.server_examples.specs.Examples.{IdleCostsNothing};
 
 /// A read whose version is kept no longer is made again, and a ref of which a read failed keeps one
 /// version more from its next commit on.
@@ -7,7 +9,32 @@ pub fn read_is_retried()
     ensures { ReadIsRetried }
 {}
 
+/// Two tenants that do the same by turns are each answered as if they were alone.
+pub fn two_are_apart()
+    ensures { TwoAreApart }
+{}
+
 /// A close answers what waits, then itself, and interrupts what is in hand.
 pub fn close_interrupts()
     ensures { CloseInterrupts }
+{}
+
+/// An ending with another trace than the recorded one is refused where they differ first.
+pub fn other_trace_is_refused()
+    ensures { OtherTraceIsRefused }
+{}
+
+/// A tenant that goes leaves its place to another.
+pub fn place_is_freed()
+    ensures { PlaceIsFreed }
+{}
+
+/// Of a tenant that is gone no ref is left.
+pub fn nothing_is_left()
+    ensures { NothingIsLeft }
+{}
+
+/// A turn for which there is nothing to do costs no step.
+pub fn idle_costs_nothing()
+    ensures { IdleCostsNothing }
 {}
