@@ -1,4 +1,4 @@
--- The names of a session's latest results (Clojure's REPL: `*1`, `*2`, `*3` and `*e`).
+-- The names of a session's latest results (the Clojure reference, The REPL and main entry points).
 use Rattle.std.specs.Prelude.{ℕ, List, Option, None, Some, if◌then◌else◌, codes}
 use Rattle.std.specs.Str.{bytes_eq}
 use Rattle.name_spaces.specs.declared.latest.Latest.{Latest}
