@@ -2,7 +2,7 @@
 use Rattle.std.proofs.Common.{◌≡◌, ℕ, List, [], ◌∷◌, ◌++◌, true, false, Option, Some, None, Result, Ok, Err, IfOk, refl, sym, ap, ◌∙◌, true≢false, map, length, ◌==◌}
 use Rattle.std.proofs.lemmas.List.{map-append}
 use Rattle.value_data.specs.Datum.{Items}
-use Rattle.walker_machine.specs.Tree.{Tree, finished, asks}
+use Rattle.repl_jobs.specs.Tree.{Tree, finished, asks}
 use Rattle.value_data.specs.View.{items_view}
 use Rattle.value_data.specs.declared.value.Value.{Value}
 use Rattle.repl_faults.specs.Failure.{Failure}

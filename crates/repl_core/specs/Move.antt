@@ -7,7 +7,7 @@ use Rattle.repl_faults.specs.Failure.{Failure}
 use Rattle.repl_reader.specs.Fault.{FaultData, class_of}
 use Rattle.repl_jobs.specs.Job as jobs
 use Rattle.repl_jobs.specs.Job.{EndData}
-use Rattle.walker_machine.specs.Tree.{Tree}
+use Rattle.repl_jobs.specs.Tree.{Tree}
 use Rattle.walker_machine.specs.Evaluation.{evaluation}
 use Rattle.repl_replies.specs.Replies.{OriginData, BodyData, value, output, exception, error_text, done, namespace_not_found, ReplyData}
 use Rattle.repl_replies.specs.Requests.{RequestData, is_string}

@@ -5,7 +5,7 @@ use Rattle.bencode_wire.specs.Stream.{Ending, rest, fault}
 use Rattle.bencode_wire.specs.Fault.{counted, fault_at}
 use Rattle.bencode_wire.specs.declared.fault.WireFault.{WireFault}
 use Rattle.repl_asks.specs.Exchange.{AskData, AnswerData}
-use Rattle.walker_machine.specs.Tree.{Tree, finished, asks}
+use Rattle.repl_jobs.specs.Tree.{Tree, finished, asks}
 use Rattle.repl_replies.specs.Replies.{no_origin, malformed, ReplyData, bytes_of}
 use Rattle.repl_replies.specs.Requests.{RequestData, HeardData, waits, answered, heard}
 use Rattle.name_spaces.specs.Resolving as resolving

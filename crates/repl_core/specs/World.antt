@@ -2,7 +2,7 @@
 use Rattle.std.specs.Prelude.{ℕ, List, [], ◌++◌, Option, None}
 use Rattle.value_data.specs.Datum.{Items}
 use Rattle.repl_faults.specs.Failure.{Failure}
-use Rattle.walker_machine.specs.Tree.{Tree}
+use Rattle.repl_jobs.specs.Tree.{Tree}
 use Rattle.repl_replies.specs.Replies.{OriginData, ReplyData}
 use Rattle.repl_replies.specs.Requests.{RequestData}
 use Rattle.name_spaces.specs.Resolving.{Bindings}

@@ -6,8 +6,8 @@ use Rattle.repl_asks.specs.View.{ask_view, exchange_view, trace_view}
 use Rattle.repl_asks.specs.declared.exchange.Exchange.{Exchange}
 use Rattle.std.proofs.lemmas.List.{map-append}
 use Rattle.repl_jobs.specs.Job.{JobData, EndData}
-use Rattle.walker_machine.specs.Tree.{Tree, finished, asks}
-use Rattle.walker_machine.specs.Leading.{Leads, after, AreItsAsks}
+use Rattle.repl_jobs.specs.Tree.{Tree, finished, asks}
+use Rattle.repl_jobs.specs.Leading.{Leads, after, AreItsAsks}
 use Rattle.walker_machine.specs.Evaluation.{evaluation}
 use Rattle.repl_walker.specs.Led.{LedTo, Led, Recorded}
 use Rattle.repl_walker.specs.Ends.{EndingData, IsEndOf}

@@ -4,8 +4,8 @@ use Rattle.repl_asks.specs.Exchange.{Exchanged}
 use Rattle.repl_asks.specs.View.{trace_view}
 use Rattle.repl_jobs.specs.Job.{JobData, EndData}
 use Rattle.repl_jobs.specs.View.{job_view, finished_view}
-use Rattle.walker_machine.specs.Tree.{finished}
-use Rattle.walker_machine.specs.Leading.{Leads}
+use Rattle.repl_jobs.specs.Tree.{finished}
+use Rattle.repl_jobs.specs.Leading.{Leads}
 use Rattle.walker_machine.specs.Evaluation.{evaluation}
 use Rattle.repl_walker.specs.declared.ending.Ending.{Ending}
 

@@ -2,8 +2,8 @@
 use Rattle.std.specs.Prelude.{◌≡◌, List, ◌++◌}
 use Rattle.repl_asks.specs.Exchange.{Exchanged}
 use Rattle.repl_jobs.specs.Job.{JobData}
-use Rattle.walker_machine.specs.Tree.{Tree}
-use Rattle.walker_machine.specs.Leading.{Leads}
+use Rattle.repl_jobs.specs.Tree.{Tree}
+use Rattle.repl_jobs.specs.Leading.{Leads}
 use Rattle.walker_machine.specs.Evaluation.{evaluation}
 
 -- the evaluation of a job was led by this trace to what is still done

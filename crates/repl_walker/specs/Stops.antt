@@ -2,7 +2,7 @@
 use Rattle.std.specs.Prelude.{◌≡◌, true, false, List}
 use Rattle.repl_asks.specs.Exchange.{AnswerData, Exchanged, Heard}
 use Rattle.repl_asks.specs.View.{ask_view}
-use Rattle.walker_machine.specs.Tree.{Tree, asks}
+use Rattle.repl_jobs.specs.Tree.{Tree, asks}
 use Rattle.repl_walker.specs.Led.{Led}
 use Rattle.repl_walker.specs.declared.run.WalkError.{WalkError}
 

@@ -4,7 +4,7 @@ use Rattle.repl_asks.specs.Exchange.{AskData, AnswerData, Exchanged}
 use Rattle.repl_asks.specs.View.{ask_view, trace_view}
 use Rattle.repl_jobs.specs.Job.{JobData}
 use Rattle.repl_jobs.specs.View.{job_view, finished_view}
-use Rattle.walker_machine.specs.Tree.{Tree, finished, asks}
+use Rattle.repl_jobs.specs.Tree.{Tree, finished, asks}
 use Rattle.walker_machine.specs.Waits as machine
 use Rattle.repl_walker.specs.declared.waiting.Walk.{Walk}
 use Rattle.repl_walker.specs.declared.waiting.Progress.{Progress}

@@ -2,7 +2,7 @@
 ghost use Rattle.std.specs.Prelude.{◌≡◌, IfOk};
 ghost use Rattle.repl_asks.specs.View.{trace_view};
 ghost use Rattle.repl_jobs.specs.View.{job_view, finished_view};
-ghost use Rattle.walker_machine.specs.Tree as tree;
+ghost use Rattle.repl_jobs.specs.Tree as tree;
 ghost use Rattle.repl_walker.specs.Led.{LedTo};
 
 use repl_asks::{Exchange, Trace, copy_trace};

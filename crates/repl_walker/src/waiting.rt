@@ -2,7 +2,7 @@
 ghost use Rattle.std.specs.Prelude.{◌≡◌};
 ghost use Rattle.repl_asks.specs.View.{ask_view, trace_view};
 ghost use Rattle.repl_jobs.specs.View.{job_view};
-ghost use Rattle.walker_machine.specs.Tree.{asks};
+ghost use Rattle.repl_jobs.specs.Tree.{asks};
 ghost use Rattle.walker_machine.specs.Waits.{behind};
 ghost use Rattle.repl_walker.specs.Led.{LedTo};
 

@@ -1,6 +1,5 @@
 pub mod Doing
 pub mod Tree
-pub mod Leading
 pub mod Places
 pub mod Naming
 pub mod Calls

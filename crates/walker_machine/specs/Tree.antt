@@ -1,16 +1,13 @@
--- An evaluation as others see it: it ends, or asks and goes on with the answer.
-use Rattle.std.specs.Prelude.{ℕ, ◌+◌, List, [], ◌++◌, Result, Ok, Err, length, nat_lt, if◌then◌else◌, codes}
+-- What others see of a part of an evaluation that is the whole: its asks, and how it ends.
+use Rattle.std.specs.Prelude.{ℕ, ◌+◌, List, [], ◌++◌, Result, Ok, Err, length, nat_lt}
+use Rattle.std.specs.Prelude.{if◌then◌else◌}
 use Rattle.value_data.specs.Datum.{Datum}
 use Rattle.core_texts.specs.Limits.{most_text}
 use Rattle.repl_faults.specs.Failure as failures
 use Rattle.repl_faults.specs.Failure.{Failure}
-use Rattle.repl_jobs.specs.Job.{EndData}
-use Rattle.repl_asks.specs.Exchange.{AskData, AnswerData}
+use Rattle.repl_faults.specs.declared.rule.Rule.{Rule}
+use Rattle.repl_jobs.specs.Tree.{Tree, finished, asks}
 use Rattle.walker_machine.specs.Doing.{Kept, Exit, gave, failed, retried, Doing, left, asking, printing, looking, noting}
-
-pub data Tree : Type 0 where
-  finished : EndData → Tree
-  asks : AskData → (AnswerData → Tree) → Tree
 
 abbrev pub ends : Result Datum Failure → List ℕ → Kept → Tree
 ends r text kept = finished (record { result = r; text = text; namespace = kept.namespace })
@@ -19,7 +16,7 @@ ends r text kept = finished (record { result = r; text = text; namespace = kept.
 abbrev pub ended : Exit → List ℕ → Kept → Tree
 ended (gave d) text kept = ends (Ok d) text kept
 ended (failed f) text kept = ends (Err f) text kept
-ended retried text kept = ends (Err (failures.runtime (codes "Transaction failed after reaching retry limit"))) text kept
+ended retried text kept = ends (Err (failures.broken Rule.AttemptsAreLimited)) text kept
 
 -- The whole, where `before` was printed so far. Text that would pass the limit is not printed at all. Outside of
 -- transactions no operations are noted.

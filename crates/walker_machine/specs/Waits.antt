@@ -6,7 +6,8 @@ use Rattle.repl_jobs.specs.View.{end_view, finished_view}
 use Rattle.special_forms.specs.Seen.{views, function_view}
 use Rattle.std.specs.Prelude.{Result, Ok, Err, string_bytes}
 use Rattle.value_data.specs.View.{view}
-use Rattle.walker_machine.specs.Tree.{Tree, finished, asks, ends}
+use Rattle.repl_jobs.specs.Tree.{Tree, finished, asks}
+use Rattle.walker_machine.specs.Tree.{ends}
 use Rattle.walker_machine.specs.Calls.{body_value}
 use Rattle.walker_machine.specs.Evaluation.{value_at}
 use Rattle.walker_machine.specs.Machine.{answered, from_state, kept_of}
