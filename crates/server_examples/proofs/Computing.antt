@@ -7,6 +7,7 @@ use Rattle.rand_chacha.specs.Block.{quarter_round, column_round, diagonal_round,
 use Rattle.rand_chacha.specs.Block.{block_word}
 use Rattle.uuid.specs.Text.{by_index}
 use Rattle.repl_sessions.specs.Ids.{session_id, id_text}
+use Rattle.name_spaces.specs.Namespaces.{is_there, at_start, entered, defined}
 use Rattle.name_spaces.specs.Resolving.{resolved}
 use Rattle.repl_asks.specs.Namespaces.{is_fixed}
 use Rattle.repl_replies.specs.Operations.{asked}
@@ -19,29 +20,29 @@ use Rattle.server_examples.specs.Examples.{OtherTraceIsRefused, PlaceIsFreed, No
 use Rattle.server_examples.specs.Examples.{IdleCostsNothing}
 
 pub read-is-retried : ReadIsRetried
-unfolding step form_ended taken_in with_message asked is_fixed resolved is_utf8 chars encode_utf8 id_text session_id by_index u32_at quarter_round column_round diagonal_round double_rounds block_word
+unfolding step form_ended taken_in with_message asked is_fixed is_there at_start entered defined resolved is_utf8 chars encode_utf8 id_text session_id by_index u32_at quarter_round column_round diagonal_round double_rounds block_word
 read-is-retried = refl
 
 pub two-are-apart : TwoAreApart
-unfolding step form_ended taken_in with_message asked is_fixed resolved is_utf8 chars encode_utf8 id_text session_id by_index u32_at quarter_round column_round diagonal_round double_rounds block_word
+unfolding step form_ended taken_in with_message asked is_fixed is_there at_start entered defined resolved is_utf8 chars encode_utf8 id_text session_id by_index u32_at quarter_round column_round diagonal_round double_rounds block_word
 two-are-apart = (refl, refl)
 
 pub close-interrupts : CloseInterrupts
-unfolding step form_ended taken_in with_message asked is_fixed resolved is_utf8 chars encode_utf8 id_text session_id by_index u32_at quarter_round column_round diagonal_round double_rounds block_word
+unfolding step form_ended taken_in with_message asked is_fixed is_there at_start entered defined resolved is_utf8 chars encode_utf8 id_text session_id by_index u32_at quarter_round column_round diagonal_round double_rounds block_word
 close-interrupts = refl
 
 pub other-trace-is-refused : OtherTraceIsRefused
-unfolding step form_ended taken_in with_message asked is_fixed resolved is_utf8 chars encode_utf8 id_text session_id by_index u32_at quarter_round column_round diagonal_round double_rounds block_word
+unfolding step form_ended taken_in with_message asked is_fixed is_there at_start entered defined resolved is_utf8 chars encode_utf8 id_text session_id by_index u32_at quarter_round column_round diagonal_round double_rounds block_word
 other-trace-is-refused = refl
 
 pub place-is-freed : PlaceIsFreed
-unfolding step form_ended taken_in with_message asked is_fixed resolved is_utf8 chars encode_utf8 id_text session_id by_index u32_at quarter_round column_round diagonal_round double_rounds block_word
+unfolding step form_ended taken_in with_message asked is_fixed is_there at_start entered defined resolved is_utf8 chars encode_utf8 id_text session_id by_index u32_at quarter_round column_round diagonal_round double_rounds block_word
 place-is-freed = (refl, refl)
 
 pub nothing-is-left : NothingIsLeft
-unfolding step form_ended taken_in with_message asked is_fixed resolved is_utf8 chars encode_utf8 id_text session_id by_index u32_at quarter_round column_round diagonal_round double_rounds block_word
+unfolding step form_ended taken_in with_message asked is_fixed is_there at_start entered defined resolved is_utf8 chars encode_utf8 id_text session_id by_index u32_at quarter_round column_round diagonal_round double_rounds block_word
 nothing-is-left = (refl, refl)
 
 pub idle-costs-nothing : IdleCostsNothing
-unfolding step form_ended taken_in with_message asked is_fixed resolved is_utf8 chars encode_utf8 id_text session_id by_index u32_at quarter_round column_round diagonal_round double_rounds block_word
+unfolding step form_ended taken_in with_message asked is_fixed is_there at_start entered defined resolved is_utf8 chars encode_utf8 id_text session_id by_index u32_at quarter_round column_round diagonal_round double_rounds block_word
 idle-costs-nothing = refl
