@@ -2,6 +2,10 @@
 #![tactic(auto)]
 
 #[cfg(test)]
+mod answers;
+#[cfg(test)]
+mod asks;
+#[cfg(test)]
 mod exchanges;
 #[cfg(test)]
 mod parts;

@@ -111,6 +111,8 @@ fn names_and_numbers_of_arguments(rt: HostRuntime) -> Result<(), Fail> {
         "INC",
         "clojure.core/+",
         "if",
+        "ns",
+        "in-ns",
         "deref",
         "swap!",
     ] {

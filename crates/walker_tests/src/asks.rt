@@ -1,8 +1,6 @@
 // What is asked, answered, evaluated and ended is copied, and a replay gives its answers.
-use crate::told::{
-    FUNCTION, answer_told, ask_told, binding_told, exchange_told, fault, form, function, printed,
-    text,
-};
+use crate::exchanged::{answer_told, ask_told, exchange_told};
+use crate::told::{FUNCTION, binding_told, fault, form, function, printed, text};
 use core_functions::CoreFunction;
 use repl_asks::{
     Answer, Ask, Binding, Exchange, NamedFunction, Refs, Replay, Resolution, StopReason, copy_trace,
@@ -32,7 +30,7 @@ const RESOLVE: &str = "resolve user x";
 
 const DEFINE: &str = "define user f user/f a b 1 (c d)";
 
-// An answer of each kind, and the text of each.
+// Answers to a symbol and to a definition, and the text of each.
 fn answers(rt: &impl Abort, alloc: Global) -> Result<Vec<Answer>, AllocError> {
     let mut answers = Vec::new(alloc);
     let Some(plus) = CoreFunction::named("+") else {

@@ -5,8 +5,16 @@
 #[cfg(test)]
 mod asks;
 #[cfg(test)]
+mod exchanged;
+#[cfg(test)]
+mod kinds;
+#[cfg(test)]
+mod namespaces;
+#[cfg(test)]
 mod steps;
 #[cfg(test)]
 mod told;
+#[cfg(test)]
+mod walked;
 #[cfg(test)]
 mod walks;

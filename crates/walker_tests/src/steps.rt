@@ -1,19 +1,12 @@
 // Evaluations that are led by hand from ask to ask: each keeps its job and its trace.
-use crate::told::{ask_told, exchange_told, form, printed, text};
+use crate::exchanged::{ask_told, exchange_told};
+use crate::told::{job, printed};
 use repl_asks::{Answer, Exchange, Resolution};
-use repl_jobs::{Finished, Job, Work};
+use repl_jobs::Finished;
 use repl_values::Value;
 use repl_walker::{End, Progress, start};
 use std::alloc::{AllocError, Global};
 use std::test::Fail;
-
-fn job(alloc: Global, code: &str) -> Result<Job, AllocError> {
-    Ok(Job {
-        work: Work::Form(form(alloc, code)?),
-        namespace: text(alloc, "user")?,
-        retries: 1,
-    })
-}
 
 fn tell_trace(alloc: Global, trace: &[Exchange], told: &mut String) -> Result<(), AllocError> {
     for exchange in trace {

@@ -1,5 +1,6 @@
-// What is asked and answered, as texts by which a test compares it.
-use repl_asks::{Answer, Ask, Binding, Exchange, NamedFunction, Resolution};
+// Values, functions and bindings, and the texts by which a test compares them.
+use repl_asks::Binding;
+use repl_jobs::{Job, Work};
 use repl_reader::read_all;
 use repl_values::{Fault, Sequence, Value, print_into};
 use special_forms::{Forms, Function};
@@ -24,11 +25,24 @@ pub(crate) fn form(alloc: Global, code: &str) -> Result<Value, AllocError> {
     Ok(read_all(alloc, code)?.forms.pop().unwrap_or(Value::Nil))
 }
 
+// The evaluation of the code's last form in `user`.
+pub(crate) fn job(alloc: Global, code: &str) -> Result<Job, AllocError> {
+    Ok(Job {
+        work: Work::Form(form(alloc, code)?),
+        namespace: text(alloc, "user")?,
+        retries: 1,
+    })
+}
+
 pub(crate) fn fault(alloc: Global) -> Result<Fault, AllocError> {
     Ok(Fault {
         class: text(alloc, "C")?,
         text: text(alloc, "t")?,
     })
+}
+
+pub(crate) fn fault_told(alloc: Global, fault: &Fault) -> Result<String, AllocError> {
+    printed(alloc, &fault.copy()?.into_value())
 }
 
 // (defn f [a b] 1 (c d))
@@ -48,7 +62,7 @@ pub(crate) fn function(alloc: Global) -> Result<Function, AllocError> {
 // Its names, its parameters and the forms of its body.
 pub(crate) const FUNCTION: &str = "user/f a b 1 (c d)";
 
-fn function_told(alloc: Global, function: &Function) -> Result<String, AllocError> {
+pub(crate) fn function_told(alloc: Global, function: &Function) -> Result<String, AllocError> {
     let mut told = String::from_str(alloc, function.space.as_str())?;
     told.push_str("/")?;
     told.push_str(function.name.as_str())?;
@@ -71,48 +85,4 @@ pub(crate) fn binding_told(alloc: Global, binding: &Binding) -> Result<String, A
         Binding::Value(value) => printed(alloc, value),
         Binding::Function(function) => function_told(alloc, function),
     }
-}
-
-pub(crate) fn ask_told(alloc: Global, ask: &Ask) -> Result<String, AllocError> {
-    match ask {
-        Ask::Resolve { namespace, symbol } => {
-            let (namespace, symbol) = (namespace.as_str(), symbol.as_str());
-            format!(in alloc; "resolve {namespace} {symbol}")
-        }
-        Ask::Define {
-            namespace,
-            name,
-            binding,
-        } => {
-            let (namespace, name) = (namespace.as_str(), name.as_str());
-            let bound = binding_told(alloc, binding)?;
-            let bound = bound.as_str();
-            format!(in alloc; "define {namespace} {name} {bound}")
-        }
-    }
-}
-
-pub(crate) fn answer_told(alloc: Global, answer: &Answer) -> Result<String, AllocError> {
-    match answer {
-        Answer::Resolution(Resolution::Value(value)) => printed(alloc, value),
-        Answer::Resolution(Resolution::Function(NamedFunction::Core(function))) => String::from_str(
-            alloc,
-            function.name(),
-        ),
-        Answer::Resolution(Resolution::Function(NamedFunction::Program(function))) => function_told(
-            alloc, function,
-        ),
-        Answer::Done => String::from_str(alloc, "done"),
-        Answer::Resolution(Resolution::Nothing(fault)) => printed(
-            alloc,
-            &fault.copy()?.into_value(),
-        ),
-    }
-}
-
-pub(crate) fn exchange_told(alloc: Global, exchange: &Exchange) -> Result<String, AllocError> {
-    let ask = ask_told(alloc, &exchange.ask)?;
-    let answer = answer_told(alloc, &exchange.answer)?;
-    let (ask, answer) = (ask.as_str(), answer.as_str());
-    format!(in alloc; "{ask}: {answer}")
 }
