@@ -1,2 +1,5 @@
+pub mod Bindings
+pub mod Namespaces
+pub mod Latest
 pub mod Resolving
-pub mod Bound
+pub mod Seen

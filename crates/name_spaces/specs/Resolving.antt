@@ -1,19 +1,21 @@
--- How symbols are resolved (the Clojure reference, Namespaces). There is one namespace, `user`.
+-- How symbols are resolved (the Clojure reference, Evaluation and Namespaces).
 use Rattle.std.specs.Prelude.{ℕ, List, Bool, Option, Some, None, ◌+◌, ◌==◌, if◌then◌else◌, take, drop, codes}
 use Rattle.std.specs.List.{position}
 use Rattle.std.specs.Str.{bytes_eq}
 use Rattle.repl_faults.specs.Failure as failures
 use Rattle.function_names.specs.Names.{function_named}
 use Rattle.function_names.specs.declared.function.CoreFunction.{CoreFunction}
-use Rattle.repl_asks.specs.Exchange as exchange
-use Rattle.repl_asks.specs.Exchange.{AskData, AnswerData, BindingData, bound_value, bound_function, core_function, program_function, ResolutionData, names_value, names_function, names_nothing}
+use Rattle.repl_asks.specs.Exchange.{BindingData, bound_value, bound_function, core_function, program_function, ResolutionData, names_value, names_function, names_nothing}
+use Rattle.name_spaces.specs.declared.latest.Latest.{Latest}
+use Rattle.name_spaces.specs.Latest.{latest_named}
+use Rattle.name_spaces.specs.Bindings.{Bindings}
+use Rattle.name_spaces.specs.Namespaces.{Namespaces, bindings_of}
 
-abbrev pub is_slash : ℕ → Bool
-is_slash byte = byte == 47
-
--- what each name is bound to
-abbrev pub Bindings : Type 0
-Bindings = List ℕ → Option BindingData
+pub data FoundData : Type 0 where
+  -- what the symbol names, or why nothing
+  found_resolution : ResolutionData → FoundData
+  -- one of the session's latest results
+  found_latest : Latest → FoundData
 
 abbrev pub bound_resolution : BindingData → ResolutionData
 bound_resolution (bound_value d) = names_value d
@@ -23,32 +25,49 @@ abbrev pub core_resolution : List ℕ → Option CoreFunction → ResolutionData
 core_resolution symbol (Some f) = names_function (core_function f)
 core_resolution symbol None = names_nothing (failures.unresolved symbol)
 
--- a symbol without a namespace: what it is bound to, else the core function of that name
-abbrev pub simple_resolution : List ℕ → Option BindingData → ResolutionData
-simple_resolution symbol (Some binding) = bound_resolution binding
-simple_resolution symbol None = core_resolution symbol (function_named symbol)
+abbrev pub unbound_symbol : List ℕ → Option Latest → FoundData
+unbound_symbol symbol (Some latest) = found_latest latest
+unbound_symbol symbol None = found_resolution (core_resolution symbol (function_named symbol))
+
+-- A symbol without a slash: what it is bound to, else the latest result of that name, else the core
+-- function.
+abbrev pub simple_symbol : List ℕ → Option BindingData → FoundData
+simple_symbol symbol (Some binding) = found_resolution (bound_resolution binding)
+simple_symbol symbol None = unbound_symbol symbol (latest_named symbol)
 
 abbrev pub var_resolution : List ℕ → Option BindingData → ResolutionData
 var_resolution symbol (Some binding) = bound_resolution binding
 var_resolution symbol None = names_nothing (failures.no_such_var symbol)
 
-abbrev pub qualified_resolution : Bindings → List ℕ → List ℕ → List ℕ → ResolutionData
-qualified_resolution bindings symbol space name =
-    if bytes_eq space (codes "user") then var_resolution symbol (bindings name) else names_nothing (failures.no_such_namespace space)
+abbrev pub var_in : Option Bindings → List ℕ → List ℕ → List ℕ → ResolutionData
+var_in (Some bindings) symbol space name = var_resolution symbol (bindings name)
+var_in None symbol space name = names_nothing (failures.no_such_namespace space)
 
--- a symbol with a slash names its namespace in front of the first; `/` alone has no parts
-abbrev pub resolution_by_slash : Bindings → List ℕ → Option ℕ → ResolutionData
-resolution_by_slash bindings symbol None = simple_resolution symbol (bindings symbol)
-resolution_by_slash bindings symbol (Some slash) = qualified_resolution bindings symbol (take slash symbol) (drop (slash + 1) symbol)
+-- The namespace of this name: `shared`, which is there for every tenant, or one of the tenant's own.
+-- `clojure.core` is none: its symbols are known without a store, and evaluation asks for none of them.
+abbrev pub namespace_named : Bindings → Namespaces → List ℕ → Option Bindings
+namespace_named shared namespaces space =
+    if bytes_eq space (codes "shared") then Some shared else namespaces space
 
-unfoldable pub resolved : Bindings → List ℕ → ResolutionData
-resolved bindings symbol = resolution_by_slash bindings symbol (if bytes_eq symbol (codes "/") then None else position is_slash symbol)
+-- A symbol with a slash names its namespace and a name in it, and nothing else.
+abbrev pub qualified_symbol : Bindings → Namespaces → List ℕ → List ℕ → List ℕ → ResolutionData
+qualified_symbol shared namespaces symbol space name =
+    var_in (namespace_named shared namespaces space) symbol space name
 
-abbrev pub answered : Bindings → AskData → AnswerData
-answered bindings (exchange.resolve namespace symbol) = exchange.resolution (resolved bindings symbol)
-answered bindings (exchange.define namespace name binding) = exchange.done
+abbrev pub is_slash : ℕ → Bool
+is_slash byte = byte == 47
 
--- a definition binds its name, in place of what it was bound to
-abbrev pub bound_after : Bindings → AskData → Bindings
-bound_after bindings (exchange.resolve namespace symbol) q = bindings q
-bound_after bindings (exchange.define namespace name binding) q = if bytes_eq q name then Some binding else bindings q
+-- where the first slash parts a symbol; `/` alone has no parts
+abbrev pub slash_of : List ℕ → Option ℕ
+slash_of symbol = if bytes_eq symbol (codes "/") then None else position is_slash symbol
+
+abbrev pub resolved_by_slash : Bindings → Namespaces → List ℕ → List ℕ → Option ℕ → FoundData
+resolved_by_slash shared namespaces namespace symbol None =
+    simple_symbol symbol (bindings_of (namespace_named shared namespaces namespace) symbol)
+resolved_by_slash shared namespaces namespace symbol (Some slash) = found_resolution
+    (qualified_symbol shared namespaces symbol (take slash symbol) (drop (slash + 1) symbol))
+
+-- what a symbol of this namespace names, where `shared` binds that
+unfoldable pub resolved : Bindings → Namespaces → List ℕ → List ℕ → FoundData
+resolved shared namespaces namespace symbol =
+    resolved_by_slash shared namespaces namespace symbol (slash_of symbol)

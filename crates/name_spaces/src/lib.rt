@@ -1,6 +1,12 @@
-//! Namespaces: what names are bound to, and how symbols are resolved.
+//! The namespaces of a tenant: what their names are bound to, and how symbols are resolved in them.
 #![tactic(auto)]
 
-mod space;
+mod found;
+mod latest;
+mod resolving;
+mod spaces;
+mod vars;
 
-pub use space::{Space, USER};
+pub use found::Found;
+pub use latest::Latest;
+pub use spaces::{Spaces, USER};
