@@ -1,9 +1,10 @@
 -- Asks and answers, without where they lie in memory.
-use Rattle.std.specs.Prelude.{◌≡◌, ℕ, List, [], ◌∷◌, Bool, ⊤}
+use Rattle.std.specs.Prelude.{◌≡◌, ℕ, List, [], ◌∷◌, Bool, Option, ⊤}
 use Rattle.value_data.specs.Datum.{Datum, nil}
 use Rattle.repl_faults.specs.Failure.{Failure}
 use Rattle.special_forms.specs.Functions.{FunctionData}
 use Rattle.function_names.specs.declared.function.CoreFunction.{CoreFunction}
+use Rattle.repl_asks.specs.Transactions.{RefNameData, IntentData}
 use Rattle.repl_asks.specs.declared.ask.AnswerKind.{AnswerKind}
 
 -- what a name is bound to
@@ -16,6 +17,21 @@ pub data AskData : Type 0 where
   resolve : List ℕ → List ℕ → AskData
   -- a namespace, a name and what it is bound to
   define : List ℕ → List ℕ → BindingData → AskData
+  -- a namespace, which is made where it is new
+  enter : List ℕ → AskData
+  -- a ref with this value, and the least and the greatest count of its history
+  new_ref : Datum → ℕ → ℕ → AskData
+  -- an attempt at a transaction begins
+  begin : AskData
+  -- the value of a ref
+  read : RefNameData → AskData
+  -- how many versions a ref has behind its newest
+  history : RefNameData → AskData
+  -- the least count of a ref's history, which is set where a number is given; and the greatest
+  min_history : RefNameData → Option ℕ → AskData
+  max_history : RefNameData → Option ℕ → AskData
+  -- what the attempt changed is to stand for all
+  commit : IntentData → AskData
 
 -- a function that has a name: one of the language, or one of the program
 pub data NamedFunctionData : Type 0 where
@@ -29,10 +45,26 @@ pub data ResolutionData : Type 0 where
   -- nothing, and why
   names_nothing : Failure → ResolutionData
 
+-- the value of a ref in an attempt
+pub data ReadingData : Type 0 where
+  found : Datum → ReadingData
+  -- it is kept no longer: the attempt is to be made again
+  retry : ReadingData
+
+-- what comes of a commit
+pub data VerdictData : Type 0 where
+  committed : VerdictData
+  -- another came first: the attempt is to be made again
+  conflict : VerdictData
+  faulted : Failure → VerdictData
+
 pub data AnswerData : Type 0 where
   resolution : ResolutionData → AnswerData
   -- what was asked for is done, and gives no value
   done : AnswerData
+  value : Datum → AnswerData
+  reading : ReadingData → AnswerData
+  verdict : VerdictData → AnswerData
 
 pub record Exchanged : Type 0 where
   pub ask : AskData
@@ -47,10 +79,21 @@ pub record Heard : Type 0 where
 abbrev pub kind_wanted : AskData → AnswerKind
 kind_wanted (resolve namespace symbol) = AnswerKind.Resolution
 kind_wanted (define namespace name b) = AnswerKind.Completion
+kind_wanted (enter name) = AnswerKind.Completion
+kind_wanted (new_ref d least most) = AnswerKind.Value
+kind_wanted begin = AnswerKind.Completion
+kind_wanted (read name) = AnswerKind.Reading
+kind_wanted (history name) = AnswerKind.Value
+kind_wanted (min_history name set) = AnswerKind.Value
+kind_wanted (max_history name set) = AnswerKind.Value
+kind_wanted (commit intent) = AnswerKind.Verdict
 
 abbrev pub kind_of : AnswerData → AnswerKind
 kind_of (resolution r) = AnswerKind.Resolution
 kind_of done = AnswerKind.Completion
+kind_of (value d) = AnswerKind.Value
+kind_of (reading r) = AnswerKind.Reading
+kind_of (verdict v) = AnswerKind.Verdict
 
 abbrev pub Fits : AskData → AnswerData → Type 0
 Fits ask answer = kind_of answer ≡ kind_wanted ask
@@ -59,6 +102,9 @@ Fits ask answer = kind_of answer ≡ kind_wanted ask
 abbrev pub resolution_in : AnswerData → ResolutionData
 resolution_in (resolution r) = r
 resolution_in done = names_value nil
+resolution_in (value d) = names_value nil
+resolution_in (reading r) = names_value nil
+resolution_in (verdict v) = names_value nil
 
 -- no answer is left for the ask: there is none, or the next is of another kind
 abbrev pub NoneFits : AskData → List AnswerData → Type 0

@@ -1,3 +1,5 @@
+pub mod Namespaces
+pub mod Transactions
 pub mod Exchange
 pub mod View
 pub mod Replay

@@ -2,6 +2,7 @@
 ghost use Rattle.std.specs.Prelude.{◌≡◌, IfOk};
 ghost use Rattle.repl_asks.specs.Exchange.{kind_of, resolution_in};
 ghost use Rattle.repl_asks.specs.View.{answer_view, named_view, resolution_view};
+ghost use Rattle.repl_asks.specs.View.{reading_view, verdict_view};
 
 use crate::ask::AnswerKind;
 use function_names::CoreFunction;
@@ -27,12 +28,32 @@ pub enum Resolution {
     Nothing(Fault),
 }
 
+/// The value of a ref, as an attempt reads it.
+#[derive(Debug, Drop)]
+pub enum Reading {
+    Found(Value),
+    /// It is kept no longer: the attempt is to be made again.
+    Retry,
+}
+
+/// What comes of a commit.
+#[derive(Debug, Drop)]
+pub enum Verdict {
+    Committed,
+    /// Another came first: the attempt is to be made again.
+    Conflict,
+    Faulted(Fault),
+}
+
 /// What the store answers.
 #[derive(Debug, Drop)]
 pub enum Answer {
     Resolution(Resolution),
     /// What was asked for is done, and gives no value.
     Done,
+    Value(Value),
+    Reading(Reading),
+    Verdict(Verdict),
 }
 
 impl NamedFunction {
@@ -60,6 +81,31 @@ impl Resolution {
     }
 }
 
+impl Reading {
+    /// The same once more. It takes one step, and fails only where 2^63 owners share a part of it.
+    pub fn copy(&self) -> Result<Reading, AllocError>
+        ensures { IfOk result (λ copied. reading_view copied ≡ reading_view self.now) }
+    {
+        match self {
+            Reading::Found(value) => Ok(Reading::Found(copy(value)?)),
+            Reading::Retry => Ok(Reading::Retry),
+        }
+    }
+}
+
+impl Verdict {
+    /// The same once more. It takes one step, and fails only where 2^63 owners share a part of it.
+    pub fn copy(&self) -> Result<Verdict, AllocError>
+        ensures { IfOk result (λ copied. verdict_view copied ≡ verdict_view self.now) }
+    {
+        match self {
+            Verdict::Committed => Ok(Verdict::Committed),
+            Verdict::Conflict => Ok(Verdict::Conflict),
+            Verdict::Faulted(fault) => Ok(Verdict::Faulted(fault.copy()?)),
+        }
+    }
+}
+
 impl Answer {
     /// What kind of answer it is.
     pub fn kind(&self) -> AnswerKind
@@ -68,6 +114,9 @@ impl Answer {
         match self {
             Answer::Resolution(_) => AnswerKind::Resolution,
             Answer::Done => AnswerKind::Completion,
+            Answer::Value(_) => AnswerKind::Value,
+            Answer::Reading(_) => AnswerKind::Reading,
+            Answer::Verdict(_) => AnswerKind::Verdict,
         }
     }
 
@@ -78,7 +127,9 @@ impl Answer {
     {
         match self {
             Answer::Resolution(resolution) => resolution,
-            Answer::Done => Resolution::Value(Value::Nil),
+            Answer::Done | Answer::Value(_) | Answer::Reading(_) | Answer::Verdict(_) => {
+                Resolution::Value(Value::Nil)
+            }
         }
     }
 
@@ -89,6 +140,9 @@ impl Answer {
         match self {
             Answer::Resolution(resolution) => Ok(Answer::Resolution(resolution.copy()?)),
             Answer::Done => Ok(Answer::Done),
+            Answer::Value(value) => Ok(Answer::Value(copy(value)?)),
+            Answer::Reading(reading) => Ok(Answer::Reading(reading.copy()?)),
+            Answer::Verdict(verdict) => Ok(Answer::Verdict(verdict.copy()?)),
         }
     }
 }

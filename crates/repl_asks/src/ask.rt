@@ -3,10 +3,11 @@ ghost use Rattle.std.specs.Prelude.{◌≡◌, IfOk};
 ghost use Rattle.repl_asks.specs.Exchange.{kind_wanted};
 ghost use Rattle.repl_asks.specs.View.{ask_view, binding_view};
 
-use repl_values::{Value, copy, copy_text};
+use crate::intent::Intent;
+use repl_values::{RefName, Value, copy, copy_text};
 use special_forms::Function;
 use std::alloc::AllocError;
-use std::sync::ArcStr;
+use std::sync::{Arc, ArcStr};
 
 /// What a form asks next.
 #[derive(Debug, Drop)]
@@ -22,6 +23,33 @@ pub enum Ask {
         name: ArcStr,
         binding: Binding,
     },
+    /// Makes a namespace where it is new. Answered by `Done`; the form goes on in it.
+    Enter(ArcStr),
+    /// Makes a ref with bounds of its history. Answered by a value, the ref.
+    NewRef {
+        value: Value,
+        min_history: u64,
+        max_history: u64,
+    },
+    /// Begins an attempt at a transaction. Answered by `Done`.
+    Begin,
+    /// The value of a ref, in an attempt that of its read point. Answered by a reading.
+    Read(RefName),
+    /// How many versions a ref has behind its newest. Answered by a value.
+    History(RefName),
+    /// The least count of a ref's history, which is set first where a number is given. Answered by a
+    /// value: the count, or where it is set the ref.
+    MinHistory {
+        name: RefName,
+        set: Option<u64>,
+    },
+    /// The greatest count, likewise.
+    MaxHistory {
+        name: RefName,
+        set: Option<u64>,
+    },
+    /// What the attempt changed is to stand for all. Answered by a verdict.
+    Commit(Arc<Intent>),
 }
 
 /// What a name is bound to.
@@ -36,6 +64,9 @@ pub enum Binding {
 pub enum AnswerKind {
     Resolution,
     Completion,
+    Value,
+    Reading,
+    Verdict,
 }
 
 impl Ask {
@@ -46,6 +77,13 @@ impl Ask {
         match self {
             Ask::Resolve { .. } => AnswerKind::Resolution,
             Ask::Define { .. } => AnswerKind::Completion,
+            Ask::Enter(_) => AnswerKind::Completion,
+            Ask::NewRef { .. } => AnswerKind::Value,
+            Ask::Begin => AnswerKind::Completion,
+            Ask::Read(_) => AnswerKind::Reading,
+            Ask::History(_) => AnswerKind::Value,
+            Ask::MinHistory { .. } | Ask::MaxHistory { .. } => AnswerKind::Value,
+            Ask::Commit(_) => AnswerKind::Verdict,
         }
     }
 
@@ -67,6 +105,28 @@ impl Ask {
                 name: copy_text(name)?,
                 binding: binding.copy()?,
             }),
+            Ask::Enter(name) => Ok(Ask::Enter(copy_text(name)?)),
+            Ask::NewRef {
+                value,
+                min_history,
+                max_history,
+            } => Ok(Ask::NewRef {
+                value: copy(value)?,
+                min_history: *min_history,
+                max_history: *max_history,
+            }),
+            Ask::Begin => Ok(Ask::Begin),
+            Ask::Read(name) => Ok(Ask::Read(*name)),
+            Ask::History(name) => Ok(Ask::History(*name)),
+            Ask::MinHistory { name, set } => Ok(Ask::MinHistory {
+                name: *name,
+                set: *set,
+            }),
+            Ask::MaxHistory { name, set } => Ok(Ask::MaxHistory {
+                name: *name,
+                set: *set,
+            }),
+            Ask::Commit(intent) => Ok(Ask::Commit(Arc::try_clone(intent)?)),
         }
     }
 }

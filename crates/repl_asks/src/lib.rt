@@ -8,11 +8,15 @@
 mod answer;
 mod ask;
 mod exchange;
+mod intent;
+mod namespaces;
 mod refs;
 mod replay;
 
-pub use answer::{Answer, NamedFunction, Resolution};
+pub use answer::{Answer, NamedFunction, Reading, Resolution, Verdict};
 pub use ask::{AnswerKind, Ask, Binding};
 pub use exchange::{Exchange, Trace, copy_trace};
+pub use intent::{Change, Intent};
+pub use namespaces::is_fixed;
 pub use refs::{Refs, Stop, StopReason};
 pub use replay::Replay;

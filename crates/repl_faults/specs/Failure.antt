@@ -2,6 +2,7 @@
 use Rattle.std.specs.Prelude.{ℕ, List, ◌++◌, Result, Ok, Err, codes, decimal}
 use Rattle.value_data.specs.Datum.{Datum}
 use Rattle.repl_values.specs.Print.{print}
+use Rattle.repl_faults.specs.declared.rule.Rule.{Rule}
 
 -- why an evaluation has no value
 pub record Failure : Type 0 where
@@ -21,6 +22,9 @@ class_cast text = record { class = codes "java.lang.ClassCastException"; text = 
 
 abbrev pub illegal_argument : List ℕ → Failure
 illegal_argument text = record { class = codes "java.lang.IllegalArgumentException"; text = text }
+
+abbrev pub illegal_state : List ℕ → Failure
+illegal_state text = record { class = codes "java.lang.IllegalStateException"; text = text }
 
 abbrev pub runtime : List ℕ → Failure
 runtime text = record { class = codes "java.lang.RuntimeException"; text = text }
@@ -75,6 +79,10 @@ no_such_namespace name = runtime (codes "No such namespace: " ++ name)
 abbrev pub no_such_var : List ℕ → Failure
 no_such_var symbol = runtime (codes "No such var: " ++ symbol)
 
+-- a namespace that is the same for all, and that nobody enters or defines in
+abbrev pub namespace_is_fixed : List ℕ → Failure
+namespace_is_fixed name = illegal_state (codes "Namespace is fixed: " ++ name)
+
 -- a symbol that names a function, in a value's place
 abbrev pub not_a_value : List ℕ → Failure
 not_a_value symbol = runtime (codes "A function isn't a value: " ++ symbol)
@@ -88,3 +96,23 @@ too_deep = record { class = codes "java.lang.StackOverflowError"; text = codes "
 -- what a program threw that is no fault, by its text
 abbrev pub thrown : List ℕ → Failure
 thrown text = record { class = codes "clojure.lang.ExceptionInfo"; text = text }
+
+-- a rule of references, transactions or the shared namespace that was not kept
+abbrev pub broken : Rule → Failure
+broken Rule.ATransactionRuns = illegal_state (codes "No transaction running")
+broken Rule.NoSetAfterCommute = illegal_state (codes "Can't set after commute")
+broken Rule.NoIoInTransaction = illegal_state (codes "I/O in transaction")
+broken Rule.NoAwaitInTransaction = illegal_state (codes "await in transaction")
+broken Rule.NoAwaitInAction = illegal_state (codes "Can't await in agent action")
+broken Rule.SharedBoundsStay = illegal_state (codes "Shared history can't be set")
+broken Rule.SharedHistoryIsHidden =
+    illegal_state (codes "Shared history can't be read in a transaction")
+broken Rule.SharedTextDefinesAlone =
+    illegal_state (codes "Not allowed in the shared namespace")
+broken Rule.SharedRefsArePlain =
+    illegal_argument (codes "Only plain data goes into a shared ref")
+broken Rule.CommutesAreOfCore = illegal_argument (codes "commute takes a core function")
+broken Rule.AttemptsAreLimited =
+    runtime (codes "Transaction failed after reaching retry limit")
+broken Rule.AgentHasNotFailed = runtime (codes "Agent is failed, needs restart")
+broken Rule.AgentHasFailed = runtime (codes "Agent does not need a restart")

@@ -5,6 +5,7 @@ ghost use Rattle.value_data.specs.View.{view};
 ghost use Rattle.repl_faults.specs.Failure as meant;
 ghost use Rattle.repl_faults.specs.View.{failure_of};
 
+use crate::rule::Rule;
 use itoa::Buffer;
 use repl_values::{Fault, Value, print_into};
 use std::alloc::{AllocError, Global};
@@ -15,6 +16,8 @@ const ARITHMETIC: &str = "java.lang.ArithmeticException";
 const CLASS_CAST: &str = "java.lang.ClassCastException";
 
 const ILLEGAL_ARGUMENT: &str = "java.lang.IllegalArgumentException";
+
+const ILLEGAL_STATE: &str = "java.lang.IllegalStateException";
 
 const RUNTIME: &str = "java.lang.RuntimeException";
 
@@ -167,6 +170,13 @@ pub fn no_such_var(alloc: Global, symbol: &str) -> Result<Fault, AllocError>
     named(alloc, RUNTIME, "No such var: ", symbol)
 }
 
+/// A namespace that is the same for all, and that nobody enters or defines in.
+pub fn namespace_is_fixed(alloc: Global, name: &str) -> Result<Fault, AllocError>
+    ensures { IfOk result (λ f. failure_of f ≡ meant.namespace_is_fixed name.now) }
+{
+    named(alloc, ILLEGAL_STATE, "Namespace is fixed: ", name)
+}
+
 /// A symbol that names a function, in a value's place.
 pub fn not_a_value(alloc: Global, symbol: &str) -> Result<Fault, AllocError>
     ensures { IfOk result (λ f. failure_of f ≡ meant.not_a_value symbol.now) }
@@ -197,4 +207,39 @@ pub fn thrown(alloc: Global, text: String) -> Result<Fault, AllocError>
     ensures { IfOk result (λ f. failure_of f ≡ meant.thrown (string_bytes text)) }
 {
     told(alloc, "clojure.lang.ExceptionInfo", text)
+}
+
+/// The fault of a form that breaks this rule.
+pub fn broken(alloc: Global, rule: Rule) -> Result<Fault, AllocError>
+    ensures { IfOk result (λ f. failure_of f ≡ meant.broken rule) }
+{
+    match rule {
+        Rule::ATransactionRuns => fault(alloc, ILLEGAL_STATE, "No transaction running"),
+        Rule::NoSetAfterCommute => fault(alloc, ILLEGAL_STATE, "Can't set after commute"),
+        Rule::NoIoInTransaction => fault(alloc, ILLEGAL_STATE, "I/O in transaction"),
+        Rule::NoAwaitInTransaction => fault(alloc, ILLEGAL_STATE, "await in transaction"),
+        Rule::NoAwaitInAction => fault(alloc, ILLEGAL_STATE, "Can't await in agent action"),
+        Rule::SharedBoundsStay => fault(alloc, ILLEGAL_STATE, "Shared history can't be set"),
+        Rule::SharedHistoryIsHidden => fault(
+            alloc,
+            ILLEGAL_STATE,
+            "Shared history can't be read in a transaction",
+        ),
+        Rule::SharedTextDefinesAlone => {
+            fault(alloc, ILLEGAL_STATE, "Not allowed in the shared namespace")
+        }
+        Rule::SharedRefsArePlain => fault(
+            alloc,
+            ILLEGAL_ARGUMENT,
+            "Only plain data goes into a shared ref",
+        ),
+        Rule::CommutesAreOfCore => fault(alloc, ILLEGAL_ARGUMENT, "commute takes a core function"),
+        Rule::AttemptsAreLimited => fault(
+            alloc,
+            RUNTIME,
+            "Transaction failed after reaching retry limit",
+        ),
+        Rule::AgentHasNotFailed => fault(alloc, RUNTIME, "Agent is failed, needs restart"),
+        Rule::AgentHasFailed => fault(alloc, RUNTIME, "Agent does not need a restart"),
+    }
 }
