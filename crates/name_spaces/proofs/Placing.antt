@@ -4,7 +4,8 @@ use Rattle.std.specs.Str.{bytes_eq}
 use Rattle.std.proofs.lemmas.Slice.Eq.{bytes_eq-Decides}
 use mathlib.Core.Path.{fun_ext}
 use Rattle.name_spaces.specs.Bindings.{Bindings}
-use Rattle.name_spaces.specs.Namespaces.{Namespaces, is_fixed, with_namespace}
+use Rattle.repl_asks.specs.Namespaces.{is_fixed}
+use Rattle.name_spaces.specs.Namespaces.{Namespaces, with_namespace}
 
 shown : {X : Type 0} (see : X → Bindings) (fixed same : Bool) (x : X) (o : Option X) → fixed ≡ false
     → option_map see (if same then Some x else o) ≡ (if fixed then option_map see o else (if same then Some (see x) else option_map see o))

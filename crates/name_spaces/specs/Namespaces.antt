@@ -1,6 +1,7 @@
 -- The namespaces of a tenant (the Clojure reference, Namespaces).
-use Rattle.std.specs.Prelude.{ℕ, List, Bool, ◌||◌, Option, Some, None, if◌then◌else◌, is_some, codes}
+use Rattle.std.specs.Prelude.{ℕ, List, Bool, Option, Some, None, if◌then◌else◌, is_some, codes}
 use Rattle.std.specs.Str.{bytes_eq}
+use Rattle.repl_asks.specs.Namespaces.{is_fixed}
 use Rattle.repl_asks.specs.Exchange.{BindingData}
 use Rattle.name_spaces.specs.Bindings.{Bindings, nothing_bound, rebound}
 
@@ -10,10 +11,6 @@ Namespaces = List ℕ → Option Bindings
 
 abbrev pub is_there : Namespaces → List ℕ → Bool
 is_there namespaces name = is_some (namespaces name)
-
--- `shared` and `clojure.core` are the same for all tenants: nobody enters them or defines there
-abbrev pub is_fixed : List ℕ → Bool
-is_fixed name = bytes_eq name (codes "shared") || bytes_eq name (codes "clojure.core")
 
 -- what a namespace binds: nothing, where it is not there
 abbrev pub bindings_of : Option Bindings → Bindings

@@ -1,11 +1,14 @@
 -- How symbols are resolved (the Clojure reference, Evaluation and Namespaces).
-use Rattle.std.specs.Prelude.{ℕ, List, Bool, Option, Some, None, ◌+◌, ◌==◌, if◌then◌else◌, take, drop, codes}
+use Rattle.std.specs.Prelude.{ℕ, List, Bool, Option, Some, None, ◌+◌, ◌==◌, if◌then◌else◌}
+use Rattle.std.specs.Prelude.{take, drop, codes}
 use Rattle.std.specs.List.{position}
 use Rattle.std.specs.Str.{bytes_eq}
 use Rattle.repl_faults.specs.Failure as failures
 use Rattle.function_names.specs.Names.{function_named}
 use Rattle.function_names.specs.declared.function.CoreFunction.{CoreFunction}
-use Rattle.repl_asks.specs.Exchange.{BindingData, bound_value, bound_function, core_function, program_function, ResolutionData, names_value, names_function, names_nothing}
+use Rattle.repl_asks.specs.Exchange.{BindingData, bound_value, bound_function}
+use Rattle.repl_asks.specs.Exchange.{ResolutionData, names_value, names_function, names_nothing}
+use Rattle.repl_asks.specs.Exchange.{core_function, program_function}
 use Rattle.name_spaces.specs.declared.latest.Latest.{Latest}
 use Rattle.name_spaces.specs.Latest.{latest_named}
 use Rattle.name_spaces.specs.Bindings.{Bindings}
@@ -44,7 +47,7 @@ var_in (Some bindings) symbol space name = var_resolution symbol (bindings name)
 var_in None symbol space name = names_nothing (failures.no_such_namespace space)
 
 -- The namespace of this name: `shared`, which is there for every tenant, or one of the tenant's own.
--- `clojure.core` is none: its symbols are known without a store, and evaluation asks for none of them.
+-- `clojure.core` is neither, so it is not found: evaluation knows its symbols and asks for none.
 abbrev pub namespace_named : Bindings → Namespaces → List ℕ → Option Bindings
 namespace_named shared namespaces space =
     if bytes_eq space (codes "shared") then Some shared else namespaces space

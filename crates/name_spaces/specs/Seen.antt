@@ -17,7 +17,8 @@ namespaces_of spaces name = option_map bound_in (get_by_text spaces.namespaces n
 
 -- what the namespace of this name binds; `shared` binds nothing today
 abbrev pub bindings_in : Spaces → List ℕ → Bindings
-bindings_in spaces namespace = bindings_of (namespace_named nothing_bound (namespaces_of spaces) namespace)
+bindings_in spaces namespace =
+    bindings_of (namespace_named nothing_bound (namespaces_of spaces) namespace)
 
 abbrev pub found_view : Found → FoundData
 found_view (Found.Resolution r) = found_resolution (resolution_view r)

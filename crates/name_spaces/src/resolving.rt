@@ -11,12 +11,15 @@ ghost use Rattle.name_spaces.specs.Seen.{namespaces_of, bindings_in, found_view}
 
 use crate::found::Found;
 use crate::latest::Latest;
-use crate::spaces::{SHARED, Spaces};
+use crate::spaces::Spaces;
 use function_names::CoreFunction;
 use repl_asks::{Binding, NamedFunction, Resolution};
 use repl_faults::{no_such_namespace, no_such_var, unresolved};
 use repl_values::{Fault, copy};
 use std::alloc::{AllocError, Global};
+
+// The namespace that every tenant sees beside its own.
+const SHARED: &str = "shared";
 
 impl Spaces {
     /// What a symbol in this namespace names. One without a slash is looked up in the namespace,
@@ -77,6 +80,7 @@ impl Spaces {
         }
     }
 
+    #[tactic(auto, unfolding(repl_asks::specs::Namespaces::is_fixed))]
     fn binding_in(&self, namespace: &str, name: &str) -> Option<&Binding>
         ensures { option_map (λ b. binding_view b.now) result
             ≡ bindings_in self.now namespace.now name.now }

@@ -3,22 +3,18 @@ ghost use Rattle.std.specs.Prelude.{◌≡◌, ℕ, List, true, false, is_some, 
 ghost use Rattle.std.specs.Arc.{arc_str_bytes};
 ghost use Rattle.std.specs.BTreeMap.{get_by_text};
 ghost use Rattle.repl_asks.specs.View.{binding_view};
-ghost use Rattle.name_spaces.specs.Namespaces.{is_there, is_fixed, at_start};
+ghost use Rattle.repl_asks.specs.Namespaces.{is_fixed};
+ghost use Rattle.name_spaces.specs.Namespaces.{is_there, at_start};
 ghost use Rattle.name_spaces.specs.Namespaces.{entered, defined, with_namespace};
 
 use crate::vars::Vars;
-use repl_asks::Binding;
+use repl_asks::{Binding, is_fixed};
 use std::alloc::{AllocError, Global};
 use std::collections::BTreeMap;
 use std::sync::ArcStr;
 
 /// The namespace that is there from the start.
 pub const USER: &str = "user";
-
-// The namespaces that are the same for all tenants.
-pub(crate) const SHARED: &str = "shared";
-
-const CORE: &str = "clojure.core";
 
 /// The namespaces of one tenant, by their names. None is ever removed.
 ///
@@ -36,6 +32,7 @@ impl Spaces {
     ghost use Rattle.name_spaces.specs.Seen.{bound_in, namespaces_of};
 
     /// The namespace `user` alone, which binds nothing. It fails only for want of memory.
+    #[tactic(auto, unfolding(repl_asks::specs::Namespaces::is_fixed))]
     pub fn new(alloc: Global) -> Result<Spaces, AllocError>
         ensures { IfOk result (λ made. namespaces_of made ≡ at_start) }
     {
@@ -109,10 +106,4 @@ impl Spaces {
         drop(self.namespaces.insert(key, vars)?);
         Ok(())
     }
-}
-
-fn is_fixed(name: &str) -> bool
-    ensures { result ≡ is_fixed name.now }
-{
-    name == SHARED || name == CORE
 }

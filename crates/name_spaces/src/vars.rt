@@ -33,8 +33,8 @@ impl Vars {
         self.bindings.get(name)
     }
 
-    /// Binds a name, in place of what it was bound to. It takes about the logarithm of the number of
-    /// names, and fails only for want of memory.
+    /// Binds a name, in place of what it was bound to. It takes about the logarithm of the number
+    /// of names, and fails only for want of memory.
     pub(crate) fn define(
         &mut self,
         alloc: Global,
