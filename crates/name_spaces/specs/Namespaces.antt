@@ -9,7 +9,7 @@ use Rattle.name_spaces.specs.Bindings.{Bindings, nothing_bound, rebound}
 abbrev pub Namespaces : Type 0
 Namespaces = List ℕ → Option Bindings
 
-abbrev pub is_there : Namespaces → List ℕ → Bool
+unfoldable pub is_there : Namespaces → List ℕ → Bool
 is_there namespaces name = is_some (namespaces name)
 
 -- what a namespace binds: nothing, where it is not there
@@ -18,7 +18,7 @@ bindings_of (Some bindings) = bindings
 bindings_of None = nothing_bound
 
 -- at the start there is `user`, and it is empty
-abbrev pub at_start : Namespaces
+unfoldable pub at_start : Namespaces
 at_start q = if bytes_eq q (codes "user") then Some nothing_bound else None
 
 -- One namespace binds this, in place of what it bound, and every other stays. A fixed one is never
@@ -29,10 +29,10 @@ with_namespace namespaces name bindings q =
     if bytes_eq q name then Some bindings else namespaces q)
 
 -- a namespace that is new is empty; one that is there stays as it is
-abbrev pub entered : Namespaces → List ℕ → Namespaces
+unfoldable pub entered : Namespaces → List ℕ → Namespaces
 entered namespaces name = with_namespace namespaces name (bindings_of (namespaces name))
 
 -- a name is bound in a namespace, which is made where it is new
-abbrev pub defined : Namespaces → List ℕ → List ℕ → BindingData → Namespaces
+unfoldable pub defined : Namespaces → List ℕ → List ℕ → BindingData → Namespaces
 defined namespaces namespace name binding =
     with_namespace namespaces namespace (rebound (bindings_of (namespaces namespace)) name binding)

@@ -46,7 +46,7 @@ abbrev pub var_in : Option Bindings → List ℕ → List ℕ → List ℕ → R
 var_in (Some bindings) symbol space name = var_resolution symbol (bindings name)
 var_in None symbol space name = names_nothing (failures.no_such_namespace space)
 
--- The namespace of this name: `shared`, which is there for every tenant, or one of the tenant's own.
+-- The namespace of this name: `shared`, which every tenant sees, or one of the tenant's own.
 -- `clojure.core` is neither, so it is not found: evaluation knows its symbols and asks for none.
 abbrev pub namespace_named : Bindings → Namespaces → List ℕ → Option Bindings
 namespace_named shared namespaces space =
@@ -57,6 +57,7 @@ abbrev pub qualified_symbol : Bindings → Namespaces → List ℕ → List ℕ 
 qualified_symbol shared namespaces symbol space name =
     var_in (namespace_named shared namespaces space) symbol space name
 
+-- the byte `/`
 abbrev pub is_slash : ℕ → Bool
 is_slash byte = byte == 47
 

@@ -12,7 +12,7 @@ use Rattle.name_spaces.specs.declared.spaces.Spaces.{Spaces}
 abbrev pub bound_in : Vars → Bindings
 bound_in vars name = option_map binding_view (get_by_text vars.bindings name)
 
-abbrev pub namespaces_of : Spaces → Namespaces
+unfoldable pub namespaces_of : Spaces → Namespaces
 namespaces_of spaces name = option_map bound_in (get_by_text spaces.namespaces name)
 
 -- what the namespace of this name binds; `shared` binds nothing today

@@ -57,6 +57,7 @@ impl Spaces {
         }
     }
 
+    #[tactic(auto, unfolding(crate::specs::Seen::namespaces_of))]
     fn resolve_qualified(
         &self,
         alloc: Global,
@@ -80,7 +81,6 @@ impl Spaces {
         }
     }
 
-    #[tactic(auto, unfolding(repl_asks::specs::Namespaces::is_fixed))]
     fn binding_in(&self, namespace: &str, name: &str) -> Option<&Binding>
         ensures { option_map (λ b. binding_view b.now) result
             ≡ bindings_in self.now namespace.now name.now }

@@ -57,6 +57,7 @@ impl Spaces {
     /// Makes a namespace where it is new, and leaves one that is there as it is. A fixed one is not
     /// made. It takes about the logarithm of the number of namespaces, and fails only for want of
     /// memory; then all stays as it was.
+    #[tactic(auto, unfolding(crate::specs::Namespaces::entered, crate::specs::Seen::namespaces_of))]
     pub fn enter(&mut self, alloc: Global, name: &str) -> Result<(), AllocError>
         ensures entered { OnOk result (namespaces_of self.new
             ≡ entered (namespaces_of self.old) name.now) }
@@ -71,6 +72,7 @@ impl Spaces {
     /// Binds a name in a namespace, in place of what it was bound to. A namespace that is not there
     /// is made. In a fixed one nothing is bound. It takes about the logarithm of the number of
     /// namespaces and of names, and fails only for want of memory; then all stays as it was.
+    #[tactic(auto, unfolding(crate::specs::Namespaces::defined, crate::specs::Seen::namespaces_of))]
     pub fn define(
         &mut self,
         alloc: Global,
@@ -96,6 +98,7 @@ impl Spaces {
     }
 
     // Puts a namespace in, in place of the one of its name.
+    #[tactic(auto, unfolding(crate::specs::Seen::namespaces_of))]
     fn put(&mut self, alloc: Global, name: &str, vars: Vars) -> Result<(), AllocError>
         requires { is_fixed name.now ≡ false }
         ensures placed { OnOk result (namespaces_of self.new
