@@ -17,7 +17,9 @@ use Rattle.value_data.proofs.Lists.{listed-of, lists}
 use Rattle.special_forms.specs.Rows.{BoundForm}
 use Rattle.special_forms.specs.Bindings.{bindings_in, name_in}
 use Rattle.special_forms.specs.Seen.{views}
-use Rattle.special_forms.specs.Shapes.{is_slash, simple_name, bound_forms, parameter_name, parameter_names}
+use Rattle.special_forms.specs.Kinds.{is_slash, symbol_name, simple_name}
+use Rattle.special_forms.specs.Parameters.{parameter_name, parameter_names}
+use Rattle.special_forms.specs.Shapes.{bound_forms}
 
 pub ruleset seen = (value_views, lists)
 
@@ -51,7 +53,7 @@ chosen_name false s r h = cc
 
 -- what has a simple name is a symbol of that name
 pub simple_name-name_in : (d : Datum) (s : List ℕ) → simple_name d ≡ Some s → name_in d ≡ s
-unfolding simple_name
+unfolding simple_name symbol_name
 simple_name-name_in nil s h = cc
 simple_name-name_in (boolean b) s h = cc
 simple_name-name_in (integer n) s h = cc

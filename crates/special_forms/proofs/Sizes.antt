@@ -8,10 +8,13 @@ use Rattle.value_data.specs.Datum.{Datum, nil, boolean, integer, string, keyword
 use Rattle.value_data.specs.Listed.{listed}
 use Rattle.special_forms.specs.Rows.{BoundForm, in_a_row}
 use Rattle.special_forms.specs.Size.{nodes, items_nodes, pairs_nodes, datum_size, forms_size, bindings_size, shape_size}
-use Rattle.special_forms.specs.Shapes.{ShapeData, quoted, bindings, definition, function_definition, thrown, only, simple_name, in_vector, bound_forms, parameters, if_shape, when_shape, let_shape, def_shape, function_shape, behind_name, defn_shape, shape_of}
+use Rattle.special_forms.specs.Kinds.{symbol_name, simple_name, in_vector}
+use Rattle.special_forms.specs.Parameters.{parameters}
+use Rattle.special_forms.specs.Shapes.{ShapeData, quoted, bindings, definition, function_definition, thrown, entry, computed_entry}
+use Rattle.special_forms.specs.Shapes.{only, if_shape, when_shape, ns_shape, bound_forms, let_shape, def_shape, function_shape, behind_name, defn_shape, shape_of}
 use Rattle.special_forms.specs.Seen.{shape_view}
 use Rattle.special_forms.specs.declared.shapes.Shape.{Shape}
-use Rattle.special_forms.specs.declared.shapes.SpecialForm.{SpecialForm}
+use Rattle.special_forms.specs.declared.special.SpecialForm.{SpecialForm}
 
 nodes-pos : (d : Datum) → 1 ≤ nodes d
 nodes-pos nil = omega arith
@@ -95,6 +98,20 @@ only-thrown [] = tt
 only-thrown (d ∷ []) = omega (arith, forms_size-cons d [])
 only-thrown (d ∷ e ∷ ds) = tt
 
+only-computed : (ds : List Datum) → Sized (option_map computed_entry (only ds)) ds
+only-computed [] = tt
+only-computed (d ∷ []) = omega (arith, forms_size-cons d [])
+only-computed (d ∷ e ∷ ds) = tt
+
+entry-with : (o : Option (List ℕ)) (ds : List Datum) → 1 ≤ forms_size ds → Sized (option_map entry o) ds
+entry-with None ds h = tt
+entry-with (Some s) ds h = h
+
+ns-sized : (ds : List Datum) → Sized (ns_shape ds) ds
+ns-sized [] = tt
+ns-sized (d ∷ []) = entry-with (symbol_name d) (d ∷ []) (omega (arith, forms_size-cons d []))
+ns-sized (d ∷ e ∷ ds) = tt
+
 if-sized : (ds : List Datum) → Sized (if_shape ds) ds
 if-sized [] = tt
 if-sized (c ∷ []) = tt
@@ -163,6 +180,8 @@ shape-sized SpecialForm.Do ds = omega arith
 shape-sized SpecialForm.Io ds = omega arith
 shape-sized SpecialForm.Quote ds = only-quoted ds
 shape-sized SpecialForm.Throw ds = only-thrown ds
+shape-sized SpecialForm.InNs ds = only-computed ds
+shape-sized SpecialForm.Ns ds = ns-sized ds
 shape-sized SpecialForm.If ds = if-sized ds
 shape-sized SpecialForm.When ds = when-sized ds
 shape-sized SpecialForm.Let ds = let-sized ds

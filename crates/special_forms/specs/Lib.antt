@@ -1,5 +1,8 @@
 pub mod Rows
 pub mod Bindings
+pub mod Names
+pub mod Kinds
+pub mod Parameters
 pub mod Shapes
 pub mod Seen
 pub mod Functions

@@ -8,7 +8,7 @@ use Rattle.value_data.specs.declared.value.Value.{Value}
 use Rattle.special_forms.specs.Functions.{FunctionData}
 use Rattle.special_forms.specs.Rows.{BoundForm, in_a_row}
 use Rattle.special_forms.specs.Bindings.{bindings_in}
-use Rattle.special_forms.specs.Shapes.{ShapeData, quoted, body, choice, bindings, logic, definition, function_definition, thrown}
+use Rattle.special_forms.specs.Shapes.{ShapeData, quoted, body, choice, bindings, logic, definition, function_definition, thrown, entry, computed_entry}
 use Rattle.special_forms.specs.declared.forms.Source.{Source}
 use Rattle.special_forms.specs.declared.forms.Forms.{Forms}
 use Rattle.special_forms.specs.declared.forms.Binding.{Binding}
@@ -38,6 +38,8 @@ shape_view (Shape.Logic which forms) = logic which (forms_view forms)
 shape_view (Shape.Define name form) = definition (arc_str_bytes name) (view form)
 shape_view (Shape.DefineFunction name params forms) = function_definition (arc_str_bytes name) (map arc_str_bytes params.items) (forms_view forms)
 shape_view (Shape.Throw form) = thrown (view form)
+shape_view (Shape.Enter name) = entry (arc_str_bytes name)
+shape_view (Shape.EnterComputed form) = computed_entry (view form)
 
 abbrev pub function_view : Function → FunctionData
 function_view f = record {

@@ -1,41 +1,13 @@
--- The special forms and their shapes (the Clojure reference, Special Forms). A form of another shape has none.
-use Rattle.std.specs.Prelude.{ℕ, List, [], ◌∷◌, Bool, true, false, Option, Some, None, option_map, is_some, drop, ◌==◌, if◌then◌else◌, codes}
+-- The shapes of special forms (the Clojure reference, Special Forms; `ns` and `in-ns` of clojure.core). A form of
+-- another shape has none.
+use Rattle.std.specs.Prelude.{ℕ, List, [], ◌∷◌, Bool, false, Option, Some, None, option_map, drop, if◌then◌else◌}
 use Rattle.std.specs.Option.{option_and_then}
-use Rattle.std.specs.List.{list_any}
-use Rattle.std.specs.Str.{bytes_eq}
-use Rattle.value_data.specs.Datum.{Datum, nil, boolean, integer, string, keyword, symbol, list, vector, map, ref, atom, agent, var, fault}
-use Rattle.value_data.specs.Listed.{listed, items_of}
-use Rattle.value_data.specs.Repeats.{first_repeat}
+use Rattle.value_data.specs.Datum.{Datum}
 use Rattle.special_forms.specs.Rows.{BoundForm}
+use Rattle.special_forms.specs.Kinds.{symbol_name, simple_name, in_vector, is_text}
+use Rattle.special_forms.specs.Parameters.{parameters}
 use Rattle.special_forms.specs.declared.shapes.Logic.{Logic}
-use Rattle.special_forms.specs.declared.shapes.SpecialForm.{SpecialForm}
-
-abbrev pub special_named : List ℕ → Option SpecialForm
-special_named name =
-    if bytes_eq name (codes "and") then Some SpecialForm.And else (
-    if bytes_eq name (codes "def") then Some SpecialForm.Def else (
-    if bytes_eq name (codes "defn") then Some SpecialForm.Defn else (
-    if bytes_eq name (codes "do") then Some SpecialForm.Do else (
-    if bytes_eq name (codes "if") then Some SpecialForm.If else (
-    if bytes_eq name (codes "io!") then Some SpecialForm.Io else (
-    if bytes_eq name (codes "let") then Some SpecialForm.Let else (
-    if bytes_eq name (codes "or") then Some SpecialForm.Or else (
-    if bytes_eq name (codes "quote") then Some SpecialForm.Quote else (
-    if bytes_eq name (codes "throw") then Some SpecialForm.Throw else (
-    if bytes_eq name (codes "when") then Some SpecialForm.When else None))))))))))
-
-abbrev pub special_name : SpecialForm → List ℕ
-special_name SpecialForm.And = codes "and"
-special_name SpecialForm.Def = codes "def"
-special_name SpecialForm.Defn = codes "defn"
-special_name SpecialForm.Do = codes "do"
-special_name SpecialForm.If = codes "if"
-special_name SpecialForm.Io = codes "io!"
-special_name SpecialForm.Let = codes "let"
-special_name SpecialForm.Or = codes "or"
-special_name SpecialForm.Quote = codes "quote"
-special_name SpecialForm.Throw = codes "throw"
-special_name SpecialForm.When = codes "when"
+use Rattle.special_forms.specs.declared.special.SpecialForm.{SpecialForm}
 
 -- a special form's parts
 pub data ShapeData : Type 0 where
@@ -50,48 +22,11 @@ pub data ShapeData : Type 0 where
   -- a name, parameters and a body
   function_definition : List ℕ → List (List ℕ) → List Datum → ShapeData
   thrown : Datum → ShapeData
+  -- a namespace to enter, by its name, or by a form whose value names it
+  entry : List ℕ → ShapeData
+  computed_entry : Datum → ShapeData
 
-abbrev pub is_slash : ℕ → Bool
-is_slash b = b == 47
-
-abbrev pub without_slash : List ℕ → Option (List ℕ)
-without_slash name = if list_any is_slash name then None else Some name
-
--- the name that a form is, where it is a symbol without a slash
-unfoldable pub simple_name : Datum → Option (List ℕ)
-simple_name nil = None
-simple_name (boolean b) = None
-simple_name (integer n) = None
-simple_name (string s) = None
-simple_name (keyword s) = None
-simple_name (symbol s) = without_slash s
-simple_name (list ds) = None
-simple_name (vector ds) = None
-simple_name (map ps) = None
-simple_name (ref owner n) = None
-simple_name (atom n) = None
-simple_name (agent n) = None
-simple_name (var space name) = None
-simple_name (fault class text) = None
-
--- the items of a vector
-unfoldable pub in_vector : Datum → Option (List Datum)
-in_vector nil = None
-in_vector (boolean b) = None
-in_vector (integer n) = None
-in_vector (string s) = None
-in_vector (keyword s) = None
-in_vector (symbol s) = None
-in_vector (list ds) = None
-in_vector (vector ds) = Some (listed ds)
-in_vector (map ps) = None
-in_vector (ref owner n) = None
-in_vector (atom n) = None
-in_vector (agent n) = None
-in_vector (var space name) = None
-in_vector (fault class text) = None
-
--- `(quote form)` and `(throw form)`
+-- `(quote form)`, `(throw form)` and `(in-ns form)`
 abbrev pub only : List Datum → Option Datum
 only [] = None
 only (d ∷ []) = Some d
@@ -110,6 +45,10 @@ abbrev pub when_shape : List Datum → Option ShapeData
 when_shape [] = None
 when_shape (c ∷ ds) = Some (choice c ds [])
 
+-- `(ns name)`, where the name may have a slash
+abbrev pub ns_shape : List Datum → Option ShapeData
+ns_shape ds = option_map entry (option_and_then symbol_name (only ds))
+
 -- names and forms by turns
 abbrev pub bound_forms : List Datum → Option (List BoundForm)
 bound_forms [] = Some []
@@ -126,38 +65,6 @@ let_shape (d ∷ ds) = option_map (λ bs. bindings bs ds) (option_and_then bound
 abbrev pub def_shape : List Datum → Option ShapeData
 def_shape [] = None
 def_shape (d ∷ ds) = option_and_then (λ s. option_map (λ e. definition s e) (only ds)) (simple_name d)
-
--- a parameter is a simple name other than `&`
-abbrev pub other_than_ampersand : List ℕ → Option (List ℕ)
-other_than_ampersand s = if bytes_eq s (codes "&") then None else Some s
-
-abbrev pub parameter_name : Datum → Option (List ℕ)
-parameter_name d = option_and_then other_than_ampersand (simple_name d)
-
-abbrev pub parameter_names : List Datum → Option (List (List ℕ))
-parameter_names [] = Some []
-parameter_names (d ∷ ds) =
-    option_and_then (λ s. option_map (λ names. s ∷ names) (parameter_names ds)) (parameter_name d)
-
--- distinct names
-unfoldable pub parameters : List Datum → Option (List (List ℕ))
-parameters ds = if is_some (first_repeat (items_of ds)) then None else parameter_names ds
-
-unfoldable pub is_text : Datum → Bool
-is_text nil = false
-is_text (boolean b) = false
-is_text (integer n) = false
-is_text (string s) = true
-is_text (keyword s) = false
-is_text (symbol s) = false
-is_text (list ds) = false
-is_text (vector ds) = false
-is_text (map ps) = false
-is_text (ref owner n) = false
-is_text (atom n) = false
-is_text (agent n) = false
-is_text (var space name) = false
-is_text (fault class text) = false
 
 abbrev pub begins_with_text : List Datum → Bool
 begins_with_text [] = false
@@ -184,6 +91,8 @@ shape_of SpecialForm.Do ds = Some (body ds)
 shape_of SpecialForm.Io ds = Some (body ds)
 shape_of SpecialForm.Quote ds = option_map quoted (only ds)
 shape_of SpecialForm.Throw ds = option_map thrown (only ds)
+shape_of SpecialForm.InNs ds = option_map computed_entry (only ds)
+shape_of SpecialForm.Ns ds = ns_shape ds
 shape_of SpecialForm.If ds = if_shape ds
 shape_of SpecialForm.When ds = when_shape ds
 shape_of SpecialForm.Let ds = let_shape ds

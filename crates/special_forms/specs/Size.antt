@@ -2,7 +2,7 @@
 use Rattle.std.specs.Prelude.{ℕ, ◌+◌, ◌*◌, List, sum_by}
 use Rattle.value_data.specs.Datum.{Datum, nil, boolean, integer, string, keyword, symbol, list, vector, map, ref, atom, agent, var, fault, Items, no_items, item, Pairs, no_pairs, pair}
 use Rattle.special_forms.specs.Rows.{BoundForm}
-use Rattle.special_forms.specs.Shapes.{ShapeData, quoted, body, choice, bindings, logic, definition, function_definition, thrown}
+use Rattle.special_forms.specs.Shapes.{ShapeData, quoted, body, choice, bindings, logic, definition, function_definition, thrown, entry, computed_entry}
 
 -- the forms in a form
 abbrev mutual
@@ -48,3 +48,5 @@ shape_size (logic which forms) = forms_size forms
 shape_size (definition name form) = 3 * datum_size form + 1
 shape_size (function_definition name params forms) = 1
 shape_size (thrown form) = 3 * datum_size form + 1
+shape_size (entry name) = 1
+shape_size (computed_entry form) = 3 * datum_size form + 1

@@ -3,10 +3,13 @@
 
 mod forms;
 mod function;
+mod names;
 mod shapes;
+mod special;
 mod truth;
 
 pub use forms::{Binding, Forms};
 pub use function::Function;
-pub use shapes::{Logic, Shape, SpecialForm, shape_of};
+pub use shapes::{Logic, Shape, shape_of};
+pub use special::SpecialForm;
 pub use truth::{chosen, is_true};

@@ -1,34 +1,21 @@
-// The special forms, and the shapes that they have. A form of another shape is a fault before anything
-// in it is evaluated.
+// The shapes that special forms have. A form of another shape is a fault before anything in it is
+// evaluated.
 ghost use Rattle.std.specs.Prelude.{◌≡◌, ◌≤◌, Some, None, if◌then◌else◌, IfOk, IfSome, option_map, map};
 ghost use Rattle.std.specs.Arc.{arc_str_bytes};
 ghost use Rattle.value_data.specs.Listed.{listed};
 ghost use Rattle.value_data.specs.View.{view};
 ghost use Rattle.special_forms.specs.Bindings.{bindings_in};
+ghost use Rattle.special_forms.specs.Kinds as kinds;
 ghost use Rattle.special_forms.specs.Shapes as meant;
 ghost use Rattle.special_forms.specs.Seen.{views, forms_view, shape_view};
 ghost use Rattle.special_forms.specs.Size.{forms_size, shape_size};
 
 use crate::forms::Forms;
-use repl_values::{Sequence, Value, copy_text, first_repeated};
+use crate::names::{parameters_in, simple_symbol, symbol};
+use crate::special::SpecialForm;
+use repl_values::{Sequence, Value, copy_text};
 use std::alloc::{AllocError, Global};
 use std::sync::ArcStr;
-
-/// The special forms, each by its name.
-#[derive(Clone, Copy, PartialEq, Eq)]
-pub enum SpecialForm {
-    And,
-    Def,
-    Defn,
-    Do,
-    If,
-    Io,
-    Let,
-    Or,
-    Quote,
-    Throw,
-    When,
-}
 
 /// Whether forms in a row are evaluated up to the first that is false, or the first that is true.
 #[derive(Clone, Copy)]
@@ -63,47 +50,10 @@ pub enum Shape {
         body: Forms,
     },
     Throw(Value),
-}
-
-impl SpecialForm {
-    /// The special form of this name.
-    pub fn named(name: &str) -> Option<SpecialForm>
-        ensures { result ≡ meant.special_named name.now }
-    {
-        match name {
-            "and" => Some(SpecialForm::And),
-            "def" => Some(SpecialForm::Def),
-            "defn" => Some(SpecialForm::Defn),
-            "do" => Some(SpecialForm::Do),
-            "if" => Some(SpecialForm::If),
-            "io!" => Some(SpecialForm::Io),
-            "let" => Some(SpecialForm::Let),
-            "or" => Some(SpecialForm::Or),
-            "quote" => Some(SpecialForm::Quote),
-            "throw" => Some(SpecialForm::Throw),
-            "when" => Some(SpecialForm::When),
-            _ => None,
-        }
-    }
-
-    /// The name of the form, as it stands at the head of a list.
-    pub fn name(self) -> &'static str
-        ensures { result.now ≡ meant.special_name self }
-    {
-        match self {
-            SpecialForm::And => "and",
-            SpecialForm::Def => "def",
-            SpecialForm::Defn => "defn",
-            SpecialForm::Do => "do",
-            SpecialForm::If => "if",
-            SpecialForm::Io => "io!",
-            SpecialForm::Let => "let",
-            SpecialForm::Or => "or",
-            SpecialForm::Quote => "quote",
-            SpecialForm::Throw => "throw",
-            SpecialForm::When => "when",
-        }
-    }
+    /// The namespace of this name is entered.
+    Enter(ArcStr),
+    /// The namespace is entered that the value of this form names.
+    EnterComputed(Value),
 }
 
 /// The parts of the special form with these forms behind its name; none where it has another shape. It
@@ -128,6 +78,8 @@ fn parts_of(alloc: Global, special: SpecialForm, forms: Forms) -> Result<Option<
         SpecialForm::Do | SpecialForm::Io => Ok(Some(Shape::Body(forms))),
         SpecialForm::Quote => quote(forms),
         SpecialForm::Throw => throw(forms),
+        SpecialForm::Ns => namespace(forms),
+        SpecialForm::InNs => computed_namespace(forms),
         SpecialForm::If => choice(forms),
         SpecialForm::When => when(forms),
         SpecialForm::Let => binding_form(forms),
@@ -158,6 +110,29 @@ fn throw(forms: Forms) -> Result<Option<Shape>, AllocError>
 {
     match only(forms)? {
         Some(form) => Ok(Some(Shape::Throw(form))),
+        None => Ok(None),
+    }
+}
+
+// `(ns name)`.
+fn namespace(forms: Forms) -> Result<Option<Shape>, AllocError>
+    ensures { IfOk result (λ shape. option_map shape_view shape ≡ meant.ns_shape (forms_view forms)) }
+{
+    let Some(form) = only(forms)? else {
+        return Ok(None);
+    };
+    match symbol(&form) {
+        Some(name) => Ok(Some(Shape::Enter(copy_text(name)?))),
+        None => Ok(None),
+    }
+}
+
+// `(in-ns form)`.
+fn computed_namespace(forms: Forms) -> Result<Option<Shape>, AllocError>
+    ensures { IfOk result (λ shape. option_map shape_view shape ≡ option_map meant.computed_entry (meant.only (forms_view forms))) }
+{
+    match only(forms)? {
+        Some(form) => Ok(Some(Shape::EnterComputed(form))),
         None => Ok(None),
     }
 }
@@ -218,9 +193,9 @@ fn binding_form(mut forms: Forms) -> Result<Option<Shape>, AllocError>
 }
 
 // The items of a vector.
-#[tactic(auto, using(crate::proofs::Shaping::seen), unfolding(crate::specs::Shapes::in_vector))]
+#[tactic(auto, using(crate::proofs::Shaping::seen), unfolding(crate::specs::Kinds::in_vector))]
 fn vector_items(form: Value) -> Option<Sequence>
-    ensures { option_map (λ items. listed items.items) result ≡ meant.in_vector (view form) }
+    ensures { option_map (λ items. listed items.items) result ≡ kinds.in_vector (view form) }
 {
     match form {
         Value::Vector(items) => Some(items),
@@ -321,73 +296,12 @@ fn begins_with_text(forms: &Forms) -> bool
     }
 }
 
-#[tactic(auto, using(crate::proofs::Shaping::seen), unfolding(crate::specs::Shapes::is_text))]
+#[tactic(auto, using(crate::proofs::Shaping::seen), unfolding(crate::specs::Kinds::is_text))]
 fn is_text(form: &Value) -> bool
-    ensures { result ≡ meant.is_text (view form.now) }
+    ensures { result ≡ kinds.is_text (view form.now) }
 {
     match form {
         Value::Str(_) => true,
         _ => false,
     }
-}
-
-fn parameters_in(alloc: Global, items: &Sequence) -> Result<Option<Vec<ArcStr>>, AllocError>
-    ensures { IfOk result (λ found. option_map (λ names. map arc_str_bytes names.items) found ≡ meant.parameters (listed items.now.items)) }
-{
-    parameters_of(alloc, items.as_slice())
-}
-
-// The names of parameters, which are distinct.
-#[tactic(auto, unfolding(crate::specs::Shapes::parameters))]
-fn parameters_of(alloc: Global, items: &[Value]) -> Result<Option<Vec<ArcStr>>, AllocError>
-    ensures { IfOk result (λ found. option_map (λ names. map arc_str_bytes names.items) found ≡ meant.parameters (views items.now)) }
-{
-    if first_repeated(alloc, items)?.is_some() {
-        return Ok(None);
-    }
-    parameter_names(alloc, items)
-}
-
-fn parameter_names(alloc: Global, items: &[Value]) -> Result<Option<Vec<ArcStr>>, AllocError>
-    ensures { IfOk result (λ found. option_map (λ names. map arc_str_bytes names.items) found ≡ meant.parameter_names (views items.now)) }
-{
-    let mut names = Vec::new(alloc);
-    for item in items {
-        let Some(name) = parameter_name(item) else {
-            return Ok(None);
-        };
-        names.push(copy_text(name)?)?;
-    }
-    Ok(Some(names))
-}
-
-// A symbol without a slash, other than `&`.
-fn parameter_name(item: &Value) -> Option<&ArcStr>
-    ensures { option_map (λ name. arc_str_bytes name.now) result ≡ meant.parameter_name (view item.now) }
-{
-    let name = simple_symbol(item)?;
-    if name.as_str() == "&" {
-        return None;
-    }
-    Some(name)
-}
-
-// The name that a form is, if it is a symbol without a slash.
-#[tactic(auto, using(crate::proofs::Shaping::seen), unfolding(crate::specs::Shapes::simple_name))]
-fn simple_symbol(form: &Value) -> Option<&ArcStr>
-    ensures { option_map (λ name. arc_str_bytes name.now) result ≡ meant.simple_name (view form.now) }
-{
-    match form {
-        Value::Symbol(name) => without_slash(name),
-        _other => None,
-    }
-}
-
-fn without_slash(name: &ArcStr) -> Option<&ArcStr>
-    ensures { option_map (λ found. arc_str_bytes found.now) result ≡ meant.without_slash (arc_str_bytes name.now) }
-{
-    if name.as_str().as_bytes().contains(&b'/') {
-        return None;
-    }
-    Some(name)
 }

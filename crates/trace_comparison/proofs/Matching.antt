@@ -1,11 +1,15 @@
 -- Two lists compared place by place: what is equal before a place, at it, and in all.
 use Rattle.std.proofs.Common.{◌≡◌, ◌≢◌, ℕ, zero, suc, ◌+◌, ◌<◌, List, [], ◌∷◌, Some, length, get_or, take, slice_get, map, option_map, refl, sym, ap, ◌∙◌, add-one, arith}
-use Rattle.std.proofs.lemmas.List.{length-map}
+use Rattle.std.proofs.lemmas.List.{length-map, get_or_default}
 use Rattle.std.proofs.lemmas.Option.{slice_get-map, slice_get_read}
 use Rattle.value_data.specs.Listed.{listed, pairs_listed}
 use Rattle.value_data.proofs.Lists.{listed-of, pairs_listed-of}
-use Rattle.value_data.specs.View.{view, pair_view, items_view, pairs_view}
+use Rattle.value_data.specs.View.{owner_view, view, pair_view, items_view, pairs_view}
+use Rattle.value_data.specs.declared.value.Owner.{Owner}
+use Rattle.value_data.specs.declared.value.RefName.{RefName}
 use Rattle.value_data.specs.declared.value.Value.{Value}
+use Rattle.repl_asks.specs.Transactions.{RefNameData}
+use Rattle.repl_asks.specs.View.{name_view}
 
 module _ {A : Type 0} where
   -- one place more
@@ -42,6 +46,16 @@ module _ {A B : Type 0} (f : A → B) where
       → map f xs ≡ map f ys → ⊥
   differ-at xs ys i x y k l is at differ e = unequal-at xs ys i x y k l is at differ (ap (λ (zs : List B). slice_get zs i) e)
 
+  -- the same, where what stands at the place is copied
+  pub equal-next_copied : (xs ys : List A) (i : ℕ) (d : A) → i < length xs → i < length ys → f (get_or xs i d) ≡ f (get_or ys i d)
+      → take i (map f xs) ≡ take i (map f ys) → take (i + 1) (map f xs) ≡ take (i + 1) (map f ys)
+  equal-next_copied xs ys i d k l =
+      equal-next xs ys i (get_or xs i d) (get_or ys i d) k l (get_or_default xs i d (get_or xs i d) k) (get_or_default ys i d (get_or ys i d) l)
+
+  pub differ-at_copied : (xs ys : List A) (i : ℕ) (d : A) → i < length xs → i < length ys → (f (get_or xs i d) ≡ f (get_or ys i d) → ⊥) → map f xs ≡ map f ys → ⊥
+  differ-at_copied xs ys i d k l =
+      differ-at xs ys i (get_or xs i d) (get_or ys i d) k l (get_or_default xs i d (get_or xs i d) k) (get_or_default ys i d (get_or ys i d) l)
+
   -- where one list ends the longer one goes on
   pub goes-on : (xs ys : List A) → length xs < length ys → slice_get (map f xs) (length xs) ≢ slice_get (map f ys) (length xs)
   goes-on [] [] h e = absurd (omega (arith, h))
@@ -59,4 +73,19 @@ items-listed xs ys e = sym (listed-of (map view xs)) ∙ ap listed e ∙ listed-
 pub pairs-listed : (xs ys : List (Value × Value)) → pairs_view xs ≡ pairs_view ys → map pair_view xs ≡ map pair_view ys
 pairs-listed xs ys e = sym (pairs_listed-of (map pair_view xs)) ∙ ap pairs_listed e ∙ pairs_listed-of (map pair_view ys)
 
+-- a ref's name says which it is
+owner-same : (a b : Owner) → owner_view a ≡ owner_view b → a ≡ b
+owner-same Owner.Shared Owner.Shared e = refl
+owner-same Owner.Shared (Owner.Tenant t) e = absurd (cc)
+owner-same (Owner.Tenant s) Owner.Shared e = absurd (cc)
+owner-same (Owner.Tenant s) (Owner.Tenant t) e = cc
+
+pub name-same : (a b : RefName) → name_view a ≡ name_view b → a ≡ b
+name-same a b e =
+    let owner = owner-same a.owner b.owner (ap (λ (n : RefNameData). n.owner) e) in
+    let number : a.number ≡ b.number = ap (λ (n : RefNameData). n.number) e in
+    rw (owner, number) refl
+
 pub ruleset place_steps = (equal-next, take-next, differ-at, goes-on, unequal-lengths, items-listed, pairs-listed)
+
+pub ruleset ref_steps = (name-same, equal-next_copied, differ-at_copied, unequal-lengths)

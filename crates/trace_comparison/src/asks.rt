@@ -1,45 +1,17 @@
-// When two asks, two answers or two exchanges are the same.
+// When two asks, or two exchanges, are the same.
 ghost use Rattle.std.specs.Prelude.{◌≡◌, ◌↔◌, IsTrue};
+ghost use Rattle.std.specs.Arc.{arc_str_bytes};
+ghost use Rattle.value_data.specs.View.{view};
+ghost use Rattle.repl_asks.specs.Exchange.{resolve, define, new_ref};
 ghost use Rattle.repl_asks.specs.View.{ask_view, binding_view, exchange_view};
-ghost use Rattle.repl_asks.specs.View.{answer_view, named_view, resolution_view};
 
-use crate::functions::{same_fault, same_function};
+use crate::answers::same_answer;
+use crate::functions::same_function;
+use crate::intents::{same_intent, same_name};
 use crate::values::{same_text, same_value};
-use repl_asks::{Answer, Ask, Binding, Exchange, NamedFunction, Resolution};
-
-/// Whether both are one function of the language, or the same function of the program.
-pub fn same_named_function(left: &NamedFunction, right: &NamedFunction) -> bool
-    ensures { IsTrue result ↔ (named_view left.now ≡ named_view right.now) }
-{
-    match (left, right) {
-        (NamedFunction::Core(a), NamedFunction::Core(b)) => a == b,
-        (NamedFunction::Program(a), NamedFunction::Program(b)) => same_function(a, b),
-        _ => false,
-    }
-}
-
-/// Whether both name the same value or function, or nothing for the same reason.
-pub fn same_resolution(left: &Resolution, right: &Resolution) -> bool
-    ensures { IsTrue result ↔ (resolution_view left.now ≡ resolution_view right.now) }
-{
-    match (left, right) {
-        (Resolution::Value(a), Resolution::Value(b)) => same_value(a, b),
-        (Resolution::Function(a), Resolution::Function(b)) => same_named_function(a, b),
-        (Resolution::Nothing(a), Resolution::Nothing(b)) => same_fault(a, b),
-        _ => false,
-    }
-}
-
-/// Whether the answers are of one kind and say the same.
-pub fn same_answer(left: &Answer, right: &Answer) -> bool
-    ensures { IsTrue result ↔ (answer_view left.now ≡ answer_view right.now) }
-{
-    match (left, right) {
-        (Answer::Resolution(a), Answer::Resolution(b)) => same_resolution(a, b),
-        (Answer::Done, Answer::Done) => true,
-        _ => false,
-    }
-}
+use repl_asks::{Ask, Binding, Exchange};
+use repl_values::Value;
+use std::sync::ArcStr;
 
 /// Whether a name is bound to the same by both.
 pub fn same_binding(left: &Binding, right: &Binding) -> bool
@@ -52,32 +24,85 @@ pub fn same_binding(left: &Binding, right: &Binding) -> bool
     }
 }
 
-/// Whether the same is asked, of the same namespace.
+/// Whether the same is asked, in all parts of the ask.
 pub fn same_ask(left: &Ask, right: &Ask) -> bool
     ensures { IsTrue result ↔ (ask_view left.now ≡ ask_view right.now) }
 {
     match (left, right) {
-        (
-            Ask::Resolve { namespace, symbol },
-            Ask::Resolve {
-                namespace: other,
-                symbol: named,
-            },
-        ) => same_text(namespace, other) && same_text(symbol, named),
+        (Ask::Resolve { namespace, symbol }, _) => resolves(right, namespace, symbol),
         (
             Ask::Define {
                 namespace,
                 name,
                 binding,
             },
-            Ask::Define {
-                namespace: other,
-                name: named,
-                binding: bound,
+            _,
+        ) => defines(right, namespace, name, binding),
+        (Ask::Enter(a), Ask::Enter(b)) => same_text(a, b),
+        (
+            Ask::NewRef {
+                value,
+                min_history,
+                max_history,
             },
-        ) => {
-            same_text(namespace, other) && same_text(name, named) && same_binding(binding, bound)
+            _,
+        ) => makes_ref(right, value, *min_history, *max_history),
+        (Ask::Begin, Ask::Begin) => true,
+        (Ask::Read(a), Ask::Read(b)) => same_name(a, b),
+        (Ask::History(a), Ask::History(b)) => same_name(a, b),
+        (Ask::MinHistory { name: a, set: m }, Ask::MinHistory { name: b, set: n }) => {
+            m == n && same_name(a, b)
         }
+        (Ask::MaxHistory { name: a, set: m }, Ask::MaxHistory { name: b, set: n }) => {
+            m == n && same_name(a, b)
+        }
+        (Ask::Commit(a), Ask::Commit(b)) => same_intent(a, b),
+        _ => false,
+    }
+}
+
+// Whether it is asked what this symbol names in this namespace.
+fn resolves(ask: &Ask, in_namespace: &ArcStr, named: &ArcStr) -> bool
+    ensures { IsTrue result
+        ↔ (resolve (arc_str_bytes in_namespace.now) (arc_str_bytes named.now) ≡ ask_view ask.now) }
+{
+    match ask {
+        Ask::Resolve { namespace, symbol } => {
+            same_text(in_namespace, namespace) && same_text(named, symbol)
+        }
+        _ => false,
+    }
+}
+
+// Whether the ask binds this name in this namespace to the same.
+fn defines(ask: &Ask, in_namespace: &ArcStr, named: &ArcStr, bound: &Binding) -> bool
+    ensures { IsTrue result ↔ (define (arc_str_bytes in_namespace.now) (arc_str_bytes named.now)
+        (binding_view bound.now) ≡ ask_view ask.now) }
+{
+    match ask {
+        Ask::Define {
+            namespace,
+            name,
+            binding,
+        } => {
+            same_text(in_namespace, namespace)
+                && same_text(named, name)
+                && same_binding(bound, binding)
+        }
+        _ => false,
+    }
+}
+
+// Whether the ask makes a ref with this value and these bounds.
+fn makes_ref(ask: &Ask, with: &Value, least: u64, most: u64) -> bool
+    ensures { IsTrue result ↔ (new_ref (view with.now) least most ≡ ask_view ask.now) }
+{
+    match ask {
+        Ask::NewRef {
+            value,
+            min_history,
+            max_history,
+        } => { same_value(with, value) && least == *min_history && most == *max_history }
         _ => false,
     }
 }

@@ -6,17 +6,19 @@
 //! that were recorded. Nothing here takes memory, and every call returns.
 #![tactic(auto)]
 
+mod answers;
 mod asks;
 mod functions;
+mod intents;
 mod jobs;
 pub mod laws;
 mod traces;
 mod values;
 
-pub use asks::{
-    same_answer, same_ask, same_binding, same_exchange, same_named_function, same_resolution,
-};
+pub use answers::{same_answer, same_named_function, same_reading, same_resolution, same_verdict};
+pub use asks::{same_ask, same_binding, same_exchange};
 pub use functions::{same_fault, same_function};
+pub use intents::same_intent;
 pub use jobs::{same_job, same_work};
 pub use traces::{first_difference, same_trace};
 pub use values::same_value;

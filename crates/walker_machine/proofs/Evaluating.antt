@@ -26,7 +26,7 @@ use Rattle.special_forms.specs.Rows.{BoundForm, in_a_row}
 use Rattle.special_forms.specs.Seen.{views, forms_view, binding_view}
 use Rattle.special_forms.specs.declared.forms.Binding.{Binding}
 use Rattle.special_forms.specs.declared.forms.Forms.{Forms}
-use Rattle.special_forms.specs.declared.shapes.SpecialForm.{SpecialForm}
+use Rattle.special_forms.specs.declared.special.SpecialForm.{SpecialForm}
 use Rattle.walker_machine.specs.Doing.{Kept, Doing, Part}
 use Rattle.walker_machine.specs.Tree.{Tree, ends}
 use Rattle.walker_machine.specs.Places.{PlaceData}

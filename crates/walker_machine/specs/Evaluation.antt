@@ -7,8 +7,9 @@ use Rattle.repl_faults.specs.Failure as failures
 use Rattle.repl_jobs.specs.Job as jobs
 use Rattle.repl_jobs.specs.Job.{WorkData, JobData}
 use Rattle.special_forms.specs.Rows.{in_a_row}
-use Rattle.special_forms.specs.Shapes.{special_named, shape_of}
-use Rattle.special_forms.specs.declared.shapes.SpecialForm.{SpecialForm}
+use Rattle.special_forms.specs.Names.{special_named}
+use Rattle.special_forms.specs.Shapes.{shape_of}
+use Rattle.special_forms.specs.declared.special.SpecialForm.{SpecialForm}
 use Rattle.walker_machine.specs.Doing.{gave, left, Part, ◌>>=◌, done, fails}
 use Rattle.walker_machine.specs.Tree.{Tree, written}
 use Rattle.walker_machine.specs.Places.{PlaceData, Walk, outside}

@@ -16,7 +16,7 @@ use Rattle.walker_machine.specs.Tree.{Tree, ends, asks, written}
 use Rattle.walker_machine.specs.Places.{PlaceData, with_local}
 use Rattle.walker_machine.specs.Naming.{resolution, as_value, as_function}
 use Rattle.walker_machine.specs.Calls.{CalleeData, named_callee, keyword_callee, row, last_of, called, call_value, body_value}
-use Rattle.walker_machine.specs.SpecialForms.{logic_value, let_value, defined, thrown_value}
+use Rattle.walker_machine.specs.SpecialForms.{logic_value, let_value, defined, thrown_value, entered_by}
 use Rattle.walker_machine.specs.Collections.{vector_value, map_value}
 use Rattle.walker_machine.specs.Evaluation.{list_value, value_at}
 use Rattle.walker_machine.specs.declared.frames.Place.{Place}
@@ -83,6 +83,7 @@ frames_next (Frame.Let name bindings body room ∷ frames) p v kept =
 frames_next (Frame.Define name ∷ frames) p v kept =
     defined p (arc_str_bytes name) (bound_value v) (frames_next frames p) kept
 frames_next (Frame.Throw ∷ frames) p v kept = thrown_value v (frames_next frames p) kept
+frames_next (Frame.Namespace ∷ frames) p v kept = entered_by v (frames_next frames p) kept
 frames_next (Frame.Unbind ∷ frames) p v kept = frames_next frames (without_local p) v kept
 frames_next (Frame.Leave place ∷ frames) p v kept = frames_next frames (place_view place) v kept
 
@@ -118,6 +119,7 @@ named p s purpose = resolution p s >>= used p purpose
 abbrev pub answered : Wanted → AnswerData → State → Tree
 answered (Wanted.Resolution purpose) answer s = from_state (used (place_of s) purpose (resolution_in answer)) s
 answered (Wanted.Completion v) answer s = from_state (done (view v)) s
+answered (Wanted.Namespace name) answer s = whole s (next_of s nil (record { calls = s.calls; namespace = arc_str_bytes name }))
 
 -- what is still done, from here
 abbrev pub tree : Control → State → Tree

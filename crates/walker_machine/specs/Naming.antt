@@ -9,7 +9,7 @@ use Rattle.function_names.specs.Names.{function_named}
 use Rattle.function_names.specs.declared.function.CoreFunction.{CoreFunction}
 use Rattle.repl_asks.specs.Exchange.{resolve, NamedFunctionData, core_function, ResolutionData, names_value, names_function, names_nothing}
 use Rattle.local_names.specs.Locals.{value_of}
-use Rattle.special_forms.specs.Shapes.{is_slash}
+use Rattle.special_forms.specs.Kinds.{is_slash}
 use Rattle.walker_machine.specs.Doing.{Part, ◌>>=◌, done, fails, resolving}
 use Rattle.walker_machine.specs.Places.{PlaceData, space_of}
 

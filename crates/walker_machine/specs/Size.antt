@@ -19,6 +19,7 @@ frame_size (Frame.Logic logic forms room) = 1 + forms_size (forms_view forms)
 frame_size (Frame.Let name bindings body room) = 2 + (bindings_size (bindings_in (forms_view bindings)) + forms_size (forms_view body))
 frame_size (Frame.Define name) = 2
 frame_size Frame.Throw = 1
+frame_size Frame.Namespace = 2
 frame_size Frame.Unbind = 1
 frame_size (Frame.Leave place) = 1
 
@@ -32,6 +33,7 @@ use_size (SymbolUse.Head forms room) = 2 + forms_size (forms_view forms)
 abbrev pub wanted_size : Wanted → ℕ
 wanted_size (Wanted.Resolution purpose) = use_size purpose
 wanted_size (Wanted.Completion v) = 2
+wanted_size (Wanted.Namespace name) = 2
 
 abbrev pub control_size : Control → ℕ
 control_size (Control.Evaluate form room) = 3 * datum_size (view form)

@@ -1,16 +1,18 @@
 -- Special forms (the Clojure reference, Special Forms). `walk` evaluates a form one level further down.
-use Rattle.std.specs.Prelude.{ℕ, List, [], ◌∷◌, Option, Some, None, if◌then◌else◌, nat_lt, length}
-use Rattle.value_data.specs.Datum.{Datum, nil, var, fault}
+use Rattle.std.specs.Prelude.{ℕ, List, [], ◌∷◌, Option, Some, None, if◌then◌else◌, nat_lt, length, codes}
+use Rattle.value_data.specs.Datum.{Datum, nil, symbol, var, fault}
 use Rattle.repl_faults.specs.Failure as failures
 use Rattle.repl_faults.specs.Failure.{Failure}
 use Rattle.core_texts.specs.Limits.{most_weight}
 use Rattle.core_texts.specs.Meaning.{shown}
-use Rattle.repl_asks.specs.Exchange.{BindingData, bound_value, bound_function, define}
+use Rattle.repl_asks.specs.Exchange.{BindingData, bound_value, bound_function, define, enter}
+use Rattle.repl_asks.specs.Namespaces.{is_fixed}
 use Rattle.special_forms.specs.Rows.{BoundForm}
 use Rattle.special_forms.specs.Truth.{is_true, decides, before}
-use Rattle.special_forms.specs.Shapes.{special_name, ShapeData, quoted, body, choice, bindings, logic, definition, function_definition, thrown}
+use Rattle.special_forms.specs.Names.{special_name}
+use Rattle.special_forms.specs.Shapes.{ShapeData, quoted, body, choice, bindings, logic, definition, function_definition, thrown, entry, computed_entry}
 use Rattle.special_forms.specs.declared.shapes.Logic.{Logic}
-use Rattle.special_forms.specs.declared.shapes.SpecialForm.{SpecialForm}
+use Rattle.special_forms.specs.declared.special.SpecialForm.{SpecialForm}
 use Rattle.walker_machine.specs.Doing.{asking, Part, ◌>>=◌, done, fails}
 use Rattle.walker_machine.specs.Places.{PlaceData, Walk, with_local, space_of}
 use Rattle.walker_machine.specs.Calls.{last_of}
@@ -34,6 +36,19 @@ abbrev pub function_defined : PlaceData → List ℕ → List (List ℕ) → Lis
 function_defined p s params forms next kept =
     defined p s (bound_function (record { space = space_of p kept; name = s; params = params; body = forms })) next kept
 
+-- The namespace is made where it is new, and what follows outside of functions' bodies is evaluated in it.
+abbrev pub goes_on_in : List ℕ → Part Datum
+goes_on_in s next kept = asking (enter s) (λ answer. next nil (record { calls = kept.calls; namespace = s }))
+
+-- one that is the same for all is not entered
+unfoldable pub entered : List ℕ → Part Datum
+entered s = if is_fixed s then fails (failures.namespace_is_fixed s) else goes_on_in s
+
+-- `in-ns` takes the name that a symbol is
+abbrev pub entered_by : Datum → Part Datum
+entered_by (symbol s) = entered s
+entered_by d = fails (failures.wrong_argument (codes "in-ns") d)
+
 -- a fault is thrown as it is, any other value by its text
 unfoldable pub thrown_failure : List ℕ → Failure
 thrown_failure text = if nat_lt (length text) most_weight then failures.thrown text else failures.too_large
@@ -52,6 +67,8 @@ shape_value walk p (logic which forms) = logic_value (walk p) which (before whic
 shape_value walk p (definition s d) = walk p d >>= λ v. defined p s (bound_value v)
 shape_value walk p (function_definition s params forms) = function_defined p s params forms
 shape_value walk p (thrown d) = walk p d >>= thrown_value
+shape_value walk p (entry s) = entered s
+shape_value walk p (computed_entry d) = walk p d >>= entered_by
 
 abbrev pub special_value : Walk → PlaceData → SpecialForm → Option ShapeData → Part Datum
 special_value walk p special (Some shape) = shape_value walk p shape

@@ -12,6 +12,7 @@ ghost use Rattle.walker_machine.specs.declared.frames.State.{State};
 ghost use Rattle.walker_machine.specs.Size.{wanted_size, use_size, control_size, frames_size, spent};
 
 use crate::frames::{Callee, Control, State, SymbolUse, Wanted};
+use crate::namespaces::go_on_in;
 use crate::rows::next_argument;
 use repl_asks::{Answer, NamedFunction, Resolution};
 use repl_faults::{not_a_function, not_a_value};
@@ -35,6 +36,7 @@ pub(crate) fn take_answer(
             take_resolution(alloc, state, purpose, answer.into_resolution())
         }
         Wanted::Completion(value) => Ok(Control::Return(value)),
+        Wanted::Namespace(name) => Ok(go_on_in(state, name)),
     }
 }
 

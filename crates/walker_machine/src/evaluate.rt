@@ -5,7 +5,7 @@ ghost use Rattle.value_data.specs.Listed.{listed};
 ghost use Rattle.value_data.specs.View.{view};
 ghost use Rattle.walker_machine.specs.Machine.{items_value, list_at, place_of, from_state, tree, named};
 ghost use Rattle.special_forms.specs.Seen.{forms_view};
-ghost use Rattle.special_forms.specs.Shapes.{special_named};
+ghost use Rattle.special_forms.specs.Names.{special_named};
 ghost use Rattle.special_forms.specs.Size.{datum_size, forms_size};
 ghost use Rattle.walker_machine.specs.Size.{control_size, frames_size, spent, use_size};
 ghost use Rattle.walker_machine.specs.Evaluation.{headed_value, list_value, value_at};

@@ -70,6 +70,8 @@ pub(crate) enum Frame {
         name: ArcStr,
     },
     Throw,
+    // The value is the name of the namespace to enter.
+    Namespace,
     // The newest local goes.
     Unbind,
     // A function's body ends, and this is the place of its call.
@@ -112,6 +114,9 @@ pub(crate) enum Wanted {
     Resolution(SymbolUse),
     // That something is done; the form's value is this one.
     Completion(Value),
+    // That the namespace of this name is there. What follows is evaluated in it; the form's value is
+    // nil.
+    Namespace(ArcStr),
 }
 
 // What comes next.

@@ -8,6 +8,7 @@ ghost use Rattle.walker_machine.specs.Size.{frame_size, control_size, frames_siz
 ghost use Rattle.walker_machine.specs.SpecialForms.{thrown_failure, thrown_value};
 
 use crate::frames::{Control, Frame, State};
+use crate::namespaces::enter_named;
 use crate::rows::{bind, next_argument, next_binding, next_in_body, next_in_logic, next_item};
 use crate::special::define;
 use core_texts::show_into;
@@ -71,6 +72,7 @@ pub(crate) fn give(
         }
         Frame::Define { name } => define(state, name, Binding::Value(value)),
         Frame::Throw => throw(alloc, value),
+        Frame::Namespace => enter_named(alloc, value),
         Frame::Unbind => {
             state.place.locals.unbind();
             Ok(Control::Return(value))

@@ -11,6 +11,7 @@ mod evaluate;
 mod frames;
 mod give;
 mod names;
+mod namespaces;
 mod rows;
 mod special;
 mod steps;

@@ -1,17 +1,19 @@
 // The special forms.
-ghost use Rattle.std.specs.Prelude.{◌≡◌, ◌+◌, ◌<◌, ◌≤◌, map, IfOk};
+ghost use Rattle.std.specs.Prelude.{◌≡◌, ◌+◌, ◌*◌, ◌<◌, ◌≤◌, ◌∷◌, map, IfOk};
 ghost use Rattle.std.specs.Arc.{arc_str_bytes};
+ghost use Rattle.value_data.specs.View.{view};
 ghost use Rattle.repl_asks.specs.View.{binding_view};
-ghost use Rattle.walker_machine.specs.Machine.{place_of, from_state, tree};
+ghost use Rattle.walker_machine.specs.Machine.{whole, frames_next, place_of, kept_of, from_state, tree};
 ghost use Rattle.special_forms.specs.Seen.{forms_view, shape_view};
 ghost use Rattle.special_forms.specs.Shapes.{shape_of};
-ghost use Rattle.special_forms.specs.Size.{forms_size, shape_size};
-ghost use Rattle.walker_machine.specs.Size.{control_size, frames_size, spent};
+ghost use Rattle.special_forms.specs.Size.{datum_size, forms_size, shape_size};
+ghost use Rattle.walker_machine.specs.Size.{frame_size, control_size, frames_size, spent};
 ghost use Rattle.walker_machine.specs.Evaluation.{value_at};
 ghost use Rattle.walker_machine.specs.SpecialForms.{defined, function_defined, shape_value, special_value};
 
 use crate::frames::{Control, Frame, State, Wanted};
 use crate::names::space;
+use crate::namespaces::enter_namespace;
 use crate::rows::{next_binding, next_in_body, next_in_logic};
 use repl_asks::{Ask, Binding};
 use repl_faults::bad_form;
@@ -57,23 +59,35 @@ fn begin(alloc: Global, state: &mut State, shape: Shape, room: u32) -> Result<Co
                 alternative,
                 room,
             };
-            state.frames.push_front(frame)?;
-            Ok(Control::Evaluate(condition, room))
+            evaluate_for(state, frame, condition, room)
         }
         Shape::Let { bindings, body } => next_binding(alloc, state, bindings, body, room),
         Shape::Logic(logic, forms) => next_in_logic(state, logic, logic.before(), forms, room),
-        Shape::Define { name, form } => {
-            state.frames.push_front(Frame::Define { name })?;
-            Ok(Control::Evaluate(form, room))
-        }
+        Shape::Define { name, form } => evaluate_for(state, Frame::Define { name }, form, room),
         Shape::DefineFunction { name, params, body } => {
             define_function(alloc, state, name, params, body)
         }
-        Shape::Throw(form) => {
-            state.frames.push_front(Frame::Throw)?;
-            Ok(Control::Evaluate(form, room))
-        }
+        Shape::Throw(form) => evaluate_for(state, Frame::Throw, form, room),
+        Shape::Enter(name) => enter_namespace(alloc, name),
+        Shape::EnterComputed(form) => evaluate_for(state, Frame::Namespace, form, room),
     }
+}
+
+// The form is evaluated, and its value goes to the frame.
+fn evaluate_for(
+    state: &mut State,
+    frame: Frame,
+    form: Value,
+    room: u32,
+) -> Result<Control, AllocError>
+    ensures size { IfOk result (λ control. control_size control + frames_size state.new.frames.items
+        ≡ 3 * datum_size (view form) + frame_size frame + frames_size state.old.frames.items) }
+    ensures calls { IfOk result (λ control. spent control + state.new.calls ≤ state.old.calls) }
+    ensures meaning { IfOk result (λ control. tree control state.new ≡ whole state.old
+        (value_at room (place_of state.old) (view form) (frames_next (frame ∷ state.old.frames.items) (place_of state.old)) (kept_of state.old))) }
+{
+    state.frames.push_front(frame)?;
+    Ok(Control::Evaluate(form, room))
 }
 
 fn define_function(

@@ -1,12 +1,11 @@
 use Rattle.std.proofs.Common.{◌∙◌, refl, sym, subst, []}
-use mathlib.Core.Path.{fun_ext}
 use Rattle.bencode_wire.specs.Decoder.{Stands as ReadsAll}
 use Rattle.repl_core.specs.Readings.{message_limit}
 use Rattle.repl_core.proofs.Hearing.{read-messages, read-ending, read-fault}
 use Rattle.repl_core.proofs.server.Server.new.Goals as goal
 
-pub returns : goal.returns
-returns c = λ r right.
+pub returns-in_ok-spaces : goal.returns-in_ok-spaces
+returns-in_ok-spaces c = λ r right.
     let unique = c.a_stream_has_one_reading.ensures in
     let d = c.new.result in
     let reads = c.new.ensures.stands in
@@ -20,5 +19,5 @@ returns c = λ r right.
       waiting = rw c.new-2.ensures.items refl;
       hand = refl;
       replies = c.new-3.ensures;
-      bindings = fun_ext c.new-4.ensures;
+      spaces = c.in_ok-spaces.ensures;
     }

@@ -1,9 +1,9 @@
 use Rattle.std.proofs.Common.{◌≡◌, List, IfOk, option_map, map, subst}
 use Rattle.std.specs.Arc.{arc_str_bytes}
 use Rattle.value_data.specs.Datum.{Datum}
-use Rattle.special_forms.specs.Shapes.{parameters}
+use Rattle.special_forms.specs.Parameters.{parameters}
 use Rattle.special_forms.proofs.Shaping.{views-listed}
-use Rattle.special_forms.proofs.shapes.parameters_in.Goals as goal
+use Rattle.special_forms.proofs.names.parameters_in.Goals as goal
 
 pub returns : goal.returns
 returns c =

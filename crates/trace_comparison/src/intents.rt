@@ -1,0 +1,62 @@
+// When two attempts at a transaction changed the same.
+#![tactic(auto, using(crate::proofs::Matching::place_steps))]
+
+ghost use Rattle.std.specs.Prelude.{◌≡◌, ◌↔◌, IsTrue, map};
+ghost use Rattle.repl_asks.specs.View.{name_view, change_view, intent_view};
+
+use crate::values::same_value;
+use repl_asks::{Change, Intent};
+use repl_values::RefName;
+
+/// Whether the same refs get the same values, and the same refs are ensured, in the same order.
+pub fn same_intent(left: &Intent, right: &Intent) -> bool
+    ensures { IsTrue result ↔ (intent_view left.now ≡ intent_view right.now) }
+{
+    same_changes(left.sets.as_slice(), right.sets.as_slice())
+        && same_names(left.ensured.as_slice(), right.ensured.as_slice())
+}
+
+fn same_change(left: &Change, right: &Change) -> bool
+    ensures { IsTrue result ↔ (change_view left.entry.now ≡ change_view right.entry.now) }
+{
+    same_name(&left.name, &right.name) && same_value(&left.now, &right.now)
+}
+
+// Whether the changes are the same, in order.
+fn same_changes(left: &[Change], right: &[Change]) -> bool
+    ensures { IsTrue result ↔ (map change_view left.now ≡ map change_view right.now) }
+{
+    if left.len() != right.len() {
+        return false;
+    }
+    for (place, change) in left.iter().enumerate() {
+        if !same_change(change, &right[place]) {
+            return false;
+        }
+    }
+    true
+}
+
+// Whether the refs are the same, in order.
+#[tactic(auto, using(crate::proofs::Matching::ref_steps))]
+fn same_names(left: &[RefName], right: &[RefName]) -> bool
+    ensures { IsTrue result ↔ (map name_view left.now ≡ map name_view right.now) }
+{
+    if left.len() != right.len() {
+        return false;
+    }
+    for (place, name) in left.iter().enumerate() {
+        if !same_name(name, &right[place]) {
+            return false;
+        }
+    }
+    true
+}
+
+// Whether both name the same ref.
+#[tactic(auto, using(crate::proofs::Matching::ref_steps))]
+pub(crate) fn same_name(left: &RefName, right: &RefName) -> bool
+    ensures { IsTrue result ↔ (name_view left.now ≡ name_view right.now) }
+{
+    left == right
+}
