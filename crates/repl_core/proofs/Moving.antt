@@ -19,12 +19,19 @@ pub if_ok-map : {A E : Type 0} → (r : Result A E) (P Q : A → Type 0) → ((x
 if_ok-map (Ok x) P Q f h = f x h
 if_ok-map (Err e) P Q f h = h
 
+-- a request between two of its forms
+abbrev pub between : OriginData → Items → Option Failure → StateData → Option Hand
+between origin forms fault state =
+    Some (record { origin = origin; state = state; running = None; forms = forms; fault = fault })
+
 -- forms are left
-pub left-forms : (origin : OriginData) (state : StateData) (vs : List Value) (fault : Option Failure) → (length vs == 0) ≡ false
-    → (Some (record { origin = origin; state = state; running = None; forms = items_view vs; fault = fault }) ≡ (left origin state (items_view vs) fault).hand)
+pub left-forms : (origin : OriginData) (shown state : StateData) (vs : List Value) (fault : Option Failure)
+    → shown ≡ state → (length vs == 0) ≡ false
+    → (between origin (items_view vs) fault shown ≡ (left origin state (items_view vs) fault).hand)
     × ((left origin state (items_view vs) fault).replies ≡ [])
-left-forms origin state [] fault e = absurd (true≢false e)
-left-forms origin state (v ∷ vs) fault e = (refl, refl)
+left-forms origin shown state [] fault same e = absurd (true≢false e)
+left-forms origin shown state (v ∷ vs) fault same e =
+    (ap (between origin (items_view (v ∷ vs)) fault) same, refl)
 
 -- what a move makes is what the world shows then
 pub move-shown : (m : Move) (w : World) (old new : List (List ℕ)) (hand : Option Hand) (spaces : Namespaces)

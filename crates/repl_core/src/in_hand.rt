@@ -1,5 +1,6 @@
 // The request in hand: its forms are evaluated one after another.
-ghost use Rattle.std.specs.Prelude.{◌≡◌, [], ◌∷◌, map, option_map, option_and_then, string_bytes, IfOk};
+ghost use Rattle.std.specs.Prelude.{◌≡◌, [], ◌∷◌, map, option_map, option_and_then, Some, string_bytes, IfOk};
+ghost use Rattle.bencode_wire.specs.Tree as wire;
 ghost use Rattle.value_data.specs.View.{view, items_view};
 ghost use Rattle.repl_faults.specs.View.{failure_of};
 ghost use Rattle.repl_jobs.specs.View.{finished_view};
@@ -114,9 +115,20 @@ fn first_state(
 {
     match ns {
         None => Ok(Some(SessionState::fresh(alloc)?)),
-        Some(Ben::String(name)) => state_in(alloc, spaces, String::from_utf8(name).ok()),
+        Some(Ben::String(name)) => state_named(alloc, spaces, name),
         Some(_other) => Ok(None),
     }
+}
+
+fn state_named(
+    alloc: Global,
+    spaces: &Spaces,
+    name: Vec<u8>,
+) -> Result<Option<SessionState>, AllocError>
+    ensures { IfOk result (λ state. option_map state_view state
+        ≡ first_state (namespaces_of spaces.now) (Some (wire.string name.items))) }
+{
+    state_in(alloc, spaces, String::from_utf8(name).ok())
 }
 
 fn state_in(
