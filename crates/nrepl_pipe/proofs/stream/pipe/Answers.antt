@@ -11,8 +11,8 @@ serve-outcome-requires g c =
     let stands = rw c.in-Ok.is at c.new.ensures there.0 there.1 in
     (there.0, opening c.args.config, there.1, stands, (refl, refl))
 
-pub returns-in-Ok-clause-served : goal.returns-in-Ok-clause-served
-returns-in-Ok-clause-served g c = λ r right.
+pub returns-clause-served : goal.returns-clause-served
+returns-clause-served g c = λ r right.
     let fresh = opening c.args.config in
     let stands = rw c.in-Ok.is at c.new.ensures r right in
     outcome-of r fresh _ _ _ _ c.serve-outcome.result (c.serve-outcome.ensures.ok r fresh right stands (refl, refl)) (c.serve-outcome.ensures.err r fresh right stands (refl, refl))
