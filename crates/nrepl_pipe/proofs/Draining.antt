@@ -20,7 +20,7 @@ left replies w = record {
   waiting = w.waiting;
   hand = w.hand;
   replies = replies;
-  bindings = w.bindings;
+  spaces = w.spaces;
 }
 
 step-drains : (r : Readings) (w : World) (s : Stepped) → drain w ≡ s → step r w drains ≡ s

@@ -80,7 +80,9 @@ pub fn pipe<R: Source, W: Sink>(
     ensures told { Tells (R.failed reader.old) (R.failed reader.new) (W.failed writer.old) (W.failed writer.new) result }
 {
     there_is_one_right_reading();
-    let mut server = Server::new(alloc, config);
+    let Ok(mut server) = Server::new(alloc, config) else {
+        return Err(PipeError::NoMemory);
+    };
     let outcome = serve(alloc, &mut server, reader, writer);
     server.close();
     outcome

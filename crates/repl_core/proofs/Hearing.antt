@@ -21,20 +21,20 @@ pub record Keeps (old new : World) : Type 0 where
   pub retries : new.retries ≡ old.retries
   pub heard : new.heard ≡ old.heard
   pub hand : new.hand ≡ old.hand
-  pub bindings : new.bindings ≡ old.bindings
+  pub spaces : new.spaces ≡ old.spaces
 
 heard-kept : (h : HeardData) (w : World) → Keeps w (with_heard_message h w)
-heard-kept (waits request) w = record { steps = refl; retries = refl; heard = refl; hand = refl; bindings = refl }
-heard-kept (answered reply) w = record { steps = refl; retries = refl; heard = refl; hand = refl; bindings = refl }
+heard-kept (waits request) w = record { steps = refl; retries = refl; heard = refl; hand = refl; spaces = refl }
+heard-kept (answered reply) w = record { steps = refl; retries = refl; heard = refl; hand = refl; spaces = refl }
 
 message-kept : (t : Tree) (w : World) → Keeps w (with_message t w)
 message-kept (wire.dictionary fields) w = heard-kept (heard fields) w
-message-kept (wire.integer n) w = record { steps = refl; retries = refl; heard = refl; hand = refl; bindings = refl }
-message-kept (wire.string bytes) w = record { steps = refl; retries = refl; heard = refl; hand = refl; bindings = refl }
-message-kept (wire.list ts) w = record { steps = refl; retries = refl; heard = refl; hand = refl; bindings = refl }
+message-kept (wire.integer n) w = record { steps = refl; retries = refl; heard = refl; hand = refl; spaces = refl }
+message-kept (wire.string bytes) w = record { steps = refl; retries = refl; heard = refl; hand = refl; spaces = refl }
+message-kept (wire.list ts) w = record { steps = refl; retries = refl; heard = refl; hand = refl; spaces = refl }
 
 pub messages-kept : (ts : List Tree) (w : World) → Keeps w (with_messages ts w)
-messages-kept [] w = record { steps = refl; retries = refl; heard = refl; hand = refl; bindings = refl }
+messages-kept [] w = record { steps = refl; retries = refl; heard = refl; hand = refl; spaces = refl }
 messages-kept (t ∷ ts) w =
     let first = message-kept t w in
     let more = messages-kept ts (with_message t w) in
@@ -43,7 +43,7 @@ messages-kept (t ∷ ts) w =
       retries = more.retries ∙ first.retries;
       heard = more.heard ∙ first.heard;
       hand = more.hand ∙ first.hand;
-      bindings = more.bindings ∙ first.bindings;
+      spaces = more.spaces ∙ first.spaces;
     }
 
 -- A stream has one reading; the law is given as an argument.

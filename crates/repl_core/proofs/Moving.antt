@@ -6,48 +6,54 @@ use Rattle.repl_jobs.specs.Tree.{Tree, finished, asks}
 use Rattle.value_data.specs.View.{items_view}
 use Rattle.value_data.specs.declared.value.Value.{Value}
 use Rattle.repl_faults.specs.Failure.{Failure}
-use Rattle.repl_replies.specs.Replies.{OriginData, namespace_not_found, bytes_of}
+use Rattle.repl_replies.specs.Replies.{OriginData, bytes_of}
 use Rattle.repl_replies.specs.Requests.{RequestData}
-use Rattle.name_spaces.specs.Resolving.{Bindings}
+use Rattle.repl_sessions.specs.State.{StateData}
+use Rattle.name_spaces.specs.Namespaces.{Namespaces}
 use Rattle.repl_core.specs.Readings.{Readings}
 use Rattle.repl_core.specs.World.{Hand, World}
-use Rattle.repl_core.specs.Move.{Move, reply, over, left, program_begun, runs_in_user, taken_up}
+use Rattle.repl_core.specs.Move.{Move, left, first_state, begun_in, taken_up}
 use Rattle.repl_core.specs.Step.{moved, gone_on, acted_on, acted}
 
 pub if_ok-map : {A E : Type 0} → (r : Result A E) (P Q : A → Type 0) → ((x : A) → P x → Q x) → IfOk r P → IfOk r Q
 if_ok-map (Ok x) P Q f h = f x h
 if_ok-map (Err e) P Q f h = h
 
+-- a request between two of its forms
+abbrev pub between : OriginData → Items → Option Failure → StateData → Option Hand
+between origin forms fault state =
+    Some (record { origin = origin; state = state; running = None; forms = forms; fault = fault })
+
 -- forms are left
-pub left-forms : (origin : OriginData) (vs : List Value) (fault : Option Failure) → (length vs == 0) ≡ false
-    → (Some (record { origin = origin; running = None; forms = items_view vs; fault = fault }) ≡ (left origin (items_view vs) fault).hand)
-    × ((left origin (items_view vs) fault).replies ≡ [])
-left-forms origin [] fault e = absurd (true≢false e)
-left-forms origin (v ∷ vs) fault e = (refl, refl)
+pub left-forms : (origin : OriginData) (shown state : StateData) (vs : List Value) (fault : Option Failure)
+    → shown ≡ state → (length vs == 0) ≡ false
+    → (between origin (items_view vs) fault shown ≡ (left origin state (items_view vs) fault).hand)
+    × ((left origin state (items_view vs) fault).replies ≡ [])
+left-forms origin shown state [] fault same e = absurd (true≢false e)
+left-forms origin shown state (v ∷ vs) fault same e =
+    (ap (between origin (items_view (v ∷ vs)) fault) same, refl)
 
 -- what a move makes is what the world shows then
-pub move-shown : (m : Move) (w : World) (old new : List (List ℕ)) (hand : Option Hand) (bound : Bindings)
-    → old ≡ map bytes_of w.replies → bound ≡ w.bindings → (hand ≡ m.hand) × (new ≡ old ++ map bytes_of m.replies)
-    → (hand ≡ (moved m w).hand) × (new ≡ map bytes_of (moved m w).replies) × (bound ≡ (moved m w).bindings)
-move-shown m w old new hand bound held same h =
+pub move-shown : (m : Move) (w : World) (old new : List (List ℕ)) (hand : Option Hand) (spaces : Namespaces)
+    → old ≡ map bytes_of w.replies → spaces ≡ w.spaces → (hand ≡ m.hand) × (new ≡ old ++ map bytes_of m.replies)
+    → (hand ≡ (moved m w).hand) × (new ≡ map bytes_of (moved m w).replies) × (spaces ≡ (moved m w).spaces)
+move-shown m w old new hand spaces held same h =
     (h.0, h.1 ∙ ap (λ front. front ++ map bytes_of m.replies) held ∙ sym (map-append bytes_of w.replies m.replies), same)
 
-pub taken_up-here : (r : Readings) (retries : ℕ) (q : RequestData) → runs_in_user q.ns ≡ true
-    → program_begun retries q.origin (r.program q.code) ≡ taken_up r retries q
+-- the request begins with what it remembers, if it can
+pub taken_up-so : (r : Readings) (retries : ℕ) (spaces : Namespaces) (q : RequestData) (state : Option StateData)
+    → state ≡ first_state spaces q.ns → begun_in r retries q state ≡ taken_up r retries spaces q
 unfolding taken_up
-taken_up-here r retries q e = rw e refl
-
-pub taken_up-elsewhere : (r : Readings) (retries : ℕ) (q : RequestData) → runs_in_user q.ns ≡ false
-    → over (reply q.origin namespace_not_found ∷ []) ≡ taken_up r retries q
-unfolding taken_up
-taken_up-elsewhere r retries q e = rw e refl
+taken_up-so r retries spaces q state e = ap (begun_in r retries q) e
 
 -- a request whose form is to do this
-abbrev pub to_do : OriginData → Items → Option Failure → Tree → Option Hand
-to_do origin forms fault t = Some (record { origin = origin; running = Some t; forms = forms; fault = fault })
+abbrev pub to_do : OriginData → StateData → Items → Option Failure → Tree → Option Hand
+to_do origin state forms fault t =
+    Some (record { origin = origin; state = state; running = Some t; forms = forms; fault = fault })
 
-pub to_do-same : (origin : OriginData) (forms : Items) (fault : Option Failure) (t u : Tree) → t ≡ u → to_do origin forms fault t ≡ to_do origin forms fault u
-to_do-same origin forms fault t u e = ap (to_do origin forms fault) e
+pub to_do-same : (origin : OriginData) (state : StateData) (forms : Items) (fault : Option Failure) (t u : Tree) → t ≡ u
+    → to_do origin state forms fault t ≡ to_do origin state forms fault u
+to_do-same origin state forms fault t u e = ap (to_do origin state forms fault) e
 
 -- what the request in hand leaves as it was when it goes on
 pub record Leaves (old new : World) : Type 0 where

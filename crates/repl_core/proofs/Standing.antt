@@ -9,7 +9,7 @@ use Rattle.bencode_wire.specs.declared.decoder.Decoder.{Decoder}
 use Rattle.bencode_wire.specs.declared.fault.WireFault.{WireFault}
 use Rattle.repl_replies.specs.Replies.{ReplyData, OriginData, no_origin, malformed, bytes_of}
 use Rattle.repl_replies.specs.View.{request_view}
-use Rattle.name_spaces.specs.Bound.{bound_in}
+use Rattle.name_spaces.specs.Seen.{namespaces_of}
 use Rattle.repl_core.specs.Readings.{Readings, message_limit}
 use Rattle.repl_core.specs.World.{World, with_heard}
 use Rattle.repl_core.specs.Move.{reply}
@@ -32,7 +32,7 @@ pub record HasTaken (r : Readings) (s : Server) (w : World) (piece : List ℕ) (
   pub steps : s.steps_left ≡ w.steps
   pub retries : s.retries ≡ w.retries
   pub hand : option_map hand_view s.in_hand ≡ w.hand
-  pub bindings : bound_in s.space ≡ w.bindings
+  pub spaces : namespaces_of s.spaces ≡ w.spaces
   pub stream : decoder.Stands message_limit s.decoder (w.heard ++ piece) (r.stream (w.heard ++ piece)).messages
   pub taken : ready_of s.decoder ≡ []
   pub shows : Shows s.decoder (w.heard ++ piece) (r.stream (w.heard ++ piece)).ending
@@ -54,7 +54,7 @@ stands-behind r s w piece ready h =
       waiting = h.waiting;
       hand = h.hand ∙ sym kept.hand;
       replies = h.replies;
-      bindings = h.bindings ∙ sym kept.bindings;
+      spaces = h.spaces ∙ sym kept.spaces;
     }
 
 pub stands-taken_in : (r : Readings) (s : Server) (w : World) (piece : List ℕ) (ready : List Tree) → HasTaken r s w piece ready
@@ -122,7 +122,7 @@ with_outbox s o = record {
   requests = s.requests;
   in_hand = s.in_hand;
   outbox = o;
-  space = s.space;
+  spaces = s.spaces;
 }
 
 stands-with : (r : Readings) (s : Server) (o : Outbox) (w : World) (replies : List ReplyData) → Stands r s w → waiting_bytes o ≡ map bytes_of replies
@@ -133,7 +133,7 @@ stands-with : (r : Readings) (s : Server) (o : Outbox) (w : World) (replies : Li
       waiting = w.waiting;
       hand = w.hand;
       replies = replies;
-      bindings = w.bindings;
+      spaces = w.spaces;
     })
 stands-with r s o w replies h e = record {
   steps = h.steps;
@@ -145,7 +145,7 @@ stands-with r s o w replies h e = record {
   waiting = h.waiting;
   hand = h.hand;
   replies = e;
-  bindings = h.bindings;
+  spaces = h.spaces;
 }
 
 none-drained : (w : World) (replies : List ReplyData) → [] ≡ map bytes_of replies → drained w replies ≡ refused Refusal.Idle
@@ -164,7 +164,7 @@ one-drained r s o w bytes (x ∷ replies) h e =
       waiting = w.waiting;
       hand = w.hand;
       replies = replies;
-      bindings = w.bindings;
+      spaces = w.spaces;
     } in
     (after, ap (accepted after) (sym (ap first e)), stands-with r s o w replies h (ap others e))
 

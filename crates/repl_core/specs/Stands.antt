@@ -3,7 +3,7 @@ use Rattle.std.specs.Prelude.{◌≡◌, ℕ, List, [], ◌++◌, map, option_ma
 use Rattle.bencode_wire.specs.Decoder as decoder
 use Rattle.repl_replies.specs.Replies.{bytes_of}
 use Rattle.repl_replies.specs.View.{request_view}
-use Rattle.name_spaces.specs.Bound.{bound_in}
+use Rattle.name_spaces.specs.Seen.{namespaces_of}
 use Rattle.repl_core.specs.Server.{ServerState}
 use Rattle.repl_core.specs.Readings.{Readings, message_limit}
 use Rattle.repl_core.specs.World.{World}
@@ -25,7 +25,7 @@ pub record Stands (r : Readings) (s : Server) (w : World) : Type 0 where
   pub waiting : map request_view s.requests.items ≡ w.waiting
   pub hand : option_map hand_view s.in_hand ≡ w.hand
   pub replies : waiting_bytes s.outbox ≡ map bytes_of w.replies
-  pub bindings : bound_in s.space ≡ w.bindings
+  pub spaces : namespaces_of s.spaces ≡ w.spaces
 
 -- the same, but that the decoder has read a piece more, whose messages were not taken yet
 pub record IsFed (r : Readings) (s : Server) (w : World) (piece : List ℕ) : Type 0 where
@@ -35,4 +35,4 @@ pub record IsFed (r : Readings) (s : Server) (w : World) (piece : List ℕ) : Ty
   pub waiting : map request_view s.requests.items ≡ w.waiting
   pub hand : option_map hand_view s.in_hand ≡ w.hand
   pub replies : waiting_bytes s.outbox ≡ map bytes_of w.replies
-  pub bindings : bound_in s.space ≡ w.bindings
+  pub spaces : namespaces_of s.spaces ≡ w.spaces

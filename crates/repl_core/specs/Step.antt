@@ -8,11 +8,10 @@ use Rattle.repl_asks.specs.Exchange.{AskData, AnswerData}
 use Rattle.repl_jobs.specs.Tree.{Tree, finished, asks}
 use Rattle.repl_replies.specs.Replies.{no_origin, malformed, ReplyData, bytes_of}
 use Rattle.repl_replies.specs.Requests.{RequestData, HeardData, waits, answered, heard}
-use Rattle.name_spaces.specs.Resolving as resolving
-use Rattle.name_spaces.specs.Resolving.{bound_after}
 use Rattle.repl_core.specs.Readings.{Readings}
-use Rattle.repl_core.specs.World.{Hand, World, with_replies, with_waiting, with_hand, with_bindings, with_heard, with_steps}
+use Rattle.repl_core.specs.World.{Hand, World, with_replies, with_waiting, with_hand, with_spaces, with_heard, with_steps}
 use Rattle.repl_core.specs.Move.{reply, Move, begun, ended, taken_up}
+use Rattle.repl_core.specs.Answering.{answer_to, spaces_after}
 use Rattle.repl_core.specs.declared.refusal.Actor.{Actor}
 use Rattle.repl_core.specs.declared.refusal.Refusal.{Refusal}
 use Rattle.repl_core.specs.declared.refusal.Wire.{Wire}
@@ -89,18 +88,18 @@ moved m w = with_replies m.replies (with_hand m.hand w)
 -- an ask is answered, and the form goes on with the answer
 abbrev pub asked : Hand → AskData → (AnswerData → Tree) → World → World
 asked h ask behind w =
-    with_bindings (bound_after w.bindings ask)
-    (with_hand (Some (record h { running = Some (behind (resolving.answered w.bindings ask)) })) w)
+    with_spaces (spaces_after w.spaces ask)
+    (with_hand (Some (record h { running = Some (behind (answer_to w.spaces h.state ask)) })) w)
 
 abbrev pub gone_on : Hand → Option Tree → World → World
-gone_on h None w = moved (begun w.retries h.origin h.forms h.fault) w
-gone_on h (Some (finished e)) w = moved (ended h.origin h.forms h.fault e) w
+gone_on h None w = moved (begun w.retries h.origin h.state h.forms h.fault) w
+gone_on h (Some (finished e)) w = moved (ended h.origin h.state h.forms h.fault e) w
 gone_on h (Some (asks ask behind)) w = asked h ask behind w
 
 -- the request in hand goes on; where there is none, the oldest that waits is taken up
 abbrev pub acted_on : Readings → Option Hand → List RequestData → World → World
 acted_on r (Some h) waiting w = gone_on h h.running w
-acted_on r None (q ∷ waiting) w = moved (taken_up r w.retries q) (with_waiting waiting w)
+acted_on r None (q ∷ waiting) w = moved (taken_up r w.retries w.spaces q) (with_waiting waiting w)
 acted_on r None [] w = w
 
 abbrev pub acted : Readings → World → World

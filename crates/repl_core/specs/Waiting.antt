@@ -6,8 +6,9 @@ use Rattle.repl_walker.specs.Waits.{progress_tree}
 use Rattle.repl_replies.specs.Replies.{bytes_of}
 use Rattle.repl_replies.specs.View.{origin_view, request_view}
 use Rattle.repl_replies.specs.declared.request.Request.{Request}
-use Rattle.name_spaces.specs.Bound.{bound_in}
-use Rattle.name_spaces.specs.declared.space.Space.{Space}
+use Rattle.repl_sessions.specs.StateView.{state_view}
+use Rattle.name_spaces.specs.Seen.{namespaces_of}
+use Rattle.name_spaces.specs.declared.spaces.Spaces.{Spaces}
 use Rattle.repl_core.specs.World.{Hand, World}
 use Rattle.repl_core.specs.Readings.{ProgramData}
 use Rattle.repl_core.specs.Move.{Move, program_failure}
@@ -21,6 +22,7 @@ waiting_bytes o = map vec_items o.replies.items
 abbrev pub hand_view : InHand → Hand
 hand_view h = record {
   origin = origin_view h.origin;
+  state = state_view h.state;
   running = option_map progress_tree h.running;
   forms = items_view h.forms.items;
   fault = option_map failure_of h.fault;
@@ -31,8 +33,10 @@ abbrev pub Makes : Move → List (List ℕ) → List (List ℕ) → Option InHan
 Makes m old new hand = (option_map hand_view hand ≡ m.hand) × (new ≡ old ++ map bytes_of m.replies)
 
 -- what acting may change is as in the world
-abbrev pub Shows : Outbox → Space → World → Option InHand → Type 0
-Shows outbox space w hand = (option_map hand_view hand ≡ w.hand) × (waiting_bytes outbox ≡ map bytes_of w.replies) × (bound_in space ≡ w.bindings)
+abbrev pub Shows : Outbox → Spaces → World → Option InHand → Type 0
+Shows outbox spaces w hand =
+    (option_map hand_view hand ≡ w.hand) × (waiting_bytes outbox ≡ map bytes_of w.replies)
+    × (namespaces_of spaces ≡ w.spaces)
 
 -- what hearing may change is as in the world
 abbrev pub Lists : List Request → Outbox → World → Type 0

@@ -5,12 +5,15 @@ use Rattle.repl_faults.specs.Failure.{Failure}
 use Rattle.repl_jobs.specs.Tree.{Tree}
 use Rattle.repl_replies.specs.Replies.{OriginData, ReplyData}
 use Rattle.repl_replies.specs.Requests.{RequestData}
-use Rattle.name_spaces.specs.Resolving.{Bindings}
+use Rattle.repl_sessions.specs.State.{StateData}
+use Rattle.name_spaces.specs.Namespaces.{Namespaces, at_start}
 use Rattle.repl_core.specs.declared.config.Config.{Config}
 
 -- a request that was begun and is not done
 pub record Hand : Type 0 where
   pub origin : OriginData
+  -- the namespace that its next form begins in, and the latest results of its forms
+  pub state : StateData
   -- what the form that runs has still to do; none between two forms
   pub running : Option Tree
   -- the forms behind it, and the fault behind them all
@@ -29,8 +32,8 @@ pub record World : Type 0 where
   pub hand : Option Hand
   -- the replies that wait, oldest first
   pub replies : List ReplyData
-  -- what the names of `user` are bound to
-  pub bindings : Bindings
+  -- the namespaces, and what the names in them are bound to
+  pub spaces : Namespaces
 
 -- a server that has heard nothing
 abbrev pub opening : Config → World
@@ -41,7 +44,7 @@ opening config = record {
   waiting = [];
   hand = None;
   replies = [];
-  bindings = λ name. None;
+  spaces = at_start;
 }
 
 abbrev pub with_replies : List ReplyData → World → World
@@ -53,8 +56,8 @@ with_waiting waiting w = record w { waiting = waiting }
 abbrev pub with_hand : Option Hand → World → World
 with_hand hand w = record w { hand = hand }
 
-abbrev pub with_bindings : Bindings → World → World
-with_bindings bindings w = record w { bindings = bindings }
+abbrev pub with_spaces : Namespaces → World → World
+with_spaces spaces w = record w { spaces = spaces }
 
 abbrev pub with_heard : List ℕ → World → World
 with_heard heard w = record w { heard = heard }

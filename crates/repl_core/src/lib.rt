@@ -1,6 +1,7 @@
 //! The server of one tenant, a turn at a time.
 #![tactic(auto)]
 
+mod answering;
 mod config;
 mod in_hand;
 pub mod laws;

@@ -1,5 +1,5 @@
 // The server of one tenant without sessions: what is heard, evaluated and answered.
-ghost use Rattle.std.specs.Prelude.{◌≡◌, [], ◌++◌, ℕ, List, map, option_map, None, OnOk, IfErr};
+ghost use Rattle.std.specs.Prelude.{◌≡◌, [], ◌++◌, ℕ, List, map, option_map, None, OnOk, IfOk, IfErr};
 ghost use Rattle.bencode_wire.specs.Tree.{Tree};
 ghost use Rattle.bencode_wire.specs.View.{view};
 ghost use Rattle.bencode_wire.specs.Decoder.{Stands as ReadsAll, ready_of};
@@ -17,7 +17,7 @@ use crate::turns::Core;
 use bencode_wire::laws::a_stream_has_one_reading;
 use bencode_wire::{Ben, Decoder, WireFault};
 use bytes::Bytes;
-use name_spaces::Space;
+use name_spaces::Spaces;
 use repl_replies::{Body, Heard, Origin, Reply, Request, request_of};
 use repl_walker::Progress;
 use std::alloc::{AllocError, Global};
@@ -37,18 +37,19 @@ pub struct Server {
     requests: VecDeque<Request>,
     in_hand: Option<InHand>,
     outbox: Outbox,
-    space: Space,
+    spaces: Spaces,
 }
 
 impl Server {
     ghost use Rattle.repl_core.specs.Stands.{Stands, IsFed};
 
-    /// A server that has heard nothing.
-    pub fn new(alloc: Global, config: Config) -> Server
-        ensures { (r : Readings) → AreRight r → Stands r result (opening config) }
+    /// A server that has heard nothing. It fails only for want of memory.
+    pub fn new(alloc: Global, config: Config) -> Result<Server, AllocError>
+        ensures { (r : Readings) → AreRight r → IfOk result (λ made. Stands r made (opening config)) }
     {
         a_stream_has_one_reading();
-        Server {
+        let spaces = Spaces::new(alloc)?;
+        Ok(Server {
             alloc,
             retries: config.retries,
             steps_left: config.steps,
@@ -57,8 +58,8 @@ impl Server {
             requests: VecDeque::new(alloc),
             in_hand: None,
             outbox: Outbox::new(alloc),
-            space: Space::new(alloc),
-        }
+            spaces,
+        })
     }
 
     /// Ends the server, and lets go of all that it holds.
@@ -121,13 +122,13 @@ impl Server {
         let (alloc, retries) = (self.alloc, self.retries);
         match self.in_hand.take() {
             Some(in_hand) => {
-                let hand = go_on(alloc, &mut self.outbox, &mut self.space, retries, in_hand)?;
+                let hand = go_on(alloc, &mut self.outbox, &mut self.spaces, retries, in_hand)?;
                 keep(&mut self.in_hand, hand);
                 Ok(())
             }
             None => match self.requests.pop_front() {
                 Some(request) => {
-                    let hand = take_up(alloc, &mut self.outbox, retries, request)?;
+                    let hand = take_up(alloc, &mut self.outbox, &self.spaces, retries, request)?;
                     keep(&mut self.in_hand, hand);
                     Ok(())
                 }

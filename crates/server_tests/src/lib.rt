@@ -12,6 +12,8 @@ mod failures;
 #[cfg(test)]
 mod function_programs;
 #[cfg(test)]
+mod namespaces;
+#[cfg(test)]
 mod programs;
 #[cfg(test)]
 mod sharing;

@@ -292,7 +292,7 @@ pub(crate) const PROGRAMS: [Case; 45] = [
     // (dosync 1) (ns a)
     Case {
         input: b"d4:code17:(dosync 1) (ns a)2:id1:12:op4:evale",
-        output: b"d2:ex32:class java.lang.RuntimeException2:id1:17:root-ex32:class java.lang.RuntimeException6:statusl10:eval-erroreed3:err77:java.lang.RuntimeException: Unable to resolve symbol: dosync in this context\n2:id1:1ed2:ex32:class java.lang.RuntimeException2:id1:17:root-ex32:class java.lang.RuntimeException6:statusl10:eval-erroreed3:err73:java.lang.RuntimeException: Unable to resolve symbol: ns in this context\n2:id1:1ed2:id1:16:statusl4:doneee",
+        output: b"d2:ex32:class java.lang.RuntimeException2:id1:17:root-ex32:class java.lang.RuntimeException6:statusl10:eval-erroreed3:err77:java.lang.RuntimeException: Unable to resolve symbol: dosync in this context\n2:id1:1ed2:id1:12:ns1:a5:value3:niled2:id1:16:statusl4:doneee",
         status: 0,
         line: "",
     },

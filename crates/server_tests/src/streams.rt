@@ -1,6 +1,7 @@
 // Whole streams. The expected bytes are those of the protocol.
 use crate::cases::{Case, SUM, SUM_REPLIES, expect_replies};
 use crate::function_programs::FUNCTION_PROGRAMS;
+use crate::namespaces::NAMESPACES;
 use crate::programs::PROGRAMS;
 use nrepl_pipe::pipe_command;
 use repl_core::Config;
@@ -115,6 +116,11 @@ fn programs(rt: HostRuntime) -> Result<(), Fail> {
 #[test]
 fn function_programs(rt: HostRuntime) -> Result<(), Fail> {
     expect_replies(&rt, rt.alloc(), &FUNCTION_PROGRAMS)
+}
+
+#[test]
+fn namespaces(rt: HostRuntime) -> Result<(), Fail> {
+    expect_replies(&rt, rt.alloc(), &NAMESPACES)
 }
 
 // Prints 1,048,575 letters, and then what stands in `more`.

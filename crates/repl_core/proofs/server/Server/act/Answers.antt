@@ -12,7 +12,7 @@ pub returns-in_ok-hand-in-Some-clause-world : goal.returns-in_ok-hand-in-Some-cl
 returns-in_ok-hand-in-Some-clause-world c = λ r w right h.
     let in_hand = hand_view c.in-Some.in_hand in
     let leaves = gone_on-leaves in_hand in_hand.running w in
-    let shown = c.in_ok-hand-in-Some.ensures w h.replies h.bindings h.retries in
+    let shown = c.in_ok-hand-in-Some.ensures w h.replies h.spaces h.retries in
     let server : Server = record {
       alloc = c.args.self.now.alloc;
       retries = c.args.self.now.retries;
@@ -22,7 +22,7 @@ returns-in_ok-hand-in-Some-clause-world c = λ r w right h.
       requests = c.args.self.now.requests;
       in_hand = c.keep.new.slot;
       outbox = c.go_on.new.outbox;
-      space = c.go_on.new.space;
+      spaces = c.go_on.new.spaces;
     } in
     subst (λ v. Stands r server v) (acted-hand r w in_hand (ap (option_map hand_view) c.in-Some.ensures.value ∙ h.hand)) (record {
       steps = h.steps ∙ sym leaves.steps;
@@ -34,5 +34,5 @@ returns-in_ok-hand-in-Some-clause-world c = λ r w right h.
       waiting = h.waiting ∙ sym leaves.waiting;
       hand = ap (option_map hand_view) c.keep.ensures ∙ shown.0;
       replies = shown.1;
-      bindings = shown.2;
+      spaces = shown.2;
     })
