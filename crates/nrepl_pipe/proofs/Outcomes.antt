@@ -17,12 +17,18 @@ outcome-of r w unread left held holds (Err error) ok err = err
 -- nothing was read, and nothing written
 pub outcome-unbegun : (r : Readings) (w : World) (unread held : Option (List ℕ)) (error : PipeError)
     → Outcome r w unread unread held held (Err error)
-outcome-unbegun r w unread held error = ([], [], Consumes-nil unread, Appends-nil held, record {
-  pieces = [];
-  turns = [];
-  are_pieces = tt;
-  cutting = refl;
-  schedule = refl;
-  more = [];
-  begins = refl;
-})
+outcome-unbegun r w unread held error = (
+  [],
+  [],
+  Consumes-nil unread,
+  Appends-nil held,
+  record {
+    pieces = [];
+    turns = [];
+    are_pieces = tt;
+    cutting = refl;
+    schedule = refl;
+    more = [];
+    begins = refl;
+  },
+)

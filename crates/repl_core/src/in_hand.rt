@@ -91,7 +91,7 @@ pub(crate) fn take_up(
 ) -> Result<Option<InHand>, AllocError>
     ensures { (r : Readings) → AreRight r
         → IfOk result (Makes (taken_up r retries (namespaces_of spaces.now) (request_view request))
-            (waiting_bytes outbox.old) (waiting_bytes outbox.new)) }
+        (waiting_bytes outbox.old) (waiting_bytes outbox.new)) }
 {
     let Request { origin, code, ns } = request;
     let state = first_state(alloc, spaces, ns)?;
