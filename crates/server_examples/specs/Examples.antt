@@ -47,10 +47,10 @@ TwoAreApart =
 abbrev pub CloseInterrupts : Type 0
 CloseInterrupts =
     given_to 0 (given (opens 0) ∷ begun 0 ++ heard 0 2 ∷ turns_of 0 0 2 ++ heard 0 4 ∷ heard 0 6
-      ∷ turns_of 0 0 2 ++ drained 0 8)
+    ∷ turns_of 0 0 2 ++ drained 0 8)
     ≡ joined (begun_replies 0 ++ first_reply 0 (codes "4") replies.interrupted
-      ∷ first_reply 0 (codes "7") replies.closed
-      ∷ first_reply 0 (codes "2") replies.interrupted ∷ [])
+    ∷ first_reply 0 (codes "7") replies.closed
+    ∷ first_reply 0 (codes "2") replies.interrupted ∷ [])
 
 -- An ending whose trace is shorter than the recorded one is refused where they differ first.
 abbrev pub defining_ended : EndingData
@@ -72,7 +72,7 @@ PlaceIsFreed =
     let full = given (opens 0) ∷ given (opens 1) ∷ begun 0 in
     (answer_in (step ground (after_all full) (opens 2)) ≡ Err Refusal.Full)
     × (answer_in (step ground (after_all (full ++ given (closes 0) ∷ [])) (opens 2))
-      ≡ Ok tenant_opened)
+    ≡ Ok tenant_opened)
 
 abbrev pub NothingIsLeft : Type 0
 NothingIsLeft =

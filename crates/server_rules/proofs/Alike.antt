@@ -28,9 +28,9 @@ pub alike
 alike g s v w x sound_w sound_x private in_w in_x =
     let t = whose_step s in
     let steps : seen_step t (step g w s) ≡ seen_step t (step g x s) =
-        own-step g w s v sound_w in_w private ∙ sym (own-step g x s v sound_x in_x private) in
+    own-step g w s v sound_w in_w private ∙ sym (own-step g x s v sound_x in_x private) in
     record {
       answer = answer-seen t (step g w s) ∙ ap answer_seen steps ∙ sym (answer-seen t (step g x s));
       view = view-after t w (step g w s) ∙ ap₂ view_after (in_w ∙ sym in_x) steps
-        ∙ sym (view-after t x (step g x s));
+          ∙ sym (view-after t x (step g x s));
     }

@@ -74,7 +74,7 @@ unfolding step
 own-step g w (opens u) v sound e private =
     let there = found-some (found u w.tenants) v e in
     ap (λ b. seen_step u (if b then refused Refusal.NumberUsed
-      else room g w u (nat_le g.places (open_count w.tenants))))
+    else room g w u (nat_le g.places (open_count w.tenants))))
     (used-found u there.0 w.tenants there.1)
 own-step g w (does u d) v sound e private =
     step-seen g w u d sound (none-asked u d private) ∙ ap (λ v. step_seen g u v d) e
@@ -141,6 +141,7 @@ opened-view
 opened-view t g w s v sound mine e private = subst P (sym mine) here e private where
   P : ℕ → Type 0
   P t = view t w ≡ Some v → IsPrivateFor t s → SeenBy g t w s v
+
   here : P (whose_step s)
   here e private =
       let same = own-step g w s v sound e private in
@@ -222,8 +223,8 @@ opened-alone g t (turn ∷ turns) w x sound_w sound_x opened same private =
           let in_w = opened-view t g w (step_of g w turn) v sound_w by here private.0 in
           let alike = same-step g t w x turn own same in
           let in_x = opened-view t g x (step_of g x turn) v sound_x
-            (own ∙ sym (whose-step g x turn)) there
-            (subst (IsPrivateFor t) alike private.0) in
+          (own ∙ sym (whose-step g x turn)) there
+          (subst (IsPrivateFor t) alike private.0) in
           serve-own g w turn turns t mine
           ∙ ap₂ ◌++◌
           (in_w.bytes ∙ ap (λ s. bytes_seen (by_step_seen g t v s)) alike ∙ sym in_x.bytes)
@@ -236,7 +237,7 @@ opened-alone g t (turn ∷ turns) w x sound_w sound_x opened same private =
           ∙ sym (ap (λ ts. serve g x ts t) (only-own t turn turns mine))
       | inr apart ↦
           let kept : view t (next g w turn) ≡ view t w =
-              ap (option_map part_view) (next-other g w turn t (eqb-false t (whose turn) apart)) in
+          ap (option_map part_view) (next-other g w turn t (eqb-false t (whose turn) apart)) in
           serve-other g w turn turns t apart
           ∙ opened-alone g t turns (next g w turn) x (next-sound g w turn sound_w) sound_x
           (subst Opened (sym kept) opened) (kept ∙ same) private.1
@@ -322,7 +323,7 @@ empty-opens
 unfolding after_open step
 empty-opens g x t none roomy =
     ap (λ es. if is_used t es then refused Refusal.NumberUsed
-      else room g x t (nat_le g.places (open_count es))) none
+    else room g x t (nat_le g.places (open_count es))) none
     ∙ ap (room g x t) roomy
 
 open-alone
@@ -333,15 +334,15 @@ unfolding Opened
 open-alone g t turns w x sound_w sound_x none first private =
     let here : (t == t) ≡ true = eq-eqb t t refl in
     let in_w = accepted-step g w t
-      (MatchBool-at_true _ (FirstOpen g (next g w (comes t)) turns t) here first) in
+    (MatchBool-at_true _ (FirstOpen g (next g w (comes t)) turns t) here first) in
     let places : nat_le g.places 0 ≡ false =
-        lt-leb g.places 0 (omega (arith, leb-false g.places (open_count w.tenants) in_w.0)) in
+    lt-leb g.places 0 (omega (arith, leb-false g.places (open_count w.tenants) in_w.0)) in
     let in_x = empty-opens g x t none places in
     let new : Option (Option View) = Some (Some (tenant_view (opened_tenant g))) in
     let view_w : view t (next g w (comes t)) ≡ new =
-        ap (λ s. view t (world_or w s)) in_w.1 ∙ opened-sees g w t in
+    ap (λ s. view t (world_or w s)) in_w.1 ∙ opened-sees g w t in
     let view_x : view t (next g x (comes t)) ≡ new =
-        ap (λ s. view t (world_or x s)) in_x ∙ opened-sees g x t in
+    ap (λ s. view t (world_or x s)) in_x ∙ opened-sees g x t in
     serve-own g w (comes t) turns t here
     ∙ ap₂ ◌++◌ (ap bytes_given in_w.1 ∙ sym (ap bytes_given in_x))
     (opened-alone g t turns (next g w (comes t)) (next g x (comes t))
@@ -363,13 +364,13 @@ before-alone g t (turn ∷ turns) w x sound_w sound_x absent none first private 
             | inl is_open ↦
                 let is : turn ≡ comes t = open-turn turn is_open ∙ ap comes (sym own) in
                 let P : Turn → Type 0 = λ turn.
-                  FirstOpen g w (turn ∷ turns) t → Private g w (turn ∷ turns) t
-                  → serve g w (turn ∷ turns) t ≡ serve g x (turn ∷ only t turns) t in
+                FirstOpen g w (turn ∷ turns) t → Private g w (turn ∷ turns) t
+                → serve g w (turn ∷ turns) t ≡ serve g x (turn ∷ only t turns) t in
                 let here : P (comes t) = open-alone g t turns w x sound_w sound_x none in
                 subst P (sym is) here first private
             | inr closed ↦
                 let out_w = absent-turn g w turn closed
-                  (subst (λ n. found n w.tenants ≡ None) own absent) in
+                (subst (λ n. found n w.tenants ≡ None) own absent) in
                 let out_x = absent-turn g x turn closed (ap (found (whose turn)) none) in
                 serve-own g w turn turns t mine
                 ∙ ap (λ s. bytes_given s ++ serve g (next g w turn) turns t) out_w

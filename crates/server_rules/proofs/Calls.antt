@@ -81,8 +81,8 @@ ref-seen : (owner : OwnerData) (n : ℕ) (s : Store) → IsOwned owner
 ref-seen shared n s private = absurd private
 ref-seen (tenant u) n s private =
     elim (u == s.tenant) as (λ b.
-      (if b then slice_get (contents s.mine.refs) n else None)
-      ≡ option_map (map_ref content_of) (if b then slice_get s.mine.refs n else None)) [
+    (if b then slice_get (contents s.mine.refs) n else None)
+    ≡ option_map (map_ref content_of) (if b then slice_get s.mine.refs n else None)) [
       | true ↦ slice_get-map (map_ref content_of) n s.mine.refs
       | false ↦ refl
     ]
@@ -110,13 +110,13 @@ change-seen
 change-seen top shared n f g s seen_as below private = absurd private
 change-seen top (tenant u) n f g s seen_as below private =
     elim (u == s.tenant) as (λ b.
-      seen (record {
-        refs = if b then changed_at n f s.mine.refs else s.mine.refs;
-        points = s.mine.points;
-      }) ≡ (let after : Seen = record {
-        refs = if b then changed_at n g (contents s.mine.refs) else contents s.mine.refs;
-        attempts = (seen s.mine).attempts;
-      } in after)) [
+    seen (record {
+      refs = if b then changed_at n f s.mine.refs else s.mine.refs;
+      points = s.mine.points;
+    }) ≡ (let after : Seen = record {
+      refs = if b then changed_at n g (contents s.mine.refs) else contents s.mine.refs;
+      attempts = (seen s.mine).attempts;
+    } in after)) [
       | true ↦ seen-parts _ _ _ _
           (changed_at-map (map_ref content_of) f g seen_as.same n s.mine.refs)
           (attempts-below top s.mine.refs (changed_at n f s.mine.refs)
@@ -238,9 +238,9 @@ all_there-seen s (name ∷ names) private =
     ap₂ ◌&&◌
     (ap is_some (ref-seen name.owner name.number s private.0) ∙ is_some-map (named name s))
     (all_there-seen s names private.1) where
-  is_some-map : (r : Option Ref) → is_some (option_map (map_ref content_of) r) ≡ is_some r
-  is_some-map None = refl
-  is_some-map (Some r) = refl
+      is_some-map : (r : Option Ref) → is_some (option_map (map_ref content_of) r) ≡ is_some r
+      is_some-map None = refl
+      is_some-map (Some r) = refl
 
 newer-seen
     : (s : Store) (p : ℕ) (name : RefNameData) (r : Option Ref) → Sound s.around.counter s.mine
@@ -321,7 +321,7 @@ commit-seen
 commit-seen seat intent s None sound private = refl
 commit-seen seat intent s (Some p) sound private =
     ap₂ (λ there newer.
-      checked_seen s.tenant seat intent (seen s.mine) (there && fits intent) newer)
+    checked_seen s.tenant seat intent (seen s.mine) (there && fits intent) newer)
     (all_there-seen s (touched intent) private) (any_newer-seen s p (touched intent) sound private)
     ∙ checked-seen seat intent s (all_there (touched intent) s && fits intent)
     (any_newer p (touched intent) s) sound.points private
@@ -351,7 +351,7 @@ performed-seen s nothing sound private = refl
 performed-seen s (makes d least most) sound private =
     let r : Ref = new_ref (record { stamp = 0; content = d }) least most in
     ap₂ (λ n after. let p : Performed Seen =
-      tells (exchange.value (datum.ref (tenant s.tenant) n)) after in p)
+    tells (exchange.value (datum.ref (tenant s.tenant) n)) after in p)
     (length-map s.mine.refs (map_ref content_of))
     (seen-parts _ _ _ _
     (sym (map-append (map_ref content_of) s.mine.refs (r ∷ [])))

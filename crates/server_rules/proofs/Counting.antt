@@ -58,18 +58,18 @@ read-count top p zero (v ∷ vs) f =
 read-count top p (suc k) (v ∷ vs) f = elim (cases_Bool (nat_le v.stamp p)) [
   | inl before ↦
       let all : count_at p vs ≡ length (map content_of vs) =
-          count_at-all v.stamp p vs f.1 (leb-true v.stamp p before)
-          ∙ sym (length-map vs content_of) in
+      count_at-all v.stamp p vs f.1 (leb-true v.stamp p before)
+      ∙ sym (length-map vs content_of) in
       let here : count_at p (v ∷ vs) ≡ suc (length (map content_of vs)) =
-          ap (λ b. if b then count_at p vs + 1 else count_at p vs) before ∙ omega (arith, all) in
+      ap (λ b. if b then count_at p vs + 1 else count_at p vs) before ∙ omega (arith, all) in
       ap first (drop-none (suc (length (map content_of vs))) (count_at p (v ∷ vs))
       (v.content ∷ take k (map content_of vs)) here)
       ∙ sym (ap (λ b. if b then Some v.content else at_point p (take k vs)) before)
   | inr later ↦
       let here : count_at p (v ∷ vs) ≡ count_at p vs =
-          ap (λ b. if b then count_at p vs + 1 else count_at p vs) later in
+      ap (λ b. if b then count_at p vs + 1 else count_at p vs) later in
       let fits : count_at p (v ∷ vs) ≤ length (map content_of vs) =
-          omega (arith, here, count_at-length p vs, length-map vs content_of) in
+      omega (arith, here, count_at-length p vs, length-map vs content_of) in
       ap first (drop-one-more (length (map content_of vs)) (count_at p (v ∷ vs)) v.content
       (take k (map content_of vs)) fits
       ∙ ap (λ n. drop (length (map content_of vs) - n) (take k (map content_of vs))) here)
@@ -83,15 +83,15 @@ newer-count top p [] f = refl
 newer-count top p (v ∷ vs) f = elim (cases_Bool (nat_le v.stamp p)) [
   | inl before ↦
       let all : count_at p vs ≡ length vs =
-          count_at-all v.stamp p vs f.1 (leb-true v.stamp p before) in
+      count_at-all v.stamp p vs f.1 (leb-true v.stamp p before) in
       let here : count_at p (v ∷ vs) ≡ suc (length vs) =
-          ap (λ b. if b then count_at p vs + 1 else count_at p vs) before ∙ omega (arith, all) in
+      ap (λ b. if b then count_at p vs + 1 else count_at p vs) before ∙ omega (arith, all) in
       le-ltb (count_at p (v ∷ vs)) (suc (length (map content_of vs)))
       (omega (arith, here, length-map vs content_of))
       ∙ sym (le-ltb p v.stamp (leb-true v.stamp p before))
   | inr later ↦
       let here : count_at p (v ∷ vs) ≡ count_at p vs =
-          ap (λ b. if b then count_at p vs + 1 else count_at p vs) later in
+      ap (λ b. if b then count_at p vs + 1 else count_at p vs) later in
       lt-ltb (count_at p (v ∷ vs)) (suc (length (map content_of vs)))
       (omega (arith, here, count_at-length p vs, length-map vs content_of))
       ∙ sym (lt-ltb p v.stamp (leb-false v.stamp p later))

@@ -65,26 +65,28 @@ pub found-other : {A : Type 0} (n m : ℕ) (part : A) (es : List (Entry A))
 found-other n m part [] other = refl
 found-other n m part (e ∷ es) other =
     by (found-other n m part es other) (m == e.number) refl where
-  After : Bool → Type 0
-  After b =
-      found n (if b then entry m part ∷ es else e ∷ replaced m part es) ≡ found n (e ∷ es)
-  apart : (m == e.number) ≡ true → n ≢ e.number
-  apart same q = other (q ∙ sym (eqb-true m e.number same))
-  by : found n (replaced m part es) ≡ found n es → (b : Bool) → (m == e.number) ≡ b → After b
-  by behind true same =
-      ap (λ b. if b then Some part else found n es) (ne_eqb n m other)
-      ∙ sym (ap (λ b. if b then Some e.part else found n es) (ne_eqb n e.number (apart same)))
-  by behind false differs = ap (λ rest. if n == e.number then Some e.part else rest) behind
+      After : Bool → Type 0
+      After b =
+          found n (if b then entry m part ∷ es else e ∷ replaced m part es) ≡ found n (e ∷ es)
+
+      apart : (m == e.number) ≡ true → n ≢ e.number
+      apart same q = other (q ∙ sym (eqb-true m e.number same))
+
+      by : found n (replaced m part es) ≡ found n es → (b : Bool) → (m == e.number) ≡ b → After b
+      by behind true same =
+          ap (λ b. if b then Some part else found n es) (ne_eqb n m other)
+          ∙ sym (ap (λ b. if b then Some e.part else found n es) (ne_eqb n e.number (apart same)))
+      by behind false differs = ap (λ rest. if n == e.number then Some e.part else rest) behind
 
 pub found-new : {A : Type 0} (n : ℕ) (part old : A) (es : List (Entry A))
     → found n es ≡ Some old → found n (replaced n part es) ≡ Some part
 found-new n part old [] here = absurd (none-some here)
 found-new n part old (e ∷ es) here =
     by (λ h. found-new n part old es h) (n == e.number) refl here where
-  by : (found n es ≡ Some old → found n (replaced n part es) ≡ Some part)
-      → (b : Bool) → (n == e.number) ≡ b
-      → (if b then Some e.part else found n es) ≡ Some old
-      → found n (if b then entry n part ∷ es else e ∷ replaced n part es) ≡ Some part
-  by behind true same h = ap (λ b. if b then Some part else found n es) (eq-eqb n n refl)
-  by behind false apart h =
-      ap (λ b. if b then Some e.part else found n (replaced n part es)) apart ∙ behind h
+      by : (found n es ≡ Some old → found n (replaced n part es) ≡ Some part)
+          → (b : Bool) → (n == e.number) ≡ b
+          → (if b then Some e.part else found n es) ≡ Some old
+          → found n (if b then entry n part ∷ es else e ∷ replaced n part es) ≡ Some part
+      by behind true same h = ap (λ b. if b then Some part else found n es) (eq-eqb n n refl)
+      by behind false apart h =
+          ap (λ b. if b then Some e.part else found n (replaced n part es)) apart ∙ behind h

@@ -91,10 +91,10 @@ changed_of-rises counter n (tenant t) f s keeps h = record {
   rises = h.rises;
   sound = record {
     stamps = elim (t == s.tenant)
-      as (λ b. AllFall s.around.counter (if b then changed_at n f s.mine.refs else s.mine.refs)) [
-        | true ↦ AllFall-changed s.around.counter n f s.mine.refs keeps h.sound.stamps
-        | false ↦ h.sound.stamps
-      ];
+        as (λ b. AllFall s.around.counter (if b then changed_at n f s.mine.refs else s.mine.refs)) [
+          | true ↦ AllFall-changed s.around.counter n f s.mine.refs keeps h.sound.stamps
+          | false ↦ h.sound.stamps
+        ];
     points = h.sound.points;
   };
 }
@@ -119,8 +119,10 @@ changes-rise counter stamp (c ∷ cs) s now h =
     changes-rise counter stamp cs (changed c.name (version_with stamp c) s)
     (now ∙ sym (counter-kept c.name.owner c.name.number (version_with stamp c) s))
     (changed-rises counter c.name (version_with stamp c) s
-    (λ r fall. (omega (arith, now),
-      Fall-higher s.around.counter stamp r.versions (omega (arith, now)) fall)) h)
+    (λ r fall. (
+      omega (arith, now),
+      Fall-higher s.around.counter stamp r.versions (omega (arith, now)) fall,
+    )) h)
 
 sets-rise : (counter : ℕ) (sets : List ChangeData) (s : Store) → Rises counter s
     → Rises counter (with_sets sets s)
@@ -191,7 +193,7 @@ performed-rises counter s (makes d least most) h = record {
   rises = h.rises;
   sound = record {
     stamps = AllFall-made s.around.counter s.mine.refs
-      (new_ref (record { stamp = 0; content = d }) least most) h.sound.stamps (omega arith, tt);
+        (new_ref (record { stamp = 0; content = d }) least most) h.sound.stamps (omega arith, tt);
     points = h.sound.points;
   };
 }

@@ -112,7 +112,7 @@ running-private g a actor h ask q None private = tt
 running-private g a actor h ask q (Some run) private =
     elim (is_allowed ask)
     as (λ b. IsPrivateCall
-      (if b then asked_allowed g a actor h run ask q else quietly (refuses Refusal.Idle)).call) [
+    (if b then asked_allowed g a actor h run ask q else quietly (refuses Refusal.Idle)).call) [
       | true ↦ allowed-private g a actor h run ask q private
       | false ↦ tt
     ]
@@ -137,7 +137,7 @@ held-private
 held-private g a actor h run e q =
     elim (is_held q)
     as (λ b. IsPrivateCall
-      (if b then quietly (refuses Refusal.Held) else end_checked g a actor h run e q).call) [
+    (if b then quietly (refuses Refusal.Held) else end_checked g a actor h run e q).call) [
       | true ↦ tt
       | false ↦ compared-private a actor h e q
           (g.comparisons.is_same_job e.job run.job) (g.comparisons.difference e.trace run.trace)
@@ -150,8 +150,8 @@ end-private g a actor h e q None = tt
 end-private g a actor h e q (Some run) =
     elim actor.is_closed
     as (λ b. IsPrivateCall (if b then with_left_attempt a (interrupted_in a h q)
-      else if is_held q then quietly (refuses Refusal.Held)
-      else end_checked g a actor h run e q).call) [
+    else if is_held q then quietly (refuses Refusal.Held)
+    else end_checked g a actor h run e q).call) [
       | true ↦ tt
       | false ↦ held-private g a actor h run e q
     ]
@@ -226,7 +226,7 @@ open-other : (g : Ground) (w : World) (t u : ℕ) → t ≢ u
 open-other g w t u other =
     elim (is_used u w.tenants)
     as (λ b. found t (world_or w (if b then refused Refusal.NumberUsed
-      else room g w u (nat_le g.places (open_count w.tenants)))).tenants ≡ found t w.tenants) [
+    else room g w u (nat_le g.places (open_count w.tenants)))).tenants ≡ found t w.tenants) [
       | true ↦ refl
       | false ↦ elim (nat_le g.places (open_count w.tenants))
           as (λ b. found t (world_or w (room g w u b)).tenants ≡ found t w.tenants) [
@@ -319,14 +319,14 @@ open-sound : (g : Ground) (w : World) (u : ℕ) → SoundWorld w
 open-sound g w u sound =
     elim (is_used u w.tenants)
     as (λ b. SoundWorld (world_or w (if b then refused Refusal.NumberUsed
-      else room g w u (nat_le g.places (open_count w.tenants))))) [
+    else room g w u (nat_le g.places (open_count w.tenants))))) [
       | true ↦ sound
       | false ↦ elim (nat_le g.places (open_count w.tenants))
           as (λ b. SoundWorld (world_or w (room g w u b))) [
             | true ↦ sound
             | false ↦ λ t. elim (t == u)
                 as (λ b. SoundPart w.around.counter
-                  (if b then Some (Some (opened_tenant g)) else found t w.tenants)) [
+                (if b then Some (Some (opened_tenant g)) else found t w.tenants)) [
                   | true ↦ record { stamps = tt; points = tt }
                   | false ↦ sound t
                 ]

@@ -89,7 +89,7 @@ abbrev pub answered : Ground → Actor → ActorData → Hand → Run → AskDat
 answered g a actor h run ask q told =
     let answer = answer_to g a q ask told in
     leaves (spent (recorded a actor h run ask answer
-        (record q { spaces = spaces_after ask q.spaces }))) (ask_answered answer)
+    (record q { spaces = spaces_after ask q.spaces }))) (ask_answered answer)
 
 -- an ask that breaks a rule is none of an evaluation's
 abbrev pub when_told : Option AnswerData → (AnswerData → Outcome) → Outcome

@@ -46,7 +46,7 @@ hears_more g t piece q (Some f) = refuses (Refusal.Wire f)
 hears_more g t piece q None =
     if is_held q then refuses Refusal.Held
     else leaves (spent (taken_in g t piece q))
-        (messages_heard (length (new_messages g.readings q.heard piece)))
+    (messages_heard (length (new_messages g.readings q.heard piece)))
 
 abbrev pub hearing : Ground → ℕ → List ℕ → Quiet → Plan
 hearing g t piece q = quietly
