@@ -8,9 +8,9 @@
                             their lines of the record where each edit was refused. Nothing else writes one
 
 The record is tools/refused_edits.txt: for a crate its name, a fingerprint and the number of its edits. The fingerprint is a sum
-over all that the edits depend on (workspace.py): the crate's sources and edits, its line of crates.txt, HANDLES, the kit, and the
-same of each crate below it. A line counts only where fingerprint and number are those of the tree. So after a change of a crate its
-edits are tried again, and those of every crate above it; and a line that was altered, or whose edits were, covers nothing. What
+over all that the edits depend on (workspace.py): the edits, the sources of the crate and of each crate below it, their lines of
+crates.txt, HANDLES and the kit. A line counts only where fingerprint and number are those of the tree. So after a change of a crate
+its edits are tried again, and those of every crate above it; and a line that was altered, or whose edits were, covers nothing. What
 a record cannot show is that its line was written by `.ci/run edits`: `.ci/run whole` shows that."""
 
 import os

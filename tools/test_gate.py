@@ -54,6 +54,10 @@ class Record(unittest.TestCase):
         self.write("crates/other/must-fail/turned.edit", "old: a\nnew: a\n")
         self.assert_covered("low", "middle", "high")
 
+    def test_edits_of_a_crate_count_for_no_other(self):
+        self.write("crates/low/must-fail/turned.edit", "old: a\nnew: a\n")
+        self.assert_covered("middle", "high", "other")
+
     def test_added_edit_uncovers(self):
         self.write("crates/other/must-fail/more.edit", "old: a\nnew: b\n")
         self.assert_covered("low", "middle", "high")

@@ -66,13 +66,16 @@ def kit():
 
 
 def fingerprints():
-    """For each crate's name a sum over all that its must-fail edits depend on: its sources, its
-    edits, its line of crates.txt, HANDLES, the kit, and the same of each crate below it."""
-    ground = content(f"{TOP}/HANDLES") + kit()
-    found = {}
+    """For each crate's name a sum over all that its must-fail edits depend on: its edits, its
+    sources and its line of crates.txt, the same two of each crate below it, HANDLES and the kit."""
+    sums = {}
     for crate in crates():
-        parts = [ground, crate.line, *[found[it.name] for it in crate.below()]]
-        for path in crate.files(*SOURCES, "must-fail"):
-            parts.append((os.path.relpath(path, crate.folder), content(path)))
-        found[crate.name] = hashlib.sha256(repr(parts).encode()).hexdigest()
-    return found
+        below = [sums[it.name] for it in crate.below()]
+        sums[crate.name] = digest([content(f"{TOP}/HANDLES"), kit(), crate.line, below], crate, *SOURCES)
+    return {it.name: digest([sums[it.name]], it, "must-fail") for it in crates()}
+
+
+def digest(ground, crate, *parts):
+    """A sum over the ground and the files in these folders of the crate."""
+    files = [(os.path.relpath(it, crate.folder), content(it)) for it in crate.files(*parts)]
+    return hashlib.sha256(repr([ground, files]).encode()).hexdigest()
