@@ -1,7 +1,7 @@
 // Who evaluates.
 
-/// Who runs a tenant's requests, one after another.
-#[derive(Clone, Copy, Debug, PartialEq, Eq)]
+/// Who runs a tenant's requests, one after another. They are in the order of their rounds.
+#[derive(Clone, Copy, Debug, PartialEq, Eq, PartialOrd, Ord)]
 pub enum Actor {
     /// The requests without a session.
     Bare,

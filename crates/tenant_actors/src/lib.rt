@@ -1,0 +1,10 @@
+//! The actors of a tenant: for each the requests that wait, and the one in hand.
+#![tactic(auto)]
+
+mod actor;
+mod actors;
+mod request;
+
+pub use actor::ActorState;
+pub use actors::Actors;
+pub use request::{Hand, Manner, ProgramText, Run, Waiting};

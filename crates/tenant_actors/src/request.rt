@@ -1,0 +1,59 @@
+// A request to evaluate: while it waits, and while it is in hand.
+use bencode_wire::Ben;
+use repl_asks::Trace;
+use repl_jobs::Job;
+use repl_replies::Origin;
+use repl_values::{Fault, Value};
+use std::collections::VecDeque;
+use std::sync::ArcStr;
+
+/// What a request asks to evaluate.
+#[derive(Drop)]
+pub enum ProgramText {
+    /// Code, and the namespace that is named for it, as it came.
+    Code {
+        text: String,
+        ns: Option<Ben>,
+    },
+    /// The text of a file.
+    File(String),
+}
+
+/// A request that waits.
+#[derive(Drop)]
+pub struct Waiting {
+    pub origin: Origin,
+    pub text: ProgramText,
+}
+
+/// How the forms of a request are answered.
+#[derive(Drop)]
+pub enum Manner {
+    /// Each by its value. Where they leave the namespace, there the session stays.
+    EachForm,
+    /// Each by its value, in a namespace that was named for them.
+    EachFormElsewhere,
+    /// All by the value of the last; this is the last so far.
+    LastForm(Value),
+}
+
+/// A form that runs: its job, and what it asked and was answered.
+#[derive(Drop)]
+pub struct Run {
+    pub job: Job,
+    pub trace: Trace,
+}
+
+/// A request that was begun and is not done.
+#[derive(Drop)]
+pub struct Hand {
+    pub origin: Origin,
+    pub manner: Manner,
+    /// The namespace in which its next form is evaluated.
+    pub namespace: ArcStr,
+    /// The form that runs, if one does.
+    pub running: Option<Run>,
+    /// The forms behind it, and the fault of the text behind them all.
+    pub forms: VecDeque<Value>,
+    pub fault: Option<Fault>,
+}

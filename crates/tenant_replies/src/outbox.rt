@@ -1,0 +1,54 @@
+// The replies that wait.
+ghost use Rattle.std.specs.Prelude.{◌≡◌, ◌≤◌, ◌↔◌, [], ◌∷◌, ◌++◌, length, IsTrue, OnOk, OnErr, MatchOption};
+ghost use Rattle.tenant_replies.specs.View.{made_bytes, waiting_bytes};
+
+use crate::batch::Batch;
+use std::alloc::{AllocError, Global};
+use std::collections::VecDeque;
+
+// So many waiting replies hold back whatever may add more.
+const LIMIT: usize = 1_024;
+
+/// The replies that wait, oldest first, each as its bytes.
+#[derive(Drop)]
+pub struct Outbox {
+    replies: VecDeque<Vec<u8>>,
+}
+
+impl Outbox {
+    /// No reply waits.
+    pub fn new(alloc: Global) -> Outbox
+        ensures { waiting_bytes result ≡ [] }
+    {
+        Outbox {
+            replies: VecDeque::new(alloc),
+        }
+    }
+
+    /// Whether so many wait that whatever may add more is held back.
+    pub fn is_held(&self) -> bool
+        ensures { IsTrue result ↔ (LIMIT ≤ length (waiting_bytes self.now)) }
+    {
+        self.replies.len() >= LIMIT
+    }
+
+    /// Takes the oldest reply out. It takes no memory.
+    pub fn take(&mut self) -> Option<Vec<u8>>
+        ensures { MatchOption result ((waiting_bytes self.old ≡ []) × (waiting_bytes self.new ≡ []))
+            (λ bytes. waiting_bytes self.old ≡ bytes.items ∷ waiting_bytes self.new) }
+    {
+        self.replies.pop_front()
+    }
+
+    /// Lets the replies of a batch wait, in order. It fails only for want of memory, and then adds none.
+    pub fn post(&mut self, batch: Batch) -> Result<(), AllocError>
+        ensures posted { OnOk result (waiting_bytes self.new ≡ waiting_bytes self.old ++ made_bytes batch) }
+        ensures stays { OnErr result (waiting_bytes self.new ≡ waiting_bytes self.old) }
+    {
+        self.replies.reserve(batch.replies.len())?;
+        for bytes in batch.replies {
+            self.replies.push_back_reserved(bytes);
+        }
+        Ok(())
+    }
+}
