@@ -9,7 +9,7 @@ use Rattle.repl_jobs.specs.Job as jobs
 use Rattle.repl_jobs.specs.Job.{JobData}
 use Rattle.repl_sessions.specs.State.{StateData, fresh}
 use Rattle.name_spaces.specs.Namespaces.{Namespaces, is_there}
-use Rattle.repl_replies.specs.Fields.{as_string}
+use Rattle.repl_replies.specs.Fields.{text_of}
 use Rattle.repl_replies.specs.Replies.{OriginData, namespace_not_found, interrupted}
 use Rattle.server_rules.specs.Numbered.{without}
 use Rattle.server_rules.specs.Readings.{ProgramData}
@@ -76,7 +76,7 @@ abbrev pub code_begun : Ground → Namespaces → OriginData → List ℕ → St
 code_begun g spaces origin text state None =
     program_begun g origin each_form state.namespace state (g.readings.program text)
 code_begun g spaces origin text state (Some ns) =
-    elsewhere_begun g origin text state (option_and_then (there spaces) (as_string ns))
+    elsewhere_begun g origin text state (option_and_then (there spaces) (text_of (Some ns)))
 
 abbrev pub text_begun : Ground → Namespaces → OriginData → StateData → ProgramText → Started
 text_begun g spaces origin state (code text ns) = code_begun g spaces origin text state ns
