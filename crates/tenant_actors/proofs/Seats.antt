@@ -1,0 +1,140 @@
+-- The actors by their seats: the entries of the map, seen as data.
+use Rattle.std.proofs.Common.{◌≡◌, ℕ, ◌<◌, suc, Bool, true, false, cond, ◌==◌, List, [], ◌∷◌, ◌++◌}
+use Rattle.std.proofs.Common.{map, find, Option, Some, None, option_map, refl, sym, ap, ◌∙◌, arith}
+use denote.Ref.{Bor}
+use Rattle.std.specs.Option.{option_copied}
+use Rattle.std.specs.Ordering.{nat_cmp, is_eq, match_ordering, MatchOrdering}
+use Rattle.std.specs.declared.cmp.Ordering.{Ordering}
+use Rattle.std.specs.declared.cmp.Ordering.TheVariants.{Less, Equal, Greater}
+use Rattle.std.specs.Cmp.{unsigned_tied, nat_cmp_is}
+use Rattle.std.specs.BTreeMap.{insert_entry, is_at}
+use Rattle.std.specs.Map.{lookup, remove_entry, set_value}
+use Rattle.std.proofs.lemmas.Bool.{eqb-true}
+use Rattle.std.proofs.lemmas.Cmp.{ranked}
+use Rattle.std.proofs.lemmas.List.{map-append}
+use Rattle.server_rules.specs.Numbered.{Entry, entry, found, replaced, without}
+use Rattle.server_rules.specs.Tenant.{ActorData, seat_of}
+use Rattle.server_rules.specs.Ready.{has_work, actor_at}
+use Rattle.server_rules.specs.declared.actor.Actor.{Actor}
+use Rattle.server_rules.specs.contracts.actor.ActorOrd.TheImpl as ord
+use Rattle.tenant_actors.specs.View.{actor_view, named_view, AreBelow}
+use Rattle.tenant_actors.specs.declared.actor.ActorState.{ActorState}
+use Rattle.tenant_actors.proofs.EntryLaws.{found_first, without_first, replaced-nothing, without-nothing}
+
+abbrev pub Entries : Type 0
+Entries = List (Actor × ActorState)
+
+abbrev pub seen : Entries → List (Entry ActorData)
+seen es = map named_view es
+
+-- the derived order of names
+abbrev pub by_name : Actor → Actor → Ordering
+by_name = (ord.ghosts).cmp
+
+abbrev pub at : Actor → Actor → Bool
+at a = is_at (by_name a)
+
+-- it is that of the seats
+pub by-seats : (a b : Actor) → by_name a b ≡ nat_cmp (seat_of a) (seat_of b)
+by-seats Actor.Bare Actor.Bare = nat_cmp_is 0 0 Equal refl
+by-seats Actor.Bare (Actor.Session n) = nat_cmp_is 0 (suc n) Less (omega (arith))
+by-seats (Actor.Session m) Actor.Bare = nat_cmp_is (suc m) 0 Greater (omega (arith))
+by-seats (Actor.Session m) (Actor.Session n) = nat_cmp_is (suc m) (suc n) (nat_cmp m n) (by (nat_cmp m n) (ranked m n (nat_cmp m n) refl))
+  where
+    by : (o : Ordering) → MatchOrdering o (m < n) (m ≡ n) (n < m) → MatchOrdering o (suc m < suc n) (suc m ≡ suc n) (suc n < suc m)
+    by Less h = omega (arith, h)
+    by Equal h = ap suc h
+    by Greater h = omega (arith, h)
+
+pub at-seats : (a b : Actor) → at a b ≡ (seat_of a == seat_of b)
+at-seats a b = ap is_eq (by-seats a b) ∙ unsigned_tied (seat_of a) (seat_of b)
+
+pub seat-back : (a : Actor) → actor_at (seat_of a) ≡ a
+seat-back Actor.Bare = refl
+seat-back (Actor.Session n) = refl
+
+pub found-seen : (a : Actor) (es : Entries) → option_map actor_view (lookup (at a) es) ≡ found (seat_of a) (seen es)
+found-seen a [] = refl
+found-seen a (e ∷ es) =
+    ap (λ (b : Bool). option_map actor_view (cond b (Some e.1) (lookup (at a) es))) (at-seats a e.0)
+    ∙ by (found-seen a es) (seat_of a == seat_of e.0)
+  where
+    by : option_map actor_view (lookup (at a) es) ≡ found (seat_of a) (seen es) → (b : Bool)
+        → option_map actor_view (cond b (Some e.1) (lookup (at a) es))
+        ≡ found_first b (actor_view e.1) (found (seat_of a) (seen es))
+    by behind true = refl
+    by behind false = behind
+
+-- an actor behind a reference
+pub behind-reference : (o : Option (Bor ActorState))
+    → option_map (λ it. actor_view it.now) o ≡ option_map actor_view (option_copied o)
+behind-reference (Some x) = refl
+behind-reference None = refl
+
+pub replaced-seen : (a : Actor) (w : ActorState) (es : Entries)
+    → seen (set_value (at a) es w) ≡ replaced (seat_of a) (actor_view w) (seen es)
+replaced-seen a w [] = refl
+replaced-seen a w (e ∷ es) =
+    ap (λ (b : Bool). seen (cond b ((e.0, w) ∷ es) (e ∷ set_value (at a) es w))) (at-seats a e.0)
+    ∙ by (replaced-seen a w es) (seat_of a == seat_of e.0) (λ is. eqb-true (seat_of a) (seat_of e.0) is)
+  where
+    by : seen (set_value (at a) es w) ≡ replaced (seat_of a) (actor_view w) (seen es)
+        → (b : Bool) → (b ≡ true → seat_of a ≡ seat_of e.0)
+        → seen (cond b ((e.0, w) ∷ es) (e ∷ set_value (at a) es w))
+        ≡ cond b (entry (seat_of a) (actor_view w) ∷ seen es) (named_view e ∷ replaced (seat_of a) (actor_view w) (seen es))
+    by behind true same = ap (λ (n : ℕ). entry n (actor_view w) ∷ seen es) (sym (same refl))
+    by behind false same = ap (λ (l : List (Entry ActorData)). named_view e ∷ l) behind
+
+pub stays-seen : (a : Actor) (w : ActorState) (es : Entries) → lookup (at a) es ≡ None
+    → seen es ≡ replaced (seat_of a) (actor_view w) (seen es)
+stays-seen a w es absent =
+    sym (replaced-nothing (seat_of a) (actor_view w) (seen es) (sym (found-seen a es) ∙ ap (option_map actor_view) absent))
+
+-- the first entry of a name is taken out, and there is no further one
+taken-seen : (a : Actor) (es : Entries) → without (seat_of a) (seen (remove_entry (at a) es)) ≡ without (seat_of a) (seen es)
+taken-seen a [] = refl
+taken-seen a (e ∷ es) =
+    ap (λ (b : Bool). without (seat_of a) (seen (cond b es (e ∷ remove_entry (at a) es)))) (at-seats a e.0)
+    ∙ by (taken-seen a es) (seat_of a == seat_of e.0) refl
+  where
+    by : without (seat_of a) (seen (remove_entry (at a) es)) ≡ without (seat_of a) (seen es)
+        → (b : Bool) → (seat_of a == seat_of e.0) ≡ b
+        → without (seat_of a) (seen (cond b es (e ∷ remove_entry (at a) es)))
+        ≡ without_first b (named_view e) (without (seat_of a) (seen es))
+    by behind true is = refl
+    by behind false is =
+        ap (λ (b : Bool). without_first b (named_view e) (without (seat_of a) (seen (remove_entry (at a) es)))) is
+        ∙ ap (λ (l : List (Entry ActorData)). named_view e ∷ l) behind
+
+pub removed-seen : (a : Actor) (es fs : Entries) → fs ≡ remove_entry (at a) es → lookup (at a) fs ≡ None
+    → seen fs ≡ without (seat_of a) (seen es)
+removed-seen a es fs taken absent =
+    sym (without-nothing (seat_of a) (seen fs) (sym (found-seen a fs) ∙ ap (option_map actor_view) absent))
+    ∙ ap (λ (l : Entries). without (seat_of a) (seen l)) taken ∙ taken-seen a es
+
+-- a name above all goes behind them
+put-behind : (a : Actor) (v : ActorState) (es : Entries) → AreBelow (seat_of a) (seen es) → insert_entry by_name es a v ≡ es ++ (a, v) ∷ []
+put-behind a v [] below = refl
+put-behind a v (e ∷ es) below =
+    ap (λ (o : Ordering). match_ordering o ((a, v) ∷ e ∷ es) ((e.0, v) ∷ es) (e ∷ insert_entry by_name es a v))
+    (by-seats a e.0 ∙ sym (nat_cmp_is (seat_of a) (seat_of e.0) Greater below.0))
+    ∙ ap (λ (l : Entries). e ∷ l) (put-behind a v es below.1)
+
+pub added-seen : (a : Actor) (v : ActorState) (es : Entries) → AreBelow (seat_of a) (seen es)
+    → seen (insert_entry by_name es a v) ≡ seen es ++ named_view (a, v) ∷ []
+added-seen a v es below = ap seen (put-behind a v es below) ∙ map-append named_view es ((a, v) ∷ [])
+
+-- the first that has work
+abbrev pub works : Actor × ActorState → Bool
+works e = has_work (named_view e)
+
+pub ready-seen : (es : Entries)
+    → option_map (λ e. e.0) (find works es) ≡ option_map (λ e. actor_at e.number) (find has_work (seen es))
+ready-seen [] = refl
+ready-seen (e ∷ es) = by (ready-seen es) (works e)
+  where
+    by : option_map (λ f. f.0) (find works es) ≡ option_map (λ f. actor_at f.number) (find has_work (seen es)) → (b : Bool)
+        → option_map (λ f. f.0) (cond b (Some e) (find works es))
+        ≡ option_map (λ f. actor_at f.number) (cond b (Some (named_view e)) (find has_work (seen es)))
+    by behind true = ap (λ (a : Actor). Some a) (sym (seat-back e.0))
+    by behind false = behind
