@@ -8,7 +8,7 @@ use Rattle.server_rules.specs.Numbered.{Entry, entry, found, replaced, without}
 abbrev pub found_first : {A : Type 0} → Bool → A → Option A → Option A
 found_first b part rest = if b then Some part else rest
 
-abbrev replaced_first : {A : Type 0} → Bool → ℕ → A → Entry A → List (Entry A) → List (Entry A)
+abbrev pub replaced_first : {A : Type 0} → Bool → ℕ → A → Entry A → List (Entry A) → List (Entry A)
 replaced_first b n x e es = if b then entry n x ∷ es else e ∷ replaced n x es
 
 abbrev pub without_first : {A : Type 0} → Bool → Entry A → List (Entry A) → List (Entry A)
@@ -19,10 +19,13 @@ pub found-replaced : {A : Type 0} (n : ℕ) (x : A) (es : List (Entry A))
 found-replaced n x [] = refl
 found-replaced {A} n x (e ∷ es) = by (found-replaced n x es) (n == e.number) refl
   where
-    by : found n (replaced n x es) ≡ option_map (λ _. x) (found n es) → (b : Bool) → (n == e.number) ≡ b
-        → found n (replaced_first b n x e es) ≡ option_map (λ _. x) (found_first b e.part (found n es))
+    by : found n (replaced n x es) ≡ option_map (λ _. x) (found n es)
+        → (b : Bool) → (n == e.number) ≡ b
+        → found n (replaced_first b n x e es)
+        ≡ option_map (λ _. x) (found_first b e.part (found n es))
     by behind true same = ap (λ (b : Bool). found_first b x (found n es)) (eq-eqb n n refl)
-    by behind false apart = ap (λ (b : Bool). found_first b e.part (found n (replaced n x es))) apart ∙ behind
+    by behind false apart =
+        ap (λ (b : Bool). found_first b e.part (found n (replaced n x es))) apart ∙ behind
 
 -- of two changes under one number the later stays
 pub replaced-twice : {A : Type 0} (n : ℕ) (x y : A) (es : List (Entry A))
@@ -62,7 +65,8 @@ replaced-nothing {A} n x (e ∷ es) absent =
     by behind true h = absurd (cc)
     by behind false h = ap (λ (l : List (Entry A)). e ∷ l) (behind h)
 
-pub without-nothing : {A : Type 0} (n : ℕ) (es : List (Entry A)) → found n es ≡ None → without n es ≡ es
+pub without-nothing : {A : Type 0} (n : ℕ) (es : List (Entry A))
+    → found n es ≡ None → without n es ≡ es
 without-nothing n [] absent = refl
 without-nothing {A} n (e ∷ es) absent = by (λ h. without-nothing n es h) (n == e.number) absent
   where

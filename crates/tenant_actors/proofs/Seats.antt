@@ -19,7 +19,8 @@ use Rattle.server_rules.specs.declared.actor.Actor.{Actor}
 use Rattle.server_rules.specs.contracts.actor.ActorOrd.TheImpl as ord
 use Rattle.tenant_actors.specs.View.{actor_view, named_view, AreBelow}
 use Rattle.tenant_actors.specs.declared.actor.ActorState.{ActorState}
-use Rattle.tenant_actors.proofs.EntryLaws.{found_first, without_first, replaced-nothing, without-nothing}
+use Rattle.tenant_actors.proofs.EntryLaws.{found_first, replaced_first, without_first}
+use Rattle.tenant_actors.proofs.EntryLaws.{replaced-nothing, without-nothing}
 
 abbrev pub Entries : Type 0
 Entries = List (Actor × ActorState)
@@ -39,9 +40,12 @@ pub by-seats : (a b : Actor) → by_name a b ≡ nat_cmp (seat_of a) (seat_of b)
 by-seats Actor.Bare Actor.Bare = nat_cmp_is 0 0 Equal refl
 by-seats Actor.Bare (Actor.Session n) = nat_cmp_is 0 (suc n) Less (omega (arith))
 by-seats (Actor.Session m) Actor.Bare = nat_cmp_is (suc m) 0 Greater (omega (arith))
-by-seats (Actor.Session m) (Actor.Session n) = nat_cmp_is (suc m) (suc n) (nat_cmp m n) (by (nat_cmp m n) (ranked m n (nat_cmp m n) refl))
+by-seats (Actor.Session m) (Actor.Session n) =
+    let order = nat_cmp m n in
+    nat_cmp_is (suc m) (suc n) order (by order (ranked m n order refl))
   where
-    by : (o : Ordering) → MatchOrdering o (m < n) (m ≡ n) (n < m) → MatchOrdering o (suc m < suc n) (suc m ≡ suc n) (suc n < suc m)
+    by : (o : Ordering) → MatchOrdering o (m < n) (m ≡ n) (n < m)
+        → MatchOrdering o (suc m < suc n) (suc m ≡ suc n) (suc n < suc m)
     by Less h = omega (arith, h)
     by Equal h = ap suc h
     by Greater h = omega (arith, h)
@@ -49,11 +53,12 @@ by-seats (Actor.Session m) (Actor.Session n) = nat_cmp_is (suc m) (suc n) (nat_c
 pub at-seats : (a b : Actor) → at a b ≡ (seat_of a == seat_of b)
 at-seats a b = ap is_eq (by-seats a b) ∙ unsigned_tied (seat_of a) (seat_of b)
 
-pub seat-back : (a : Actor) → actor_at (seat_of a) ≡ a
+seat-back : (a : Actor) → actor_at (seat_of a) ≡ a
 seat-back Actor.Bare = refl
 seat-back (Actor.Session n) = refl
 
-pub found-seen : (a : Actor) (es : Entries) → option_map actor_view (lookup (at a) es) ≡ found (seat_of a) (seen es)
+pub found-seen : (a : Actor) (es : Entries)
+    → option_map actor_view (lookup (at a) es) ≡ found (seat_of a) (seen es)
 found-seen a [] = refl
 found-seen a (e ∷ es) =
     ap (λ (b : Bool). option_map actor_view (cond b (Some e.1) (lookup (at a) es))) (at-seats a e.0)
@@ -65,6 +70,10 @@ found-seen a (e ∷ es) =
     by behind true = refl
     by behind false = behind
 
+absent-seen : (a : Actor) (es : Entries)
+    → lookup (at a) es ≡ None → found (seat_of a) (seen es) ≡ None
+absent-seen a es absent = sym (found-seen a es) ∙ ap (option_map actor_view) absent
+
 -- an actor behind a reference
 pub behind-reference : (o : Option (Bor ActorState))
     → option_map (λ it. actor_view it.now) o ≡ option_map actor_view (option_copied o)
@@ -75,66 +84,79 @@ pub replaced-seen : (a : Actor) (w : ActorState) (es : Entries)
     → seen (set_value (at a) es w) ≡ replaced (seat_of a) (actor_view w) (seen es)
 replaced-seen a w [] = refl
 replaced-seen a w (e ∷ es) =
-    ap (λ (b : Bool). seen (cond b ((e.0, w) ∷ es) (e ∷ set_value (at a) es w))) (at-seats a e.0)
-    ∙ by (replaced-seen a w es) (seat_of a == seat_of e.0) (λ is. eqb-true (seat_of a) (seat_of e.0) is)
+    ap (λ (b : Bool). seen (put_first b)) (at-seats a e.0)
+    ∙ by (replaced-seen a w es) (seat_of a == seat_of e.0)
+    (λ is. eqb-true (seat_of a) (seat_of e.0) is)
   where
+    put_first : Bool → Entries
+    put_first b = cond b ((e.0, w) ∷ es) (e ∷ set_value (at a) es w)
+
     by : seen (set_value (at a) es w) ≡ replaced (seat_of a) (actor_view w) (seen es)
         → (b : Bool) → (b ≡ true → seat_of a ≡ seat_of e.0)
-        → seen (cond b ((e.0, w) ∷ es) (e ∷ set_value (at a) es w))
-        ≡ cond b (entry (seat_of a) (actor_view w) ∷ seen es) (named_view e ∷ replaced (seat_of a) (actor_view w) (seen es))
+        → seen (put_first b) ≡ replaced_first b (seat_of a) (actor_view w) (named_view e) (seen es)
     by behind true same = ap (λ (n : ℕ). entry n (actor_view w) ∷ seen es) (sym (same refl))
     by behind false same = ap (λ (l : List (Entry ActorData)). named_view e ∷ l) behind
 
 pub stays-seen : (a : Actor) (w : ActorState) (es : Entries) → lookup (at a) es ≡ None
     → seen es ≡ replaced (seat_of a) (actor_view w) (seen es)
 stays-seen a w es absent =
-    sym (replaced-nothing (seat_of a) (actor_view w) (seen es) (sym (found-seen a es) ∙ ap (option_map actor_view) absent))
+    sym (replaced-nothing (seat_of a) (actor_view w) (seen es) (absent-seen a es absent))
 
--- the first entry of a name is taken out, and there is no further one
-taken-seen : (a : Actor) (es : Entries) → without (seat_of a) (seen (remove_entry (at a) es)) ≡ without (seat_of a) (seen es)
+taken-seen : (a : Actor) (es : Entries)
+    → without (seat_of a) (seen (remove_entry (at a) es)) ≡ without (seat_of a) (seen es)
 taken-seen a [] = refl
 taken-seen a (e ∷ es) =
-    ap (λ (b : Bool). without (seat_of a) (seen (cond b es (e ∷ remove_entry (at a) es)))) (at-seats a e.0)
+    ap (λ (b : Bool). without (seat_of a) (seen (left_first b))) (at-seats a e.0)
     ∙ by (taken-seen a es) (seat_of a == seat_of e.0) refl
   where
+    left_first : Bool → Entries
+    left_first b = cond b es (e ∷ remove_entry (at a) es)
+
     by : without (seat_of a) (seen (remove_entry (at a) es)) ≡ without (seat_of a) (seen es)
         → (b : Bool) → (seat_of a == seat_of e.0) ≡ b
-        → without (seat_of a) (seen (cond b es (e ∷ remove_entry (at a) es)))
+        → without (seat_of a) (seen (left_first b))
         ≡ without_first b (named_view e) (without (seat_of a) (seen es))
     by behind true is = refl
     by behind false is =
-        ap (λ (b : Bool). without_first b (named_view e) (without (seat_of a) (seen (remove_entry (at a) es)))) is
+        let left = without (seat_of a) (seen (remove_entry (at a) es)) in
+        ap (λ (b : Bool). without_first b (named_view e) left) is
         ∙ ap (λ (l : List (Entry ActorData)). named_view e ∷ l) behind
 
-pub removed-seen : (a : Actor) (es fs : Entries) → fs ≡ remove_entry (at a) es → lookup (at a) fs ≡ None
-    → seen fs ≡ without (seat_of a) (seen es)
+-- the first entry of a name is taken out, and there is no further one
+pub removed-seen : (a : Actor) (es fs : Entries) → fs ≡ remove_entry (at a) es
+    → lookup (at a) fs ≡ None → seen fs ≡ without (seat_of a) (seen es)
 removed-seen a es fs taken absent =
-    sym (without-nothing (seat_of a) (seen fs) (sym (found-seen a fs) ∙ ap (option_map actor_view) absent))
+    sym (without-nothing (seat_of a) (seen fs) (absent-seen a fs absent))
     ∙ ap (λ (l : Entries). without (seat_of a) (seen l)) taken ∙ taken-seen a es
 
 -- a name above all goes behind them
-put-behind : (a : Actor) (v : ActorState) (es : Entries) → AreBelow (seat_of a) (seen es) → insert_entry by_name es a v ≡ es ++ (a, v) ∷ []
+put-behind : (a : Actor) (v : ActorState) (es : Entries) → AreBelow (seat_of a) (seen es)
+    → insert_entry by_name es a v ≡ es ++ (a, v) ∷ []
 put-behind a v [] below = refl
 put-behind a v (e ∷ es) below =
-    ap (λ (o : Ordering). match_ordering o ((a, v) ∷ e ∷ es) ((e.0, v) ∷ es) (e ∷ insert_entry by_name es a v))
+    ap (λ (o : Ordering). match_ordering o ((a, v) ∷ e ∷ es) ((e.0, v) ∷ es)
+    (e ∷ insert_entry by_name es a v))
     (by-seats a e.0 ∙ sym (nat_cmp_is (seat_of a) (seat_of e.0) Greater below.0))
     ∙ ap (λ (l : Entries). e ∷ l) (put-behind a v es below.1)
 
 pub added-seen : (a : Actor) (v : ActorState) (es : Entries) → AreBelow (seat_of a) (seen es)
     → seen (insert_entry by_name es a v) ≡ seen es ++ named_view (a, v) ∷ []
-added-seen a v es below = ap seen (put-behind a v es below) ∙ map-append named_view es ((a, v) ∷ [])
+added-seen a v es below =
+    ap seen (put-behind a v es below) ∙ map-append named_view es ((a, v) ∷ [])
 
--- the first that has work
 abbrev pub works : Actor × ActorState → Bool
 works e = has_work (named_view e)
 
-pub ready-seen : (es : Entries)
-    → option_map (λ e. e.0) (find works es) ≡ option_map (λ e. actor_at e.number) (find has_work (seen es))
+-- the name of the first that has work
+pub ready-seen : (es : Entries) → option_map (λ e. e.0) (find works es)
+    ≡ option_map (λ e. actor_at e.number) (find has_work (seen es))
 ready-seen [] = refl
 ready-seen (e ∷ es) = by (ready-seen es) (works e)
   where
-    by : option_map (λ f. f.0) (find works es) ≡ option_map (λ f. actor_at f.number) (find has_work (seen es)) → (b : Bool)
+    by : option_map (λ f. f.0) (find works es)
+        ≡ option_map (λ f. actor_at f.number) (find has_work (seen es)) → (b : Bool)
         → option_map (λ f. f.0) (cond b (Some e) (find works es))
-        ≡ option_map (λ f. actor_at f.number) (cond b (Some (named_view e)) (find has_work (seen es)))
+        ≡ option_map (λ f. actor_at f.number)
+        (cond b (Some (named_view e)) (find has_work (seen es)))
     by behind true = ap (λ (a : Actor). Some a) (sym (seat-back e.0))
     by behind false = behind

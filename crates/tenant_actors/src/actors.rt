@@ -23,7 +23,8 @@ pub struct Actors {
 impl Actors {
     /// The actor of the requests without a session, alone. It fails only for want of memory.
     pub fn new(alloc: Global) -> Result<Actors, AllocError>
-        ensures { IfOk result (λ made. actors_view made ≡ entry (seat_of Actor.Bare) unoccupied ∷ []) }
+        ensures { IfOk result (λ made.
+            actors_view made ≡ entry (seat_of Actor.Bare) unoccupied ∷ []) }
     {
         let mut live = BTreeMap::new(alloc);
         live.insert(Actor::Bare, ActorState::unoccupied(alloc))?;
@@ -32,15 +33,18 @@ impl Actors {
 
     /// The actor of this name, if it is there.
     pub fn get(&self, actor: Actor) -> Option<&ActorState>
-        ensures { option_map (λ it. actor_view it.now) result ≡ found (seat_of actor) (actors_view self.now) }
+        ensures { option_map (λ it. actor_view it.now) result
+            ≡ found (seat_of actor) (actors_view self.now) }
     {
         self.live.get(&actor)
     }
 
-    /// Puts this one in the place of the actor of this name, if it is there, and gives that one back.
+    /// Puts this one in the place of the actor of this name, if it is there, and gives that one
+    /// back.
     pub fn replace(&mut self, actor: Actor, state: ActorState) -> Option<ActorState>
         ensures was { option_map actor_view result ≡ found (seat_of actor) (actors_view self.old) }
-        ensures put { actors_view self.new ≡ replaced (seat_of actor) (actor_view state) (actors_view self.old) }
+        ensures put { actors_view self.new
+            ≡ replaced (seat_of actor) (actor_view state) (actors_view self.old) }
     {
         let Some(place) = self.live.get_mut(&actor) else {
             return None;
@@ -58,7 +62,8 @@ impl Actors {
     /// Adds an actor behind all others. It fails only for want of memory.
     pub fn open(&mut self, actor: Actor) -> Result<(), AllocError>
         requires { AreBelow (seat_of actor) (actors_view self.old) }
-        ensures added { OnOk result (actors_view self.new ≡ actors_view self.old ++ entry (seat_of actor) unoccupied ∷ []) }
+        ensures added { OnOk result (actors_view self.new
+            ≡ actors_view self.old ++ entry (seat_of actor) unoccupied ∷ []) }
         ensures stays { OnErr result (actors_view self.new ≡ actors_view self.old) }
     {
         self.live.insert(actor, ActorState::unoccupied(self.alloc))?;
@@ -67,7 +72,8 @@ impl Actors {
 
     /// The first that has a form or a request to begin.
     pub fn ready(&self) -> Option<Actor>
-        ensures { result ≡ option_map (λ e. actor_at e.number) (find has_work (actors_view self.now)) }
+        ensures { result
+            ≡ option_map (λ e. actor_at e.number) (find has_work (actors_view self.now)) }
     {
         let (actor, _) = self.live.iter().find(|(_, state)| has_work(state))?;
         Some(*actor)

@@ -11,10 +11,7 @@ use std::sync::ArcStr;
 #[derive(Drop)]
 pub enum ProgramText {
     /// Code, and the namespace that is named for it, as it came.
-    Code {
-        text: String,
-        ns: Option<Ben>,
-    },
+    Code { text: String, ns: Option<Ben> },
     /// The text of a file.
     File(String),
 }

@@ -14,8 +14,9 @@ returns-in_default-clause-was c =
 
 pub returns-in_default-clause-put : goal.returns-in_default-clause-put
 returns-in_default-clause-put c =
+    let was = c.args.self.now.live.entries in
     ap (λ (m : BTreeMap Actor ActorState). seen m.entries) c.get_mut.follows.holds-at-none
-    ∙ stays-seen c.args.actor c.args.state c.args.self.now.live.entries (sym c.in_default.ensures.value)
+    ∙ stays-seen c.args.actor c.args.state was (sym c.in_default.ensures.value)
 
 pub returns-clause-was : goal.returns-clause-was
 returns-clause-was c =
@@ -25,6 +26,7 @@ returns-clause-was c =
 
 pub returns-clause-put : goal.returns-clause-put
 returns-clause-put c =
+    let was = c.args.self.now.live.entries in
     ap seen (c.get_mut.follows.holds c.replace.new.dest).0
-    ∙ ap (λ (s : ActorState). seen (set_value (at c.args.actor) c.args.self.now.live.entries s)) c.replace.ensures.after
-    ∙ replaced-seen c.args.actor c.args.state c.args.self.now.live.entries
+    ∙ ap (λ (s : ActorState). seen (set_value (at c.args.actor) was s)) c.replace.ensures.after
+    ∙ replaced-seen c.args.actor c.args.state was
