@@ -1,7 +1,7 @@
 //! The replies that a step makes, and those that wait.
 //!
-//! A step makes all its replies first, as a batch, and posts them at once: so it adds all of them, or
-//! none.
+//! A step makes all its replies first, as a batch, and posts them at once: so it adds all of
+//! them, or none.
 #![tactic(auto)]
 
 mod batch;

@@ -40,15 +40,13 @@ impl Outbox {
         self.replies.pop_front()
     }
 
-    /// Lets the replies of a batch wait, in order. It fails only for want of memory, and then adds none.
+    /// Lets the replies of a batch wait, in order. It fails only for want of memory, and then adds
+    /// none.
     pub fn post(&mut self, batch: Batch) -> Result<(), AllocError>
         ensures posted { OnOk result (waiting_bytes self.new ≡ waiting_bytes self.old ++ made_bytes batch) }
         ensures stays { OnErr result (waiting_bytes self.new ≡ waiting_bytes self.old) }
     {
-        self.replies.reserve(batch.replies.len())?;
-        for bytes in batch.replies {
-            self.replies.push_back_reserved(bytes);
-        }
-        Ok(())
+        let mut made = VecDeque::from_vec(batch.replies);
+        self.replies.append(&mut made)
     }
 }
