@@ -69,7 +69,12 @@ impl Batch {
     }
 
     /// Adds a value as it is printed, with the namespace.
-    pub fn add_value(&mut self, origin: &Origin, namespace: &str, value: &Value) -> Result<(), AllocError>
+    pub fn add_value(
+        &mut self,
+        origin: &Origin,
+        namespace: &str,
+        value: &Value,
+    ) -> Result<(), AllocError>
         ensures { OnOk result (made_bytes self.new
             ≡ made_bytes self.old ++ map bytes_of (value_reply (origin_view origin.now) namespace.now (view value.now) ∷ [])) }
     {

@@ -45,10 +45,7 @@ impl Outbox {
         ensures posted { OnOk result (waiting_bytes self.new ≡ waiting_bytes self.old ++ made_bytes batch) }
         ensures stays { OnErr result (waiting_bytes self.new ≡ waiting_bytes self.old) }
     {
-        self.replies.reserve(batch.replies.len())?;
-        for bytes in batch.replies {
-            self.replies.push_back_reserved(bytes);
-        }
-        Ok(())
+        let mut made = VecDeque::from_vec(batch.replies);
+        self.replies.append(&mut made)
     }
 }
