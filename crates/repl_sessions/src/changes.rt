@@ -4,8 +4,10 @@ ghost use Rattle.std.specs.Arc.{arc_str_bytes};
 ghost use Rattle.value_data.specs.View.{view};
 ghost use Rattle.repl_sessions.specs.State.{after_value, after_fault, in_namespace};
 ghost use Rattle.repl_sessions.specs.Sessions.{with_change};
+ghost use Rattle.repl_sessions.specs.StateView.{state_view};
 
 use crate::sessions::Sessions;
+use crate::state::SessionState;
 use repl_values::{Fault, Value};
 use std::sync::ArcStr;
 
@@ -33,6 +35,18 @@ impl Sessions {
         match self.live.get_mut(&number) {
             Some(state) => state.note_fault(fault),
             None => drop(fault),
+        }
+    }
+
+    /// Puts this state in the place of that of the session of this number, if it is open.
+    pub fn set_state(&mut self, number: u64, state: SessionState)
+        ensures { self.new ≡ record self.old {
+          sessions = with_change self.old.sessions number (λ _. state_view state);
+        } }
+    {
+        match self.live.get_mut(&number) {
+            Some(place) => place.give_way(state),
+            None => drop(state),
         }
     }
 

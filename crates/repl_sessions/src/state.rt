@@ -56,6 +56,13 @@ impl SessionState {
         })
     }
 
+    /// Gives way to another state.
+    pub(crate) fn give_way(&mut self, state: SessionState)
+        ensures { self.new ≡ state }
+    {
+        *self = state;
+    }
+
     /// Notes the value of a form.
     pub fn note_value(&mut self, value: Value)
         ensures { state_view self.new ≡ after_value (view value) (state_view self.old) }
