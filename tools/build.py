@@ -120,9 +120,9 @@ def jobs_at_once():
 
 def build(crate, jobs):
     """Proves one crate and builds it: a library, or a program, which is then run once on an empty stream."""
-    command = ["rt", "lib", "--jobs", str(jobs)]
+    command = [*workspace.RT, "lib", "--jobs", str(jobs)]
     if os.path.isfile(f"{crate.folder}/src/main.rt"):
-        command = ["rt", "run", "--jobs", str(jobs), "--", *arguments(crate)]
+        command = [*workspace.RT, "run", "--jobs", str(jobs), "--", *arguments(crate)]
     os.makedirs(f"{crate.folder}/out", exist_ok=True)
     with tempfile.TemporaryDirectory(prefix=f".build-{crate.name}-", dir=workspace.TOP) as room:
         furnish(room, crate)

@@ -88,8 +88,8 @@ def first_refusal(crate, edit, inside):
 def refusal(inside, changed, *words):
     """The first error that refuses the meaning of the changed crate, or none where it is proved."""
     ran = subprocess.run(
-        ["rt", "check", "--jobs", "1", *words], cwd=inside, stdin=subprocess.DEVNULL, stdout=subprocess.PIPE,
-        stderr=subprocess.STDOUT, errors="replace",
+        [*workspace.RT, "check", "--jobs", "1", *words], cwd=inside, stdin=subprocess.DEVNULL,
+        stdout=subprocess.PIPE, stderr=subprocess.STDOUT, errors="replace",
     )
     if not re.search(r"^logic=not-proved", ran.stdout, re.MULTILINE):
         if ran.returncode == 0 or words:
