@@ -1,0 +1,4 @@
+pub mod Owners
+pub mod Standing
+pub mod Seen
+pub mod Tables

@@ -1,0 +1,89 @@
+-- A table goes on standing for refs.
+use Rattle.std.proofs.Common.{◌≡◌, ◌≢◌, ℕ, List, [], ◌∷◌, ◌++◌, Bool, true, false, Option, Some, None}
+use Rattle.std.proofs.Common.{refl, sym, ap, ◌∙◌, subst}
+use Rattle.value_data.specs.Datum.{OwnerData, shared, tenant}
+use Rattle.repl_asks.specs.Transactions.{RefNameData}
+use Rattle.server_rules.specs.Numbered.{changed_at, Entry}
+use Rattle.server_rules.specs.Versions.{Ref}
+use Rattle.server_rules.specs.Store.{Store, ref_of, changed_of, named, changed}
+use Rattle.ref_history.specs.Changes.{Standing, IsAbsent, SameRefs, SameBut, Changed}
+use Rattle.ref_history.specs.declared.ref_id.RefId.{RefId}
+use Rattle.ref_table.specs.Refs.{Refs, store_of, owned_with, after}
+use Rattle.ref_table.specs.Directory.{ids_of, id_within, id_named}
+use Rattle.ref_table.specs.Standing.{Matches, StandFor, AreApart, Stands}
+use Rattle.ref_table.specs.declared.directory.Directory.{Directory}
+use Rattle.ref_table.specs.declared.table.RefTable.{RefTable}
+use Rattle.ref_table.proofs.Standing.{there, absent, stand-same, stand-equal, stand-changed}
+use Rattle.ref_table.proofs.Seen.{owned-seen, stands-within, changed_of-counter, id-there}
+use Rattle.ref_table.proofs.Seen.{changed-here, changed-elsewhere, changed-nowhere}
+
+-- what a tenant sees adds nothing
+pub seen-stands : {H : Type 0} (stands : H → RefId → Ref → Type 0) (t : RefTable H) (viewer : ℕ)
+    (points : List (Entry ℕ)) (r : Refs)
+    → Stands stands t r → Stands stands t (after (store_of viewer points r) r)
+seen-stands stands t viewer points r s = record {
+  counter = s.counter;
+  refs = stand-equal (stands t.history) (ids_of t.directory) r.owned
+      (after (store_of viewer points r) r).owned (owned-seen viewer r.owned) s.refs;
+  apart = s.apart;
+}
+
+-- the history keeps all that it stood for
+pub same-stands : {H : Type 0} (stands : H → RefId → Ref → Type 0) (t : RefTable H) (h : H)
+    (r : Refs) → SameRefs (stands t.history) (stands h)
+    → Stands stands t r → Stands stands (record t { history = h }) r
+same-stands stands t h r same s = record {
+  counter = s.counter;
+  refs = stand-same (stands t.history) (stands h) (ids_of t.directory) r.owned same s.refs;
+  apart = s.apart;
+}
+
+-- a ref that the tenant sees changes
+pub changed-stands : {H : Type 0} (stands : H → RefId → Ref → Type 0) (t : RefTable H) (h : H)
+    (s : Store) (r : Refs) (name : RefNameData) (id : RefId) (f : Ref → Ref)
+    → id_named t.directory s.tenant name ≡ Some id
+    → Changed id f (stands t.history) (stands h)
+    → Stands stands t (after s r)
+    → Stands stands (record t { history = h }) (after (changed name f s) r)
+changed-stands stands t h s r name id f e change now = record {
+  counter = now.counter ∙ sym (changed_of-counter name.owner name.number f s);
+  refs = stand-changed (stands t.history) (stands h) (ids_of t.directory) (after s r).owned
+      (after (changed name f s) r).owned name.owner name.number id f
+      (id-there t.directory s.tenant name.owner name.number id e) now.apart change
+      (changed-here t.directory s r name.owner name.number f id e)
+      (changed-elsewhere t.directory s r name.owner name.number f id e) now.refs;
+  apart = now.apart;
+}
+
+-- a change of a ref that the tenant does not see
+pub unseen-stands : {H : Type 0} (stands : H → RefId → Ref → Type 0) (t : RefTable H)
+    (s : Store) (r : Refs) (name : RefNameData) (f : Ref → Ref)
+    → id_named t.directory s.tenant name ≡ None
+    → Stands stands t (after s r) → Stands stands t (after (changed name f s) r)
+unseen-stands stands t s r name f e now = record {
+  counter = now.counter ∙ sym (changed_of-counter name.owner name.number f s);
+  refs = stand-equal (stands t.history) (ids_of t.directory) (after s r).owned
+      (after (changed name f s) r).owned
+      (changed-nowhere s r name.owner name.number f
+      (absent (stands t.history) (id_named t.directory s.tenant name) (named name s)
+      (stands-within (stands t.history) t.directory s r name.owner name.number now.refs) e))
+      now.refs;
+  apart = now.apart;
+}
+
+-- the ref that an id stands for is the one that is seen
+pub seen-there : {H : Type 0} (stands : H → RefId → Ref → Type 0) (t : RefTable H) (s : Store)
+    (r : Refs) (name : RefNameData) (id : RefId)
+    → id_named t.directory s.tenant name ≡ Some id → Stands stands t (after s r)
+    → (ref : Ref) × (named name s ≡ Some ref) × stands t.history id ref
+seen-there stands t s r name id e now =
+    there (stands t.history) (id_named t.directory s.tenant name) (named name s) id
+    (stands-within (stands t.history) t.directory s r name.owner name.number now.refs) e
+
+pub seen-absent : {H : Type 0} (stands : H → RefId → Ref → Type 0) (t : RefTable H) (s : Store)
+    (r : Refs) (name : RefNameData)
+    → id_named t.directory s.tenant name ≡ None → Stands stands t (after s r)
+    → named name s ≡ None
+seen-absent stands t s r name e now =
+    absent (stands t.history) (id_named t.directory s.tenant name) (named name s)
+    (stands-within (stands t.history) t.directory s r name.owner name.number now.refs) e

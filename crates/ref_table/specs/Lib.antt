@@ -1,0 +1,5 @@
+pub mod Refs
+pub mod Directory
+pub mod Standing
+pub mod Told
+pub mod Placing
