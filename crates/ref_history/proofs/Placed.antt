@@ -1,14 +1,14 @@
 -- One place of many is changed.
-use Rattle.std.proofs.Common.{◌≡◌, ◌≢◌, ◌↔◌, ℕ, Option, Some, sym, ap, ◌∙◌, subst}
-use Rattle.slab.specs.Slab.{Slab, get, with_value, Updates, ContainsKey}
+use Rattle.std.proofs.Common.{◌≡◌, ◌≢◌, ◌↔◌, ℕ, Option, Some, is_some, inl, inr, sym, ap, ◌∙◌, subst}
+use Rattle.std.proofs.Common.{Result, Ok, Err, OnErr}
+use Rattle.std.proofs.lemmas.Bool.{cases_eq}
+use Rattle.slab.specs.Slab.{Slab, get, with_value, Updates}
 use Rattle.slab.proofs.SlabLemmas.{Updates-with_value}
 use Rattle.server_rules.specs.Versions.{Ref}
 use Rattle.ref_history.specs.Changes.{Standing, IsAbsent, SameRefs, SameBut, Changed}
-use Rattle.ref_history.specs.Kept.{KeptStands, HasRoom}
-use Rattle.ref_history.specs.Histories.{ListStands}
+use Rattle.ref_history.specs.Kept.{KeptStands}
 use Rattle.ref_history.specs.declared.kept_ref.KeptRef.{KeptRef}
 use Rattle.ref_history.specs.declared.ref_id.RefId.{RefId}
-use Rattle.ref_history.specs.declared.list_history.ListHistory.{ListHistory}
 use Rattle.ref_history.proofs.Standing.{some-ref}
 
 abbrev pub Places : Type 0
@@ -21,11 +21,11 @@ some-same : {A : Type 0} (x y : A) → ◌≡◌ {A = Option A} (Some x) (Some y
 some-same x y e = cc
 
 -- where something is kept, it stands for some ref
-pub not-absent : (places : Places) (id : RefId) (k : KeptRef) → get places id.place ≡ Some k
+pub not-absent : (places : Places) (id : RefId) (k : KeptRef) → Some k ≡ get places id.place
     → IsAbsent (stands_in places) id → ⊥
 not-absent places id k here none =
     let seen = some-ref k in
-    none seen.0 (k, here, seen.1)
+    none seen.0 (k, sym here, seen.1)
 
 other-place : (id other : RefId) → other ≢ id → other.place ≢ id.place
 other-place id other differ same = differ (ap (λ (n : ℕ). record { place = n }) same)
@@ -38,14 +38,56 @@ same-but old new id others other differ r =
     let kept = others other.place (other-place id other differ) in
     (λ s. (s.0, kept ∙ s.1, s.2), λ s. (s.0, sym kept ∙ s.1, s.2))
 
+-- all places are as they were
+pub same-places : (old new : Places) → ((n : ℕ) → get new n ≡ get old n)
+    → SameRefs (stands_in old) (stands_in new)
+same-places old new kept id r = (
+  λ s. (s.0, kept id.place ∙ s.1, s.2),
+  λ s. (s.0, sym (kept id.place) ∙ s.1, s.2),
+)
+
+put-there : (old : Places) (id : RefId) (k new : KeptRef) → Some k ≡ get old id.place
+    → Updates old (with_value old id.place new) id.place (Some new)
+put-there old id k new here = Updates-with_value old id.place new (ap is_some (sym here))
+
 pub changed-place : (old : Places) (id : RefId) (k new : KeptRef) (f : Ref → Ref)
-    → get old id.place ≡ Some k
+    → Some k ≡ get old id.place
     → ((r : Ref) → KeptStands k r → KeptStands new (f r))
     → Changed id f (stands_in old) (stands_in (with_value old id.place new))
 changed-place old id k new f here becomes =
-    let updates = Updates-with_value old id.place new ? in
+    let put = put-there old id k new here in
     record {
-      changed = λ r s. (new, updates.changed, becomes r (subst (λ k. KeptStands k r) (some-same s.0 k (sym s.1 ∙ here)) s.2));
+      changed = λ r s.
+          let same = some-same s.0 k (sym s.1 ∙ sym here) in
+          (new, put.changed, becomes r (subst (λ k. KeptStands k r) same s.2));
       absent = λ none. absurd (not-absent old id k here none);
-      others = same-but old (with_value old id.place new) id updates.others;
+      others = same-but old (with_value old id.place new) id put.others;
     }
+
+pub same-place : (old : Places) (id : RefId) (k new : KeptRef) → Some k ≡ get old id.place
+    → ((r : Ref) → KeptStands k r ↔ KeptStands new r)
+    → SameRefs (stands_in old) (stands_in (with_value old id.place new))
+same-place old id k new here both other r = elim (cases_eq other.place id.place) [
+  | inl same ↦ (
+    λ s.
+        let kept = some-same s.0 k (sym s.1 ∙ ap (get old) same ∙ sym here) in
+        (new, ap (get now) same ∙ put.changed, (both r).0 (subst (λ k. KeptStands k r) kept s.2)),
+    λ s.
+        let kept = some-same s.0 new (sym s.1 ∙ ap (get now) same ∙ put.changed) in
+        (k, ap (get old) same ∙ sym here, (both r).1 (subst (λ k. KeptStands k r) kept s.2)),
+  )
+  | inr differ ↦ (
+    λ s. (s.0, put.others other.place differ ∙ s.1, s.2),
+    λ s. (s.0, sym (put.others other.place differ) ∙ s.1, s.2),
+  )
+] where
+  now : Places
+  now = with_value old id.place new
+
+  put : Updates old now id.place (Some new)
+  put = put-there old id k new here
+
+-- what holds without looking at a result holds after its failure
+pub on_err : {A E P : Type 0} (result : Result A E) → P → OnErr result P
+on_err (Ok a) p = tt
+on_err (Err e) p = p

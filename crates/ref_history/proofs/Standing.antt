@@ -1,12 +1,12 @@
 -- What is kept of one ref goes on standing for it.
 use Rattle.std.proofs.Common.{◌≡◌, ℕ, zero, suc, ◌+◌, ◌<◌, Bool, true, false, cond, not, ◌&&◌}
-use Rattle.std.proofs.Common.{List, [], ◌∷◌, map, take, length, find, Option, Some, option_map}
+use Rattle.std.proofs.Common.{List, [], ◌∷◌, map, take, length, find, Some, option_map}
 use Rattle.std.proofs.Common.{refl, sym, ap, ap₂, ◌∙◌, arith, nat_lt, leb, if◌then◌else◌}
 use Rattle.std.proofs.lemmas.List.{length-take-le, length-map, take-map, take_all}
 use Rattle.std.proofs.lemmas.Bool.{lt-leb}
 use Rattle.value_data.specs.View.{view}
 use Rattle.value_data.specs.Datum.{Datum}
-use Rattle.server_rules.specs.Versions.{Version, Ref, at_point, readable, grows, with_version}
+use Rattle.server_rules.specs.Versions.{Ref, at_point, readable, grows, with_version}
 use Rattle.ref_history.specs.Kept.{KeptStands, version_of}
 use Rattle.ref_history.specs.declared.kept_ref.KeptVersion.{KeptVersion}
 use Rattle.ref_history.specs.declared.kept_ref.KeptRef.{KeptRef}
@@ -82,7 +82,7 @@ and-yes false = refl
 
 pub added-stands : (k new : KeptRef) (r : Ref) (g : Bool) → g ≡ grows r → KeptStands k r
     → new.older.items ≡ (if g then k.newest ∷ k.older.items
-        else take (length k.older.items) (k.newest ∷ k.older.items))
+    else take (length k.older.items) (k.newest ∷ k.older.items))
     → new.is_faulted ≡ (k.is_faulted && not g) → new.bounds ≡ k.bounds
     → KeptStands new (with_version (version_of new.newest) r)
 added-stands k new r true g s older faulted bounds =

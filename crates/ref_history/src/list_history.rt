@@ -35,9 +35,7 @@ impl History for ListHistory {
     ghost has_room = { ListHasRoom };
 
     fn make(&mut self, value: Value, bounds: Bounds) -> Result<RefId, AllocError> {
-        let place = self
-            .refs
-            .insert(KeptRef::new(self.alloc, value, bounds))?;
+        let place = self.refs.insert(KeptRef::new(self.alloc, value, bounds))?;
         Ok(RefId { place })
     }
 
