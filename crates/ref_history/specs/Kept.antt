@@ -1,6 +1,8 @@
 -- What is kept of a ref stands for the ref with all its versions.
 use Rattle.std.specs.Prelude.{◌≡◌, ◌+◌, ◌<◌, ◌∷◌, IsTrue, map, take, length, nat_lt}
 use Rattle.std.specs.VecDeque.{deque_len, deque_capacity}
+use Rattle.std.specs.Prelude.{ℕ, Option, option_map, slice_get}
+use Rattle.value_data.specs.Datum.{Datum}
 use Rattle.value_data.specs.View.{view}
 use Rattle.server_rules.specs.Versions.{Version, Ref, grows}
 use Rattle.ref_history.specs.Effects.{version, bounds_of}
@@ -22,3 +24,7 @@ pub record KeptStands (k : KeptRef) (r : Ref) : Type 0 where
 abbrev pub HasRoom : KeptRef → Type 0
 HasRoom k = (r : Ref) → KeptStands k r → IsTrue (grows r)
     → deque_len k.older < deque_capacity k.older
+
+-- what the version at a place holds, from the newest on
+abbrev pub content_in : KeptRef → ℕ → Option Datum
+content_in k place = option_map (λ v. view v.content) (slice_get (k.newest ∷ k.older.items) place)

@@ -1,11 +1,11 @@
 // What is kept of one ref.
 ghost use Rattle.std.specs.Prelude.{◌≡◌, ◌↔◌, ◌<◌, ◌∷◌, take, length, if◌then◌else◌};
-ghost use Rattle.std.specs.Prelude.{IsTrue, OnOk, option_map};
+ghost use Rattle.std.specs.Prelude.{IsTrue, IsSome, IfSome, OnOk, option_map, option_and_then};
 ghost use Rattle.std.specs.VecDeque.{deque_len, deque_capacity};
 ghost use Rattle.value_data.specs.View.{view};
 ghost use Rattle.server_rules.specs.Versions.{Ref, with_version, faulted, grows, readable};
 ghost use Rattle.ref_history.specs.Effects.{version, first_ref};
-ghost use Rattle.ref_history.specs.Kept.{KeptStands, HasRoom};
+ghost use Rattle.ref_history.specs.Kept.{KeptStands, HasRoom, content_in};
 
 use crate::ref_id::Bounds;
 use std::alloc::{AllocError, Global};
@@ -86,14 +86,29 @@ impl KeptRef {
         self.is_faulted = true;
     }
 
-    pub(crate) fn read_at(&self, point: u128) -> Option<&Value>
-        ensures { (r : Ref) → KeptStands self.now r
-            → option_map (λ v. view v.now) result ≡ readable point r }
+    // Where the newest version stands that has at most this stamp: 0 is the newest of all.
+    pub(crate) fn place_at(&self, point: u128) -> Option<usize>
+        ensures kept { IfSome result (λ place. IsSome (content_in self.now place)) }
+        ensures value { (r : Ref) → KeptStands self.now r
+            → option_and_then (content_in self.now) result ≡ readable point r }
     {
         if self.newest.stamp <= point {
+            return Some(0);
+        }
+        let behind = self
+            .older
+            .iter()
+            .position(|version| version.stamp <= point)?;
+        Some(behind + 1)
+    }
+
+    pub(crate) fn content_at(&self, place: usize) -> Option<&Value>
+        ensures { option_map (λ v. view v.now) result ≡ content_in self.now place }
+    {
+        if place == 0 {
             return Some(&self.newest.content);
         }
-        let version = self.older.iter().find(|version| version.stamp <= point)?;
+        let version = self.older.get(place - 1)?;
         Some(&version.content)
     }
 }

@@ -52,14 +52,13 @@ impl History for ListHistory {
         }
     }
 
-    fn fault(&mut self, id: RefId) {
-        if let Some(kept) = self.refs.get_mut(id.place) {
+    fn read_at(&mut self, id: RefId, point: u128) -> Option<&Value> {
+        let kept = self.refs.get_mut(id.place)?;
+        let Some(place) = kept.place_at(point) else {
             kept.fault();
-        }
-    }
-
-    fn read_at(&self, id: RefId, point: u128) -> Option<&Value> {
-        self.refs.get(id.place)?.read_at(point)
+            return None;
+        };
+        kept.content_at(place)
     }
 
     fn newest(&self, id: RefId) -> Option<&Value> {

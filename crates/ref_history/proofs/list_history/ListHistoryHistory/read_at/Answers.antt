@@ -1,6 +1,0 @@
-use Rattle.ref_history.proofs.Placed.{not-absent}
-use Rattle.ref_history.proofs.list_history.ListHistoryHistory.read_at.Goals as goal
-
-pub returns-clause-absent : goal.returns-clause-absent
-returns-clause-absent c = λ none.
-    absurd (not-absent c.args.self.now.refs c.args.id c.in_ok-get.field-0.now c.in_ok-get.ensures none)
