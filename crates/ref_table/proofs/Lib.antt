@@ -2,3 +2,4 @@ pub mod Owners
 pub mod Standing
 pub mod Seen
 pub mod Tables
+pub mod Distinct

@@ -29,3 +29,11 @@ id_named d viewer name = id_within d viewer name.owner name.number
 abbrev pub all_named : Directory → ℕ → List RefNameData → Bool
 all_named d viewer [] = true
 all_named d viewer (name ∷ names) = is_some (id_named d viewer name) && all_named d viewer names
+
+-- the same, where it is the tenant's own
+abbrev pub own_id_within : Directory → ℕ → OwnerData → ℕ → Option RefId
+own_id_within d viewer shared n = None
+own_id_within d viewer (tenant t) n = id_within d viewer (tenant t) n
+
+abbrev pub own_id : Directory → ℕ → RefNameData → Option RefId
+own_id d viewer name = own_id_within d viewer name.owner name.number

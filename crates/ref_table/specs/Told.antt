@@ -17,9 +17,9 @@ use Rattle.ref_table.specs.declared.outcome.Outcome.{Outcome}
 
 -- what the rules tell is told, and the table stands for the refs as they leave them
 pub record Performs {H : Type 0} (stands : H → RefId → Ref → Type 0) (t : RefTable H) (r : Refs)
-    (told : Option AnswerData) (p : Performed Store) : Type 0 where
-  pub told : told ≡ p.told
-  pub stands : Stands stands t (after p.store r)
+    (answer : Option AnswerData) (p : Performed Store) : Type 0 where
+  pub told : answer ≡ p.told
+  pub left : Stands stands t (after p.store r)
 
 -- what is told where there is nothing to tell but a reading
 abbrev pub reading_told : Option Reading → Option AnswerData

@@ -1,7 +1,8 @@
 // Whether what is to be set may be set.
 ghost use Rattle.std.specs.Prelude.{◌≡◌, map, IfOk};
-ghost use Rattle.repl_asks.specs.View.{change_view};
-ghost use Rattle.server_rules.specs.Commit.{all_fit, are_distinct};
+ghost use Rattle.repl_asks.specs.View.{name_view, change_view};
+ghost use Rattle.server_rules.specs.Commit.{may_hold, all_fit, are_distinct};
+ghost use Rattle.ref_table.specs.Keys.{key_of};
 
 use repl_asks::Change;
 use repl_values::{Owner, RefName, is_plain};
@@ -20,7 +21,9 @@ pub(crate) fn all_fit(sets: &[Change]) -> bool
     true
 }
 
-fn fits(change: &Change) -> bool {
+fn fits(change: &Change) -> bool
+    ensures { let c = change_view change.entry.now in result ≡ may_hold c.name.owner c.now }
+{
     match change.name.owner {
         Owner::Shared => is_plain(&change.now),
         Owner::Tenant(_) => true,
@@ -41,7 +44,9 @@ pub(crate) fn are_distinct(alloc: Global, sets: &[Change]) -> Result<bool, Alloc
 }
 
 // Orders the names: the shared refs first, and then those of each tenant.
-fn key_of(name: RefName) -> (Option<u64>, u64) {
+fn key_of(name: RefName) -> (Option<u64>, u64)
+    ensures { result ≡ key_of (name_view name) }
+{
     match name.owner {
         Owner::Shared => (None, name.number),
         Owner::Tenant(tenant) => (Some(tenant), name.number),

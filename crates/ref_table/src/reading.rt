@@ -1,12 +1,15 @@
 // How refs are read, and what is told of their histories.
-ghost use Rattle.std.specs.Prelude.{◌≡◌, ℕ, List, option_map, IfOk, OnErr};
+ghost use Rattle.std.specs.Prelude.{◌≡◌, ℕ, List, Some, option_map, IfOk, OnErr};
+ghost use Rattle.repl_asks.specs.Transactions.{RefNameData};
+ghost use Rattle.repl_asks.specs.Exchange.{reading, found};
 ghost use Rattle.repl_asks.specs.View.{name_view, reading_view};
-ghost use Rattle.server_rules.specs.Numbered.{Entry, found};
-ghost use Rattle.server_rules.specs.Versions.{Ref};
+ghost use Rattle.server_rules.specs.Numbered.{Entry, found as point_found};
+ghost use Rattle.server_rules.specs.Versions.{Ref, readable, newest};
 ghost use Rattle.server_rules.specs.Store.{named};
-ghost use Rattle.server_rules.specs.Calls.{performed, reads, sets_least, sets_most};
+ghost use Rattle.server_rules.specs.Calls.{performed, read_at, reads, sets_least, sets_most};
 ghost use Rattle.ref_history.specs.Effects.{bounds_of};
 ghost use Rattle.ref_table.specs.Refs.{Refs, store_of};
+ghost use Rattle.ref_table.specs.Directory.{id_named, own_id};
 ghost use Rattle.ref_table.specs.Standing.{Stands};
 ghost use Rattle.ref_table.specs.Told.{Performs, reading_told, setting_told};
 
@@ -29,7 +32,7 @@ impl<H: History> RefTable<H> {
         point: Option<Point>,
     ) -> Result<Option<Reading>, AllocError>
         ensures read { (r : Refs) (points : List (Entry ℕ)) (seat : ℕ) → Stands H.stands self.old r
-            → found seat points ≡ option_map (λ p. p.stamp) point
+            → point_found seat points ≡ option_map (λ p. p.stamp) point
             → IfOk result (λ told. Performs H.stands self.new r (reading_told told)
                 (performed (store_of viewer points r) (reads seat (name_view name)))) }
         ensures as_it_was { (r : Refs) → Stands H.stands self.old r
@@ -44,7 +47,17 @@ impl<H: History> RefTable<H> {
         }
     }
 
-    fn read_at(&mut self, id: RefId, point: Point) -> Result<Reading, AllocError> {
+    // As an attempt reads.
+    fn read_at(&mut self, id: RefId, point: Point) -> Result<Reading, AllocError>
+        ensures read { (r : Refs) (viewer : ℕ) (points : List (Entry ℕ)) (seat : ℕ) (name : RefNameData)
+            (ref : Ref) → Stands H.stands self.old r
+            → id_named self.old.directory viewer name ≡ Some id
+            → named name (store_of viewer points r) ≡ Some ref
+            → IfOk result (λ it. Performs H.stands self.new r (Some (reading (reading_view it)))
+                (read_at seat name (store_of viewer points r) (readable point.stamp ref))) }
+        ensures as_it_was { (r : Refs) → Stands H.stands self.old r
+            → OnErr result (Stands H.stands self.new r) }
+    {
         match self.history.read_at(id, point.stamp) {
             Some(value) => Ok(Reading::Found(copy(value)?)),
             None => {
@@ -54,7 +67,10 @@ impl<H: History> RefTable<H> {
         }
     }
 
-    fn read_newest(&self, id: RefId) -> Result<Option<Reading>, AllocError> {
+    fn read_newest(&self, id: RefId) -> Result<Option<Reading>, AllocError>
+        ensures { (ref : Ref) → H.stands self.now.history id ref → IfOk result (λ told.
+            reading_told told ≡ option_map (λ d. reading (found d)) (newest ref.versions)) }
+    {
         match self.history.newest(id) {
             Some(value) => Ok(Some(Reading::Found(copy(value)?))),
             None => Ok(None),
@@ -110,7 +126,9 @@ impl<H: History> RefTable<H> {
     }
 
     // The id of a ref whose bounds the tenant may set.
-    fn settable(&self, viewer: u64, name: RefName) -> Option<RefId> {
+    fn settable(&self, viewer: u64, name: RefName) -> Option<RefId>
+        ensures { result ≡ own_id self.now.directory viewer (name_view name) }
+    {
         match name.owner {
             Owner::Shared => None,
             Owner::Tenant(_) => self.directory.id_of(viewer, name),

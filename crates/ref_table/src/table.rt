@@ -2,6 +2,7 @@
 ghost use Rattle.std.specs.Prelude.{◌≡◌, ◌≢◌, ℕ, ◌<◌, length, slice_get, Some, IfOk, OnOk, OnErr};
 ghost use Rattle.value_data.specs.Datum.{tenant as tenant_owner};
 ghost use Rattle.value_data.specs.View.{view, owner_view};
+ghost use Rattle.server_rules.specs.Versions.{Ref};
 ghost use Rattle.ref_history.specs.Effects.{first_ref};
 ghost use Rattle.ref_table.specs.Refs.{Refs, no_refs, with_ref, without_refs};
 
