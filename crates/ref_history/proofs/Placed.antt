@@ -1,6 +1,6 @@
 -- One place of many is changed.
 use Rattle.std.proofs.Common.{◌≡◌, ◌≢◌, ◌↔◌, ℕ, Option, Some, is_some, inl, inr, sym, ap, ◌∙◌, subst}
-use Rattle.std.proofs.Common.{Result, Ok, Err, OnErr}
+use Rattle.std.proofs.Common.{Result, Ok, Err, OnErr, None, IsSome, option_map, MatchOption}
 use Rattle.std.proofs.lemmas.Bool.{cases_eq}
 use Rattle.slab.specs.Slab.{Slab, get, with_value, Updates}
 use Rattle.slab.proofs.SlabLemmas.{Updates-with_value}
@@ -9,7 +9,7 @@ use Rattle.ref_history.specs.Changes.{Standing, IsAbsent, SameRefs, SameBut, Cha
 use Rattle.ref_history.specs.Kept.{KeptStands}
 use Rattle.ref_history.specs.declared.kept_ref.KeptRef.{KeptRef}
 use Rattle.ref_history.specs.declared.ref_id.RefId.{RefId}
-use Rattle.ref_history.proofs.Standing.{some-ref}
+use Rattle.ref_history.proofs.Standing.{some-ref, some-same}
 
 abbrev pub Places : Type 0
 Places = Slab KeptRef
@@ -17,15 +17,18 @@ Places = Slab KeptRef
 abbrev pub stands_in : Places → Standing
 stands_in places id r = (k : KeptRef) × (get places id.place ≡ Some k) × KeptStands k r
 
-some-same : {A : Type 0} (x y : A) → ◌≡◌ {A = Option A} (Some x) (Some y) → x ≡ y
-some-same x y e = cc
-
 -- where something is kept, it stands for some ref
 pub not-absent : (places : Places) (id : RefId) (k : KeptRef) → Some k ≡ get places id.place
     → IsAbsent (stands_in places) id → ⊥
 not-absent places id k here none =
     let seen = some-ref k in
     none seen.0 (k, sym here, seen.1)
+
+-- what stands there is what is kept there
+pub stands-kept : (places : Places) (id : RefId) (k : KeptRef) (r : Ref)
+    → Some k ≡ get places id.place → stands_in places id r → KeptStands k r
+stands-kept places id k r here s =
+    subst (λ k. KeptStands k r) (some-same s.0 k (sym s.1 ∙ sym here)) s.2
 
 other-place : (id other : RefId) → other ≢ id → other.place ≢ id.place
 other-place id other differ same = differ (ap (λ (n : ℕ). record { place = n }) same)
@@ -57,9 +60,7 @@ pub changed-place : (old : Places) (id : RefId) (k new : KeptRef) (f : Ref → R
 changed-place old id k new f here becomes =
     let put = put-there old id k new here in
     record {
-      changed = λ r s.
-          let same = some-same s.0 k (sym s.1 ∙ sym here) in
-          (new, put.changed, becomes r (subst (λ k. KeptStands k r) same s.2));
+      changed = λ r s. (new, put.changed, becomes r (stands-kept old id k r here s));
       absent = λ none. absurd (not-absent old id k here none);
       others = same-but old (with_value old id.place new) id put.others;
     }
@@ -86,6 +87,16 @@ same-place old id k new here both other r = elim (cases_eq other.place id.place)
 
   put : Updates old now id.place (Some new)
   put = put-there old id k new here
+
+-- what is the same is put back
+pub put-back : (old : Places) (id : RefId) (k : KeptRef) → Some k ≡ get old id.place
+    → SameRefs (stands_in old) (stands_in (with_value old id.place k))
+put-back old id k here = same-place old id k k here (λ r. (λ s. s, λ s. s))
+
+pub on_some : {A B Q : Type 0} (P : Type 0) (f : A → B) (found : Option A) → IsSome (option_map f found) → Q
+    → MatchOption found P (λ _. Q)
+on_some P f (Some a) there q = q
+on_some P f None there q = absurd cc
 
 -- what holds without looking at a result holds after its failure
 pub on_err : {A E P : Type 0} (result : Result A E) → P → OnErr result P
