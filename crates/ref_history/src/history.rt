@@ -1,6 +1,8 @@
 // Who keeps the versions of refs.
 ghost use Rattle.std.specs.Prelude.{◌≡◌, ◌≢◌, false, Some, IsNone, IsSome, IfOk, OnOk, OnErr};
-ghost use Rattle.std.specs.Prelude.{option_map};
+ghost use Rattle.std.specs.Prelude.{MatchOption, option_map};
+ghost use Rattle.std.specs.Borrow.{sem};
+ghost use Rattle.std.specs.Io.BufRead.{Rests};
 ghost use Rattle.value_data.specs.View.{view};
 ghost use Rattle.server_rules.specs.Versions.{Ref, with_version, faulted};
 ghost use Rattle.server_rules.specs.Versions.{with_least, with_most, readable, newest, is_newer};
@@ -47,17 +49,16 @@ pub trait History: Drop {
         ensures rooms { (other : RefId) → other ≢ id
             → has_room self.old other → has_room self.new other };
 
-    /// Notes that a read found no version kept that is old enough. The next version is then kept
-    /// beside all others, where the bounds allow it. It takes no memory.
-    fn fault(&mut self, id: RefId)
-        ensures { Changed id faulted (stands self.old) (stands self.new) };
-
-    /// The value of the newest version that has at most this stamp, if it is kept. It costs a step
-    /// for each version that is kept of this ref.
-    fn read_at(&self, id: RefId, point: u128) -> Option<&Value>
-        ensures value { (r : Ref) → stands self.now id r
+    /// The value of the newest version that has at most this stamp, if it is kept. If it is not,
+    /// that is noted: the next version is then kept beside all others, where the bounds allow it.
+    /// It takes no memory, and costs a step for each version that is kept of this ref.
+    fn read_at(&mut self, id: RefId, point: u128) -> Option<&Value>
+        ensures* noted { sem 𝓛 (Rests Self.row self.entry (λ new. MatchOption result
+            (Changed id faulted (stands self.old) (stands new))
+            (λ _. SameRefs (stands self.old) (stands new)))) }
+        ensures value { (r : Ref) → stands self.old id r
             → option_map (λ v. view v.now) result ≡ readable point r }
-        ensures absent { IsAbsent (stands self.now) id → IsNone result };
+        ensures absent { IsAbsent (stands self.old) id → IsNone result };
 
     /// The value of the newest version.
     fn newest(&self, id: RefId) -> Option<&Value>

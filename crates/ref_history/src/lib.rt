@@ -3,7 +3,10 @@
 #![tactic(auto)]
 
 mod history;
+mod kept_ref;
+mod list_history;
 mod ref_id;
 
 pub use history::History;
+pub use list_history::ListHistory;
 pub use ref_id::{Bounds, RefId};
