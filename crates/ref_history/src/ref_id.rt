@@ -1,7 +1,7 @@
 // What a ref is made with, and what it is found by.
 
 /// Names a ref in the history that made it. After the ref was dropped, another may get its id.
-#[derive(Clone, Copy, Debug, PartialEq, Eq)]
+#[derive(Clone, Copy, Debug, PartialEq, Eq, PartialOrd, Ord)]
 pub struct RefId {
     pub(crate) place: usize,
 }

@@ -3,4 +3,3 @@ pub mod Directory
 pub mod Standing
 pub mod Told
 pub mod Placing
-pub mod Keys

@@ -1,5 +1,7 @@
 -- Where a commit puts its values.
 use Rattle.std.specs.Prelude.{◌≡◌, ◌≢◌, ℕ, List, [], ◌∷◌, Option, None, Some, ⊤, All}
+use Rattle.std.specs.Prelude.{Bool, true, not, ◌&&◌}
+use Rattle.std.specs.List.{list_any}
 use Rattle.value_data.specs.Datum.{Datum}
 use Rattle.value_data.specs.View.{view}
 use Rattle.repl_asks.specs.Transactions.{ChangeData}
@@ -24,6 +26,11 @@ abbrev pub places_of : Directory → ℕ → List ChangeData → List (RefId × 
 places_of d viewer [] = []
 places_of d viewer (c ∷ cs) =
     with_place (id_named d viewer c.name) c.now (places_of d viewer cs)
+
+-- no two are the same
+abbrev pub all_distinct : {K : Type 0} → (K → K → Bool) → List K → Bool
+all_distinct same [] = true
+all_distinct same (k ∷ ks) = not (list_any (same k) ks) && all_distinct same ks
 
 -- the places have room, and no two are the same
 abbrev pub HaveRoom : {H : Type 0} → (H → RefId → Type 0) → H → List Placed → Type 0

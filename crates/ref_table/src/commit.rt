@@ -1,21 +1,24 @@
 // Commits.
 ghost use Rattle.std.specs.Prelude.{◌≡◌, ℕ, ◌+◌, ◌<◌, ◌&&◌, List, Some, true, map, IfOk, OnOk, OnErr};
-ghost use Rattle.repl_asks.specs.View.{name_view, change_view, intent_view};
+ghost use Rattle.std.specs.Ordering.{eq_by_cmp};
+ghost use Rattle.repl_asks.specs.Transactions.{ChangeData};
+ghost use Rattle.repl_asks.specs.View.{name_view, intent_view};
 ghost use Rattle.server_rules.specs.Numbered.{Entry, found};
 ghost use Rattle.server_rules.specs.Store.{named};
 ghost use Rattle.server_rules.specs.Calls.{performed, commits};
-ghost use Rattle.server_rules.specs.Commit.{touched, fits, is_newer_ref, any_newer, are_distinct as distinct};
+ghost use Rattle.server_rules.specs.Commit.{touched, all_fit, is_newer_ref, any_newer};
 ghost use Rattle.server_rules.specs.Commit.{with_changes, raised};
 ghost use Rattle.ref_table.specs.Refs.{Refs, store_of, after};
 ghost use Rattle.ref_table.specs.Directory.{all_named};
 ghost use Rattle.ref_table.specs.Standing.{Stands, counter_of};
+ghost use Rattle.ref_table.specs.Placing.{placed_view, places_of, all_distinct};
 ghost use Rattle.ref_table.specs.Told.{Performs, outcome_told};
 
-use crate::fitting::{all_fit, are_distinct};
+use crate::fitting::all_fit;
 use crate::outcome::{Outcome, Point};
-use crate::placing::{add_all, reserve_all};
+use crate::placing::{Placed, add_all, are_distinct, reserve_all};
 use crate::table::RefTable;
-use ref_history::History;
+use ref_history::{History, RefId};
 use repl_asks::{Change, Intent};
 use repl_values::RefName;
 use std::alloc::{AllocError, Global};
@@ -40,7 +43,11 @@ impl<H: History> RefTable<H> {
         ensures as_it_was { (r : Refs) → Stands H.stands self.old r
             → OnErr result (Stands H.stands self.new r) }
     {
-        if !self.may_commit(alloc, viewer, intent)? {
+        if !self.may_commit(viewer, intent) {
+            return Ok(Outcome::Refused);
+        }
+        let placed = self.directory.places(alloc, viewer, &intent.sets)?;
+        if !are_distinct(alloc, &placed)? {
             return Ok(Outcome::Refused);
         }
         if self.is_any_set_newer(viewer, &intent.sets, point)
@@ -49,24 +56,19 @@ impl<H: History> RefTable<H> {
             return Ok(Outcome::Conflict);
         }
         if !intent.sets.is_empty() {
-            self.set_all(alloc, viewer, &intent.sets)?;
+            self.set_all(placed)?;
         }
         Ok(Outcome::Committed)
     }
 
-    // Whether all refs are there, none is set twice, and each may hold what it is set to.
-    fn may_commit(&self, alloc: Global, viewer: u64, intent: &Intent) -> Result<bool, AllocError>
-        ensures { IfOk result (λ may. may
-            ≡ (all_named self.now.directory viewer (touched (intent_view intent.now))
-            && fits (intent_view intent.now))) }
+    // Whether all refs are there, and each may hold what it is set to.
+    fn may_commit(&self, viewer: u64, intent: &Intent) -> bool
+        ensures { result ≡ (all_named self.now.directory viewer (touched (intent_view intent.now))
+            && all_fit (intent_view intent.now).sets) }
     {
-        if !self.directory.has_all_set(viewer, &intent.sets)
-            || !self.directory.has_all(viewer, &intent.ensured)
-            || !all_fit(&intent.sets)
-        {
-            return Ok(false);
-        }
-        are_distinct(alloc, &intent.sets)
+        self.directory.has_all_set(viewer, &intent.sets)
+            && self.directory.has_all(viewer, &intent.ensured)
+            && all_fit(&intent.sets)
     }
 
     fn is_newer(&self, viewer: u64, name: RefName, point: Point) -> bool
@@ -104,17 +106,19 @@ impl<H: History> RefTable<H> {
         false
     }
 
-    // Adds a version to each of the refs, at the next stamp.
-    fn set_all(&mut self, alloc: Global, viewer: u64, sets: &[Change]) -> Result<(), AllocError>
+    // Adds a version at each place, at the next stamp.
+    fn set_all(&mut self, placed: Vec<Placed>) -> Result<(), AllocError>
         requires room { counter_of self.old < u128.MAX }
-        requires once { distinct (map change_view sets.now) ≡ true }
-        ensures set { (r : Refs) (points : List (Entry ℕ)) → Stands H.stands self.old r
-            → OnOk result (Stands H.stands self.new (after (with_changes (r.counter + 1)
-                (map change_view sets.now) (raised (store_of viewer points r))) r)) }
+        requires once { all_distinct (eq_by_cmp ⟦<RefId as Ord>⟧.cmp)
+            (map (λ p. p.id) placed.items) ≡ true }
+        ensures set { (r : Refs) (viewer : ℕ) (points : List (Entry ℕ)) (sets : List ChangeData)
+            → Stands H.stands self.old r
+            → map placed_view placed.items ≡ places_of self.old.directory viewer sets
+            → OnOk result (Stands H.stands self.new (after (with_changes (r.counter + 1) sets
+                (raised (store_of viewer points r))) r)) }
         ensures as_it_was { (r : Refs) → Stands H.stands self.old r
             → OnErr result (Stands H.stands self.new r) }
     {
-        let placed = self.directory.places(alloc, viewer, sets)?;
         reserve_all(&mut self.history, &placed)?;
         self.counter += 1;
         add_all(&mut self.history, self.counter, placed);

@@ -1,14 +1,16 @@
 // Where a commit puts its values.
-ghost use Rattle.std.specs.Prelude.{◌≡◌, map, All, IfOk, OnOk, OnErr};
+ghost use Rattle.std.specs.Prelude.{◌≡◌, map, All, IfOk, OnOk};
+ghost use Rattle.std.specs.Ordering.{eq_by_cmp};
 ghost use Rattle.repl_asks.specs.View.{change_view};
 ghost use Rattle.ref_history.specs.Changes.{SameRefs};
-ghost use Rattle.ref_table.specs.Placing.{placed_view, places_of, HaveRoom, AddsAll};
+ghost use Rattle.ref_table.specs.Placing.{placed_view, places_of, all_distinct, HaveRoom, AddsAll};
 
 use crate::directory::Directory;
 use ref_history::{History, RefId};
 use repl_asks::Change;
 use repl_values::{Value, copy};
 use std::alloc::{AllocError, Global};
+use std::collections::BTreeSet;
 
 /// A value on its way into a ref.
 #[derive(Drop)]
@@ -37,6 +39,20 @@ impl Directory {
         }
         Ok(placed)
     }
+}
+
+// Whether no two places are the same. It takes n log n steps, and fails only for want of memory.
+pub(crate) fn are_distinct(alloc: Global, placed: &[Placed]) -> Result<bool, AllocError>
+    ensures { IfOk result (λ distinct. distinct
+        ≡ all_distinct (eq_by_cmp ⟦<RefId as Ord>⟧.cmp) (map (λ p. p.id) placed.now)) }
+{
+    let mut seen = BTreeSet::new(alloc);
+    for place in placed {
+        if !seen.insert(place.id)? {
+            return Ok(false);
+        }
+    }
+    Ok(true)
 }
 
 // Makes room at each place.

@@ -60,10 +60,7 @@ impl<H: History> RefTable<H> {
     {
         match self.history.read_at(id, point.stamp) {
             Some(value) => Ok(Reading::Found(copy(value)?)),
-            None => {
-                self.history.fault(id);
-                Ok(Reading::Retry)
-            }
+            None => Ok(Reading::Retry),
         }
     }
 
