@@ -1,6 +1,6 @@
 -- Keys that come one after the other, each of them new.
 use Rattle.std.proofs.Common.{◌≡◌, List, [], ◌∷◌, Bool, true, false, not, ◌&&◌, ◌||◌, cond}
-use Rattle.std.proofs.Common.{refl, sym, ap, ap₂, ◌∙◌}
+use Rattle.std.proofs.Common.{ℕ, zero, suc, ◌+◌, ◌<◌, length, drop, get_or, refl, sym, ap, ap₂, ◌∙◌, arith}
 use Rattle.std.specs.List.{list_any}
 use Rattle.std.specs.Ordering.{eq_by_cmp}
 use Rattle.std.specs.declared.cmp.Ordering.{Ordering}
@@ -67,9 +67,9 @@ pub all_new-more : {K : Type 0} (cmp : K → K → Ordering) (s more : BTreeSet 
     → ((q : K) → set.contains cmp more q ≡ cond (is_at (cmp k) q) true (set.contains cmp s q))
     → all_new (eq_by_cmp cmp) (set.contains cmp s) (k ∷ ks)
     ≡ all_new (eq_by_cmp cmp) (set.contains cmp more) ks
-all_new-more {K} cmp s more k ks added yes new updates =
+all_new-more {K} cmp s more k ks added is_added new updates =
     ap (λ b. b && all_new (eq_by_cmp cmp) (λ q. eq_by_cmp cmp k q || set.contains cmp s q) ks)
-    (sym new ∙ yes)
+    (sym new ∙ is_added)
     ∙ all_new-same (eq_by_cmp cmp) (λ q. eq_by_cmp cmp k q || set.contains cmp s q)
     (set.contains cmp more) ks
     (λ q. sym (updates q ∙ or-cond (is_at (cmp k) q) (set.contains cmp s q))) where
@@ -80,6 +80,15 @@ all_new-more {K} cmp s more k ks added yes new updates =
 pub all_new-repeat : {K : Type 0} (cmp : K → K → Ordering) (s : BTreeSet K) (k : K)
     (ks : List K) (added : Bool) → added ≡ false → added ≡ not (set.contains cmp s k)
     → all_new (eq_by_cmp cmp) (set.contains cmp s) (k ∷ ks) ≡ false
-all_new-repeat cmp s k ks added no new =
+all_new-repeat cmp s k ks added is_not new =
     ap (λ b. b && all_new (eq_by_cmp cmp) (λ q. eq_by_cmp cmp k q || set.contains cmp s q) ks)
-    (sym new ∙ no)
+    (sym new ∙ is_not)
+
+-- the first of those that are left
+pub drop-item : {A : Type 0} (xs : List A) (i : ℕ) (x : A) → i < length xs → x ≡ get_or xs i x
+    → drop i xs ≡ x ∷ drop (i + 1) xs
+drop-item [] i x below e = absurd (omega arith)
+drop-item (y ∷ xs) zero x below e = ap (λ z. z ∷ xs) (sym e)
+drop-item (y ∷ xs) (suc i) x below e =
+    let next : suc (i + 1) ≡ suc i + 1 = omega arith in
+    drop-item xs i x (omega arith) e ∙ ap (λ n. x ∷ drop n (y ∷ xs)) next
