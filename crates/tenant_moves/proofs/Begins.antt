@@ -1,14 +1,14 @@
 -- Starts: the next form, and a request that is taken up.
-use Rattle.std.proofs.Common.{◌≡◌, ℕ, List, [], ◌∷◌, Option, None, Some, refl, sym, ap, subst, ◌∙◌}
+use Rattle.std.proofs.Common.{◌≡◌, ℕ, List, Option, None, Some, refl, ap}
+use Rattle.value_data.specs.Datum.{Datum, Items, no_items, item}
 use Rattle.repl_replies.specs.Replies.{OriginData}
 use Rattle.repl_sessions.specs.State.{StateData}
 use Rattle.name_spaces.specs.Namespaces.{Namespaces}
-use Rattle.bencode_wire.specs.Tree.{Tree}
 use Rattle.server_rules.specs.Ground.{Ground}
 use Rattle.server_rules.specs.Request.{Hand, ProgramText, code, file}
 use Rattle.server_rules.specs.Starting.{Started, next_begun, text_begun, elsewhere_begun}
 use Rattle.tenant_moves.specs.Opening.{opened, named_namespace, opened_elsewhere}
-use Rattle.tenant_moves.specs.Starts.{not_found}
+use Rattle.tenant_moves.specs.Starts.{first_of, form_begun_with, request_over, not_found}
 
 -- what an opened request begins with
 abbrev pub start_opened : Ground → OriginData → StateData → Option Hand → Started
@@ -30,3 +30,19 @@ opened-begins g spaces origin state (code text None) = refl
 opened-begins g spaces origin state (code text (Some ns)) =
     elsewhere-so g origin text state (named_namespace spaces ns)
 opened-begins g spaces origin state (file text) = refl
+
+-- the first of the forms begins
+pub first-begins : (g : Ground) (h : Hand) (state : StateData) (forms : Items) (d : Datum)
+    → first_of forms ≡ Some d
+    → form_begun_with g (record h { forms = forms }) state d
+    ≡ next_begun g (record h { forms = forms }) state forms
+first-begins g h state no_items d first = absurd (cc)
+first-begins g h state (item e es) d first =
+    ap (λ it. form_begun_with g (record h { forms = item e es }) state it) (cc)
+
+-- there is none
+pub none-begins : (g : Ground) (h : Hand) (state : StateData) (forms : Items)
+    → first_of forms ≡ None
+    → request_over h state ≡ next_begun g (record h { forms = forms }) state forms
+none-begins g h state no_items first = refl
+none-begins g h state (item e es) first = absurd (cc)

@@ -1,5 +1,7 @@
 -- What a request is once its text is read.
-use Rattle.std.specs.Prelude.{◌≡◌, ℕ, List, Option, None, Some, option_and_then}
+use Rattle.std.specs.Prelude.{ℕ, List, Option, None, Some, option_and_then}
+use Rattle.std.specs.Prelude.{if◌then◌else◌}
+use Rattle.std.specs.Str.{is_utf8}
 use Rattle.bencode_wire.specs.Tree.{Tree}
 use Rattle.value_data.specs.Datum.{nil}
 use Rattle.repl_replies.specs.Fields.{text_of}
@@ -12,6 +14,10 @@ use Rattle.server_rules.specs.Request.{each_form, each_form_elsewhere, last_form
 use Rattle.server_rules.specs.Starting.{hand_of, there}
 use Rattle.tenant_actors.specs.View.{hand_view}
 use Rattle.tenant_moves.specs.declared.request.Opened.{Opened}
+
+-- bytes as text
+abbrev pub text_in : List ℕ → Option (List ℕ)
+text_in bytes = if is_utf8 bytes then Some bytes else None
 
 -- the namespace that a request names, if it is there
 abbrev pub named_namespace : Namespaces → Tree → Option (List ℕ)

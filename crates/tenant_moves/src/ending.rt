@@ -1,5 +1,5 @@
 // A form of the request in hand has ended.
-ghost use Rattle.std.specs.Prelude.{◌≡◌, option_map, Ok, Err, IfOk};
+ghost use Rattle.std.specs.Prelude.{◌≡◌, Some, option_map, Ok, Err, IfOk};
 ghost use Rattle.repl_faults.specs.View.{failure_of};
 ghost use Rattle.value_data.specs.View.{view};
 ghost use Rattle.repl_jobs.specs.View.{finished_view};
@@ -9,7 +9,7 @@ ghost use Rattle.server_rules.specs.Moves.{form_ended, form_ended_as, form_loade
 ghost use Rattle.server_rules.specs.Moves.{going_on};
 ghost use Rattle.tenant_actors.specs.View.{hand_view};
 ghost use Rattle.tenant_moves.specs.Told.{told_state};
-ghost use Rattle.tenant_moves.specs.Endings.{hand_after, Ends, EndsBy};
+ghost use Rattle.tenant_moves.specs.Endings.{are_none, last_kept, hand_after, Ends, EndsBy};
 
 use crate::news::News;
 use repl_jobs::{End, Finished};
@@ -97,7 +97,7 @@ fn end_with_value(
     news.batch.add_output(&hand.origin, finished.text())?;
     let namespace = copy_text(finished.namespace())?;
     let last = copy(value)?;
-    if hand.forms.is_empty() {
+    if is_last(hand) {
         news.end_request(&hand.origin, &Manner::LastForm(last), &hand.fault)?;
         return Ok(After::Over);
     }
@@ -128,7 +128,7 @@ fn go_on_behind(news: &mut News, hand: &Hand, finished: &Finished) -> Result<Aft
         (going_on (record (hand_view hand.now) { namespace = (finished_view finished.now).namespace })
         (hand_view hand.now).forms (told_state news.old)) (hand_view hand.now) news.old news.new after) }
 {
-    if hand.forms.is_empty() {
+    if is_last(hand) {
         news.end_request(&hand.origin, &hand.manner, &hand.fault)?;
         return Ok(After::Over);
     }
@@ -138,23 +138,39 @@ fn go_on_behind(news: &mut News, hand: &Hand, finished: &Finished) -> Result<Aft
     })
 }
 
+// Whether no form is left.
+fn is_last(hand: &Hand) -> bool
+    ensures { result ≡ are_none (hand_view hand.now).forms }
+{
+    hand.forms.is_empty()
+}
+
 /// The request in hand behind a form, if there is more of it to do.
 pub fn go_on(hand: Hand, after: After) -> Option<Hand>
     ensures { option_map hand_view result ≡ hand_after (hand_view hand) after }
 {
-    let After::Next { namespace, last } = after else {
-        return None;
-    };
-    let manner = match last {
-        Some(value) => Manner::LastForm(value),
-        None => hand.manner,
-    };
-    Some(Hand {
-        origin: hand.origin,
-        manner,
-        namespace,
-        running: None,
-        forms: hand.forms,
-        fault: hand.fault,
-    })
+    match after {
+        After::Over => None,
+        After::Next { namespace, last } => Some(between(hand, namespace, last)),
+    }
+}
+
+fn between(mut hand: Hand, namespace: ArcStr, last: Option<Value>) -> Hand
+    ensures { Some (hand_view result) ≡ hand_after (hand_view hand) (After.Next namespace last) }
+{
+    hand.running = None;
+    hand.namespace = namespace;
+    with_last(hand, last)
+}
+
+fn with_last(mut hand: Hand, last: Option<Value>) -> Hand
+    ensures { hand_view result ≡ last_kept last (hand_view hand) }
+{
+    match last {
+        Some(value) => {
+            hand.manner = Manner::LastForm(value);
+            hand
+        }
+        None => hand,
+    }
 }

@@ -1,5 +1,5 @@
 // What is told of a request.
-ghost use Rattle.std.specs.Prelude.{◌≡◌, [], option_map, IfOk, OnOk};
+ghost use Rattle.std.specs.Prelude.{◌≡◌, [], None, option_map, OnOk};
 ghost use Rattle.repl_faults.specs.View.{failure_of};
 ghost use Rattle.repl_jobs.specs.View.{end_view};
 ghost use Rattle.repl_replies.specs.View.{origin_view};
@@ -70,7 +70,7 @@ impl News {
 
     fn end_well(&mut self, origin: &Origin, manner: &Manner) -> Result<(), AllocError>
         ensures { OnOk result (Adds (closing (origin_view origin.now) (manner_view manner.now)
-            (option_map failure_of Option.None) (told_state self.old)) self.old self.new) }
+            None (told_state self.old)) self.old self.new) }
     {
         match manner {
             Manner::EachForm => self.batch.add(origin, Body::Done),

@@ -1,7 +1,6 @@
 // A request is opened: its text is read.
-ghost use Rattle.std.specs.Prelude.{◌≡◌, option_map, option_and_then, Some, None, string_bytes, if◌then◌else◌, IfOk};
+ghost use Rattle.std.specs.Prelude.{◌≡◌, option_map, option_and_then, Some, string_bytes, IfOk};
 ghost use Rattle.std.specs.Arc.{arc_str_bytes};
-ghost use Rattle.std.specs.Str.{is_utf8};
 ghost use Rattle.bencode_wire.specs.View.{view};
 ghost use Rattle.repl_faults.specs.View.{failure_of};
 ghost use Rattle.repl_reader.specs.View.{fault_option};
@@ -12,7 +11,7 @@ ghost use Rattle.server_rules.specs.Readings.{Readings, AreRight};
 ghost use Rattle.server_rules.specs.Starting.{hand_of, there, text_failure};
 ghost use Rattle.tenant_actors.specs.View.{manner_view, waiting_view};
 ghost use Rattle.tenant_moves.specs.Opening.{opened, opened_code, opened_elsewhere, opened_view};
-ghost use Rattle.tenant_moves.specs.Opening.{named_namespace};
+ghost use Rattle.tenant_moves.specs.Opening.{named_namespace, text_in};
 
 use bencode_wire::Ben;
 use name_spaces::Spaces;
@@ -151,10 +150,24 @@ fn namespace_of(
     name: &[u8],
 ) -> Result<Option<ArcStr>, AllocError>
     ensures { IfOk result (λ found. option_map (λ name. arc_str_bytes name) found
-        ≡ option_and_then (there (namespaces_of spaces.now)) (if is_utf8 name.now then Some name.now else None)) }
+        ≡ option_and_then (there (namespaces_of spaces.now)) (text_in name.now)) }
 {
     match str::from_utf8(name) {
-        Ok(name) if spaces.is_there(name.as_bytes()) => Ok(Some(ArcStr::from_str(alloc, name)?)),
-        _ => Ok(None),
+        Ok(name) => namespace_there(alloc, spaces, name),
+        Err(_) => Ok(None),
     }
+}
+
+fn namespace_there(
+    alloc: Global,
+    spaces: &Spaces,
+    name: &str,
+) -> Result<Option<ArcStr>, AllocError>
+    ensures { IfOk result (λ found. option_map (λ name. arc_str_bytes name) found
+        ≡ there (namespaces_of spaces.now) name.now) }
+{
+    if spaces.is_there(name.as_bytes()) {
+        return Ok(Some(ArcStr::from_str(alloc, name)?));
+    }
+    Ok(None)
 }

@@ -1,5 +1,5 @@
 // A form of a request begins.
-ghost use Rattle.std.specs.Prelude.{◌≡◌, IfOk};
+ghost use Rattle.std.specs.Prelude.{◌≡◌, option_map, IfOk};
 ghost use Rattle.repl_jobs.specs.View.{job_view};
 ghost use Rattle.repl_sessions.specs.StateView.{state_view};
 ghost use Rattle.name_spaces.specs.Seen.{namespaces_of};
@@ -10,7 +10,8 @@ ghost use Rattle.repl_jobs.specs.Job as jobs;
 ghost use Rattle.value_data.specs.View.{view};
 ghost use Rattle.repl_replies.specs.View.{origin_view};
 ghost use Rattle.tenant_actors.specs.View.{hand_view, waiting_view};
-ghost use Rattle.tenant_moves.specs.Starts.{with_run, not_found, GoesOn, TakesUp};
+ghost use Rattle.tenant_moves.specs.Starts.{first_of, form_begun_with, request_over, with_run, not_found};
+ghost use Rattle.tenant_moves.specs.Starts.{GoesOn, TakesUp};
 
 use crate::news::News;
 use crate::request::{Opened, open_request};
@@ -57,18 +58,44 @@ pub fn next_form(
         (next_begun g (hand_view hand.now) (state_view state) (hand_view hand.now).forms)
         (hand_view hand.now)) }
 {
-    let mut news = News::new(alloc, state);
-    let begun = match hand.forms.front() {
-        Some(form) => Some(Begun {
-            job: job_of(retries, hand, form)?,
-            given: job_of(retries, hand, form)?,
-        }),
-        None => {
-            news.end_request(&hand.origin, &hand.manner, &hand.fault)?;
-            None
-        }
-    };
+    match first_form(hand) {
+        Some(form) => run_form(alloc, retries, hand, form, state),
+        None => end_request(alloc, hand, state),
+    }
+}
+
+fn first_form(hand: &Hand) -> Option<&Value>
+    ensures { option_map (λ v. view v.now) result ≡ first_of (hand_view hand.now).forms }
+{
+    hand.forms.front()
+}
+
+fn run_form(
+    alloc: Global,
+    retries: u32,
+    hand: &Hand,
+    form: &Value,
+    state: SessionState,
+) -> Result<NextForm, AllocError>
+    ensures { (g : Ground) → retries ≡ g.retries → IfOk result (GoesOn
+        (form_begun_with g (hand_view hand.now) (state_view state) (view form.now))
+        (hand_view hand.now)) }
+{
+    let news = News::new(alloc, state);
+    let job = job_of(retries, hand, form)?;
+    let given = job_of(retries, hand, form)?;
+    let begun = Some(Begun { job, given });
     Ok(NextForm { news, begun })
+}
+
+// No form is left.
+fn end_request(alloc: Global, hand: &Hand, state: SessionState) -> Result<NextForm, AllocError>
+    ensures { IfOk result (GoesOn (request_over (hand_view hand.now) (state_view state))
+        (hand_view hand.now)) }
+{
+    let mut news = News::new(alloc, state);
+    news.end_request(&hand.origin, &hand.manner, &hand.fault)?;
+    Ok(NextForm { news, begun: None })
 }
 
 fn job_of(retries: u32, hand: &Hand, form: &Value) -> Result<Job, AllocError>
