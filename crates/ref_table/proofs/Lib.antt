@@ -4,4 +4,6 @@ pub mod Seen
 pub mod Tables
 pub mod Distinct
 pub mod Rooms
+pub mod Adding
+pub mod Committing
 pub mod Telling

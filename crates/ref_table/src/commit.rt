@@ -50,9 +50,7 @@ impl<H: History> RefTable<H> {
         if !are_distinct(alloc, &placed)? {
             return Ok(Outcome::Refused);
         }
-        if self.is_any_set_newer(viewer, &intent.sets, point)
-            || self.is_any_newer(viewer, &intent.ensured, point)
-        {
+        if self.is_any_touched_newer(viewer, intent, point) {
             return Ok(Outcome::Conflict);
         }
         if !intent.sets.is_empty() {
@@ -62,6 +60,7 @@ impl<H: History> RefTable<H> {
     }
 
     // Whether all refs are there, and each may hold what it is set to.
+    #[tactic(auto, using(crate::proofs::Committing::both_named))]
     fn may_commit(&self, viewer: u64, intent: &Intent) -> bool
         ensures { result ≡ (all_named self.now.directory viewer (touched (intent_view intent.now))
             && all_fit (intent_view intent.now).sets) }
@@ -69,6 +68,16 @@ impl<H: History> RefTable<H> {
         self.directory.has_all_set(viewer, &intent.sets)
             && self.directory.has_all(viewer, &intent.ensured)
             && all_fit(&intent.sets)
+    }
+
+    // Whether a ref that was set or ensured has a version from after the point.
+    #[tactic(auto, using(crate::proofs::Committing::either_newer))]
+    fn is_any_touched_newer(&self, viewer: u64, intent: &Intent, point: Point) -> bool
+        ensures { (r : Refs) (points : List (Entry ℕ)) → Stands H.stands self.now r → result
+            ≡ any_newer point.stamp (touched (intent_view intent.now)) (store_of viewer points r) }
+    {
+        self.is_any_set_newer(viewer, &intent.sets, point)
+            || self.is_any_newer(viewer, &intent.ensured, point)
     }
 
     fn is_newer(&self, viewer: u64, name: RefName, point: Point) -> bool
