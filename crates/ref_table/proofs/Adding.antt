@@ -34,7 +34,7 @@ tenant-stays : (stamp : ℕ) (c : ChangeData) (s : Store) → (one_set stamp c s
 tenant-stays stamp c s = changed_of-tenant c.name.owner c.name.number
     (with_version (version stamp c.now)) s
 
-same_pair : (p q : RefId × Datum) (ps qs : List (RefId × Datum)) → p ∷ ps ≡ q ∷ qs
+pub same_pair : (p q : RefId × Datum) (ps qs : List (RefId × Datum)) → p ∷ ps ≡ q ∷ qs
     → (p.0 ≡ q.0) × (p.1 ≡ q.1) × (ps ≡ qs)
 same_pair p q ps qs same =
     let first : p ≡ q = cc in

@@ -6,4 +6,5 @@ pub mod Distinct
 pub mod Rooms
 pub mod Adding
 pub mod Committing
+pub mod Once
 pub mod Telling
