@@ -1,6 +1,7 @@
 -- One place of many is changed.
-use Rattle.std.proofs.Common.{◌≡◌, ◌≢◌, ◌↔◌, ℕ, Option, Some, is_some, inl, inr, sym, ap, ◌∙◌, subst}
-use Rattle.std.proofs.Common.{Result, Ok, Err, OnErr, None, IsSome, option_map, MatchOption}
+use Rattle.std.proofs.Common.{◌≡◌, ◌≢◌, ◌↔◌, ℕ, inl, inr, sym, ap, ◌∙◌, subst}
+use Rattle.std.proofs.Common.{Option, Some, None, IsSome, is_some, option_map, MatchOption}
+use Rattle.std.proofs.Common.{Result, Ok, Err, OnErr}
 use Rattle.std.proofs.lemmas.Bool.{cases_eq}
 use Rattle.slab.specs.Slab.{Slab, get, with_value, Updates}
 use Rattle.slab.proofs.SlabLemmas.{Updates-with_value}
@@ -93,8 +94,9 @@ pub put-back : (old : Places) (id : RefId) (k : KeptRef) → Some k ≡ get old 
     → SameRefs (stands_in old) (stands_in (with_value old id.place k))
 put-back old id k here = same-place old id k k here (λ r. (λ s. s, λ s. s))
 
-pub on_some : {A B Q : Type 0} (P : Type 0) (f : A → B) (found : Option A) → IsSome (option_map f found) → Q
-    → MatchOption found P (λ _. Q)
+-- where something was found, what holds of any that was found holds
+pub on_some : {A B Q : Type 0} (P : Type 0) (f : A → B) (found : Option A)
+    → IsSome (option_map f found) → Q → MatchOption found P (λ _. Q)
 on_some P f (Some a) there q = q
 on_some P f None there q = absurd cc
 

@@ -13,7 +13,8 @@ returns-in_err-behind-clause-value c = λ r s.
     (YieldsList-from_deque c.args.self.now.older.items c.iter.ensures.rest)
     (λ x b q h. search (rules, tests)) in
     ap (option_and_then (content_in c.args.self.now)) c.from_residual.ensures
-    ∙ read-none c.args.self.now r c.args.point c.if-self-point.false s (sym c.in_err-behind.was ∙ placed)
+    ∙ read-none c.args.self.now r c.args.point c.if-self-point.false s
+    (sym c.in_err-behind.was ∙ placed)
 
 pub returns-clause-kept : goal.returns-clause-kept
 returns-clause-kept c =

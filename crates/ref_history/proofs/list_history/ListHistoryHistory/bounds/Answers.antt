@@ -3,4 +3,5 @@ use Rattle.ref_history.proofs.list_history.ListHistoryHistory.bounds.Goals as go
 
 pub returns-clause-absent : goal.returns-clause-absent
 returns-clause-absent c = λ none.
-    absurd (not-absent c.args.self.now.refs c.args.id c.in_ok-kept.kept.now c.in_ok-kept.ensures none)
+    let kept = c.in_ok-kept.kept.now in
+    absurd (not-absent c.args.self.now.refs c.args.id kept c.in_ok-kept.ensures none)
