@@ -8,3 +8,4 @@ pub mod Adding
 pub mod Committing
 pub mod Once
 pub mod Telling
+pub mod Values

@@ -24,17 +24,17 @@ both-ways true b f g = sym (f refl)
 both-ways false true f g = g refl
 both-ways false false f g = refl
 
-both_true : (a b : Bool) → (a && b) ≡ true → (a ≡ true) × (b ≡ true)
+pub both_true : (a b : Bool) → (a && b) ≡ true → (a ≡ true) × (b ≡ true)
 both_true true b e = (refl, e)
 both_true false b e = cc
 
-same_owner-true : (o p : OwnerData) → same_owner o p ≡ true → o ≡ p
+pub same_owner-true : (o p : OwnerData) → same_owner o p ≡ true → o ≡ p
 same_owner-true shared shared e = refl
 same_owner-true shared (tenant u) e = cc
 same_owner-true (tenant t) shared e = cc
 same_owner-true (tenant t) (tenant u) e = ap tenant (eqb-true t u e)
 
-same_owner-refl : (o p : OwnerData) → o ≡ p → same_owner o p ≡ true
+pub same_owner-refl : (o p : OwnerData) → o ≡ p → same_owner o p ≡ true
 same_owner-refl o p e = subst (λ p. same_owner o p ≡ true) e (here o) where
   here : (o : OwnerData) → same_owner o o ≡ true
   here shared = refl

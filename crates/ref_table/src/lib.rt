@@ -5,6 +5,7 @@
 mod commit;
 mod directory;
 mod fitting;
+pub mod laws;
 mod outcome;
 mod placing;
 mod reading;
