@@ -84,4 +84,5 @@ raised-stands stands t s r now = record {
   counter = ap (λ n. n + 1) now.counter;
   refs = now.refs;
   apart = now.apart;
+  no_more = now.no_more;
 }

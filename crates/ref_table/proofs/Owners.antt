@@ -6,6 +6,7 @@ use Rattle.std.specs.Prelude.{◌⊎◌, option_map}
 use Rattle.std.proofs.lemmas.Bool.{cases_Bool, eqb-true, eq-eqb, ne_eqb}
 use Rattle.value_data.specs.Datum.{OwnerData, shared, tenant}
 use Rattle.server_rules.specs.Numbered.{changed_at}
+use Rattle.ref_history.specs.declared.ref_id.RefId.{RefId}
 
 pub numbers : (n m : ℕ) → (n ≡ m) ⊎ (n ≢ m)
 numbers n m = elim (cases_Bool (n == m)) [
@@ -65,6 +66,36 @@ slice_get-added_other (suc n) [] x other = refl
 slice_get-added_other zero (y ∷ xs) x other = refl
 slice_get-added_other (suc n) (y ∷ xs) x other =
     slice_get-added_other n xs x (λ e. other (ap suc e))
+
+pub slice_get-front : {A : Type 0} (n : ℕ) (xs : List A) (x y : A) → slice_get xs n ≡ Some x
+    → slice_get (xs ++ y ∷ []) n ≡ Some x
+slice_get-front n [] x y e = absurd (none-some e)
+slice_get-front zero (z ∷ xs) x y e = e
+slice_get-front (suc n) (z ∷ xs) x y e = slice_get-front n xs x y e
+
+pub ids : (i j : RefId) → (i ≡ j) ⊎ (i ≢ j)
+ids i j = elim (numbers i.place j.place) [
+  | inl same ↦ inl (same_place i j same)
+  | inr differs ↦ inr (λ e. differs (ap (λ k. k.place) e))
+] where
+  same_place : (i j : RefId) → i.place ≡ j.place → i ≡ j
+  same_place i j e = let id : ℕ → RefId = λ n. record { place = n } in ap id e
+
+-- an id is among these or not
+pub among : (i : RefId) (is : List RefId)
+    → ((n : ℕ) × (slice_get is n ≡ Some i)) ⊎ ((n : ℕ) → slice_get is n ≢ Some i)
+among i [] = inr (λ n e. none-some e)
+among i (j ∷ is) = elim (ids j i) [
+  | inl same ↦ inl (0, ap Some same)
+  | inr differs ↦ elim (among i is) [
+      | inl found ↦ inl (suc found.0, found.1)
+      | inr none ↦ inr (nowhere differs none)
+    ]
+] where
+  nowhere : j ≢ i → ((n : ℕ) → slice_get is n ≢ Some i)
+      → (n : ℕ) → slice_get (j ∷ is) n ≢ Some i
+  nowhere differs none zero e = differs (some-same j i e)
+  nowhere differs none (suc n) e = none n e
 
 -- what is found under a test that holds
 pub found_if : {A : Type 0} (b : Bool) (o : Option A) (x : A) → (if b then o else None) ≡ Some x

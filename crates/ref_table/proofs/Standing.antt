@@ -1,16 +1,17 @@
 -- Ids go on standing for refs.
 use Rattle.std.proofs.Common.{◌≡◌, ◌≢◌, ℕ, zero, suc, List, [], ◌∷◌, ◌++◌, length, Option, Some, None}
 use Rattle.std.proofs.Common.{refl, sym, ap, ◌∙◌, subst, inl, inr, slice_get}
-use Rattle.std.specs.Prelude.{option_map, ◌⊎◌}
+use Rattle.std.specs.Prelude.{option_map, ◌⊎◌, ◌↔◌}
 use Rattle.value_data.specs.Datum.{OwnerData}
 use Rattle.server_rules.specs.Versions.{Ref}
 use Rattle.server_rules.specs.Numbered.{changed_at}
 use Rattle.ref_history.specs.Changes.{Standing, IsAbsent, SameRefs, SameBut, Changed}
 use Rattle.ref_history.specs.declared.ref_id.RefId.{RefId}
-use Rattle.ref_table.specs.Standing.{Matches, StandFor, AreApart}
+use Rattle.ref_table.specs.Standing.{Matches, StandFor, AreApart, KeepsNoMore}
 use Rattle.ref_table.proofs.Owners.{owners, numbers, some-same, none-some}
 use Rattle.ref_table.proofs.Owners.{slice_get-changed, slice_get-changed_other}
-use Rattle.ref_table.proofs.Owners.{slice_get-added, slice_get-added_other}
+use Rattle.ref_table.proofs.Owners.{slice_get-added, slice_get-added_other, slice_get-front}
+use Rattle.ref_table.proofs.Owners.{ids as which, among}
 
 -- the ref for which an id stands is there
 pub there : (standing : Standing) (o : Option RefId) (r : Option Ref) (id : RefId)
@@ -219,3 +220,65 @@ apart-released ids fewer w gone rest apart o p n m i e f =
             ∙ ap (λ o. slice_get (fewer o) n) (sym is) ∙ e))
         | inr differs ↦ ap (λ l. slice_get l n) (sym (rest o differs)) ∙ e
       ]
+
+-- Nothing else is kept
+
+pub no_more-same : (old new : Standing) (ids : OwnerData → List RefId) → SameRefs old new
+    → KeepsNoMore old ids → KeepsNoMore new ids
+no_more-same old new ids same keeps id r h = keeps id r ((same id r).1 h)
+
+pub no_more-changed : (old new : Standing) (ids : OwnerData → List RefId) (w : OwnerData) (m : ℕ)
+    (id : RefId) → slice_get (ids w) m ≡ Some id → SameBut id old new
+    → KeepsNoMore old ids → KeepsNoMore new ids
+no_more-changed old new ids w m id here same keeps i r h = elim (which i id) [
+  | inl is ↦ (w, m, here ∙ ap Some (sym is))
+  | inr differs ↦ keeps i r ((same i differs r).1 h)
+]
+
+pub no_more-made : (old new : Standing) (ids more : OwnerData → List RefId) (w : OwnerData)
+    (id : RefId) → more w ≡ ids w ++ id ∷ [] → ((o : OwnerData) → o ≢ w → more o ≡ ids o)
+    → SameBut id old new → KeepsNoMore old ids → KeepsNoMore new more
+no_more-made old new ids more w id adds rest same keeps i r h = elim (which i id) [
+  | inl is ↦ (w, length (ids w), ap (λ l. slice_get l (length (ids w))) adds
+      ∙ slice_get-added (ids w) id ∙ ap Some (sym is))
+  | inr differs ↦ older (keeps i r ((same i differs r).1 h))
+] where
+  older : (o : OwnerData) × (n : ℕ) × (slice_get (ids o) n ≡ Some i)
+      → (o : OwnerData) × (n : ℕ) × (slice_get (more o) n ≡ Some i)
+  older found = (found.0, found.1, elim (owners found.0 w) [
+    | inl is ↦ ap (λ o. slice_get (more o) found.1) is ∙ ap (λ l. slice_get l found.1) adds
+        ∙ slice_get-front found.1 (ids w) i id
+        (ap (λ o. slice_get (ids o) found.1) (sym is) ∙ found.2)
+    | inr differs ↦ ap (λ l. slice_get l found.1) (rest found.0 differs) ∙ found.2
+  ])
+
+pub no_more-released : (old new : Standing) (ids fewer : OwnerData → List RefId) (w : OwnerData)
+    → ((o : OwnerData) → o ≢ w → fewer o ≡ ids o)
+    → ((n : ℕ) (i : RefId) → slice_get (ids w) n ≡ Some i → IsAbsent new i)
+    → ((i : RefId) → ((n : ℕ) → slice_get (ids w) n ≢ Some i)
+        → (ref : Ref) → old i ref ↔ new i ref)
+    → KeepsNoMore old ids → KeepsNoMore new fewer
+no_more-released old new ids fewer w rest gone others keeps i r h = elim (among i (ids w)) [
+  | inl found ↦ absurd (gone found.0 i found.1 r h)
+  | inr none ↦ older none (keeps i r ((others i none r).1 h))
+] where
+  older : ((n : ℕ) → slice_get (ids w) n ≢ Some i)
+      → (o : OwnerData) × (n : ℕ) × (slice_get (ids o) n ≡ Some i)
+      → (o : OwnerData) × (n : ℕ) × (slice_get (fewer o) n ≡ Some i)
+  older none found = (found.0, found.1, ap (λ l. slice_get l found.1) (rest found.0
+      (λ is. none found.1 (ap (λ o. slice_get (ids o) found.1) (sym is) ∙ found.2)))
+      ∙ found.2)
+
+-- a ref that was made and dropped
+pub undone : (old made new : Standing) (id : RefId) → IsAbsent old id → SameBut id old made
+    → IsAbsent new id → SameBut id made new → SameRefs old new
+undone old made new id none makes gone drops i r = elim (which i id) [
+  | inl is ↦ (
+      λ h. absurd (none r (subst (λ i. old i r) is h)),
+      λ h. absurd (gone r (subst (λ i. new i r) is h)),
+    )
+  | inr differs ↦ (
+      λ h. (drops i differs r).0 ((makes i differs r).0 h),
+      λ h. (makes i differs r).1 ((drops i differs r).1 h),
+    )
+]

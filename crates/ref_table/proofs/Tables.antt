@@ -1,6 +1,8 @@
 -- A table goes on standing for refs.
 use Rattle.std.proofs.Common.{◌≡◌, ◌≢◌, ℕ, List, [], ◌∷◌, ◌++◌, Bool, true, false, Option, Some, None}
-use Rattle.std.proofs.Common.{refl, sym, ap, ap₂, ◌∙◌, ◌&&◌, is_some, slice_get, if◌then◌else◌}
+use Rattle.std.proofs.Common.{refl, sym, ap, ap₂, ◌∙◌, subst, ◌&&◌, is_some, slice_get, if◌then◌else◌}
+use Rattle.std.specs.Prelude.{◌↔◌}
+use mathlib.Core.Path.{fun_ext}
 use Rattle.std.proofs.lemmas.Bool.{eq-eqb, ne_eqb}
 use Rattle.value_data.specs.Datum.{OwnerData, shared, tenant}
 use Rattle.repl_asks.specs.Transactions.{RefNameData}
@@ -12,11 +14,12 @@ use Rattle.ref_history.specs.Changes.{Standing, IsAbsent, SameRefs, SameBut, Cha
 use Rattle.ref_history.specs.declared.ref_id.RefId.{RefId}
 use Rattle.ref_table.specs.Refs.{Refs, store_of, owned_with, after, with_ref, without_refs}
 use Rattle.ref_table.specs.Directory.{ids_of, id_within, id_named, all_named}
-use Rattle.ref_table.specs.Standing.{Matches, StandFor, AreApart, Stands}
+use Rattle.ref_table.specs.Standing.{Matches, StandFor, AreApart, KeepsNoMore, Stands}
 use Rattle.ref_table.specs.declared.directory.Directory.{Directory}
 use Rattle.ref_table.specs.declared.table.RefTable.{RefTable}
 use Rattle.ref_table.proofs.Standing.{there, absent, stand-same, stand-equal, stand-changed}
 use Rattle.ref_table.proofs.Standing.{stand-made, apart-made, fresh, stand-released, apart-released}
+use Rattle.ref_table.proofs.Standing.{no_more-same, no_more-changed, no_more-made, no_more-released}
 use Rattle.ref_table.proofs.Seen.{owned-seen, stands-within, changed_of-counter, id-there}
 use Rattle.ref_table.proofs.Seen.{changed-here, changed-elsewhere, changed-nowhere}
 
@@ -29,6 +32,7 @@ seen-stands stands t viewer points r s = record {
   refs = stand-equal (stands t.history) (ids_of t.directory) r.owned
       (after (store_of viewer points r) r).owned (owned-seen viewer r.owned) s.refs;
   apart = s.apart;
+  no_more = s.no_more;
 }
 
 -- the history keeps all that it stood for
@@ -39,6 +43,7 @@ same-stands stands t h r same s = record {
   counter = s.counter;
   refs = stand-same (stands t.history) (stands h) (ids_of t.directory) r.owned same s.refs;
   apart = s.apart;
+  no_more = no_more-same (stands t.history) (stands h) (ids_of t.directory) same s.no_more;
 }
 
 -- a ref that the tenant sees changes
@@ -56,6 +61,9 @@ changed-stands stands t h s r name id f e change now = record {
       (changed-here t.directory s r name.owner name.number f id e)
       (changed-elsewhere t.directory s r name.owner name.number f id e) now.refs;
   apart = now.apart;
+  no_more = no_more-changed (stands t.history) (stands h) (ids_of t.directory) name.owner
+      name.number id (id-there t.directory s.tenant name.owner name.number id e) change.others
+      now.no_more;
 }
 
 -- a change of a ref that the tenant does not see
@@ -72,6 +80,7 @@ unseen-stands stands t s r name f e now = record {
       (stands-within (stands t.history) t.directory s r name.owner name.number now.refs) e))
       now.refs;
   apart = now.apart;
+  no_more = now.no_more;
 }
 
 -- the ref that an id stands for is the one that is seen
@@ -120,25 +129,46 @@ made-stands stands t d h r o id ref adds rest none here same s = record {
       none here same s.refs;
   apart = apart-made (ids_of t.directory) (ids_of d) o id adds rest
       (fresh (stands t.history) (ids_of t.directory) r.owned id none s.refs) s.apart;
+  no_more = no_more-made (stands t.history) (stands h) (ids_of t.directory) (ids_of d) o id adds
+      rest same s.no_more;
 }
+
+-- a ref was made, and could not be kept
+pub undone-stands : {H : Type 0} (stands : H → RefId → Ref → Type 0) (t : RefTable H)
+    (d : Directory) (h : H) (r : Refs)
+    → ((p : OwnerData) → ids_of d p ≡ ids_of t.directory p) → SameRefs (stands t.history) (stands h)
+    → Stands stands t r
+    → Stands stands (record { counter = t.counter; directory = d; history = h }) r
+undone-stands stands t d h r as_it_was same s =
+    let now = same-stands stands t h r same s in
+    let ids : ids_of d ≡ ids_of t.directory = fun_ext as_it_was in
+    record {
+      counter = s.counter;
+      refs = subst (λ ids. StandFor (stands h) ids r.owned) (sym ids) now.refs;
+      apart = subst AreApart (sym ids) now.apart;
+      no_more = subst (KeepsNoMore (stands h)) (sym ids) now.no_more;
+    }
 
 -- a tenant has no refs any more
 pub released-stands : {H : Type 0} (stands : H → RefId → Ref → Type 0) (t : RefTable H)
     (d : Directory) (h : H) (r : Refs) (o : OwnerData)
     → ids_of d o ≡ []
     → ((p : OwnerData) → p ≢ o → ids_of d p ≡ ids_of t.directory p)
+    → ((n : ℕ) (i : RefId) → slice_get (ids_of t.directory o) n ≡ Some i → IsAbsent (stands h) i)
     → ((i : RefId) → ((n : ℕ) → slice_get (ids_of t.directory o) n ≢ Some i)
-        → (ref : Ref) → stands t.history i ref → stands h i ref)
+        → (ref : Ref) → stands t.history i ref ↔ stands h i ref)
     → Stands stands t r
     → Stands stands (record { counter = t.counter; directory = d; history = h }) (without_refs o r)
-released-stands stands t d h r o gone rest keeps s = record {
+released-stands stands t d h r o gone rest dropped keeps s = record {
   counter = s.counter;
   refs = stand-released (stands t.history) (stands h) (ids_of t.directory) (ids_of d) r.owned
       (without_refs o r).owned o gone rest
       (ap (λ b. if b then [] else r.owned o) (same_owner-refl o))
       (λ p differs. ap (λ b. if b then [] else r.owned p) (same_owner-apart p o differs))
-      keeps s.apart s.refs;
+      (λ i none ref. (keeps i none ref).0) s.apart s.refs;
   apart = apart-released (ids_of t.directory) (ids_of d) o gone rest s.apart;
+  no_more = no_more-released (stands t.history) (stands h) (ids_of t.directory) (ids_of d) o rest
+      dropped keeps s.no_more;
 }
 
 -- all that a tenant names is there

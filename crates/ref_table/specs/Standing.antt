@@ -25,6 +25,11 @@ abbrev pub AreApart : (OwnerData → List RefId) → Type 0
 AreApart ids = (o p : OwnerData) (n m : ℕ) (id : RefId)
     → slice_get (ids o) n ≡ Some id → slice_get (ids p) m ≡ Some id → (o ≡ p) × (n ≡ m)
 
+-- nothing is kept but these
+abbrev pub KeepsNoMore : Standing → (OwnerData → List RefId) → Type 0
+KeepsNoMore standing ids = (id : RefId) (r : Ref) → standing id r
+    → (owner : OwnerData) × (n : ℕ) × (slice_get (ids owner) n ≡ Some id)
+
 abbrev pub counter_of : {H : Type 0} → RefTable H → ℕ
 counter_of t = t.counter
 
@@ -33,3 +38,4 @@ pub record Stands {H : Type 0} (stands : H → RefId → Ref → Type 0) (t : Re
   pub counter : counter_of t ≡ r.counter
   pub refs : StandFor (stands t.history) (ids_of t.directory) r.owned
   pub apart : AreApart (ids_of t.directory)
+  pub no_more : KeepsNoMore (stands t.history) (ids_of t.directory)
