@@ -60,11 +60,11 @@ impl<H: History> RefTable<H> {
             (with_ref (owner_view owner) (first_ref (view value) bounds) r)) }
 
         // One of a tenant is made as the rules say.
-        ensures told { (r : Refs) (points : List (Entry ℕ)) (viewer : ℕ) → Stands H.stands self.old r
-            → owner ≡ Owner.Tenant viewer → IfOk result (λ name. Performs H.stands self.new r
-                (Some (value_told (ref (owner_view name.owner) name.number)))
-                (performed (store_of viewer points r)
-                (makes (view value) bounds.least bounds.most))) }
+        ensures told { (r : Refs) (points : List (Entry ℕ)) (caller : ℕ) → Stands H.stands self.old r
+            → owner ≡ Owner.Tenant caller → IfOk result (λ name. Performs H.stands self.new r
+            (Some (value_told (ref (owner_view name.owner) name.number)))
+            (performed (store_of caller points r)
+            (makes (view value) bounds.least bounds.most))) }
         ensures as_it_was { (r : Refs) → Stands H.stands self.old r
             → OnErr result (Stands H.stands self.new r) }
     {
