@@ -1,5 +1,6 @@
 -- What a commit adds, one ref after the other, are the changes that it wants.
-use Rattle.std.proofs.Common.{◌≡◌, ℕ, ◌+◌, List, [], ◌∷◌, Option, Some, None, map, refl, sym, ap, ◌∙◌}
+use Rattle.std.proofs.Common.{◌≡◌, ℕ, ◌+◌, List, [], ◌∷◌, Option, Some, None, map, refl, sym, ap}
+use Rattle.std.proofs.Common.{◌∙◌}
 use Rattle.std.proofs.Common.{subst}
 use Rattle.value_data.specs.Datum.{Datum}
 use Rattle.repl_asks.specs.Transactions.{ChangeData}

@@ -1,5 +1,6 @@
 -- What a commit looks at.
-use Rattle.std.proofs.Common.{◌≡◌, ℕ, List, [], ◌∷◌, ◌++◌, Bool, true, false, ◌&&◌, ◌||◌, is_some, map}
+use Rattle.std.proofs.Common.{◌≡◌, ℕ, List, [], ◌∷◌, ◌++◌, Bool, true, false, ◌&&◌, ◌||◌, is_some}
+use Rattle.std.proofs.Common.{map}
 use Rattle.std.proofs.Common.{Option, Some, ◌+◌, ◌<◌, length, refl, sym, ap, ap₂, ◌∙◌, subst, arith}
 use Rattle.value_data.specs.declared.value.RefName.{RefName}
 use Rattle.repl_asks.specs.Transactions.{RefNameData, ChangeData, IntentData}
@@ -11,7 +12,8 @@ use Rattle.server_rules.specs.Versions.{Ref}
 use Rattle.server_rules.specs.Store.{Store, named}
 use Rattle.server_rules.specs.Commit.{touched, all_there, all_fit, are_distinct, fits}
 use Rattle.server_rules.specs.Commit.{is_newer_ref}
-use Rattle.server_rules.specs.Commit.{any_newer, with_changes, raised, with_sets, checked, commit_by}
+use Rattle.server_rules.specs.Commit.{any_newer, with_changes, raised, with_sets, checked}
+use Rattle.server_rules.specs.Commit.{commit_by}
 use Rattle.ref_history.specs.declared.ref_id.RefId.{RefId}
 use Rattle.ref_table.specs.Refs.{Refs, store_of, after}
 use Rattle.ref_table.specs.Directory.{id_named, all_named}

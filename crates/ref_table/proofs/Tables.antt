@@ -1,6 +1,7 @@
 -- A table goes on standing for refs.
 use Rattle.std.proofs.Common.{◌≡◌, ◌≢◌, ℕ, List, [], ◌∷◌, ◌++◌, true, false, Option, Some, None}
-use Rattle.std.proofs.Common.{refl, sym, ap, ap₂, ◌∙◌, subst, ◌&&◌, is_some, slice_get, if◌then◌else◌}
+use Rattle.std.proofs.Common.{refl, sym, ap, ap₂, ◌∙◌, subst, ◌&&◌, is_some, slice_get}
+use Rattle.std.proofs.Common.{if◌then◌else◌}
 use Rattle.std.specs.Prelude.{◌↔◌}
 use mathlib.Core.Path.{fun_ext}
 use Rattle.std.proofs.lemmas.Bool.{eq-eqb, ne_eqb}

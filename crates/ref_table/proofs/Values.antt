@@ -1,5 +1,6 @@
 -- What a commit means to those who read refs.
-use Rattle.std.proofs.Common.{◌≡◌, ◌≢◌, ℕ, zero, suc, ◌+◌, ◌<◌, List, [], ◌∷◌, length, Bool, true, false}
+use Rattle.std.proofs.Common.{◌≡◌, ◌≢◌, ℕ, zero, suc, ◌+◌, ◌<◌, List, [], ◌∷◌, length, Bool, true}
+use Rattle.std.proofs.Common.{false}
 use Rattle.std.proofs.Common.{◌++◌, not, ◌&&◌, ◌||◌, ◌==◌, is_some, Option, Some, None, slice_get}
 use Rattle.std.proofs.Common.{slice_index_or, map}
 use Rattle.std.proofs.Common.{refl, sym, ap, ap₂, ◌∙◌, subst, if◌then◌else◌, arith, inl, inr}

@@ -7,7 +7,8 @@ ghost use Rattle.repl_asks.specs.View.{name_view, intent_view};
 ghost use Rattle.server_rules.specs.Numbered.{Entry, found};
 ghost use Rattle.server_rules.specs.Store.{named};
 ghost use Rattle.server_rules.specs.Calls.{performed, commits};
-ghost use Rattle.server_rules.specs.Commit.{touched, all_there, all_fit, fits, is_newer_ref, any_newer};
+ghost use Rattle.server_rules.specs.Commit.{touched, all_there, all_fit, fits, is_newer_ref};
+ghost use Rattle.server_rules.specs.Commit.{any_newer};
 ghost use Rattle.server_rules.specs.Commit.{with_changes, raised};
 ghost use Rattle.ref_table.specs.Refs.{Refs, store_of, after};
 ghost use Rattle.ref_table.specs.Directory.{all_named};
@@ -25,10 +26,10 @@ use repl_values::RefName;
 use std::alloc::{AllocError, Global};
 
 impl<H: History> RefTable<H> {
-    /// Sets what an attempt of the tenant wants set, unless a ref that it set or ensured has a
-    /// version from after its read point. It takes n log n steps for the refs that it names, and
-    /// reads whole what goes into shared ones. It fails only for want of memory, and then all stays
-    /// as it was.
+    /// Sets what an attempt of the caller wants set, unless a ref that it set or ensured has a
+    /// version from after the attempt's read point. For n refs that it names it takes about n log n
+    /// steps, and it reads whole what goes into shared ones. It fails only for want of memory, and
+    /// then all stays as it was.
     pub fn commit(
         &mut self,
         alloc: Global,
@@ -37,8 +38,8 @@ impl<H: History> RefTable<H> {
         point: Point,
     ) -> Result<Outcome, AllocError>
         requires { counter_of self.old < u128.MAX }
-        ensures committed { (r : Refs) (points : List (Entry ℕ)) (seat : ℕ) → Stands H.stands self.old r
-            → found seat points ≡ Some point.stamp
+        ensures committed { (r : Refs) (points : List (Entry ℕ)) (seat : ℕ)
+            → Stands H.stands self.old r → found seat points ≡ Some point.stamp
             → IfOk result (λ outcome. Performs H.stands self.new r (outcome_told outcome)
             (performed (store_of caller points r) (commits seat (intent_view intent.now)))) }
         ensures as_it_was { (r : Refs) → Stands H.stands self.old r

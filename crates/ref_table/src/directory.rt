@@ -1,5 +1,6 @@
 // Under which ids the refs of each owner are kept.
-ghost use Rattle.std.specs.Prelude.{◌≡◌, ◌≢◌, [], ◌∷◌, ◌++◌, length, map, slice_get, IfOk, OnOk, OnErr};
+ghost use Rattle.std.specs.Prelude.{◌≡◌, ◌≢◌, [], ◌∷◌, ◌++◌, length, map, slice_get, IfOk, OnOk};
+ghost use Rattle.std.specs.Prelude.{OnErr};
 ghost use Rattle.value_data.specs.Datum.{OwnerData, tenant as tenant_owner};
 ghost use Rattle.value_data.specs.View.{owner_view};
 ghost use Rattle.repl_asks.specs.View.{name_view};
@@ -70,7 +71,8 @@ impl Directory {
         ensures number { IfOk result (λ n. n ≡ length (ids_of self.old (owner_view owner))) }
         ensures added { OnOk result (ids_of self.new (owner_view owner)
             ≡ ids_of self.old (owner_view owner) ++ id ∷ []) }
-        ensures others { (o : OwnerData) → o ≢ owner_view owner → ids_of self.new o ≡ ids_of self.old o }
+        ensures others { (o : OwnerData) → o ≢ owner_view owner
+            → ids_of self.new o ≡ ids_of self.old o }
         ensures as_it_was { OnErr result ((o : OwnerData) → ids_of self.new o ≡ ids_of self.old o) }
     {
         match owner {

@@ -21,10 +21,11 @@ use repl_values::{Owner, RefName, copy};
 use std::alloc::AllocError;
 
 impl<H: History> RefTable<H> {
-    /// Reads a ref: in an attempt as it was at the read point, and outside of one as it is. An
-    /// attempt that is to be made again has been noted at the ref, which then keeps more versions.
-    /// It takes a step for each version that is kept of the ref, and no memory; it fails only where
-    /// 2^63 owners share the value, and then all stays as it was.
+    /// Reads a ref: in an attempt as it was at the read point, and outside of one as it is. Where
+    /// what it was then is kept no more, the attempt is to be made again; that is noted, and the
+    /// ref's next version is kept beside the older ones, if its bounds allow it. It takes a step for
+    /// each version that is kept of the ref, and no memory. It fails only where 2^63 owners share
+    /// the value, and then all stays as it was.
     pub fn read(
         &mut self,
         caller: u64,
@@ -49,8 +50,8 @@ impl<H: History> RefTable<H> {
 
     // As an attempt reads.
     fn read_at(&mut self, id: RefId, point: Point) -> Result<Reading, AllocError>
-        ensures read { (r : Refs) (caller : ℕ) (points : List (Entry ℕ)) (seat : ℕ) (name : RefNameData)
-            (ref : Ref) → Stands H.stands self.old r
+        ensures read { (r : Refs) (caller : ℕ) (points : List (Entry ℕ)) (seat : ℕ)
+            (name : RefNameData) (ref : Ref) → Stands H.stands self.old r
             → id_named self.old.directory caller name ≡ Some id
             → named name (store_of caller points r) ≡ Some ref
             → IfOk result (λ it. Performs H.stands self.new r (Some (reading (reading_view it)))
@@ -77,7 +78,8 @@ impl<H: History> RefTable<H> {
     /// How many versions a ref has behind its newest.
     pub fn history_count(&self, caller: u64, name: RefName) -> Option<u64>
         ensures { (r : Refs) (points : List (Entry ℕ)) → Stands H.stands self.now r
-            → result ≡ option_map (λ ref. ref.kept) (named (name_view name) (store_of caller points r)) }
+            → result ≡ option_map (λ ref. ref.kept)
+            (named (name_view name) (store_of caller points r)) }
     {
         self.history.count(self.directory.id_of(caller, name)?)
     }
