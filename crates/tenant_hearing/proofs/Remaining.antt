@@ -1,6 +1,6 @@
 -- The sessions that remain, as more leave or are made.
 use Rattle.std.proofs.Common.{◌≡◌, ℕ, ◌+◌, ◌==◌, Bool, true, false, not, ◌||◌, ◌&&◌, cond, List, [], ◌∷◌, ◌++◌}
-use Rattle.std.proofs.Common.{filter, find, Option, Some, None, option_map, is_some, refl, sym, ap, ◌∙◌, ◌<◌, unwrap_or, true≢false}
+use Rattle.std.proofs.Common.{filter, find, Option, Some, None, option_map, is_some, refl, sym, ap, ◌∙◌, ◌<◌, length, unwrap_or, true≢false, arith}
 use Rattle.std.specs.BTreeSet.{insert_key}
 use Rattle.std.specs.Ordering.{nat_cmp, match_ordering, MatchOrdering}
 use Rattle.std.specs.declared.cmp.Ordering.{Ordering}
@@ -10,7 +10,8 @@ use Rattle.std.proofs.lemmas.Cmp.{ranked}
 use Rattle.std.proofs.lemmas.List.Elements.{filter-append}
 use Rattle.repl_sessions.specs.State.{StateData, fresh}
 use Rattle.repl_sessions.specs.Sessions.{SessionData, SessionsData, is_numbered, state_of, is_open, first_state, opened_with, cloned, closed}
-use Rattle.repl_sessions.specs.Leaving.{is_leaving, remaining}
+use Rattle.repl_sessions.specs.Leaving.{is_leaving, remaining, remaining_named}
+use Rattle.repl_sessions.specs.Named.{NamedSessions}
 
 
 
@@ -154,3 +155,7 @@ remaining-opened ks s state absent =
 
 pub first-remaining : (ks : List ℕ) (s : SessionsData) (n : ℕ) → is_leaving ks n ≡ false → first_state (remaining ks s) (Some n) ≡ first_state s (Some n)
 first-remaining ks s n absent = ap (λ (o : Option StateData). unwrap_or o fresh) (state-remaining ks n s absent)
+
+pub remaining-all : (s : NamedSessions) (ks : List ℕ) → (0 < length ks → ⊥) → s ≡ remaining_named ks s
+remaining-all s [] none = ap (λ x. record s { sessions = x }) (sym (remaining-none s.sessions))
+remaining-all s (k ∷ ks) none = absurd (none (omega arith))

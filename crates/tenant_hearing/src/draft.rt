@@ -62,7 +62,7 @@ impl Draft {
             self.hear(message, sessions, actors)?;
         }
         if is_broken {
-            self.batch.add(&Origin::none(), Body::Malformed)?;
+            return self.batch.add(&Origin::none(), Body::Malformed);
         }
         Ok(())
     }

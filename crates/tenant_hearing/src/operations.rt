@@ -13,7 +13,8 @@ ghost use Rattle.tenant_actors.specs.View.{waiting_view, actors_view};
 ghost use Rattle.tenant_replies.specs.View.{made_bytes};
 ghost use Rattle.tenant_hearing.specs.Holds.{AreSeated};
 ghost use Rattle.tenant_hearing.specs.Scene.{scene, Comes, IsKept};
-ghost use Rattle.tenant_hearing.specs.Served.{session_of, IsServed};
+ghost use Rattle.repl_replies.specs.Named.{session_of};
+ghost use Rattle.tenant_hearing.specs.Served.{IsServed};
 ghost use Rattle.tenant_hearing.specs.Requested.{requested};
 
 use crate::draft::Draft;
@@ -41,8 +42,8 @@ impl Draft {
         ensures kept { IsKept (scene self.old sessions.old actors.old) (scene self.new sessions.new actors.new) }
     {
         match operation {
-            Operation::Clone { session } => self.open(origin, session, sessions, actors),
-            Operation::Close { session } => self.close(origin, session, actors),
+            Operation::Clone { session } => self.open(&origin, session, sessions, actors),
+            Operation::Close { session } => self.close(&origin, session, actors),
             Operation::Describe { session: _ } => self.batch.add(&origin, Body::Described),
             Operation::ListSessions { session: _ } => {
                 add_list(self.alloc, &mut self.batch, &origin, sessions, &self.leaving)
@@ -61,14 +62,14 @@ impl Draft {
     // Makes a session, with its actor.
     fn open(
         &mut self,
-        origin: Origin,
+        origin: &Origin,
         original: Option<u64>,
         sessions: &mut Sessions,
         actors: &mut Actors,
     ) -> Result<(), AllocError>
         requires seated { AreSeated sessions.old (actors_view actors.old) }
         requires served { IsServed original (keys self.old.leaving) sessions.old.sessions }
-        ensures heard { OnOk result (Comes (λ g t. with_clone g t (origin_view origin) original)
+        ensures heard { OnOk result (Comes (λ g t. with_clone g t (origin_view origin.now) original)
             (scene self.old sessions.old actors.old) (scene self.new sessions.new actors.new)) }
         ensures kept { IsKept (scene self.old sessions.old actors.old) (scene self.new sessions.new actors.new) }
     {
@@ -80,14 +81,14 @@ impl Draft {
         }
         note(&mut self.log, Change::Cloned(number));
         let id = sessions.id_string(self.alloc, number)?;
-        self.batch.add(&origin, Body::NewSession(id))
+        self.batch.add(origin, Body::NewSession(id))
     }
 
     // Answers what waits for a session, and closes it at the end.
-    fn close(&mut self, origin: Origin, number: u64, actors: &Actors) -> Result<(), AllocError>
+    fn close(&mut self, origin: &Origin, number: u64, actors: &Actors) -> Result<(), AllocError>
         ensures heard { (s : NamedSessions) → AreSeated s (actors_view actors.now)
             → IsServed (Some number) (keys self.old.leaving) s.sessions
-            → OnOk result (Comes (λ g t. with_close (origin_view origin) number)
+            → OnOk result (Comes (λ g t. with_close (origin_view origin.now) number)
                 (scene self.old s actors.now) (scene self.new s actors.now)) }
         ensures log { self.new.log.items ≡ self.old.log.items }
     {
@@ -95,7 +96,7 @@ impl Draft {
             return Ok(());
         };
         add_interruptions(&mut self.batch, &actor.waiting)?;
-        self.batch.add(&origin, Body::Closed)?;
+        self.batch.add(origin, Body::Closed)?;
         self.leaving.insert(number)?;
         Ok(())
     }

@@ -7,7 +7,8 @@ ghost use Rattle.repl_replies.specs.Operations as meant;
 ghost use Rattle.repl_replies.specs.View.{asked_view, operation_view, reply_view};
 ghost use Rattle.repl_sessions.specs.Named.{number_named};
 ghost use Rattle.repl_sessions.specs.Leaving.{remaining_named};
-ghost use Rattle.tenant_hearing.specs.Served.{session_of, IsServed};
+ghost use Rattle.repl_replies.specs.Named.{session_of};
+ghost use Rattle.tenant_hearing.specs.Served.{IsServed};
 
 use bencode_wire::Dictionary;
 use repl_replies::{Asked, OpenSessions, Reply, operation_of};
