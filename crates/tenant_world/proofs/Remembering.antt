@@ -1,7 +1,11 @@
 -- What the memory stands for, through changes of the tenant.
 use Rattle.std.proofs.Common.{◌≡◌, ◌≤◌, ◌↔◌, ℕ, List, [], ◌∷◌, ◌++◌, Bool, true, false, nat_le}
-use Rattle.std.proofs.Common.{refl, sym, ap, subst, ◌∙◌, map, length, IsTrue}
-use Rattle.repl_replies.specs.Replies.{ReplyData, bytes_of}
+use Rattle.std.proofs.Common.{refl, sym, ap, subst, ◌∙◌, map, length, IsTrue, true≢false}
+use Rattle.std.proofs.Common.{Option, Some, None, unwrap_or, Result, Ok, Err, IfErr}
+use Rattle.std.specs.Result.{IsErrAnd}
+use Rattle.std.proofs.lemmas.Bool.{le-leb, leb-true}
+use Rattle.std.proofs.lemmas.List.{length-map}
+use Rattle.repl_replies.specs.Replies.{ReplyData, bytes_of, interrupted}
 use Rattle.repl_sessions.specs.State.{StateData}
 use Rattle.server_rules.specs.Numbered.{Entry, replaced, without}
 use Rattle.server_rules.specs.Ground.{Ground}
@@ -9,13 +13,15 @@ use Rattle.server_rules.specs.Request.{Hand}
 use Rattle.server_rules.specs.Tenant.{ActorData, Quiet, seat_of, is_held}
 use Rattle.server_rules.specs.Tenant.{with_actor, with_replies, with_state}
 use Rattle.server_rules.specs.Moves.{Move}
-use Rattle.server_rules.specs.Starting.{moved}
-use Rattle.server_rules.specs.Plan.{StepAnswer, Outcome, leaves, spent}
+use Rattle.server_rules.specs.Starting.{moved, interrupted_in}
+use Rattle.server_rules.specs.Replying.{reply}
+use Rattle.server_rules.specs.Plan.{StepAnswer, Outcome, leaves, spent, request_interrupted}
 use Rattle.server_rules.specs.declared.actor.Actor.{Actor}
+use Rattle.server_rules.specs.declared.refusal.Refusal.{Refusal}
 use Rattle.tenant_replies.specs.View.{waiting_bytes}
 use Rattle.tenant_world.specs.declared.memory.Memory.{Memory}
 use Rattle.tenant_world.specs.Memories.{Remembers}
-use Rattle.tenant_world.specs.Acting.{Acted, left_by, is_interruption}
+use Rattle.tenant_world.specs.Acting.{Acted, Declined, left_by, is_interruption}
 
 -- the actors are no part of it
 pub with-actors : (g : Ground) (t : ℕ) (m : Memory) (q : Quiet) (es : List (Entry ActorData))
@@ -76,3 +82,54 @@ acted-moved g t m a actor new move answer q r same stays = record {
   steps = moved-steps a actor move q;
   heard = moved-heard a actor move q;
 }
+
+pub replies-behind-state : (a : Actor) (s : StateData) (r : List ReplyData) (q : Quiet)
+    → with_state a s (with_replies r q) ≡ with_replies r (with_state a s q)
+replies-behind-state Actor.Bare s r q = refl
+replies-behind-state (Actor.Session n) s r q = refl
+
+-- the request of an actor is interrupted
+pub acted-interrupted : (g : Ground) (t : ℕ) (m : Memory) (a : Actor) (new : ActorData) (h : Hand)
+    (q : Quiet) → Remembers g t m (with_replies (reply h.origin interrupted ∷ []) q)
+    → Acted g t a q (interrupted_in a h q) m new request_interrupted
+acted-interrupted g t m a new h q r = record {
+  after = with_replies (reply h.origin interrupted ∷ [])
+      (record q { actors = without (seat_of a) q.actors });
+  accepted = refl;
+  remembers = record {
+    sessions = r.sessions;
+    bare = r.bare;
+    spaces = r.spaces;
+    replies = r.replies;
+  };
+  actors = refl;
+  steps = refl;
+  heard = refl;
+}
+
+-- as many replies wait in the code
+pub held-so : (g : Ground) (t : ℕ) (m : Memory) (q : Quiet) (b : Bool) → Remembers g t m q
+    → (IsTrue b ↔ (1024 ≤ length (waiting_bytes m.outbox))) → is_held q ≡ b
+held-so g t m q b r told =
+    let many : length (waiting_bytes m.outbox) ≡ length q.replies =
+        ap length r.replies ∙ length-map q.replies bytes_of in
+    by b (subst (λ n. IsTrue b ↔ (1024 ≤ n)) many told)
+  where
+    by : (b : Bool) → (IsTrue b ↔ (1024 ≤ length q.replies)) → nat_le 1024 (length q.replies) ≡ b
+    by true told = le-leb 1024 (length q.replies) (told.0 refl)
+    by false told = apart (nat_le 1024 (length q.replies)) refl told where
+      apart : (c : Bool) → nat_le 1024 (length q.replies) ≡ c
+          → (IsTrue false ↔ (1024 ≤ length q.replies)) → c ≡ false
+      apart true so told = absurd (true≢false (sym (told.1 (leb-true 1024 (length q.replies) so))))
+      apart false so told = refl
+
+pub some-same : {A : Type 0} (a b : A) → Some a ≡ Some b → a ≡ b
+some-same a b e = ap (λ o. unwrap_or o a) e
+
+-- for want of memory nothing is said of the rules
+pub declined-memory : {A : Type 0} (g : Ground) (t : ℕ) (q : Quiet) (outcome : Outcome) (m : Memory)
+    (r : Result A Refusal) → IsErrAnd r (λ e. e ≡ Refusal.NoMemory) → Remembers g t m q
+    → IfErr r (Declined g t q outcome m)
+declined-memory g t q outcome m (Ok x) never remembers = tt
+declined-memory g t q outcome m (Err e) is remembers =
+    record { refused = λ ne. absurd (ne is); remembers = remembers }

@@ -1,7 +1,7 @@
 -- What is asked of a tenant while there are no refs.
 use Rattle.std.specs.Prelude.{◌≡◌, Bool, true, false, ◌&&◌, [], ◌∷◌, ◌++◌, option_map}
 use Rattle.repl_asks.specs.Exchange as exchange
-use Rattle.repl_asks.specs.Exchange.{AskData, Exchanged}
+use Rattle.repl_asks.specs.Exchange.{AskData, AnswerData, Exchanged}
 use Rattle.name_spaces.specs.Bindings.{nothing_bound}
 use Rattle.server_rules.specs.Ground.{Ground}
 use Rattle.server_rules.specs.Request.{Hand, Run}
@@ -22,6 +22,9 @@ is_of_names _ = false
 -- it is answered, and breaks no rule
 abbrev pub is_served : AskData → Bool
 is_served ask = is_of_names ask && is_allowed ask
+
+abbrev pub exchanged : AskData → AnswerData → Exchanged
+exchanged ask answer = record { ask = ask; answer = answer }
 
 abbrev pub run_with : Exchanged → Run → Run
 run_with x run = record run { trace = run.trace ++ x ∷ [] }

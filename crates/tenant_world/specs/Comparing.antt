@@ -1,5 +1,5 @@
 -- An ending is compared with the form that runs.
-use Rattle.std.specs.Prelude.{◌≡◌, Unit, ℕ, Bool, true, false, Option, None, Some, Result, Ok, Err}
+use Rattle.std.specs.Prelude.{ℕ, Bool, true, false, Option, None, Some, Result, Ok, Err}
 use Rattle.server_rules.specs.Ground.{Ground}
 use Rattle.server_rules.specs.Request.{Run}
 use Rattle.server_rules.specs.Plan.{EndingData}

@@ -21,6 +21,7 @@ use server_rules::{Actor, Refusal};
 use std::alloc::{AllocError, Global};
 use tenant_actors::{ActorState, Run};
 use tenant_moves::{After, form_ended, go_on};
+use trace_comparison::laws::{equal_traces_differ_nowhere, first_difference_is_unique};
 use trace_comparison::{first_difference, same_job};
 
 /// The form of the actor that runs has ended so. Where it is refused nothing has changed.
@@ -65,6 +66,8 @@ fn compare(run: &Run, ending: &Ending<'_>) -> Result<(), Refusal>
     ensures { (g : Ground) → IsRight g
         → refusal_in result ≡ difference g (run_view run.now) (ending_view ending.now) }
 {
+    first_difference_is_unique();
+    equal_traces_differ_nowhere();
     if !same_job(ending.job, &run.job) {
         return Err(Refusal::TraceMismatch(0));
     }

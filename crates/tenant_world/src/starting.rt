@@ -1,23 +1,24 @@
 // An actor begins its next form, or takes up its next request.
-ghost use Rattle.std.specs.Prelude.{◌≡◌, ℕ, None, Some, IfOk, IfErr, OnErr};
+ghost use Rattle.std.specs.Prelude.{◌≡◌, ℕ, None, Some, option_map, IfOk, IfErr, OnErr};
 ghost use Rattle.server_rules.specs.Ground.{Ground};
 ghost use Rattle.server_rules.specs.Request as rules;
 ghost use Rattle.server_rules.specs.Starting.{start_waiting, held_or, started, next_begun};
 ghost use Rattle.server_rules.specs.Tenant.{Quiet, state_of};
 ghost use Rattle.server_rules.specs.Deeds.{start_of};
-ghost use Rattle.tenant_actors.specs.View.{actor_view};
+ghost use Rattle.tenant_actors.specs.View.{actor_view, hand_view, waiting_view};
 ghost use Rattle.tenant_moves.specs.Starts.{hand_begun, answer_given, given_by};
 ghost use Rattle.tenant_turns.specs.Grounds.{IsRight};
 ghost use Rattle.tenant_world.specs.Memories.{Remembers};
 ghost use Rattle.tenant_world.specs.Answers.{started_view};
-ghost use Rattle.tenant_world.specs.Acting.{Acted, Declined};
+ghost use Rattle.tenant_world.specs.Acting.{Acted, Declined, oldest, with_taken};
 
 use crate::acting::interrupt;
 use crate::answers::Started;
 use crate::memory::Memory;
+use repl_jobs::Job;
 use server_rules::{Actor, Refusal};
 use std::alloc::Global;
-use tenant_actors::ActorState;
+use tenant_actors::{ActorState, Hand, Waiting};
 use tenant_moves::{Begun, NextForm, TakenUp, begin, next_form, take_up};
 
 /// The actor begins its next form, or takes up its next request. Where it is refused nothing has
@@ -122,7 +123,7 @@ fn start_request(
         memory.new) }
     ensures stays { OnErr result (actor_view state.new ≡ actor_view state.old) }
 {
-    let Some(waiting) = state.waiting.front() else {
+    let Some(waiting) = oldest(state) else {
         return Err(Refusal::Idle);
     };
     if memory.outbox.is_held() {
@@ -131,10 +132,30 @@ fn start_request(
     let session = memory.first_state(alloc, actor)?;
     let TakenUp { news, hand, given } = take_up(alloc, retries, &memory.spaces, waiting, session)?;
     memory.take_news(actor, news)?;
+    put_taken(state, hand);
+    Ok(answer_of(given))
+}
+
+fn oldest(state: &ActorState) -> Option<&Waiting>
+    ensures { option_map (λ w. waiting_view w.now) result ≡ oldest (actor_view state.now).waiting }
+{
+    state.waiting.front()
+}
+
+// The oldest request waits no longer, and what is in hand is this.
+fn put_taken(state: &mut ActorState, hand: Option<Hand>)
+    ensures { actor_view state.new
+        ≡ with_taken (option_map hand_view hand) (actor_view state.old) }
+{
     drop(state.waiting.pop_front());
     state.hand = hand;
-    Ok(match given {
+}
+
+fn answer_of(given: Option<Job>) -> Started
+    ensures { started_view result ≡ answer_given given }
+{
+    match given {
         Some(job) => Started::Begun(job),
         None => Started::Answered,
-    })
+    }
 }

@@ -9,7 +9,7 @@ ghost use Rattle.server_rules.specs.Plan as deeds;
 ghost use Rattle.server_rules.specs.Plan.{Plan, reply_given, spent};
 ghost use Rattle.server_rules.specs.Deeds.{for_actor, unless_worn};
 ghost use Rattle.server_rules.specs.Numbered.{found};
-ghost use Rattle.tenant_actors.specs.View.{actor_view};
+ghost use Rattle.tenant_actors.specs.View.{actor_view, actors_view};
 ghost use Rattle.tenant_turns.specs.Grounds.{IsRight};
 ghost use Rattle.tenant_turns.specs.NoRefs.{carried_out, outcome};
 ghost use Rattle.tenant_world.specs.Answers.{started_view, asked_view, ended_view, ending_view};
@@ -104,12 +104,12 @@ impl Tenant {
     }
 
     /// The form of the actor that runs asks this. The answer is kept with its ask.
-    pub fn answer(&mut self, actor: Actor, asked: Ask) -> Result<Asked, Refusal>
+    pub fn answer(&mut self, actor: Actor, asked: &Ask) -> Result<Asked, Refusal>
         ensures done { (g : Ground) (t : ℕ) (q : Quiet) → IsRight g → Stands g t self.old q
-            → IfOk result (λ s. Does g t (outcome g t q (deeds.asks_for actor (ask_view asked)))
+            → IfOk result (λ s. Does g t (outcome g t q (deeds.asks_for actor (ask_view asked.now)))
             self.new (asked_view s)) }
         ensures refused { (g : Ground) (t : ℕ) (q : Quiet) → IsRight g → Stands g t self.old q
-            → IfErr result (Refuses g t q (outcome g t q (deeds.asks_for actor (ask_view asked)))
+            → IfErr result (Refuses g t q (outcome g t q (deeds.asks_for actor (ask_view asked.now)))
             self.new) }
         ensures steps { OnOk result (self.old.steps ≡ self.new.steps + 1) }
         ensures kept { OnErr result (self.new.steps ≡ self.old.steps) }
@@ -189,7 +189,10 @@ impl Tenant {
             return Err(Refusal::Worn);
         }
         let vacancy = ActorState::unoccupied(self.alloc);
-        self.actors.replace(actor, vacancy).ok_or(Refusal::NoSuchActor)
+        match self.actors.replace(actor, vacancy) {
+            Some(state) => Ok(state),
+            None => Err(Refusal::NoSuchActor),
+        }
     }
 
     // The step is accepted: its actor is put back, or gone where its request was interrupted.
@@ -201,11 +204,7 @@ impl Tenant {
             → after.actors ≡ left_by is_interrupted actor (actor_view state) q.actors
             → after.steps ≡ q.steps → after.heard ≡ q.heard → Stands g t self.new (spent after) }
     {
-        if is_interrupted {
-            self.actors.remove(actor);
-        } else {
-            drop(self.actors.replace(actor, state));
-        }
+        put_back(&mut self.actors, actor, state, is_interrupted);
         self.steps -= 1;
     }
 
@@ -218,5 +217,17 @@ impl Tenant {
             → Stands g t self.new q }
     {
         drop(self.actors.replace(actor, state));
+    }
+}
+
+// The actor is as its step left it, or gone.
+fn put_back(actors: &mut Actors, actor: Actor, state: ActorState, is_gone: bool)
+    ensures { actors_view actors.new
+        ≡ left_by is_gone actor (actor_view state) (actors_view actors.old) }
+{
+    if is_gone {
+        actors.remove(actor);
+    } else {
+        drop(actors.replace(actor, state));
     }
 }
