@@ -46,7 +46,7 @@ pub drains : {X : Type 0} (items : X → List ℕ) (g : Ground) (t : ℕ) (q : Q
     → MatchOption r
     (Refuses g t q (outcome g t q deeds.drains) (with_outbox code outbox) Refusal.Idle)
     (λ v. Does g t (outcome g t q deeds.drains) (with_outbox code outbox) (reply_given (items v)))
-drains items g t q code outbox r s told = by q.replies refl r s.remembers.replies told
+drains {X = X} items g t q code outbox r s told = by q.replies refl r s.remembers.replies told
   where
     by : (replies : List ReplyData) → q.replies ≡ replies → (r : Option X)
         → waiting_bytes code.memory.outbox ≡ map bytes_of q.replies

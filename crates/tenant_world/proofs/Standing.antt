@@ -205,6 +205,6 @@ lends-memory g t a code q m lends = record {
 pub refuses-so : {X : Type 0} (g : Ground) (t : ℕ) (q : Quiet) (deed : Outcome) (new : Tenant)
     (why : Refusal) (r : Result X Refusal) → IsErrAnd r (λ e. e ≡ why)
     → Refuses g t q deed new why → IfErr r (Refuses g t q deed new)
-refuses-so g t q deed new why (Ok x) never refuses = tt
-refuses-so g t q deed new why (Err e) is refuses =
-    subst (Refuses g t q deed new) (sym is) refuses
+refuses-so g t q deed new why (Ok x) never told = tt
+refuses-so g t q deed new why (Err e) is told =
+    subst (Refuses g t q deed new) (sym is) told

@@ -32,12 +32,11 @@ returns-clause-acted c = λ g t q h tries r hand.
     let free = held-so g t c.args.memory.now q c.is_held.result r c.is_held.ensures ∙ c.if-is_held.false in
     let goes = c.in_ok-news.ensures g tries in
     let start = next_begun g k s k.forms in
-    let given = given_by c.in_ok-news.begun in
-    let taken = c.in_ok-take_news.ensures.taken g t q start.move r (subst (Tells start.move) c.in_ok-news.news-is goes.told) in
+    let given = given_by c.in_ok-news.field-0.begun in
+    let taken = c.in_ok-take_news.ensures.taken g t q start.move r goes.told in
     let put = c.put_begun.ensures.hand k kept
-        ∙ ap (λ x. record actor { hand = hand_begun k x }) (sym c.in_ok-news.begun-is)
         ∙ ap (λ x. record actor { hand = x }) goes.hand in
-    let told = ap (λ x. answer_given (given_by x)) (sym c.in_ok-news.begun-is) ∙ goes.answer in
+    let told = goes.answer in
     let here = acted-started g t memory a actor new start q given free taken put told in
     let P : Hand → Type 0 = λ x. Acted g t a q
         (held_or q (started a actor (next_begun g x s x.forms) q)) memory new (answer_given given) in

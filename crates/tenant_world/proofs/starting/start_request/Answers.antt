@@ -8,6 +8,7 @@ use Rattle.server_rules.specs.Plan.{StepAnswer, Outcome}
 use Rattle.tenant_actors.specs.View.{actor_view, hand_view, waiting_view}
 use Rattle.tenant_moves.specs.Starts.{answer_given}
 use Rattle.tenant_moves.specs.Told.{Tells}
+use Rattle.tenant_world.specs.Answers.{started_view}
 use Rattle.tenant_world.specs.Acting.{Acted, younger, with_taken}
 use Rattle.tenant_world.proofs.Remembering.{held-so, declined-memory}
 use Rattle.tenant_world.proofs.Begins.{acted-started, waiting-taken}
@@ -32,13 +33,12 @@ returns-clause-acted c = λ g t q right tries r hand.
     let same_state : s ≡ first_state a q = c.in_ok-session.ensures g t q r in
     let free = held-so g t c.args.memory.now q c.is_held.result r c.is_held.ensures ∙ c.if-is_held.false in
     let start = text_begun g spaces w.origin s w.text in
-    let given = c.in_ok-news.given in
+    let given = c.in_ok-news.field-0.given in
     let takes = c.in_ok-news.ensures g right.readings tries in
-    let taken = c.in_ok-take_news.ensures.taken g t q start.move r (subst (Tells start.move) c.in_ok-news.news-is takes.told) in
+    let taken = c.in_ok-take_news.ensures.taken g t q start.move r takes.told in
     let put = c.put_taken.ensures
-        ∙ ap (λ x. with_taken (option_map hand_view x) actor) (sym c.in_ok-news.hand-is)
         ∙ ap (λ x. with_taken x actor) takes.hand in
-    let told = ap answer_given (sym c.in_ok-news.given-is) ∙ takes.answer in
+    let told = takes.answer in
     let here = acted-started g t memory a behind new start q given free taken put told in
     let P : Namespaces → Type 0 = λ x. Acted g t a q (held_or q (started a behind
         (text_begun g x w.origin s w.text) q)) memory new (answer_given given) in
@@ -46,6 +46,6 @@ returns-clause-acted c = λ g t q right tries r hand.
         (text_begun g q.spaces w.origin x w.text) q)) memory new (answer_given given) in
     let R : StepAnswer → Type 0 = λ x. Acted g t a q (held_or q (started a behind
         (text_begun g q.spaces w.origin (first_state a q) w.text) q)) memory new x in
-    let S : Outcome → Type 0 = λ x. Acted g t a q x memory new _ in
+    let S : Outcome → Type 0 = λ x. Acted g t a q x memory new (started_view c.answer_of.result) in
     subst S (waiting-taken g a actor q w actor.waiting first)
         (subst R (sym c.answer_of.ensures) (subst Q same_state (subst P r.spaces here)))

@@ -29,12 +29,12 @@ returns-in-Ok-clause-done c = λ g t q right stands.
     let p : ActorData → Plan = λ actor. asked_of g a actor ask q actor.hand in
     let lent = c.in_ok-state.ensures.lent g t q stands in
     let some = subst (λ n. 0 < n) stands.steps c.in_ok-state.ensures.some in
-    let acted = c.in-Ok.ensures.acted g t q lent.0.names lent.1.1 in
+    let acted = c.in-Ok.ensures.acted g t q lent.0.names lent.2 in
     let lends = lends-memory g t a c.lend.new.self q c.ask.new.memory lent.0 in
     let actor = actor_view c.ask.new.state in
     does-acted g t a q p (outcome g t q (deeds.asks_for a ask)) (actor_view c.in_ok-state.state)
         c.ask.new.memory actor (asked_view c.in-Ok.answered) c.settle.new.self
-        (asks-by g t q a ask) some lent.1.0 acted
+        (asks-by g t q a ask) some lent.1 acted
         (λ after r actors steps heard. c.settle.ensures.stands g t q after lends r
         (actors ∙ ap (λ b. left_by b a actor q.actors) (sym c.is_interrupted.ensures)) steps heard)
 
@@ -45,9 +45,9 @@ returns-in-Err-clause-refused c = λ g t q right stands.
     let p : ActorData → Plan = λ actor. asked_of g a actor ask q actor.hand in
     let lent = c.in_ok-state.ensures.lent g t q stands in
     let some = subst (λ n. 0 < n) stands.steps c.in_ok-state.ensures.some in
-    let declined = c.in-Err.ensures.declined g t q lent.0.names lent.1.1 in
+    let declined = c.in-Err.ensures.declined g t q lent.0.names lent.2 in
     let lends = lends-memory g t a c.lend.new.self q c.ask.new.memory lent.0 in
     refuses-declined g t a q p (outcome g t q (deeds.asks_for a ask)) (actor_view c.in_ok-state.state)
-        c.ask.new.memory c.in-Err.why c.restore.new.self (asks-by g t q a ask) some lent.1.0
+        c.ask.new.memory c.in-Err.why c.restore.new.self (asks-by g t q a ask) some lent.1
         declined (λ r. c.restore.ensures.stands g t q lends r
-        (lent.1.0 ∙ ap Some (sym c.in-Err.ensures.stays)))
+        (lent.1 ∙ ap Some (sym c.in-Err.ensures.stays)))

@@ -28,12 +28,12 @@ returns-in-Ok-clause-done c = λ g t q right stands.
     let p : ActorData → Plan = λ actor. end_of g a actor e q actor.hand in
     let lent = c.in_ok-state.ensures.lent g t q stands in
     let some = subst (λ n. 0 < n) stands.steps c.in_ok-state.ensures.some in
-    let acted = c.in-Ok.ensures.acted g t q right lent.1.1 in
+    let acted = c.in-Ok.ensures.acted g t q right lent.2 in
     let lends = lends-memory g t a c.lend.new.self q c.end.new.memory lent.0 in
     let actor = actor_view c.end.new.state in
     does-acted g t a q p (outcome g t q (deeds.ends a e)) (actor_view c.in_ok-state.state)
         c.end.new.memory actor (ended_view c.in-Ok.ended) c.settle.new.self
-        (ends-by g t q a e) some lent.1.0 acted
+        (ends-by g t q a e) some lent.1 acted
         (λ after r actors steps heard. c.settle.ensures.stands g t q after lends r
         (actors ∙ ap (λ b. left_by b a actor q.actors) (sym c.is_interrupted.ensures)) steps heard)
 
@@ -44,9 +44,9 @@ returns-in-Err-clause-refused c = λ g t q right stands.
     let p : ActorData → Plan = λ actor. end_of g a actor e q actor.hand in
     let lent = c.in_ok-state.ensures.lent g t q stands in
     let some = subst (λ n. 0 < n) stands.steps c.in_ok-state.ensures.some in
-    let declined = c.in-Err.ensures.declined g t q right lent.1.1 in
+    let declined = c.in-Err.ensures.declined g t q right lent.2 in
     let lends = lends-memory g t a c.lend.new.self q c.end.new.memory lent.0 in
     refuses-declined g t a q p (outcome g t q (deeds.ends a e)) (actor_view c.in_ok-state.state)
-        c.end.new.memory c.in-Err.why c.restore.new.self (ends-by g t q a e) some lent.1.0
+        c.end.new.memory c.in-Err.why c.restore.new.self (ends-by g t q a e) some lent.1
         declined (λ r. c.restore.ensures.stands g t q lends r
-        (lent.1.0 ∙ ap Some (sym c.in-Err.ensures.stays)))
+        (lent.1 ∙ ap Some (sym c.in-Err.ensures.stays)))

@@ -26,12 +26,12 @@ returns-in-Ok-clause-done c = λ g t q right stands.
     let p : ActorData → Plan = λ actor. quietly (start_of g a actor q actor.hand) in
     let lent = c.in_ok-state.ensures.lent g t q stands in
     let some = subst (λ n. 0 < n) stands.steps c.in_ok-state.ensures.some in
-    let acted = c.in-Ok.ensures.acted g t q right lent.0.retries lent.1.1 in
+    let acted = c.in-Ok.ensures.acted g t q right lent.0.retries lent.2 in
     let lends = lends-memory g t a c.lend.new.self q c.start.new.memory lent.0 in
     let actor = actor_view c.start.new.state in
     does-acted g t a q p (outcome g t q (deeds.starts a)) (actor_view c.in_ok-state.state)
         c.start.new.memory actor (started_view c.in-Ok.started) c.settle.new.self
-        (starts-by g t q a) some lent.1.0 acted
+        (starts-by g t q a) some lent.1 acted
         (λ after r actors steps heard. c.settle.ensures.stands g t q after lends r
         (actors ∙ ap (λ b. left_by b a actor q.actors) (sym c.is_interrupted.ensures)) steps heard)
 
@@ -41,9 +41,9 @@ returns-in-Err-clause-refused c = λ g t q right stands.
     let p : ActorData → Plan = λ actor. quietly (start_of g a actor q actor.hand) in
     let lent = c.in_ok-state.ensures.lent g t q stands in
     let some = subst (λ n. 0 < n) stands.steps c.in_ok-state.ensures.some in
-    let declined = c.in-Err.ensures.declined g t q right lent.0.retries lent.1.1 in
+    let declined = c.in-Err.ensures.declined g t q right lent.0.retries lent.2 in
     let lends = lends-memory g t a c.lend.new.self q c.start.new.memory lent.0 in
     refuses-declined g t a q p (outcome g t q (deeds.starts a)) (actor_view c.in_ok-state.state)
-        c.start.new.memory c.in-Err.why c.restore.new.self (starts-by g t q a) some lent.1.0
+        c.start.new.memory c.in-Err.why c.restore.new.self (starts-by g t q a) some lent.1
         declined (λ r. c.restore.ensures.stands g t q lends r
-        (lent.1.0 ∙ ap Some (sym c.in-Err.ensures.stays)))
+        (lent.1 ∙ ap Some (sym c.in-Err.ensures.stays)))
