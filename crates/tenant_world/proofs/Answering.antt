@@ -1,9 +1,9 @@
 -- What a form asks, beside the rules' step.
-use Rattle.std.proofs.Common.{◌≡◌, ℕ, List, [], ◌∷◌, Bool, true, false, Option, None, Some}
-use Rattle.std.proofs.Common.{refl, sym, ap, subst, ◌∙◌, option_map, true≢false, if◌then◌else◌}
+use Rattle.std.proofs.Common.{◌≡◌, ℕ, Bool, true, false, Some}
+use Rattle.std.proofs.Common.{refl, sym, ap, ◌∙◌, option_map, true≢false, if◌then◌else◌}
 use Rattle.repl_asks.specs.Exchange as exchange
 use Rattle.repl_asks.specs.Exchange.{AskData, AnswerData, done}
-use Rattle.server_rules.specs.Calls.{Call, nothing, gives_up}
+use Rattle.server_rules.specs.Calls.{nothing, gives_up}
 use Rattle.server_rules.specs.Ground.{Ground}
 use Rattle.server_rules.specs.Request.{Hand, Run}
 use Rattle.server_rules.specs.Tenant.{ActorData, Quiet, seat_of}
@@ -11,7 +11,7 @@ use Rattle.server_rules.specs.Numbered.{replaced}
 use Rattle.server_rules.specs.Asking.{asked_of, asked_running, asked_allowed, answered, answer_to}
 use Rattle.server_rules.specs.Asking.{spaces_after, recorded, call_of, is_allowed, when_told}
 use Rattle.server_rules.specs.Starting.{interrupted_in}
-use Rattle.server_rules.specs.Plan.{Outcome, Plan, refuses, leaves, spent, ask_answered, quietly}
+use Rattle.server_rules.specs.Plan.{Plan, refuses, leaves, spent, ask_answered, quietly}
 use Rattle.server_rules.specs.declared.actor.Actor.{Actor}
 use Rattle.server_rules.specs.declared.refusal.Refusal.{Refusal}
 use Rattle.tenant_turns.specs.NoRefs.{carried_out, told_without_refs}

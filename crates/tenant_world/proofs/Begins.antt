@@ -2,19 +2,16 @@
 use Rattle.std.proofs.Common.{◌≡◌, ℕ, List, [], ◌∷◌, Bool, true, false, Option, None, Some}
 use Rattle.std.proofs.Common.{refl, sym, ap, subst, ◌∙◌, if◌then◌else◌, is_some, option_map, true≢false}
 use Rattle.repl_jobs.specs.declared.job.Job.{Job}
-use Rattle.repl_sessions.specs.State.{StateData}
 use Rattle.server_rules.specs.Ground.{Ground}
 use Rattle.server_rules.specs.Request.{Hand, Waiting}
 use Rattle.server_rules.specs.Tenant.{ActorData, Quiet, is_held, state_of, with_replies, with_state}
 use Rattle.server_rules.specs.Starting.{Started, started, held_or, next_begun, first_state}
 use Rattle.server_rules.specs.Starting.{text_begun, start_waiting, start_in_hand, interrupted_in, moved}
 use Rattle.server_rules.specs.Deeds.{start_of}
-use Rattle.server_rules.specs.Plan.{StepAnswer, Outcome, refuses, leaves, spent}
+use Rattle.server_rules.specs.Plan.{Outcome, refuses, leaves, spent}
 use Rattle.server_rules.specs.declared.actor.Actor.{Actor}
 use Rattle.server_rules.specs.declared.refusal.Refusal.{Refusal}
-use Rattle.tenant_moves.specs.declared.starting.Begun.{Begun}
-use Rattle.tenant_moves.specs.declared.starting.NextForm.{NextForm}
-use Rattle.tenant_moves.specs.Starts.{hand_begun, answer_given, given_by, GoesOn}
+use Rattle.tenant_moves.specs.Starts.{answer_given}
 use Rattle.tenant_world.specs.declared.memory.Memory.{Memory}
 use Rattle.tenant_world.specs.Memories.{Remembers}
 use Rattle.tenant_world.specs.Acting.{Acted, is_interruption, oldest, younger}

@@ -1,5 +1,5 @@
 -- The oldest reply is taken out.
-use Rattle.std.proofs.Common.{◌≡◌, ◌≢◌, ℕ, List, [], ◌∷◌, Option, None, Some, MatchOption}
+use Rattle.std.proofs.Common.{◌≡◌, ℕ, List, [], ◌∷◌, Option, None, Some, MatchOption}
 use Rattle.std.proofs.Common.{refl, sym, ap, subst, ◌∙◌, map}
 use Rattle.repl_replies.specs.Replies.{ReplyData, bytes_of}
 use Rattle.server_rules.specs.Ground.{Ground}

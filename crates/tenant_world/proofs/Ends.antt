@@ -2,14 +2,13 @@
 use Rattle.std.proofs.Common.{◌≡◌, ℕ, List, Bool, true, false, Option, None, Some}
 use Rattle.std.proofs.Common.{refl, sym, ap, ◌∙◌, if◌then◌else◌}
 use Rattle.repl_asks.specs.Exchange.{Exchanged}
-use Rattle.server_rules.specs.Comparisons as rules
 use Rattle.server_rules.specs.Ground.{Ground}
 use Rattle.server_rules.specs.Request.{Hand, Run}
 use Rattle.server_rules.specs.Tenant.{ActorData, Quiet, is_held}
 use Rattle.server_rules.specs.Ending.{end_of, end_running, end_checked, end_compared, end_accepted}
 use Rattle.server_rules.specs.Ending.{with_left_attempt}
 use Rattle.server_rules.specs.Starting.{interrupted_in}
-use Rattle.server_rules.specs.Plan.{Outcome, Plan, EndingData, refuses, quietly}
+use Rattle.server_rules.specs.Plan.{Plan, EndingData, refuses, quietly}
 use Rattle.server_rules.specs.declared.actor.Actor.{Actor}
 use Rattle.server_rules.specs.declared.refusal.Refusal.{Refusal}
 use Rattle.trace_comparison.specs.Difference.{DiffersFirstAt}

@@ -1,7 +1,7 @@
 -- What the memory stands for, through changes of the tenant.
-use Rattle.std.proofs.Common.{◌≡◌, ◌≤◌, ◌↔◌, ℕ, List, [], ◌∷◌, ◌++◌, Bool, true, false, nat_le}
-use Rattle.std.proofs.Common.{refl, sym, ap, subst, ◌∙◌, map, length, IsTrue, true≢false}
-use Rattle.std.proofs.Common.{Option, Some, None, unwrap_or, Result, Ok, Err, IfErr}
+use Rattle.std.proofs.Common.{◌≡◌, ◌≤◌, ◌↔◌, ℕ, List, [], ◌∷◌, Bool, true, false, nat_le}
+use Rattle.std.proofs.Common.{refl, sym, ap, subst, ◌∙◌, length, IsTrue, true≢false}
+use Rattle.std.proofs.Common.{Some, unwrap_or, Result, Ok, Err, IfErr}
 use Rattle.std.specs.Result.{IsErrAnd}
 use Rattle.std.proofs.lemmas.Bool.{le-leb, leb-true}
 use Rattle.std.proofs.lemmas.List.{length-map}
@@ -11,7 +11,7 @@ use Rattle.server_rules.specs.Numbered.{Entry, replaced, without}
 use Rattle.server_rules.specs.Ground.{Ground}
 use Rattle.server_rules.specs.Request.{Hand}
 use Rattle.server_rules.specs.Tenant.{ActorData, Quiet, seat_of, is_held}
-use Rattle.server_rules.specs.Tenant.{with_actor, with_replies, with_state}
+use Rattle.server_rules.specs.Tenant.{with_replies, with_state}
 use Rattle.server_rules.specs.Moves.{Move}
 use Rattle.server_rules.specs.Starting.{moved, interrupted_in}
 use Rattle.server_rules.specs.Replying.{reply}

@@ -1,6 +1,6 @@
 -- The steps of an actor, beside the deeds of the tenant.
-use Rattle.std.proofs.Common.{◌≡◌, ◌≢◌, ◌<◌, ◌-◌, ◌==◌, ℕ, zero, suc, List, [], ◌∷◌, Bool, true, false}
-use Rattle.std.proofs.Common.{Option, None, Some, refl, sym, ap, subst, ◌∙◌, if◌then◌else◌, arith}
+use Rattle.std.proofs.Common.{◌≡◌, ◌<◌, ◌-◌, ◌==◌, ℕ, zero, suc, List, [], ◌∷◌, Bool, true, false}
+use Rattle.std.proofs.Common.{None, Some, refl, sym, ap, subst, ◌∙◌, if◌then◌else◌, arith}
 use Rattle.std.proofs.Common.{Result, Ok, Err, IfErr}
 use Rattle.std.specs.Result.{IsErrAnd}
 use Rattle.std.proofs.Math.Dec.{eqb-suc-zero}
@@ -8,7 +8,7 @@ use Rattle.std.proofs.lemmas.Bool.{eqb-true}
 use Rattle.bencode_wire.specs.Decoder as decoder
 use Rattle.bencode_wire.specs.declared.decoder.Decoder.{Decoder}
 use Rattle.repl_asks.specs.Exchange.{AskData}
-use Rattle.server_rules.specs.Numbered.{Entry, entry, found, replaced, without}
+use Rattle.server_rules.specs.Numbered.{Entry, entry, found, replaced}
 use Rattle.server_rules.specs.Ground.{Ground}
 use Rattle.server_rules.specs.Readings.{message_limit}
 use Rattle.server_rules.specs.Tenant.{ActorData, Quiet, seat_of}
@@ -21,7 +21,6 @@ use Rattle.server_rules.specs.declared.actor.Actor.{Actor}
 use Rattle.server_rules.specs.declared.refusal.Refusal.{Refusal}
 use Rattle.tenant_actors.specs.View.{actors_view}
 use Rattle.tenant_actors.proofs.EntryLaws.{found_first, replaced_first, replaced-twice, without-replaced}
-use Rattle.tenant_actors.proofs.EntryLaws.{replaced-nothing}
 use Rattle.tenant_turns.specs.NoRefs.{outcome, carried_out}
 use Rattle.tenant_world.specs.declared.memory.Memory.{Memory}
 use Rattle.tenant_world.specs.declared.tenant.Tenant.{Tenant}

@@ -1,5 +1,5 @@
 -- What of a tenant the steps of its actors change, beside the actors themselves.
-use Rattle.std.specs.Prelude.{◌≡◌, ℕ, List, map}
+use Rattle.std.specs.Prelude.{◌≡◌, ℕ, map}
 use Rattle.repl_replies.specs.Replies.{bytes_of}
 use Rattle.repl_sessions.specs.StateView.{state_view}
 use Rattle.name_spaces.specs.Seen.{namespaces_of}

@@ -1,4 +1,4 @@
-use Rattle.std.proofs.Common.{◌∙◌, sym, ap, subst, option_map}
+use Rattle.std.proofs.Common.{ap, subst, option_map}
 use Rattle.server_rules.specs.Plan.{Outcome, request_interrupted}
 use Rattle.tenant_actors.specs.View.{actor_view, hand_view, run_view}
 use Rattle.tenant_world.specs.Answers.{ending_view}

@@ -6,8 +6,7 @@ use Rattle.server_rules.specs.Tenant.{state_of}
 use Rattle.server_rules.specs.Starting.{held_or, started, next_begun}
 use Rattle.server_rules.specs.Plan.{StepAnswer}
 use Rattle.tenant_actors.specs.View.{actor_view, hand_view}
-use Rattle.tenant_moves.specs.Starts.{hand_begun, answer_given, given_by}
-use Rattle.tenant_moves.specs.Told.{Tells}
+use Rattle.tenant_moves.specs.Starts.{answer_given, given_by}
 use Rattle.tenant_world.specs.Acting.{Acted}
 use Rattle.tenant_world.proofs.Remembering.{held-so, some-same, declined-memory}
 use Rattle.tenant_world.proofs.Begins.{acted-started}

@@ -5,9 +5,8 @@ use Rattle.name_spaces.specs.Namespaces.{Namespaces}
 use Rattle.name_spaces.specs.Seen.{namespaces_of}
 use Rattle.server_rules.specs.Starting.{held_or, started, text_begun, first_state}
 use Rattle.server_rules.specs.Plan.{StepAnswer, Outcome}
-use Rattle.tenant_actors.specs.View.{actor_view, hand_view, waiting_view}
+use Rattle.tenant_actors.specs.View.{actor_view, waiting_view}
 use Rattle.tenant_moves.specs.Starts.{answer_given}
-use Rattle.tenant_moves.specs.Told.{Tells}
 use Rattle.tenant_world.specs.Answers.{started_view}
 use Rattle.tenant_world.specs.Acting.{Acted, younger, with_taken}
 use Rattle.tenant_world.proofs.Remembering.{held-so, declined-memory}
