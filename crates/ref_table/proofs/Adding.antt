@@ -1,9 +1,9 @@
 -- What a commit adds, one ref after the other, are the changes that it wants.
-use Rattle.std.proofs.Common.{◌≡◌, ℕ, ◌+◌, List, [], ◌∷◌, Option, Some, None, map, refl, sym, ap, ◌∙◌}
+use Rattle.std.proofs.Common.{◌≡◌, ℕ, ◌+◌, List, [], ◌∷◌, Option, Some, None, map, refl, sym, ap}
+use Rattle.std.proofs.Common.{◌∙◌}
 use Rattle.std.proofs.Common.{subst}
 use Rattle.value_data.specs.Datum.{Datum}
-use Rattle.value_data.specs.View.{view}
-use Rattle.repl_asks.specs.Transactions.{RefNameData, ChangeData}
+use Rattle.repl_asks.specs.Transactions.{ChangeData}
 use Rattle.server_rules.specs.Versions.{Ref, with_version}
 use Rattle.server_rules.specs.Store.{Store, changed}
 use Rattle.server_rules.specs.Commit.{with_changes, raised}
@@ -59,7 +59,7 @@ one-added stands stamp c cs leads None t h ps s r here e adds now =
 one-added stands stamp c cs leads (Some id) t h [] s r here e adds now = cc
 one-added stands stamp c cs leads (Some id) t h (p ∷ ps) s r here e adds now =
     let same = same_pair (placed_view p) (id, c.now) (map placed_view ps)
-        (places_of t.directory s.tenant cs) e in
+    (places_of t.directory s.tenant cs) e in
     leads (record t { history = adds.0 }) h ps (one_set stamp c s) r
     (same.2 ∙ ap (λ v. places_of t.directory v cs) (sym (tenant-stays stamp c s))) adds.2
     (changed-stands stands t adds.0 s r c.name id (with_version (version stamp c.now)) here

@@ -1,17 +1,19 @@
 -- What a commit looks at.
-use Rattle.std.proofs.Common.{◌≡◌, ℕ, List, [], ◌∷◌, ◌++◌, Bool, true, false, ◌&&◌, ◌||◌, is_some, map}
-use Rattle.std.proofs.Common.{Some, None, ◌+◌, ◌<◌, length, refl, sym, ap, ap₂, ◌∙◌, subst, arith}
-use Rattle.std.proofs.lemmas.List.{length-map}
+use Rattle.std.proofs.Common.{◌≡◌, ℕ, List, [], ◌∷◌, ◌++◌, Bool, true, false, ◌&&◌, ◌||◌, is_some}
+use Rattle.std.proofs.Common.{map}
+use Rattle.std.proofs.Common.{Option, Some, ◌+◌, ◌<◌, length, refl, sym, ap, ap₂, ◌∙◌, subst, arith}
 use Rattle.value_data.specs.declared.value.RefName.{RefName}
 use Rattle.repl_asks.specs.Transactions.{RefNameData, ChangeData, IntentData}
-use Rattle.repl_asks.specs.Exchange.{verdict, committed, conflict}
+use Rattle.repl_asks.specs.Exchange.{verdict, committed}
 use Rattle.repl_asks.specs.View.{name_view, change_view}
 use Rattle.repl_asks.specs.declared.intent.Change.{Change}
-use Rattle.server_rules.specs.Numbered.{Entry, found}
+use Rattle.server_rules.specs.Numbered.{Entry}
 use Rattle.server_rules.specs.Versions.{Ref}
 use Rattle.server_rules.specs.Store.{Store, named}
-use Rattle.server_rules.specs.Commit.{touched, all_there, all_fit, are_distinct, is_newer_ref}
-use Rattle.server_rules.specs.Commit.{any_newer, with_changes, raised, with_sets, checked, commit_by}
+use Rattle.server_rules.specs.Commit.{touched, all_there, all_fit, are_distinct, fits}
+use Rattle.server_rules.specs.Commit.{is_newer_ref}
+use Rattle.server_rules.specs.Commit.{any_newer, with_changes, raised, with_sets, checked}
+use Rattle.server_rules.specs.Commit.{commit_by}
 use Rattle.ref_history.specs.declared.ref_id.RefId.{RefId}
 use Rattle.ref_table.specs.Refs.{Refs, store_of, after}
 use Rattle.ref_table.specs.Directory.{id_named, all_named}
@@ -21,17 +23,17 @@ use Rattle.ref_table.specs.declared.directory.Directory.{Directory}
 use Rattle.ref_table.specs.declared.table.RefTable.{RefTable}
 use Rattle.ref_table.proofs.Tables.{all-named, seen-stands}
 
-pub set-names : (sets : List Change)
+set-names : (sets : List Change)
     → map (λ c. c.name) (map change_view sets) ≡ map (λ c. name_view c.name) sets
 set-names [] = refl
 set-names (c ∷ sets) = ap (λ names. name_view c.name ∷ names) (set-names sets)
 
-named-append : (d : Directory) (viewer : ℕ) (xs ys : List RefNameData)
-    → all_named d viewer (xs ++ ys) ≡ (all_named d viewer xs && all_named d viewer ys)
-named-append d viewer [] ys = refl
-named-append d viewer (x ∷ xs) ys =
-    ap (λ b. is_some (id_named d viewer x) && b) (named-append d viewer xs ys)
-    ∙ groups (is_some (id_named d viewer x)) (all_named d viewer xs) (all_named d viewer ys) where
+named-append : (d : Directory) (caller : ℕ) (xs ys : List RefNameData)
+    → all_named d caller (xs ++ ys) ≡ (all_named d caller xs && all_named d caller ys)
+named-append d caller [] ys = refl
+named-append d caller (x ∷ xs) ys =
+    ap (λ b. is_some (id_named d caller x) && b) (named-append d caller xs ys)
+    ∙ groups (is_some (id_named d caller x)) (all_named d caller xs) (all_named d caller ys) where
       groups : (a b c : Bool) → (a && (b && c)) ≡ ((a && b) && c)
       groups true b c = refl
       groups false b c = refl
@@ -47,13 +49,13 @@ newer-append point (x ∷ xs) ys s =
       groups false b c = refl
 
 -- all are there where those that are set and those that are ensured are there
-pub both_named : (d : Directory) (viewer : ℕ) (sets : List Change) (ensured : List RefName)
-    → all_named d viewer (map (λ c. c.name) (map change_view sets) ++ map name_view ensured)
-    ≡ (all_named d viewer (map (λ c. name_view c.name) sets)
-    && all_named d viewer (map name_view ensured))
-both_named d viewer sets ensured =
-    ap (λ names. all_named d viewer (names ++ map name_view ensured)) (set-names sets)
-    ∙ named-append d viewer (map (λ c. name_view c.name) sets) (map name_view ensured)
+pub both_named : (d : Directory) (caller : ℕ) (sets : List Change) (ensured : List RefName)
+    → all_named d caller (map (λ c. c.name) (map change_view sets) ++ map name_view ensured)
+    ≡ (all_named d caller (map (λ c. name_view c.name) sets)
+    && all_named d caller (map name_view ensured))
+both_named d caller sets ensured =
+    ap (λ names. all_named d caller (names ++ map name_view ensured)) (set-names sets)
+    ∙ named-append d caller (map (λ c. name_view c.name) sets) (map name_view ensured)
 
 -- one is newer where one that is set or one that is ensured is
 pub either_newer : (point : ℕ) (sets : List Change) (ensured : List RefName) (s : Store)
@@ -66,72 +68,40 @@ either_newer point sets ensured s =
 
 -- The commit, by what was found out
 
-regroup : (a b c : Bool) → (a && (b && c)) ≡ ((a && b) && c)
+regroup : (a b c : Bool) → ((a && b) && c) ≡ (a && (b && c))
 regroup true b c = refl
 regroup false b c = refl
 
-pub commit-checked : {H : Type 0} (stands : H → RefId → Ref → Type 0) (t : RefTable H) (r : Refs)
-    (viewer : ℕ) (points : List (Entry ℕ)) (seat point : ℕ) (intent : IntentData) (may : Bool)
-    → found seat points ≡ Some point
-    → may ≡ (all_named t.directory viewer (touched intent) && all_fit intent.sets)
-    → Stands stands t r
-    → commit_by seat intent (store_of viewer points r) (found seat points)
-    ≡ checked seat intent (store_of viewer points r) (may && are_distinct intent.sets)
-    (any_newer point (touched intent) (store_of viewer points r))
-commit-checked stands t r viewer points seat point intent may runs looked s =
-    let store = store_of viewer points r in
-    let there = all-named stands t store r (touched intent) (seen-stands stands t viewer points r s) in
-    ap (commit_by seat intent store) runs
-    ∙ ap (λ b. checked seat intent store b (any_newer point (touched intent) store))
-    (regroup (all_there (touched intent) store) (all_fit intent.sets) (are_distinct intent.sets)
-    ∙ ap (λ b. (b && all_fit intent.sets) && are_distinct intent.sets) (sym there)
-    ∙ ap (λ b. b && are_distinct intent.sets) (sym looked))
+-- what was looked through, and whether each ref is set once
+pub may-commit : {H : Type 0} (stands : H → RefId → Ref → Type 0) (t : RefTable H) (r : Refs)
+    (caller : ℕ) (points : List (Entry ℕ)) (intent : IntentData) (may : Bool) → Stands stands t r
+    → may ≡ (all_named t.directory caller (touched intent) && all_fit intent.sets)
+    → (may && are_distinct intent.sets)
+    ≡ (all_there (touched intent) (store_of caller points r) && fits intent)
+may-commit stands t r caller points intent may s looked =
+    let store = store_of caller points r in
+    ap (λ b. b && are_distinct intent.sets) (looked ∙ ap (λ b. b && all_fit intent.sets)
+    (all-named stands t store r (touched intent) (seen-stands stands t caller points r s)))
+    ∙ regroup (all_there (touched intent) store) (all_fit intent.sets) (are_distinct intent.sets)
 
-pub refused-performs : {H : Type 0} (stands : H → RefId → Ref → Type 0) (t : RefTable H) (r : Refs)
-    (viewer : ℕ) (points : List (Entry ℕ)) (seat point : ℕ) (intent : IntentData) (may : Bool)
-    → found seat points ≡ Some point
-    → may ≡ (all_named t.directory viewer (touched intent) && all_fit intent.sets)
-    → (may && are_distinct intent.sets) ≡ false
-    → Stands stands t r
-    → Performs stands t r None
-        (commit_by seat intent (store_of viewer points r) (found seat points))
-refused-performs stands t r viewer points seat point intent may runs looked unfit s =
-    let store = store_of viewer points r in
-    subst (Performs stands t r None)
-    (sym (commit-checked stands t r viewer points seat point intent may runs looked s
-    ∙ ap (λ b. checked seat intent store b (any_newer point (touched intent) store)) unfit))
-    (record { told = refl; left = seen-stands stands t viewer points r s })
+commit-checked : (seat point : ℕ) (intent : IntentData) (s : Store) (o : Option ℕ) (b n : Bool)
+    → o ≡ Some point → b ≡ (all_there (touched intent) s && fits intent)
+    → n ≡ any_newer point (touched intent) s
+    → commit_by seat intent s o ≡ checked seat intent s b n
+commit-checked seat point intent s o b n runs fit newer =
+    ap (commit_by seat intent s) runs ∙ sym (ap₂ (checked seat intent s) fit newer)
 
-pub conflict-performs : {H : Type 0} (stands : H → RefId → Ref → Type 0) (t : RefTable H)
-    (r : Refs) (viewer : ℕ) (points : List (Entry ℕ)) (seat point : ℕ) (intent : IntentData)
-    (may : Bool) → found seat points ≡ Some point
-    → may ≡ (all_named t.directory viewer (touched intent) && all_fit intent.sets)
-    → (may && are_distinct intent.sets) ≡ true
-    → any_newer point (touched intent) (store_of viewer points r) ≡ true
-    → Stands stands t r
-    → Performs stands t r (Some (verdict conflict))
-        (commit_by seat intent (store_of viewer points r) (found seat points))
-conflict-performs stands t r viewer points seat point intent may runs looked fit newer s =
-    let store = store_of viewer points r in
-    subst (Performs stands t r (Some (verdict conflict)))
-    (sym (commit-checked stands t r viewer points seat point intent may runs looked s
-    ∙ ap₂ (checked seat intent store) fit newer))
-    (record { told = refl; left = seen-stands stands t viewer points r s })
-
-pub committed-performs : {H : Type 0} (stands : H → RefId → Ref → Type 0) (t new : RefTable H)
-    (r : Refs) (viewer : ℕ) (points : List (Entry ℕ)) (seat point : ℕ) (intent : IntentData)
-    (may : Bool) → found seat points ≡ Some point
-    → may ≡ (all_named t.directory viewer (touched intent) && all_fit intent.sets)
-    → (may && are_distinct intent.sets) ≡ true
-    → any_newer point (touched intent) (store_of viewer points r) ≡ false
-    → Stands stands t r → Stands stands new (after (with_sets intent.sets (store_of viewer points r)) r)
+pub committed-performs : {H : Type 0} (stands : H → RefId → Ref → Type 0) (new : RefTable H)
+    (r : Refs) (caller : ℕ) (points : List (Entry ℕ)) (seat point : ℕ) (intent : IntentData)
+    (o : Option ℕ) → o ≡ Some point
+    → true ≡ (all_there (touched intent) (store_of caller points r) && fits intent)
+    → false ≡ any_newer point (touched intent) (store_of caller points r)
+    → Stands stands new (after (with_sets intent.sets (store_of caller points r)) r)
     → Performs stands new r (Some (verdict committed))
-        (commit_by seat intent (store_of viewer points r) (found seat points))
-committed-performs stands t new r viewer points seat point intent may runs looked fit older s left =
-    let store = store_of viewer points r in
+    (commit_by seat intent (store_of caller points r) o)
+committed-performs stands new r caller points seat point intent o runs fit older left =
     subst (Performs stands new r (Some (verdict committed)))
-    (sym (commit-checked stands t r viewer points seat point intent may runs looked s
-    ∙ ap₂ (checked seat intent store) fit older))
+    (sym (commit-checked seat point intent (store_of caller points r) o true false runs fit older))
     (record { told = refl; left = left })
 
 -- where a ref is set the counter rises
@@ -141,22 +111,14 @@ with_sets-some [] s some = absurd (omega arith)
 with_sets-some (c ∷ cs) s some = refl
 
 -- the refs that are set are there where all that are named are
-pub sets-named : (d : Directory) (viewer : ℕ) (intent : IntentData)
-    → (all_named d viewer (touched intent) && all_fit intent.sets) ≡ true
-    → all_named d viewer (map (λ c. c.name) intent.sets) ≡ true
-sets-named d viewer intent e =
-    first_true (all_named d viewer (map (λ c. c.name) intent.sets))
-    (all_named d viewer intent.ensured)
-    (sym (named-append d viewer (map (λ c. c.name) intent.sets) intent.ensured)
-    ∙ first_true (all_named d viewer (touched intent)) (all_fit intent.sets) e) where
+pub sets-named : (d : Directory) (caller : ℕ) (intent : IntentData)
+    → (all_named d caller (touched intent) && all_fit intent.sets) ≡ true
+    → all_named d caller (map (λ c. c.name) intent.sets) ≡ true
+sets-named d caller intent e =
+    first_true (all_named d caller (map (λ c. c.name) intent.sets))
+    (all_named d caller intent.ensured)
+    (sym (named-append d caller (map (λ c. c.name) intent.sets) intent.ensured)
+    ∙ first_true (all_named d caller (touched intent)) (all_fit intent.sets) e) where
       first_true : (a b : Bool) → (a && b) ≡ true → a ≡ true
       first_true true b e = refl
       first_true false b e = cc
-
-pub with_sets-none : (sets : List ChangeData) (s : Store) → length sets ≡ 0 → with_sets sets s ≡ s
-with_sets-none [] s none = refl
-with_sets-none (c ∷ cs) s none = absurd (omega arith)
-
--- how many are set
-pub many_set : (sets : List Change) (n : ℕ) → length sets ≡ n → length (map change_view sets) ≡ n
-many_set sets n many = length-map sets change_view ∙ many

@@ -1,6 +1,7 @@
 -- Keys that come one after the other, each of them new.
 use Rattle.std.proofs.Common.{◌≡◌, List, [], ◌∷◌, Bool, true, false, not, ◌&&◌, ◌||◌, cond}
-use Rattle.std.proofs.Common.{ℕ, zero, suc, ◌+◌, ◌<◌, length, drop, get_or, refl, sym, ap, ap₂, ◌∙◌, arith}
+use Rattle.std.proofs.Common.{ℕ, zero, suc, ◌+◌, ◌<◌, length, drop, get_or, refl, sym, ap, ap₂, ◌∙◌}
+use Rattle.std.proofs.Common.{arith}
 use Rattle.std.specs.List.{list_any}
 use Rattle.std.specs.Ordering.{eq_by_cmp}
 use Rattle.std.specs.declared.cmp.Ordering.{Ordering}
@@ -14,7 +15,7 @@ abbrev pub all_new : {K : Type 0} → (K → K → Bool) → (K → Bool) → Li
 all_new same seen [] = true
 all_new same seen (k ∷ ks) = not (seen k) && all_new same (λ q. same k q || seen q) ks
 
-pub all_new-same : {K : Type 0} (same : K → K → Bool) (seen known : K → Bool) (ks : List K)
+all_new-same : {K : Type 0} (same : K → K → Bool) (seen known : K → Bool) (ks : List K)
     → ((q : K) → seen q ≡ known q) → all_new same seen ks ≡ all_new same known ks
 all_new-same same seen known [] alike = refl
 all_new-same same seen known (k ∷ ks) alike =
@@ -33,7 +34,7 @@ any-or f g (k ∷ ks) = ap (λ b. (f k || g k) || b) (any-or f g ks)
       four false true false y = refl
       four false false x y = refl
 
-pub all_new-distinct : {K : Type 0} (same : K → K → Bool) (seen : K → Bool) (ks : List K)
+all_new-distinct : {K : Type 0} (same : K → K → Bool) (seen : K → Bool) (ks : List K)
     → all_new same seen ks ≡ (not (list_any seen ks) && all_distinct same ks)
 all_new-distinct same seen [] = refl
 all_new-distinct same seen (k ∷ ks) =

@@ -1,9 +1,10 @@
 -- Owners, and lists by numbers.
-use Rattle.std.proofs.Common.{◌≡◌, ◌≢◌, ℕ, zero, suc, List, [], ◌∷◌, ◌++◌, length, Bool, true, false}
-use Rattle.std.proofs.Common.{Option, Some, None, refl, sym, ap, ◌∙◌, ◌==◌, inl, inr, slice_get}
+use Rattle.std.proofs.Common.{◌≡◌, ◌≢◌, ℕ, zero, suc, List, [], ◌∷◌, ◌++◌, length, Bool, true}
+use Rattle.std.proofs.Common.{false}
+use Rattle.std.proofs.Common.{Option, Some, None, refl, sym, ap, ◌==◌, inl, inr, slice_get}
 use Rattle.std.proofs.Common.{if◌then◌else◌}
 use Rattle.std.specs.Prelude.{◌⊎◌, option_map}
-use Rattle.std.proofs.lemmas.Bool.{cases_Bool, eqb-true, eq-eqb, ne_eqb}
+use Rattle.std.proofs.lemmas.Bool.{cases_Bool, eqb-true, eq-eqb}
 use Rattle.value_data.specs.Datum.{OwnerData, shared, tenant}
 use Rattle.server_rules.specs.Numbered.{changed_at}
 use Rattle.ref_history.specs.declared.ref_id.RefId.{RefId}
@@ -88,9 +89,9 @@ among i [] = inr (λ n e. none-some e)
 among i (j ∷ is) = elim (ids j i) [
   | inl same ↦ inl (0, ap Some same)
   | inr differs ↦ elim (among i is) [
-      | inl found ↦ inl (suc found.0, found.1)
-      | inr none ↦ inr (nowhere differs none)
-    ]
+    | inl found ↦ inl (suc found.0, found.1)
+    | inr none ↦ inr (nowhere differs none)
+  ]
 ] where
   nowhere : j ≢ i → ((n : ℕ) → slice_get is n ≢ Some i)
       → (n : ℕ) → slice_get (j ∷ is) n ≢ Some i

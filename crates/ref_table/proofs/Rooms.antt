@@ -1,5 +1,5 @@
 -- Places that are apart have room, one after the other.
-use Rattle.std.proofs.Common.{◌≡◌, ◌≢◌, ℕ, ◌<◌, zero, suc, List, [], ◌∷◌, length, slice_index_or, All}
+use Rattle.std.proofs.Common.{◌≡◌, ◌≢◌, suc, List, [], ◌∷◌, All}
 use Rattle.std.proofs.Common.{Bool, true, false, not, ◌||◌, ◌&&◌, map, refl, sym, ap, ◌∙◌, arith}
 use Rattle.std.specs.List.{list_any}
 use Rattle.std.specs.Ordering.{eq_by_cmp, is_eq}
@@ -62,7 +62,7 @@ pub have-room : {H : Type 0} (has_room : H → RefId → Type 0) (h : H) (ps : L
 have-room has_room h [] rooms distinct = tt
 have-room has_room h (p ∷ ps) rooms distinct =
     let both = both_hold (list_any (same_id p.id) (map (λ p. p.id) ps))
-        (all_distinct same_id (map (λ p. p.id) ps)) distinct in (
+    (all_distinct same_id (map (λ p. p.id) ps)) distinct in (
       all-first (λ p. has_room h p.id) p ps rooms,
       elsewhere p.id ps both.0,
       have-room has_room h ps (all-rest (λ p. has_room h p.id) p ps rooms) both.1,

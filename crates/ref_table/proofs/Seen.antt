@@ -1,27 +1,27 @@
 -- What a tenant sees of the refs, and how it changes.
-use Rattle.std.proofs.Common.{◌≡◌, ◌≢◌, ℕ, List, [], ◌∷◌, Bool, true, false, Option, Some, None}
+use Rattle.std.proofs.Common.{◌≡◌, ◌≢◌, ℕ, List, Bool, true, false, Option, Some, None}
 use Rattle.std.proofs.Common.{refl, sym, ap, ◌∙◌, ◌==◌, inl, inr, slice_get, if◌then◌else◌}
 use Rattle.std.proofs.lemmas.Bool.{cases_Bool, eqb-true, ne_eqb}
 use Rattle.value_data.specs.Datum.{OwnerData, shared, tenant}
-use Rattle.server_rules.specs.Numbered.{changed_at, Entry}
+use Rattle.server_rules.specs.Numbered.{changed_at}
 use Rattle.server_rules.specs.Versions.{Ref}
 use Rattle.server_rules.specs.Store.{Store, ref_of, changed_of}
 use Rattle.ref_history.specs.Changes.{Standing}
 use Rattle.ref_history.specs.declared.ref_id.RefId.{RefId}
-use Rattle.ref_table.specs.Refs.{Refs, store_of, owned_with, after}
+use Rattle.ref_table.specs.Refs.{Refs, owned_with, after}
 use Rattle.ref_table.specs.Directory.{ids_of, id_within}
 use Rattle.ref_table.specs.Standing.{Matches, StandFor}
 use Rattle.ref_table.specs.declared.directory.Directory.{Directory}
-use Rattle.ref_table.proofs.Owners.{found_if, changed_at-absent, none-some}
+use Rattle.ref_table.proofs.Owners.{found_if, changed_at-absent}
 
 -- what a tenant sees is what there is
-pub owned-seen : (viewer : ℕ) (owned : OwnerData → List Ref) (o : OwnerData)
-    → owned_with (owned shared) viewer (owned (tenant viewer)) owned o ≡ owned o
-owned-seen viewer owned shared = refl
-owned-seen viewer owned (tenant t) = elim (cases_Bool (t == viewer)) [
-  | inl same ↦ ap (λ b. if b then owned (tenant viewer) else owned (tenant t)) same
-      ∙ ap (λ v. owned (tenant v)) (sym (eqb-true t viewer same))
-  | inr apart ↦ ap (λ b. if b then owned (tenant viewer) else owned (tenant t)) apart
+pub owned-seen : (caller : ℕ) (owned : OwnerData → List Ref) (o : OwnerData)
+    → owned_with (owned shared) caller (owned (tenant caller)) owned o ≡ owned o
+owned-seen caller owned shared = refl
+owned-seen caller owned (tenant t) = elim (cases_Bool (t == caller)) [
+  | inl same ↦ ap (λ b. if b then owned (tenant caller) else owned (tenant t)) same
+      ∙ ap (λ v. owned (tenant v)) (sym (eqb-true t caller same))
+  | inr apart ↦ ap (λ b. if b then owned (tenant caller) else owned (tenant t)) apart
 ]
 
 -- the id under which a tenant finds a ref stands for what it sees of it
@@ -48,16 +48,11 @@ pub changed_of-tenant : (w : OwnerData) (m : ℕ) (f : Ref → Ref) (s : Store)
 changed_of-tenant shared m f s = refl
 changed_of-tenant (tenant t) m f s = refl
 
-pub changed_of-points : (w : OwnerData) (m : ℕ) (f : Ref → Ref) (s : Store)
-    → (changed_of w m f s).mine.points ≡ s.mine.points
-changed_of-points shared m f s = refl
-changed_of-points (tenant t) m f s = refl
-
-pub id-there : (d : Directory) (viewer : ℕ) (w : OwnerData) (m : ℕ) (id : RefId)
-    → id_within d viewer w m ≡ Some id → slice_get (ids_of d w) m ≡ Some id
-id-there d viewer shared m id e = e
-id-there d viewer (tenant t) m id e =
-    (found_if (t == viewer) (slice_get (ids_of d (tenant t)) m) id e).1
+pub id-there : (d : Directory) (caller : ℕ) (w : OwnerData) (m : ℕ) (id : RefId)
+    → id_within d caller w m ≡ Some id → slice_get (ids_of d w) m ≡ Some id
+id-there d caller shared m id e = e
+id-there d caller (tenant t) m id e =
+    (found_if (t == caller) (slice_get (ids_of d (tenant t)) m) id e).1
 
 -- a ref that the tenant reaches changes among its owner's
 pub changed-here : (d : Directory) (s : Store) (r : Refs) (w : OwnerData) (m : ℕ) (f : Ref → Ref)

@@ -1,5 +1,5 @@
 -- Ids go on standing for refs.
-use Rattle.std.proofs.Common.{◌≡◌, ◌≢◌, ℕ, zero, suc, List, [], ◌∷◌, ◌++◌, length, Option, Some, None}
+use Rattle.std.proofs.Common.{◌≡◌, ◌≢◌, ℕ, suc, List, [], ◌∷◌, ◌++◌, length, Option, Some, None}
 use Rattle.std.proofs.Common.{refl, sym, ap, ◌∙◌, subst, inl, inr, slice_get}
 use Rattle.std.specs.Prelude.{option_map, ◌⊎◌, ◌↔◌}
 use Rattle.value_data.specs.Datum.{OwnerData}
@@ -74,7 +74,7 @@ stand-changed old new ids refs later w m id f here apart change changes others h
           → Matches new (slice_get (ids o) n) (slice_get (refs o) n)
       unchanged o n differs = kept old new (slice_get (ids o) n) (slice_get (refs o) n)
           (λ i ref e. (change.others i
-              (λ same. differs (apart o w n m id (e ∙ ap Some same) here)) ref).0)
+          (λ same. differs (apart o w n m id (e ∙ ap Some same) here)) ref).0)
           (h o n)
 
       at_owner : (n : ℕ) → Matches new (slice_get (ids w) n) (slice_get (later w) n)
@@ -128,7 +128,7 @@ stand-made old new ids more refs later w id ref adds rest makes others none here
           → Matches new (slice_get (ids o) n) (slice_get (refs o) n)
       unchanged o n = kept old new (slice_get (ids o) n) (slice_get (refs o) n)
           (λ i r e. (same i
-              (λ is. fresh old ids refs id none h o n (e ∙ ap Some is)) r).0)
+          (λ is. fresh old ids refs id none h o n (e ∙ ap Some is)) r).0)
           (h o n)
 
       many : length (ids w) ≡ length (refs w)
@@ -164,13 +164,13 @@ pub apart-made : (ids more : OwnerData → List RefId) (w : OwnerData) (id : Ref
 apart-made ids more w id adds rest new apart o p n m i e f =
     elim (where_is o n i e) [
       | inl old ↦ elim (where_is p m i f) [
-          | inl older ↦ apart o p n m i old older
-          | inr last ↦ absurd (new o n (old ∙ ap Some last.2))
-        ]
+        | inl older ↦ apart o p n m i old older
+        | inr last ↦ absurd (new o n (old ∙ ap Some last.2))
+      ]
       | inr last ↦ elim (where_is p m i f) [
-          | inl old ↦ absurd (new p m (old ∙ ap Some last.2))
-          | inr later ↦ (last.0 ∙ sym later.0, last.1 ∙ sym later.1)
-        ]
+        | inl old ↦ absurd (new p m (old ∙ ap Some last.2))
+        | inr later ↦ (last.0 ∙ sym later.0, last.1 ∙ sym later.1)
+      ]
     ] where
       -- an id is an older one, or the new one at its place
       where_is : (o : OwnerData) (n : ℕ) (i : RefId) → slice_get (more o) n ≡ Some i
@@ -178,13 +178,17 @@ apart-made ids more w id adds rest new apart o p n m i e f =
       where_is o n i e = elim (owners o w) [
         | inr differs ↦ inl (ap (λ l. slice_get l n) (sym (rest o differs)) ∙ e)
         | inl is ↦ elim (numbers n (length (ids w))) [
-            | inl last ↦ inr (is, last, some-same i id (sym e
+          | inl last ↦ inr (
+            is,
+            last,
+            some-same i id (sym e
                 ∙ ap (λ o. slice_get (more o) n) is ∙ ap (λ l. slice_get l n) adds
-                ∙ ap (slice_get (ids w ++ id ∷ [])) last ∙ slice_get-added (ids w) id))
-            | inr before ↦ inl (ap (λ o. slice_get (ids o) n) is
-                ∙ sym (slice_get-added_other n (ids w) id before)
-                ∙ ap (λ l. slice_get l n) (sym adds) ∙ ap (λ o. slice_get (more o) n) (sym is) ∙ e)
-          ]
+                ∙ ap (slice_get (ids w ++ id ∷ [])) last ∙ slice_get-added (ids w) id),
+          )
+          | inr before ↦ inl (ap (λ o. slice_get (ids o) n) is
+              ∙ sym (slice_get-added_other n (ids w) id before)
+              ∙ ap (λ l. slice_get l n) (sym adds) ∙ ap (λ o. slice_get (more o) n) (sym is) ∙ e)
+        ]
       ]
 
 -- an owner's refs are dropped
@@ -193,7 +197,7 @@ pub stand-released : (old new : Standing) (ids fewer : OwnerData → List RefId)
     → fewer w ≡ [] → ((o : OwnerData) → o ≢ w → fewer o ≡ ids o)
     → later w ≡ [] → ((o : OwnerData) → o ≢ w → later o ≡ refs o)
     → ((i : RefId) → ((n : ℕ) → slice_get (ids w) n ≢ Some i)
-        → (ref : Ref) → old i ref → new i ref)
+    → (ref : Ref) → old i ref → new i ref)
     → AreApart ids → StandFor old ids refs → StandFor new fewer later
 stand-released old new ids fewer refs later w gone rest none others keeps apart h o n =
     elim (owners o w) [
@@ -239,24 +243,32 @@ pub no_more-made : (old new : Standing) (ids more : OwnerData → List RefId) (w
     (id : RefId) → more w ≡ ids w ++ id ∷ [] → ((o : OwnerData) → o ≢ w → more o ≡ ids o)
     → SameBut id old new → KeepsNoMore old ids → KeepsNoMore new more
 no_more-made old new ids more w id adds rest same keeps i r h = elim (which i id) [
-  | inl is ↦ (w, length (ids w), ap (λ l. slice_get l (length (ids w))) adds
-      ∙ slice_get-added (ids w) id ∙ ap Some (sym is))
+  | inl is ↦ (
+    w,
+    length (ids w),
+    ap (λ l. slice_get l (length (ids w))) adds
+        ∙ slice_get-added (ids w) id ∙ ap Some (sym is),
+  )
   | inr differs ↦ older (keeps i r ((same i differs r).1 h))
 ] where
   older : (o : OwnerData) × (n : ℕ) × (slice_get (ids o) n ≡ Some i)
       → (o : OwnerData) × (n : ℕ) × (slice_get (more o) n ≡ Some i)
-  older found = (found.0, found.1, elim (owners found.0 w) [
-    | inl is ↦ ap (λ o. slice_get (more o) found.1) is ∙ ap (λ l. slice_get l found.1) adds
-        ∙ slice_get-front found.1 (ids w) i id
-        (ap (λ o. slice_get (ids o) found.1) (sym is) ∙ found.2)
-    | inr differs ↦ ap (λ l. slice_get l found.1) (rest found.0 differs) ∙ found.2
-  ])
+  older found = (
+    found.0,
+    found.1,
+    elim (owners found.0 w) [
+      | inl is ↦ ap (λ o. slice_get (more o) found.1) is ∙ ap (λ l. slice_get l found.1) adds
+          ∙ slice_get-front found.1 (ids w) i id
+          (ap (λ o. slice_get (ids o) found.1) (sym is) ∙ found.2)
+      | inr differs ↦ ap (λ l. slice_get l found.1) (rest found.0 differs) ∙ found.2
+    ],
+  )
 
 pub no_more-released : (old new : Standing) (ids fewer : OwnerData → List RefId) (w : OwnerData)
     → ((o : OwnerData) → o ≢ w → fewer o ≡ ids o)
     → ((n : ℕ) (i : RefId) → slice_get (ids w) n ≡ Some i → IsAbsent new i)
     → ((i : RefId) → ((n : ℕ) → slice_get (ids w) n ≢ Some i)
-        → (ref : Ref) → old i ref ↔ new i ref)
+    → (ref : Ref) → old i ref ↔ new i ref)
     → KeepsNoMore old ids → KeepsNoMore new fewer
 no_more-released old new ids fewer w rest gone others keeps i r h = elim (among i (ids w)) [
   | inl found ↦ absurd (gone found.0 i found.1 r h)
@@ -265,20 +277,24 @@ no_more-released old new ids fewer w rest gone others keeps i r h = elim (among 
   older : ((n : ℕ) → slice_get (ids w) n ≢ Some i)
       → (o : OwnerData) × (n : ℕ) × (slice_get (ids o) n ≡ Some i)
       → (o : OwnerData) × (n : ℕ) × (slice_get (fewer o) n ≡ Some i)
-  older none found = (found.0, found.1, ap (λ l. slice_get l found.1) (rest found.0
-      (λ is. none found.1 (ap (λ o. slice_get (ids o) found.1) (sym is) ∙ found.2)))
-      ∙ found.2)
+  older none found = (
+    found.0,
+    found.1,
+    ap (λ l. slice_get l found.1) (rest found.0
+        (λ is. none found.1 (ap (λ o. slice_get (ids o) found.1) (sym is) ∙ found.2)))
+        ∙ found.2,
+  )
 
 -- a ref that was made and dropped
 pub undone : (old made new : Standing) (id : RefId) → IsAbsent old id → SameBut id old made
     → IsAbsent new id → SameBut id made new → SameRefs old new
 undone old made new id none makes gone drops i r = elim (which i id) [
   | inl is ↦ (
-      λ h. absurd (none r (subst (λ i. old i r) is h)),
-      λ h. absurd (gone r (subst (λ i. new i r) is h)),
-    )
+    λ h. absurd (none r (subst (λ i. old i r) is h)),
+    λ h. absurd (gone r (subst (λ i. new i r) is h)),
+  )
   | inr differs ↦ (
-      λ h. (drops i differs r).0 ((makes i differs r).0 h),
-      λ h. (makes i differs r).1 ((drops i differs r).1 h),
-    )
+    λ h. (drops i differs r).0 ((makes i differs r).0 h),
+    λ h. (makes i differs r).1 ((drops i differs r).1 h),
+  )
 ]

@@ -1,19 +1,20 @@
 -- A table goes on standing for refs.
-use Rattle.std.proofs.Common.{◌≡◌, ◌≢◌, ℕ, List, [], ◌∷◌, ◌++◌, Bool, true, false, Option, Some, None}
-use Rattle.std.proofs.Common.{refl, sym, ap, ap₂, ◌∙◌, subst, ◌&&◌, is_some, slice_get, if◌then◌else◌}
+use Rattle.std.proofs.Common.{◌≡◌, ◌≢◌, ℕ, List, [], ◌∷◌, ◌++◌, true, false, Option, Some, None}
+use Rattle.std.proofs.Common.{refl, sym, ap, ap₂, ◌∙◌, subst, ◌&&◌, is_some, slice_get}
+use Rattle.std.proofs.Common.{if◌then◌else◌}
 use Rattle.std.specs.Prelude.{◌↔◌}
 use mathlib.Core.Path.{fun_ext}
 use Rattle.std.proofs.lemmas.Bool.{eq-eqb, ne_eqb}
 use Rattle.value_data.specs.Datum.{OwnerData, shared, tenant}
 use Rattle.repl_asks.specs.Transactions.{RefNameData}
-use Rattle.server_rules.specs.Numbered.{changed_at, Entry}
+use Rattle.server_rules.specs.Numbered.{Entry}
 use Rattle.server_rules.specs.Versions.{Ref}
-use Rattle.server_rules.specs.Store.{Store, ref_of, changed_of, named, changed}
+use Rattle.server_rules.specs.Store.{Store, named, changed}
 use Rattle.server_rules.specs.Commit.{same_owner, all_there}
 use Rattle.ref_history.specs.Changes.{Standing, IsAbsent, SameRefs, SameBut, Changed}
 use Rattle.ref_history.specs.declared.ref_id.RefId.{RefId}
-use Rattle.ref_table.specs.Refs.{Refs, store_of, owned_with, after, with_ref, without_refs}
-use Rattle.ref_table.specs.Directory.{ids_of, id_within, id_named, all_named}
+use Rattle.ref_table.specs.Refs.{Refs, store_of, after, with_ref, without_refs}
+use Rattle.ref_table.specs.Directory.{ids_of, id_named, all_named}
 use Rattle.ref_table.specs.Standing.{Matches, StandFor, AreApart, KeepsNoMore, Stands}
 use Rattle.ref_table.specs.declared.directory.Directory.{Directory}
 use Rattle.ref_table.specs.declared.table.RefTable.{RefTable}
@@ -24,13 +25,13 @@ use Rattle.ref_table.proofs.Seen.{owned-seen, stands-within, changed_of-counter,
 use Rattle.ref_table.proofs.Seen.{changed-here, changed-elsewhere, changed-nowhere}
 
 -- what a tenant sees adds nothing
-pub seen-stands : {H : Type 0} (stands : H → RefId → Ref → Type 0) (t : RefTable H) (viewer : ℕ)
+pub seen-stands : {H : Type 0} (stands : H → RefId → Ref → Type 0) (t : RefTable H) (caller : ℕ)
     (points : List (Entry ℕ)) (r : Refs)
-    → Stands stands t r → Stands stands t (after (store_of viewer points r) r)
-seen-stands stands t viewer points r s = record {
+    → Stands stands t r → Stands stands t (after (store_of caller points r) r)
+seen-stands stands t caller points r s = record {
   counter = s.counter;
   refs = stand-equal (stands t.history) (ids_of t.directory) r.owned
-      (after (store_of viewer points r) r).owned (owned-seen viewer r.owned) s.refs;
+      (after (store_of caller points r) r).owned (owned-seen caller r.owned) s.refs;
   apart = s.apart;
   no_more = s.no_more;
 }
@@ -92,14 +93,6 @@ seen-there stands t s r name id e now =
     there (stands t.history) (id_named t.directory s.tenant name) (named name s) id
     (stands-within (stands t.history) t.directory s r name.owner name.number now.refs) e
 
-pub seen-absent : {H : Type 0} (stands : H → RefId → Ref → Type 0) (t : RefTable H) (s : Store)
-    (r : Refs) (name : RefNameData)
-    → id_named t.directory s.tenant name ≡ None → Stands stands t (after s r)
-    → named name s ≡ None
-seen-absent stands t s r name e now =
-    absent (stands t.history) (id_named t.directory s.tenant name) (named name s)
-    (stands-within (stands t.history) t.directory s r name.owner name.number now.refs) e
-
 same_owner-refl : (o : OwnerData) → same_owner o o ≡ true
 same_owner-refl shared = refl
 same_owner-refl (tenant t) = eq-eqb t t refl
@@ -125,7 +118,7 @@ made-stands stands t d h r o id ref adds rest none here same s = record {
       (with_ref o ref r).owned o id ref adds rest
       (ap (λ b. if b then r.owned o ++ ref ∷ [] else r.owned o) (same_owner-refl o))
       (λ p differs. ap (λ b. if b then r.owned p ++ ref ∷ [] else r.owned p)
-          (same_owner-apart p o differs))
+      (same_owner-apart p o differs))
       none here same s.refs;
   apart = apart-made (ids_of t.directory) (ids_of d) o id adds rest
       (fresh (stands t.history) (ids_of t.directory) r.owned id none s.refs) s.apart;
@@ -156,7 +149,7 @@ pub released-stands : {H : Type 0} (stands : H → RefId → Ref → Type 0) (t 
     → ((p : OwnerData) → p ≢ o → ids_of d p ≡ ids_of t.directory p)
     → ((n : ℕ) (i : RefId) → slice_get (ids_of t.directory o) n ≡ Some i → IsAbsent (stands h) i)
     → ((i : RefId) → ((n : ℕ) → slice_get (ids_of t.directory o) n ≢ Some i)
-        → (ref : Ref) → stands t.history i ref ↔ stands h i ref)
+    → (ref : Ref) → stands t.history i ref ↔ stands h i ref)
     → Stands stands t r
     → Stands stands (record { counter = t.counter; directory = d; history = h }) (without_refs o r)
 released-stands stands t d h r o gone rest dropped keeps s = record {

@@ -1,14 +1,15 @@
 -- What a commit means to those who read refs.
-use Rattle.std.proofs.Common.{◌≡◌, ◌≢◌, ℕ, zero, suc, ◌+◌, ◌<◌, List, [], ◌∷◌, length, Bool, true, false}
+use Rattle.std.proofs.Common.{◌≡◌, ◌≢◌, ℕ, zero, suc, ◌+◌, ◌<◌, List, [], ◌∷◌, length, Bool, true}
+use Rattle.std.proofs.Common.{false}
 use Rattle.std.proofs.Common.{◌++◌, not, ◌&&◌, ◌||◌, ◌==◌, is_some, Option, Some, None, slice_get}
 use Rattle.std.proofs.Common.{slice_index_or, map}
 use Rattle.std.proofs.Common.{refl, sym, ap, ap₂, ◌∙◌, subst, if◌then◌else◌, arith, inl, inr}
 use Rattle.std.specs.Prelude.{option_map, Contains}
 use Rattle.std.specs.List.{list_any}
 use Rattle.std.proofs.lemmas.Bool.{cases_Bool, eqb-true, eq-eqb}
-use Rattle.value_data.specs.Datum.{Datum, OwnerData, shared, tenant}
+use Rattle.value_data.specs.Datum.{OwnerData, shared, tenant}
 use Rattle.repl_asks.specs.Transactions.{RefNameData, ChangeData, IntentData}
-use Rattle.repl_asks.specs.Exchange.{verdict, committed, conflict}
+use Rattle.repl_asks.specs.Exchange.{verdict, committed}
 use Rattle.server_rules.specs.Versions.{Version, Ref, with_version}
 use Rattle.server_rules.specs.Store.{Store, ref_of, named, changed_of, changed, left_attempt}
 use Rattle.server_rules.specs.Commit.{touched, all_there, all_fit, are_distinct, fits, same_owner}

@@ -20,20 +20,20 @@ ids_of d (tenant t) = ids_in (tree.get nat_cmp d.tenants t)
 
 -- a tenant reaches no other tenant's refs
 abbrev pub id_within : Directory → ℕ → OwnerData → ℕ → Option RefId
-id_within d viewer shared n = slice_get (ids_of d shared) n
-id_within d viewer (tenant t) n = if t == viewer then slice_get (ids_of d (tenant t)) n else None
+id_within d caller shared n = slice_get (ids_of d shared) n
+id_within d caller (tenant t) n = if t == caller then slice_get (ids_of d (tenant t)) n else None
 
 abbrev pub id_named : Directory → ℕ → RefNameData → Option RefId
-id_named d viewer name = id_within d viewer name.owner name.number
+id_named d caller name = id_within d caller name.owner name.number
 
 abbrev pub all_named : Directory → ℕ → List RefNameData → Bool
-all_named d viewer [] = true
-all_named d viewer (name ∷ names) = is_some (id_named d viewer name) && all_named d viewer names
+all_named d caller [] = true
+all_named d caller (name ∷ names) = is_some (id_named d caller name) && all_named d caller names
 
 -- the same, where it is the tenant's own
 abbrev pub own_id_within : Directory → ℕ → OwnerData → ℕ → Option RefId
-own_id_within d viewer shared n = None
-own_id_within d viewer (tenant t) n = id_within d viewer (tenant t) n
+own_id_within d caller shared n = None
+own_id_within d caller (tenant t) n = id_within d caller (tenant t) n
 
 abbrev pub own_id : Directory → ℕ → RefNameData → Option RefId
-own_id d viewer name = own_id_within d viewer name.owner name.number
+own_id d caller name = own_id_within d caller name.owner name.number

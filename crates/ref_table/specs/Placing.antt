@@ -23,9 +23,9 @@ with_place (Some id) d rest = (id, d) ∷ rest
 
 -- each change with the id of its ref, where it is there
 abbrev pub places_of : Directory → ℕ → List ChangeData → List (RefId × Datum)
-places_of d viewer [] = []
-places_of d viewer (c ∷ cs) =
-    with_place (id_named d viewer c.name) c.now (places_of d viewer cs)
+places_of d caller [] = []
+places_of d caller (c ∷ cs) =
+    with_place (id_named d caller c.name) c.now (places_of d caller cs)
 
 -- no two are the same
 abbrev pub all_distinct : {K : Type 0} → (K → K → Bool) → List K → Bool

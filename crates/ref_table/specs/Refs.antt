@@ -17,16 +17,16 @@ no_refs = record { counter = 0; owned = λ owner. [] }
 
 -- what a tenant sees of them whose actors have these read points
 abbrev pub store_of : ℕ → List (Entry ℕ) → Refs → Store
-store_of viewer points r = record {
+store_of caller points r = record {
   around = record { counter = r.counter; refs = r.owned shared };
-  tenant = viewer;
-  mine = record { refs = r.owned (tenant viewer); points = points };
+  tenant = caller;
+  mine = record { refs = r.owned (tenant caller); points = points };
 }
 
 -- the refs of each owner, where these are the shared ones and those of one tenant
 abbrev pub owned_with : List Ref → ℕ → List Ref → (OwnerData → List Ref) → OwnerData → List Ref
-owned_with common viewer own owned shared = common
-owned_with common viewer own owned (tenant t) = if t == viewer then own else owned (tenant t)
+owned_with common caller own owned shared = common
+owned_with common caller own owned (tenant t) = if t == caller then own else owned (tenant t)
 
 -- all refs, once a tenant sees this
 abbrev pub after : Store → Refs → Refs

@@ -21,7 +21,7 @@ pub record Performs {H : Type 0} (stands : H → RefId → Ref → Type 0) (t : 
   pub told : answer ≡ p.told
   pub left : Stands stands t (after p.store r)
 
--- what is told where there is nothing to tell but a reading
+-- what is told of a read
 abbrev pub reading_told : Option Reading → Option AnswerData
 reading_told = option_map (λ it. reading (reading_view it))
 

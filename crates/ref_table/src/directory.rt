@@ -1,5 +1,6 @@
 // Under which ids the refs of each owner are kept.
-ghost use Rattle.std.specs.Prelude.{◌≡◌, ◌≢◌, [], ◌∷◌, ◌++◌, length, map, slice_get, IfOk, OnOk, OnErr};
+ghost use Rattle.std.specs.Prelude.{◌≡◌, ◌≢◌, [], ◌∷◌, ◌++◌, length, map, slice_get, IfOk, OnOk};
+ghost use Rattle.std.specs.Prelude.{OnErr};
 ghost use Rattle.value_data.specs.Datum.{OwnerData, tenant as tenant_owner};
 ghost use Rattle.value_data.specs.View.{owner_view};
 ghost use Rattle.repl_asks.specs.View.{name_view};
@@ -31,34 +32,34 @@ impl Directory {
     }
 
     // The id of a ref, if it is there and the tenant reaches it.
-    pub(crate) fn id_of(&self, viewer: u64, name: RefName) -> Option<RefId>
-        ensures { result ≡ id_named self.now viewer (name_view name) }
+    pub(crate) fn id_of(&self, caller: u64, name: RefName) -> Option<RefId>
+        ensures { result ≡ id_named self.now caller (name_view name) }
     {
         match name.owner {
             Owner::Shared => id_at(&self.shared, name.number),
-            Owner::Tenant(tenant) if tenant == viewer => {
+            Owner::Tenant(tenant) if tenant == caller => {
                 id_at(self.tenants.get(&tenant)?, name.number)
             }
             Owner::Tenant(_) => None,
         }
     }
 
-    pub(crate) fn has_all(&self, viewer: u64, names: &[RefName]) -> bool
-        ensures { result ≡ all_named self.now viewer (map name_view names.now) }
+    pub(crate) fn has_all(&self, caller: u64, names: &[RefName]) -> bool
+        ensures { result ≡ all_named self.now caller (map name_view names.now) }
     {
         for name in names {
-            if self.id_of(viewer, *name).is_none() {
+            if self.id_of(caller, *name).is_none() {
                 return false;
             }
         }
         true
     }
 
-    pub(crate) fn has_all_set(&self, viewer: u64, sets: &[Change]) -> bool
-        ensures { result ≡ all_named self.now viewer (map (λ c. name_view c.name) sets.now) }
+    pub(crate) fn has_all_set(&self, caller: u64, sets: &[Change]) -> bool
+        ensures { result ≡ all_named self.now caller (map (λ c. name_view c.name) sets.now) }
     {
         for change in sets {
-            if self.id_of(viewer, change.name).is_none() {
+            if self.id_of(caller, change.name).is_none() {
                 return false;
             }
         }
@@ -66,16 +67,12 @@ impl Directory {
     }
 
     // Adds the id of an owner's next ref, and answers that ref's number.
-    pub(crate) fn add(
-        &mut self,
-        alloc: Global,
-        owner: Owner,
-        id: RefId,
-    ) -> Result<u64, AllocError>
+    pub(crate) fn add(&mut self, alloc: Global, owner: Owner, id: RefId) -> Result<u64, AllocError>
         ensures number { IfOk result (λ n. n ≡ length (ids_of self.old (owner_view owner))) }
         ensures added { OnOk result (ids_of self.new (owner_view owner)
             ≡ ids_of self.old (owner_view owner) ++ id ∷ []) }
-        ensures others { (o : OwnerData) → o ≢ owner_view owner → ids_of self.new o ≡ ids_of self.old o }
+        ensures others { (o : OwnerData) → o ≢ owner_view owner
+            → ids_of self.new o ≡ ids_of self.old o }
         ensures as_it_was { OnErr result ((o : OwnerData) → ids_of self.new o ≡ ids_of self.old o) }
     {
         match owner {

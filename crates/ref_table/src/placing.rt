@@ -24,15 +24,15 @@ impl Directory {
     pub(crate) fn places(
         &self,
         alloc: Global,
-        viewer: u64,
+        caller: u64,
         sets: &[Change],
     ) -> Result<Vec<Placed>, AllocError>
         ensures { IfOk result (λ placed. map placed_view placed.items
-            ≡ places_of self.now viewer (map change_view sets.now)) }
+            ≡ places_of self.now caller (map change_view sets.now)) }
     {
         let mut placed = Vec::with_capacity(alloc, sets.len())?;
         for change in sets {
-            if let Some(id) = self.id_of(viewer, change.name) {
+            if let Some(id) = self.id_of(caller, change.name) {
                 let value = copy(&change.now)?;
                 placed.push(Placed { id, value })?;
             }

@@ -21,24 +21,25 @@ use repl_values::{Owner, RefName, copy};
 use std::alloc::AllocError;
 
 impl<H: History> RefTable<H> {
-    /// Reads a ref: in an attempt as it was at the read point, and outside of one as it is. An
-    /// attempt that is to be made again has been noted at the ref, which then keeps more versions.
-    /// It takes a step for each version that is kept of the ref, and no memory; it fails only where
-    /// 2^63 owners share the value, and then all stays as it was.
+    /// Reads a ref: in an attempt as it was at the read point, and outside of one as it is. Where
+    /// what it was then is kept no more, the attempt is to be made again; that is noted, and the
+    /// ref's next version is kept beside the older ones, if its bounds allow it. It takes a step for
+    /// each version that is kept of the ref, and no memory. It fails only where 2^63 owners share
+    /// the value, and then all stays as it was.
     pub fn read(
         &mut self,
-        viewer: u64,
+        caller: u64,
         name: RefName,
         point: Option<Point>,
     ) -> Result<Option<Reading>, AllocError>
         ensures read { (r : Refs) (points : List (Entry ℕ)) (seat : ℕ) → Stands H.stands self.old r
             → point_found seat points ≡ option_map (λ p. p.stamp) point
             → IfOk result (λ told. Performs H.stands self.new r (reading_told told)
-                (performed (store_of viewer points r) (reads seat (name_view name)))) }
+            (performed (store_of caller points r) (reads seat (name_view name)))) }
         ensures as_it_was { (r : Refs) → Stands H.stands self.old r
             → OnErr result (Stands H.stands self.new r) }
     {
-        let Some(id) = self.directory.id_of(viewer, name) else {
+        let Some(id) = self.directory.id_of(caller, name) else {
             return Ok(None);
         };
         match point {
@@ -49,12 +50,12 @@ impl<H: History> RefTable<H> {
 
     // As an attempt reads.
     fn read_at(&mut self, id: RefId, point: Point) -> Result<Reading, AllocError>
-        ensures read { (r : Refs) (viewer : ℕ) (points : List (Entry ℕ)) (seat : ℕ) (name : RefNameData)
-            (ref : Ref) → Stands H.stands self.old r
-            → id_named self.old.directory viewer name ≡ Some id
-            → named name (store_of viewer points r) ≡ Some ref
+        ensures read { (r : Refs) (caller : ℕ) (points : List (Entry ℕ)) (seat : ℕ)
+            (name : RefNameData) (ref : Ref) → Stands H.stands self.old r
+            → id_named self.old.directory caller name ≡ Some id
+            → named name (store_of caller points r) ≡ Some ref
             → IfOk result (λ it. Performs H.stands self.new r (Some (reading (reading_view it)))
-                (read_at seat name (store_of viewer points r) (readable point.stamp ref))) }
+            (read_at seat name (store_of caller points r) (readable point.stamp ref))) }
         ensures as_it_was { (r : Refs) → Stands H.stands self.old r
             → OnErr result (Stands H.stands self.new r) }
     {
@@ -75,29 +76,30 @@ impl<H: History> RefTable<H> {
     }
 
     /// How many versions a ref has behind its newest.
-    pub fn history_count(&self, viewer: u64, name: RefName) -> Option<u64>
+    pub fn history_count(&self, caller: u64, name: RefName) -> Option<u64>
         ensures { (r : Refs) (points : List (Entry ℕ)) → Stands H.stands self.now r
-            → result ≡ option_map (λ ref. ref.kept) (named (name_view name) (store_of viewer points r)) }
+            → result ≡ option_map (λ ref. ref.kept)
+            (named (name_view name) (store_of caller points r)) }
     {
-        self.history.count(self.directory.id_of(viewer, name)?)
+        self.history.count(self.directory.id_of(caller, name)?)
     }
 
     /// How many versions a ref keeps behind its newest, at the least and at the most.
-    pub fn bounds(&self, viewer: u64, name: RefName) -> Option<Bounds>
+    pub fn bounds(&self, caller: u64, name: RefName) -> Option<Bounds>
         ensures { (r : Refs) (points : List (Entry ℕ)) → Stands H.stands self.now r
-            → result ≡ option_map bounds_of (named (name_view name) (store_of viewer points r)) }
+            → result ≡ option_map bounds_of (named (name_view name) (store_of caller points r)) }
     {
-        self.history.bounds(self.directory.id_of(viewer, name)?)
+        self.history.bounds(self.directory.id_of(caller, name)?)
     }
 
     /// Sets how many versions a ref keeps behind its newest at the least, and answers whether it is
     /// there and not shared. It takes no memory.
-    pub fn set_least(&mut self, viewer: u64, name: RefName, least: u64) -> bool
+    pub fn set_least(&mut self, caller: u64, name: RefName, least: u64) -> bool
         ensures { (r : Refs) (points : List (Entry ℕ)) → Stands H.stands self.old r
             → Performs H.stands self.new r (setting_told name result)
-                (performed (store_of viewer points r) (sets_least (name_view name) least)) }
+            (performed (store_of caller points r) (sets_least (name_view name) least)) }
     {
-        match self.settable(viewer, name) {
+        match self.settable(caller, name) {
             Some(id) => {
                 self.history.set_least(id, least);
                 true
@@ -108,12 +110,12 @@ impl<H: History> RefTable<H> {
 
     /// Sets how many versions a ref keeps behind its newest at the most, and answers whether it is
     /// there and not shared. Versions that are kept by now stay. It takes no memory.
-    pub fn set_most(&mut self, viewer: u64, name: RefName, most: u64) -> bool
+    pub fn set_most(&mut self, caller: u64, name: RefName, most: u64) -> bool
         ensures { (r : Refs) (points : List (Entry ℕ)) → Stands H.stands self.old r
             → Performs H.stands self.new r (setting_told name result)
-                (performed (store_of viewer points r) (sets_most (name_view name) most)) }
+            (performed (store_of caller points r) (sets_most (name_view name) most)) }
     {
-        match self.settable(viewer, name) {
+        match self.settable(caller, name) {
             Some(id) => {
                 self.history.set_most(id, most);
                 true
@@ -123,12 +125,12 @@ impl<H: History> RefTable<H> {
     }
 
     // The id of a ref whose bounds the tenant may set.
-    fn settable(&self, viewer: u64, name: RefName) -> Option<RefId>
-        ensures { result ≡ own_id self.now.directory viewer (name_view name) }
+    fn settable(&self, caller: u64, name: RefName) -> Option<RefId>
+        ensures { result ≡ own_id self.now.directory caller (name_view name) }
     {
         match name.owner {
             Owner::Shared => None,
-            Owner::Tenant(_) => self.directory.id_of(viewer, name),
+            Owner::Tenant(_) => self.directory.id_of(caller, name),
         }
     }
 }

@@ -19,9 +19,9 @@ use std::alloc::{AllocError, Global};
 
 /// The refs of all tenants, and those that all share.
 ///
-/// A tenant names a ref, and reaches its own and the shared ones. A call for a ref that it does not
-/// reach or that is not there changes nothing. Looking a ref up takes the logarithm of the number
-/// of tenants.
+/// A call is made for a tenant, the caller, who reaches its own refs and the shared ones. Of a ref
+/// that it does not reach, as of one that is not there, nothing is told and nothing changes. To look
+/// a ref up takes about the logarithm of the number of tenants.
 #[derive(Drop)]
 pub struct RefTable<H> {
     // How many commits there were that changed a ref.
@@ -46,7 +46,9 @@ impl<H: History> RefTable<H> {
         }
     }
 
-    /// Makes the owner's next ref. Numbers begin at 0. It fails only for want of memory.
+    /// Makes the owner's next ref. Numbers begin at 0. It takes about the logarithm of the number
+    /// of tenants, and on average no more for all refs that there are. It fails only for want of
+    /// memory.
     pub fn make(
         &mut self,
         alloc: Global,
@@ -56,15 +58,17 @@ impl<H: History> RefTable<H> {
     ) -> Result<RefName, AllocError>
         ensures name { (r : Refs) → Stands H.stands self.old r → IfOk result (λ name.
             name ≡ record { owner = owner; number = length (r.owned (owner_view owner)) }) }
-        ensures made { (r : Refs) → Stands H.stands self.old r → OnOk result (Stands H.stands self.new
+        ensures made { (r : Refs) → Stands H.stands self.old r
+            → OnOk result (Stands H.stands self.new
             (with_ref (owner_view owner) (first_ref (view value) bounds) r)) }
 
         // One of a tenant is made as the rules say.
-        ensures told { (r : Refs) (points : List (Entry ℕ)) (viewer : ℕ) → Stands H.stands self.old r
-            → owner ≡ Owner.Tenant viewer → IfOk result (λ name. Performs H.stands self.new r
-                (Some (value_told (ref (owner_view name.owner) name.number)))
-                (performed (store_of viewer points r)
-                (makes (view value) bounds.least bounds.most))) }
+        ensures told { (r : Refs) (points : List (Entry ℕ)) (caller : ℕ)
+            → Stands H.stands self.old r → owner ≡ Owner.Tenant caller
+            → IfOk result (λ name. Performs H.stands self.new r
+            (Some (value_told (ref (owner_view name.owner) name.number)))
+            (performed (store_of caller points r)
+            (makes (view value) bounds.least bounds.most))) }
         ensures as_it_was { (r : Refs) → Stands H.stands self.old r
             → OnErr result (Stands H.stands self.new r) }
     {

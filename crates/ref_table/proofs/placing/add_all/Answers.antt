@@ -7,9 +7,9 @@ use Rattle.ref_table.proofs.placing.add_all.Goals as goal
 pub loop-place-preserved : goal.loop-place-preserved
 loop-place-preserved g c =
     let steps : into_iter_items c.loop-place.place-iterator
-        ≡ c.in-Some.place ∷ into_iter_items c.next.new.self = c.in-Some.ensures.steps.0 in
+    ≡ c.in-Some.place ∷ into_iter_items c.next.new.self = c.in-Some.ensures.steps.0 in
     let room = subst (λ ps. HaveRoom g.H.History.has_room c.loop-place.history ps) steps
-        c.loop-place.invariant.room in
+    c.loop-place.invariant.room in
     record {
       room = rooms-kept g.H.History.has_room c.loop-place.history c.add_version.new.self
           c.in-Some.place.id _ c.add_version.ensures.rooms room.1 room.2;

@@ -1,4 +1,3 @@
-use Rattle.std.proofs.Common.{ℕ}
 use Rattle.std.specs.Vec.Iter.{into_iter_items}
 use Rattle.ref_table.specs.Placing.{HaveRoom, AddsAll}
 use Rattle.ref_table.proofs.placing.add_all.Given as goal

@@ -18,7 +18,7 @@ loop-place-preserved c =
     rest c.in_ok-insert.field-0 c.if-not-branch.false c.in_ok-insert.ensures.added
     c.in_ok-insert.ensures.updates.0)
     ∙ ap (λ ps. all_new (eq_by_cmp (order.ghosts).cmp)
-        (set.contains (order.ghosts).cmp c.loop-place.seen) (map (λ p. p.id) ps))
+    (set.contains (order.ghosts).cmp c.loop-place.seen) (map (λ p. p.id) ps))
     (sym (drop-item c.args.placed.now c.loop-place.place-index c.place-item.result
     c.loop-place-test.true c.place-item.is))
     ∙ c.loop-place.invariant
@@ -29,7 +29,7 @@ returns-then-not-branch c =
     sym (all_new-repeat (order.ghosts).cmp c.loop-place.seen c.place-item.result.id rest
     c.in_ok-insert.field-0 c.if-not-branch.true c.in_ok-insert.ensures.added)
     ∙ ap (λ ps. all_new (eq_by_cmp (order.ghosts).cmp)
-        (set.contains (order.ghosts).cmp c.loop-place.seen) (map (λ p. p.id) ps))
+    (set.contains (order.ghosts).cmp c.loop-place.seen) (map (λ p. p.id) ps))
     (sym (drop-item c.args.placed.now c.loop-place.place-index c.place-item.result
     c.loop-place-test.true c.place-item.is))
     ∙ c.loop-place.invariant

@@ -4,5 +4,5 @@ use Rattle.ref_table.specs.Directory.{all_named}
 use Rattle.ref_table.proofs.directory.Directory.has_all.Given as goal
 
 abbrev pub invariant-loop-name : goal.invariant-loop-name
-invariant-loop-name l = all_named l.self l.viewer (map name_view l.names)
-    ≡ all_named l.self l.viewer (map name_view (drop l.name-index l.names))
+invariant-loop-name l = all_named l.self l.caller (map name_view l.names)
+    ≡ all_named l.self l.caller (map name_view (drop l.name-index l.names))

@@ -4,5 +4,5 @@ use Rattle.ref_table.specs.Directory.{all_named}
 use Rattle.ref_table.proofs.directory.Directory.has_all_set.Given as goal
 
 abbrev pub invariant-loop-change : goal.invariant-loop-change
-invariant-loop-change l = all_named l.self l.viewer (map (λ c. name_view c.name) l.sets)
-    ≡ all_named l.self l.viewer (map (λ c. name_view c.name) (drop l.change-index l.sets))
+invariant-loop-change l = all_named l.self l.caller (map (λ c. name_view c.name) l.sets)
+    ≡ all_named l.self l.caller (map (λ c. name_view c.name) (drop l.change-index l.sets))

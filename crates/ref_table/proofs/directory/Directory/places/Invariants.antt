@@ -6,5 +6,5 @@ use Rattle.ref_table.proofs.directory.Directory.places.Given as goal
 -- what is placed and what is left to be placed
 abbrev pub invariant-loop-change : goal.invariant-loop-change
 invariant-loop-change l = map placed_view l.placed.items
-        ++ places_of l.self l.viewer (map change_view (drop l.change-index l.sets))
-    ≡ places_of l.self l.viewer (map change_view l.sets)
+    ++ places_of l.self l.caller (map change_view (drop l.change-index l.sets))
+    ≡ places_of l.self l.caller (map change_view l.sets)

@@ -8,5 +8,5 @@ use Rattle.ref_table.proofs.table.RefTable.is_any_newer.Given as goal
 
 abbrev pub invariant-loop-name : goal.invariant-loop-name
 invariant-loop-name g l = (r : Refs) (points : List (Entry ℕ)) → Stands g.H.History.stands l.self r
-    → any_newer l.point.stamp (map name_view l.names) (store_of l.viewer points r)
-    ≡ any_newer l.point.stamp (map name_view (drop l.name-index l.names)) (store_of l.viewer points r)
+    → any_newer l.point.stamp (map name_view l.names) (store_of l.caller points r)
+    ≡ any_newer l.point.stamp (map name_view (drop l.name-index l.names)) (store_of l.caller points r)

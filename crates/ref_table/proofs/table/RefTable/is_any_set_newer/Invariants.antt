@@ -8,6 +8,6 @@ use Rattle.ref_table.proofs.table.RefTable.is_any_set_newer.Given as goal
 
 abbrev pub invariant-loop-change : goal.invariant-loop-change
 invariant-loop-change g l = (r : Refs) (points : List (Entry ℕ)) → Stands g.H.History.stands l.self r
-    → any_newer l.point.stamp (map (λ c. name_view c.name) l.sets) (store_of l.viewer points r)
+    → any_newer l.point.stamp (map (λ c. name_view c.name) l.sets) (store_of l.caller points r)
     ≡ any_newer l.point.stamp (map (λ c. name_view c.name) (drop l.change-index l.sets))
-    (store_of l.viewer points r)
+    (store_of l.caller points r)

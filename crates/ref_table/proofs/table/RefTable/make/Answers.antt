@@ -29,15 +29,15 @@ returns-in-Ok-clause-made g c = λ r s.
     c.in_ok-id.ensures.others s
 
 pub returns-in-Ok-clause-told : goal.returns-in-Ok-clause-told
-returns-in-Ok-clause-told g c = λ r points viewer s mine.
+returns-in-Ok-clause-told g c = λ r points caller s mine.
     let stands = g.H.History.stands in
     let o = owner_view c.args.owner in
-    let own : o ≡ tenant viewer = ap owner_view mine in
+    let own : o ≡ tenant caller = ap owner_view mine in
     let t = record c.args.self.now { directory = c.add.new.self; history = c.make.new.self } in
     subst (λ o. Performs stands t r (Some (value (ref o c.in-Ok.number)))
-        (made (store_of viewer points r) (view c.args.value) c.args.bounds.least c.args.bounds.most))
+    (made (store_of caller points r) (view c.args.value) c.args.bounds.least c.args.bounds.most))
     (sym own)
-    (made-performs stands t r viewer points (view c.args.value) c.args.bounds.least
+    (made-performs stands t r caller points (view c.args.value) c.args.bounds.least
     c.args.bounds.most c.in-Ok.number
     (c.in-Ok.ensures.number ∙ lengths (stands c.args.self.now.history)
     (ids_of c.args.self.now.directory o) (r.owned o) (s.refs o)

@@ -14,14 +14,14 @@ add_all-requires g c =
     c.deref.ensures.value c.in_ok-reserve_all.ensures.room) c.requires.once
 
 pub returns-clause-set : goal.returns-clause-set
-returns-clause-set g c = λ r viewer points sets s e.
+returns-clause-set g c = λ r caller points sets s e.
     let stands = g.H.History.stands in
     let t = record c.args.self.now { history = c.reserve_all.new.history } in
-    let now = raised-stands stands t (store_of viewer points r) r
-        (seen-stands stands t viewer points r
-        (same-stands stands c.args.self.now c.reserve_all.new.history r c.reserve_all.ensures.same s)) in
+    let now = raised-stands stands t (store_of caller points r) r
+    (seen-stands stands t caller points r
+    (same-stands stands c.args.self.now c.reserve_all.new.history r c.reserve_all.ensures.same s)) in
     all-added stands (r.counter + 1) sets (record t { counter = t.counter + 1 }) c.add_all.new.history
-    c.args.placed.items (raised (store_of viewer points r)) r e
+    c.args.placed.items (raised (store_of caller points r)) r e
     (subst (λ n. AddsAll stands (n + 1) c.reserve_all.new.history c.args.placed.items
-        c.add_all.new.history) s.counter c.add_all.ensures)
+    c.add_all.new.history) s.counter c.add_all.ensures)
     now
