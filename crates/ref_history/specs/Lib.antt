@@ -1,0 +1,4 @@
+pub mod Changes
+pub mod Effects
+pub mod Kept
+pub mod Histories

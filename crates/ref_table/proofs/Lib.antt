@@ -1,0 +1,11 @@
+pub mod Owners
+pub mod Standing
+pub mod Seen
+pub mod Tables
+pub mod Distinct
+pub mod Rooms
+pub mod Adding
+pub mod Committing
+pub mod Once
+pub mod Telling
+pub mod Values

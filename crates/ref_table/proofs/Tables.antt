@@ -1,0 +1,181 @@
+-- A table goes on standing for refs.
+use Rattle.std.proofs.Common.{◌≡◌, ◌≢◌, ℕ, List, [], ◌∷◌, ◌++◌, true, false, Option, Some, None}
+use Rattle.std.proofs.Common.{refl, sym, ap, ap₂, ◌∙◌, subst, ◌&&◌, is_some, slice_get}
+use Rattle.std.proofs.Common.{if◌then◌else◌}
+use Rattle.std.specs.Prelude.{◌↔◌}
+use mathlib.Core.Path.{fun_ext}
+use Rattle.std.proofs.lemmas.Bool.{eq-eqb, ne_eqb}
+use Rattle.value_data.specs.Datum.{OwnerData, shared, tenant}
+use Rattle.repl_asks.specs.Transactions.{RefNameData}
+use Rattle.server_rules.specs.Numbered.{Entry}
+use Rattle.server_rules.specs.Versions.{Ref}
+use Rattle.server_rules.specs.Store.{Store, named, changed}
+use Rattle.server_rules.specs.Commit.{same_owner, all_there}
+use Rattle.ref_history.specs.Changes.{Standing, IsAbsent, SameRefs, SameBut, Changed}
+use Rattle.ref_history.specs.declared.ref_id.RefId.{RefId}
+use Rattle.ref_table.specs.Refs.{Refs, store_of, after, with_ref, without_refs}
+use Rattle.ref_table.specs.Directory.{ids_of, id_named, all_named}
+use Rattle.ref_table.specs.Standing.{Matches, StandFor, AreApart, KeepsNoMore, Stands}
+use Rattle.ref_table.specs.declared.directory.Directory.{Directory}
+use Rattle.ref_table.specs.declared.table.RefTable.{RefTable}
+use Rattle.ref_table.proofs.Standing.{there, absent, stand-same, stand-equal, stand-changed}
+use Rattle.ref_table.proofs.Standing.{stand-made, apart-made, fresh, stand-released, apart-released}
+use Rattle.ref_table.proofs.Standing.{no_more-same, no_more-changed, no_more-made, no_more-released}
+use Rattle.ref_table.proofs.Seen.{owned-seen, stands-within, changed_of-counter, id-there}
+use Rattle.ref_table.proofs.Seen.{changed-here, changed-elsewhere, changed-nowhere}
+
+-- what a tenant sees adds nothing
+pub seen-stands : {H : Type 0} (stands : H → RefId → Ref → Type 0) (t : RefTable H) (caller : ℕ)
+    (points : List (Entry ℕ)) (r : Refs)
+    → Stands stands t r → Stands stands t (after (store_of caller points r) r)
+seen-stands stands t caller points r s = record {
+  counter = s.counter;
+  refs = stand-equal (stands t.history) (ids_of t.directory) r.owned
+      (after (store_of caller points r) r).owned (owned-seen caller r.owned) s.refs;
+  apart = s.apart;
+  no_more = s.no_more;
+}
+
+-- the history keeps all that it stood for
+pub same-stands : {H : Type 0} (stands : H → RefId → Ref → Type 0) (t : RefTable H) (h : H)
+    (r : Refs) → SameRefs (stands t.history) (stands h)
+    → Stands stands t r → Stands stands (record t { history = h }) r
+same-stands stands t h r same s = record {
+  counter = s.counter;
+  refs = stand-same (stands t.history) (stands h) (ids_of t.directory) r.owned same s.refs;
+  apart = s.apart;
+  no_more = no_more-same (stands t.history) (stands h) (ids_of t.directory) same s.no_more;
+}
+
+-- a ref that the tenant sees changes
+pub changed-stands : {H : Type 0} (stands : H → RefId → Ref → Type 0) (t : RefTable H) (h : H)
+    (s : Store) (r : Refs) (name : RefNameData) (id : RefId) (f : Ref → Ref)
+    → id_named t.directory s.tenant name ≡ Some id
+    → Changed id f (stands t.history) (stands h)
+    → Stands stands t (after s r)
+    → Stands stands (record t { history = h }) (after (changed name f s) r)
+changed-stands stands t h s r name id f e change now = record {
+  counter = now.counter ∙ sym (changed_of-counter name.owner name.number f s);
+  refs = stand-changed (stands t.history) (stands h) (ids_of t.directory) (after s r).owned
+      (after (changed name f s) r).owned name.owner name.number id f
+      (id-there t.directory s.tenant name.owner name.number id e) now.apart change
+      (changed-here t.directory s r name.owner name.number f id e)
+      (changed-elsewhere t.directory s r name.owner name.number f id e) now.refs;
+  apart = now.apart;
+  no_more = no_more-changed (stands t.history) (stands h) (ids_of t.directory) name.owner
+      name.number id (id-there t.directory s.tenant name.owner name.number id e) change.others
+      now.no_more;
+}
+
+-- a change of a ref that the tenant does not see
+pub unseen-stands : {H : Type 0} (stands : H → RefId → Ref → Type 0) (t : RefTable H)
+    (s : Store) (r : Refs) (name : RefNameData) (f : Ref → Ref)
+    → id_named t.directory s.tenant name ≡ None
+    → Stands stands t (after s r) → Stands stands t (after (changed name f s) r)
+unseen-stands stands t s r name f e now = record {
+  counter = now.counter ∙ sym (changed_of-counter name.owner name.number f s);
+  refs = stand-equal (stands t.history) (ids_of t.directory) (after s r).owned
+      (after (changed name f s) r).owned
+      (changed-nowhere s r name.owner name.number f
+      (absent (stands t.history) (id_named t.directory s.tenant name) (named name s)
+      (stands-within (stands t.history) t.directory s r name.owner name.number now.refs) e))
+      now.refs;
+  apart = now.apart;
+  no_more = now.no_more;
+}
+
+-- the ref that an id stands for is the one that is seen
+pub seen-there : {H : Type 0} (stands : H → RefId → Ref → Type 0) (t : RefTable H) (s : Store)
+    (r : Refs) (name : RefNameData) (id : RefId)
+    → id_named t.directory s.tenant name ≡ Some id → Stands stands t (after s r)
+    → (ref : Ref) × (named name s ≡ Some ref) × stands t.history id ref
+seen-there stands t s r name id e now =
+    there (stands t.history) (id_named t.directory s.tenant name) (named name s) id
+    (stands-within (stands t.history) t.directory s r name.owner name.number now.refs) e
+
+same_owner-refl : (o : OwnerData) → same_owner o o ≡ true
+same_owner-refl shared = refl
+same_owner-refl (tenant t) = eq-eqb t t refl
+
+same_owner-apart : (o p : OwnerData) → o ≢ p → same_owner o p ≡ false
+same_owner-apart shared shared differs = absurd (differs refl)
+same_owner-apart shared (tenant u) differs = refl
+same_owner-apart (tenant t) shared differs = refl
+same_owner-apart (tenant t) (tenant u) differs = ne_eqb t u (λ e. differs (ap tenant e))
+
+-- an owner has one ref more
+pub made-stands : {H : Type 0} (stands : H → RefId → Ref → Type 0) (t : RefTable H)
+    (d : Directory) (h : H) (r : Refs) (o : OwnerData) (id : RefId) (ref : Ref)
+    → ids_of d o ≡ ids_of t.directory o ++ id ∷ []
+    → ((p : OwnerData) → p ≢ o → ids_of d p ≡ ids_of t.directory p)
+    → IsAbsent (stands t.history) id → stands h id ref
+    → SameBut id (stands t.history) (stands h)
+    → Stands stands t r
+    → Stands stands (record { counter = t.counter; directory = d; history = h }) (with_ref o ref r)
+made-stands stands t d h r o id ref adds rest none here same s = record {
+  counter = s.counter;
+  refs = stand-made (stands t.history) (stands h) (ids_of t.directory) (ids_of d) r.owned
+      (with_ref o ref r).owned o id ref adds rest
+      (ap (λ b. if b then r.owned o ++ ref ∷ [] else r.owned o) (same_owner-refl o))
+      (λ p differs. ap (λ b. if b then r.owned p ++ ref ∷ [] else r.owned p)
+      (same_owner-apart p o differs))
+      none here same s.refs;
+  apart = apart-made (ids_of t.directory) (ids_of d) o id adds rest
+      (fresh (stands t.history) (ids_of t.directory) r.owned id none s.refs) s.apart;
+  no_more = no_more-made (stands t.history) (stands h) (ids_of t.directory) (ids_of d) o id adds
+      rest same s.no_more;
+}
+
+-- a ref was made, and could not be kept
+pub undone-stands : {H : Type 0} (stands : H → RefId → Ref → Type 0) (t : RefTable H)
+    (d : Directory) (h : H) (r : Refs)
+    → ((p : OwnerData) → ids_of d p ≡ ids_of t.directory p) → SameRefs (stands t.history) (stands h)
+    → Stands stands t r
+    → Stands stands (record { counter = t.counter; directory = d; history = h }) r
+undone-stands stands t d h r as_it_was same s =
+    let now = same-stands stands t h r same s in
+    let ids : ids_of d ≡ ids_of t.directory = fun_ext as_it_was in
+    record {
+      counter = s.counter;
+      refs = subst (λ ids. StandFor (stands h) ids r.owned) (sym ids) now.refs;
+      apart = subst AreApart (sym ids) now.apart;
+      no_more = subst (KeepsNoMore (stands h)) (sym ids) now.no_more;
+    }
+
+-- a tenant has no refs any more
+pub released-stands : {H : Type 0} (stands : H → RefId → Ref → Type 0) (t : RefTable H)
+    (d : Directory) (h : H) (r : Refs) (o : OwnerData)
+    → ids_of d o ≡ []
+    → ((p : OwnerData) → p ≢ o → ids_of d p ≡ ids_of t.directory p)
+    → ((n : ℕ) (i : RefId) → slice_get (ids_of t.directory o) n ≡ Some i → IsAbsent (stands h) i)
+    → ((i : RefId) → ((n : ℕ) → slice_get (ids_of t.directory o) n ≢ Some i)
+    → (ref : Ref) → stands t.history i ref ↔ stands h i ref)
+    → Stands stands t r
+    → Stands stands (record { counter = t.counter; directory = d; history = h }) (without_refs o r)
+released-stands stands t d h r o gone rest dropped keeps s = record {
+  counter = s.counter;
+  refs = stand-released (stands t.history) (stands h) (ids_of t.directory) (ids_of d) r.owned
+      (without_refs o r).owned o gone rest
+      (ap (λ b. if b then [] else r.owned o) (same_owner-refl o))
+      (λ p differs. ap (λ b. if b then [] else r.owned p) (same_owner-apart p o differs))
+      (λ i none ref. (keeps i none ref).0) s.apart s.refs;
+  apart = apart-released (ids_of t.directory) (ids_of d) o gone rest s.apart;
+  no_more = no_more-released (stands t.history) (stands h) (ids_of t.directory) (ids_of d) o rest
+      dropped keeps s.no_more;
+}
+
+-- all that a tenant names is there
+pub all-named : {H : Type 0} (stands : H → RefId → Ref → Type 0) (t : RefTable H) (s : Store)
+    (r : Refs) (names : List RefNameData) → Stands stands t (after s r)
+    → all_named t.directory s.tenant names ≡ all_there names s
+all-named stands t s r [] now = refl
+all-named stands t s r (name ∷ names) now =
+    ap₂ ◌&&◌ (both (stands t.history) (id_named t.directory s.tenant name) (named name s)
+    (stands-within (stands t.history) t.directory s r name.owner name.number now.refs))
+    (all-named stands t s r names now) where
+      both : (standing : Standing) (o : Option RefId) (x : Option Ref) → Matches standing o x
+          → is_some o ≡ is_some x
+      both standing None None h = refl
+      both standing None (Some x) h = absurd h
+      both standing (Some i) None h = absurd h
+      both standing (Some i) (Some x) h = refl

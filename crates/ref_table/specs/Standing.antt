@@ -1,0 +1,41 @@
+-- What a table stands for: the refs of all owners, each with all its versions.
+use Rattle.std.specs.Prelude.{◌≡◌, ℕ, List, Option, None, Some, ⊤, slice_get}
+use Rattle.value_data.specs.Datum.{OwnerData}
+use Rattle.server_rules.specs.Versions.{Ref}
+use Rattle.ref_history.specs.Changes.{Standing}
+use Rattle.ref_history.specs.declared.ref_id.RefId.{RefId}
+use Rattle.ref_table.specs.Refs.{Refs}
+use Rattle.ref_table.specs.Directory.{ids_of}
+use Rattle.ref_table.specs.declared.table.RefTable.{RefTable}
+
+-- the id stands for the ref, or neither is there
+abbrev pub Matches : Standing → Option RefId → Option Ref → Type 0
+Matches standing None None = ⊤
+Matches standing None (Some r) = ⊥
+Matches standing (Some id) None = ⊥
+Matches standing (Some id) (Some r) = standing id r
+
+-- of each owner the ids stand for the refs, one by one
+abbrev pub StandFor : Standing → (OwnerData → List RefId) → (OwnerData → List Ref) → Type 0
+StandFor standing ids refs = (owner : OwnerData) (n : ℕ)
+    → Matches standing (slice_get (ids owner) n) (slice_get (refs owner) n)
+
+-- no two refs have one id
+abbrev pub AreApart : (OwnerData → List RefId) → Type 0
+AreApart ids = (o p : OwnerData) (n m : ℕ) (id : RefId)
+    → slice_get (ids o) n ≡ Some id → slice_get (ids p) m ≡ Some id → (o ≡ p) × (n ≡ m)
+
+-- nothing is kept but these
+abbrev pub KeepsNoMore : Standing → (OwnerData → List RefId) → Type 0
+KeepsNoMore standing ids = (id : RefId) (r : Ref) → standing id r
+    → (owner : OwnerData) × (n : ℕ) × (slice_get (ids owner) n ≡ Some id)
+
+abbrev pub counter_of : {H : Type 0} → RefTable H → ℕ
+counter_of t = t.counter
+
+pub record Stands {H : Type 0} (stands : H → RefId → Ref → Type 0) (t : RefTable H) (r : Refs)
+    : Type 0 where
+  pub counter : counter_of t ≡ r.counter
+  pub refs : StandFor (stands t.history) (ids_of t.directory) r.owned
+  pub apart : AreApart (ids_of t.directory)
+  pub no_more : KeepsNoMore (stands t.history) (ids_of t.directory)

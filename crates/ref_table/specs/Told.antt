@@ -1,0 +1,36 @@
+-- That a call of the table does what the rules say of it.
+use Rattle.std.specs.Prelude.{◌≡◌, Bool, true, false, Option, Some, None, option_map}
+use Rattle.value_data.specs.Datum as datum
+use Rattle.value_data.specs.View.{owner_view}
+use Rattle.value_data.specs.declared.value.RefName.{RefName}
+use Rattle.repl_asks.specs.Exchange.{AnswerData, value, reading, verdict, committed, conflict}
+use Rattle.repl_asks.specs.View.{reading_view}
+use Rattle.repl_asks.specs.declared.answer.Reading.{Reading}
+use Rattle.server_rules.specs.Versions.{Ref}
+use Rattle.server_rules.specs.Store.{Store}
+use Rattle.server_rules.specs.Performed.{Performed}
+use Rattle.ref_history.specs.declared.ref_id.RefId.{RefId}
+use Rattle.ref_table.specs.Refs.{Refs, after}
+use Rattle.ref_table.specs.Standing.{Stands}
+use Rattle.ref_table.specs.declared.table.RefTable.{RefTable}
+use Rattle.ref_table.specs.declared.outcome.Outcome.{Outcome}
+
+-- what the rules tell is told, and the table stands for the refs as they leave them
+pub record Performs {H : Type 0} (stands : H → RefId → Ref → Type 0) (t : RefTable H) (r : Refs)
+    (answer : Option AnswerData) (p : Performed Store) : Type 0 where
+  pub told : answer ≡ p.told
+  pub left : Stands stands t (after p.store r)
+
+-- what is told of a read
+abbrev pub reading_told : Option Reading → Option AnswerData
+reading_told = option_map (λ it. reading (reading_view it))
+
+-- a ref whose bound was set is told by its name
+abbrev pub setting_told : RefName → Bool → Option AnswerData
+setting_told name true = Some (value (datum.ref (owner_view name.owner) name.number))
+setting_told name false = None
+
+abbrev pub outcome_told : Outcome → Option AnswerData
+outcome_told Outcome.Committed = Some (verdict committed)
+outcome_told Outcome.Conflict = Some (verdict conflict)
+outcome_told Outcome.Refused = None

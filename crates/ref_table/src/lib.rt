@@ -1,0 +1,15 @@
+//! The refs of all tenants and those that all share: how they are made, read at a point, and set by
+//! commits.
+#![tactic(auto)]
+
+mod commit;
+mod directory;
+mod fitting;
+pub mod laws;
+mod outcome;
+mod placing;
+mod reading;
+mod table;
+
+pub use outcome::{Outcome, Point};
+pub use table::RefTable;

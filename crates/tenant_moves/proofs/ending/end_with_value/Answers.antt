@@ -1,0 +1,34 @@
+use Rattle.std.proofs.Common.{◌≡◌, ◌∙◌, ◌++◌, ℕ, List, map, refl, sym, subst}
+use Rattle.repl_replies.specs.Replies.{bytes_of}
+use Rattle.value_data.specs.Datum.{Datum}
+use Rattle.value_data.specs.View.{view}
+use Rattle.repl_jobs.specs.View.{finished_view}
+use Rattle.repl_sessions.specs.State.{StateData}
+use Rattle.server_rules.specs.Request.{Hand, last_form}
+use Rattle.server_rules.specs.Moves.{Move, closing, going_on}
+use Rattle.server_rules.specs.Replying.{output_replies}
+use Rattle.tenant_actors.specs.View.{hand_view}
+use Rattle.tenant_moves.specs.declared.news.News.{News}
+use Rattle.tenant_moves.specs.Told.{told_bytes, told_state, Adds}
+use Rattle.tenant_moves.proofs.Behind.{ends-behind, ends-over}
+use Rattle.tenant_moves.proofs.ending.end_with_value.Goals as goal
+
+pub returns-then-is_last : goal.returns-then-is_last
+returns-then-is_last c =
+    let here = hand_view c.args.hand.now in
+    let e = finished_view c.args.finished.now in
+    let d = view c.args.value.now in
+    let h : Hand = record here { manner = last_form d; namespace = e.namespace } in
+    let mid : News = record c.args.news.now { batch = c.add_output.new.self } in
+    let s = told_state c.args.news.now in
+    let P : Datum → Type 0 = λ x. Adds (closing h.origin (last_form x) h.fault s)
+        mid c.end_request.new.self in
+    let f : StateData → Move = going_on h h.forms in
+    let over = ends-over h here s mid c.end_request.new.self
+        (sym c.is_last.ensures ∙ c.if-is_last.true)
+        (subst P c.in_ok-last.ensures c.in_ok-end_request.ensures) in
+    let Q : List ℕ → Type 0 = λ text. told_bytes mid ≡ told_bytes c.args.news.now
+        ++ map bytes_of (output_replies here.origin text) in
+    let told = subst Q c.text.ensures c.in_ok-add_output.ensures in
+    ends-behind (output_replies here.origin e.text) f s here
+        c.args.news.now mid c.end_request.new.self _ told refl over

@@ -1,0 +1,35 @@
+-- What of a request in hand is still to do behind a form that ended.
+use Rattle.std.specs.Prelude.{◌≡◌, Bool, true, false, Option, None, Some}
+use Rattle.std.specs.Arc.{arc_str_bytes}
+use Rattle.value_data.specs.Datum.{Items, no_items, item}
+use Rattle.value_data.specs.View.{view}
+use Rattle.value_data.specs.declared.value.Value.{Value}
+use Rattle.server_rules.specs.Request as rules
+use Rattle.server_rules.specs.Moves.{Move}
+use Rattle.tenant_moves.specs.declared.news.News.{News}
+use Rattle.tenant_moves.specs.declared.ending.After.{After}
+use Rattle.tenant_moves.specs.Told.{Tells, Adds}
+
+abbrev pub are_none : Items → Bool
+are_none no_items = true
+are_none (item d ds) = false
+
+-- of a file the last value is kept
+abbrev pub last_kept : Option Value → rules.Hand → rules.Hand
+last_kept None h = h
+last_kept (Some v) h = record h { manner = rules.last_form (view v) }
+
+abbrev pub hand_after : rules.Hand → After → Option rules.Hand
+hand_after h After.Over = None
+hand_after h (After.Next namespace last) =
+    Some (last_kept last (record h { running = None; namespace = arc_str_bytes namespace }))
+
+-- a form of this request ended by this move
+pub record Ends (m : Move) (h : rules.Hand) (made : News × After) : Type 0 where
+  pub told : Tells m made.0
+  pub hand : hand_after h made.1 ≡ m.hand
+
+-- the same, where something was told before
+pub record EndsBy (m : Move) (h : rules.Hand) (old new : News) (after : After) : Type 0 where
+  pub told : Adds m old new
+  pub hand : hand_after h after ≡ m.hand

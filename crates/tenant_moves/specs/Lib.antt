@@ -1,0 +1,4 @@
+pub mod Told
+pub mod Endings
+pub mod Starts
+pub mod Opening

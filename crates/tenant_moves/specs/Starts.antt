@@ -1,0 +1,75 @@
+-- What of a request is begun.
+use Rattle.std.specs.Prelude.{◌≡◌, [], ◌∷◌, Option, None, Some, option_map}
+use Rattle.value_data.specs.Datum.{Datum, Items, no_items, item}
+use Rattle.repl_jobs.specs.Job.{JobData, form}
+use Rattle.repl_jobs.specs.View.{job_view}
+use Rattle.repl_jobs.specs.declared.job.Job.{Job}
+use Rattle.repl_replies.specs.Replies.{OriginData, namespace_not_found}
+use Rattle.repl_sessions.specs.State.{StateData}
+use Rattle.server_rules.specs.Ground.{Ground}
+use Rattle.server_rules.specs.Replying.{reply}
+use Rattle.server_rules.specs.Moves.{over, in_hand, closing}
+use Rattle.server_rules.specs.Request as rules
+use Rattle.server_rules.specs.Plan.{StepAnswer, form_begun, request_answered}
+use Rattle.server_rules.specs.Starting.{Started, form_job}
+use Rattle.tenant_actors.specs.View.{hand_view}
+use Rattle.tenant_moves.specs.declared.starting.Begun.{Begun}
+use Rattle.tenant_moves.specs.declared.starting.NextForm.{NextForm}
+use Rattle.tenant_moves.specs.declared.starting.TakenUp.{TakenUp}
+use Rattle.tenant_moves.specs.Told.{Tells}
+
+-- the forms behind the first
+abbrev pub behind : Items → Items
+behind no_items = no_items
+behind (item d ds) = ds
+
+abbrev pub first_of : Items → Option Datum
+first_of no_items = None
+first_of (item d ds) = Some d
+
+-- the first of the forms runs, as this job
+abbrev pub with_run : rules.Hand → JobData → rules.Hand
+with_run h job = record h {
+  running = Some (record { job = job; trace = [] });
+  forms = behind h.forms;
+}
+
+abbrev pub hand_begun : rules.Hand → Option Begun → Option rules.Hand
+hand_begun h None = None
+hand_begun h (Some b) = Some (with_run h (job_view b.job))
+
+-- a job is given out to be evaluated, or the request was done at once
+abbrev pub answer_given : Option Job → StepAnswer
+answer_given None = request_answered
+answer_given (Some job) = form_begun (job_view job)
+
+abbrev pub given_by : Option Begun → Option Job
+given_by = option_map (λ b. b.given)
+
+-- the first of its forms, which is this, begins
+abbrev pub form_begun_with : Ground → rules.Hand → StateData → Datum → Started
+form_begun_with g h state d =
+    let job = form_job g h (form d) in
+    record { move = in_hand (with_run h job) state; answer = form_begun job }
+
+-- no form of it is left
+abbrev pub request_over : rules.Hand → StateData → Started
+request_over h state =
+    record { move = closing h.origin h.manner h.fault state; answer = request_answered }
+
+-- the namespace that the request names is not there
+abbrev pub not_found : OriginData → StateData → Started
+not_found origin state =
+    record { move = over (reply origin namespace_not_found ∷ []) state; answer = request_answered }
+
+-- the request in hand goes on by this start
+pub record GoesOn (s : Started) (h : rules.Hand) (next : NextForm) : Type 0 where
+  pub told : Tells s.move next.news
+  pub hand : hand_begun h next.begun ≡ s.move.hand
+  pub answer : answer_given (given_by next.begun) ≡ s.answer
+
+-- a request is taken up by this start
+pub record TakesUp (s : Started) (made : TakenUp) : Type 0 where
+  pub told : Tells s.move made.news
+  pub hand : option_map hand_view made.hand ≡ s.move.hand
+  pub answer : answer_given made.given ≡ s.answer

@@ -1,0 +1,176 @@
+// A form of the request in hand has ended.
+ghost use Rattle.std.specs.Prelude.{◌≡◌, Some, option_map, Ok, Err, IfOk};
+ghost use Rattle.repl_faults.specs.View.{failure_of};
+ghost use Rattle.value_data.specs.View.{view};
+ghost use Rattle.repl_jobs.specs.View.{finished_view};
+ghost use Rattle.repl_sessions.specs.StateView.{state_view};
+ghost use Rattle.server_rules.specs.Request.{each_form, each_form_elsewhere};
+ghost use Rattle.server_rules.specs.Moves.{form_ended, form_ended_as, form_loaded};
+ghost use Rattle.server_rules.specs.Moves.{going_on};
+ghost use Rattle.tenant_actors.specs.View.{hand_view};
+ghost use Rattle.tenant_moves.specs.Told.{told_state};
+ghost use Rattle.tenant_moves.specs.Endings.{are_none, last_kept, hand_after, Ends, EndsBy};
+
+use crate::news::News;
+use repl_jobs::{End, Finished};
+use repl_sessions::SessionState;
+use repl_values::{Fault, Value, copy, copy_text};
+use std::alloc::{AllocError, Global};
+use std::sync::ArcStr;
+use tenant_actors::{Hand, Manner};
+
+/// What of the request in hand is still to do behind a form.
+#[derive(Drop)]
+pub enum After {
+    Over,
+    /// The next form is evaluated in this namespace. Of a file the last value is kept.
+    Next {
+        namespace: ArcStr,
+        last: Option<Value>,
+    },
+}
+
+/// What becomes of the request in hand, whose session has this state, where its form ended so. It
+/// fails only for want of memory.
+#[tactic(auto, unfolding(server_rules::specs::Moves::form_ended))]
+pub fn form_ended(
+    alloc: Global,
+    hand: &Hand,
+    finished: &Finished,
+    state: SessionState,
+) -> Result<(News, After), AllocError>
+    ensures { IfOk result (Ends
+        (form_ended (hand_view hand.now) (finished_view finished.now) (state_view state))
+        (hand_view hand.now)) }
+{
+    let mut news = News::new(alloc, state);
+    let after = end_form(&mut news, hand, finished)?;
+    Ok((news, after))
+}
+
+fn end_form(news: &mut News, hand: &Hand, finished: &Finished) -> Result<After, AllocError>
+    ensures { IfOk result (EndsBy
+        (form_ended_as (hand_view hand.now) (finished_view finished.now) (told_state news.old)
+        (hand_view hand.now).manner) (hand_view hand.now) news.old news.new) }
+{
+    match &hand.manner {
+        Manner::EachForm => end_here(news, hand, finished),
+        Manner::EachFormElsewhere => end_elsewhere(news, hand, finished),
+        Manner::LastForm(_) => match finished.end() {
+            End::Value(value) => end_with_value(news, hand, finished, value),
+            End::Fault(fault) => end_with_fault(news, hand, finished, fault),
+        },
+    }
+}
+
+fn end_here(news: &mut News, hand: &Hand, finished: &Finished) -> Result<After, AllocError>
+    ensures { IfOk result (λ after. EndsBy
+        (form_ended_as (hand_view hand.now) (finished_view finished.now) (told_state news.old)
+        each_form) (hand_view hand.now) news.old news.new after) }
+{
+    news.batch.add_end(&hand.origin, finished)?;
+    news.note_result(finished.end())?;
+    news.state.enter(copy_text(finished.namespace())?);
+    go_on_behind(news, hand, finished)
+}
+
+fn end_elsewhere(news: &mut News, hand: &Hand, finished: &Finished) -> Result<After, AllocError>
+    ensures { IfOk result (λ after. EndsBy
+        (form_ended_as (hand_view hand.now) (finished_view finished.now) (told_state news.old)
+        each_form_elsewhere) (hand_view hand.now) news.old news.new after) }
+{
+    news.batch.add_end(&hand.origin, finished)?;
+    news.note_result(finished.end())?;
+    go_on_behind(news, hand, finished)
+}
+
+fn end_with_value(
+    news: &mut News,
+    hand: &Hand,
+    finished: &Finished,
+    value: &Value,
+) -> Result<After, AllocError>
+    ensures { IfOk result (λ after. EndsBy
+        (form_loaded (hand_view hand.now) (finished_view finished.now) (Ok (view value.now))
+        (told_state news.old)) (hand_view hand.now) news.old news.new after) }
+{
+    news.batch.add_output(&hand.origin, finished.text())?;
+    let namespace = copy_text(finished.namespace())?;
+    let last = copy(value)?;
+    if is_last(hand) {
+        news.end_request(&hand.origin, &Manner::LastForm(last), &hand.fault)?;
+        return Ok(After::Over);
+    }
+    Ok(After::Next {
+        namespace,
+        last: Some(last),
+    })
+}
+
+fn end_with_fault(
+    news: &mut News,
+    hand: &Hand,
+    finished: &Finished,
+    fault: &Fault,
+) -> Result<After, AllocError>
+    ensures { IfOk result (λ after. EndsBy
+        (form_loaded (hand_view hand.now) (finished_view finished.now) (Err (failure_of fault.now))
+        (told_state news.old)) (hand_view hand.now) news.old news.new after) }
+{
+    news.batch.add_output(&hand.origin, finished.text())?;
+    news.end_by_fault(&hand.origin, fault)?;
+    Ok(After::Over)
+}
+
+// Behind a form whose end was told: the next form comes, or the request is done.
+fn go_on_behind(news: &mut News, hand: &Hand, finished: &Finished) -> Result<After, AllocError>
+    ensures { IfOk result (λ after. EndsBy
+        (going_on (record (hand_view hand.now) { namespace = (finished_view finished.now).namespace })
+        (hand_view hand.now).forms (told_state news.old)) (hand_view hand.now) news.old news.new after) }
+{
+    if is_last(hand) {
+        news.end_request(&hand.origin, &hand.manner, &hand.fault)?;
+        return Ok(After::Over);
+    }
+    Ok(After::Next {
+        namespace: copy_text(finished.namespace())?,
+        last: None,
+    })
+}
+
+// Whether no form is left.
+fn is_last(hand: &Hand) -> bool
+    ensures { result ≡ are_none (hand_view hand.now).forms }
+{
+    hand.forms.is_empty()
+}
+
+/// The request in hand behind a form, if there is more of it to do.
+pub fn go_on(hand: Hand, after: After) -> Option<Hand>
+    ensures { option_map hand_view result ≡ hand_after (hand_view hand) after }
+{
+    match after {
+        After::Over => None,
+        After::Next { namespace, last } => Some(between(hand, namespace, last)),
+    }
+}
+
+fn between(mut hand: Hand, namespace: ArcStr, last: Option<Value>) -> Hand
+    ensures { Some (hand_view result) ≡ hand_after (hand_view hand) (After.Next namespace last) }
+{
+    hand.running = None;
+    hand.namespace = namespace;
+    with_last(hand, last)
+}
+
+fn with_last(mut hand: Hand, last: Option<Value>) -> Hand
+    ensures { hand_view result ≡ last_kept last (hand_view hand) }
+{
+    match last {
+        Some(value) => {
+            hand.manner = Manner::LastForm(value);
+            hand
+        }
+        None => hand,
+    }
+}

@@ -1,0 +1,100 @@
+// What is told of a request.
+ghost use Rattle.std.specs.Prelude.{◌≡◌, [], None, option_map, OnOk};
+ghost use Rattle.repl_faults.specs.View.{failure_of};
+ghost use Rattle.repl_jobs.specs.View.{end_view};
+ghost use Rattle.repl_replies.specs.View.{origin_view};
+ghost use Rattle.repl_sessions.specs.StateView.{state_view};
+ghost use Rattle.server_rules.specs.Moves.{over_by, closing, result_noted};
+ghost use Rattle.tenant_actors.specs.View.{manner_view};
+ghost use Rattle.tenant_moves.specs.Told.{told_bytes, told_state, Adds};
+
+use repl_jobs::End;
+use repl_replies::{Body, Origin};
+use repl_sessions::SessionState;
+use repl_values::{Fault, Value, copy, copy_text};
+use std::alloc::{AllocError, Global};
+use tenant_actors::Manner;
+use tenant_replies::Batch;
+
+/// The replies to a request, and what its session then remembers.
+#[derive(Drop)]
+pub struct News {
+    pub batch: Batch,
+    pub state: SessionState,
+}
+
+// Each fails only for want of memory.
+impl News {
+    /// Nothing is told yet.
+    pub fn new(alloc: Global, state: SessionState) -> News
+        ensures replies { told_bytes result ≡ [] }
+        ensures state { told_state result ≡ state_view state }
+    {
+        News {
+            batch: Batch::new(alloc),
+            state,
+        }
+    }
+
+    // The request is done by a fault.
+    pub(crate) fn end_by_fault(
+        &mut self,
+        origin: &Origin,
+        fault: &Fault,
+    ) -> Result<(), AllocError>
+        ensures { OnOk result (Adds
+            (over_by (origin_view origin.now) (failure_of fault.now) (told_state self.old))
+            self.old self.new) }
+    {
+        self.batch.add_fault(origin, fault)?;
+        self.batch.add(origin, Body::Done)?;
+        self.state.note_fault(fault.copy()?);
+        Ok(())
+    }
+
+    // The request is done behind its last form.
+    pub(crate) fn end_request(
+        &mut self,
+        origin: &Origin,
+        manner: &Manner,
+        fault: &Option<Fault>,
+    ) -> Result<(), AllocError>
+        ensures { OnOk result (Adds (closing (origin_view origin.now) (manner_view manner.now)
+            (option_map failure_of fault.now) (told_state self.old)) self.old self.new) }
+    {
+        match fault {
+            Some(fault) => self.end_by_fault(origin, fault),
+            None => self.end_well(origin, manner),
+        }
+    }
+
+    fn end_well(&mut self, origin: &Origin, manner: &Manner) -> Result<(), AllocError>
+        ensures { OnOk result (Adds (closing (origin_view origin.now) (manner_view manner.now)
+            None (told_state self.old)) self.old self.new) }
+    {
+        match manner {
+            Manner::EachForm => self.batch.add(origin, Body::Done),
+            Manner::EachFormElsewhere => self.batch.add(origin, Body::Done),
+            Manner::LastForm(last) => {
+                let namespace = copy_text(&self.state.namespace)?;
+                self.batch.add_value(origin, namespace.as_str(), last)?;
+                self.batch.add(origin, Body::Done)?;
+                self.state.note_value(copy(last)?);
+                Ok(())
+            }
+        }
+    }
+
+    // The session remembers the value or the fault.
+    pub(crate) fn note_result(&mut self, end: &End) -> Result<(), AllocError>
+        ensures replies { OnOk result (told_bytes self.new ≡ told_bytes self.old) }
+        ensures state { OnOk result (told_state self.new
+            ≡ result_noted (end_view end.now) (told_state self.old)) }
+    {
+        match end {
+            End::Value(value) => self.state.note_value(copy(value)?),
+            End::Fault(fault) => self.state.note_fault(fault.copy()?),
+        }
+        Ok(())
+    }
+}

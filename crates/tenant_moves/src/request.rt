@@ -1,0 +1,173 @@
+// A request is opened: its text is read.
+ghost use Rattle.std.specs.Prelude.{◌≡◌, option_map, option_and_then, Some, string_bytes, IfOk};
+ghost use Rattle.std.specs.Arc.{arc_str_bytes};
+ghost use Rattle.bencode_wire.specs.View.{view};
+ghost use Rattle.repl_faults.specs.View.{failure_of};
+ghost use Rattle.repl_reader.specs.View.{fault_option};
+ghost use Rattle.repl_replies.specs.View.{origin_view, field_view};
+ghost use Rattle.repl_sessions.specs.StateView.{state_view};
+ghost use Rattle.name_spaces.specs.Seen.{namespaces_of};
+ghost use Rattle.server_rules.specs.Readings.{Readings, AreRight};
+ghost use Rattle.server_rules.specs.Starting.{hand_of, there, text_failure};
+ghost use Rattle.tenant_actors.specs.View.{manner_view, waiting_view};
+ghost use Rattle.tenant_moves.specs.Opening.{opened, opened_code, opened_elsewhere, opened_view};
+ghost use Rattle.tenant_moves.specs.Opening.{named_namespace, text_in};
+
+use bencode_wire::Ben;
+use name_spaces::Spaces;
+use repl_reader::laws::readings_are_unique;
+use repl_reader::{Forms, ReaderFault, read_all};
+use repl_replies::Origin;
+use repl_sessions::SessionState;
+use repl_values::{Fault, Value, copy_text};
+use std::alloc::{AllocError, Global};
+use std::collections::VecDeque;
+use std::sync::ArcStr;
+use tenant_actors::{Hand, Manner, ProgramText, Waiting};
+
+/// A request whose text was read.
+#[derive(Drop)]
+pub enum Opened {
+    Hand(Hand),
+    /// It names a namespace that is not there.
+    NamespaceNotFound,
+}
+
+/// Reads the text of a request, whose session has this state. It fails only for want of memory.
+pub fn open_request(
+    alloc: Global,
+    spaces: &Spaces,
+    waiting: &Waiting,
+    state: &SessionState,
+) -> Result<Opened, AllocError>
+    ensures { (r : Readings) → AreRight r → IfOk result (λ made. opened_view made
+        ≡ opened r (namespaces_of spaces.now) (waiting_view waiting.now).origin
+        (state_view state.now) (waiting_view waiting.now).text) }
+{
+    match &waiting.text {
+        ProgramText::Code { text, ns } => {
+            open_code(alloc, spaces, &waiting.origin, text, ns, state)
+        }
+        ProgramText::File(text) => {
+            let manner = Manner::LastForm(Value::Nil);
+            open_in(alloc, &waiting.origin, manner, &state.namespace, text)
+        }
+    }
+}
+
+fn open_code(
+    alloc: Global,
+    spaces: &Spaces,
+    origin: &Origin,
+    text: &String,
+    ns: &Option<Ben>,
+    state: &SessionState,
+) -> Result<Opened, AllocError>
+    ensures { (r : Readings) → AreRight r → IfOk result (λ made. opened_view made
+        ≡ opened_code r (namespaces_of spaces.now) (origin_view origin.now)
+        (string_bytes text.now) (state_view state.now) (field_view ns.now)) }
+{
+    match ns {
+        None => open_in(alloc, origin, Manner::EachForm, &state.namespace, text),
+        Some(ns) => {
+            let namespace = namespace_named(alloc, spaces, ns)?;
+            open_elsewhere(alloc, origin, text, namespace)
+        }
+    }
+}
+
+fn open_elsewhere(
+    alloc: Global,
+    origin: &Origin,
+    text: &String,
+    namespace: Option<ArcStr>,
+) -> Result<Opened, AllocError>
+    ensures { (r : Readings) → AreRight r → IfOk result (λ made. opened_view made
+        ≡ opened_elsewhere r (origin_view origin.now) (string_bytes text.now)
+        (option_map (λ name. arc_str_bytes name) namespace)) }
+{
+    match namespace {
+        Some(namespace) => open_in(alloc, origin, Manner::EachFormElsewhere, &namespace, text),
+        None => Ok(Opened::NamespaceNotFound),
+    }
+}
+
+fn open_in(
+    alloc: Global,
+    origin: &Origin,
+    manner: Manner,
+    namespace: &ArcStr,
+    text: &String,
+) -> Result<Opened, AllocError>
+    ensures { (r : Readings) → AreRight r → IfOk result (λ made. opened_view made
+        ≡ Some (hand_of (origin_view origin.now) (manner_view manner) (arc_str_bytes namespace.now)
+        (r.program (string_bytes text.now)))) }
+{
+    readings_are_unique();
+    let Forms { forms, fault } = read_all(alloc, text.as_str())?;
+    let fault = text_fault(alloc, fault)?;
+    Ok(Opened::Hand(Hand {
+        origin: origin.copy(alloc)?,
+        manner,
+        namespace: copy_text(namespace)?,
+        running: None,
+        forms: VecDeque::from_vec(forms),
+        fault,
+    }))
+}
+
+// The fault of a program's text, as a fault of evaluation is told.
+fn text_fault(alloc: Global, fault: Option<ReaderFault>) -> Result<Option<Fault>, AllocError>
+    ensures { IfOk result (λ told. option_map failure_of told
+        ≡ option_map text_failure (fault_option fault)) }
+{
+    let Some(ReaderFault { kind, at: _, text }) = fault else {
+        return Ok(None);
+    };
+    let class = ArcStr::from_str(alloc, kind.class())?;
+    let text = ArcStr::from_string(text)?;
+    Ok(Some(Fault { class, text }))
+}
+
+// The namespace that a request names, if it is there.
+fn namespace_named(
+    alloc: Global,
+    spaces: &Spaces,
+    ns: &Ben,
+) -> Result<Option<ArcStr>, AllocError>
+    ensures { IfOk result (λ found. option_map (λ name. arc_str_bytes name) found
+        ≡ named_namespace (namespaces_of spaces.now) (view ns.now)) }
+{
+    match ns {
+        Ben::String(name) => namespace_of(alloc, spaces, name.as_slice()),
+        _other => Ok(None),
+    }
+}
+
+fn namespace_of(
+    alloc: Global,
+    spaces: &Spaces,
+    name: &[u8],
+) -> Result<Option<ArcStr>, AllocError>
+    ensures { IfOk result (λ found. option_map (λ name. arc_str_bytes name) found
+        ≡ option_and_then (there (namespaces_of spaces.now)) (text_in name.now)) }
+{
+    match str::from_utf8(name) {
+        Ok(name) => namespace_there(alloc, spaces, name),
+        Err(_) => Ok(None),
+    }
+}
+
+fn namespace_there(
+    alloc: Global,
+    spaces: &Spaces,
+    name: &str,
+) -> Result<Option<ArcStr>, AllocError>
+    ensures { IfOk result (λ found. option_map (λ name. arc_str_bytes name) found
+        ≡ there (namespaces_of spaces.now) name.now) }
+{
+    if spaces.is_there(name.as_bytes()) {
+        return Ok(Some(ArcStr::from_str(alloc, name)?));
+    }
+    Ok(None)
+}

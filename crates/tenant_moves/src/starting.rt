@@ -1,0 +1,177 @@
+// A form of a request begins.
+ghost use Rattle.std.specs.Prelude.{◌≡◌, option_map, IfOk};
+ghost use Rattle.repl_jobs.specs.View.{job_view};
+ghost use Rattle.repl_sessions.specs.StateView.{state_view};
+ghost use Rattle.name_spaces.specs.Seen.{namespaces_of};
+ghost use Rattle.server_rules.specs.Ground.{Ground};
+ghost use Rattle.server_rules.specs.Readings.{AreRight};
+ghost use Rattle.server_rules.specs.Starting.{form_job, next_begun, text_begun};
+ghost use Rattle.repl_jobs.specs.Job as jobs;
+ghost use Rattle.value_data.specs.View.{view};
+ghost use Rattle.repl_replies.specs.View.{origin_view};
+ghost use Rattle.tenant_actors.specs.View.{hand_view, waiting_view};
+ghost use Rattle.tenant_moves.specs.Starts.{first_of, form_begun_with, request_over, with_run, not_found};
+ghost use Rattle.tenant_moves.specs.Starts.{GoesOn, TakesUp};
+
+use crate::news::News;
+use crate::request::{Opened, open_request};
+use name_spaces::Spaces;
+use repl_jobs::{Job, Work};
+use repl_replies::{Body, Origin};
+use repl_sessions::SessionState;
+use repl_values::{Value, copy, copy_text};
+use std::alloc::{AllocError, Global};
+use tenant_actors::{Hand, Run, Waiting};
+
+/// A form that begins: its job, and the same once more to be given out.
+#[derive(Drop)]
+pub struct Begun {
+    pub job: Job,
+    pub given: Job,
+}
+
+/// What a request in hand comes to where it goes on: its next form begins, or it is done.
+#[derive(Drop)]
+pub struct NextForm {
+    pub news: News,
+    pub begun: Option<Begun>,
+}
+
+/// What a request comes to that is taken up: what of it is in hand, and the job of its first form,
+/// to be given out.
+#[derive(Drop)]
+pub struct TakenUp {
+    pub news: News,
+    pub hand: Option<Hand>,
+    pub given: Option<Job>,
+}
+
+/// The next form of a request in hand, whose session has this state. It fails only for want of
+/// memory.
+pub fn next_form(
+    alloc: Global,
+    retries: u32,
+    hand: &Hand,
+    state: SessionState,
+) -> Result<NextForm, AllocError>
+    ensures { (g : Ground) → retries ≡ g.retries → IfOk result (GoesOn
+        (next_begun g (hand_view hand.now) (state_view state) (hand_view hand.now).forms)
+        (hand_view hand.now)) }
+{
+    match first_form(hand) {
+        Some(form) => run_form(alloc, retries, hand, form, state),
+        None => end_request(alloc, hand, state),
+    }
+}
+
+fn first_form(hand: &Hand) -> Option<&Value>
+    ensures { option_map (λ v. view v.now) result ≡ first_of (hand_view hand.now).forms }
+{
+    hand.forms.front()
+}
+
+fn run_form(
+    alloc: Global,
+    retries: u32,
+    hand: &Hand,
+    form: &Value,
+    state: SessionState,
+) -> Result<NextForm, AllocError>
+    ensures { (g : Ground) → retries ≡ g.retries → IfOk result (GoesOn
+        (form_begun_with g (hand_view hand.now) (state_view state) (view form.now))
+        (hand_view hand.now)) }
+{
+    let news = News::new(alloc, state);
+    let job = job_of(retries, hand, form)?;
+    let given = job_of(retries, hand, form)?;
+    let begun = Some(Begun { job, given });
+    Ok(NextForm { news, begun })
+}
+
+// No form is left.
+fn end_request(alloc: Global, hand: &Hand, state: SessionState) -> Result<NextForm, AllocError>
+    ensures { IfOk result (GoesOn (request_over (hand_view hand.now) (state_view state))
+        (hand_view hand.now)) }
+{
+    let mut news = News::new(alloc, state);
+    news.end_request(&hand.origin, &hand.manner, &hand.fault)?;
+    Ok(NextForm { news, begun: None })
+}
+
+fn job_of(retries: u32, hand: &Hand, form: &Value) -> Result<Job, AllocError>
+    ensures { (g : Ground) → retries ≡ g.retries → IfOk result (λ job. job_view job
+        ≡ form_job g (hand_view hand.now) (jobs.form (view form.now))) }
+{
+    Ok(Job {
+        work: Work::Form(copy(form)?),
+        namespace: copy_text(&hand.namespace)?,
+        retries,
+    })
+}
+
+/// The request in hand once its next form runs, as this job.
+pub fn begin(alloc: Global, mut hand: Hand, job: Job) -> Hand
+    ensures { hand_view result ≡ with_run (hand_view hand) (job_view job) }
+{
+    drop(hand.forms.pop_front());
+    hand.running = Some(Run {
+        job,
+        trace: Vec::new(alloc),
+    });
+    hand
+}
+
+/// Takes up a request, whose session has this state: its text is read, and its first form begins. It
+/// fails only for want of memory.
+pub fn take_up(
+    alloc: Global,
+    retries: u32,
+    spaces: &Spaces,
+    waiting: &Waiting,
+    state: SessionState,
+) -> Result<TakenUp, AllocError>
+    ensures { (g : Ground) → AreRight g.readings → retries ≡ g.retries → IfOk result (TakesUp
+        (text_begun g (namespaces_of spaces.now) (waiting_view waiting.now).origin
+        (state_view state) (waiting_view waiting.now).text)) }
+{
+    match open_request(alloc, spaces, waiting, &state)? {
+        Opened::Hand(hand) => take_up_hand(alloc, retries, hand, state),
+        Opened::NamespaceNotFound => refuse(alloc, &waiting.origin, state),
+    }
+}
+
+fn take_up_hand(
+    alloc: Global,
+    retries: u32,
+    hand: Hand,
+    state: SessionState,
+) -> Result<TakenUp, AllocError>
+    ensures { (g : Ground) → retries ≡ g.retries → IfOk result (TakesUp
+        (next_begun g (hand_view hand) (state_view state) (hand_view hand).forms)) }
+{
+    let NextForm { news, begun } = next_form(alloc, retries, &hand, state)?;
+    Ok(match begun {
+        Some(Begun { job, given }) => TakenUp {
+            news,
+            hand: Some(begin(alloc, hand, job)),
+            given: Some(given),
+        },
+        None => TakenUp {
+            news,
+            hand: None,
+            given: None,
+        },
+    })
+}
+
+fn refuse(alloc: Global, origin: &Origin, state: SessionState) -> Result<TakenUp, AllocError>
+    ensures { IfOk result (TakesUp (not_found (origin_view origin.now) (state_view state))) }
+{
+    let mut news = News::new(alloc, state);
+    news.batch.add(origin, Body::NamespaceNotFound)?;
+    Ok(TakenUp {
+        news,
+        hand: None,
+        given: None,
+    })
+}

@@ -1,0 +1,4 @@
+pub mod NoRefs
+pub mod Turns
+pub mod Grounds
+pub mod Turned

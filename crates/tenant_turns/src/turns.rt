@@ -1,0 +1,78 @@
+// What `pipe` drives: a tenant that makes one turn at a time.
+ghost use Rattle.std.specs.Prelude.{◌≡◌, ◌≢◌, ◌+◌, ◌<◌, [], ◌∷◌, length, Err};
+ghost use Rattle.std.specs.Prelude.{OnOk, OnErr, IfOk, IfErr, MatchOption};
+ghost use Rattle.server_rules.specs.Ground.{Ground};
+ghost use Rattle.server_rules.specs.Tenant.{Quiet};
+ghost use Rattle.tenant_turns.specs.Grounds.{IsRight};
+ghost use Rattle.tenant_turns.specs.Turns.{hears, goes, drains, accepted, step, actors_of, wire_at};
+ghost use Rattle.tenant_turns.specs.Turned.{Left, Accepted, IsRefused};
+
+use bencode_wire::WireFault;
+use bytes::Bytes;
+use server_rules::{Actor, Refusal};
+use std::alloc::{AllocError, Global};
+
+/// What has come of a stream so far.
+#[derive(Clone, Copy, Debug, PartialEq, Eq)]
+pub enum Wire {
+    /// Whole messages.
+    Whole,
+    /// Whole messages and the beginning of another.
+    Partial,
+    Broken(WireFault),
+}
+
+/// A tenant that is served alone, a turn at a time. A piece, and what an actor does, each use up a
+/// step.
+///
+/// What each turn does stands in `specs/Turns.antt`. A turn that was accepted leaves the tenant as it
+/// is after the step. A turn that was refused, other than for want of memory, is one that the step
+/// refuses so, and leaves the tenant as it was.
+pub trait Core {
+    /// How much is left to do: the steps, and the replies that wait.
+    ghost left: { Self → Left };
+    /// The code stands for this tenant.
+    ghost stands: { Ground → Self → Quiet → Type 0 };
+
+    /// Hears the next piece of the stream.
+    fn hear(&mut self, piece: &Bytes) -> Result<(), Refusal>
+        ensures heard { OnOk result ((left self.old).steps ≡ (left self.new).steps + 1) }
+        ensures refused { OnErr result ((left self.new).steps ≡ (left self.old).steps) }
+        ensures accepted { (g : Ground) (q : Quiet) → IsRight g → stands g self.old q
+            → OnOk result (Accepted (stands g self.new) (step g q (hears piece.now))) }
+        ensures as_it_was { (g : Ground) (q : Quiet) → IsRight g → stands g self.old q
+            → IfErr result (λ why. why ≢ Refusal.NoMemory
+            → IsRefused why (step g q (hears piece.now)) × stands g self.new q) };
+
+    /// The actors, in the order of their rounds. It fails only for want of memory.
+    fn actors(&self, alloc: Global) -> Result<Vec<Actor>, AllocError>
+        ensures { (g : Ground) (q : Quiet) → stands g self.now q
+            → IfOk result (λ actors. actors.items ≡ actors_of q) };
+
+    /// Does what is next for the actor: begins a form, answers one ask or ends a form.
+    fn go(&mut self, actor: Actor) -> Result<(), Refusal>
+        ensures gone { OnOk result ((left self.old).steps ≡ (left self.new).steps + 1) }
+        ensures refused { OnErr result ((left self.new).steps ≡ (left self.old).steps) }
+        ensures held { result ≡ Err Refusal.Held → 0 < length (left self.old).outbox }
+        ensures accepted { (g : Ground) (q : Quiet) → IsRight g → stands g self.old q
+            → OnOk result (Accepted (stands g self.new) (step g q (goes actor))) }
+        ensures as_it_was { (g : Ground) (q : Quiet) → IsRight g → stands g self.old q
+            → IfErr result (λ why. why ≢ Refusal.NoMemory
+            → IsRefused why (step g q (goes actor)) × stands g self.new q) };
+
+    /// Takes the oldest reply out. It takes no memory.
+    fn drain(&mut self) -> Option<Vec<u8>>
+        ensures steps { (left self.new).steps ≡ (left self.old).steps }
+        ensures oldest { MatchOption result
+            (((left self.old).outbox ≡ []) × ((left self.new).outbox ≡ []))
+            (λ reply. (left self.old).outbox ≡ reply.items ∷ (left self.new).outbox) }
+        ensures drained { (g : Ground) (q : Quiet) → stands g self.old q → MatchOption result
+            (IsRefused Refusal.Idle (step g q drains) × stands g self.new q)
+            (λ reply. (after : Quiet) × (step g q drains ≡ accepted after reply.items)
+            × stands g self.new after) };
+
+    /// What has come of the stream. It takes no memory.
+    fn wire(&self) -> Wire
+        ensures { (g : Ground) (q : Quiet) → stands g self.now q
+            → result ≡ wire_at (g.readings.stream q.heard).ending };
+}

@@ -1,0 +1,6 @@
+pub mod Remembering
+pub mod Begins
+pub mod Standing
+pub mod Draining
+pub mod Answering
+pub mod Ends

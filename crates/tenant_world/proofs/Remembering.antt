@@ -1,0 +1,135 @@
+-- What the memory stands for, through changes of the tenant.
+use Rattle.std.proofs.Common.{◌≡◌, ◌≤◌, ◌↔◌, ℕ, List, [], ◌∷◌, Bool, true, false, nat_le}
+use Rattle.std.proofs.Common.{refl, sym, ap, subst, ◌∙◌, length, IsTrue, true≢false}
+use Rattle.std.proofs.Common.{Some, unwrap_or, Result, Ok, Err, IfErr}
+use Rattle.std.specs.Result.{IsErrAnd}
+use Rattle.std.proofs.lemmas.Bool.{le-leb, leb-true}
+use Rattle.std.proofs.lemmas.List.{length-map}
+use Rattle.repl_replies.specs.Replies.{ReplyData, bytes_of, interrupted}
+use Rattle.repl_sessions.specs.State.{StateData}
+use Rattle.server_rules.specs.Numbered.{Entry, replaced, without}
+use Rattle.server_rules.specs.Ground.{Ground}
+use Rattle.server_rules.specs.Request.{Hand}
+use Rattle.server_rules.specs.Tenant.{ActorData, Quiet, seat_of, is_held}
+use Rattle.server_rules.specs.Tenant.{with_replies, with_state}
+use Rattle.server_rules.specs.Moves.{Move}
+use Rattle.server_rules.specs.Starting.{moved, interrupted_in}
+use Rattle.server_rules.specs.Replying.{reply}
+use Rattle.server_rules.specs.Plan.{StepAnswer, Outcome, leaves, spent, request_interrupted}
+use Rattle.server_rules.specs.declared.actor.Actor.{Actor}
+use Rattle.server_rules.specs.declared.refusal.Refusal.{Refusal}
+use Rattle.tenant_replies.specs.View.{waiting_bytes}
+use Rattle.tenant_world.specs.declared.memory.Memory.{Memory}
+use Rattle.tenant_world.specs.Memories.{Remembers}
+use Rattle.tenant_world.specs.Acting.{Acted, Declined, left_by, is_interruption}
+
+-- the actors are no part of it
+pub with-actors : (g : Ground) (t : ℕ) (m : Memory) (q : Quiet) (es : List (Entry ActorData))
+    → Remembers g t m q → Remembers g t m (record q { actors = es })
+with-actors g t m q es r = record {
+  sessions = r.sessions;
+  bare = r.bare;
+  spaces = r.spaces;
+  replies = r.replies;
+}
+
+-- what a move makes of the memory
+pub remembers-moved : (g : Ground) (t : ℕ) (m : Memory) (a : Actor) (actor : ActorData) (move : Move)
+    (q : Quiet) → Remembers g t m (with_replies move.replies (with_state a move.state q))
+    → Remembers g t m (moved a actor move q)
+remembers-moved g t m Actor.Bare actor move q r = record {
+  sessions = r.sessions;
+  bare = r.bare;
+  spaces = r.spaces;
+  replies = r.replies;
+}
+remembers-moved g t m (Actor.Session n) actor move q r = record {
+  sessions = r.sessions;
+  bare = r.bare;
+  spaces = r.spaces;
+  replies = r.replies;
+}
+
+moved-actors : (a : Actor) (actor : ActorData) (move : Move) (q : Quiet)
+    → (moved a actor move q).actors
+    ≡ replaced (seat_of a) (record actor { hand = move.hand }) q.actors
+moved-actors Actor.Bare actor move q = refl
+moved-actors (Actor.Session n) actor move q = refl
+
+moved-steps : (a : Actor) (actor : ActorData) (move : Move) (q : Quiet)
+    → (moved a actor move q).steps ≡ q.steps
+moved-steps Actor.Bare actor move q = refl
+moved-steps (Actor.Session n) actor move q = refl
+
+moved-heard : (a : Actor) (actor : ActorData) (move : Move) (q : Quiet)
+    → (moved a actor move q).heard ≡ q.heard
+moved-heard Actor.Bare actor move q = refl
+moved-heard (Actor.Session n) actor move q = refl
+
+-- a step that is a move
+pub acted-moved : (g : Ground) (t : ℕ) (m : Memory) (a : Actor) (actor new : ActorData)
+    (move : Move) (answer : StepAnswer) (q : Quiet)
+    → Remembers g t m (with_replies move.replies (with_state a move.state q))
+    → new ≡ record actor { hand = move.hand } → is_interruption answer ≡ false
+    → Acted g t a q (leaves (spent (moved a actor move q)) answer) m new answer
+acted-moved g t m a actor new move answer q r same stays = record {
+  after = moved a actor move q;
+  accepted = refl;
+  remembers = remembers-moved g t m a actor move q r;
+  actors = moved-actors a actor move q
+      ∙ ap (λ it. replaced (seat_of a) it q.actors) (sym same)
+      ∙ ap (λ b. left_by b a new q.actors) (sym stays);
+  steps = moved-steps a actor move q;
+  heard = moved-heard a actor move q;
+}
+
+pub replies-behind-state : (a : Actor) (s : StateData) (r : List ReplyData) (q : Quiet)
+    → with_state a s (with_replies r q) ≡ with_replies r (with_state a s q)
+replies-behind-state Actor.Bare s r q = refl
+replies-behind-state (Actor.Session n) s r q = refl
+
+-- the request of an actor is interrupted
+pub acted-interrupted : (g : Ground) (t : ℕ) (m : Memory) (a : Actor) (new : ActorData) (h : Hand)
+    (q : Quiet) → Remembers g t m (with_replies (reply h.origin interrupted ∷ []) q)
+    → Acted g t a q (interrupted_in a h q) m new request_interrupted
+acted-interrupted g t m a new h q r = record {
+  after = with_replies (reply h.origin interrupted ∷ [])
+      (record q { actors = without (seat_of a) q.actors });
+  accepted = refl;
+  remembers = record {
+    sessions = r.sessions;
+    bare = r.bare;
+    spaces = r.spaces;
+    replies = r.replies;
+  };
+  actors = refl;
+  steps = refl;
+  heard = refl;
+}
+
+-- as many replies wait in the code
+pub held-so : (g : Ground) (t : ℕ) (m : Memory) (q : Quiet) (b : Bool) → Remembers g t m q
+    → (IsTrue b ↔ (1024 ≤ length (waiting_bytes m.outbox))) → is_held q ≡ b
+held-so g t m q b r told =
+    let many : length (waiting_bytes m.outbox) ≡ length q.replies =
+        ap length r.replies ∙ length-map q.replies bytes_of in
+    by b (subst (λ n. IsTrue b ↔ (1024 ≤ n)) many told)
+  where
+    by : (b : Bool) → (IsTrue b ↔ (1024 ≤ length q.replies)) → nat_le 1024 (length q.replies) ≡ b
+    by true told = le-leb 1024 (length q.replies) (told.0 refl)
+    by false told = apart (nat_le 1024 (length q.replies)) refl told where
+      apart : (c : Bool) → nat_le 1024 (length q.replies) ≡ c
+          → (IsTrue false ↔ (1024 ≤ length q.replies)) → c ≡ false
+      apart true so told = absurd (true≢false (sym (told.1 (leb-true 1024 (length q.replies) so))))
+      apart false so told = refl
+
+pub some-same : {A : Type 0} (a b : A) → Some a ≡ Some b → a ≡ b
+some-same a b e = ap (λ o. unwrap_or o a) e
+
+-- for want of memory nothing is said of the rules
+pub declined-memory : {A : Type 0} (g : Ground) (t : ℕ) (q : Quiet) (outcome : Outcome) (m : Memory)
+    (r : Result A Refusal) → IsErrAnd r (λ e. e ≡ Refusal.NoMemory) → Remembers g t m q
+    → IfErr r (Declined g t q outcome m)
+declined-memory g t q outcome m (Ok x) never remembers = tt
+declined-memory g t q outcome m (Err e) is remembers =
+    record { refused = λ ne. absurd (ne is); remembers = remembers }

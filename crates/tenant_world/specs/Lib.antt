@@ -1,0 +1,6 @@
+pub mod Memories
+pub mod Answers
+pub mod Acting
+pub mod Comparing
+pub mod Asking
+pub mod Standing

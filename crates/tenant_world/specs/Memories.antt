@@ -1,0 +1,17 @@
+-- What of a tenant the steps of its actors change, beside the actors themselves.
+use Rattle.std.specs.Prelude.{◌≡◌, ℕ, map}
+use Rattle.repl_replies.specs.Replies.{bytes_of}
+use Rattle.repl_sessions.specs.StateView.{state_view}
+use Rattle.name_spaces.specs.Seen.{namespaces_of}
+use Rattle.server_rules.specs.Ground.{Ground}
+use Rattle.server_rules.specs.Tenant.{Quiet}
+use Rattle.server_rules.specs.Operating.{named_sessions}
+use Rattle.tenant_replies.specs.View.{waiting_bytes}
+use Rattle.tenant_world.specs.declared.memory.Memory.{Memory}
+
+-- the code remembers what the tenant of the rules does
+pub record Remembers (g : Ground) (t : ℕ) (m : Memory) (q : Quiet) : Type 0 where
+  pub sessions : m.sessions ≡ named_sessions g t q
+  pub bare : state_view m.bare ≡ q.bare
+  pub spaces : namespaces_of m.spaces ≡ q.spaces
+  pub replies : waiting_bytes m.outbox ≡ map bytes_of q.replies

@@ -1,0 +1,66 @@
+// What the steps of an actor are given and answered.
+ghost use Rattle.std.specs.Prelude.{◌≡◌};
+ghost use Rattle.tenant_world.specs.Acting.{is_interruption};
+ghost use Rattle.tenant_world.specs.Answers.{started_view, asked_view, ended_view};
+
+use repl_asks::{Answer, Trace};
+use repl_jobs::{Finished, Job};
+
+/// What comes of a start.
+#[derive(Drop)]
+pub enum Started {
+    /// A form is to be evaluated.
+    Begun(Job),
+    /// The request was done at once.
+    Answered,
+    /// The session was closed meanwhile, and the request is answered so.
+    Interrupted,
+}
+
+/// What comes of an ask.
+#[derive(Drop)]
+pub enum Asked {
+    Answer(Answer),
+    /// The session was closed meanwhile, and the request is answered so.
+    Interrupted,
+}
+
+/// An evaluation that comes back at its end: its job, what it asked and was answered, and how it
+/// ended. Nothing of it is believed: the job and the trace are compared with those that were kept.
+pub struct Ending<'a> {
+    pub job: &'a Job,
+    pub trace: &'a Trace,
+    pub finished: &'a Finished,
+}
+
+/// What comes of an ending.
+#[derive(Clone, Copy, Debug, PartialEq, Eq)]
+pub enum Ended {
+    Finished,
+    /// The session was closed meanwhile, and the request is answered so.
+    Interrupted,
+}
+
+impl Started {
+    pub(crate) fn is_interrupted(&self) -> bool
+        ensures { result ≡ is_interruption (started_view self.now) }
+    {
+        matches!(self, Started::Interrupted)
+    }
+}
+
+impl Asked {
+    pub(crate) fn is_interrupted(&self) -> bool
+        ensures { result ≡ is_interruption (asked_view self.now) }
+    {
+        matches!(self, Asked::Interrupted)
+    }
+}
+
+impl Ended {
+    pub(crate) fn is_interrupted(self) -> bool
+        ensures { result ≡ is_interruption (ended_view self) }
+    {
+        matches!(self, Ended::Interrupted)
+    }
+}

@@ -1,0 +1,114 @@
+// An evaluation comes back at its end.
+ghost use Rattle.std.specs.Prelude.{◌≡◌, ℕ, Some, IfOk, OnOk, IfErr, OnErr};
+ghost use Rattle.server_rules.specs.Ground.{Ground};
+ghost use Rattle.server_rules.specs.Request as rules;
+ghost use Rattle.server_rules.specs.Tenant.{Quiet};
+ghost use Rattle.server_rules.specs.Ending.{end_of, end_accepted};
+ghost use Rattle.tenant_actors.specs.View.{actor_view, run_view};
+ghost use Rattle.tenant_turns.specs.Grounds.{IsRight};
+ghost use Rattle.tenant_turns.specs.NoRefs.{carried_out};
+ghost use Rattle.tenant_world.specs.Memories.{Remembers};
+ghost use Rattle.tenant_world.specs.Answers.{ended_view, ending_view};
+ghost use Rattle.tenant_world.specs.Acting.{Acted, Declined};
+ghost use Rattle.tenant_world.specs.Comparing.{difference, refusal_in};
+ghost use Rattle.server_rules.specs.Plan.{form_finished};
+ghost use Rattle.tenant_moves.specs.Endings.{hand_after};
+
+use crate::acting::interrupt;
+use crate::answers::{Ended, Ending};
+use crate::memory::Memory;
+use server_rules::{Actor, Refusal};
+use std::alloc::{AllocError, Global};
+use tenant_actors::{ActorState, Run};
+use tenant_moves::{After, form_ended, go_on};
+use trace_comparison::laws::{equal_traces_differ_nowhere, first_difference_is_unique};
+use trace_comparison::{first_difference, same_job};
+
+/// The form of the actor that runs has ended so. Where it is refused nothing has changed.
+pub(crate) fn end(
+    alloc: Global,
+    memory: &mut Memory,
+    actor: Actor,
+    state: &mut ActorState,
+    ending: &Ending<'_>,
+) -> Result<Ended, Refusal>
+    ensures acted { (g : Ground) (t : ℕ) (q : Quiet) → IsRight g → Remembers g t memory.old q
+        → IfOk result (λ s. Acted g t actor q
+        (carried_out (end_of g actor (actor_view state.old) (ending_view ending.now) q
+        (actor_view state.old).hand)) memory.new (actor_view state.new) (ended_view s)) }
+    ensures declined { (g : Ground) (t : ℕ) (q : Quiet) → IsRight g → Remembers g t memory.old q
+        → IfErr result (Declined g t q
+        (carried_out (end_of g actor (actor_view state.old) (ending_view ending.now) q
+        (actor_view state.old).hand)) memory.new) }
+    ensures stays { OnErr result (actor_view state.new ≡ actor_view state.old) }
+{
+    let Some(hand) = &state.hand else {
+        return Err(Refusal::Idle);
+    };
+    let Some(run) = &hand.running else {
+        return Err(Refusal::Idle);
+    };
+    if state.is_closed {
+        interrupt(alloc, memory, &hand.origin)?;
+        return Ok(Ended::Interrupted);
+    }
+    if memory.outbox.is_held() {
+        return Err(Refusal::Held);
+    }
+    compare(run, ending)?;
+    accept(alloc, memory, actor, state, ending)?;
+    Ok(Ended::Finished)
+}
+
+// Whether the ending is of the form that runs: its job is that job, and its trace the one that was
+// kept.
+fn compare(run: &Run, ending: &Ending<'_>) -> Result<(), Refusal>
+    ensures { (g : Ground) → IsRight g
+        → refusal_in result ≡ difference g (run_view run.now) (ending_view ending.now) }
+{
+    first_difference_is_unique();
+    equal_traces_differ_nowhere();
+    if !same_job(ending.job, &run.job) {
+        return Err(Refusal::TraceMismatch(0));
+    }
+    match first_difference(ending.trace, &run.trace) {
+        Some(place) => Err(Refusal::TraceMismatch(place as u64)),
+        None => Ok(()),
+    }
+}
+
+// The form is answered, and the request goes on behind it or is done.
+fn accept(
+    alloc: Global,
+    memory: &mut Memory,
+    actor: Actor,
+    state: &mut ActorState,
+    ending: &Ending<'_>,
+) -> Result<(), AllocError>
+    ensures acted { (g : Ground) (t : ℕ) (q : Quiet) (h : rules.Hand) → Remembers g t memory.old q
+        → (actor_view state.old).hand ≡ Some h
+        → OnOk result (Acted g t actor q (carried_out (end_accepted actor (actor_view state.old) h
+        (ending_view ending.now) q)) memory.new (actor_view state.new) form_finished) }
+    ensures stays { (g : Ground) (t : ℕ) (q : Quiet) → Remembers g t memory.old q
+        → OnErr result (Remembers g t memory.new q) }
+    ensures actor { OnErr result (actor_view state.new ≡ actor_view state.old) }
+{
+    let session = memory.state_of(alloc, actor)?;
+    let Some(hand) = &state.hand else {
+        return Ok(());
+    };
+    let (news, after) = form_ended(alloc, hand, ending.finished, session)?;
+    memory.take_news(actor, news)?;
+    put_after(state, after);
+    Ok(())
+}
+
+// The request goes on behind a form, or is done.
+fn put_after(state: &mut ActorState, after: After)
+    ensures { (h : rules.Hand) → (actor_view state.old).hand ≡ Some h
+        → actor_view state.new ≡ record (actor_view state.old) { hand = hand_after h after } }
+{
+    if let Some(hand) = state.hand.take() {
+        state.hand = go_on(hand, after);
+    }
+}

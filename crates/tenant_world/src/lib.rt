@@ -1,0 +1,13 @@
+//! One tenant: what it hears, what its actors begin, ask and end, and the replies that wait.
+#![tactic(auto)]
+
+mod acting;
+mod answers;
+mod asking;
+mod ending;
+mod memory;
+mod starting;
+mod tenant;
+
+pub use answers::{Asked, Ended, Ending, Started};
+pub use tenant::Tenant;

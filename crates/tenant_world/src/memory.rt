@@ -1,0 +1,99 @@
+// What the requests of a tenant share: its sessions, its namespaces and the replies that wait.
+ghost use Rattle.std.specs.Prelude.{◌≡◌, ℕ, List, map, IfOk, OnOk, OnErr};
+ghost use Rattle.repl_replies.specs.Replies.{ReplyData, bytes_of};
+ghost use Rattle.repl_sessions.specs.StateView.{state_view};
+ghost use Rattle.server_rules.specs.Ground.{Ground};
+ghost use Rattle.server_rules.specs.Tenant.{Quiet, state_of, with_state, with_replies};
+ghost use Rattle.server_rules.specs.Starting.{first_state};
+ghost use Rattle.server_rules.specs.Moves.{Move};
+ghost use Rattle.tenant_replies.specs.View.{made_bytes};
+ghost use Rattle.tenant_moves.specs.Told.{Tells};
+ghost use Rattle.tenant_world.specs.Memories.{Remembers};
+
+use name_spaces::Spaces;
+use repl_sessions::{SessionState, Sessions};
+use server_rules::Actor;
+use std::alloc::{AllocError, Global};
+use tenant_moves::News;
+use tenant_replies::{Batch, Outbox};
+
+#[derive(Drop)]
+pub(crate) struct Memory {
+    pub(crate) sessions: Sessions,
+    // what a request without a session remembers
+    pub(crate) bare: SessionState,
+    pub(crate) spaces: Spaces,
+    pub(crate) outbox: Outbox,
+}
+
+impl Memory {
+    /// What the session of an actor remembers.
+    pub(crate) fn state_of(
+        &self,
+        alloc: Global,
+        actor: Actor,
+    ) -> Result<SessionState, AllocError>
+        ensures { (g : Ground) (t : ℕ) (q : Quiet) → Remembers g t self.now q
+            → IfOk result (λ state. state_view state ≡ state_of actor q) }
+    {
+        match actor {
+            Actor::Bare => self.bare.copy(),
+            Actor::Session(number) => match self.sessions.state(number) {
+                Some(state) => state.copy(),
+                None => SessionState::fresh(alloc),
+            },
+        }
+    }
+
+    /// What a request of an actor remembers when it begins.
+    pub(crate) fn first_state(
+        &self,
+        alloc: Global,
+        actor: Actor,
+    ) -> Result<SessionState, AllocError>
+        ensures { (g : Ground) (t : ℕ) (q : Quiet) → Remembers g t self.now q
+            → IfOk result (λ state. state_view state ≡ first_state actor q) }
+    {
+        match actor {
+            Actor::Bare => SessionState::fresh(alloc),
+            Actor::Session(_) => self.state_of(alloc, actor),
+        }
+    }
+
+    /// Puts a state in the place of what the session of an actor remembers.
+    pub(crate) fn put_state(&mut self, actor: Actor, state: SessionState)
+        ensures { (g : Ground) (t : ℕ) (q : Quiet) → Remembers g t self.old q
+            → Remembers g t self.new (with_state actor (state_view state) q) }
+    {
+        match actor {
+            Actor::Bare => self.bare = state,
+            Actor::Session(number) => self.sessions.set_state(number, state),
+        }
+    }
+
+    /// Lets replies wait. It fails only for want of memory, and then adds none.
+    pub(crate) fn post(&mut self, batch: Batch) -> Result<(), AllocError>
+        ensures posted { (g : Ground) (t : ℕ) (q : Quiet) (more : List ReplyData)
+            → Remembers g t self.old q → made_bytes batch ≡ map bytes_of more
+            → OnOk result (Remembers g t self.new (with_replies more q)) }
+        ensures stays { (g : Ground) (t : ℕ) (q : Quiet) → Remembers g t self.old q
+            → OnErr result (Remembers g t self.new q) }
+    {
+        self.outbox.post(batch)
+    }
+
+    /// Lets the replies to a request wait, and puts the state in that its session then has. It fails
+    /// only for want of memory, and then changes nothing.
+    pub(crate) fn take_news(&mut self, actor: Actor, news: News) -> Result<(), AllocError>
+        ensures taken { (g : Ground) (t : ℕ) (q : Quiet) (m : Move) → Remembers g t self.old q
+            → Tells m news → OnOk result (Remembers g t self.new
+            (with_replies m.replies (with_state actor m.state q))) }
+        ensures stays { (g : Ground) (t : ℕ) (q : Quiet) → Remembers g t self.old q
+            → OnErr result (Remembers g t self.new q) }
+    {
+        let News { batch, state } = news;
+        self.post(batch)?;
+        self.put_state(actor, state);
+        Ok(())
+    }
+}
