@@ -1,6 +1,6 @@
 -- Changes of lists of entries at two numbers, and behind all entries.
 use Rattle.std.proofs.Common.{◌≡◌, ℕ, ◌<◌, ◌≤◌, ◌==◌, Bool, true, false, List, [], ◌∷◌, ◌++◌}
-use Rattle.std.proofs.Common.{Option, Some, None, refl, sym, ap, ◌∙◌, arith}
+use Rattle.std.proofs.Common.{Some, None, refl, sym, ap, ◌∙◌, arith}
 use Rattle.std.proofs.lemmas.Bool.{eqb-true, eq-eqb, ne_eqb}
 use Rattle.server_rules.specs.Numbered.{Entry, entry, found, replaced, without}
 use Rattle.server_rules.specs.Tenant.{ActorData}

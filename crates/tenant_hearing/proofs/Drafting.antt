@@ -1,13 +1,13 @@
 -- What an operation makes of a scene is what the rules make of the tenant.
 use Rattle.std.proofs.Common.{◌≡◌, ℕ, suc, ◌+◌, ◌<◌, ◌==◌, Bool, true, false, ◌||◌, List, [], ◌∷◌, ◌++◌, map}
-use Rattle.std.proofs.Common.{Option, Some, None, Result, Ok, Err, refl, sym, ap, ap₂, ◌∙◌, subst, append_assoc, append-nil, true≢false, arith, IsTrue}
+use Rattle.std.proofs.Common.{Option, Some, None, Result, refl, sym, ap, ap₂, ◌∙◌, subst, append_assoc, append-nil, true≢false, arith}
 use Rattle.std.specs.Ordering.{nat_cmp}
 use Rattle.std.specs.BTreeSet.{insert_key}
 use Rattle.std.proofs.lemmas.Bool.{eqb-true, false_from_ne_true}
 use Rattle.std.proofs.lemmas.List.{map-append}
 use Rattle.bencode_wire.specs.Tree.{Tree, Pairs, integer, string, list, dictionary}
 use Rattle.repl_sessions.specs.Ids.{id_text}
-use Rattle.repl_sessions.specs.Sessions.{SessionsData, is_open, first_state, opened_with, cloned, closed}
+use Rattle.repl_sessions.specs.Sessions.{SessionsData, first_state, opened_with, cloned, closed}
 use Rattle.repl_sessions.specs.Named.{NamedSessions, number_named, ids_of}
 use Rattle.repl_sessions.specs.Leaving.{is_leaving, remaining, remaining_named}
 use Rattle.repl_replies.specs.Operations as operations
@@ -192,11 +192,14 @@ pub data IsOther : Tree → Type 0 where
   is_string : (bytes : List ℕ) → IsOther (string bytes)
   is_list : (ts : _) → IsOther (list ts)
 
-pub comes-other : (m : Tree) (x : Scene) → IsOther m → Comes (λ g t. with_message g t m) x x
+comes-none : (m : Tree) (x : Scene) → IsOther m → Comes (λ g t. with_message g t m) x x
 unfolding with_message
-comes-other m x (is_integer n) = λ g t q waiting d. d
-comes-other m x (is_string bytes) = λ g t q waiting d. d
-comes-other m x (is_list ts) = λ g t q waiting d. d
+comes-none m x (is_integer n) = λ g t q waiting d. d
+comes-none m x (is_string bytes) = λ g t q waiting d. d
+comes-none m x (is_list ts) = λ g t q waiting d. d
+
+pub comes-other : (m o : Tree) (x : Scene) → m ≡ o → IsOther o → Comes (λ g t. with_message g t m) x x
+comes-other m o x is other = subst (λ (it : Tree). Comes (λ g t. with_message g t it) x x) (sym is) (comes-none o x other)
 
 pub drafts-as : (g : Ground) (t : ℕ) (q r : Quiet) (waiting : List (List ℕ)) (x : Scene) → q ≡ r → Drafts g t q waiting x → Drafts g t r waiting x
 drafts-as g t q r waiting x same d = subst (λ (it : Quiet). Drafts g t it waiting x) same d

@@ -5,16 +5,13 @@ use Rattle.std.specs.BTreeSet.{insert_key}
 use Rattle.std.specs.Ordering.{nat_cmp, match_ordering, MatchOrdering}
 use Rattle.std.specs.declared.cmp.Ordering.{Ordering}
 use Rattle.std.specs.declared.cmp.Ordering.TheVariants.{Less, Equal, Greater}
-use Rattle.std.proofs.lemmas.Bool.{eqb-true, eq-eqb, ne_eqb}
+use Rattle.std.proofs.lemmas.Bool.{eqb-true, eq-eqb}
 use Rattle.std.proofs.lemmas.Cmp.{ranked}
 use Rattle.std.proofs.lemmas.List.Elements.{filter-append}
 use Rattle.repl_sessions.specs.State.{StateData, fresh}
-use Rattle.repl_sessions.specs.Sessions.{SessionData, SessionsData, is_numbered, state_of, is_open, first_state, opened_with, cloned, closed}
+use Rattle.repl_sessions.specs.Sessions.{SessionData, SessionsData, is_numbered, state_of, is_open, first_state, opened_with, closed}
 use Rattle.repl_sessions.specs.Leaving.{is_leaving, remaining, remaining_named}
 use Rattle.repl_sessions.specs.Named.{NamedSessions}
-
-
-
 
 same-test : (n m : ℕ) → (n == m) ≡ (m == n)
 same-test n m = by (n == m) (m == n) refl refl

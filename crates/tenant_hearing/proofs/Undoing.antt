@@ -1,11 +1,8 @@
 -- What was noted is undone.
 use Rattle.std.proofs.Common.{◌≡◌, ℕ, suc, ◌+◌, List, [], ◌∷◌, ◌++◌, refl, sym, ap, ap₂, ◌∙◌, subst, arith}
 use Rattle.repl_sessions.specs.Named.{NamedSessions}
-use Rattle.repl_sessions.specs.Retracted.{retracted}
 use Rattle.server_rules.specs.Numbered.{Entry, entry, without}
-use Rattle.server_rules.specs.Tenant.{ActorData, unoccupied, seat_of}
-use Rattle.server_rules.specs.declared.actor.Actor.{Actor}
-use Rattle.tenant_actors.specs.Queues.{changed_at, without_newest}
+use Rattle.server_rules.specs.Tenant.{ActorData, unoccupied}
 use Rattle.tenant_actors.specs.View.{AreBelow}
 use Rattle.tenant_hearing.specs.Holds.{AreSeated}
 use Rattle.tenant_hearing.specs.Undone.{Parts, parts, retracted_named, undone, all_undone}

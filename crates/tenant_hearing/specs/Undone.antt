@@ -1,5 +1,5 @@
 -- What messages changed is undone, the newest change first.
-use Rattle.std.specs.Prelude.{ℕ, suc, List, [], ◌∷◌}
+use Rattle.std.specs.Prelude.{List, [], ◌∷◌}
 use Rattle.repl_sessions.specs.Named.{NamedSessions}
 use Rattle.repl_sessions.specs.Retracted.{retracted}
 use Rattle.server_rules.specs.Numbered.{Entry, without}

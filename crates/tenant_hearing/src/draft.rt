@@ -1,7 +1,8 @@
 // What the messages of a piece have come to so far.
 ghost use Rattle.std.specs.Prelude.{◌≡◌, [], map, OnOk};
 ghost use Rattle.std.specs.BTreeSet.{keys};
-ghost use Rattle.bencode_wire.specs.View.{view};
+ghost use Rattle.bencode_wire.specs.View.{view, pairs_view};
+ghost use Rattle.bencode_wire.specs.Tree.{dictionary};
 ghost use Rattle.server_rules.specs.Operating.{with_message};
 ghost use Rattle.tenant_actors.specs.View.{actors_view};
 ghost use Rattle.tenant_replies.specs.View.{made_bytes};
@@ -9,9 +10,9 @@ ghost use Rattle.tenant_hearing.specs.Holds.{AreSeated};
 ghost use Rattle.tenant_hearing.specs.Scene.{scene, Comes, IsKept};
 ghost use Rattle.tenant_hearing.specs.Taken.{with_all};
 
-use crate::staying::asked_of;
 use crate::changes::Change;
-use bencode_wire::Ben;
+use crate::staying::asked_of;
+use bencode_wire::{Ben, Dictionary};
 use repl_replies::{Asked, Body, Origin, Reply};
 use repl_sessions::Sessions;
 use std::alloc::{AllocError, Global};
@@ -79,9 +80,25 @@ impl Draft {
             (scene self.old sessions.old actors.old) (scene self.new sessions.new actors.new)) }
         ensures kept { IsKept (scene self.old sessions.old actors.old) (scene self.new sessions.new actors.new) }
     {
-        let Ben::Dictionary(fields) = message else {
-            return Ok(());
-        };
+        match message {
+            Ben::Dictionary(fields) => self.hear_fields(fields, sessions, actors),
+            Ben::Integer(_) => Ok(()),
+            Ben::String(_) => Ok(()),
+            Ben::List(_) => Ok(()),
+        }
+    }
+
+    fn hear_fields(
+        &mut self,
+        fields: Dictionary,
+        sessions: &mut Sessions,
+        actors: &mut Actors,
+    ) -> Result<(), AllocError>
+        requires { AreSeated sessions.old (actors_view actors.old) }
+        ensures heard { OnOk result (Comes (λ g t. with_message g t (dictionary (pairs_view fields.entries)))
+            (scene self.old sessions.old actors.old) (scene self.new sessions.new actors.new)) }
+        ensures kept { IsKept (scene self.old sessions.old actors.old) (scene self.new sessions.new actors.new) }
+    {
         match asked_of(fields, sessions, &self.leaving) {
             Ok(Asked { origin, operation }) => self.operate(origin, operation, sessions, actors),
             Err(Reply { origin, body }) => self.batch.add(&origin, body),

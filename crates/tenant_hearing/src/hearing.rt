@@ -12,8 +12,8 @@ ghost use Rattle.tenant_hearing.specs.Scene.{scene, all_vacated, Comes, IsKept};
 ghost use Rattle.tenant_hearing.specs.Taken.{with_all};
 ghost use Rattle.repl_sessions.specs.Leaving.{remaining_named};
 
-use crate::draft::Draft;
 use crate::changes::undo_all;
+use crate::draft::Draft;
 use bencode_wire::Ben;
 use repl_replies::{Body, Origin};
 use repl_sessions::Sessions;
@@ -40,7 +40,7 @@ pub fn take_in(
     ensures taken { (g : Ground) (t : ℕ) (q : Quiet)
         → Holds g t q sessions.old (actors_view actors.old) (waiting_bytes outbox.old)
         → OnOk result (Holds g t (with_all g t (map view messages.items) is_broken q)
-            sessions.new (actors_view actors.new) (waiting_bytes outbox.new)) }
+        sessions.new (actors_view actors.new) (waiting_bytes outbox.new)) }
     ensures sessions_stay { OnErr result (sessions.new ≡ sessions.old) }
     ensures actors_stay { OnErr result (actors_view actors.new ≡ actors_view actors.old) }
     ensures replies_stay { OnErr result (waiting_bytes outbox.new ≡ waiting_bytes outbox.old) }

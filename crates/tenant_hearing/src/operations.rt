@@ -17,8 +17,8 @@ ghost use Rattle.repl_replies.specs.Named.{session_of};
 ghost use Rattle.tenant_hearing.specs.Served.{IsServed};
 ghost use Rattle.tenant_hearing.specs.Requested.{requested};
 
-use crate::draft::Draft;
 use crate::changes::{Change, note};
+use crate::draft::Draft;
 use repl_replies::{Body, Operation, Origin};
 use repl_sessions::Sessions;
 use server_rules::Actor;
@@ -46,7 +46,13 @@ impl Draft {
             Operation::Close { session } => self.close(&origin, session, actors),
             Operation::Describe { session: _ } => self.batch.add(&origin, Body::Described),
             Operation::ListSessions { session: _ } => {
-                add_list(self.alloc, &mut self.batch, &origin, sessions, &self.leaving)
+                add_list(
+                    self.alloc,
+                    &mut self.batch,
+                    &origin,
+                    sessions,
+                    &self.leaving,
+                )
             }
             Operation::Eval { session, code, ns } => {
                 let text = ProgramText::Code { text: code, ns };
@@ -89,7 +95,7 @@ impl Draft {
         ensures heard { (s : NamedSessions) → AreSeated s (actors_view actors.now)
             → IsServed (Some number) (keys self.old.leaving) s.sessions
             → OnOk result (Comes (λ g t. with_close (origin_view origin.now) number)
-                (scene self.old s actors.now) (scene self.new s actors.now)) }
+            (scene self.old s actors.now) (scene self.new s actors.now)) }
         ensures log { self.new.log.items ≡ self.old.log.items }
     {
         let Some(actor) = actors.get(Actor::Session(number)) else {
@@ -111,7 +117,7 @@ impl Draft {
         ensures heard { (s : NamedSessions) → AreSeated s (actors_view actors.old)
             → IsServed session (keys self.old.leaving) s.sessions
             → OnOk result (Comes (λ g t. requested (asker session) (waiting_view request))
-                (scene self.old s actors.old) (scene self.new s actors.new)) }
+            (scene self.old s actors.old) (scene self.new s actors.new)) }
         ensures kept { (s : NamedSessions) → AreSeated s (actors_view actors.old)
             → IsKept (scene self.old s actors.old) (scene self.new s actors.new) }
     {

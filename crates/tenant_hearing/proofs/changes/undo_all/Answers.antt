@@ -1,4 +1,4 @@
-use Rattle.std.proofs.Common.{◌≡◌, ◌∙◌, sym, ap, List}
+use Rattle.std.proofs.Common.{◌∙◌, sym, ap, List}
 use Rattle.tenant_actors.specs.View.{actors_view}
 use Rattle.tenant_hearing.specs.Undone.{parts, all_undone}
 use Rattle.tenant_hearing.specs.declared.changes.Change.{Change}

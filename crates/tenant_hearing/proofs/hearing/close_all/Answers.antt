@@ -1,4 +1,4 @@
-use Rattle.std.proofs.Common.{◌≡◌, ◌∙◌, sym, ap, ℕ, List, true≢false}
+use Rattle.std.proofs.Common.{◌∙◌, sym, ap, ℕ, List, true≢false}
 use Rattle.std.specs.BTreeSet.{keys}
 use Rattle.repl_sessions.specs.Leaving.{remaining_named}
 use Rattle.repl_sessions.specs.Named.{NamedSessions}

@@ -1,4 +1,4 @@
-use Rattle.std.proofs.Common.{◌≡◌, ◌∙◌, sym, ap, ap₂, refl, ℕ, suc, ◌+◌, List, [], ◌∷◌, ◌++◌, map}
+use Rattle.std.proofs.Common.{◌≡◌, ◌∙◌, ap, ap₂, refl, ℕ, ◌+◌, List, [], ◌∷◌, ◌++◌, map}
 use Rattle.std.specs.BTreeSet.{keys}
 use Rattle.std.proofs.lemmas.Result.{on_ok_weaker}
 use Rattle.repl_sessions.specs.Ids.{IdsData}
@@ -9,7 +9,6 @@ use Rattle.repl_replies.specs.Replies.{bytes_of}
 use Rattle.repl_replies.specs.View.{origin_view}
 use Rattle.server_rules.specs.Replying.{reply}
 use Rattle.tenant_actors.specs.View.{actors_view}
-use Rattle.tenant_replies.specs.View.{made_bytes}
 use Rattle.tenant_hearing.specs.Scene.{scene}
 use Rattle.tenant_hearing.specs.Undone.{retracted_named}
 use Rattle.tenant_hearing.specs.declared.changes.Change.{Change}

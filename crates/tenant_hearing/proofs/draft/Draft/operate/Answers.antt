@@ -1,4 +1,4 @@
-use Rattle.std.proofs.Common.{sym, subst, OnOk, ℕ, Option}
+use Rattle.std.proofs.Common.{sym, subst, OnOk}
 use Rattle.std.specs.BTreeSet.{keys}
 use Rattle.repl_replies.specs.Named.{session_of}
 use Rattle.repl_replies.specs.View.{origin_view, operation_view}
