@@ -125,8 +125,8 @@ impl Decoder {
         self.fault
     }
 
-    /// An equal decoder, which cannot go back. It reads the bytes of the unfinished message once more at
-    /// its next piece.
+    /// An equal decoder, which cannot go back. It reads the bytes of the unfinished message once
+    /// more at its next piece.
     pub fn copy(&self) -> Result<Decoder, AllocError>
         ensures same { IfOk result (IsUnchanged self.now) }
         ensures stands { (limit : ℕ) (all : List ℕ) (taken : List Tree) → Stands limit self.now all taken
