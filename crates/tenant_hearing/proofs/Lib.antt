@@ -1,0 +1,5 @@
+pub mod Apart
+pub mod Vacating
+pub mod Remaining
+pub mod Drafting
+pub mod Undoing

@@ -1,0 +1,6 @@
+pub mod Holds
+pub mod Undone
+pub mod Scene
+pub mod Served
+pub mod Requested
+pub mod Taken
