@@ -29,7 +29,6 @@ stands-with g t q code outbox replies s same = record {
   names = s.names;
   steps = s.steps;
   stream = s.stream;
-  taken = s.taken;
   actors = s.actors;
   remembers = record {
     sessions = s.remembers.sessions;

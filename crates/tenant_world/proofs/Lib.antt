@@ -4,3 +4,4 @@ pub mod Standing
 pub mod Draining
 pub mod Answering
 pub mod Ends
+pub mod Wires

@@ -19,8 +19,9 @@ use Rattle.server_rules.specs.Asking.{asked_of}
 use Rattle.server_rules.specs.Ending.{end_of}
 use Rattle.server_rules.specs.declared.actor.Actor.{Actor}
 use Rattle.server_rules.specs.declared.refusal.Refusal.{Refusal}
-use Rattle.tenant_actors.specs.View.{actors_view}
-use Rattle.tenant_actors.proofs.EntryLaws.{found_first, replaced_first, replaced-twice, without-replaced}
+use Rattle.tenant_actors.specs.View.{actors_view, AreBelow}
+use Rattle.tenant_actors.proofs.EntryLaws.{found_first, replaced_first, without_first, replaced-twice}
+use Rattle.tenant_actors.proofs.EntryLaws.{without-replaced}
 use Rattle.tenant_turns.specs.NoRefs.{outcome, carried_out}
 use Rattle.tenant_world.specs.declared.memory.Memory.{Memory}
 use Rattle.tenant_world.specs.declared.tenant.Tenant.{Tenant}
@@ -102,6 +103,34 @@ replaced-same {A} n x (e ∷ es) there = by (λ h. replaced-same n x es h) (n ==
         ∙ ap (λ y. entry e.number y ∷ es) (sym here)
     by behind false apart h = ap (λ (l : List (Entry A)). e ∷ l) (behind h)
 
+-- below a seat there are still all
+
+pub below-replaced : (s n : ℕ) (x : ActorData) (es : List (Entry ActorData)) → AreBelow s es
+    → AreBelow s (replaced n x es)
+below-replaced s n x [] below = tt
+below-replaced s n x (e ∷ es) below =
+    by (below-replaced s n x es below.1) (n == e.number) refl
+  where
+    by : AreBelow s (replaced n x es) → (b : Bool) → (n == e.number) ≡ b
+        → AreBelow s (replaced_first b n x e es)
+    by behind true same =
+        (subst (λ k. k < s) (sym (eqb-true n e.number same)) below.0, below.1)
+    by behind false apart = (below.0, behind)
+
+pub below-without : (s n : ℕ) (es : List (Entry ActorData)) → AreBelow s es
+    → AreBelow s (without n es)
+below-without s n [] below = tt
+below-without s n (e ∷ es) below = by (below-without s n es below.1) (n == e.number)
+  where
+    by : AreBelow s (without n es) → (b : Bool) → AreBelow s (without_first b e (without n es))
+    by behind true = behind
+    by behind false = (below.0, behind)
+
+pub below-left : (s : ℕ) (b : Bool) (a : Actor) (x : ActorData) (es : List (Entry ActorData))
+    → AreBelow s es → AreBelow s (left_by b a x es)
+below-left s true a x es below = below-without s (seat_of a) es below
+below-left s false a x es below = below-replaced s (seat_of a) x es below
+
 -- The code
 
 pub settled : (g : Ground) (t : ℕ) (a : Actor) (old new : Tenant) (q after : Quiet) (b : Bool)
@@ -116,7 +145,6 @@ settled g t a old new q after b actor lends r actors steps heard tries less same
         decoder.Stands message_limit old.decoder all (g.readings.stream all).messages in
     let E : Decoder → Type 0 = λ d.
         decoder.Stands message_limit d after.heard (g.readings.stream after.heard).messages in
-    let F : Decoder → Type 0 = λ d. decoder.ready_of d ≡ [] in
     let M : Memory → Type 0 = λ m. Remembers g t m after in
     let there = subst M (sym kept) r in
     record {
@@ -124,7 +152,6 @@ settled g t a old new q after b actor lends r actors steps heard tries less same
       names = lends.names;
       steps = less ∙ ap (λ n. n - 1) (lends.steps ∙ sym steps);
       stream = subst E (sym same) (subst D (sym heard) lends.stream);
-      taken = subst F (sym same) lends.taken;
       actors = put ∙ ap (left_by b a actor) lends.actors ∙ left-again b ∙ sym actors;
       remembers = record {
         sessions = there.sessions;
@@ -149,13 +176,11 @@ pub restored : (g : Ground) (t : ℕ) (a : Actor) (old new : Tenant) (q : Quiet)
 restored g t a old new q actor lends r there tries less same kept put =
     let E : Decoder → Type 0 = λ d.
         decoder.Stands message_limit d q.heard (g.readings.stream q.heard).messages in
-    let F : Decoder → Type 0 = λ d. decoder.ready_of d ≡ [] in
     record {
       retries = tries ∙ lends.retries;
       names = lends.names;
       steps = less ∙ lends.steps;
       stream = subst E (sym same) lends.stream;
-      taken = subst F (sym same) lends.taken;
       actors = put ∙ ap (replaced (seat_of a) actor) lends.actors
           ∙ replaced-twice (seat_of a) actor lends.place q.actors
           ∙ replaced-same (seat_of a) actor q.actors there;
@@ -196,7 +221,6 @@ lends-memory g t a code q m lends = record {
   names = lends.names;
   steps = lends.steps;
   stream = lends.stream;
-  taken = lends.taken;
   place = lends.place;
   actors = lends.actors;
 }

@@ -3,4 +3,5 @@ pub mod Answers
 pub mod Acting
 pub mod Comparing
 pub mod Asking
+pub mod Running
 pub mod Standing

@@ -1,5 +1,5 @@
 -- The code stands for a tenant.
-use Rattle.std.specs.Prelude.{◌≡◌, ◌≢◌, ℕ, List, []}
+use Rattle.std.specs.Prelude.{◌≡◌, ◌≢◌, ℕ, List}
 use Rattle.bencode_wire.specs.Decoder as decoder
 use Rattle.server_rules.specs.Ground.{Ground}
 use Rattle.server_rules.specs.Readings.{message_limit}
@@ -21,7 +21,6 @@ pub record Stands (g : Ground) (t : ℕ) (code : Tenant) (q : Quiet) : Type 0 wh
   pub steps : code.steps ≡ q.steps
   -- the decoder has read all that was heard, and its messages were taken
   pub stream : decoder.Stands message_limit code.decoder q.heard (g.readings.stream q.heard).messages
-  pub taken : decoder.ready_of code.decoder ≡ []
   pub actors : actors_view code.actors ≡ q.actors
   pub remembers : Remembers g t code.memory q
 
@@ -31,7 +30,6 @@ pub record Lends (g : Ground) (t : ℕ) (a : Actor) (code : Tenant) (q : Quiet) 
   pub names : SharesNoNames g
   pub steps : code.steps ≡ q.steps
   pub stream : decoder.Stands message_limit code.decoder q.heard (g.readings.stream q.heard).messages
-  pub taken : decoder.ready_of code.decoder ≡ []
   pub place : ActorData
   pub actors : actors_view code.actors ≡ replaced (seat_of a) place q.actors
 

@@ -13,7 +13,7 @@ ghost use Rattle.server_rules.specs.Asking.{asked_of, answered, answer_to, space
 ghost use Rattle.server_rules.specs.Asking as meant;
 ghost use Rattle.tenant_actors.specs.View.{actor_view, hand_view, run_view};
 ghost use Rattle.tenant_turns.specs.NoRefs.{carried_out};
-ghost use Rattle.tenant_world.specs.Memories.{Remembers};
+ghost use Rattle.tenant_world.specs.Memories.{Remembers, opened_by};
 ghost use Rattle.tenant_world.specs.Answers.{asked_view};
 ghost use Rattle.tenant_world.specs.Acting.{Acted, Declined};
 ghost use Rattle.tenant_world.specs.Asking.{is_served, exchanged, run_with, hand_with};
@@ -47,6 +47,7 @@ pub(crate) fn ask(
         (carried_out (asked_of g actor (actor_view state.old) (ask_view ask.now) q
         (actor_view state.old).hand)) memory.new) }
     ensures stays { OnErr result (actor_view state.new ≡ actor_view state.old) }
+    ensures opened { opened_by memory.new ≡ opened_by memory.old }
 {
     let Some(hand) = &state.hand else {
         return Err(Refusal::Idle);
@@ -102,6 +103,7 @@ fn answer(
     ensures stays { (g : Ground) (t : ℕ) (q : Quiet) → Remembers g t memory.old q
         → OnErr result (Remembers g t memory.new q) }
     ensures actor { OnErr result (actor_view state.new ≡ actor_view state.old) }
+    ensures opened { opened_by memory.new ≡ opened_by memory.old }
 {
     let answer = answer_of(alloc, memory, actor, ask)?;
     let given = answer.copy()?;
@@ -126,6 +128,7 @@ fn keep_answer(
     ensures stays { (g : Ground) (t : ℕ) (q : Quiet) → Remembers g t memory.old q
         → OnErr result (Remembers g t memory.new q) }
     ensures actor { OnErr result (actor_view state.new ≡ actor_view state.old) }
+    ensures opened { opened_by memory.new ≡ opened_by memory.old }
 {
     let exchange = Exchange {
         ask: ask.copy()?,
@@ -151,6 +154,7 @@ fn change_or_forget(
     ensures forgotten { (x : Exchanged) (actor : ActorData)
         → actor_view state.old ≡ with_exchange x actor
         → OnErr result (actor_view state.new ≡ actor) }
+    ensures opened { opened_by memory.new ≡ opened_by memory.old }
 {
     match change(alloc, memory, ask) {
         Ok(()) => Ok(()),
@@ -224,6 +228,7 @@ fn change(alloc: Global, memory: &mut Memory, ask: &Ask) -> Result<(), AllocErro
         (record q { spaces = spaces_after (ask_view ask.now) q.spaces })) }
     ensures stays { (g : Ground) (t : ℕ) (q : Quiet) → Remembers g t memory.old q
         → OnErr result (Remembers g t memory.new q) }
+    ensures opened { opened_by memory.new ≡ opened_by memory.old }
 {
     match ask {
         Ask::Define {

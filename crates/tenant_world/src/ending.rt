@@ -7,7 +7,7 @@ ghost use Rattle.server_rules.specs.Ending.{end_of, end_accepted};
 ghost use Rattle.tenant_actors.specs.View.{actor_view, run_view};
 ghost use Rattle.tenant_turns.specs.Grounds.{IsRight};
 ghost use Rattle.tenant_turns.specs.NoRefs.{carried_out};
-ghost use Rattle.tenant_world.specs.Memories.{Remembers};
+ghost use Rattle.tenant_world.specs.Memories.{Remembers, opened_by};
 ghost use Rattle.tenant_world.specs.Answers.{ended_view, ending_view};
 ghost use Rattle.tenant_world.specs.Acting.{Acted, Declined};
 ghost use Rattle.tenant_world.specs.Comparing.{difference, refusal_in};
@@ -41,6 +41,7 @@ pub(crate) fn end(
         (carried_out (end_of g actor (actor_view state.old) (ending_view ending.now) q
         (actor_view state.old).hand)) memory.new) }
     ensures stays { OnErr result (actor_view state.new ≡ actor_view state.old) }
+    ensures opened { opened_by memory.new ≡ opened_by memory.old }
 {
     let Some(hand) = &state.hand else {
         return Err(Refusal::Idle);
@@ -92,6 +93,7 @@ fn accept(
     ensures stays { (g : Ground) (t : ℕ) (q : Quiet) → Remembers g t memory.old q
         → OnErr result (Remembers g t memory.new q) }
     ensures actor { OnErr result (actor_view state.new ≡ actor_view state.old) }
+    ensures opened { opened_by memory.new ≡ opened_by memory.old }
 {
     let session = memory.state_of(alloc, actor)?;
     let Some(hand) = &state.hand else {

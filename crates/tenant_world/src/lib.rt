@@ -6,7 +6,9 @@ mod answers;
 mod asking;
 mod ending;
 mod memory;
+mod showing;
 mod starting;
+mod steps;
 mod tenant;
 
 pub use answers::{Asked, Ended, Ending, Started};

@@ -9,7 +9,7 @@ use Rattle.tenant_world.specs.Acting.{left_by}
 use Rattle.tenant_world.specs.Answers.{started_view}
 use Rattle.tenant_world.specs.Standing.{Refuses}
 use Rattle.tenant_world.proofs.Standing.{starts-by, does-acted, refuses-declined, refuses-so, lends-memory}
-use Rattle.tenant_world.proofs.tenant.Tenant.start.Goals as goal
+use Rattle.tenant_world.proofs.steps.Tenant.start.Goals as goal
 
 pub returns-in_err-state-clause-refused : goal.returns-in_err-state-clause-refused
 returns-in_err-state-clause-refused c = λ g t q right stands.

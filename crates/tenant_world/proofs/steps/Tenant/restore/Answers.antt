@@ -1,7 +1,7 @@
 use Rattle.std.proofs.Common.{refl}
 use Rattle.tenant_actors.specs.View.{actor_view}
 use Rattle.tenant_world.proofs.Standing.{restored}
-use Rattle.tenant_world.proofs.tenant.Tenant.restore.Goals as goal
+use Rattle.tenant_world.proofs.steps.Tenant.restore.Goals as goal
 
 pub returns-clause-stands : goal.returns-clause-stands
 returns-clause-stands c = λ g t q lends r there.

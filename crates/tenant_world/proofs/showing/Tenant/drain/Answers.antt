@@ -1,5 +1,5 @@
 use Rattle.tenant_world.proofs.Draining.{drains}
-use Rattle.tenant_world.proofs.tenant.Tenant.drain.Goals as goal
+use Rattle.tenant_world.proofs.showing.Tenant.drain.Goals as goal
 
 pub returns-clause-drained : goal.returns-clause-drained
 returns-clause-drained c = λ g t q stands.

@@ -3,7 +3,7 @@ use Rattle.server_rules.specs.Numbered.{found}
 use Rattle.server_rules.specs.Tenant.{seat_of}
 use Rattle.tenant_actors.proofs.EntryLaws.{replaced-nothing}
 use Rattle.tenant_world.proofs.Standing.{missing-by, not-zero}
-use Rattle.tenant_world.proofs.tenant.Tenant.lend.Goals as goal
+use Rattle.tenant_world.proofs.steps.Tenant.lend.Goals as goal
 
 pub returns-in-None-clause-refused : goal.returns-in-None-clause-refused
 returns-in-None-clause-refused c = λ g t q p stands.
@@ -18,7 +18,6 @@ returns-in-None-clause-refused c = λ g t q p stands.
         names = stands.names;
         steps = stands.steps;
         stream = stands.stream;
-        taken = stands.taken;
         actors = c.in-None.ensures.put ∙ replaced-nothing (seat_of a) _ _ absent ∙ stands.actors;
         remembers = stands.remembers;
       };

@@ -10,7 +10,7 @@ use Rattle.tenant_world.specs.Acting.{left_by}
 use Rattle.tenant_world.specs.Answers.{asked_view}
 use Rattle.tenant_world.specs.Standing.{Refuses}
 use Rattle.tenant_world.proofs.Standing.{asks-by, does-acted, refuses-declined, refuses-so, lends-memory}
-use Rattle.tenant_world.proofs.tenant.Tenant.answer.Goals as goal
+use Rattle.tenant_world.proofs.steps.Tenant.answer.Goals as goal
 
 pub returns-in_err-state-clause-refused : goal.returns-in_err-state-clause-refused
 returns-in_err-state-clause-refused c = λ g t q right stands.
