@@ -118,7 +118,15 @@ impl Decoder {
         self.fault.is_none() && self.tail.is_empty()
     }
 
-    /// An equal decoder. It reads the bytes of the unfinished message once more at its next piece.
+    /// The fault of the stream, if it met one. It takes no memory.
+    pub fn fault(&self) -> Option<WireFault>
+        ensures { result ≡ fault_of self.now }
+    {
+        self.fault
+    }
+
+    /// An equal decoder, which cannot go back. It reads the bytes of the unfinished message once
+    /// more at its next piece.
     pub fn copy(&self) -> Result<Decoder, AllocError>
         ensures same { IfOk result (IsUnchanged self.now) }
         ensures stands { (limit : ℕ) (all : List ℕ) (taken : List Tree) → Stands limit self.now all taken
