@@ -1,6 +1,6 @@
 -- Which reads and writes fail, and which results tell it.
 use Rattle.std.specs.Prelude.{◌≡◌, ℕ, zero, suc, Bool, true, false, ◌||◌, ⊤, Option, None, Some, Result, Ok, Err}
-use Rattle.nrepl_pipe.specs.declared.stream.PipeError.{PipeError}
+use Rattle.nrepl_pipe.specs.declared.ends.PipeError.{PipeError}
 
 -- a read fails where it answers an error
 abbrev pub read_fails : {E : Type 0} → Result ℕ E → Bool
