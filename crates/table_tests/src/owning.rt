@@ -9,8 +9,17 @@ fn each_owner_numbers_its_refs_from_zero(rt: HostRuntime) -> Result<(), Fail> {
     let alloc = rt.alloc();
     let mut table = new_table(alloc);
     let (mine, other) = (Owner::Tenant(1), Owner::Tenant(2));
-    for (owner, number) in [(mine, 0), (other, 0), (mine, 1), (Owner::Shared, 0), (mine, 2)] {
-        assert_eq!(rt; make(&mut table, alloc, owner, 1)?, RefName { owner, number });
+    for (owner, number) in [
+        (mine, 0),
+        (other, 0),
+        (mine, 1),
+        (Owner::Shared, 0),
+        (mine, 2),
+    ] {
+        assert_eq!(rt;
+            make(&mut table, alloc, owner, 1)?,
+            RefName { owner, number }
+        );
     }
     Ok(())
 }
@@ -36,7 +45,10 @@ fn release_takes_the_refs_of_one_tenant(rt: HostRuntime) -> Result<(), Fail> {
     let other = make(&mut table, alloc, Owner::Tenant(2), 3)?;
     let point = table.begin();
     let sets = [(shared, 4), (mine, 5)];
-    assert_eq!(rt; commit(&mut table, alloc, 1, &sets, &[], point)?, Outcome::Committed);
+    assert_eq!(rt;
+        commit(&mut table, alloc, 1, &sets, &[], point)?,
+        Outcome::Committed
+    );
     table.release(1);
     table.release(1);
     assert_eq!(rt; read(&mut table, 1, mine, None)?, Told::Nothing);

@@ -46,7 +46,10 @@ fn bounds_of_own_refs_are_set(rt: HostRuntime) -> Result<(), Fail> {
     assert!(rt; !table.set_least(1, shared, 2));
     assert!(rt; !table.set_most(1, shared, 3));
     assert!(rt; !table.set_least(2, own, 4));
-    assert_eq!(rt; table.bounds(1, shared), Some(Bounds { least: 0, most: 10 }));
+    assert_eq!(rt;
+        table.bounds(1, shared),
+        Some(Bounds { least: 0, most: 10 })
+    );
     assert_eq!(rt; table.bounds(2, own), None);
     assert_eq!(rt; table.history_count(2, own), None);
     Ok(())

@@ -26,7 +26,12 @@ pub(crate) fn make(
     owner: Owner,
     number: i64,
 ) -> Result<RefName, AllocError> {
-    table.make(alloc, owner, Value::Int(number), Bounds { least: 0, most: 10 })
+    table.make(
+        alloc,
+        owner,
+        Value::Int(number),
+        Bounds { least: 0, most: 10 },
+    )
 }
 
 pub(crate) fn read(
