@@ -89,7 +89,7 @@ pub trait History: Drop {
     fn set_most(&mut self, id: RefId, most: u64)
         ensures { Changed id (with_most most) (stands self.old) (stands self.new) };
 
-    /// Drops a ref, with its versions.
+    /// Drops a ref. It costs a step for each version that was kept of it, and takes no memory.
     fn drop_ref(&mut self, id: RefId)
         ensures gone { IsAbsent (stands self.new) id }
         ensures others { SameBut id (stands self.old) (stands self.new) };

@@ -10,8 +10,8 @@ use slab::Slab;
 use std::alloc::{AllocError, Global};
 use value_data::Value;
 
-/// Refs in numbered places. All calls but `read_at` take about as many steps however much is
-/// stored: `make` and `reserve` on average, since they double what is full.
+/// Refs in numbered places. All calls but `read_at` and `drop_ref` take about as many steps
+/// however much is stored: `make` and `reserve` on average, since they double what is full.
 #[derive(Drop)]
 pub struct ListHistory {
     pub(crate) alloc: Global,

@@ -1,0 +1,141 @@
+//! Makes refs, sets each of them in rounds and reads each as it was at every round, so that the
+//! table of refs can be timed alone. Standard input has the number of refs and that of rounds.
+#![tactic(auto)]
+
+use ref_history::{Bounds, ListHistory};
+use ref_table::{Outcome, Point, RefTable};
+use repl_asks::{Change, Intent, Reading};
+use repl_values::{Owner, RefName, Value};
+use std::alloc::{AllocError, Global};
+use std::io;
+
+// The refs are of so many tenants.
+const TENANTS: u64 = 100;
+
+type Table = RefTable<ListHistory>;
+
+#[derive(Clone, Copy, Debug)]
+struct Size {
+    refs: u64,
+    rounds: u64,
+}
+
+#[derive(Clone, Copy, Debug, Default)]
+struct Counts {
+    committed: u64,
+    found: u64,
+    to_retry: u64,
+}
+
+fn size_of(text: &str) -> Size {
+    let mut words = text.split_whitespace();
+    Size {
+        refs: number_of(words.next()),
+        rounds: number_of(words.next()),
+    }
+}
+
+fn number_of(word: Option<&str>) -> u64 {
+    match word {
+        Some(word) => word.parse::<u64>().unwrap_or(0),
+        None => 0,
+    }
+}
+
+fn tenant_of(name: RefName) -> u64 {
+    match name.owner {
+        Owner::Tenant(tenant) => tenant,
+        Owner::Shared => 0,
+    }
+}
+
+// Each ref keeps the versions of all rounds.
+fn make_all(alloc: Global, table: &mut Table, size: Size) -> Result<Vec<RefName>, AllocError> {
+    let bounds = Bounds {
+        least: size.rounds,
+        most: size.rounds,
+    };
+    let mut names = Vec::new(alloc);
+    for number in 0..size.refs {
+        let owner = Owner::Tenant(number % TENANTS);
+        names.push(table.make(alloc, owner, Value::Nil, bounds)?)?;
+    }
+    Ok(names)
+}
+
+// A commit that sets one ref. Answers whether it was done.
+fn set(alloc: Global, table: &mut Table, name: RefName) -> Result<bool, AllocError> {
+    let mut sets = Vec::new(alloc);
+    sets.push(Change {
+        name,
+        now: Value::Bool(true),
+    })?;
+    let intent = Intent {
+        sets,
+        ensured: Vec::new(alloc),
+    };
+    let point = table.begin();
+    if point.stamp == u128::MAX {
+        return Ok(false);
+    }
+    let outcome = table.commit(alloc, tenant_of(name), &intent, point)?;
+    Ok(outcome == Outcome::Committed)
+}
+
+// Sets each ref once.
+fn set_all(
+    alloc: Global,
+    table: &mut Table,
+    names: &[RefName],
+    counts: &mut Counts,
+) -> Result<(), AllocError> {
+    for name in names {
+        if set(alloc, table, *name)? {
+            counts.committed = counts.committed.saturating_add(1);
+        }
+    }
+    Ok(())
+}
+
+// Reads each ref as it was at a point.
+fn read_all(
+    table: &mut Table,
+    names: &[RefName],
+    point: Point,
+    counts: &mut Counts,
+) -> Result<(), AllocError> {
+    for name in names {
+        match table.read(tenant_of(*name), *name, Some(point))? {
+            Some(Reading::Found(_)) => counts.found = counts.found.saturating_add(1),
+            Some(Reading::Retry) => counts.to_retry = counts.to_retry.saturating_add(1),
+            None => {}
+        }
+    }
+    Ok(())
+}
+
+fn run(alloc: Global, size: Size) -> Result<Counts, AllocError> {
+    let mut table = RefTable::new(alloc, ListHistory::new(alloc));
+    let mut counts = Counts::default();
+    let names = make_all(alloc, &mut table, size)?;
+    let mut points = Vec::new(alloc);
+    for _ in 0..size.rounds {
+        points.push(table.begin())?;
+        set_all(alloc, &mut table, &names, &mut counts)?;
+    }
+    for point in &points {
+        read_all(&mut table, &names, *point, &mut counts)?;
+    }
+    Ok(counts)
+}
+
+fn main(rt: HostRuntime) -> io::Result<()> {
+    let text = io::read_to_string(rt.alloc(), rt.reader())?;
+    let counts = run(rt.alloc(), size_of(&text))?;
+    let Counts {
+        committed,
+        found,
+        to_retry,
+    } = counts;
+    println!(rt; "{committed} committed, {found} found, {to_retry} to retry")
+}
