@@ -5,3 +5,4 @@ pub mod Draining
 pub mod Answering
 pub mod Ends
 pub mod Wires
+pub mod Seating

@@ -103,34 +103,6 @@ replaced-same {A} n x (e ∷ es) there = by (λ h. replaced-same n x es h) (n ==
         ∙ ap (λ y. entry e.number y ∷ es) (sym here)
     by behind false apart h = ap (λ (l : List (Entry A)). e ∷ l) (behind h)
 
--- below a seat there are still all
-
-pub below-replaced : (s n : ℕ) (x : ActorData) (es : List (Entry ActorData)) → AreBelow s es
-    → AreBelow s (replaced n x es)
-below-replaced s n x [] below = tt
-below-replaced s n x (e ∷ es) below =
-    by (below-replaced s n x es below.1) (n == e.number) refl
-  where
-    by : AreBelow s (replaced n x es) → (b : Bool) → (n == e.number) ≡ b
-        → AreBelow s (replaced_first b n x e es)
-    by behind true same =
-        (subst (λ k. k < s) (sym (eqb-true n e.number same)) below.0, below.1)
-    by behind false apart = (below.0, behind)
-
-pub below-without : (s n : ℕ) (es : List (Entry ActorData)) → AreBelow s es
-    → AreBelow s (without n es)
-below-without s n [] below = tt
-below-without s n (e ∷ es) below = by (below-without s n es below.1) (n == e.number)
-  where
-    by : AreBelow s (without n es) → (b : Bool) → AreBelow s (without_first b e (without n es))
-    by behind true = behind
-    by behind false = (below.0, behind)
-
-pub below-left : (s : ℕ) (b : Bool) (a : Actor) (x : ActorData) (es : List (Entry ActorData))
-    → AreBelow s es → AreBelow s (left_by b a x es)
-below-left s true a x es below = below-without s (seat_of a) es below
-below-left s false a x es below = below-replaced s (seat_of a) x es below
-
 -- The code
 
 pub settled : (g : Ground) (t : ℕ) (a : Actor) (old new : Tenant) (q after : Quiet) (b : Bool)
@@ -214,16 +186,20 @@ refuses-declined g t a q p deed old_actor m why new is some there declined stand
 }
 
 -- the memory is no part of it
-pub lends-memory : (g : Ground) (t : ℕ) (a : Actor) (code : Tenant) (q : Quiet) (m : Memory)
-    → Lends g t a code q → Lends g t a (record code { memory = m }) q
-lends-memory g t a code q m lends = record {
-  retries = lends.retries;
-  names = lends.names;
-  steps = lends.steps;
-  stream = lends.stream;
-  place = lends.place;
-  actors = lends.actors;
-}
+pub lends-memory : (g : Ground) (t : ℕ) (a : Actor) (code new : Tenant) (q : Quiet)
+    → new.retries ≡ code.retries → new.steps ≡ code.steps → new.decoder ≡ code.decoder
+    → new.actors ≡ code.actors → Lends g t a code q → Lends g t a new q
+lends-memory g t a code new q tries steps same put lends =
+    let E : Decoder → Type 0 = λ d.
+        decoder.Stands message_limit d q.heard (g.readings.stream q.heard).messages in
+    record {
+      retries = tries ∙ lends.retries;
+      names = lends.names;
+      steps = steps ∙ lends.steps;
+      stream = subst E (sym same) lends.stream;
+      place = lends.place;
+      actors = ap actors_view put ∙ lends.actors;
+    }
 
 pub refuses-so : {X : Type 0} (g : Ground) (t : ℕ) (q : Quiet) (deed : Outcome) (new : Tenant)
     (why : Refusal) (r : Result X Refusal) → IsErrAnd r (λ e. e ≡ why)

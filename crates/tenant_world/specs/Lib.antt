@@ -1,4 +1,5 @@
 pub mod Memories
+pub mod Seats
 pub mod Answers
 pub mod Acting
 pub mod Comparing

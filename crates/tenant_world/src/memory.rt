@@ -62,7 +62,7 @@ impl Memory {
 
     /// Puts a state in the place of what the session of an actor remembers.
     pub(crate) fn put_state(&mut self, actor: Actor, state: SessionState)
-        ensures { (g : Ground) (t : ℕ) (q : Quiet) → Remembers g t self.old q
+        ensures put { (g : Ground) (t : ℕ) (q : Quiet) → Remembers g t self.old q
             → Remembers g t self.new (with_state actor (state_view state) q) }
         ensures opened { opened_by self.new ≡ opened_by self.old }
     {

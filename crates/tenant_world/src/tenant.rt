@@ -1,8 +1,9 @@
 // A tenant: its stream, its actors and what they share.
-ghost use Rattle.std.specs.Prelude.{◌≡◌, suc, []};
+ghost use Rattle.std.specs.Prelude.{◌≡◌, suc, true, length};
 ghost use Rattle.bencode_wire.specs.Decoder.{ready_of};
-ghost use Rattle.tenant_actors.specs.View.{actors_view, AreBelow};
+ghost use Rattle.tenant_actors.specs.View.{actors_view};
 ghost use Rattle.tenant_world.specs.Memories.{opened_by};
+ghost use Rattle.tenant_world.specs.Seats.{are_below};
 
 use crate::memory::Memory;
 use bencode_wire::Decoder;
@@ -21,7 +22,7 @@ pub struct Tenant {
     pub(crate) actors: Actors,
     pub(crate) memory: Memory,
     // The messages of each piece were taken when it was heard.
-    ghost taken: { ready_of decoder ≡ [] },
+    ghost taken: { length (ready_of decoder) ≡ 0 },
     // No actor is of a session that is yet to be made.
-    ghost seated: { AreBelow (suc (opened_by memory)) (actors_view actors) },
+    ghost seated: { are_below (suc (opened_by memory)) (actors_view actors) ≡ true },
 }

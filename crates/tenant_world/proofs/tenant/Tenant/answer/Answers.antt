@@ -1,4 +1,4 @@
-use Rattle.std.proofs.Common.{◌<◌, ◌∙◌, Some, sym, ap, subst}
+use Rattle.std.proofs.Common.{◌<◌, ◌∙◌, refl, Some, sym, ap, subst}
 use Rattle.server_rules.specs.Plan as deeds
 use Rattle.server_rules.specs.Plan.{Plan}
 use Rattle.repl_asks.specs.View.{ask_view}
@@ -10,7 +10,7 @@ use Rattle.tenant_world.specs.Acting.{left_by}
 use Rattle.tenant_world.specs.Answers.{asked_view}
 use Rattle.tenant_world.specs.Standing.{Refuses}
 use Rattle.tenant_world.proofs.Standing.{asks-by, does-acted, refuses-declined, refuses-so, lends-memory}
-use Rattle.tenant_world.proofs.steps.Tenant.answer.Goals as goal
+use Rattle.tenant_world.proofs.tenant.Tenant.answer.Goals as goal
 
 pub returns-in_err-state-clause-refused : goal.returns-in_err-state-clause-refused
 returns-in_err-state-clause-refused c = λ g t q right stands.
@@ -30,7 +30,7 @@ returns-in-Ok-clause-done c = λ g t q right stands.
     let lent = c.in_ok-state.ensures.lent g t q stands in
     let some = subst (λ n. 0 < n) stands.steps c.in_ok-state.ensures.some in
     let acted = c.in-Ok.ensures.acted g t q lent.0.names lent.2 in
-    let lends = lends-memory g t a c.lend.new.self q c.ask.new.memory lent.0 in
+    let lends = lends-memory g t a c.lend.new.self _ q refl refl refl refl lent.0 in
     let actor = actor_view c.ask.new.state in
     does-acted g t a q p (outcome g t q (deeds.asks_for a ask)) (actor_view c.in_ok-state.state)
         c.ask.new.memory actor (asked_view c.in-Ok.answered) c.settle.new.self
@@ -46,7 +46,7 @@ returns-in-Err-clause-refused c = λ g t q right stands.
     let lent = c.in_ok-state.ensures.lent g t q stands in
     let some = subst (λ n. 0 < n) stands.steps c.in_ok-state.ensures.some in
     let declined = c.in-Err.ensures.declined g t q lent.0.names lent.2 in
-    let lends = lends-memory g t a c.lend.new.self q c.ask.new.memory lent.0 in
+    let lends = lends-memory g t a c.lend.new.self _ q refl refl refl refl lent.0 in
     refuses-declined g t a q p (outcome g t q (deeds.asks_for a ask)) (actor_view c.in_ok-state.state)
         c.ask.new.memory c.in-Err.why c.restore.new.self (asks-by g t q a ask) some lent.1
         declined (λ r. c.restore.ensures.stands g t q lends r

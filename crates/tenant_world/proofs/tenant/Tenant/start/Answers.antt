@@ -1,4 +1,4 @@
-use Rattle.std.proofs.Common.{◌<◌, ◌∙◌, Some, sym, ap, subst}
+use Rattle.std.proofs.Common.{◌<◌, ◌∙◌, refl, Some, sym, ap, subst}
 use Rattle.server_rules.specs.Plan as deeds
 use Rattle.server_rules.specs.Plan.{Plan, quietly}
 use Rattle.server_rules.specs.Deeds.{start_of}
@@ -9,7 +9,7 @@ use Rattle.tenant_world.specs.Acting.{left_by}
 use Rattle.tenant_world.specs.Answers.{started_view}
 use Rattle.tenant_world.specs.Standing.{Refuses}
 use Rattle.tenant_world.proofs.Standing.{starts-by, does-acted, refuses-declined, refuses-so, lends-memory}
-use Rattle.tenant_world.proofs.steps.Tenant.start.Goals as goal
+use Rattle.tenant_world.proofs.tenant.Tenant.start.Goals as goal
 
 pub returns-in_err-state-clause-refused : goal.returns-in_err-state-clause-refused
 returns-in_err-state-clause-refused c = λ g t q right stands.
@@ -27,7 +27,7 @@ returns-in-Ok-clause-done c = λ g t q right stands.
     let lent = c.in_ok-state.ensures.lent g t q stands in
     let some = subst (λ n. 0 < n) stands.steps c.in_ok-state.ensures.some in
     let acted = c.in-Ok.ensures.acted g t q right lent.0.retries lent.2 in
-    let lends = lends-memory g t a c.lend.new.self q c.start.new.memory lent.0 in
+    let lends = lends-memory g t a c.lend.new.self _ q refl refl refl refl lent.0 in
     let actor = actor_view c.start.new.state in
     does-acted g t a q p (outcome g t q (deeds.starts a)) (actor_view c.in_ok-state.state)
         c.start.new.memory actor (started_view c.in-Ok.started) c.settle.new.self
@@ -42,7 +42,7 @@ returns-in-Err-clause-refused c = λ g t q right stands.
     let lent = c.in_ok-state.ensures.lent g t q stands in
     let some = subst (λ n. 0 < n) stands.steps c.in_ok-state.ensures.some in
     let declined = c.in-Err.ensures.declined g t q right lent.0.retries lent.2 in
-    let lends = lends-memory g t a c.lend.new.self q c.start.new.memory lent.0 in
+    let lends = lends-memory g t a c.lend.new.self _ q refl refl refl refl lent.0 in
     refuses-declined g t a q p (outcome g t q (deeds.starts a)) (actor_view c.in_ok-state.state)
         c.start.new.memory c.in-Err.why c.restore.new.self (starts-by g t q a) some lent.1
         declined (λ r. c.restore.ensures.stands g t q lends r
