@@ -3,3 +3,4 @@ pub mod Vacating
 pub mod Remaining
 pub mod Drafting
 pub mod Undoing
+pub mod Hearings

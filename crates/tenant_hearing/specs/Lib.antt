@@ -4,3 +4,5 @@ pub mod Scene
 pub mod Served
 pub mod Requested
 pub mod Taken
+pub mod Reads
+pub mod Heard

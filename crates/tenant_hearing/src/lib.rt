@@ -11,5 +11,8 @@ mod draft;
 mod hearing;
 mod operations;
 mod staying;
+mod taking;
+mod telling;
 
-pub use hearing::take_in;
+pub use hearing::hear;
+pub use taking::take_in;

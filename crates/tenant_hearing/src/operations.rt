@@ -1,16 +1,11 @@
 // Each operation is carried out (the nREPL manual, "Supported nREPL operations").
 ghost use Rattle.std.specs.Prelude.{◌≡◌, [], ◌∷◌, ◌++◌, map, OnOk, Some};
 ghost use Rattle.std.specs.BTreeSet.{keys};
-ghost use Rattle.repl_sessions.specs.Named.{NamedSessions, ids_of};
-ghost use Rattle.repl_sessions.specs.Leaving.{remaining_named};
-ghost use Rattle.repl_replies.specs.Replies as replies;
-ghost use Rattle.repl_replies.specs.Replies.{bytes_of};
+ghost use Rattle.repl_sessions.specs.Named.{NamedSessions};
 ghost use Rattle.repl_replies.specs.View.{origin_view, operation_view};
-ghost use Rattle.server_rules.specs.Operating.{operated, with_clone, with_close, asker, interruption};
-ghost use Rattle.server_rules.specs.Replying.{reply};
+ghost use Rattle.server_rules.specs.Operating.{operated, with_clone, with_close, asker};
 ghost use Rattle.server_rules.specs.Tenant.{seat_of};
 ghost use Rattle.tenant_actors.specs.View.{waiting_view, actors_view};
-ghost use Rattle.tenant_replies.specs.View.{made_bytes};
 ghost use Rattle.tenant_hearing.specs.Holds.{AreSeated};
 ghost use Rattle.tenant_hearing.specs.Scene.{scene, Comes, IsKept};
 ghost use Rattle.repl_replies.specs.Named.{session_of};
@@ -19,13 +14,12 @@ ghost use Rattle.tenant_hearing.specs.Requested.{requested};
 
 use crate::changes::{Change, note};
 use crate::draft::Draft;
+use crate::telling::{add_interruptions, add_list};
 use repl_replies::{Body, Operation, Origin};
 use repl_sessions::Sessions;
 use server_rules::Actor;
-use std::alloc::{AllocError, Global};
-use std::collections::{BTreeSet, VecDeque};
+use std::alloc::AllocError;
 use tenant_actors::{Actors, ProgramText, Waiting};
-use tenant_replies::Batch;
 
 impl Draft {
     pub(crate) fn operate(
@@ -137,30 +131,4 @@ fn asker(session: Option<u64>) -> Actor
         Some(number) => Actor::Session(number),
         None => Actor::Bare,
     }
-}
-
-// Adds the list of the sessions that are open and not leaving.
-fn add_list(
-    alloc: Global,
-    batch: &mut Batch,
-    origin: &Origin,
-    sessions: &Sessions,
-    leaving: &BTreeSet<u64>,
-) -> Result<(), AllocError>
-    ensures { OnOk result (made_bytes batch.new ≡ made_bytes batch.old ++ map bytes_of
-        (reply (origin_view origin.now) (replies.sessions (ids_of (remaining_named (keys leaving.now) sessions.now))) ∷ [])) }
-{
-    let ids = sessions.list_but(alloc, leaving)?;
-    batch.add(origin, Body::Sessions(ids))
-}
-
-// Adds for each request that it is interrupted.
-fn add_interruptions(batch: &mut Batch, requests: &VecDeque<Waiting>) -> Result<(), AllocError>
-    ensures { OnOk result (made_bytes batch.new ≡ made_bytes batch.old
-        ++ map bytes_of (map interruption (map waiting_view requests.now.items))) }
-{
-    for request in requests.iter() {
-        batch.add(&request.origin, Body::Interrupted)?;
-    }
-    Ok(())
 }

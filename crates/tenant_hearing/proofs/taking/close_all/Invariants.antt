@@ -3,7 +3,7 @@ use Rattle.std.specs.BTreeSet.{keys}
 use Rattle.repl_sessions.specs.Leaving.{remaining_named}
 use Rattle.tenant_actors.specs.View.{actors_view}
 use Rattle.tenant_hearing.specs.Scene.{all_vacated}
-use Rattle.tenant_hearing.proofs.hearing.close_all.Given as goal
+use Rattle.tenant_hearing.proofs.taking.close_all.Given as goal
 
 abbrev pub invariant-loop-number : goal.invariant-loop-number
 invariant-loop-number l = record {

@@ -8,7 +8,7 @@ use Rattle.server_rules.specs.Tenant.{ActorData}
 use Rattle.tenant_actors.specs.View.{actors_view}
 use Rattle.tenant_hearing.specs.Scene.{all_vacated}
 use Rattle.tenant_hearing.proofs.Remaining.{remaining-first, remaining-all}
-use Rattle.tenant_hearing.proofs.hearing.close_all.Goals as goal
+use Rattle.tenant_hearing.proofs.taking.close_all.Goals as goal
 
 pub loop-number-preserved : goal.loop-number-preserved
 loop-number-preserved c =

@@ -5,7 +5,7 @@ use Rattle.tenant_actors.specs.View.{actors_view}
 use Rattle.tenant_replies.specs.View.{waiting_bytes}
 use Rattle.tenant_hearing.specs.Scene.{scene}
 use Rattle.tenant_hearing.proofs.Drafting.{drafts-first, drafts-last, seated-last}
-use Rattle.tenant_hearing.proofs.hearing.take_in.Goals as goal
+use Rattle.tenant_hearing.proofs.taking.take_in.Goals as goal
 
 on-ok : {T E : Type 0} (r : Result T E) (x : T) (P : Type 0) → r ≡ Ok x → OnOk r P → P
 on-ok {T} {E} r x P is p = subst (λ (r : Result T E). OnOk r P) is p
