@@ -5,6 +5,8 @@ use Rattle.bencode_wire.specs.Tree.{Tree, integer, string, list, dictionary}
 use Rattle.bencode_wire.specs.Stream.{Ending, rest, fault, Streams}
 use Rattle.bencode_wire.specs.Fault.{counted}
 use Rattle.bencode_wire.specs.Decoder.{ready_of, fault_of, Shows, Stands}
+use Rattle.bencode_wire.specs.Return.{taken_back}
+use Rattle.bencode_wire.specs.State.{Earlier}
 use Rattle.bencode_wire.specs.declared.decoder.Decoder.{Decoder}
 use Rattle.bencode_wire.specs.declared.fault.WireFault.{WireFault}
 use Rattle.bencode_wire.proofs.Unique.{streams_same}
@@ -115,3 +117,8 @@ heard-all g t q piece messages broken count d s es waiting right stands ready is
       reads = subst (λ bytes. Reads g bytes d) (sym (taken-heard g t piece q)) r.reads;
       holds = subst (λ (it : Quiet). Holds g t it s es waiting) after held;
     }
+
+-- no message is ready once the piece is taken back
+pub none-ready-back : (d : Decoder) (o : Option Earlier) → ready_of d ≡ [] → ready_of (taken_back d o) ≡ []
+none-ready-back d None none = none
+none-ready-back d (Some e) none = refl

@@ -8,7 +8,7 @@ use Rattle.bencode_wire.specs.declared.fault.WireFault.{WireFault}
 use Rattle.server_rules.specs.Readings.{message_limit}
 use Rattle.server_rules.specs.Tenant.{Quiet}
 use Rattle.tenant_hearing.specs.Holds.{Holds}
-use Rattle.tenant_hearing.proofs.Hearings.{heard-all}
+use Rattle.tenant_hearing.proofs.Hearings.{heard-all, none-ready-back}
 use Rattle.tenant_hearing.proofs.hearing.hear.Goals as goal
 
 pub returns-in-Ok-clause-heard : goal.returns-in-Ok-clause-heard
@@ -39,3 +39,8 @@ returns-in-Err-clause-stream_stays c = λ g bytes reads.
       ready = c.take_back.ensures.ready message_limit bytes before back;
       fault = c.take_back.ensures.fault message_limit bytes before back ∙ sym c.requires.sound ∙ reads.fault;
     }
+
+pub returns-in-Err-clause-ready : goal.returns-in-Err-clause-ready
+returns-in-Err-clause-ready c =
+    ap ready_of c.take_back.ensures.as_before
+    ∙ none-ready-back c.take_ready-messages.new.self _ (ap ready_of c.take_ready-messages.ensures.taken)
