@@ -1,10 +1,10 @@
 pub mod Determined
 pub mod Draining
+pub mod EachRound
 pub mod Going
 pub mod Growing
 pub mod Hearing
 pub mod Marking
-pub mod Outcomes
 pub mod Rounding
-pub mod Serving
+pub mod Taking
 pub mod Turns

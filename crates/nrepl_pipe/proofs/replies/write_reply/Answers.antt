@@ -3,7 +3,7 @@ use Rattle.std.specs.Io.KnownBytes.{Appends}
 use Rattle.std.proofs.KnownBytes.{Appends-nil, Appends-trans, Appends-kept}
 use Rattle.nrepl_pipe.proofs.Growing.{front-grows, front-grows_slice, front-whole}
 use Rattle.nrepl_pipe.proofs.Marking.{marks-none}
-use Rattle.nrepl_pipe.proofs.stream.write_reply.Goals as goal
+use Rattle.nrepl_pipe.proofs.replies.write_reply.Goals as goal
 
 pub loop-rest-init : goal.loop-rest-init
 loop-rest-init g c = record { written = ([], refl, Appends-nil _); writes = marks-none _ }

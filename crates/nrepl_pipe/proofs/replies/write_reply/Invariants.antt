@@ -1,7 +1,7 @@
 use Rattle.std.proofs.Common.{◌≡◌, List, ℕ, ◌++◌, length, false}
 use Rattle.std.specs.Io.KnownBytes.{Appends}
 use Rattle.nrepl_pipe.specs.Failing.{Marks}
-use Rattle.nrepl_pipe.proofs.stream.write_reply.Given as goal
+use Rattle.nrepl_pipe.proofs.replies.write_reply.Given as goal
 
 abbrev pub invariant-loop-rest : goal.invariant-loop-rest
 invariant-loop-rest g l = record {

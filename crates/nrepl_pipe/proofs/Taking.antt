@@ -1,0 +1,167 @@
+-- The loop over the actors of a round.
+use Rattle.std.proofs.Common.{◌≡◌, ◌≢◌, ℕ, ◌+◌, ◌<◌, ◌≤◌, ◌⊎◌, inl, inr, List, [], ◌∷◌, ◌++◌}
+use Rattle.std.proofs.Common.{Bool, true, false, refl, sym, ap, ◌∙◌, subst, arith}
+use Rattle.std.specs.Prelude.{◌↔◌, ⊤}
+use Rattle.server_rules.specs.Ground.{Ground}
+use Rattle.server_rules.specs.Tenant.{Quiet}
+use Rattle.server_rules.specs.declared.actor.Actor.{Actor}
+use Rattle.server_rules.specs.declared.refusal.Refusal.{Refusal}
+use Rattle.tenant_turns.specs.Turned.{Accepted}
+use Rattle.tenant_turns.specs.Turns.{Turn, goes, Stepped, accepted, refused, step, quiet_or}
+use Rattle.tenant_turns.specs.Turns.{after, run}
+use Rattle.nrepl_pipe.specs.Schedule.{go_each, Rests, AllRest, MeetsWorn}
+use Rattle.nrepl_pipe.specs.Parts.{TurnsSo, with_turn, IsRound}
+use Rattle.nrepl_pipe.specs.declared.rounds.Round.{Round}
+use Rattle.nrepl_pipe.specs.declared.rounds.Turned.{Turned}
+use Rattle.nrepl_pipe.proofs.Turns.{run-append, meets-front, meets-behind, meets-either}
+use Rattle.nrepl_pipe.proofs.Turns.{rest-append, rest-front, rest-behind}
+use Rattle.nrepl_pipe.proofs.Going.{StepsSo, go-steps}
+use Rattle.nrepl_pipe.proofs.EachRound.{held-waits}
+
+-- What is told of one turn more
+
+same-last : (g : Ground) (q : Quiet) (turns : List Turn) (turn : Turn) (b : Bool)
+    → (b ≡ true) ↔ AllRest g q turns → Rests (step g (run g q turns) turn)
+    → (b ≡ true) ↔ AllRest g q (turns ++ turn ∷ [])
+same-last g q turns turn b so rests = (
+  λ is. rest-append g q turns (turn ∷ []) (so.0 is) (rests, tt),
+  λ all. so.1 (rest-front g q turns (turn ∷ []) all),
+)
+
+no-last : (g : Ground) (q : Quiet) (turns : List Turn) (turn : Turn)
+    → (Rests (step g (run g q turns) turn) → ⊥)
+    → (false ≡ true) ↔ AllRest g q (turns ++ turn ∷ [])
+no-last g q turns turn goes_on = (
+  λ is. cc,
+  λ all. absurd (goes_on (rest-behind g q turns (turn ∷ []) all).0),
+)
+
+same-worn : (g : Ground) (q : Quiet) (turns : List Turn) (turn : Turn) (b : Bool)
+    → (b ≡ true) ↔ MeetsWorn g q turns
+    → (step g (run g q turns) turn ≡ refused Refusal.Worn → ⊥)
+    → (b ≡ true) ↔ MeetsWorn g q (turns ++ turn ∷ [])
+same-worn g q turns turn b so other = (
+  λ is. meets-front g q turns (turn ∷ []) (so.0 is),
+  λ meets. by (meets-either g q turns (turn ∷ []) meets),
+) where
+  by : MeetsWorn g q turns ⊎ MeetsWorn g (run g q turns) (turn ∷ []) → b ≡ true
+  by (inl front) = so.1 front
+  by (inr (inl here)) = absurd (other here)
+  by (inr (inr never)) = absurd never
+
+now-worn : (g : Ground) (q : Quiet) (turns : List Turn) (turn : Turn)
+    → step g (run g q turns) turn ≡ refused Refusal.Worn
+    → (true ≡ true) ↔ MeetsWorn g q (turns ++ turn ∷ [])
+now-worn g q turns turn is = (
+  λ _. meets-behind g q turns (turn ∷ []) (inl is),
+  λ _. refl,
+)
+
+accepted-goes_on : (s : Stepped) → Accepted (λ q. ⊤) s → Rests s → ⊥
+accepted-goes_on (accepted new bytes) is rests = rests
+accepted-goes_on (refused why) is rests = is
+
+accepted-not_worn : (s : Stepped) → Accepted (λ q. ⊤) s → s ≡ refused Refusal.Worn → ⊥
+accepted-not_worn (accepted new bytes) is worn = cc
+accepted-not_worn (refused why) is worn = is
+
+with-turn : (g : Ground) (q : Quiet) (turns : List Turn) (turn : Turn) (told : Round) (came : Turned)
+    → IsRound told g q turns → TurnsSo came (step g (run g q turns) turn)
+    → IsRound (with_turn told came) g q (turns ++ turn ∷ [])
+with-turn g q turns turn told Turned.Done so is = record {
+  is_last = no-last g q turns turn (accepted-goes_on (step g (run g q turns) turn) is);
+  is_worn = same-worn g q turns turn told.is_worn so.is_worn
+      (accepted-not_worn (step g (run g q turns) turn) is);
+}
+with-turn g q turns turn told Turned.Held so is = record {
+  is_last = no-last g q turns turn (λ rests. subst Rests is rests refl);
+  is_worn = same-worn g q turns turn told.is_worn so.is_worn
+      (λ worn. let both : refused Refusal.Held ≡ refused Refusal.Worn = sym is ∙ worn in cc);
+}
+with-turn g q turns turn told Turned.Worn so is = record {
+  is_last = same-last g q turns turn told.is_last so.is_last (subst Rests (sym is) (λ e. cc));
+  is_worn = now-worn g q turns turn is;
+}
+with-turn g q turns turn told Turned.Idle so is = record {
+  is_last = same-last g q turns turn told.is_last so.is_last is.0;
+  is_worn = same-worn g q turns turn told.is_worn so.is_worn is.1;
+}
+
+-- The turns so far
+
+-- `start` steps were left as the round began, and `now` are left
+pub record TurnsOn (g : Ground) (Stands : Quiet → Type 0) (q : Quiet) (actors : List Actor)
+    (told : Round) (start now : ℕ) : Type 0 where
+  pub stands : Stands (run g q (go_each actors))
+  pub told_so : IsRound told g q (go_each actors)
+  -- where no step was used up, all is as it was, and another round follows for replies that wait
+  pub untouched : now ≡ start → (run g q (go_each actors) ≡ q)
+      × (told.is_last ≡ false → q.replies ≢ [])
+
+pub turns-none : (g : Ground) (Stands : Quiet → Type 0) (q : Quiet) (start : ℕ) → Stands q
+    → TurnsOn g Stands q [] (record { is_last = true; is_worn = false }) start start
+turns-none g Stands q start stands = record {
+  stands = stands;
+  told_so = record { is_last = (λ _. tt, λ _. refl); is_worn = (λ is. cc, λ never. absurd never) };
+  untouched = λ _. (refl, λ is. cc);
+}
+
+go-more : (actors : List Actor) (a : Actor)
+    → go_each (actors ++ a ∷ []) ≡ go_each actors ++ goes a ∷ []
+go-more [] a = refl
+go-more (b ∷ actors) a = ap (λ turns. goes b ∷ turns) (go-more actors a)
+
+stays : (q : Quiet) (came : Turned) (s : Stepped) → TurnsSo came s → (came ≡ Turned.Done → ⊥)
+    → quiet_or q s ≡ q
+stays q Turned.Done s is other = absurd (other refl)
+stays q Turned.Held s is other = ap (quiet_or q) is
+stays q Turned.Worn s is other = ap (quiet_or q) is
+stays q Turned.Idle (refused why) is other = refl
+stays q Turned.Idle (accepted new bytes) is other = absurd is.0
+
+waits : (q : Quiet) (told : Round) (came : Turned) (s : Stepped) → StepsSo q s → TurnsSo came s
+    → (came ≡ Turned.Done → ⊥) → (told.is_last ≡ false → q.replies ≢ [])
+    → (with_turn told came).is_last ≡ false → q.replies ≢ []
+waits q told Turned.Done s so is other before on = absurd (other refl)
+waits q told Turned.Held s so is other before on =
+    let held = subst (StepsSo q) is so in held-waits q (held refl)
+waits q told Turned.Worn s so is other before on = before on
+waits q told Turned.Idle s so is other before on = before on
+
+pub turns-more : (g : Ground) (Old New : Quiet → Type 0) (q : Quiet) (actors : List Actor)
+    (a : Actor) (told : Round) (came : Turned) (start now later : ℕ)
+    (on : TurnsOn g Old q actors told start now) → now ≤ start → later ≤ now
+    → (came ≡ Turned.Done → now ≡ later + 1)
+    → TurnsSo came (step g (run g q (go_each actors)) (goes a))
+    → New (after g (run g q (go_each actors)) (goes a))
+    → TurnsOn g New q (actors ++ a ∷ []) (with_turn told came) start later
+turns-more g Old New q actors a told came start now later on most fewer uses is stands =
+    let v = run g q (go_each actors) in
+    let s = step g v (goes a) in
+    let gone : run g q (go_each (actors ++ a ∷ [])) ≡ after g v (goes a) =
+    ap (run g q) (go-more actors a) ∙ run-append g q (go_each actors) (goes a ∷ []) in
+    record {
+      stands = subst New (sym gone) stands;
+      told_so = subst (IsRound (with_turn told came) g q) (sym (go-more actors a))
+          (with-turn g q (go_each actors) (goes a) told came on.told_so is);
+      untouched = λ (same : later ≡ start).
+          let none : now ≡ start = omega arith in
+          let other : came ≡ Turned.Done → ⊥ =
+          λ (done : came ≡ Turned.Done). let one = uses done in absurd (omega arith) in
+          let before = on.untouched none in
+          let so : StepsSo q (step g q (goes a)) = go-steps g q a in
+          let is_here : TurnsSo came (step g q (goes a)) =
+          subst (λ u. TurnsSo came (step g u (goes a))) before.0 is in
+          (gone ∙ stays v came s is other ∙ before.0,
+          waits q told came (step g q (goes a)) so is_here other before.1);
+    }
+
+pub goes-on : (q : Quiet) (told : Round) (start now : ℕ) → now ≤ start
+    → (now ≡ start → told.is_last ≡ false → q.replies ≢ []) → told.is_last ≡ false
+    → (now < start) ⊎ (q.replies ≢ [])
+goes-on q told start now most untouched on = by (lt-or now start most) where
+  lt-or : (n m : ℕ) → n ≤ m → (n < m) ⊎ (n ≡ m)
+  lt-or n m few = le_cases n m few
+  by : (now < start) ⊎ (now ≡ start) → (now < start) ⊎ (q.replies ≢ [])
+  by (inl fewer) = inl fewer
+  by (inr same) = inr (untouched same on)
