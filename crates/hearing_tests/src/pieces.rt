@@ -12,11 +12,11 @@ fn a_session_is_made_and_listed(rt: HostRuntime) -> Result<(), AllocError> {
     let a = rt.alloc();
     let mut tenant = opened(a)?;
     assert_eq!(rt; heard(&rt, a, &mut tenant, b"d2:id1:12:op5:clo")?, 0);
-    expect_replies(&rt, &mut tenant, &[]);
+    expect_replies(&rt, &mut tenant.outbox, &[]);
     assert_eq!(rt; heard(&rt, a, &mut tenant, b"need2:op11:ls-sessionse")?, 2);
     expect_replies(
         &rt,
-        &mut tenant,
+        &mut tenant.outbox,
         &[
             CLONED,
             b"d8:sessionsl36:76b8e0ad-a0f1-4d90-805d-6ae55386bd28e6:statusl4:doneee",
@@ -39,7 +39,7 @@ d2:op5:clonee";
     assert_eq!(rt; heard(&rt, a, &mut tenant, messages)?, 6);
     expect_replies(
         &rt,
-        &mut tenant,
+        &mut tenant.outbox,
         &[
             CLONED,
             b"d7:session36:76b8e0ad-a0f1-4d90-805d-6ae55386bd286:statusl4:done11:interruptedee",
@@ -64,7 +64,7 @@ x";
     assert_eq!(rt; heard(&rt, a, &mut tenant, messages)?, 2);
     expect_replies(
         &rt,
-        &mut tenant,
+        &mut tenant.outbox,
         &[
             b"d2:op4:none6:statusl5:error10:unknown-op4:doneee",
             b"d6:statusl5:error9:malformed4:doneee",

@@ -1,6 +1,6 @@
 // A tenant that hears pieces. What is refused for want of memory is asked for once more: any one
 // refusal changes no answer.
-ghost use Rattle.std.specs.Prelude.{◌≡◌, []};
+ghost use Rattle.std.specs.Prelude.{◌≡◌, [], IfOk};
 ghost use Rattle.bencode_wire.specs.Decoder.{ready_of};
 ghost use Rattle.tenant_actors.specs.View.{actors_view};
 ghost use Rattle.tenant_hearing.specs.Holds.{AreSeated};
@@ -20,12 +20,13 @@ pub(crate) struct Tenant {
     pub(crate) sessions: Sessions,
     pub(crate) actors: Actors,
     pub(crate) outbox: Outbox,
-    ghost ready: { ready_of decoder ≡ [] },
-    ghost seated: { AreSeated sessions (actors_view actors) },
 }
 
 // Tenant 0 under the seed of 32 zeros.
-pub(crate) fn opened(alloc: Global) -> Result<Tenant, AllocError> {
+pub(crate) fn opened(alloc: Global) -> Result<Tenant, AllocError>
+    ensures ready { IfOk result (λ tenant. ready_of tenant.decoder ≡ []) }
+    ensures seated { IfOk result (λ tenant. AreSeated tenant.sessions (actors_view tenant.actors)) }
+{
     let actors = match Actors::new(alloc) {
         Ok(actors) => actors,
         Err(_refused) => Actors::new(alloc)?,
@@ -50,7 +51,12 @@ fn hear_once(
     alloc: Global,
     tenant: &mut Tenant,
     piece: &Bytes,
-) -> Result<usize, AllocError> {
+) -> Result<usize, AllocError>
+    requires ready { ready_of tenant.old.decoder ≡ [] }
+    requires seated { AreSeated tenant.old.sessions (actors_view tenant.old.actors) }
+    ensures ready { ready_of tenant.new.decoder ≡ [] }
+    ensures seated { AreSeated tenant.new.sessions (actors_view tenant.new.actors) }
+{
     assert!(rt; tenant.decoder.fault().is_none());
     hear(
         alloc,
@@ -68,7 +74,12 @@ pub(crate) fn heard(
     alloc: Global,
     tenant: &mut Tenant,
     bytes: &[u8],
-) -> Result<usize, AllocError> {
+) -> Result<usize, AllocError>
+    requires ready { ready_of tenant.old.decoder ≡ [] }
+    requires seated { AreSeated tenant.old.sessions (actors_view tenant.old.actors) }
+    ensures ready { ready_of tenant.new.decoder ≡ [] }
+    ensures seated { AreSeated tenant.new.sessions (actors_view tenant.new.actors) }
+{
     let piece = piece(alloc, bytes)?;
     match hear_once(rt, alloc, tenant, &piece) {
         Ok(count) => Ok(count),
@@ -77,13 +88,13 @@ pub(crate) fn heard(
 }
 
 // The replies that wait are these, in this order.
-pub(crate) fn expect_replies(rt: &impl Abort, tenant: &mut Tenant, wanted: &[&[u8]]) {
+pub(crate) fn expect_replies(rt: &impl Abort, outbox: &mut Outbox, wanted: &[&[u8]]) {
     for reply in wanted {
-        let waits = match tenant.outbox.take() {
+        let waits = match outbox.take() {
             Some(bytes) => bytes.as_slice() == *reply,
             None => false,
         };
         assert!(rt; waits);
     }
-    assert!(rt; tenant.outbox.take().is_none());
+    assert!(rt; outbox.take().is_none());
 }
