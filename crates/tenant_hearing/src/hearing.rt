@@ -38,6 +38,7 @@ pub fn hear(
         → Holds g t q sessions.old (actors_view actors.old) (waiting_bytes outbox.old)
         → IfOk result (λ count. IsHeard g t q piece.now count
         decoder.new sessions.new (actors_view actors.new) (waiting_bytes outbox.new)) }
+    ensures taken { ready_of decoder.new ≡ [] }
     ensures seated { AreSeated sessions.new (actors_view actors.new) }
     ensures stream_stays { (g : Ground) (bytes : List ℕ) → Reads g bytes decoder.old → OnErr result (Reads g bytes decoder.new) }
     ensures sessions_stay { OnErr result (sessions.new ≡ sessions.old) }

@@ -6,3 +6,4 @@ pub mod Answering
 pub mod Ends
 pub mod Wires
 pub mod Seating
+pub mod Heard

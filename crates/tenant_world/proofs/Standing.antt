@@ -207,3 +207,18 @@ pub refuses-so : {X : Type 0} (g : Ground) (t : ℕ) (q : Quiet) (deed : Outcome
 refuses-so g t q deed new why (Ok x) never told = tt
 refuses-so g t q deed new why (Err e) is told =
     subst (Refuses g t q deed new) (sym is) told
+
+pub stands-same : (g : Ground) (t : ℕ) (q : Quiet) (old new : Tenant)
+    → new.retries ≡ old.retries → new.steps ≡ old.steps → new.decoder ≡ old.decoder
+    → new.actors ≡ old.actors → new.memory ≡ old.memory → Stands g t old q → Stands g t new q
+stands-same g t q old new tries steps same put kept s =
+    let E : Decoder → Type 0 = λ d.
+        decoder.Stands message_limit d q.heard (g.readings.stream q.heard).messages in
+    record {
+      retries = tries ∙ s.retries;
+      names = s.names;
+      steps = steps ∙ s.steps;
+      stream = subst E (sym same) s.stream;
+      actors = ap actors_view put ∙ s.actors;
+      remembers = subst (λ m. Remembers g t m q) (sym kept) s.remembers;
+    }

@@ -5,6 +5,7 @@ mod acting;
 mod answers;
 mod asking;
 mod ending;
+mod hearing;
 mod memory;
 mod showing;
 mod starting;
