@@ -118,14 +118,16 @@ all_rest-or g q (t ∷ turns) =
 uses-step : (g : Ground) (q : Quiet) (actors : List Actor) → q.replies ≡ []
     → (AllRest g q (go_each actors) → ⊥) → (run g q (go_each actors)).steps < q.steps
 uses-step g q [] none on = absurd (on tt)
-uses-step g q (a ∷ actors) none on = by (step g q (goes a)) refl (go-steps g q a) where
+uses-step g q (a ∷ actors) none on =
+    by (step g q (goes a)) refl (go-steps g q a) (λ behind. uses-step g q actors none behind) where
   by : (s : Stepped) → step g q (goes a) ≡ s → StepsSo q s
+      → ((AllRest g q (go_each actors) → ⊥) → (run g q (go_each actors)).steps < q.steps)
       → (run g q (go_each (a ∷ actors))).steps < q.steps
-  by (accepted new bytes) is so =
-      let behind = gos-steps g (after g q (goes a)) actors in
+  by (accepted new bytes) is so behind =
+      let fewer = gos-steps g (after g q (goes a)) actors in
       let same : (after g q (goes a)).steps ≡ new.steps = ap (λ s. (quiet_or q s).steps) is in
       let one = so.0 in omega arith
-  by (refused why) is so = refused-by (held-or why) where
+  by (refused why) is so behind = refused-by (held-or why) where
     same : after g q (goes a) ≡ q
     same = ap (quiet_or q) is
     refused-by : (why ≡ Refusal.Held) ⊎ (why ≢ Refusal.Held)
@@ -133,7 +135,7 @@ uses-step g q (a ∷ actors) none on = by (step g q (goes a)) refl (go-steps g q
     refused-by (inl held) = absurd (held-waits q (so held) none)
     refused-by (inr other) =
         subst (λ v. (run g v (go_each actors)).steps < q.steps) (sym same)
-        (uses-step g q actors none (λ all. on (subst Rests (sym is) other,
+        (behind (λ all. on (subst Rests (sym is) other,
         subst (λ v. AllRest g v (go_each actors)) (sym same) all)))
 
 pub round-uses : (g : Ground) (q : Quiet) → q.replies ≡ [] → (IsLast g q → ⊥)
@@ -154,13 +156,18 @@ has-more g q on rounds = (round g q ++ rounds.0, more q rounds.0 on rounds.1)
 
 -- where no reply waits each round that goes on uses up a step
 quiet-rounds : (g : Ground) (n : ℕ) (q : Quiet) → q.steps ≤ n → q.replies ≡ [] → HasRounds g q
-quiet-rounds g n q few none = by n few (all_rest-or g q (go_each (actors_of q))) where
-  by : (n : ℕ) → q.steps ≤ n → IsLast g q ⊎ (IsLast g q → ⊥) → HasRounds g q
-  by n few (inl is) = (round g q, last q is)
-  by zero few (inr on) = let fewer = round-uses g q none on in absurd (omega arith)
-  by (suc n) few (inr on) =
-      let fewer = round-uses g q none on in
-      has-more g q on (quiet-rounds g n (run g q (round g q)) (omega arith) (round-empty g q))
+quiet-rounds g zero q few none = by (all_rest-or g q (go_each (actors_of q))) where
+  by : IsLast g q ⊎ (IsLast g q → ⊥) → HasRounds g q
+  by (inl is) = (round g q, last q is)
+  by (inr on) = let fewer = round-uses g q none on in absurd (omega arith)
+quiet-rounds g (suc n) q few none =
+    by (all_rest-or g q (go_each (actors_of q)))
+    (λ fewer. quiet-rounds g n (run g q (round g q)) fewer (round-empty g q)) where
+  by : IsLast g q ⊎ (IsLast g q → ⊥)
+      → ((run g q (round g q)).steps ≤ n → HasRounds g (run g q (round g q))) → HasRounds g q
+  by (inl is) behind = (round g q, last q is)
+  by (inr on) behind =
+      let fewer = round-uses g q none on in has-more g q on (behind (omega arith))
 
 pub rounds-exist : (g : Ground) (q : Quiet) → HasRounds g q
 rounds-exist g q = by (all_rest-or g q (go_each (actors_of q))) where

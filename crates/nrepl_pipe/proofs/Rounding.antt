@@ -105,14 +105,14 @@ worn-more g q turns a b front back = (λ is. to (or-true a b is), λ meets. true
   from : MeetsWorn g q (turns ++ round g now) → (a ≡ true) ⊎ (b ≡ true)
   from meets = by (meets-either g q turns (round g now) meets)
 
-makes-more : (g : Ground) (Old New : Quiet → Type 0) (q : Quiet) (turns more : List Turn)
+makes-more : (g : Ground) (Old New : Quiet → Type 0) (q : Quiet) (turns others : List Turn)
     (held holds grown : Option (List ℕ)) → Makes g Old q turns held holds
-    → Makes g New (run g q turns) more holds grown → Makes g New q (turns ++ more) held grown
-makes-more g Old New q turns more held holds grown front back = record {
-  appends = subst (Appends held grown) (sym (served-append g q turns more))
-      (Appends-trans held holds grown (served g q turns) (served g (run g q turns) more)
+    → Makes g New (run g q turns) others holds grown → Makes g New q (turns ++ others) held grown
+makes-more g Old New q turns others held holds grown front back = record {
+  appends = subst (Appends held grown) (sym (served-append g q turns others))
+      (Appends-trans held holds grown (served g q turns) (served g (run g q turns) others)
       front.appends back.appends);
-  stands = subst New (sym (run-append g q turns more)) back.stands;
+  stands = subst New (sym (run-append g q turns others)) back.stands;
 }
 
 pub rounds-more : (g : Ground) (Old New : Quiet → Type 0) (q : Quiet) (is_last is_worn : Bool)
