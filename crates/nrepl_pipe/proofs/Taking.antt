@@ -1,7 +1,6 @@
 -- The loop over the actors of a round.
 use Rattle.std.proofs.Common.{◌≡◌, ◌≢◌, ℕ, ◌+◌, ◌<◌, ◌≤◌, ◌⊎◌, inl, inr, List, [], ◌∷◌, ◌++◌}
 use Rattle.std.proofs.Common.{Bool, true, false, refl, sym, ap, ◌∙◌, subst, arith}
-use Rattle.std.proofs.Math.Nat.{eq-or-lt_of_le}
 use Rattle.std.specs.Prelude.{◌↔◌, ⊤}
 use Rattle.server_rules.specs.Ground.{Ground}
 use Rattle.server_rules.specs.Tenant.{Quiet}
@@ -156,11 +155,3 @@ turns-more g Old New q actors a told came start now later on most fewer uses is 
           (gone ∙ stays v came s is other ∙ before.0,
           waits q told came (step g q (goes a)) so is_here other before.1);
     }
-
-pub goes-on : (q : Quiet) (told : Round) (start now : ℕ) → now ≤ start
-    → (now ≡ start → told.is_last ≡ false → q.replies ≢ []) → told.is_last ≡ false
-    → (now < start) ⊎ (q.replies ≢ [])
-goes-on q told start now most untouched on = by (eq-or-lt_of_le most) where
-  by : (now ≡ start) ⊎ (now < start) → (now < start) ⊎ (q.replies ≢ [])
-  by (inl same) = inr (untouched same on)
-  by (inr fewer) = inl fewer

@@ -1,3 +1,4 @@
+use Rattle.std.proofs.Common.{◌≢◌, ℕ, ◌<◌, ◌⊎◌, [], sym, subst}
 use Rattle.nrepl_pipe.proofs.Growing.{on_err}
 use Rattle.nrepl_pipe.proofs.Rounding.{round-makes, round-stopped, round-broken}
 use Rattle.nrepl_pipe.proofs.rounds.run_round.Goals as goal
@@ -9,7 +10,9 @@ returns-in_err-write_replies-clause-err g c = λ h q right stands.
     (round-broken h q _ _ (c.in_err-write_replies.ensures.err h _ turned.1))
 
 pub returns-clause-goes_on : goal.returns-clause-goes_on
-returns-clause-goes_on g c = λ h q right stands. ?
+returns-clause-goes_on g c = λ h q right stands on.
+    subst (λ (steps : ℕ). (steps < (g.C.Core.left c.args.core.now).steps) ⊎ (q.replies ≢ []))
+    (sym c.in_ok-write_replies.ensures.steps) (c.in_ok-round.ensures.goes_on h q right stands on)
 
 pub returns-clause-ok : goal.returns-clause-ok
 returns-clause-ok g c = λ h q right stands.
