@@ -1,10 +1,13 @@
+pub mod Breaking
 pub mod Determined
 pub mod Draining
 pub mod EachRound
+pub mod Ending
 pub mod Going
 pub mod Growing
 pub mod Hearing
 pub mod Marking
 pub mod Rounding
+pub mod Serving
 pub mod Taking
 pub mod Turns

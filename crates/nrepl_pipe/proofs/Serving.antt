@@ -1,0 +1,150 @@
+-- The pieces served so far, and the schedule that they begin.
+use Rattle.std.proofs.Common.{◌≡◌, ◌≢◌, ℕ, inl, inr, List, [], ◌∷◌, ◌++◌, refl, sym, ap, ◌∙◌, subst}
+use Rattle.std.proofs.Common.{append_assoc, append-nil, Option, None}
+use Rattle.std.specs.Io.KnownBytes.{Consumes, Appends}
+use Rattle.std.proofs.KnownBytes.{Appends-nil, Appends-trans, Consumes-nil, Consumes-trans}
+use Rattle.bencode_wire.specs.Spelling.{joined}
+use Rattle.server_rules.specs.Ground.{Ground}
+use Rattle.server_rules.specs.Hearing.{stream_fault}
+use Rattle.server_rules.specs.Tenant.{Quiet}
+use Rattle.server_rules.specs.declared.refusal.Refusal.{Refusal}
+use Rattle.tenant_turns.specs.Grounds.{IsRight}
+use Rattle.tenant_turns.specs.Turns.{Turn, hears, refused, step, bytes_given, after, run, served}
+use Rattle.nrepl_pipe.specs.Schedule.{ArePieces, AreRounds, MeetsWorn, IsSchedule}
+use Rattle.nrepl_pipe.specs.Fresh.{IsFresh}
+use Rattle.nrepl_pipe.specs.Parts.{IsPiece, MakesRounds}
+use Rattle.nrepl_pipe.specs.declared.rounds.Rounds.{Rounds}
+use Rattle.nrepl_pipe.proofs.Turns.{run-append, served-append, meets-neither}
+use Rattle.nrepl_pipe.proofs.Hearing.{TakesIn, fresh-clean}
+use Rattle.nrepl_pipe.proofs.EachRound.{rounds-empty, rounds-heard}
+
+-- Pieces and schedules
+
+pub pieces-append : (pieces : List (List ℕ)) (piece : List ℕ) → ArePieces pieces → IsPiece piece
+    → ArePieces (pieces ++ piece ∷ [])
+pieces-append [] piece are is = (is.0, is.1, tt)
+pieces-append (p ∷ pieces) piece are is = (are.0, are.1, pieces-append pieces piece are.2 is)
+
+pub joined-append : (pieces : List (List ℕ)) (piece : List ℕ)
+    → joined (pieces ++ piece ∷ []) ≡ joined pieces ++ piece
+joined-append [] piece = append-nil piece
+joined-append (p ∷ pieces) piece =
+    ap (λ (bytes : List ℕ). p ++ bytes) (joined-append pieces piece)
+    ∙ sym (append_assoc p (joined pieces) piece)
+
+pub schedule-last : (g : Ground) (now : Quiet) (piece : List ℕ) (rounds : List Turn)
+    → AreRounds g (after g now (hears piece)) rounds
+    → IsSchedule g now (piece ∷ []) (hears piece ∷ rounds)
+schedule-last g now piece rounds are = (
+  rounds,
+  [],
+  are,
+  λ (some : [] ≢ []). absurd (some refl),
+  refl,
+  sym (append-nil (hears piece ∷ rounds)),
+)
+
+-- So far
+
+pub record Serving (g : Ground) (Stands : Quiet → Type 0) (q : Quiet)
+    (unread left held holds : Option (List ℕ)) : Type 0 where
+  pub pieces : List (List ℕ)
+  pub turns : List Turn
+  pub are_pieces : ArePieces pieces
+  pub consumes : Consumes unread left (joined pieces)
+  pub appends : Appends held holds (served g q turns)
+  pub stands : Stands (run g q turns)
+  pub never_worn : MeetsWorn g q turns → ⊥
+  pub no_fault : stream_fault g.readings (run g q turns).heard ≡ None
+  pub heard : (run g q turns).heard ≡ joined pieces
+  pub empty : (run g q turns).replies ≡ []
+  -- where the rest comes to from here, all comes to from the start
+  pub closes : (more : List (List ℕ)) (behind : List Turn) → IsSchedule g (run g q turns) more behind
+      → IsSchedule g q (pieces ++ more) (turns ++ behind)
+
+pub serving-none : (g : Ground) (Stands : Quiet → Type 0) (q : Quiet)
+    (unread held : Option (List ℕ)) → IsRight g → Stands q → IsFresh q
+    → Serving g Stands q unread unread held held
+serving-none g Stands q unread held right stands fresh = record {
+  pieces = [];
+  turns = [];
+  are_pieces = tt;
+  consumes = Consumes-nil unread;
+  appends = Appends-nil held;
+  stands = stands;
+  never_worn = λ never. never;
+  no_fault = fresh-clean g.readings q.heard right.readings fresh.0;
+  heard = fresh.0;
+  empty = fresh.1;
+  closes = λ more behind schedule. schedule;
+}
+
+-- One more piece
+
+pub consumes-more : (unread left less : Option (List ℕ)) (pieces : List (List ℕ)) (piece : List ℕ)
+    → Consumes unread left (joined pieces) → Consumes left less piece
+    → Consumes unread less (joined (pieces ++ piece ∷ []))
+consumes-more unread left less pieces piece first second =
+    subst (Consumes unread less) (sym (joined-append pieces piece))
+    (Consumes-trans unread left less (joined pieces) piece first second)
+
+pub served-heard : (g : Ground) (now : Quiet) (piece : List ℕ) (rounds : List Turn)
+    → bytes_given (step g now (hears piece)) ≡ []
+    → served g now (hears piece ∷ rounds) ≡ served g (after g now (hears piece)) rounds
+served-heard g now piece rounds gives =
+    ap (λ (bytes : List ℕ). bytes ++ served g (after g now (hears piece)) rounds) gives
+
+pub heard-never_worn : (g : Ground) (now : Quiet) (piece : List ℕ) (rounds : List Turn)
+    → step g now (hears piece) ≢ refused Refusal.Worn
+    → (MeetsWorn g (after g now (hears piece)) rounds → ⊥)
+    → MeetsWorn g now (hears piece ∷ rounds) → ⊥
+heard-never_worn g now piece rounds not_worn never (inl here) = not_worn here
+heard-never_worn g now piece rounds not_worn never (inr later) = never later
+
+pub serving-more : (g : Ground) (Old Mid New : Quiet → Type 0) (q : Quiet)
+    (unread left less held holds grown : Option (List ℕ)) (piece : List ℕ)
+    (on : Serving g Old q unread left held holds) → IsPiece piece → Consumes left less piece
+    → TakesIn g Mid (run g q on.turns) piece
+    → (made : MakesRounds g New (after g (run g q on.turns) (hears piece)) holds grown Rounds.Idle)
+    → stream_fault g.readings (run g (after g (run g q on.turns) (hears piece)) made.0).heard ≡ None
+    → Serving g New q unread less held grown
+serving-more g Old Mid New q unread left less held holds grown piece on is consumes taken made clean =
+    let now = run g q on.turns in
+    let then_on = after g now (hears piece) in
+    let rounds = made.0 in
+    let turns : List Turn = hears piece ∷ rounds in
+    let gone : run g q (on.turns ++ turns) ≡ run g then_on rounds = run-append g q on.turns turns in
+    let gives : served g q (on.turns ++ turns) ≡ served g q on.turns ++ served g then_on rounds =
+    served-append g q on.turns turns
+    ∙ ap (λ (bytes : List ℕ). served g q on.turns ++ bytes)
+    (served-heard g now piece rounds taken.gives) in
+    let never : MeetsWorn g now turns → ⊥ =
+    heard-never_worn g now piece rounds taken.not_worn made.3 in
+    record {
+      pieces = on.pieces ++ piece ∷ [];
+      turns = on.turns ++ turns;
+      are_pieces = pieces-append on.pieces piece on.are_pieces is;
+      consumes = consumes-more unread left less on.pieces piece on.consumes consumes;
+      appends = subst (Appends held grown) (sym gives)
+          (Appends-trans held holds grown (served g q on.turns) (served g then_on rounds)
+          on.appends made.2.appends);
+      stands = subst New (sym gone) made.2.stands;
+      never_worn = meets-neither g q on.turns turns on.never_worn never;
+      no_fault = ap (λ (v : Quiet). stream_fault g.readings v.heard) gone ∙ clean;
+      heard =
+          ap (λ (v : Quiet). v.heard) gone ∙ rounds-heard g then_on rounds made.1 ∙ taken.heard
+          ∙ ap (λ (bytes : List ℕ). bytes ++ piece) on.heard ∙ sym (joined-append on.pieces piece);
+      empty = ap (λ (v : Quiet). v.replies) gone ∙ rounds-empty g then_on rounds made.1;
+      closes = λ (more : List (List ℕ)) (behind : List Turn)
+          (schedule : IsSchedule g (run g q (on.turns ++ turns)) more behind).
+          let later : IsSchedule g (run g then_on rounds) more behind =
+          subst (λ (v : Quiet). IsSchedule g v more behind) gone schedule in
+          let all : IsSchedule g now (piece ∷ more) (turns ++ behind) =
+          (rounds, behind, made.1, λ (some : more ≢ []). (never, clean), later, refl) in
+          let whole : IsSchedule g q (on.pieces ++ piece ∷ more) (on.turns ++ (turns ++ behind)) =
+          on.closes (piece ∷ more) (turns ++ behind) all in
+          subst (λ (ps : List (List ℕ)). IsSchedule g q ps ((on.turns ++ turns) ++ behind))
+          (sym (append_assoc on.pieces (piece ∷ []) more))
+          (subst (IsSchedule g q (on.pieces ++ piece ∷ more))
+          (sym (append_assoc on.turns turns behind)) whole);
+    }
