@@ -1,10 +1,8 @@
 -- A piece that is heard, beside the rules' step.
-use Rattle.std.proofs.Common.{◌≡◌, ◌≢◌, ◌-◌, ◌==◌, ℕ, List, [], ◌∷◌, ◌++◌, Bool, true, false, length}
-use Rattle.std.proofs.Common.{Option, Some, None, Result, Ok, Err, refl, sym, ap, subst, ◌∙◌, suc}
+use Rattle.std.proofs.Common.{◌≡◌, ◌-◌, ◌==◌, ℕ, List, [], ◌∷◌, ◌++◌, Bool, true, false, length}
+use Rattle.std.proofs.Common.{Option, Some, None, Result, Ok, Err, refl, sym, ap, ◌∙◌}
 use Rattle.std.proofs.Common.{if◌then◌else◌}
 use Rattle.bencode_wire.specs.Tree.{Tree, integer, string, list, dictionary}
-use Rattle.bencode_wire.specs.Decoder.{ready_of, fault_of}
-use Rattle.bencode_wire.specs.declared.decoder.Decoder.{Decoder}
 use Rattle.bencode_wire.specs.declared.fault.WireFault.{WireFault}
 use Rattle.repl_sessions.specs.Named.{number_named}
 use Rattle.repl_replies.specs.Operations as operations
@@ -28,7 +26,7 @@ use Rattle.tenant_replies.specs.View.{waiting_bytes}
 use Rattle.tenant_hearing.specs.Heard.{IsHeard}
 use Rattle.tenant_turns.specs.NoRefs.{outcome}
 use Rattle.tenant_world.specs.declared.tenant.Tenant.{Tenant}
-use Rattle.tenant_world.specs.Standing.{Stands, Does, Refuses}
+use Rattle.tenant_world.specs.Standing.{Stands, Does}
 
 -- what messages leave as it was
 record Keeps (old new : Quiet) : Type 0 where

@@ -1,8 +1,8 @@
 -- All actors have lower seats than this, through changes.
 use Rattle.std.proofs.Common.{◌≡◌, ◌<◌, ◌==◌, ℕ, List, [], ◌∷◌, Bool, true, false, nat_lt, ◌&&◌}
-use Rattle.std.proofs.Common.{refl, sym, ap, subst, ◌∙◌, true≢false}
+use Rattle.std.proofs.Common.{refl, sym, ap, ◌∙◌, true≢false}
 use Rattle.std.proofs.lemmas.Bool.{eqb-true, ltb-true, lt-ltb}
-use Rattle.server_rules.specs.Numbered.{Entry, entry, replaced, without}
+use Rattle.server_rules.specs.Numbered.{Entry, replaced, without}
 use Rattle.server_rules.specs.Tenant.{ActorData, seat_of}
 use Rattle.server_rules.specs.declared.actor.Actor.{Actor}
 use Rattle.tenant_actors.specs.View.{AreBelow}

@@ -1,14 +1,14 @@
 -- The steps of an actor, beside the deeds of the tenant.
 use Rattle.std.proofs.Common.{◌≡◌, ◌<◌, ◌-◌, ◌==◌, ℕ, zero, suc, List, [], ◌∷◌, Bool, true, false}
 use Rattle.std.proofs.Common.{None, Some, refl, sym, ap, subst, ◌∙◌, if◌then◌else◌, arith}
-use Rattle.std.proofs.Common.{Result, Ok, Err, IfErr}
+use Rattle.std.proofs.Common.{◌≢◌, Result, Ok, Err, IfErr}
 use Rattle.std.specs.Result.{IsErrAnd}
 use Rattle.std.proofs.Math.Dec.{eqb-suc-zero}
-use Rattle.std.proofs.lemmas.Bool.{eqb-true}
+use Rattle.std.proofs.lemmas.Bool.{eqb-true, ne_eqb}
 use Rattle.bencode_wire.specs.Decoder as decoder
 use Rattle.bencode_wire.specs.declared.decoder.Decoder.{Decoder}
 use Rattle.repl_asks.specs.Exchange.{AskData}
-use Rattle.server_rules.specs.Numbered.{Entry, entry, found, replaced}
+use Rattle.server_rules.specs.Numbered.{Entry, entry, found, replaced, without}
 use Rattle.server_rules.specs.Ground.{Ground}
 use Rattle.server_rules.specs.Readings.{message_limit}
 use Rattle.server_rules.specs.Tenant.{ActorData, Quiet, seat_of}
@@ -19,7 +19,7 @@ use Rattle.server_rules.specs.Asking.{asked_of}
 use Rattle.server_rules.specs.Ending.{end_of}
 use Rattle.server_rules.specs.declared.actor.Actor.{Actor}
 use Rattle.server_rules.specs.declared.refusal.Refusal.{Refusal}
-use Rattle.tenant_actors.specs.View.{actors_view, AreBelow}
+use Rattle.tenant_actors.specs.View.{actors_view}
 use Rattle.tenant_actors.proofs.EntryLaws.{found_first, replaced_first, without_first, replaced-twice}
 use Rattle.tenant_actors.proofs.EntryLaws.{without-replaced}
 use Rattle.tenant_turns.specs.NoRefs.{outcome, carried_out}
@@ -27,7 +27,7 @@ use Rattle.tenant_world.specs.declared.memory.Memory.{Memory}
 use Rattle.tenant_world.specs.declared.tenant.Tenant.{Tenant}
 use Rattle.tenant_world.specs.Memories.{Remembers}
 use Rattle.tenant_world.specs.Acting.{Acted, Declined, left_by, is_interruption}
-use Rattle.tenant_world.specs.Standing.{Stands, Lends, Does, Refuses}
+use Rattle.tenant_world.specs.Standing.{Stands, Lends, DoesBy, Refuses}
 
 -- Deeds of an actor
 
@@ -103,6 +103,38 @@ replaced-same {A} n x (e ∷ es) there = by (λ h. replaced-same n x es h) (n ==
         ∙ ap (λ y. entry e.number y ∷ es) (sym here)
     by behind false apart h = ap (λ (l : List (Entry A)). e ∷ l) (behind h)
 
+-- another number finds what it found
+found-apart : {A : Type 0} (m n : ℕ) (x : A) (es : List (Entry A)) → m ≢ n
+    → found m (replaced n x es) ≡ found m es
+found-apart m n x [] apart = refl
+found-apart {A} m n x (e ∷ es) apart = by (found-apart m n x es apart) (n == e.number) refl
+  where
+    by : found m (replaced n x es) ≡ found m es → (b : Bool) → (n == e.number) ≡ b
+        → found m (replaced_first b n x e es) ≡ found_first (m == e.number) e.part (found m es)
+    by behind true same =
+        ap (λ (b : Bool). found_first b x (found m es)) (ne_eqb m n apart)
+        ∙ sym (ap (λ (b : Bool). found_first b e.part (found m es))
+        (ap (λ k. m == k) (sym (eqb-true n e.number same)) ∙ ne_eqb m n apart))
+    by behind false other = ap (λ it. found_first (m == e.number) e.part it) behind
+
+found-without : {A : Type 0} (m n : ℕ) (es : List (Entry A)) → m ≢ n
+    → found m (without n es) ≡ found m es
+found-without m n [] apart = refl
+found-without {A} m n (e ∷ es) apart = by (found-without m n es apart) (n == e.number) refl
+  where
+    by : found m (without n es) ≡ found m es → (b : Bool) → (n == e.number) ≡ b
+        → found m (without_first b e (without n es))
+        ≡ found_first (m == e.number) e.part (found m es)
+    by behind true same = behind
+        ∙ sym (ap (λ (b : Bool). found_first b e.part (found m es))
+        (ap (λ k. m == k) (sym (eqb-true n e.number same)) ∙ ne_eqb m n apart))
+    by behind false other = ap (λ it. found_first (m == e.number) e.part it) behind
+
+found-left : (gone : Bool) (a b : Actor) (x : ActorData) (es : List (Entry ActorData))
+    → seat_of b ≢ seat_of a → found (seat_of b) (left_by gone a x es) ≡ found (seat_of b) es
+found-left true a b x es apart = found-without (seat_of b) (seat_of a) es apart
+found-left false a b x es apart = found-apart (seat_of b) (seat_of a) x es apart
+
 -- The code
 
 pub settled : (g : Ground) (t : ℕ) (a : Actor) (old new : Tenant) (q after : Quiet) (b : Bool)
@@ -168,11 +200,13 @@ pub does-acted : (g : Ground) (t : ℕ) (a : Actor) (q : Quiet) (p : ActorData �
     → ((after : Quiet) → Remembers g t m after
     → after.actors ≡ left_by (is_interruption answer) a actor q.actors
     → after.steps ≡ q.steps → after.heard ≡ q.heard → Stands g t new (spent after))
-    → Does g t deed new answer
+    → DoesBy g t a q deed new answer
 does-acted g t a q p deed old_actor m actor answer new is some there acted settles = record {
   after = spent acted.after;
   accepted = is ∙ done-by q a p old_actor some there ∙ acted.accepted;
   stands = settles acted.after acted.remembers acted.actors acted.steps acted.heard;
+  others = λ b apart. ap (found (seat_of b)) acted.actors
+      ∙ found-left (is_interruption answer) a b actor q.actors apart;
 }
 
 pub refuses-declined : (g : Ground) (t : ℕ) (a : Actor) (q : Quiet) (p : ActorData → Plan)

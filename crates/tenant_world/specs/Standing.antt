@@ -3,7 +3,7 @@ use Rattle.std.specs.Prelude.{◌≡◌, ◌≢◌, ℕ, List}
 use Rattle.bencode_wire.specs.Decoder as decoder
 use Rattle.server_rules.specs.Ground.{Ground}
 use Rattle.server_rules.specs.Readings.{message_limit}
-use Rattle.server_rules.specs.Numbered.{replaced}
+use Rattle.server_rules.specs.Numbered.{found, replaced}
 use Rattle.server_rules.specs.Tenant.{ActorData, Quiet, seat_of}
 use Rattle.server_rules.specs.Plan.{StepAnswer, Outcome, refuses, leaves}
 use Rattle.server_rules.specs.declared.actor.Actor.{Actor}
@@ -39,6 +39,15 @@ pub record Does (g : Ground) (t : ℕ) (outcome : Outcome) (code : Tenant) (answ
   pub after : Quiet
   pub accepted : outcome ≡ leaves after answer
   pub stands : Stands g t code after
+
+-- the deed of an actor, which leaves every other actor as it was
+pub record DoesBy (g : Ground) (t : ℕ) (a : Actor) (q : Quiet) (outcome : Outcome) (code : Tenant)
+    (answer : StepAnswer) : Type 0 where
+  pub after : Quiet
+  pub accepted : outcome ≡ leaves after answer
+  pub stands : Stands g t code after
+  pub others : (b : Actor) → seat_of b ≢ seat_of a
+      → found (seat_of b) after.actors ≡ found (seat_of b) q.actors
 
 -- the deed is refused so, unless for want of memory, and the code stands for the tenant as it was
 pub record Refuses (g : Ground) (t : ℕ) (q : Quiet) (outcome : Outcome) (code : Tenant)

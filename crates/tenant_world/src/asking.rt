@@ -1,5 +1,5 @@
 // A form asks.
-ghost use Rattle.std.specs.Prelude.{◌≡◌, ℕ, true, Some, IfOk, OnOk, IfErr, OnErr};
+ghost use Rattle.std.specs.Prelude.{◌≡◌, ℕ, true, Some, IfOk, OnOk, IfErr, OnErr, ◌<◌, length, Err};
 ghost use Rattle.value_data.specs.View.{view};
 ghost use Rattle.repl_asks.specs.Exchange.{Exchanged, done};
 ghost use Rattle.repl_asks.specs.View.{ask_view, answer_view, exchange_view, resolution_view};
@@ -13,6 +13,7 @@ ghost use Rattle.server_rules.specs.Asking.{asked_of, answered, answer_to, space
 ghost use Rattle.server_rules.specs.Asking as meant;
 ghost use Rattle.tenant_actors.specs.View.{actor_view, hand_view, run_view};
 ghost use Rattle.tenant_turns.specs.NoRefs.{carried_out};
+ghost use Rattle.tenant_replies.specs.View.{waiting_bytes};
 ghost use Rattle.tenant_world.specs.Memories.{Remembers, opened_by};
 ghost use Rattle.tenant_world.specs.Answers.{asked_view};
 ghost use Rattle.tenant_world.specs.Acting.{Acted, Declined};
@@ -48,6 +49,7 @@ pub(crate) fn ask(
         (actor_view state.old).hand)) memory.new) }
     ensures stays { OnErr result (actor_view state.new ≡ actor_view state.old) }
     ensures opened { opened_by memory.new ≡ opened_by memory.old }
+    ensures held { result ≡ Err Refusal.Held → 0 < length (waiting_bytes memory.old.outbox) }
 {
     let Some(hand) = &state.hand else {
         return Err(Refusal::Idle);

@@ -1,5 +1,6 @@
 // The steps of a tenant's actors.
-ghost use Rattle.std.specs.Prelude.{◌≡◌, ◌+◌, ◌<◌, ℕ, Some, IfOk, OnOk, IfErr, OnErr};
+ghost use Rattle.std.specs.Prelude.{◌≡◌, ◌≢◌, ◌+◌, ◌<◌, ℕ, Some, Err, length, IfOk, OnOk};
+ghost use Rattle.std.specs.Prelude.{IfErr, OnErr};
 ghost use Rattle.repl_asks.specs.View.{ask_view};
 ghost use Rattle.server_rules.specs.Ground.{Ground};
 ghost use Rattle.server_rules.specs.Tenant.{ActorData, Quiet, seat_of};
@@ -24,17 +25,19 @@ use server_rules::{Actor, Refusal};
 use tenant_actors::{ActorState, Actors};
 
 impl Tenant {
-    ghost use Rattle.tenant_world.specs.Standing.{Stands, Lends, Does, Refuses};
+    ghost use Rattle.tenant_world.specs.Standing.{Stands, Lends, Refuses, replies_of};
+    ghost use Rattle.tenant_world.specs.Standing.{DoesBy};
 
     /// The actor begins its next form, or takes up its next request.
     pub fn start(&mut self, actor: Actor) -> Result<Started, Refusal>
         ensures done { (g : Ground) (t : ℕ) (q : Quiet) → IsRight g → Stands g t self.old q
-            → IfOk result (λ s. Does g t (outcome g t q (deeds.starts actor)) self.new
-            (started_view s)) }
+            → IfOk result (λ s. DoesBy g t actor q (outcome g t q (deeds.starts actor))
+            self.new (started_view s)) }
         ensures refused { (g : Ground) (t : ℕ) (q : Quiet) → IsRight g → Stands g t self.old q
             → IfErr result (Refuses g t q (outcome g t q (deeds.starts actor)) self.new) }
         ensures steps { OnOk result (self.old.steps ≡ self.new.steps + 1) }
         ensures kept { OnErr result (self.new.steps ≡ self.old.steps) }
+        ensures held { result ≡ Err Refusal.Held → 0 < length (replies_of self.old) }
     {
         let mut state = self.lend(actor)?;
         match start(self.alloc, &mut self.memory, self.retries, actor, &mut state) {
@@ -52,13 +55,15 @@ impl Tenant {
     /// The form of the actor that runs asks this. The answer is kept with its ask.
     pub fn answer(&mut self, actor: Actor, asked: &Ask) -> Result<Asked, Refusal>
         ensures done { (g : Ground) (t : ℕ) (q : Quiet) → IsRight g → Stands g t self.old q
-            → IfOk result (λ s. Does g t (outcome g t q (deeds.asks_for actor (ask_view asked.now)))
+            → IfOk result (λ s. DoesBy g t actor q
+            (outcome g t q (deeds.asks_for actor (ask_view asked.now)))
             self.new (asked_view s)) }
         ensures refused { (g : Ground) (t : ℕ) (q : Quiet) → IsRight g → Stands g t self.old q
             → IfErr result (Refuses g t q (outcome g t q (deeds.asks_for actor (ask_view asked.now)))
             self.new) }
         ensures steps { OnOk result (self.old.steps ≡ self.new.steps + 1) }
         ensures kept { OnErr result (self.new.steps ≡ self.old.steps) }
+        ensures held { result ≡ Err Refusal.Held → 0 < length (replies_of self.old) }
     {
         let mut state = self.lend(actor)?;
         match ask(self.alloc, &mut self.memory, actor, &mut state, asked) {
@@ -76,13 +81,15 @@ impl Tenant {
     /// The form of the actor that runs has ended so.
     pub fn end_form(&mut self, actor: Actor, ending: &Ending<'_>) -> Result<Ended, Refusal>
         ensures done { (g : Ground) (t : ℕ) (q : Quiet) → IsRight g → Stands g t self.old q
-            → IfOk result (λ s. Does g t (outcome g t q (deeds.ends actor (ending_view ending.now)))
+            → IfOk result (λ s. DoesBy g t actor q
+            (outcome g t q (deeds.ends actor (ending_view ending.now)))
             self.new (ended_view s)) }
         ensures refused { (g : Ground) (t : ℕ) (q : Quiet) → IsRight g → Stands g t self.old q
             → IfErr result (Refuses g t q (outcome g t q (deeds.ends actor (ending_view ending.now)))
             self.new) }
         ensures steps { OnOk result (self.old.steps ≡ self.new.steps + 1) }
         ensures kept { OnErr result (self.new.steps ≡ self.old.steps) }
+        ensures held { result ≡ Err Refusal.Held → 0 < length (replies_of self.old) }
     {
         let mut state = self.lend(actor)?;
         match end(self.alloc, &mut self.memory, actor, &mut state, ending) {
@@ -109,6 +116,8 @@ impl Tenant {
             → Stands g t self.old q → IfErr result (λ why. Refuses g t q
             (carried_out (unless_worn q (for_actor (found (seat_of actor) q.actors) p)))
             self.new why) }
+        ensures held { result ≢ Err Refusal.Held }
+        ensures replies { replies_of self.new ≡ replies_of self.old }
     {
         if self.steps == 0 {
             return Err(Refusal::Worn);

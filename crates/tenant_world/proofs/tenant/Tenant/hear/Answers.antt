@@ -1,8 +1,7 @@
-use Rattle.std.proofs.Common.{◌≡◌, ◌∙◌, ◌==◌, Bool, None, Some, length, refl, sym, ap}
+use Rattle.std.proofs.Common.{◌∙◌, length, refl, sym, ap}
 use Rattle.std.proofs.lemmas.Bool.{eq-eqb}
 use Rattle.bencode_wire.specs.Decoder.{ready_of}
 use Rattle.server_rules.specs.Hearing.{stream_fault, hears_more}
-use Rattle.server_rules.specs.Tenant.{is_held}
 use Rattle.tenant_hearing.specs.Holds.{Holds}
 use Rattle.tenant_hearing.specs.Reads.{Reads}
 use Rattle.tenant_world.proofs.Remembering.{held-so}
