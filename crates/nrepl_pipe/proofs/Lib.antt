@@ -7,6 +7,7 @@ pub mod Going
 pub mod Growing
 pub mod Hearing
 pub mod Marking
+pub mod Outcomes
 pub mod Rounding
 pub mod Serving
 pub mod Taking

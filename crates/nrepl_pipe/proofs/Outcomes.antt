@@ -1,0 +1,15 @@
+-- The outcome where the result is an error.
+use Rattle.std.proofs.Common.{ℕ, List, Option, Result, Ok, Err}
+use Rattle.std.specs.Prelude.{IsErr}
+use Rattle.server_rules.specs.Ground.{Ground}
+use Rattle.server_rules.specs.Tenant.{Quiet}
+use Rattle.nrepl_pipe.specs.Served.{Moves, BeginsToServe, Outcome}
+use Rattle.nrepl_pipe.specs.declared.ends.PipeEnd.{PipeEnd}
+use Rattle.nrepl_pipe.specs.declared.ends.PipeError.{PipeError}
+
+pub outcome-err : (g : Ground) (q : Quiet) (unread left held holds : Option (List ℕ))
+    (result : Result PipeEnd PipeError) → IsErr result
+    → Moves unread left held holds (λ read written. BeginsToServe g q read written)
+    → Outcome g q unread left held holds result
+outcome-err g q unread left held holds (Ok end) is begins = cc
+outcome-err g q unread left held holds (Err error) is begins = begins
