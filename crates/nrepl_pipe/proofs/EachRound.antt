@@ -1,13 +1,12 @@
 -- One round, and that each tenant has rounds.
-use Rattle.std.proofs.Common.{◌≡◌, ◌≢◌, ℕ, zero, suc, ◌+◌, ◌<◌, ◌≤◌, ◌⊎◌, inl, inr, List, [], ◌∷◌}
+use Rattle.std.proofs.Common.{◌≡◌, ◌≢◌, ℕ, zero, suc, ◌<◌, ◌≤◌, ◌⊎◌, inl, inr, List, [], ◌∷◌}
 use Rattle.std.proofs.Common.{◌++◌, ◌==◌, true, false, refl, sym, ap, ◌∙◌, subst, append-nil, le_refl, arith}
-use Rattle.repl_replies.specs.Replies.{ReplyData}
 use Rattle.server_rules.specs.Ground.{Ground}
 use Rattle.server_rules.specs.Tenant.{Quiet, is_held}
 use Rattle.server_rules.specs.declared.actor.Actor.{Actor}
 use Rattle.server_rules.specs.declared.refusal.Refusal.{Refusal}
 use Rattle.tenant_turns.specs.Turns.{Turn, goes, Stepped, accepted, refused, step, quiet_or}
-use Rattle.tenant_turns.specs.Turns.{bytes_given, after, run, served, actors_of}
+use Rattle.tenant_turns.specs.Turns.{after, run, served, actors_of}
 use Rattle.nrepl_pipe.specs.Schedule.{go_each, drain_all, round, Rests, AllRest, IsLast}
 use Rattle.nrepl_pipe.specs.Schedule.{AreRounds, last, more, MeetsWorn}
 use Rattle.nrepl_pipe.proofs.Turns.{run-append, served-append, meets-front, meets-either}
@@ -107,12 +106,12 @@ all_rest-or : (g : Ground) (q : Quiet) (turns : List Turn)
 all_rest-or g q [] = inl tt
 all_rest-or g q (t ∷ turns) =
     by (rests-or (step g q t)) (all_rest-or g (after g q t) turns) where
-  by : Rests (step g q t) ⊎ (Rests (step g q t) → ⊥)
-      → AllRest g (after g q t) turns ⊎ (AllRest g (after g q t) turns → ⊥)
-      → AllRest g q (t ∷ turns) ⊎ (AllRest g q (t ∷ turns) → ⊥)
-  by (inl here) (inl later) = inl (here, later)
-  by (inl here) (inr other) = inr (λ all. other all.1)
-  by (inr other) later = inr (λ all. other all.0)
+      by : Rests (step g q t) ⊎ (Rests (step g q t) → ⊥)
+          → AllRest g (after g q t) turns ⊎ (AllRest g (after g q t) turns → ⊥)
+          → AllRest g q (t ∷ turns) ⊎ (AllRest g q (t ∷ turns) → ⊥)
+      by (inl here) (inl later) = inl (here, later)
+      by (inl here) (inr other) = inr (λ all. other all.1)
+      by (inr other) later = inr (λ all. other all.0)
 
 -- where no reply waits, actors of whom one goes on use up a step
 uses-step : (g : Ground) (q : Quiet) (actors : List Actor) → q.replies ≡ []
@@ -120,23 +119,26 @@ uses-step : (g : Ground) (q : Quiet) (actors : List Actor) → q.replies ≡ []
 uses-step g q [] none on = absurd (on tt)
 uses-step g q (a ∷ actors) none on =
     by (step g q (goes a)) refl (go-steps g q a) (λ behind. uses-step g q actors none behind) where
-  by : (s : Stepped) → step g q (goes a) ≡ s → StepsSo q s
-      → ((AllRest g q (go_each actors) → ⊥) → (run g q (go_each actors)).steps < q.steps)
-      → (run g q (go_each (a ∷ actors))).steps < q.steps
-  by (accepted new bytes) is so behind =
-      let fewer = gos-steps g (after g q (goes a)) actors in
-      let same : (after g q (goes a)).steps ≡ new.steps = ap (λ s. (quiet_or q s).steps) is in
-      let one = so.0 in omega arith
-  by (refused why) is so behind = refused-by (held-or why) where
-    same : after g q (goes a) ≡ q
-    same = ap (quiet_or q) is
-    refused-by : (why ≡ Refusal.Held) ⊎ (why ≢ Refusal.Held)
-        → (run g q (go_each (a ∷ actors))).steps < q.steps
-    refused-by (inl held) = absurd (held-waits q (so held) none)
-    refused-by (inr other) =
-        subst (λ v. (run g v (go_each actors)).steps < q.steps) (sym same)
-        (behind (λ all. on (subst Rests (sym is) other,
-        subst (λ v. AllRest g v (go_each actors)) (sym same) all)))
+      by : (s : Stepped) → step g q (goes a) ≡ s → StepsSo q s
+          → ((AllRest g q (go_each actors) → ⊥) → (run g q (go_each actors)).steps < q.steps)
+          → (run g q (go_each (a ∷ actors))).steps < q.steps
+      by (accepted new bytes) is so behind =
+          let fewer = gos-steps g (after g q (goes a)) actors in
+          let same : (after g q (goes a)).steps ≡ new.steps = ap (λ s. (quiet_or q s).steps) is in
+          let one = so.0 in omega arith
+      by (refused why) is so behind = refused-by (held-or why) where
+        same : after g q (goes a) ≡ q
+        same = ap (quiet_or q) is
+
+        refused-by : (why ≡ Refusal.Held) ⊎ (why ≢ Refusal.Held)
+            → (run g q (go_each (a ∷ actors))).steps < q.steps
+        refused-by (inl held) = absurd (held-waits q (so held) none)
+        refused-by (inr other) =
+            subst (λ v. (run g v (go_each actors)).steps < q.steps) (sym same)
+            (behind (λ all. on (
+              subst Rests (sym is) other,
+              subst (λ v. AllRest g v (go_each actors)) (sym same) all,
+            )))
 
 pub round-uses : (g : Ground) (q : Quiet) → q.replies ≡ [] → (IsLast g q → ⊥)
     → (run g q (round g q)).steps < q.steps
@@ -163,11 +165,11 @@ quiet-rounds g zero q few none = by (all_rest-or g q (go_each (actors_of q))) wh
 quiet-rounds g (suc n) q few none =
     by (all_rest-or g q (go_each (actors_of q)))
     (λ fewer. quiet-rounds g n (run g q (round g q)) fewer (round-empty g q)) where
-  by : IsLast g q ⊎ (IsLast g q → ⊥)
-      → ((run g q (round g q)).steps ≤ n → HasRounds g (run g q (round g q))) → HasRounds g q
-  by (inl is) behind = (round g q, last q is)
-  by (inr on) behind =
-      let fewer = round-uses g q none on in has-more g q on (behind (omega arith))
+      by : IsLast g q ⊎ (IsLast g q → ⊥)
+          → ((run g q (round g q)).steps ≤ n → HasRounds g (run g q (round g q))) → HasRounds g q
+      by (inl is) behind = (round g q, last q is)
+      by (inr on) behind =
+          let fewer = round-uses g q none on in has-more g q on (behind (omega arith))
 
 pub rounds-exist : (g : Ground) (q : Quiet) → HasRounds g q
 rounds-exist g q = by (all_rest-or g q (go_each (actors_of q))) where

@@ -18,7 +18,7 @@ use Rattle.server_rules.specs.Request.{Waiting, ProgramText, code, file, Manner,
 use Rattle.server_rules.specs.Request.{each_form, each_form_elsewhere, last_form}
 use Rattle.server_rules.specs.Tenant.{ActorData, seat_of, Quiet, is_held, state_of}
 use Rattle.server_rules.specs.Calls.{gives_up}
-use Rattle.server_rules.specs.Plan.{EndingData, Deed, starts, asks_for, ends, hears, drains}
+use Rattle.server_rules.specs.Plan.{EndingData, Deed, starts, asks_for, ends}
 use Rattle.server_rules.specs.Plan.{Outcome, refuses, leaves, form_finished, Plan, quietly, spent}
 use Rattle.server_rules.specs.Moves.{Move, form_ended}
 use Rattle.server_rules.specs.Starting.{Started, next_begun, program_begun, elsewhere_begun, hand_of}

@@ -16,9 +16,9 @@ use Rattle.server_rules.specs.Request.{Waiting, ProgramText, code, file}
 use Rattle.server_rules.specs.Tenant.{ActorData, seat_of, Quiet, is_held}
 use Rattle.server_rules.specs.Hearing.{fault_in, stream_fault, with_messages, new_messages}
 use Rattle.server_rules.specs.Hearing.{taken_in, hears_more, hearing}
-use Rattle.server_rules.specs.Operating.{named_sessions, closed_by, with_close, asker, queued_for}
+use Rattle.server_rules.specs.Operating.{named_sessions, closed_by, asker, queued_for}
 use Rattle.server_rules.specs.Operating.{queued, operated, with_asked, with_message}
-use Rattle.server_rules.specs.Plan.{Outcome, refuses, leaves, quietly, spent}
+use Rattle.server_rules.specs.Plan.{Outcome, refuses, leaves}
 use Rattle.server_rules.specs.Turns.{bytes_in}
 use Rattle.server_rules.specs.declared.actor.Actor.{Actor}
 use Rattle.server_rules.specs.declared.refusal.Refusal.{Refusal}

@@ -13,7 +13,7 @@ use Rattle.nrepl_pipe.specs.Parts.{IsRound, Makes, Begins, MakesRounds, BeginsRo
 use Rattle.nrepl_pipe.specs.declared.rounds.Round.{Round}
 use Rattle.nrepl_pipe.specs.declared.rounds.Rounds.{Rounds}
 use Rattle.nrepl_pipe.proofs.Turns.{run-append, served-append, meets-front, meets-behind, meets-either}
-use Rattle.nrepl_pipe.proofs.EachRound.{gone, run-round, round-empty, served-round, round-meets}
+use Rattle.nrepl_pipe.proofs.EachRound.{gone, round-empty, served-round, round-meets}
 use Rattle.nrepl_pipe.proofs.EachRound.{round-meets_by, rounds-exist, rounds-front}
 
 -- One round
@@ -96,12 +96,15 @@ worn-more : (g : Ground) (q : Quiet) (turns : List Turn) (a b : Bool)
 worn-more g q turns a b front back = (λ is. to (or-true a b is), λ meets. true-or a b (from meets)) where
   now : Quiet
   now = run g q turns
+
   to : (a ≡ true) ⊎ (b ≡ true) → MeetsWorn g q (turns ++ round g now)
   to (inl is) = meets-front g q turns (round g now) (front.0 is)
   to (inr is) = meets-behind g q turns (round g now) (round-meets g now (back.0 is))
+
   by : MeetsWorn g q turns ⊎ MeetsWorn g now (round g now) → (a ≡ true) ⊎ (b ≡ true)
   by (inl meets) = inl (front.1 meets)
   by (inr meets) = inr (back.1 (round-meets_by g now meets))
+
   from : MeetsWorn g q (turns ++ round g now) → (a ≡ true) ⊎ (b ≡ true)
   from meets = by (meets-either g q turns (round g now) meets)
 
@@ -150,9 +153,12 @@ rounds-worn g Stands q is_last is_worn held holds on end is =
 pub rounds-idle : (g : Ground) (Stands : Quiet → Type 0) (q : Quiet) (is_last is_worn : Bool)
     (held holds : Option (List ℕ)) → RoundsOn g Stands q is_last is_worn held holds
     → is_last ≡ true → is_worn ≡ false → MakesRounds g Stands q held holds Rounds.Idle
-rounds-idle g Stands q is_last is_worn held holds on end is =
-    (on.turns, on.ends end, on.makes,
-    λ meets. let both : true ≡ false = sym (on.worn.1 meets) ∙ is in cc)
+rounds-idle g Stands q is_last is_worn held holds on end is = (
+  on.turns,
+  on.ends end,
+  on.makes,
+  λ meets. let both : true ≡ false = sym (on.worn.1 meets) ∙ is in cc,
+)
 
 -- After an error
 

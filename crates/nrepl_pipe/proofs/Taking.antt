@@ -1,5 +1,5 @@
 -- The loop over the actors of a round.
-use Rattle.std.proofs.Common.{◌≡◌, ◌≢◌, ℕ, ◌+◌, ◌<◌, ◌≤◌, ◌⊎◌, inl, inr, List, [], ◌∷◌, ◌++◌}
+use Rattle.std.proofs.Common.{◌≡◌, ◌≢◌, ℕ, ◌+◌, ◌≤◌, ◌⊎◌, inl, inr, List, [], ◌∷◌, ◌++◌}
 use Rattle.std.proofs.Common.{Bool, true, false, refl, sym, ap, ◌∙◌, subst, arith}
 use Rattle.std.specs.Prelude.{◌↔◌, ⊤}
 use Rattle.server_rules.specs.Ground.{Ground}
@@ -151,7 +151,8 @@ turns-more g Old New q actors a told came start now later on most fewer uses is 
           let before = on.untouched none in
           let so : StepsSo q (step g q (goes a)) = go-steps g q a in
           let is_here : TurnsSo came (step g q (goes a)) =
-          subst (λ u. TurnsSo came (step g u (goes a))) before.0 is in
-          (gone ∙ stays v came s is other ∙ before.0,
-          waits q told came (step g q (goes a)) so is_here other before.1);
+          subst (λ u. TurnsSo came (step g u (goes a))) before.0 is in (
+            gone ∙ stays v came s is other ∙ before.0,
+            waits q told came (step g q (goes a)) so is_here other before.1,
+          );
     }

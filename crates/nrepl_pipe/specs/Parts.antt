@@ -5,7 +5,7 @@ use Rattle.std.specs.Io.KnownBytes.{Consumes, Appends}
 use Rattle.server_rules.specs.Ground.{Ground}
 use Rattle.server_rules.specs.Tenant.{Quiet}
 use Rattle.server_rules.specs.declared.refusal.Refusal.{Refusal}
-use Rattle.tenant_turns.specs.Turns.{Turn, Stepped, accepted, refused, run, served}
+use Rattle.tenant_turns.specs.Turns.{Turn, Stepped, refused, run, served}
 use Rattle.tenant_turns.specs.Turned.{Accepted}
 use Rattle.nrepl_pipe.specs.Schedule.{Rests, AllRest, AreRounds, MeetsWorn}
 use Rattle.nrepl_pipe.specs.declared.stream.Heard.{Heard}

@@ -12,10 +12,7 @@ use crate::ports::Sink;
 use tenant_turns::Core;
 
 // Takes the replies out, and writes each at once.
-pub(crate) fn write_replies<C: Core, W: Sink>(
-    core: &mut C,
-    writer: &mut W,
-) -> Result<(), PipeError>
+pub(crate) fn write_replies<C: Core, W: Sink>(core: &mut C, writer: &mut W) -> Result<(), PipeError>
     ensures steps { (C.left core.new).steps ≡ (C.left core.old).steps }
     ensures ok { (g : Ground) (q : Quiet) → C.stands g core.old q
         → OnOk result (Makes g (C.stands g core.new) q (drain_all q.replies)

@@ -106,7 +106,10 @@ fn take_turns<C: Core>(alloc: Global, core: &mut C) -> Result<Round, PipeError>
     ensures told { IfErr result (λ why. why ≡ PipeError.NoMemory) }
 {
     let actors = core.actors(alloc)?;
-    let mut round = Round { is_last: true, is_worn: false };
+    let mut round = Round {
+        is_last: true,
+        is_worn: false,
+    };
     for actor in &actors {
         round = round.with(take_turn(core, *actor)?);
     }
@@ -119,8 +122,14 @@ impl Round {
         ensures { result ≡ with_turn self turned }
     {
         match turned {
-            Turned::Done | Turned::Held => Round { is_last: false, ..self },
-            Turned::Worn => Round { is_worn: true, ..self },
+            Turned::Done | Turned::Held => Round {
+                is_last: false,
+                ..self
+            },
+            Turned::Worn => Round {
+                is_worn: true,
+                ..self
+            },
             Turned::Idle => self,
         }
     }

@@ -17,7 +17,9 @@ pub returns-in_err-write_reply-clause-err : goal.returns-in_err-write_reply-clau
 returns-in_err-write_reply-clause-err g c = λ h q stands.
     let d = c.loop-reply.invariant.drains h q stands in
     let broken = c.in_err-write_reply.ensures.err in
-    on_err c.from_residual.result (drains-broken h _ _ q _ _ _ _ broken.0 broken.1 d (c.in-Some.ensures.drained h d.now d.stands) (sym c.as_slice.ensures.value ∙ broken.2) broken.3)
+    on_err c.from_residual.result
+    (drains-broken h _ _ q _ _ _ _ broken.0 broken.1 d (c.in-Some.ensures.drained h d.now d.stands)
+    (sym c.as_slice.ensures.value ∙ broken.2) broken.3)
 
 pub loop-reply-preserved : goal.loop-reply-preserved
 loop-reply-preserved g c = record {
@@ -33,4 +35,6 @@ pub returns-clause-ok : goal.returns-clause-ok
 returns-clause-ok g c = λ h q stands.
     let d = c.loop-reply.invariant.drains h q stands in
     let none = c.in_default.ensures.drained h d.now d.stands in
-    drains-all h _ _ q _ _ Refusal.Idle d none.0 none.1
+    drains-all h (g.C.Core.stands h c.loop-reply.core) (g.C.Core.stands h c.drain.new.self) q
+    (g.W.Sink.contents c.args.writer.now) (g.W.Sink.contents c.loop-reply.writer) Refusal.Idle d
+    none.0 none.1

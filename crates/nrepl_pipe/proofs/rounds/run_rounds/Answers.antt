@@ -1,7 +1,7 @@
-use Rattle.std.proofs.Common.{le_refl, rules}
+use Rattle.std.proofs.Common.{rules}
 use Rattle.tenant_turns.specs.Turns.{run}
 use Rattle.nrepl_pipe.proofs.Growing.{on_err}
-use Rattle.nrepl_pipe.proofs.Marking.{marks-none, marks-behind}
+use Rattle.nrepl_pipe.proofs.Marking.{marks-behind}
 use Rattle.nrepl_pipe.proofs.Rounding.{rounds-first, rounds-more, rounds-worn, rounds-idle}
 use Rattle.nrepl_pipe.proofs.Rounding.{rounds-begun, rounds-broken}
 use Rattle.nrepl_pipe.proofs.rounds.run_rounds.Goals as goal

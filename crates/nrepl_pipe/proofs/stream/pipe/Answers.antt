@@ -27,9 +27,10 @@ returns-in_err-piece-clause-served g c = λ h q right stands fresh.
 pub returns-in_default-clause-served : goal.returns-in_default-clause-served
 returns-in_default-clause-served g c = λ h q right stands fresh.
     let on = c.loop-piece.invariant.serving h q right stands fresh in
-    let none = rw c.in_default.is at c.in_ok-piece.ensures.ok in
-    (serves-all h _ q _ _ _ _ _ c.end_of.result on none.0 (c.end_of.ensures h _ on.stands),
-    read-up c.end_of.result _ none.1)
+    let none = rw c.in_default.is at c.in_ok-piece.ensures.ok in (
+      serves-all h _ q _ _ _ _ _ c.end_of.result on none.0 (c.end_of.ensures h _ on.stands),
+      read-up c.end_of.result _ none.1,
+    )
 
 pub returns-in_err-take_piece-clause-served : goal.returns-in_err-take_piece-clause-served
 returns-in_err-take_piece-clause-served g c = λ h q right stands fresh.

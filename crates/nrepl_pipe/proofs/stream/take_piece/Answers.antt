@@ -1,5 +1,4 @@
-use Rattle.std.proofs.Common.{◌≡◌, ◌≢◌, rules}
-use Rattle.tenant_turns.specs.Turns.{hears, step, refused}
+use Rattle.std.proofs.Common.{◌≢◌, rules}
 use Rattle.server_rules.specs.declared.refusal.Refusal.{Refusal}
 use Rattle.nrepl_pipe.proofs.Hearing.{refused-worn}
 use Rattle.nrepl_pipe.proofs.stream.take_piece.Goals as goal
