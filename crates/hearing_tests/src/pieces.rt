@@ -45,7 +45,8 @@ d2:op5:clonee";
             b"d7:session36:76b8e0ad-a0f1-4d90-805d-6ae55386bd286:statusl4:done11:interruptedee",
             b"d7:session36:76b8e0ad-a0f1-4d90-805d-6ae55386bd286:statusl4:done14:session-closedee",
             b"d8:sessionsle6:statusl4:doneee",
-            b"d7:session36:76b8e0ad-a0f1-4d90-805d-6ae55386bd286:statusl5:error15:unknown-session4:doneee",
+            b"d7:session36:76b8e0ad-a0f1-4d90-805d-6ae55386bd286:status\
+l5:error15:unknown-session4:doneee",
             b"d11:new-session36:bdd219b8-a08d-4d1a-a836-efcc8b770dc76:statusl4:doneee",
         ],
     );

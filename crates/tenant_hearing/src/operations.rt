@@ -30,10 +30,13 @@ impl Draft {
         actors: &mut Actors,
     ) -> Result<(), AllocError>
         requires seated { AreSeated sessions.old (actors_view actors.old) }
-        requires served { IsServed (session_of (operation_view operation)) (keys self.old.leaving) sessions.old.sessions }
-        ensures heard { OnOk result (Comes (λ g t. operated g t (origin_view origin) (operation_view operation))
+        requires served { IsServed (session_of (operation_view operation)) (keys self.old.leaving)
+            sessions.old.sessions }
+        ensures heard { OnOk result (Comes
+            (λ g t. operated g t (origin_view origin) (operation_view operation))
             (scene self.old sessions.old actors.old) (scene self.new sessions.new actors.new)) }
-        ensures kept { IsKept (scene self.old sessions.old actors.old) (scene self.new sessions.new actors.new) }
+        ensures kept { IsKept (scene self.old sessions.old actors.old)
+            (scene self.new sessions.new actors.new) }
     {
         match operation {
             Operation::Clone { session } => self.open(&origin, session, sessions, actors),
@@ -71,7 +74,8 @@ impl Draft {
         requires served { IsServed original (keys self.old.leaving) sessions.old.sessions }
         ensures heard { OnOk result (Comes (λ g t. with_clone g t (origin_view origin.now) original)
             (scene self.old sessions.old actors.old) (scene self.new sessions.new actors.new)) }
-        ensures kept { IsKept (scene self.old sessions.old actors.old) (scene self.new sessions.new actors.new) }
+        ensures kept { IsKept (scene self.old sessions.old actors.old)
+            (scene self.new sessions.new actors.new) }
     {
         self.log.reserve(1)?;
         let number = sessions.clone_of(self.alloc, original)?;

@@ -23,8 +23,8 @@ use std::collections::{BTreeSet, VecDeque};
 use tenant_actors::Actors;
 use tenant_replies::{Batch, Outbox};
 
-/// Carries out the messages of a piece, oldest first, and then tells of a fault of the stream, where
-/// the piece has one. It fails only for want of memory, and then changes nothing.
+/// Carries out the messages of a piece, oldest first, and then tells of a fault of the stream,
+/// where the piece has one. It fails only for want of memory, and then changes nothing.
 ///
 /// A message costs about the logarithm of the number of sessions, and what it asks for; a list of
 /// the sessions a step for each.
@@ -72,7 +72,8 @@ fn posted(
     outbox: &mut Outbox,
     batch: Batch,
 ) -> Result<(), AllocError>
-    ensures posted { OnOk result (waiting_bytes outbox.new ≡ waiting_bytes outbox.old ++ made_bytes batch) }
+    ensures posted { OnOk result (waiting_bytes outbox.new
+        ≡ waiting_bytes outbox.old ++ made_bytes batch) }
     ensures filled { OnOk result (filled ≡ Ok tt) }
     ensures stays { OnErr result (waiting_bytes outbox.new ≡ waiting_bytes outbox.old) }
 {
