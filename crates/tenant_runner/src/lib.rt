@@ -2,7 +2,8 @@
 #![tactic(auto)]
 
 mod going;
-pub mod laws;
 mod runner;
+mod turns;
+mod walks;
 
 pub use runner::Runner;

@@ -1,0 +1,4 @@
+pub mod Honest
+pub mod Runs
+pub mod Outcomes
+pub mod Walking
