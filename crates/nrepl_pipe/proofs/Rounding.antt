@@ -10,7 +10,7 @@ use Rattle.tenant_turns.specs.Turns.{Turn, run, served, actors_of}
 use Rattle.nrepl_pipe.specs.Schedule.{go_each, drain_all, round, IsLast, AreRounds, last, more}
 use Rattle.nrepl_pipe.specs.Schedule.{MeetsWorn}
 use Rattle.nrepl_pipe.specs.Parts.{IsRound, Makes, Begins, MakesRounds, BeginsRounds}
-use Rattle.nrepl_pipe.specs.declared.rounds.Round.{Round}
+use Rattle.nrepl_pipe.specs.declared.actors.Round.{Round}
 use Rattle.nrepl_pipe.specs.declared.rounds.Rounds.{Rounds}
 use Rattle.nrepl_pipe.proofs.Turns.{run-append, served-append, meets-front, meets-behind, meets-either}
 use Rattle.nrepl_pipe.proofs.EachRound.{gone, round-empty, served-round, round-meets}

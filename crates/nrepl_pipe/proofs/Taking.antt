@@ -11,8 +11,8 @@ use Rattle.tenant_turns.specs.Turns.{Turn, goes, Stepped, accepted, refused, ste
 use Rattle.tenant_turns.specs.Turns.{after, run}
 use Rattle.nrepl_pipe.specs.Schedule.{go_each, Rests, AllRest, MeetsWorn}
 use Rattle.nrepl_pipe.specs.Parts.{TurnsSo, with_turn, IsRound}
-use Rattle.nrepl_pipe.specs.declared.rounds.Round.{Round}
-use Rattle.nrepl_pipe.specs.declared.rounds.Turned.{Turned}
+use Rattle.nrepl_pipe.specs.declared.actors.Round.{Round}
+use Rattle.nrepl_pipe.specs.declared.actors.Turned.{Turned}
 use Rattle.nrepl_pipe.proofs.Turns.{run-append, meets-front, meets-behind, meets-either}
 use Rattle.nrepl_pipe.proofs.Turns.{rest-append, rest-front, rest-behind}
 use Rattle.nrepl_pipe.proofs.Going.{StepsSo, go-steps}

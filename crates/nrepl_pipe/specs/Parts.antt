@@ -1,5 +1,5 @@
 -- What the parts of `pipe` come to.
-use Rattle.std.specs.Prelude.{◌≡◌, ◌↔◌, ℕ, ◌≤◌, ◌⊎◌, List, [], ◌++◌, length, ⊤, true, false}
+use Rattle.std.specs.Prelude.{◌≡◌, ◌≢◌, ◌↔◌, ◌⊎◌, ℕ, ◌≤◌, List, [], ◌++◌, length, ⊤, true, false}
 use Rattle.std.specs.Prelude.{Option}
 use Rattle.std.specs.Io.KnownBytes.{Consumes, Appends}
 use Rattle.server_rules.specs.Ground.{Ground}
@@ -9,8 +9,8 @@ use Rattle.tenant_turns.specs.Turns.{Turn, Stepped, refused, run, served}
 use Rattle.tenant_turns.specs.Turned.{Accepted}
 use Rattle.nrepl_pipe.specs.Schedule.{Rests, AllRest, AreRounds, MeetsWorn}
 use Rattle.nrepl_pipe.specs.declared.stream.Heard.{Heard}
-use Rattle.nrepl_pipe.specs.declared.rounds.Turned.{Turned}
-use Rattle.nrepl_pipe.specs.declared.rounds.Round.{Round}
+use Rattle.nrepl_pipe.specs.declared.actors.Turned.{Turned}
+use Rattle.nrepl_pipe.specs.declared.actors.Round.{Round}
 use Rattle.nrepl_pipe.specs.declared.rounds.Rounds.{Rounds}
 
 abbrev pub IsPiece : List ℕ → Type 0
@@ -31,7 +31,7 @@ abbrev pub TurnsSo : Turned → Stepped → Type 0
 TurnsSo Turned.Done stepped = Accepted (λ q. ⊤) stepped
 TurnsSo Turned.Held stepped = stepped ≡ refused Refusal.Held
 TurnsSo Turned.Worn stepped = stepped ≡ refused Refusal.Worn
-TurnsSo Turned.Idle stepped = Rests stepped × (stepped ≡ refused Refusal.Worn → ⊥)
+TurnsSo Turned.Idle stepped = Rests stepped × (stepped ≢ refused Refusal.Worn)
 
 -- what is told of the turns of a round, with one more
 abbrev pub with_turn : Round → Turned → Round

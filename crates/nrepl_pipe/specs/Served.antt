@@ -45,8 +45,8 @@ Moves unread left held holds are =
     (read : List ℕ) × (written : List ℕ)
     × Consumes unread left read × Appends held holds written × are read written
 
--- where it ends well, all that the schedule serves was written; after an error a part of it from its
--- front
+-- where it ends well, all that the schedule serves was written; after an error a part of it from
+-- its front
 abbrev pub Outcome
     : Ground → Quiet → Option (List ℕ) → Option (List ℕ) → Option (List ℕ) → Option (List ℕ)
     → Result PipeEnd PipeError → Type 0

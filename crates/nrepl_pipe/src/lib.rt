@@ -1,9 +1,10 @@
 //! One stream served to its end: pieces of bytes in, replies out.
 //!
-//! `pipe` serves a tenant over any reader and writer; `pipe_command` turns how that ended into an exit
-//! status and a line on standard error.
+//! `pipe` serves a tenant over any reader and writer; `pipe_command` turns how that ended into an
+//! exit status and a line on standard error.
 #![tactic(auto)]
 
+mod actors;
 mod command;
 mod ends;
 mod ports;

@@ -1,17 +1,17 @@
 // The rounds behind a piece: each actor goes on once, and the replies that wait are written.
-ghost use Rattle.std.specs.Prelude.{◌≡◌, ◌≢◌, ◌+◌, ◌<◌, ◌≤◌, ◌⊎◌, ℕ, [], Ok, false, IfOk, IfErr, OnErr};
+ghost use Rattle.std.specs.Prelude.{◌≡◌, ◌≢◌, ◌<◌, ◌≤◌, ◌⊎◌, [], false, IfOk, OnErr};
 ghost use Rattle.server_rules.specs.Ground.{Ground};
 ghost use Rattle.server_rules.specs.Tenant.{Quiet};
 ghost use Rattle.tenant_turns.specs.Grounds.{IsRight};
-ghost use Rattle.tenant_turns.specs.Turns.{goes, actors_of, step, after, run};
+ghost use Rattle.tenant_turns.specs.Turns.{actors_of};
 ghost use Rattle.nrepl_pipe.specs.Schedule.{go_each, round};
 ghost use Rattle.nrepl_pipe.specs.Failing.{Marks, is_read_failed, is_write_failed};
-ghost use Rattle.nrepl_pipe.specs.Parts.{TurnsSo, with_turn, IsRound, Makes, Begins, MakesRounds, BeginsRounds};
+ghost use Rattle.nrepl_pipe.specs.Parts.{IsRound, Makes, Begins, MakesRounds, BeginsRounds};
 
+use crate::actors::{Round, take_turns};
 use crate::ends::PipeError;
 use crate::ports::Sink;
 use crate::replies::write_replies;
-use server_rules::{Actor, Refusal};
 use std::alloc::Global;
 use tenant_turns::Core;
 
@@ -21,27 +21,6 @@ pub(crate) enum Rounds {
     Idle,
     // Some actor met the end of the steps.
     Worn,
-}
-
-// What came of a round.
-#[derive(Clone, Copy, PartialEq, Eq)]
-pub(crate) struct Round {
-    // Every actor was refused, and none for replies that wait.
-    pub(crate) is_last: bool,
-    // Some actor met the end of the steps.
-    pub(crate) is_worn: bool,
-}
-
-// What came of an actor's turn.
-#[derive(Clone, Copy, PartialEq, Eq)]
-pub(crate) enum Turned {
-    Done,
-    // Refused, since replies wait.
-    Held,
-    // Refused, since all steps are used up.
-    Worn,
-    // Refused for another reason.
-    Idle,
 }
 
 // Rounds, until the first in which every actor is refused and none for replies that wait.
@@ -69,8 +48,8 @@ pub(crate) fn run_rounds<C: Core, W: Sink>(
     Ok(if is_worn { Rounds::Worn } else { Rounds::Idle })
 }
 
-// Each actor goes on once, and then the replies that wait are written. Where no reply waited, and it is
-// not the last round, it used up a step.
+// Each actor goes on once, and then the replies that wait are written. Where no reply waited as it
+// began, and it is not the last round, it used up a step.
 fn run_round<C: Core, W: Sink>(
     alloc: Global,
     core: &mut C,
@@ -92,62 +71,4 @@ fn run_round<C: Core, W: Sink>(
     let round = take_turns(alloc, core)?;
     write_replies(core, writer)?;
     Ok(round)
-}
-
-// Each actor goes on once.
-fn take_turns<C: Core>(alloc: Global, core: &mut C) -> Result<Round, PipeError>
-    ensures steps { (C.left core.new).steps ≤ (C.left core.old).steps }
-    ensures goes_on { (g : Ground) (q : Quiet) → IsRight g → C.stands g core.old q
-        → IfOk result (λ told. told.is_last ≡ false
-        → ((C.left core.new).steps < (C.left core.old).steps) ⊎ (q.replies ≢ [])) }
-    ensures turned { (g : Ground) (q : Quiet) → IsRight g → C.stands g core.old q
-        → IfOk result (λ told. IsRound told g q (go_each (actors_of q))
-        × C.stands g core.new (run g q (go_each (actors_of q)))) }
-    ensures told { IfErr result (λ why. why ≡ PipeError.NoMemory) }
-{
-    let actors = core.actors(alloc)?;
-    let mut round = Round {
-        is_last: true,
-        is_worn: false,
-    };
-    for actor in &actors {
-        round = round.with(take_turn(core, *actor)?);
-    }
-    Ok(round)
-}
-
-impl Round {
-    // With one more turn.
-    fn with(self, turned: Turned) -> Round
-        ensures { result ≡ with_turn self turned }
-    {
-        match turned {
-            Turned::Done | Turned::Held => Round {
-                is_last: false,
-                ..self
-            },
-            Turned::Worn => Round {
-                is_worn: true,
-                ..self
-            },
-            Turned::Idle => self,
-        }
-    }
-}
-
-fn take_turn<C: Core>(core: &mut C, actor: Actor) -> Result<Turned, PipeError>
-    ensures steps { (C.left core.new).steps ≤ (C.left core.old).steps }
-    ensures done { result ≡ Ok Turned.Done → (C.left core.old).steps ≡ (C.left core.new).steps + 1 }
-    ensures turned { (g : Ground) (q : Quiet) → IsRight g → C.stands g core.old q
-        → IfOk result (λ came. TurnsSo came (step g q (goes actor))
-        × C.stands g core.new (after g q (goes actor))) }
-    ensures told { IfErr result (λ why. why ≡ PipeError.NoMemory) }
-{
-    match core.go(actor) {
-        Ok(()) => Ok(Turned::Done),
-        Err(Refusal::Held) => Ok(Turned::Held),
-        Err(Refusal::Worn) => Ok(Turned::Worn),
-        Err(Refusal::NoMemory) => Err(PipeError::NoMemory),
-        Err(_) => Ok(Turned::Idle),
-    }
 }

@@ -24,14 +24,14 @@ const PIECE: usize = 4_096;
 
 /// Serves one stream: reads pieces of at most 4,096 bytes, and writes each reply at once.
 ///
-/// After each piece come rounds: each actor that is there has a turn, first the one without a session
-/// and then those of sessions in order of creation, and then the replies that wait are written. They
-/// end with the first round in which every turn is refused, and none for replies that wait. Reading
-/// stops at the end of the input, at a fault of the stream and at the last step. After an error what
-/// was written is a part of the whole from its front.
+/// After each piece come rounds: each actor that is there has a turn, first the one without a
+/// session and then those of sessions in order of creation, and then the replies that wait are
+/// written. They end with the first round in which every turn is refused, and none for replies
+/// that wait. Reading stops at the end of the input, at a fault of the stream and at the last step.
+/// After an error what was written is a part of the whole from its front.
 ///
-/// Each reply is flushed. A flush that fails is not told, nor what it loses: with a writer that holds
-/// bytes back, flush it again at the end.
+/// Each reply is flushed. A flush that fails is not told, nor what it loses: with a writer that
+/// holds bytes back, flush it again at the end.
 pub fn pipe<C: Core, R: Source, W: Sink>(
     alloc: Global,
     core: &mut C,
@@ -99,8 +99,8 @@ enum Heard {
     Worn,
 }
 
-// Has the core hear a piece. Where the stream has no fault and no reply waits, it is refused at the end
-// of the steps alone, or for want of memory.
+// Has the core hear a piece. Where the stream has no fault and no reply waits, it is refused at the
+// end of the steps alone, or for want of memory.
 fn take_piece<C: Core>(core: &mut C, piece: &Bytes) -> Result<Heard, PipeError>
     ensures steps { result ≡ Ok Heard.Taken
         → (C.left core.old).steps ≡ (C.left core.new).steps + 1 }

@@ -3,7 +3,7 @@ use Rattle.server_rules.specs.Ground.{Ground}
 use Rattle.server_rules.specs.Tenant.{Quiet}
 use Rattle.tenant_turns.specs.Grounds.{IsRight}
 use Rattle.nrepl_pipe.proofs.Taking.{TurnsOn}
-use Rattle.nrepl_pipe.proofs.rounds.take_turns.Given as goal
+use Rattle.nrepl_pipe.proofs.actors.take_turns.Given as goal
 
 abbrev pub invariant-loop-actor : goal.invariant-loop-actor
 invariant-loop-actor g l = record {

@@ -2,10 +2,10 @@ use Rattle.std.proofs.Common.{◌≡◌, ◌+◌, List, sym, subst, take, rules}
 use Rattle.std.proofs.lemmas.List.{take_more}
 use Rattle.server_rules.specs.declared.actor.Actor.{Actor}
 use Rattle.nrepl_pipe.specs.Parts.{with_turn}
-use Rattle.nrepl_pipe.specs.declared.rounds.Round.{Round}
-use Rattle.nrepl_pipe.specs.declared.rounds.Turned.{Turned}
+use Rattle.nrepl_pipe.specs.declared.actors.Round.{Round}
+use Rattle.nrepl_pipe.specs.declared.actors.Turned.{Turned}
 use Rattle.nrepl_pipe.proofs.Taking.{TurnsOn, turns-more}
-use Rattle.nrepl_pipe.proofs.rounds.take_turns.Goals as goal
+use Rattle.nrepl_pipe.proofs.actors.take_turns.Goals as goal
 
 pub loop-actor-preserved : goal.loop-actor-preserved
 loop-actor-preserved g c = record {
