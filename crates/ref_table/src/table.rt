@@ -99,8 +99,8 @@ impl<H: History> RefTable<H> {
         }
     }
 
-    /// Drops the refs of a tenant. It takes about the number of these, and no memory. What the
-    /// shared refs hold stays.
+    /// Drops the refs of a tenant. What the shared refs hold stays. It takes a step for each version
+    /// that is kept of the tenant's refs, and no memory.
     pub fn release(&mut self, tenant: u64)
         ensures { (r : Refs) → Stands H.stands self.old r
             → Stands H.stands self.new (without_refs (tenant_owner tenant) r) }

@@ -4,6 +4,8 @@
 #[cfg(test)]
 mod committing;
 #[cfg(test)]
+mod memory;
+#[cfg(test)]
 mod owning;
 #[cfg(test)]
 mod reading;
