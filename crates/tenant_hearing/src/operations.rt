@@ -1,10 +1,9 @@
 // Each operation is carried out (the nREPL manual, "Supported nREPL operations").
-ghost use Rattle.std.specs.Prelude.{◌≡◌, [], ◌∷◌, ◌++◌, map, OnOk, Some};
+ghost use Rattle.std.specs.Prelude.{◌≡◌, OnOk, Some};
 ghost use Rattle.std.specs.BTreeSet.{keys};
 ghost use Rattle.repl_sessions.specs.Named.{NamedSessions};
 ghost use Rattle.repl_replies.specs.View.{origin_view, operation_view};
 ghost use Rattle.server_rules.specs.Operating.{operated, with_clone, with_close, asker};
-ghost use Rattle.server_rules.specs.Tenant.{seat_of};
 ghost use Rattle.tenant_actors.specs.View.{waiting_view, actors_view};
 ghost use Rattle.tenant_hearing.specs.Holds.{AreSeated};
 ghost use Rattle.tenant_hearing.specs.Scene.{scene, Comes, IsKept};
