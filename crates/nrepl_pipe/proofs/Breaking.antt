@@ -12,7 +12,7 @@ use Rattle.nrepl_pipe.specs.Served.{Moves, BeginsToServe}
 use Rattle.nrepl_pipe.specs.Parts.{IsPiece, LosesPiece, Begins, BeginsRounds}
 use Rattle.nrepl_pipe.proofs.Turns.{served-append}
 use Rattle.nrepl_pipe.proofs.Hearing.{TakesIn}
-use Rattle.nrepl_pipe.proofs.EachRound.{rounds-exist}
+use Rattle.nrepl_pipe.proofs.Lasting.{rounds-exist}
 use Rattle.nrepl_pipe.proofs.Serving.{Serving, pieces-append, schedule-last, consumes-more}
 use Rattle.nrepl_pipe.proofs.Serving.{served-heard}
 use Rattle.nrepl_pipe.proofs.Ending.{schedule-all, consumes-all}

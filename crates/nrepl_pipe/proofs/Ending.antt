@@ -21,7 +21,7 @@ use Rattle.nrepl_pipe.specs.declared.rounds.Rounds.{Rounds}
 use Rattle.nrepl_pipe.specs.declared.ends.PipeEnd.{PipeEnd}
 use Rattle.nrepl_pipe.proofs.Turns.{served-append, meets-behind, meets-neither}
 use Rattle.nrepl_pipe.proofs.Hearing.{refused-worn, TakesIn}
-use Rattle.nrepl_pipe.proofs.EachRound.{rounds-heard, worn-round}
+use Rattle.nrepl_pipe.proofs.Lasting.{rounds-heard, worn-round}
 use Rattle.nrepl_pipe.proofs.Serving.{Serving, pieces-append, joined-append, schedule-last}
 use Rattle.nrepl_pipe.proofs.Serving.{consumes-more, served-heard, heard-never_worn}
 
@@ -94,7 +94,8 @@ serves-last : (g : Ground) (Old : Quiet → Type 0) (q : Quiet)
     → Appends holds grown (served g (run g q on.turns) (hears piece ∷ rounds))
     → EndsWith g (run g q on.turns) piece (hears piece ∷ rounds) end
     → Moves unread less held grown (λ read written. Serves g q read written end)
-serves-last g Old q unread left less held holds grown piece rounds end on is consumes are appends ends =
+serves-last g Old q unread left less held holds grown piece rounds end on is consumes are appends
+    ends =
     let now = run g q on.turns in
     let turns : List Turn = hears piece ∷ rounds in (
       joined (on.pieces ++ piece ∷ []),
@@ -122,7 +123,8 @@ pub serves-rounds : (g : Ground) (Old Mid New : Quiet → Type 0) (q : Quiet)
     → (made : MakesRounds g New (after g (run g q on.turns) (hears piece)) holds grown end)
     → EndsWith g (run g q on.turns) piece (hears piece ∷ made.0) told
     → Moves unread less held grown (λ read written. Serves g q read written told)
-serves-rounds g Old Mid New q unread left less held holds grown piece end told on is consumes taken made ends =
+serves-rounds g Old Mid New q unread left less held holds grown piece end told on is consumes taken
+    made ends =
     serves-last g Old q unread left less held holds grown piece made.0 told on is consumes made.1
     (subst (Appends holds grown) (sym (served-heard g (run g q on.turns) piece made.0 taken.gives))
     made.2.appends) ends
@@ -145,43 +147,3 @@ serves-worn g Old q unread left less held holds piece on is consumes worn =
     serves-last g Old q unread left less held holds holds piece (round g v) PipeEnd.Worn on is
     consumes (last v stops.0) (subst (Appends holds holds) (sym nothing) (Appends-nil holds))
     (inl (inl worn, refl))
-
--- What the code is told
-
-pub read-up : (end : PipeEnd) (left : Option (List ℕ)) → IsAtEnd left → IsReadUp end left
-read-up PipeEnd.Whole left at = at
-read-up PipeEnd.Truncated left at = at
-read-up (PipeEnd.Broken f) left at = tt
-read-up PipeEnd.Worn left at = tt
-
-pub broken-read_up : (f : WireFault) (ending : Ending) (end : PipeEnd) (left : Option (List ℕ))
-    → Wire.Broken f ≡ wire_at ending → end ≡ stream_end ending → IsReadUp end left
-broken-read_up f (rest []) end left told is = cc
-broken-read_up f (rest (byte ∷ m)) end left told is = cc
-broken-read_up f (fault rule at) end left told is =
-    subst (λ (e : PipeEnd). IsReadUp e left) (sym is) tt
-
-pub wire-clean : (wire : Wire) (end : Ending) → wire ≡ wire_at end
-    → ((f : WireFault) → wire ≡ Wire.Broken f → ⊥) → fault_in end ≡ None
-wire-clean wire (rest m) e never = refl
-wire-clean wire (fault rule at) e never = absurd (never (fault_at rule (counted at)) e)
-
-pub ends-worn : (g : Ground) (New : Quiet → Type 0) (now : Quiet) (held holds : Option (List ℕ))
-    (piece : List ℕ)
-    (made : MakesRounds g New (after g now (hears piece)) held holds Rounds.Worn)
-    → EndsWith g now piece (hears piece ∷ made.0) PipeEnd.Worn
-ends-worn g New now held holds piece made = inl (inr made.3, refl)
-
-pub ends-broken : (g : Ground) (Mid New : Quiet → Type 0) (now : Quiet)
-    (held holds : Option (List ℕ)) (piece : List ℕ) (end : PipeEnd) → TakesIn g Mid now piece
-    → (made : MakesRounds g New (after g now (hears piece)) held holds Rounds.Idle)
-    → end ≡ stream_end (g.readings.stream (run g (after g now (hears piece)) made.0).heard).ending
-    → EndsWith g now piece (hears piece ∷ made.0) end
-ends-broken g Mid New now held holds piece end taken made is =
-    let v = after g now (hears piece) in
-    let heard : (run g v made.0).heard ≡ now.heard ++ piece =
-    rounds-heard g v made.0 made.1 ∙ taken.heard in
-    inr (
-      heard-never_worn g now piece made.0 taken.not_worn made.3,
-      is ∙ ap (λ (bytes : List ℕ). stream_end (g.readings.stream bytes).ending) heard,
-    )

@@ -27,65 +27,10 @@ use Rattle.tenant_turns.specs.Turned.{Accepted}
 use Rattle.tenant_turns.specs.Turns.{hears, Stepped, accepted, refused, stepped_as, step, quiet_or}
 use Rattle.tenant_turns.specs.Turns.{bytes_given, after, tenant_number}
 use Rattle.nrepl_pipe.specs.Fresh.{IsReady}
+use Rattle.nrepl_pipe.proofs.Messages.{taken_in-heard}
 
--- The bytes of the piece are heard
-
-closed-heard : (origin : OriginData) (n : ℕ) (q : Quiet) (there : Option ActorData)
-    → (closed_by origin n q there).heard ≡ q.heard
-closed-heard origin n q None = refl
-closed-heard origin n q (Some actor) = refl
-
-queued-heard : (a : Actor) (w : Waiting) (q : Quiet) (there : Option ActorData)
-    → (queued_for a w q there).heard ≡ q.heard
-queued-heard a w q None = refl
-queued-heard a w q (Some actor) = refl
-
-text-heard : (a : Actor) (origin : OriginData) (text : ProgramText) (q : Quiet)
-    → (queued a origin text q).heard ≡ q.heard
-text-heard a origin text q =
-    queued-heard a (record { origin = origin; text = text }) q (found (seat_of a) q.actors)
-
-operated-heard : (g : Ground) (t : ℕ) (origin : OriginData) (o : OperationData) (q : Quiet)
-    → (operated g t origin o q).heard ≡ q.heard
-operated-heard g t origin (operations.clone original) q = refl
-operated-heard g t origin (operations.close n) q =
-    closed-heard origin n q (found (seat_of (Actor.Session n)) q.actors)
-operated-heard g t origin (operations.describe session) q = refl
-operated-heard g t origin (operations.list_sessions session) q = refl
-operated-heard g t origin (operations.eval session text ns) q =
-    text-heard (asker session) origin (code text ns) q
-operated-heard g t origin (operations.load_file session text) q =
-    text-heard (asker session) origin (file text) q
-
-asked-heard : (g : Ground) (t : ℕ) (asked : Result AskedData ReplyData) (q : Quiet)
-    → (with_asked g t asked q).heard ≡ q.heard
-asked-heard g t (Ok asked) q = operated-heard g t asked.origin asked.operation q
-asked-heard g t (Err refusal) q = refl
-
-message-heard : (g : Ground) (t : ℕ) (m : wire.Tree) (q : Quiet)
-    → (with_message g t m q).heard ≡ q.heard
-unfolding with_message
-message-heard g t (wire.dictionary fields) q =
-    asked-heard g t (operations.asked (number_named (named_sessions g t q)) fields) q
-message-heard g t (wire.integer n) q = refl
-message-heard g t (wire.string bytes) q = refl
-message-heard g t (wire.list ts) q = refl
-
-messages-heard : (g : Ground) (t : ℕ) (ms : List wire.Tree) (q : Quiet)
-    → (with_messages g t ms q).heard ≡ q.heard
-messages-heard g t [] q = refl
-messages-heard g t (m ∷ ms) q =
-    messages-heard g t ms (with_message g t m q) ∙ message-heard g t m q
-
-taken_in-heard : (g : Ground) (t : ℕ) (piece : List ℕ) (q : Quiet)
-    → (taken_in g t piece q).heard ≡ q.heard ++ piece
-unfolding taken_in
-taken_in-heard g t piece q =
-    messages-heard g t (new_messages g.readings q.heard piece)
-    (record q { heard = q.heard ++ piece })
-
--- Where the stream has no fault and no reply waits, a piece is refused at the end of the steps alone.
--- Else its bytes are heard, and none are given.
+-- Where the stream has no fault and no reply waits, a piece is refused at the end of the steps
+-- alone. Where it is accepted its bytes are heard, and none are given.
 
 abbrev HeardSo : Ground → Quiet → List ℕ → Outcome → Type 0
 HeardSo g q piece (refuses why) =
@@ -152,7 +97,8 @@ refused-worn g q piece why ready is =
 -- The code heard it
 
 -- the piece was taken in
-pub record TakesIn (g : Ground) (Stands : Quiet → Type 0) (q : Quiet) (piece : List ℕ) : Type 0 where
+pub record TakesIn (g : Ground) (Stands : Quiet → Type 0) (q : Quiet) (piece : List ℕ)
+    : Type 0 where
   pub stands : Stands (after g q (hears piece))
   pub gives : bytes_given (step g q (hears piece)) ≡ []
   pub not_worn : step g q (hears piece) ≢ refused Refusal.Worn
@@ -176,21 +122,3 @@ pub takes-in : (g : Ground) (Stands : Quiet → Type 0) (q : Quiet) (piece : Lis
     → Accepted Stands (step g q (hears piece)) → TakesIn g Stands q piece
 takes-in g Stands q piece stands =
     takes-in_by g Stands q piece (step g q (hears piece)) refl (hears-so g q piece) stands
-
--- No byte has no fault
-
-nothing-faulty : (limit place : ℕ) (bytes : List ℕ) (ts : List wire.Tree) (end : Ending)
-    → length bytes ≡ 0 → Streams limit place bytes ts end → fault_in end ≡ None
-nothing-faulty limit place bytes [] (rest m) none s = refl
-nothing-faulty limit place bytes [] (fault rule at) none s =
-    let long : length bytes ≡ length s.0 + length (s.1 ∷ s.2) =
-    ap length s.4 ∙ length-append s.0 (s.1 ∷ s.2) in absurd (omega arith)
-nothing-faulty limit place bytes (t ∷ ts) end none s =
-    let long : length bytes ≡ length s.0 + length s.1 = ap length s.3 ∙ length-append s.0 s.1 in
-    nothing-faulty limit (place + length s.0) s.1 ts end (omega arith) s.4
-
-pub fresh-clean : (r : Readings) (heard : List ℕ) → AreRight r → heard ≡ []
-    → stream_fault r heard ≡ None
-fresh-clean r heard right none = ap (stream_fault r) none
-    ∙ nothing-faulty message_limit 0 [] (r.stream []).messages (r.stream []).ending refl
-    (right.stream [])

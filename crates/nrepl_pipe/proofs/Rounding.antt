@@ -14,7 +14,8 @@ use Rattle.nrepl_pipe.specs.declared.actors.Round.{Round}
 use Rattle.nrepl_pipe.specs.declared.rounds.Rounds.{Rounds}
 use Rattle.nrepl_pipe.proofs.Turns.{run-append, served-append, meets-front, meets-behind, meets-either}
 use Rattle.nrepl_pipe.proofs.EachRound.{gone, round-empty, served-round, round-meets}
-use Rattle.nrepl_pipe.proofs.EachRound.{round-meets_by, rounds-exist, rounds-front}
+use Rattle.nrepl_pipe.proofs.EachRound.{round-meets_by}
+use Rattle.nrepl_pipe.proofs.Lasting.{rounds-exist, rounds-front}
 
 -- One round
 
@@ -24,29 +25,8 @@ pub round-makes : (g : Ground) (Stands : Quiet → Type 0) (q : Quiet) (held hol
     → Makes g Stands q (round g q) held holds
 round-makes g Stands q held holds drained = record {
   appends = subst (Appends held holds) (sym (served-round g q)) drained.appends;
-  stands = subst Stands (sym (run-append g q (go_each (actors_of q)) (drain_all (gone g q).replies)))
-      drained.stands;
-}
-
--- nothing was written
-pub round-stopped : (g : Ground) (q : Quiet) (held : Option (List ℕ))
-    → Begins g q (round g q) held held
-round-stopped g q held = record {
-  written = [];
-  more = served g q (round g q);
-  appends = Appends-nil held;
-  begins = refl;
-}
-
--- a part of the replies was written
-pub round-broken : (g : Ground) (q : Quiet) (held holds : Option (List ℕ))
-    → Begins g (gone g q) (drain_all (gone g q).replies) held holds
-    → Begins g q (round g q) held holds
-round-broken g q held holds drained = record {
-  written = drained.written;
-  more = drained.more;
-  appends = drained.appends;
-  begins = served-round g q ∙ drained.begins;
+  stands = subst Stands
+      (sym (run-append g q (go_each (actors_of q)) (drain_all (gone g q).replies))) drained.stands;
 }
 
 -- The rounds so far
@@ -75,7 +55,10 @@ rounds-first g Stands q told held holds so makes = record {
   turns = round g q;
   makes = makes;
   empty = round-empty g q;
-  worn = (λ is. round-meets g q (so.is_worn.0 is), λ meets. so.is_worn.1 (round-meets_by g q meets));
+  worn = (
+    λ is. round-meets g q (so.is_worn.0 is),
+    λ meets. so.is_worn.1 (round-meets_by g q meets),
+  );
   ends = λ is. last q (so.is_last.0 is);
   closes = λ on behind rounds. more q behind (goes_on g q told so on) rounds;
 }
@@ -93,7 +76,10 @@ worn-more : (g : Ground) (q : Quiet) (turns : List Turn) (a b : Bool)
     → (a ≡ true) ↔ MeetsWorn g q turns
     → (b ≡ true) ↔ MeetsWorn g (run g q turns) (go_each (actors_of (run g q turns)))
     → ((a || b) ≡ true) ↔ MeetsWorn g q (turns ++ round g (run g q turns))
-worn-more g q turns a b front back = (λ is. to (or-true a b is), λ meets. true-or a b (from meets)) where
+worn-more g q turns a b front back = (
+  λ is. to (or-true a b is),
+  λ meets. true-or a b (from meets),
+) where
   now : Quiet
   now = run g q turns
 
@@ -140,7 +126,8 @@ rounds-more g Old New q is_last is_worn told held holds grown on follows so make
           let next : AreRounds g (run g now (round g now)) behind =
           subst (λ (v : Quiet). AreRounds g v behind) gone rounds in
           subst (AreRounds g q) (sym (append_assoc on.turns (round g now) behind))
-          (on.closes follows (round g now ++ behind) (more now behind (goes_on g now told so goes) next));
+          (on.closes follows (round g now ++ behind)
+          (more now behind (goes_on g now told so goes) next));
     }
 
 -- the last round was made
@@ -159,47 +146,3 @@ rounds-idle g Stands q is_last is_worn held holds on end is = (
   on.makes,
   λ meets. let both : true ≡ false = sym (on.worn.1 meets) ∙ is in cc,
 )
-
--- After an error
-
--- a part of the first round was written
-pub rounds-begun : (g : Ground) (q : Quiet) (held holds : Option (List ℕ))
-    → Begins g q (round g q) held holds → BeginsRounds g q held holds
-rounds-begun g q held holds begun =
-    let all = rounds-exist g q in
-    let front = rounds-front g q all.0 all.1 in
-    let later = served g (run g q (round g q)) front.0 in (
-      all.0,
-      all.1,
-      record {
-        written = begun.written;
-        more = begun.more ++ later;
-        appends = begun.appends;
-        begins =
-            ap (served g q) front.1 ∙ served-append g q (round g q) front.0
-            ∙ ap (λ (bytes : List ℕ). bytes ++ later) begun.begins
-            ∙ append_assoc begun.written begun.more later;
-      },
-    )
-
--- a part of the next round was written
-pub rounds-broken : (g : Ground) (Old : Quiet → Type 0) (q : Quiet) (is_last is_worn : Bool)
-    (held holds grown : Option (List ℕ)) (on : RoundsOn g Old q is_last is_worn held holds)
-    → is_last ≡ false → Begins g (run g q on.turns) (round g (run g q on.turns)) holds grown
-    → BeginsRounds g q held grown
-rounds-broken g Old q is_last is_worn held holds grown on follows begun =
-    let now = run g q on.turns in
-    let behind = rounds-begun g now holds grown begun in (
-      on.turns ++ behind.0,
-      on.closes follows behind.0 behind.1,
-      record {
-        written = served g q on.turns ++ behind.2.written;
-        more = behind.2.more;
-        appends = Appends-trans held holds grown (served g q on.turns) behind.2.written
-            on.makes.appends behind.2.appends;
-        begins =
-            served-append g q on.turns behind.0
-            ∙ ap (λ (bytes : List ℕ). served g q on.turns ++ bytes) behind.2.begins
-            ∙ sym (append_assoc (served g q on.turns) behind.2.written behind.2.more);
-      },
-    )

@@ -15,8 +15,9 @@ use Rattle.nrepl_pipe.specs.Fresh.{IsFresh}
 use Rattle.nrepl_pipe.specs.Parts.{IsPiece, MakesRounds}
 use Rattle.nrepl_pipe.specs.declared.rounds.Rounds.{Rounds}
 use Rattle.nrepl_pipe.proofs.Turns.{run-append, served-append, meets-neither}
-use Rattle.nrepl_pipe.proofs.Hearing.{TakesIn, fresh-clean}
-use Rattle.nrepl_pipe.proofs.EachRound.{rounds-empty, rounds-heard}
+use Rattle.nrepl_pipe.proofs.Hearing.{TakesIn}
+use Rattle.nrepl_pipe.proofs.Messages.{fresh-clean}
+use Rattle.nrepl_pipe.proofs.Lasting.{rounds-empty, rounds-heard}
 
 -- Pieces and schedules
 
@@ -59,7 +60,8 @@ pub record Serving (g : Ground) (Stands : Quiet → Type 0) (q : Quiet)
   pub heard : (run g q turns).heard ≡ joined pieces
   pub empty : (run g q turns).replies ≡ []
   -- where the rest comes to from here, all comes to from the start
-  pub closes : (more : List (List ℕ)) (behind : List Turn) → IsSchedule g (run g q turns) more behind
+  pub closes : (more : List (List ℕ)) (behind : List Turn)
+      → IsSchedule g (run g q turns) more behind
       → IsSchedule g q (pieces ++ more) (turns ++ behind)
 
 pub serving-none : (g : Ground) (Stands : Quiet → Type 0) (q : Quiet)
@@ -108,7 +110,8 @@ pub serving-more : (g : Ground) (Old Mid New : Quiet → Type 0) (q : Quiet)
     → (made : MakesRounds g New (after g (run g q on.turns) (hears piece)) holds grown Rounds.Idle)
     → stream_fault g.readings (run g (after g (run g q on.turns) (hears piece)) made.0).heard ≡ None
     → Serving g New q unread less held grown
-serving-more g Old Mid New q unread left less held holds grown piece on is consumes taken made clean =
+serving-more g Old Mid New q unread left less held holds grown piece on is consumes taken made
+    clean =
     let now = run g q on.turns in
     let then_on = after g now (hears piece) in
     let rounds = made.0 in

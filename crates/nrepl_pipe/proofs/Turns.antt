@@ -21,8 +21,8 @@ served-append g q (x ∷ xs) ys =
     ∙ sym (append_assoc (bytes_given (step g q x)) (served g v xs) (served g (run g v xs) ys))
 
 -- a turn that was accepted, and others behind it
-pub served-first : (g : Ground) (q now : Quiet) (bytes : List ℕ) (turn : Turn) (turns all : List Turn)
-    → step g q turn ≡ accepted now bytes → all ≡ turn ∷ turns
+pub served-first : (g : Ground) (q now : Quiet) (bytes : List ℕ) (turn : Turn)
+    (turns all : List Turn) → step g q turn ≡ accepted now bytes → all ≡ turn ∷ turns
     → served g q all ≡ bytes ++ served g now turns
 served-first g q now bytes turn turns all is whole =
     ap (served g q) whole ∙ ap (λ (s : Stepped). bytes_given s ++ served g (quiet_or q s) turns) is

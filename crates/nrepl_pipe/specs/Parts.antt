@@ -35,7 +35,7 @@ TurnsSo Turned.Idle stepped = Rests stepped × (stepped ≢ refused Refusal.Worn
 
 -- what is told of the turns of a round, with one more
 abbrev pub with_turn : Round → Turned → Round
-with_turn told Turned.Done = record told { is_last = false }
+with_turn told Turned.Done = record told { is_last = false; uses_step = true }
 with_turn told Turned.Held = record told { is_last = false }
 with_turn told Turned.Worn = record told { is_worn = true }
 with_turn told Turned.Idle = told

@@ -1,5 +1,5 @@
 // The actors' turns in a round.
-ghost use Rattle.std.specs.Prelude.{◌≡◌, ◌≢◌, ◌+◌, ◌<◌, ◌≤◌, ◌⊎◌, [], Ok, false, IfOk, IfErr};
+ghost use Rattle.std.specs.Prelude.{◌≡◌, ◌+◌, ◌<◌, ◌≤◌, [], Ok, true, not, IfOk, IfErr};
 ghost use Rattle.server_rules.specs.Ground.{Ground};
 ghost use Rattle.server_rules.specs.Tenant.{Quiet};
 ghost use Rattle.tenant_turns.specs.Grounds.{IsRight};
@@ -17,6 +17,8 @@ use tenant_turns::Core;
 pub(crate) struct Round {
     // Every actor was refused, and none for replies that wait.
     pub(crate) is_last: bool,
+    // Some actor's turn was accepted.
+    pub(crate) uses_step: bool,
     // Some actor met the end of the steps.
     pub(crate) is_worn: bool,
 }
@@ -33,13 +35,14 @@ pub(crate) enum Turned {
     Idle,
 }
 
-// Each actor goes on once. Where no reply waited as they began, and it is not the last round, one
-// used up a step.
+// Each actor goes on once. Where no reply waits as they begin, another round follows only if a step
+// was used up: a turn is held behind one that was accepted.
 pub(crate) fn take_turns<C: Core>(alloc: Global, core: &mut C) -> Result<Round, PipeError>
     ensures steps { (C.left core.new).steps ≤ (C.left core.old).steps }
+    ensures used { IfOk result (λ told. told.uses_step ≡ true
+        → (C.left core.new).steps < (C.left core.old).steps) }
     ensures goes_on { (g : Ground) (q : Quiet) → IsRight g → C.stands g core.old q
-        → IfOk result (λ told. told.is_last ≡ false
-        → ((C.left core.new).steps < (C.left core.old).steps) ⊎ (q.replies ≢ [])) }
+        → q.replies ≡ [] → IfOk result (λ told. told.is_last ≡ not told.uses_step) }
     ensures turned { (g : Ground) (q : Quiet) → IsRight g → C.stands g core.old q
         → IfOk result (λ told. IsRound told g q (go_each (actors_of q))
         × C.stands g core.new (run g q (go_each (actors_of q)))) }
@@ -48,6 +51,7 @@ pub(crate) fn take_turns<C: Core>(alloc: Global, core: &mut C) -> Result<Round, 
     let actors = core.actors(alloc)?;
     let mut round = Round {
         is_last: true,
+        uses_step: false,
         is_worn: false,
     };
     for actor in &actors {
@@ -62,7 +66,12 @@ impl Round {
         ensures { result ≡ with_turn self turned }
     {
         match turned {
-            Turned::Done | Turned::Held => Round {
+            Turned::Done => Round {
+                is_last: false,
+                uses_step: true,
+                ..self
+            },
+            Turned::Held => Round {
                 is_last: false,
                 ..self
             },

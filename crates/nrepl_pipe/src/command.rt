@@ -27,7 +27,6 @@ pub fn pipe_command<C: Core, R: Source, W: Sink, E: Write>(
     writer: &mut W,
     errors: &mut E,
 ) -> u8
-    requires { (g : Ground) × (q : Quiet) × IsRight g × C.stands g core.old q × IsFresh q }
     ensures { (outcome : Result PipeEnd PipeError) × (result ≡ status_of outcome)
         × Tells (R.failed reader.old) (R.failed reader.new)
         (W.failed writer.old) (W.failed writer.new) outcome

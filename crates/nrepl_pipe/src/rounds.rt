@@ -1,5 +1,5 @@
 // The rounds behind a piece: each actor goes on once, and the replies that wait are written.
-ghost use Rattle.std.specs.Prelude.{◌≡◌, ◌≢◌, ◌<◌, ◌≤◌, ◌⊎◌, [], false, IfOk, OnErr};
+ghost use Rattle.std.specs.Prelude.{◌≡◌, ◌<◌, ◌≤◌, [], true, false, not, IfOk, OnErr};
 ghost use Rattle.server_rules.specs.Ground.{Ground};
 ghost use Rattle.server_rules.specs.Tenant.{Quiet};
 ghost use Rattle.tenant_turns.specs.Grounds.{IsRight};
@@ -29,7 +29,6 @@ pub(crate) fn run_rounds<C: Core, W: Sink>(
     core: &mut C,
     writer: &mut W,
 ) -> Result<Rounds, PipeError>
-    requires { (g : Ground) × (q : Quiet) × IsRight g × C.stands g core.old q }
     ensures steps { (C.left core.new).steps ≤ (C.left core.old).steps }
     ensures ok { (g : Ground) (q : Quiet) → IsRight g → C.stands g core.old q
         → IfOk result (λ end. MakesRounds g (C.stands g core.new) q
@@ -39,26 +38,29 @@ pub(crate) fn run_rounds<C: Core, W: Sink>(
     ensures told { Marks (W.failed writer.old) (W.failed writer.new) (is_write_failed result) }
     ensures no_read { is_read_failed result ≡ false }
 {
-    let mut round = run_round(alloc, core, writer)?;
-    let mut is_worn = round.is_worn;
-    while !round.is_last {
-        round = run_round(alloc, core, writer)?;
+    let first = run_round(alloc, core, writer)?;
+    let mut is_last = first.is_last;
+    let mut is_worn = first.is_worn;
+    while !is_last {
+        let round = run_round(alloc, core, writer)?;
+        // No reply waited as it began.
+        is_last = !round.uses_step;
         is_worn |= round.is_worn;
     }
     Ok(if is_worn { Rounds::Worn } else { Rounds::Idle })
 }
 
-// Each actor goes on once, and then the replies that wait are written. Where no reply waited as it
-// began, and it is not the last round, it used up a step.
+// Each actor goes on once, and then the replies that wait are written.
 fn run_round<C: Core, W: Sink>(
     alloc: Global,
     core: &mut C,
     writer: &mut W,
 ) -> Result<Round, PipeError>
     ensures steps { (C.left core.new).steps ≤ (C.left core.old).steps }
+    ensures used { IfOk result (λ told. told.uses_step ≡ true
+        → (C.left core.new).steps < (C.left core.old).steps) }
     ensures goes_on { (g : Ground) (q : Quiet) → IsRight g → C.stands g core.old q
-        → IfOk result (λ told. told.is_last ≡ false
-        → ((C.left core.new).steps < (C.left core.old).steps) ⊎ (q.replies ≢ [])) }
+        → q.replies ≡ [] → IfOk result (λ told. told.is_last ≡ not told.uses_step) }
     ensures ok { (g : Ground) (q : Quiet) → IsRight g → C.stands g core.old q
         → IfOk result (λ told. IsRound told g q (go_each (actors_of q))
         × Makes g (C.stands g core.new) q (round g q)

@@ -38,7 +38,6 @@ pub fn pipe<C: Core, R: Source, W: Sink>(
     reader: &mut R,
     writer: &mut W,
 ) -> Result<PipeEnd, PipeError>
-    requires { (g : Ground) × (q : Quiet) × IsRight g × C.stands g core.old q × IsFresh q }
     ensures served { (g : Ground) (q : Quiet) → IsRight g → C.stands g core.old q → IsFresh q
         → Outcome g q (R.remaining reader.old) (R.remaining reader.new)
         (W.contents writer.old) (W.contents writer.new) result }

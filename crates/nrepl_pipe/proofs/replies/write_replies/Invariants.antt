@@ -9,7 +9,8 @@ abbrev pub invariant-loop-reply : goal.invariant-loop-reply
 invariant-loop-reply g l = record {
   steps : (g.C.Core.left l.core).steps ≡ (g.C.Core.left l.initial.core).steps;
   drains : (h : Ground) (q : Quiet) → g.C.Core.stands h l.initial.core q
-      → Drains h (g.C.Core.stands h l.core) q (g.W.Sink.contents l.initial.writer) (g.W.Sink.contents l.writer);
+      → Drains h (g.C.Core.stands h l.core) q
+      (g.W.Sink.contents l.initial.writer) (g.W.Sink.contents l.writer);
   writes : Marks (g.W.Sink.failed l.initial.writer) (g.W.Sink.failed l.writer) false;
 }
 

@@ -4,8 +4,9 @@ use Rattle.nrepl_pipe.specs.Parts.{MakesRounds}
 use Rattle.nrepl_pipe.specs.declared.rounds.Rounds.{Rounds}
 use Rattle.nrepl_pipe.proofs.Hearing.{takes-in}
 use Rattle.nrepl_pipe.proofs.Serving.{serving-none, serving-more}
-use Rattle.nrepl_pipe.proofs.Ending.{serves-all, serves-rounds, serves-worn, read-up, broken-read_up}
-use Rattle.nrepl_pipe.proofs.Ending.{wire-clean, ends-worn, ends-broken}
+use Rattle.nrepl_pipe.proofs.Ending.{serves-all, serves-rounds, serves-worn}
+use Rattle.nrepl_pipe.proofs.Telling.{read-up, broken-read_up}
+use Rattle.nrepl_pipe.proofs.Telling.{wire-clean, ends-worn, ends-broken}
 use Rattle.nrepl_pipe.proofs.Breaking.{begins-lost, begins-unheard, begins-rounds}
 use Rattle.nrepl_pipe.proofs.Outcomes.{outcome-err}
 use Rattle.nrepl_pipe.proofs.Marking.{marks-none, marks-behind}
@@ -44,15 +45,16 @@ pub returns-in-Worn-clause-served : goal.returns-in-Worn-clause-served
 returns-in-Worn-clause-served g c = λ h q right stands fresh.
     let on = c.loop-piece.invariant.serving h q right stands fresh in
     let piece = rw c.in-Some.is at c.in_ok-piece.ensures.ok in
-    let told = rw c.in-Worn.is at c.in_ok-take_piece.ensures.heard h (run h q on.turns) right on.stands
-    (on.no_fault, on.empty) in
+    let told = rw c.in-Worn.is at c.in_ok-take_piece.ensures.heard h (run h q on.turns) right
+    on.stands (on.no_fault, on.empty) in
     (serves-worn h _ q _ _ _ _ _ c.in-Some.piece on piece.0 piece.1 told, tt)
 
 pub returns-in_err-run_rounds-clause-served : goal.returns-in_err-run_rounds-clause-served
 returns-in_err-run_rounds-clause-served g c = λ h q right stands fresh.
     let on = c.loop-piece.invariant.serving h q right stands fresh in
     let piece = rw c.in-Some.is at c.in_ok-piece.ensures.ok in
-    let taken = takes-in h (g.C.Core.stands h c.take_piece.new.core) (run h q on.turns) c.in-Some.piece
+    let taken = takes-in h (g.C.Core.stands h c.take_piece.new.core) (run h q on.turns)
+    c.in-Some.piece
     (rw c.in_default-2.is at c.in_ok-take_piece.ensures.heard h (run h q on.turns) right on.stands
     (on.no_fault, on.empty)) in
     outcome-err h q _ _ _ _ c.from_residual-in_err-run_rounds.result
@@ -64,7 +66,8 @@ pub returns-in-Worn-2-clause-served : goal.returns-in-Worn-2-clause-served
 returns-in-Worn-2-clause-served g c = λ h q right stands fresh.
     let on = c.loop-piece.invariant.serving h q right stands fresh in
     let piece = rw c.in-Some.is at c.in_ok-piece.ensures.ok in
-    let taken = takes-in h (g.C.Core.stands h c.take_piece.new.core) (run h q on.turns) c.in-Some.piece
+    let taken = takes-in h (g.C.Core.stands h c.take_piece.new.core) (run h q on.turns)
+    c.in-Some.piece
     (rw c.in_default-2.is at c.in_ok-take_piece.ensures.heard h (run h q on.turns) right on.stands
     (on.no_fault, on.empty)) in
     let made = subst (λ (end : Rounds). MakesRounds h (g.C.Core.stands h c.run_rounds.new.core)
@@ -83,7 +86,8 @@ pub returns-in-Broken-clause-served : goal.returns-in-Broken-clause-served
 returns-in-Broken-clause-served g c = λ h q right stands fresh.
     let on = c.loop-piece.invariant.serving h q right stands fresh in
     let piece = rw c.in-Some.is at c.in_ok-piece.ensures.ok in
-    let taken = takes-in h (g.C.Core.stands h c.take_piece.new.core) (run h q on.turns) c.in-Some.piece
+    let taken = takes-in h (g.C.Core.stands h c.take_piece.new.core) (run h q on.turns)
+    c.in-Some.piece
     (rw c.in_default-2.is at c.in_ok-take_piece.ensures.heard h (run h q on.turns) right on.stands
     (on.no_fault, on.empty)) in
     let made = subst (λ (end : Rounds). MakesRounds h (g.C.Core.stands h c.run_rounds.new.core)
