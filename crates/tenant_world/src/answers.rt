@@ -27,6 +27,7 @@ pub enum Asked {
 
 /// An evaluation that comes back at its end: its job, what it asked and was answered, and how it
 /// ended. Nothing of it is believed: the job and the trace are compared with those that were kept.
+#[derive(Clone, Copy)]
 pub struct Ending<'a> {
     pub job: &'a Job,
     pub trace: &'a [Exchange],
