@@ -105,9 +105,8 @@ impl<H: History> RefTable<H> {
         ensures { (r : Refs) → Stands H.stands self.old r
             → Stands H.stands self.new (without_refs (tenant_owner tenant) r) }
     {
-        match self.directory.remove(tenant) {
-            Some(ids) => drop_refs(&mut self.history, &ids),
-            None => {}
+        if let Some(ids) = self.directory.remove(tenant) {
+            drop_refs(&mut self.history, &ids);
         }
     }
 }
