@@ -1,17 +1,16 @@
 -- One round.
-use Rattle.std.proofs.Common.{◌≡◌, ◌≢◌, ℕ, zero, suc, ◌<◌, ◌≤◌, ◌⊎◌, inl, inr, List, [], ◌∷◌}
-use Rattle.std.proofs.Common.{◌++◌, ◌==◌, true, false, refl, sym, ap, ◌∙◌, subst, append-nil, le_refl, arith}
+use Rattle.std.proofs.Common.{◌≡◌, ℕ, ◌≤◌, ◌⊎◌, inl, inr, List, [], ◌∷◌}
+use Rattle.std.proofs.Common.{◌++◌, true, false, refl, sym, ap, ◌∙◌, le_refl, arith}
 use Rattle.server_rules.specs.Ground.{Ground}
 use Rattle.server_rules.specs.Tenant.{Quiet, is_held}
 use Rattle.server_rules.specs.declared.actor.Actor.{Actor}
-use Rattle.server_rules.specs.declared.refusal.Refusal.{Refusal}
 use Rattle.tenant_turns.specs.Turns.{Turn, goes, Stepped, accepted, refused, step, quiet_or}
 use Rattle.tenant_turns.specs.Turns.{after, run, served, actors_of}
-use Rattle.nrepl_pipe.specs.Schedule.{go_each, drain_all, round, Rests, AllRest, IsLast}
-use Rattle.nrepl_pipe.specs.Schedule.{AreRounds, last, more, MeetsWorn}
+use Rattle.nrepl_pipe.specs.Schedule.{go_each, drain_all, round}
+use Rattle.nrepl_pipe.specs.Schedule.{MeetsWorn}
 use Rattle.nrepl_pipe.proofs.Turns.{run-append, served-append, meets-front, meets-either}
 use Rattle.nrepl_pipe.proofs.Draining.{left, run-drains, drains-never_worn}
-use Rattle.nrepl_pipe.proofs.Going.{StepsSo, go-steps, go-worn, go-gives, go-heard}
+use Rattle.nrepl_pipe.proofs.Going.{StepsSo, go-steps, go-gives, go-heard}
 
 -- The actors' turns
 
@@ -78,6 +77,7 @@ pub round-meets_by : (g : Ground) (q : Quiet) → MeetsWorn g q (round g q)
 round-meets_by g q meets = by (meets-either g q turns (drain_all (gone g q).replies) meets) where
   turns : List Turn
   turns = go_each (actors_of q)
+
   by : MeetsWorn g q turns ⊎ MeetsWorn g (gone g q) (drain_all (gone g q).replies)
       → MeetsWorn g q turns
   by (inl here) = here

@@ -1,29 +1,25 @@
 -- How the serving of a stream ends.
 use Rattle.std.proofs.Common.{◌≡◌, ℕ, ◌⊎◌, inl, inr, ◌==◌, List, [], ◌∷◌, ◌++◌, refl, sym, ap, ◌∙◌}
-use Rattle.std.proofs.Common.{subst, append-nil, Option, None}
-use Rattle.std.specs.Io.KnownBytes.{Consumes, Appends, IsAtEnd}
+use Rattle.std.proofs.Common.{subst, append-nil, Option}
+use Rattle.std.specs.Io.KnownBytes.{Consumes, Appends}
 use Rattle.std.proofs.KnownBytes.{Appends-nil, Appends-trans, Consumes-trans}
 use Rattle.bencode_wire.specs.Spelling.{joined}
-use Rattle.bencode_wire.specs.Stream.{Ending, rest, fault}
-use Rattle.bencode_wire.specs.Fault.{counted, fault_at}
-use Rattle.bencode_wire.specs.declared.fault.WireFault.{WireFault}
 use Rattle.server_rules.specs.Ground.{Ground}
-use Rattle.server_rules.specs.Hearing.{fault_in}
 use Rattle.server_rules.specs.Tenant.{Quiet}
 use Rattle.server_rules.specs.declared.refusal.Refusal.{Refusal}
 use Rattle.tenant_turns.specs.Turns.{Turn, hears, refused, step, quiet_or, bytes_given, after, run}
-use Rattle.tenant_turns.specs.Turns.{served, wire_at}
-use Rattle.tenant_turns.specs.declared.turns.Wire.{Wire}
-use Rattle.nrepl_pipe.specs.Schedule.{round, AreRounds, last, MeetsWorn, IsSchedule, stream_end, IsEnd}
-use Rattle.nrepl_pipe.specs.Served.{Moves, Serves, IsReadUp}
+use Rattle.tenant_turns.specs.Turns.{served}
+use Rattle.nrepl_pipe.specs.Schedule.{round, AreRounds, last, MeetsWorn, IsSchedule, stream_end}
+use Rattle.nrepl_pipe.specs.Schedule.{IsEnd}
+use Rattle.nrepl_pipe.specs.Served.{Moves, Serves}
 use Rattle.nrepl_pipe.specs.Parts.{IsPiece, MakesRounds}
 use Rattle.nrepl_pipe.specs.declared.rounds.Rounds.{Rounds}
 use Rattle.nrepl_pipe.specs.declared.ends.PipeEnd.{PipeEnd}
 use Rattle.nrepl_pipe.proofs.Turns.{served-append, meets-behind, meets-neither}
 use Rattle.nrepl_pipe.proofs.Hearing.{refused-worn, TakesIn}
-use Rattle.nrepl_pipe.proofs.Lasting.{rounds-heard, worn-round}
+use Rattle.nrepl_pipe.proofs.Lasting.{worn-round}
 use Rattle.nrepl_pipe.proofs.Serving.{Serving, pieces-append, joined-append, schedule-last}
-use Rattle.nrepl_pipe.proofs.Serving.{consumes-more, served-heard, heard-never_worn}
+use Rattle.nrepl_pipe.proofs.Serving.{consumes-more, served-heard}
 
 -- the schedule of the pieces so far
 pub schedule-all : (g : Ground) (Old : Quiet → Type 0) (q : Quiet)

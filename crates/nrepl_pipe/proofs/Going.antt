@@ -1,35 +1,19 @@
 -- What an actor's turn does to the steps, the replies and what was heard.
-use Rattle.std.proofs.Common.{◌≡◌, ℕ, zero, suc, ◌+◌, ◌-◌, ◌==◌, List, [], ◌∷◌, Bool, true, false}
+use Rattle.std.proofs.Common.{◌≡◌, ℕ, zero, suc, ◌+◌, ◌-◌, ◌==◌, [], Bool, true, false}
 use Rattle.std.proofs.Common.{if◌then◌else◌, Option, None, Some, refl, sym, ap, ◌∙◌, subst, arith}
-use Rattle.bencode_wire.specs.Tree as wire
-use Rattle.value_data.specs.Datum.{nil, Items, no_items, item}
-use Rattle.repl_asks.specs.Exchange.{AskData, AnswerData}
+use Rattle.repl_asks.specs.Exchange.{AskData}
 use Rattle.repl_jobs.specs.Tree.{Tree, finished, asks}
 use Rattle.repl_jobs.specs.Leading as leading
-use Rattle.repl_sessions.specs.State.{StateData}
-use Rattle.name_spaces.specs.Namespaces.{Namespaces}
-use Rattle.repl_replies.specs.Fields.{text_of}
-use Rattle.repl_replies.specs.Replies.{OriginData}
-use Rattle.std.specs.Prelude.{option_and_then, is_some}
 use Rattle.server_rules.specs.Numbered.{found}
-use Rattle.server_rules.specs.Readings.{ProgramData}
 use Rattle.server_rules.specs.Ground.{Ground}
-use Rattle.server_rules.specs.Request.{Waiting, ProgramText, code, file, Manner, Hand, Run}
-use Rattle.server_rules.specs.Request.{each_form, each_form_elsewhere, last_form}
-use Rattle.server_rules.specs.Tenant.{ActorData, seat_of, Quiet, is_held, state_of}
-use Rattle.server_rules.specs.Calls.{gives_up}
+use Rattle.server_rules.specs.Request.{Hand, Run}
+use Rattle.server_rules.specs.Tenant.{ActorData, seat_of, Quiet, is_held}
 use Rattle.server_rules.specs.Plan.{EndingData, Deed, starts, asks_for, ends}
-use Rattle.server_rules.specs.Plan.{Outcome, refuses, leaves, form_finished, Plan, quietly, spent}
-use Rattle.server_rules.specs.Moves.{Move, form_ended}
-use Rattle.server_rules.specs.Starting.{Started, next_begun, program_begun, elsewhere_begun, hand_of}
-use Rattle.server_rules.specs.Starting.{code_begun, text_begun, there, started, interrupted_in}
-use Rattle.server_rules.specs.Starting.{first_state, held_or, next_of, start_in_hand, start_waiting, moved}
-use Rattle.server_rules.specs.Asking.{is_allowed, answered, asked_allowed, asked_running, asked_of}
-use Rattle.server_rules.specs.Asking.{call_of, when_told}
-use Rattle.server_rules.specs.Ending.{with_left_attempt, end_compared, end_checked, end_running}
+use Rattle.server_rules.specs.Plan.{Outcome, refuses, leaves, Plan, quietly}
+use Rattle.server_rules.specs.Asking.{asked_of}
 use Rattle.server_rules.specs.Ending.{end_of}
 use Rattle.server_rules.specs.Deeds.{start_of, for_actor, unless_worn, plan}
-use Rattle.server_rules.specs.Turns.{honest, honest_at, honest_of, honest_in, honest_by, bytes_in}
+use Rattle.server_rules.specs.Turns.{honest, honest_at, honest_of, honest_in, honest_by}
 use Rattle.server_rules.specs.declared.actor.Actor.{Actor}
 use Rattle.server_rules.specs.declared.refusal.Refusal.{Refusal}
 use Rattle.tenant_turns.specs.NoRefs.{outcome, carried_out}

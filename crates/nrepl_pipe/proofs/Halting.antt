@@ -1,20 +1,14 @@
 -- What was written of rounds where an error ends them.
-use Rattle.std.proofs.Common.{◌≡◌, ℕ, ◌⊎◌, inl, inr, List, [], ◌++◌, Bool, true, false, ◌||◌}
-use Rattle.std.proofs.Common.{refl, sym, ap, ◌∙◌, subst, append_assoc, Option}
-use Rattle.std.specs.Prelude.{◌↔◌}
-use Rattle.std.specs.Io.KnownBytes.{Appends}
+use Rattle.std.proofs.Common.{◌≡◌, ℕ, List, [], ◌++◌, Bool, false}
+use Rattle.std.proofs.Common.{refl, sym, ap, ◌∙◌, append_assoc, Option}
 use Rattle.std.proofs.KnownBytes.{Appends-nil, Appends-trans}
 use Rattle.server_rules.specs.Ground.{Ground}
 use Rattle.server_rules.specs.Tenant.{Quiet}
-use Rattle.tenant_turns.specs.Turns.{Turn, run, served, actors_of}
-use Rattle.nrepl_pipe.specs.Schedule.{go_each, drain_all, round, IsLast, AreRounds, last, more}
-use Rattle.nrepl_pipe.specs.Schedule.{MeetsWorn}
-use Rattle.nrepl_pipe.specs.Parts.{IsRound, Makes, Begins, MakesRounds, BeginsRounds}
-use Rattle.nrepl_pipe.specs.declared.actors.Round.{Round}
-use Rattle.nrepl_pipe.specs.declared.rounds.Rounds.{Rounds}
-use Rattle.nrepl_pipe.proofs.Turns.{run-append, served-append, meets-front, meets-behind, meets-either}
-use Rattle.nrepl_pipe.proofs.EachRound.{gone, round-empty, served-round, round-meets}
-use Rattle.nrepl_pipe.proofs.EachRound.{round-meets_by}
+use Rattle.tenant_turns.specs.Turns.{run, served}
+use Rattle.nrepl_pipe.specs.Schedule.{drain_all, round}
+use Rattle.nrepl_pipe.specs.Parts.{Begins, BeginsRounds}
+use Rattle.nrepl_pipe.proofs.Turns.{served-append}
+use Rattle.nrepl_pipe.proofs.EachRound.{gone, served-round}
 use Rattle.nrepl_pipe.proofs.Lasting.{rounds-exist, rounds-front}
 use Rattle.nrepl_pipe.proofs.Rounding.{RoundsOn}
 use Rattle.nrepl_pipe.proofs.Lasting.{rounds-exist, rounds-front}

@@ -1,26 +1,15 @@
 -- What hearing a piece does, and when it is refused.
-use Rattle.std.proofs.Common.{◌≡◌, ◌≢◌, ℕ, ◌+◌, ◌==◌, Bool, true, false, List, [], ◌∷◌, ◌++◌}
-use Rattle.std.proofs.Common.{length, nat_le, if◌then◌else◌, Option, Some, None, Result, Ok, Err}
-use Rattle.std.proofs.Common.{refl, sym, ap, ◌∙◌, subst, length-append, arith}
-use Rattle.bencode_wire.specs.Tree as wire
-use Rattle.bencode_wire.specs.Stream.{Ending, rest, fault, Streams}
+use Rattle.std.proofs.Common.{◌≡◌, ◌≢◌, ℕ, ◌==◌, Bool, true, false, List, [], ◌++◌}
+use Rattle.std.proofs.Common.{length, nat_le, if◌then◌else◌, Option, Some, None}
+use Rattle.std.proofs.Common.{refl, sym, ap, ◌∙◌, subst}
 use Rattle.bencode_wire.specs.declared.fault.WireFault.{WireFault}
-use Rattle.repl_replies.specs.Replies.{OriginData, ReplyData}
-use Rattle.repl_replies.specs.Operations as operations
-use Rattle.repl_replies.specs.Operations.{AskedData, OperationData}
-use Rattle.repl_sessions.specs.Named.{number_named}
-use Rattle.server_rules.specs.Numbered.{found}
+use Rattle.repl_replies.specs.Replies.{ReplyData}
 use Rattle.server_rules.specs.Ground.{Ground}
-use Rattle.server_rules.specs.Readings.{Readings, AreRight, message_limit}
-use Rattle.server_rules.specs.Request.{Waiting, ProgramText, code, file}
-use Rattle.server_rules.specs.Tenant.{ActorData, seat_of, Quiet, is_held}
-use Rattle.server_rules.specs.Hearing.{fault_in, stream_fault, with_messages, new_messages}
-use Rattle.server_rules.specs.Hearing.{taken_in, hears_more, hearing}
-use Rattle.server_rules.specs.Operating.{named_sessions, closed_by, asker, queued_for}
-use Rattle.server_rules.specs.Operating.{queued, operated, with_asked, with_message}
+use Rattle.server_rules.specs.Tenant.{Quiet, is_held}
+use Rattle.server_rules.specs.Hearing.{stream_fault}
+use Rattle.server_rules.specs.Hearing.{hears_more, hearing}
 use Rattle.server_rules.specs.Plan.{Outcome, refuses, leaves}
 use Rattle.server_rules.specs.Turns.{bytes_in}
-use Rattle.server_rules.specs.declared.actor.Actor.{Actor}
 use Rattle.server_rules.specs.declared.refusal.Refusal.{Refusal}
 use Rattle.tenant_turns.specs.NoRefs.{outcome, carried_out}
 use Rattle.tenant_turns.specs.Turned.{Accepted}

@@ -1,17 +1,17 @@
 -- Rounds come to an end.
 use Rattle.std.proofs.Common.{◌≡◌, ◌≢◌, ℕ, zero, suc, ◌<◌, ◌≤◌, ◌⊎◌, inl, inr, List, [], ◌∷◌}
-use Rattle.std.proofs.Common.{◌++◌, ◌==◌, true, false, refl, sym, ap, ◌∙◌, subst, append-nil, le_refl, arith}
+use Rattle.std.proofs.Common.{◌++◌, ◌==◌, true, refl, sym, ap, ◌∙◌, subst, append-nil, le_refl}
+use Rattle.std.proofs.Common.{arith}
 use Rattle.server_rules.specs.Ground.{Ground}
-use Rattle.server_rules.specs.Tenant.{Quiet, is_held}
+use Rattle.server_rules.specs.Tenant.{Quiet}
 use Rattle.server_rules.specs.declared.actor.Actor.{Actor}
 use Rattle.server_rules.specs.declared.refusal.Refusal.{Refusal}
 use Rattle.tenant_turns.specs.Turns.{Turn, goes, Stepped, accepted, refused, step, quiet_or}
 use Rattle.tenant_turns.specs.Turns.{after, run, served, actors_of}
 use Rattle.nrepl_pipe.specs.Schedule.{go_each, drain_all, round, Rests, AllRest, IsLast}
-use Rattle.nrepl_pipe.specs.Schedule.{AreRounds, last, more, MeetsWorn}
-use Rattle.nrepl_pipe.proofs.Turns.{run-append, served-append, meets-front, meets-either}
-use Rattle.nrepl_pipe.proofs.Draining.{left, run-drains, drains-never_worn}
-use Rattle.nrepl_pipe.proofs.Going.{StepsSo, go-steps, go-worn, go-gives, go-heard}
+use Rattle.nrepl_pipe.specs.Schedule.{AreRounds, last, more}
+use Rattle.nrepl_pipe.proofs.Turns.{run-append}
+use Rattle.nrepl_pipe.proofs.Going.{StepsSo, go-steps, go-worn}
 use Rattle.nrepl_pipe.proofs.EachRound.{gos-steps, held-waits, gone, run-round, round-empty}
 use Rattle.nrepl_pipe.proofs.EachRound.{round-heard, served-round}
 

@@ -17,4 +17,5 @@ pub mod Serving
 pub mod Starting
 pub mod Taking
 pub mod Telling
+pub mod Told
 pub mod Turns

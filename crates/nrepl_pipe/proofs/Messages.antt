@@ -1,10 +1,9 @@
 -- The bytes of a piece are heard, whatever its messages bring about.
-use Rattle.std.proofs.Common.{◌≡◌, ◌≢◌, ℕ, ◌+◌, ◌==◌, Bool, true, false, List, [], ◌∷◌, ◌++◌}
-use Rattle.std.proofs.Common.{length, nat_le, if◌then◌else◌, Option, Some, None, Result, Ok, Err}
-use Rattle.std.proofs.Common.{refl, sym, ap, ◌∙◌, subst, length-append, arith}
+use Rattle.std.proofs.Common.{◌≡◌, ℕ, ◌+◌, List, [], ◌∷◌, ◌++◌}
+use Rattle.std.proofs.Common.{length, Option, Some, None, Result, Ok, Err}
+use Rattle.std.proofs.Common.{refl, ap, ◌∙◌, length-append, arith}
 use Rattle.bencode_wire.specs.Tree as wire
 use Rattle.bencode_wire.specs.Stream.{Ending, rest, fault, Streams}
-use Rattle.bencode_wire.specs.declared.fault.WireFault.{WireFault}
 use Rattle.repl_replies.specs.Replies.{OriginData, ReplyData}
 use Rattle.repl_replies.specs.Operations as operations
 use Rattle.repl_replies.specs.Operations.{AskedData, OperationData}
@@ -13,20 +12,12 @@ use Rattle.server_rules.specs.Numbered.{found}
 use Rattle.server_rules.specs.Ground.{Ground}
 use Rattle.server_rules.specs.Readings.{Readings, AreRight, message_limit}
 use Rattle.server_rules.specs.Request.{Waiting, ProgramText, code, file}
-use Rattle.server_rules.specs.Tenant.{ActorData, seat_of, Quiet, is_held}
+use Rattle.server_rules.specs.Tenant.{ActorData, seat_of, Quiet}
 use Rattle.server_rules.specs.Hearing.{fault_in, stream_fault, with_messages, new_messages}
-use Rattle.server_rules.specs.Hearing.{taken_in, hears_more, hearing}
+use Rattle.server_rules.specs.Hearing.{taken_in}
 use Rattle.server_rules.specs.Operating.{named_sessions, closed_by, asker, queued_for}
 use Rattle.server_rules.specs.Operating.{queued, operated, with_asked, with_message}
-use Rattle.server_rules.specs.Plan.{Outcome, refuses, leaves}
-use Rattle.server_rules.specs.Turns.{bytes_in}
 use Rattle.server_rules.specs.declared.actor.Actor.{Actor}
-use Rattle.server_rules.specs.declared.refusal.Refusal.{Refusal}
-use Rattle.tenant_turns.specs.NoRefs.{outcome, carried_out}
-use Rattle.tenant_turns.specs.Turned.{Accepted}
-use Rattle.tenant_turns.specs.Turns.{hears, Stepped, accepted, refused, stepped_as, step, quiet_or}
-use Rattle.tenant_turns.specs.Turns.{bytes_given, after, tenant_number}
-use Rattle.nrepl_pipe.specs.Fresh.{IsReady}
 
 closed-heard : (origin : OriginData) (n : ℕ) (q : Quiet) (there : Option ActorData)
     → (closed_by origin n q there).heard ≡ q.heard

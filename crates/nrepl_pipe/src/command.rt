@@ -18,8 +18,8 @@ use std::alloc::Global;
 use std::io::Write;
 use tenant_turns::Core;
 
-/// Serves one stream, and gives the exit status: 0 where the input was whole messages and all was
-/// answered, else 1 with one line on `errors`.
+/// Serves one stream to a tenant that heard nothing yet, and gives the exit status: 0 where the
+/// input was whole messages and all was answered, else 1 with one line on `errors`.
 pub fn pipe_command<C: Core, R: Source, W: Sink, E: Write>(
     alloc: Global,
     core: &mut C,

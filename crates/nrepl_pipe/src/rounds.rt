@@ -43,7 +43,7 @@ pub(crate) fn run_rounds<C: Core, W: Sink>(
     let mut is_worn = first.is_worn;
     while !is_last {
         let round = run_round(alloc, core, writer)?;
-        // No reply waited as it began.
+        // No reply waited as it began, so a turn was held only behind one that used up a step.
         is_last = !round.uses_step;
         is_worn |= round.is_worn;
     }

@@ -22,7 +22,8 @@ use tenant_turns::{Core, Wire};
 // The greatest length of a piece.
 const PIECE: usize = 4_096;
 
-/// Serves one stream: reads pieces of at most 4,096 bytes, and writes each reply at once.
+/// Serves one stream to a tenant that heard nothing yet: reads pieces of at most 4,096 bytes, and
+/// writes each reply at once.
 ///
 /// After each piece come rounds: each actor that is there has a turn, first the one without a
 /// session and then those of sessions in order of creation, and then the replies that wait are

@@ -14,9 +14,12 @@ returns-in-Ok-eq0-clause-err g c =
     let rest = c.loop-rest.rest.now in
     let none = subst (λ (n : ℕ). Appends (g.W.Sink.contents c.loop-rest.writer)
     (g.W.Sink.contents c.write_bytes.new.self) (take n rest)) c.in-Ok-eq0.field-0-test
-    c.in-Ok-eq0.ensures.bytes in
-    (now.0 ++ take 0 rest, drop 0 rest, front-grows _ now.0 rest 0 now.1,
-    Appends-trans _ _ _ _ _ now.2 none)
+    c.in-Ok-eq0.ensures.bytes in (
+      now.0 ++ take 0 rest,
+      drop 0 rest,
+      front-grows _ now.0 rest 0 now.1,
+      Appends-trans _ _ _ _ _ now.2 none,
+    )
 
 pub loop-rest-preserved : goal.loop-rest-preserved
 loop-rest-preserved g c =

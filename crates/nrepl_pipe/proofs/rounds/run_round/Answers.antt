@@ -11,6 +11,8 @@ returns-in_err-write_replies-clause-err g c = λ h q right stands.
 
 pub returns-clause-ok : goal.returns-clause-ok
 returns-clause-ok g c = λ h q right stands.
-    let turned = c.in_ok-round.ensures.turned h q right stands in
-    (turned.0, round-makes h (g.C.Core.stands h c.write_replies.new.core) q _ _
-    (c.in_ok-write_replies.ensures.ok h _ turned.1))
+    let turned = c.in_ok-round.ensures.turned h q right stands in (
+      turned.0,
+      round-makes h (g.C.Core.stands h c.write_replies.new.core) q _ _
+          (c.in_ok-write_replies.ensures.ok h _ turned.1),
+    )

@@ -2,7 +2,8 @@ use Rattle.std.proofs.Common.{Bool, ◌||◌, subst, rules}
 use Rattle.tenant_turns.specs.Turns.{run}
 use Rattle.nrepl_pipe.proofs.Growing.{on_err}
 use Rattle.nrepl_pipe.proofs.Marking.{marks-behind}
-use Rattle.nrepl_pipe.proofs.Rounding.{RoundsOn, rounds-first, rounds-more, rounds-worn, rounds-idle}
+use Rattle.nrepl_pipe.proofs.Rounding.{RoundsOn, rounds-first, rounds-more, rounds-worn}
+use Rattle.nrepl_pipe.proofs.Rounding.{rounds-idle}
 use Rattle.nrepl_pipe.proofs.Halting.{rounds-begun, rounds-broken}
 use Rattle.nrepl_pipe.proofs.rounds.run_rounds.Goals as goal
 
