@@ -1,13 +1,12 @@
 -- One round.
-use Rattle.std.proofs.Common.{◌≡◌, ℕ, ◌≤◌, ◌⊎◌, inl, inr, List, [], ◌∷◌}
-use Rattle.std.proofs.Common.{◌++◌, true, false, refl, sym, ap, ◌∙◌, le_refl, arith}
+use Rattle.std.proofs.Common.{◌≡◌, ℕ, ◌≤◌, ◌⊎◌, inl, inr, List, [], ◌∷◌, ◌++◌, true, false, refl}
+use Rattle.std.proofs.Common.{sym, ap, ◌∙◌, le_refl, arith}
 use Rattle.server_rules.specs.Ground.{Ground}
 use Rattle.server_rules.specs.Tenant.{Quiet, is_held}
 use Rattle.server_rules.specs.declared.actor.Actor.{Actor}
-use Rattle.tenant_turns.specs.Turns.{Turn, goes, Stepped, accepted, refused, step, quiet_or}
-use Rattle.tenant_turns.specs.Turns.{after, run, served, actors_of}
-use Rattle.nrepl_pipe.specs.Schedule.{go_each, drain_all, round}
-use Rattle.nrepl_pipe.specs.Schedule.{MeetsWorn}
+use Rattle.tenant_turns.specs.Turns.{Turn, goes, Stepped, accepted, refused, step, quiet_or, after}
+use Rattle.tenant_turns.specs.Turns.{run, served, actors_of}
+use Rattle.nrepl_pipe.specs.Schedule.{go_each, drain_all, round, MeetsWorn}
 use Rattle.nrepl_pipe.proofs.Turns.{run-append, served-append, meets-front, meets-either}
 use Rattle.nrepl_pipe.proofs.Draining.{left, run-drains, drains-never_worn}
 use Rattle.nrepl_pipe.proofs.Going.{StepsSo, go-steps, go-gives, go-heard}

@@ -1,16 +1,14 @@
 -- What the asks and the end of an actor's form come to.
-use Rattle.std.proofs.Common.{◌≡◌, ℕ, Bool, true, false}
-use Rattle.std.proofs.Common.{if◌then◌else◌, Option, None, Some, refl}
+use Rattle.std.proofs.Common.{◌≡◌, ℕ, Bool, true, false, if◌then◌else◌, Option, None, Some, refl}
 use Rattle.repl_asks.specs.Exchange.{AskData, AnswerData}
 use Rattle.server_rules.specs.Ground.{Ground}
 use Rattle.server_rules.specs.Request.{Hand, Run}
 use Rattle.server_rules.specs.Tenant.{ActorData, seat_of, Quiet, is_held, state_of}
 use Rattle.server_rules.specs.Calls.{gives_up}
-use Rattle.server_rules.specs.Plan.{EndingData}
-use Rattle.server_rules.specs.Plan.{Outcome, refuses, leaves, form_finished, Plan, quietly, spent}
+use Rattle.server_rules.specs.Plan.{EndingData, Outcome, refuses, leaves, form_finished, Plan}
+use Rattle.server_rules.specs.Plan.{quietly, spent}
 use Rattle.server_rules.specs.Moves.{Move, form_ended}
-use Rattle.server_rules.specs.Starting.{interrupted_in}
-use Rattle.server_rules.specs.Starting.{moved}
+use Rattle.server_rules.specs.Starting.{interrupted_in, moved}
 use Rattle.server_rules.specs.Asking.{is_allowed, answered, asked_allowed, asked_running, asked_of}
 use Rattle.server_rules.specs.Asking.{call_of, when_told}
 use Rattle.server_rules.specs.Ending.{with_left_attempt, end_compared, end_checked, end_running}

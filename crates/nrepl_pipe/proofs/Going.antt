@@ -8,8 +8,8 @@ use Rattle.server_rules.specs.Numbered.{found}
 use Rattle.server_rules.specs.Ground.{Ground}
 use Rattle.server_rules.specs.Request.{Hand, Run}
 use Rattle.server_rules.specs.Tenant.{ActorData, seat_of, Quiet, is_held}
-use Rattle.server_rules.specs.Plan.{EndingData, Deed, starts, asks_for, ends}
-use Rattle.server_rules.specs.Plan.{Outcome, refuses, leaves, Plan, quietly}
+use Rattle.server_rules.specs.Plan.{EndingData, Deed, starts, asks_for, ends, Outcome, refuses}
+use Rattle.server_rules.specs.Plan.{leaves, Plan, quietly}
 use Rattle.server_rules.specs.Asking.{asked_of}
 use Rattle.server_rules.specs.Ending.{end_of}
 use Rattle.server_rules.specs.Deeds.{start_of, for_actor, unless_worn, plan}

@@ -1,6 +1,6 @@
 -- Bytes that are written part by part, from the front.
-use Rattle.std.proofs.Common.{◌≡◌, ℕ, ◌-◌, ◌≤◌, List, [], ◌∷◌, ◌++◌, length, take, drop}
-use Rattle.std.proofs.Common.{sym, ap, ◌∙◌, append_assoc, append-nil, take-append-drop, take_all}
+use Rattle.std.proofs.Common.{◌≡◌, ℕ, ◌-◌, ◌≤◌, List, [], ◌∷◌, ◌++◌, length, take, drop, sym, ap}
+use Rattle.std.proofs.Common.{◌∙◌, append_assoc, append-nil, take-append-drop, take_all}
 use Rattle.std.proofs.Common.{length-drop, le_of_eq, arith, Result, Ok, Err, OnErr}
 
 pub on_err : {A E P : Type 0} (result : Result A E) → P → OnErr result P

@@ -1,6 +1,6 @@
 -- What was written of rounds where an error ends them.
-use Rattle.std.proofs.Common.{◌≡◌, ℕ, List, [], ◌++◌, Bool, false}
-use Rattle.std.proofs.Common.{refl, sym, ap, ◌∙◌, append_assoc, Option}
+use Rattle.std.proofs.Common.{◌≡◌, ℕ, List, [], ◌++◌, Bool, false, refl, sym, ap, ◌∙◌, append_assoc}
+use Rattle.std.proofs.Common.{Option}
 use Rattle.std.proofs.KnownBytes.{Appends-nil, Appends-trans}
 use Rattle.server_rules.specs.Ground.{Ground}
 use Rattle.server_rules.specs.Tenant.{Quiet}
@@ -11,7 +11,6 @@ use Rattle.nrepl_pipe.proofs.Turns.{served-append}
 use Rattle.nrepl_pipe.proofs.EachRound.{gone, served-round}
 use Rattle.nrepl_pipe.proofs.Lasting.{rounds-exist, rounds-front}
 use Rattle.nrepl_pipe.proofs.Rounding.{RoundsOn}
-use Rattle.nrepl_pipe.proofs.Lasting.{rounds-exist, rounds-front}
 
 -- nothing was written
 pub round-stopped : (g : Ground) (q : Quiet) (held : Option (List ℕ))

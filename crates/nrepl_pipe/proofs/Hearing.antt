@@ -1,13 +1,11 @@
 -- What hearing a piece does, and when it is refused.
-use Rattle.std.proofs.Common.{◌≡◌, ◌≢◌, ℕ, ◌==◌, Bool, true, false, List, [], ◌++◌}
-use Rattle.std.proofs.Common.{length, nat_le, if◌then◌else◌, Option, Some, None}
-use Rattle.std.proofs.Common.{refl, sym, ap, ◌∙◌, subst}
+use Rattle.std.proofs.Common.{◌≡◌, ◌≢◌, ℕ, ◌==◌, Bool, true, false, List, [], ◌++◌, length, nat_le}
+use Rattle.std.proofs.Common.{if◌then◌else◌, Option, Some, None, refl, sym, ap, ◌∙◌, subst}
 use Rattle.bencode_wire.specs.declared.fault.WireFault.{WireFault}
 use Rattle.repl_replies.specs.Replies.{ReplyData}
 use Rattle.server_rules.specs.Ground.{Ground}
 use Rattle.server_rules.specs.Tenant.{Quiet, is_held}
-use Rattle.server_rules.specs.Hearing.{stream_fault}
-use Rattle.server_rules.specs.Hearing.{hears_more, hearing}
+use Rattle.server_rules.specs.Hearing.{stream_fault, hears_more, hearing}
 use Rattle.server_rules.specs.Plan.{Outcome, refuses, leaves}
 use Rattle.server_rules.specs.Turns.{bytes_in}
 use Rattle.server_rules.specs.declared.refusal.Refusal.{Refusal}

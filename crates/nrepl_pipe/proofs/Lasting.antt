@@ -1,15 +1,14 @@
 -- Rounds come to an end.
-use Rattle.std.proofs.Common.{◌≡◌, ◌≢◌, ℕ, zero, suc, ◌<◌, ◌≤◌, ◌⊎◌, inl, inr, List, [], ◌∷◌}
-use Rattle.std.proofs.Common.{◌++◌, ◌==◌, true, refl, sym, ap, ◌∙◌, subst, append-nil, le_refl}
-use Rattle.std.proofs.Common.{arith}
+use Rattle.std.proofs.Common.{◌≡◌, ◌≢◌, ℕ, zero, suc, ◌<◌, ◌≤◌, ◌⊎◌, inl, inr, List, [], ◌∷◌, ◌++◌}
+use Rattle.std.proofs.Common.{◌==◌, true, refl, sym, ap, ◌∙◌, subst, append-nil, le_refl, arith}
 use Rattle.server_rules.specs.Ground.{Ground}
 use Rattle.server_rules.specs.Tenant.{Quiet}
 use Rattle.server_rules.specs.declared.actor.Actor.{Actor}
 use Rattle.server_rules.specs.declared.refusal.Refusal.{Refusal}
-use Rattle.tenant_turns.specs.Turns.{Turn, goes, Stepped, accepted, refused, step, quiet_or}
-use Rattle.tenant_turns.specs.Turns.{after, run, served, actors_of}
-use Rattle.nrepl_pipe.specs.Schedule.{go_each, drain_all, round, Rests, AllRest, IsLast}
-use Rattle.nrepl_pipe.specs.Schedule.{AreRounds, last, more}
+use Rattle.tenant_turns.specs.Turns.{Turn, goes, Stepped, accepted, refused, step, quiet_or, after}
+use Rattle.tenant_turns.specs.Turns.{run, served, actors_of}
+use Rattle.nrepl_pipe.specs.Schedule.{go_each, drain_all, round, Rests, AllRest, IsLast, AreRounds}
+use Rattle.nrepl_pipe.specs.Schedule.{last, more}
 use Rattle.nrepl_pipe.proofs.Turns.{run-append}
 use Rattle.nrepl_pipe.proofs.Going.{StepsSo, go-steps, go-worn}
 use Rattle.nrepl_pipe.proofs.EachRound.{gos-steps, held-waits, gone, run-round, round-empty}

@@ -1,7 +1,6 @@
 -- The bytes of a piece are heard, whatever its messages bring about.
-use Rattle.std.proofs.Common.{◌≡◌, ℕ, ◌+◌, List, [], ◌∷◌, ◌++◌}
-use Rattle.std.proofs.Common.{length, Option, Some, None, Result, Ok, Err}
-use Rattle.std.proofs.Common.{refl, ap, ◌∙◌, length-append, arith}
+use Rattle.std.proofs.Common.{◌≡◌, ℕ, ◌+◌, List, [], ◌∷◌, ◌++◌, length, Option, Some, None, Result}
+use Rattle.std.proofs.Common.{Ok, Err, refl, ap, ◌∙◌, length-append, arith}
 use Rattle.bencode_wire.specs.Tree as wire
 use Rattle.bencode_wire.specs.Stream.{Ending, rest, fault, Streams}
 use Rattle.repl_replies.specs.Replies.{OriginData, ReplyData}
@@ -15,8 +14,8 @@ use Rattle.server_rules.specs.Request.{Waiting, ProgramText, code, file}
 use Rattle.server_rules.specs.Tenant.{ActorData, seat_of, Quiet}
 use Rattle.server_rules.specs.Hearing.{fault_in, stream_fault, with_messages, new_messages}
 use Rattle.server_rules.specs.Hearing.{taken_in}
-use Rattle.server_rules.specs.Operating.{named_sessions, closed_by, asker, queued_for}
-use Rattle.server_rules.specs.Operating.{queued, operated, with_asked, with_message}
+use Rattle.server_rules.specs.Operating.{named_sessions, closed_by, asker, queued_for, queued}
+use Rattle.server_rules.specs.Operating.{operated, with_asked, with_message}
 use Rattle.server_rules.specs.declared.actor.Actor.{Actor}
 
 closed-heard : (origin : OriginData) (n : ℕ) (q : Quiet) (there : Option ActorData)

@@ -1,6 +1,6 @@
 -- What an actor's start comes to.
-use Rattle.std.proofs.Common.{◌≡◌, ℕ, ◌-◌, List, [], ◌∷◌, Bool, true, false}
-use Rattle.std.proofs.Common.{if◌then◌else◌, Option, None, Some, refl}
+use Rattle.std.proofs.Common.{◌≡◌, ℕ, ◌-◌, List, [], ◌∷◌, Bool, true, false, if◌then◌else◌, Option}
+use Rattle.std.proofs.Common.{None, Some, refl}
 use Rattle.bencode_wire.specs.Tree as wire
 use Rattle.value_data.specs.Datum.{nil, Items, no_items, item}
 use Rattle.repl_asks.specs.Exchange.{AnswerData}
@@ -11,14 +11,14 @@ use Rattle.repl_replies.specs.Replies.{OriginData}
 use Rattle.std.specs.Prelude.{option_and_then, is_some}
 use Rattle.server_rules.specs.Readings.{ProgramData}
 use Rattle.server_rules.specs.Ground.{Ground}
-use Rattle.server_rules.specs.Request.{Waiting, ProgramText, code, file, Manner, Hand}
-use Rattle.server_rules.specs.Request.{each_form, each_form_elsewhere, last_form}
+use Rattle.server_rules.specs.Request.{Waiting, ProgramText, code, file, Manner, Hand, each_form}
+use Rattle.server_rules.specs.Request.{each_form_elsewhere, last_form}
 use Rattle.server_rules.specs.Tenant.{ActorData, Quiet, is_held, state_of}
 use Rattle.server_rules.specs.Plan.{Outcome, refuses, leaves, Plan}
 use Rattle.server_rules.specs.Starting.{Started, next_begun, program_begun, elsewhere_begun}
-use Rattle.server_rules.specs.Starting.{hand_of}
-use Rattle.server_rules.specs.Starting.{code_begun, text_begun, there, started, interrupted_in}
-use Rattle.server_rules.specs.Starting.{first_state, held_or, next_of, start_in_hand, start_waiting}
+use Rattle.server_rules.specs.Starting.{hand_of, code_begun, text_begun, there, started}
+use Rattle.server_rules.specs.Starting.{interrupted_in, first_state, held_or, next_of}
+use Rattle.server_rules.specs.Starting.{start_in_hand, start_waiting}
 use Rattle.server_rules.specs.Deeds.{start_of}
 use Rattle.server_rules.specs.Turns.{bytes_in}
 use Rattle.server_rules.specs.declared.actor.Actor.{Actor}

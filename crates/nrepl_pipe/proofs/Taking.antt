@@ -1,12 +1,10 @@
 -- The loop over the actors of a round.
-use Rattle.std.proofs.Common.{◌+◌, ◌<◌, ◌≤◌, arith, ◌≡◌, ◌≢◌, ℕ, List, [], ◌∷◌}
-use Rattle.std.proofs.Common.{◌++◌}
-use Rattle.std.proofs.Common.{Bool, true, false, not, refl, sym, ap, ◌∙◌, subst, arith}
+use Rattle.std.proofs.Common.{◌+◌, ◌<◌, ◌≤◌, arith, ◌≡◌, ◌≢◌, ℕ, List, [], ◌∷◌, ◌++◌, Bool, true}
+use Rattle.std.proofs.Common.{false, not, refl, sym, ap, ◌∙◌, subst}
 use Rattle.server_rules.specs.Ground.{Ground}
 use Rattle.server_rules.specs.Tenant.{Quiet}
 use Rattle.server_rules.specs.declared.actor.Actor.{Actor}
-use Rattle.tenant_turns.specs.Turns.{goes, Stepped, accepted, refused, step, quiet_or}
-use Rattle.tenant_turns.specs.Turns.{after, run}
+use Rattle.tenant_turns.specs.Turns.{goes, Stepped, accepted, refused, step, quiet_or, after, run}
 use Rattle.nrepl_pipe.specs.Schedule.{go_each}
 use Rattle.nrepl_pipe.specs.Parts.{TurnsSo, with_turn, IsRound}
 use Rattle.nrepl_pipe.specs.declared.actors.Round.{Round}

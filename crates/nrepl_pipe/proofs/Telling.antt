@@ -1,6 +1,6 @@
 -- How the code is told that a stream ends.
-use Rattle.std.proofs.Common.{◌≡◌, ℕ, inl, inr, List, [], ◌∷◌, ◌++◌, refl, sym, ap, ◌∙◌}
-use Rattle.std.proofs.Common.{subst, Option, None}
+use Rattle.std.proofs.Common.{◌≡◌, ℕ, inl, inr, List, [], ◌∷◌, ◌++◌, refl, sym, ap, ◌∙◌, subst}
+use Rattle.std.proofs.Common.{Option, None}
 use Rattle.std.specs.Io.KnownBytes.{IsAtEnd}
 use Rattle.bencode_wire.specs.Stream.{Ending, rest, fault}
 use Rattle.bencode_wire.specs.Fault.{counted, fault_at}
@@ -8,8 +8,7 @@ use Rattle.bencode_wire.specs.declared.fault.WireFault.{WireFault}
 use Rattle.server_rules.specs.Ground.{Ground}
 use Rattle.server_rules.specs.Hearing.{fault_in}
 use Rattle.server_rules.specs.Tenant.{Quiet}
-use Rattle.tenant_turns.specs.Turns.{hears, after, run}
-use Rattle.tenant_turns.specs.Turns.{wire_at}
+use Rattle.tenant_turns.specs.Turns.{hears, after, run, wire_at}
 use Rattle.tenant_turns.specs.declared.turns.Wire.{Wire}
 use Rattle.nrepl_pipe.specs.Schedule.{stream_end}
 use Rattle.nrepl_pipe.specs.Served.{IsReadUp}

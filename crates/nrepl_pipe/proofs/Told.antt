@@ -1,20 +1,18 @@
 -- What is told of the turns of a round, with one more.
-use Rattle.std.proofs.Common.{◌≡◌, ◌⊎◌, inl, inr, List, [], ◌∷◌}
-use Rattle.std.proofs.Common.{◌++◌}
-use Rattle.std.proofs.Common.{Bool, true, false, refl, sym, ◌∙◌, subst}
+use Rattle.std.proofs.Common.{◌≡◌, ◌⊎◌, inl, inr, List, [], ◌∷◌, ◌++◌, Bool, true, false, refl, sym}
+use Rattle.std.proofs.Common.{◌∙◌, subst}
 use Rattle.std.specs.Prelude.{◌↔◌, ⊤}
 use Rattle.server_rules.specs.Ground.{Ground}
 use Rattle.server_rules.specs.Tenant.{Quiet}
 use Rattle.server_rules.specs.declared.refusal.Refusal.{Refusal}
 use Rattle.tenant_turns.specs.Turned.{Accepted}
-use Rattle.tenant_turns.specs.Turns.{Turn, Stepped, accepted, refused, step}
-use Rattle.tenant_turns.specs.Turns.{run}
+use Rattle.tenant_turns.specs.Turns.{Turn, Stepped, accepted, refused, step, run}
 use Rattle.nrepl_pipe.specs.Schedule.{Rests, AllRest, MeetsWorn}
 use Rattle.nrepl_pipe.specs.Parts.{TurnsSo, with_turn, IsRound}
 use Rattle.nrepl_pipe.specs.declared.actors.Round.{Round}
 use Rattle.nrepl_pipe.specs.declared.actors.Turned.{Turned}
-use Rattle.nrepl_pipe.proofs.Turns.{meets-front, meets-behind, meets-either}
-use Rattle.nrepl_pipe.proofs.Turns.{rest-append, rest-front, rest-behind}
+use Rattle.nrepl_pipe.proofs.Turns.{meets-front, meets-behind, meets-either, rest-append}
+use Rattle.nrepl_pipe.proofs.Turns.{rest-front, rest-behind}
 
 same-last : (g : Ground) (q : Quiet) (turns : List Turn) (turn : Turn) (b : Bool)
     → (b ≡ true) ↔ AllRest g q turns → Rests (step g (run g q turns) turn)

@@ -3,8 +3,8 @@ use Rattle.std.proofs.Common.{◌≡◌, ℕ, ◌⊎◌, inl, inr, List, [], ◌
 use Rattle.std.proofs.Common.{append_assoc}
 use Rattle.server_rules.specs.Ground.{Ground}
 use Rattle.server_rules.specs.Tenant.{Quiet}
-use Rattle.tenant_turns.specs.Turns.{Turn, Stepped, accepted, step, quiet_or, bytes_given}
-use Rattle.tenant_turns.specs.Turns.{after, run, served}
+use Rattle.tenant_turns.specs.Turns.{Turn, Stepped, accepted, step, quiet_or, bytes_given, after}
+use Rattle.tenant_turns.specs.Turns.{run, served}
 use Rattle.nrepl_pipe.specs.Schedule.{AllRest, MeetsWorn}
 
 pub run-append : (g : Ground) (q : Quiet) (xs ys : List Turn)

@@ -1,6 +1,6 @@
 -- Which reads and writes fail, and which results tell it.
-use Rattle.std.specs.Prelude.{◌≡◌, ℕ, zero, suc, Bool, true, false, ◌||◌, ⊤}
-use Rattle.std.specs.Prelude.{Option, None, Some, Result, Ok, Err}
+use Rattle.std.specs.Prelude.{◌≡◌, ℕ, zero, suc, Bool, true, false, ◌||◌, ⊤, Option, None, Some}
+use Rattle.std.specs.Prelude.{Result, Ok, Err}
 use Rattle.nrepl_pipe.specs.declared.ends.PipeError.{PipeError}
 
 -- a read fails where it answers an error

@@ -8,8 +8,8 @@ use Rattle.server_rules.specs.Hearing.{stream_fault}
 use Rattle.server_rules.specs.Tenant.{Quiet}
 use Rattle.server_rules.specs.declared.actor.Actor.{Actor}
 use Rattle.server_rules.specs.declared.refusal.Refusal.{Refusal}
-use Rattle.tenant_turns.specs.Turns.{Turn, hears, goes, drains, actors_of}
-use Rattle.tenant_turns.specs.Turns.{Stepped, accepted, refused, step, after, run}
+use Rattle.tenant_turns.specs.Turns.{Turn, hears, goes, drains, actors_of, Stepped, accepted}
+use Rattle.tenant_turns.specs.Turns.{refused, step, after, run}
 use Rattle.nrepl_pipe.specs.declared.ends.PipeEnd.{PipeEnd}
 
 -- a piece has 1 to 4,096 bytes

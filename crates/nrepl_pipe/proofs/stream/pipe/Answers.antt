@@ -5,8 +5,7 @@ use Rattle.nrepl_pipe.specs.declared.rounds.Rounds.{Rounds}
 use Rattle.nrepl_pipe.proofs.Hearing.{takes-in}
 use Rattle.nrepl_pipe.proofs.Serving.{serving-none, serving-more}
 use Rattle.nrepl_pipe.proofs.Ending.{serves-all, serves-rounds, serves-worn}
-use Rattle.nrepl_pipe.proofs.Telling.{read-up, broken-read_up}
-use Rattle.nrepl_pipe.proofs.Telling.{wire-clean, ends-worn, ends-broken}
+use Rattle.nrepl_pipe.proofs.Telling.{read-up, broken-read_up, wire-clean, ends-worn, ends-broken}
 use Rattle.nrepl_pipe.proofs.Breaking.{begins-lost, begins-unheard, begins-rounds}
 use Rattle.nrepl_pipe.proofs.Outcomes.{outcome-err}
 use Rattle.nrepl_pipe.proofs.Marking.{marks-none, marks-behind}
