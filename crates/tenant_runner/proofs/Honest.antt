@@ -85,14 +85,18 @@ honest-ends g a q run e ground some walk =
 
 -- Turns
 
+pub accepted-turn : (g : Ground) (q : Quiet) (turn : Turn) (deed : Deed) (new : Runner)
+    → deed ≡ deed_of g q turn → Does g q deed new → Accepted (Stands g new) (step g q turn)
+unfolding step
+accepted-turn g q turn deed new is does =
+    subst (λ o. Accepted (Stands g new) (stepped_as o))
+        (sym (ap (outcome g tenant_number q) (sym is) ∙ does.accepted)) does.stands
+
 pub does-turn : {X : Type 0} (g : Ground) (q : Quiet) (turn : Turn) (deed : Deed) (new : Runner)
     (r : Result X Refusal) → deed ≡ deed_of g q turn → OnOk r (Does g q deed new)
     → OnOk r (Accepted (Stands g new) (step g q turn))
-unfolding step
 does-turn g q turn deed new (Err why) is does = tt
-does-turn g q turn deed new (Ok x) is does =
-    subst (λ o. Accepted (Stands g new) (stepped_as o))
-        (sym (ap (outcome g tenant_number q) (sym is) ∙ does.accepted)) does.stands
+does-turn g q turn deed new (Ok x) is does = accepted-turn g q turn deed new is does
 
 pub refuses-turn : {X : Type 0} (g : Ground) (q : Quiet) (turn : Turn) (deed : Deed) (new : Runner)
     (r : Result X Refusal) → deed ≡ deed_of g q turn → IfErr r (Refuses g q deed new)

@@ -2,3 +2,4 @@ pub mod Honest
 pub mod Runs
 pub mod Outcomes
 pub mod Walking
+pub mod Steps

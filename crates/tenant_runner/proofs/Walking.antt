@@ -1,6 +1,6 @@
 -- The evaluations that are kept, through changes.
 use Rattle.std.proofs.Common.{◌≡◌, ◌≢◌, ◌==◌, ℕ, List, [], ◌∷◌, ◌++◌, Bool, true, false}
-use Rattle.std.proofs.Common.{Option, Some, None, refl, sym, ap, subst, ◌∙◌}
+use Rattle.std.proofs.Common.{Option, Some, None, option_map, refl, sym, ap, subst, ◌∙◌}
 use Rattle.std.proofs.lemmas.Bool.{eqb-true, eqb-false}
 use Rattle.repl_asks.specs.Exchange.{AnswerData, Exchanged}
 use Rattle.repl_asks.specs.View.{ask_view}
@@ -9,6 +9,7 @@ use Rattle.repl_jobs.specs.Leading.{after}
 use Rattle.repl_walker.specs.Waits.{behind, progress_job, progress_trace, progress_tree, trace_with}
 use Rattle.repl_walker.specs.declared.waiting.Walk.{Walk}
 use Rattle.repl_walker.specs.declared.waiting.Progress.{Progress}
+use Rattle.repl_walker.specs.declared.ending.Ending.{Ending}
 use Rattle.repl_jobs.specs.View.{job_view}
 use Rattle.server_rules.specs.Ready.{actor_at}
 use Rattle.server_rules.specs.Request.{Run}
@@ -64,3 +65,14 @@ walk-resumed run w p answer walk tree job trace =
           ∙ ap (λ t. after t (x ∷ [])) walk.tree
           ∙ sym (after-more (evaluation run.job) run.trace x);
     }
+
+pub asks-same : (v w : Walk) → Progress.Asks v ≡ Progress.Asks w → v ≡ w
+asks-same v w e = cc
+
+pub ends-same : (d e : Ending) → Progress.Ends d ≡ Progress.Ends e → d ≡ e
+ends-same d e h = cc
+
+-- what is kept is what was looked at
+pub at-so : {P : Type 0} (now : P → Progress) (r : Option P) (x : P) (p : Progress)
+    (o : Option Progress) → option_map now r ≡ o → r ≡ Some x → now x ≡ p → o ≡ Some p
+at-so now r x p o got is same = sym got ∙ ap (option_map now) is ∙ ap Some same

@@ -4,6 +4,7 @@ use Rattle.server_rules.specs.Ground.{Ground}
 use Rattle.server_rules.specs.Tenant.{Quiet}
 use Rattle.server_rules.specs.Plan.{Deed, StepAnswer, refuses, leaves}
 use Rattle.server_rules.specs.declared.refusal.Refusal.{Refusal}
+use Rattle.tenant_turns.specs.Grounds.{IsRight}
 use Rattle.tenant_turns.specs.NoRefs.{outcome}
 use Rattle.tenant_turns.specs.Turned.{Left}
 use Rattle.tenant_turns.specs.Turns.{tenant_number}
@@ -18,6 +19,7 @@ abbrev pub left_by : Runner → Left
 left_by r = record { steps = r.tenant.steps; outbox = replies_of r.tenant }
 
 pub record Stands (g : Ground) (r : Runner) (q : Quiet) : Type 0 where
+  pub right : IsRight g
   pub ground : Evaluates g
   pub tenant : world.Stands g tenant_number r.tenant q
   pub walked : AreWalked (walk_at r.walks) q

@@ -57,8 +57,8 @@ impl Core for Runner {
             return self.begin(actor);
         }
         match self.walks.get(actor) {
-            Some(Progress::Asks(_)) => self.ask(actor),
-            Some(Progress::Ends(_)) => self.end(actor),
+            Some(Progress::Asks(_walk)) => self.ask(actor),
+            Some(Progress::Ends(_ending)) => self.end(actor),
             None => Err(Refusal::NoMemory),
         }
     }
