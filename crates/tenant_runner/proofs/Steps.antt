@@ -1,7 +1,7 @@
 -- A runner behind the steps of its tenant.
 use Rattle.std.proofs.Common.{◌≡◌, ◌≢◌, ℕ, List, [], ◌∷◌, Option, Some, None, Result, Ok, Err}
-use Rattle.std.proofs.Common.{refl, sym, ap, subst, ◌∙◌, IfErr, OnOk, OnErr, MatchOption, is_none, option_map}
-use Rattle.std.proofs.Common.{Bool, true, false, true≢false}
+use Rattle.std.proofs.Common.{refl, sym, ap, subst, ◌∙◌, IfErr, OnOk, OnErr, MatchOption, is_some, option_map}
+use Rattle.std.proofs.Common.{Bool, true, false, true≢false, not}
 use Rattle.std.specs.Result.{IsErrAnd}
 use Rattle.repl_replies.specs.Replies.{ReplyData}
 use Rattle.repl_walker.specs.declared.waiting.Progress.{Progress}
@@ -156,14 +156,15 @@ put-others a b mid new (Err e) others stays apart = stays b
 
 -- Whether something is there
 
-pub none-so : {A B : Type 0} (f : A → B) (r : Option A) → is_none r ≡ true → option_map f r ≡ None
-none-so f None is = refl
-none-so f (Some x) is = absurd (true≢false (sym is))
+pub none-so : {A B : Type 0} (f : A → B) (r : Option A) (b : Bool) → is_some r ≡ not b → b ≡ true
+    → option_map f r ≡ None
+none-so f None b is none = refl
+none-so f (Some x) b is none = absurd (true≢false (is ∙ ap not none))
 
-pub some-so : {A B : Type 0} (f : A → B) (r : Option A) → is_none r ≡ false
+pub some-so : {A B : Type 0} (f : A → B) (r : Option A) (b : Bool) → is_some r ≡ not b → b ≡ false
     → (x : B) × (option_map f r ≡ Some x)
-some-so f None is = absurd (true≢false is)
-some-so f (Some x) is = (f x, refl)
+some-so f None b is some = absurd (true≢false (sym (is ∙ ap not some)))
+some-so f (Some x) b is some = (f x, refl)
 
 -- an ask that was answered
 pub does-resumed : (g : Ground) (q : Quiet) (a : Actor) (old new : Runner) (tenant : Tenant)

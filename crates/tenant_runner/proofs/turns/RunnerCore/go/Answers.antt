@@ -14,7 +14,8 @@ pub returns-then-is_none-clause-accepted : goal.returns-then-is_none-clause-acce
 returns-then-is_none-clause-accepted c = λ g q right s.
     let a = c.args.actor in
     let none = sym (c.running.ensures g tenant_number q s.tenant)
-        ∙ none-so (λ r. run_view r.now) c.running.result (sym c.is_none.ensures ∙ c.if-is_none.true) in
+        ∙ none-so (λ r. run_view r.now) c.running.result c.is_none.result c.is_none.ensures
+        c.if-is_none.true in
     does-turn g q (goes a) (deeds.starts a) c.begin.new.self c.begin.result
         (honest-starts g a q none) (c.begin.ensures.done g q right s)
 
@@ -22,7 +23,8 @@ pub returns-then-is_none-clause-as_it_was : goal.returns-then-is_none-clause-as_
 returns-then-is_none-clause-as_it_was c = λ g q right s.
     let a = c.args.actor in
     let none = sym (c.running.ensures g tenant_number q s.tenant)
-        ∙ none-so (λ r. run_view r.now) c.running.result (sym c.is_none.ensures ∙ c.if-is_none.true) in
+        ∙ none-so (λ r. run_view r.now) c.running.result c.is_none.result c.is_none.ensures
+        c.if-is_none.true in
     refuses-turn g q (goes a) (deeds.starts a) c.begin.new.self c.begin.result
         (honest-starts g a q none) (c.begin.ensures.refused g q right s)
 
@@ -30,8 +32,8 @@ pub returns-in-Some-Asks-clause-accepted : goal.returns-in-Some-Asks-clause-acce
 returns-in-Some-Asks-clause-accepted c = λ g q right s.
     let a = c.args.actor in
     let w = c.in-Some-Asks._walk in
-    let some = some-so (λ r. run_view r.now) c.running.result
-        (sym c.is_none.ensures ∙ c.if-is_none.false) in
+    let some = some-so (λ r. run_view r.now) c.running.result c.is_none.result c.is_none.ensures
+        c.if-is_none.false in
     let runs = sym (c.running.ensures g tenant_number q s.tenant) ∙ some.1 in
     let at = at-so (λ p. p.now) c.get.result _ (Progress.Asks w) _ c.get.ensures
         c.in-Some-Asks.is c.in-Some-Asks.field-0-is in
@@ -43,8 +45,8 @@ pub returns-in-Some-Asks-clause-as_it_was : goal.returns-in-Some-Asks-clause-as_
 returns-in-Some-Asks-clause-as_it_was c = λ g q right s.
     let a = c.args.actor in
     let w = c.in-Some-Asks._walk in
-    let some = some-so (λ r. run_view r.now) c.running.result
-        (sym c.is_none.ensures ∙ c.if-is_none.false) in
+    let some = some-so (λ r. run_view r.now) c.running.result c.is_none.result c.is_none.ensures
+        c.if-is_none.false in
     let runs = sym (c.running.ensures g tenant_number q s.tenant) ∙ some.1 in
     let at = at-so (λ p. p.now) c.get.result _ (Progress.Asks w) _ c.get.ensures
         c.in-Some-Asks.is c.in-Some-Asks.field-0-is in
@@ -56,8 +58,8 @@ pub returns-in-Some-Ends-clause-accepted : goal.returns-in-Some-Ends-clause-acce
 returns-in-Some-Ends-clause-accepted c = λ g q right s.
     let a = c.args.actor in
     let e = c.in-Some-Ends._ending in
-    let some = some-so (λ r. run_view r.now) c.running.result
-        (sym c.is_none.ensures ∙ c.if-is_none.false) in
+    let some = some-so (λ r. run_view r.now) c.running.result c.is_none.result c.is_none.ensures
+        c.if-is_none.false in
     let runs = sym (c.running.ensures g tenant_number q s.tenant) ∙ some.1 in
     let at = at-so (λ p. p.now) c.get.result _ (Progress.Ends e) _ c.get.ensures
         c.in-Some-Ends.is c.in-Some-Ends.field-0-is in
@@ -69,8 +71,8 @@ pub returns-in-Some-Ends-clause-as_it_was : goal.returns-in-Some-Ends-clause-as_
 returns-in-Some-Ends-clause-as_it_was c = λ g q right s.
     let a = c.args.actor in
     let e = c.in-Some-Ends._ending in
-    let some = some-so (λ r. run_view r.now) c.running.result
-        (sym c.is_none.ensures ∙ c.if-is_none.false) in
+    let some = some-so (λ r. run_view r.now) c.running.result c.is_none.result c.is_none.ensures
+        c.if-is_none.false in
     let runs = sym (c.running.ensures g tenant_number q s.tenant) ∙ some.1 in
     let at = at-so (λ p. p.now) c.get.result _ (Progress.Ends e) _ c.get.ensures
         c.in-Some-Ends.is c.in-Some-Ends.field-0-is in
