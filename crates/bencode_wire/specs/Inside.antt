@@ -1,5 +1,6 @@
 -- How a decoder is kept. No public clause speaks of it.
-use Rattle.std.specs.Prelude.{◌≡◌, ◌≤◌, ◌+◌, ℕ, List, length, take, drop, None, MatchOption, IfSome, option_map}
+use Rattle.std.specs.Prelude.{◌≡◌, ◌≤◌, ◌+◌, ℕ, List, length, take, drop, None, option_map}
+use Rattle.std.specs.Prelude.{MatchOption, IfSome}
 use Rattle.bencode_wire.specs.State.{State, Earlier}
 use Rattle.bencode_wire.specs.Fault.{counted}
 use Rattle.bencode_wire.specs.Held.{Holds}
@@ -30,4 +31,5 @@ pub record IsInStep (a : Inside) : Type 0 where
   pub begun : a.tail.begin ≤ length a.tail.bytes.items
   pub rests : a.fault ≡ None → IsRest a.limit (rest_in a.tail)
   pub held : MatchOption a.reader (Unit {0}) (Holds (rest_in a.tail))
-  pub before : IfSome a.before (λ kept. (kept ≤ length a.tail.bytes.items) × IsRest a.limit (take kept a.tail.bytes.items))
+  pub before : IfSome a.before (λ kept.
+      (kept ≤ length a.tail.bytes.items) × IsRest a.limit (take kept a.tail.bytes.items))

@@ -10,7 +10,14 @@ abbrev pub earlier_of : Decoder → Option Earlier
 earlier_of d = d.earlier
 
 abbrev pub as_it_was : Decoder → Earlier → Decoder
-as_it_was d e = record { limit = d.limit; ready = []; rest = e.rest; place = e.place; fault = None; earlier = None }
+as_it_was d e = record {
+  limit = d.limit;
+  ready = [];
+  rest = e.rest;
+  place = e.place;
+  fault = None;
+  earlier = None;
+}
 
 -- the decoder as if its last piece had not come, where it can go back there
 abbrev pub taken_back : Decoder → Option Earlier → Decoder

@@ -1,5 +1,6 @@
 // A stream of messages, fed in pieces of any size.
-ghost use Rattle.std.specs.Prelude.{◌≡◌, ◌≢◌, ◌↔◌, ◌++◌, ◌≤◌, ℕ, List, [], ◌∷◌, length, drop, IsTrue, None, Some, Err, OnOk, IfOk, IfErr, option_map, option_to_list};
+ghost use Rattle.std.specs.Prelude.{◌≡◌, ◌≢◌, ◌↔◌, ◌++◌, ℕ, List, [], IsTrue, None, Some};
+ghost use Rattle.std.specs.Prelude.{Err, OnOk, IfOk, IfErr, option_map, option_to_list};
 ghost use Rattle.bencode_wire.specs.Tree.{Tree};
 
 use crate::ben::Ben;
@@ -76,13 +77,16 @@ impl Decoder {
     /// Takes the next piece of the stream, which may be empty. Messages before a fault are ready.
     pub fn feed(&mut self, piece: &Bytes) -> Result<(), WireFault>
         // Whatever came before, in whatever pieces, the decoder then stands for all of it.
-        ensures stands { (limit : ℕ) (all : List ℕ) (taken : List Tree) → Stands limit self.old all taken
+        ensures stands { (limit : ℕ) (all : List ℕ) (taken : List Tree)
+            → Stands limit self.old all taken
             → result ≢ Err WireFault.NoMemory → Stands limit self.new (all ++ piece.now) taken }
         // Where no message was ready, it can go back over the piece, and also over a fault in it.
-        ensures returns { (limit : ℕ) (all : List ℕ) (taken : List Tree) → Stands limit self.old all taken
+        ensures returns { (limit : ℕ) (all : List ℕ) (taken : List Tree)
+            → Stands limit self.old all taken
             → ready_of self.old ≡ [] → fault_of self.old ≡ None → result ≢ Err WireFault.NoMemory
             → CanReturn limit self.new all taken }
-        ensures keeps { (limit : ℕ) (all : List ℕ) (taken : List Tree) → Stands limit self.old all taken
+        ensures keeps { (limit : ℕ) (all : List ℕ) (taken : List Tree)
+            → Stands limit self.old all taken
             → result ≡ Err WireFault.NoMemory → Stands limit self.new all taken }
         ensures ok { OnOk result (fault_of self.new ≡ None) }
         ensures fault { IfErr result (λ f. f ≢ WireFault.NoMemory → fault_of self.new ≡ Some f) }
@@ -99,13 +103,16 @@ impl Decoder {
 
     /// Hands out the oldest message that is whole, a dictionary. It takes no memory.
     pub fn next(&mut self) -> Option<Ben>
-        ensures value { ready_of self.old ≡ option_to_list (option_map view result) ++ ready_of self.new }
+        ensures value { ready_of self.old
+            ≡ option_to_list (option_map view result) ++ ready_of self.new }
         ensures none { result ≡ None → ready_of self.old ≡ [] }
-        ensures stands { (limit : ℕ) (all : List ℕ) (taken : List Tree) → Stands limit self.old all taken
+        ensures stands { (limit : ℕ) (all : List ℕ) (taken : List Tree)
+            → Stands limit self.old all taken
             → Stands limit self.new all (taken ++ option_to_list (option_map view result)) }
         ensures rest { rest_of self.new ≡ rest_of self.old }
         ensures fault { fault_of self.new ≡ fault_of self.old }
-        ensures returns { (limit : ℕ) (all : List ℕ) (taken : List Tree) → CanReturn limit self.old all taken
+        ensures returns { (limit : ℕ) (all : List ℕ) (taken : List Tree)
+            → CanReturn limit self.old all taken
             → CanReturn limit self.new all taken }
     {
         self.ready.pop_front()
@@ -129,7 +136,8 @@ impl Decoder {
     /// more at its next piece.
     pub fn copy(&self) -> Result<Decoder, AllocError>
         ensures same { IfOk result (IsUnchanged self.now) }
-        ensures stands { (limit : ℕ) (all : List ℕ) (taken : List Tree) → Stands limit self.now all taken
+        ensures stands { (limit : ℕ) (all : List ℕ) (taken : List Tree)
+            → Stands limit self.now all taken
             → IfOk result (λ d. Stands limit d all taken) }
     {
         Ok(Decoder {
@@ -146,11 +154,15 @@ impl Decoder {
     // Reads a piece behind the bytes that are kept.
     fn take(&mut self, piece: &[u8]) -> Result<(), WireFault>
         requires { fault_of self.old ≡ None }
-        ensures stands { (limit : ℕ) (all : List ℕ) (taken : List Tree) → Stands limit self.old all taken
+        ensures stands { (limit : ℕ) (all : List ℕ) (taken : List Tree)
+            → Stands limit self.old all taken
             → result ≢ Err WireFault.NoMemory → Stands limit self.new (all ++ piece.now) taken }
-        ensures returns { (limit : ℕ) (all : List ℕ) (taken : List Tree) → Stands limit self.old all taken
-            → ready_of self.old ≡ [] → result ≢ Err WireFault.NoMemory → CanReturn limit self.new all taken }
-        ensures keeps { (limit : ℕ) (all : List ℕ) (taken : List Tree) → Stands limit self.old all taken
+        ensures returns { (limit : ℕ) (all : List ℕ) (taken : List Tree)
+            → Stands limit self.old all taken
+            → ready_of self.old ≡ [] → result ≢ Err WireFault.NoMemory
+            → CanReturn limit self.new all taken }
+        ensures keeps { (limit : ℕ) (all : List ℕ) (taken : List Tree)
+            → Stands limit self.old all taken
             → result ≡ Err WireFault.NoMemory → Stands limit self.new all taken }
         ensures ok { OnOk result (fault_of self.new ≡ None) }
         ensures fault { IfErr result (λ f. f ≢ WireFault.NoMemory → fault_of self.new ≡ Some f) }

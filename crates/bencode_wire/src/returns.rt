@@ -1,7 +1,6 @@
 // A decoder goes back over its last piece, or lets go of what it would need for that.
 ghost use Rattle.std.specs.Prelude.{◌≡◌, ℕ, List, [], ◌++◌, None};
 ghost use Rattle.bencode_wire.specs.Tree.{Tree};
-ghost use Rattle.bencode_wire.specs.View.{view};
 ghost use Rattle.bencode_wire.specs.Course.{ready_view};
 ghost use Rattle.bencode_wire.specs.Decoder.{ready_of, fault_of, IsUnchanged, Stands};
 ghost use Rattle.bencode_wire.specs.Return.{earlier_of, taken_back, CanReturn};
@@ -16,9 +15,11 @@ impl Decoder {
     pub fn take_ready(&mut self) -> VecDeque<Ben>
         ensures value { ready_view result.items ≡ ready_of self.old }
         ensures taken { self.new ≡ record self.old { ready = [] } }
-        ensures stands { (limit : ℕ) (all : List ℕ) (taken : List Tree) → Stands limit self.old all taken
+        ensures stands { (limit : ℕ) (all : List ℕ) (taken : List Tree)
+            → Stands limit self.old all taken
             → Stands limit self.new all (taken ++ ready_view result.items) }
-        ensures returns { (limit : ℕ) (all : List ℕ) (taken : List Tree) → CanReturn limit self.old all taken
+        ensures returns { (limit : ℕ) (all : List ℕ) (taken : List Tree)
+            → CanReturn limit self.old all taken
             → CanReturn limit self.new all taken }
     {
         mem::replace(&mut self.ready, VecDeque::new(self.alloc))
@@ -29,11 +30,14 @@ impl Decoder {
     /// back or settled, nothing changes. It takes no memory.
     pub fn take_back(&mut self)
         ensures as_before { self.new ≡ taken_back self.old (earlier_of self.old) }
-        ensures stands { (limit : ℕ) (all : List ℕ) (taken : List Tree) → CanReturn limit self.old all taken
+        ensures stands { (limit : ℕ) (all : List ℕ) (taken : List Tree)
+            → CanReturn limit self.old all taken
             → Stands limit self.new all taken }
-        ensures ready { (limit : ℕ) (all : List ℕ) (taken : List Tree) → CanReturn limit self.old all taken
+        ensures ready { (limit : ℕ) (all : List ℕ) (taken : List Tree)
+            → CanReturn limit self.old all taken
             → ready_of self.new ≡ [] }
-        ensures fault { (limit : ℕ) (all : List ℕ) (taken : List Tree) → CanReturn limit self.old all taken
+        ensures fault { (limit : ℕ) (all : List ℕ) (taken : List Tree)
+            → CanReturn limit self.old all taken
             → fault_of self.new ≡ None }
     {
         let Some(kept) = self.before.take() else {
@@ -51,7 +55,8 @@ impl Decoder {
     pub fn settle(&mut self)
         ensures unchanged { IsUnchanged self.old self.new }
         ensures earlier { earlier_of self.new ≡ None }
-        ensures stands { (limit : ℕ) (all : List ℕ) (taken : List Tree) → Stands limit self.old all taken
+        ensures stands { (limit : ℕ) (all : List ℕ) (taken : List Tree)
+            → Stands limit self.old all taken
             → Stands limit self.new all taken }
     {
         self.tail.settle();

@@ -1,7 +1,7 @@
 // The bytes that a decoder keeps.
-ghost use Rattle.std.specs.Prelude.{◌≡◌, ◌≤◌, ◌+◌, ◌-◌, ◌^◌, min, [], length, drop, IsTrue, ◌↔◌, IfOk};
+ghost use Rattle.std.specs.Prelude.{◌≡◌, ◌≤◌, ◌+◌, ◌-◌, ◌^◌, min, [], length, drop};
+ghost use Rattle.std.specs.Prelude.{IsTrue, ◌↔◌, IfOk};
 
-use crate::copy::copy_bytes;
 use std::alloc::{AllocError, Global};
 
 // The messages that became whole with the last piece, and the part of a message behind them. The
@@ -58,8 +58,10 @@ impl Tail {
     // The unfinished message alone.
     pub(crate) fn copy(&self, alloc: Global) -> Result<Tail, AllocError>
         requires { self.now.begin ≤ length self.now.bytes.items }
-        ensures start { IfOk result (λ copied. copied.start ≡ min (self.now.start + self.now.begin) (2 ^ 64 - 1)) }
-        ensures bytes { IfOk result (λ copied. copied.bytes.items ≡ drop self.now.begin self.now.bytes.items) }
+        ensures start { IfOk result (λ copied.
+            copied.start ≡ min (self.now.start + self.now.begin) (2 ^ 64 - 1)) }
+        ensures bytes { IfOk result (λ copied.
+            copied.bytes.items ≡ drop self.now.begin self.now.bytes.items) }
         ensures begin { IfOk result (λ copied. copied.begin ≡ 0) }
     {
         Ok(Tail {

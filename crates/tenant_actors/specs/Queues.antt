@@ -7,11 +7,13 @@ use Rattle.server_rules.specs.Tenant.{ActorData}
 
 -- the actor that is found at a seat changes; where there is none, nothing does
 abbrev pub changed_found
-    : ℕ → (ActorData → ActorData) → List (Entry ActorData) → Option ActorData → List (Entry ActorData)
+    : ℕ → (ActorData → ActorData) → List (Entry ActorData) → Option ActorData
+    → List (Entry ActorData)
 changed_found seat f es None = es
 changed_found seat f es (Some actor) = replaced seat (f actor) es
 
-abbrev pub changed_at : ℕ → (ActorData → ActorData) → List (Entry ActorData) → List (Entry ActorData)
+abbrev pub changed_at
+    : ℕ → (ActorData → ActorData) → List (Entry ActorData) → List (Entry ActorData)
 changed_at seat f es = changed_found seat f es (found seat es)
 
 -- a request waits behind the others

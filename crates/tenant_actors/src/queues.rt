@@ -15,9 +15,11 @@ impl Actors {
     /// only for want of memory.
     pub fn queue(&mut self, actor: Actor, request: Waiting) -> Result<(), AllocError>
         ensures queued { OnOk result (actors_view self.new
-            ≡ changed_at (seat_of actor) (with_request (waiting_view request)) (actors_view self.old)) }
+            ≡ changed_at (seat_of actor) (with_request (waiting_view request))
+            (actors_view self.old)) }
         // `unqueue` undoes it
-        ensures undone { OnOk result (changed_at (seat_of actor) without_newest (actors_view self.new)
+        ensures undone { OnOk result (
+            changed_at (seat_of actor) without_newest (actors_view self.new)
             ≡ actors_view self.old) }
         ensures stays { OnErr result (actors_view self.new ≡ actors_view self.old) }
     {
@@ -30,8 +32,8 @@ impl Actors {
         }
     }
 
-    /// Takes the newest request that waits for the actor of this name back, if it is there. It takes
-    /// no memory.
+    /// Takes the newest request that waits for the actor of this name back, if it is there. It
+    /// takes no memory.
     pub fn unqueue(&mut self, actor: Actor)
         ensures { actors_view self.new
             ≡ changed_at (seat_of actor) without_newest (actors_view self.old) }

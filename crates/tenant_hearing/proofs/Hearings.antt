@@ -5,10 +5,10 @@ use Rattle.bencode_wire.specs.Tree.{Tree, integer, string, list, dictionary}
 use Rattle.bencode_wire.specs.Stream.{Ending, rest, fault, Streams}
 use Rattle.bencode_wire.specs.Fault.{counted}
 use Rattle.bencode_wire.specs.Decoder.{ready_of, fault_of, Shows, Stands}
-use Rattle.bencode_wire.specs.declared.decoder.Decoder.{Decoder}
-use Rattle.bencode_wire.specs.declared.fault.WireFault.{WireFault}
 use Rattle.bencode_wire.specs.Return.{taken_back}
 use Rattle.bencode_wire.specs.State.{Earlier}
+use Rattle.bencode_wire.specs.declared.decoder.Decoder.{Decoder}
+use Rattle.bencode_wire.specs.declared.fault.WireFault.{WireFault}
 use Rattle.bencode_wire.proofs.Unique.{streams_same}
 use Rattle.repl_sessions.specs.Named.{NamedSessions, number_named}
 use Rattle.repl_replies.specs.Operations as operations
@@ -118,8 +118,7 @@ heard-all g t q piece messages broken count d s es waiting right stands ready is
       holds = subst (λ (it : Quiet). Holds g t it s es waiting) after held;
     }
 
--- a decoder that goes back has no messages ready
-pub back-none : (d : Decoder) (e : Option Earlier) → ready_of d ≡ []
-    → ready_of (taken_back d e) ≡ []
-back-none d None none = none
-back-none d (Some e) none = refl
+-- no message is ready once the piece is taken back
+pub none-ready-back : (d : Decoder) (o : Option Earlier) → ready_of d ≡ [] → ready_of (taken_back d o) ≡ []
+none-ready-back d None none = none
+none-ready-back d (Some e) none = refl

@@ -10,7 +10,8 @@ use Rattle.tenant_hearing.specs.Holds.{Holds}
 use Rattle.tenant_hearing.specs.Reads.{Reads}
 
 pub record IsHeard (g : Ground) (t : ℕ) (q : Quiet) (piece : List ℕ) (count : ℕ)
-    (d : Decoder) (s : NamedSessions) (es : List (Entry ActorData)) (waiting : List (List ℕ)) : Type 0 where
+    (d : Decoder) (s : NamedSessions) (es : List (Entry ActorData)) (waiting : List (List ℕ))
+    : Type 0 where
   pub messages : count ≡ length (new_messages g.readings q.heard piece)
   pub reads : Reads g (taken_in g t piece q).heard d
   pub holds : Holds g t (taken_in g t piece q) s es waiting

@@ -44,7 +44,8 @@ all_vacated (n ∷ ns) es = all_vacated ns (vacated_at (seat_of (Actor.Session n
 
 -- once those that are leaving have left, and what was made waits behind what waits, the tenant is
 -- that of the rules
-pub record Drafts (g : Ground) (t : ℕ) (q : Quiet) (waiting : List (List ℕ)) (x : Scene) : Type 0 where
+pub record Drafts (g : Ground) (t : ℕ) (q : Quiet) (waiting : List (List ℕ)) (x : Scene)
+    : Type 0 where
   pub ids : x.sessions.ids ≡ ids_for g t
   pub sessions : q.sessions ≡ remaining x.leaving x.sessions.sessions
   pub actors : q.actors ≡ all_vacated x.leaving x.actors
@@ -58,5 +59,6 @@ Comes step old new = (g : Ground) (t : ℕ) (q : Quiet) (waiting : List (List �
 
 -- what was changed can be undone, and the next session finds its seat free
 pub record IsKept (old new : Scene) : Type 0 where
-  pub undone : all_undone new.log (parts new.sessions new.actors) ≡ all_undone old.log (parts old.sessions old.actors)
+  pub undone : all_undone new.log (parts new.sessions new.actors)
+      ≡ all_undone old.log (parts old.sessions old.actors)
   pub seated : AreSeated new.sessions new.actors

@@ -57,7 +57,8 @@ impl Draft {
         requires { AreSeated sessions.old (actors_view actors.old) }
         ensures heard { OnOk result (Comes (λ g t. with_all g t (map view messages.items) is_broken)
             (scene self.old sessions.old actors.old) (scene self.new sessions.new actors.new)) }
-        ensures kept { IsKept (scene self.old sessions.old actors.old) (scene self.new sessions.new actors.new) }
+        ensures kept { IsKept (scene self.old sessions.old actors.old)
+            (scene self.new sessions.new actors.new) }
     {
         while let Some(message) = messages.pop_front() {
             self.hear(message, sessions, actors)?;
@@ -78,7 +79,8 @@ impl Draft {
         requires { AreSeated sessions.old (actors_view actors.old) }
         ensures heard { OnOk result (Comes (λ g t. with_message g t (view message))
             (scene self.old sessions.old actors.old) (scene self.new sessions.new actors.new)) }
-        ensures kept { IsKept (scene self.old sessions.old actors.old) (scene self.new sessions.new actors.new) }
+        ensures kept { IsKept (scene self.old sessions.old actors.old)
+            (scene self.new sessions.new actors.new) }
     {
         match message {
             Ben::Dictionary(fields) => self.hear_fields(fields, sessions, actors),
@@ -95,9 +97,11 @@ impl Draft {
         actors: &mut Actors,
     ) -> Result<(), AllocError>
         requires { AreSeated sessions.old (actors_view actors.old) }
-        ensures heard { OnOk result (Comes (λ g t. with_message g t (dictionary (pairs_view fields.entries)))
+        ensures heard { OnOk result (Comes
+            (λ g t. with_message g t (dictionary (pairs_view fields.entries)))
             (scene self.old sessions.old actors.old) (scene self.new sessions.new actors.new)) }
-        ensures kept { IsKept (scene self.old sessions.old actors.old) (scene self.new sessions.new actors.new) }
+        ensures kept { IsKept (scene self.old sessions.old actors.old)
+            (scene self.new sessions.new actors.new) }
     {
         match asked_of(fields, sessions, &self.leaving) {
             Ok(Asked { origin, operation }) => self.operate(origin, operation, sessions, actors),

@@ -1,5 +1,6 @@
 // A tenant hears a piece of its stream.
-ghost use Rattle.std.specs.Prelude.{◌≡◌, ℕ, List, [], ◌++◌, ◌≢◌, true, false, None, is_some, IfOk, OnOk, OnErr};
+ghost use Rattle.std.specs.Prelude.{◌≡◌, ◌≢◌, ℕ, List, [], ◌++◌, true, false, None, is_some};
+ghost use Rattle.std.specs.Prelude.{IfOk, OnOk, OnErr};
 ghost use Rattle.bencode_wire.specs.Tree.{Tree};
 ghost use Rattle.bencode_wire.specs.Decoder.{ready_of, fault_of, Stands, IsUnchanged};
 ghost use Rattle.bencode_wire.specs.Return.{CanReturn};
@@ -20,9 +21,9 @@ use std::alloc::{AllocError, Global};
 use tenant_actors::Actors;
 use tenant_replies::Outbox;
 
-/// Hears the next piece of the stream, and answers how many messages became whole with it. They are
-/// carried out, those before a fault too, and a fault is told. It fails only for want of memory, and
-/// then changes nothing.
+/// Hears the next piece of the stream, and answers how many messages became whole with it. They
+/// are carried out, those before a fault too, and a fault is told. It fails only for want of
+/// memory, and then changes nothing.
 pub fn hear(
     alloc: Global,
     piece: &Bytes,
@@ -34,13 +35,15 @@ pub fn hear(
     requires ready { ready_of decoder.old ≡ [] }
     requires sound { fault_of decoder.old ≡ None }
     requires seated { AreSeated sessions.old (actors_view actors.old) }
-    ensures heard { (g : Ground) (t : ℕ) (q : Quiet) → AreRight g.readings → Reads g q.heard decoder.old
+    ensures heard { (g : Ground) (t : ℕ) (q : Quiet) → AreRight g.readings
+        → Reads g q.heard decoder.old
         → Holds g t q sessions.old (actors_view actors.old) (waiting_bytes outbox.old)
         → IfOk result (λ count. IsHeard g t q piece.now count
         decoder.new sessions.new (actors_view actors.new) (waiting_bytes outbox.new)) }
-    ensures taken { ready_of decoder.new ≡ [] }
+    ensures ready { ready_of decoder.new ≡ [] }
     ensures seated { AreSeated sessions.new (actors_view actors.new) }
-    ensures stream_stays { (g : Ground) (bytes : List ℕ) → Reads g bytes decoder.old → OnErr result (Reads g bytes decoder.new) }
+    ensures stream_stays { (g : Ground) (bytes : List ℕ) → Reads g bytes decoder.old
+        → OnErr result (Reads g bytes decoder.new) }
     ensures sessions_stay { OnErr result (sessions.new ≡ sessions.old) }
     ensures actors_stay { OnErr result (actors_view actors.new ≡ actors_view actors.old) }
     ensures replies_stay { OnErr result (waiting_bytes outbox.new ≡ waiting_bytes outbox.old) }
@@ -64,11 +67,14 @@ pub fn hear(
 fn fed(decoder: &mut Decoder, piece: &Bytes) -> Result<bool, AllocError>
     requires { fault_of decoder.old ≡ None }
     ensures broken { IfOk result (λ broken. broken ≡ is_some (fault_of decoder.new)) }
-    ensures stands { (limit : ℕ) (all : List ℕ) (taken : List Tree) → Stands limit decoder.old all taken
+    ensures stands { (limit : ℕ) (all : List ℕ) (taken : List Tree)
+        → Stands limit decoder.old all taken
         → OnOk result (Stands limit decoder.new (all ++ piece.now) taken) }
-    ensures returns { (limit : ℕ) (all : List ℕ) (taken : List Tree) → Stands limit decoder.old all taken
+    ensures returns { (limit : ℕ) (all : List ℕ) (taken : List Tree)
+        → Stands limit decoder.old all taken
         → ready_of decoder.old ≡ [] → OnOk result (CanReturn limit decoder.new all taken) }
-    ensures keeps { (limit : ℕ) (all : List ℕ) (taken : List Tree) → Stands limit decoder.old all taken
+    ensures keeps { (limit : ℕ) (all : List ℕ) (taken : List Tree)
+        → Stands limit decoder.old all taken
         → OnErr result (Stands limit decoder.new all taken) }
     ensures stays { OnErr result (IsUnchanged decoder.old decoder.new) }
 {

@@ -1,10 +1,9 @@
 // Each operation is carried out (the nREPL manual, "Supported nREPL operations").
-ghost use Rattle.std.specs.Prelude.{◌≡◌, [], ◌∷◌, ◌++◌, map, OnOk, Some};
+ghost use Rattle.std.specs.Prelude.{◌≡◌, OnOk, Some};
 ghost use Rattle.std.specs.BTreeSet.{keys};
 ghost use Rattle.repl_sessions.specs.Named.{NamedSessions};
 ghost use Rattle.repl_replies.specs.View.{origin_view, operation_view};
 ghost use Rattle.server_rules.specs.Operating.{operated, with_clone, with_close, asker};
-ghost use Rattle.server_rules.specs.Tenant.{seat_of};
 ghost use Rattle.tenant_actors.specs.View.{waiting_view, actors_view};
 ghost use Rattle.tenant_hearing.specs.Holds.{AreSeated};
 ghost use Rattle.tenant_hearing.specs.Scene.{scene, Comes, IsKept};
@@ -30,10 +29,13 @@ impl Draft {
         actors: &mut Actors,
     ) -> Result<(), AllocError>
         requires seated { AreSeated sessions.old (actors_view actors.old) }
-        requires served { IsServed (session_of (operation_view operation)) (keys self.old.leaving) sessions.old.sessions }
-        ensures heard { OnOk result (Comes (λ g t. operated g t (origin_view origin) (operation_view operation))
+        requires served { IsServed (session_of (operation_view operation)) (keys self.old.leaving)
+            sessions.old.sessions }
+        ensures heard { OnOk result (Comes
+            (λ g t. operated g t (origin_view origin) (operation_view operation))
             (scene self.old sessions.old actors.old) (scene self.new sessions.new actors.new)) }
-        ensures kept { IsKept (scene self.old sessions.old actors.old) (scene self.new sessions.new actors.new) }
+        ensures kept { IsKept (scene self.old sessions.old actors.old)
+            (scene self.new sessions.new actors.new) }
     {
         match operation {
             Operation::Clone { session } => self.open(&origin, session, sessions, actors),
@@ -71,7 +73,8 @@ impl Draft {
         requires served { IsServed original (keys self.old.leaving) sessions.old.sessions }
         ensures heard { OnOk result (Comes (λ g t. with_clone g t (origin_view origin.now) original)
             (scene self.old sessions.old actors.old) (scene self.new sessions.new actors.new)) }
-        ensures kept { IsKept (scene self.old sessions.old actors.old) (scene self.new sessions.new actors.new) }
+        ensures kept { IsKept (scene self.old sessions.old actors.old)
+            (scene self.new sessions.new actors.new) }
     {
         self.log.reserve(1)?;
         let number = sessions.clone_of(self.alloc, original)?;

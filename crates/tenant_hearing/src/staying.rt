@@ -36,9 +36,11 @@ pub(crate) fn asked_of(
     leaving: &BTreeSet<u64>,
 ) -> Result<Asked, Reply>
     ensures asked { result_map_both asked_view reply_view result
-        ≡ meant.asked (number_named (remaining_named (keys leaving.now) sessions.now)) (pairs_view fields.entries) }
+        ≡ meant.asked (number_named (remaining_named (keys leaving.now) sessions.now))
+        (pairs_view fields.entries) }
     ensures served { IfOk result (λ asked.
-        IsServed (session_of (operation_view asked.operation)) (keys leaving.now) sessions.now.sessions) }
+        IsServed (session_of (operation_view asked.operation)) (keys leaving.now)
+            sessions.now.sessions) }
 {
     operation_of(fields, &Staying { sessions, leaving })
 }

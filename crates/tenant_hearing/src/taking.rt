@@ -3,19 +3,17 @@ ghost use Rattle.std.specs.Prelude.{◌≡◌, ◌++◌, ℕ, map, Ok, OnOk, OnE
 ghost use Rattle.std.specs.BTreeSet.{keys};
 ghost use Rattle.bencode_wire.specs.View.{view};
 ghost use Rattle.server_rules.specs.Ground.{Ground};
-ghost use Rattle.server_rules.specs.Hearing.{with_messages};
 ghost use Rattle.server_rules.specs.Tenant.{Quiet};
 ghost use Rattle.tenant_actors.specs.View.{actors_view};
 ghost use Rattle.tenant_replies.specs.View.{made_bytes, waiting_bytes};
 ghost use Rattle.tenant_hearing.specs.Holds.{Holds, AreSeated};
-ghost use Rattle.tenant_hearing.specs.Scene.{scene, all_vacated, Comes, IsKept};
+ghost use Rattle.tenant_hearing.specs.Scene.{all_vacated};
 ghost use Rattle.tenant_hearing.specs.Taken.{with_all};
 ghost use Rattle.repl_sessions.specs.Leaving.{remaining_named};
 
 use crate::changes::undo_all;
 use crate::draft::Draft;
 use bencode_wire::Ben;
-use repl_replies::{Body, Origin};
 use repl_sessions::Sessions;
 use server_rules::Actor;
 use std::alloc::{AllocError, Global};
@@ -23,8 +21,8 @@ use std::collections::{BTreeSet, VecDeque};
 use tenant_actors::Actors;
 use tenant_replies::{Batch, Outbox};
 
-/// Carries out the messages of a piece, oldest first, and then tells of a fault of the stream, where
-/// the piece has one. It fails only for want of memory, and then changes nothing.
+/// Carries out the messages of a piece, oldest first, and then tells of a fault of the stream,
+/// where the piece has one. It fails only for want of memory, and then changes nothing.
 ///
 /// A message costs about the logarithm of the number of sessions, and what it asks for; a list of
 /// the sessions a step for each.
@@ -72,7 +70,8 @@ fn posted(
     outbox: &mut Outbox,
     batch: Batch,
 ) -> Result<(), AllocError>
-    ensures posted { OnOk result (waiting_bytes outbox.new ≡ waiting_bytes outbox.old ++ made_bytes batch) }
+    ensures posted { OnOk result (waiting_bytes outbox.new
+        ≡ waiting_bytes outbox.old ++ made_bytes batch) }
     ensures filled { OnOk result (filled ≡ Ok tt) }
     ensures stays { OnErr result (waiting_bytes outbox.new ≡ waiting_bytes outbox.old) }
 {

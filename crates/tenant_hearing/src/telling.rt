@@ -27,7 +27,8 @@ pub(crate) fn add_list(
     leaving: &BTreeSet<u64>,
 ) -> Result<(), AllocError>
     ensures { OnOk result (made_bytes batch.new ≡ made_bytes batch.old ++ map bytes_of
-        (reply (origin_view origin.now) (replies.sessions (ids_of (remaining_named (keys leaving.now) sessions.now))) ∷ [])) }
+        (reply (origin_view origin.now) (replies.sessions
+            (ids_of (remaining_named (keys leaving.now) sessions.now))) ∷ [])) }
 {
     let ids = sessions.list_but(alloc, leaving)?;
     batch.add(origin, Body::Sessions(ids))

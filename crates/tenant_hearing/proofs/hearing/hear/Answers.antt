@@ -8,8 +8,7 @@ use Rattle.bencode_wire.specs.declared.fault.WireFault.{WireFault}
 use Rattle.server_rules.specs.Readings.{message_limit}
 use Rattle.server_rules.specs.Tenant.{Quiet}
 use Rattle.tenant_hearing.specs.Holds.{Holds}
-use Rattle.bencode_wire.specs.Return.{earlier_of}
-use Rattle.tenant_hearing.proofs.Hearings.{heard-all, back-none}
+use Rattle.tenant_hearing.proofs.Hearings.{heard-all, none-ready-back}
 use Rattle.tenant_hearing.proofs.hearing.hear.Goals as goal
 
 pub returns-in-Ok-clause-heard : goal.returns-in-Ok-clause-heard
@@ -41,12 +40,7 @@ returns-in-Err-clause-stream_stays c = λ g bytes reads.
       fault = c.take_back.ensures.fault message_limit bytes before back ∙ sym c.requires.sound ∙ reads.fault;
     }
 
-pub returns-in-Ok-clause-taken : goal.returns-in-Ok-clause-taken
-returns-in-Ok-clause-taken c =
-    c.settle.ensures.unchanged.ready ∙ ap ready_of c.take_ready-messages.ensures.taken
-
-pub returns-in-Err-clause-taken : goal.returns-in-Err-clause-taken
-returns-in-Err-clause-taken c =
-    let d = c.take_ready-messages.new.self in
+pub returns-in-Err-clause-ready : goal.returns-in-Err-clause-ready
+returns-in-Err-clause-ready c =
     ap ready_of c.take_back.ensures.as_before
-    ∙ back-none d (earlier_of d) (ap ready_of c.take_ready-messages.ensures.taken)
+    ∙ none-ready-back c.take_ready-messages.new.self _ (ap ready_of c.take_ready-messages.ensures.taken)

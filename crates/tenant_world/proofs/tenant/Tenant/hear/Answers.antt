@@ -56,7 +56,7 @@ hear-requires-clause-seated c = seated-below _ _ c.args.self.now.seated
 
 pub invariant_of-self-2 : goal.invariant_of-self-2
 invariant_of-self-2 c = record {
-  taken = ap length c.in_ok-count.ensures.taken;
+  taken = ap length c.in_ok-count.ensures.ready;
   seated = below-seated _ _ c.in_ok-count.ensures.seated;
 }
 
