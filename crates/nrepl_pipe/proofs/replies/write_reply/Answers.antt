@@ -3,7 +3,7 @@ use Rattle.std.specs.Io.KnownBytes.{Appends}
 use Rattle.std.proofs.KnownBytes.{Appends-nil, Appends-trans, Appends-kept}
 use Rattle.nrepl_pipe.proofs.Growing.{front-grows, front-grows_slice, front-whole}
 use Rattle.nrepl_pipe.proofs.Marking.{marks-none}
-use Rattle.nrepl_pipe.proofs.stream.write_reply.Goals as goal
+use Rattle.nrepl_pipe.proofs.replies.write_reply.Goals as goal
 
 pub loop-rest-init : goal.loop-rest-init
 loop-rest-init g c = record { written = ([], refl, Appends-nil _); writes = marks-none _ }
@@ -12,15 +12,25 @@ pub returns-in-Ok-eq0-clause-err : goal.returns-in-Ok-eq0-clause-err
 returns-in-Ok-eq0-clause-err g c =
     let now = c.loop-rest.invariant.written in
     let rest = c.loop-rest.rest.now in
-    let none = subst (λ (n : ℕ). Appends (g.W.Sink.contents c.loop-rest.writer) (g.W.Sink.contents c.write_bytes.new.self) (take n rest)) c.in-Ok-eq0.field-0-test c.in-Ok-eq0.ensures.bytes in
-    (now.0 ++ take 0 rest, drop 0 rest, front-grows _ now.0 rest 0 now.1, Appends-trans _ _ _ _ _ now.2 none)
+    let none = subst (λ (n : ℕ). Appends (g.W.Sink.contents c.loop-rest.writer)
+    (g.W.Sink.contents c.write_bytes.new.self) (take n rest)) c.in-Ok-eq0.field-0-test
+    c.in-Ok-eq0.ensures.bytes in (
+      now.0 ++ take 0 rest,
+      drop 0 rest,
+      front-grows _ now.0 rest 0 now.1,
+      Appends-trans _ _ _ _ _ now.2 none,
+    )
 
 pub loop-rest-preserved : goal.loop-rest-preserved
 loop-rest-preserved g c =
     let now = c.loop-rest.invariant.written in
     let rest = c.loop-rest.rest.now in
     record {
-      written = (now.0 ++ take c.in-Ok.n rest, front-grows_slice _ now.0 rest c.in-Ok.n now.1, Appends-trans _ _ _ _ _ now.2 c.in-Ok.ensures.bytes);
+      written = (
+        now.0 ++ take c.in-Ok.n rest,
+        front-grows_slice _ now.0 rest c.in-Ok.n now.1,
+        Appends-trans _ _ _ _ _ now.2 c.in-Ok.ensures.bytes,
+      );
       writes = search rules;
     }
 
