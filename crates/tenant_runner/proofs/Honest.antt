@@ -1,8 +1,7 @@
 -- The honest deed of an actor, from the form of it that runs and how far its evaluation came.
 use Rattle.std.proofs.Common.{◌≡◌, ◌≢◌, Option, Some, None, option_and_then, refl, sym, ap, subst, ◌∙◌}
-use Rattle.std.proofs.Common.{Result, Ok, Err, IfErr, OnOk, unwrap_or}
+use Rattle.std.proofs.Common.{Result, Ok, Err, IfErr, OnOk}
 use Rattle.repl_asks.specs.View.{ask_view}
-use Rattle.repl_jobs.specs.Tree.{Tree}
 use Rattle.repl_jobs.specs.Leading.{after}
 use Rattle.repl_walker.specs.Waits.{progress_tree}
 use Rattle.repl_walker.specs.declared.waiting.Walk.{Walk}
@@ -18,7 +17,7 @@ use Rattle.server_rules.specs.Turns.{honest, honest_at, honest_of, honest_in, ho
 use Rattle.server_rules.specs.declared.actor.Actor.{Actor}
 use Rattle.server_rules.specs.declared.refusal.Refusal.{Refusal}
 use Rattle.tenant_turns.specs.NoRefs.{outcome}
-use Rattle.tenant_turns.specs.Turns.{Turn, hears, goes, deed_of, step, stepped_as, refused, tenant_number}
+use Rattle.tenant_turns.specs.Turns.{Turn, deed_of, step, stepped_as, tenant_number}
 use Rattle.tenant_turns.specs.Turned.{Accepted, IsRefused}
 use Rattle.tenant_world.specs.Running.{running_of, running_in}
 use Rattle.tenant_runner.specs.Ended.{ended}

@@ -1,18 +1,18 @@
 -- What a deed that was accepted leaves.
-use Rattle.std.proofs.Common.{◌≡◌, ◌≢◌, ◌==◌, ℕ, List, [], ◌∷◌, ◌++◌, Bool, true, false, length}
-use Rattle.std.proofs.Common.{Option, Some, None, option_and_then, refl, sym, ap, subst, ◌∙◌, if◌then◌else◌}
+use Rattle.std.proofs.Common.{◌≡◌, ◌==◌, ℕ, List, Bool, true, false, length}
+use Rattle.std.proofs.Common.{Option, Some, None, option_and_then, refl, sym, ap, ◌∙◌, if◌then◌else◌}
 use Rattle.bencode_wire.specs.declared.fault.WireFault.{WireFault}
 use Rattle.repl_asks.specs.Exchange.{AskData, AnswerData}
 use Rattle.server_rules.specs.Calls.{gives_up}
 use Rattle.server_rules.specs.Ground.{Ground}
-use Rattle.server_rules.specs.Hearing.{stream_fault, hears_more, new_messages, taken_in}
+use Rattle.server_rules.specs.Hearing.{stream_fault, new_messages, taken_in}
 use Rattle.server_rules.specs.Numbered.{found}
 use Rattle.server_rules.specs.Request.{Hand, Run}
 use Rattle.server_rules.specs.Tenant.{ActorData, Quiet, seat_of, is_held}
 use Rattle.server_rules.specs.Plan as deeds
 use Rattle.server_rules.specs.Plan.{Plan, Outcome, StepAnswer, refuses, leaves, spent, quietly}
 use Rattle.server_rules.specs.Plan.{messages_heard, ask_answered}
-use Rattle.server_rules.specs.Deeds.{for_actor, unless_worn}
+use Rattle.server_rules.specs.Deeds.{for_actor}
 use Rattle.server_rules.specs.Asking.{asked_of, asked_running, asked_allowed, answered, answer_to}
 use Rattle.server_rules.specs.Asking.{recorded, spaces_after, call_of, is_allowed, when_told}
 use Rattle.server_rules.specs.Starting.{interrupted_in}

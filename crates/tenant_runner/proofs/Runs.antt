@@ -1,10 +1,8 @@
 -- The forms that run, through what a tenant hears.
-use Rattle.std.proofs.Common.{◌≡◌, ◌≢◌, ◌==◌, ℕ, List, [], ◌∷◌, ◌++◌, Bool, true, false}
+use Rattle.std.proofs.Common.{◌≡◌, ◌==◌, ℕ, List, [], ◌∷◌, ◌++◌, Bool, true, false}
 use Rattle.std.proofs.Common.{Option, Some, None, option_and_then, Result, Ok, Err, refl, sym, ap, ◌∙◌}
-use Rattle.std.proofs.Common.{if◌then◌else◌, true≢false}
 use Rattle.std.proofs.lemmas.Bool.{eqb-true, eqb-false, eq-eqb, ne_eqb}
 use Rattle.bencode_wire.specs.Tree.{Tree, integer, string, list, dictionary}
-use Rattle.bencode_wire.specs.declared.fault.WireFault.{WireFault}
 use Rattle.repl_sessions.specs.Named.{number_named}
 use Rattle.repl_replies.specs.Operations as operations
 use Rattle.repl_replies.specs.Operations.{AskedData, OperationData}

@@ -6,4 +6,4 @@ mod runner;
 mod turns;
 mod walks;
 
-pub use runner::Runner;
+pub use runner::{RETRIES, Runner, STEPS};

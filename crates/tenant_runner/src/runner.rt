@@ -3,6 +3,12 @@ use crate::walks::Walks;
 use std::alloc::Global;
 use tenant_world::Tenant;
 
+/// The steps that a tenant takes unless told otherwise.
+pub const STEPS: u32 = 4_194_304;
+
+/// How many attempts a transaction has unless told otherwise.
+pub const RETRIES: u32 = 10_000;
+
 /// A tenant with, for each actor whose form runs, how far its evaluation came. It makes the turns
 /// of a tenant that is served alone.
 ///

@@ -1,4 +1,4 @@
-use Rattle.std.proofs.Common.{◌≡◌, ◌∙◌, Some, refl, sym, ap, subst}
+use Rattle.std.proofs.Common.{◌∙◌, refl, sym, ap, subst}
 use Rattle.repl_asks.specs.Exchange.{AskData}
 use Rattle.repl_asks.specs.View.{ask_view, answer_view}
 use Rattle.repl_walker.specs.declared.waiting.Progress.{Progress}
@@ -9,7 +9,6 @@ use Rattle.tenant_turns.specs.Turns.{tenant_number}
 use Rattle.tenant_world.specs.Answers.{asked_view}
 use Rattle.tenant_world.specs.declared.answers.Asked.{Asked}
 use Rattle.tenant_world.specs.Standing as world
-use Rattle.tenant_runner.specs.WalkAt.{walk_at}
 use Rattle.tenant_runner.proofs.Walking.{asks-same, at-so, some-same}
 use Rattle.tenant_runner.proofs.Steps.{does-followed, does-resumed, refused-runner}
 use Rattle.tenant_runner.proofs.runner.Runner.ask.Goals as goal

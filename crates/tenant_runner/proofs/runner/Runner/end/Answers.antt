@@ -1,4 +1,4 @@
-use Rattle.std.proofs.Common.{◌≡◌, ◌∙◌, Some, refl, sym, ap, subst}
+use Rattle.std.proofs.Common.{◌≡◌, ◌∙◌, refl, sym, ap, subst}
 use Rattle.repl_asks.specs.View.{trace_view}
 use Rattle.repl_jobs.specs.View.{job_view, finished_view}
 use Rattle.repl_walker.specs.declared.waiting.Progress.{Progress}

@@ -1,7 +1,6 @@
-use Rattle.std.proofs.Common.{◌≡◌, ◌∙◌, Some, None, Option, sym, ap, subst, option_map}
+use Rattle.std.proofs.Common.{◌≡◌, ◌∙◌, Some, None, sym, ap, subst, option_map}
 use Rattle.tenant_actors.specs.View.{run_view}
 use Rattle.tenant_turns.specs.Turns.{tenant_number}
-use Rattle.tenant_world.specs.Running.{running_in}
 use Rattle.tenant_runner.specs.Walked.{IsWalkOf}
 use Rattle.tenant_runner.specs.WalkAt.{walk_at}
 use Rattle.tenant_runner.proofs.Walking.{walked-all, some-same}
