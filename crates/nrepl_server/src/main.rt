@@ -21,9 +21,7 @@ enum Chosen {
 }
 
 fn command_line<'a>(alloc: Global) -> Result<Command<'a>, AllocError> {
-    let seed = Arg::new(alloc, "seed")
-        .long("seed")
-        .action(ArgAction::Set);
+    let seed = Arg::new(alloc, "seed").long("seed").action(ArgAction::Set);
     let pipe = Command::new(alloc, "pipe").arg(seed)?;
     Command::new(alloc, "nrepl_server")
         .subcommand_required(true)

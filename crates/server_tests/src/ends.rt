@@ -32,12 +32,7 @@ struct Served {
     errors: Vec<u8>,
 }
 
-fn serve_in_pieces(
-    alloc: Global,
-    mut runner: Runner,
-    input: &[u8],
-    piece: usize,
-) -> Served {
+fn serve_in_pieces(alloc: Global, mut runner: Runner, input: &[u8], piece: usize) -> Served {
     let mut reader = PieceReader { input, piece };
     let mut output = Vec::new(alloc);
     let mut errors = Vec::new(alloc);

@@ -66,7 +66,13 @@ fn failing_reads(rt: HostRuntime) -> Result<(), Fail> {
         let mut output = Vec::new(rt.alloc());
         let mut errors = Vec::new(rt.alloc());
         let mut runner = fresh_runner(rt.alloc())?;
-        let status = pipe_command(rt.alloc(), &mut runner, &mut reader, &mut output, &mut errors);
+        let status = pipe_command(
+            rt.alloc(),
+            &mut runner,
+            &mut reader,
+            &mut output,
+            &mut errors,
+        );
         let is_whole = reads == 6;
         let line = if is_whole { "" } else { "nrepl: read failed\n" };
         assert_eq!(rt; errors.as_slice(), line.as_bytes(), "{reads}");
@@ -91,7 +97,13 @@ fn failing_writes(rt: HostRuntime) -> Result<(), Fail> {
             };
             let mut errors = Vec::new(rt.alloc());
             let mut runner = fresh_runner(rt.alloc())?;
-            let status = pipe_command(rt.alloc(), &mut runner, &mut input, &mut writer, &mut errors);
+            let status = pipe_command(
+                rt.alloc(),
+                &mut runner,
+                &mut input,
+                &mut writer,
+                &mut errors,
+            );
             let is_whole = writes == 8;
             let line = if is_whole {
                 ""

@@ -153,7 +153,13 @@ fn output_at_its_limit(rt: HostRuntime) -> Result<(), Fail> {
         let mut output = Vec::new(rt.alloc());
         let mut errors = Vec::new(rt.alloc());
         let mut runner = fresh_runner(rt.alloc())?;
-        let status = pipe_command(rt.alloc(), &mut runner, &mut reader, &mut output, &mut errors);
+        let status = pipe_command(
+            rt.alloc(),
+            &mut runner,
+            &mut reader,
+            &mut output,
+            &mut errors,
+        );
         assert!(rt; output == expected, "{more}");
         assert_eq!(rt; errors.len(), 0, "{more}");
         assert_eq!(rt; status, 0, "{more}");

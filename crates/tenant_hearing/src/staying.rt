@@ -40,7 +40,7 @@ pub(crate) fn asked_of(
         (pairs_view fields.entries) }
     ensures served { IfOk result (λ asked.
         IsServed (session_of (operation_view asked.operation)) (keys leaving.now)
-            sessions.now.sessions) }
+        sessions.now.sessions) }
 {
     operation_of(fields, &Staying { sessions, leaving })
 }

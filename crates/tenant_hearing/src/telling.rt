@@ -28,7 +28,7 @@ pub(crate) fn add_list(
 ) -> Result<(), AllocError>
     ensures { OnOk result (made_bytes batch.new ≡ made_bytes batch.old ++ map bytes_of
         (reply (origin_view origin.now) (replies.sessions
-            (ids_of (remaining_named (keys leaving.now) sessions.now))) ∷ [])) }
+        (ids_of (remaining_named (keys leaving.now) sessions.now))) ∷ [])) }
 {
     let ids = sessions.list_but(alloc, leaving)?;
     batch.add(origin, Body::Sessions(ids))

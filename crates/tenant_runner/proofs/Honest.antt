@@ -34,10 +34,12 @@ honest-starts g a q none = sym (by (found (seat_of a) q.actors) none)
     of_run : (r : Option Run) → r ≡ None → honest_of g a r ≡ deeds.starts a
     of_run None e = refl
     of_run (Some run) e = absurd (cc)
+
     in_hand : (h : Option Hand) → option_and_then (λ h. h.running) h ≡ None
         → honest_in g a h ≡ deeds.starts a
     in_hand None e = refl
     in_hand (Some h) e = of_run h.running e
+
     by : (o : Option ActorData) → running_of o ≡ None → honest_by g a o ≡ deeds.starts a
     by None e = refl
     by (Some actor) e = in_hand actor.hand e
@@ -50,10 +52,12 @@ honest-runs g a q run some = by (found (seat_of a) q.actors) some
         → honest_of g a r ≡ honest_at a run (after (g.evaluation run.job) run.trace)
     of_run None e = absurd (cc)
     of_run (Some other) e = ap (λ o. honest_of g a o) e
+
     in_hand : (h : Option Hand) → option_and_then (λ h. h.running) h ≡ Some run
         → honest_in g a h ≡ honest_at a run (after (g.evaluation run.job) run.trace)
     in_hand None e = absurd (cc)
     in_hand (Some h) e = of_run h.running e
+
     by : (o : Option ActorData) → running_of o ≡ Some run
         → honest_by g a o ≡ honest_at a run (after (g.evaluation run.job) run.trace)
     by None e = absurd (cc)
@@ -89,7 +93,7 @@ pub accepted-turn : (g : Ground) (q : Quiet) (turn : Turn) (deed : Deed) (new : 
 unfolding step
 accepted-turn g q turn deed new is does =
     subst (λ o. Accepted (Stands g new) (stepped_as o))
-        (sym (ap (outcome g tenant_number q) (sym is) ∙ does.accepted)) does.stands
+    (sym (ap (outcome g tenant_number q) (sym is) ∙ does.accepted)) does.stands
 
 pub does-turn : {X : Type 0} (g : Ground) (q : Quiet) (turn : Turn) (deed : Deed) (new : Runner)
     (r : Result X Refusal) → deed ≡ deed_of g q turn → OnOk r (Does g q deed new)
@@ -104,5 +108,6 @@ pub refuses-turn : {X : Type 0} (g : Ground) (q : Quiet) (turn : Turn) (deed : D
 unfolding step
 refuses-turn g q turn deed new (Ok x) is refuses_so = tt
 refuses-turn g q turn deed new (Err why) is refuses_so = λ ne. (
-    ap stepped_as (ap (outcome g tenant_number q) (sym is) ∙ refuses_so.refused ne),
-    refuses_so.stands ne)
+  ap stepped_as (ap (outcome g tenant_number q) (sym is) ∙ refuses_so.refused ne),
+  refuses_so.stands ne,
+)

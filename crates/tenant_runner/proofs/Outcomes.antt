@@ -41,6 +41,7 @@ heard-after g t q piece after answer is =
         → after ≡ spent (taken_in g t piece q)
     held true never = absurd (cc)
     held false same = sym (ap (left_of q) same)
+
     by : (b : Bool) (fault : Option WireFault) → heard_by g t piece q b fault ≡ leaves after answer
         → after ≡ spent (taken_in g t piece q)
     by true fault never = absurd (cc)
@@ -58,6 +59,7 @@ answered-after g t q a ask after ans run is runs =
   where
     p : ActorData → Plan
     p actor = asked_of g a actor ask q actor.hand
+
     told : (actor : ActorData) (h : Hand) → found (seat_of a) q.actors ≡ Some actor
         → (o : Option AnswerData)
         → when_told o (answered g a actor h run ask q) ≡ leaves after (ask_answered ans)
@@ -68,51 +70,58 @@ answered-after g t q a ask after ans run is runs =
         let more = run_with (exchanged ask answer) run in
         let new = record actor { hand = Some (record h { running = Some more }) } in
         let behind : after ≡ spent (recorded a actor h run ask answer
-            (record q { spaces = spaces_after ask q.spaces })) = sym (ap (left_of q) same) in
+        (record q { spaces = spaces_after ask q.spaces })) = sym (ap (left_of q) same) in
         let equal : answer ≡ ans = cc in
         ap (running_in a) behind
         ∙ ap running_of ((found-put (seat_of a) (seat_of a) new actor q.actors there).0 refl)
         ∙ ap (λ y. Some (run_with (exchanged ask y) run)) equal
+
     interrupted : (h : Hand) → (o : Option AnswerData)
         → when_told o (λ _. interrupted_in a h q) ≡ leaves after (ask_answered ans) → ⊥
     interrupted h None never = absurd (cc)
     interrupted h (Some x) never = absurd (cc)
+
     closed : (actor : ActorData) (h : Hand) → found (seat_of a) q.actors ≡ Some actor → (b : Bool)
         → carried_out (if b then record {
-            call = gives_up (seat_of a) (call_of (seat_of a) ask);
-            next = λ told. when_told told (λ _. interrupted_in a h q);
-          } else record {
-            call = call_of (seat_of a) ask;
-            next = λ told. when_told told (answered g a actor h run ask q);
-          }) ≡ leaves after (ask_answered ans)
+          call = gives_up (seat_of a) (call_of (seat_of a) ask);
+          next = λ told. when_told told (λ _. interrupted_in a h q);
+        } else record {
+          call = call_of (seat_of a) ask;
+          next = λ told. when_told told (answered g a actor h run ask q);
+        }) ≡ leaves after (ask_answered ans)
         → running_in a after ≡ Some (run_with (exchanged ask ans) run)
     closed actor h there true never =
         absurd (interrupted h (told_without_refs (gives_up (seat_of a) (call_of (seat_of a) ask))) never)
     closed actor h there false same =
         told actor h there (told_without_refs (call_of (seat_of a) ask)) same
+
     allowed : (actor : ActorData) (h : Hand) → found (seat_of a) q.actors ≡ Some actor → (b : Bool)
         → carried_out (if b then asked_allowed g a actor h run ask q
         else quietly (refuses Refusal.Idle)) ≡ leaves after (ask_answered ans)
         → running_in a after ≡ Some (run_with (exchanged ask ans) run)
     allowed actor h there true same = closed actor h there actor.is_closed same
     allowed actor h there false never = absurd (cc)
+
     of_run : (actor : ActorData) (h : Hand) → found (seat_of a) q.actors ≡ Some actor
         → (r : Option Run) → r ≡ Some run
         → carried_out (asked_running g a actor h ask q r) ≡ leaves after (ask_answered ans)
         → running_in a after ≡ Some (run_with (exchanged ask ans) run)
     of_run actor h there r some same = allowed actor h there (is_allowed ask)
         (sym (ap (λ x. carried_out (asked_running g a actor h ask q x)) some) ∙ same)
+
     in_hand : (actor : ActorData) → found (seat_of a) q.actors ≡ Some actor → (h : Option Hand)
         → option_and_then (λ x. x.running) h ≡ Some run
         → carried_out (asked_of g a actor ask q h) ≡ leaves after (ask_answered ans)
         → running_in a after ≡ Some (run_with (exchanged ask ans) run)
     in_hand actor there None never same = absurd (cc)
     in_hand actor there (Some h) some same = of_run actor h there h.running some same
+
     by : (o : Option ActorData) → found (seat_of a) q.actors ≡ o → running_of o ≡ Some run
         → carried_out (for_actor o p) ≡ leaves after (ask_answered ans)
         → running_in a after ≡ Some (run_with (exchanged ask ans) run)
     by None there never same = absurd (cc)
     by (Some actor) there some same = in_hand actor there actor.hand some same
+
     worn : (b : Bool) → carried_out (if b then quietly (refuses Refusal.Worn)
         else for_actor (found (seat_of a) q.actors) p) ≡ leaves after (ask_answered ans)
         → running_in a after ≡ Some (run_with (exchanged ask ans) run)

@@ -35,14 +35,16 @@ found-put {A} m n x y (e ∷ es) there = by (λ h. found-put m n x y es h) (n ==
         × ((m ≡ n → ⊥) → found m (replaced_first b n x e es)
         ≡ found_first (m == e.number) e.part (found m es))
     by behind true same h = (
-        λ is. ap (λ (b : Bool). found_first b x (found m es)) (eq-eqb m n is),
-        λ apart. ap (λ (b : Bool). found_first b x (found m es)) (ne_eqb m n apart)
-            ∙ sym (ap (λ (b : Bool). found_first b e.part (found m es))
-            (ap (λ k. m == k) (sym (eqb-true n e.number same)) ∙ ne_eqb m n apart)))
+      λ is. ap (λ (b : Bool). found_first b x (found m es)) (eq-eqb m n is),
+      λ apart. ap (λ (b : Bool). found_first b x (found m es)) (ne_eqb m n apart)
+          ∙ sym (ap (λ (b : Bool). found_first b e.part (found m es))
+          (ap (λ k. m == k) (sym (eqb-true n e.number same)) ∙ ne_eqb m n apart)),
+    )
     by behind false other h = (
-        λ is. ap (λ (b : Bool). found_first b e.part (found m (replaced n x es)))
-            (ap (λ k. k == e.number) is ∙ other) ∙ (behind h).0 is,
-        λ apart. ap (λ it. found_first (m == e.number) e.part it) ((behind h).1 apart))
+      λ is. ap (λ (b : Bool). found_first b e.part (found m (replaced n x es)))
+          (ap (λ k. k == e.number) is ∙ other) ∙ (behind h).0 is,
+      λ apart. ap (λ it. found_first (m == e.number) e.part it) ((behind h).1 apart),
+    )
 
 found-gone : {A : Type 0} (n : ℕ) (es : List (Entry A)) → found n (without n es) ≡ None
 found-gone n [] = refl
@@ -167,4 +169,4 @@ pub heard-runs : (g : Ground) (t : ℕ) (piece : List ℕ) (q : Quiet) (a : Acto
 unfolding taken_in
 heard-runs g t piece q a =
     messages-runs g t (seat_of a) (new_messages g.readings q.heard piece)
-        (record q { heard = q.heard ++ piece })
+    (record q { heard = q.heard ++ piece })

@@ -115,27 +115,29 @@ pub drains-so : {X : Type 0} (items : X → List ℕ) (g : Ground) (q : Quiet) (
     (λ x. (after : Quiet) × (step g q drains ≡ accepted after (items x)) × Stands g new after)
 unfolding step
 drains-so items g q old new None s same told = (
-    ap stepped_as (told.refused (λ e. never e)),
-    record {
-      right = s.right;
-      ground = s.ground;
-      tenant = told.stands;
-      walked = subst (λ ws. AreWalked (walk_at ws) q) (sym same) s.walked;
-    })
+  ap stepped_as (told.refused (λ e. never e)),
+  record {
+    right = s.right;
+    ground = s.ground;
+    tenant = told.stands;
+    walked = subst (λ ws. AreWalked (walk_at ws) q) (sym same) s.walked;
+  },
+)
   where
     never : Refusal.Idle ≡ Refusal.NoMemory → ⊥
     never e = cc
 drains-so items g q old new (Some x) s same told = (
-    told.after,
-    ap stepped_as told.accepted,
-    record {
-      right = s.right;
-      ground = s.ground;
-      tenant = told.stands;
-      walked = subst (λ ws. AreWalked (walk_at ws) told.after) (sym same) (λ a run p runs at.
-          s.walked a run p (sym (drained-runs q told.after _ a q.replies
-          (sym (drains-by g q) ∙ told.accepted)) ∙ runs) at);
-    })
+  told.after,
+  ap stepped_as told.accepted,
+  record {
+    right = s.right;
+    ground = s.ground;
+    tenant = told.stands;
+    walked = subst (λ ws. AreWalked (walk_at ws) told.after) (sym same) (λ a run p runs at.
+        s.walked a run p (sym (drained-runs q told.after _ a q.replies
+        (sym (drains-by g q) ∙ told.accepted)) ∙ runs) at);
+  },
+)
 
 -- What was put in
 

@@ -39,7 +39,7 @@ stands-with : (g : Ground) (t : ℕ) (q : Quiet) (code new : Tenant) (replies : 
     → Stands g t new (record q { replies = replies })
 stands-with g t q code new replies same s waits =
     let E : Decoder → Type 0 = λ d.
-        decoder.Stands message_limit d q.heard (g.readings.stream q.heard).messages in
+    decoder.Stands message_limit d q.heard (g.readings.stream q.heard).messages in
     record {
       retries = same.retries ∙ s.retries;
       names = s.names;
@@ -78,15 +78,15 @@ drains {X = X} items g t q code new r same s told = by q.replies refl r s.rememb
     }
     by [] is (Some v) waits some =
         let never : [] ≡ items v ∷ waiting_bytes new.memory.outbox =
-            sym (waits ∙ ap (map bytes_of) is) ∙ some in
+        sym (waits ∙ ap (map bytes_of) is) ∙ some in
         absurd (cc)
     by (oldest ∷ more) is None waits none =
         let never : bytes_of oldest ∷ map bytes_of more ≡ [] =
-            sym (waits ∙ ap (map bytes_of) is) ∙ none.0 in
+        sym (waits ∙ ap (map bytes_of) is) ∙ none.0 in
         absurd (cc)
     by (oldest ∷ more) is (Some v) waits some =
         let equal : bytes_of oldest ∷ map bytes_of more ≡ items v ∷ waiting_bytes new.memory.outbox =
-            sym (waits ∙ ap (map bytes_of) is) ∙ some in
+        sym (waits ∙ ap (map bytes_of) is) ∙ some in
         let first : bytes_of oldest ≡ items v = cc in
         let rest : map bytes_of more ≡ waiting_bytes new.memory.outbox = cc in
         record {

@@ -91,7 +91,7 @@ taken-keeps : (g : Ground) (t : ℕ) (piece : List ℕ) (q : Quiet) → Keeps q 
 unfolding taken_in
 taken-keeps g t piece q =
     let kept = messages-keep g t (new_messages g.readings q.heard piece)
-        (record q { heard = q.heard ++ piece }) in
+    (record q { heard = q.heard ++ piece }) in
     record { steps = kept.steps; bare = kept.bare; spaces = kept.spaces }
 
 -- The step

@@ -60,8 +60,9 @@ below-left s false a x es below = below-replaced s (seat_of a) x es below
 pub seated-below : (s : ℕ) (es : List (Entry ActorData)) → are_below s es ≡ true → AreBelow s es
 seated-below s [] below = tt
 seated-below s (e ∷ es) below = (
-    lt-from (first-true (nat_lt e.number s) (are_below s es) below),
-    seated-below s es (second-true (nat_lt e.number s) (are_below s es) below))
+  lt-from (first-true (nat_lt e.number s) (are_below s es) below),
+  seated-below s es (second-true (nat_lt e.number s) (are_below s es) below),
+)
   where
     lt-from : nat_lt e.number s ≡ true → e.number < s
     lt-from h = ltb-true e.number s h
@@ -70,4 +71,4 @@ pub below-seated : (s : ℕ) (es : List (Entry ActorData)) → AreBelow s es →
 below-seated s [] below = refl
 below-seated s (e ∷ es) below =
     both-true (nat_lt e.number s) (are_below s es) (lt-ltb e.number s below.0)
-        (below-seated s es below.1)
+    (below-seated s es below.1)

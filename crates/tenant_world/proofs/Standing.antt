@@ -66,6 +66,7 @@ done-by q a p actor some there =
     worn_by : Bool → Plan
     worn_by b = if b then quietly (refuses Refusal.Worn)
         else for_actor (found (seat_of a) q.actors) p
+
     left : (n : ℕ) → 0 < n → n ≡ 0 → ⊥
     left n some none = let never : 0 < 0 = subst (λ k. 0 < k) none some in omega (arith, never)
 
@@ -146,9 +147,9 @@ pub settled : (g : Ground) (t : ℕ) (a : Actor) (old new : Tenant) (q after : Q
     → Stands g t new (spent after)
 settled g t a old new q after b actor lends r actors steps heard tries less same kept put =
     let D : List ℕ → Type 0 = λ all.
-        decoder.Stands message_limit old.decoder all (g.readings.stream all).messages in
+    decoder.Stands message_limit old.decoder all (g.readings.stream all).messages in
     let E : Decoder → Type 0 = λ d.
-        decoder.Stands message_limit d after.heard (g.readings.stream after.heard).messages in
+    decoder.Stands message_limit d after.heard (g.readings.stream after.heard).messages in
     let M : Memory → Type 0 = λ m. Remembers g t m after in
     let there = subst M (sym kept) r in
     record {
@@ -179,7 +180,7 @@ pub restored : (g : Ground) (t : ℕ) (a : Actor) (old new : Tenant) (q : Quiet)
     → Stands g t new q
 restored g t a old new q actor lends r there tries less same kept put =
     let E : Decoder → Type 0 = λ d.
-        decoder.Stands message_limit d q.heard (g.readings.stream q.heard).messages in
+    decoder.Stands message_limit d q.heard (g.readings.stream q.heard).messages in
     record {
       retries = tries ∙ lends.retries;
       names = lends.names;
@@ -225,7 +226,7 @@ pub lends-memory : (g : Ground) (t : ℕ) (a : Actor) (code new : Tenant) (q : Q
     → new.actors ≡ code.actors → Lends g t a code q → Lends g t a new q
 lends-memory g t a code new q tries steps same put lends =
     let E : Decoder → Type 0 = λ d.
-        decoder.Stands message_limit d q.heard (g.readings.stream q.heard).messages in
+    decoder.Stands message_limit d q.heard (g.readings.stream q.heard).messages in
     record {
       retries = tries ∙ lends.retries;
       names = lends.names;
@@ -247,7 +248,7 @@ pub stands-same : (g : Ground) (t : ℕ) (q : Quiet) (old new : Tenant)
     → new.actors ≡ old.actors → new.memory ≡ old.memory → Stands g t old q → Stands g t new q
 stands-same g t q old new tries steps same put kept s =
     let E : Decoder → Type 0 = λ d.
-        decoder.Stands message_limit d q.heard (g.readings.stream q.heard).messages in
+    decoder.Stands message_limit d q.heard (g.readings.stream q.heard).messages in
     record {
       retries = tries ∙ s.retries;
       names = s.names;

@@ -27,7 +27,7 @@ pub read-ending : IsUnique → (r : Readings) (d : Decoder) (all : List ℕ) (ta
     → AreRight r → decoder.Stands message_limit d all taken → Shows d all (r.stream all).ending
 read-ending unique r d all taken right h =
     subst (λ end. Shows d all end)
-        (unique message_limit all _ _ _ _ h.streams (right.stream all)).1 h.shows
+    (unique message_limit all _ _ _ _ h.streams (right.stream all)).1 h.shows
 
 shown-fault : (d : Decoder) (all : List ℕ) (end : Ending) → Shows d all end
     → fault_of d ≡ fault_in end

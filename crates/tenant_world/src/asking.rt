@@ -167,18 +167,15 @@ fn change_or_forget(
     }
 }
 
-fn answer_of(
-    alloc: Global,
-    memory: &Memory,
-    actor: Actor,
-    ask: &Ask,
-) -> Result<Answer, AllocError>
+fn answer_of(alloc: Global, memory: &Memory, actor: Actor, ask: &Ask) -> Result<Answer, AllocError>
     ensures { (g : Ground) (t : ℕ) (q : Quiet) → SharesNoNames g → Remembers g t memory.now q
         → IfOk result (λ a. answer_view a ≡ answer_to g actor q (ask_view ask.now) done) }
 {
     match ask {
         Ask::Resolve { namespace, symbol } => {
-            let found = memory.spaces.resolve(alloc, namespace.as_str(), symbol.as_str())?;
+            let found = memory
+                .spaces
+                .resolve(alloc, namespace.as_str(), symbol.as_str())?;
             Ok(Answer::Resolution(resolution_of(alloc, memory, actor, found)?))
         }
         Ask::Define { .. } | Ask::Enter(_) => Ok(Answer::Done),
@@ -239,7 +236,9 @@ fn change(alloc: Global, memory: &mut Memory, ask: &Ask) -> Result<(), AllocErro
             binding,
         } => {
             let (name, binding) = (copy_text(name)?, binding.copy()?);
-            memory.spaces.define(alloc, namespace.as_str(), name, binding)
+            memory
+                .spaces
+                .define(alloc, namespace.as_str(), name, binding)
         }
         Ask::Enter(name) => memory.spaces.enter(alloc, name.as_str()),
         Ask::Resolve { .. }

@@ -28,11 +28,7 @@ pub(crate) struct Memory {
 
 impl Memory {
     /// What the session of an actor remembers.
-    pub(crate) fn state_of(
-        &self,
-        alloc: Global,
-        actor: Actor,
-    ) -> Result<SessionState, AllocError>
+    pub(crate) fn state_of(&self, alloc: Global, actor: Actor) -> Result<SessionState, AllocError>
         ensures { (g : Ground) (t : ℕ) (q : Quiet) → Remembers g t self.now q
             → IfOk result (λ state. state_view state ≡ state_of actor q) }
     {

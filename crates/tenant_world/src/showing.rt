@@ -14,8 +14,8 @@ ghost use Rattle.tenant_world.specs.Running.{running_in};
 
 use crate::memory::Memory;
 use crate::tenant::Tenant;
-use bencode_wire::laws::a_stream_has_one_reading;
 use bencode_wire::Decoder;
+use bencode_wire::laws::a_stream_has_one_reading;
 use name_spaces::Spaces;
 use repl_sessions::{IdStream, SessionState, Sessions};
 use server_rules::{Actor, Refusal};

@@ -40,7 +40,13 @@ impl Tenant {
         ensures held { result ≡ Err Refusal.Held → 0 < length (replies_of self.old) }
     {
         let mut state = self.lend(actor)?;
-        match start(self.alloc, &mut self.memory, self.retries, actor, &mut state) {
+        match start(
+            self.alloc,
+            &mut self.memory,
+            self.retries,
+            actor,
+            &mut state,
+        ) {
             Ok(started) => {
                 self.settle(actor, state, started.is_interrupted());
                 Ok(started)

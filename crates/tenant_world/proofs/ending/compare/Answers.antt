@@ -11,8 +11,8 @@ pub returns-in-Some-clause-told : goal.returns-in-Some-clause-told
 returns-in-Some-clause-told c = λ g right.
     let place = c.in-Some.place in
     let Q : List Exchange → Type 0 = λ ys.
-        DiffersFirstAt place (trace_view c.args.ending.now.trace.now) (trace_view ys) in
+    DiffersFirstAt place (trace_view c.args.ending.now.trace.now) (trace_view ys) in
     differs-so g right (run_view c.args.run.now) (ending_view c.args.ending.now) place
-        (c.same_job.ensures.0 c.if-not-same_job.false)
-        (subst Q c.deref.ensures.value c.in-Some.ensures)
-        c.first_difference_is_unique.ensures c.equal_traces_differ_nowhere.ensures
+    (c.same_job.ensures.0 c.if-not-same_job.false)
+    (subst Q c.deref.ensures.value c.in-Some.ensures)
+    c.first_difference_is_unique.ensures c.equal_traces_differ_nowhere.ensures

@@ -9,13 +9,13 @@ pub returns-in_err-hear-clause-as_it_was : goal.returns-in_err-hear-clause-as_it
 returns-in_err-hear-clause-as_it_was c = λ g q right s.
     let piece = c.args.piece.now in
     refuses-turn g q (hears piece) (deeds.hears piece) _ c.from_residual.result refl
-        (refused-runner g q (deeds.hears piece) c.args.self.now _ c.in_err-hear.field-0.0
-        c.from_residual.result s c.from_residual.ensures.1
-        (c.in_err-hear.ensures.refused g tenant_number q right s.tenant) refl)
+    (refused-runner g q (deeds.hears piece) c.args.self.now _ c.in_err-hear.field-0.0
+    c.from_residual.result s c.from_residual.ensures.1
+    (c.in_err-hear.ensures.refused g tenant_number q right s.tenant) refl)
 
 pub returns-clause-accepted : goal.returns-clause-accepted
 returns-clause-accepted c = λ g q right s.
     let piece = c.args.piece.now in
     accepted-turn g q (hears piece) (deeds.hears piece) _ refl
-        (does-heard g q piece c.args.self.now _ _ s
-        (c.in_ok-hear.ensures.done g tenant_number q right s.tenant) refl)
+    (does-heard g q piece c.args.self.now _ _ s
+    (c.in_ok-hear.ensures.done g tenant_number q right s.tenant) refl)

@@ -25,8 +25,8 @@ pub returns-in-Some-clause-refused : goal.returns-in-Some-clause-refused
 returns-in-Some-clause-refused c = λ g t q right s.
     let piece = c.args.piece.now in
     let fault = sym (read-fault c.a_stream_has_one_reading.ensures g.readings
-        c.args.self.now.decoder q.heard _ right.readings s.stream)
-        ∙ sym c.fault.ensures ∙ c.in-Some.is in
+    c.args.self.now.decoder q.heard _ right.readings s.stream)
+    ∙ sym c.fault.ensures ∙ c.in-Some.is in
     record {
       refused = λ ne. hears-by g t q piece
           ∙ ap (λ b. heard_by g t piece q b (stream_fault g.readings q.heard))
@@ -39,8 +39,8 @@ pub returns-then-is_held-clause-refused : goal.returns-then-is_held-clause-refus
 returns-then-is_held-clause-refused c = λ g t q right s.
     let piece = c.args.piece.now in
     let sound = sym c.in_default.is ∙ c.fault.ensures
-        ∙ read-fault c.a_stream_has_one_reading.ensures g.readings c.args.self.now.decoder q.heard _
-        right.readings s.stream in
+    ∙ read-fault c.a_stream_has_one_reading.ensures g.readings c.args.self.now.decoder q.heard _
+    right.readings s.stream in
     record {
       refused = λ ne. hears-by g t q piece
           ∙ ap (λ b. heard_by g t piece q b (stream_fault g.readings q.heard))
@@ -64,10 +64,10 @@ pub returns-clause-done : goal.returns-clause-done
 returns-clause-done c = λ g t q right s.
     let d = c.args.self.now.decoder in
     let read = read-fault c.a_stream_has_one_reading.ensures g.readings d q.heard _
-        right.readings s.stream in
+    right.readings s.stream in
     let sound = sym c.in_default.is ∙ c.fault.ensures ∙ read in
     let free = held-so g t c.args.self.now.memory q c.is_held.result s.remembers c.is_held.ensures
-        ∙ c.if-is_held.false in
+    ∙ c.if-is_held.false in
     let reads : Reads g q.heard d = record {
       stands = s.stream;
       ready = none-long (ready_of d) c.args.self.now.taken;
@@ -79,5 +79,5 @@ returns-clause-done c = λ g t q right s.
       replies = s.remembers.replies;
     } in
     does-hear g t q c.args.self.now _ c.args.piece.now c.in_ok-count.count s
-        (not-zero q.steps (λ none. c.if-self-eq0.false (s.steps ∙ none))) sound free
-        refl refl refl refl (c.in_ok-count.ensures.heard g t q right.readings reads held)
+    (not-zero q.steps (λ none. c.if-self-eq0.false (s.steps ∙ none))) sound free
+    refl refl refl refl (c.in_ok-count.ensures.heard g t q right.readings reads held)

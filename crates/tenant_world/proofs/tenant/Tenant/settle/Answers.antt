@@ -9,7 +9,7 @@ use Rattle.tenant_world.proofs.tenant.Tenant.settle.Goals as goal
 pub returns-clause-stands : goal.returns-clause-stands
 returns-clause-stands c = λ g t q after lends r actors steps heard.
     settled g t c.args.actor c.args.self.now _ q after c.args.is_interrupted
-        (actor_view c.args.state) lends r actors steps heard refl refl refl refl c.put_back.ensures
+    (actor_view c.args.state) lends r actors steps heard refl refl refl refl c.put_back.ensures
 
 pub invariant_of-self : goal.invariant_of-self
 invariant_of-self c =
