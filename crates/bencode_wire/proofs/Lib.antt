@@ -6,6 +6,7 @@ pub mod Courses
 pub mod Streams
 pub mod Decoders
 pub mod Feeds
+pub mod GoingBack
 pub mod Prefix
 pub mod Spellings
 pub mod Unique

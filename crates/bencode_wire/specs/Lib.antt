@@ -14,5 +14,6 @@ pub mod Refusals
 pub mod Nesting
 pub mod State
 pub mod Held
+pub mod Return
 pub mod Inside
 pub mod Gives

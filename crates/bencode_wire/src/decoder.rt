@@ -1,12 +1,14 @@
 // A stream of messages, fed in pieces of any size.
-ghost use Rattle.std.specs.Prelude.{◌≡◌, ◌≢◌, ◌↔◌, ◌++◌, ◌≤◌, ℕ, List, [], ◌∷◌, length, drop, IsTrue, None, Some, Err, OnOk, IfOk, IfErr, option_map, option_to_list};
+ghost use Rattle.std.specs.Prelude.{◌≡◌, ◌≢◌, ◌↔◌, ◌++◌, ℕ, List, [], IsTrue, None, Some};
+ghost use Rattle.std.specs.Prelude.{Err, OnOk, IfOk, IfErr, option_map, option_to_list};
 ghost use Rattle.bencode_wire.specs.Tree.{Tree};
 
 use crate::ben::Ben;
-use crate::copy::{copy_bytes, copy_queue};
+use crate::copy::copy_queue;
 use crate::course::{read_on, resume};
 use crate::cut::{Course, Reader};
 use crate::fault::WireFault;
+use crate::tail::Tail;
 use bytes::Bytes;
 use std::alloc::{AllocError, Global};
 use std::collections::VecDeque;
@@ -16,20 +18,21 @@ use std::marker::Model;
 ///
 /// The bytes of the unfinished message are kept beside what they were read as. So a piece costs the
 /// reading of its own bytes, however the stream is cut; only after want of memory are the kept
-/// bytes read once more. Contracts see what it shows, a `State`, and not how it is kept.
+/// bytes read once more. Until the next piece those of the messages that became whole are kept too,
+/// so that the last piece can be taken back. Contracts see what it shows, a `State`, and not how it
+/// is kept.
 #[derive(Drop)]
 pub struct Decoder {
-    alloc: Global,
+    pub(crate) alloc: Global,
     limit: usize,
-    // The place in the stream of the unfinished message's first byte.
-    start: u64,
-    // The bytes of the unfinished message.
-    rest: Vec<u8>,
-    // What `rest` was read as; nothing after want of memory.
-    reader: Option<Reader>,
+    pub(crate) tail: Tail,
+    // What the unfinished message was read as; nothing after want of memory.
+    pub(crate) reader: Option<Reader>,
     // The messages that are whole and were not handed out, oldest first.
-    ready: VecDeque<Ben>,
-    fault: Option<WireFault>,
+    pub(crate) ready: VecDeque<Ben>,
+    pub(crate) fault: Option<WireFault>,
+    // How many of the bytes had come before the last piece, where no message was ready then.
+    pub(crate) before: Option<usize>,
 }
 
 impl Model for Decoder {
@@ -51,6 +54,7 @@ impl Model for Decoder {
 impl Decoder {
     ghost use Rattle.bencode_wire.specs.View.{view};
     ghost use Rattle.bencode_wire.specs.Decoder.{ready_of, rest_of, fault_of, IsUnchanged, Stands};
+    ghost use Rattle.bencode_wire.specs.Return.{CanReturn};
 
     /// A decoder at the start of a stream. `limit` is the greatest length of a message, and of a
     /// string in one.
@@ -62,20 +66,27 @@ impl Decoder {
         Decoder {
             alloc,
             limit,
-            start: 0,
-            rest: Vec::new(alloc),
+            tail: Tail::new(alloc),
             reader: None,
             ready: VecDeque::new(alloc),
             fault: None,
+            before: None,
         }
     }
 
     /// Takes the next piece of the stream, which may be empty. Messages before a fault are ready.
     pub fn feed(&mut self, piece: &Bytes) -> Result<(), WireFault>
         // Whatever came before, in whatever pieces, the decoder then stands for all of it.
-        ensures stands { (limit : ℕ) (all : List ℕ) (taken : List Tree) → Stands limit self.old all taken
+        ensures stands { (limit : ℕ) (all : List ℕ) (taken : List Tree)
+            → Stands limit self.old all taken
             → result ≢ Err WireFault.NoMemory → Stands limit self.new (all ++ piece.now) taken }
-        ensures keeps { (limit : ℕ) (all : List ℕ) (taken : List Tree) → Stands limit self.old all taken
+        // Where no message was ready, it can go back over the piece, and also over a fault in it.
+        ensures returns { (limit : ℕ) (all : List ℕ) (taken : List Tree)
+            → Stands limit self.old all taken
+            → ready_of self.old ≡ [] → fault_of self.old ≡ None → result ≢ Err WireFault.NoMemory
+            → CanReturn limit self.new all taken }
+        ensures keeps { (limit : ℕ) (all : List ℕ) (taken : List Tree)
+            → Stands limit self.old all taken
             → result ≡ Err WireFault.NoMemory → Stands limit self.new all taken }
         ensures ok { OnOk result (fault_of self.new ≡ None) }
         ensures fault { IfErr result (λ f. f ≢ WireFault.NoMemory → fault_of self.new ≡ Some f) }
@@ -92,12 +103,17 @@ impl Decoder {
 
     /// Hands out the oldest message that is whole, a dictionary. It takes no memory.
     pub fn next(&mut self) -> Option<Ben>
-        ensures value { ready_of self.old ≡ option_to_list (option_map view result) ++ ready_of self.new }
+        ensures value { ready_of self.old
+            ≡ option_to_list (option_map view result) ++ ready_of self.new }
         ensures none { result ≡ None → ready_of self.old ≡ [] }
-        ensures stands { (limit : ℕ) (all : List ℕ) (taken : List Tree) → Stands limit self.old all taken
+        ensures stands { (limit : ℕ) (all : List ℕ) (taken : List Tree)
+            → Stands limit self.old all taken
             → Stands limit self.new all (taken ++ option_to_list (option_map view result)) }
         ensures rest { rest_of self.new ≡ rest_of self.old }
         ensures fault { fault_of self.new ≡ fault_of self.old }
+        ensures returns { (limit : ℕ) (all : List ℕ) (taken : List Tree)
+            → CanReturn limit self.old all taken
+            → CanReturn limit self.new all taken }
     {
         self.ready.pop_front()
     }
@@ -106,44 +122,62 @@ impl Decoder {
     pub fn rest_is_empty(&self) -> bool
         ensures { IsTrue result ↔ ((fault_of self.now ≡ None) × (rest_of self.now ≡ [])) }
     {
-        self.fault.is_none() && self.rest.is_empty()
+        self.fault.is_none() && self.tail.is_empty()
     }
 
-    /// An equal decoder. It reads the bytes of the unfinished message once more at its next piece.
+    /// The fault of the stream, if it met one. It takes no memory.
+    pub fn fault(&self) -> Option<WireFault>
+        ensures { result ≡ fault_of self.now }
+    {
+        self.fault
+    }
+
+    /// An equal decoder, which cannot go back. It reads the bytes of the unfinished message once
+    /// more at its next piece.
     pub fn copy(&self) -> Result<Decoder, AllocError>
         ensures same { IfOk result (IsUnchanged self.now) }
-        ensures stands { (limit : ℕ) (all : List ℕ) (taken : List Tree) → Stands limit self.now all taken
+        ensures stands { (limit : ℕ) (all : List ℕ) (taken : List Tree)
+            → Stands limit self.now all taken
             → IfOk result (λ d. Stands limit d all taken) }
     {
         Ok(Decoder {
             alloc: self.alloc,
             limit: self.limit,
-            start: self.start,
-            rest: copy_bytes(self.alloc, &self.rest)?,
+            tail: self.tail.copy(self.alloc)?,
             reader: None,
             ready: copy_queue(self.alloc, &self.ready)?,
             fault: self.fault,
+            before: None,
         })
     }
 
     // Reads a piece behind the bytes that are kept.
     fn take(&mut self, piece: &[u8]) -> Result<(), WireFault>
         requires { fault_of self.old ≡ None }
-        ensures stands { (limit : ℕ) (all : List ℕ) (taken : List Tree) → Stands limit self.old all taken
+        ensures stands { (limit : ℕ) (all : List ℕ) (taken : List Tree)
+            → Stands limit self.old all taken
             → result ≢ Err WireFault.NoMemory → Stands limit self.new (all ++ piece.now) taken }
-        ensures keeps { (limit : ℕ) (all : List ℕ) (taken : List Tree) → Stands limit self.old all taken
+        ensures returns { (limit : ℕ) (all : List ℕ) (taken : List Tree)
+            → Stands limit self.old all taken
+            → ready_of self.old ≡ [] → result ≢ Err WireFault.NoMemory
+            → CanReturn limit self.new all taken }
+        ensures keeps { (limit : ℕ) (all : List ℕ) (taken : List Tree)
+            → Stands limit self.old all taken
             → result ≡ Err WireFault.NoMemory → Stands limit self.new all taken }
         ensures ok { OnOk result (fault_of self.new ≡ None) }
         ensures fault { IfErr result (λ f. f ≢ WireFault.NoMemory → fault_of self.new ≡ Some f) }
         ensures memory { result ≡ Err WireFault.NoMemory → IsUnchanged self.old self.new }
     {
+        self.tail.settle();
+        self.before = None;
         let cached = self.reader.take();
-        let Some(reader) = resume(self.alloc, self.limit, self.start, &self.rest, cached) else {
+        let start = self.tail.start;
+        let Some(reader) = resume(self.alloc, self.limit, start, &self.tail.bytes, cached) else {
             return Err(WireFault::NoMemory);
         };
-        let kept = self.rest.len();
+        let kept = self.tail.bytes.len();
         let ready = self.ready.len();
-        if self.rest.extend_from_slice(piece).is_err() {
+        if self.tail.bytes.extend_from_slice(piece).is_err() {
             return Err(WireFault::NoMemory);
         }
         let begin = Course {
@@ -151,37 +185,24 @@ impl Decoder {
             begin: 0,
             at: kept,
         };
-        let bytes = self.rest.as_slice();
-        match read_on(
-            self.alloc,
-            self.limit,
-            self.start,
-            bytes,
-            begin,
-            &mut self.ready,
-        ) {
+        let bytes = self.tail.bytes.as_slice();
+        match read_on(self.alloc, self.limit, start, bytes, begin, &mut self.ready) {
             Ok(course) => {
-                drop_front(&mut self.rest, course.begin);
-                self.start = self.start.saturating_add(course.begin as u64);
+                self.tail.begin = course.begin;
                 self.reader = Some(course.reader);
+                self.before = (ready == 0).then_some(kept);
                 Ok(())
             }
             Err(WireFault::NoMemory) => {
-                self.rest.truncate(kept);
+                self.tail.bytes.truncate(kept);
                 self.ready.truncate(ready);
                 Err(WireFault::NoMemory)
             }
             Err(fault) => {
                 self.fault = Some(fault);
+                self.before = (ready == 0).then_some(kept);
                 Err(fault)
             }
         }
     }
-}
-
-fn drop_front(bytes: &mut Vec<u8>, n: usize)
-    requires { n ≤ length bytes.old.items }
-    ensures { bytes.new.items ≡ drop n bytes.old.items }
-{
-    drop(bytes.drain(..n));
 }

@@ -20,7 +20,9 @@ mod fault;
 mod fields;
 pub mod laws;
 mod reader;
+mod returns;
 mod sign;
+mod tail;
 mod write;
 
 pub use ben::{Ben, Dictionary};

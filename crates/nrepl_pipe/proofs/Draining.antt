@@ -1,93 +1,110 @@
 -- Replies taken out, oldest first.
-use Rattle.std.proofs.Common.{◌≡◌, ℕ, inl, inr, List, [], ◌∷◌, ◌++◌, refl, sym, ap, ◌∙◌, subst, append_assoc, append-nil, Option}
+use Rattle.std.proofs.Common.{◌≡◌, ℕ, inl, inr, List, [], ◌∷◌, ◌++◌, refl, sym, ap, ◌∙◌, subst}
+use Rattle.std.proofs.Common.{append_assoc, append-nil, Option}
 use Rattle.std.specs.Io.KnownBytes.{Appends}
 use Rattle.std.proofs.KnownBytes.{Appends-nil, Appends-trans}
 use Rattle.repl_replies.specs.Replies.{ReplyData, bytes_of}
-use Rattle.repl_core.specs.Readings.{Readings}
-use Rattle.repl_core.specs.World.{World}
-use Rattle.repl_core.specs.Step.{Turn, drains, Stepped, accepted, refused, step, drained, drain, world_or, after, run, served}
-use Rattle.repl_core.specs.declared.refusal.Refusal.{Refusal}
+use Rattle.server_rules.specs.Ground.{Ground}
+use Rattle.server_rules.specs.Tenant.{Quiet}
+use Rattle.server_rules.specs.Deeds.{drained}
+use Rattle.server_rules.specs.declared.refusal.Refusal.{Refusal}
+use Rattle.tenant_turns.specs.NoRefs.{outcome}
+use Rattle.tenant_turns.specs.Turns.{Turn, drains, Stepped, accepted, refused, stepped_as, step}
+use Rattle.tenant_turns.specs.Turns.{quiet_or, after, run, served}
 use Rattle.nrepl_pipe.specs.Schedule.{drain_all, MeetsWorn}
 use Rattle.nrepl_pipe.specs.Parts.{Makes, Begins}
 use Rattle.nrepl_pipe.proofs.Turns.{served-first, run-first}
 
--- the world with these replies alone
-abbrev pub left : List ReplyData → World → World
-left replies w = record {
-  steps = w.steps;
-  retries = w.retries;
-  heard = w.heard;
-  waiting = w.waiting;
-  hand = w.hand;
-  replies = replies;
-  spaces = w.spaces;
-}
+-- the tenant with these replies alone
+abbrev pub left : List ReplyData → Quiet → Quiet
+left replies q = record q { replies = replies }
 
-step-drains : (r : Readings) (w : World) (s : Stepped) → drain w ≡ s → step r w drains ≡ s
-unfolding step
-step-drains r w s e = e
+abbrev pub taken_out : Quiet → List ReplyData → Stepped
+taken_out q replies = stepped_as (drained q replies)
 
-drain-oldest : (r : Readings) (w : World) (x : ReplyData) (xs : List ReplyData) → w.replies ≡ x ∷ xs → step r w drains ≡ accepted (left xs w) (bytes_of x)
-drain-oldest r w x xs e = step-drains r w _ (ap (drained w) e)
+step-drains : (g : Ground) (q : Quiet) → step g q drains ≡ taken_out q q.replies
+unfolding step outcome
+step-drains g q = refl
 
-run-drains_of : (r : Readings) (w : World) (xs : List ReplyData) → w.replies ≡ xs → run r w (drain_all xs) ≡ left [] w
-run-drains_of r w [] e = ap (λ (ys : List ReplyData). left ys w) e
-run-drains_of r w (x ∷ xs) e =
-    ap (λ (s : Stepped). run r (world_or w s) (drain_all xs)) (drain-oldest r w x xs e) ∙ run-drains_of r (left xs w) xs refl
+drain-oldest : (g : Ground) (q : Quiet) (x : ReplyData) (xs : List ReplyData) → q.replies ≡ x ∷ xs
+    → step g q drains ≡ accepted (left xs q) (bytes_of x)
+drain-oldest g q x xs e = step-drains g q ∙ ap (taken_out q) e
+
+run-drains_of : (g : Ground) (q : Quiet) (xs : List ReplyData) → q.replies ≡ xs
+    → run g q (drain_all xs) ≡ left [] q
+run-drains_of g q [] e = ap (λ (ys : List ReplyData). left ys q) e
+run-drains_of g q (x ∷ xs) e =
+    ap (λ (s : Stepped). run g (quiet_or q s) (drain_all xs)) (drain-oldest g q x xs e)
+    ∙ run-drains_of g (left xs q) xs refl
 
 -- no reply is left, and all else stays
-pub run-drains : (r : Readings) (w : World) → run r w (drain_all w.replies) ≡ left [] w
-run-drains r w = run-drains_of r w w.replies refl
+pub run-drains : (g : Ground) (q : Quiet) → run g q (drain_all q.replies) ≡ left [] q
+run-drains g q = run-drains_of g q q.replies refl
 
-drains-never_worn_of : (r : Readings) (w : World) (xs : List ReplyData) → w.replies ≡ xs → MeetsWorn r w (drain_all xs) → ⊥
-drains-never_worn_of r w [] e meets = meets
-drains-never_worn_of r w (x ∷ xs) e (inl here) =
-    let never : accepted (left xs w) (bytes_of x) ≡ refused Refusal.Worn = sym (drain-oldest r w x xs e) ∙ here in cc
-drains-never_worn_of r w (x ∷ xs) e (inr later) =
-    let same : after r w drains ≡ left xs w = ap (world_or w) (drain-oldest r w x xs e) in
-    drains-never_worn_of r (after r w drains) xs (ap (λ (v : World). v.replies) same) later
+drains-never_worn_of : (g : Ground) (q : Quiet) (xs : List ReplyData) → q.replies ≡ xs
+    → MeetsWorn g q (drain_all xs) → ⊥
+drains-never_worn_of g q [] e meets = meets
+drains-never_worn_of g q (x ∷ xs) e (inl here) =
+    let never : accepted (left xs q) (bytes_of x) ≡ refused Refusal.Worn =
+    sym (drain-oldest g q x xs e) ∙ here in cc
+drains-never_worn_of g q (x ∷ xs) e (inr later) =
+    let same : after g q drains ≡ left xs q = ap (quiet_or q) (drain-oldest g q x xs e) in
+    drains-never_worn_of g (after g q drains) xs (ap (λ (v : Quiet). v.replies) same) later
 
-pub drains-never_worn : (r : Readings) (w : World) → MeetsWorn r w (drain_all w.replies) → ⊥
-drains-never_worn r w meets = drains-never_worn_of r w w.replies refl meets
+pub drains-never_worn : (g : Ground) (q : Quiet) → MeetsWorn g q (drain_all q.replies) → ⊥
+drains-never_worn g q meets = drains-never_worn_of g q q.replies refl meets
 
-turns-drained : (w now : World) (bytes : List ℕ) (xs : List ReplyData) → drained w xs ≡ accepted now bytes → drain_all xs ≡ drains ∷ drain_all now.replies
-turns-drained w now bytes [] e = cc
-turns-drained w now bytes (x ∷ xs) e = ap (λ (s : Stepped). drains ∷ drain_all (world_or w s).replies) e
+turns-drained : (q now : Quiet) (bytes : List ℕ) (xs : List ReplyData)
+    → taken_out q xs ≡ accepted now bytes → drain_all xs ≡ drains ∷ drain_all now.replies
+turns-drained q now bytes [] e = cc
+turns-drained q now bytes (x ∷ xs) e =
+    ap (λ (s : Stepped). drains ∷ drain_all (quiet_or q s).replies) e
+
+turns-taken : (g : Ground) (q now : Quiet) (bytes : List ℕ) → step g q drains ≡ accepted now bytes
+    → drain_all q.replies ≡ drains ∷ drain_all now.replies
+turns-taken g q now bytes e = turns-drained q now bytes q.replies (sym (step-drains g q) ∙ e)
 
 -- one reply is taken out, and then the others
-pub served-drained : (r : Readings) (w now : World) (bytes : List ℕ) → drain w ≡ accepted now bytes
-    → served r w (drain_all w.replies) ≡ bytes ++ served r now (drain_all now.replies)
-served-drained r w now bytes e = served-first r w now bytes drains _ _ (step-drains r w _ e) (turns-drained w now bytes w.replies e)
+pub served-drained : (g : Ground) (q now : Quiet) (bytes : List ℕ)
+    → step g q drains ≡ accepted now bytes
+    → served g q (drain_all q.replies) ≡ bytes ++ served g now (drain_all now.replies)
+served-drained g q now bytes e =
+    served-first g q now bytes drains _ _ e (turns-taken g q now bytes e)
 
-pub run-drained : (r : Readings) (w now : World) (bytes : List ℕ) → drain w ≡ accepted now bytes
-    → run r w (drain_all w.replies) ≡ run r now (drain_all now.replies)
-run-drained r w now bytes e = run-first r w now bytes drains _ _ (step-drains r w _ e) (turns-drained w now bytes w.replies e)
+pub run-drained : (g : Ground) (q now : Quiet) (bytes : List ℕ)
+    → step g q drains ≡ accepted now bytes
+    → run g q (drain_all q.replies) ≡ run g now (drain_all now.replies)
+run-drained g q now bytes e = run-first g q now bytes drains _ _ e (turns-taken g q now bytes e)
 
-none-drained_of : (w : World) (xs : List ReplyData) (why : Refusal) → drained w xs ≡ refused why → drain_all xs ≡ []
-none-drained_of w [] why e = refl
-none-drained_of w (x ∷ xs) why e = cc
+none-drained_of : (q : Quiet) (xs : List ReplyData) (why : Refusal) → taken_out q xs ≡ refused why
+    → drain_all xs ≡ []
+none-drained_of q [] why e = refl
+none-drained_of q (x ∷ xs) why e = cc
 
-pub none-drained : (w : World) (why : Refusal) → drain w ≡ refused why → drain_all w.replies ≡ []
-none-drained w why e = none-drained_of w w.replies why e
+pub none-drained : (g : Ground) (q : Quiet) (why : Refusal) → step g q drains ≡ refused why
+    → drain_all q.replies ≡ []
+none-drained g q why e = none-drained_of q q.replies why (sym (step-drains g q) ∙ e)
 
 -- The loop that writes the replies
 
--- so far: what was written, and the world now
-pub record Drains (r : Readings) (Stands : World → Type 0) (w : World) (held holds : Option (List ℕ)) : Type 0 where
-  pub now : World
+-- so far: what was written, and the tenant now
+pub record Drains (g : Ground) (Stands : Quiet → Type 0) (q : Quiet)
+    (held holds : Option (List ℕ)) : Type 0 where
+  pub now : Quiet
   pub gone : List ℕ
   pub stands : Stands now
   pub appends : Appends held holds gone
-  pub served_is : served r w (drain_all w.replies) ≡ gone ++ served r now (drain_all now.replies)
-  pub run_is : run r w (drain_all w.replies) ≡ run r now (drain_all now.replies)
+  pub served_is : served g q (drain_all q.replies) ≡ gone ++ served g now (drain_all now.replies)
+  pub run_is : run g q (drain_all q.replies) ≡ run g now (drain_all now.replies)
 
 -- a reply was taken out
-abbrev pub TakesOut : World → List ℕ → (World → Type 0) → Type 0
-TakesOut w bytes Stands = (now : World) × (drain w ≡ accepted now bytes) × Stands now
+abbrev pub TakesOut : Ground → Quiet → List ℕ → (Quiet → Type 0) → Type 0
+TakesOut g q bytes Stands = (now : Quiet) × (step g q drains ≡ accepted now bytes) × Stands now
 
-pub drains-none : (r : Readings) (Stands : World → Type 0) (w : World) (held : Option (List ℕ)) → Stands w → Drains r Stands w held held
-drains-none r Stands w held stands = record {
-  now = w;
+pub drains-none : (g : Ground) (Stands : Quiet → Type 0) (q : Quiet) (held : Option (List ℕ))
+    → Stands q → Drains g Stands q held held
+drains-none g Stands q held stands = record {
+  now = q;
   gone = [];
   stands = stands;
   appends = Appends-nil held;
@@ -95,39 +112,49 @@ drains-none r Stands w held stands = record {
   run_is = refl;
 }
 
-pub drains-more : (r : Readings) (Old New : World → Type 0) (w : World) (held holds grown : Option (List ℕ)) (bytes : List ℕ)
-    (d : Drains r Old w held holds) → TakesOut d.now bytes New → Appends holds grown bytes → Drains r New w held grown
-drains-more r Old New w held holds grown bytes d out appends = record {
+pub drains-more : (g : Ground) (Old New : Quiet → Type 0) (q : Quiet)
+    (held holds grown : Option (List ℕ)) (bytes : List ℕ) (d : Drains g Old q held holds)
+    → TakesOut g d.now bytes New → Appends holds grown bytes → Drains g New q held grown
+drains-more g Old New q held holds grown bytes d out appends = record {
   now = out.0;
   gone = d.gone ++ bytes;
   stands = out.2;
   appends = Appends-trans held holds grown d.gone bytes d.appends appends;
   served_is =
-      d.served_is ∙ ap (λ (more : List ℕ). d.gone ++ more) (served-drained r d.now out.0 bytes out.1)
-      ∙ sym (append_assoc d.gone bytes (served r out.0 (drain_all out.0.replies)));
-  run_is = d.run_is ∙ run-drained r d.now out.0 bytes out.1;
+      d.served_is
+      ∙ ap (λ (more : List ℕ). d.gone ++ more) (served-drained g d.now out.0 bytes out.1)
+      ∙ sym (append_assoc d.gone bytes (served g out.0 (drain_all out.0.replies)));
+  run_is = d.run_is ∙ run-drained g d.now out.0 bytes out.1;
 }
 
-pub drains-all : (r : Readings) (Old New : World → Type 0) (w : World) (held holds : Option (List ℕ)) (why : Refusal)
-    (d : Drains r Old w held holds) → drain d.now ≡ refused why → New d.now → Makes r New w (drain_all w.replies) held holds
-drains-all r Old New w held holds why d none stands =
-    let turns : drain_all d.now.replies ≡ [] = none-drained d.now why none in
-    let written : served r w (drain_all w.replies) ≡ d.gone = d.served_is ∙ ap (λ (ts : List Turn). d.gone ++ served r d.now ts) turns ∙ append-nil d.gone in
-    let same : run r w (drain_all w.replies) ≡ d.now = d.run_is ∙ ap (run r d.now) turns in
+pub drains-all : (g : Ground) (Old New : Quiet → Type 0) (q : Quiet)
+    (held holds : Option (List ℕ)) (why : Refusal) (d : Drains g Old q held holds)
+    → step g d.now drains ≡ refused why → New d.now
+    → Makes g New q (drain_all q.replies) held holds
+drains-all g Old New q held holds why d none stands =
+    let turns : drain_all d.now.replies ≡ [] = none-drained g d.now why none in
+    let written : served g q (drain_all q.replies) ≡ d.gone =
+    d.served_is ∙ ap (λ (ts : List Turn). d.gone ++ served g d.now ts) turns ∙ append-nil d.gone in
+    let same : run g q (drain_all q.replies) ≡ d.now = d.run_is ∙ ap (run g d.now) turns in
     record {
       appends = subst (Appends held holds) (sym written) d.appends;
       stands = subst New (sym same) stands;
     }
 
-pub drains-broken : (r : Readings) (Old New : World → Type 0) (w : World) (held holds grown : Option (List ℕ)) (bytes front back : List ℕ)
-    (d : Drains r Old w held holds) → TakesOut d.now bytes New → bytes ≡ front ++ back → Appends holds grown front → Begins r w (drain_all w.replies) held grown
-drains-broken r Old New w held holds grown bytes front back d out whole appends =
-    let rest = served r out.0 (drain_all out.0.replies) in
+pub drains-broken : (g : Ground) (Old New : Quiet → Type 0) (q : Quiet)
+    (held holds grown : Option (List ℕ)) (bytes front back : List ℕ) (d : Drains g Old q held holds)
+    → TakesOut g d.now bytes New → bytes ≡ front ++ back → Appends holds grown front
+    → Begins g q (drain_all q.replies) held grown
+drains-broken g Old New q held holds grown bytes front back d out whole appends =
+    let rest = served g out.0 (drain_all out.0.replies) in
     record {
       written = d.gone ++ front;
       more = back ++ rest;
       appends = Appends-trans held holds grown d.gone front d.appends appends;
       begins =
-          d.served_is ∙ ap (λ (more : List ℕ). d.gone ++ more) (served-drained r d.now out.0 bytes out.1 ∙ ap (λ (bs : List ℕ). bs ++ rest) whole ∙ append_assoc front back rest)
+          d.served_is
+          ∙ ap (λ (more : List ℕ). d.gone ++ more)
+          (served-drained g d.now out.0 bytes out.1 ∙ ap (λ (bs : List ℕ). bs ++ rest) whole
+          ∙ append_assoc front back rest)
           ∙ sym (append_assoc d.gone front (back ++ rest));
     }

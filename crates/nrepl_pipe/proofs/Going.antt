@@ -1,141 +1,145 @@
--- What the bare actor's turn does to the steps, the replies and what was heard.
-use Rattle.std.proofs.Common.{◌≡◌, ◌≢◌, ℕ, ◌+◌, ◌-◌, Bool, true, false, ◌&&◌, List, [], ◌∷◌, length, nat_le, ◌==◌, if◌then◌else◌, Option, Some, None, refl, sym, ap, ◌∙◌, subst, arith}
-use Rattle.bencode_wire.specs.declared.fault.WireFault.{WireFault}
-use Rattle.repl_replies.specs.Replies.{ReplyData}
-use Rattle.repl_replies.specs.Requests.{RequestData}
-use Rattle.repl_core.specs.Readings.{Readings}
-use Rattle.repl_core.specs.World.{Hand, World}
-use Rattle.repl_core.specs.Step.{goes, Stepped, accepted, refused, step, is_held, spent, gone_on, acted_on, acted, is_idle, may_reply, go, world_or, bytes_given, after}
-use Rattle.repl_core.specs.Turned.{Accepted}
-use Rattle.repl_core.specs.declared.refusal.Actor.{Actor}
-use Rattle.repl_core.specs.declared.refusal.Refusal.{Refusal}
-use Rattle.nrepl_pipe.specs.Schedule.{GoesOn}
+-- What an actor's turn does to the steps, the replies and what was heard.
+use Rattle.std.proofs.Common.{◌≡◌, ℕ, zero, suc, ◌+◌, ◌-◌, ◌==◌, [], Bool, true, false}
+use Rattle.std.proofs.Common.{if◌then◌else◌, Option, None, Some, refl, sym, ap, ◌∙◌, subst, arith}
+use Rattle.repl_asks.specs.Exchange.{AskData}
+use Rattle.repl_jobs.specs.Tree.{Tree, finished, asks}
+use Rattle.repl_jobs.specs.Leading as leading
+use Rattle.server_rules.specs.Numbered.{found}
+use Rattle.server_rules.specs.Ground.{Ground}
+use Rattle.server_rules.specs.Request.{Hand, Run}
+use Rattle.server_rules.specs.Tenant.{ActorData, seat_of, Quiet, is_held}
+use Rattle.server_rules.specs.Plan.{EndingData, Deed, starts, asks_for, ends, Outcome, refuses}
+use Rattle.server_rules.specs.Plan.{leaves, Plan, quietly}
+use Rattle.server_rules.specs.Asking.{asked_of}
+use Rattle.server_rules.specs.Ending.{end_of}
+use Rattle.server_rules.specs.Deeds.{start_of, for_actor, unless_worn, plan}
+use Rattle.server_rules.specs.Turns.{honest, honest_at, honest_of, honest_in, honest_by}
+use Rattle.server_rules.specs.declared.actor.Actor.{Actor}
+use Rattle.server_rules.specs.declared.refusal.Refusal.{Refusal}
+use Rattle.tenant_turns.specs.NoRefs.{outcome, carried_out}
+use Rattle.tenant_turns.specs.Turns.{goes, Stepped, accepted, refused, stepped_as, step, quiet_or}
+use Rattle.tenant_turns.specs.Turns.{bytes_given, after, tenant_number}
+use Rattle.nrepl_pipe.proofs.Starting.{PlansSo, GoesSo, start-so}
+use Rattle.nrepl_pipe.proofs.Finishing.{asked-so, ended-so}
 
-pub step-goes : (r : Readings) (w : World) → step r w (goes Actor.Bare) ≡ go r w
-unfolding step
-step-goes r w = refl
+-- The honest deed
 
--- By the three tests
+-- where steps are left, the deed is this plan
+record Acts (g : Ground) (q : Quiet) (d : Deed) : Type 0 where
+  plan_is : Plan
+  so : PlansSo q plan_is
+  is : plan g tenant_number q d ≡ unless_worn q plan_is
 
-abbrev tested : Bool → Bool → Bool → Stepped → Stepped
-tested worn idle held s = if worn then refused Refusal.Worn else if idle then refused Refusal.Idle else if held then refused Refusal.Held else s
+for_actor-so : (q : Quiet) (there : Option ActorData) (p : ActorData → Plan)
+    → ((actor : ActorData) → PlansSo q (p actor)) → PlansSo q (for_actor there p)
+for_actor-so q None p so told = λ e. cc
+for_actor-so q (Some actor) p so told = so actor told
 
-abbrev go_tested : Readings → World → Stepped
-go_tested r w = tested (w.steps == 0) (is_idle w.hand w.waiting) (may_reply w.hand && is_held w) (accepted (spent (acted r w)) [])
+starts-acts : (g : Ground) (a : Actor) (q : Quiet) → Acts g q (starts a)
+starts-acts g a q = record {
+  plan_is = for_actor (found (seat_of a) q.actors)
+      (λ actor. quietly (start_of g a actor q actor.hand));
+  so = for_actor-so q (found (seat_of a) q.actors)
+      (λ actor. quietly (start_of g a actor q actor.hand))
+      (λ actor told. start-so g a actor q actor.hand);
+  is = refl;
+}
 
-step-tested : (r : Readings) (w : World) → step r w (goes Actor.Bare) ≡ go_tested r w
-step-tested r w = step-goes r w
+asks-acts : (g : Ground) (a : Actor) (ask : AskData) (q : Quiet) → Acts g q (asks_for a ask)
+asks-acts g a ask q = record {
+  plan_is = for_actor (found (seat_of a) q.actors)
+      (λ actor. asked_of g a actor ask q actor.hand);
+  so = for_actor-so q (found (seat_of a) q.actors)
+      (λ actor. asked_of g a actor ask q actor.hand)
+      (λ actor. asked-so g a actor ask q actor.hand);
+  is = refl;
+}
 
-tested-accepted : (worn idle held : Bool) (v new : World) (bytes : List ℕ) → tested worn idle held (accepted v []) ≡ accepted new bytes → (worn ≡ false) × (v ≡ new)
-tested-accepted true idle held v new bytes e = cc
-tested-accepted false true held v new bytes e = cc
-tested-accepted false false true v new bytes e = cc
-tested-accepted false false false v new bytes e = (refl, ap (world_or v) e)
+ends-acts : (g : Ground) (a : Actor) (e : EndingData) (q : Quiet) → Acts g q (ends a e)
+ends-acts g a e q = record {
+  plan_is = for_actor (found (seat_of a) q.actors) (λ actor. end_of g a actor e q actor.hand);
+  so = for_actor-so q (found (seat_of a) q.actors)
+      (λ actor. end_of g a actor e q actor.hand)
+      (λ actor. ended-so g a actor e q actor.hand);
+  is = refl;
+}
 
-tested-held : (worn idle held : Bool) (v : World) → tested worn idle held (accepted v []) ≡ refused Refusal.Held → held ≡ true
-tested-held true idle held v e = cc
-tested-held false true held v e = cc
-tested-held false false true v e = refl
-tested-held false false false v e = cc
+at-acts : (g : Ground) (a : Actor) (q : Quiet) (run : Run) (t : Tree)
+    → Acts g q (honest_at a run t)
+at-acts g a q run (asks ask behind) = asks-acts g a ask q
+at-acts g a q run (finished e) =
+    ends-acts g a (record { job = run.job; trace = run.trace; end = e }) q
 
-tested-gives : (worn idle held : Bool) (v : World) → bytes_given (tested worn idle held (accepted v [])) ≡ []
-tested-gives true idle held v = refl
-tested-gives false true held v = refl
-tested-gives false false true v = refl
-tested-gives false false false v = refl
+of-acts : (g : Ground) (a : Actor) (q : Quiet) (run : Option Run) → Acts g q (honest_of g a run)
+of-acts g a q None = starts-acts g a q
+of-acts g a q (Some run) = at-acts g a q run (leading.after (g.evaluation run.job) run.trace)
 
-pub go-gives : (r : Readings) (w : World) → bytes_given (step r w (goes Actor.Bare)) ≡ []
-go-gives r w = ap bytes_given (step-tested r w) ∙ tested-gives (w.steps == 0) (is_idle w.hand w.waiting) (may_reply w.hand && is_held w) (spent (acted r w))
+in-acts : (g : Ground) (a : Actor) (q : Quiet) (h : Option Hand) → Acts g q (honest_in g a h)
+in-acts g a q None = starts-acts g a q
+in-acts g a q (Some h) = of-acts g a q h.running
 
--- What an accepted turn keeps
+by-acts : (g : Ground) (a : Actor) (q : Quiet) (there : Option ActorData)
+    → Acts g q (honest_by g a there)
+by-acts g a q None = starts-acts g a q
+by-acts g a q (Some actor) = in-acts g a q actor.hand
 
-abbrev Keeps : World → World → Type 0
-Keeps w v = (v.steps ≡ w.steps) × (v.heard ≡ w.heard)
+honest-acts : (g : Ground) (a : Actor) (q : Quiet) → Acts g q (honest g a (Some (Some q)))
+honest-acts g a q = by-acts g a q (found (seat_of a) q.actors)
 
-gone_on-steps : (h : Hand) (w : World) → (gone_on h h.running w).steps ≡ w.steps
-gone_on-steps h w = grind arith
+-- The step
 
-gone_on-heard : (h : Hand) (w : World) → (gone_on h h.running w).heard ≡ w.heard
-gone_on-heard h w = grind arith
+-- an actor's turn, refused or accepted
+abbrev pub StepsSo : Quiet → Stepped → Type 0
+StepsSo q (accepted new bytes) =
+    (q.steps ≡ new.steps + 1) × (new.heard ≡ q.heard) × (bytes ≡ [])
+StepsSo q (refused why) = why ≡ Refusal.Held → is_held q ≡ true
 
-acted_on-keeps : (r : Readings) (hand : Option Hand) (waiting : List RequestData) (w : World) → Keeps w (acted_on r hand waiting w)
-acted_on-keeps r (Some h) waiting w = (gone_on-steps h w, gone_on-heard h w)
-acted_on-keeps r None (q ∷ waiting) w = (refl, refl)
-acted_on-keeps r None [] w = (refl, refl)
+one-less : (n m : ℕ) → (n == 0) ≡ false → m ≡ n - 1 → n ≡ m + 1
+one-less zero m some is = cc
+one-less (suc n) m some is = omega arith
 
--- a fault of the stream is no reason to refuse it
+outcome-steps : (q : Quiet) (o : Outcome) → (q.steps == 0) ≡ false → GoesSo q o
+    → StepsSo q (stepped_as o)
+outcome-steps q (refuses why) some so = so
+outcome-steps q (leaves new answer) some so =
+    (one-less q.steps new.steps some so.0, so.1, so.2)
 
-tested-not_wire : (worn idle held : Bool) (v : World) (f : WireFault) → tested worn idle held (accepted v []) ≡ refused (Refusal.Wire f) → ⊥
-tested-not_wire true idle held v f e = cc
-tested-not_wire false true held v f e = cc
-tested-not_wire false false true v f e = cc
-tested-not_wire false false false v f e = cc
+worn-steps : (q : Quiet) (p : Plan) (worn : Bool) → (q.steps == 0) ≡ worn → PlansSo q p
+    → StepsSo q (stepped_as (carried_out (if worn then quietly (refuses Refusal.Worn) else p)))
+worn-steps q p true is so = λ e. cc
+worn-steps q p false is so = outcome-steps q (carried_out p) is (so _)
 
-pub go-not_wire : (r : Readings) (w : World) (f : WireFault) → go r w ≡ refused (Refusal.Wire f) → ⊥
-go-not_wire r w f e =
-    tested-not_wire (w.steps == 0) (is_idle w.hand w.waiting) (may_reply w.hand && is_held w) (spent (acted r w)) f
-    (sym (step-tested r w) ∙ step-goes r w ∙ e)
+step-goes : (g : Ground) (q : Quiet) (a : Actor) → step g q (goes a)
+    ≡ stepped_as (carried_out (plan g tenant_number q (honest g a (Some (Some q)))))
+unfolding step outcome
+step-goes g q a = refl
 
-pub zero-tested : (n : ℕ) → n ≡ 0 → (n == 0) ≡ true
-zero-tested n e = ap (λ (k : ℕ). k == 0) e
+step-acts : (g : Ground) (q : Quiet) (a : Actor) → step g q (goes a)
+    ≡ stepped_as (carried_out (unless_worn q (honest-acts g a q).plan_is))
+step-acts g q a = step-goes g q a ∙ ap (λ p. stepped_as (carried_out p)) (honest-acts g a q).is
 
-pub go-accepted : (r : Readings) (w new : World) (bytes : List ℕ) → step r w (goes Actor.Bare) ≡ accepted new bytes → (w.steps ≡ new.steps + 1) × (new.heard ≡ w.heard)
-go-accepted r w new bytes e =
-    let parts = tested-accepted (w.steps == 0) (is_idle w.hand w.waiting) (may_reply w.hand && is_held w) (spent (acted r w)) new bytes (sym (step-tested r w) ∙ e) in
-    let kept = acted_on-keeps r w.hand w.waiting w in
-    let some : w.steps ≢ 0 = λ (none : w.steps ≡ 0). let both : true ≡ false = sym (zero-tested w.steps none) ∙ parts.0 in cc in
-    let left : (acted r w).steps - 1 ≡ new.steps = ap (λ (v : World). v.steps) parts.1 in
-    let heard : (acted r w).heard ≡ new.heard = ap (λ (v : World). v.heard) parts.1 in
-    let steps : (acted r w).steps ≡ w.steps = kept.0 in
-    (omega arith, sym heard ∙ kept.1)
+pub go-steps : (g : Ground) (q : Quiet) (a : Actor) → StepsSo q (step g q (goes a))
+go-steps g q a =
+    let acts = honest-acts g a q in
+    subst (StepsSo q) (sym (step-acts g q a))
+    (worn-steps q acts.plan_is (q.steps == 0) refl acts.so)
 
-pub go-worn : (r : Readings) (w : World) → (w.steps == 0) ≡ true → step r w (goes Actor.Bare) ≡ refused Refusal.Worn
-go-worn r w e =
-    step-tested r w
-    ∙ ap (λ (worn : Bool). tested worn (is_idle w.hand w.waiting) (may_reply w.hand && is_held w) (accepted (spent (acted r w)) [])) e
+pub go-worn : (g : Ground) (q : Quiet) (a : Actor) → (q.steps == 0) ≡ true
+    → step g q (goes a) ≡ refused Refusal.Worn
+go-worn g q a none = step-acts g q a
+    ∙ ap (λ worn. stepped_as (carried_out
+    (if worn then quietly (refuses Refusal.Worn) else (honest-acts g a q).plan_is))) none
 
-few-held : (may : Bool) (replies : List ReplyData) → replies ≡ [] → (may && nat_le 1024 (length replies)) ≡ true → ⊥
-few-held true [] none e = cc
-few-held false [] none e = cc
-few-held may (x ∷ xs) none e = cc
+steps-give : (q : Quiet) (s : Stepped) → StepsSo q s → bytes_given s ≡ []
+steps-give q (accepted new bytes) so = so.2
+steps-give q (refused why) so = refl
 
-pub go-not_held : (r : Readings) (w : World) → w.replies ≡ [] → step r w (goes Actor.Bare) ≡ refused Refusal.Held → ⊥
-go-not_held r w none e =
-    few-held (may_reply w.hand) w.replies none
-    (tested-held (w.steps == 0) (is_idle w.hand w.waiting) (may_reply w.hand && is_held w) (spent (acted r w)) (sym (step-tested r w) ∙ e))
+pub go-gives : (g : Ground) (q : Quiet) (a : Actor) → bytes_given (step g q (goes a)) ≡ []
+go-gives g q a = steps-give q (step g q (goes a)) (go-steps g q a)
 
-after-heard : (r : Readings) (w : World) (s : Stepped) → step r w (goes Actor.Bare) ≡ s → (world_or w s).heard ≡ w.heard
-after-heard r w (accepted new bytes) e = (go-accepted r w new bytes e).1
-after-heard r w (refused why) e = refl
+steps-heard : (q : Quiet) (s : Stepped) → StepsSo q s → (quiet_or q s).heard ≡ q.heard
+steps-heard q (accepted new bytes) so = so.1
+steps-heard q (refused why) so = refl
 
-pub go-heard : (r : Readings) (w : World) → (after r w (goes Actor.Bare)).heard ≡ w.heard
-go-heard r w = after-heard r w (step r w (goes Actor.Bare)) refl
-
--- The code's turn
-
-pub accepted-stands : (Stands : World → Type 0) (w : World) (s : Stepped) → Accepted Stands s → Stands (world_or w s)
-accepted-stands Stands w (accepted new bytes) stands = stands
-accepted-stands Stands w (refused why) never = absurd never
-
-accepted-goes_on : (Stands : World → Type 0) (s : Stepped) → Accepted Stands s → GoesOn s
-accepted-goes_on Stands (accepted new bytes) stands = tt
-accepted-goes_on Stands (refused why) never = absurd never
-
-pub turned-accepted : (r : Readings) (Stands : World → Type 0) (w : World) → Accepted Stands (go r w)
-    → Stands (after r w (goes Actor.Bare)) × GoesOn (step r w (goes Actor.Bare))
-turned-accepted r Stands w h =
-    let is : Accepted Stands (step r w (goes Actor.Bare)) = subst (Accepted Stands) (sym (step-goes r w)) h in
-    (accepted-stands Stands w (step r w (goes Actor.Bare)) is, accepted-goes_on Stands (step r w (goes Actor.Bare)) is)
-
-pub turned-refused : (r : Readings) (Stands : World → Type 0) (w : World) (why : Refusal) → (go r w ≡ refused why) × Stands w
-    → Stands (after r w (goes Actor.Bare)) × (step r w (goes Actor.Bare) ≡ refused why)
-turned-refused r Stands w why h =
-    let is : step r w (goes Actor.Bare) ≡ refused why = step-goes r w ∙ h.0 in
-    (subst (λ (s : Stepped). Stands (world_or w s)) (sym is) h.1, is)
-
-pub turned-known : (r : Readings) (Stands : World → Type 0) (w : World) (why known : Refusal) → why ≡ known → known ≢ Refusal.NoMemory
-    → (why ≢ Refusal.NoMemory → (go r w ≡ refused why) × Stands w)
-    → Stands (after r w (goes Actor.Bare)) × (step r w (goes Actor.Bare) ≡ refused known)
-turned-known r Stands w why known same other h =
-    let turned = turned-refused r Stands w why (h (λ (none : why ≡ Refusal.NoMemory). other (sym same ∙ none))) in
-    (turned.0, turned.1 ∙ ap refused same)
+pub go-heard : (g : Ground) (q : Quiet) (a : Actor) → (after g q (goes a)).heard ≡ q.heard
+go-heard g q a = steps-heard q (step g q (goes a)) (go-steps g q a)

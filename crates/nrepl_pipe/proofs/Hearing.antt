@@ -1,132 +1,111 @@
 -- What hearing a piece does, and when it is refused.
-use Rattle.std.proofs.Common.{◌≡◌, ◌≢◌, ℕ, ◌+◌, Bool, true, false, List, [], ◌∷◌, ◌++◌, length, nat_le, ◌==◌, if◌then◌else◌, Option, Some, None, refl, sym, ap, ◌∙◌, subst, length-append, arith}
-use Rattle.bencode_wire.specs.Tree as wire
-use Rattle.bencode_wire.specs.Stream.{Ending, rest, fault, Streams}
+use Rattle.std.proofs.Common.{◌≡◌, ◌≢◌, ℕ, ◌==◌, Bool, true, false, List, [], ◌++◌, length, nat_le}
+use Rattle.std.proofs.Common.{if◌then◌else◌, Option, Some, None, refl, sym, ap, ◌∙◌, subst}
 use Rattle.bencode_wire.specs.declared.fault.WireFault.{WireFault}
 use Rattle.repl_replies.specs.Replies.{ReplyData}
-use Rattle.repl_replies.specs.Requests.{HeardData, waits, answered, heard}
-use Rattle.repl_core.specs.Readings.{Readings, AreRight, message_limit}
-use Rattle.repl_core.specs.World.{World, with_heard}
-use Rattle.repl_core.specs.Step.{hears, Stepped, accepted, refused, step, is_held, spent, fault_in, stream_fault, with_heard_message, with_message, with_messages, new_messages, taken_in, hears_more, hear, world_or, bytes_given, after}
-use Rattle.repl_core.specs.Turned.{Accepted}
-use Rattle.repl_core.specs.declared.refusal.Refusal.{Refusal}
+use Rattle.server_rules.specs.Ground.{Ground}
+use Rattle.server_rules.specs.Tenant.{Quiet, is_held}
+use Rattle.server_rules.specs.Hearing.{stream_fault, hears_more, hearing}
+use Rattle.server_rules.specs.Plan.{Outcome, refuses, leaves}
+use Rattle.server_rules.specs.Turns.{bytes_in}
+use Rattle.server_rules.specs.declared.refusal.Refusal.{Refusal}
+use Rattle.tenant_turns.specs.NoRefs.{outcome, carried_out}
+use Rattle.tenant_turns.specs.Turned.{Accepted}
+use Rattle.tenant_turns.specs.Turns.{hears, Stepped, accepted, refused, stepped_as, step, quiet_or}
+use Rattle.tenant_turns.specs.Turns.{bytes_given, after, tenant_number}
+use Rattle.nrepl_pipe.specs.Fresh.{IsReady}
+use Rattle.nrepl_pipe.proofs.Messages.{taken_in-heard}
 
-pub step-hears : (r : Readings) (w : World) (piece : List ℕ) → step r w (hears piece) ≡ hear r piece w
-unfolding step
-step-hears r w piece = refl
+-- Where the stream has no fault and no reply waits, a piece is refused at the end of the steps
+-- alone. Where it is accepted its bytes are heard, and none are given.
 
--- The bytes of the piece are heard
+abbrev HeardSo : Ground → Quiet → List ℕ → Outcome → Type 0
+HeardSo g q piece (refuses why) =
+    IsReady g q → (why ≡ Refusal.Worn) × ((q.steps == 0) ≡ true)
+HeardSo g q piece (leaves new answer) =
+    (new.heard ≡ q.heard ++ piece) × (bytes_in answer ≡ [])
 
-heard_message-heard : (h : HeardData) (w : World) → (with_heard_message h w).heard ≡ w.heard
-heard_message-heard (waits request) w = refl
-heard_message-heard (answered answer) w = refl
+few-held : (q : Quiet) → q.replies ≡ [] → is_held q ≡ false
+few-held q none = ap (λ (xs : List ReplyData). nat_le 1024 (length xs)) none
 
-message-heard : (t : wire.Tree) (w : World) → (with_message t w).heard ≡ w.heard
-message-heard (wire.dictionary fields) w = heard_message-heard (heard fields) w
-message-heard (wire.integer n) w = refl
-message-heard (wire.string bytes) w = refl
-message-heard (wire.list ts) w = refl
+held-so : (g : Ground) (t : ℕ) (piece : List ℕ) (q : Quiet) (o : Outcome) (held : Bool)
+    → is_held q ≡ held → HeardSo g q piece o
+    → HeardSo g q piece (if held then refuses Refusal.Held else o)
+held-so g t piece q o true is so = λ ready.
+    let both : true ≡ false = sym is ∙ few-held q ready.1 in cc
+held-so g t piece q o false is so = so
 
-messages-heard : (ts : List wire.Tree) (w : World) → (with_messages ts w).heard ≡ w.heard
-messages-heard [] w = refl
-messages-heard (t ∷ ts) w = messages-heard ts (with_message t w) ∙ message-heard t w
+more-so : (g : Ground) (t : ℕ) (piece : List ℕ) (q : Quiet) (f : Option WireFault)
+    → stream_fault g.readings q.heard ≡ f → HeardSo g q piece (hears_more g t piece q f)
+more-so g t piece q (Some f) is = λ ready.
+    let both : Some f ≡ None = sym is ∙ ready.0 in cc
+more-so g t piece q None is =
+    held-so g t piece q _ (is_held q) refl (taken_in-heard g t piece q, refl)
 
-taken_in-heard : (r : Readings) (piece : List ℕ) (w : World) → (taken_in r piece w).heard ≡ w.heard ++ piece
-unfolding taken_in
-taken_in-heard r piece w = messages-heard (new_messages r w.heard piece) (with_heard (w.heard ++ piece) w)
+hearing-so : (g : Ground) (t : ℕ) (piece : List ℕ) (q : Quiet) (worn : Bool)
+    → (q.steps == 0) ≡ worn → HeardSo g q piece (if worn then refuses Refusal.Worn
+    else hears_more g t piece q (stream_fault g.readings q.heard))
+hearing-so g t piece q true is = λ ready. (refl, is)
+hearing-so g t piece q false is = more-so g t piece q (stream_fault g.readings q.heard) refl
 
--- By the three tests
+-- The step
 
-abbrev heard_by : Bool → Option WireFault → Bool → World → Stepped
-heard_by worn (Some f) held v = if worn then refused Refusal.Worn else refused (Refusal.Wire f)
-heard_by worn None held v = if worn then refused Refusal.Worn else if held then refused Refusal.Held else accepted v []
+abbrev pub PieceSo : Ground → Quiet → List ℕ → Stepped → Type 0
+PieceSo g q piece (refused why) =
+    IsReady g q → (why ≡ Refusal.Worn) × ((q.steps == 0) ≡ true)
+PieceSo g q piece (accepted new bytes) = (new.heard ≡ q.heard ++ piece) × (bytes ≡ [])
 
-hear-tested : (r : Readings) (piece : List ℕ) (w : World) (worn : Bool) (f : Option WireFault)
-    → (if worn then refused Refusal.Worn else hears_more r piece w f) ≡ heard_by worn f (is_held w) (spent (taken_in r piece w))
-hear-tested r piece w worn (Some f) = refl
-hear-tested r piece w worn None = refl
+outcome-piece : (g : Ground) (q : Quiet) (piece : List ℕ) (o : Outcome) → HeardSo g q piece o
+    → PieceSo g q piece (stepped_as o)
+outcome-piece g q piece (refuses why) so = so
+outcome-piece g q piece (leaves new answer) so = so
 
-step-heard_by : (r : Readings) (w : World) (piece : List ℕ)
-    → step r w (hears piece) ≡ heard_by (w.steps == 0) (stream_fault r w.heard) (is_held w) (spent (taken_in r piece w))
-step-heard_by r w piece = step-hears r w piece ∙ hear-tested r piece w (w.steps == 0) (stream_fault r w.heard)
+step-hears : (g : Ground) (q : Quiet) (piece : List ℕ)
+    → step g q (hears piece) ≡ stepped_as (carried_out (hearing g tenant_number piece q))
+unfolding step outcome
+step-hears g q piece = refl
 
-by-accepted : (worn : Bool) (f : Option WireFault) (held : Bool) (v new : World) (bytes : List ℕ) → heard_by worn f held v ≡ accepted new bytes → (v ≡ new) × ([] ≡ bytes)
-by-accepted true (Some f) held v new bytes e = cc
-by-accepted false (Some f) held v new bytes e = cc
-by-accepted true None held v new bytes e = cc
-by-accepted false None true v new bytes e = cc
-by-accepted false None false v new bytes e = (ap (world_or v) e, ap bytes_given e)
-
-by-refused : (worn : Bool) (f : Option WireFault) (held : Bool) (v : World) (why : Refusal) → f ≡ None → held ≡ false → heard_by worn f held v ≡ refused why
-    → (worn ≡ true) × (refused Refusal.Worn ≡ refused why)
-by-refused true (Some f) held v why none few e = (refl, e)
-by-refused false (Some f) held v why none few e = cc
-by-refused true None held v why none few e = (refl, e)
-by-refused false None true v why none few e = cc
-by-refused false None false v why none few e = cc
-
-few-held : (replies : List ReplyData) → replies ≡ [] → nat_le 1024 (length replies) ≡ false
-few-held replies none = ap (λ (xs : List ReplyData). nat_le 1024 (length xs)) none
-
--- where the stream has no fault and no reply waits, a piece is refused at the end of the steps alone
-pub hear-refused : (r : Readings) (w : World) (piece : List ℕ) (why : Refusal) → stream_fault r w.heard ≡ None → w.replies ≡ []
-    → hear r piece w ≡ refused why → ((w.steps == 0) ≡ true) × (refused Refusal.Worn ≡ refused why)
-hear-refused r w piece why clean none e =
-    by-refused (w.steps == 0) (stream_fault r w.heard) (is_held w) (spent (taken_in r piece w)) why clean (few-held w.replies none)
-    (sym (step-heard_by r w piece) ∙ step-hears r w piece ∙ e)
+pub hears-so : (g : Ground) (q : Quiet) (piece : List ℕ)
+    → PieceSo g q piece (step g q (hears piece))
+hears-so g q piece =
+    subst (PieceSo g q piece) (sym (step-hears g q piece))
+    (outcome-piece g q piece (carried_out (hearing g tenant_number piece q))
+    (hearing-so g tenant_number piece q (q.steps == 0) refl))
 
 -- The code was refused
 
-pub known-refused : (X : Type 0) (s : Stepped) (why known : Refusal) → why ≡ known → known ≢ Refusal.NoMemory → (why ≢ Refusal.NoMemory → (s ≡ refused why) × X)
-    → s ≡ refused known
-known-refused X s why known same other h =
-    (h (λ (none : why ≡ Refusal.NoMemory). other (sym same ∙ none))).0 ∙ ap refused same
-
-abbrev reason_or : Refusal → Stepped → Refusal
-reason_or none (accepted new bytes) = none
-reason_or none (refused why) = why
-
--- nor for another reason, but for want of memory
-pub never-refused : (X : Type 0) (r : Readings) (w : World) (piece : List ℕ) (why known : Refusal) → stream_fault r w.heard ≡ None → w.replies ≡ []
-    → why ≡ known → known ≢ Refusal.NoMemory → known ≢ Refusal.Worn → (why ≢ Refusal.NoMemory → (hear r piece w ≡ refused why) × X) → ⊥
-never-refused X r w piece why known clean none same some other h =
-    let told : hear r piece w ≡ refused known = known-refused X (hear r piece w) why known same some h in
-    other (sym (ap (reason_or known) (hear-refused r w piece known clean none told).1))
+pub refused-worn : (g : Ground) (q : Quiet) (piece : List ℕ) (why : Refusal) → IsReady g q
+    → step g q (hears piece) ≡ refused why
+    → (step g q (hears piece) ≡ refused Refusal.Worn) × ((q.steps == 0) ≡ true)
+refused-worn g q piece why ready is =
+    let so : PieceSo g q piece (refused why) = subst (PieceSo g q piece) is (hears-so g q piece) in
+    (is ∙ ap refused (so ready).0, (so ready).1)
 
 -- The code heard it
 
 -- the piece was taken in
-pub record TakesIn (r : Readings) (Stands : World → Type 0) (w : World) (piece : List ℕ) : Type 0 where
-  pub stands : Stands (after r w (hears piece))
-  pub gives : bytes_given (step r w (hears piece)) ≡ []
-  pub not_worn : step r w (hears piece) ≢ refused Refusal.Worn
-  pub heard : (after r w (hears piece)).heard ≡ w.heard ++ piece
+pub record TakesIn (g : Ground) (Stands : Quiet → Type 0) (q : Quiet) (piece : List ℕ)
+    : Type 0 where
+  pub stands : Stands (after g q (hears piece))
+  pub gives : bytes_given (step g q (hears piece)) ≡ []
+  pub not_worn : step g q (hears piece) ≢ refused Refusal.Worn
+  pub heard : (after g q (hears piece)).heard ≡ q.heard ++ piece
 
-takes-in_by : (r : Readings) (Stands : World → Type 0) (w : World) (piece : List ℕ) (s : Stepped) → step r w (hears piece) ≡ s → Accepted Stands s → TakesIn r Stands w piece
-takes-in_by r Stands w piece (accepted new bytes) is stands =
-    let parts = by-accepted (w.steps == 0) (stream_fault r w.heard) (is_held w) (spent (taken_in r piece w)) new bytes (sym (step-heard_by r w piece) ∙ is) in
-    let same : after r w (hears piece) ≡ new = ap (world_or w) is in
+takes-in_by : (g : Ground) (Stands : Quiet → Type 0) (q : Quiet) (piece : List ℕ) (s : Stepped)
+    → step g q (hears piece) ≡ s → PieceSo g q piece s → Accepted Stands s
+    → TakesIn g Stands q piece
+takes-in_by g Stands q piece (accepted new bytes) is so stands =
+    let same : after g q (hears piece) ≡ new = ap (quiet_or q) is in
     record {
       stands = subst Stands (sym same) stands;
-      gives = ap bytes_given is ∙ sym parts.1;
-      not_worn = λ (worn : step r w (hears piece) ≡ refused Refusal.Worn). let both : accepted new bytes ≡ refused Refusal.Worn = sym is ∙ worn in cc;
-      heard = ap (λ (v : World). v.heard) same ∙ ap (λ (v : World). v.heard) (sym parts.0) ∙ taken_in-heard r piece w;
+      gives = ap bytes_given is ∙ so.1;
+      not_worn = λ (worn : step g q (hears piece) ≡ refused Refusal.Worn).
+          let both : accepted new bytes ≡ refused Refusal.Worn = sym is ∙ worn in cc;
+      heard = ap (λ (v : Quiet). v.heard) same ∙ so.0;
     }
-takes-in_by r Stands w piece (refused why) is never = absurd never
+takes-in_by g Stands q piece (refused why) is so never = absurd never
 
-pub takes-in : (r : Readings) (Stands : World → Type 0) (w : World) (piece : List ℕ) → Accepted Stands (hear r piece w) → TakesIn r Stands w piece
-takes-in r Stands w piece h = takes-in_by r Stands w piece (hear r piece w) (step-hears r w piece) h
-
--- No byte has no fault
-
-nothing-faulty : (limit place : ℕ) (bytes : List ℕ) (ts : List wire.Tree) (end : Ending) → length bytes ≡ 0 → Streams limit place bytes ts end → fault_in end ≡ None
-nothing-faulty limit place bytes [] (rest m) none s = refl
-nothing-faulty limit place bytes [] (fault rule at) none s =
-    let long : length bytes ≡ length s.0 + length (s.1 ∷ s.2) = ap length s.4 ∙ length-append s.0 (s.1 ∷ s.2) in absurd (omega arith)
-nothing-faulty limit place bytes (t ∷ ts) end none s =
-    let long : length bytes ≡ length s.0 + length s.1 = ap length s.3 ∙ length-append s.0 s.1 in
-    nothing-faulty limit (place + length s.0) s.1 ts end (omega arith) s.4
-
-pub fresh-clean : (r : Readings) (heard : List ℕ) → AreRight r → heard ≡ [] → stream_fault r heard ≡ None
-fresh-clean r heard right none =
-    ap (stream_fault r) none ∙ nothing-faulty message_limit 0 [] (r.stream []).messages (r.stream []).ending refl (right.stream [])
+pub takes-in : (g : Ground) (Stands : Quiet → Type 0) (q : Quiet) (piece : List ℕ)
+    → Accepted Stands (step g q (hears piece)) → TakesIn g Stands q piece
+takes-in g Stands q piece stands =
+    takes-in_by g Stands q piece (step g q (hears piece)) refl (hears-so g q piece) stands

@@ -15,8 +15,10 @@ marks-none None = tt
 marks-none (Some b) = or-false b
 
 -- nothing failed, and then what failed since
-pub marks-behind : (before between now : Option Bool) (since : Bool) → Marks before between false → Marks between now since → Marks before now since
+pub marks-behind : (before between now : Option Bool) (since : Bool) → Marks before between false
+    → Marks between now since → Marks before now since
 marks-behind None between now since p q = tt
 marks-behind (Some b) None now since p q = absurd p
 marks-behind (Some b) (Some m) None since p q = absurd q
-marks-behind (Some b) (Some m) (Some n) since p q = q ∙ ap (λ (v : Bool). v || since) p ∙ or-more b since
+marks-behind (Some b) (Some m) (Some n) since p q =
+    q ∙ ap (λ (v : Bool). v || since) p ∙ or-more b since

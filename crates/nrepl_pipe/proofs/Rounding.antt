@@ -1,202 +1,148 @@
--- Rounds: each world has them, and what they keep.
-use Rattle.std.proofs.Common.{◌≡◌, ◌≢◌, ℕ, zero, suc, inl, inr, List, [], ◌++◌, refl, sym, ap, ◌∙◌, subst, append_assoc, append-nil, Option, Some, arith}
+-- The loop over the rounds behind a piece.
+use Rattle.std.proofs.Common.{◌≡◌, ℕ, ◌⊎◌, inl, inr, List, [], ◌++◌, Bool, true, false, ◌||◌, refl}
+use Rattle.std.proofs.Common.{sym, ap, ◌∙◌, subst, append_assoc, Option}
+use Rattle.std.specs.Prelude.{◌↔◌}
 use Rattle.std.specs.Io.KnownBytes.{Appends}
-use Rattle.std.proofs.KnownBytes.{Appends-nil, Appends-trans}
-use Rattle.repl_core.specs.Readings.{Readings}
-use Rattle.repl_core.specs.World.{World}
-use Rattle.repl_core.specs.Step.{Turn, goes, Stepped, accepted, refused, step, world_or, after, run, served}
-use Rattle.repl_core.specs.declared.refusal.Actor.{Actor}
-use Rattle.repl_core.specs.declared.refusal.Refusal.{Refusal}
-use Rattle.nrepl_pipe.specs.Schedule.{drain_all, round, GoesOn, AreRounds, last, more, MeetsWorn}
-use Rattle.nrepl_pipe.specs.Parts.{Makes, Begins, EndsAt, EndsSo, MakesRounds, BeginsRounds}
-use Rattle.nrepl_pipe.specs.declared.stream.Rounds.{Rounds}
-use Rattle.nrepl_pipe.proofs.Turns.{run-append, served-append, meets-behind, meets-neither}
-use Rattle.nrepl_pipe.proofs.Draining.{left, run-drains, drains-never_worn}
-use Rattle.nrepl_pipe.proofs.Going.{go-gives, go-accepted, zero-tested, go-worn, go-not_held, go-heard}
+use Rattle.std.proofs.KnownBytes.{Appends-trans}
+use Rattle.server_rules.specs.Ground.{Ground}
+use Rattle.server_rules.specs.Tenant.{Quiet}
+use Rattle.tenant_turns.specs.Turns.{Turn, run, served, actors_of}
+use Rattle.nrepl_pipe.specs.Schedule.{go_each, drain_all, round, IsLast, AreRounds, last, more}
+use Rattle.nrepl_pipe.specs.Schedule.{MeetsWorn}
+use Rattle.nrepl_pipe.specs.Parts.{IsRound, Makes, MakesRounds}
+use Rattle.nrepl_pipe.specs.declared.actors.Round.{Round}
+use Rattle.nrepl_pipe.specs.declared.rounds.Rounds.{Rounds}
+use Rattle.nrepl_pipe.proofs.Turns.{run-append, served-append, meets-front, meets-behind}
+use Rattle.nrepl_pipe.proofs.Turns.{meets-either}
+use Rattle.nrepl_pipe.proofs.EachRound.{gone, round-empty, served-round, round-meets}
+use Rattle.nrepl_pipe.proofs.EachRound.{round-meets_by}
 
 -- One round
 
-pub run-round : (r : Readings) (w : World) → run r w (round r w) ≡ left [] (after r w (goes Actor.Bare))
-run-round r w = run-drains r (after r w (goes Actor.Bare))
-
-round-empty : (r : Readings) (w : World) → (run r w (round r w)).replies ≡ []
-round-empty r w = ap (λ (v : World). v.replies) (run-round r w)
-
-round-heard : (r : Readings) (w : World) → (run r w (round r w)).heard ≡ w.heard
-round-heard r w = ap (λ (v : World). v.heard) (run-round r w) ∙ go-heard r w
-
-pub served-round : (r : Readings) (w : World) → served r w (round r w) ≡ served r (after r w (goes Actor.Bare)) (drain_all (after r w (goes Actor.Bare)).replies)
-served-round r w = ap (λ (bytes : List ℕ). bytes ++ served r (after r w (goes Actor.Bare)) (drain_all (after r w (goes Actor.Bare)).replies)) (go-gives r w)
-
--- What rounds keep
-
-pub rounds-empty : (r : Readings) (w : World) (turns : List Turn) → AreRounds r w turns → (run r w turns).replies ≡ []
-rounds-empty r w turns (last v end) = round-empty r v
-rounds-empty r w turns (more v turns_left on rounds) =
-    ap (λ (u : World). u.replies) (run-append r v (round r v) turns_left) ∙ rounds-empty r (run r v (round r v)) turns_left rounds
-
-pub rounds-heard : (r : Readings) (w : World) (turns : List Turn) → AreRounds r w turns → (run r w turns).heard ≡ w.heard
-rounds-heard r w turns (last v end) = round-heard r v
-rounds-heard r w turns (more v turns_left on rounds) =
-    ap (λ (u : World). u.heard) (run-append r v (round r v) turns_left) ∙ rounds-heard r (run r v (round r v)) turns_left rounds ∙ round-heard r v
-
--- rounds begin with the first
-rounds-front : (r : Readings) (w : World) (turns : List Turn) → AreRounds r w turns → (behind : List Turn) × (turns ≡ round r w ++ behind)
-rounds-front r w turns (last v end) = ([], sym (append-nil (round r v)))
-rounds-front r w turns (more v turns_left on rounds) = (turns_left, refl)
-
--- Each world has rounds
-
-abbrev HasRounds : Readings → World → Type 0
-HasRounds r w = (turns : List Turn) × AreRounds r w turns
-
-ends-here : (r : Readings) (w : World) (s : Stepped) → step r w (goes Actor.Bare) ≡ s → (GoesOn s → ⊥) → HasRounds r w
-ends-here r w s is end = (round r w, last w (λ (on : GoesOn (step r w (goes Actor.Bare))). end (subst GoesOn is on)))
-
-goes-on : (r : Readings) (w : World) (s : Stepped) → step r w (goes Actor.Bare) ≡ s → GoesOn s → HasRounds r (run r w (round r w)) → HasRounds r w
-goes-on r w s is on rounds = (round r w ++ rounds.0, more w rounds.0 (subst GoesOn (sym is) on) rounds.1)
-
--- where no reply waits each round that goes on uses up a step
-quiet-by : (r : Readings) (n : ℕ) (w : World) (s : Stepped) → step r w (goes Actor.Bare) ≡ s → w.steps ≡ suc n → w.replies ≡ []
-    → ((v : World) → v.steps ≡ n → v.replies ≡ [] → HasRounds r v) → HasRounds r w
-quiet-by r n w (accepted new bytes) is steps none behind =
-    let spent = (go-accepted r w new bytes is).0 in
-    let same : (run r w (round r w)).steps ≡ new.steps = ap (λ (v : World). v.steps) (run-round r w) ∙ ap (λ (s : Stepped). (world_or w s).steps) is in
-    goes-on r w (accepted new bytes) is tt (behind (run r w (round r w)) (omega arith) (round-empty r w))
-quiet-by r n w (refused Refusal.Held) is steps none behind = absurd (go-not_held r w none is)
-quiet-by r n w (refused Refusal.NoMemory) is steps none behind = ends-here r w (refused Refusal.NoMemory) is (λ (on : ⊥). on)
-quiet-by r n w (refused Refusal.Worn) is steps none behind = ends-here r w (refused Refusal.Worn) is (λ (on : ⊥). on)
-quiet-by r n w (refused (Refusal.Wire f)) is steps none behind = ends-here r w (refused (Refusal.Wire f)) is (λ (on : ⊥). on)
-quiet-by r n w (refused Refusal.Idle) is steps none behind = ends-here r w (refused Refusal.Idle) is (λ (on : ⊥). on)
-
-quiet-rounds : (r : Readings) (n : ℕ) (w : World) → w.steps ≡ n → w.replies ≡ [] → HasRounds r w
-quiet-rounds r zero w steps none = ends-here r w (refused Refusal.Worn) (go-worn r w (zero-tested w.steps steps)) (λ (on : ⊥). on)
-quiet-rounds r (suc n) w steps none =
-    quiet-by r n w (step r w (goes Actor.Bare)) refl steps none (λ (v : World) (e : v.steps ≡ n) (h : v.replies ≡ []). quiet-rounds r n v e h)
-
-rounds-by : (r : Readings) (w : World) (s : Stepped) → step r w (goes Actor.Bare) ≡ s → HasRounds r w
-rounds-by r w (accepted new bytes) is =
-    goes-on r w (accepted new bytes) is tt (quiet-rounds r (run r w (round r w)).steps (run r w (round r w)) refl (round-empty r w))
-rounds-by r w (refused Refusal.Held) is =
-    goes-on r w (refused Refusal.Held) is tt (quiet-rounds r (run r w (round r w)).steps (run r w (round r w)) refl (round-empty r w))
-rounds-by r w (refused Refusal.NoMemory) is = ends-here r w (refused Refusal.NoMemory) is (λ (on : ⊥). on)
-rounds-by r w (refused Refusal.Worn) is = ends-here r w (refused Refusal.Worn) is (λ (on : ⊥). on)
-rounds-by r w (refused (Refusal.Wire f)) is = ends-here r w (refused (Refusal.Wire f)) is (λ (on : ⊥). on)
-rounds-by r w (refused Refusal.Idle) is = ends-here r w (refused Refusal.Idle) is (λ (on : ⊥). on)
-
-pub rounds-exist : (r : Readings) (w : World) → HasRounds r w
-rounds-exist r w = rounds-by r w (step r w (goes Actor.Bare)) refl
-
--- The loop over the rounds
-
--- the rounds so far: those of the world now are the rest of them
-pub record RoundsOn (r : Readings) (Stands : World → Type 0) (w : World) (held holds : Option (List ℕ)) : Type 0 where
-  pub turns : List Turn
-  pub makes : Makes r Stands w turns held holds
-  pub never_worn : MeetsWorn r w turns → ⊥
-  pub closes : (behind : List Turn) → AreRounds r (run r w turns) behind → AreRounds r w (turns ++ behind)
-
-pub rounds-none : (r : Readings) (Stands : World → Type 0) (w : World) (held : Option (List ℕ)) → Stands w → RoundsOn r Stands w held held
-rounds-none r Stands w held stands = record {
-  turns = [];
-  makes = record { appends = Appends-nil held; stands = stands };
-  never_worn = λ never. never;
-  closes = λ behind rounds. rounds;
+-- the actors went on, and the replies were written
+pub round-makes : (g : Ground) (Stands : Quiet → Type 0) (q : Quiet) (held holds : Option (List ℕ))
+    → Makes g Stands (gone g q) (drain_all (gone g q).replies) held holds
+    → Makes g Stands q (round g q) held holds
+round-makes g Stands q held holds drained = record {
+  appends = subst (Appends held holds) (sym (served-round g q)) drained.appends;
+  stands = subst Stands
+      (sym (run-append g q (go_each (actors_of q)) (drain_all (gone g q).replies))) drained.stands;
 }
 
--- the writer and the code after one more round
-round-makes : (r : Readings) (Old New : World → Type 0) (w : World) (held holds grown : Option (List ℕ)) (on : RoundsOn r Old w held holds)
-    → Makes r New (after r (run r w on.turns) (goes Actor.Bare)) (drain_all (after r (run r w on.turns) (goes Actor.Bare)).replies) holds grown
-    → Makes r New w (on.turns ++ round r (run r w on.turns)) held grown
-round-makes r Old New w held holds grown on drained =
-    let now = run r w on.turns in
-    let gives : served r w (on.turns ++ round r now) ≡ served r w on.turns ++ served r (after r now (goes Actor.Bare)) (drain_all (after r now (goes Actor.Bare)).replies) =
-    served-append r w on.turns (round r now) ∙ ap (λ (bytes : List ℕ). served r w on.turns ++ bytes) (served-round r now) in
+-- The rounds so far
+
+-- whether they end with the last round, and whether a turn met the end of the steps
+pub record RoundsOn (g : Ground) (Stands : Quiet → Type 0) (q : Quiet) (is_last is_worn : Bool)
+    (held holds : Option (List ℕ)) : Type 0 where
+  pub turns : List Turn
+  pub makes : Makes g Stands q turns held holds
+  pub empty : (run g q turns).replies ≡ []
+  pub worn : (is_worn ≡ true) ↔ MeetsWorn g q turns
+  pub ends : is_last ≡ true → AreRounds g q turns
+  pub closes : is_last ≡ false → (behind : List Turn) → AreRounds g (run g q turns) behind
+      → AreRounds g q (turns ++ behind)
+
+-- not the last round
+goes_on : (g : Ground) (q : Quiet) (told : Round) → IsRound told g q (go_each (actors_of q))
+    → told.is_last ≡ false → IsLast g q → ⊥
+goes_on g q told so on is = let both : true ≡ false = sym (so.is_last.1 is) ∙ on in cc
+
+pub rounds-first : (g : Ground) (Stands : Quiet → Type 0) (q : Quiet) (told : Round)
+    (held holds : Option (List ℕ)) → IsRound told g q (go_each (actors_of q))
+    → Makes g Stands q (round g q) held holds
+    → RoundsOn g Stands q told.is_last told.is_worn held holds
+rounds-first g Stands q told held holds so makes = record {
+  turns = round g q;
+  makes = makes;
+  empty = round-empty g q;
+  worn = (
+    λ is. round-meets g q (so.is_worn.0 is),
+    λ meets. so.is_worn.1 (round-meets_by g q meets),
+  );
+  ends = λ is. last q (so.is_last.0 is);
+  closes = λ on behind rounds. more q behind (goes_on g q told so on) rounds;
+}
+
+or-true : (a b : Bool) → (a || b) ≡ true → (a ≡ true) ⊎ (b ≡ true)
+or-true true b is = inl refl
+or-true false b is = inr is
+
+true-or : (a b : Bool) → (a ≡ true) ⊎ (b ≡ true) → (a || b) ≡ true
+true-or true b is = refl
+true-or false b (inl is) = cc
+true-or false b (inr is) = is
+
+worn-more : (g : Ground) (q : Quiet) (turns : List Turn) (a b : Bool)
+    → (a ≡ true) ↔ MeetsWorn g q turns
+    → (b ≡ true) ↔ MeetsWorn g (run g q turns) (go_each (actors_of (run g q turns)))
+    → ((a || b) ≡ true) ↔ MeetsWorn g q (turns ++ round g (run g q turns))
+worn-more g q turns a b front back = (
+  λ is. to (or-true a b is),
+  λ meets. true-or a b (from meets),
+) where
+  now : Quiet
+  now = run g q turns
+
+  to : (a ≡ true) ⊎ (b ≡ true) → MeetsWorn g q (turns ++ round g now)
+  to (inl is) = meets-front g q turns (round g now) (front.0 is)
+  to (inr is) = meets-behind g q turns (round g now) (round-meets g now (back.0 is))
+
+  by : MeetsWorn g q turns ⊎ MeetsWorn g now (round g now) → (a ≡ true) ⊎ (b ≡ true)
+  by (inl meets) = inl (front.1 meets)
+  by (inr meets) = inr (back.1 (round-meets_by g now meets))
+
+  from : MeetsWorn g q (turns ++ round g now) → (a ≡ true) ⊎ (b ≡ true)
+  from meets = by (meets-either g q turns (round g now) meets)
+
+makes-more : (g : Ground) (Old New : Quiet → Type 0) (q : Quiet) (turns others : List Turn)
+    (held holds grown : Option (List ℕ)) → Makes g Old q turns held holds
+    → Makes g New (run g q turns) others holds grown → Makes g New q (turns ++ others) held grown
+makes-more g Old New q turns others held holds grown front back = record {
+  appends = subst (Appends held grown) (sym (served-append g q turns others))
+      (Appends-trans held holds grown (served g q turns) (served g (run g q turns) others)
+      front.appends back.appends);
+  stands = subst New (sym (run-append g q turns others)) back.stands;
+}
+
+pub rounds-more : (g : Ground) (Old New : Quiet → Type 0) (q : Quiet) (is_last is_worn : Bool)
+    (told : Round) (held holds grown : Option (List ℕ))
+    (on : RoundsOn g Old q is_last is_worn held holds) → is_last ≡ false
+    → IsRound told g (run g q on.turns) (go_each (actors_of (run g q on.turns)))
+    → Makes g New (run g q on.turns) (round g (run g q on.turns)) holds grown
+    → RoundsOn g New q told.is_last (is_worn || told.is_worn) held grown
+rounds-more g Old New q is_last is_worn told held holds grown on follows so makes =
+    let now = run g q on.turns in
+    let gone : run g q (on.turns ++ round g now) ≡ run g now (round g now) =
+    run-append g q on.turns (round g now) in
     record {
-      appends = subst (Appends held grown) (sym gives) (Appends-trans held holds grown (served r w on.turns) (served r (after r now (goes Actor.Bare)) (drain_all (after r now (goes Actor.Bare)).replies)) on.makes.appends drained.appends);
-      stands = subst New (sym (run-append r w on.turns (round r now))) drained.stands;
+      turns = on.turns ++ round g now;
+      makes = makes-more g Old New q on.turns (round g now) held holds grown on.makes makes;
+      empty = ap (λ (v : Quiet). v.replies) gone ∙ round-empty g now;
+      worn = worn-more g q on.turns is_worn told.is_worn on.worn so.is_worn;
+      ends = λ (is : told.is_last ≡ true).
+          on.closes follows (round g now) (last now (so.is_last.0 is));
+      closes = λ (goes : told.is_last ≡ false) (behind : List Turn)
+          (rounds : AreRounds g (run g q (on.turns ++ round g now)) behind).
+          let next : AreRounds g (run g now (round g now)) behind =
+          subst (λ (v : Quiet). AreRounds g v behind) gone rounds in
+          subst (AreRounds g q) (sym (append_assoc on.turns (round g now) behind))
+          (on.closes follows (round g now ++ behind)
+          (more now behind (goes_on g now told so goes) next));
     }
 
-round-never_worn : (r : Readings) (w : World) → step r w (goes Actor.Bare) ≢ refused Refusal.Worn → MeetsWorn r w (round r w) → ⊥
-round-never_worn r w other (inl here) = other here
-round-never_worn r w other (inr later) = drains-never_worn r (after r w (goes Actor.Bare)) later
+-- the last round was made
+pub rounds-worn : (g : Ground) (Stands : Quiet → Type 0) (q : Quiet) (is_last is_worn : Bool)
+    (held holds : Option (List ℕ)) → RoundsOn g Stands q is_last is_worn held holds
+    → is_last ≡ true → is_worn ≡ true → MakesRounds g Stands q held holds Rounds.Worn
+rounds-worn g Stands q is_last is_worn held holds on end is =
+    (on.turns, on.ends end, on.makes, on.worn.0 is)
 
-not-worn : (s : Stepped) → GoesOn s → s ≢ refused Refusal.Worn
-not-worn s on worn = subst GoesOn worn on
-
-pub rounds-more : (r : Readings) (Old New : World → Type 0) (w : World) (held holds grown : Option (List ℕ)) (on : RoundsOn r Old w held holds)
-    → GoesOn (step r (run r w on.turns) (goes Actor.Bare))
-    → Makes r New (after r (run r w on.turns) (goes Actor.Bare)) (drain_all (after r (run r w on.turns) (goes Actor.Bare)).replies) holds grown
-    → RoundsOn r New w held grown
-rounds-more r Old New w held holds grown on follows drained =
-    let now = run r w on.turns in record {
-      turns = on.turns ++ round r now;
-      makes = round-makes r Old New w held holds grown on drained;
-      never_worn = meets-neither r w on.turns (round r now) on.never_worn (round-never_worn r now (not-worn (step r now (goes Actor.Bare)) follows));
-      closes = λ (behind : List Turn) (rounds : AreRounds r (run r w (on.turns ++ round r now)) behind).
-          let next : AreRounds r (run r now (round r now)) behind = subst (λ (v : World). AreRounds r v behind) (run-append r w on.turns (round r now)) rounds in
-          subst (AreRounds r w) (sym (append_assoc on.turns (round r now) behind)) (on.closes (round r now ++ behind) (more now behind follows next));
-    }
-
-ends-so : (r : Readings) (w : World) (turns : List Turn) (end : Rounds) → (MeetsWorn r w turns → ⊥)
-    → EndsAt (Some end) (step r (run r w turns) (goes Actor.Bare)) → EndsSo end r w (turns ++ round r (run r w turns))
-ends-so r w turns Rounds.Idle never at = meets-neither r w turns (round r (run r w turns)) never (round-never_worn r (run r w turns) at.1)
-ends-so r w turns Rounds.Worn never at = meets-behind r w turns (round r (run r w turns)) (inl at)
-
-ends-last : (end : Rounds) (s : Stepped) → EndsAt (Some end) s → GoesOn s → ⊥
-ends-last Rounds.Idle s at on = at.0 on
-ends-last Rounds.Worn s at on = subst GoesOn at on
-
-pub rounds-all : (r : Readings) (Old New : World → Type 0) (w : World) (held holds grown : Option (List ℕ)) (end : Rounds) (on : RoundsOn r Old w held holds)
-    → EndsAt (Some end) (step r (run r w on.turns) (goes Actor.Bare))
-    → Makes r New (after r (run r w on.turns) (goes Actor.Bare)) (drain_all (after r (run r w on.turns) (goes Actor.Bare)).replies) holds grown
-    → MakesRounds r New w held grown end
-rounds-all r Old New w held holds grown end on at drained =
-    let now = run r w on.turns in (
-      on.turns ++ round r now,
-      on.closes (round r now) (last now (ends-last end (step r now (goes Actor.Bare)) at)),
-      round-makes r Old New w held holds grown on drained,
-      ends-so r w on.turns end on.never_worn at,
-    )
-
--- After an error
-
--- a turn for which there was no memory: nothing more was written
-pub rounds-stopped : (r : Readings) (Old : World → Type 0) (w : World) (held holds : Option (List ℕ)) → RoundsOn r Old w held holds → BeginsRounds r w held holds
-rounds-stopped r Old w held holds on =
-    let now = run r w on.turns in
-    let behind = rounds-exist r now in (
-      on.turns ++ behind.0,
-      on.closes behind.0 behind.1,
-      record {
-        written = served r w on.turns;
-        more = served r now behind.0;
-        appends = on.makes.appends;
-        begins = served-append r w on.turns behind.0;
-      },
-    )
-
--- a part of a round's replies was written
-pub rounds-broken : (r : Readings) (Old : World → Type 0) (w : World) (held holds grown : Option (List ℕ)) (on : RoundsOn r Old w held holds)
-    → Begins r (after r (run r w on.turns) (goes Actor.Bare)) (drain_all (after r (run r w on.turns) (goes Actor.Bare)).replies) holds grown
-    → BeginsRounds r w held grown
-rounds-broken r Old w held holds grown on drained =
-    let now = run r w on.turns in
-    let behind = rounds-exist r now in
-    let front = rounds-front r now behind.0 behind.1 in
-    let later = served r (run r now (round r now)) front.0 in
-    let gives : served r now behind.0 ≡ drained.written ++ (drained.more ++ later) =
-    ap (served r now) front.1 ∙ served-append r now (round r now) front.0
-    ∙ ap (λ (bytes : List ℕ). bytes ++ later) (served-round r now ∙ drained.begins)
-    ∙ append_assoc drained.written drained.more later in (
-      on.turns ++ behind.0,
-      on.closes behind.0 behind.1,
-      record {
-        written = served r w on.turns ++ drained.written;
-        more = drained.more ++ later;
-        appends = Appends-trans held holds grown (served r w on.turns) drained.written on.makes.appends drained.appends;
-        begins =
-            served-append r w on.turns behind.0 ∙ ap (λ (bytes : List ℕ). served r w on.turns ++ bytes) gives
-            ∙ sym (append_assoc (served r w on.turns) drained.written (drained.more ++ later));
-      },
-    )
+pub rounds-idle : (g : Ground) (Stands : Quiet → Type 0) (q : Quiet) (is_last is_worn : Bool)
+    (held holds : Option (List ℕ)) → RoundsOn g Stands q is_last is_worn held holds
+    → is_last ≡ true → is_worn ≡ false → MakesRounds g Stands q held holds Rounds.Idle
+rounds-idle g Stands q is_last is_worn held holds on end is = (
+  on.turns,
+  on.ends end,
+  on.makes,
+  λ meets. let both : true ≡ false = sym (on.worn.1 meets) ∙ is in cc,
+)

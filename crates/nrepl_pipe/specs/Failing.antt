@@ -1,6 +1,7 @@
 -- Which reads and writes fail, and which results tell it.
-use Rattle.std.specs.Prelude.{◌≡◌, ℕ, zero, suc, Bool, true, false, ◌||◌, ⊤, Option, None, Some, Result, Ok, Err}
-use Rattle.nrepl_pipe.specs.declared.stream.PipeError.{PipeError}
+use Rattle.std.specs.Prelude.{◌≡◌, ℕ, zero, suc, Bool, true, false, ◌||◌, ⊤, Option, None, Some}
+use Rattle.std.specs.Prelude.{Result, Ok, Err}
+use Rattle.nrepl_pipe.specs.declared.ends.PipeError.{PipeError}
 
 -- a read fails where it answers an error
 abbrev pub read_fails : {E : Type 0} → Result ℕ E → Bool
@@ -31,7 +32,10 @@ is_write_failed (Err PipeError.NoMemory) = false
 is_write_failed (Err PipeError.ReadFailed) = false
 is_write_failed (Err PipeError.WriteFailed) = true
 
--- `ReadFailed` is answered where a read failed, `WriteFailed` where a write failed, and neither elsewhere
-abbrev pub Tells : {A : Type 0} → Option Bool → Option Bool → Option Bool → Option Bool → Result A PipeError → Type 0
+-- `ReadFailed` is answered where a read failed, `WriteFailed` where a write failed, and neither
+-- elsewhere
+abbrev pub Tells : {A : Type 0} → Option Bool → Option Bool → Option Bool → Option Bool
+    → Result A PipeError → Type 0
 Tells read_before read_now write_before write_now result =
-    Marks read_before read_now (is_read_failed result) × Marks write_before write_now (is_write_failed result)
+    Marks read_before read_now (is_read_failed result)
+    × Marks write_before write_now (is_write_failed result)

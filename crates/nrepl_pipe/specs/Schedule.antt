@@ -3,57 +3,74 @@ use Rattle.std.specs.Prelude.{◌≡◌, ◌≢◌, ◌⊎◌, ℕ, ◌≤◌, L
 use Rattle.bencode_wire.specs.Stream.{Ending, rest, fault}
 use Rattle.bencode_wire.specs.Fault.{counted, fault_at}
 use Rattle.repl_replies.specs.Replies.{ReplyData}
-use Rattle.repl_core.specs.Readings.{Readings}
-use Rattle.repl_core.specs.World.{World}
-use Rattle.repl_core.specs.Step.{Turn, hears, goes, drains, Stepped, accepted, refused, step, after, run, stream_fault}
-use Rattle.repl_core.specs.declared.refusal.Actor.{Actor}
-use Rattle.repl_core.specs.declared.refusal.Refusal.{Refusal}
-use Rattle.nrepl_pipe.specs.declared.stream.PipeEnd.{PipeEnd}
+use Rattle.server_rules.specs.Ground.{Ground}
+use Rattle.server_rules.specs.Hearing.{stream_fault}
+use Rattle.server_rules.specs.Tenant.{Quiet}
+use Rattle.server_rules.specs.declared.actor.Actor.{Actor}
+use Rattle.server_rules.specs.declared.refusal.Refusal.{Refusal}
+use Rattle.tenant_turns.specs.Turns.{Turn, hears, goes, drains, actors_of, Stepped, accepted}
+use Rattle.tenant_turns.specs.Turns.{refused, step, after, run}
+use Rattle.nrepl_pipe.specs.declared.ends.PipeEnd.{PipeEnd}
 
 -- a piece has 1 to 4,096 bytes
 abbrev pub ArePieces : List (List ℕ) → Type 0
 ArePieces [] = ⊤
 ArePieces (piece ∷ pieces) = (1 ≤ length piece) × (length piece ≤ 4096) × ArePieces pieces
 
+-- each of these actors goes on once
+abbrev pub go_each : List Actor → List Turn
+go_each [] = []
+go_each (actor ∷ actors) = goes actor ∷ go_each actors
+
 -- each reply that waits is taken out
 abbrev pub drain_all : List ReplyData → List Turn
 drain_all [] = []
 drain_all (reply ∷ replies) = drains ∷ drain_all replies
 
--- a round: the bare actor has a turn, and then the replies that wait are taken out
-abbrev pub round : Readings → World → List Turn
-round r w = goes Actor.Bare ∷ drain_all (after r w (goes Actor.Bare)).replies
+-- a round: each actor that is there as it begins goes on once, and then the replies that wait are
+-- taken out
+abbrev pub round : Ground → Quiet → List Turn
+round g q = go_each (actors_of q) ++ drain_all (run g q (go_each (actors_of q))).replies
 
--- another round follows one whose first turn was accepted, or refused for the replies that waited
-abbrev pub GoesOn : Stepped → Type 0
-GoesOn (accepted new bytes) = ⊤
-GoesOn (refused Refusal.Held) = ⊤
-GoesOn (refused Refusal.NoMemory) = ⊥
-GoesOn (refused Refusal.Worn) = ⊥
-GoesOn (refused (Refusal.Wire f)) = ⊥
-GoesOn (refused Refusal.Idle) = ⊥
+-- the turn is refused, and not for the replies that wait
+abbrev pub Rests : Stepped → Type 0
+Rests (accepted new bytes) = ⊥
+Rests (refused why) = why ≢ Refusal.Held
+
+-- each of these turns is refused, and none for the replies that wait
+abbrev pub AllRest : Ground → Quiet → List Turn → Type 0
+AllRest g q [] = ⊤
+AllRest g q (turn ∷ turns) = Rests (step g q turn) × AllRest g (after g q turn) turns
+
+-- the round in which no actor goes on, nor waits for replies to be taken out
+abbrev pub IsLast : Ground → Quiet → Type 0
+IsLast g q = AllRest g q (go_each (actors_of q))
 
 -- the turns of the rounds behind a piece
-pub data AreRounds (r : Readings) : World → List Turn → Type 0 where
-  last : (w : World) → (GoesOn (step r w (goes Actor.Bare)) → ⊥) → AreRounds r w (round r w)
-  more : (w : World) (turns : List Turn) → GoesOn (step r w (goes Actor.Bare)) → AreRounds r (run r w (round r w)) turns
-      → AreRounds r w (round r w ++ turns)
+pub data AreRounds (g : Ground) : Quiet → List Turn → Type 0 where
+  last : (q : Quiet) → IsLast g q → AreRounds g q (round g q)
+  more : (q : Quiet) (turns : List Turn) → (IsLast g q → ⊥)
+      → AreRounds g (run g q (round g q)) turns → AreRounds g q (round g q ++ turns)
 
 -- a turn was refused since all steps were used up
-abbrev pub MeetsWorn : Readings → World → List Turn → Type 0
-MeetsWorn r w [] = ⊥
-MeetsWorn r w (turn ∷ turns) = (step r w turn ≡ refused Refusal.Worn) ⊎ MeetsWorn r (after r w turn) turns
+abbrev pub MeetsWorn : Ground → Quiet → List Turn → Type 0
+MeetsWorn g q [] = ⊥
+MeetsWorn g q (turn ∷ turns) =
+    (step g q turn ≡ refused Refusal.Worn) ⊎ MeetsWorn g (after g q turn) turns
 
 -- reading goes on behind these turns: no turn met the end of the steps, and the stream has no fault
-abbrev pub ReadsOn : Readings → World → List Turn → Type 0
-ReadsOn r w turns = (MeetsWorn r w turns → ⊥) × (stream_fault r (run r w turns).heard ≡ None)
+abbrev pub ReadsOn : Ground → Quiet → List Turn → Type 0
+ReadsOn g q turns =
+    (MeetsWorn g q turns → ⊥) × (stream_fault g.readings (run g q turns).heard ≡ None)
 
 -- each piece is heard and rounds follow; another piece is read only where reading goes on
-abbrev pub IsSchedule : Readings → World → List (List ℕ) → List Turn → Type 0
-IsSchedule r w [] turns = turns ≡ []
-IsSchedule r w (piece ∷ pieces) turns =
-    (rounds : List Turn) × (behind : List Turn) × AreRounds r (after r w (hears piece)) rounds
-    × (pieces ≢ [] → ReadsOn r w (hears piece ∷ rounds)) × IsSchedule r (run r w (hears piece ∷ rounds)) pieces behind
+abbrev pub IsSchedule : Ground → Quiet → List (List ℕ) → List Turn → Type 0
+IsSchedule g q [] turns = turns ≡ []
+IsSchedule g q (piece ∷ pieces) turns =
+    (rounds : List Turn) × (behind : List Turn)
+    × AreRounds g (after g q (hears piece)) rounds
+    × (pieces ≢ [] → ReadsOn g q (hears piece ∷ rounds))
+    × IsSchedule g (run g q (hears piece ∷ rounds)) pieces behind
     × (turns ≡ (hears piece ∷ rounds) ++ behind)
 
 -- how a stream of these bytes ends
@@ -63,6 +80,7 @@ stream_end (rest (byte ∷ m)) = PipeEnd.Truncated
 stream_end (fault rule at) = PipeEnd.Broken (fault_at rule (counted at))
 
 -- wherever a turn met the end of the steps, that is the end; else what was read says how it ends
-abbrev pub IsEnd : Readings → World → List Turn → List ℕ → PipeEnd → Type 0
-IsEnd r w turns read end =
-    (MeetsWorn r w turns × (end ≡ PipeEnd.Worn)) ⊎ ((MeetsWorn r w turns → ⊥) × (end ≡ stream_end (r.stream read).ending))
+abbrev pub IsEnd : Ground → Quiet → List Turn → List ℕ → PipeEnd → Type 0
+IsEnd g q turns read end =
+    (MeetsWorn g q turns × (end ≡ PipeEnd.Worn))
+    ⊎ ((MeetsWorn g q turns → ⊥) × (end ≡ stream_end (g.readings.stream read).ending))

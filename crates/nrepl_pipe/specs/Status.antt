@@ -1,7 +1,7 @@
 -- The exit status of the command `pipe`.
 use Rattle.std.specs.Prelude.{ℕ, Result, Ok, Err}
-use Rattle.nrepl_pipe.specs.declared.stream.PipeEnd.{PipeEnd}
-use Rattle.nrepl_pipe.specs.declared.stream.PipeError.{PipeError}
+use Rattle.nrepl_pipe.specs.declared.ends.PipeEnd.{PipeEnd}
+use Rattle.nrepl_pipe.specs.declared.ends.PipeError.{PipeError}
 
 -- 0 where the input was whole messages and all was answered, else 1
 abbrev pub status_of : Result PipeEnd PipeError → ℕ

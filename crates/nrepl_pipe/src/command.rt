@@ -1,35 +1,40 @@
 // The exit status of `pipe`, and its line on standard error.
 ghost use Rattle.std.specs.Prelude.{◌≡◌, Result};
-ghost use Rattle.repl_core.specs.Readings.{Readings, AreRight};
-ghost use Rattle.repl_core.specs.World.{opening};
+ghost use Rattle.server_rules.specs.Ground.{Ground};
+ghost use Rattle.server_rules.specs.Tenant.{Quiet};
+ghost use Rattle.tenant_turns.specs.Grounds.{IsRight};
 ghost use Rattle.nrepl_pipe.specs.Failing.{Tells};
+ghost use Rattle.nrepl_pipe.specs.Fresh.{IsFresh};
 ghost use Rattle.nrepl_pipe.specs.Served.{Outcome};
 ghost use Rattle.nrepl_pipe.specs.Status.{status_of};
-ghost use Rattle.nrepl_pipe.specs.declared.stream.PipeEnd.{PipeEnd};
-ghost use Rattle.nrepl_pipe.specs.declared.stream.PipeError.{PipeError};
+ghost use Rattle.nrepl_pipe.specs.declared.ends.PipeEnd.{PipeEnd};
+ghost use Rattle.nrepl_pipe.specs.declared.ends.PipeError.{PipeError};
 
+use crate::ends::{PipeEnd, PipeError};
 use crate::ports::{Sink, Source};
-use crate::stream::{PipeEnd, PipeError, pipe};
+use crate::stream::pipe;
 use bencode_wire::WireFault;
-use repl_core::Config;
 use std::alloc::Global;
 use std::io::Write;
+use tenant_turns::Core;
 
-/// Serves one stream, and gives the exit status: 0 where the input was whole messages and all was
-/// answered, else 1 with one line on `errors`.
-pub fn pipe_command<R: Source, W: Sink, E: Write>(
+/// Serves one stream to a tenant that heard nothing yet, and gives the exit status: 0 where the
+/// input was whole messages and all was answered, else 1 with one line on `errors`.
+pub fn pipe_command<C: Core, R: Source, W: Sink, E: Write>(
     alloc: Global,
-    config: Config,
+    core: &mut C,
     reader: &mut R,
     writer: &mut W,
     errors: &mut E,
 ) -> u8
     ensures { (outcome : Result PipeEnd PipeError) × (result ≡ status_of outcome)
-        × Tells (R.failed reader.old) (R.failed reader.new) (W.failed writer.old) (W.failed writer.new) outcome
-        × ((r : Readings) → AreRight r → Outcome r (opening config)
-        (R.remaining reader.old) (R.remaining reader.new) (W.contents writer.old) (W.contents writer.new) outcome) }
+        × Tells (R.failed reader.old) (R.failed reader.new)
+        (W.failed writer.old) (W.failed writer.new) outcome
+        × ((g : Ground) (q : Quiet) → IsRight g → C.stands g core.old q → IsFresh q
+        → Outcome g q (R.remaining reader.old) (R.remaining reader.new)
+        (W.contents writer.old) (W.contents writer.new) outcome) }
 {
-    let outcome = pipe(alloc, config, reader, writer);
+    let outcome = pipe(alloc, core, reader, writer);
     tell(outcome, errors)
 }
 
@@ -76,7 +81,7 @@ pub fn bad_options<E: Write>(errors: &mut E) -> u8
     2
 }
 
-/// Tells `errors` that there was no memory to read the command line, and gives the exit status.
+/// Tells `errors` that there was no memory to begin, and gives the exit status.
 pub fn out_of_memory<E: Write>(errors: &mut E) -> u8
     ensures { result ≡ 1 }
 {

@@ -47,8 +47,8 @@ pub trait Sink {
         ensures bytes { WriteAppends (contents self.old) (contents self.new) result bytes.now }
         ensures failed { Marks (failed self.old) (failed self.new) (write_fails result) };
 
-    /// Passes on what was written, where it was held back. It is no write, so nobody is told that it
-    /// fails.
+    /// Passes on what was written, where it was held back. It is no write, so nobody is told that
+    /// it fails.
     fn pass_on(&mut self)
         ensures bytes { Keeps (contents self.old) (contents self.new) }
         ensures failed { failed self.new ≡ failed self.old };

@@ -1,27 +1,31 @@
 //! An nREPL server: `nrepl_server pipe` serves one stream from standard input to standard output.
 #![tactic(auto)]
 
-use clap::Command;
 use clap::error::ErrorKind;
+use clap::{Arg, ArgAction, ArgMatches, Command};
+use hex::FromHex;
 use nrepl_pipe::{bad_options, out_of_memory, pipe_command};
-use repl_core::Config;
 use std::alloc::{AllocError, Global};
 use std::process::ExitCode;
 use std::rt::Env;
 use std::{env, io};
+use tenant_runner::{RETRIES, Runner, STEPS};
 
 // What the command line asks for.
 #[derive(Clone, Copy)]
 enum Chosen {
-    Pipe,
+    // One stream, with ids of sessions under this seed.
+    Pipe { seed: [u8; 32] },
     BadOptions,
     NoMemory,
 }
 
 fn command_line<'a>(alloc: Global) -> Result<Command<'a>, AllocError> {
+    let seed = Arg::new(alloc, "seed").long("seed").action(ArgAction::Set);
+    let pipe = Command::new(alloc, "pipe").arg(seed)?;
     Command::new(alloc, "nrepl_server")
         .subcommand_required(true)
-        .subcommand(Command::new(alloc, "pipe"))
+        .subcommand(pipe)
 }
 
 fn choice_of(alloc: Global, words: &[String]) -> Chosen {
@@ -29,11 +33,25 @@ fn choice_of(alloc: Global, words: &[String]) -> Chosen {
         return Chosen::NoMemory;
     };
     match command.try_get_matches_from(words) {
-        Ok(_) => Chosen::Pipe,
+        Ok(matches) => match matches.subcommand_matches("pipe") {
+            Some(pipe) => pipe_chosen(pipe),
+            None => Chosen::BadOptions,
+        },
         Err(error) => match error.kind() {
             ErrorKind::OutOfMemory => Chosen::NoMemory,
             _ => Chosen::BadOptions,
         },
+    }
+}
+
+// A seed is 64 hexadecimal digits, in either case; it is all zeros where none is given.
+fn pipe_chosen(pipe: &ArgMatches<'_>) -> Chosen {
+    let Some(text) = pipe.get_str("seed") else {
+        return Chosen::Pipe { seed: [0; 32] };
+    };
+    match <[u8; 32] as FromHex>::from_hex(text) {
+        Ok(seed) => Chosen::Pipe { seed },
+        Err(_) => Chosen::BadOptions,
     }
 }
 
@@ -58,10 +76,15 @@ fn main(rt: HostRuntime) -> ExitCode {
         Err(chosen) => chosen,
     };
     let status = match chosen {
-        Chosen::Pipe => {
+        Chosen::Pipe { seed } => {
             let mut reader = rt.reader();
             let mut writer = rt.stdout();
-            pipe_command(alloc, Config::new(), &mut reader, &mut writer, &mut errors)
+            match Runner::new(alloc, seed, STEPS, RETRIES) {
+                Ok(mut runner) => {
+                    pipe_command(alloc, &mut runner, &mut reader, &mut writer, &mut errors)
+                }
+                Err(_) => out_of_memory(&mut errors),
+            }
         }
         Chosen::BadOptions => bad_options(&mut errors),
         Chosen::NoMemory => out_of_memory(&mut errors),

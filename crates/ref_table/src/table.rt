@@ -1,12 +1,12 @@
 // The table of all refs.
 ghost use Rattle.std.specs.Prelude.{◌≡◌, ◌≢◌, ◌↔◌, ℕ, List, length, slice_get, Some, IfOk, OnOk};
-ghost use Rattle.std.specs.Prelude.{OnErr};
+ghost use Rattle.std.specs.Prelude.{OnErr, None, ◌∷◌};
 ghost use Rattle.value_data.specs.Datum.{ref, tenant as tenant_owner};
 ghost use Rattle.value_data.specs.View.{view, owner_view};
-ghost use Rattle.repl_asks.specs.Exchange.{value as value_told};
-ghost use Rattle.server_rules.specs.Numbered.{Entry};
+ghost use Rattle.repl_asks.specs.Exchange.{done, value as value_told};
+ghost use Rattle.server_rules.specs.Numbered.{Entry, entry, found};
 ghost use Rattle.server_rules.specs.Versions.{Ref};
-ghost use Rattle.server_rules.specs.Calls.{performed, makes};
+ghost use Rattle.server_rules.specs.Calls.{performed, makes, begins};
 ghost use Rattle.ref_history.specs.Changes.{IsAbsent};
 ghost use Rattle.ref_history.specs.Effects.{first_ref};
 ghost use Rattle.ref_table.specs.Refs.{Refs, no_refs, store_of, with_ref, without_refs};
@@ -84,22 +84,29 @@ impl<H: History> RefTable<H> {
 
     /// The read point of an attempt that begins now.
     pub fn begin(&self) -> Point
-        ensures { result.stamp ≡ counter_of self.now }
+        ensures point { result.stamp ≡ counter_of self.now }
+        ensures begun { (r : Refs) (points : List (Entry ℕ)) (caller seat : ℕ)
+            → Stands H.stands self.now r → found seat points ≡ None
+            → Performs H.stands self.now r (Some done)
+            (performed (store_of caller points r) (begins seat)) }
+        ensures noted { (r : Refs) (points : List (Entry ℕ)) (caller seat : ℕ)
+            → Stands H.stands self.now r → found seat points ≡ None
+            → (performed (store_of caller points r) (begins seat)).store.mine.points
+            ≡ entry seat result.stamp ∷ points }
     {
         Point {
             stamp: self.counter,
         }
     }
 
-    /// Drops the refs of a tenant. It takes about the number of these, and no memory. What the
-    /// shared refs hold stays.
+    /// Drops the refs of a tenant. What the shared refs hold stays. It takes a step for each version
+    /// that is kept of the tenant's refs, and no memory.
     pub fn release(&mut self, tenant: u64)
         ensures { (r : Refs) → Stands H.stands self.old r
             → Stands H.stands self.new (without_refs (tenant_owner tenant) r) }
     {
-        match self.directory.remove(tenant) {
-            Some(ids) => drop_refs(&mut self.history, &ids),
-            None => {}
+        if let Some(ids) = self.directory.remove(tenant) {
+            drop_refs(&mut self.history, &ids);
         }
     }
 }

@@ -1,3 +1,4 @@
 pub mod Operations
 pub mod Replies
 pub mod Requests
+pub mod Served

@@ -3,6 +3,7 @@ pub mod Description
 pub mod Fields
 pub mod OperationNames
 pub mod Operations
+pub mod Named
 pub mod Replies
 pub mod Requests
 pub mod View

@@ -1,8 +1,10 @@
 // What a message asks for, where sessions may be open.
-ghost use Rattle.std.specs.Prelude.{◌≡◌};
+ghost use Rattle.std.specs.Prelude.{◌≡◌, IfOk};
+ghost use Rattle.std.specs.Option.{ForSome};
 ghost use Rattle.std.specs.Result.{result_map_both};
 ghost use Rattle.bencode_wire.specs.View.{pairs_view};
 ghost use Rattle.repl_replies.specs.Operations as meant;
+ghost use Rattle.repl_replies.specs.Named.{session_of, IsNamed};
 ghost use Rattle.repl_replies.specs.View.{field_view, origin_view, body_view, reply_view};
 ghost use Rattle.repl_replies.specs.View.{operation_view, asked_view};
 
@@ -52,8 +54,11 @@ pub struct Asked {
 /// then the session, then the code or the file. Keys that are not known are ignored. It takes no
 /// memory.
 pub fn operation_of<S: OpenSessions>(mut message: Dictionary, sessions: &S) -> Result<Asked, Reply>
-    ensures { result_map_both asked_view reply_view result
+    ensures asked { result_map_both asked_view reply_view result
         ≡ meant.asked (S.number sessions.now) (pairs_view message.entries) }
+    // The session of an operation is one that the request names.
+    ensures named { IfOk result (λ asked.
+        ForSome (session_of (operation_view asked.operation)) (IsNamed (S.number sessions.now))) }
 {
     let id = take_field(&mut message, b"id");
     let session = take_field(&mut message, b"session");

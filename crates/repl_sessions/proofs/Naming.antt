@@ -47,30 +47,41 @@ above-among m [] n h is = absurd (cc)
 above-among m (e ∷ es) n h is =
     ⊎_elim (λ same. omega (arith, same, h.0)) (λ later. above-among m es n h.1 later) (among-cases e es n is)
 
-named-none : (ids : IdsData) (text : List ℕ) (es : Entries) → ((k : ℕ) → among es k ≡ true → has_text ids text k ≡ false) → first_named ids text es ≡ None
-named-none ids text [] h = refl
-named-none ids text (e ∷ es) h =
-    ap (λ (b : Bool). option_map (λ x. x.number) (cond b (Some (session_view e)) (find (is_named ids text) (live_view es))))
-    (h e.0 (among-first e es))
-    ∙ named-none ids text es (λ k is. h k (among-behind e es k is))
+-- the first session with a number of a kind
+abbrev pub first_numbered : (ℕ → Bool) → Entries → Option ℕ
+first_numbered p es = option_map (λ x. x.number) (find (λ x. p x.number) (live_view es))
 
-named-first : (ids : IdsData) (text : List ℕ) (es : Entries) (n : ℕ) → Rise es → among es n ≡ true → has_text ids text n ≡ true
-    → ((k : ℕ) → among es k ≡ true → has_text ids text k ≡ true → n ≤ k) → first_named ids text es ≡ Some n
-named-first ids text [] n up is has_it least = absurd (cc)
-named-first ids text (e ∷ es) n up is has_it least =
-    by (has_text ids text e.0) refl (among-cases e es n is)
-    (λ later. named-first ids text es n up.1 later has_it (λ k h. least k (among-behind e es k h)))
+pub numbered-none : (p : ℕ → Bool) (es : Entries) → ((k : ℕ) → among es k ≡ true → p k ≡ false) → first_numbered p es ≡ None
+numbered-none p [] h = refl
+numbered-none p (e ∷ es) h =
+    ap (λ (b : Bool). option_map (λ x. x.number) (cond b (Some (session_view e)) (find (λ x. p x.number) (live_view es))))
+    (h e.0 (among-first e es))
+    ∙ numbered-none p es (λ k is. h k (among-behind e es k is))
+
+pub numbered-first : (p : ℕ → Bool) (es : Entries) (n : ℕ) → Rise es → among es n ≡ true → p n ≡ true
+    → ((k : ℕ) → among es k ≡ true → p k ≡ true → n ≤ k) → first_numbered p es ≡ Some n
+numbered-first p [] n up is has_it least = absurd (cc)
+numbered-first p (e ∷ es) n up is has_it least =
+    by (p e.0) refl (among-cases e es n is)
+    (λ later. numbered-first p es n up.1 later has_it (λ k h. least k (among-behind e es k h)))
   where
-    by : (b : Bool) → has_text ids text e.0 ≡ b → (n ≡ e.0) ⊎ (among es n ≡ true) → (among es n ≡ true → first_named ids text es ≡ Some n)
-        → option_map (λ x. x.number) (cond b (Some (session_view e)) (find (is_named ids text) (live_view es))) ≡ Some n
+    by : (b : Bool) → p e.0 ≡ b → (n ≡ e.0) ⊎ (among es n ≡ true) → (among es n ≡ true → first_numbered p es ≡ Some n)
+        → option_map (λ x. x.number) (cond b (Some (session_view e)) (find (λ x. p x.number) (live_view es))) ≡ Some n
     by true first (inl same) ih = ap (λ (k : ℕ). Some k) (sym same)
     by true first (inr later) ih =
         let low : n ≤ e.0 = least e.0 (among-first e es) first in
         absurd (omega (arith, low, above-among e.0 es n up.0 later))
     by false first (inl same) ih =
-        let no : has_text ids text n ≡ false = ap (has_text ids text) same ∙ first in
+        let no : p n ≡ false = ap p same ∙ first in
         absurd (cc)
     by false first (inr later) ih = ih later
+
+named-none : (ids : IdsData) (text : List ℕ) (es : Entries) → ((k : ℕ) → among es k ≡ true → has_text ids text k ≡ false) → first_named ids text es ≡ None
+named-none ids text es h = numbered-none (has_text ids text) es h
+
+named-first : (ids : IdsData) (text : List ℕ) (es : Entries) (n : ℕ) → Rise es → among es n ≡ true → has_text ids text n ≡ true
+    → ((k : ℕ) → among es k ≡ true → has_text ids text k ≡ true → n ≤ k) → first_named ids text es ≡ Some n
+named-first ids text es n up is has_it least = numbered-first (has_text ids text) es n up is has_it least
 
 -- the order of the index
 then-not-gt : (o p : Ordering) → is_gt (ordering_then o p) ≡ false → is_gt o ≡ false
@@ -90,14 +101,14 @@ both-not-gt x y h k =
     by Greater e g = absurd (cc)
 
 -- a key of this text is in the range that begins at it
-from-text : (text : List ℕ) (k : ℕ) → is_gt (by_text (text, 0) (text, k)) ≡ false
+pub from-text : (text : List ℕ) (k : ℕ) → is_gt (by_text (text, 0) (text, k)) ≡ false
 from-text text k =
     ap (λ (o : Ordering). is_gt (ordering_then o (nat_cmp 0 k))) (tied_itself nat_list_cmp_total text) ∙ by k
   where
     by : (j : ℕ) → is_gt (nat_cmp 0 j) ≡ false
     by j = grind (arith, nat_tests)
 
-not-above : (n k : ℕ) (text : List ℕ) → is_gt (by_text (text, n) (text, k)) ≡ false → n ≤ k
+pub not-above : (n k : ℕ) (text : List ℕ) → is_gt (by_text (text, n) (text, k)) ≡ false → n ≤ k
 not-above n k text h =
     le_from_not_gt n k (ap (λ (o : Ordering). is_gt (ordering_then o (nat_cmp n k))) (sym (tied_itself nat_list_cmp_total text)) ∙ h)
 

@@ -1,5 +1,5 @@
 -- Sessions by their numbers: the entries of the map, seen as data.
-use Rattle.std.proofs.Common.{◌≡◌, ℕ, ◌<◌, Bool, true, false, cond, eqb, not, List, [], ◌∷◌, ◌++◌, map, filter, find, Option, Some, None, option_map, is_some, refl, sym, ap, ◌∙◌, arith}
+use Rattle.std.proofs.Common.{◌≡◌, ℕ, ◌<◌, Bool, true, false, cond, eqb, not, List, [], ◌∷◌, ◌++◌, map, filter, find, Option, Some, None, option_map, is_some, refl, sym, ap, ◌∙◌, ap₂, append-nil, arith}
 use denote.Ref.{Bor}
 use Rattle.std.specs.Option.{option_copied}
 use Rattle.std.specs.Ordering.{nat_cmp, match_ordering}
@@ -13,6 +13,7 @@ use Rattle.std.specs.Map.{keys_of, lookup, remove_entry, set_value}
 use Rattle.std.proofs.lemmas.Bool.{eqb-true, eq-eqb, ne_eqb}
 use Rattle.std.proofs.lemmas.Cmp.{ranked}
 use Rattle.std.proofs.lemmas.List.{map-append}
+use Rattle.std.proofs.lemmas.List.Elements.{filter-append}
 use Rattle.std.proofs.lemmas.Map.Keys.{sorted_head, sorted_tail}
 use Rattle.repl_sessions.specs.State.{StateData}
 use Rattle.repl_sessions.specs.StateView.{state_view}
@@ -120,6 +121,27 @@ closed-view (e ∷ es) n h =
     by true same ih =
         sym (ap (λ (k : ℕ). filter (λ x. not (is_numbered k x)) (live_view es)) (same refl) ∙ kept-above es e.0 h.0)
     by false same ih = ap (λ (l : List SessionData). session_view e ∷ l) ih
+
+-- a number above all is none of theirs
+kept-below : (es : Entries) (n : ℕ) → AllBelow n es → filter (λ x. not (is_numbered n x)) (live_view es) ≡ live_view es
+kept-below [] n h = refl
+kept-below (e ∷ es) n h =
+    ap (λ (b : Bool). cond (not b) (session_view e ∷ filter (λ x. not (is_numbered n x)) (live_view es)) (filter (λ x. not (is_numbered n x)) (live_view es)))
+    (ne_eqb n e.0 (λ same. omega (arith, h.0)))
+    ∙ ap (λ (l : List SessionData). session_view e ∷ l) (kept-below es n h.1)
+
+-- the newest is taken out again
+pub newest-out : (xs : List SessionData) (n : ℕ) (v : SessionState) → filter (λ x. not (is_numbered n x)) xs ≡ xs
+    → filter (λ x. not (is_numbered n x)) (xs ++ session_view (n, v) ∷ []) ≡ xs
+newest-out xs n v same = filter-append (λ x. not (is_numbered n x)) xs (session_view (n, v) ∷ []) ∙ ap₂ (λ p q. p ++ q) same first ∙ append-nil xs
+  where
+    first : filter (λ x. not (is_numbered n x)) (session_view (n, v) ∷ []) ≡ []
+    first = ap (λ (b : Bool). cond (not b) (session_view (n, v) ∷ []) []) (eq-eqb n n refl)
+
+pub opened-out : (es : Entries) (n : ℕ) (v : SessionState) → AllBelow n es
+    → filter (λ x. not (is_numbered n x)) (live_view (insert_entry nat_cmp es n v)) ≡ live_view es
+opened-out es n v h =
+    ap (filter (λ x. not (is_numbered n x))) (opened-view es n v h) ∙ newest-out (live_view es) n v (kept-below es n h)
 
 -- the state of one number changes
 unchanged-above : (f : StateData → StateData) (es : Entries) (n : ℕ) → AllAbove n es → map (changed f n) (live_view es) ≡ live_view es

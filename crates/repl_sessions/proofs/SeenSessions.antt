@@ -1,16 +1,17 @@
 -- A change of the map of states, and what the sessions are seen as after it.
-use Rattle.std.proofs.Common.{◌≡◌, ℕ, ◌+◌, ◌<◌, true, List, Some, None, sym, ap, ◌∙◌}
+use Rattle.std.proofs.Common.{◌≡◌, ℕ, ◌+◌, ◌<◌, true, suc, List, Some, None, sym, ap, ◌∙◌, arith}
 use Rattle.std.specs.Ordering.{nat_cmp}
 use Rattle.std.specs.BTreeMap.{BTreeMap, IsOrdered, WritesThrough, insert_entry}
 use Rattle.std.specs.Map.{lookup, remove_entry}
 use Rattle.repl_sessions.specs.Ids.{IdsData}
 use Rattle.repl_sessions.specs.State.{StateData}
 use Rattle.repl_sessions.specs.StateView.{state_view}
-use Rattle.repl_sessions.specs.Sessions.{SessionData, with_change, closed, opened_with}
+use Rattle.repl_sessions.specs.Sessions.{SessionData, with_change, closed, opened_with, SessionsData}
+use Rattle.repl_sessions.specs.Retracted.{retracted}
 use Rattle.repl_sessions.specs.Named.{NamedSessions}
 use Rattle.repl_sessions.specs.View.{live_view}
 use Rattle.repl_sessions.specs.declared.state.SessionState.{SessionState}
-use Rattle.repl_sessions.proofs.Numbers.{Entries, at, among, rise, all-below, opened-view, closed-view, changed-view, unchanged-view}
+use Rattle.repl_sessions.proofs.Numbers.{Entries, at, among, rise, all-below, opened-view, opened-out, closed-view, changed-view, unchanged-view}
 
 -- the sessions that a map of states is seen as
 abbrev pub seen : IdsData → ℕ → Entries → NamedSessions
@@ -49,3 +50,26 @@ opened-seen n n' ids m m' v s is below next put =
     ap (λ (k : ℕ). seen ids k m'.entries) next ∙ ap (seen ids (n + 1)) put
     ∙ ap (with_live (seen ids (n + 1) m.entries)) (opened-view m.entries n v (all-below m.entries n below))
     ∙ ap (λ (x : NamedSessions). record x { sessions = opened_with x.sessions (state_view v) }) is
+
+-- a session that was made and taken back leaves the sessions as they were
+pub undone-seen : (n n' : ℕ) (ids : IdsData) (m m' : BTreeMap ℕ SessionState) (v : SessionState) (s : NamedSessions)
+    → seen ids n m.entries ≡ s → ((k : ℕ) → among m.entries k ≡ true → k < n) → n' ≡ n + 1 → m'.entries ≡ insert_entry nat_cmp m.entries n v
+    → retracted (record { opened = n'; live = live_view m'.entries }) ≡ s.sessions
+undone-seen n n' ids m m' v s is below next put =
+    let up : n' ≡ suc n = omega (arith, next) in
+    ap (λ (k : ℕ). retracted (record { opened = k; live = live_view m'.entries })) up
+    ∙ ap (λ (es : Entries). retracted (record { opened = suc n; live = live_view es })) put
+    ∙ ap (λ (l : List SessionData). sessions_of n l) (opened-out m.entries n v (all-below m.entries n below))
+    ∙ ap (λ (x : NamedSessions). x.sessions) is
+  where
+    sessions_of : ℕ → List SessionData → SessionsData
+    sessions_of k l = record { opened = k; live = l }
+
+pub retracted-seen : (n opened : ℕ) (ids : IdsData) (m m' : BTreeMap ℕ SessionState) (s : NamedSessions)
+    → seen ids opened m.entries ≡ s → opened ≡ n + 1 → IsOrdered nat_cmp m → m'.entries ≡ remove_entry (at n) m.entries
+    → seen ids n m'.entries ≡ record s { sessions = retracted s.sessions }
+retracted-seen n opened ids m m' s is next ordered out =
+    let up : opened ≡ suc n = omega (arith, next) in
+    ap (seen ids n) out ∙ ap (with_live (seen ids n m.entries)) (closed-view m.entries n (rise m.entries ordered))
+    ∙ sym (ap (λ (k : ℕ). record (seen ids k m.entries) { sessions = retracted (record { opened = k; live = live_view m.entries }) }) up)
+    ∙ ap (λ (x : NamedSessions). record x { sessions = retracted x.sessions }) is

@@ -1,6 +1,7 @@
 // The ids of a tenant's sessions.
 use rand_chacha::ChaCha20Rng;
 use rand_core::SeedableRng;
+use std::alloc::{AllocError, Global};
 use std::marker::Model;
 use uuid::{Uuid, Variant};
 
@@ -25,7 +26,7 @@ impl Model for IdStream {
 }
 
 impl IdStream {
-    ghost use Rattle.std.specs.Prelude.{◌≡◌, slice_index};
+    ghost use Rattle.std.specs.Prelude.{◌≡◌, slice_index, IfOk, string_bytes};
     ghost use Rattle.uuid.specs.Parts.{variant_of};
     ghost use Rattle.uuid.specs.Uuid.{version_num};
     ghost use Rattle.repl_sessions.specs.Ids.{session_id, id_text};
@@ -58,5 +59,15 @@ impl IdStream {
         let mut text = [0; 36];
         text.copy_from_slice(written.as_bytes());
         text
+    }
+
+    /// The same text as a string. It fails only for want of memory.
+    pub fn string(&self, alloc: Global, number: u64) -> Result<String, AllocError>
+        ensures { IfOk result (λ text. string_bytes text ≡ id_text self.now number) }
+    {
+        let mut buffer = Uuid::encode_buffer();
+        let id = self.id(number);
+        let written = id.hyphenated().encode_lower(&mut buffer);
+        String::from_str(alloc, written)
     }
 }

@@ -5,8 +5,10 @@
 mod changes;
 mod ids;
 pub mod laws;
+mod leaving;
 mod lookup;
 mod opening;
+mod retraction;
 mod sessions;
 mod state;
 

@@ -57,7 +57,7 @@ impl Sessions {
 }
 
 // The bytes as the text of an id, if they are as many.
-fn as_text(bytes: &[u8]) -> Option<IdText>
+pub(crate) fn as_text(bytes: &[u8]) -> Option<IdText>
     ensures { SomeIff result (length bytes.now ≡ 36) bytes.now }
 {
     let mut text = [0; 36];

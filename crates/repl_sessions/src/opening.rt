@@ -3,6 +3,7 @@ ghost use Rattle.std.specs.Prelude.{◌≡◌, false, Some, IsTrue, IfOk, OnOk, 
 ghost use Rattle.std.specs.Option.{ForSome};
 ghost use Rattle.repl_sessions.specs.Sessions.{none_open, is_open, state_of};
 ghost use Rattle.repl_sessions.specs.Sessions.{opened_with, first_state, cloned, closed};
+ghost use Rattle.repl_sessions.specs.Retracted.{retracted};
 ghost use Rattle.repl_sessions.specs.StateView.{state_view};
 
 use crate::ids::IdStream;
@@ -35,6 +36,8 @@ impl Sessions {
             ≡ Some (first_state self.old.sessions original)) }
         ensures cloned { OnOk result (self.new
             ≡ record self.old { sessions = cloned self.old.sessions original }) }
+        // `retract` undoes it
+        ensures undone { OnOk result (retracted self.new.sessions ≡ self.old.sessions) }
         ensures stays { OnErr result (self.new ≡ self.old) }
     {
         let state = self.first_state(alloc, original)?;
@@ -58,6 +61,7 @@ impl Sessions {
             ≡ Some (state_view state)) }
         ensures opened { OnOk result (self.new
             ≡ record self.old { sessions = opened_with self.old.sessions (state_view state) }) }
+        ensures undone { OnOk result (retracted self.new.sessions ≡ self.old.sessions) }
         ensures stays { OnErr result (self.new ≡ self.old) }
     {
         let number = self.opened;

@@ -1,13 +1,18 @@
 // A stream with what is written for it, as the protocol says.
 use nrepl_pipe::pipe_command;
-use repl_core::Config;
-use std::alloc::Global;
+use std::alloc::{AllocError, Global};
 use std::process::Abort;
 use std::test::Fail;
+use tenant_runner::{RETRIES, Runner, STEPS};
 
 pub(crate) const SUM: &[u8] = b"d4:code7:(+ 1 2)2:id1:72:op4:evale";
 
 pub(crate) const SUM_REPLIES: &[u8] = b"d2:id1:72:ns4:user5:value1:3ed2:id1:76:statusl4:doneee";
+
+// A tenant that has heard nothing, with the ids of the seed that is all zeros.
+pub(crate) fn fresh_runner(alloc: Global) -> Result<Runner, AllocError> {
+    Runner::new(alloc, [0; 32], STEPS, RETRIES)
+}
 
 // An input, what is written for it, the exit status and the line on standard error.
 pub(crate) struct Case {
@@ -22,8 +27,8 @@ pub(crate) fn expect_replies(rt: &impl Abort, alloc: Global, cases: &[Case]) -> 
         let mut input = case.input;
         let mut output = Vec::new(alloc);
         let mut errors = Vec::new(alloc);
-        let config = Config::new();
-        let status = pipe_command(alloc, config, &mut input, &mut output, &mut errors);
+        let mut runner = fresh_runner(alloc)?;
+        let status = pipe_command(alloc, &mut runner, &mut input, &mut output, &mut errors);
         let text = str::from_utf8(case.input).unwrap_or("");
         assert_eq!(rt; output.as_slice(), case.output, "{text}");
         assert_eq!(rt; errors.as_slice(), case.line.as_bytes(), "{text}");

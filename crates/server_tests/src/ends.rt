@@ -1,11 +1,11 @@
 // How a stream ends: by its steps, by what is too long or too deep, and where replies are held.
-use crate::cases::{SUM, SUM_REPLIES};
+use crate::cases::{SUM, SUM_REPLIES, fresh_runner};
 use nrepl_pipe::{bad_options, out_of_memory, pipe_command};
-use repl_core::Config;
 use std::alloc::{AllocError, Global};
 use std::io;
 use std::io::Read;
 use std::test::Fail;
+use tenant_runner::{RETRIES, Runner};
 
 // Gives so many bytes at each read.
 #[derive(Drop)]
@@ -32,11 +32,11 @@ struct Served {
     errors: Vec<u8>,
 }
 
-fn serve_in_pieces(alloc: Global, config: Config, input: &[u8], piece: usize) -> Served {
+fn serve_in_pieces(alloc: Global, mut runner: Runner, input: &[u8], piece: usize) -> Served {
     let mut reader = PieceReader { input, piece };
     let mut output = Vec::new(alloc);
     let mut errors = Vec::new(alloc);
-    let status = pipe_command(alloc, config, &mut reader, &mut output, &mut errors);
+    let status = pipe_command(alloc, &mut runner, &mut reader, &mut output, &mut errors);
     Served {
         status,
         output,
@@ -54,9 +54,8 @@ fn steps_end_the_stream(rt: HostRuntime) -> Result<(), Fail> {
         (4, SUM_REPLIES, 1, worn),
         (5, SUM_REPLIES, 0, ""),
     ] {
-        let mut config = Config::new();
-        config.steps = steps;
-        let all = serve_in_pieces(rt.alloc(), config, SUM, SUM.len());
+        let runner = Runner::new(rt.alloc(), [0; 32], steps, RETRIES)?;
+        let all = serve_in_pieces(rt.alloc(), runner, SUM, SUM.len());
         assert_eq!(&rt; all.output.as_slice(), output, "{steps}");
         assert_eq!(&rt; all.errors.as_slice(), line.as_bytes(), "{steps}");
         assert_eq!(&rt; all.status, status, "{steps}");
@@ -85,7 +84,7 @@ fn replies_that_are_held_are_written(rt: HostRuntime) -> Result<(), Fail> {
         1_100,
     )?;
     push_bytes(&mut expected, SUM_REPLIES, 1)?;
-    let all = serve_in_pieces(rt.alloc(), Config::new(), &input, input.len());
+    let all = serve_in_pieces(rt.alloc(), fresh_runner(rt.alloc())?, &input, input.len());
     assert!(&rt; all.output == expected);
     assert_eq!(&rt; all.errors.len(), 0);
     assert_eq!(&rt; all.status, 0);
@@ -95,7 +94,7 @@ fn replies_that_are_held_are_written(rt: HostRuntime) -> Result<(), Fail> {
 #[test]
 fn pieces_may_be_of_any_size(rt: HostRuntime) -> Result<(), Fail> {
     for piece in 1..34usize {
-        let all = serve_in_pieces(rt.alloc(), Config::new(), SUM, piece);
+        let all = serve_in_pieces(rt.alloc(), fresh_runner(rt.alloc())?, SUM, piece);
         assert_eq!(&rt; all.output.as_slice(), SUM_REPLIES, "{piece}");
         assert_eq!(&rt; all.errors.len(), 0, "{piece}");
         assert_eq!(&rt; all.status, 0, "{piece}");
@@ -118,7 +117,7 @@ fn long_and_deep_messages_are_faults(rt: HostRuntime) -> Result<(), Fail> {
         (&long, "nrepl: message too long at 1048576\n"),
         (&deep, "nrepl: message too deep at 67\n"),
     ] {
-        let all = serve_in_pieces(rt.alloc(), Config::new(), input, 4_096);
+        let all = serve_in_pieces(rt.alloc(), fresh_runner(rt.alloc())?, input, 4_096);
         assert_eq!(&rt; all.output.as_slice(), MALFORMED, "{line}");
         assert_eq!(&rt; all.errors.as_slice(), line.as_bytes());
         assert_eq!(&rt; all.status, 1, "{line}");

@@ -2,13 +2,13 @@
 ghost use Rattle.std.specs.Prelude.{◌≡◌, Some, None, false};
 ghost use Rattle.nrepl_pipe.specs.Failing.{Marks, read_fails, write_fails, is_read_failed, is_write_failed};
 
-use crate::cases::{SUM, SUM_REPLIES};
+use crate::cases::{SUM, SUM_REPLIES, fresh_runner};
 use nrepl_pipe::{PipeEnd, PipeError, Sink, Source, pipe, pipe_command};
-use repl_core::Config;
 use std::alloc::Global;
 use std::io;
 use std::io::{Error, ErrorKind, Read, Write};
 use std::test::Fail;
+use tenant_runner::Runner;
 
 // Gives a few bytes at each read, and fails once its reads are used up.
 #[derive(Drop)]
@@ -65,8 +65,14 @@ fn failing_reads(rt: HostRuntime) -> Result<(), Fail> {
         let mut reader = FailingReader { input: SUM, reads };
         let mut output = Vec::new(rt.alloc());
         let mut errors = Vec::new(rt.alloc());
-        let config = Config::new();
-        let status = pipe_command(rt.alloc(), config, &mut reader, &mut output, &mut errors);
+        let mut runner = fresh_runner(rt.alloc())?;
+        let status = pipe_command(
+            rt.alloc(),
+            &mut runner,
+            &mut reader,
+            &mut output,
+            &mut errors,
+        );
         let is_whole = reads == 6;
         let line = if is_whole { "" } else { "nrepl: read failed\n" };
         assert_eq!(rt; errors.as_slice(), line.as_bytes(), "{reads}");
@@ -90,8 +96,14 @@ fn failing_writes(rt: HostRuntime) -> Result<(), Fail> {
                 takes_nothing,
             };
             let mut errors = Vec::new(rt.alloc());
-            let config = Config::new();
-            let status = pipe_command(rt.alloc(), config, &mut input, &mut writer, &mut errors);
+            let mut runner = fresh_runner(rt.alloc())?;
+            let status = pipe_command(
+                rt.alloc(),
+                &mut runner,
+                &mut input,
+                &mut writer,
+                &mut errors,
+            );
             let is_whole = writes == 8;
             let line = if is_whole {
                 ""
@@ -147,6 +159,7 @@ impl<W: Write> Sink for Remembering<W> {
 
 fn served<R: Read, W: Write>(
     alloc: Global,
+    runner: &mut Runner,
     reader: &mut Remembering<R>,
     writer: &mut Remembering<W>,
 ) -> Result<PipeEnd, PipeError>
@@ -154,7 +167,7 @@ fn served<R: Read, W: Write>(
     ensures reads { reader.new.has_failed ≡ is_read_failed result }
     ensures writes { writer.new.has_failed ≡ is_write_failed result }
 {
-    pipe(alloc, Config::new(), reader, writer)
+    pipe(alloc, runner, reader, writer)
 }
 
 // The last write fails, and then the last read.
@@ -177,7 +190,8 @@ fn failures_that_are_remembered(rt: HostRuntime) -> Result<(), Fail> {
             },
             has_failed: false,
         };
-        let outcome = served(rt.alloc(), &mut reader, &mut writer);
+        let mut runner = fresh_runner(rt.alloc())?;
+        let outcome = served(rt.alloc(), &mut runner, &mut reader, &mut writer);
         assert!(&rt; outcome == expected, "{reads} {writes}");
     }
     Ok(())

@@ -1,7 +1,7 @@
 // What values share costs no program anything: forms that are not evaluated, and texts that are too
 // long. A test that takes the forms or the texts one by one passes the time that it has.
+use crate::cases::fresh_runner;
 use nrepl_pipe::pipe_command;
-use repl_core::Config;
 use std::alloc::{AllocError, Global};
 use std::test::Fail;
 
@@ -12,7 +12,8 @@ pub(crate) fn replies_to(alloc: Global, code: &str) -> Result<Vec<u8>, AllocErro
     let mut reader = request.as_bytes();
     let mut output = Vec::new(alloc);
     let mut errors = Vec::new(alloc);
-    pipe_command(alloc, Config::new(), &mut reader, &mut output, &mut errors);
+    let mut runner = fresh_runner(alloc)?;
+    pipe_command(alloc, &mut runner, &mut reader, &mut output, &mut errors);
     Ok(output)
 }
 

@@ -1,10 +1,9 @@
 // Whole streams. The expected bytes are those of the protocol.
-use crate::cases::{Case, SUM, SUM_REPLIES, expect_replies};
+use crate::cases::{Case, SUM, SUM_REPLIES, expect_replies, fresh_runner};
 use crate::function_programs::FUNCTION_PROGRAMS;
 use crate::namespaces::NAMESPACES;
 use crate::programs::PROGRAMS;
 use nrepl_pipe::pipe_command;
-use repl_core::Config;
 use std::test::Fail;
 
 const MALFORMED: &[u8] = b"d6:statusl5:error9:malformed4:doneee";
@@ -153,8 +152,14 @@ fn output_at_its_limit(rt: HostRuntime) -> Result<(), Fail> {
         let mut reader = request.as_bytes();
         let mut output = Vec::new(rt.alloc());
         let mut errors = Vec::new(rt.alloc());
-        let config = Config::new();
-        let status = pipe_command(rt.alloc(), config, &mut reader, &mut output, &mut errors);
+        let mut runner = fresh_runner(rt.alloc())?;
+        let status = pipe_command(
+            rt.alloc(),
+            &mut runner,
+            &mut reader,
+            &mut output,
+            &mut errors,
+        );
         assert!(rt; output == expected, "{more}");
         assert_eq!(rt; errors.len(), 0, "{more}");
         assert_eq!(rt; status, 0, "{more}");

@@ -3,6 +3,7 @@ use crate::told::{FIRST_IDS, expect_states, none_open};
 use repl_sessions::Sessions;
 use repl_values::Value;
 use std::alloc::{AllocError, Global};
+use std::collections::BTreeSet;
 use std::process::Abort;
 use std::sync::ArcStr;
 use std::test::Fail;
@@ -76,6 +77,44 @@ fn closed_number_is_not_given_again(rt: HostRuntime) -> Result<(), Fail> {
         Some("user nil nil nil nil"),
     ];
     expect_states(&rt, a, &sessions, &wanted)?;
+    Ok(())
+}
+
+// Those that leave are not named or listed, and stay open.
+#[test]
+fn leaving_sessions_are_passed_over(rt: HostRuntime) -> Result<(), Fail> {
+    let a = rt.alloc();
+    let mut sessions = none_open(a);
+    for _ in 0..3 {
+        sessions.clone_of(a, None)?;
+    }
+    let mut leaving = BTreeSet::new(a);
+    leaving.insert(1)?;
+    for (number, id) in FIRST_IDS.iter().enumerate() {
+        let wanted = (number == 0 || number == 2).then_some(number as u64);
+        assert_eq!(rt; sessions.number_but(id.as_bytes(), &leaving), wanted);
+        assert!(rt; sessions.id_string(a, number as u64)?.as_str() == *id);
+    }
+    let texts = sessions.list_but(a, &leaving)?;
+    assert_eq!(rt; texts.len(), 2);
+    assert!(rt; texts[0].as_str() == FIRST_IDS[0]);
+    assert!(rt; texts[1].as_str() == FIRST_IDS[2]);
+    expect_list(&rt, a, &sessions, &[0, 1, 2])?;
+    Ok(())
+}
+
+#[test]
+fn retracted_number_is_given_again(rt: HostRuntime) -> Result<(), Fail> {
+    let a = rt.alloc();
+    let mut sessions = none_open(a);
+    sessions.retract();
+    for _ in 0..2 {
+        sessions.clone_of(a, None)?;
+    }
+    sessions.retract();
+    expect_list(&rt, a, &sessions, &[0])?;
+    assert_eq!(rt; sessions.clone_of(a, None)?, 1);
+    expect_list(&rt, a, &sessions, &[0, 1])?;
     Ok(())
 }
 

@@ -1,2 +1,3 @@
 pub mod EntryLaws
 pub mod Seats
+pub mod QueueLaws

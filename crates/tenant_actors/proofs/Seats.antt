@@ -53,7 +53,7 @@ by-seats (Actor.Session m) (Actor.Session n) =
 pub at-seats : (a b : Actor) → at a b ≡ (seat_of a == seat_of b)
 at-seats a b = ap is_eq (by-seats a b) ∙ unsigned_tied (seat_of a) (seat_of b)
 
-seat-back : (a : Actor) → actor_at (seat_of a) ≡ a
+pub seat-back : (a : Actor) → actor_at (seat_of a) ≡ a
 seat-back Actor.Bare = refl
 seat-back (Actor.Session n) = refl
 
@@ -70,7 +70,7 @@ found-seen a (e ∷ es) =
     by behind true = refl
     by behind false = behind
 
-absent-seen : (a : Actor) (es : Entries)
+pub absent-seen : (a : Actor) (es : Entries)
     → lookup (at a) es ≡ None → found (seat_of a) (seen es) ≡ None
 absent-seen a es absent = sym (found-seen a es) ∙ ap (option_map actor_view) absent
 

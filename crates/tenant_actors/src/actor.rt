@@ -1,10 +1,11 @@
 // An actor, which runs the forms of its requests one after another.
-ghost use Rattle.std.specs.Prelude.{◌≡◌};
+ghost use Rattle.std.specs.Prelude.{◌≡◌, [], true, option_map, OnOk, OnErr};
 ghost use Rattle.server_rules.specs.Tenant.{unoccupied};
-ghost use Rattle.tenant_actors.specs.View.{actor_view};
+ghost use Rattle.tenant_actors.specs.View.{waiting_view, hand_view, actor_view};
+ghost use Rattle.tenant_actors.specs.Queues.{with_request, without_newest};
 
 use crate::request::{Hand, Waiting};
-use std::alloc::Global;
+use std::alloc::{AllocError, Global};
 use std::collections::VecDeque;
 
 /// What waits for an actor, and what it is at.
@@ -27,5 +28,31 @@ impl ActorState {
             hand: None,
             is_closed: false,
         }
+    }
+
+    // Lets a request wait behind the others.
+    pub(crate) fn queue(&mut self, request: Waiting) -> Result<(), AllocError>
+        ensures queued { OnOk result (actor_view self.new
+            ≡ with_request (waiting_view request) (actor_view self.old)) }
+        ensures stays { OnErr result (actor_view self.new ≡ actor_view self.old) }
+    {
+        self.waiting.push_back(request)?;
+        Ok(())
+    }
+
+    // Takes the newest request that waits back.
+    pub(crate) fn unqueue(&mut self)
+        ensures { actor_view self.new ≡ without_newest (actor_view self.old) }
+    {
+        drop(self.waiting.pop_back());
+    }
+
+    // Nothing waits any more, and what is in hand is interrupted at its next step.
+    pub(crate) fn close(&mut self)
+        ensures { actor_view self.new
+            ≡ record { waiting = []; hand = option_map hand_view self.old.hand; is_closed = true } }
+    {
+        self.waiting.clear();
+        self.is_closed = true;
     }
 }

@@ -1,5 +1,5 @@
 // The actors by their names.
-ghost use Rattle.std.specs.Prelude.{◌≡◌, [], ◌∷◌, ◌++◌, find, option_map, IfOk, OnOk, OnErr};
+ghost use Rattle.std.specs.Prelude.{◌≡◌, [], ◌∷◌, ◌++◌, find, map, option_map, IfOk, OnOk, OnErr};
 ghost use Rattle.server_rules.specs.Numbered.{entry, found, replaced, without};
 ghost use Rattle.server_rules.specs.Ready.{has_work, actor_at};
 ghost use Rattle.server_rules.specs.Tenant.{seat_of, unoccupied};
@@ -16,7 +16,7 @@ use std::mem;
 #[derive(Drop)]
 pub struct Actors {
     alloc: Global,
-    live: BTreeMap<Actor, ActorState>,
+    pub(crate) live: BTreeMap<Actor, ActorState>,
 }
 
 // Each takes about the logarithm of the number of actors.
@@ -68,6 +68,18 @@ impl Actors {
     {
         self.live.insert(actor, ActorState::unoccupied(self.alloc))?;
         Ok(())
+    }
+
+    /// The names of all, in order. It takes a step for each, and fails only for want of memory.
+    pub fn names(&self, alloc: Global) -> Result<Vec<Actor>, AllocError>
+        ensures { IfOk result (λ names. names.items
+            ≡ map (λ e. actor_at e.number) (actors_view self.now)) }
+    {
+        let mut names = Vec::with_capacity(alloc, self.live.len())?;
+        for actor in self.live.keys() {
+            names.push(*actor)?;
+        }
+        Ok(names)
     }
 
     /// The first that has a form or a request to begin.

@@ -3,6 +3,7 @@
 
 mod actor;
 mod actors;
+mod queues;
 mod request;
 
 pub use actor::ActorState;

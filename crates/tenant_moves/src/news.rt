@@ -37,11 +37,7 @@ impl News {
     }
 
     // The request is done by a fault.
-    pub(crate) fn end_by_fault(
-        &mut self,
-        origin: &Origin,
-        fault: &Fault,
-    ) -> Result<(), AllocError>
+    pub(crate) fn end_by_fault(&mut self, origin: &Origin, fault: &Fault) -> Result<(), AllocError>
         ensures { OnOk result (Adds
             (over_by (origin_view origin.now) (failure_of fault.now) (told_state self.old))
             self.old self.new) }

@@ -130,11 +130,7 @@ fn text_fault(alloc: Global, fault: Option<ReaderFault>) -> Result<Option<Fault>
 }
 
 // The namespace that a request names, if it is there.
-fn namespace_named(
-    alloc: Global,
-    spaces: &Spaces,
-    ns: &Ben,
-) -> Result<Option<ArcStr>, AllocError>
+fn namespace_named(alloc: Global, spaces: &Spaces, ns: &Ben) -> Result<Option<ArcStr>, AllocError>
     ensures { IfOk result (λ found. option_map (λ name. arc_str_bytes name) found
         ≡ named_namespace (namespaces_of spaces.now) (view ns.now)) }
 {
@@ -144,11 +140,7 @@ fn namespace_named(
     }
 }
 
-fn namespace_of(
-    alloc: Global,
-    spaces: &Spaces,
-    name: &[u8],
-) -> Result<Option<ArcStr>, AllocError>
+fn namespace_of(alloc: Global, spaces: &Spaces, name: &[u8]) -> Result<Option<ArcStr>, AllocError>
     ensures { IfOk result (λ found. option_map (λ name. arc_str_bytes name) found
         ≡ option_and_then (there (namespaces_of spaces.now)) (text_in name.now)) }
 {
@@ -158,11 +150,7 @@ fn namespace_of(
     }
 }
 
-fn namespace_there(
-    alloc: Global,
-    spaces: &Spaces,
-    name: &str,
-) -> Result<Option<ArcStr>, AllocError>
+fn namespace_there(alloc: Global, spaces: &Spaces, name: &str) -> Result<Option<ArcStr>, AllocError>
     ensures { IfOk result (λ found. option_map (λ name. arc_str_bytes name) found
         ≡ there (namespaces_of spaces.now) name.now) }
 {

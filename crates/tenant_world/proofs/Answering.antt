@@ -41,8 +41,10 @@ acted-answered g t m a actor new h run ask q told given hand running kept is sam
       actors = ap (λ x. replaced (seat_of a) x q.actors) (sym (kept
           ∙ ap (λ x. with_exchange (exchanged ask x) actor) is
           ∙ ap (λ x. record actor { hand = option_map (hand_with (exchanged ask answer)) x }) hand
-          ∙ ap (λ x. record actor { hand =
-              Some (record h { running = option_map (run_with (exchanged ask answer)) x }) }) running));
+          ∙ ap (λ x. record actor {
+            hand =
+                Some (record h { running = option_map (run_with (exchanged ask answer)) x });
+          }) running));
       steps = refl;
       heard = refl;
     }
@@ -98,12 +100,12 @@ asked-answered g a actor ask q h run hand running served open_still = sym (
   where
     closed_by : Bool → Plan
     closed_by b = if b then record {
-        call = gives_up (seat_of a) (call_of (seat_of a) ask);
-        next = λ told. when_told told (λ _. interrupted_in a h q);
-      } else record {
-        call = call_of (seat_of a) ask;
-        next = λ told. when_told told (answered g a actor h run ask q);
-      }
+      call = gives_up (seat_of a) (call_of (seat_of a) ask);
+      next = λ told. when_told told (λ _. interrupted_in a h q);
+    } else record {
+      call = call_of (seat_of a) ask;
+      next = λ told. when_told told (answered g a actor h run ask q);
+    }
 
 pub asked-interrupted : (g : Ground) (a : Actor) (actor : ActorData) (ask : AskData) (q : Quiet)
     (h : Hand) (run : Run) → actor.hand ≡ Some h → h.running ≡ Some run → is_served ask ≡ true
@@ -117,9 +119,9 @@ asked-interrupted g a actor ask q h run hand running served closed = sym (
   where
     closed_by : Bool → Plan
     closed_by b = if b then record {
-        call = gives_up (seat_of a) (call_of (seat_of a) ask);
-        next = λ told. when_told told (λ _. interrupted_in a h q);
-      } else record {
-        call = call_of (seat_of a) ask;
-        next = λ told. when_told told (answered g a actor h run ask q);
-      }
+      call = gives_up (seat_of a) (call_of (seat_of a) ask);
+      next = λ told. when_told told (λ _. interrupted_in a h q);
+    } else record {
+      call = call_of (seat_of a) ask;
+      next = λ told. when_told told (answered g a actor h run ask q);
+    }

@@ -36,9 +36,9 @@ pub acted-started : (g : Ground) (t : ℕ) (m : Memory) (a : Actor) (actor new :
     → Acted g t a q (held_or q (started a actor s q)) m new (answer_given given)
 acted-started g t m a actor new s q given free r same told =
     subst (λ outcome. Acted g t a q outcome m new (answer_given given))
-        (ap (leaves (spent (moved a actor s.move q))) told
-        ∙ sym (not-held q (started a actor s q) free))
-        (acted-moved g t m a actor new s.move (answer_given given) q r same (given-stays given))
+    (ap (leaves (spent (moved a actor s.move q))) told
+    ∙ sym (not-held q (started a actor s q) free))
+    (acted-moved g t m a actor new s.move (answer_given given) q r same (given-stays given))
 
 -- the request that waits longest is taken up
 pub waiting-taken : (g : Ground) (a : Actor) (actor : ActorData) (q : Quiet) (w : Waiting)

@@ -34,7 +34,7 @@ differs-so g right run e place job differs unique nowhere =
     by (Some p) is =
         let there = right.comparisons.first_difference e.trace run.trace p is in
         let found : DiffersFirstAt p e.trace run.trace =
-            record { equal_before = there.equal_before; unequal = there.unequal } in
+        record { equal_before = there.equal_before; unequal = there.unequal } in
         ap (λ n. Some (Refusal.TraceMismatch n)) (unique place p e.trace run.trace differs found)
 
 runs-so : (g : Ground) (a : Actor) (actor : ActorData) (e : EndingData) (q : Quiet) (h : Hand)

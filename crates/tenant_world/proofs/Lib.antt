@@ -4,3 +4,6 @@ pub mod Standing
 pub mod Draining
 pub mod Answering
 pub mod Ends
+pub mod Wires
+pub mod Seating
+pub mod Heard

@@ -112,7 +112,7 @@ pub held-so : (g : Ground) (t : ℕ) (m : Memory) (q : Quiet) (b : Bool) → Rem
     → (IsTrue b ↔ (1024 ≤ length (waiting_bytes m.outbox))) → is_held q ≡ b
 held-so g t m q b r told =
     let many : length (waiting_bytes m.outbox) ≡ length q.replies =
-        ap length r.replies ∙ length-map q.replies bytes_of in
+    ap length r.replies ∙ length-map q.replies bytes_of in
     by b (subst (λ n. IsTrue b ↔ (1024 ≤ n)) many told)
   where
     by : (b : Bool) → (IsTrue b ↔ (1024 ≤ length q.replies)) → nat_le 1024 (length q.replies) ≡ b

@@ -1,14 +1,14 @@
 -- The steps of an actor, beside the deeds of the tenant.
 use Rattle.std.proofs.Common.{◌≡◌, ◌<◌, ◌-◌, ◌==◌, ℕ, zero, suc, List, [], ◌∷◌, Bool, true, false}
 use Rattle.std.proofs.Common.{None, Some, refl, sym, ap, subst, ◌∙◌, if◌then◌else◌, arith}
-use Rattle.std.proofs.Common.{Result, Ok, Err, IfErr}
+use Rattle.std.proofs.Common.{◌≢◌, Result, Ok, Err, IfErr}
 use Rattle.std.specs.Result.{IsErrAnd}
 use Rattle.std.proofs.Math.Dec.{eqb-suc-zero}
-use Rattle.std.proofs.lemmas.Bool.{eqb-true}
+use Rattle.std.proofs.lemmas.Bool.{eqb-true, ne_eqb}
 use Rattle.bencode_wire.specs.Decoder as decoder
 use Rattle.bencode_wire.specs.declared.decoder.Decoder.{Decoder}
 use Rattle.repl_asks.specs.Exchange.{AskData}
-use Rattle.server_rules.specs.Numbered.{Entry, entry, found, replaced}
+use Rattle.server_rules.specs.Numbered.{Entry, entry, found, replaced, without}
 use Rattle.server_rules.specs.Ground.{Ground}
 use Rattle.server_rules.specs.Readings.{message_limit}
 use Rattle.server_rules.specs.Tenant.{ActorData, Quiet, seat_of}
@@ -20,13 +20,14 @@ use Rattle.server_rules.specs.Ending.{end_of}
 use Rattle.server_rules.specs.declared.actor.Actor.{Actor}
 use Rattle.server_rules.specs.declared.refusal.Refusal.{Refusal}
 use Rattle.tenant_actors.specs.View.{actors_view}
-use Rattle.tenant_actors.proofs.EntryLaws.{found_first, replaced_first, replaced-twice, without-replaced}
+use Rattle.tenant_actors.proofs.EntryLaws.{found_first, replaced_first, without_first, replaced-twice}
+use Rattle.tenant_actors.proofs.EntryLaws.{without-replaced}
 use Rattle.tenant_turns.specs.NoRefs.{outcome, carried_out}
 use Rattle.tenant_world.specs.declared.memory.Memory.{Memory}
 use Rattle.tenant_world.specs.declared.tenant.Tenant.{Tenant}
 use Rattle.tenant_world.specs.Memories.{Remembers}
 use Rattle.tenant_world.specs.Acting.{Acted, Declined, left_by, is_interruption}
-use Rattle.tenant_world.specs.Standing.{Stands, Lends, Does, Refuses}
+use Rattle.tenant_world.specs.Standing.{Stands, Lends, DoesBy, Refuses}
 
 -- Deeds of an actor
 
@@ -65,6 +66,7 @@ done-by q a p actor some there =
     worn_by : Bool → Plan
     worn_by b = if b then quietly (refuses Refusal.Worn)
         else for_actor (found (seat_of a) q.actors) p
+
     left : (n : ℕ) → 0 < n → n ≡ 0 → ⊥
     left n some none = let never : 0 < 0 = subst (λ k. 0 < k) none some in omega (arith, never)
 
@@ -102,6 +104,38 @@ replaced-same {A} n x (e ∷ es) there = by (λ h. replaced-same n x es h) (n ==
         ∙ ap (λ y. entry e.number y ∷ es) (sym here)
     by behind false apart h = ap (λ (l : List (Entry A)). e ∷ l) (behind h)
 
+-- another number finds what it found
+found-apart : {A : Type 0} (m n : ℕ) (x : A) (es : List (Entry A)) → m ≢ n
+    → found m (replaced n x es) ≡ found m es
+found-apart m n x [] apart = refl
+found-apart {A} m n x (e ∷ es) apart = by (found-apart m n x es apart) (n == e.number) refl
+  where
+    by : found m (replaced n x es) ≡ found m es → (b : Bool) → (n == e.number) ≡ b
+        → found m (replaced_first b n x e es) ≡ found_first (m == e.number) e.part (found m es)
+    by behind true same =
+        ap (λ (b : Bool). found_first b x (found m es)) (ne_eqb m n apart)
+        ∙ sym (ap (λ (b : Bool). found_first b e.part (found m es))
+        (ap (λ k. m == k) (sym (eqb-true n e.number same)) ∙ ne_eqb m n apart))
+    by behind false other = ap (λ it. found_first (m == e.number) e.part it) behind
+
+found-without : {A : Type 0} (m n : ℕ) (es : List (Entry A)) → m ≢ n
+    → found m (without n es) ≡ found m es
+found-without m n [] apart = refl
+found-without {A} m n (e ∷ es) apart = by (found-without m n es apart) (n == e.number) refl
+  where
+    by : found m (without n es) ≡ found m es → (b : Bool) → (n == e.number) ≡ b
+        → found m (without_first b e (without n es))
+        ≡ found_first (m == e.number) e.part (found m es)
+    by behind true same = behind
+        ∙ sym (ap (λ (b : Bool). found_first b e.part (found m es))
+        (ap (λ k. m == k) (sym (eqb-true n e.number same)) ∙ ne_eqb m n apart))
+    by behind false other = ap (λ it. found_first (m == e.number) e.part it) behind
+
+found-left : (gone : Bool) (a b : Actor) (x : ActorData) (es : List (Entry ActorData))
+    → seat_of b ≢ seat_of a → found (seat_of b) (left_by gone a x es) ≡ found (seat_of b) es
+found-left true a b x es apart = found-without (seat_of b) (seat_of a) es apart
+found-left false a b x es apart = found-apart (seat_of b) (seat_of a) x es apart
+
 -- The code
 
 pub settled : (g : Ground) (t : ℕ) (a : Actor) (old new : Tenant) (q after : Quiet) (b : Bool)
@@ -113,10 +147,9 @@ pub settled : (g : Ground) (t : ℕ) (a : Actor) (old new : Tenant) (q after : Q
     → Stands g t new (spent after)
 settled g t a old new q after b actor lends r actors steps heard tries less same kept put =
     let D : List ℕ → Type 0 = λ all.
-        decoder.Stands message_limit old.decoder all (g.readings.stream all).messages in
+    decoder.Stands message_limit old.decoder all (g.readings.stream all).messages in
     let E : Decoder → Type 0 = λ d.
-        decoder.Stands message_limit d after.heard (g.readings.stream after.heard).messages in
-    let F : Decoder → Type 0 = λ d. decoder.ready_of d ≡ [] in
+    decoder.Stands message_limit d after.heard (g.readings.stream after.heard).messages in
     let M : Memory → Type 0 = λ m. Remembers g t m after in
     let there = subst M (sym kept) r in
     record {
@@ -124,7 +157,6 @@ settled g t a old new q after b actor lends r actors steps heard tries less same
       names = lends.names;
       steps = less ∙ ap (λ n. n - 1) (lends.steps ∙ sym steps);
       stream = subst E (sym same) (subst D (sym heard) lends.stream);
-      taken = subst F (sym same) lends.taken;
       actors = put ∙ ap (left_by b a actor) lends.actors ∙ left-again b ∙ sym actors;
       remembers = record {
         sessions = there.sessions;
@@ -148,14 +180,12 @@ pub restored : (g : Ground) (t : ℕ) (a : Actor) (old new : Tenant) (q : Quiet)
     → Stands g t new q
 restored g t a old new q actor lends r there tries less same kept put =
     let E : Decoder → Type 0 = λ d.
-        decoder.Stands message_limit d q.heard (g.readings.stream q.heard).messages in
-    let F : Decoder → Type 0 = λ d. decoder.ready_of d ≡ [] in
+    decoder.Stands message_limit d q.heard (g.readings.stream q.heard).messages in
     record {
       retries = tries ∙ lends.retries;
       names = lends.names;
       steps = less ∙ lends.steps;
       stream = subst E (sym same) lends.stream;
-      taken = subst F (sym same) lends.taken;
       actors = put ∙ ap (replaced (seat_of a) actor) lends.actors
           ∙ replaced-twice (seat_of a) actor lends.place q.actors
           ∙ replaced-same (seat_of a) actor q.actors there;
@@ -171,11 +201,13 @@ pub does-acted : (g : Ground) (t : ℕ) (a : Actor) (q : Quiet) (p : ActorData �
     → ((after : Quiet) → Remembers g t m after
     → after.actors ≡ left_by (is_interruption answer) a actor q.actors
     → after.steps ≡ q.steps → after.heard ≡ q.heard → Stands g t new (spent after))
-    → Does g t deed new answer
+    → DoesBy g t a q deed new answer
 does-acted g t a q p deed old_actor m actor answer new is some there acted settles = record {
   after = spent acted.after;
   accepted = is ∙ done-by q a p old_actor some there ∙ acted.accepted;
   stands = settles acted.after acted.remembers acted.actors acted.steps acted.heard;
+  others = λ b apart. ap (found (seat_of b)) acted.actors
+      ∙ found-left (is_interruption answer) a b actor q.actors apart;
 }
 
 pub refuses-declined : (g : Ground) (t : ℕ) (a : Actor) (q : Quiet) (p : ActorData → Plan)
@@ -189,17 +221,20 @@ refuses-declined g t a q p deed old_actor m why new is some there declined stand
 }
 
 -- the memory is no part of it
-pub lends-memory : (g : Ground) (t : ℕ) (a : Actor) (code : Tenant) (q : Quiet) (m : Memory)
-    → Lends g t a code q → Lends g t a (record code { memory = m }) q
-lends-memory g t a code q m lends = record {
-  retries = lends.retries;
-  names = lends.names;
-  steps = lends.steps;
-  stream = lends.stream;
-  taken = lends.taken;
-  place = lends.place;
-  actors = lends.actors;
-}
+pub lends-memory : (g : Ground) (t : ℕ) (a : Actor) (code new : Tenant) (q : Quiet)
+    → new.retries ≡ code.retries → new.steps ≡ code.steps → new.decoder ≡ code.decoder
+    → new.actors ≡ code.actors → Lends g t a code q → Lends g t a new q
+lends-memory g t a code new q tries steps same put lends =
+    let E : Decoder → Type 0 = λ d.
+    decoder.Stands message_limit d q.heard (g.readings.stream q.heard).messages in
+    record {
+      retries = tries ∙ lends.retries;
+      names = lends.names;
+      steps = steps ∙ lends.steps;
+      stream = subst E (sym same) lends.stream;
+      place = lends.place;
+      actors = ap actors_view put ∙ lends.actors;
+    }
 
 pub refuses-so : {X : Type 0} (g : Ground) (t : ℕ) (q : Quiet) (deed : Outcome) (new : Tenant)
     (why : Refusal) (r : Result X Refusal) → IsErrAnd r (λ e. e ≡ why)
@@ -207,3 +242,18 @@ pub refuses-so : {X : Type 0} (g : Ground) (t : ℕ) (q : Quiet) (deed : Outcome
 refuses-so g t q deed new why (Ok x) never told = tt
 refuses-so g t q deed new why (Err e) is told =
     subst (Refuses g t q deed new) (sym is) told
+
+pub stands-same : (g : Ground) (t : ℕ) (q : Quiet) (old new : Tenant)
+    → new.retries ≡ old.retries → new.steps ≡ old.steps → new.decoder ≡ old.decoder
+    → new.actors ≡ old.actors → new.memory ≡ old.memory → Stands g t old q → Stands g t new q
+stands-same g t q old new tries steps same put kept s =
+    let E : Decoder → Type 0 = λ d.
+    decoder.Stands message_limit d q.heard (g.readings.stream q.heard).messages in
+    record {
+      retries = tries ∙ s.retries;
+      names = s.names;
+      steps = steps ∙ s.steps;
+      stream = subst E (sym same) s.stream;
+      actors = ap actors_view put ∙ s.actors;
+      remembers = subst (λ m. Remembers g t m q) (sym kept) s.remembers;
+    }

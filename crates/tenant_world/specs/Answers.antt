@@ -24,6 +24,6 @@ ended_view Ended.Interrupted = request_interrupted
 abbrev pub ending_view : Ending → EndingData
 ending_view e = record {
   job = job_view e.job.now;
-  trace = trace_view e.trace.now.items;
+  trace = trace_view e.trace.now;
   end = finished_view e.finished.now;
 }

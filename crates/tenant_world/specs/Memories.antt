@@ -15,3 +15,7 @@ pub record Remembers (g : Ground) (t : ℕ) (m : Memory) (q : Quiet) : Type 0 wh
   pub bare : state_view m.bare ≡ q.bare
   pub spaces : namespaces_of m.spaces ≡ q.spaces
   pub replies : waiting_bytes m.outbox ≡ map bytes_of q.replies
+
+-- how many sessions were ever made
+abbrev pub opened_by : Memory → ℕ
+opened_by m = m.sessions.sessions.opened

@@ -1,9 +1,9 @@
 -- The code stands for a tenant.
-use Rattle.std.specs.Prelude.{◌≡◌, ◌≢◌, ℕ, List, []}
+use Rattle.std.specs.Prelude.{◌≡◌, ◌≢◌, ℕ, List}
 use Rattle.bencode_wire.specs.Decoder as decoder
 use Rattle.server_rules.specs.Ground.{Ground}
 use Rattle.server_rules.specs.Readings.{message_limit}
-use Rattle.server_rules.specs.Numbered.{replaced}
+use Rattle.server_rules.specs.Numbered.{found, replaced}
 use Rattle.server_rules.specs.Tenant.{ActorData, Quiet, seat_of}
 use Rattle.server_rules.specs.Plan.{StepAnswer, Outcome, refuses, leaves}
 use Rattle.server_rules.specs.declared.actor.Actor.{Actor}
@@ -21,7 +21,6 @@ pub record Stands (g : Ground) (t : ℕ) (code : Tenant) (q : Quiet) : Type 0 wh
   pub steps : code.steps ≡ q.steps
   -- the decoder has read all that was heard, and its messages were taken
   pub stream : decoder.Stands message_limit code.decoder q.heard (g.readings.stream q.heard).messages
-  pub taken : decoder.ready_of code.decoder ≡ []
   pub actors : actors_view code.actors ≡ q.actors
   pub remembers : Remembers g t code.memory q
 
@@ -31,7 +30,6 @@ pub record Lends (g : Ground) (t : ℕ) (a : Actor) (code : Tenant) (q : Quiet) 
   pub names : SharesNoNames g
   pub steps : code.steps ≡ q.steps
   pub stream : decoder.Stands message_limit code.decoder q.heard (g.readings.stream q.heard).messages
-  pub taken : decoder.ready_of code.decoder ≡ []
   pub place : ActorData
   pub actors : actors_view code.actors ≡ replaced (seat_of a) place q.actors
 
@@ -41,6 +39,15 @@ pub record Does (g : Ground) (t : ℕ) (outcome : Outcome) (code : Tenant) (answ
   pub after : Quiet
   pub accepted : outcome ≡ leaves after answer
   pub stands : Stands g t code after
+
+-- the deed of an actor, which leaves every other actor as it was
+pub record DoesBy (g : Ground) (t : ℕ) (a : Actor) (q : Quiet) (outcome : Outcome) (code : Tenant)
+    (answer : StepAnswer) : Type 0 where
+  pub after : Quiet
+  pub accepted : outcome ≡ leaves after answer
+  pub stands : Stands g t code after
+  pub others : (b : Actor) → seat_of b ≢ seat_of a
+      → found (seat_of b) after.actors ≡ found (seat_of b) q.actors
 
 -- the deed is refused so, unless for want of memory, and the code stands for the tenant as it was
 pub record Refuses (g : Ground) (t : ℕ) (q : Quiet) (outcome : Outcome) (code : Tenant)

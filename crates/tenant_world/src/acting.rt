@@ -5,7 +5,7 @@ ghost use Rattle.repl_replies.specs.View.{origin_view};
 ghost use Rattle.server_rules.specs.Ground.{Ground};
 ghost use Rattle.server_rules.specs.Tenant.{Quiet, with_replies};
 ghost use Rattle.server_rules.specs.Replying.{reply};
-ghost use Rattle.tenant_world.specs.Memories.{Remembers};
+ghost use Rattle.tenant_world.specs.Memories.{Remembers, opened_by};
 
 use crate::memory::Memory;
 use repl_replies::{Body, Origin};
@@ -24,6 +24,7 @@ pub(crate) fn interrupt(
         (with_replies (reply (origin_view origin.now) interrupted ∷ []) q)) }
     ensures stays { (g : Ground) (t : ℕ) (q : Quiet) → Remembers g t memory.old q
         → OnErr result (Remembers g t memory.new q) }
+    ensures opened { opened_by memory.new ≡ opened_by memory.old }
 {
     let mut batch = Batch::new(alloc);
     batch.add(origin, Body::Interrupted)?;

@@ -3,7 +3,7 @@ ghost use Rattle.std.specs.Prelude.{◌≡◌};
 ghost use Rattle.tenant_world.specs.Acting.{is_interruption};
 ghost use Rattle.tenant_world.specs.Answers.{started_view, asked_view, ended_view};
 
-use repl_asks::{Answer, Trace};
+use repl_asks::{Answer, Exchange};
 use repl_jobs::{Finished, Job};
 
 /// What comes of a start.
@@ -27,9 +27,10 @@ pub enum Asked {
 
 /// An evaluation that comes back at its end: its job, what it asked and was answered, and how it
 /// ended. Nothing of it is believed: the job and the trace are compared with those that were kept.
+#[derive(Clone, Copy)]
 pub struct Ending<'a> {
     pub job: &'a Job,
-    pub trace: &'a Trace,
+    pub trace: &'a [Exchange],
     pub finished: &'a Finished,
 }
 

@@ -1,5 +1,5 @@
 // A form asks.
-ghost use Rattle.std.specs.Prelude.{◌≡◌, ℕ, true, Some, IfOk, OnOk, IfErr, OnErr};
+ghost use Rattle.std.specs.Prelude.{◌≡◌, ℕ, true, Some, IfOk, OnOk, IfErr, OnErr, ◌<◌, length, Err};
 ghost use Rattle.value_data.specs.View.{view};
 ghost use Rattle.repl_asks.specs.Exchange.{Exchanged, done};
 ghost use Rattle.repl_asks.specs.View.{ask_view, answer_view, exchange_view, resolution_view};
@@ -13,7 +13,8 @@ ghost use Rattle.server_rules.specs.Asking.{asked_of, answered, answer_to, space
 ghost use Rattle.server_rules.specs.Asking as meant;
 ghost use Rattle.tenant_actors.specs.View.{actor_view, hand_view, run_view};
 ghost use Rattle.tenant_turns.specs.NoRefs.{carried_out};
-ghost use Rattle.tenant_world.specs.Memories.{Remembers};
+ghost use Rattle.tenant_replies.specs.View.{waiting_bytes};
+ghost use Rattle.tenant_world.specs.Memories.{Remembers, opened_by};
 ghost use Rattle.tenant_world.specs.Answers.{asked_view};
 ghost use Rattle.tenant_world.specs.Acting.{Acted, Declined};
 ghost use Rattle.tenant_world.specs.Asking.{is_served, exchanged, run_with, hand_with};
@@ -47,6 +48,8 @@ pub(crate) fn ask(
         (carried_out (asked_of g actor (actor_view state.old) (ask_view ask.now) q
         (actor_view state.old).hand)) memory.new) }
     ensures stays { OnErr result (actor_view state.new ≡ actor_view state.old) }
+    ensures opened { opened_by memory.new ≡ opened_by memory.old }
+    ensures held { result ≡ Err Refusal.Held → 0 < length (waiting_bytes memory.old.outbox) }
 {
     let Some(hand) = &state.hand else {
         return Err(Refusal::Idle);
@@ -102,6 +105,7 @@ fn answer(
     ensures stays { (g : Ground) (t : ℕ) (q : Quiet) → Remembers g t memory.old q
         → OnErr result (Remembers g t memory.new q) }
     ensures actor { OnErr result (actor_view state.new ≡ actor_view state.old) }
+    ensures opened { opened_by memory.new ≡ opened_by memory.old }
 {
     let answer = answer_of(alloc, memory, actor, ask)?;
     let given = answer.copy()?;
@@ -126,6 +130,7 @@ fn keep_answer(
     ensures stays { (g : Ground) (t : ℕ) (q : Quiet) → Remembers g t memory.old q
         → OnErr result (Remembers g t memory.new q) }
     ensures actor { OnErr result (actor_view state.new ≡ actor_view state.old) }
+    ensures opened { opened_by memory.new ≡ opened_by memory.old }
 {
     let exchange = Exchange {
         ask: ask.copy()?,
@@ -151,6 +156,7 @@ fn change_or_forget(
     ensures forgotten { (x : Exchanged) (actor : ActorData)
         → actor_view state.old ≡ with_exchange x actor
         → OnErr result (actor_view state.new ≡ actor) }
+    ensures opened { opened_by memory.new ≡ opened_by memory.old }
 {
     match change(alloc, memory, ask) {
         Ok(()) => Ok(()),
@@ -161,18 +167,15 @@ fn change_or_forget(
     }
 }
 
-fn answer_of(
-    alloc: Global,
-    memory: &Memory,
-    actor: Actor,
-    ask: &Ask,
-) -> Result<Answer, AllocError>
+fn answer_of(alloc: Global, memory: &Memory, actor: Actor, ask: &Ask) -> Result<Answer, AllocError>
     ensures { (g : Ground) (t : ℕ) (q : Quiet) → SharesNoNames g → Remembers g t memory.now q
         → IfOk result (λ a. answer_view a ≡ answer_to g actor q (ask_view ask.now) done) }
 {
     match ask {
         Ask::Resolve { namespace, symbol } => {
-            let found = memory.spaces.resolve(alloc, namespace.as_str(), symbol.as_str())?;
+            let found = memory
+                .spaces
+                .resolve(alloc, namespace.as_str(), symbol.as_str())?;
             Ok(Answer::Resolution(resolution_of(alloc, memory, actor, found)?))
         }
         Ask::Define { .. } | Ask::Enter(_) => Ok(Answer::Done),
@@ -224,6 +227,7 @@ fn change(alloc: Global, memory: &mut Memory, ask: &Ask) -> Result<(), AllocErro
         (record q { spaces = spaces_after (ask_view ask.now) q.spaces })) }
     ensures stays { (g : Ground) (t : ℕ) (q : Quiet) → Remembers g t memory.old q
         → OnErr result (Remembers g t memory.new q) }
+    ensures opened { opened_by memory.new ≡ opened_by memory.old }
 {
     match ask {
         Ask::Define {
@@ -232,7 +236,9 @@ fn change(alloc: Global, memory: &mut Memory, ask: &Ask) -> Result<(), AllocErro
             binding,
         } => {
             let (name, binding) = (copy_text(name)?, binding.copy()?);
-            memory.spaces.define(alloc, namespace.as_str(), name, binding)
+            memory
+                .spaces
+                .define(alloc, namespace.as_str(), name, binding)
         }
         Ask::Enter(name) => memory.spaces.enter(alloc, name.as_str()),
         Ask::Resolve { .. }

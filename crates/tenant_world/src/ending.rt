@@ -1,5 +1,5 @@
 // An evaluation comes back at its end.
-ghost use Rattle.std.specs.Prelude.{◌≡◌, ℕ, Some, IfOk, OnOk, IfErr, OnErr};
+ghost use Rattle.std.specs.Prelude.{◌≡◌, ◌≢◌, ℕ, Some, IfOk, OnOk, IfErr, OnErr, ◌<◌, length, Err};
 ghost use Rattle.server_rules.specs.Ground.{Ground};
 ghost use Rattle.server_rules.specs.Request as rules;
 ghost use Rattle.server_rules.specs.Tenant.{Quiet};
@@ -7,7 +7,8 @@ ghost use Rattle.server_rules.specs.Ending.{end_of, end_accepted};
 ghost use Rattle.tenant_actors.specs.View.{actor_view, run_view};
 ghost use Rattle.tenant_turns.specs.Grounds.{IsRight};
 ghost use Rattle.tenant_turns.specs.NoRefs.{carried_out};
-ghost use Rattle.tenant_world.specs.Memories.{Remembers};
+ghost use Rattle.tenant_replies.specs.View.{waiting_bytes};
+ghost use Rattle.tenant_world.specs.Memories.{Remembers, opened_by};
 ghost use Rattle.tenant_world.specs.Answers.{ended_view, ending_view};
 ghost use Rattle.tenant_world.specs.Acting.{Acted, Declined};
 ghost use Rattle.tenant_world.specs.Comparing.{difference, refusal_in};
@@ -41,6 +42,8 @@ pub(crate) fn end(
         (carried_out (end_of g actor (actor_view state.old) (ending_view ending.now) q
         (actor_view state.old).hand)) memory.new) }
     ensures stays { OnErr result (actor_view state.new ≡ actor_view state.old) }
+    ensures opened { opened_by memory.new ≡ opened_by memory.old }
+    ensures held { result ≡ Err Refusal.Held → 0 < length (waiting_bytes memory.old.outbox) }
 {
     let Some(hand) = &state.hand else {
         return Err(Refusal::Idle);
@@ -63,7 +66,8 @@ pub(crate) fn end(
 // Whether the ending is of the form that runs: its job is that job, and its trace the one that was
 // kept.
 fn compare(run: &Run, ending: &Ending<'_>) -> Result<(), Refusal>
-    ensures { (g : Ground) → IsRight g
+    ensures free { IfErr result (λ why. why ≢ Refusal.Held) }
+    ensures told { (g : Ground) → IsRight g
         → refusal_in result ≡ difference g (run_view run.now) (ending_view ending.now) }
 {
     first_difference_is_unique();
@@ -92,6 +96,7 @@ fn accept(
     ensures stays { (g : Ground) (t : ℕ) (q : Quiet) → Remembers g t memory.old q
         → OnErr result (Remembers g t memory.new q) }
     ensures actor { OnErr result (actor_view state.new ≡ actor_view state.old) }
+    ensures opened { opened_by memory.new ≡ opened_by memory.old }
 {
     let session = memory.state_of(alloc, actor)?;
     let Some(hand) = &state.hand else {

@@ -5,8 +5,11 @@ mod acting;
 mod answers;
 mod asking;
 mod ending;
+mod hearing;
 mod memory;
+mod showing;
 mod starting;
+mod steps;
 mod tenant;
 
 pub use answers::{Asked, Ended, Ending, Started};

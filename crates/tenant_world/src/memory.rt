@@ -8,7 +8,7 @@ ghost use Rattle.server_rules.specs.Starting.{first_state};
 ghost use Rattle.server_rules.specs.Moves.{Move};
 ghost use Rattle.tenant_replies.specs.View.{made_bytes};
 ghost use Rattle.tenant_moves.specs.Told.{Tells};
-ghost use Rattle.tenant_world.specs.Memories.{Remembers};
+ghost use Rattle.tenant_world.specs.Memories.{Remembers, opened_by};
 
 use name_spaces::Spaces;
 use repl_sessions::{SessionState, Sessions};
@@ -28,11 +28,7 @@ pub(crate) struct Memory {
 
 impl Memory {
     /// What the session of an actor remembers.
-    pub(crate) fn state_of(
-        &self,
-        alloc: Global,
-        actor: Actor,
-    ) -> Result<SessionState, AllocError>
+    pub(crate) fn state_of(&self, alloc: Global, actor: Actor) -> Result<SessionState, AllocError>
         ensures { (g : Ground) (t : ℕ) (q : Quiet) → Remembers g t self.now q
             → IfOk result (λ state. state_view state ≡ state_of actor q) }
     {
@@ -62,8 +58,9 @@ impl Memory {
 
     /// Puts a state in the place of what the session of an actor remembers.
     pub(crate) fn put_state(&mut self, actor: Actor, state: SessionState)
-        ensures { (g : Ground) (t : ℕ) (q : Quiet) → Remembers g t self.old q
+        ensures put { (g : Ground) (t : ℕ) (q : Quiet) → Remembers g t self.old q
             → Remembers g t self.new (with_state actor (state_view state) q) }
+        ensures opened { opened_by self.new ≡ opened_by self.old }
     {
         match actor {
             Actor::Bare => self.bare = state,
@@ -78,6 +75,7 @@ impl Memory {
             → OnOk result (Remembers g t self.new (with_replies more q)) }
         ensures stays { (g : Ground) (t : ℕ) (q : Quiet) → Remembers g t self.old q
             → OnErr result (Remembers g t self.new q) }
+        ensures opened { opened_by self.new ≡ opened_by self.old }
     {
         self.outbox.post(batch)
     }
@@ -90,6 +88,7 @@ impl Memory {
             (with_replies m.replies (with_state actor m.state q))) }
         ensures stays { (g : Ground) (t : ℕ) (q : Quiet) → Remembers g t self.old q
             → OnErr result (Remembers g t self.new q) }
+        ensures opened { opened_by self.new ≡ opened_by self.old }
     {
         let News { batch, state } = news;
         self.post(batch)?;

@@ -1,5 +1,5 @@
 // An actor begins its next form, or takes up its next request.
-ghost use Rattle.std.specs.Prelude.{◌≡◌, ℕ, None, Some, option_map, IfOk, IfErr, OnErr};
+ghost use Rattle.std.specs.Prelude.{◌≡◌, ℕ, None, Some, option_map, IfOk, IfErr, OnErr, ◌<◌, length, Err};
 ghost use Rattle.server_rules.specs.Ground.{Ground};
 ghost use Rattle.server_rules.specs.Request as rules;
 ghost use Rattle.server_rules.specs.Starting.{start_waiting, held_or, started, next_begun};
@@ -8,7 +8,8 @@ ghost use Rattle.server_rules.specs.Deeds.{start_of};
 ghost use Rattle.tenant_actors.specs.View.{actor_view, hand_view, waiting_view};
 ghost use Rattle.tenant_moves.specs.Starts.{hand_begun, answer_given, given_by};
 ghost use Rattle.tenant_turns.specs.Grounds.{IsRight};
-ghost use Rattle.tenant_world.specs.Memories.{Remembers};
+ghost use Rattle.tenant_replies.specs.View.{waiting_bytes};
+ghost use Rattle.tenant_world.specs.Memories.{Remembers, opened_by};
 ghost use Rattle.tenant_world.specs.Answers.{started_view};
 ghost use Rattle.tenant_world.specs.Acting.{Acted, Declined, oldest, with_taken};
 
@@ -38,6 +39,8 @@ pub(crate) fn start(
         → Remembers g t memory.old q → IfErr result (Declined g t q
         (start_of g actor (actor_view state.old) q (actor_view state.old).hand) memory.new) }
     ensures stays { OnErr result (actor_view state.new ≡ actor_view state.old) }
+    ensures opened { opened_by memory.new ≡ opened_by memory.old }
+    ensures held { result ≡ Err Refusal.Held → 0 < length (waiting_bytes memory.old.outbox) }
 {
     let Some(hand) = &state.hand else {
         return start_request(alloc, memory, retries, actor, state);
@@ -72,6 +75,8 @@ fn start_form(
         (held_or q (started actor (actor_view state.old)
         (next_begun g h (state_of actor q) h.forms) q)) memory.new) }
     ensures stays { OnErr result (actor_view state.new ≡ actor_view state.old) }
+    ensures opened { opened_by memory.new ≡ opened_by memory.old }
+    ensures held { result ≡ Err Refusal.Held → 0 < length (waiting_bytes memory.old.outbox) }
 {
     if memory.outbox.is_held() {
         return Err(Refusal::Held);
@@ -122,6 +127,8 @@ fn start_request(
         (start_waiting g actor (actor_view state.old) q (actor_view state.old).waiting)
         memory.new) }
     ensures stays { OnErr result (actor_view state.new ≡ actor_view state.old) }
+    ensures opened { opened_by memory.new ≡ opened_by memory.old }
+    ensures held { result ≡ Err Refusal.Held → 0 < length (waiting_bytes memory.old.outbox) }
 {
     let Some(waiting) = oldest(state) else {
         return Err(Refusal::Idle);

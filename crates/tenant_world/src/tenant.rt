@@ -1,233 +1,28 @@
 // A tenant: its stream, its actors and what they share.
-ghost use Rattle.std.specs.Prelude.{◌≡◌, ◌+◌, ◌<◌, ℕ, [], ◌∷◌, Some, IfOk, OnOk, IfErr, OnErr};
-ghost use Rattle.std.specs.Prelude.{MatchOption};
-ghost use Rattle.repl_asks.specs.View.{ask_view};
-ghost use Rattle.server_rules.specs.Ground.{Ground};
-ghost use Rattle.server_rules.specs.Tenant.{ActorData, Quiet, opened_quiet, seat_of};
-ghost use Rattle.server_rules.specs.Ready.{ready};
-ghost use Rattle.server_rules.specs.Plan as deeds;
-ghost use Rattle.server_rules.specs.Plan.{Plan, reply_given, spent};
-ghost use Rattle.server_rules.specs.Deeds.{for_actor, unless_worn};
-ghost use Rattle.server_rules.specs.Numbered.{found};
-ghost use Rattle.tenant_actors.specs.View.{actor_view, actors_view};
-ghost use Rattle.tenant_turns.specs.Grounds.{IsRight};
-ghost use Rattle.tenant_turns.specs.NoRefs.{carried_out, outcome};
-ghost use Rattle.tenant_world.specs.Answers.{started_view, asked_view, ended_view, ending_view};
-ghost use Rattle.tenant_world.specs.Acting.{left_by};
-ghost use Rattle.tenant_world.specs.Asking.{SharesNoNames};
-ghost use Rattle.tenant_world.specs.Memories.{Remembers};
+ghost use Rattle.std.specs.Prelude.{◌≡◌, suc, true, length};
+ghost use Rattle.bencode_wire.specs.Decoder.{ready_of};
+ghost use Rattle.tenant_actors.specs.View.{actors_view};
+ghost use Rattle.tenant_world.specs.Memories.{opened_by};
+ghost use Rattle.tenant_world.specs.Seats.{are_below};
 
-use crate::answers::{Asked, Ended, Ending, Started};
-use crate::asking::ask;
-use crate::ending::end;
 use crate::memory::Memory;
-use crate::starting::start;
 use bencode_wire::Decoder;
-use bencode_wire::laws::a_stream_has_one_reading;
-use name_spaces::Spaces;
-use repl_asks::Ask;
-use repl_sessions::{IdStream, SessionState, Sessions};
-use server_rules::{Actor, Refusal};
-use std::alloc::{AllocError, Global};
-use tenant_actors::{ActorState, Actors};
-use tenant_replies::Outbox;
-
-// The greatest length of a message, and of a string in one.
-const MESSAGE_LIMIT: usize = 1_048_576;
+use std::alloc::Global;
+use tenant_actors::Actors;
 
 /// One tenant. Each of its steps is a deed of the rules: it is accepted or refused as they say, and
 /// leaves the tenant as they say. A step that is refused changes nothing, want of memory included.
 #[derive(Drop)]
 pub struct Tenant {
-    alloc: Global,
-    retries: u32,
+    pub(crate) alloc: Global,
+    pub(crate) retries: u32,
     // how many more pieces, and starts, asks and ends of forms it takes
-    steps: u32,
-    decoder: Decoder,
-    actors: Actors,
-    memory: Memory,
-}
-
-impl Tenant {
-    ghost use Rattle.tenant_world.specs.Standing.{Stands, Lends, Does, Refuses, replies_of};
-
-    /// A tenant that has heard nothing. Its number chooses the ids of its sessions, under the
-    /// server's seed. It fails only for want of memory.
-    pub fn new(
-        alloc: Global,
-        seed: [u8; 32],
-        number: u64,
-        steps: u32,
-        retries: u32,
-    ) -> Result<Tenant, AllocError>
-        ensures { (g : Ground) → IsRight g → SharesNoNames g → g.seed ≡ seed → g.steps ≡ steps
-            → g.retries ≡ retries → IfOk result (λ made. Stands g number made (opened_quiet g)) }
-    {
-        a_stream_has_one_reading();
-        let memory = Memory {
-            sessions: Sessions::new(alloc, IdStream::new(seed, number)),
-            bare: SessionState::fresh(alloc)?,
-            spaces: Spaces::new(alloc)?,
-            outbox: Outbox::new(alloc),
-        };
-        Ok(Tenant {
-            alloc,
-            retries,
-            steps,
-            decoder: Decoder::new(alloc, MESSAGE_LIMIT),
-            actors: Actors::new(alloc)?,
-            memory,
-        })
-    }
-
-    /// The actor begins its next form, or takes up its next request.
-    pub fn start(&mut self, actor: Actor) -> Result<Started, Refusal>
-        ensures done { (g : Ground) (t : ℕ) (q : Quiet) → IsRight g → Stands g t self.old q
-            → IfOk result (λ s. Does g t (outcome g t q (deeds.starts actor)) self.new
-            (started_view s)) }
-        ensures refused { (g : Ground) (t : ℕ) (q : Quiet) → IsRight g → Stands g t self.old q
-            → IfErr result (Refuses g t q (outcome g t q (deeds.starts actor)) self.new) }
-        ensures steps { OnOk result (self.old.steps ≡ self.new.steps + 1) }
-        ensures kept { OnErr result (self.new.steps ≡ self.old.steps) }
-    {
-        let mut state = self.lend(actor)?;
-        match start(self.alloc, &mut self.memory, self.retries, actor, &mut state) {
-            Ok(started) => {
-                self.settle(actor, state, started.is_interrupted());
-                Ok(started)
-            }
-            Err(why) => {
-                self.restore(actor, state);
-                Err(why)
-            }
-        }
-    }
-
-    /// The form of the actor that runs asks this. The answer is kept with its ask.
-    pub fn answer(&mut self, actor: Actor, asked: &Ask) -> Result<Asked, Refusal>
-        ensures done { (g : Ground) (t : ℕ) (q : Quiet) → IsRight g → Stands g t self.old q
-            → IfOk result (λ s. Does g t (outcome g t q (deeds.asks_for actor (ask_view asked.now)))
-            self.new (asked_view s)) }
-        ensures refused { (g : Ground) (t : ℕ) (q : Quiet) → IsRight g → Stands g t self.old q
-            → IfErr result (Refuses g t q (outcome g t q (deeds.asks_for actor (ask_view asked.now)))
-            self.new) }
-        ensures steps { OnOk result (self.old.steps ≡ self.new.steps + 1) }
-        ensures kept { OnErr result (self.new.steps ≡ self.old.steps) }
-    {
-        let mut state = self.lend(actor)?;
-        match ask(self.alloc, &mut self.memory, actor, &mut state, asked) {
-            Ok(answered) => {
-                self.settle(actor, state, answered.is_interrupted());
-                Ok(answered)
-            }
-            Err(why) => {
-                self.restore(actor, state);
-                Err(why)
-            }
-        }
-    }
-
-    /// The form of the actor that runs has ended so.
-    pub fn end_form(&mut self, actor: Actor, ending: &Ending<'_>) -> Result<Ended, Refusal>
-        ensures done { (g : Ground) (t : ℕ) (q : Quiet) → IsRight g → Stands g t self.old q
-            → IfOk result (λ s. Does g t (outcome g t q (deeds.ends actor (ending_view ending.now)))
-            self.new (ended_view s)) }
-        ensures refused { (g : Ground) (t : ℕ) (q : Quiet) → IsRight g → Stands g t self.old q
-            → IfErr result (Refuses g t q (outcome g t q (deeds.ends actor (ending_view ending.now)))
-            self.new) }
-        ensures steps { OnOk result (self.old.steps ≡ self.new.steps + 1) }
-        ensures kept { OnErr result (self.new.steps ≡ self.old.steps) }
-    {
-        let mut state = self.lend(actor)?;
-        match end(self.alloc, &mut self.memory, actor, &mut state, ending) {
-            Ok(ended) => {
-                self.settle(actor, state, ended.is_interrupted());
-                Ok(ended)
-            }
-            Err(why) => {
-                self.restore(actor, state);
-                Err(why)
-            }
-        }
-    }
-
-    /// Takes the oldest reply out. It takes no memory.
-    pub fn drain(&mut self) -> Option<Vec<u8>>
-        ensures steps { self.new.steps ≡ self.old.steps }
-        ensures oldest { MatchOption result
-            ((replies_of self.old ≡ []) × (replies_of self.new ≡ []))
-            (λ reply. replies_of self.old ≡ reply.items ∷ replies_of self.new) }
-        ensures drained { (g : Ground) (t : ℕ) (q : Quiet) → Stands g t self.old q
-            → MatchOption result
-            (Refuses g t q (outcome g t q deeds.drains) self.new Refusal.Idle)
-            (λ reply. Does g t (outcome g t q deeds.drains) self.new (reply_given reply.items)) }
-    {
-        self.memory.outbox.take()
-    }
-
-    /// The first actor that has a form or a request to begin. It takes no memory.
-    pub fn ready(&self) -> Option<Actor>
-        ensures { (g : Ground) (t : ℕ) (q : Quiet) → Stands g t self.now q → result ≡ ready q }
-    {
-        self.actors.ready()
-    }
-
-    // Takes the state of an actor out, for a step of it.
-    fn lend(&mut self, actor: Actor) -> Result<ActorState, Refusal>
-        ensures steps { self.new.steps ≡ self.old.steps }
-        ensures some { IfOk result (λ _. 0 < self.old.steps) }
-        ensures lent { (g : Ground) (t : ℕ) (q : Quiet) → Stands g t self.old q
-            → IfOk result (λ state. Lends g t actor self.new q
-            × (found (seat_of actor) q.actors ≡ Some (actor_view state))
-            × Remembers g t self.new.memory q) }
-        ensures refused { (g : Ground) (t : ℕ) (q : Quiet) (p : ActorData → Plan)
-            → Stands g t self.old q → IfErr result (λ why. Refuses g t q
-            (carried_out (unless_worn q (for_actor (found (seat_of actor) q.actors) p)))
-            self.new why) }
-    {
-        if self.steps == 0 {
-            return Err(Refusal::Worn);
-        }
-        let vacancy = ActorState::unoccupied(self.alloc);
-        match self.actors.replace(actor, vacancy) {
-            Some(state) => Ok(state),
-            None => Err(Refusal::NoSuchActor),
-        }
-    }
-
-    // The step is accepted: its actor is put back, or gone where its request was interrupted.
-    fn settle(&mut self, actor: Actor, state: ActorState, is_interrupted: bool)
-        requires { 0 < self.old.steps }
-        ensures steps { self.old.steps ≡ self.new.steps + 1 }
-        ensures stands { (g : Ground) (t : ℕ) (q after : Quiet) → Lends g t actor self.old q
-            → Remembers g t self.old.memory after
-            → after.actors ≡ left_by is_interrupted actor (actor_view state) q.actors
-            → after.steps ≡ q.steps → after.heard ≡ q.heard → Stands g t self.new (spent after) }
-    {
-        put_back(&mut self.actors, actor, state, is_interrupted);
-        self.steps -= 1;
-    }
-
-    // The step is refused: its actor is put back as it was.
-    fn restore(&mut self, actor: Actor, state: ActorState)
-        ensures steps { self.new.steps ≡ self.old.steps }
-        ensures stands { (g : Ground) (t : ℕ) (q : Quiet) → Lends g t actor self.old q
-            → Remembers g t self.old.memory q
-            → found (seat_of actor) q.actors ≡ Some (actor_view state)
-            → Stands g t self.new q }
-    {
-        drop(self.actors.replace(actor, state));
-    }
-}
-
-// The actor is as its step left it, or gone.
-fn put_back(actors: &mut Actors, actor: Actor, state: ActorState, is_gone: bool)
-    ensures { actors_view actors.new
-        ≡ left_by is_gone actor (actor_view state) (actors_view actors.old) }
-{
-    if is_gone {
-        actors.remove(actor);
-    } else {
-        drop(actors.replace(actor, state));
-    }
+    pub(crate) steps: u32,
+    pub(crate) decoder: Decoder,
+    pub(crate) actors: Actors,
+    pub(crate) memory: Memory,
+    // The messages of each piece were taken when it was heard.
+    ghost taken: { length (ready_of decoder) ≡ 0 },
+    // No actor is of a session that is yet to be made.
+    ghost seated: { are_below (suc (opened_by memory)) (actors_view actors) ≡ true },
 }

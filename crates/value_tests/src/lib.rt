@@ -6,6 +6,8 @@ mod keys;
 #[cfg(test)]
 mod parts;
 #[cfg(test)]
+mod returns;
+#[cfg(test)]
 mod values;
 #[cfg(test)]
 mod wire;

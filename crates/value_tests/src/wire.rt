@@ -4,17 +4,17 @@ use bencode_wire::{Ben, Decoder, Dictionary, WireFault, put_field, write_into};
 use bytes::Bytes;
 use std::alloc::{AllocError, Global};
 
-const LIMIT: usize = 1_048_576;
+pub(crate) const LIMIT: usize = 1_048_576;
 
 // A stream, the decoder's limit, and what comes of it: its messages as they are written, whether
 // the rest is empty, and the fault.
 #[derive(Clone, Copy)]
-struct Row {
-    stream: &'static [u8],
-    limit: usize,
-    written: &'static [u8],
-    rest_is_empty: bool,
-    fault: Option<WireFault>,
+pub(crate) struct Row {
+    pub(crate) stream: &'static [u8],
+    pub(crate) limit: usize,
+    pub(crate) written: &'static [u8],
+    pub(crate) rest_is_empty: bool,
+    pub(crate) fault: Option<WireFault>,
 }
 
 // A stream of messages that are written as they were spelled.
@@ -58,7 +58,7 @@ fn limited(limit: usize, stream: &'static [u8], written: &'static [u8], fault: W
     }
 }
 
-fn rows() -> [Row; 46] {
+pub(crate) fn rows() -> [Row; 46] {
     use WireFault::{Malformed, TooDeep, TooLong};
     [
         // The examples of the format, as values, and the ones that it calls invalid.
@@ -144,7 +144,7 @@ fn piece(alloc: Global, bytes: &[u8]) -> Result<Bytes, AllocError> {
 }
 
 // Feeds a piece, and notes the fault.
-fn feed(
+pub(crate) fn feed(
     alloc: Global,
     decoder: &mut Decoder,
     bytes: &[u8],
@@ -158,7 +158,7 @@ fn feed(
 }
 
 // Writes a copy of the value.
-fn write(value: &Ben, out: &mut Vec<u8>) -> Result<(), AllocError> {
+pub(crate) fn write(value: &Ben, out: &mut Vec<u8>) -> Result<(), AllocError> {
     let alloc = *out.allocator();
     let copied = match value.copy(alloc) {
         Ok(copied) => copied,

@@ -22,13 +22,13 @@ returns-then-is_last c =
     let mid : News = record c.args.news.now { batch = c.add_output.new.self } in
     let s = told_state c.args.news.now in
     let P : Datum → Type 0 = λ x. Adds (closing h.origin (last_form x) h.fault s)
-        mid c.end_request.new.self in
+    mid c.end_request.new.self in
     let f : StateData → Move = going_on h h.forms in
     let over = ends-over h here s mid c.end_request.new.self
-        (sym c.is_last.ensures ∙ c.if-is_last.true)
-        (subst P c.in_ok-last.ensures c.in_ok-end_request.ensures) in
+    (sym c.is_last.ensures ∙ c.if-is_last.true)
+    (subst P c.in_ok-last.ensures c.in_ok-end_request.ensures) in
     let Q : List ℕ → Type 0 = λ text. told_bytes mid ≡ told_bytes c.args.news.now
-        ++ map bytes_of (output_replies here.origin text) in
+    ++ map bytes_of (output_replies here.origin text) in
     let told = subst Q c.text.ensures c.in_ok-add_output.ensures in
     ends-behind (output_replies here.origin e.text) f s here
-        c.args.news.now mid c.end_request.new.self _ told refl over
+    c.args.news.now mid c.end_request.new.self _ told refl over

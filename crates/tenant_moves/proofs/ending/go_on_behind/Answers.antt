@@ -11,4 +11,4 @@ returns-then-is_last c =
       namespace = (finished_view c.args.finished.now).namespace;
     } in
     ends-over h (hand_view c.args.hand.now) (told_state c.args.news.now) c.args.news.now c.end_request.new.self
-        (sym c.is_last.ensures ∙ c.if-is_last.true) c.in_ok-end_request.ensures
+    (sym c.is_last.ensures ∙ c.if-is_last.true) c.in_ok-end_request.ensures

@@ -9,12 +9,12 @@ pub returns-in-Ok : goal.returns-in-Ok
 returns-in-Ok c =
     let spaces = namespaces_of c.args.spaces.now in
     let P : List ℕ → Type 0 = λ name. IfOk c.namespace_there.result
-        (λ found. option_map (λ name. arc_str_bytes name) found ≡ there spaces name) in
+    (λ found. option_map (λ name. arc_str_bytes name) found ≡ there spaces name) in
     let Q : Option (List ℕ) → Type 0 = λ name. IfOk c.namespace_there.result
-        (λ found. option_map (λ name. arc_str_bytes name) found
-        ≡ option_and_then (there spaces) name) in
+    (λ found. option_map (λ name. arc_str_bytes name) found
+    ≡ option_and_then (there spaces) name) in
     subst Q (sym (is-text c.args.name.now c.in-Ok.ensures.cases.1))
-        (subst P c.in-Ok.ensures.cases.0 c.namespace_there.ensures)
+    (subst P c.in-Ok.ensures.cases.0 c.namespace_there.ensures)
 
 pub returns-in-Err : goal.returns-in-Err
 returns-in-Err c =

@@ -12,7 +12,7 @@ returns c =
     let s = state_view c.args.state in
     let news = c.new-news.result in
     let told = subst (λ x. Adds (closing h.origin h.manner h.fault x) news c.end_request.new.self)
-        c.new-news.ensures.state c.in_ok-end_request.ensures in
+    c.new-news.ensures.state c.in_ok-end_request.ensures in
     record {
       told = tells-first (closing h.origin h.manner h.fault s) news c.end_request.new.self
           c.new-news.ensures.replies told;

@@ -11,4 +11,4 @@ returns-in-Some c = λ g same.
     let h = hand_view c.args.hand.now in
     let first = sym c.first_form.ensures ∙ ap (option_map (λ v. view v.now)) c.in-Some.is in
     subst (λ s. IfOk c.run_form.result (GoesOn s h))
-        (first-begins g h (state_view c.args.state) h.forms _ first) (c.run_form.ensures g same)
+    (first-begins g h (state_view c.args.state) h.forms _ first) (c.run_form.ensures g same)

@@ -17,10 +17,10 @@ returns-in_ok-resolution_of-in-Resolve c = λ g t q shares r.
     let namespace = arc_str_bytes c.in-Resolve.namespace in
     let symbol = arc_str_bytes c.in-Resolve.symbol in
     let found = c.in_ok-found-in-Resolve.ensures
-        ∙ ap (λ x. names.resolved nothing_bound spaces x c.as_str-in-Resolve.result.now)
-        c.as_str.ensures.value
-        ∙ ap (λ x. names.resolved nothing_bound spaces namespace x) c.as_str-in-Resolve.ensures.value
-        ∙ ap (λ x. names.resolved x spaces namespace symbol) (sym shares)
-        ∙ ap (λ x. names.resolved g.shared_names x namespace symbol) r.spaces in
+    ∙ ap (λ x. names.resolved nothing_bound spaces x c.as_str-in-Resolve.result.now)
+    c.as_str.ensures.value
+    ∙ ap (λ x. names.resolved nothing_bound spaces namespace x) c.as_str-in-Resolve.ensures.value
+    ∙ ap (λ x. names.resolved x spaces namespace symbol) (sym shares)
+    ∙ ap (λ x. names.resolved g.shared_names x namespace symbol) r.spaces in
     ap resolution (c.in_ok-resolution_of-in-Resolve.ensures g t q r ∙ ap (resolution_of state) found)
     ∙ ap (λ x. answer_to g a q (ask_view x) done) (sym c.in-Resolve.is)

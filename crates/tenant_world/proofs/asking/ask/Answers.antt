@@ -10,7 +10,7 @@ use Rattle.tenant_world.proofs.asking.ask.Goals as goal
 pub returns-in_err-interrupt-clause-declined : goal.returns-in_err-interrupt-clause-declined
 returns-in_err-interrupt-clause-declined c = λ g t q shares r.
     declined-memory g t q _ _ c.from_residual.result c.from_residual.ensures.1
-        (c.in_err-interrupt.ensures.stays g t q r)
+    (c.in_err-interrupt.ensures.stays g t q r)
 
 pub returns-then-state-clause-acted : goal.returns-then-state-clause-acted
 returns-then-state-clause-acted c = λ g t q shares r.
@@ -20,14 +20,14 @@ returns-then-state-clause-acted c = λ g t q shares r.
     let memory = c.interrupt.new.memory in
     let P : Outcome → Type 0 = λ x. Acted g t a q x memory actor request_interrupted in
     subst P (asked-interrupted g a actor (ask_view c.args.ask.now) q k _
-        (ap (option_map hand_view) c.in-Some.is) (ap (option_map run_view) c.in-Some-running.is)
-        (sym c.is_served.ensures ∙ c.if-not-is_served.false) c.if-state.true)
-        (acted-interrupted g t memory a actor k q (c.in_ok-interrupt.ensures.told g t q r))
+    (ap (option_map hand_view) c.in-Some.is) (ap (option_map run_view) c.in-Some-running.is)
+    (sym c.is_served.ensures ∙ c.if-not-is_served.false) c.if-state.true)
+    (acted-interrupted g t memory a actor k q (c.in_ok-interrupt.ensures.told g t q r))
 
 pub returns-in_err-answer-clause-declined : goal.returns-in_err-answer-clause-declined
 returns-in_err-answer-clause-declined c = λ g t q shares r.
     declined-memory g t q _ _ c.from_residual-in_err-answer.result
-        c.from_residual-in_err-answer.ensures.1 (c.in_err-answer.ensures.stays g t q r)
+    c.from_residual-in_err-answer.ensures.1 (c.in_err-answer.ensures.stays g t q r)
 
 pub returns-clause-acted : goal.returns-clause-acted
 returns-clause-acted c = λ g t q shares r.
@@ -39,6 +39,6 @@ returns-clause-acted c = λ g t q shares r.
     let running = ap (option_map run_view) c.in-Some-running.is in
     let served = sym c.is_served.ensures ∙ c.if-not-is_served.false in
     let P : Outcome → Type 0 = λ x. Acted g t a q x c.answer.new.memory
-        (actor_view c.answer.new.state) (ask_answered (answer_view c.in_ok-answer.answer)) in
+    (actor_view c.answer.new.state) (ask_answered (answer_view c.in_ok-answer.answer)) in
     subst P (asked-answered g a actor ask q k _ hand running served c.if-state.false)
-        (c.in_ok-answer.ensures.acted g t q k _ shares r hand running served)
+    (c.in_ok-answer.ensures.acted g t q k _ shares r hand running served)

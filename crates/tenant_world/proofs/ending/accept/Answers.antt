@@ -30,7 +30,7 @@ returns-clause-acted c = λ g t q h r hand.
     let put = c.put_after.ensures k kept ∙ ap (λ x. record actor { hand = x }) ends.hand in
     let here = acted-moved g t memory a actor new m form_finished q taken put refl in
     let P : Hand → Type 0 = λ x. Acted g t a q
-        (leaves (spent (moved a actor (form_ended x e s) q)) form_finished) memory new form_finished in
+    (leaves (spent (moved a actor (form_ended x e s) q)) form_finished) memory new form_finished in
     let Q : StateData → Type 0 = λ x. Acted g t a q
-        (leaves (spent (moved a actor (form_ended h e x) q)) form_finished) memory new form_finished in
+    (leaves (spent (moved a actor (form_ended h e x) q)) form_finished) memory new form_finished in
     subst Q same_state (subst P same_hand here)

@@ -7,14 +7,12 @@ use Rattle.tenant_world.specs.Answers.{ending_view}
 use Rattle.tenant_world.proofs.Ends.{differs-so}
 use Rattle.tenant_world.proofs.ending.compare.Goals as goal
 
-pub returns-in-Some : goal.returns-in-Some
-returns-in-Some c = λ g right.
+pub returns-in-Some-clause-told : goal.returns-in-Some-clause-told
+returns-in-Some-clause-told c = λ g right.
     let place = c.in-Some.place in
-    let P : List Exchange → Type 0 = λ xs.
-        DiffersFirstAt place (trace_view xs) (trace_view c.deref-2.result.now) in
     let Q : List Exchange → Type 0 = λ ys.
-        DiffersFirstAt place (trace_view c.args.ending.now.trace.now.items) (trace_view ys) in
+    DiffersFirstAt place (trace_view c.args.ending.now.trace.now) (trace_view ys) in
     differs-so g right (run_view c.args.run.now) (ending_view c.args.ending.now) place
-        (c.same_job.ensures.0 c.if-not-same_job.false)
-        (subst Q c.deref-2.ensures.value (subst P c.deref.ensures.value c.in-Some.ensures))
-        c.first_difference_is_unique.ensures c.equal_traces_differ_nowhere.ensures
+    (c.same_job.ensures.0 c.if-not-same_job.false)
+    (subst Q c.deref.ensures.value c.in-Some.ensures)
+    c.first_difference_is_unique.ensures c.equal_traces_differ_nowhere.ensures

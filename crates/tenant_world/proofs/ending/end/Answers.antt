@@ -10,7 +10,7 @@ use Rattle.tenant_world.proofs.ending.end.Goals as goal
 pub returns-in_err-interrupt-clause-declined : goal.returns-in_err-interrupt-clause-declined
 returns-in_err-interrupt-clause-declined c = λ g t q right r.
     declined-memory g t q _ _ c.from_residual.result c.from_residual.ensures.1
-        (c.in_err-interrupt.ensures.stays g t q r)
+    (c.in_err-interrupt.ensures.stays g t q r)
 
 pub returns-then-state-clause-acted : goal.returns-then-state-clause-acted
 returns-then-state-clause-acted c = λ g t q right r.
@@ -20,11 +20,11 @@ returns-then-state-clause-acted c = λ g t q right r.
     let memory = c.interrupt.new.memory in
     let P : Outcome → Type 0 = λ x. Acted g t a q x memory actor request_interrupted in
     subst P (ends-interrupted g a actor (ending_view c.args.ending.now) q k _
-        (ap (option_map hand_view) c.in-Some.is) (ap (option_map run_view) c.in-Some-running.is)
-        c.if-state.true)
-        (acted-interrupted g t memory a actor k q (c.in_ok-interrupt.ensures.told g t q r))
+    (ap (option_map hand_view) c.in-Some.is) (ap (option_map run_view) c.in-Some-running.is)
+    c.if-state.true)
+    (acted-interrupted g t memory a actor k q (c.in_ok-interrupt.ensures.told g t q r))
 
 pub returns-in_err-accept-clause-declined : goal.returns-in_err-accept-clause-declined
 returns-in_err-accept-clause-declined c = λ g t q right r.
     declined-memory g t q _ _ c.from_residual-in_err-accept.result
-        c.from_residual-in_err-accept.ensures.1 (c.in_err-accept.ensures.stays g t q r)
+    c.from_residual-in_err-accept.ensures.1 (c.in_err-accept.ensures.stays g t q r)

@@ -9,7 +9,7 @@ use Rattle.tenant_world.proofs.starting.start.Goals as goal
 pub returns-in_err-interrupt-clause-declined : goal.returns-in_err-interrupt-clause-declined
 returns-in_err-interrupt-clause-declined c = λ g t q right tries r.
     declined-memory g t q _ _ c.from_residual.result c.from_residual.ensures.1
-        (c.in_err-interrupt.ensures.stays g t q r)
+    (c.in_err-interrupt.ensures.stays g t q r)
 
 pub returns-then-state-clause-acted : goal.returns-then-state-clause-acted
 returns-then-state-clause-acted c = λ g t q right tries r.
@@ -19,7 +19,7 @@ returns-then-state-clause-acted c = λ g t q right tries r.
     let memory = c.interrupt.new.memory in
     let there = ap (option_map hand_view) c.in-Some.is in
     let between = none-mapped run_view c.in-Some.hand.running
-        (sym c.is_some.ensures ∙ c.if-is_some.false) in
+    (sym c.is_some.ensures ∙ c.if-is_some.false) in
     let P : Outcome → Type 0 = λ x. Acted g t a q x memory actor request_interrupted in
     subst P (interrupted-start g a actor q actor.hand k there between c.if-state.true)
-        (acted-interrupted g t memory a actor k q (c.in_ok-interrupt.ensures.told g t q r))
+    (acted-interrupted g t memory a actor k q (c.in_ok-interrupt.ensures.told g t q r))

@@ -15,7 +15,7 @@ use Rattle.tenant_world.proofs.starting.start_form.Goals as goal
 pub returns-in_err-take_news-clause-declined : goal.returns-in_err-take_news-clause-declined
 returns-in_err-take_news-clause-declined c = λ g t q h tries r hand.
     declined-memory g t q _ _ c.from_residual-in_err-take_news.result
-        c.from_residual-in_err-take_news.ensures.1 (c.in_err-take_news.ensures.stays g t q r)
+    c.from_residual-in_err-take_news.ensures.1 (c.in_err-take_news.ensures.stays g t q r)
 
 pub returns-clause-acted : goal.returns-clause-acted
 returns-clause-acted c = λ g t q h tries r hand.
@@ -34,13 +34,13 @@ returns-clause-acted c = λ g t q h tries r hand.
     let given = given_by c.in_ok-news.field-0.begun in
     let taken = c.in_ok-take_news.ensures.taken g t q start.move r goes.told in
     let put = c.put_begun.ensures.hand k kept
-        ∙ ap (λ x. record actor { hand = x }) goes.hand in
+    ∙ ap (λ x. record actor { hand = x }) goes.hand in
     let told = goes.answer in
     let here = acted-started g t memory a actor new start q given free taken put told in
     let P : Hand → Type 0 = λ x. Acted g t a q
-        (held_or q (started a actor (next_begun g x s x.forms) q)) memory new (answer_given given) in
+    (held_or q (started a actor (next_begun g x s x.forms) q)) memory new (answer_given given) in
     let Q : StateData → Type 0 = λ x. Acted g t a q
-        (held_or q (started a actor (next_begun g h x h.forms) q)) memory new (answer_given given) in
+    (held_or q (started a actor (next_begun g h x h.forms) q)) memory new (answer_given given) in
     let R : StepAnswer → Type 0 = λ x. Acted g t a q
-        (held_or q (started a actor (next_begun g h (state_of a q) h.forms) q)) memory new x in
+    (held_or q (started a actor (next_begun g h (state_of a q) h.forms) q)) memory new x in
     subst R (sym c.put_begun.ensures.answer) (subst Q same_state (subst P same_hand here))

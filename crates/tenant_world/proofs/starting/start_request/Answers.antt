@@ -16,7 +16,7 @@ use Rattle.tenant_world.proofs.starting.start_request.Goals as goal
 pub returns-in_err-take_news-clause-declined : goal.returns-in_err-take_news-clause-declined
 returns-in_err-take_news-clause-declined c = λ g t q right tries r hand.
     declined-memory g t q _ _ c.from_residual-in_err-take_news.result
-        c.from_residual-in_err-take_news.ensures.1 (c.in_err-take_news.ensures.stays g t q r)
+    c.from_residual-in_err-take_news.ensures.1 (c.in_err-take_news.ensures.stays g t q r)
 
 pub returns-clause-acted : goal.returns-clause-acted
 returns-clause-acted c = λ g t q right tries r hand.
@@ -36,15 +36,15 @@ returns-clause-acted c = λ g t q right tries r hand.
     let takes = c.in_ok-news.ensures g right.readings tries in
     let taken = c.in_ok-take_news.ensures.taken g t q start.move r takes.told in
     let put = c.put_taken.ensures
-        ∙ ap (λ x. with_taken x actor) takes.hand in
+    ∙ ap (λ x. with_taken x actor) takes.hand in
     let told = takes.answer in
     let here = acted-started g t memory a behind new start q given free taken put told in
     let P : Namespaces → Type 0 = λ x. Acted g t a q (held_or q (started a behind
-        (text_begun g x w.origin s w.text) q)) memory new (answer_given given) in
+    (text_begun g x w.origin s w.text) q)) memory new (answer_given given) in
     let Q : StateData → Type 0 = λ x. Acted g t a q (held_or q (started a behind
-        (text_begun g q.spaces w.origin x w.text) q)) memory new (answer_given given) in
+    (text_begun g q.spaces w.origin x w.text) q)) memory new (answer_given given) in
     let R : StepAnswer → Type 0 = λ x. Acted g t a q (held_or q (started a behind
-        (text_begun g q.spaces w.origin (first_state a q) w.text) q)) memory new x in
+    (text_begun g q.spaces w.origin (first_state a q) w.text) q)) memory new x in
     let S : Outcome → Type 0 = λ x. Acted g t a q x memory new (started_view c.answer_of.result) in
     subst S (waiting-taken g a actor q w actor.waiting first)
-        (subst R (sym c.answer_of.ensures) (subst Q same_state (subst P r.spaces here)))
+    (subst R (sym c.answer_of.ensures) (subst Q same_state (subst P r.spaces here)))

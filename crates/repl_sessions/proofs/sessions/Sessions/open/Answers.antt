@@ -3,7 +3,7 @@ use Rattle.repl_sessions.specs.Named.{NamedSessions}
 use Rattle.repl_sessions.specs.Sessions.{is_open}
 use Rattle.repl_sessions.specs.StateView.{state_view}
 use Rattle.repl_sessions.proofs.Numbers.{is_open-among, state-found}
-use Rattle.repl_sessions.proofs.SeenSessions.{opened-seen}
+use Rattle.repl_sessions.proofs.SeenSessions.{opened-seen, undone-seen}
 use Rattle.repl_sessions.proofs.Keeping.{no-next, opened-keeps, refused-keeps}
 use Rattle.repl_sessions.proofs.sessions.Sessions.open.Goals as goal
 
@@ -34,3 +34,9 @@ returns-clause-unused c =
 pub returns-clause-begins : goal.returns-clause-begins
 returns-clause-begins c =
     state-found c.insert-2.new.self.entries c.self.inside.opened ∙ ap (option_map state_view) c.in-Ok.ensures.updates.1
+
+pub returns-clause-undone : goal.returns-clause-undone
+returns-clause-undone c =
+    let was = c.self.inside in
+    undone-seen was.opened c.in_ok-next.next was.ids was.live c.insert-2.new.self c.args.state c.args.self.now
+    c.self.view_is c.self.invariant.below (search rules) c.in-Ok.ensures.entries

@@ -10,8 +10,8 @@ returns-clause-taken c = λ g t q m r tells.
     let a = c.args.actor in
     let state = state_view c.args.news.state in
     let posted = c.in_ok-post.ensures.posted g t q m.replies r tells.replies in
-    let put = c.put_state.ensures g t (with_replies m.replies q) posted in
+    let put = c.put_state.ensures.put g t (with_replies m.replies q) posted in
     subst (Remembers g t c.put_state.new.self)
-        (replies-behind-state a state m.replies q
-        ∙ ap (λ s. with_replies m.replies (with_state a s q)) tells.state)
-        put
+    (replies-behind-state a state m.replies q
+    ∙ ap (λ s. with_replies m.replies (with_state a s q)) tells.state)
+    put

@@ -1,6 +1,15 @@
+use Rattle.std.proofs.Common.{refl}
 use Rattle.tenant_world.proofs.Draining.{drains}
 use Rattle.tenant_world.proofs.tenant.Tenant.drain.Goals as goal
 
 pub returns-clause-drained : goal.returns-clause-drained
 returns-clause-drained c = λ g t q stands.
-    drains (λ v. v.items) g t q c.args.self.now c.take.new.self c.take.result stands c.take.ensures
+    drains (λ v. v.items) g t q c.args.self.now _ c.take.result (record {
+      retries = refl;
+      steps = refl;
+      decoder = refl;
+      actors = refl;
+      sessions = refl;
+      bare = refl;
+      spaces = refl;
+    }) stands c.take.ensures

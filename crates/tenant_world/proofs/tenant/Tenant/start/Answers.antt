@@ -1,4 +1,4 @@
-use Rattle.std.proofs.Common.{◌<◌, ◌∙◌, Some, sym, ap, subst}
+use Rattle.std.proofs.Common.{◌<◌, ◌∙◌, refl, Some, sym, ap, subst}
 use Rattle.server_rules.specs.Plan as deeds
 use Rattle.server_rules.specs.Plan.{Plan, quietly}
 use Rattle.server_rules.specs.Deeds.{start_of}
@@ -16,9 +16,9 @@ returns-in_err-state-clause-refused c = λ g t q right stands.
     let a = c.args.actor in
     let p : ActorData → Plan = λ actor. quietly (start_of g a actor q actor.hand) in
     refuses-so g t q (outcome g t q (deeds.starts a)) c.lend.new.self c.in_err-state.field-0.0
-        c.from_residual.result c.from_residual.ensures.1
-        (subst (λ x. Refuses g t q x c.lend.new.self c.in_err-state.field-0.0)
-        (sym (starts-by g t q a)) (c.in_err-state.ensures.refused g t q p stands))
+    c.from_residual.result c.from_residual.ensures.1
+    (subst (λ x. Refuses g t q x c.lend.new.self c.in_err-state.field-0.0)
+    (sym (starts-by g t q a)) (c.in_err-state.ensures.refused g t q p stands))
 
 pub returns-in-Ok-clause-done : goal.returns-in-Ok-clause-done
 returns-in-Ok-clause-done c = λ g t q right stands.
@@ -27,13 +27,13 @@ returns-in-Ok-clause-done c = λ g t q right stands.
     let lent = c.in_ok-state.ensures.lent g t q stands in
     let some = subst (λ n. 0 < n) stands.steps c.in_ok-state.ensures.some in
     let acted = c.in-Ok.ensures.acted g t q right lent.0.retries lent.2 in
-    let lends = lends-memory g t a c.lend.new.self q c.start.new.memory lent.0 in
+    let lends = lends-memory g t a c.lend.new.self _ q refl refl refl refl lent.0 in
     let actor = actor_view c.start.new.state in
     does-acted g t a q p (outcome g t q (deeds.starts a)) (actor_view c.in_ok-state.state)
-        c.start.new.memory actor (started_view c.in-Ok.started) c.settle.new.self
-        (starts-by g t q a) some lent.1 acted
-        (λ after r actors steps heard. c.settle.ensures.stands g t q after lends r
-        (actors ∙ ap (λ b. left_by b a actor q.actors) (sym c.is_interrupted.ensures)) steps heard)
+    c.start.new.memory actor (started_view c.in-Ok.started) c.settle.new.self
+    (starts-by g t q a) some lent.1 acted
+    (λ after r actors steps heard. c.settle.ensures.stands g t q after lends r
+    (actors ∙ ap (λ b. left_by b a actor q.actors) (sym c.is_interrupted.ensures)) steps heard)
 
 pub returns-in-Err-clause-refused : goal.returns-in-Err-clause-refused
 returns-in-Err-clause-refused c = λ g t q right stands.
@@ -42,8 +42,8 @@ returns-in-Err-clause-refused c = λ g t q right stands.
     let lent = c.in_ok-state.ensures.lent g t q stands in
     let some = subst (λ n. 0 < n) stands.steps c.in_ok-state.ensures.some in
     let declined = c.in-Err.ensures.declined g t q right lent.0.retries lent.2 in
-    let lends = lends-memory g t a c.lend.new.self q c.start.new.memory lent.0 in
+    let lends = lends-memory g t a c.lend.new.self _ q refl refl refl refl lent.0 in
     refuses-declined g t a q p (outcome g t q (deeds.starts a)) (actor_view c.in_ok-state.state)
-        c.start.new.memory c.in-Err.why c.restore.new.self (starts-by g t q a) some lent.1
-        declined (λ r. c.restore.ensures.stands g t q lends r
-        (lent.1 ∙ ap Some (sym c.in-Err.ensures.stays)))
+    c.start.new.memory c.in-Err.why c.restore.new.self (starts-by g t q a) some lent.1
+    declined (λ r. c.restore.ensures.stands g t q lends r
+    (lent.1 ∙ ap Some (sym c.in-Err.ensures.stays)))

@@ -1,0 +1,108 @@
+-- What an actor's start comes to.
+use Rattle.std.proofs.Common.{◌≡◌, ℕ, ◌-◌, List, [], ◌∷◌, Bool, true, false, if◌then◌else◌, Option}
+use Rattle.std.proofs.Common.{None, Some, refl}
+use Rattle.bencode_wire.specs.Tree as wire
+use Rattle.value_data.specs.Datum.{nil, Items, no_items, item}
+use Rattle.repl_asks.specs.Exchange.{AnswerData}
+use Rattle.repl_sessions.specs.State.{StateData}
+use Rattle.name_spaces.specs.Namespaces.{Namespaces}
+use Rattle.repl_replies.specs.Fields.{text_of}
+use Rattle.repl_replies.specs.Replies.{OriginData}
+use Rattle.std.specs.Prelude.{option_and_then, is_some}
+use Rattle.server_rules.specs.Readings.{ProgramData}
+use Rattle.server_rules.specs.Ground.{Ground}
+use Rattle.server_rules.specs.Request.{Waiting, ProgramText, code, file, Manner, Hand, each_form}
+use Rattle.server_rules.specs.Request.{each_form_elsewhere, last_form}
+use Rattle.server_rules.specs.Tenant.{ActorData, Quiet, is_held, state_of}
+use Rattle.server_rules.specs.Plan.{Outcome, refuses, leaves, Plan}
+use Rattle.server_rules.specs.Starting.{Started, next_begun, program_begun, elsewhere_begun}
+use Rattle.server_rules.specs.Starting.{hand_of, code_begun, text_begun, there, started}
+use Rattle.server_rules.specs.Starting.{interrupted_in, first_state, held_or, next_of}
+use Rattle.server_rules.specs.Starting.{start_in_hand, start_waiting}
+use Rattle.server_rules.specs.Deeds.{start_of}
+use Rattle.server_rules.specs.Turns.{bytes_in}
+use Rattle.server_rules.specs.declared.actor.Actor.{Actor}
+use Rattle.server_rules.specs.declared.refusal.Refusal.{Refusal}
+
+-- What a deed comes to where steps are left: refused for replies only where too many wait; or one
+-- step less is left, the stream is as it was, and no bytes are given.
+abbrev pub GoesSo : Quiet → Outcome → Type 0
+GoesSo q (refuses why) = why ≡ Refusal.Held → is_held q ≡ true
+GoesSo q (leaves new answer) =
+    (new.steps ≡ q.steps - 1) × (new.heard ≡ q.heard) × (bytes_in answer ≡ [])
+
+abbrev pub PlansSo : Quiet → Plan → Type 0
+PlansSo q p = (told : Option AnswerData) → GoesSo q (p.next told)
+
+begun-so : (g : Ground) (h : Hand) (state : StateData) (forms : Items)
+    → bytes_in (next_begun g h state forms).answer ≡ []
+begun-so g h state no_items = refl
+begun-so g h state (item d ds) = refl
+
+program-so : (g : Ground) (origin : OriginData) (manner : Manner) (namespace : List ℕ)
+    (state : StateData) (p : ProgramData)
+    → bytes_in (program_begun g origin manner namespace state p).answer ≡ []
+program-so g origin manner namespace state p =
+    begun-so g (hand_of origin manner namespace p) state p.forms
+
+elsewhere-so : (g : Ground) (origin : OriginData) (text : List ℕ) (state : StateData)
+    (name : Option (List ℕ)) → bytes_in (elsewhere_begun g origin text state name).answer ≡ []
+elsewhere-so g origin text state None = refl
+elsewhere-so g origin text state (Some name) =
+    program-so g origin each_form_elsewhere name state (g.readings.program text)
+
+code-so : (g : Ground) (spaces : Namespaces) (origin : OriginData) (text : List ℕ)
+    (state : StateData) (ns : Option wire.Tree)
+    → bytes_in (code_begun g spaces origin text state ns).answer ≡ []
+code-so g spaces origin text state None =
+    program-so g origin each_form state.namespace state (g.readings.program text)
+code-so g spaces origin text state (Some ns) =
+    elsewhere-so g origin text state (option_and_then (there spaces) (text_of (Some ns)))
+
+text-so : (g : Ground) (spaces : Namespaces) (origin : OriginData) (state : StateData)
+    (text : ProgramText) → bytes_in (text_begun g spaces origin state text).answer ≡ []
+text-so g spaces origin state (code text ns) = code-so g spaces origin text state ns
+text-so g spaces origin state (file text) =
+    program-so g origin (last_form nil) state.namespace state (g.readings.program text)
+
+started-so : (a : Actor) (actor : ActorData) (s : Started) (q : Quiet)
+    → bytes_in s.answer ≡ [] → GoesSo q (started a actor s q)
+started-so Actor.Bare actor s q none = (refl, refl, none)
+started-so (Actor.Session n) actor s q none = (refl, refl, none)
+
+held-by : (q : Quiet) (o : Outcome) (held : Bool) → is_held q ≡ held → GoesSo q o
+    → GoesSo q (if held then refuses Refusal.Held else o)
+held-by q o true is so = λ _. is
+held-by q o false is so = so
+
+held-so : (q : Quiet) (o : Outcome) → GoesSo q o → GoesSo q (held_or q o)
+held-so q o so = held-by q o (is_held q) refl so
+
+next-so : (g : Ground) (a : Actor) (actor : ActorData) (h : Hand) (q : Quiet)
+    → GoesSo q (next_of g a actor h q)
+next-so g a actor h q = by actor.is_closed where
+  by : (closed : Bool) → GoesSo q (if closed then interrupted_in a h q
+      else held_or q (started a actor (next_begun g h (state_of a q) h.forms) q))
+  by true = (refl, refl, refl)
+  by false = held-so q (started a actor (next_begun g h (state_of a q) h.forms) q)
+      (started-so a actor (next_begun g h (state_of a q) h.forms) q
+      (begun-so g h (state_of a q) h.forms))
+
+waiting-so : (g : Ground) (a : Actor) (actor : ActorData) (q : Quiet) (ws : List Waiting)
+    → GoesSo q (start_waiting g a actor q ws)
+waiting-so g a actor q [] = λ e. cc
+waiting-so g a actor q (w ∷ ws) =
+    let begun = text_begun g q.spaces w.origin (first_state a q) w.text in
+    held-so q (started a (record actor { waiting = ws }) begun q)
+    (started-so a (record actor { waiting = ws }) begun q
+    (text-so g q.spaces w.origin (first_state a q) w.text))
+
+in_hand-so : (g : Ground) (a : Actor) (actor : ActorData) (h : Hand) (q : Quiet) (runs : Bool)
+    → GoesSo q (start_in_hand g a actor h q runs)
+in_hand-so g a actor h q true = λ e. cc
+in_hand-so g a actor h q false = next-so g a actor h q
+
+pub start-so : (g : Ground) (a : Actor) (actor : ActorData) (q : Quiet) (h : Option Hand)
+    → GoesSo q (start_of g a actor q h)
+start-so g a actor q None = waiting-so g a actor q actor.waiting
+start-so g a actor q (Some h) = in_hand-so g a actor h q (is_some h.running)

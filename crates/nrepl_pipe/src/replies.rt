@@ -1,0 +1,50 @@
+// The replies that wait are written.
+ghost use Rattle.std.specs.Prelude.{◌≡◌, ℕ, List, [], ◌++◌, false, OnOk, OnErr};
+ghost use Rattle.std.specs.Io.KnownBytes.{Appends};
+ghost use Rattle.server_rules.specs.Ground.{Ground};
+ghost use Rattle.server_rules.specs.Tenant.{Quiet};
+ghost use Rattle.nrepl_pipe.specs.Schedule.{drain_all};
+ghost use Rattle.nrepl_pipe.specs.Failing.{Marks, is_read_failed, is_write_failed};
+ghost use Rattle.nrepl_pipe.specs.Parts.{Makes, Begins};
+
+use crate::ends::PipeError;
+use crate::ports::Sink;
+use tenant_turns::Core;
+
+// Takes the replies out, and writes each at once.
+pub(crate) fn write_replies<C: Core, W: Sink>(core: &mut C, writer: &mut W) -> Result<(), PipeError>
+    ensures steps { (C.left core.new).steps ≡ (C.left core.old).steps }
+    ensures ok { (g : Ground) (q : Quiet) → C.stands g core.old q
+        → OnOk result (Makes g (C.stands g core.new) q (drain_all q.replies)
+        (W.contents writer.old) (W.contents writer.new)) }
+    ensures err { (g : Ground) (q : Quiet) → C.stands g core.old q
+        → OnErr result (Begins g q (drain_all q.replies)
+        (W.contents writer.old) (W.contents writer.new)) }
+    ensures told { Marks (W.failed writer.old) (W.failed writer.new) (is_write_failed result) }
+    ensures no_read { is_read_failed result ≡ false }
+{
+    while let Some(reply) = core.drain() {
+        write_reply(reply.as_slice(), writer)?;
+    }
+    Ok(())
+}
+
+// Writes the whole reply. After an error a part of it was written from its front.
+fn write_reply<W: Sink>(reply: &[u8], writer: &mut W) -> Result<(), PipeError>
+    ensures ok { OnOk result (Appends (W.contents writer.old) (W.contents writer.new) reply.now) }
+    ensures err { OnErr result ((front back : List ℕ) × (reply.now ≡ front ++ back)
+        × Appends (W.contents writer.old) (W.contents writer.new) front) }
+    ensures told { Marks (W.failed writer.old) (W.failed writer.new) (is_write_failed result) }
+    ensures no_read { is_read_failed result ≡ false }
+{
+    let mut rest = reply;
+    while !rest.is_empty() {
+        match writer.write_bytes(rest) {
+            Ok(0) => return Err(PipeError::WriteFailed),
+            Ok(n) => rest = &rest[n..],
+            Err(_) => return Err(PipeError::WriteFailed),
+        }
+    }
+    writer.pass_on();
+    Ok(())
+}

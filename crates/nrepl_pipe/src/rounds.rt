@@ -1,0 +1,76 @@
+// The rounds behind a piece: each actor goes on once, and the replies that wait are written.
+ghost use Rattle.std.specs.Prelude.{◌≡◌, ◌<◌, ◌≤◌, [], true, false, not, IfOk, OnErr};
+ghost use Rattle.server_rules.specs.Ground.{Ground};
+ghost use Rattle.server_rules.specs.Tenant.{Quiet};
+ghost use Rattle.tenant_turns.specs.Grounds.{IsRight};
+ghost use Rattle.tenant_turns.specs.Turns.{actors_of};
+ghost use Rattle.nrepl_pipe.specs.Schedule.{go_each, round};
+ghost use Rattle.nrepl_pipe.specs.Failing.{Marks, is_read_failed, is_write_failed};
+ghost use Rattle.nrepl_pipe.specs.Parts.{IsRound, Makes, Begins, MakesRounds, BeginsRounds};
+
+use crate::actors::{Round, take_turns};
+use crate::ends::PipeError;
+use crate::ports::Sink;
+use crate::replies::write_replies;
+use std::alloc::Global;
+use tenant_turns::Core;
+
+// How the rounds behind a piece ended.
+#[derive(Clone, Copy, PartialEq, Eq)]
+pub(crate) enum Rounds {
+    Idle,
+    // Some actor met the end of the steps.
+    Worn,
+}
+
+// Rounds, until the first in which every actor is refused and none for replies that wait.
+pub(crate) fn run_rounds<C: Core, W: Sink>(
+    alloc: Global,
+    core: &mut C,
+    writer: &mut W,
+) -> Result<Rounds, PipeError>
+    ensures steps { (C.left core.new).steps ≤ (C.left core.old).steps }
+    ensures ok { (g : Ground) (q : Quiet) → IsRight g → C.stands g core.old q
+        → IfOk result (λ end. MakesRounds g (C.stands g core.new) q
+        (W.contents writer.old) (W.contents writer.new) end) }
+    ensures err { (g : Ground) (q : Quiet) → IsRight g → C.stands g core.old q
+        → OnErr result (BeginsRounds g q (W.contents writer.old) (W.contents writer.new)) }
+    ensures told { Marks (W.failed writer.old) (W.failed writer.new) (is_write_failed result) }
+    ensures no_read { is_read_failed result ≡ false }
+{
+    let first = run_round(alloc, core, writer)?;
+    let mut is_last = first.is_last;
+    let mut is_worn = first.is_worn;
+    while !is_last {
+        let round = run_round(alloc, core, writer)?;
+        // No reply waited as it began, so a turn was held only behind one that used up a step.
+        is_last = !round.uses_step;
+        is_worn |= round.is_worn;
+    }
+    Ok(if is_worn { Rounds::Worn } else { Rounds::Idle })
+}
+
+// Each actor goes on once, and then the replies that wait are written.
+fn run_round<C: Core, W: Sink>(
+    alloc: Global,
+    core: &mut C,
+    writer: &mut W,
+) -> Result<Round, PipeError>
+    ensures steps { (C.left core.new).steps ≤ (C.left core.old).steps }
+    ensures used { IfOk result (λ told. told.uses_step ≡ true
+        → (C.left core.new).steps < (C.left core.old).steps) }
+    ensures goes_on { (g : Ground) (q : Quiet) → IsRight g → C.stands g core.old q
+        → q.replies ≡ [] → IfOk result (λ told. told.is_last ≡ not told.uses_step) }
+    ensures ok { (g : Ground) (q : Quiet) → IsRight g → C.stands g core.old q
+        → IfOk result (λ told. IsRound told g q (go_each (actors_of q))
+        × Makes g (C.stands g core.new) q (round g q)
+        (W.contents writer.old) (W.contents writer.new)) }
+    ensures err { (g : Ground) (q : Quiet) → IsRight g → C.stands g core.old q
+        → OnErr result (Begins g q (round g q) (W.contents writer.old) (W.contents writer.new)) }
+    ensures told { Marks (W.failed writer.old) (W.failed writer.new) (is_write_failed result) }
+    ensures no_read { is_read_failed result ≡ false }
+{
+    let round = take_turns(alloc, core)?;
+    write_replies(core, writer)?;
+    Ok(round)
+}

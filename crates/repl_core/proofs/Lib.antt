@@ -1,3 +1,0 @@
-pub mod Hearing
-pub mod Moving
-pub mod Standing

@@ -1,9 +1,0 @@
-pub mod Server
-pub mod Readings
-pub mod World
-pub mod Move
-pub mod Answering
-pub mod Step
-pub mod Turned
-pub mod Waiting
-pub mod Stands

@@ -1,0 +1,175 @@
+-- Seats that are vacated, among other changes.
+use Rattle.std.proofs.Common.{◌≡◌, ℕ, suc, ◌==◌, Bool, true, false, List, [], ◌∷◌, ◌++◌}
+use Rattle.std.proofs.Common.{Option, Some, None, refl, sym, ap, ◌∙◌, ◌||◌, ◌<◌, true≢false, arith}
+use Rattle.std.specs.BTreeSet.{insert_key}
+use Rattle.std.specs.Ordering.{nat_cmp, match_ordering, MatchOrdering}
+use Rattle.std.specs.declared.cmp.Ordering.{Ordering}
+use Rattle.std.specs.declared.cmp.Ordering.TheVariants.{Less, Equal, Greater}
+use Rattle.std.proofs.lemmas.Bool.{eq-eqb}
+use Rattle.std.proofs.lemmas.Cmp.{ranked}
+use Rattle.repl_sessions.specs.Leaving.{is_leaving}
+use Rattle.server_rules.specs.Numbered.{Entry, entry, found, replaced, without}
+use Rattle.server_rules.specs.Operating.{vacated}
+use Rattle.server_rules.specs.Request.{Hand}
+use Rattle.server_rules.specs.Tenant.{ActorData}
+use Rattle.tenant_actors.specs.Queues.{changed_found, changed_at, vacated_found, vacated_at}
+use Rattle.tenant_actors.specs.View.{AreBelow}
+use Rattle.tenant_hearing.specs.Scene.{all_vacated}
+use Rattle.tenant_hearing.proofs.Apart.{found-replaced-apart, found-without-apart, replaced-replaced-apart, replaced-without-apart, without-without}
+use Rattle.tenant_hearing.proofs.Apart.{found-added, replaced-added, without-added, below-replaced, below-without}
+
+abbrev pub Actors : Type 0
+Actors = List (Entry ActorData)
+
+-- one seat
+found-vacated : (n m : ℕ) (h : Option Hand) (es : Actors) → (n ≡ m → ⊥) → found n (vacated m h es) ≡ found n es
+found-vacated n m None es apart = found-without-apart n m es apart
+found-vacated n m (Some h) es apart = found-replaced-apart n m _ es apart
+
+replaced-vacated : (n m : ℕ) (x : ActorData) (h : Option Hand) (es : Actors) → (n ≡ m → ⊥)
+    → replaced n x (vacated m h es) ≡ vacated m h (replaced n x es)
+replaced-vacated n m x None es apart = replaced-without-apart n m x es apart
+replaced-vacated n m x (Some h) es apart = replaced-replaced-apart n m x _ es apart
+
+without-vacated : (n m : ℕ) (h : Option Hand) (es : Actors) → (n ≡ m → ⊥)
+    → without n (vacated m h es) ≡ vacated m h (without n es)
+without-vacated n m None es apart = without-without n m es
+without-vacated n m (Some h) es apart = sym (replaced-without-apart m n _ es (λ same. apart (sym same)))
+
+vacated-vacated : (n m : ℕ) (h k : Option Hand) (es : Actors) → (n ≡ m → ⊥)
+    → vacated n h (vacated m k es) ≡ vacated m k (vacated n h es)
+vacated-vacated n m None k es apart = without-vacated n m k es apart
+vacated-vacated n m (Some h) k es apart = replaced-vacated n m _ k es apart
+
+vacated-added : (n m : ℕ) (x : ActorData) (h : Option Hand) (es : Actors) → (n ≡ m → ⊥)
+    → vacated n h (es ++ entry m x ∷ []) ≡ vacated n h es ++ entry m x ∷ []
+vacated-added n m x None es apart = without-added n m x es apart
+vacated-added n m x (Some h) es apart = replaced-added n m x _ es apart
+
+-- the seat where an actor is found
+found-left : (n m : ℕ) (o : Option ActorData) (es : Actors) → (n ≡ m → ⊥) → found n (vacated_found m es o) ≡ found n es
+found-left n m None es apart = refl
+found-left n m (Some x) es apart = found-vacated n m x.hand es apart
+
+pub found-one : (n m : ℕ) (es : Actors) → (n ≡ m → ⊥) → found n (vacated_at m es) ≡ found n es
+found-one n m es apart = found-left n m (found m es) es apart
+
+left-left : (n m : ℕ) (o p : Option ActorData) (es : Actors) → (n ≡ m → ⊥)
+    → vacated_found n (vacated_found m es p) o ≡ vacated_found m (vacated_found n es o) p
+left-left n m None p es apart = refl
+left-left n m (Some x) None es apart = refl
+left-left n m (Some x) (Some y) es apart = vacated-vacated n m x.hand y.hand es apart
+
+pub vacated-one : (n m : ℕ) (es : Actors) → (n ≡ m → ⊥) → vacated_at n (vacated_at m es) ≡ vacated_at m (vacated_at n es)
+vacated-one n m es apart =
+    ap (vacated_found n (vacated_at m es)) (found-one n m es apart)
+    ∙ left-left n m (found n es) (found m es) es apart
+    ∙ sym (ap (vacated_found m (vacated_at n es)) (found-one m n es (λ same. apart (sym same))))
+
+found-changed : (n m : ℕ) (f : ActorData → ActorData) (o : Option ActorData) (es : Actors) → (n ≡ m → ⊥)
+    → found n (changed_found m f es o) ≡ found n es
+found-changed n m f None es apart = refl
+found-changed n m f (Some x) es apart = found-replaced-apart n m (f x) es apart
+
+changed-left : (n m : ℕ) (f : ActorData → ActorData) (o p : Option ActorData) (es : Actors) → (n ≡ m → ⊥)
+    → changed_found n f (vacated_found m es p) o ≡ vacated_found m (changed_found n f es o) p
+changed-left n m f None p es apart = refl
+changed-left n m f (Some x) None es apart = refl
+changed-left n m f (Some x) (Some y) es apart = replaced-vacated n m (f x) y.hand es apart
+
+pub changed-one : (n m : ℕ) (f : ActorData → ActorData) (es : Actors) → (n ≡ m → ⊥)
+    → changed_at n f (vacated_at m es) ≡ vacated_at m (changed_at n f es)
+changed-one n m f es apart =
+    ap (changed_found n f (vacated_at m es)) (found-one n m es apart)
+    ∙ changed-left n m f (found n es) (found m es) es apart
+    ∙ sym (ap (vacated_found m (changed_at n f es)) (found-changed m n f (found n es) es (λ same. apart (sym same))))
+
+added-left : (n m : ℕ) (x : ActorData) (o : Option ActorData) (es : Actors) → (n ≡ m → ⊥)
+    → vacated_found n (es ++ entry m x ∷ []) o ≡ vacated_found n es o ++ entry m x ∷ []
+added-left n m x None es apart = refl
+added-left n m x (Some y) es apart = vacated-added n m x y.hand es apart
+
+pub added-one : (n m : ℕ) (x : ActorData) (es : Actors) → (n ≡ m → ⊥)
+    → vacated_at n (es ++ entry m x ∷ []) ≡ vacated_at n es ++ entry m x ∷ []
+added-one n m x es apart =
+    ap (vacated_found n (es ++ entry m x ∷ [])) (found-added n m x es apart)
+    ∙ added-left n m x (found n es) es apart
+
+-- a seat is none of these sessions'
+abbrev pub IsApart : ℕ → List ℕ → Type 0
+IsApart seat [] = Unit {0}
+IsApart seat (k ∷ ks) = (seat ≡ suc k → ⊥) × IsApart seat ks
+
+pub bare-apart : (ks : List ℕ) → IsApart 0 ks
+bare-apart [] = tt
+bare-apart (k ∷ ks) = ((λ same. omega (arith, same)), bare-apart ks)
+
+pub staying-apart : (n : ℕ) (ks : List ℕ) → is_leaving ks n ≡ false → IsApart (suc n) ks
+staying-apart n [] absent = tt
+staying-apart n (k ∷ ks) absent = by (n == k) refl absent (λ later. staying-apart n ks later)
+  where
+    by : (b : Bool) → (n == k) ≡ b → (b || is_leaving ks n) ≡ false → (is_leaving ks n ≡ false → IsApart (suc n) ks) → IsApart (suc n) (k ∷ ks)
+    by true i h ih = absurd (cc)
+    by false i h ih = ((λ same. apart i (omega (arith, same))), ih h)
+      where
+        apart : (n == k) ≡ false → n ≡ k → ⊥
+        apart i same = let yes : (n == k) ≡ true = eq-eqb n k same in true≢false (sym yes ∙ i)
+
+pub all-found : (seat : ℕ) (ks : List ℕ) (es : Actors) → IsApart seat ks → found seat (all_vacated ks es) ≡ found seat es
+all-found seat [] es apart = refl
+all-found seat (k ∷ ks) es apart = all-found seat ks (vacated_at (suc k) es) apart.1 ∙ found-one seat (suc k) es apart.0
+
+pub all-changed : (seat : ℕ) (f : ActorData → ActorData) (ks : List ℕ) (es : Actors) → IsApart seat ks
+    → changed_at seat f (all_vacated ks es) ≡ all_vacated ks (changed_at seat f es)
+all-changed seat f [] es apart = refl
+all-changed seat f (k ∷ ks) es apart =
+    all-changed seat f ks (vacated_at (suc k) es) apart.1 ∙ ap (all_vacated ks) (changed-one seat (suc k) f es apart.0)
+
+pub all-added : (seat : ℕ) (x : ActorData) (ks : List ℕ) (es : Actors) → IsApart seat ks
+    → all_vacated ks (es ++ entry seat x ∷ []) ≡ all_vacated ks es ++ entry seat x ∷ []
+all-added seat x [] es apart = refl
+all-added seat x (k ∷ ks) es apart =
+    ap (all_vacated ks) (added-one (suc k) seat x es (λ same. apart.0 (sym same)))
+    ∙ all-added seat x ks (vacated_at (suc k) es) apart.1
+
+pub all-one : (seat : ℕ) (ks : List ℕ) (es : Actors) → IsApart seat ks
+    → all_vacated ks (vacated_at seat es) ≡ vacated_at seat (all_vacated ks es)
+all-one seat [] es apart = refl
+all-one seat (k ∷ ks) es apart =
+    ap (all_vacated ks) (vacated-one (suc k) seat es (λ same. apart.0 (sym same)))
+    ∙ all-one seat ks (vacated_at (suc k) es) apart.1
+
+-- one session more that leaves
+pub all-inserted : (n : ℕ) (ks : List ℕ) (es : Actors) → IsApart (suc n) ks
+    → all_vacated (insert_key nat_cmp ks n) es ≡ vacated_at (suc n) (all_vacated ks es)
+all-inserted n [] es apart = refl
+all-inserted n (k ∷ ks) es apart =
+    by (nat_cmp n k) (ranked n k (nat_cmp n k) refl) (all-inserted n ks (vacated_at (suc k) es) apart.1)
+  where
+    by : (o : Ordering) → MatchOrdering o (n < k) (n ≡ k) (k < n)
+        → all_vacated (insert_key nat_cmp ks n) (vacated_at (suc k) es) ≡ vacated_at (suc n) (all_vacated ks (vacated_at (suc k) es))
+        → all_vacated (match_ordering o (n ∷ k ∷ ks) (k ∷ ks) (k ∷ insert_key nat_cmp ks n)) es
+        ≡ vacated_at (suc n) (all_vacated ks (vacated_at (suc k) es))
+    by Less h ih = all-one (suc n) (k ∷ ks) es apart
+    by Equal h ih = absurd (apart.0 (ap suc h))
+    by Greater h ih = ih
+
+-- actors with lower seats
+below-left : (m n : ℕ) (o : Option ActorData) (es : Actors) → AreBelow m es → AreBelow m (vacated_found n es o)
+below-left m n None es below = below
+below-left m n (Some x) es below = by x.hand
+  where
+    by : (h : Option Hand) → AreBelow m (vacated n h es)
+    by None = below-without m n es below
+    by (Some h) = below-replaced m n _ es below
+
+pub below-all : (m : ℕ) (ks : List ℕ) (es : Actors) → AreBelow m es → AreBelow m (all_vacated ks es)
+below-all m [] es below = below
+below-all m (k ∷ ks) es below = below-all m ks (vacated_at (suc k) es) (below-left m (suc k) (found (suc k) es) es below)
+
+pub below-changed : (m n : ℕ) (f : ActorData → ActorData) (es : Actors) → AreBelow m es → AreBelow m (changed_at n f es)
+below-changed m n f es below = by (found n es)
+  where
+    by : (o : Option ActorData) → AreBelow m (changed_found n f es o)
+    by None = below
+    by (Some x) = below-replaced m n (f x) es below

@@ -1,0 +1,35 @@
+use Rattle.std.proofs.Common.{◌≡◌, ◌∙◌, sym, ap, subst, OnOk, rules}
+use Rattle.bencode_wire.specs.Tree.{Tree, integer, string, list, dictionary}
+use Rattle.bencode_wire.specs.View.{view, trees_view, pairs_view}
+use Rattle.bencode_wire.specs.declared.ben.Ben.{the_lemmas}
+use Rattle.server_rules.specs.Operating.{with_message}
+use Rattle.tenant_hearing.specs.Scene.{scene, Comes}
+use Rattle.tenant_hearing.proofs.Drafting.{is_integer, is_string, is_list, comes-other}
+use Rattle.tenant_hearing.proofs.draft.Draft.hear.Goals as goal
+
+pub returns-in-Dictionary-clause-heard : goal.returns-in-Dictionary-clause-heard
+returns-in-Dictionary-clause-heard c =
+    let x = scene c.args.self.now c.args.sessions.now c.args.actors.now in
+    let y = scene c.hear_fields.new.self c.hear_fields.new.sessions c.hear_fields.new.actors in
+    let seen : view c.args.message ≡ dictionary (pairs_view c.in-Dictionary.fields.entries) = ap view c.in-Dictionary.is ∙ search (rules, the_lemmas) in
+    subst (λ (m : Tree). OnOk c.hear_fields.result (Comes (λ g t. with_message g t m) x y)) (sym seen) c.hear_fields.ensures.heard
+
+pub returns-in-Integer-clause-heard : goal.returns-in-Integer-clause-heard
+returns-in-Integer-clause-heard c =
+    let x = scene c.args.self.now c.args.sessions.now c.args.actors.now in
+    let seen : view c.args.message ≡ integer c.in-Integer.field-0 = ap view c.in-Integer.is ∙ search (rules, the_lemmas) in
+    comes-other (view c.args.message) (integer c.in-Integer.field-0) x seen (is_integer c.in-Integer.field-0)
+
+pub returns-in-String-clause-heard : goal.returns-in-String-clause-heard
+returns-in-String-clause-heard c =
+    let x = scene c.args.self.now c.args.sessions.now c.args.actors.now in
+    let bytes = c.in-String.field-0.items in
+    let seen : view c.args.message ≡ string bytes = ap view c.in-String.is ∙ search (rules, the_lemmas) in
+    comes-other (view c.args.message) (string bytes) x seen (is_string bytes)
+
+pub returns-clause-heard : goal.returns-clause-heard
+returns-clause-heard c =
+    let x = scene c.args.self.now c.args.sessions.now c.args.actors.now in
+    let items = trees_view c.in-List.field-0.items in
+    let seen : view c.args.message ≡ list items = ap view c.in-List.is ∙ search (rules, the_lemmas) in
+    comes-other (view c.args.message) (list items) x seen (is_list items)

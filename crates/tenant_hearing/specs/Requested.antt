@@ -1,0 +1,10 @@
+-- A request that waits.
+use Rattle.server_rules.specs.Numbered.{found}
+use Rattle.server_rules.specs.Operating.{queued_for}
+use Rattle.server_rules.specs.Request.{Waiting}
+use Rattle.server_rules.specs.Tenant.{Quiet, seat_of}
+use Rattle.server_rules.specs.declared.actor.Actor.{Actor}
+
+-- a request waits behind the others of its actor
+abbrev pub requested : Actor → Waiting → Quiet → Quiet
+requested a w q = queued_for a w q (found (seat_of a) q.actors)

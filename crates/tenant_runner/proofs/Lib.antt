@@ -1,0 +1,5 @@
+pub mod Honest
+pub mod Runs
+pub mod Outcomes
+pub mod Walking
+pub mod Steps

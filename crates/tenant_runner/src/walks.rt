@@ -1,0 +1,54 @@
+// The evaluations by the names of their actors.
+ghost use Rattle.std.specs.Prelude.{◌≡◌, ◌≢◌, None, Some, OnOk, OnErr, option_map};
+ghost use Rattle.server_rules.specs.Tenant.{seat_of};
+ghost use Rattle.tenant_runner.specs.WalkAt.{walk_at};
+
+use repl_walker::Progress;
+use server_rules::Actor;
+use std::alloc::{AllocError, Global};
+use std::collections::BTreeMap;
+
+/// How far the evaluations of the forms that run have come.
+#[derive(Drop)]
+pub(crate) struct Walks {
+    pub(crate) live: BTreeMap<Actor, Progress>,
+}
+
+// Each takes about the logarithm of the number of forms that run.
+impl Walks {
+    pub(crate) fn new(alloc: Global) -> Walks
+        ensures { (b : Actor) → walk_at result b ≡ None }
+    {
+        Walks {
+            live: BTreeMap::new(alloc),
+        }
+    }
+
+    pub(crate) fn get(&self, actor: Actor) -> Option<&Progress>
+        ensures { option_map (λ p. p.now) result ≡ walk_at self.now actor }
+    {
+        self.live.get(&actor)
+    }
+
+    /// Takes an evaluation out.
+    pub(crate) fn take(&mut self, actor: Actor) -> Option<Progress>
+        ensures taken { result ≡ walk_at self.old actor }
+        ensures gone { walk_at self.new actor ≡ None }
+        ensures others { (b : Actor) → seat_of b ≢ seat_of actor
+            → walk_at self.new b ≡ walk_at self.old b }
+    {
+        self.live.remove(&actor)
+    }
+
+    /// Puts an evaluation in, in place of the one of its actor. It fails only for want of memory,
+    /// and then changes nothing.
+    pub(crate) fn put(&mut self, actor: Actor, progress: Progress) -> Result<(), AllocError>
+        ensures put { OnOk result (walk_at self.new actor ≡ Some progress) }
+        ensures others { OnOk result ((b : Actor) → seat_of b ≢ seat_of actor
+            → walk_at self.new b ≡ walk_at self.old b) }
+        ensures stays { OnErr result ((b : Actor) → walk_at self.new b ≡ walk_at self.old b) }
+    {
+        drop(self.live.insert(actor, progress)?);
+        Ok(())
+    }
+}

@@ -1,0 +1,166 @@
+-- A piece that is heard, beside the rules' step.
+use Rattle.std.proofs.Common.{◌≡◌, ◌-◌, ◌==◌, ℕ, List, [], ◌∷◌, ◌++◌, Bool, true, false, length}
+use Rattle.std.proofs.Common.{Option, Some, None, Result, Ok, Err, refl, sym, ap, ◌∙◌}
+use Rattle.std.proofs.Common.{if◌then◌else◌}
+use Rattle.bencode_wire.specs.Tree.{Tree, integer, string, list, dictionary}
+use Rattle.bencode_wire.specs.declared.fault.WireFault.{WireFault}
+use Rattle.repl_sessions.specs.Named.{number_named}
+use Rattle.repl_replies.specs.Operations as operations
+use Rattle.repl_replies.specs.Operations.{AskedData, OperationData}
+use Rattle.repl_replies.specs.Replies.{OriginData, ReplyData}
+use Rattle.repl_sessions.specs.StateView.{state_view}
+use Rattle.name_spaces.specs.Seen.{namespaces_of}
+use Rattle.server_rules.specs.Ground.{Ground}
+use Rattle.server_rules.specs.Hearing.{stream_fault, with_messages, new_messages, taken_in, hears_more}
+use Rattle.server_rules.specs.Numbered.{found}
+use Rattle.server_rules.specs.Operating.{named_sessions, closed_by, asker, queued_for, operated}
+use Rattle.server_rules.specs.Operating.{with_asked, with_message}
+use Rattle.server_rules.specs.Plan as deeds
+use Rattle.server_rules.specs.Plan.{Outcome, refuses, leaves, messages_heard, spent}
+use Rattle.server_rules.specs.Request.{Waiting}
+use Rattle.server_rules.specs.Tenant.{ActorData, seat_of, Quiet, is_held}
+use Rattle.server_rules.specs.declared.actor.Actor.{Actor}
+use Rattle.server_rules.specs.declared.refusal.Refusal.{Refusal}
+use Rattle.tenant_actors.specs.View.{actors_view}
+use Rattle.tenant_replies.specs.View.{waiting_bytes}
+use Rattle.tenant_hearing.specs.Heard.{IsHeard}
+use Rattle.tenant_turns.specs.NoRefs.{outcome}
+use Rattle.tenant_world.specs.declared.tenant.Tenant.{Tenant}
+use Rattle.tenant_world.specs.Standing.{Stands, Does}
+
+-- what messages leave as it was
+record Keeps (old new : Quiet) : Type 0 where
+  pub steps : new.steps ≡ old.steps
+  pub bare : new.bare ≡ old.bare
+  pub spaces : new.spaces ≡ old.spaces
+
+keeps-all : (q : Quiet) → Keeps q q
+keeps-all q = record { steps = refl; bare = refl; spaces = refl }
+
+closed-keeps : (o : OriginData) (n : ℕ) (q : Quiet) (a : Option ActorData)
+    → Keeps q (closed_by o n q a)
+closed-keeps o n q None = keeps-all q
+closed-keeps o n q (Some a) = record { steps = refl; bare = refl; spaces = refl }
+
+queued-keeps : (a : Actor) (w : Waiting) (q : Quiet) (o : Option ActorData)
+    → Keeps q (queued_for a w q o)
+queued-keeps a w q None = keeps-all q
+queued-keeps a w q (Some actor) = record { steps = refl; bare = refl; spaces = refl }
+
+operated-keeps : (g : Ground) (t : ℕ) (o : OriginData) (op : OperationData) (q : Quiet)
+    → Keeps q (operated g t o op q)
+operated-keeps g t o (operations.clone original) q =
+    record { steps = refl; bare = refl; spaces = refl }
+operated-keeps g t o (operations.close n) q =
+    closed-keeps o n q (found (seat_of (Actor.Session n)) q.actors)
+operated-keeps g t o (operations.describe session) q =
+    record { steps = refl; bare = refl; spaces = refl }
+operated-keeps g t o (operations.list_sessions session) q =
+    record { steps = refl; bare = refl; spaces = refl }
+operated-keeps g t o (operations.eval session text ns) q =
+    queued-keeps (asker session) _ q (found (seat_of (asker session)) q.actors)
+operated-keeps g t o (operations.load_file session text) q =
+    queued-keeps (asker session) _ q (found (seat_of (asker session)) q.actors)
+
+asked-keeps : (g : Ground) (t : ℕ) (r : Result AskedData ReplyData) (q : Quiet)
+    → Keeps q (with_asked g t r q)
+asked-keeps g t (Ok a) q = operated-keeps g t a.origin a.operation q
+asked-keeps g t (Err refusal) q = record { steps = refl; bare = refl; spaces = refl }
+
+message-keeps : (g : Ground) (t : ℕ) (m : Tree) (q : Quiet) → Keeps q (with_message g t m q)
+unfolding with_message
+message-keeps g t (dictionary fields) q =
+    asked-keeps g t (operations.asked (number_named (named_sessions g t q)) fields) q
+message-keeps g t (integer n) q = keeps-all q
+message-keeps g t (string bytes) q = keeps-all q
+message-keeps g t (list ts) q = keeps-all q
+
+messages-keep : (g : Ground) (t : ℕ) (ms : List Tree) (q : Quiet)
+    → Keeps q (with_messages g t ms q)
+messages-keep g t [] q = keeps-all q
+messages-keep g t (m ∷ ms) q =
+    let first = message-keeps g t m q in
+    let more = messages-keep g t ms (with_message g t m q) in
+    record {
+      steps = more.steps ∙ first.steps;
+      bare = more.bare ∙ first.bare;
+      spaces = more.spaces ∙ first.spaces;
+    }
+
+taken-keeps : (g : Ground) (t : ℕ) (piece : List ℕ) (q : Quiet) → Keeps q (taken_in g t piece q)
+unfolding taken_in
+taken-keeps g t piece q =
+    let kept = messages-keep g t (new_messages g.readings q.heard piece)
+    (record q { heard = q.heard ++ piece }) in
+    record { steps = kept.steps; bare = kept.bare; spaces = kept.spaces }
+
+-- The step
+
+abbrev pub heard_by : Ground → ℕ → List ℕ → Quiet → Bool → Option WireFault → Outcome
+heard_by g t piece q none fault =
+    if none then refuses Refusal.Worn else hears_more g t piece q fault
+
+pub hears-by : (g : Ground) (t : ℕ) (q : Quiet) (piece : List ℕ)
+    → outcome g t q (deeds.hears piece)
+    ≡ heard_by g t piece q (q.steps == 0) (stream_fault g.readings q.heard)
+unfolding outcome
+hears-by g t q piece = refl
+
+-- a piece is heard where steps are left, the stream has no fault and not too many replies wait
+pub hears-so : (g : Ground) (t : ℕ) (q : Quiet) (piece : List ℕ) → (q.steps == 0) ≡ false
+    → None ≡ stream_fault g.readings q.heard → is_held q ≡ false
+    → outcome g t q (deeds.hears piece) ≡ leaves (spent (taken_in g t piece q))
+    (messages_heard (length (new_messages g.readings q.heard piece)))
+hears-so g t q piece some sound free =
+    hears-by g t q piece
+    ∙ ap (λ b. heard_by g t piece q b (stream_fault g.readings q.heard)) some
+    ∙ ap (hears_more g t piece q) (sym sound)
+    ∙ ap (λ (b : Bool). held_by b) free
+  where
+    held_by : Bool → Outcome
+    held_by b = if b then refuses Refusal.Held
+        else leaves (spent (taken_in g t piece q))
+        (messages_heard (length (new_messages g.readings q.heard piece)))
+
+-- nothing has an empty length but the empty row
+pub none-long : {A : Type 0} (xs : List A) → length xs ≡ 0 → xs ≡ []
+none-long [] e = refl
+none-long (x ∷ xs) e = absurd (cc)
+
+-- the code behind a piece
+pub does-hear : (g : Ground) (t : ℕ) (q : Quiet) (old new : Tenant) (piece : List ℕ) (count : ℕ)
+    → Stands g t old q → (q.steps == 0) ≡ false → None ≡ stream_fault g.readings q.heard
+    → is_held q ≡ false
+    → new.retries ≡ old.retries → new.steps ≡ old.steps - 1
+    → new.memory.bare ≡ old.memory.bare → new.memory.spaces ≡ old.memory.spaces
+    → IsHeard g t q piece count new.decoder new.memory.sessions (actors_view new.actors)
+    (waiting_bytes new.memory.outbox)
+    → Does g t (outcome g t q (deeds.hears piece)) new (messages_heard count)
+does-hear g t q old new piece count s some sound free tries less bare spaces heard =
+    let kept = taken-keeps g t piece q in
+    record {
+      after = spent (taken_in g t piece q);
+      accepted = hears-so g t q piece some sound free
+          ∙ ap (λ n. leaves (spent (taken_in g t piece q)) (messages_heard n)) (sym heard.messages);
+      stands = record {
+        retries = tries ∙ s.retries;
+        names = s.names;
+        steps = less ∙ ap (λ n. n - 1) (s.steps ∙ sym kept.steps);
+        stream = heard.reads.stands;
+        actors = heard.holds.actors;
+        remembers = record {
+          sessions = heard.holds.sessions;
+          bare = ap state_view bare ∙ s.remembers.bare ∙ sym kept.bare;
+          spaces = ap namespaces_of spaces ∙ s.remembers.spaces ∙ sym kept.spaces;
+          replies = heard.holds.replies;
+        };
+      };
+    }
+
+pub held-back : (g : Ground) (t : ℕ) (piece : List ℕ) (q : Quiet) → is_held q ≡ true
+    → hears_more g t piece q None ≡ refuses Refusal.Held
+held-back g t piece q held = ap (λ (b : Bool). held_by b) held where
+  held_by : Bool → Outcome
+  held_by b = if b then refuses Refusal.Held
+      else leaves (spent (taken_in g t piece q))
+      (messages_heard (length (new_messages g.readings q.heard piece)))

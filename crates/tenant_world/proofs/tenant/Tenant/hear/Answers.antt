@@ -1,0 +1,83 @@
+use Rattle.std.proofs.Common.{◌∙◌, length, refl, sym, ap}
+use Rattle.std.proofs.lemmas.Bool.{eq-eqb}
+use Rattle.bencode_wire.specs.Decoder.{ready_of}
+use Rattle.server_rules.specs.Hearing.{stream_fault, hears_more}
+use Rattle.tenant_hearing.specs.Holds.{Holds}
+use Rattle.tenant_hearing.specs.Reads.{Reads}
+use Rattle.tenant_world.proofs.Remembering.{held-so}
+use Rattle.tenant_world.proofs.Standing.{not-zero, stands-same}
+use Rattle.tenant_world.proofs.Seating.{seated-below, below-seated}
+use Rattle.tenant_world.proofs.Wires.{read-fault}
+use Rattle.tenant_world.proofs.Heard.{heard_by, hears-by, none-long, does-hear, held-back}
+use Rattle.tenant_world.proofs.tenant.Tenant.hear.Goals as goal
+
+pub returns-then-self-eq0-clause-refused : goal.returns-then-self-eq0-clause-refused
+returns-then-self-eq0-clause-refused c = λ g t q right s.
+    let piece = c.args.piece.now in
+    record {
+      refused = λ ne. hears-by g t q piece
+          ∙ ap (λ b. heard_by g t piece q b (stream_fault g.readings q.heard))
+          (eq-eqb q.steps 0 (sym s.steps ∙ c.if-self-eq0.true));
+      stands = s;
+    }
+
+pub returns-in-Some-clause-refused : goal.returns-in-Some-clause-refused
+returns-in-Some-clause-refused c = λ g t q right s.
+    let piece = c.args.piece.now in
+    let fault = sym (read-fault c.a_stream_has_one_reading.ensures g.readings
+    c.args.self.now.decoder q.heard _ right.readings s.stream)
+    ∙ sym c.fault.ensures ∙ c.in-Some.is in
+    record {
+      refused = λ ne. hears-by g t q piece
+          ∙ ap (λ b. heard_by g t piece q b (stream_fault g.readings q.heard))
+          (not-zero q.steps (λ none. c.if-self-eq0.false (s.steps ∙ none)))
+          ∙ ap (hears_more g t piece q) fault;
+      stands = stands-same g t q c.args.self.now _ refl refl refl refl refl s;
+    }
+
+pub returns-then-is_held-clause-refused : goal.returns-then-is_held-clause-refused
+returns-then-is_held-clause-refused c = λ g t q right s.
+    let piece = c.args.piece.now in
+    let sound = sym c.in_default.is ∙ c.fault.ensures
+    ∙ read-fault c.a_stream_has_one_reading.ensures g.readings c.args.self.now.decoder q.heard _
+    right.readings s.stream in
+    record {
+      refused = λ ne. hears-by g t q piece
+          ∙ ap (λ b. heard_by g t piece q b (stream_fault g.readings q.heard))
+          (not-zero q.steps (λ none. c.if-self-eq0.false (s.steps ∙ none)))
+          ∙ ap (hears_more g t piece q) (sym sound)
+          ∙ held-back g t piece q (held-so g t c.args.self.now.memory q c.is_held.result
+          s.remembers c.is_held.ensures ∙ c.if-is_held.true);
+      stands = stands-same g t q c.args.self.now _ refl refl refl refl refl s;
+    }
+
+pub hear-requires-clause-seated : goal.hear-requires-clause-seated
+hear-requires-clause-seated c = seated-below _ _ c.args.self.now.seated
+
+pub invariant_of-self-2 : goal.invariant_of-self-2
+invariant_of-self-2 c = record {
+  taken = ap length c.in_ok-count.ensures.ready;
+  seated = below-seated _ _ c.in_ok-count.ensures.seated;
+}
+
+pub returns-clause-done : goal.returns-clause-done
+returns-clause-done c = λ g t q right s.
+    let d = c.args.self.now.decoder in
+    let read = read-fault c.a_stream_has_one_reading.ensures g.readings d q.heard _
+    right.readings s.stream in
+    let sound = sym c.in_default.is ∙ c.fault.ensures ∙ read in
+    let free = held-so g t c.args.self.now.memory q c.is_held.result s.remembers c.is_held.ensures
+    ∙ c.if-is_held.false in
+    let reads : Reads g q.heard d = record {
+      stands = s.stream;
+      ready = none-long (ready_of d) c.args.self.now.taken;
+      fault = read;
+    } in
+    let held : Holds g t q c.args.self.now.memory.sessions _ _ = record {
+      sessions = s.remembers.sessions;
+      actors = s.actors;
+      replies = s.remembers.replies;
+    } in
+    does-hear g t q c.args.self.now _ c.args.piece.now c.in_ok-count.count s
+    (not-zero q.steps (λ none. c.if-self-eq0.false (s.steps ∙ none))) sound free
+    refl refl refl refl (c.in_ok-count.ensures.heard g t q right.readings reads held)

@@ -1,0 +1,51 @@
+// A tenant hears a piece of its stream.
+ghost use Rattle.std.specs.Prelude.{◌≡◌, ◌+◌, ℕ, IfOk, OnOk, IfErr, OnErr};
+ghost use Rattle.server_rules.specs.Ground.{Ground};
+ghost use Rattle.server_rules.specs.Tenant.{Quiet};
+ghost use Rattle.server_rules.specs.Plan as deeds;
+ghost use Rattle.server_rules.specs.Plan.{messages_heard};
+ghost use Rattle.tenant_turns.specs.Grounds.{IsRight};
+ghost use Rattle.tenant_turns.specs.NoRefs.{outcome};
+
+use crate::tenant::Tenant;
+use bencode_wire::laws::a_stream_has_one_reading;
+use bytes::Bytes;
+use server_rules::Refusal;
+use tenant_hearing::hear;
+
+impl Tenant {
+    ghost use Rattle.tenant_world.specs.Standing.{Stands, Does, Refuses};
+
+    /// Hears the next piece of the stream, and answers how many messages became whole with it.
+    /// Sessions are made, closed, listed and described at once; requests to evaluate wait.
+    pub fn hear(&mut self, piece: &Bytes) -> Result<usize, Refusal>
+        ensures done { (g : Ground) (t : ℕ) (q : Quiet) → IsRight g → Stands g t self.old q
+            → IfOk result (λ count. Does g t (outcome g t q (deeds.hears piece.now)) self.new
+            (messages_heard count)) }
+        ensures refused { (g : Ground) (t : ℕ) (q : Quiet) → IsRight g → Stands g t self.old q
+            → IfErr result (Refuses g t q (outcome g t q (deeds.hears piece.now)) self.new) }
+        ensures steps { OnOk result (self.old.steps ≡ self.new.steps + 1) }
+        ensures kept { OnErr result (self.new.steps ≡ self.old.steps) }
+    {
+        a_stream_has_one_reading();
+        if self.steps == 0 {
+            return Err(Refusal::Worn);
+        }
+        if let Some(fault) = self.decoder.fault() {
+            return Err(Refusal::Wire(fault));
+        }
+        if self.memory.outbox.is_held() {
+            return Err(Refusal::Held);
+        }
+        let count = hear(
+            self.alloc,
+            piece,
+            &mut self.decoder,
+            &mut self.memory.sessions,
+            &mut self.actors,
+            &mut self.memory.outbox,
+        )?;
+        self.steps -= 1;
+        Ok(count)
+    }
+}

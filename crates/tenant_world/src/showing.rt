@@ -1,0 +1,117 @@
+// A tenant as it begins, and what it shows.
+ghost use Rattle.std.specs.Prelude.{◌≡◌, ◌+◌, ℕ, [], ◌∷◌, map, option_map, IfOk, MatchOption};
+ghost use Rattle.server_rules.specs.Ground.{Ground};
+ghost use Rattle.server_rules.specs.Tenant.{Quiet, opened_quiet};
+ghost use Rattle.server_rules.specs.Ready.{ready};
+ghost use Rattle.server_rules.specs.Plan as deeds;
+ghost use Rattle.server_rules.specs.Plan.{reply_given};
+ghost use Rattle.tenant_actors.specs.View.{run_view};
+ghost use Rattle.tenant_turns.specs.Grounds.{IsRight};
+ghost use Rattle.tenant_turns.specs.NoRefs.{outcome};
+ghost use Rattle.tenant_turns.specs.Turns.{actors_of, wire_at};
+ghost use Rattle.tenant_world.specs.Asking.{SharesNoNames};
+ghost use Rattle.tenant_world.specs.Running.{running_in};
+
+use crate::memory::Memory;
+use crate::tenant::Tenant;
+use bencode_wire::Decoder;
+use bencode_wire::laws::a_stream_has_one_reading;
+use name_spaces::Spaces;
+use repl_sessions::{IdStream, SessionState, Sessions};
+use server_rules::{Actor, Refusal};
+use std::alloc::{AllocError, Global};
+use tenant_actors::{Actors, Run};
+use tenant_replies::Outbox;
+use tenant_turns::Wire;
+
+// The greatest length of a message, and of a string in one.
+const MESSAGE_LIMIT: usize = 1_048_576;
+
+impl Tenant {
+    ghost use Rattle.tenant_world.specs.Standing.{Stands, Does, Refuses, replies_of};
+
+    /// A tenant that has heard nothing. Its number chooses the ids of its sessions, under the
+    /// server's seed. It fails only for want of memory.
+    pub fn new(
+        alloc: Global,
+        seed: [u8; 32],
+        number: u64,
+        steps: u32,
+        retries: u32,
+    ) -> Result<Tenant, AllocError>
+        ensures { (g : Ground) → IsRight g → SharesNoNames g → g.seed ≡ seed → g.steps ≡ steps
+            → g.retries ≡ retries → IfOk result (λ made. Stands g number made (opened_quiet g)) }
+    {
+        a_stream_has_one_reading();
+        let memory = Memory {
+            sessions: Sessions::new(alloc, IdStream::new(seed, number)),
+            bare: SessionState::fresh(alloc)?,
+            spaces: Spaces::new(alloc)?,
+            outbox: Outbox::new(alloc),
+        };
+        Ok(Tenant {
+            alloc,
+            retries,
+            steps,
+            decoder: Decoder::new(alloc, MESSAGE_LIMIT),
+            actors: Actors::new(alloc)?,
+            memory,
+        })
+    }
+
+    /// Takes the oldest reply out. It takes no memory.
+    pub fn drain(&mut self) -> Option<Vec<u8>>
+        ensures steps { self.new.steps ≡ self.old.steps }
+        ensures oldest { MatchOption result
+            ((replies_of self.old ≡ []) × (replies_of self.new ≡ []))
+            (λ reply. replies_of self.old ≡ reply.items ∷ replies_of self.new) }
+        ensures drained { (g : Ground) (t : ℕ) (q : Quiet) → Stands g t self.old q
+            → MatchOption result
+            (Refuses g t q (outcome g t q deeds.drains) self.new Refusal.Idle)
+            (λ reply. Does g t (outcome g t q deeds.drains) self.new (reply_given reply.items)) }
+    {
+        self.memory.outbox.take()
+    }
+
+    /// The first actor that has a form or a request to begin. It takes no memory.
+    pub fn ready(&self) -> Option<Actor>
+        ensures { (g : Ground) (t : ℕ) (q : Quiet) → Stands g t self.now q → result ≡ ready q }
+    {
+        self.actors.ready()
+    }
+
+    /// The actors, in the order of their rounds. It takes a step for each, and fails only for want
+    /// of memory.
+    pub fn actors(&self, alloc: Global) -> Result<Vec<Actor>, AllocError>
+        ensures { (g : Ground) (t : ℕ) (q : Quiet) → Stands g t self.now q
+            → IfOk result (λ actors. actors.items ≡ actors_of q) }
+    {
+        self.actors.names(alloc)
+    }
+
+    /// The form of an actor that runs, if one does: its job, and what it asked and was answered.
+    pub fn running(&self, actor: Actor) -> Option<&Run>
+        ensures { (g : Ground) (t : ℕ) (q : Quiet) → Stands g t self.now q
+            → option_map (λ run. run_view run.now) result ≡ running_in actor q }
+    {
+        self.actors.get(actor)?.hand.as_ref()?.running.as_ref()
+    }
+
+    /// What has come of the stream. It takes no memory.
+    pub fn wire(&self) -> Wire
+        ensures { (g : Ground) (t : ℕ) (q : Quiet) → IsRight g → Stands g t self.now q
+            → result ≡ wire_at (g.readings.stream q.heard).ending }
+    {
+        a_stream_has_one_reading();
+        match self.decoder.fault() {
+            Some(fault) => Wire::Broken(fault),
+            None => {
+                if self.decoder.rest_is_empty() {
+                    Wire::Whole
+                } else {
+                    Wire::Partial
+                }
+            }
+        }
+    }
+}
