@@ -16,6 +16,8 @@ mod namespaces;
 #[cfg(test)]
 mod programs;
 #[cfg(test)]
+mod sessions;
+#[cfg(test)]
 mod sharing;
 #[cfg(test)]
 mod streams;

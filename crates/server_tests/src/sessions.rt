@@ -1,0 +1,73 @@
+// Sessions, and the operations that are no `eval`, on streams of one piece.
+use crate::cases::{Case, expect_replies};
+use std::test::Fail;
+
+// The first two ids under a seed of zeros are 76b8e0ad-a0f1-4d90-805d-6ae55386bd28 and
+// bdd219b8-a08d-4d1a-a836-efcc8b770dc7.
+const CASES: [Case; 7] = [
+    // Two sessions are made and listed.
+    Case {
+        input: b"d2:id1:12:op5:cloneed2:id1:22:op5:cloneed2:id1:32:op11:ls-sessionse",
+        output: b"d2:id1:111:new-session36:76b8e0ad-a0f1-4d90-805d-6ae55386bd286:statusl4:doneee\
+d2:id1:211:new-session36:bdd219b8-a08d-4d1a-a836-efcc8b770dc76:statusl4:doneee\
+d2:id1:38:sessionsl36:76b8e0ad-a0f1-4d90-805d-6ae55386bd28\
+36:bdd219b8-a08d-4d1a-a836-efcc8b770dc7e6:statusl4:doneee",
+        status: 0,
+        line: "",
+    },
+    // A session remembers its last three values.
+    Case {
+        input: b"d2:id1:12:op5:clonee\
+d4:code16:1 2 3 [*1 *2 *3]2:id1:22:op4:eval7:session36:76b8e0ad-a0f1-4d90-805d-6ae55386bd28e",
+        output: b"d2:id1:111:new-session36:76b8e0ad-a0f1-4d90-805d-6ae55386bd286:statusl4:doneee\
+d2:id1:22:ns4:user7:session36:76b8e0ad-a0f1-4d90-805d-6ae55386bd285:value1:1e\
+d2:id1:22:ns4:user7:session36:76b8e0ad-a0f1-4d90-805d-6ae55386bd285:value1:2e\
+d2:id1:22:ns4:user7:session36:76b8e0ad-a0f1-4d90-805d-6ae55386bd285:value1:3e\
+d2:id1:22:ns4:user7:session36:76b8e0ad-a0f1-4d90-805d-6ae55386bd285:value7:[3 2 1]e\
+d2:id1:27:session36:76b8e0ad-a0f1-4d90-805d-6ae55386bd286:statusl4:doneee",
+        status: 0,
+        line: "",
+    },
+    // A request that waits is interrupted where its session is closed.
+    Case {
+        input: b"d2:id1:12:op5:clonee\
+d4:code1:12:id1:22:op4:eval7:session36:76b8e0ad-a0f1-4d90-805d-6ae55386bd28e\
+d2:id1:32:op5:close7:session36:76b8e0ad-a0f1-4d90-805d-6ae55386bd28e",
+        output: b"d2:id1:111:new-session36:76b8e0ad-a0f1-4d90-805d-6ae55386bd286:statusl4:doneee\
+d2:id1:27:session36:76b8e0ad-a0f1-4d90-805d-6ae55386bd286:statusl4:done11:interruptedee\
+d2:id1:37:session36:76b8e0ad-a0f1-4d90-805d-6ae55386bd286:statusl4:done14:session-closedee",
+        status: 0,
+        line: "",
+    },
+    Case {
+        input: b"d2:id1:12:op8:describee",
+        output: b"d3:auxde2:id1:13:opsd5:clonede5:closede8:describede4:evalde9:load-filede\
+11:ls-sessionsdee6:statusl4:donee8:versionsd6:serverd5:majori1e5:minori0eeee",
+        status: 0,
+        line: "",
+    },
+    // Of a file the last value is told.
+    Case {
+        input: b"d4:file17:(def x 4) (inc x)2:id1:12:op9:load-filee",
+        output: b"d2:id1:12:ns4:user5:value1:5ed2:id1:16:statusl4:doneee",
+        status: 0,
+        line: "",
+    },
+    Case {
+        input: b"d2:id1:12:op9:load-filee",
+        output: b"d2:id1:16:statusl5:error7:no-file4:doneee",
+        status: 0,
+        line: "",
+    },
+    Case {
+        input: b"d2:id1:62:op5:close7:session1:xe",
+        output: b"d2:id1:67:session1:x6:statusl5:error15:unknown-session4:doneee",
+        status: 0,
+        line: "",
+    },
+];
+
+#[test]
+fn sessions_and_their_operations(rt: HostRuntime) -> Result<(), Fail> {
+    expect_replies(&rt, rt.alloc(), &CASES)
+}
