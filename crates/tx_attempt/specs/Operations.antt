@@ -15,13 +15,17 @@ pub data OperationData : Type 0 where
 abbrev pub same_name : RefNameData → RefNameData → Bool
 same_name a b = same_owner a.owner b.owner && a.number == b.number
 
-abbrev pub names_ref : RefNameData → OperationData → Bool
-names_ref name (got n d) = same_name name n
-names_ref name (put n d) = same_name name n
+-- the ref that an operation names, and its value
+abbrev pub named_in : OperationData → RefNameData
+named_in (got n d) = n
+named_in (put n d) = n
 
 abbrev pub value_in : OperationData → Datum
 value_in (got n d) = d
 value_in (put n d) = d
+
+abbrev pub names_ref : RefNameData → OperationData → Bool
+names_ref name op = same_name name (named_in op)
 
 -- the value of a ref in the attempt: that of the last operation that names it
 unfoldable pub value_of : RefNameData → List OperationData → Option Datum
