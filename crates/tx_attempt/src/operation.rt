@@ -3,7 +3,7 @@ ghost use Rattle.std.specs.Prelude.{◌≡◌, option_map};
 ghost use Rattle.value_data.specs.View.{view};
 ghost use Rattle.repl_asks.specs.View.{name_view};
 ghost use Rattle.tx_attempt.specs.Operations.{named_in, value_in, ref_put};
-ghost use Rattle.tx_attempt.specs.Seen.{operation_view};
+ghost use Rattle.tx_attempt.specs.View.{operation_view};
 
 use repl_values::{RefName, Value};
 
@@ -35,7 +35,7 @@ impl Operation {
     }
 
     // The ref that it sets, if it sets one.
-    pub(crate) fn ref_set(&self) -> Option<RefName>
+    pub(crate) fn ref_put(&self) -> Option<RefName>
         ensures { option_map name_view result ≡ ref_put (operation_view self.now) }
     {
         match self {
