@@ -45,8 +45,7 @@ impl Attempt {
             ≡ value_of (name_view name) (operations_of self.now) }
     {
         let place = *self.latest.get(&Key::of(name))?;
-        let operation = self.operations.get(place)?;
-        Some(operation.value())
+        Some(self.operations[place].value())
     }
 
     /// Notes that a ref was read, and its value. It fails only for want of memory; then all stays as it

@@ -6,7 +6,6 @@ ghost use Rattle.tx_attempt.specs.Seen.{operations_of};
 
 use crate::attempt::Attempt;
 use crate::key::Key;
-use crate::operation::Operation;
 use repl_asks::{Change, Intent};
 use repl_values::{RefName, copy};
 use std::alloc::{AllocError, Global};
@@ -34,10 +33,13 @@ impl Attempt {
         ensures { IfOk result (λ names.
             map name_view names.items ≡ filter_map ref_put (operations_of self.now)) }
     {
-        self.operations
-            .iter()
-            .filter_map(Operation::ref_put)
-            .collect(self.alloc)
+        let mut names = Vec::new(self.alloc);
+        for operation in &self.operations {
+            if let Some(name) = operation.ref_put() {
+                names.push(name)?;
+            }
+        }
+        Ok(names)
     }
 
     // These refs with their values.
