@@ -1,15 +1,14 @@
 -- Names of refs and the keys by which they are found.
-use Rattle.std.proofs.Common.{◌≡◌, ℕ, ◌<◌, List, [], ◌∷◌, ◌++◌, length, get_or, map, Bool, true, false, ◌&&◌}
-use Rattle.std.proofs.Common.{Option, Some, None, option_map, cond, refl, sym, ap, ap₂, subst, ◌∙◌, arith}
+use Rattle.std.proofs.Common.{◌≡◌, ℕ, ◌<◌, List, [], ◌∷◌, ◌++◌, length, get_or, map, Bool, ◌&&◌}
+use Rattle.std.proofs.Common.{Some, None, option_map, cond, refl, sym, ap, ap₂, ◌∙◌, arith}
 use Rattle.std.specs.Prelude.{◌==◌}
-use Rattle.std.specs.List.{find}
 use Rattle.std.specs.Cmp.{unsigned_tied, tied_then}
 use Rattle.std.specs.Ordering.{is_eq, nat_cmp}
 use Rattle.std.specs.BTreeMap.{BTreeMap, get, Updates}
 use Rattle.std.proofs.lemmas.Cmp.{nat_eq_equiv}
 use Rattle.std.proofs.lemmas.List.{map_push, length-map}
 use Rattle.std.proofs.Math.ListN.{get_or-map}
-use Rattle.value_data.specs.Datum.{Datum, OwnerData, shared, tenant}
+use Rattle.value_data.specs.Datum.{OwnerData, shared, tenant}
 use Rattle.value_data.specs.Same.{same_owner}
 use Rattle.repl_asks.specs.Transactions.{RefNameData}
 use Rattle.tx_attempt.specs.contracts.key.KeyOrd.TheImpl as order
@@ -53,8 +52,8 @@ noted-keeps old new xs ys op k n key is e kept now name =
     let test : OperationData → Bool = names_ref name in
     let found = get (order.ghosts).cmp old (key_of name) in
     let tied : is_eq ((order.ghosts).cmp k (key_of name)) ≡ test ov =
-        ap (λ (q : Key). is_eq ((order.ghosts).cmp q (key_of name))) key
-        ∙ keys-tied (named_in ov) name ∙ same_name-sym (named_in ov) name in
+    ap (λ (q : Key). is_eq ((order.ghosts).cmp q (key_of name))) key
+    ∙ keys-tied (named_in ov) name ∙ same_name-sym (named_in ov) name in
     now.0 (key_of name)
     ∙ ap (λ b. cond b (Some n) found) tied
     ∙ ap (λ o. cond (test ov) (Some n) o) (kept name)
@@ -81,7 +80,7 @@ pub place-below : (latest : BTreeMap Key ℕ) (xs : List Operation) (k : Key) (n
     → n < length xs
 place-below latest xs k name n key kept found =
     let below : n < length (map operation_view xs) =
-        last_place-below (names_ref name) (map operation_view xs) n (placed-at latest xs k name n key kept found) in
+    last_place-below (names_ref name) (map operation_view xs) n (placed-at latest xs k name n key kept found) in
     omega (arith, below, length-map xs operation_view)
 
 -- the value of the operation at the place that is kept

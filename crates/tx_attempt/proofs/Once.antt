@@ -46,12 +46,12 @@ all-new s names empty =
 -- what is new once a key was added
 new-now : (s more : BTreeSet Key) (k : Key) (name other : RefNameData) → k ≡ key_of name
     → ((q : Key) → set.contains (order.ghosts).cmp more q
-        ≡ cond (is_at ((order.ghosts).cmp k) q) true (set.contains (order.ghosts).cmp s q))
+    ≡ cond (is_at ((order.ghosts).cmp k) q) true (set.contains (order.ghosts).cmp s q))
     → is_new more other ≡ (not (same_name name other) && is_new s other)
 new-now s more k name other key updates =
     ap not (updates (key_of other))
     ∙ ap (λ b. not (cond b true (set.contains (order.ghosts).cmp s (key_of other))))
-        (ap (λ (q : Key). is_eq ((order.ghosts).cmp q (key_of other))) key ∙ keys-tied name other)
+    (ap (λ (q : Key). is_eq ((order.ghosts).cmp q (key_of other))) key ∙ keys-tied name other)
     ∙ at (same_name name other)
   where
     at : (b : Bool) → not (cond b true (set.contains (order.ghosts).cmp s (key_of other))) ≡ (not b && is_new s other)
@@ -62,20 +62,20 @@ new-now s more k name other key updates =
 pub once-more : (s more : BTreeSet Key) (k : Key) (name : RefNameData) (before after rest : List RefNameData)
     (added : Bool) → k ≡ key_of name → added ≡ not (set.contains (order.ghosts).cmp s k)
     → ((q : Key) → set.contains (order.ghosts).cmp more q
-        ≡ cond (is_at ((order.ghosts).cmp k) q) true (set.contains (order.ghosts).cmp s q))
+    ≡ cond (is_at ((order.ghosts).cmp k) q) true (set.contains (order.ghosts).cmp s q))
     → after ≡ cond added (before ++ name ∷ []) before
     → after ++ filter (is_new more) (each_once rest)
-        ≡ before ++ filter (is_new s) (each_once (name ∷ rest))
+    ≡ before ++ filter (is_new s) (each_once (name ∷ rest))
 once-more s more k name before after rest added key is updates e =
     let others = filter (λ m. not (same_name name m)) (each_once rest) in
     let left : List RefNameData = filter (is_new s) others in
     ap₂ (λ xs ys. xs ++ ys) e (
-        filter-same (is_new more) (λ m. not (same_name name m) && is_new s m) (each_once rest)
-            (λ m. new-now s more k name m key updates)
-        ∙ sym (filter-filter (is_new s) (λ m. not (same_name name m)) (each_once rest)))
+    filter-same (is_new more) (λ m. not (same_name name m) && is_new s m) (each_once rest)
+    (λ m. new-now s more k name m key updates)
+    ∙ sym (filter-filter (is_new s) (λ m. not (same_name name m)) (each_once rest)))
     ∙ at added left
     ∙ ap (λ b. before ++ cond b (name ∷ left) left)
-        (is ∙ ap (λ q. not (set.contains (order.ghosts).cmp s q)) key)
+    (is ∙ ap (λ q. not (set.contains (order.ghosts).cmp s q)) key)
   where
     at : (b : Bool) (left : List RefNameData) → cond b (before ++ name ∷ []) before ++ left ≡ before ++ cond b (name ∷ left) left
     at true left = append_assoc before (name ∷ []) left

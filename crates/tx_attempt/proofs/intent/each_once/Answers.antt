@@ -24,17 +24,17 @@ loop-name-preserved c =
     let before = c.loop-name.once.items in
     let added = c.in_ok-insert.field-0 in
     let made : map name_view c.if-branch.once.items
-        ≡ cond added (map name_view before ++ name_view item ∷ []) (map name_view before) =
-        elim c.if-branch.branch [
-          then-branch+in_ok-push w ↦ seen-added name_view added before c.if-branch.once.items item w.if-branch.true
-              (ap (λ v. v.items) w.once-is ∙ w.in_ok-push.ensures.items)
-        | else-branch w ↦ seen-same name_view added before c.if-branch.once.items item w.if-branch.false
-              (ap (λ v. v.items) w.once-is)
-        ] in
+    ≡ cond added (map name_view before ++ name_view item ∷ []) (map name_view before) =
+    elim c.if-branch.branch [
+      | then-branch+in_ok-push w ↦ seen-added name_view added before c.if-branch.once.items item w.if-branch.true
+          (ap (λ v. v.items) w.once-is ∙ w.in_ok-push.ensures.items)
+      | else-branch w ↦ seen-same name_view added before c.if-branch.once.items item w.if-branch.false
+          (ap (λ v. v.items) w.once-is)
+    ] in
     let next : suc i ≡ i + 1 = omega arith in
     let left : drop i names ≡ item ∷ drop (i + 1) names =
-        drop-cons names i (record { owner = Owner.Shared; number = 0 }) c.loop-name-test.true
-        ∙ ap (λ n. item ∷ drop n names) next in
+    drop-cons names i (record { owner = Owner.Shared; number = 0 }) c.loop-name-test.true
+    ∙ ap (λ n. item ∷ drop n names) next in
     once-more c.loop-name.seen c.insert.new.self c.of.result (name_view item) (map name_view before)
     (map name_view c.if-branch.once.items) rest added c.of.ensures c.in_ok-insert.ensures.added
     c.in_ok-insert.ensures.updates.0 made

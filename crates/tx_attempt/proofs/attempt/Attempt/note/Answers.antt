@@ -1,4 +1,4 @@
-use Rattle.std.proofs.Common.{rules, sym, ap, ◌∙◌, ◌++◌, ◌∷◌, []}
+use Rattle.std.proofs.Common.{rules, ap, ◌∙◌, ◌++◌, ◌∷◌, []}
 use Rattle.tx_attempt.specs.Keys.{key_of}
 use Rattle.tx_attempt.proofs.Naming.{noted-keeps}
 use Rattle.tx_attempt.proofs.attempt.Attempt.note.Goals as goal

@@ -1,4 +1,4 @@
-use Rattle.std.proofs.Common.{rules, ◌≡◌, ◌<◌, length, sym, ap, ◌∙◌, option_map, Some}
+use Rattle.std.proofs.Common.{rules, ◌<◌, length, ap, ◌∙◌, option_map, Some}
 use Rattle.value_data.specs.View.{view}
 use Rattle.repl_asks.specs.View.{name_view}
 use Rattle.tx_attempt.specs.Seen.{operations_of}
@@ -15,8 +15,8 @@ returns-in_err-place c =
 pub index-requires : goal.index-requires
 index-requires c =
     let below : c.in_ok-place.field-0.now < length c.args.self.now.operations.items =
-        place-below c.args.self.now.latest c.args.self.now.operations.items c.of.result (name_view c.args.name)
-        c.in_ok-place.field-0.now c.of.ensures c.args.self.now.kept c.in_ok-place.ensures.value in
+    place-below c.args.self.now.latest c.args.self.now.operations.items c.of.result (name_view c.args.name)
+    c.in_ok-place.field-0.now c.of.ensures c.args.self.now.kept c.in_ok-place.ensures.value in
     search (rules, below)
 
 pub returns : goal.returns
