@@ -59,7 +59,7 @@ impl Walks {
         ensures stays { OnErr result ((b : Actor) → walk_at self.new b ≡ walk_at self.old b) }
     {
         if let Some(place) = self.live.get_mut(&actor) {
-            *place = Some(progress);
+            drop(place.replace(progress));
             return Ok(());
         }
         drop(self.live.insert(actor, Some(progress))?);
