@@ -1,6 +1,10 @@
-// Sessions, and the operations that are no `eval`, on streams of one piece.
-use crate::cases::{Case, expect_replies};
+// Sessions, and the operations that are no `eval`.
+use crate::cases::{Case, expect_replies, fresh_runner};
+use bytes::Bytes;
+use nrepl_pipe::pipe_command;
+use server_rules::{Actor, Refusal};
 use std::test::Fail;
+use tenant_turns::Core;
 
 // The first two ids under a seed of zeros are 76b8e0ad-a0f1-4d90-805d-6ae55386bd28 and
 // bdd219b8-a08d-4d1a-a836-efcc8b770dc7.
@@ -70,4 +74,89 @@ d2:id1:37:session36:76b8e0ad-a0f1-4d90-805d-6ae55386bd286:statusl4:done14:sessio
 #[test]
 fn sessions_and_their_operations(rt: HostRuntime) -> Result<(), Fail> {
     expect_replies(&rt, rt.alloc(), &CASES)
+}
+
+// Pieces of one stream, each with what is written for it before the next comes.
+const CONVERSATION: [(&[u8], &[u8]); 5] = [
+    (
+        b"d2:id1:12:op5:clonee",
+        b"d2:id1:111:new-session36:76b8e0ad-a0f1-4d90-805d-6ae55386bd286:statusl4:doneee",
+    ),
+    (
+        b"d4:code5:1 2 32:id1:22:op4:eval7:session36:76b8e0ad-a0f1-4d90-805d-6ae55386bd28e",
+        b"d2:id1:22:ns4:user7:session36:76b8e0ad-a0f1-4d90-805d-6ae55386bd285:value1:1e\
+d2:id1:22:ns4:user7:session36:76b8e0ad-a0f1-4d90-805d-6ae55386bd285:value1:2e\
+d2:id1:22:ns4:user7:session36:76b8e0ad-a0f1-4d90-805d-6ae55386bd285:value1:3e\
+d2:id1:27:session36:76b8e0ad-a0f1-4d90-805d-6ae55386bd286:statusl4:doneee",
+    ),
+    // A clone begins with what its session remembers.
+    (
+        b"d2:id1:32:op5:clone7:session36:76b8e0ad-a0f1-4d90-805d-6ae55386bd28e",
+        b"d2:id1:311:new-session36:bdd219b8-a08d-4d1a-a836-efcc8b770dc7\
+7:session36:76b8e0ad-a0f1-4d90-805d-6ae55386bd286:statusl4:doneee",
+    ),
+    (
+        b"d4:code4:*1 72:id1:42:op4:eval7:session36:bdd219b8-a08d-4d1a-a836-efcc8b770dc7e",
+        b"d2:id1:42:ns4:user7:session36:bdd219b8-a08d-4d1a-a836-efcc8b770dc75:value1:3e\
+d2:id1:42:ns4:user7:session36:bdd219b8-a08d-4d1a-a836-efcc8b770dc75:value1:7e\
+d2:id1:47:session36:bdd219b8-a08d-4d1a-a836-efcc8b770dc76:statusl4:doneee",
+    ),
+    // What the clone evaluates is nothing to the first.
+    (
+        b"d4:code2:*12:id1:52:op4:eval7:session36:76b8e0ad-a0f1-4d90-805d-6ae55386bd28e",
+        b"d2:id1:52:ns4:user7:session36:76b8e0ad-a0f1-4d90-805d-6ae55386bd285:value1:3e\
+d2:id1:57:session36:76b8e0ad-a0f1-4d90-805d-6ae55386bd286:statusl4:doneee",
+    ),
+];
+
+#[test]
+fn clone_and_its_session_are_apart(rt: HostRuntime) -> Result<(), Fail> {
+    let mut runner = fresh_runner(rt.alloc())?;
+    for (piece, replies) in &CONVERSATION {
+        let mut reader = *piece;
+        let mut output = Vec::new(rt.alloc());
+        let mut errors = Vec::new(rt.alloc());
+        let status = pipe_command(
+            rt.alloc(),
+            &mut runner,
+            &mut reader,
+            &mut output,
+            &mut errors,
+        );
+        let text = str::from_utf8(piece).unwrap_or("");
+        assert_eq!(rt; output.as_slice(), *replies, "{text}");
+        assert_eq!(rt; status, 0, "{text}");
+    }
+    Ok(())
+}
+
+// The session's form has begun, and another request waits, when it is closed.
+#[test]
+fn closed_session_is_interrupted(rt: HostRuntime) -> Result<(), Fail> {
+    let mut runner = fresh_runner(rt.alloc())?;
+    let first = Actor::Session(0);
+    let pieces: [&[u8]; 4] = [
+        b"d2:id1:12:op5:clonee",
+        b"d4:code7:(+ 1 2)2:id1:32:op4:eval7:session36:76b8e0ad-a0f1-4d90-805d-6ae55386bd28e",
+        b"d4:code1:12:id1:42:op4:eval7:session36:76b8e0ad-a0f1-4d90-805d-6ae55386bd28e",
+        b"d2:id1:52:op5:close7:session36:76b8e0ad-a0f1-4d90-805d-6ae55386bd28e",
+    ];
+    for (place, piece) in pieces.iter().enumerate() {
+        assert!(rt; runner.hear(&Bytes::copy_from_slice(rt.alloc(), piece)?).is_ok(), "{place}");
+        if place == 1 {
+            assert!(rt; runner.go(first).is_ok(), "the form begins");
+        }
+    }
+    assert!(rt; runner.go(first).is_ok(), "the form is interrupted");
+    assert_eq!(rt; runner.go(first), Err(Refusal::NoSuchActor), "the actor is gone");
+    let mut output = Vec::new(rt.alloc());
+    while let Some(reply) = runner.drain() {
+        output.extend_from_slice(&reply)?;
+    }
+    let replies = b"d2:id1:111:new-session36:76b8e0ad-a0f1-4d90-805d-6ae55386bd286:statusl4:doneee\
+d2:id1:47:session36:76b8e0ad-a0f1-4d90-805d-6ae55386bd286:statusl4:done11:interruptedee\
+d2:id1:57:session36:76b8e0ad-a0f1-4d90-805d-6ae55386bd286:statusl4:done14:session-closedee\
+d2:id1:37:session36:76b8e0ad-a0f1-4d90-805d-6ae55386bd286:statusl4:done11:interruptedee";
+    assert_eq!(rt; output.as_slice(), replies.as_slice(), "replies");
+    Ok(())
 }

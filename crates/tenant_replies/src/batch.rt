@@ -38,7 +38,8 @@ impl Batch {
         ensures { OnOk result (made_bytes self.new
             ≡ made_bytes self.old ++ map bytes_of (reply (origin_view origin.now) (body_view body) ∷ [])) }
     {
-        self.replies.push(origin.reply_bytes(self.alloc, &body)?)?;
+        let bytes = origin.reply_bytes(self.alloc, &body)?;
+        self.replies.push(bytes)?;
         Ok(())
     }
 

@@ -119,6 +119,7 @@ impl Runner {
     {
         drop(self.walks.take(actor));
         let Some(run) = self.tenant.running(actor) else {
+            self.walks.remove(actor);
             return;
         };
         let Ok(progress) = begun(self.alloc, run) else {

@@ -1,7 +1,7 @@
 -- The steps of an actor, beside the deeds of the tenant.
 use Rattle.std.proofs.Common.{◌≡◌, ◌<◌, ◌-◌, ◌==◌, ℕ, zero, suc, List, [], ◌∷◌, Bool, true, false}
 use Rattle.std.proofs.Common.{None, Some, refl, sym, ap, subst, ◌∙◌, if◌then◌else◌, arith}
-use Rattle.std.proofs.Common.{◌≢◌, Result, Ok, Err, IfErr}
+use Rattle.std.proofs.Common.{◌≢◌, Result, Ok, Err, IfErr, Option, not, is_some, true≢false}
 use Rattle.std.specs.Result.{IsErrAnd}
 use Rattle.std.proofs.Math.Dec.{eqb-suc-zero}
 use Rattle.std.proofs.lemmas.Bool.{eqb-true, ne_eqb}
@@ -11,6 +11,9 @@ use Rattle.repl_asks.specs.Exchange.{AskData}
 use Rattle.server_rules.specs.Numbered.{Entry, entry, found, replaced, without}
 use Rattle.server_rules.specs.Ground.{Ground}
 use Rattle.server_rules.specs.Readings.{message_limit}
+use Rattle.server_rules.specs.Ready.{has_waiting, may_begin}
+use Rattle.server_rules.specs.Request.{Waiting, Hand}
+use Rattle.server_rules.specs.Starting.{start_waiting, start_in_hand}
 use Rattle.server_rules.specs.Tenant.{ActorData, Quiet, seat_of}
 use Rattle.server_rules.specs.Plan as deeds
 use Rattle.server_rules.specs.Plan.{StepAnswer, Outcome, refuses, leaves, Plan, quietly, spent, EndingData}
@@ -88,6 +91,32 @@ missing-by q a p some absent =
     worn_by : Bool → Plan
     worn_by b = if b then quietly (refuses Refusal.Worn)
         else for_actor (found (seat_of a) q.actors) p
+
+-- Starts of an actor that has nothing to begin
+
+flipped : (b : Bool) → not b ≡ false → b ≡ true
+flipped true h = refl
+flipped false h = absurd (true≢false h)
+
+none-waiting : (g : Ground) (a : Actor) (actor : ActorData) (q : Quiet) (ws : List Waiting)
+    → has_waiting ws ≡ false → start_waiting g a actor q ws ≡ refuses Refusal.Idle
+none-waiting g a actor q [] idle = refl
+none-waiting g a actor q (w ∷ ws) idle = absurd (true≢false idle)
+
+none-begins : (g : Ground) (a : Actor) (actor : ActorData) (q : Quiet) (h : Option Hand)
+    → may_begin actor.waiting h ≡ false → start_of g a actor q h ≡ refuses Refusal.Idle
+none-begins g a actor q None idle = none-waiting g a actor q actor.waiting idle
+none-begins g a actor q (Some h) idle =
+    ap (start_in_hand g a actor h q) (flipped (is_some h.running) idle)
+
+-- it is refused so
+pub idle-by : (g : Ground) (t : ℕ) (q : Quiet) (a : Actor) (actor : ActorData) → 0 < q.steps
+    → found (seat_of a) q.actors ≡ Some actor → may_begin actor.waiting actor.hand ≡ false
+    → outcome g t q (deeds.starts a) ≡ refuses Refusal.Idle
+idle-by g t q a actor some there idle =
+    let p : ActorData → Plan = λ it. quietly (start_of g a it q it.hand) in
+    starts-by g t q a ∙ done-by q a p actor some there
+    ∙ ap (λ it. carried_out (quietly it)) (none-begins g a actor q actor.hand idle)
 
 -- Entries
 

@@ -1,5 +1,5 @@
 // The steps of a tenant's actors.
-ghost use Rattle.std.specs.Prelude.{◌≡◌, ◌≢◌, ◌+◌, ◌<◌, ℕ, Some, Err, length, IfOk, OnOk};
+ghost use Rattle.std.specs.Prelude.{◌≡◌, ◌≢◌, ◌+◌, ◌<◌, ℕ, true, Some, Err, length, IfOk, OnOk};
 ghost use Rattle.std.specs.Prelude.{IfErr, OnErr};
 ghost use Rattle.repl_asks.specs.View.{ask_view};
 ghost use Rattle.server_rules.specs.Ground.{Ground};
@@ -39,6 +39,9 @@ impl Tenant {
         ensures kept { OnErr result (self.new.steps ≡ self.old.steps) }
         ensures held { result ≡ Err Refusal.Held → 0 < length (replies_of self.old) }
     {
+        if self.is_idle(actor) {
+            return Err(Refusal::Idle);
+        }
         let mut state = self.lend(actor)?;
         match start(
             self.alloc,
@@ -107,6 +110,18 @@ impl Tenant {
                 self.restore(actor, state);
                 Err(why)
             }
+        }
+    }
+
+    // Whether the actor is there with nothing to begin, and steps are left. Its start is refused then,
+    // as most are that go round the actors; so it is found out before the state is taken out.
+    fn is_idle(&self, actor: Actor) -> bool
+        ensures { result ≡ true → (g : Ground) (t : ℕ) (q : Quiet) → Stands g t self.now q
+            → outcome g t q (deeds.starts actor) ≡ deeds.refuses Refusal.Idle }
+    {
+        match self.actors.get(actor) {
+            Some(state) => self.steps > 0 && !state.has_work(),
+            None => false,
         }
     }
 

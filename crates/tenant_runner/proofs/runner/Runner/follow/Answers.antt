@@ -9,10 +9,11 @@ use Rattle.tenant_runner.proofs.runner.Runner.follow.Goals as goal
 
 pub returns-in_default-clause-walked : goal.returns-in_default-clause-walked
 returns-in_default-clause-walked c = λ g q s but.
-    walked-all c.args.actor (walk_at c.take.new.self) q
-    (λ b run p apart runs at. but b run p apart runs (sym (c.take.ensures.others b apart) ∙ at))
+    walked-all c.args.actor (walk_at c.remove.new.self) q
+    (λ b run p apart runs at. but b run p apart runs (sym (c.take.ensures.others b apart)
+    ∙ sym (c.remove.ensures.others b apart) ∙ at))
     (λ run p runs at.
-    let never : None ≡ Some p = sym c.take.ensures.gone ∙ at in absurd (cc))
+    let never : None ≡ Some p = sym c.remove.ensures.gone ∙ at in absurd (cc))
 
 pub returns-in_default-begun-clause-walked : goal.returns-in_default-begun-clause-walked
 returns-in_default-begun-clause-walked c = λ g q s but.
