@@ -99,10 +99,11 @@ def side_by_side(crates, built):
         while left or running:
             ready = [it for it in left if all(below in built for below in it.below())]
             for place, crate in enumerate(ready):
-                idle = jobs_at_once() - sum(jobs for _, jobs in running.values())
-                if idle <= 0:
+                if len(running) >= jobs_at_once():
                     break
-                # the first has the longest chain behind it, and gets all that the others leave
+                # The first has the longest chain behind it, and gets all that the others leave. None waits for the
+                # processors that another was given, since much of a check has no use for a second one.
+                idle = jobs_at_once() - sum(jobs for _, jobs in running.values())
                 jobs = max(1, min(4, idle - (len(ready) - place - 1)))
                 left.remove(crate)
                 running[pool.submit(build, crate, jobs)] = crate, jobs

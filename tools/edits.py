@@ -1,28 +1,30 @@
 """Tries a crate's must-fail edits over the work that its checks kept.
 
-An edit is made in a copy of the crate beside the libraries below it. First only the function that it changes is checked, with
-what that calls. Where this is not refused the whole crate is, since another function's proof may rest on the one that was
-changed. `rt must-fail` and `rt ci` try the same edits, and check the whole crate for each."""
+Edits are made in a copy of the crate beside the libraries below it. First many are tried in one check, in functions that do not
+call one another: the check says of each function whether it is proved, and the first goal or answer that fails. Of an edit of which
+that does not tell, only the function that it changes is checked, with what that calls; where this is not refused the whole crate
+is, since another function's proof may rest on the one that was changed. `rt must-fail` and `rt ci` try the same edits one by one,
+and check the whole crate for each."""
 
+import contextlib
 import os
 import re
 import shutil
 import subprocess
 import tempfile
-import time
-from collections import Counter
 from concurrent.futures import ThreadPoolExecutor, as_completed
 
 import build
 import workspace
 
-# One copy of a crate takes so many edits, one after another.
-EDITS_A_COPY = 6
 ERROR = re.compile(r"(?:so far: )?(?:\./)?((?:src|specs|proofs)/\S+?):\d+:\d+: error: (?:(`[^`]*`): )?(.*)")
 # What is said of a text that cannot be read, by which no contract is tried.
 UNREAD = re.compile(r"is not in scope|has no field|is no name|operand is missing|expected the end|cannot continue")
 # What is said in a proof file of a name that the edit took away, by which no contract is tried either.
 LOST_NAME = re.compile(r"has no field|is not in scope|has no `|was not admitted|not checked")
+# What a check says of a function in the end.
+VERDICT = re.compile(r"^fn ([\w:+]+): (.*)$", re.MULTILINE)
+CALLEE = re.compile(r"it calls `([^`]*)`, which is not proved")
 
 
 class Bad(Exception):
@@ -32,40 +34,110 @@ class Bad(Exception):
 def tried(crates):
     """Tries the edits of these crates side by side. Yields each crate, once its last edit is tried, and whether each of its
     edits was refused for its meaning."""
-    lanes = []
-    for crate in crates:
-        edits = crate.edits()
-        lanes += [(crate, edits[at : at + EDITS_A_COPY]) for at in range(0, len(edits), EDITS_A_COPY)]
     # those that take longest first
-    lanes.sort(key=lambda it: -it[0].lines() * len(it[1]))
+    crates = sorted(crates, key=lambda it: -it.lines() * len(it.edits()))
     with ThreadPoolExecutor(build.jobs_at_once()) as pool:
-        running = {pool.submit(are_refused, *it): it[0] for it in lanes}
-        left, well = Counter(running.values()), set(crates)
+        running = {pool.submit(are_refused, it): it for it in crates}
         for it in as_completed(running):
-            crate = running[it]
-            left[crate] -= 1
-            if not it.result():
-                well.discard(crate)
-            if not left[crate]:
-                yield crate, crate in well
+            yield running[it], it.result()
 
 
-def are_refused(crate, edits):
-    """Tries these edits in one copy of the crate."""
+def are_refused(crate):
+    """Tries the crate's edits in a copy of it: in rounds, and one by one those of which the rounds do not tell."""
     well = True
     with tempfile.TemporaryDirectory(prefix=f".edits-{crate.name}-", dir=workspace.TOP) as room:
         build.furnish(room, crate)
         inside = f"{room}/crates/{crate.name}"
         shutil.copytree(f"{crate.folder}/out", f"{inside}/out")
-        for edit in edits:
-            began = time.monotonic()
+        left = crate.edits()
+        for edit, said in in_rounds(crate, left, inside):
+            left.remove(edit)
+            tell(crate, edit, f"refused, as it must be: {said}")
+        for edit in left:
             try:
-                said = f"refused, as it must be: {first_refusal(crate, edit, inside)[:160]}"
+                tell(crate, edit, f"refused, as it must be: {first_refusal(crate, edit, inside)}")
             except Bad as bad:
-                said, well = f"NOT REFUSED: {bad}", False
-            seconds = time.monotonic() - began
-            print(f"must-fail {crate.name}/{os.path.basename(edit)}: {seconds:.0f} s: {said}", flush=True)
+                tell(crate, edit, f"NOT REFUSED: {bad}")
+                well = False
     return well
+
+
+def tell(crate, edit, said):
+    print(f"must-fail {crate.name}/{os.path.basename(edit)}: {said[:200]}", flush=True)
+
+
+def in_rounds(crate, edits, inside):
+    """Tries many edits in one check: at most one in a function, and none in a function that calls another with an edit, since
+    what a function is held to are the contracts of those that it calls, which no edit of a body touches. Yields each edit of
+    which a round tells that it was refused for its meaning, and what was said."""
+    left = {}
+    for edit in edits:
+        with contextlib.suppress(Bad):
+            changes, function = read(edit, crate.folder)
+            if function and len(changes) == 1:
+                left[edit] = function
+    calls = set()
+    while left:
+        chosen = {}
+        for edit, function in left.items():
+            apart = function not in chosen and not any({(function, it), (it, function)} & calls for it in chosen)
+            if apart and put_all(crate, inside, [*chosen.values(), edit]):
+                chosen[function] = edit
+        said = verdicts(crate, inside, chosen)
+        put_all(crate, inside, [])
+        for function, edit in chosen.items():
+            kind, what = said.get(function, (None, None))
+            if kind == "calls" and what in chosen and (function, what) not in calls:
+                calls.add((function, what))
+                continue
+            del left[edit]
+            if kind == "refused":
+                yield edit, what
+
+
+def put_all(crate, inside, edits):
+    """Puts the crate's sources into the copy with these edits. Whether each old text stands there once, in what the edits before
+    it have left."""
+    texts = {}
+    for edit in edits:
+        for path, old, new in changes_of(edit):
+            text = texts.get(path) or workspace.content(f"{crate.folder}/{path}").decode()
+            if text.count(old) != 1:
+                return False
+            texts[path] = text.replace(old, new)
+    for path in crate.files("src"):
+        path = os.path.relpath(path, crate.folder)
+        put(inside, {path: texts.get(path) or workspace.content(f"{crate.folder}/{path}").decode()})
+    return True
+
+
+def verdicts(crate, inside, chosen):
+    """What a check says of these functions: that one was refused, and how, or that it calls another that was."""
+    printed = checked(inside).stdout
+    if not re.search(r"^logic=not-proved", printed, re.MULTILINE):
+        return {}
+    known = {f"{crate.name}::{it}": it for it in chosen}
+    lines = dict(VERDICT.findall(printed))
+    errors = [it.groups() for it in map(ERROR.match, printed.splitlines()) if it]
+    found = {}
+    for full, function in known.items():
+        verdict = lines.get(full, "proved")
+        if not verdict.startswith(("no proof", "not proved")):
+            continue
+        callee, seen = CALLEE.search(verdict), set()
+        while callee and callee[1] not in known and callee[1] not in seen:
+            seen.add(callee[1])
+            callee = CALLEE.search(lines.get(callee[1], ""))
+        if CALLEE.search(verdict):
+            found[function] = "calls", known.get(callee[1]) if callee else None
+            continue
+        own = [it for it in errors if it[0].startswith(f"proofs/{function.replace('::', '/')}/")]
+        told = [it for it in own if not LOST_NAME.search(it[2])]
+        if told:
+            found[function] = "refused", told[0][2]
+        elif "expected answers" in verdict and not own:
+            found[function] = "refused", "a goal is not proved"
+    return found
 
 
 def first_refusal(crate, edit, inside):
@@ -87,10 +159,7 @@ def first_refusal(crate, edit, inside):
 
 def refusal(inside, changed, *words):
     """The first error that refuses the meaning of the changed crate, or none where it is proved."""
-    ran = subprocess.run(
-        [*workspace.RT, "check", "--jobs", "1", *words], cwd=inside, stdin=subprocess.DEVNULL,
-        stdout=subprocess.PIPE, stderr=subprocess.STDOUT, errors="replace",
-    )
+    ran = checked(inside, *words)
     if not re.search(r"^logic=not-proved", ran.stdout, re.MULTILINE):
         if ran.returncode == 0 or words:
             return None
@@ -106,6 +175,13 @@ def refusal(inside, changed, *words):
     return told[0][0] if told else "a goal is not proved"
 
 
+def checked(inside, *words):
+    return subprocess.run(
+        [*workspace.RT, "check", "--jobs", "1", *words], cwd=inside, stdin=subprocess.DEVNULL,
+        stdout=subprocess.PIPE, stderr=subprocess.STDOUT, errors="replace",
+    )
+
+
 def put(inside, texts):
     for path, text in texts.items():
         with open(f"{inside}/{path}", "w", encoding="utf-8") as file:
@@ -114,7 +190,19 @@ def put(inside, texts):
 
 def read(edit, folder):
     """The texts that an edit changes, old and new by their paths, and the function in which its first change stands."""
-    changes, path, old, function = {}, "", "", None
+    changes, function = {}, None
+    for path, old, new in changes_of(edit):
+        before, now = changes.get(path) or [workspace.content(f"{folder}/{path}").decode()] * 2
+        if now.count(old) != 1:
+            raise Bad(f"an old text is in {path} {now.count(old)} times, and not once")
+        function = function or enclosing(path, now[: now.index(old) + len(old)])
+        changes[path] = before, now.replace(old, new)
+    return changes, function
+
+
+def changes_of(edit):
+    """The path, the old and the new text of each change of an edit."""
+    path, old = "", ""
     for line in workspace.content(edit).decode().split("\n"):
         word, _, text = line.partition(": ")
         if word == "file":
@@ -122,12 +210,7 @@ def read(edit, folder):
         elif word == "old":
             old = text
         elif word in ("new", "new:"):
-            before, now = changes.get(path) or [workspace.content(f"{folder}/{path}").decode()] * 2
-            if now.count(old) != 1:
-                raise Bad(f"an old text is in {path} {now.count(old)} times, and not once")
-            function = function or enclosing(path, now[: now.index(old) + len(old)])
-            changes[path] = before, now.replace(old, text)
-    return changes, function
+            yield path, old, text
 
 
 def enclosing(path, text):
@@ -136,6 +219,8 @@ def enclosing(path, text):
     if not path.startswith("src/") or not names:
         return None
     indent, name = names[-1]
-    owner = re.findall(r"^impl(?:<[^>]*>)? (?:[\w<>]+ for )?(\w+)", text, re.MULTILINE)[-1:] if indent else []
+    # a trait's functions are named by the type and the trait
+    owner = re.findall(r"^impl(?:<[^>]*>)? (?:(\w+)(?:<[^>]*>)? for )?(\w+)", text, re.MULTILINE)[-1:] if indent else []
+    owner = [type_name + trait for trait, type_name in owner]
     module = path[len("src/") : -len(".rt")].split("/")
     return "::".join([*[it for it in module if it not in ("lib", "main")], *owner, name])

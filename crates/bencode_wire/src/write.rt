@@ -1,22 +1,34 @@
 // Spelling a value. A dictionary's keys come sorted as raw bytes, which is the order of its map.
-ghost use Rattle.std.specs.Prelude.{◌≡◌, ◌++◌, OnOk, OnErr, codes, length};
+ghost use Rattle.std.specs.Prelude.{◌≡◌, ◌++◌, IfOk, OnOk, OnErr, codes, length};
 ghost use Rattle.bencode_wire.specs.View.{view, trees_view, pairs_view};
 ghost use Rattle.bencode_wire.specs.Spelling.{canonical, sorted_trees, put_pairs, trees_text, pairs_text, string_text, integer_text, IsInteger, IsString, IsSpellable, AreSpellable, ArePairs};
 ghost use Rattle.bencode_wire.specs.Tree.{no_pairs};
 
 use crate::ben::{Ben, Dictionary};
 use itoa::Buffer;
-use std::alloc::AllocError;
+use std::alloc::{AllocError, Global};
 
-/// Appends the value's canonical spelling. After want of memory `out` is as it was. The integers and
-/// strings of each `Ben` fit into the grammar, which is what the law that it is read again asks.
+// Most messages take no more bytes than these.
+const ROOM: usize = 128;
+
+/// The value's canonical spelling. It fails only for want of memory. The integers and strings of
+/// each `Ben` fit into the grammar, which is what the law that it is read again asks.
+pub fn spelled(alloc: Global, value: &Ben) -> Result<Vec<u8>, AllocError>
+    ensures ok { IfOk result (λ bytes. bytes.items ≡ canonical (view value.now)) }
+    ensures fits { OnOk result (IsSpellable (view value.now)) }
+{
+    let mut bytes = Vec::with_capacity(alloc, ROOM)?;
+    spell(value, &mut bytes)?;
+    Ok(bytes)
+}
+
+/// Appends the value's canonical spelling. After want of memory `out` is as it was.
 pub fn write_into(value: &Ben, out: &mut Vec<u8>) -> Result<(), AllocError>
     ensures ok { OnOk result (out.new.items ≡ out.old.items ++ canonical (view value.now)) }
     ensures err { OnErr result (out.new.items ≡ out.old.items) }
     ensures fits { OnOk result (IsSpellable (view value.now)) }
 {
-    let mut bytes = Vec::new(*out.allocator());
-    spell(value, &mut bytes)?;
+    let bytes = spelled(*out.allocator(), value)?;
     out.extend_from_slice(bytes.as_slice())
 }
 

@@ -5,8 +5,7 @@ use Rattle.std.specs.Io.KnownBytes.{Consumes}
 use Rattle.std.proofs.KnownBytes.{Appends-nil, Appends-trans}
 use Rattle.bencode_wire.specs.Spelling.{joined}
 use Rattle.server_rules.specs.Ground.{Ground}
-use Rattle.server_rules.specs.Tenant.{Quiet}
-use Rattle.tenant_turns.specs.Turns.{Turn, hears, after, run, served}
+use Rattle.tenant_turns.specs.Turns.{Lone, Turn, hears, after, run, served}
 use Rattle.nrepl_pipe.specs.Schedule.{AreRounds}
 use Rattle.nrepl_pipe.specs.Served.{Moves, BeginsToServe}
 use Rattle.nrepl_pipe.specs.Parts.{IsPiece, LosesPiece, Begins, BeginsRounds}
@@ -18,7 +17,7 @@ use Rattle.nrepl_pipe.proofs.Serving.{served-heard}
 use Rattle.nrepl_pipe.proofs.Ending.{schedule-all, consumes-all}
 
 -- nothing more was read
-begins-all : (g : Ground) (Old : Quiet → Type 0) (q : Quiet)
+begins-all : (g : Ground) (Old : Lone → Type 0) (q : Lone)
     (unread left less held holds : Option (List ℕ)) (on : Serving g Old q unread left held holds)
     → Consumes left less []
     → Moves unread less held holds (λ read written. BeginsToServe g q read written)
@@ -38,7 +37,7 @@ begins-all g Old q unread left less held holds on consumes = (
   },
 )
 
-begins-last : (g : Ground) (Old : Quiet → Type 0) (q : Quiet)
+begins-last : (g : Ground) (Old : Lone → Type 0) (q : Lone)
     (unread left less held holds grown : Option (List ℕ)) (piece : List ℕ) (rounds : List Turn)
     (on : Serving g Old q unread left held holds) → IsPiece piece → Consumes left less piece
     → AreRounds g (after g (run g q on.turns) (hears piece)) rounds
@@ -66,7 +65,7 @@ begins-last g Old q unread left less held holds grown piece rounds on is consume
     )
 
 -- a piece was read, and nothing was written behind it
-pub begins-unheard : (g : Ground) (Old : Quiet → Type 0) (q : Quiet)
+pub begins-unheard : (g : Ground) (Old : Lone → Type 0) (q : Lone)
     (unread left less held holds : Option (List ℕ)) (piece : List ℕ)
     (on : Serving g Old q unread left held holds) → IsPiece piece → Consumes left less piece
     → Moves unread less held holds (λ read written. BeginsToServe g q read written)
@@ -82,7 +81,7 @@ begins-unheard g Old q unread left less held holds piece on is consumes =
     })
 
 -- a part of what the rounds behind a piece serve was written
-pub begins-rounds : (g : Ground) (Old Mid : Quiet → Type 0) (q : Quiet)
+pub begins-rounds : (g : Ground) (Old Mid : Lone → Type 0) (q : Lone)
     (unread left less held holds grown : Option (List ℕ)) (piece : List ℕ)
     (on : Serving g Old q unread left held holds) → IsPiece piece → Consumes left less piece
     → TakesIn g Mid (run g q on.turns) piece
@@ -98,7 +97,7 @@ begins-rounds g Old Mid q unread left less held holds grown piece on is consumes
     })
 
 -- a read that failed
-loses-by : (g : Ground) (Old : Quiet → Type 0) (q : Quiet)
+loses-by : (g : Ground) (Old : Lone → Type 0) (q : Lone)
     (unread left less held holds : Option (List ℕ)) (bytes : List ℕ)
     (on : Serving g Old q unread left held holds) → (bytes ≡ []) ⊎ IsPiece bytes
     → Consumes left less bytes
@@ -108,7 +107,7 @@ loses-by g Old q unread left less held holds bytes on (inl none) consumes =
 loses-by g Old q unread left less held holds bytes on (inr is) consumes =
     begins-unheard g Old q unread left less held holds bytes on is consumes
 
-pub begins-lost : (g : Ground) (Old : Quiet → Type 0) (q : Quiet)
+pub begins-lost : (g : Ground) (Old : Lone → Type 0) (q : Lone)
     (unread left less held holds : Option (List ℕ)) (on : Serving g Old q unread left held holds)
     → LosesPiece left less
     → Moves unread less held holds (λ read written. BeginsToServe g q read written)

@@ -5,103 +5,102 @@ use Rattle.std.specs.Io.KnownBytes.{Appends}
 use Rattle.std.proofs.KnownBytes.{Appends-nil, Appends-trans}
 use Rattle.repl_replies.specs.Replies.{ReplyData, bytes_of}
 use Rattle.server_rules.specs.Ground.{Ground}
-use Rattle.server_rules.specs.Tenant.{Quiet}
 use Rattle.server_rules.specs.Deeds.{drained}
 use Rattle.server_rules.specs.declared.refusal.Refusal.{Refusal}
-use Rattle.tenant_turns.specs.NoRefs.{outcome}
-use Rattle.tenant_turns.specs.Turns.{Turn, drains, Stepped, accepted, refused, stepped_as, step}
-use Rattle.tenant_turns.specs.Turns.{quiet_or, after, run, served}
+use Rattle.tenant_turns.specs.Deeded.{deeded}
+use Rattle.tenant_turns.specs.Turns.{Lone, Turn, drains, Stepped, accepted, refused, ended_as, step}
+use Rattle.tenant_turns.specs.Turns.{lone_or, after, run, served}
 use Rattle.nrepl_pipe.specs.Schedule.{drain_all, MeetsWorn}
 use Rattle.nrepl_pipe.specs.Parts.{Makes, Begins}
 use Rattle.nrepl_pipe.proofs.Turns.{served-first, run-first}
 
 -- the tenant with these replies alone
-abbrev pub left : List ReplyData → Quiet → Quiet
-left replies q = record q { replies = replies }
+abbrev pub left : List ReplyData → Lone → Lone
+left replies q = record { quiet = record q.quiet { replies = replies }; store = q.store }
 
-abbrev pub taken_out : Quiet → List ReplyData → Stepped
-taken_out q replies = stepped_as (drained q replies)
+abbrev pub taken_out : Lone → List ReplyData → Stepped
+taken_out q replies = ended_as q.store (drained q.quiet replies)
 
-step-drains : (g : Ground) (q : Quiet) → step g q drains ≡ taken_out q q.replies
-unfolding step outcome
+step-drains : (g : Ground) (q : Lone) → step g q drains ≡ taken_out q q.quiet.replies
+unfolding step deeded
 step-drains g q = refl
 
-drain-oldest : (g : Ground) (q : Quiet) (x : ReplyData) (xs : List ReplyData) → q.replies ≡ x ∷ xs
+drain-oldest : (g : Ground) (q : Lone) (x : ReplyData) (xs : List ReplyData) → q.quiet.replies ≡ x ∷ xs
     → step g q drains ≡ accepted (left xs q) (bytes_of x)
 drain-oldest g q x xs e = step-drains g q ∙ ap (taken_out q) e
 
-run-drains_of : (g : Ground) (q : Quiet) (xs : List ReplyData) → q.replies ≡ xs
+run-drains_of : (g : Ground) (q : Lone) (xs : List ReplyData) → q.quiet.replies ≡ xs
     → run g q (drain_all xs) ≡ left [] q
 run-drains_of g q [] e = ap (λ (ys : List ReplyData). left ys q) e
 run-drains_of g q (x ∷ xs) e =
-    ap (λ (s : Stepped). run g (quiet_or q s) (drain_all xs)) (drain-oldest g q x xs e)
+    ap (λ (s : Stepped). run g (lone_or q s) (drain_all xs)) (drain-oldest g q x xs e)
     ∙ run-drains_of g (left xs q) xs refl
 
 -- no reply is left, and all else stays
-pub run-drains : (g : Ground) (q : Quiet) → run g q (drain_all q.replies) ≡ left [] q
-run-drains g q = run-drains_of g q q.replies refl
+pub run-drains : (g : Ground) (q : Lone) → run g q (drain_all q.quiet.replies) ≡ left [] q
+run-drains g q = run-drains_of g q q.quiet.replies refl
 
-drains-never_worn_of : (g : Ground) (q : Quiet) (xs : List ReplyData) → q.replies ≡ xs
+drains-never_worn_of : (g : Ground) (q : Lone) (xs : List ReplyData) → q.quiet.replies ≡ xs
     → MeetsWorn g q (drain_all xs) → ⊥
 drains-never_worn_of g q [] e meets = meets
 drains-never_worn_of g q (x ∷ xs) e (inl here) =
     let never : accepted (left xs q) (bytes_of x) ≡ refused Refusal.Worn =
     sym (drain-oldest g q x xs e) ∙ here in cc
 drains-never_worn_of g q (x ∷ xs) e (inr later) =
-    let same : after g q drains ≡ left xs q = ap (quiet_or q) (drain-oldest g q x xs e) in
-    drains-never_worn_of g (after g q drains) xs (ap (λ (v : Quiet). v.replies) same) later
+    let same : after g q drains ≡ left xs q = ap (lone_or q) (drain-oldest g q x xs e) in
+    drains-never_worn_of g (after g q drains) xs (ap (λ (v : Lone). v.quiet.replies) same) later
 
-pub drains-never_worn : (g : Ground) (q : Quiet) → MeetsWorn g q (drain_all q.replies) → ⊥
-drains-never_worn g q meets = drains-never_worn_of g q q.replies refl meets
+pub drains-never_worn : (g : Ground) (q : Lone) → MeetsWorn g q (drain_all q.quiet.replies) → ⊥
+drains-never_worn g q meets = drains-never_worn_of g q q.quiet.replies refl meets
 
-turns-drained : (q now : Quiet) (bytes : List ℕ) (xs : List ReplyData)
-    → taken_out q xs ≡ accepted now bytes → drain_all xs ≡ drains ∷ drain_all now.replies
+turns-drained : (q now : Lone) (bytes : List ℕ) (xs : List ReplyData)
+    → taken_out q xs ≡ accepted now bytes → drain_all xs ≡ drains ∷ drain_all now.quiet.replies
 turns-drained q now bytes [] e = cc
 turns-drained q now bytes (x ∷ xs) e =
-    ap (λ (s : Stepped). drains ∷ drain_all (quiet_or q s).replies) e
+    ap (λ (s : Stepped). drains ∷ drain_all (lone_or q s).quiet.replies) e
 
-turns-taken : (g : Ground) (q now : Quiet) (bytes : List ℕ) → step g q drains ≡ accepted now bytes
-    → drain_all q.replies ≡ drains ∷ drain_all now.replies
-turns-taken g q now bytes e = turns-drained q now bytes q.replies (sym (step-drains g q) ∙ e)
+turns-taken : (g : Ground) (q now : Lone) (bytes : List ℕ) → step g q drains ≡ accepted now bytes
+    → drain_all q.quiet.replies ≡ drains ∷ drain_all now.quiet.replies
+turns-taken g q now bytes e = turns-drained q now bytes q.quiet.replies (sym (step-drains g q) ∙ e)
 
 -- one reply is taken out, and then the others
-pub served-drained : (g : Ground) (q now : Quiet) (bytes : List ℕ)
+pub served-drained : (g : Ground) (q now : Lone) (bytes : List ℕ)
     → step g q drains ≡ accepted now bytes
-    → served g q (drain_all q.replies) ≡ bytes ++ served g now (drain_all now.replies)
+    → served g q (drain_all q.quiet.replies) ≡ bytes ++ served g now (drain_all now.quiet.replies)
 served-drained g q now bytes e =
     served-first g q now bytes drains _ _ e (turns-taken g q now bytes e)
 
-pub run-drained : (g : Ground) (q now : Quiet) (bytes : List ℕ)
+pub run-drained : (g : Ground) (q now : Lone) (bytes : List ℕ)
     → step g q drains ≡ accepted now bytes
-    → run g q (drain_all q.replies) ≡ run g now (drain_all now.replies)
+    → run g q (drain_all q.quiet.replies) ≡ run g now (drain_all now.quiet.replies)
 run-drained g q now bytes e = run-first g q now bytes drains _ _ e (turns-taken g q now bytes e)
 
-none-drained_of : (q : Quiet) (xs : List ReplyData) (why : Refusal) → taken_out q xs ≡ refused why
+none-drained_of : (q : Lone) (xs : List ReplyData) (why : Refusal) → taken_out q xs ≡ refused why
     → drain_all xs ≡ []
 none-drained_of q [] why e = refl
 none-drained_of q (x ∷ xs) why e = cc
 
-pub none-drained : (g : Ground) (q : Quiet) (why : Refusal) → step g q drains ≡ refused why
-    → drain_all q.replies ≡ []
-none-drained g q why e = none-drained_of q q.replies why (sym (step-drains g q) ∙ e)
+pub none-drained : (g : Ground) (q : Lone) (why : Refusal) → step g q drains ≡ refused why
+    → drain_all q.quiet.replies ≡ []
+none-drained g q why e = none-drained_of q q.quiet.replies why (sym (step-drains g q) ∙ e)
 
 -- The loop that writes the replies
 
 -- so far: what was written, and the tenant now
-pub record Drains (g : Ground) (Stands : Quiet → Type 0) (q : Quiet)
+pub record Drains (g : Ground) (Stands : Lone → Type 0) (q : Lone)
     (held holds : Option (List ℕ)) : Type 0 where
-  pub now : Quiet
+  pub now : Lone
   pub gone : List ℕ
   pub stands : Stands now
   pub appends : Appends held holds gone
-  pub served_is : served g q (drain_all q.replies) ≡ gone ++ served g now (drain_all now.replies)
-  pub run_is : run g q (drain_all q.replies) ≡ run g now (drain_all now.replies)
+  pub served_is : served g q (drain_all q.quiet.replies) ≡ gone ++ served g now (drain_all now.quiet.replies)
+  pub run_is : run g q (drain_all q.quiet.replies) ≡ run g now (drain_all now.quiet.replies)
 
 -- a reply was taken out
-abbrev pub TakesOut : Ground → Quiet → List ℕ → (Quiet → Type 0) → Type 0
-TakesOut g q bytes Stands = (now : Quiet) × (step g q drains ≡ accepted now bytes) × Stands now
+abbrev pub TakesOut : Ground → Lone → List ℕ → (Lone → Type 0) → Type 0
+TakesOut g q bytes Stands = (now : Lone) × (step g q drains ≡ accepted now bytes) × Stands now
 
-pub drains-none : (g : Ground) (Stands : Quiet → Type 0) (q : Quiet) (held : Option (List ℕ))
+pub drains-none : (g : Ground) (Stands : Lone → Type 0) (q : Lone) (held : Option (List ℕ))
     → Stands q → Drains g Stands q held held
 drains-none g Stands q held stands = record {
   now = q;
@@ -112,7 +111,7 @@ drains-none g Stands q held stands = record {
   run_is = refl;
 }
 
-pub drains-more : (g : Ground) (Old New : Quiet → Type 0) (q : Quiet)
+pub drains-more : (g : Ground) (Old New : Lone → Type 0) (q : Lone)
     (held holds grown : Option (List ℕ)) (bytes : List ℕ) (d : Drains g Old q held holds)
     → TakesOut g d.now bytes New → Appends holds grown bytes → Drains g New q held grown
 drains-more g Old New q held holds grown bytes d out appends = record {
@@ -123,30 +122,30 @@ drains-more g Old New q held holds grown bytes d out appends = record {
   served_is =
       d.served_is
       ∙ ap (λ (more : List ℕ). d.gone ++ more) (served-drained g d.now out.0 bytes out.1)
-      ∙ sym (append_assoc d.gone bytes (served g out.0 (drain_all out.0.replies)));
+      ∙ sym (append_assoc d.gone bytes (served g out.0 (drain_all out.0.quiet.replies)));
   run_is = d.run_is ∙ run-drained g d.now out.0 bytes out.1;
 }
 
-pub drains-all : (g : Ground) (Old New : Quiet → Type 0) (q : Quiet)
+pub drains-all : (g : Ground) (Old New : Lone → Type 0) (q : Lone)
     (held holds : Option (List ℕ)) (why : Refusal) (d : Drains g Old q held holds)
     → step g d.now drains ≡ refused why → New d.now
-    → Makes g New q (drain_all q.replies) held holds
+    → Makes g New q (drain_all q.quiet.replies) held holds
 drains-all g Old New q held holds why d none stands =
-    let turns : drain_all d.now.replies ≡ [] = none-drained g d.now why none in
-    let written : served g q (drain_all q.replies) ≡ d.gone =
+    let turns : drain_all d.now.quiet.replies ≡ [] = none-drained g d.now why none in
+    let written : served g q (drain_all q.quiet.replies) ≡ d.gone =
     d.served_is ∙ ap (λ (ts : List Turn). d.gone ++ served g d.now ts) turns ∙ append-nil d.gone in
-    let same : run g q (drain_all q.replies) ≡ d.now = d.run_is ∙ ap (run g d.now) turns in
+    let same : run g q (drain_all q.quiet.replies) ≡ d.now = d.run_is ∙ ap (run g d.now) turns in
     record {
       appends = subst (Appends held holds) (sym written) d.appends;
       stands = subst New (sym same) stands;
     }
 
-pub drains-broken : (g : Ground) (Old New : Quiet → Type 0) (q : Quiet)
+pub drains-broken : (g : Ground) (Old New : Lone → Type 0) (q : Lone)
     (held holds grown : Option (List ℕ)) (bytes front back : List ℕ) (d : Drains g Old q held holds)
     → TakesOut g d.now bytes New → bytes ≡ front ++ back → Appends holds grown front
-    → Begins g q (drain_all q.replies) held grown
+    → Begins g q (drain_all q.quiet.replies) held grown
 drains-broken g Old New q held holds grown bytes front back d out whole appends =
-    let rest = served g out.0 (drain_all out.0.replies) in
+    let rest = served g out.0 (drain_all out.0.quiet.replies) in
     record {
       written = d.gone ++ front;
       more = back ++ rest;

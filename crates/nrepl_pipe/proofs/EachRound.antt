@@ -2,9 +2,9 @@
 use Rattle.std.proofs.Common.{◌≡◌, ℕ, ◌≤◌, ◌⊎◌, inl, inr, List, [], ◌∷◌, ◌++◌, true, false, refl}
 use Rattle.std.proofs.Common.{sym, ap, ◌∙◌, le_refl, arith}
 use Rattle.server_rules.specs.Ground.{Ground}
-use Rattle.server_rules.specs.Tenant.{Quiet, is_held}
+use Rattle.server_rules.specs.Tenant.{is_held}
 use Rattle.server_rules.specs.declared.actor.Actor.{Actor}
-use Rattle.tenant_turns.specs.Turns.{Turn, goes, Stepped, accepted, refused, step, quiet_or, after}
+use Rattle.tenant_turns.specs.Turns.{Lone, Turn, goes, Stepped, accepted, refused, step, lone_or, after}
 use Rattle.tenant_turns.specs.Turns.{run, served, actors_of}
 use Rattle.nrepl_pipe.specs.Schedule.{go_each, drain_all, round, MeetsWorn}
 use Rattle.nrepl_pipe.proofs.Turns.{run-append, served-append, meets-front, meets-either}
@@ -13,71 +13,71 @@ use Rattle.nrepl_pipe.proofs.Going.{StepsSo, go-steps, go-gives, go-heard}
 
 -- The actors' turns
 
-gos-give : (g : Ground) (q : Quiet) (actors : List Actor) → served g q (go_each actors) ≡ []
+gos-give : (g : Ground) (q : Lone) (actors : List Actor) → served g q (go_each actors) ≡ []
 gos-give g q [] = refl
 gos-give g q (a ∷ actors) =
     let v = after g q (goes a) in
     ap (λ (bytes : List ℕ). bytes ++ served g v (go_each actors)) (go-gives g q a)
     ∙ gos-give g v actors
 
-gos-heard : (g : Ground) (q : Quiet) (actors : List Actor)
-    → (run g q (go_each actors)).heard ≡ q.heard
+gos-heard : (g : Ground) (q : Lone) (actors : List Actor)
+    → (run g q (go_each actors)).quiet.heard ≡ q.quiet.heard
 gos-heard g q [] = refl
 gos-heard g q (a ∷ actors) = gos-heard g (after g q (goes a)) actors ∙ go-heard g q a
 
-steps-fall : (q : Quiet) (s : Stepped) → StepsSo q s → (quiet_or q s).steps ≤ q.steps
+steps-fall : (q : Lone) (s : Stepped) → StepsSo q s → (lone_or q s).quiet.steps ≤ q.quiet.steps
 steps-fall q (accepted new bytes) so = let one = so.0 in omega arith
-steps-fall q (refused why) so = le_refl q.steps
+steps-fall q (refused why) so = le_refl q.quiet.steps
 
-pub gos-steps : (g : Ground) (q : Quiet) (actors : List Actor)
-    → (run g q (go_each actors)).steps ≤ q.steps
-gos-steps g q [] = le_refl q.steps
+pub gos-steps : (g : Ground) (q : Lone) (actors : List Actor)
+    → (run g q (go_each actors)).quiet.steps ≤ q.quiet.steps
+gos-steps g q [] = le_refl q.quiet.steps
 gos-steps g q (a ∷ actors) =
     let first = steps-fall q (step g q (goes a)) (go-steps g q a) in
     let behind = gos-steps g (after g q (goes a)) actors in omega arith
 
 -- replies wait wherever a turn is refused for them
-pub held-waits : (q : Quiet) → is_held q ≡ true → q.replies ≡ [] → ⊥
+pub held-waits : (q : Lone) → is_held q.quiet ≡ true → q.quiet.replies ≡ [] → ⊥
 held-waits q held none =
-    let few : is_held q ≡ false = ap (λ xs. is_held (left xs q)) none in
+    let few : is_held q.quiet ≡ false = ap (λ xs. is_held (left xs q).quiet) none in
     let both : true ≡ false = sym held ∙ few in cc
 
 -- One round
 
 -- the actors have gone on, and the replies that wait are not taken out yet
-abbrev pub gone : Ground → Quiet → Quiet
+abbrev pub gone : Ground → Lone → Lone
 gone g q = run g q (go_each (actors_of q))
 
-pub run-round : (g : Ground) (q : Quiet) → run g q (round g q) ≡ left [] (gone g q)
+pub run-round : (g : Ground) (q : Lone) → run g q (round g q) ≡ left [] (gone g q)
 run-round g q =
-    run-append g q (go_each (actors_of q)) (drain_all (gone g q).replies) ∙ run-drains g (gone g q)
+    run-append g q (go_each (actors_of q)) (drain_all (gone g q).quiet.replies) ∙ run-drains g (gone g q)
 
-pub round-empty : (g : Ground) (q : Quiet) → (run g q (round g q)).replies ≡ []
-round-empty g q = ap (λ (v : Quiet). v.replies) (run-round g q)
+pub round-empty : (g : Ground) (q : Lone) → (run g q (round g q)).quiet.replies ≡ []
+round-empty g q = ap (λ (v : Lone). v.quiet.replies) (run-round g q)
 
-pub round-heard : (g : Ground) (q : Quiet) → (run g q (round g q)).heard ≡ q.heard
-round-heard g q = ap (λ (v : Quiet). v.heard) (run-round g q) ∙ gos-heard g q (actors_of q)
+pub round-heard : (g : Ground) (q : Lone) → (run g q (round g q)).quiet.heard ≡ q.quiet.heard
+round-heard g q = ap (λ (v : Lone). v.quiet.heard) (run-round g q) ∙ gos-heard g q (actors_of q)
 
-pub served-round : (g : Ground) (q : Quiet)
-    → served g q (round g q) ≡ served g (gone g q) (drain_all (gone g q).replies)
+pub served-round : (g : Ground) (q : Lone)
+    → served g q (round g q) ≡ served g (gone g q) (drain_all (gone g q).quiet.replies)
 served-round g q =
-    served-append g q (go_each (actors_of q)) (drain_all (gone g q).replies)
-    ∙ ap (λ (bytes : List ℕ). bytes ++ served g (gone g q) (drain_all (gone g q).replies))
+    served-append g q (go_each (actors_of q)) (drain_all (gone g q).quiet.replies)
+    ∙ ap (λ (bytes : List ℕ). bytes ++ served g (gone g q) (drain_all (gone g q).quiet.replies))
     (gos-give g q (actors_of q))
 
 -- a round meets the end of the steps where an actor does
-pub round-meets : (g : Ground) (q : Quiet) → MeetsWorn g q (go_each (actors_of q))
+pub round-meets : (g : Ground) (q : Lone) → MeetsWorn g q (go_each (actors_of q))
     → MeetsWorn g q (round g q)
 round-meets g q meets =
-    meets-front g q (go_each (actors_of q)) (drain_all (gone g q).replies) meets
+    meets-front g q (go_each (actors_of q)) (drain_all (gone g q).quiet.replies) meets
 
-pub round-meets_by : (g : Ground) (q : Quiet) → MeetsWorn g q (round g q)
+pub round-meets_by : (g : Ground) (q : Lone) → MeetsWorn g q (round g q)
     → MeetsWorn g q (go_each (actors_of q))
-round-meets_by g q meets = by (meets-either g q turns (drain_all (gone g q).replies) meets) where
+round-meets_by g q meets = by (meets-either g q turns (drain_all (gone g q).quiet.replies) meets) where
   turns : List Turn
   turns = go_each (actors_of q)
 
-  by : MeetsWorn g q turns ⊎ MeetsWorn g (gone g q) (drain_all (gone g q).replies)
+  by : MeetsWorn g q turns ⊎ MeetsWorn g (gone g q) (drain_all (gone g q).quiet.replies)
       → MeetsWorn g q turns
   by (inl here) = here
   by (inr later) = absurd (drains-never_worn g (gone g q) later)

@@ -5,9 +5,8 @@ use Rattle.std.specs.Io.KnownBytes.{Consumes, Appends}
 use Rattle.std.proofs.KnownBytes.{Appends-nil, Appends-trans, Consumes-trans}
 use Rattle.bencode_wire.specs.Spelling.{joined}
 use Rattle.server_rules.specs.Ground.{Ground}
-use Rattle.server_rules.specs.Tenant.{Quiet}
 use Rattle.server_rules.specs.declared.refusal.Refusal.{Refusal}
-use Rattle.tenant_turns.specs.Turns.{Turn, hears, refused, step, quiet_or, bytes_given, after, run}
+use Rattle.tenant_turns.specs.Turns.{Lone, Turn, hears, refused, step, lone_or, bytes_given, after, run}
 use Rattle.tenant_turns.specs.Turns.{served}
 use Rattle.nrepl_pipe.specs.Schedule.{round, AreRounds, last, MeetsWorn, IsSchedule, stream_end}
 use Rattle.nrepl_pipe.specs.Schedule.{IsEnd}
@@ -22,7 +21,7 @@ use Rattle.nrepl_pipe.proofs.Serving.{Serving, pieces-append, joined-append, sch
 use Rattle.nrepl_pipe.proofs.Serving.{consumes-more, served-heard}
 
 -- the schedule of the pieces so far
-pub schedule-all : (g : Ground) (Old : Quiet → Type 0) (q : Quiet)
+pub schedule-all : (g : Ground) (Old : Lone → Type 0) (q : Lone)
     (unread left held holds : Option (List ℕ)) (on : Serving g Old q unread left held holds)
     → IsSchedule g q on.pieces on.turns
 schedule-all g Old q unread left held holds on =
@@ -37,10 +36,10 @@ consumes-all unread left less read first none =
     (Consumes-trans unread left less read [] first none)
 
 -- at the end of the input
-pub serves-all : (g : Ground) (Old : Quiet → Type 0) (q : Quiet)
+pub serves-all : (g : Ground) (Old : Lone → Type 0) (q : Lone)
     (unread left less held holds : Option (List ℕ)) (end : PipeEnd)
     (on : Serving g Old q unread left held holds) → Consumes left less []
-    → end ≡ stream_end (g.readings.stream (run g q on.turns).heard).ending
+    → end ≡ stream_end (g.readings.stream (run g q on.turns).quiet.heard).ending
     → Moves unread less held holds (λ read written. Serves g q read written end)
 serves-all g Old q unread left less held holds end on consumes is = (
   joined on.pieces,
@@ -62,15 +61,15 @@ serves-all g Old q unread left less held holds end on consumes is = (
 )
 
 -- how a last piece with its rounds ends it
-abbrev pub EndsWith : Ground → Quiet → List ℕ → List Turn → PipeEnd → Type 0
+abbrev pub EndsWith : Ground → Lone → List ℕ → List Turn → PipeEnd → Type 0
 EndsWith g now piece turns end =
     (MeetsWorn g now turns × (end ≡ PipeEnd.Worn))
     ⊎ ((MeetsWorn g now turns → ⊥)
-    × (end ≡ stream_end (g.readings.stream (now.heard ++ piece)).ending))
+    × (end ≡ stream_end (g.readings.stream (now.quiet.heard ++ piece)).ending))
 
-ends-with : (g : Ground) (q : Quiet) (turns more : List Turn) (read piece all : List ℕ)
+ends-with : (g : Ground) (q : Lone) (turns more : List Turn) (read piece all : List ℕ)
     (end : PipeEnd) → (MeetsWorn g q turns → ⊥) → all ≡ read ++ piece
-    → (run g q turns).heard ≡ read → EndsWith g (run g q turns) piece more end
+    → (run g q turns).quiet.heard ≡ read → EndsWith g (run g q turns) piece more end
     → IsEnd g q (turns ++ more) all end
 ends-with g q turns more read piece all end never same heard (inl worn) =
     inl (meets-behind g q turns more worn.0, worn.1)
@@ -83,7 +82,7 @@ ends-with g q turns more read piece all end never same heard (inr ended) =
     )
 
 -- behind a last piece
-serves-last : (g : Ground) (Old : Quiet → Type 0) (q : Quiet)
+serves-last : (g : Ground) (Old : Lone → Type 0) (q : Lone)
     (unread left less held holds grown : Option (List ℕ)) (piece : List ℕ) (rounds : List Turn)
     (end : PipeEnd) (on : Serving g Old q unread left held holds) → IsPiece piece
     → Consumes left less piece → AreRounds g (after g (run g q on.turns) (hears piece)) rounds
@@ -112,7 +111,7 @@ serves-last g Old q unread left less held holds grown piece rounds end on is con
     )
 
 -- the piece, or its rounds, met the end of the steps or of the stream
-pub serves-rounds : (g : Ground) (Old Mid New : Quiet → Type 0) (q : Quiet)
+pub serves-rounds : (g : Ground) (Old Mid New : Lone → Type 0) (q : Lone)
     (unread left less held holds grown : Option (List ℕ)) (piece : List ℕ) (end : Rounds)
     (told : PipeEnd) (on : Serving g Old q unread left held holds) → IsPiece piece
     → Consumes left less piece → TakesIn g Mid (run g q on.turns) piece
@@ -126,7 +125,7 @@ serves-rounds g Old Mid New q unread left less held holds grown piece end told o
     made.2.appends) ends
 
 -- a piece was refused at the end of the steps
-pub serves-worn : (g : Ground) (Old : Quiet → Type 0) (q : Quiet)
+pub serves-worn : (g : Ground) (Old : Lone → Type 0) (q : Lone)
     (unread left less held holds : Option (List ℕ)) (piece : List ℕ)
     (on : Serving g Old q unread left held holds) → IsPiece piece → Consumes left less piece
     → step g (run g q on.turns) (hears piece) ≡ refused Refusal.Worn
@@ -134,10 +133,10 @@ pub serves-worn : (g : Ground) (Old : Quiet → Type 0) (q : Quiet)
 serves-worn g Old q unread left less held holds piece on is consumes worn =
     let now = run g q on.turns in
     let v = after g now (hears piece) in
-    let same : v ≡ now = ap (quiet_or now) worn in
+    let same : v ≡ now = ap (lone_or now) worn in
     let used = (refused-worn g now piece Refusal.Worn (on.no_fault, on.empty) worn).1 in
-    let none : v.replies ≡ [] = ap (λ (u : Quiet). u.replies) same ∙ on.empty in
-    let stops = worn-round g v (ap (λ (u : Quiet). u.steps == 0) same ∙ used) none in
+    let none : v.quiet.replies ≡ [] = ap (λ (u : Lone). u.quiet.replies) same ∙ on.empty in
+    let stops = worn-round g v (ap (λ (u : Lone). u.quiet.steps == 0) same ∙ used) none in
     let nothing : served g now (hears piece ∷ round g v) ≡ [] =
     served-heard g now piece (round g v) (ap bytes_given worn) ∙ stops.1 in
     serves-last g Old q unread left less held holds holds piece (round g v) PipeEnd.Worn on is

@@ -3,8 +3,7 @@ use Rattle.std.proofs.Common.{◌≡◌, ℕ, List, [], ◌++◌, Bool, false, r
 use Rattle.std.proofs.Common.{Option}
 use Rattle.std.proofs.KnownBytes.{Appends-nil, Appends-trans}
 use Rattle.server_rules.specs.Ground.{Ground}
-use Rattle.server_rules.specs.Tenant.{Quiet}
-use Rattle.tenant_turns.specs.Turns.{run, served}
+use Rattle.tenant_turns.specs.Turns.{Lone, run, served}
 use Rattle.nrepl_pipe.specs.Schedule.{drain_all, round}
 use Rattle.nrepl_pipe.specs.Parts.{Begins, BeginsRounds}
 use Rattle.nrepl_pipe.proofs.Turns.{served-append}
@@ -13,7 +12,7 @@ use Rattle.nrepl_pipe.proofs.Lasting.{rounds-exist, rounds-front}
 use Rattle.nrepl_pipe.proofs.Rounding.{RoundsOn}
 
 -- nothing was written
-pub round-stopped : (g : Ground) (q : Quiet) (held : Option (List ℕ))
+pub round-stopped : (g : Ground) (q : Lone) (held : Option (List ℕ))
     → Begins g q (round g q) held held
 round-stopped g q held = record {
   written = [];
@@ -23,8 +22,8 @@ round-stopped g q held = record {
 }
 
 -- a part of the replies was written
-pub round-broken : (g : Ground) (q : Quiet) (held holds : Option (List ℕ))
-    → Begins g (gone g q) (drain_all (gone g q).replies) held holds
+pub round-broken : (g : Ground) (q : Lone) (held holds : Option (List ℕ))
+    → Begins g (gone g q) (drain_all (gone g q).quiet.replies) held holds
     → Begins g q (round g q) held holds
 round-broken g q held holds drained = record {
   written = drained.written;
@@ -34,7 +33,7 @@ round-broken g q held holds drained = record {
 }
 
 -- a part of the first round was written
-pub rounds-begun : (g : Ground) (q : Quiet) (held holds : Option (List ℕ))
+pub rounds-begun : (g : Ground) (q : Lone) (held holds : Option (List ℕ))
     → Begins g q (round g q) held holds → BeginsRounds g q held holds
 rounds-begun g q held holds begun =
     let all = rounds-exist g q in
@@ -54,7 +53,7 @@ rounds-begun g q held holds begun =
     )
 
 -- a part of the next round was written
-pub rounds-broken : (g : Ground) (Old : Quiet → Type 0) (q : Quiet) (is_last is_worn : Bool)
+pub rounds-broken : (g : Ground) (Old : Lone → Type 0) (q : Lone) (is_last is_worn : Bool)
     (held holds grown : Option (List ℕ)) (on : RoundsOn g Old q is_last is_worn held holds)
     → is_last ≡ false → Begins g (run g q on.turns) (round g (run g q on.turns)) holds grown
     → BeginsRounds g q held grown

@@ -4,24 +4,29 @@ use Rattle.std.proofs.Common.{if◌then◌else◌, Option, Some, None, refl, sym
 use Rattle.bencode_wire.specs.declared.fault.WireFault.{WireFault}
 use Rattle.repl_replies.specs.Replies.{ReplyData}
 use Rattle.server_rules.specs.Ground.{Ground}
+use Rattle.server_rules.specs.Store.{Store}
 use Rattle.server_rules.specs.Tenant.{Quiet, is_held}
 use Rattle.server_rules.specs.Hearing.{stream_fault, hears_more, hearing}
 use Rattle.server_rules.specs.Plan.{Outcome, refuses, leaves}
 use Rattle.server_rules.specs.Turns.{bytes_in}
 use Rattle.server_rules.specs.declared.refusal.Refusal.{Refusal}
-use Rattle.tenant_turns.specs.NoRefs.{outcome, carried_out}
+use Rattle.tenant_turns.specs.Deeded.{carried_out, deeded}
 use Rattle.tenant_turns.specs.Turned.{Accepted}
-use Rattle.tenant_turns.specs.Turns.{hears, Stepped, accepted, refused, stepped_as, step, quiet_or}
-use Rattle.tenant_turns.specs.Turns.{bytes_given, after, tenant_number}
+use Rattle.tenant_turns.specs.Turns.{Lone, hears, Stepped, accepted, refused, ended_as, stepped_as}
+use Rattle.tenant_turns.specs.Turns.{step, lone_or, bytes_given, after}
 use Rattle.nrepl_pipe.specs.Fresh.{IsReady}
 use Rattle.nrepl_pipe.proofs.Messages.{taken_in-heard}
 
 -- Where the stream has no fault and no reply waits, a piece is refused at the end of the steps
 -- alone. Where it is accepted its bytes are heard, and none are given.
 
+-- as `IsReady`
+abbrev ReadyIn : Ground → Quiet → Type 0
+ReadyIn g q = (stream_fault g.readings q.heard ≡ None) × (q.replies ≡ [])
+
 abbrev HeardSo : Ground → Quiet → List ℕ → Outcome → Type 0
 HeardSo g q piece (refuses why) =
-    IsReady g q → (why ≡ Refusal.Worn) × ((q.steps == 0) ≡ true)
+    ReadyIn g q → (why ≡ Refusal.Worn) × ((q.steps == 0) ≡ true)
 HeardSo g q piece (leaves new answer) =
     (new.heard ≡ q.heard ++ piece) × (bytes_in answer ≡ [])
 
@@ -50,62 +55,64 @@ hearing-so g t piece q false is = more-so g t piece q (stream_fault g.readings q
 
 -- The step
 
-abbrev pub PieceSo : Ground → Quiet → List ℕ → Stepped → Type 0
-PieceSo g q piece (refused why) =
-    IsReady g q → (why ≡ Refusal.Worn) × ((q.steps == 0) ≡ true)
-PieceSo g q piece (accepted new bytes) = (new.heard ≡ q.heard ++ piece) × (bytes ≡ [])
+abbrev pub PieceSo : Ground → Lone → List ℕ → Stepped → Type 0
+PieceSo g l piece (refused why) =
+    IsReady g l → (why ≡ Refusal.Worn) × ((l.quiet.steps == 0) ≡ true)
+PieceSo g l piece (accepted new bytes) =
+    (new.quiet.heard ≡ l.quiet.heard ++ piece) × (bytes ≡ [])
 
-outcome-piece : (g : Ground) (q : Quiet) (piece : List ℕ) (o : Outcome) → HeardSo g q piece o
-    → PieceSo g q piece (stepped_as o)
-outcome-piece g q piece (refuses why) so = so
-outcome-piece g q piece (leaves new answer) so = so
+outcome-piece : (g : Ground) (l : Lone) (s : Store) (piece : List ℕ) (o : Outcome)
+    → HeardSo g l.quiet piece o → PieceSo g l piece (ended_as s o)
+outcome-piece g l s piece (refuses why) so = so
+outcome-piece g l s piece (leaves new answer) so = so
 
-step-hears : (g : Ground) (q : Quiet) (piece : List ℕ)
-    → step g q (hears piece) ≡ stepped_as (carried_out (hearing g tenant_number piece q))
-unfolding step outcome
-step-hears g q piece = refl
+step-hears : (g : Ground) (l : Lone) (piece : List ℕ) → step g l (hears piece)
+    ≡ stepped_as (carried_out l.store (hearing g l.store.tenant piece l.quiet))
+unfolding step deeded
+step-hears g l piece = refl
 
-pub hears-so : (g : Ground) (q : Quiet) (piece : List ℕ)
-    → PieceSo g q piece (step g q (hears piece))
-hears-so g q piece =
-    subst (PieceSo g q piece) (sym (step-hears g q piece))
-    (outcome-piece g q piece (carried_out (hearing g tenant_number piece q))
-    (hearing-so g tenant_number piece q (q.steps == 0) refl))
+pub hears-so : (g : Ground) (l : Lone) (piece : List ℕ)
+    → PieceSo g l piece (step g l (hears piece))
+hears-so g l piece =
+    let d = carried_out l.store (hearing g l.store.tenant piece l.quiet) in
+    subst (PieceSo g l piece) (sym (step-hears g l piece))
+    (outcome-piece g l d.store piece d.outcome
+    (hearing-so g l.store.tenant piece l.quiet (l.quiet.steps == 0) refl))
 
 -- The code was refused
 
-pub refused-worn : (g : Ground) (q : Quiet) (piece : List ℕ) (why : Refusal) → IsReady g q
-    → step g q (hears piece) ≡ refused why
-    → (step g q (hears piece) ≡ refused Refusal.Worn) × ((q.steps == 0) ≡ true)
-refused-worn g q piece why ready is =
-    let so : PieceSo g q piece (refused why) = subst (PieceSo g q piece) is (hears-so g q piece) in
+pub refused-worn : (g : Ground) (l : Lone) (piece : List ℕ) (why : Refusal) → IsReady g l
+    → step g l (hears piece) ≡ refused why
+    → (step g l (hears piece) ≡ refused Refusal.Worn) × ((l.quiet.steps == 0) ≡ true)
+refused-worn g l piece why ready is =
+    let so : PieceSo g l piece (refused why) = subst (PieceSo g l piece) is (hears-so g l piece) in
     (is ∙ ap refused (so ready).0, (so ready).1)
 
 -- The code heard it
 
 -- the piece was taken in
-pub record TakesIn (g : Ground) (Stands : Quiet → Type 0) (q : Quiet) (piece : List ℕ)
+pub record TakesIn (g : Ground) (Stands : Lone → Type 0) (l : Lone) (piece : List ℕ)
     : Type 0 where
-  pub stands : Stands (after g q (hears piece))
-  pub gives : bytes_given (step g q (hears piece)) ≡ []
-  pub not_worn : step g q (hears piece) ≢ refused Refusal.Worn
-  pub heard : (after g q (hears piece)).heard ≡ q.heard ++ piece
+  pub stands : Stands (after g l (hears piece))
+  pub gives : bytes_given (step g l (hears piece)) ≡ []
+  pub not_worn : step g l (hears piece) ≢ refused Refusal.Worn
+  pub heard : (after g l (hears piece)).quiet.heard ≡ l.quiet.heard ++ piece
 
-takes-in_by : (g : Ground) (Stands : Quiet → Type 0) (q : Quiet) (piece : List ℕ) (s : Stepped)
-    → step g q (hears piece) ≡ s → PieceSo g q piece s → Accepted Stands s
-    → TakesIn g Stands q piece
-takes-in_by g Stands q piece (accepted new bytes) is so stands =
-    let same : after g q (hears piece) ≡ new = ap (quiet_or q) is in
+takes-in_by : (g : Ground) (Stands : Lone → Type 0) (l : Lone) (piece : List ℕ) (s : Stepped)
+    → step g l (hears piece) ≡ s → PieceSo g l piece s → Accepted Stands s
+    → TakesIn g Stands l piece
+takes-in_by g Stands l piece (accepted new bytes) is so stands =
+    let same : after g l (hears piece) ≡ new = ap (lone_or l) is in
     record {
       stands = subst Stands (sym same) stands;
       gives = ap bytes_given is ∙ so.1;
-      not_worn = λ (worn : step g q (hears piece) ≡ refused Refusal.Worn).
+      not_worn = λ (worn : step g l (hears piece) ≡ refused Refusal.Worn).
           let both : accepted new bytes ≡ refused Refusal.Worn = sym is ∙ worn in cc;
-      heard = ap (λ (v : Quiet). v.heard) same ∙ so.0;
+      heard = ap (λ (v : Lone). v.quiet.heard) same ∙ so.0;
     }
-takes-in_by g Stands q piece (refused why) is so never = absurd never
+takes-in_by g Stands l piece (refused why) is so never = absurd never
 
-pub takes-in : (g : Ground) (Stands : Quiet → Type 0) (q : Quiet) (piece : List ℕ)
-    → Accepted Stands (step g q (hears piece)) → TakesIn g Stands q piece
-takes-in g Stands q piece stands =
-    takes-in_by g Stands q piece (step g q (hears piece)) refl (hears-so g q piece) stands
+pub takes-in : (g : Ground) (Stands : Lone → Type 0) (l : Lone) (piece : List ℕ)
+    → Accepted Stands (step g l (hears piece)) → TakesIn g Stands l piece
+takes-in g Stands l piece stands =
+    takes-in_by g Stands l piece (step g l (hears piece)) refl (hears-so g l piece) stands

@@ -2,10 +2,9 @@
 use Rattle.std.proofs.Common.{◌≡◌, ◌≢◌, ℕ, zero, suc, ◌<◌, ◌≤◌, ◌⊎◌, inl, inr, List, [], ◌∷◌, ◌++◌}
 use Rattle.std.proofs.Common.{◌==◌, true, refl, sym, ap, ◌∙◌, subst, append-nil, le_refl, arith}
 use Rattle.server_rules.specs.Ground.{Ground}
-use Rattle.server_rules.specs.Tenant.{Quiet}
 use Rattle.server_rules.specs.declared.actor.Actor.{Actor}
 use Rattle.server_rules.specs.declared.refusal.Refusal.{Refusal}
-use Rattle.tenant_turns.specs.Turns.{Turn, goes, Stepped, accepted, refused, step, quiet_or, after}
+use Rattle.tenant_turns.specs.Turns.{Lone, Turn, goes, Stepped, accepted, refused, step, lone_or, after}
 use Rattle.tenant_turns.specs.Turns.{run, served, actors_of}
 use Rattle.nrepl_pipe.specs.Schedule.{go_each, drain_all, round, Rests, AllRest, IsLast, AreRounds}
 use Rattle.nrepl_pipe.specs.Schedule.{last, more}
@@ -35,7 +34,7 @@ rests-or (refused why) = by (held-or why) where
   by (inl held) = inr (λ other. other held)
   by (inr other) = inl other
 
-all_rest-or : (g : Ground) (q : Quiet) (turns : List Turn)
+all_rest-or : (g : Ground) (q : Lone) (turns : List Turn)
     → AllRest g q turns ⊎ (AllRest g q turns → ⊥)
 all_rest-or g q [] = inl tt
 all_rest-or g q (t ∷ turns) =
@@ -48,50 +47,50 @@ all_rest-or g q (t ∷ turns) =
       by (inr other) later = inr (λ all. other all.0)
 
 -- where no reply waits, actors of whom one goes on use up a step
-uses-step : (g : Ground) (q : Quiet) (actors : List Actor) → q.replies ≡ []
-    → (AllRest g q (go_each actors) → ⊥) → (run g q (go_each actors)).steps < q.steps
+uses-step : (g : Ground) (q : Lone) (actors : List Actor) → q.quiet.replies ≡ []
+    → (AllRest g q (go_each actors) → ⊥) → (run g q (go_each actors)).quiet.steps < q.quiet.steps
 uses-step g q [] none on = absurd (on tt)
 uses-step g q (a ∷ actors) none on =
     by (step g q (goes a)) refl (go-steps g q a) (λ behind. uses-step g q actors none behind) where
       by : (s : Stepped) → step g q (goes a) ≡ s → StepsSo q s
-          → ((AllRest g q (go_each actors) → ⊥) → (run g q (go_each actors)).steps < q.steps)
-          → (run g q (go_each (a ∷ actors))).steps < q.steps
+          → ((AllRest g q (go_each actors) → ⊥) → (run g q (go_each actors)).quiet.steps < q.quiet.steps)
+          → (run g q (go_each (a ∷ actors))).quiet.steps < q.quiet.steps
       by (accepted new bytes) is so behind =
           let fewer = gos-steps g (after g q (goes a)) actors in
-          let same : (after g q (goes a)).steps ≡ new.steps = ap (λ s. (quiet_or q s).steps) is in
+          let same : (after g q (goes a)).quiet.steps ≡ new.quiet.steps = ap (λ s. (lone_or q s).quiet.steps) is in
           let one = so.0 in omega arith
       by (refused why) is so behind = refused-by (held-or why) where
         same : after g q (goes a) ≡ q
-        same = ap (quiet_or q) is
+        same = ap (lone_or q) is
 
         refused-by : (why ≡ Refusal.Held) ⊎ (why ≢ Refusal.Held)
-            → (run g q (go_each (a ∷ actors))).steps < q.steps
+            → (run g q (go_each (a ∷ actors))).quiet.steps < q.quiet.steps
         refused-by (inl held) = absurd (held-waits q (so held) none)
         refused-by (inr other) =
-            subst (λ v. (run g v (go_each actors)).steps < q.steps) (sym same)
+            subst (λ v. (run g v (go_each actors)).quiet.steps < q.quiet.steps) (sym same)
             (behind (λ all. on (
               subst Rests (sym is) other,
               subst (λ v. AllRest g v (go_each actors)) (sym same) all,
             )))
 
-pub round-uses : (g : Ground) (q : Quiet) → q.replies ≡ [] → (IsLast g q → ⊥)
-    → (run g q (round g q)).steps < q.steps
+pub round-uses : (g : Ground) (q : Lone) → q.quiet.replies ≡ [] → (IsLast g q → ⊥)
+    → (run g q (round g q)).quiet.steps < q.quiet.steps
 round-uses g q none on =
-    let same : (run g q (round g q)).steps ≡ (gone g q).steps =
-    ap (λ (v : Quiet). v.steps) (run-round g q) in
+    let same : (run g q (round g q)).quiet.steps ≡ (gone g q).quiet.steps =
+    ap (λ (v : Lone). v.quiet.steps) (run-round g q) in
     let fewer = uses-step g q (actors_of q) none on in omega arith
 
 -- Each tenant has rounds
 
-abbrev pub HasRounds : Ground → Quiet → Type 0
+abbrev pub HasRounds : Ground → Lone → Type 0
 HasRounds g q = (turns : List Turn) × AreRounds g q turns
 
-has-more : (g : Ground) (q : Quiet) → (IsLast g q → ⊥) → HasRounds g (run g q (round g q))
+has-more : (g : Ground) (q : Lone) → (IsLast g q → ⊥) → HasRounds g (run g q (round g q))
     → HasRounds g q
 has-more g q on rounds = (round g q ++ rounds.0, more q rounds.0 on rounds.1)
 
 -- where no reply waits each round that goes on uses up a step
-quiet-rounds : (g : Ground) (n : ℕ) (q : Quiet) → q.steps ≤ n → q.replies ≡ [] → HasRounds g q
+quiet-rounds : (g : Ground) (n : ℕ) (q : Lone) → q.quiet.steps ≤ n → q.quiet.replies ≡ [] → HasRounds g q
 quiet-rounds g zero q few none = by (all_rest-or g q (go_each (actors_of q))) where
   by : IsLast g q ⊎ (IsLast g q → ⊥) → HasRounds g q
   by (inl is) = (round g q, last q is)
@@ -100,49 +99,49 @@ quiet-rounds g (suc n) q few none =
     by (all_rest-or g q (go_each (actors_of q)))
     (λ fewer. quiet-rounds g n (run g q (round g q)) fewer (round-empty g q)) where
       by : IsLast g q ⊎ (IsLast g q → ⊥)
-          → ((run g q (round g q)).steps ≤ n → HasRounds g (run g q (round g q))) → HasRounds g q
+          → ((run g q (round g q)).quiet.steps ≤ n → HasRounds g (run g q (round g q))) → HasRounds g q
       by (inl is) behind = (round g q, last q is)
       by (inr on) behind =
           let fewer = round-uses g q none on in has-more g q on (behind (omega arith))
 
-pub rounds-exist : (g : Ground) (q : Quiet) → HasRounds g q
+pub rounds-exist : (g : Ground) (q : Lone) → HasRounds g q
 rounds-exist g q = by (all_rest-or g q (go_each (actors_of q))) where
   by : IsLast g q ⊎ (IsLast g q → ⊥) → HasRounds g q
   by (inl is) = (round g q, last q is)
   by (inr on) = has-more g q on
-      (quiet-rounds g (run g q (round g q)).steps (run g q (round g q)) (le_refl _)
+      (quiet-rounds g (run g q (round g q)).quiet.steps (run g q (round g q)) (le_refl _)
       (round-empty g q))
 
 -- What rounds keep
 
-pub rounds-empty : (g : Ground) (q : Quiet) (turns : List Turn) → AreRounds g q turns
-    → (run g q turns).replies ≡ []
+pub rounds-empty : (g : Ground) (q : Lone) (turns : List Turn) → AreRounds g q turns
+    → (run g q turns).quiet.replies ≡ []
 rounds-empty g q turns (last v end) = round-empty g v
 rounds-empty g q turns (more v behind on rounds) =
-    ap (λ (u : Quiet). u.replies) (run-append g v (round g v) behind)
+    ap (λ (u : Lone). u.quiet.replies) (run-append g v (round g v) behind)
     ∙ rounds-empty g (run g v (round g v)) behind rounds
 
-pub rounds-heard : (g : Ground) (q : Quiet) (turns : List Turn) → AreRounds g q turns
-    → (run g q turns).heard ≡ q.heard
+pub rounds-heard : (g : Ground) (q : Lone) (turns : List Turn) → AreRounds g q turns
+    → (run g q turns).quiet.heard ≡ q.quiet.heard
 rounds-heard g q turns (last v end) = round-heard g v
 rounds-heard g q turns (more v behind on rounds) =
-    ap (λ (u : Quiet). u.heard) (run-append g v (round g v) behind)
+    ap (λ (u : Lone). u.quiet.heard) (run-append g v (round g v) behind)
     ∙ rounds-heard g (run g v (round g v)) behind rounds ∙ round-heard g v
 
 -- rounds begin with the first
-pub rounds-front : (g : Ground) (q : Quiet) (turns : List Turn) → AreRounds g q turns
+pub rounds-front : (g : Ground) (q : Lone) (turns : List Turn) → AreRounds g q turns
     → (behind : List Turn) × (turns ≡ round g q ++ behind)
 rounds-front g q turns (last v end) = ([], sym (append-nil (round g v)))
 rounds-front g q turns (more v behind on rounds) = (behind, refl)
 
 -- Where the steps are used up no actor goes on
 
-gos-worn : (g : Ground) (q : Quiet) (actors : List Actor) → (q.steps == 0) ≡ true
+gos-worn : (g : Ground) (q : Lone) (actors : List Actor) → (q.quiet.steps == 0) ≡ true
     → (AllRest g q (go_each actors)) × (run g q (go_each actors) ≡ q)
 gos-worn g q [] none = (tt, refl)
 gos-worn g q (a ∷ actors) none =
     let is = go-worn g q a none in
-    let same : after g q (goes a) ≡ q = ap (quiet_or q) is in
+    let same : after g q (goes a) ≡ q = ap (lone_or q) is in
     let behind = gos-worn g q actors none in (
       (
         subst Rests (sym is) (λ e. cc),
@@ -152,11 +151,11 @@ gos-worn g q (a ∷ actors) none =
     )
 
 -- and a round serves what waited
-pub worn-round : (g : Ground) (q : Quiet) → (q.steps == 0) ≡ true → q.replies ≡ []
+pub worn-round : (g : Ground) (q : Lone) → (q.quiet.steps == 0) ≡ true → q.quiet.replies ≡ []
     → IsLast g q × (served g q (round g q) ≡ [])
 worn-round g q none empty =
     let worn = gos-worn g q (actors_of q) none in (
       worn.0,
-      served-round g q ∙ ap (λ v. served g v (drain_all v.replies)) worn.1
+      served-round g q ∙ ap (λ v. served g v (drain_all v.quiet.replies)) worn.1
           ∙ ap (λ xs. served g q (drain_all xs)) empty,
     )

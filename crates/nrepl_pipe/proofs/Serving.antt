@@ -6,10 +6,9 @@ use Rattle.std.proofs.KnownBytes.{Appends-nil, Appends-trans, Consumes-nil, Cons
 use Rattle.bencode_wire.specs.Spelling.{joined}
 use Rattle.server_rules.specs.Ground.{Ground}
 use Rattle.server_rules.specs.Hearing.{stream_fault}
-use Rattle.server_rules.specs.Tenant.{Quiet}
 use Rattle.server_rules.specs.declared.refusal.Refusal.{Refusal}
 use Rattle.tenant_turns.specs.Grounds.{IsRight}
-use Rattle.tenant_turns.specs.Turns.{Turn, hears, refused, step, bytes_given, after, run, served}
+use Rattle.tenant_turns.specs.Turns.{Lone, Turn, hears, refused, step, bytes_given, after, run, served}
 use Rattle.nrepl_pipe.specs.Schedule.{ArePieces, AreRounds, MeetsWorn, IsSchedule}
 use Rattle.nrepl_pipe.specs.Fresh.{IsFresh}
 use Rattle.nrepl_pipe.specs.Parts.{IsPiece, MakesRounds}
@@ -33,7 +32,7 @@ joined-append (p ∷ pieces) piece =
     ap (λ (bytes : List ℕ). p ++ bytes) (joined-append pieces piece)
     ∙ sym (append_assoc p (joined pieces) piece)
 
-pub schedule-last : (g : Ground) (now : Quiet) (piece : List ℕ) (rounds : List Turn)
+pub schedule-last : (g : Ground) (now : Lone) (piece : List ℕ) (rounds : List Turn)
     → AreRounds g (after g now (hears piece)) rounds
     → IsSchedule g now (piece ∷ []) (hears piece ∷ rounds)
 schedule-last g now piece rounds are = (
@@ -47,7 +46,7 @@ schedule-last g now piece rounds are = (
 
 -- So far
 
-pub record Serving (g : Ground) (Stands : Quiet → Type 0) (q : Quiet)
+pub record Serving (g : Ground) (Stands : Lone → Type 0) (q : Lone)
     (unread left held holds : Option (List ℕ)) : Type 0 where
   pub pieces : List (List ℕ)
   pub turns : List Turn
@@ -56,15 +55,15 @@ pub record Serving (g : Ground) (Stands : Quiet → Type 0) (q : Quiet)
   pub appends : Appends held holds (served g q turns)
   pub stands : Stands (run g q turns)
   pub never_worn : MeetsWorn g q turns → ⊥
-  pub no_fault : stream_fault g.readings (run g q turns).heard ≡ None
-  pub heard : (run g q turns).heard ≡ joined pieces
-  pub empty : (run g q turns).replies ≡ []
+  pub no_fault : stream_fault g.readings (run g q turns).quiet.heard ≡ None
+  pub heard : (run g q turns).quiet.heard ≡ joined pieces
+  pub empty : (run g q turns).quiet.replies ≡ []
   -- where the rest comes to from here, all comes to from the start
   pub closes : (more : List (List ℕ)) (behind : List Turn)
       → IsSchedule g (run g q turns) more behind
       → IsSchedule g q (pieces ++ more) (turns ++ behind)
 
-pub serving-none : (g : Ground) (Stands : Quiet → Type 0) (q : Quiet)
+pub serving-none : (g : Ground) (Stands : Lone → Type 0) (q : Lone)
     (unread held : Option (List ℕ)) → IsRight g → Stands q → IsFresh q
     → Serving g Stands q unread unread held held
 serving-none g Stands q unread held right stands fresh = record {
@@ -75,7 +74,7 @@ serving-none g Stands q unread held right stands fresh = record {
   appends = Appends-nil held;
   stands = stands;
   never_worn = λ never. never;
-  no_fault = fresh-clean g.readings q.heard right.readings fresh.0;
+  no_fault = fresh-clean g.readings q.quiet.heard right.readings fresh.0;
   heard = fresh.0;
   empty = fresh.1;
   closes = λ more behind schedule. schedule;
@@ -90,25 +89,25 @@ consumes-more unread left less pieces piece first second =
     subst (Consumes unread less) (sym (joined-append pieces piece))
     (Consumes-trans unread left less (joined pieces) piece first second)
 
-pub served-heard : (g : Ground) (now : Quiet) (piece : List ℕ) (rounds : List Turn)
+pub served-heard : (g : Ground) (now : Lone) (piece : List ℕ) (rounds : List Turn)
     → bytes_given (step g now (hears piece)) ≡ []
     → served g now (hears piece ∷ rounds) ≡ served g (after g now (hears piece)) rounds
 served-heard g now piece rounds gives =
     ap (λ (bytes : List ℕ). bytes ++ served g (after g now (hears piece)) rounds) gives
 
-pub heard-never_worn : (g : Ground) (now : Quiet) (piece : List ℕ) (rounds : List Turn)
+pub heard-never_worn : (g : Ground) (now : Lone) (piece : List ℕ) (rounds : List Turn)
     → step g now (hears piece) ≢ refused Refusal.Worn
     → (MeetsWorn g (after g now (hears piece)) rounds → ⊥)
     → MeetsWorn g now (hears piece ∷ rounds) → ⊥
 heard-never_worn g now piece rounds not_worn never (inl here) = not_worn here
 heard-never_worn g now piece rounds not_worn never (inr later) = never later
 
-pub serving-more : (g : Ground) (Old Mid New : Quiet → Type 0) (q : Quiet)
+pub serving-more : (g : Ground) (Old Mid New : Lone → Type 0) (q : Lone)
     (unread left less held holds grown : Option (List ℕ)) (piece : List ℕ)
     (on : Serving g Old q unread left held holds) → IsPiece piece → Consumes left less piece
     → TakesIn g Mid (run g q on.turns) piece
     → (made : MakesRounds g New (after g (run g q on.turns) (hears piece)) holds grown Rounds.Idle)
-    → stream_fault g.readings (run g (after g (run g q on.turns) (hears piece)) made.0).heard ≡ None
+    → stream_fault g.readings (run g (after g (run g q on.turns) (hears piece)) made.0).quiet.heard ≡ None
     → Serving g New q unread less held grown
 serving-more g Old Mid New q unread left less held holds grown piece on is consumes taken made
     clean =
@@ -133,15 +132,15 @@ serving-more g Old Mid New q unread left less held holds grown piece on is consu
           on.appends made.2.appends);
       stands = subst New (sym gone) made.2.stands;
       never_worn = meets-neither g q on.turns turns on.never_worn never;
-      no_fault = ap (λ (v : Quiet). stream_fault g.readings v.heard) gone ∙ clean;
+      no_fault = ap (λ (v : Lone). stream_fault g.readings v.quiet.heard) gone ∙ clean;
       heard =
-          ap (λ (v : Quiet). v.heard) gone ∙ rounds-heard g then_on rounds made.1 ∙ taken.heard
+          ap (λ (v : Lone). v.quiet.heard) gone ∙ rounds-heard g then_on rounds made.1 ∙ taken.heard
           ∙ ap (λ (bytes : List ℕ). bytes ++ piece) on.heard ∙ sym (joined-append on.pieces piece);
-      empty = ap (λ (v : Quiet). v.replies) gone ∙ rounds-empty g then_on rounds made.1;
+      empty = ap (λ (v : Lone). v.quiet.replies) gone ∙ rounds-empty g then_on rounds made.1;
       closes = λ (more : List (List ℕ)) (behind : List Turn)
           (schedule : IsSchedule g (run g q (on.turns ++ turns)) more behind).
           let later : IsSchedule g (run g then_on rounds) more behind =
-          subst (λ (v : Quiet). IsSchedule g v more behind) gone schedule in
+          subst (λ (v : Lone). IsSchedule g v more behind) gone schedule in
           let all : IsSchedule g now (piece ∷ more) (turns ++ behind) =
           (rounds, behind, made.1, λ (some : more ≢ []). (never, clean), later, refl) in
           let whole : IsSchedule g q (on.pieces ++ piece ∷ more) (on.turns ++ (turns ++ behind)) =

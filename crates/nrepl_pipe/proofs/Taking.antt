@@ -2,9 +2,8 @@
 use Rattle.std.proofs.Common.{◌+◌, ◌<◌, ◌≤◌, arith, ◌≡◌, ◌≢◌, ℕ, List, [], ◌∷◌, ◌++◌, Bool, true}
 use Rattle.std.proofs.Common.{false, not, refl, sym, ap, ◌∙◌, subst}
 use Rattle.server_rules.specs.Ground.{Ground}
-use Rattle.server_rules.specs.Tenant.{Quiet}
 use Rattle.server_rules.specs.declared.actor.Actor.{Actor}
-use Rattle.tenant_turns.specs.Turns.{goes, Stepped, accepted, refused, step, quiet_or, after, run}
+use Rattle.tenant_turns.specs.Turns.{Lone, goes, Stepped, accepted, refused, step, lone_or, after, run}
 use Rattle.nrepl_pipe.specs.Schedule.{go_each}
 use Rattle.nrepl_pipe.specs.Parts.{TurnsSo, with_turn, IsRound}
 use Rattle.nrepl_pipe.specs.declared.actors.Round.{Round}
@@ -14,7 +13,7 @@ use Rattle.nrepl_pipe.proofs.Going.{StepsSo, go-steps}
 use Rattle.nrepl_pipe.proofs.EachRound.{held-waits}
 use Rattle.nrepl_pipe.proofs.Told.{with-turn}
 
-pub record TurnsOn (g : Ground) (Stands : Quiet → Type 0) (q : Quiet) (actors : List Actor)
+pub record TurnsOn (g : Ground) (Stands : Lone → Type 0) (q : Lone) (actors : List Actor)
     (told : Round) : Type 0 where
   pub stands : Stands (run g q (go_each actors))
   pub told_so : IsRound told g q (go_each actors)
@@ -22,12 +21,12 @@ pub record TurnsOn (g : Ground) (Stands : Quiet → Type 0) (q : Quiet) (actors 
   -- that wait
   pub used : told.uses_step ≡ true → told.is_last ≡ false
   pub untouched : told.uses_step ≡ false → (run g q (go_each actors) ≡ q)
-      × (told.is_last ≡ false → q.replies ≢ [])
+      × (told.is_last ≡ false → q.quiet.replies ≢ [])
 
 abbrev pub none_told : Round
 none_told = record { is_last = true; uses_step = false; is_worn = false }
 
-pub turns-none : (g : Ground) (Stands : Quiet → Type 0) (q : Quiet) → Stands q
+pub turns-none : (g : Ground) (Stands : Lone → Type 0) (q : Lone) → Stands q
     → TurnsOn g Stands q [] none_told
 turns-none g Stands q stands = record {
   stands = stands;
@@ -63,25 +62,25 @@ fewer-left told Turned.Idle start now later before most fewer one is =
     let already = before is in omega arith
 
 -- no step is used up
-stays : (q : Quiet) (told : Round) (came : Turned) (s : Stepped) → TurnsSo came s
+stays : (q : Lone) (told : Round) (came : Turned) (s : Stepped) → TurnsSo came s
     → (with_turn told came).uses_step ≡ false
-    → (told.uses_step ≡ false) × (quiet_or q s ≡ q)
+    → (told.uses_step ≡ false) × (lone_or q s ≡ q)
 stays q told Turned.Done s is none = cc
-stays q told Turned.Held s is none = (none, ap (quiet_or q) is)
-stays q told Turned.Worn s is none = (none, ap (quiet_or q) is)
+stays q told Turned.Held s is none = (none, ap (lone_or q) is)
+stays q told Turned.Worn s is none = (none, ap (lone_or q) is)
 stays q told Turned.Idle (refused why) is none = (none, refl)
 stays q told Turned.Idle (accepted new bytes) is none = absurd is.0
 
-waits : (q : Quiet) (told : Round) (came : Turned) (s : Stepped) → StepsSo q s → TurnsSo came s
-    → (with_turn told came).uses_step ≡ false → (told.is_last ≡ false → q.replies ≢ [])
-    → (with_turn told came).is_last ≡ false → q.replies ≢ []
+waits : (q : Lone) (told : Round) (came : Turned) (s : Stepped) → StepsSo q s → TurnsSo came s
+    → (with_turn told came).uses_step ≡ false → (told.is_last ≡ false → q.quiet.replies ≢ [])
+    → (with_turn told came).is_last ≡ false → q.quiet.replies ≢ []
 waits q told Turned.Done s so is none before on = cc
 waits q told Turned.Held s so is none before on =
     let held = subst (StepsSo q) is so in held-waits q (held refl)
 waits q told Turned.Worn s so is none before on = before on
 waits q told Turned.Idle s so is none before on = before on
 
-pub turns-more : (g : Ground) (Old New : Quiet → Type 0) (q : Quiet) (actors : List Actor)
+pub turns-more : (g : Ground) (Old New : Lone → Type 0) (q : Lone) (actors : List Actor)
     (a : Actor) (told : Round) (came : Turned) (on : TurnsOn g Old q actors told)
     → TurnsSo came (step g (run g q (go_each actors)) (goes a))
     → New (after g (run g q (go_each actors)) (goes a))
@@ -107,15 +106,15 @@ turns-more g Old New q actors a told came on is stands =
           );
     }
 
-last-of : (q : Quiet) (last uses : Bool) → (uses ≡ true → last ≡ false)
-    → (uses ≡ false → last ≡ false → q.replies ≢ []) → q.replies ≡ [] → last ≡ not uses
+last-of : (q : Lone) (last uses : Bool) → (uses ≡ true → last ≡ false)
+    → (uses ≡ false → last ≡ false → q.quiet.replies ≢ []) → q.quiet.replies ≡ [] → last ≡ not uses
 last-of q last true used waits none = used refl
 last-of q true false used waits none = refl
 last-of q false false used waits none = absurd (waits refl refl none)
 
 -- where no reply waits, another round follows only where a step was used up
-pub turns-last : (g : Ground) (Stands : Quiet → Type 0) (q : Quiet) (actors : List Actor)
-    (told : Round) → TurnsOn g Stands q actors told → q.replies ≡ []
+pub turns-last : (g : Ground) (Stands : Lone → Type 0) (q : Lone) (actors : List Actor)
+    (told : Round) → TurnsOn g Stands q actors told → q.quiet.replies ≡ []
     → told.is_last ≡ not told.uses_step
 turns-last g Stands q actors told on none =
     last-of q told.is_last told.uses_step on.used (λ unused. (on.untouched unused).1) none

@@ -7,8 +7,7 @@ use Rattle.bencode_wire.specs.Fault.{counted, fault_at}
 use Rattle.bencode_wire.specs.declared.fault.WireFault.{WireFault}
 use Rattle.server_rules.specs.Ground.{Ground}
 use Rattle.server_rules.specs.Hearing.{fault_in}
-use Rattle.server_rules.specs.Tenant.{Quiet}
-use Rattle.tenant_turns.specs.Turns.{hears, after, run, wire_at}
+use Rattle.tenant_turns.specs.Turns.{Lone, hears, after, run, wire_at}
 use Rattle.tenant_turns.specs.declared.turns.Wire.{Wire}
 use Rattle.nrepl_pipe.specs.Schedule.{stream_end}
 use Rattle.nrepl_pipe.specs.Served.{IsReadUp}
@@ -38,20 +37,20 @@ pub wire-clean : (wire : Wire) (end : Ending) → wire ≡ wire_at end
 wire-clean wire (rest m) e never = refl
 wire-clean wire (fault rule at) e never = absurd (never (fault_at rule (counted at)) e)
 
-pub ends-worn : (g : Ground) (New : Quiet → Type 0) (now : Quiet) (held holds : Option (List ℕ))
+pub ends-worn : (g : Ground) (New : Lone → Type 0) (now : Lone) (held holds : Option (List ℕ))
     (piece : List ℕ)
     (made : MakesRounds g New (after g now (hears piece)) held holds Rounds.Worn)
     → EndsWith g now piece (hears piece ∷ made.0) PipeEnd.Worn
 ends-worn g New now held holds piece made = inl (inr made.3, refl)
 
-pub ends-broken : (g : Ground) (Mid New : Quiet → Type 0) (now : Quiet)
+pub ends-broken : (g : Ground) (Mid New : Lone → Type 0) (now : Lone)
     (held holds : Option (List ℕ)) (piece : List ℕ) (end : PipeEnd) → TakesIn g Mid now piece
     → (made : MakesRounds g New (after g now (hears piece)) held holds Rounds.Idle)
-    → end ≡ stream_end (g.readings.stream (run g (after g now (hears piece)) made.0).heard).ending
+    → end ≡ stream_end (g.readings.stream (run g (after g now (hears piece)) made.0).quiet.heard).ending
     → EndsWith g now piece (hears piece ∷ made.0) end
 ends-broken g Mid New now held holds piece end taken made is =
     let v = after g now (hears piece) in
-    let heard : (run g v made.0).heard ≡ now.heard ++ piece =
+    let heard : (run g v made.0).quiet.heard ≡ now.quiet.heard ++ piece =
     rounds-heard g v made.0 made.1 ∙ taken.heard in
     inr (
       heard-never_worn g now piece made.0 taken.not_worn made.3,

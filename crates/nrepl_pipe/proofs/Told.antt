@@ -3,10 +3,9 @@ use Rattle.std.proofs.Common.{◌≡◌, ◌⊎◌, inl, inr, List, [], ◌∷�
 use Rattle.std.proofs.Common.{◌∙◌, subst}
 use Rattle.std.specs.Prelude.{◌↔◌, ⊤}
 use Rattle.server_rules.specs.Ground.{Ground}
-use Rattle.server_rules.specs.Tenant.{Quiet}
 use Rattle.server_rules.specs.declared.refusal.Refusal.{Refusal}
 use Rattle.tenant_turns.specs.Turned.{Accepted}
-use Rattle.tenant_turns.specs.Turns.{Turn, Stepped, accepted, refused, step, run}
+use Rattle.tenant_turns.specs.Turns.{Lone, Turn, Stepped, accepted, refused, step, run}
 use Rattle.nrepl_pipe.specs.Schedule.{Rests, AllRest, MeetsWorn}
 use Rattle.nrepl_pipe.specs.Parts.{TurnsSo, with_turn, IsRound}
 use Rattle.nrepl_pipe.specs.declared.actors.Round.{Round}
@@ -14,7 +13,7 @@ use Rattle.nrepl_pipe.specs.declared.actors.Turned.{Turned}
 use Rattle.nrepl_pipe.proofs.Turns.{meets-front, meets-behind, meets-either, rest-append}
 use Rattle.nrepl_pipe.proofs.Turns.{rest-front, rest-behind}
 
-same-last : (g : Ground) (q : Quiet) (turns : List Turn) (turn : Turn) (b : Bool)
+same-last : (g : Ground) (q : Lone) (turns : List Turn) (turn : Turn) (b : Bool)
     → (b ≡ true) ↔ AllRest g q turns → Rests (step g (run g q turns) turn)
     → (b ≡ true) ↔ AllRest g q (turns ++ turn ∷ [])
 same-last g q turns turn b so rests = (
@@ -22,7 +21,7 @@ same-last g q turns turn b so rests = (
   λ all. so.1 (rest-front g q turns (turn ∷ []) all),
 )
 
-no-last : (g : Ground) (q : Quiet) (turns : List Turn) (turn : Turn)
+no-last : (g : Ground) (q : Lone) (turns : List Turn) (turn : Turn)
     → (Rests (step g (run g q turns) turn) → ⊥)
     → (false ≡ true) ↔ AllRest g q (turns ++ turn ∷ [])
 no-last g q turns turn goes_on = (
@@ -30,7 +29,7 @@ no-last g q turns turn goes_on = (
   λ all. absurd (goes_on (rest-behind g q turns (turn ∷ []) all).0),
 )
 
-same-worn : (g : Ground) (q : Quiet) (turns : List Turn) (turn : Turn) (b : Bool)
+same-worn : (g : Ground) (q : Lone) (turns : List Turn) (turn : Turn) (b : Bool)
     → (b ≡ true) ↔ MeetsWorn g q turns
     → (step g (run g q turns) turn ≡ refused Refusal.Worn → ⊥)
     → (b ≡ true) ↔ MeetsWorn g q (turns ++ turn ∷ [])
@@ -43,7 +42,7 @@ same-worn g q turns turn b so other = (
   by (inr (inl here)) = absurd (other here)
   by (inr (inr never)) = absurd never
 
-now-worn : (g : Ground) (q : Quiet) (turns : List Turn) (turn : Turn)
+now-worn : (g : Ground) (q : Lone) (turns : List Turn) (turn : Turn)
     → step g (run g q turns) turn ≡ refused Refusal.Worn
     → (true ≡ true) ↔ MeetsWorn g q (turns ++ turn ∷ [])
 now-worn g q turns turn is = (
@@ -59,7 +58,7 @@ accepted-not_worn : (s : Stepped) → Accepted (λ q. ⊤) s → s ≡ refused R
 accepted-not_worn (accepted new bytes) is worn = cc
 accepted-not_worn (refused why) is worn = is
 
-pub with-turn : (g : Ground) (q : Quiet) (turns : List Turn) (turn : Turn) (told : Round)
+pub with-turn : (g : Ground) (q : Lone) (turns : List Turn) (turn : Turn) (told : Round)
     (came : Turned) → IsRound told g q turns → TurnsSo came (step g (run g q turns) turn)
     → IsRound (with_turn told came) g q (turns ++ turn ∷ [])
 with-turn g q turns turn told Turned.Done so is = record {

@@ -2,12 +2,12 @@
 use Rattle.std.specs.Prelude.{◌≡◌, [], None}
 use Rattle.server_rules.specs.Ground.{Ground}
 use Rattle.server_rules.specs.Hearing.{stream_fault}
-use Rattle.server_rules.specs.Tenant.{Quiet}
+use Rattle.tenant_turns.specs.Turns.{Lone}
 
 -- nothing was heard, and no reply waits
-abbrev pub IsFresh : Quiet → Type 0
-IsFresh q = (q.heard ≡ []) × (q.replies ≡ [])
+abbrev pub IsFresh : Lone → Type 0
+IsFresh l = (l.quiet.heard ≡ []) × (l.quiet.replies ≡ [])
 
 -- the stream has no fault so far, and no reply waits
-abbrev pub IsReady : Ground → Quiet → Type 0
-IsReady g q = (stream_fault g.readings q.heard ≡ None) × (q.replies ≡ [])
+abbrev pub IsReady : Ground → Lone → Type 0
+IsReady g l = (stream_fault g.readings l.quiet.heard ≡ None) × (l.quiet.replies ≡ [])

@@ -3,9 +3,8 @@ use Rattle.std.specs.Prelude.{◌≡◌, ◌≢◌, ◌↔◌, ◌⊎◌, ℕ, �
 use Rattle.std.specs.Prelude.{Option}
 use Rattle.std.specs.Io.KnownBytes.{Consumes, Appends}
 use Rattle.server_rules.specs.Ground.{Ground}
-use Rattle.server_rules.specs.Tenant.{Quiet}
 use Rattle.server_rules.specs.declared.refusal.Refusal.{Refusal}
-use Rattle.tenant_turns.specs.Turns.{Turn, Stepped, refused, run, served}
+use Rattle.tenant_turns.specs.Turns.{Lone, Turn, Stepped, refused, run, served}
 use Rattle.tenant_turns.specs.Turned.{Accepted}
 use Rattle.nrepl_pipe.specs.Schedule.{Rests, AllRest, AreRounds, MeetsWorn}
 use Rattle.nrepl_pipe.specs.declared.stream.Heard.{Heard}
@@ -22,13 +21,13 @@ LosesPiece unread left =
     (bytes : List ℕ) × ((bytes ≡ []) ⊎ IsPiece bytes) × Consumes unread left bytes
 
 -- what came of a piece
-abbrev pub HearsSo : Heard → (Quiet → Type 0) → Stepped → Type 0
+abbrev pub HearsSo : Heard → (Lone → Type 0) → Stepped → Type 0
 HearsSo Heard.Taken Stands stepped = Accepted Stands stepped
 HearsSo Heard.Worn Stands stepped = stepped ≡ refused Refusal.Worn
 
 -- what came of an actor's turn
 abbrev pub TurnsSo : Turned → Stepped → Type 0
-TurnsSo Turned.Done stepped = Accepted (λ q. ⊤) stepped
+TurnsSo Turned.Done stepped = Accepted (λ l. ⊤) stepped
 TurnsSo Turned.Held stepped = stepped ≡ refused Refusal.Held
 TurnsSo Turned.Worn stepped = stepped ≡ refused Refusal.Worn
 TurnsSo Turned.Idle stepped = Rests stepped × (stepped ≢ refused Refusal.Worn)
@@ -41,35 +40,35 @@ with_turn told Turned.Worn = record told { is_worn = true }
 with_turn told Turned.Idle = told
 
 -- what is told of the turns of a round
-pub record IsRound (told : Round) (g : Ground) (q : Quiet) (turns : List Turn) : Type 0 where
-  pub is_last : (told.is_last ≡ true) ↔ AllRest g q turns
-  pub is_worn : (told.is_worn ≡ true) ↔ MeetsWorn g q turns
+pub record IsRound (told : Round) (g : Ground) (l : Lone) (turns : List Turn) : Type 0 where
+  pub is_last : (told.is_last ≡ true) ↔ AllRest g l turns
+  pub is_worn : (told.is_worn ≡ true) ↔ MeetsWorn g l turns
 
 -- the turns were made, and what they serve was written
-pub record Makes (g : Ground) (Stands : Quiet → Type 0) (q : Quiet) (turns : List Turn)
+pub record Makes (g : Ground) (Stands : Lone → Type 0) (l : Lone) (turns : List Turn)
     (held holds : Option (List ℕ)) : Type 0 where
-  pub appends : Appends held holds (served g q turns)
-  pub stands : Stands (run g q turns)
+  pub appends : Appends held holds (served g l turns)
+  pub stands : Stands (run g l turns)
 
 -- what was written begins what the turns serve
-pub record Begins (g : Ground) (q : Quiet) (turns : List Turn) (held holds : Option (List ℕ))
+pub record Begins (g : Ground) (l : Lone) (turns : List Turn) (held holds : Option (List ℕ))
     : Type 0 where
   pub written : List ℕ
   pub more : List ℕ
   pub appends : Appends held holds written
-  pub begins : served g q turns ≡ written ++ more
+  pub begins : served g l turns ≡ written ++ more
 
 -- rounds end with a turn that met the end of the steps, or without one
-abbrev pub EndsSo : Rounds → Ground → Quiet → List Turn → Type 0
-EndsSo Rounds.Idle g q turns = MeetsWorn g q turns → ⊥
-EndsSo Rounds.Worn g q turns = MeetsWorn g q turns
+abbrev pub EndsSo : Rounds → Ground → Lone → List Turn → Type 0
+EndsSo Rounds.Idle g l turns = MeetsWorn g l turns → ⊥
+EndsSo Rounds.Worn g l turns = MeetsWorn g l turns
 
 abbrev pub MakesRounds
-    : Ground → (Quiet → Type 0) → Quiet → Option (List ℕ) → Option (List ℕ) → Rounds → Type 0
-MakesRounds g Stands q held holds end =
-    (turns : List Turn) × AreRounds g q turns × Makes g Stands q turns held holds
-    × EndsSo end g q turns
+    : Ground → (Lone → Type 0) → Lone → Option (List ℕ) → Option (List ℕ) → Rounds → Type 0
+MakesRounds g Stands l held holds end =
+    (turns : List Turn) × AreRounds g l turns × Makes g Stands l turns held holds
+    × EndsSo end g l turns
 
-abbrev pub BeginsRounds : Ground → Quiet → Option (List ℕ) → Option (List ℕ) → Type 0
-BeginsRounds g q held holds =
-    (turns : List Turn) × AreRounds g q turns × Begins g q turns held holds
+abbrev pub BeginsRounds : Ground → Lone → Option (List ℕ) → Option (List ℕ) → Type 0
+BeginsRounds g l held holds =
+    (turns : List Turn) × AreRounds g l turns × Begins g l turns held holds

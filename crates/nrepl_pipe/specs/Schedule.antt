@@ -5,10 +5,9 @@ use Rattle.bencode_wire.specs.Fault.{counted, fault_at}
 use Rattle.repl_replies.specs.Replies.{ReplyData}
 use Rattle.server_rules.specs.Ground.{Ground}
 use Rattle.server_rules.specs.Hearing.{stream_fault}
-use Rattle.server_rules.specs.Tenant.{Quiet}
 use Rattle.server_rules.specs.declared.actor.Actor.{Actor}
 use Rattle.server_rules.specs.declared.refusal.Refusal.{Refusal}
-use Rattle.tenant_turns.specs.Turns.{Turn, hears, goes, drains, actors_of, Stepped, accepted}
+use Rattle.tenant_turns.specs.Turns.{Lone, Turn, hears, goes, drains, actors_of, Stepped, accepted}
 use Rattle.tenant_turns.specs.Turns.{refused, step, after, run}
 use Rattle.nrepl_pipe.specs.declared.ends.PipeEnd.{PipeEnd}
 
@@ -29,8 +28,8 @@ drain_all (reply ∷ replies) = drains ∷ drain_all replies
 
 -- a round: each actor that is there as it begins goes on once, and then the replies that wait are
 -- taken out
-abbrev pub round : Ground → Quiet → List Turn
-round g q = go_each (actors_of q) ++ drain_all (run g q (go_each (actors_of q))).replies
+abbrev pub round : Ground → Lone → List Turn
+round g l = go_each (actors_of l) ++ drain_all (run g l (go_each (actors_of l))).quiet.replies
 
 -- the turn is refused, and not for the replies that wait
 abbrev pub Rests : Stepped → Type 0
@@ -38,39 +37,39 @@ Rests (accepted new bytes) = ⊥
 Rests (refused why) = why ≢ Refusal.Held
 
 -- each of these turns is refused, and none for the replies that wait
-abbrev pub AllRest : Ground → Quiet → List Turn → Type 0
-AllRest g q [] = ⊤
-AllRest g q (turn ∷ turns) = Rests (step g q turn) × AllRest g (after g q turn) turns
+abbrev pub AllRest : Ground → Lone → List Turn → Type 0
+AllRest g l [] = ⊤
+AllRest g l (turn ∷ turns) = Rests (step g l turn) × AllRest g (after g l turn) turns
 
 -- the round in which no actor goes on, nor waits for replies to be taken out
-abbrev pub IsLast : Ground → Quiet → Type 0
-IsLast g q = AllRest g q (go_each (actors_of q))
+abbrev pub IsLast : Ground → Lone → Type 0
+IsLast g l = AllRest g l (go_each (actors_of l))
 
 -- the turns of the rounds behind a piece
-pub data AreRounds (g : Ground) : Quiet → List Turn → Type 0 where
-  last : (q : Quiet) → IsLast g q → AreRounds g q (round g q)
-  more : (q : Quiet) (turns : List Turn) → (IsLast g q → ⊥)
-      → AreRounds g (run g q (round g q)) turns → AreRounds g q (round g q ++ turns)
+pub data AreRounds (g : Ground) : Lone → List Turn → Type 0 where
+  last : (l : Lone) → IsLast g l → AreRounds g l (round g l)
+  more : (l : Lone) (turns : List Turn) → (IsLast g l → ⊥)
+      → AreRounds g (run g l (round g l)) turns → AreRounds g l (round g l ++ turns)
 
 -- a turn was refused since all steps were used up
-abbrev pub MeetsWorn : Ground → Quiet → List Turn → Type 0
-MeetsWorn g q [] = ⊥
-MeetsWorn g q (turn ∷ turns) =
-    (step g q turn ≡ refused Refusal.Worn) ⊎ MeetsWorn g (after g q turn) turns
+abbrev pub MeetsWorn : Ground → Lone → List Turn → Type 0
+MeetsWorn g l [] = ⊥
+MeetsWorn g l (turn ∷ turns) =
+    (step g l turn ≡ refused Refusal.Worn) ⊎ MeetsWorn g (after g l turn) turns
 
 -- reading goes on behind these turns: no turn met the end of the steps, and the stream has no fault
-abbrev pub ReadsOn : Ground → Quiet → List Turn → Type 0
-ReadsOn g q turns =
-    (MeetsWorn g q turns → ⊥) × (stream_fault g.readings (run g q turns).heard ≡ None)
+abbrev pub ReadsOn : Ground → Lone → List Turn → Type 0
+ReadsOn g l turns =
+    (MeetsWorn g l turns → ⊥) × (stream_fault g.readings (run g l turns).quiet.heard ≡ None)
 
 -- each piece is heard and rounds follow; another piece is read only where reading goes on
-abbrev pub IsSchedule : Ground → Quiet → List (List ℕ) → List Turn → Type 0
-IsSchedule g q [] turns = turns ≡ []
-IsSchedule g q (piece ∷ pieces) turns =
+abbrev pub IsSchedule : Ground → Lone → List (List ℕ) → List Turn → Type 0
+IsSchedule g l [] turns = turns ≡ []
+IsSchedule g l (piece ∷ pieces) turns =
     (rounds : List Turn) × (behind : List Turn)
-    × AreRounds g (after g q (hears piece)) rounds
-    × (pieces ≢ [] → ReadsOn g q (hears piece ∷ rounds))
-    × IsSchedule g (run g q (hears piece ∷ rounds)) pieces behind
+    × AreRounds g (after g l (hears piece)) rounds
+    × (pieces ≢ [] → ReadsOn g l (hears piece ∷ rounds))
+    × IsSchedule g (run g l (hears piece ∷ rounds)) pieces behind
     × (turns ≡ (hears piece ∷ rounds) ++ behind)
 
 -- how a stream of these bytes ends
@@ -80,7 +79,7 @@ stream_end (rest (byte ∷ m)) = PipeEnd.Truncated
 stream_end (fault rule at) = PipeEnd.Broken (fault_at rule (counted at))
 
 -- wherever a turn met the end of the steps, that is the end; else what was read says how it ends
-abbrev pub IsEnd : Ground → Quiet → List Turn → List ℕ → PipeEnd → Type 0
-IsEnd g q turns read end =
-    (MeetsWorn g q turns × (end ≡ PipeEnd.Worn))
-    ⊎ ((MeetsWorn g q turns → ⊥) × (end ≡ stream_end (g.readings.stream read).ending))
+abbrev pub IsEnd : Ground → Lone → List Turn → List ℕ → PipeEnd → Type 0
+IsEnd g l turns read end =
+    (MeetsWorn g l turns × (end ≡ PipeEnd.Worn))
+    ⊎ ((MeetsWorn g l turns → ⊥) × (end ≡ stream_end (g.readings.stream read).ending))

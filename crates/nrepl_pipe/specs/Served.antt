@@ -3,32 +3,31 @@ use Rattle.std.specs.Prelude.{◌≡◌, ℕ, List, ◌++◌, ⊤, Option, Resul
 use Rattle.std.specs.Io.KnownBytes.{Consumes, Appends, IsAtEnd}
 use Rattle.bencode_wire.specs.Spelling.{joined}
 use Rattle.server_rules.specs.Ground.{Ground}
-use Rattle.server_rules.specs.Tenant.{Quiet}
-use Rattle.tenant_turns.specs.Turns.{Turn, served}
+use Rattle.tenant_turns.specs.Turns.{Lone, Turn, served}
 use Rattle.nrepl_pipe.specs.Schedule.{ArePieces, IsSchedule, IsEnd}
 use Rattle.nrepl_pipe.specs.declared.ends.PipeEnd.{PipeEnd}
 use Rattle.nrepl_pipe.specs.declared.ends.PipeError.{PipeError}
 
 -- for some cutting of what was read into pieces, what was written is what the schedule of these
 -- pieces serves
-pub record Serves (g : Ground) (q : Quiet) (read written : List ℕ) (end : PipeEnd) : Type 0 where
+pub record Serves (g : Ground) (l : Lone) (read written : List ℕ) (end : PipeEnd) : Type 0 where
   pub pieces : List (List ℕ)
   pub turns : List Turn
   pub are_pieces : ArePieces pieces
   pub cutting : joined pieces ≡ read
-  pub schedule : IsSchedule g q pieces turns
-  pub written_is : written ≡ served g q turns
-  pub is_end : IsEnd g q turns read end
+  pub schedule : IsSchedule g l pieces turns
+  pub written_is : written ≡ served g l turns
+  pub is_end : IsEnd g l turns read end
 
 -- what was written begins what the schedule of these pieces serves
-pub record BeginsToServe (g : Ground) (q : Quiet) (read written : List ℕ) : Type 0 where
+pub record BeginsToServe (g : Ground) (l : Lone) (read written : List ℕ) : Type 0 where
   pub pieces : List (List ℕ)
   pub turns : List Turn
   pub are_pieces : ArePieces pieces
   pub cutting : joined pieces ≡ read
-  pub schedule : IsSchedule g q pieces turns
+  pub schedule : IsSchedule g l pieces turns
   pub more : List ℕ
-  pub begins : served g q turns ≡ written ++ more
+  pub begins : served g l turns ≡ written ++ more
 
 -- whole and truncated input was read to its end
 abbrev pub IsReadUp : PipeEnd → Option (List ℕ) → Type 0
@@ -48,9 +47,9 @@ Moves unread left held holds are =
 -- where it ends well, all that the schedule serves was written; after an error a part of it from
 -- its front
 abbrev pub Outcome
-    : Ground → Quiet → Option (List ℕ) → Option (List ℕ) → Option (List ℕ) → Option (List ℕ)
+    : Ground → Lone → Option (List ℕ) → Option (List ℕ) → Option (List ℕ) → Option (List ℕ)
     → Result PipeEnd PipeError → Type 0
-Outcome g q unread left held holds (Ok end) =
-    Moves unread left held holds (λ read written. Serves g q read written end) × IsReadUp end left
-Outcome g q unread left held holds (Err error) =
-    Moves unread left held holds (λ read written. BeginsToServe g q read written)
+Outcome g l unread left held holds (Ok end) =
+    Moves unread left held holds (λ read written. Serves g l read written end) × IsReadUp end left
+Outcome g l unread left held holds (Err error) =
+    Moves unread left held holds (λ read written. BeginsToServe g l read written)

@@ -1,9 +1,8 @@
 // The actors' turns in a round.
 ghost use Rattle.std.specs.Prelude.{◌≡◌, ◌+◌, ◌<◌, ◌≤◌, [], Ok, true, not, IfOk, IfErr};
 ghost use Rattle.server_rules.specs.Ground.{Ground};
-ghost use Rattle.server_rules.specs.Tenant.{Quiet};
 ghost use Rattle.tenant_turns.specs.Grounds.{IsRight};
-ghost use Rattle.tenant_turns.specs.Turns.{goes, actors_of, step, after, run};
+ghost use Rattle.tenant_turns.specs.Turns.{Lone, goes, actors_of, step, after, run};
 ghost use Rattle.nrepl_pipe.specs.Schedule.{go_each};
 ghost use Rattle.nrepl_pipe.specs.Parts.{TurnsSo, with_turn, IsRound};
 
@@ -41,11 +40,11 @@ pub(crate) fn take_turns<C: Core>(alloc: Global, core: &mut C) -> Result<Round, 
     ensures steps { (C.left core.new).steps ≤ (C.left core.old).steps }
     ensures used { IfOk result (λ told. told.uses_step ≡ true
         → (C.left core.new).steps < (C.left core.old).steps) }
-    ensures goes_on { (g : Ground) (q : Quiet) → IsRight g → C.stands g core.old q
-        → q.replies ≡ [] → IfOk result (λ told. told.is_last ≡ not told.uses_step) }
-    ensures turned { (g : Ground) (q : Quiet) → IsRight g → C.stands g core.old q
-        → IfOk result (λ told. IsRound told g q (go_each (actors_of q))
-        × C.stands g core.new (run g q (go_each (actors_of q)))) }
+    ensures goes_on { (g : Ground) (l : Lone) → IsRight g → C.stands g core.old l
+        → l.quiet.replies ≡ [] → IfOk result (λ told. told.is_last ≡ not told.uses_step) }
+    ensures turned { (g : Ground) (l : Lone) → IsRight g → C.stands g core.old l
+        → IfOk result (λ told. IsRound told g l (go_each (actors_of l))
+        × C.stands g core.new (run g l (go_each (actors_of l)))) }
     ensures told { IfErr result (λ why. why ≡ PipeError.NoMemory) }
 {
     let actors = core.actors(alloc)?;
@@ -87,9 +86,9 @@ impl Round {
 fn take_turn<C: Core>(core: &mut C, actor: Actor) -> Result<Turned, PipeError>
     ensures steps { (C.left core.new).steps ≤ (C.left core.old).steps }
     ensures done { result ≡ Ok Turned.Done → (C.left core.old).steps ≡ (C.left core.new).steps + 1 }
-    ensures turned { (g : Ground) (q : Quiet) → IsRight g → C.stands g core.old q
-        → IfOk result (λ came. TurnsSo came (step g q (goes actor))
-        × C.stands g core.new (after g q (goes actor))) }
+    ensures turned { (g : Ground) (l : Lone) → IsRight g → C.stands g core.old l
+        → IfOk result (λ came. TurnsSo came (step g l (goes actor))
+        × C.stands g core.new (after g l (goes actor))) }
     ensures told { IfErr result (λ why. why ≡ PipeError.NoMemory) }
 {
     match core.go(actor) {

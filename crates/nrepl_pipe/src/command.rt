@@ -1,7 +1,7 @@
 // The exit status of `pipe`, and its line on standard error.
 ghost use Rattle.std.specs.Prelude.{◌≡◌, Result};
 ghost use Rattle.server_rules.specs.Ground.{Ground};
-ghost use Rattle.server_rules.specs.Tenant.{Quiet};
+ghost use Rattle.tenant_turns.specs.Turns.{Lone};
 ghost use Rattle.tenant_turns.specs.Grounds.{IsRight};
 ghost use Rattle.nrepl_pipe.specs.Failing.{Tells};
 ghost use Rattle.nrepl_pipe.specs.Fresh.{IsFresh};
@@ -30,8 +30,8 @@ pub fn pipe_command<C: Core, R: Source, W: Sink, E: Write>(
     ensures { (outcome : Result PipeEnd PipeError) × (result ≡ status_of outcome)
         × Tells (R.failed reader.old) (R.failed reader.new)
         (W.failed writer.old) (W.failed writer.new) outcome
-        × ((g : Ground) (q : Quiet) → IsRight g → C.stands g core.old q → IsFresh q
-        → Outcome g q (R.remaining reader.old) (R.remaining reader.new)
+        × ((g : Ground) (l : Lone) → IsRight g → C.stands g core.old l → IsFresh l
+        → Outcome g l (R.remaining reader.old) (R.remaining reader.new)
         (W.contents writer.old) (W.contents writer.new) outcome) }
 {
     let outcome = pipe(alloc, core, reader, writer);

@@ -2,7 +2,7 @@
 ghost use Rattle.std.specs.Prelude.{◌≡◌, ℕ, List, [], ◌++◌, false, OnOk, OnErr};
 ghost use Rattle.std.specs.Io.KnownBytes.{Appends};
 ghost use Rattle.server_rules.specs.Ground.{Ground};
-ghost use Rattle.server_rules.specs.Tenant.{Quiet};
+ghost use Rattle.tenant_turns.specs.Turns.{Lone};
 ghost use Rattle.nrepl_pipe.specs.Schedule.{drain_all};
 ghost use Rattle.nrepl_pipe.specs.Failing.{Marks, is_read_failed, is_write_failed};
 ghost use Rattle.nrepl_pipe.specs.Parts.{Makes, Begins};
@@ -14,11 +14,11 @@ use tenant_turns::Core;
 // Takes the replies out, and writes each at once.
 pub(crate) fn write_replies<C: Core, W: Sink>(core: &mut C, writer: &mut W) -> Result<(), PipeError>
     ensures steps { (C.left core.new).steps ≡ (C.left core.old).steps }
-    ensures ok { (g : Ground) (q : Quiet) → C.stands g core.old q
-        → OnOk result (Makes g (C.stands g core.new) q (drain_all q.replies)
+    ensures ok { (g : Ground) (l : Lone) → C.stands g core.old l
+        → OnOk result (Makes g (C.stands g core.new) l (drain_all l.quiet.replies)
         (W.contents writer.old) (W.contents writer.new)) }
-    ensures err { (g : Ground) (q : Quiet) → C.stands g core.old q
-        → OnErr result (Begins g q (drain_all q.replies)
+    ensures err { (g : Ground) (l : Lone) → C.stands g core.old l
+        → OnErr result (Begins g l (drain_all l.quiet.replies)
         (W.contents writer.old) (W.contents writer.new)) }
     ensures told { Marks (W.failed writer.old) (W.failed writer.new) (is_write_failed result) }
     ensures no_read { is_read_failed result ≡ false }

@@ -1,9 +1,8 @@
 // The rounds behind a piece: each actor goes on once, and the replies that wait are written.
 ghost use Rattle.std.specs.Prelude.{◌≡◌, ◌<◌, ◌≤◌, [], true, false, not, IfOk, OnErr};
 ghost use Rattle.server_rules.specs.Ground.{Ground};
-ghost use Rattle.server_rules.specs.Tenant.{Quiet};
 ghost use Rattle.tenant_turns.specs.Grounds.{IsRight};
-ghost use Rattle.tenant_turns.specs.Turns.{actors_of};
+ghost use Rattle.tenant_turns.specs.Turns.{Lone, actors_of};
 ghost use Rattle.nrepl_pipe.specs.Schedule.{go_each, round};
 ghost use Rattle.nrepl_pipe.specs.Failing.{Marks, is_read_failed, is_write_failed};
 ghost use Rattle.nrepl_pipe.specs.Parts.{IsRound, Makes, Begins, MakesRounds, BeginsRounds};
@@ -30,11 +29,11 @@ pub(crate) fn run_rounds<C: Core, W: Sink>(
     writer: &mut W,
 ) -> Result<Rounds, PipeError>
     ensures steps { (C.left core.new).steps ≤ (C.left core.old).steps }
-    ensures ok { (g : Ground) (q : Quiet) → IsRight g → C.stands g core.old q
-        → IfOk result (λ end. MakesRounds g (C.stands g core.new) q
+    ensures ok { (g : Ground) (l : Lone) → IsRight g → C.stands g core.old l
+        → IfOk result (λ end. MakesRounds g (C.stands g core.new) l
         (W.contents writer.old) (W.contents writer.new) end) }
-    ensures err { (g : Ground) (q : Quiet) → IsRight g → C.stands g core.old q
-        → OnErr result (BeginsRounds g q (W.contents writer.old) (W.contents writer.new)) }
+    ensures err { (g : Ground) (l : Lone) → IsRight g → C.stands g core.old l
+        → OnErr result (BeginsRounds g l (W.contents writer.old) (W.contents writer.new)) }
     ensures told { Marks (W.failed writer.old) (W.failed writer.new) (is_write_failed result) }
     ensures no_read { is_read_failed result ≡ false }
 {
@@ -59,14 +58,14 @@ fn run_round<C: Core, W: Sink>(
     ensures steps { (C.left core.new).steps ≤ (C.left core.old).steps }
     ensures used { IfOk result (λ told. told.uses_step ≡ true
         → (C.left core.new).steps < (C.left core.old).steps) }
-    ensures goes_on { (g : Ground) (q : Quiet) → IsRight g → C.stands g core.old q
-        → q.replies ≡ [] → IfOk result (λ told. told.is_last ≡ not told.uses_step) }
-    ensures ok { (g : Ground) (q : Quiet) → IsRight g → C.stands g core.old q
-        → IfOk result (λ told. IsRound told g q (go_each (actors_of q))
-        × Makes g (C.stands g core.new) q (round g q)
+    ensures goes_on { (g : Ground) (l : Lone) → IsRight g → C.stands g core.old l
+        → l.quiet.replies ≡ [] → IfOk result (λ told. told.is_last ≡ not told.uses_step) }
+    ensures ok { (g : Ground) (l : Lone) → IsRight g → C.stands g core.old l
+        → IfOk result (λ told. IsRound told g l (go_each (actors_of l))
+        × Makes g (C.stands g core.new) l (round g l)
         (W.contents writer.old) (W.contents writer.new)) }
-    ensures err { (g : Ground) (q : Quiet) → IsRight g → C.stands g core.old q
-        → OnErr result (Begins g q (round g q) (W.contents writer.old) (W.contents writer.new)) }
+    ensures err { (g : Ground) (l : Lone) → IsRight g → C.stands g core.old l
+        → OnErr result (Begins g l (round g l) (W.contents writer.old) (W.contents writer.new)) }
     ensures told { Marks (W.failed writer.old) (W.failed writer.new) (is_write_failed result) }
     ensures no_read { is_read_failed result ≡ false }
 {

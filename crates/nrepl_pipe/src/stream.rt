@@ -2,9 +2,8 @@
 ghost use Rattle.std.specs.Prelude.{◌≡◌, ◌+◌, ℕ, [], false, Ok, OnErr, IfOk, IfErr, MatchOption};
 ghost use Rattle.std.specs.Io.KnownBytes.{Consumes, IsAtEnd};
 ghost use Rattle.server_rules.specs.Ground.{Ground};
-ghost use Rattle.server_rules.specs.Tenant.{Quiet};
 ghost use Rattle.tenant_turns.specs.Grounds.{IsRight};
-ghost use Rattle.tenant_turns.specs.Turns.{hears, step};
+ghost use Rattle.tenant_turns.specs.Turns.{Lone, hears, step};
 ghost use Rattle.nrepl_pipe.specs.Schedule.{stream_end};
 ghost use Rattle.nrepl_pipe.specs.Served.{Outcome};
 ghost use Rattle.nrepl_pipe.specs.Fresh.{IsFresh, IsReady};
@@ -39,8 +38,8 @@ pub fn pipe<C: Core, R: Source, W: Sink>(
     reader: &mut R,
     writer: &mut W,
 ) -> Result<PipeEnd, PipeError>
-    ensures served { (g : Ground) (q : Quiet) → IsRight g → C.stands g core.old q → IsFresh q
-        → Outcome g q (R.remaining reader.old) (R.remaining reader.new)
+    ensures served { (g : Ground) (l : Lone) → IsRight g → C.stands g core.old l → IsFresh l
+        → Outcome g l (R.remaining reader.old) (R.remaining reader.new)
         (W.contents writer.old) (W.contents writer.new) result }
     ensures told { Tells (R.failed reader.old) (R.failed reader.new)
         (W.failed writer.old) (W.failed writer.new) result }
@@ -62,8 +61,8 @@ pub fn pipe<C: Core, R: Source, W: Sink>(
 }
 
 fn end_of<C: Core>(core: &C) -> PipeEnd
-    ensures { (g : Ground) (q : Quiet) → C.stands g core.now q
-        → result ≡ stream_end (g.readings.stream q.heard).ending }
+    ensures { (g : Ground) (l : Lone) → C.stands g core.now l
+        → result ≡ stream_end (g.readings.stream l.quiet.heard).ending }
 {
     match core.wire() {
         Wire::Whole => PipeEnd::Whole,
@@ -104,8 +103,8 @@ enum Heard {
 fn take_piece<C: Core>(core: &mut C, piece: &Bytes) -> Result<Heard, PipeError>
     ensures steps { result ≡ Ok Heard.Taken
         → (C.left core.old).steps ≡ (C.left core.new).steps + 1 }
-    ensures heard { (g : Ground) (q : Quiet) → IsRight g → C.stands g core.old q → IsReady g q
-        → IfOk result (λ came. HearsSo came (C.stands g core.new) (step g q (hears piece.now))) }
+    ensures heard { (g : Ground) (l : Lone) → IsRight g → C.stands g core.old l → IsReady g l
+        → IfOk result (λ came. HearsSo came (C.stands g core.new) (step g l (hears piece.now))) }
     ensures told { IfErr result (λ why. why ≡ PipeError.NoMemory) }
 {
     match core.hear(piece) {

@@ -1,5 +1,5 @@
 // Commits.
-ghost use Rattle.std.specs.Prelude.{◌≡◌, ℕ, ◌+◌, ◌<◌, ◌&&◌, List, Some, is_some, true, map};
+ghost use Rattle.std.specs.Prelude.{◌≡◌, ℕ, ◌+◌, ◌<◌, ◌≤◌, ◌&&◌, List, Some, is_some, true, map};
 ghost use Rattle.std.specs.Prelude.{IfOk, IfSome, OnOk, OnErr};
 ghost use Rattle.std.specs.Ordering.{eq_by_cmp};
 ghost use Rattle.repl_asks.specs.Transactions.{ChangeData};
@@ -44,6 +44,10 @@ impl<H: History> RefTable<H> {
             (performed (store_of caller points r) (commits seat (intent_view intent.now)))) }
         ensures as_it_was { (r : Refs) → Stands H.stands self.old r
             → OnErr result (Stands H.stands self.new r) }
+        ensures counter { counter_of self.new ≤ counter_of self.old + 1 }
+        ensures refused { IfOk result (λ outcome. outcome ≡ Outcome.Refused
+            → counter_of self.new ≡ counter_of self.old) }
+        ensures failed { OnErr result (counter_of self.new ≡ counter_of self.old) }
     {
         let Some(placed) = self.fitting_places(alloc, caller, intent)? else {
             return Ok(Outcome::Refused);
@@ -55,6 +59,16 @@ impl<H: History> RefTable<H> {
             self.set_all(placed)?;
         }
         Ok(Outcome::Committed)
+    }
+
+    /// Whether a commit of this would not be refused: all refs are there, none is set twice, and each
+    /// may hold what it is set to. It fails only for want of memory.
+    pub fn accepts(&self, alloc: Global, caller: u64, intent: &Intent) -> Result<bool, AllocError>
+        ensures { (r : Refs) (points : List (Entry ℕ)) → Stands H.stands self.now r
+            → let s = store_of caller points r in IfOk result (λ fit. fit
+            ≡ (all_there (touched (intent_view intent.now)) s && fits (intent_view intent.now))) }
+    {
+        Ok(self.fitting_places(alloc, caller, intent)?.is_some())
     }
 
     // Where the values go, if all refs are there, none is set twice, and each may hold what it is
@@ -152,6 +166,8 @@ impl<H: History> RefTable<H> {
             (raised (store_of caller points r))) r)) }
         ensures as_it_was { (r : Refs) → Stands H.stands self.old r
             → OnErr result (Stands H.stands self.new r) }
+        ensures counter { counter_of self.new ≤ counter_of self.old + 1 }
+        ensures failed { OnErr result (counter_of self.new ≡ counter_of self.old) }
     {
         reserve_all(&mut self.history, &placed)?;
         self.counter += 1;

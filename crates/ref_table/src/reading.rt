@@ -10,7 +10,7 @@ ghost use Rattle.server_rules.specs.Calls.{performed, read_at, reads, sets_least
 ghost use Rattle.ref_history.specs.Effects.{bounds_of};
 ghost use Rattle.ref_table.specs.Refs.{Refs, store_of};
 ghost use Rattle.ref_table.specs.Directory.{id_named, own_id};
-ghost use Rattle.ref_table.specs.Standing.{Stands};
+ghost use Rattle.ref_table.specs.Standing.{Stands, counter_of};
 ghost use Rattle.ref_table.specs.Told.{Performs, reading_told, setting_told};
 
 use crate::outcome::Point;
@@ -38,6 +38,7 @@ impl<H: History> RefTable<H> {
             (performed (store_of caller points r) (reads seat (name_view name)))) }
         ensures as_it_was { (r : Refs) → Stands H.stands self.old r
             → OnErr result (Stands H.stands self.new r) }
+        ensures counter { counter_of self.new ≡ counter_of self.old }
     {
         let Some(id) = self.directory.id_of(caller, name) else {
             return Ok(None);
@@ -58,6 +59,7 @@ impl<H: History> RefTable<H> {
             (read_at seat name (store_of caller points r) (readable point.stamp ref))) }
         ensures as_it_was { (r : Refs) → Stands H.stands self.old r
             → OnErr result (Stands H.stands self.new r) }
+        ensures counter { counter_of self.new ≡ counter_of self.old }
     {
         match self.history.read_at(id, point.stamp) {
             Some(value) => Ok(Reading::Found(copy(value)?)),
@@ -95,9 +97,10 @@ impl<H: History> RefTable<H> {
     /// Sets how many versions a ref keeps behind its newest at the least, and answers whether it is
     /// there and not shared. It takes no memory.
     pub fn set_least(&mut self, caller: u64, name: RefName, least: u64) -> bool
-        ensures { (r : Refs) (points : List (Entry ℕ)) → Stands H.stands self.old r
+        ensures told { (r : Refs) (points : List (Entry ℕ)) → Stands H.stands self.old r
             → Performs H.stands self.new r (setting_told name result)
             (performed (store_of caller points r) (sets_least (name_view name) least)) }
+        ensures counter { counter_of self.new ≡ counter_of self.old }
     {
         match self.settable(caller, name) {
             Some(id) => {
@@ -111,9 +114,10 @@ impl<H: History> RefTable<H> {
     /// Sets how many versions a ref keeps behind its newest at the most, and answers whether it is
     /// there and not shared. Versions that are kept by now stay. It takes no memory.
     pub fn set_most(&mut self, caller: u64, name: RefName, most: u64) -> bool
-        ensures { (r : Refs) (points : List (Entry ℕ)) → Stands H.stands self.old r
+        ensures told { (r : Refs) (points : List (Entry ℕ)) → Stands H.stands self.old r
             → Performs H.stands self.new r (setting_told name result)
             (performed (store_of caller points r) (sets_most (name_view name) most)) }
+        ensures counter { counter_of self.new ≡ counter_of self.old }
     {
         match self.settable(caller, name) {
             Some(id) => {

@@ -71,6 +71,7 @@ impl<H: History> RefTable<H> {
             (makes (view value) bounds.least bounds.most))) }
         ensures as_it_was { (r : Refs) → Stands H.stands self.old r
             → OnErr result (Stands H.stands self.new r) }
+        ensures counter { counter_of self.new ≡ counter_of self.old }
     {
         let id = self.history.make(value, bounds)?;
         match self.directory.add(alloc, owner, id) {

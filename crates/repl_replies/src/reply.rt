@@ -77,8 +77,8 @@ impl Origin {
     }
 }
 
-/// The same value once more, if there is one.
-pub(crate) fn copy_field(alloc: Global, field: &Option<Ben>) -> Result<Option<Ben>, AllocError>
+// The same value once more, if there is one.
+fn copy_field(alloc: Global, field: &Option<Ben>) -> Result<Option<Ben>, AllocError>
     ensures { IfOk result (λ copied. field_view copied ≡ field_view field.now) }
 {
     match field {

@@ -8,11 +8,11 @@ ghost use Rattle.repl_replies.specs.Description as told;
 ghost use Rattle.repl_replies.specs.OperationNames.{operations};
 ghost use Rattle.repl_replies.specs.Replies.{given, status, status_value, strings};
 ghost use Rattle.repl_replies.specs.Replies.{body_fields, bytes_of};
-ghost use Rattle.repl_replies.specs.View.{field_view, body_view, reply_view};
+ghost use Rattle.repl_replies.specs.View.{field_view, origin_view, body_view, reply_view};
 
 use crate::names::OperationName;
-use crate::reply::{Body, Reply, copy_field};
-use bencode_wire::{Ben, Dictionary, put_field, write_into};
+use crate::reply::{Body, Origin, Reply};
+use bencode_wire::{Ben, Dictionary, put_field, spelled};
 use std::alloc::{AllocError, Global};
 
 /// The reply as a message of the stream: a dictionary with its keys sorted. It fails only for want
@@ -20,14 +20,23 @@ use std::alloc::{AllocError, Global};
 pub fn reply_bytes(alloc: Global, reply: &Reply) -> Result<Vec<u8>, AllocError>
     ensures { IfOk result (λ bytes. bytes.items ≡ bytes_of (reply_view reply.now)) }
 {
-    let mut fields = Dictionary::new(alloc);
-    put_given(alloc, &mut fields, "id", &reply.origin.id)?;
-    put_given(alloc, &mut fields, "session", &reply.origin.session)?;
-    put_statuses(alloc, &mut fields, &reply.body)?;
-    put_body(alloc, &mut fields, &reply.body)?;
-    let mut bytes = Vec::new(alloc);
-    write_into(&Ben::Dictionary(fields), &mut bytes)?;
-    Ok(bytes)
+    reply.origin.reply_bytes(alloc, &reply.body)
+}
+
+impl Origin {
+    /// The bytes of a reply to this request that says this. It fails only for want of memory.
+    pub fn reply_bytes(&self, alloc: Global, body: &Body) -> Result<Vec<u8>, AllocError>
+        ensures { IfOk result (λ bytes. bytes.items
+            ≡ bytes_of (record { origin = origin_view self.now; body = body_view body.now })) }
+    {
+        let mut fields = Dictionary::new(alloc);
+        put_given(alloc, &mut fields, "id", &self.id)?;
+        put_given(alloc, &mut fields, "session", &self.session)?;
+        put_statuses(alloc, &mut fields, body)?;
+        put_body(alloc, &mut fields, body)?;
+        let bytes = spelled(alloc, &Ben::Dictionary(fields))?;
+        Ok(bytes)
+    }
 }
 
 fn put(alloc: Global, fields: &mut Dictionary, key: &str, value: Ben) -> Result<(), AllocError>

@@ -1,5 +1,6 @@
 // An actor, which runs the forms of its requests one after another.
 ghost use Rattle.std.specs.Prelude.{◌≡◌, [], true, option_map, OnOk, OnErr};
+ghost use Rattle.server_rules.specs.Ready.{may_begin};
 ghost use Rattle.server_rules.specs.Tenant.{unoccupied};
 ghost use Rattle.tenant_actors.specs.View.{waiting_view, hand_view, actor_view};
 ghost use Rattle.tenant_actors.specs.Queues.{with_request, without_newest};
@@ -27,6 +28,16 @@ impl ActorState {
             waiting: VecDeque::new(alloc),
             hand: None,
             is_closed: false,
+        }
+    }
+
+    /// Whether it has a form or a request to begin.
+    pub fn has_work(&self) -> bool
+        ensures { result ≡ may_begin (actor_view self.now).waiting (actor_view self.now).hand }
+    {
+        match &self.hand {
+            Some(hand) => hand.running.is_none(),
+            None => !self.waiting.is_empty(),
         }
     }
 

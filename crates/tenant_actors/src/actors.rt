@@ -87,16 +87,7 @@ impl Actors {
         ensures { result
             ≡ option_map (λ e. actor_at e.number) (find has_work (actors_view self.now)) }
     {
-        let (actor, _) = self.live.iter().find(|(_, state)| has_work(state))?;
+        let (actor, _) = self.live.iter().find(|(_, state)| state.has_work())?;
         Some(*actor)
-    }
-}
-
-fn has_work(state: &ActorState) -> bool
-    ensures { result ≡ has_work (entry 0 (actor_view state.now)) }
-{
-    match &state.hand {
-        Some(hand) => hand.running.is_none(),
-        None => !state.waiting.is_empty(),
     }
 }

@@ -10,7 +10,7 @@ ghost use Rattle.server_rules.specs.Moves.{told};
 ghost use Rattle.tenant_replies.specs.View.{made_bytes};
 
 use repl_jobs::{End, Finished};
-use repl_replies::{Body, Origin, Reply, reply_bytes};
+use repl_replies::{Body, Origin};
 use repl_values::{Fault, Value, print_into};
 use std::alloc::{AllocError, Global};
 
@@ -38,8 +38,7 @@ impl Batch {
         ensures { OnOk result (made_bytes self.new
             ≡ made_bytes self.old ++ map bytes_of (reply (origin_view origin.now) (body_view body) ∷ [])) }
     {
-        let origin = origin.copy(self.alloc)?;
-        let bytes = reply_bytes(self.alloc, &Reply { origin, body })?;
+        let bytes = origin.reply_bytes(self.alloc, &body)?;
         self.replies.push(bytes)?;
         Ok(())
     }

@@ -16,14 +16,13 @@ use Rattle.server_rules.specs.Plan.{Deed, Outcome, refuses, leaves}
 use Rattle.server_rules.specs.Turns.{honest, honest_at, honest_of, honest_in, honest_by}
 use Rattle.server_rules.specs.declared.actor.Actor.{Actor}
 use Rattle.server_rules.specs.declared.refusal.Refusal.{Refusal}
-use Rattle.tenant_turns.specs.NoRefs.{outcome}
-use Rattle.tenant_turns.specs.Turns.{Turn, deed_of, step, stepped_as, tenant_number}
+use Rattle.tenant_turns.specs.Turns.{Turn, Lone, deed_of, step, stepped_as, ended_as}
 use Rattle.tenant_turns.specs.Turned.{Accepted, IsRefused}
 use Rattle.tenant_world.specs.Running.{running_of, running_in}
 use Rattle.tenant_runner.specs.Ended.{ended}
 use Rattle.tenant_runner.specs.Grounds.{Evaluates}
 use Rattle.tenant_runner.specs.Walked.{IsWalkOf}
-use Rattle.tenant_runner.specs.Standing.{Stands, Does, Refuses}
+use Rattle.tenant_runner.specs.Standing.{Stands, Does, Refuses, comes_to}
 use Rattle.tenant_runner.specs.declared.runner.Runner.{Runner}
 
 -- no form of the actor runs
@@ -88,26 +87,28 @@ honest-ends g a q run e ground some walk =
 
 -- Turns
 
-pub accepted-turn : (g : Ground) (q : Quiet) (turn : Turn) (deed : Deed) (new : Runner)
-    → deed ≡ deed_of g q turn → Does g q deed new → Accepted (Stands g new) (step g q turn)
+pub accepted-turn : (g : Ground) (l : Lone) (turn : Turn) (deed : Deed) (new : Runner)
+    → deed ≡ deed_of g l turn → Does g l deed new → Accepted (Stands g new) (step g l turn)
 unfolding step
-accepted-turn g q turn deed new is does =
-    subst (λ o. Accepted (Stands g new) (stepped_as o))
-    (sym (ap (outcome g tenant_number q) (sym is) ∙ does.accepted)) does.stands
+accepted-turn g l turn deed new is does =
+    let D : Deed → Type 0 = λ x. Accepted (Stands g new) (stepped_as (comes_to g l x)) in
+    let S : Outcome → Type 0 = λ o. Accepted (Stands g new) (ended_as (comes_to g l deed).store o) in
+    subst D is (subst S (sym does.accepted) does.stands)
 
-pub does-turn : {X : Type 0} (g : Ground) (q : Quiet) (turn : Turn) (deed : Deed) (new : Runner)
-    (r : Result X Refusal) → deed ≡ deed_of g q turn → OnOk r (Does g q deed new)
-    → OnOk r (Accepted (Stands g new) (step g q turn))
-does-turn g q turn deed new (Err why) is does = tt
-does-turn g q turn deed new (Ok x) is does = accepted-turn g q turn deed new is does
+pub does-turn : {X : Type 0} (g : Ground) (l : Lone) (turn : Turn) (deed : Deed) (new : Runner)
+    (r : Result X Refusal) → deed ≡ deed_of g l turn → OnOk r (Does g l deed new)
+    → OnOk r (Accepted (Stands g new) (step g l turn))
+does-turn g l turn deed new (Err why) is does = tt
+does-turn g l turn deed new (Ok x) is does = accepted-turn g l turn deed new is does
 
-pub refuses-turn : {X : Type 0} (g : Ground) (q : Quiet) (turn : Turn) (deed : Deed) (new : Runner)
-    (r : Result X Refusal) → deed ≡ deed_of g q turn → IfErr r (Refuses g q deed new)
+pub refuses-turn : {X : Type 0} (g : Ground) (l : Lone) (turn : Turn) (deed : Deed) (new : Runner)
+    (r : Result X Refusal) → deed ≡ deed_of g l turn → IfErr r (Refuses g l deed new)
     → IfErr r (λ why. why ≢ Refusal.NoMemory
-    → IsRefused why (step g q turn) × Stands g new q)
+    → IsRefused why (step g l turn) × Stands g new l)
 unfolding step
-refuses-turn g q turn deed new (Ok x) is refuses_so = tt
-refuses-turn g q turn deed new (Err why) is refuses_so = λ ne. (
-  ap stepped_as (ap (outcome g tenant_number q) (sym is) ∙ refuses_so.refused ne),
+refuses-turn g l turn deed new (Ok x) is refuses_so = tt
+refuses-turn g l turn deed new (Err why) is refuses_so = λ ne. (
+  ap (λ x. stepped_as (comes_to g l x)) (sym is)
+      ∙ ap (ended_as (comes_to g l deed).store) (refuses_so.refused ne),
   refuses_so.stands ne,
 )

@@ -1,5 +1,5 @@
 -- The evaluations by the names of their actors.
-use Rattle.std.specs.Prelude.{Option}
+use Rattle.std.specs.Prelude.{Option, option_and_then}
 use Rattle.std.specs.BTreeMap.{get}
 use Rattle.repl_walker.specs.declared.waiting.Progress.{Progress}
 use Rattle.server_rules.specs.contracts.actor.ActorOrd.TheImpl as order
@@ -8,4 +8,4 @@ use Rattle.tenant_runner.specs.declared.walks.Walks.{Walks}
 
 -- that of the form of this actor, if there is one
 abbrev pub walk_at : Walks → Actor → Option Progress
-walk_at walks a = get (order.ghosts).cmp walks.live a
+walk_at walks a = option_and_then (λ place. place) (get (order.ghosts).cmp walks.live a)

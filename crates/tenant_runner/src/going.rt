@@ -2,12 +2,13 @@
 ghost use Rattle.std.specs.Prelude.{◌≡◌, ◌≢◌, ◌+◌, ◌<◌, Some, Err, length, IfOk, OnOk, IfErr, OnErr};
 ghost use Rattle.repl_asks.specs.View.{ask_view, answer_view};
 ghost use Rattle.server_rules.specs.Ground.{Ground};
+ghost use Rattle.server_rules.specs.Store.{Store};
 ghost use Rattle.server_rules.specs.Tenant.{Quiet, seat_of};
 ghost use Rattle.server_rules.specs.Plan as deeds;
 ghost use Rattle.server_rules.specs.Request as rules;
 ghost use Rattle.tenant_actors.specs.View.{run_view};
 ghost use Rattle.tenant_turns.specs.Grounds.{IsRight};
-ghost use Rattle.tenant_turns.specs.Turns.{tenant_number};
+ghost use Rattle.tenant_turns.specs.Turns.{Lone};
 ghost use Rattle.tenant_world.specs.Asking.{exchanged, run_with};
 ghost use Rattle.tenant_world.specs.Running.{running_in};
 ghost use Rattle.tenant_world.specs.Standing as world;
@@ -30,10 +31,10 @@ impl Runner {
 
     // No form of the actor runs: it begins one, or takes up a request.
     pub(crate) fn begin(&mut self, actor: Actor) -> Result<(), Refusal>
-        ensures done { (g : Ground) (q : Quiet) → IsRight g → Stands g self.old q
-            → OnOk result (Does g q (deeds.starts actor) self.new) }
-        ensures refused { (g : Ground) (q : Quiet) → IsRight g → Stands g self.old q
-            → IfErr result (Refuses g q (deeds.starts actor) self.new) }
+        ensures done { (g : Ground) (l : Lone) → IsRight g → Stands g self.old l
+            → OnOk result (Does g l (deeds.starts actor) self.new) }
+        ensures refused { (g : Ground) (l : Lone) → IsRight g → Stands g self.old l
+            → IfErr result (Refuses g l (deeds.starts actor) self.new) }
         ensures steps { OnOk result ((left_by self.old).steps ≡ (left_by self.new).steps + 1) }
         ensures kept { OnErr result ((left_by self.new).steps ≡ (left_by self.old).steps) }
         ensures held { result ≡ Err Refusal.Held → 0 < length (left_by self.old).outbox }
@@ -45,13 +46,13 @@ impl Runner {
 
     // Its form asks what its evaluation asks.
     pub(crate) fn ask(&mut self, actor: Actor) -> Result<(), Refusal>
-        ensures done { (g : Ground) (q : Quiet) (run : rules.Run) (w : Walk) → IsRight g
-            → Stands g self.old q → running_in actor q ≡ Some run
+        ensures done { (g : Ground) (l : Lone) (run : rules.Run) (w : Walk) → IsRight g
+            → Stands g self.old l → running_in actor l.quiet ≡ Some run
             → walk_at self.old.walks actor ≡ Some (Progress.Asks w)
-            → OnOk result (Does g q (deeds.asks_for actor (ask_view w.ask)) self.new) }
-        ensures refused { (g : Ground) (q : Quiet) (w : Walk) → IsRight g
-            → Stands g self.old q → walk_at self.old.walks actor ≡ Some (Progress.Asks w)
-            → IfErr result (Refuses g q (deeds.asks_for actor (ask_view w.ask)) self.new) }
+            → OnOk result (Does g l (deeds.asks_for actor (ask_view w.ask)) self.new) }
+        ensures refused { (g : Ground) (l : Lone) (w : Walk) → IsRight g
+            → Stands g self.old l → walk_at self.old.walks actor ≡ Some (Progress.Asks w)
+            → IfErr result (Refuses g l (deeds.asks_for actor (ask_view w.ask)) self.new) }
         ensures steps { OnOk result ((left_by self.old).steps ≡ (left_by self.new).steps + 1) }
         ensures kept { OnErr result ((left_by self.new).steps ≡ (left_by self.old).steps) }
         ensures held { result ≡ Err Refusal.Held → 0 < length (left_by self.old).outbox }
@@ -59,7 +60,7 @@ impl Runner {
         let Some(Progress::Asks(walk)) = self.walks.get(actor) else {
             return Err(Refusal::NoMemory);
         };
-        match self.tenant.answer(actor, walk.ask())? {
+        match self.tenant.answer(&mut self.refs, actor, walk.ask())? {
             Asked::Answer(answer) => self.resume(actor, answer),
             Asked::Interrupted => self.follow(actor),
         }
@@ -68,12 +69,12 @@ impl Runner {
 
     // Its form ends as its evaluation ends.
     pub(crate) fn end(&mut self, actor: Actor) -> Result<(), Refusal>
-        ensures done { (g : Ground) (q : Quiet) (e : endings.Ending) → IsRight g → Stands g self.old q
+        ensures done { (g : Ground) (l : Lone) (e : endings.Ending) → IsRight g → Stands g self.old l
             → walk_at self.old.walks actor ≡ Some (Progress.Ends e)
-            → OnOk result (Does g q (deeds.ends actor (ended e)) self.new) }
-        ensures refused { (g : Ground) (q : Quiet) (e : endings.Ending) → IsRight g → Stands g self.old q
+            → OnOk result (Does g l (deeds.ends actor (ended e)) self.new) }
+        ensures refused { (g : Ground) (l : Lone) (e : endings.Ending) → IsRight g → Stands g self.old l
             → walk_at self.old.walks actor ≡ Some (Progress.Ends e)
-            → IfErr result (Refuses g q (deeds.ends actor (ended e)) self.new) }
+            → IfErr result (Refuses g l (deeds.ends actor (ended e)) self.new) }
         ensures steps { OnOk result ((left_by self.old).steps ≡ (left_by self.new).steps + 1) }
         ensures kept { OnErr result ((left_by self.new).steps ≡ (left_by self.old).steps) }
         ensures held { result ≡ Err Refusal.Held → 0 < length (left_by self.old).outbox }
@@ -94,6 +95,7 @@ impl Runner {
     // The evaluation goes on with its answer; for want of memory it is lost.
     fn resume(&mut self, actor: Actor, answer: Answer)
         ensures tenant { self.new.tenant ≡ self.old.tenant }
+        ensures refs { self.new.refs ≡ self.old.refs }
         ensures resumed { (run : rules.Run) (w : Walk) (p : Progress)
             → walk_at self.old.walks actor ≡ Some (Progress.Asks w)
             → IsWalkOf run (Progress.Asks w) → walk_at self.new.walks actor ≡ Some p
@@ -113,12 +115,14 @@ impl Runner {
     // The evaluation of the form that the actor then runs begins; for want of memory it is lost.
     fn follow(&mut self, actor: Actor)
         ensures tenant { self.new.tenant ≡ self.old.tenant }
-        ensures walked { (g : Ground) (q : Quiet) → world.Stands g tenant_number self.old.tenant q
+        ensures refs { self.new.refs ≡ self.old.refs }
+        ensures walked { (g : Ground) (q : Quiet) (s : Store) → world.Stands g self.old.tenant q s
             → AreWalkedBut actor (walk_at self.old.walks) q
             → AreWalked (walk_at self.new.walks) q }
     {
         drop(self.walks.take(actor));
         let Some(run) = self.tenant.running(actor) else {
+            self.walks.remove(actor);
             return;
         };
         let Ok(progress) = begun(self.alloc, run) else {

@@ -1,13 +1,15 @@
 // The turns of a tenant that is served alone.
 ghost use Rattle.std.specs.Prelude.{◌≡◌, IfOk};
 ghost use Rattle.server_rules.specs.Ground.{Ground};
-ghost use Rattle.server_rules.specs.Tenant.{opened_quiet};
+ghost use Rattle.tenant_turns.specs.Turns.{opened_lone};
 ghost use Rattle.tenant_turns.specs.Grounds.{IsRight};
 ghost use Rattle.tenant_runner.specs.Grounds.{Evaluates};
 
 use crate::runner::Runner;
 use crate::walks::Walks;
 use bytes::Bytes;
+use ref_history::ListHistory;
+use ref_table::RefTable;
 use repl_walker::Progress;
 use server_rules::{Actor, Refusal};
 use std::alloc::{AllocError, Global};
@@ -26,11 +28,12 @@ impl Runner {
         retries: u32,
     ) -> Result<Runner, AllocError>
         ensures { (g : Ground) → IsRight g → Evaluates g → g.seed ≡ seed → g.steps ≡ steps
-            → g.retries ≡ retries → IfOk result (λ made. Stands g made (opened_quiet g)) }
+            → g.retries ≡ retries → IfOk result (λ made. Stands g made (opened_lone g)) }
     {
         Ok(Runner {
             alloc,
             tenant: Tenant::new(alloc, seed, 0, steps, retries)?,
+            refs: RefTable::new(alloc, ListHistory::new(alloc)),
             walks: Walks::new(alloc),
         })
     }

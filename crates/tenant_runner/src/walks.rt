@@ -11,7 +11,8 @@ use std::collections::BTreeMap;
 /// How far the evaluations of the forms that run have come.
 #[derive(Drop)]
 pub(crate) struct Walks {
-    pub(crate) live: BTreeMap<Actor, Progress>,
+    // An actor keeps its place while its evaluation is taken out, so that a step takes no memory.
+    pub(crate) live: BTreeMap<Actor, Option<Progress>>,
 }
 
 // Each takes about the logarithm of the number of forms that run.
@@ -27,17 +28,26 @@ impl Walks {
     pub(crate) fn get(&self, actor: Actor) -> Option<&Progress>
         ensures { option_map (λ p. p.now) result ≡ walk_at self.now actor }
     {
-        self.live.get(&actor)
+        self.live.get(&actor)?.as_ref()
     }
 
-    /// Takes an evaluation out.
+    /// Takes an evaluation out. The place of its actor stays.
     pub(crate) fn take(&mut self, actor: Actor) -> Option<Progress>
         ensures taken { result ≡ walk_at self.old actor }
         ensures gone { walk_at self.new actor ≡ None }
         ensures others { (b : Actor) → seat_of b ≢ seat_of actor
             → walk_at self.new b ≡ walk_at self.old b }
     {
-        self.live.remove(&actor)
+        self.live.get_mut(&actor)?.take()
+    }
+
+    /// The evaluation of this actor and its place are gone.
+    pub(crate) fn remove(&mut self, actor: Actor)
+        ensures gone { walk_at self.new actor ≡ None }
+        ensures others { (b : Actor) → seat_of b ≢ seat_of actor
+            → walk_at self.new b ≡ walk_at self.old b }
+    {
+        drop(self.live.remove(&actor));
     }
 
     /// Puts an evaluation in, in place of the one of its actor. It fails only for want of memory,
@@ -48,7 +58,11 @@ impl Walks {
             → walk_at self.new b ≡ walk_at self.old b) }
         ensures stays { OnErr result ((b : Actor) → walk_at self.new b ≡ walk_at self.old b) }
     {
-        drop(self.live.insert(actor, progress)?);
+        if let Some(place) = self.live.get_mut(&actor) {
+            drop(place.replace(progress));
+            return Ok(());
+        }
+        drop(self.live.insert(actor, Some(progress))?);
         Ok(())
     }
 }

@@ -1,4 +1,4 @@
-pub mod NoRefs
+pub mod Deeded
 pub mod Turns
 pub mod Grounds
 pub mod Turned

@@ -1,8 +1,7 @@
 -- What a turn of the code comes to, beside the step.
 use Rattle.std.specs.Prelude.{◌≡◌, ℕ, List}
-use Rattle.server_rules.specs.Tenant.{Quiet}
 use Rattle.server_rules.specs.declared.refusal.Refusal.{Refusal}
-use Rattle.tenant_turns.specs.Turns.{Stepped, accepted, refused}
+use Rattle.tenant_turns.specs.Turns.{Lone, Stepped, accepted, refused}
 
 -- how much is left to do, by which a loop over a tenant ends
 pub record Left : Type 0 where
@@ -12,7 +11,7 @@ pub record Left : Type 0 where
   pub outbox : List (List ℕ)
 
 -- the step is accepted, and what is told of the tenant holds after it
-abbrev pub Accepted : (Quiet → Type 0) → Stepped → Type 0
+abbrev pub Accepted : (Lone → Type 0) → Stepped → Type 0
 Accepted Stands (accepted new bytes) = Stands new
 Accepted Stands (refused why) = ⊥
 

@@ -2,15 +2,16 @@
 use Rattle.std.specs.Prelude.{ℕ, List, [], ◌∷◌, ◌++◌, Some, map}
 use Rattle.bencode_wire.specs.Stream.{Ending, rest, fault}
 use Rattle.bencode_wire.specs.Fault.{counted, fault_at}
+use Rattle.server_rules.specs.Store.{Store}
 use Rattle.server_rules.specs.Ground.{Ground}
-use Rattle.server_rules.specs.Tenant.{Quiet}
+use Rattle.server_rules.specs.Tenant.{Quiet, opened_quiet}
 use Rattle.server_rules.specs.Ready.{actor_at}
 use Rattle.server_rules.specs.Plan.{Deed, Outcome, refuses, leaves}
 use Rattle.server_rules.specs.Plan as deeds
 use Rattle.server_rules.specs.Turns.{honest, bytes_in}
 use Rattle.server_rules.specs.declared.actor.Actor.{Actor}
 use Rattle.server_rules.specs.declared.refusal.Refusal.{Refusal}
-use Rattle.tenant_turns.specs.NoRefs.{outcome}
+use Rattle.tenant_turns.specs.Deeded.{Deeded, deeded}
 use Rattle.tenant_turns.specs.declared.turns.Wire.{Wire}
 
 -- A turn: a piece of the stream is heard, an actor goes on as its evaluation says, or the oldest
@@ -20,51 +21,66 @@ pub data Turn : Type 0 where
   goes : Actor → Turn
   drains : Turn
 
+-- a tenant that is served alone, and what it reaches of the refs
+pub record Lone : Type 0 where
+  pub quiet : Quiet
+  pub store : Store
+
+-- it begins as the tenant with the first number, and there are no refs
+abbrev pub opened_lone : Ground → Lone
+opened_lone g = record {
+  quiet = opened_quiet g;
+  store = record {
+    around = record { counter = 0; refs = [] };
+    tenant = 0;
+    mine = record { refs = []; points = [] };
+  };
+}
+
 -- what a turn makes of the tenant, with the bytes that it gives; or why it is refused
 pub data Stepped : Type 0 where
-  accepted : Quiet → List ℕ → Stepped
+  accepted : Lone → List ℕ → Stepped
   refused : Refusal → Stepped
 
--- the tenant that is served alone
-abbrev pub tenant_number : ℕ
-tenant_number = 0
+abbrev pub deed_of : Ground → Lone → Turn → Deed
+deed_of g l (hears piece) = deeds.hears piece
+deed_of g l (goes a) = honest g a (Some (Some l.quiet))
+deed_of g l drains = deeds.drains
 
-abbrev pub deed_of : Ground → Quiet → Turn → Deed
-deed_of g q (hears piece) = deeds.hears piece
-deed_of g q (goes a) = honest g a (Some (Some q))
-deed_of g q drains = deeds.drains
+abbrev pub ended_as : Store → Outcome → Stepped
+ended_as s (refuses why) = refused why
+ended_as s (leaves q answer) = accepted (record { quiet = q; store = s }) (bytes_in answer)
 
-abbrev pub stepped_as : Outcome → Stepped
-stepped_as (refuses why) = refused why
-stepped_as (leaves q answer) = accepted q (bytes_in answer)
+abbrev pub stepped_as : Deeded → Stepped
+stepped_as d = ended_as d.store d.outcome
 
-unfoldable pub step : Ground → Quiet → Turn → Stepped
-step g q turn = stepped_as (outcome g tenant_number q (deed_of g q turn))
+unfoldable pub step : Ground → Lone → Turn → Stepped
+step g l turn = stepped_as (deeded g l.store l.quiet (deed_of g l turn))
 
 -- a refused turn leaves the tenant as it was, and gives nothing
-abbrev pub quiet_or : Quiet → Stepped → Quiet
-quiet_or old (accepted new bytes) = new
-quiet_or old (refused why) = old
+abbrev pub lone_or : Lone → Stepped → Lone
+lone_or old (accepted new bytes) = new
+lone_or old (refused why) = old
 
 abbrev pub bytes_given : Stepped → List ℕ
 bytes_given (accepted new bytes) = bytes
 bytes_given (refused why) = []
 
-abbrev pub after : Ground → Quiet → Turn → Quiet
-after g q turn = quiet_or q (step g q turn)
+abbrev pub after : Ground → Lone → Turn → Lone
+after g l turn = lone_or l (step g l turn)
 
-abbrev pub run : Ground → Quiet → List Turn → Quiet
-run g q [] = q
-run g q (turn ∷ turns) = run g (after g q turn) turns
+abbrev pub run : Ground → Lone → List Turn → Lone
+run g l [] = l
+run g l (turn ∷ turns) = run g (after g l turn) turns
 
 -- what a list of turns serves: the bytes that its turns give, joined
-abbrev pub served : Ground → Quiet → List Turn → List ℕ
-served g q [] = []
-served g q (turn ∷ turns) = bytes_given (step g q turn) ++ served g (after g q turn) turns
+abbrev pub served : Ground → Lone → List Turn → List ℕ
+served g l [] = []
+served g l (turn ∷ turns) = bytes_given (step g l turn) ++ served g (after g l turn) turns
 
 -- the actors, in the order of their rounds
-abbrev pub actors_of : Quiet → List Actor
-actors_of q = map (λ e. actor_at e.number) q.actors
+abbrev pub actors_of : Lone → List Actor
+actors_of l = map (λ e. actor_at e.number) l.quiet.actors
 
 -- what has come of the stream
 abbrev pub wire_at : Ending → Wire

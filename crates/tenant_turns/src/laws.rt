@@ -1,5 +1,6 @@
 //! Laws of what a tenant stands on. The functions do nothing: what they ensure is proved.
 ghost use Rattle.std.specs.Prelude.{◌≡◌, ℕ, List};
+ghost use Rattle.server_rules.specs.Comparisons.{Comparisons, AreExact};
 ghost use Rattle.server_rules.specs.Readings.{Readings, AreRight};
 
 use bencode_wire::laws::{a_stream_has_one_reading, every_stream_reads};
@@ -17,3 +18,8 @@ pub fn there_is_one_right_reading()
     every_text_reads();
     readings_are_unique();
 }
+
+/// Jobs and traces are compared print for print. There are functions that do so.
+pub fn exact_comparisons_exist()
+    ensures { (c : Comparisons) × AreExact c }
+{}

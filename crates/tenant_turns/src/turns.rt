@@ -2,9 +2,9 @@
 ghost use Rattle.std.specs.Prelude.{◌≡◌, ◌≢◌, ◌+◌, ◌<◌, [], ◌∷◌, length, Err};
 ghost use Rattle.std.specs.Prelude.{OnOk, OnErr, IfOk, IfErr, MatchOption};
 ghost use Rattle.server_rules.specs.Ground.{Ground};
-ghost use Rattle.server_rules.specs.Tenant.{Quiet};
 ghost use Rattle.tenant_turns.specs.Grounds.{IsRight};
-ghost use Rattle.tenant_turns.specs.Turns.{hears, goes, drains, accepted, step, actors_of, wire_at};
+ghost use Rattle.tenant_turns.specs.Turns.{Lone, hears, goes, drains, accepted, step, actors_of};
+ghost use Rattle.tenant_turns.specs.Turns.{wire_at};
 ghost use Rattle.tenant_turns.specs.Turned.{Left, Accepted, IsRefused};
 
 use bencode_wire::WireFault;
@@ -32,33 +32,33 @@ pub trait Core {
     /// How much is left to do: the steps, and the replies that wait.
     ghost left: { Self → Left };
     /// The code stands for this tenant.
-    ghost stands: { Ground → Self → Quiet → Type 0 };
+    ghost stands: { Ground → Self → Lone → Type 0 };
 
     /// Hears the next piece of the stream.
     fn hear(&mut self, piece: &Bytes) -> Result<(), Refusal>
         ensures heard { OnOk result ((left self.old).steps ≡ (left self.new).steps + 1) }
         ensures refused { OnErr result ((left self.new).steps ≡ (left self.old).steps) }
-        ensures accepted { (g : Ground) (q : Quiet) → IsRight g → stands g self.old q
-            → OnOk result (Accepted (stands g self.new) (step g q (hears piece.now))) }
-        ensures as_it_was { (g : Ground) (q : Quiet) → IsRight g → stands g self.old q
+        ensures accepted { (g : Ground) (l : Lone) → IsRight g → stands g self.old l
+            → OnOk result (Accepted (stands g self.new) (step g l (hears piece.now))) }
+        ensures as_it_was { (g : Ground) (l : Lone) → IsRight g → stands g self.old l
             → IfErr result (λ why. why ≢ Refusal.NoMemory
-            → IsRefused why (step g q (hears piece.now)) × stands g self.new q) };
+            → IsRefused why (step g l (hears piece.now)) × stands g self.new l) };
 
     /// The actors, in the order of their rounds. It fails only for want of memory.
     fn actors(&self, alloc: Global) -> Result<Vec<Actor>, AllocError>
-        ensures { (g : Ground) (q : Quiet) → stands g self.now q
-            → IfOk result (λ actors. actors.items ≡ actors_of q) };
+        ensures { (g : Ground) (l : Lone) → stands g self.now l
+            → IfOk result (λ actors. actors.items ≡ actors_of l) };
 
     /// Does what is next for the actor: begins a form, answers one ask or ends a form.
     fn go(&mut self, actor: Actor) -> Result<(), Refusal>
         ensures gone { OnOk result ((left self.old).steps ≡ (left self.new).steps + 1) }
         ensures refused { OnErr result ((left self.new).steps ≡ (left self.old).steps) }
         ensures held { result ≡ Err Refusal.Held → 0 < length (left self.old).outbox }
-        ensures accepted { (g : Ground) (q : Quiet) → IsRight g → stands g self.old q
-            → OnOk result (Accepted (stands g self.new) (step g q (goes actor))) }
-        ensures as_it_was { (g : Ground) (q : Quiet) → IsRight g → stands g self.old q
+        ensures accepted { (g : Ground) (l : Lone) → IsRight g → stands g self.old l
+            → OnOk result (Accepted (stands g self.new) (step g l (goes actor))) }
+        ensures as_it_was { (g : Ground) (l : Lone) → IsRight g → stands g self.old l
             → IfErr result (λ why. why ≢ Refusal.NoMemory
-            → IsRefused why (step g q (goes actor)) × stands g self.new q) };
+            → IsRefused why (step g l (goes actor)) × stands g self.new l) };
 
     /// Takes the oldest reply out. It takes no memory.
     fn drain(&mut self) -> Option<Vec<u8>>
@@ -66,13 +66,13 @@ pub trait Core {
         ensures oldest { MatchOption result
             (((left self.old).outbox ≡ []) × ((left self.new).outbox ≡ []))
             (λ reply. (left self.old).outbox ≡ reply.items ∷ (left self.new).outbox) }
-        ensures drained { (g : Ground) (q : Quiet) → stands g self.old q → MatchOption result
-            (IsRefused Refusal.Idle (step g q drains) × stands g self.new q)
-            (λ reply. (after : Quiet) × (step g q drains ≡ accepted after reply.items)
+        ensures drained { (g : Ground) (l : Lone) → stands g self.old l → MatchOption result
+            (IsRefused Refusal.Idle (step g l drains) × stands g self.new l)
+            (λ reply. (after : Lone) × (step g l drains ≡ accepted after reply.items)
             × stands g self.new after) };
 
     /// What has come of the stream. It takes no memory.
     fn wire(&self) -> Wire
-        ensures { (g : Ground) (q : Quiet) → stands g self.now q
-            → result ≡ wire_at (g.readings.stream q.heard).ending };
+        ensures { (g : Ground) (l : Lone) → stands g self.now l
+            → result ≡ wire_at (g.readings.stream l.quiet.heard).ending };
 }

@@ -1,11 +1,15 @@
 -- What a form asks, beside the rules' step.
-use Rattle.std.proofs.Common.{◌≡◌, ℕ, Bool, true, false, Some}
+use Rattle.std.proofs.Common.{◌≡◌, ◌^◌, ℕ, Bool, true, false, Option, None, Some}
 use Rattle.std.proofs.Common.{refl, sym, ap, ◌∙◌, option_map, true≢false, if◌then◌else◌}
+use Rattle.std.proofs.Common.{is_some, nat_lt, ◌≢◌, Result, Ok, Err, IfErr}
+use Rattle.std.specs.Result.{IsErrAnd}
+use Rattle.std.proofs.lemmas.Bool.{and_parts, ltb-true}
 use Rattle.repl_asks.specs.Exchange as exchange
 use Rattle.repl_asks.specs.Exchange.{AskData, AnswerData, done}
-use Rattle.server_rules.specs.Calls.{nothing, gives_up}
+use Rattle.server_rules.specs.Calls.{nothing, gives_up, performed, given_up}
 use Rattle.server_rules.specs.Ground.{Ground}
 use Rattle.server_rules.specs.Request.{Hand, Run}
+use Rattle.server_rules.specs.Store.{Store, left_attempt}
 use Rattle.server_rules.specs.Tenant.{ActorData, Quiet, seat_of}
 use Rattle.server_rules.specs.Numbered.{replaced}
 use Rattle.server_rules.specs.Asking.{asked_of, asked_running, asked_allowed, answered, answer_to}
@@ -14,20 +18,70 @@ use Rattle.server_rules.specs.Starting.{interrupted_in}
 use Rattle.server_rules.specs.Plan.{Plan, refuses, leaves, spent, ask_answered, quietly}
 use Rattle.server_rules.specs.declared.actor.Actor.{Actor}
 use Rattle.server_rules.specs.declared.refusal.Refusal.{Refusal}
-use Rattle.tenant_turns.specs.NoRefs.{carried_out, told_without_refs}
+use Rattle.tenant_turns.specs.Deeded.{carried_out}
 use Rattle.tenant_world.specs.declared.memory.Memory.{Memory}
 use Rattle.tenant_world.specs.Memories.{Remembers}
-use Rattle.tenant_world.specs.Acting.{Acted}
-use Rattle.tenant_world.specs.Asking.{is_served, exchanged, run_with, hand_with, with_exchange}
+use Rattle.tenant_world.specs.Acting.{Acted, Declined}
+use Rattle.tenant_world.specs.Asking.{is_of_names, answered_plan, exchanged, run_with, hand_with}
+use Rattle.tenant_world.specs.Asking.{with_exchange}
+use Rattle.tenant_refs.proofs.Soundness.{MayBe}
+
+-- Asks of names and asks of refs
+
+pub names-nothing : (seat : ℕ) (ask : AskData) → is_of_names ask ≡ true → call_of seat ask ≡ nothing
+names-nothing seat (exchange.resolve namespace symbol) names = refl
+names-nothing seat (exchange.define namespace name binding) names = refl
+names-nothing seat (exchange.enter name) names = refl
+names-nothing seat (exchange.new_ref d least most) names = absurd (true≢false (sym names))
+names-nothing seat exchange.begin names = absurd (true≢false (sym names))
+names-nothing seat (exchange.read name) names = absurd (true≢false (sym names))
+names-nothing seat (exchange.history name) names = absurd (true≢false (sym names))
+names-nothing seat (exchange.min_history name set) names = absurd (true≢false (sym names))
+names-nothing seat (exchange.max_history name set) names = absurd (true≢false (sym names))
+names-nothing seat (exchange.commit intent) names = absurd (true≢false (sym names))
+
+-- of refs the answer is what they told, and no namespace changes
+pub refs-told : (g : Ground) (a : Actor) (q : Quiet) (ask : AskData) (told : AnswerData)
+    → is_of_names ask ≡ false
+    → (told ≡ answer_to g a q ask told) × (q.spaces ≡ spaces_after ask q.spaces)
+refs-told g a q (exchange.resolve namespace symbol) told refs = absurd (true≢false refs)
+refs-told g a q (exchange.define namespace name binding) told refs = absurd (true≢false refs)
+refs-told g a q (exchange.enter name) told refs = absurd (true≢false refs)
+refs-told g a q (exchange.new_ref d least most) told refs = (refl, refl)
+refs-told g a q exchange.begin told refs = (refl, refl)
+refs-told g a q (exchange.read name) told refs = (refl, refl)
+refs-told g a q (exchange.history name) told refs = (refl, refl)
+refs-told g a q (exchange.min_history name set) told refs = (refl, refl)
+refs-told g a q (exchange.max_history name set) told refs = (refl, refl)
+refs-told g a q (exchange.commit intent) told refs = (refl, refl)
+
+-- the bounds of what is allowed are numbers of the language
+pub allowed-may : (seat : ℕ) (ask : AskData) → is_allowed ask ≡ true → MayBe (call_of seat ask)
+allowed-may seat (exchange.resolve namespace symbol) allowed = tt
+allowed-may seat (exchange.define namespace name binding) allowed = tt
+allowed-may seat (exchange.enter name) allowed = tt
+allowed-may seat (exchange.new_ref d least most) allowed =
+    let both = and_parts (nat_lt least (2 ^ 63)) (nat_lt most (2 ^ 63)) allowed in
+    (ltb-true least (2 ^ 63) both.0, ltb-true most (2 ^ 63) both.1)
+allowed-may seat exchange.begin allowed = tt
+allowed-may seat (exchange.read name) allowed = tt
+allowed-may seat (exchange.history name) allowed = tt
+allowed-may seat (exchange.min_history name None) allowed = tt
+allowed-may seat (exchange.min_history name (Some n)) allowed = ltb-true n (2 ^ 63) allowed
+allowed-may seat (exchange.max_history name None) allowed = tt
+allowed-may seat (exchange.max_history name (Some n)) allowed = ltb-true n (2 ^ 63) allowed
+allowed-may seat (exchange.commit intent) allowed = tt
+
+-- An answer that is kept
 
 pub acted-answered : (g : Ground) (t : ℕ) (m : Memory) (a : Actor) (actor new : ActorData) (h : Hand)
-    (run : Run) (ask : AskData) (q : Quiet) (told given : AnswerData)
+    (run : Run) (ask : AskData) (q : Quiet) (told kept given : AnswerData)
     → actor.hand ≡ Some h → h.running ≡ Some run
-    → new ≡ with_exchange (exchanged ask told) actor → told ≡ answer_to g a q ask done
-    → given ≡ told → Remembers g t m (record q { spaces = spaces_after ask q.spaces })
-    → Acted g t a q (answered g a actor h run ask q done) m new (ask_answered given)
-acted-answered g t m a actor new h run ask q told given hand running kept is same r =
-    let answer = answer_to g a q ask done in
+    → new ≡ with_exchange (exchanged ask kept) actor → kept ≡ answer_to g a q ask told
+    → given ≡ kept → Remembers g t m (record q { spaces = spaces_after ask q.spaces })
+    → Acted g t a q (answered g a actor h run ask q told) m new (ask_answered given)
+acted-answered g t m a actor new h run ask q told kept given hand running put is same r =
+    let answer = answer_to g a q ask told in
     let after = recorded a actor h run ask answer (record q { spaces = spaces_after ask q.spaces }) in
     record {
       after = after;
@@ -38,7 +92,7 @@ acted-answered g t m a actor new h run ask q told given hand running kept is sam
         spaces = r.spaces;
         replies = r.replies;
       };
-      actors = ap (λ x. replaced (seat_of a) x q.actors) (sym (kept
+      actors = ap (λ x. replaced (seat_of a) x q.actors) (sym (put
           ∙ ap (λ x. with_exchange (exchanged ask x) actor) is
           ∙ ap (λ x. record actor { hand = option_map (hand_with (exchanged ask answer)) x }) hand
           ∙ ap (λ x. record actor {
@@ -49,79 +103,114 @@ acted-answered g t m a actor new h run ask q told given hand running kept is sam
       heard = refl;
     }
 
--- what is served is allowed, and asks nothing of the refs
-pub served-allowed : (ask : AskData) → is_served ask ≡ true → is_allowed ask ≡ true
-served-allowed (exchange.resolve namespace symbol) served = refl
-served-allowed (exchange.define namespace name binding) served = served
-served-allowed (exchange.enter name) served = served
-served-allowed (exchange.new_ref d least most) served = absurd (true≢false (sym served))
-served-allowed exchange.begin served = absurd (true≢false (sym served))
-served-allowed (exchange.read name) served = absurd (true≢false (sym served))
-served-allowed (exchange.history name) served = absurd (true≢false (sym served))
-served-allowed (exchange.min_history name set) served = absurd (true≢false (sym served))
-served-allowed (exchange.max_history name set) served = absurd (true≢false (sym served))
-served-allowed (exchange.commit intent) served = absurd (true≢false (sym served))
+-- The plan of an ask of a form that runs
 
-pub served-quietly : (seat : ℕ) (ask : AskData) → is_served ask ≡ true → call_of seat ask ≡ nothing
-served-quietly seat (exchange.resolve namespace symbol) served = refl
-served-quietly seat (exchange.define namespace name binding) served = refl
-served-quietly seat (exchange.enter name) served = refl
-served-quietly seat (exchange.new_ref d least most) served = absurd (true≢false (sym served))
-served-quietly seat exchange.begin served = absurd (true≢false (sym served))
-served-quietly seat (exchange.read name) served = absurd (true≢false (sym served))
-served-quietly seat (exchange.history name) served = absurd (true≢false (sym served))
-served-quietly seat (exchange.min_history name set) served = absurd (true≢false (sym served))
-served-quietly seat (exchange.max_history name set) served = absurd (true≢false (sym served))
-served-quietly seat (exchange.commit intent) served = absurd (true≢false (sym served))
-
--- an ask that is served, of a form that runs
-runs-so : (g : Ground) (a : Actor) (actor : ActorData) (ask : AskData) (q : Quiet) (h : Hand)
-    (run : Run) → actor.hand ≡ Some h → h.running ≡ Some run → is_served ask ≡ true
-    → carried_out (asked_of g a actor ask q actor.hand)
-    ≡ carried_out (asked_allowed g a actor h run ask q)
-runs-so g a actor ask q h run hand running served =
-    ap (λ x. carried_out (asked_of g a actor ask q x)) hand
-    ∙ ap (λ x. carried_out (asked_running g a actor h ask q x)) running
-    ∙ ap (λ (b : Bool). carried_out (allowed_by b)) (served-allowed ask served)
+pub runs-so : (g : Ground) (a : Actor) (actor : ActorData) (ask : AskData) (q : Quiet) (h : Hand)
+    (run : Run) → actor.hand ≡ Some h → h.running ≡ Some run → is_allowed ask ≡ true
+    → asked_of g a actor ask q actor.hand ≡ asked_allowed g a actor h run ask q
+runs-so g a actor ask q h run hand running allowed =
+    ap (asked_of g a actor ask q) hand
+    ∙ ap (asked_running g a actor h ask q) running
+    ∙ ap (λ (b : Bool). allowed_by b) allowed
   where
     allowed_by : Bool → Plan
     allowed_by b = if b then asked_allowed g a actor h run ask q
         else quietly (refuses Refusal.Idle)
 
-pub asked-answered : (g : Ground) (a : Actor) (actor : ActorData) (ask : AskData) (q : Quiet) (h : Hand)
-    (run : Run) → actor.hand ≡ Some h → h.running ≡ Some run → is_served ask ≡ true
-    → actor.is_closed ≡ false
-    → answered g a actor h run ask q done ≡ carried_out (asked_of g a actor ask q actor.hand)
-asked-answered g a actor ask q h run hand running served open_still = sym (
-    runs-so g a actor ask q h run hand running served
-    ∙ ap (λ (b : Bool). carried_out (closed_by b)) open_still
-    ∙ ap (λ call. when_told (told_without_refs call) (answered g a actor h run ask q))
-    (served-quietly (seat_of a) ask served))
+pub asked-forbidden : (g : Ground) (a : Actor) (actor : ActorData) (ask : AskData) (q : Quiet)
+    (h : Hand) (run : Run) → actor.hand ≡ Some h → h.running ≡ Some run → is_allowed ask ≡ false
+    → asked_of g a actor ask q actor.hand ≡ quietly (refuses Refusal.Idle)
+asked-forbidden g a actor ask q h run hand running forbidden =
+    ap (asked_of g a actor ask q) hand
+    ∙ ap (asked_running g a actor h ask q) running
+    ∙ ap (λ (b : Bool). allowed_by b) forbidden
   where
-    closed_by : Bool → Plan
-    closed_by b = if b then record {
-      call = gives_up (seat_of a) (call_of (seat_of a) ask);
-      next = λ told. when_told told (λ _. interrupted_in a h q);
-    } else record {
-      call = call_of (seat_of a) ask;
-      next = λ told. when_told told (answered g a actor h run ask q);
-    }
+    allowed_by : Bool → Plan
+    allowed_by b = if b then asked_allowed g a actor h run ask q
+        else quietly (refuses Refusal.Idle)
 
-pub asked-interrupted : (g : Ground) (a : Actor) (actor : ActorData) (ask : AskData) (q : Quiet)
-    (h : Hand) (run : Run) → actor.hand ≡ Some h → h.running ≡ Some run → is_served ask ≡ true
+-- of a session that was closed
+abbrev pub given_up_plan : Actor → Hand → AskData → Quiet → Plan
+given_up_plan a h ask q = record {
+  call = gives_up (seat_of a) (call_of (seat_of a) ask);
+  next = λ told. when_told told (λ _. interrupted_in a h q);
+}
+
+pub asked-open : (g : Ground) (a : Actor) (actor : ActorData) (ask : AskData) (q : Quiet) (h : Hand)
+    (run : Run) → actor.hand ≡ Some h → h.running ≡ Some run → is_allowed ask ≡ true
+    → actor.is_closed ≡ false
+    → answered_plan g a actor h run ask q ≡ asked_of g a actor ask q actor.hand
+asked-open g a actor ask q h run hand running allowed open_still = sym (
+    runs-so g a actor ask q h run hand running allowed
+    ∙ ap (λ (b : Bool). if b then given_up_plan a h ask q else answered_plan g a actor h run ask q)
+    open_still)
+
+pub asked-closed : (g : Ground) (a : Actor) (actor : ActorData) (ask : AskData) (q : Quiet) (h : Hand)
+    (run : Run) → actor.hand ≡ Some h → h.running ≡ Some run → is_allowed ask ≡ true
     → actor.is_closed ≡ true
-    → interrupted_in a h q ≡ carried_out (asked_of g a actor ask q actor.hand)
-asked-interrupted g a actor ask q h run hand running served closed = sym (
-    runs-so g a actor ask q h run hand running served
-    ∙ ap (λ (b : Bool). carried_out (closed_by b)) closed
-    ∙ ap (λ call. when_told (told_without_refs (gives_up (seat_of a) call))
-    (λ _. interrupted_in a h q)) (served-quietly (seat_of a) ask served))
-  where
-    closed_by : Bool → Plan
-    closed_by b = if b then record {
-      call = gives_up (seat_of a) (call_of (seat_of a) ask);
-      next = λ told. when_told told (λ _. interrupted_in a h q);
-    } else record {
-      call = call_of (seat_of a) ask;
-      next = λ told. when_told told (answered g a actor h run ask q);
-    }
+    → given_up_plan a h ask q ≡ asked_of g a actor ask q actor.hand
+asked-closed g a actor ask q h run hand running allowed closed = sym (
+    runs-so g a actor ask q h run hand running allowed
+    ∙ ap (λ (b : Bool). if b then given_up_plan a h ask q else answered_plan g a actor h run ask q)
+    closed)
+
+-- What giving up comes to
+
+pub given-told : (s : Store) (a : Actor) (h : Hand) (ask : AskData) (q : Quiet)
+    → is_some (performed s (call_of (seat_of a) ask)).told ≡ true
+    → ((carried_out s (given_up_plan a h ask q)).outcome ≡ interrupted_in a h q)
+    × ((carried_out s (given_up_plan a h ask q)).store ≡ left_attempt (seat_of a) s)
+given-told s a h ask q some = by (performed s (call_of (seat_of a) ask)).told some where
+  by : (o : Option AnswerData) → is_some o ≡ true
+      → (when_told (given_up (seat_of a) s o).told (λ _. interrupted_in a h q) ≡ interrupted_in a h q)
+      × ((given_up (seat_of a) s o).store ≡ left_attempt (seat_of a) s)
+  by None some = absurd (true≢false (sym some))
+  by (Some answer) some = (refl, refl)
+
+pub given-untold : (s : Store) (a : Actor) (h : Hand) (ask : AskData) (q : Quiet)
+    → (performed s (call_of (seat_of a) ask)).told ≡ None
+    → (carried_out s (given_up_plan a h ask q)).outcome ≡ refuses Refusal.Idle
+given-untold s a h ask q none =
+    ap (λ o. when_told (given_up (seat_of a) s o).told (λ _. interrupted_in a h q)) none
+
+-- what an answer that was told comes to
+pub answered-told : (g : Ground) (s : Store) (a : Actor) (actor : ActorData) (h : Hand) (run : Run)
+    (ask : AskData) (q : Quiet) (told : AnswerData)
+    → (performed s (call_of (seat_of a) ask)).told ≡ Some told
+    → answered g a actor h run ask q told
+    ≡ (carried_out s (answered_plan g a actor h run ask q)).outcome
+answered-told g s a actor h run ask q told is =
+    sym (ap (λ o. when_told o (answered g a actor h run ask q)) is)
+
+pub answered-untold : (g : Ground) (s : Store) (a : Actor) (actor : ActorData) (h : Hand) (run : Run)
+    (ask : AskData) (q : Quiet) → (performed s (call_of (seat_of a) ask)).told ≡ None
+    → (carried_out s (answered_plan g a actor h run ask q)).outcome ≡ refuses Refusal.Idle
+answered-untold g s a actor h run ask q none =
+    ap (λ o. when_told o (answered g a actor h run ask q)) none
+
+-- for want of memory nothing is said of the rules
+pub stays-memory : {A : Type 0} (r : Result A Refusal) (T : Refusal → Type 0) (M H : Type 0)
+    → IsErrAnd r (λ e. e ≡ Refusal.NoMemory) → M → H
+    → IfErr r (λ why. (why ≢ Refusal.NoMemory → T why) × M × H)
+stays-memory (Ok x) T M H never m h = tt
+stays-memory (Err e) T M H is m h = ((λ ne. absurd (ne is)), m, h)
+
+-- giving up is refused where nothing would be told
+pub given-declined : {X : Type 0} (g : Ground) (t : ℕ) (s : Store) (a : Actor) (h : Hand)
+    (ask : AskData) (q : Quiet) (p : Plan) (m : Memory) (why : Refusal) (H : Type 0)
+    (r : Result X Refusal) → given_up_plan a h ask q ≡ p → IsErrAnd r (λ e. e ≡ why)
+    → (why ≢ Refusal.NoMemory → (why ≡ Refusal.Idle)
+    × ((performed s (call_of (seat_of a) ask)).told ≡ None))
+    → Remembers g t m q → H
+    → IfErr r (λ e. Declined g t q (carried_out s p).outcome m e × H)
+given-declined g t s a h ask q p m why H (Ok x) plan never told remembers holds = tt
+given-declined g t s a h ask q p m why H (Err e) plan is told remembers holds = (
+  record {
+    refused = λ ne.
+        let idle = told (λ none. ne (is ∙ none)) in
+        ap (λ x. (carried_out s x).outcome) (sym plan)
+        ∙ given-untold s a h ask q idle.1 ∙ ap refuses (sym (is ∙ idle.0));
+    remembers = remembers;
+  },
+  holds,
+)

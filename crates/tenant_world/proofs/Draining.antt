@@ -9,19 +9,27 @@ use Rattle.server_rules.specs.Readings.{message_limit}
 use Rattle.tenant_actors.specs.View.{actors_view}
 use Rattle.repl_replies.specs.Replies.{ReplyData, bytes_of}
 use Rattle.server_rules.specs.Ground.{Ground}
+use Rattle.server_rules.specs.Store.{Store}
 use Rattle.server_rules.specs.Tenant.{Quiet}
 use Rattle.server_rules.specs.Plan as deeds
 use Rattle.server_rules.specs.Plan.{Outcome, leaves, refuses, reply_given}
 use Rattle.server_rules.specs.Deeds.{drained}
 use Rattle.server_rules.specs.declared.refusal.Refusal.{Refusal}
 use Rattle.tenant_replies.specs.View.{waiting_bytes}
-use Rattle.tenant_turns.specs.NoRefs.{outcome}
+use Rattle.tenant_turns.specs.Deeded.{deeded}
 use Rattle.tenant_world.specs.declared.tenant.Tenant.{Tenant}
+use Rattle.tenant_refs.specs.declared.attempts.Attempts.{Attempts}
+use Rattle.tenant_refs.specs.Attempts.{Reaches}
 use Rattle.tenant_world.specs.Standing.{Stands, Does, Refuses}
 
-drains-by : (g : Ground) (t : ℕ) (q : Quiet) → outcome g t q deeds.drains ≡ drained q q.replies
-unfolding outcome
-drains-by g t q = refl
+drains-by : (g : Ground) (q : Quiet) (s : Store)
+    → (deeded g s q deeds.drains).outcome ≡ drained q q.replies
+unfolding deeded
+drains-by g q s = refl
+
+drains-none : (g : Ground) (q : Quiet) (s : Store) → (deeded g s q deeds.drains).store ≡ s
+unfolding deeded
+drains-none g q s = refl
 
 -- only the replies that wait are others
 pub record OnlyDrains (code new : Tenant) : Type 0 where
@@ -32,49 +40,52 @@ pub record OnlyDrains (code new : Tenant) : Type 0 where
   pub sessions : new.memory.sessions ≡ code.memory.sessions
   pub bare : new.memory.bare ≡ code.memory.bare
   pub spaces : new.memory.spaces ≡ code.memory.spaces
+  pub attempts : new.attempts ≡ code.attempts
 
-stands-with : (g : Ground) (t : ℕ) (q : Quiet) (code new : Tenant) (replies : List ReplyData)
-    → OnlyDrains code new → Stands g t code q
+stands-with : (g : Ground) (q : Quiet) (s : Store) (code new : Tenant) (replies : List ReplyData)
+    → OnlyDrains code new → Stands g code q s
     → waiting_bytes new.memory.outbox ≡ map bytes_of replies
-    → Stands g t new (record q { replies = replies })
-stands-with g t q code new replies same s waits =
+    → Stands g new (record q { replies = replies }) s
+stands-with g q s code new replies same st waits =
     let E : Decoder → Type 0 = λ d.
     decoder.Stands message_limit d q.heard (g.readings.stream q.heard).messages in
+    let A : Attempts → Type 0 = λ x. Reaches x s in
     record {
-      retries = same.retries ∙ s.retries;
-      names = s.names;
-      steps = same.steps ∙ s.steps;
-      stream = subst E (sym same.decoder) s.stream;
-      actors = ap actors_view same.actors ∙ s.actors;
+      retries = same.retries ∙ st.retries;
+      names = st.names;
+      steps = same.steps ∙ st.steps;
+      stream = subst E (sym same.decoder) st.stream;
+      actors = ap actors_view same.actors ∙ st.actors;
       remembers = record {
-        sessions = same.sessions ∙ s.remembers.sessions;
-        bare = ap state_view same.bare ∙ s.remembers.bare;
-        spaces = ap namespaces_of same.spaces ∙ s.remembers.spaces;
+        sessions = same.sessions ∙ st.remembers.sessions;
+        bare = ap state_view same.bare ∙ st.remembers.bare;
+        spaces = ap namespaces_of same.spaces ∙ st.remembers.spaces;
         replies = waits;
       };
+      attempts = subst A (sym same.attempts) st.attempts;
     }
 
-pub drains : {X : Type 0} (items : X → List ℕ) (g : Ground) (t : ℕ) (q : Quiet) (code new : Tenant)
-    (r : Option X) → OnlyDrains code new → Stands g t code q
+pub drains : {X : Type 0} (items : X → List ℕ) (g : Ground) (q : Quiet) (s : Store) (code new : Tenant)
+    (r : Option X) → OnlyDrains code new → Stands g code q s
     → MatchOption r ((waiting_bytes code.memory.outbox ≡ []) × (waiting_bytes new.memory.outbox ≡ []))
     (λ v. waiting_bytes code.memory.outbox ≡ items v ∷ waiting_bytes new.memory.outbox)
     → MatchOption r
-    (Refuses g t q (outcome g t q deeds.drains) new Refusal.Idle)
-    (λ v. Does g t (outcome g t q deeds.drains) new (reply_given (items v)))
-drains {X = X} items g t q code new r same s told = by q.replies refl r s.remembers.replies told
+    (Refuses g q s (deeded g s q deeds.drains) new Refusal.Idle)
+    (λ v. Does g (deeded g s q deeds.drains) new (reply_given (items v)))
+drains {X = X} items g q s code new r same st told = by q.replies refl r st.remembers.replies told
   where
     by : (replies : List ReplyData) → q.replies ≡ replies → (r : Option X)
         → waiting_bytes code.memory.outbox ≡ map bytes_of q.replies
         → MatchOption r ((waiting_bytes code.memory.outbox ≡ []) × (waiting_bytes new.memory.outbox ≡ []))
         (λ v. waiting_bytes code.memory.outbox ≡ items v ∷ waiting_bytes new.memory.outbox)
         → MatchOption r
-        (Refuses g t q (outcome g t q deeds.drains) new Refusal.Idle)
-        (λ v. Does g t (outcome g t q deeds.drains) new
+        (Refuses g q s (deeded g s q deeds.drains) new Refusal.Idle)
+        (λ v. Does g (deeded g s q deeds.drains) new
         (reply_given (items v)))
     by [] is None waits none = record {
-      refused = λ ne. drains-by g t q ∙ ap (drained q) is;
-      stands = subst (λ rs. Stands g t new (record q { replies = rs })) (sym is)
-          (stands-with g t q code new [] same s none.1);
+      refused = λ ne. drains-by g q s ∙ ap (drained q) is;
+      stands = subst (λ rs. Stands g new (record q { replies = rs }) s) (sym is)
+          (stands-with g q s code new [] same st none.1);
     }
     by [] is (Some v) waits some =
         let never : [] ≡ items v ∷ waiting_bytes new.memory.outbox =
@@ -91,7 +102,8 @@ drains {X = X} items g t q code new r same s told = by q.replies refl r s.rememb
         let rest : map bytes_of more ≡ waiting_bytes new.memory.outbox = cc in
         record {
           after = record q { replies = more };
-          accepted = drains-by g t q ∙ ap (drained q) is
+          accepted = drains-by g q s ∙ ap (drained q) is
               ∙ ap (λ bytes. leaves (record q { replies = more }) (reply_given bytes)) first;
-          stands = stands-with g t q code new more same s (sym rest);
+          stands = subst (Stands g new (record q { replies = more })) (sym (drains-none g q s))
+              (stands-with g q s code new more same st (sym rest));
         }

@@ -13,7 +13,6 @@ use Rattle.server_rules.specs.declared.actor.Actor.{Actor}
 use Rattle.server_rules.specs.declared.refusal.Refusal.{Refusal}
 use Rattle.trace_comparison.specs.Difference.{DiffersFirstAt}
 use Rattle.tenant_turns.specs.Grounds.{IsRight}
-use Rattle.tenant_turns.specs.NoRefs.{carried_out}
 use Rattle.tenant_world.specs.Comparing.{difference, difference_told}
 
 -- the traces differ first at this place
@@ -39,11 +38,9 @@ differs-so g right run e place job differs unique nowhere =
 
 runs-so : (g : Ground) (a : Actor) (actor : ActorData) (e : EndingData) (q : Quiet) (h : Hand)
     (run : Run) → actor.hand ≡ Some h → h.running ≡ Some run
-    → carried_out (end_of g a actor e q actor.hand)
-    ≡ carried_out (end_running g a actor h e q (Some run))
+    → end_of g a actor e q actor.hand ≡ end_running g a actor h e q (Some run)
 runs-so g a actor e q h run hand running =
-    ap (λ x. carried_out (end_of g a actor e q x)) hand
-    ∙ ap (λ x. carried_out (end_running g a actor h e q x)) running
+    ap (end_of g a actor e q) hand ∙ ap (end_running g a actor h e q) running
 
 abbrev pub held_by : Ground → Actor → ActorData → Hand → Run → EndingData → Quiet → Bool → Plan
 held_by g a actor h run e q b =
@@ -56,23 +53,23 @@ closed_by g a actor h run e q b =
 
 pub ends-interrupted : (g : Ground) (a : Actor) (actor : ActorData) (e : EndingData) (q : Quiet)
     (h : Hand) (run : Run) → actor.hand ≡ Some h → h.running ≡ Some run → actor.is_closed ≡ true
-    → interrupted_in a h q ≡ carried_out (end_of g a actor e q actor.hand)
+    → with_left_attempt a (interrupted_in a h q) ≡ end_of g a actor e q actor.hand
 ends-interrupted g a actor e q h run hand running closed = sym (
     runs-so g a actor e q h run hand running
-    ∙ ap (λ (b : Bool). carried_out (closed_by g a actor h run e q b)) closed)
+    ∙ ap (λ (b : Bool). closed_by g a actor h run e q b) closed)
 
 pub ends-accepted : (g : Ground) (a : Actor) (actor : ActorData) (e : EndingData) (q : Quiet)
     (h : Hand) (run : Run) → actor.hand ≡ Some h → h.running ≡ Some run → actor.is_closed ≡ false
     → is_held q ≡ false → None ≡ difference g run e
-    → carried_out (end_accepted a actor h e q) ≡ carried_out (end_of g a actor e q actor.hand)
+    → end_accepted a actor h e q ≡ end_of g a actor e q actor.hand
 ends-accepted g a actor e q h run hand running open_still free same = sym (
     runs-so g a actor e q h run hand running
-    ∙ ap (λ (b : Bool). carried_out (closed_by g a actor h run e q b)) open_still
-    ∙ ap (λ (b : Bool). carried_out (held_by g a actor h run e q b)) free
+    ∙ ap (λ (b : Bool). closed_by g a actor h run e q b) open_still
+    ∙ ap (λ (b : Bool). held_by g a actor h run e q b) free
     ∙ by (g.comparisons.is_same_job e.job run.job) (g.comparisons.difference e.trace run.trace) same)
   where
     by : (b : Bool) (d : Option ℕ) → None ≡ difference_told b d
-        → carried_out (end_compared a actor h e q b d) ≡ carried_out (end_accepted a actor h e q)
+        → end_compared a actor h e q b d ≡ end_accepted a actor h e q
     by false d never = absurd (cc)
     by true (Some place) never = absurd (cc)
     by true None same = refl

@@ -1,6 +1,6 @@
 -- A piece that is heard, beside the rules' step.
 use Rattle.std.proofs.Common.{◌≡◌, ◌-◌, ◌==◌, ℕ, List, [], ◌∷◌, ◌++◌, Bool, true, false, length}
-use Rattle.std.proofs.Common.{Option, Some, None, Result, Ok, Err, refl, sym, ap, ◌∙◌}
+use Rattle.std.proofs.Common.{Option, Some, None, Result, Ok, Err, refl, sym, ap, subst, ◌∙◌}
 use Rattle.std.proofs.Common.{if◌then◌else◌}
 use Rattle.bencode_wire.specs.Tree.{Tree, integer, string, list, dictionary}
 use Rattle.bencode_wire.specs.declared.fault.WireFault.{WireFault}
@@ -18,14 +18,17 @@ use Rattle.server_rules.specs.Operating.{with_asked, with_message}
 use Rattle.server_rules.specs.Plan as deeds
 use Rattle.server_rules.specs.Plan.{Outcome, refuses, leaves, messages_heard, spent}
 use Rattle.server_rules.specs.Request.{Waiting}
+use Rattle.server_rules.specs.Store.{Store}
 use Rattle.server_rules.specs.Tenant.{ActorData, seat_of, Quiet, is_held}
 use Rattle.server_rules.specs.declared.actor.Actor.{Actor}
 use Rattle.server_rules.specs.declared.refusal.Refusal.{Refusal}
 use Rattle.tenant_actors.specs.View.{actors_view}
 use Rattle.tenant_replies.specs.View.{waiting_bytes}
 use Rattle.tenant_hearing.specs.Heard.{IsHeard}
-use Rattle.tenant_turns.specs.NoRefs.{outcome}
+use Rattle.tenant_turns.specs.Deeded.{deeded}
 use Rattle.tenant_world.specs.declared.tenant.Tenant.{Tenant}
+use Rattle.tenant_refs.specs.declared.attempts.Attempts.{Attempts}
+use Rattle.tenant_refs.specs.Attempts.{Reaches}
 use Rattle.tenant_world.specs.Standing.{Stands, Does}
 
 -- what messages leave as it was
@@ -100,26 +103,31 @@ abbrev pub heard_by : Ground → ℕ → List ℕ → Quiet → Bool → Option 
 heard_by g t piece q none fault =
     if none then refuses Refusal.Worn else hears_more g t piece q fault
 
-pub hears-by : (g : Ground) (t : ℕ) (q : Quiet) (piece : List ℕ)
-    → outcome g t q (deeds.hears piece)
-    ≡ heard_by g t piece q (q.steps == 0) (stream_fault g.readings q.heard)
-unfolding outcome
-hears-by g t q piece = refl
+pub hears-by : (g : Ground) (q : Quiet) (s : Store) (piece : List ℕ)
+    → (deeded g s q (deeds.hears piece)).outcome
+    ≡ heard_by g s.tenant piece q (q.steps == 0) (stream_fault g.readings q.heard)
+unfolding deeded
+hears-by g q s piece = refl
+
+hears-none : (g : Ground) (q : Quiet) (s : Store) (piece : List ℕ)
+    → (deeded g s q (deeds.hears piece)).store ≡ s
+unfolding deeded
+hears-none g q s piece = refl
 
 -- a piece is heard where steps are left, the stream has no fault and not too many replies wait
-pub hears-so : (g : Ground) (t : ℕ) (q : Quiet) (piece : List ℕ) → (q.steps == 0) ≡ false
+pub hears-so : (g : Ground) (q : Quiet) (s : Store) (piece : List ℕ) → (q.steps == 0) ≡ false
     → None ≡ stream_fault g.readings q.heard → is_held q ≡ false
-    → outcome g t q (deeds.hears piece) ≡ leaves (spent (taken_in g t piece q))
+    → (deeded g s q (deeds.hears piece)).outcome ≡ leaves (spent (taken_in g s.tenant piece q))
     (messages_heard (length (new_messages g.readings q.heard piece)))
-hears-so g t q piece some sound free =
-    hears-by g t q piece
-    ∙ ap (λ b. heard_by g t piece q b (stream_fault g.readings q.heard)) some
-    ∙ ap (hears_more g t piece q) (sym sound)
+hears-so g q s piece some sound free =
+    hears-by g q s piece
+    ∙ ap (λ b. heard_by g s.tenant piece q b (stream_fault g.readings q.heard)) some
+    ∙ ap (hears_more g s.tenant piece q) (sym sound)
     ∙ ap (λ (b : Bool). held_by b) free
   where
     held_by : Bool → Outcome
     held_by b = if b then refuses Refusal.Held
-        else leaves (spent (taken_in g t piece q))
+        else leaves (spent (taken_in g s.tenant piece q))
         (messages_heard (length (new_messages g.readings q.heard piece)))
 
 -- nothing has an empty length but the empty row
@@ -128,33 +136,38 @@ none-long [] e = refl
 none-long (x ∷ xs) e = absurd (cc)
 
 -- the code behind a piece
-pub does-hear : (g : Ground) (t : ℕ) (q : Quiet) (old new : Tenant) (piece : List ℕ) (count : ℕ)
-    → Stands g t old q → (q.steps == 0) ≡ false → None ≡ stream_fault g.readings q.heard
+pub does-hear : (g : Ground) (q : Quiet) (s : Store) (old new : Tenant) (piece : List ℕ) (count : ℕ)
+    → Stands g old q s → (q.steps == 0) ≡ false → None ≡ stream_fault g.readings q.heard
     → is_held q ≡ false
     → new.retries ≡ old.retries → new.steps ≡ old.steps - 1
     → new.memory.bare ≡ old.memory.bare → new.memory.spaces ≡ old.memory.spaces
-    → IsHeard g t q piece count new.decoder new.memory.sessions (actors_view new.actors)
+    → new.attempts ≡ old.attempts
+    → IsHeard g s.tenant q piece count new.decoder new.memory.sessions (actors_view new.actors)
     (waiting_bytes new.memory.outbox)
-    → Does g t (outcome g t q (deeds.hears piece)) new (messages_heard count)
-does-hear g t q old new piece count s some sound free tries less bare spaces heard =
-    let kept = taken-keeps g t piece q in
-    record {
-      after = spent (taken_in g t piece q);
-      accepted = hears-so g t q piece some sound free
-          ∙ ap (λ n. leaves (spent (taken_in g t piece q)) (messages_heard n)) (sym heard.messages);
-      stands = record {
-        retries = tries ∙ s.retries;
-        names = s.names;
-        steps = less ∙ ap (λ n. n - 1) (s.steps ∙ sym kept.steps);
-        stream = heard.reads.stands;
-        actors = heard.holds.actors;
-        remembers = record {
-          sessions = heard.holds.sessions;
-          bare = ap state_view bare ∙ s.remembers.bare ∙ sym kept.bare;
-          spaces = ap namespaces_of spaces ∙ s.remembers.spaces ∙ sym kept.spaces;
-          replies = heard.holds.replies;
-        };
+    → Does g (deeded g s q (deeds.hears piece)) new (messages_heard count)
+does-hear g q s old new piece count st some sound free tries less bare spaces tried heard =
+    let after = taken_in g s.tenant piece q in
+    let kept = taken-keeps g s.tenant piece q in
+    let A : Attempts → Type 0 = λ x. Reaches x s in
+    let stands : Stands g new (spent after) s = record {
+      retries = tries ∙ st.retries;
+      names = st.names;
+      steps = less ∙ ap (λ n. n - 1) (st.steps ∙ sym kept.steps);
+      stream = heard.reads.stands;
+      actors = heard.holds.actors;
+      remembers = record {
+        sessions = heard.holds.sessions;
+        bare = ap state_view bare ∙ st.remembers.bare ∙ sym kept.bare;
+        spaces = ap namespaces_of spaces ∙ st.remembers.spaces ∙ sym kept.spaces;
+        replies = heard.holds.replies;
       };
+      attempts = subst A (sym tried) st.attempts;
+    } in
+    record {
+      after = spent after;
+      accepted = hears-so g q s piece some sound free
+          ∙ ap (λ n. leaves (spent after) (messages_heard n)) (sym heard.messages);
+      stands = subst (Stands g new (spent after)) (sym (hears-none g q s piece)) stands;
     }
 
 pub held-back : (g : Ground) (t : ℕ) (piece : List ℕ) (q : Quiet) → is_held q ≡ true

@@ -3,6 +3,7 @@ pub mod Begins
 pub mod Standing
 pub mod Draining
 pub mod Answering
+pub mod Answered
 pub mod Ends
 pub mod Wires
 pub mod Seating

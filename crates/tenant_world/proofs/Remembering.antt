@@ -133,3 +133,10 @@ pub declined-memory : {A : Type 0} (g : Ground) (t : ℕ) (q : Quiet) (outcome :
 declined-memory g t q outcome m (Ok x) never remembers = tt
 declined-memory g t q outcome m (Err e) is remembers =
     record { refused = λ ne. absurd (ne is); remembers = remembers }
+
+pub declined-memory-with : {A : Type 0} (g : Ground) (t : ℕ) (q : Quiet) (outcome : Outcome)
+    (m : Memory) (r : Result A Refusal) (P : Type 0) → IsErrAnd r (λ e. e ≡ Refusal.NoMemory)
+    → Remembers g t m q → P → IfErr r (λ why. Declined g t q outcome m why × P)
+declined-memory-with g t q outcome m (Ok x) P never remembers p = tt
+declined-memory-with g t q outcome m (Err e) P is remembers p =
+    (record { refused = λ ne. absurd (ne is); remembers = remembers }, p)

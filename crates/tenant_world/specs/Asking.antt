@@ -1,12 +1,21 @@
--- What is asked of a tenant while there are no refs.
-use Rattle.std.specs.Prelude.{◌≡◌, Bool, true, false, ◌&&◌, [], ◌∷◌, ◌++◌, option_map}
+-- What a form asks, and what becomes of its answer.
+use Rattle.std.specs.Prelude.{◌≡◌, ℕ, Bool, true, false, Some, [], ◌∷◌, ◌++◌, option_map}
 use Rattle.repl_asks.specs.Exchange as exchange
 use Rattle.repl_asks.specs.Exchange.{AskData, AnswerData, Exchanged}
 use Rattle.name_spaces.specs.Bindings.{nothing_bound}
+use Rattle.server_rules.specs.Performed.{Performed}
+use Rattle.server_rules.specs.Store.{Store}
 use Rattle.server_rules.specs.Ground.{Ground}
 use Rattle.server_rules.specs.Request.{Hand, Run}
-use Rattle.server_rules.specs.Tenant.{ActorData}
-use Rattle.server_rules.specs.Asking.{is_allowed}
+use Rattle.server_rules.specs.Tenant.{ActorData, Quiet, seat_of}
+use Rattle.server_rules.specs.Asking.{answer_to, spaces_after, answered, call_of, when_told}
+use Rattle.server_rules.specs.Plan.{Plan}
+use Rattle.server_rules.specs.declared.actor.Actor.{Actor}
+use Rattle.ref_table.specs.Refs.{Refs, after}
+use Rattle.tenant_world.specs.Memories.{Remembers}
+use Rattle.tenant_refs.specs.Serving.{Table, Holds}
+use Rattle.tenant_refs.specs.declared.attempts.Attempts.{Attempts}
+use Rattle.tenant_world.specs.declared.memory.Memory.{Memory}
 
 -- nothing is bound in the namespace that all share
 abbrev pub SharesNoNames : Ground → Type 0
@@ -19,9 +28,22 @@ is_of_names (exchange.define namespace name binding) = true
 is_of_names (exchange.enter name) = true
 is_of_names _ = false
 
--- it is answered, and breaks no rule
-abbrev pub is_served : AskData → Bool
-is_served ask = is_of_names ask && is_allowed ask
+-- the plan of an ask that breaks no rule of its own, of a session that is open
+abbrev pub answered_plan : Ground → Actor → ActorData → Hand → Run → AskData → Quiet → Plan
+answered_plan g a actor h run ask q = record {
+  call = call_of (seat_of a) ask;
+  next = λ told. when_told told (answered g a actor h run ask q);
+}
+
+-- the refs told something, of which this answer is made, and all is as the rules leave it
+pub record Answers (g : Ground) (t : ℕ) (a : Actor) (q : Quiet) (ask : AskData)
+    (p : Performed Store) (m : Memory) (table : Table) (attempts : Attempts) (r : Refs)
+    (answer : AnswerData) : Type 0 where
+  pub told : AnswerData
+  pub is_told : p.told ≡ Some told
+  pub is : answer ≡ answer_to g a q ask told
+  pub remembers : Remembers g t m (record q { spaces = spaces_after ask q.spaces })
+  pub holds : Holds table attempts p.store (after p.store r)
 
 abbrev pub exchanged : AskData → AnswerData → Exchanged
 exchanged ask answer = record { ask = ask; answer = answer }

@@ -3,6 +3,7 @@ pub mod Seats
 pub mod Answers
 pub mod Acting
 pub mod Comparing
+pub mod Rooms
 pub mod Asking
 pub mod Running
 pub mod Standing

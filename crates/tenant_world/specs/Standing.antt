@@ -5,27 +5,31 @@ use Rattle.server_rules.specs.Ground.{Ground}
 use Rattle.server_rules.specs.Readings.{message_limit}
 use Rattle.server_rules.specs.Numbered.{found, replaced}
 use Rattle.server_rules.specs.Tenant.{ActorData, Quiet, seat_of}
-use Rattle.server_rules.specs.Plan.{StepAnswer, Outcome, refuses, leaves}
+use Rattle.server_rules.specs.Plan.{StepAnswer, refuses, leaves}
+use Rattle.server_rules.specs.Store.{Store}
 use Rattle.server_rules.specs.declared.actor.Actor.{Actor}
 use Rattle.server_rules.specs.declared.refusal.Refusal.{Refusal}
 use Rattle.tenant_actors.specs.View.{actors_view}
 use Rattle.tenant_replies.specs.View.{waiting_bytes}
+use Rattle.tenant_turns.specs.Deeded.{Deeded}
 use Rattle.tenant_world.specs.Asking.{SharesNoNames}
+use Rattle.tenant_refs.specs.Attempts.{Reaches}
 use Rattle.tenant_world.specs.Memories.{Remembers}
 use Rattle.tenant_world.specs.declared.tenant.Tenant.{Tenant}
 
--- the tenant of this number
-pub record Stands (g : Ground) (t : ℕ) (code : Tenant) (q : Quiet) : Type 0 where
+-- the tenant whose store this is
+pub record Stands (g : Ground) (code : Tenant) (q : Quiet) (s : Store) : Type 0 where
   pub retries : code.retries ≡ g.retries
   pub names : SharesNoNames g
   pub steps : code.steps ≡ q.steps
   -- the decoder has read all that was heard, and its messages were taken
   pub stream : decoder.Stands message_limit code.decoder q.heard (g.readings.stream q.heard).messages
   pub actors : actors_view code.actors ≡ q.actors
-  pub remembers : Remembers g t code.memory q
+  pub remembers : Remembers g s.tenant code.memory q
+  pub attempts : Reaches code.attempts s
 
--- the same but for the memory, while the state of this actor is taken out
-pub record Lends (g : Ground) (t : ℕ) (a : Actor) (code : Tenant) (q : Quiet) : Type 0 where
+-- the same but for the memory and the attempts, while the state of this actor is taken out
+pub record Lends (g : Ground) (a : Actor) (code : Tenant) (q : Quiet) : Type 0 where
   pub retries : code.retries ≡ g.retries
   pub names : SharesNoNames g
   pub steps : code.steps ≡ q.steps
@@ -34,26 +38,25 @@ pub record Lends (g : Ground) (t : ℕ) (a : Actor) (code : Tenant) (q : Quiet) 
   pub actors : actors_view code.actors ≡ replaced (seat_of a) place q.actors
 
 -- the deed is accepted with this answer, and the code stands for the tenant behind it
-pub record Does (g : Ground) (t : ℕ) (outcome : Outcome) (code : Tenant) (answer : StepAnswer)
-    : Type 0 where
+pub record Does (g : Ground) (d : Deeded) (code : Tenant) (answer : StepAnswer) : Type 0 where
   pub after : Quiet
-  pub accepted : outcome ≡ leaves after answer
-  pub stands : Stands g t code after
+  pub accepted : d.outcome ≡ leaves after answer
+  pub stands : Stands g code after d.store
 
 -- the deed of an actor, which leaves every other actor as it was
-pub record DoesBy (g : Ground) (t : ℕ) (a : Actor) (q : Quiet) (outcome : Outcome) (code : Tenant)
+pub record DoesBy (g : Ground) (a : Actor) (q : Quiet) (d : Deeded) (code : Tenant)
     (answer : StepAnswer) : Type 0 where
   pub after : Quiet
-  pub accepted : outcome ≡ leaves after answer
-  pub stands : Stands g t code after
+  pub accepted : d.outcome ≡ leaves after answer
+  pub stands : Stands g code after d.store
   pub others : (b : Actor) → seat_of b ≢ seat_of a
       → found (seat_of b) after.actors ≡ found (seat_of b) q.actors
 
 -- the deed is refused so, unless for want of memory, and the code stands for the tenant as it was
-pub record Refuses (g : Ground) (t : ℕ) (q : Quiet) (outcome : Outcome) (code : Tenant)
+pub record Refuses (g : Ground) (q : Quiet) (s : Store) (d : Deeded) (code : Tenant)
     (why : Refusal) : Type 0 where
-  pub refused : why ≢ Refusal.NoMemory → outcome ≡ refuses why
-  pub stands : Stands g t code q
+  pub refused : why ≢ Refusal.NoMemory → d.outcome ≡ refuses why
+  pub stands : Stands g code q s
 
 -- the replies that wait, oldest first, each as its bytes
 abbrev pub replies_of : Tenant → List (List ℕ)

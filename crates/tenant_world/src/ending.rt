@@ -1,15 +1,18 @@
 // An evaluation comes back at its end.
-ghost use Rattle.std.specs.Prelude.{◌≡◌, ◌≢◌, ℕ, Some, IfOk, OnOk, IfErr, OnErr, ◌<◌, length, Err};
+ghost use Rattle.std.specs.Prelude.{◌≡◌, ◌≢◌, ℕ, Some, IfOk, OnOk, IfErr, OnErr, ◌<◌, length};
+ghost use Rattle.std.specs.Prelude.{Err};
 ghost use Rattle.server_rules.specs.Ground.{Ground};
 ghost use Rattle.server_rules.specs.Request as rules;
+ghost use Rattle.server_rules.specs.Store.{Store};
 ghost use Rattle.server_rules.specs.Tenant.{Quiet};
 ghost use Rattle.server_rules.specs.Ending.{end_of, end_accepted};
 ghost use Rattle.tenant_actors.specs.View.{actor_view, run_view};
 ghost use Rattle.tenant_turns.specs.Grounds.{IsRight};
-ghost use Rattle.tenant_turns.specs.NoRefs.{carried_out};
+ghost use Rattle.tenant_turns.specs.Deeded.{carried_out};
 ghost use Rattle.tenant_replies.specs.View.{waiting_bytes};
 ghost use Rattle.tenant_world.specs.Memories.{Remembers, opened_by};
 ghost use Rattle.tenant_world.specs.Answers.{ended_view, ending_view};
+ghost use Rattle.tenant_refs.specs.Attempts.{Reaches};
 ghost use Rattle.tenant_world.specs.Acting.{Acted, Declined};
 ghost use Rattle.tenant_world.specs.Comparing.{difference, refusal_in};
 ghost use Rattle.server_rules.specs.Plan.{form_finished};
@@ -22,6 +25,7 @@ use server_rules::{Actor, Refusal};
 use std::alloc::{AllocError, Global};
 use tenant_actors::{ActorState, Run};
 use tenant_moves::{After, form_ended, go_on};
+use tenant_refs::Attempts;
 use trace_comparison::laws::{equal_traces_differ_nowhere, first_difference_is_unique};
 use trace_comparison::{first_difference, same_job};
 
@@ -29,18 +33,22 @@ use trace_comparison::{first_difference, same_job};
 pub(crate) fn end(
     alloc: Global,
     memory: &mut Memory,
+    attempts: &mut Attempts,
     actor: Actor,
     state: &mut ActorState,
     ending: &Ending<'_>,
 ) -> Result<Ended, Refusal>
-    ensures acted { (g : Ground) (t : ℕ) (q : Quiet) → IsRight g → Remembers g t memory.old q
-        → IfOk result (λ s. Acted g t actor q
-        (carried_out (end_of g actor (actor_view state.old) (ending_view ending.now) q
-        (actor_view state.old).hand)) memory.new (actor_view state.new) (ended_view s)) }
-    ensures declined { (g : Ground) (t : ℕ) (q : Quiet) → IsRight g → Remembers g t memory.old q
-        → IfErr result (Declined g t q
-        (carried_out (end_of g actor (actor_view state.old) (ending_view ending.now) q
-        (actor_view state.old).hand)) memory.new) }
+    ensures acted { (g : Ground) (q : Quiet) (s : Store) → IsRight g
+        → Remembers g s.tenant memory.old q → Reaches attempts.old s
+        → let d = carried_out s (end_of g actor (actor_view state.old) (ending_view ending.now) q
+        (actor_view state.old).hand) in IfOk result (λ x.
+        Acted g s.tenant actor q d.outcome memory.new (actor_view state.new) (ended_view x)
+        × Reaches attempts.new d.store) }
+    ensures declined { (g : Ground) (q : Quiet) (s : Store) → IsRight g
+        → Remembers g s.tenant memory.old q → Reaches attempts.old s
+        → let d = carried_out s (end_of g actor (actor_view state.old) (ending_view ending.now) q
+        (actor_view state.old).hand) in IfErr result (λ why.
+        Declined g s.tenant q d.outcome memory.new why × Reaches attempts.new s) }
     ensures stays { OnErr result (actor_view state.new ≡ actor_view state.old) }
     ensures opened { opened_by memory.new ≡ opened_by memory.old }
     ensures held { result ≡ Err Refusal.Held → 0 < length (waiting_bytes memory.old.outbox) }
@@ -53,6 +61,7 @@ pub(crate) fn end(
     };
     if state.is_closed {
         interrupt(alloc, memory, &hand.origin)?;
+        attempts.leave(actor);
         return Ok(Ended::Interrupted);
     }
     if memory.outbox.is_held() {
@@ -60,6 +69,7 @@ pub(crate) fn end(
     }
     compare(run, ending)?;
     accept(alloc, memory, actor, state, ending)?;
+    attempts.leave(actor);
     Ok(Ended::Finished)
 }
 
@@ -89,10 +99,11 @@ fn accept(
     state: &mut ActorState,
     ending: &Ending<'_>,
 ) -> Result<(), AllocError>
-    ensures acted { (g : Ground) (t : ℕ) (q : Quiet) (h : rules.Hand) → Remembers g t memory.old q
-        → (actor_view state.old).hand ≡ Some h
-        → OnOk result (Acted g t actor q (carried_out (end_accepted actor (actor_view state.old) h
-        (ending_view ending.now) q)) memory.new (actor_view state.new) form_finished) }
+    ensures acted { (g : Ground) (q : Quiet) (s : Store) (h : rules.Hand)
+        → Remembers g s.tenant memory.old q → (actor_view state.old).hand ≡ Some h
+        → OnOk result (Acted g s.tenant actor q (carried_out s (end_accepted actor
+        (actor_view state.old) h (ending_view ending.now) q)).outcome memory.new
+        (actor_view state.new) form_finished) }
     ensures stays { (g : Ground) (t : ℕ) (q : Quiet) → Remembers g t memory.old q
         → OnErr result (Remembers g t memory.new q) }
     ensures actor { OnErr result (actor_view state.new ≡ actor_view state.old) }

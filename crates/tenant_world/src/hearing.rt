@@ -3,9 +3,10 @@ ghost use Rattle.std.specs.Prelude.{◌≡◌, ◌+◌, ℕ, IfOk, OnOk, IfErr, 
 ghost use Rattle.server_rules.specs.Ground.{Ground};
 ghost use Rattle.server_rules.specs.Tenant.{Quiet};
 ghost use Rattle.server_rules.specs.Plan as deeds;
+ghost use Rattle.server_rules.specs.Store.{Store};
 ghost use Rattle.server_rules.specs.Plan.{messages_heard};
 ghost use Rattle.tenant_turns.specs.Grounds.{IsRight};
-ghost use Rattle.tenant_turns.specs.NoRefs.{outcome};
+ghost use Rattle.tenant_turns.specs.Deeded.{deeded};
 
 use crate::tenant::Tenant;
 use bencode_wire::laws::a_stream_has_one_reading;
@@ -19,11 +20,11 @@ impl Tenant {
     /// Hears the next piece of the stream, and answers how many messages became whole with it.
     /// Sessions are made, closed, listed and described at once; requests to evaluate wait.
     pub fn hear(&mut self, piece: &Bytes) -> Result<usize, Refusal>
-        ensures done { (g : Ground) (t : ℕ) (q : Quiet) → IsRight g → Stands g t self.old q
-            → IfOk result (λ count. Does g t (outcome g t q (deeds.hears piece.now)) self.new
+        ensures done { (g : Ground) (q : Quiet) (s : Store) → IsRight g → Stands g self.old q s
+            → IfOk result (λ count. Does g (deeded g s q (deeds.hears piece.now)) self.new
             (messages_heard count)) }
-        ensures refused { (g : Ground) (t : ℕ) (q : Quiet) → IsRight g → Stands g t self.old q
-            → IfErr result (Refuses g t q (outcome g t q (deeds.hears piece.now)) self.new) }
+        ensures refused { (g : Ground) (q : Quiet) (s : Store) → IsRight g → Stands g self.old q s
+            → IfErr result (Refuses g q s (deeded g s q (deeds.hears piece.now)) self.new) }
         ensures steps { OnOk result (self.old.steps ≡ self.new.steps + 1) }
         ensures kept { OnErr result (self.new.steps ≡ self.old.steps) }
     {

@@ -7,8 +7,9 @@ ghost use Rattle.server_rules.specs.Plan as deeds;
 ghost use Rattle.server_rules.specs.Plan.{reply_given};
 ghost use Rattle.tenant_actors.specs.View.{run_view};
 ghost use Rattle.tenant_turns.specs.Grounds.{IsRight};
-ghost use Rattle.tenant_turns.specs.NoRefs.{outcome};
-ghost use Rattle.tenant_turns.specs.Turns.{actors_of, wire_at};
+ghost use Rattle.server_rules.specs.Store.{Store};
+ghost use Rattle.tenant_turns.specs.Deeded.{deeded};
+ghost use Rattle.tenant_turns.specs.Turns.{Lone, actors_of, wire_at};
 ghost use Rattle.tenant_world.specs.Asking.{SharesNoNames};
 ghost use Rattle.tenant_world.specs.Running.{running_in};
 
@@ -21,6 +22,7 @@ use repl_sessions::{IdStream, SessionState, Sessions};
 use server_rules::{Actor, Refusal};
 use std::alloc::{AllocError, Global};
 use tenant_actors::{Actors, Run};
+use tenant_refs::Attempts;
 use tenant_replies::Outbox;
 use tenant_turns::Wire;
 
@@ -40,7 +42,8 @@ impl Tenant {
         retries: u32,
     ) -> Result<Tenant, AllocError>
         ensures { (g : Ground) → IsRight g → SharesNoNames g → g.seed ≡ seed → g.steps ≡ steps
-            → g.retries ≡ retries → IfOk result (λ made. Stands g number made (opened_quiet g)) }
+            → g.retries ≡ retries → (s : Store) → s.tenant ≡ number → s.mine.points ≡ []
+            → IfOk result (λ made. Stands g made (opened_quiet g) s) }
     {
         a_stream_has_one_reading();
         let memory = Memory {
@@ -56,6 +59,7 @@ impl Tenant {
             decoder: Decoder::new(alloc, MESSAGE_LIMIT),
             actors: Actors::new(alloc)?,
             memory,
+            attempts: Attempts::new(alloc, number),
         })
     }
 
@@ -65,17 +69,17 @@ impl Tenant {
         ensures oldest { MatchOption result
             ((replies_of self.old ≡ []) × (replies_of self.new ≡ []))
             (λ reply. replies_of self.old ≡ reply.items ∷ replies_of self.new) }
-        ensures drained { (g : Ground) (t : ℕ) (q : Quiet) → Stands g t self.old q
+        ensures drained { (g : Ground) (q : Quiet) (s : Store) → Stands g self.old q s
             → MatchOption result
-            (Refuses g t q (outcome g t q deeds.drains) self.new Refusal.Idle)
-            (λ reply. Does g t (outcome g t q deeds.drains) self.new (reply_given reply.items)) }
+            (Refuses g q s (deeded g s q deeds.drains) self.new Refusal.Idle)
+            (λ reply. Does g (deeded g s q deeds.drains) self.new (reply_given reply.items)) }
     {
         self.memory.outbox.take()
     }
 
     /// The first actor that has a form or a request to begin. It takes no memory.
     pub fn ready(&self) -> Option<Actor>
-        ensures { (g : Ground) (t : ℕ) (q : Quiet) → Stands g t self.now q → result ≡ ready q }
+        ensures { (g : Ground) (q : Quiet) (s : Store) → Stands g self.now q s → result ≡ ready q }
     {
         self.actors.ready()
     }
@@ -83,15 +87,15 @@ impl Tenant {
     /// The actors, in the order of their rounds. It takes a step for each, and fails only for want
     /// of memory.
     pub fn actors(&self, alloc: Global) -> Result<Vec<Actor>, AllocError>
-        ensures { (g : Ground) (t : ℕ) (q : Quiet) → Stands g t self.now q
-            → IfOk result (λ actors. actors.items ≡ actors_of q) }
+        ensures { (g : Ground) (l : Lone) → Stands g self.now l.quiet l.store
+            → IfOk result (λ actors. actors.items ≡ actors_of l) }
     {
         self.actors.names(alloc)
     }
 
     /// The form of an actor that runs, if one does: its job, and what it asked and was answered.
     pub fn running(&self, actor: Actor) -> Option<&Run>
-        ensures { (g : Ground) (t : ℕ) (q : Quiet) → Stands g t self.now q
+        ensures { (g : Ground) (q : Quiet) (s : Store) → Stands g self.now q s
             → option_map (λ run. run_view run.now) result ≡ running_in actor q }
     {
         self.actors.get(actor)?.hand.as_ref()?.running.as_ref()
@@ -99,7 +103,7 @@ impl Tenant {
 
     /// What has come of the stream. It takes no memory.
     pub fn wire(&self) -> Wire
-        ensures { (g : Ground) (t : ℕ) (q : Quiet) → IsRight g → Stands g t self.now q
+        ensures { (g : Ground) (q : Quiet) (s : Store) → IsRight g → Stands g self.now q s
             → result ≡ wire_at (g.readings.stream q.heard).ending }
     {
         a_stream_has_one_reading();

@@ -1,25 +1,32 @@
 // The steps of a tenant's actors.
-ghost use Rattle.std.specs.Prelude.{◌≡◌, ◌≢◌, ◌+◌, ◌<◌, ℕ, Some, Err, length, IfOk, OnOk};
-ghost use Rattle.std.specs.Prelude.{IfErr, OnErr};
+ghost use Rattle.std.specs.Prelude.{◌≡◌, ◌≢◌, ◌+◌, ◌<◌, ◌≤◌, true, Some, Err, length};
+ghost use Rattle.std.specs.Prelude.{IfOk, OnOk, IfErr, OnErr};
 ghost use Rattle.repl_asks.specs.View.{ask_view};
 ghost use Rattle.server_rules.specs.Ground.{Ground};
+ghost use Rattle.server_rules.specs.Store.{Store};
 ghost use Rattle.server_rules.specs.Tenant.{ActorData, Quiet, seat_of};
 ghost use Rattle.server_rules.specs.Plan as deeds;
 ghost use Rattle.server_rules.specs.Plan.{Plan, spent};
 ghost use Rattle.server_rules.specs.Deeds.{for_actor, unless_worn};
 ghost use Rattle.server_rules.specs.Numbered.{found};
+ghost use Rattle.ref_table.specs.Refs.{Refs, after as refs_after};
+ghost use Rattle.ref_table.specs.Standing.{counter_of};
 ghost use Rattle.tenant_actors.specs.View.{actor_view, actors_view};
+ghost use Rattle.tenant_turns.specs.Deeded.{carried_out, deeded};
 ghost use Rattle.tenant_turns.specs.Grounds.{IsRight};
-ghost use Rattle.tenant_turns.specs.NoRefs.{carried_out, outcome};
 ghost use Rattle.tenant_world.specs.Answers.{started_view, asked_view, ended_view, ending_view};
 ghost use Rattle.tenant_world.specs.Acting.{left_by};
+ghost use Rattle.tenant_refs.specs.Attempts.{Reaches};
 ghost use Rattle.tenant_world.specs.Memories.{Remembers};
+ghost use Rattle.tenant_refs.specs.Serving.{Serves};
 
 use crate::answers::{Asked, Ended, Ending, Started};
 use crate::asking::ask;
 use crate::ending::end;
 use crate::starting::start;
 use crate::tenant::Tenant;
+use ref_history::ListHistory;
+use ref_table::RefTable;
 use repl_asks::Ask;
 use server_rules::{Actor, Refusal};
 use tenant_actors::{ActorState, Actors};
@@ -30,15 +37,18 @@ impl Tenant {
 
     /// The actor begins its next form, or takes up its next request.
     pub fn start(&mut self, actor: Actor) -> Result<Started, Refusal>
-        ensures done { (g : Ground) (t : ℕ) (q : Quiet) → IsRight g → Stands g t self.old q
-            → IfOk result (λ s. DoesBy g t actor q (outcome g t q (deeds.starts actor))
-            self.new (started_view s)) }
-        ensures refused { (g : Ground) (t : ℕ) (q : Quiet) → IsRight g → Stands g t self.old q
-            → IfErr result (Refuses g t q (outcome g t q (deeds.starts actor)) self.new) }
+        ensures done { (g : Ground) (q : Quiet) (s : Store) → IsRight g → Stands g self.old q s
+            → IfOk result (λ x. DoesBy g actor q (deeded g s q (deeds.starts actor)) self.new
+            (started_view x)) }
+        ensures refused { (g : Ground) (q : Quiet) (s : Store) → IsRight g → Stands g self.old q s
+            → IfErr result (Refuses g q s (deeded g s q (deeds.starts actor)) self.new) }
         ensures steps { OnOk result (self.old.steps ≡ self.new.steps + 1) }
         ensures kept { OnErr result (self.new.steps ≡ self.old.steps) }
         ensures held { result ≡ Err Refusal.Held → 0 < length (replies_of self.old) }
     {
+        if self.is_idle(actor) {
+            return Err(Refusal::Idle);
+        }
         let mut state = self.lend(actor)?;
         match start(
             self.alloc,
@@ -58,21 +68,40 @@ impl Tenant {
         }
     }
 
-    /// The form of the actor that runs asks this. The answer is kept with its ask.
-    pub fn answer(&mut self, actor: Actor, asked: &Ask) -> Result<Asked, Refusal>
-        ensures done { (g : Ground) (t : ℕ) (q : Quiet) → IsRight g → Stands g t self.old q
-            → IfOk result (λ s. DoesBy g t actor q
-            (outcome g t q (deeds.asks_for actor (ask_view asked.now)))
-            self.new (asked_view s)) }
-        ensures refused { (g : Ground) (t : ℕ) (q : Quiet) → IsRight g → Stands g t self.old q
-            → IfErr result (Refuses g t q (outcome g t q (deeds.asks_for actor (ask_view asked.now)))
-            self.new) }
+    /// The form of the actor that runs asks this. The answer is kept with its ask. What is asked of
+    /// refs is asked of this table, which serves the tenant.
+    pub fn answer(
+        &mut self,
+        refs: &mut RefTable<ListHistory>,
+        actor: Actor,
+        asked: &Ask,
+    ) -> Result<Asked, Refusal>
+        requires { counter_of refs.old < u128.MAX }
+        ensures done { (g : Ground) (q : Quiet) (s : Store) (r : Refs) → IsRight g
+            → Stands g self.old q s → Serves refs.old s r
+            → let d = deeded g s q (deeds.asks_for actor (ask_view asked.now)) in
+            IfOk result (λ x. DoesBy g actor q d self.new (asked_view x)
+            × Serves refs.new d.store (refs_after d.store r)) }
+        ensures refused { (g : Ground) (q : Quiet) (s : Store) (r : Refs) → IsRight g
+            → Stands g self.old q s → Serves refs.old s r
+            → let d = deeded g s q (deeds.asks_for actor (ask_view asked.now)) in
+            IfErr result (λ why. Refuses g q s d self.new why × Serves refs.new s r) }
         ensures steps { OnOk result (self.old.steps ≡ self.new.steps + 1) }
         ensures kept { OnErr result (self.new.steps ≡ self.old.steps) }
+        ensures counter { counter_of refs.new ≤ counter_of refs.old + 1 }
+        ensures failed { OnErr result (counter_of refs.new ≡ counter_of refs.old) }
         ensures held { result ≡ Err Refusal.Held → 0 < length (replies_of self.old) }
     {
         let mut state = self.lend(actor)?;
-        match ask(self.alloc, &mut self.memory, actor, &mut state, asked) {
+        match ask(
+            self.alloc,
+            &mut self.memory,
+            refs,
+            &mut self.attempts,
+            actor,
+            &mut state,
+            asked,
+        ) {
             Ok(answered) => {
                 self.settle(actor, state, answered.is_interrupted());
                 Ok(answered)
@@ -86,19 +115,25 @@ impl Tenant {
 
     /// The form of the actor that runs has ended so.
     pub fn end_form(&mut self, actor: Actor, ending: &Ending<'_>) -> Result<Ended, Refusal>
-        ensures done { (g : Ground) (t : ℕ) (q : Quiet) → IsRight g → Stands g t self.old q
-            → IfOk result (λ s. DoesBy g t actor q
-            (outcome g t q (deeds.ends actor (ending_view ending.now)))
-            self.new (ended_view s)) }
-        ensures refused { (g : Ground) (t : ℕ) (q : Quiet) → IsRight g → Stands g t self.old q
-            → IfErr result (Refuses g t q (outcome g t q (deeds.ends actor (ending_view ending.now)))
+        ensures done { (g : Ground) (q : Quiet) (s : Store) → IsRight g → Stands g self.old q s
+            → IfOk result (λ x. DoesBy g actor q
+            (deeded g s q (deeds.ends actor (ending_view ending.now))) self.new (ended_view x)) }
+        ensures refused { (g : Ground) (q : Quiet) (s : Store) → IsRight g → Stands g self.old q s
+            → IfErr result (Refuses g q s (deeded g s q (deeds.ends actor (ending_view ending.now)))
             self.new) }
         ensures steps { OnOk result (self.old.steps ≡ self.new.steps + 1) }
         ensures kept { OnErr result (self.new.steps ≡ self.old.steps) }
         ensures held { result ≡ Err Refusal.Held → 0 < length (replies_of self.old) }
     {
         let mut state = self.lend(actor)?;
-        match end(self.alloc, &mut self.memory, actor, &mut state, ending) {
+        match end(
+            self.alloc,
+            &mut self.memory,
+            &mut self.attempts,
+            actor,
+            &mut state,
+            ending,
+        ) {
             Ok(ended) => {
                 self.settle(actor, state, ended.is_interrupted());
                 Ok(ended)
@@ -110,17 +145,29 @@ impl Tenant {
         }
     }
 
+    // Whether the actor is there with nothing to begin, and steps are left. Its start is refused then,
+    // as most are that go round the actors; so it is found out before the state is taken out.
+    fn is_idle(&self, actor: Actor) -> bool
+        ensures { result ≡ true → (g : Ground) (q : Quiet) (s : Store) → Stands g self.now q s
+            → (deeded g s q (deeds.starts actor)).outcome ≡ deeds.refuses Refusal.Idle }
+    {
+        match self.actors.get(actor) {
+            Some(state) => self.steps > 0 && !state.has_work(),
+            None => false,
+        }
+    }
+
     // Takes the state of an actor out, for a step of it.
     fn lend(&mut self, actor: Actor) -> Result<ActorState, Refusal>
         ensures steps { self.new.steps ≡ self.old.steps }
         ensures some { IfOk result (λ _. 0 < self.old.steps) }
-        ensures lent { (g : Ground) (t : ℕ) (q : Quiet) → Stands g t self.old q
-            → IfOk result (λ state. Lends g t actor self.new q
+        ensures lent { (g : Ground) (q : Quiet) (s : Store) → Stands g self.old q s
+            → IfOk result (λ state. Lends g actor self.new q
             × (found (seat_of actor) q.actors ≡ Some (actor_view state))
-            × Remembers g t self.new.memory q) }
-        ensures refused { (g : Ground) (t : ℕ) (q : Quiet) (p : ActorData → Plan)
-            → Stands g t self.old q → IfErr result (λ why. Refuses g t q
-            (carried_out (unless_worn q (for_actor (found (seat_of actor) q.actors) p)))
+            × Remembers g s.tenant self.new.memory q × Reaches self.new.attempts s) }
+        ensures refused { (g : Ground) (q : Quiet) (s : Store) (p : ActorData → Plan)
+            → Stands g self.old q s → IfErr result (λ why. Refuses g q s
+            (carried_out s (unless_worn q (for_actor (found (seat_of actor) q.actors) p)))
             self.new why) }
         ensures held { result ≢ Err Refusal.Held }
         ensures replies { replies_of self.new ≡ replies_of self.old }
@@ -139,10 +186,10 @@ impl Tenant {
     fn settle(&mut self, actor: Actor, state: ActorState, is_interrupted: bool)
         requires { 0 < self.old.steps }
         ensures steps { self.old.steps ≡ self.new.steps + 1 }
-        ensures stands { (g : Ground) (t : ℕ) (q after : Quiet) → Lends g t actor self.old q
-            → Remembers g t self.old.memory after
+        ensures stands { (g : Ground) (q after : Quiet) (s : Store) → Lends g actor self.old q
+            → Remembers g s.tenant self.old.memory after → Reaches self.old.attempts s
             → after.actors ≡ left_by is_interrupted actor (actor_view state) q.actors
-            → after.steps ≡ q.steps → after.heard ≡ q.heard → Stands g t self.new (spent after) }
+            → after.steps ≡ q.steps → after.heard ≡ q.heard → Stands g self.new (spent after) s }
     {
         put_back(&mut self.actors, actor, state, is_interrupted);
         self.steps -= 1;
@@ -151,10 +198,10 @@ impl Tenant {
     // The step is refused: its actor is put back as it was.
     fn restore(&mut self, actor: Actor, state: ActorState)
         ensures steps { self.new.steps ≡ self.old.steps }
-        ensures stands { (g : Ground) (t : ℕ) (q : Quiet) → Lends g t actor self.old q
-            → Remembers g t self.old.memory q
+        ensures stands { (g : Ground) (q : Quiet) (s : Store) → Lends g actor self.old q
+            → Remembers g s.tenant self.old.memory q → Reaches self.old.attempts s
             → found (seat_of actor) q.actors ≡ Some (actor_view state)
-            → Stands g t self.new q }
+            → Stands g self.new q s }
     {
         drop(self.actors.replace(actor, state));
     }

@@ -9,6 +9,7 @@ use crate::memory::Memory;
 use bencode_wire::Decoder;
 use std::alloc::Global;
 use tenant_actors::Actors;
+use tenant_refs::Attempts;
 
 /// One tenant. Each of its steps is a deed of the rules: it is accepted or refused as they say, and
 /// leaves the tenant as they say. A step that is refused changes nothing, want of memory included.
@@ -21,6 +22,7 @@ pub struct Tenant {
     pub(crate) decoder: Decoder,
     pub(crate) actors: Actors,
     pub(crate) memory: Memory,
+    pub(crate) attempts: Attempts,
     // The messages of each piece were taken when it was heard.
     ghost taken: { length (ready_of decoder) ≡ 0 },
     // No actor is of a session that is yet to be made.

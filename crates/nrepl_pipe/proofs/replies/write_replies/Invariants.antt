@@ -1,6 +1,6 @@
 use Rattle.std.proofs.Common.{◌≡◌, length, false}
 use Rattle.server_rules.specs.Ground.{Ground}
-use Rattle.server_rules.specs.Tenant.{Quiet}
+use Rattle.tenant_turns.specs.Turns.{Lone}
 use Rattle.nrepl_pipe.specs.Failing.{Marks}
 use Rattle.nrepl_pipe.proofs.Draining.{Drains}
 use Rattle.nrepl_pipe.proofs.replies.write_replies.Given as goal
@@ -8,7 +8,7 @@ use Rattle.nrepl_pipe.proofs.replies.write_replies.Given as goal
 abbrev pub invariant-loop-reply : goal.invariant-loop-reply
 invariant-loop-reply g l = record {
   steps : (g.C.Core.left l.core).steps ≡ (g.C.Core.left l.initial.core).steps;
-  drains : (h : Ground) (q : Quiet) → g.C.Core.stands h l.initial.core q
+  drains : (h : Ground) (q : Lone) → g.C.Core.stands h l.initial.core q
       → Drains h (g.C.Core.stands h l.core) q
       (g.W.Sink.contents l.initial.writer) (g.W.Sink.contents l.writer);
   writes : Marks (g.W.Sink.failed l.initial.writer) (g.W.Sink.failed l.writer) false;

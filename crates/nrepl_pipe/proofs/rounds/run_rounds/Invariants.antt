@@ -1,6 +1,6 @@
 use Rattle.std.proofs.Common.{◌+◌, ◌≤◌, false, if◌then◌else◌}
 use Rattle.server_rules.specs.Ground.{Ground}
-use Rattle.server_rules.specs.Tenant.{Quiet}
+use Rattle.tenant_turns.specs.Turns.{Lone}
 use Rattle.tenant_turns.specs.Grounds.{IsRight}
 use Rattle.nrepl_pipe.specs.Failing.{Marks}
 use Rattle.nrepl_pipe.proofs.Rounding.{RoundsOn}
@@ -9,7 +9,7 @@ use Rattle.nrepl_pipe.proofs.rounds.run_rounds.Given as goal
 abbrev pub invariant-loop-is_last : goal.invariant-loop-is_last
 invariant-loop-is_last g l = record {
   steps : (g.C.Core.left l.core).steps ≤ (g.C.Core.left l.fn.core).steps;
-  rounds : (h : Ground) (q : Quiet) → IsRight h → g.C.Core.stands h l.fn.core q
+  rounds : (h : Ground) (q : Lone) → IsRight h → g.C.Core.stands h l.fn.core q
       → RoundsOn h (g.C.Core.stands h l.core) q l.is_last l.is_worn
       (g.W.Sink.contents l.fn.writer) (g.W.Sink.contents l.writer);
   writes : Marks (g.W.Sink.failed l.fn.writer) (g.W.Sink.failed l.writer) false;

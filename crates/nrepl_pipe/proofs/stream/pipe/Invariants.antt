@@ -1,6 +1,6 @@
 use Rattle.std.proofs.Common.{false}
 use Rattle.server_rules.specs.Ground.{Ground}
-use Rattle.server_rules.specs.Tenant.{Quiet}
+use Rattle.tenant_turns.specs.Turns.{Lone}
 use Rattle.tenant_turns.specs.Grounds.{IsRight}
 use Rattle.nrepl_pipe.specs.Failing.{Marks}
 use Rattle.nrepl_pipe.specs.Fresh.{IsFresh}
@@ -9,7 +9,7 @@ use Rattle.nrepl_pipe.proofs.stream.pipe.Given as goal
 
 abbrev pub invariant-loop-piece : goal.invariant-loop-piece
 invariant-loop-piece g l = record {
-  serving : (h : Ground) (q : Quiet) → IsRight h → g.C.Core.stands h l.initial.core q → IsFresh q
+  serving : (h : Ground) (q : Lone) → IsRight h → g.C.Core.stands h l.initial.core q → IsFresh q
       → Serving h (g.C.Core.stands h l.core) q
       (g.R.Source.remaining l.initial.reader) (g.R.Source.remaining l.reader)
       (g.W.Sink.contents l.initial.writer) (g.W.Sink.contents l.writer);

@@ -1,12 +1,50 @@
+use Rattle.std.proofs.Common.{ap, subst, ◌∙◌}
 use Rattle.repl_asks.specs.View.{ask_view, answer_view}
+use Rattle.server_rules.specs.Plan.{Outcome, ask_answered}
 use Rattle.tenant_actors.specs.View.{actor_view}
-use Rattle.tenant_world.proofs.Answering.{acted-answered}
+use Rattle.tenant_world.specs.Acting.{Acted}
+use Rattle.tenant_world.specs.Asking.{exchanged, with_exchange}
+use Rattle.tenant_world.proofs.Answering.{acted-answered, answered-told, answered-untold}
+use Rattle.tenant_world.proofs.Remembering.{declined-memory-with}
 use Rattle.tenant_world.proofs.asking.answer.Goals as goal
 
+pub returns-in_err-answer-clause-declined : goal.returns-in_err-answer-clause-declined
+returns-in_err-answer-clause-declined c = λ g q s r h run shares remembers holds allowed.
+    let stay = c.in_err-answer.ensures.stays g q s r remembers holds in
+    declined-memory-with g s.tenant q _ c.told.new.memory c.from_residual-in_err-answer.result _
+    c.from_residual-in_err-answer.ensures.1 stay.0 stay.1
+
+pub returns-in_default-clause-declined : goal.returns-in_default-clause-declined
+returns-in_default-clause-declined c = λ g q s r h run shares remembers holds allowed.
+    let told = rw c.in_default.is at
+    (c.in_ok-answer.ensures.answered g q s r shares remembers holds allowed) in (
+      record {
+        refused = λ ne. answered-untold g s c.args.actor (actor_view c.args.state.now) h run
+            (ask_view c.args.ask.now) q told.0;
+        remembers = told.1;
+      },
+      told.2,
+    )
+
 pub returns-clause-acted : goal.returns-clause-acted
-returns-clause-acted c = λ g t q h run shares r hand running served.
-    acted-answered g t c.keep_answer.new.memory c.args.actor (actor_view c.args.state.now) _ h run
-    (ask_view c.args.ask.now) q (answer_view c.in_ok-answer.answer)
-    (answer_view c.in_ok-given.given) hand running c.in_ok-keep_answer.ensures.kept
-    (c.in_ok-answer.ensures g t q shares r) c.in_ok-given.ensures
-    (c.in_ok-keep_answer.ensures.changed g t q r)
+returns-clause-acted c = λ g q s r h run shares remembers holds allowed hand running.
+    let a = c.args.actor in
+    let actor = actor_view c.args.state.now in
+    let ask = ask_view c.args.ask.now in
+    let kept = answer_view c.in-Some.answer.kept in
+    let given = answer_view c.in-Some.answer.given in
+    let memory = c.told.new.memory in
+    let new = actor_view c.keep.new.state in
+    let answers = rw c.in-Some.is at
+    (c.in_ok-answer.ensures.answered g q s r shares remembers holds allowed) in
+    let same = rw c.in-Some.is at c.in_ok-answer.ensures.twice in
+    let put = c.keep.ensures
+    ∙ ap (λ x. with_exchange (exchanged x kept) (actor_view c.make_room.new.state))
+    c.in_ok-asked.ensures
+    ∙ ap (with_exchange (exchanged ask kept)) c.make_room.ensures.same in
+    let P : Outcome → Type 0 = λ x. Acted g s.tenant a q x memory new (ask_answered given) in (
+      subst P (answered-told g s a actor h run ask q answers.told answers.is_told)
+          (acted-answered g s.tenant memory a actor new h run ask q answers.told kept given hand running
+          put answers.is same answers.remembers),
+      answers.holds,
+    )

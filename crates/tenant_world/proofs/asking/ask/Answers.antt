@@ -1,44 +1,69 @@
-use Rattle.std.proofs.Common.{◌∙◌, sym, ap, subst, option_map}
+use Rattle.std.proofs.Common.{sym, ap, subst, ◌∙◌, option_map}
 use Rattle.repl_asks.specs.View.{ask_view, answer_view}
-use Rattle.server_rules.specs.Plan.{Outcome, ask_answered, request_interrupted}
+use Rattle.server_rules.specs.Plan.{Plan, Outcome, ask_answered, request_interrupted}
+use Rattle.server_rules.specs.Store.{Store}
+use Rattle.ref_table.specs.Refs.{after}
 use Rattle.tenant_actors.specs.View.{actor_view, hand_view, run_view}
+use Rattle.tenant_turns.specs.Deeded.{carried_out}
 use Rattle.tenant_world.specs.Acting.{Acted}
-use Rattle.tenant_world.proofs.Remembering.{acted-interrupted, declined-memory}
-use Rattle.tenant_world.proofs.Answering.{asked-answered, asked-interrupted}
+use Rattle.tenant_refs.specs.Serving.{Holds}
+use Rattle.tenant_world.proofs.Remembering.{acted-interrupted}
+use Rattle.tenant_world.proofs.Answering.{asked-open, asked-closed, given-told, given-declined}
 use Rattle.tenant_world.proofs.asking.ask.Goals as goal
 
-pub returns-in_err-interrupt-clause-declined : goal.returns-in_err-interrupt-clause-declined
-returns-in_err-interrupt-clause-declined c = λ g t q shares r.
-    declined-memory g t q _ _ c.from_residual.result c.from_residual.ensures.1
-    (c.in_err-interrupt.ensures.stays g t q r)
+pub returns-in_err-give_up-clause-declined : goal.returns-in_err-give_up-clause-declined
+returns-in_err-give_up-clause-declined c = λ g q s r shares remembers holds.
+    let a = c.args.actor in
+    let actor = actor_view c.args.state.now in
+    let ask = ask_view c.args.ask.now in
+    let k = hand_view c.in-Some.hand in
+    let run = run_view c.in-Some-running._run in
+    let allowed = sym c.is_allowed.ensures ∙ c.if-not-is_allowed.false in
+    let plan = asked-closed g a actor ask q k run (ap (option_map hand_view) c.in-Some.is)
+    (ap (option_map run_view) c.in-Some-running.is) allowed c.if-state.true in
+    let stay = c.in_err-give_up.ensures.stays g q s r remembers holds in
+    given-declined g s.tenant s a k ask q _ c.give_up.new.memory c.in_err-give_up.field-0.0 _
+    c.from_residual.result plan c.from_residual.ensures.1 stay.0 stay.1 stay.2
 
 pub returns-then-state-clause-acted : goal.returns-then-state-clause-acted
-returns-then-state-clause-acted c = λ g t q shares r.
+returns-then-state-clause-acted c = λ g q s r shares remembers holds.
     let a = c.args.actor in
     let actor = actor_view c.args.state.now in
+    let ask = ask_view c.args.ask.now in
     let k = hand_view c.in-Some.hand in
-    let memory = c.interrupt.new.memory in
-    let P : Outcome → Type 0 = λ x. Acted g t a q x memory actor request_interrupted in
-    subst P (asked-interrupted g a actor (ask_view c.args.ask.now) q k _
-    (ap (option_map hand_view) c.in-Some.is) (ap (option_map run_view) c.in-Some-running.is)
-    (sym c.is_served.ensures ∙ c.if-not-is_served.false) c.if-state.true)
-    (acted-interrupted g t memory a actor k q (c.in_ok-interrupt.ensures.told g t q r))
-
-pub returns-in_err-answer-clause-declined : goal.returns-in_err-answer-clause-declined
-returns-in_err-answer-clause-declined c = λ g t q shares r.
-    declined-memory g t q _ _ c.from_residual-in_err-answer.result
-    c.from_residual-in_err-answer.ensures.1 (c.in_err-answer.ensures.stays g t q r)
+    let run = run_view c.in-Some-running._run in
+    let memory = c.give_up.new.memory in
+    let refs = c.args.refs.now in
+    let attempts = c.give_up.new.attempts in
+    let allowed = sym c.is_allowed.ensures ∙ c.if-not-is_allowed.false in
+    let plan = asked-closed g a actor ask q k run (ap (option_map hand_view) c.in-Some.is)
+    (ap (option_map run_view) c.in-Some-running.is) allowed c.if-state.true in
+    let gone = c.in_ok-give_up.ensures.gone g q s r remembers holds in
+    let both = given-told s a k ask q gone.0 in
+    let P : Plan → Type 0 = λ p.
+    Acted g s.tenant a q (carried_out s p).outcome memory actor request_interrupted
+    × Holds refs attempts (carried_out s p).store (after (carried_out s p).store r) in
+    let Q : Outcome → Type 0 = λ x. Acted g s.tenant a q x memory actor request_interrupted in
+    let R : Store → Type 0 = λ x. Holds refs attempts x (after x r) in
+    subst P plan (
+      subst Q (sym both.0) (acted-interrupted g s.tenant memory a actor k q gone.1),
+      subst R (sym both.1) gone.2,
+    )
 
 pub returns-clause-acted : goal.returns-clause-acted
-returns-clause-acted c = λ g t q shares r.
+returns-clause-acted c = λ g q s r shares remembers holds.
     let a = c.args.actor in
     let actor = actor_view c.args.state.now in
-    let k = hand_view c.in-Some.hand in
     let ask = ask_view c.args.ask.now in
+    let k = hand_view c.in-Some.hand in
+    let run = run_view c.in-Some-running._run in
+    let allowed = sym c.is_allowed.ensures ∙ c.if-not-is_allowed.false in
     let hand = ap (option_map hand_view) c.in-Some.is in
     let running = ap (option_map run_view) c.in-Some-running.is in
-    let served = sym c.is_served.ensures ∙ c.if-not-is_served.false in
-    let P : Outcome → Type 0 = λ x. Acted g t a q x c.answer.new.memory
-    (actor_view c.answer.new.state) (ask_answered (answer_view c.in_ok-answer.answer)) in
-    subst P (asked-answered g a actor ask q k _ hand running served c.if-state.false)
-    (c.in_ok-answer.ensures.acted g t q k _ shares r hand running served)
+    let P : Plan → Type 0 = λ p.
+    Acted g s.tenant a q (carried_out s p).outcome c.answer.new.memory
+    (actor_view c.answer.new.state) (ask_answered (answer_view c.in_ok-answer.answer))
+    × Holds c.answer.new.refs c.answer.new.attempts (carried_out s p).store
+    (after (carried_out s p).store r) in
+    subst P (asked-open g a actor ask q k run hand running allowed c.if-state.false)
+    (c.in_ok-answer.ensures.acted g q s r k run shares remembers holds allowed hand running)

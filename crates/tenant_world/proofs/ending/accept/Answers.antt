@@ -13,7 +13,7 @@ use Rattle.tenant_world.proofs.Remembering.{acted-moved, some-same}
 use Rattle.tenant_world.proofs.ending.accept.Goals as goal
 
 pub returns-clause-acted : goal.returns-clause-acted
-returns-clause-acted c = λ g t q h r hand.
+returns-clause-acted c = λ g q s' h r hand.
     let a = c.args.actor in
     let actor = actor_view c.args.state.now in
     let new = actor_view c.put_after.new.state in
@@ -23,14 +23,14 @@ returns-clause-acted c = λ g t q h r hand.
     let s = state_view c.in_ok-session.session in
     let kept = ap (option_map hand_view) c.in-Some.is in
     let same_hand : k ≡ h = some-same k h (sym kept ∙ hand) in
-    let same_state : s ≡ state_of a q = c.in_ok-session.ensures g t q r in
+    let same_state : s ≡ state_of a q = c.in_ok-session.ensures g s'.tenant q r in
     let m = form_ended k e s in
     let ends = c.in_ok-news.ensures in
-    let taken = c.in_ok-take_news.ensures.taken g t q m r ends.told in
+    let taken = c.in_ok-take_news.ensures.taken g s'.tenant q m r ends.told in
     let put = c.put_after.ensures k kept ∙ ap (λ x. record actor { hand = x }) ends.hand in
-    let here = acted-moved g t memory a actor new m form_finished q taken put refl in
-    let P : Hand → Type 0 = λ x. Acted g t a q
+    let here = acted-moved g s'.tenant memory a actor new m form_finished q taken put refl in
+    let P : Hand → Type 0 = λ x. Acted g s'.tenant a q
     (leaves (spent (moved a actor (form_ended x e s) q)) form_finished) memory new form_finished in
-    let Q : StateData → Type 0 = λ x. Acted g t a q
+    let Q : StateData → Type 0 = λ x. Acted g s'.tenant a q
     (leaves (spent (moved a actor (form_ended h e x) q)) form_finished) memory new form_finished in
     subst Q same_state (subst P same_hand here)

@@ -4,8 +4,8 @@ use Rattle.server_rules.specs.Versions.{with_most}
 use Rattle.ref_table.proofs.Telling.{bound-performs}
 use Rattle.ref_table.proofs.table.RefTable.set_most.Goals as goal
 
-pub returns-in-Some : goal.returns-in-Some
-returns-in-Some g c = λ r points s.
+pub returns-in-Some-clause-told : goal.returns-in-Some-clause-told
+returns-in-Some-clause-told g c = λ r points s.
     bound-performs g.H.History.stands c.args.self.now c.set_most.new.self r c.args.caller points
     (name_view c.args.name) c.in-Some.id (with_most c.args.most) (sym c.settable.ensures ∙ c.in-Some.is)
     c.set_most.ensures s

@@ -4,24 +4,24 @@ use Rattle.repl_jobs.specs.View.{job_view, finished_view}
 use Rattle.repl_walker.specs.declared.waiting.Progress.{Progress}
 use Rattle.server_rules.specs.Plan as deeds
 use Rattle.server_rules.specs.Plan.{EndingData}
-use Rattle.tenant_turns.specs.NoRefs.{outcome}
-use Rattle.tenant_turns.specs.Turns.{tenant_number}
 use Rattle.tenant_world.specs.Answers.{ended_view}
 use Rattle.tenant_world.specs.Standing as world
 use Rattle.tenant_runner.specs.Ended.{ended}
 use Rattle.tenant_runner.proofs.Walking.{ends-same, at-so, some-same}
-use Rattle.tenant_runner.proofs.Steps.{does-followed, refused-runner}
+use Rattle.tenant_runner.specs.Standing.{comes_to}
+use Rattle.tenant_runner.proofs.Steps.{does-followed, refused-runner, serves-same}
+use Rattle.tenant_runner.proofs.Stores.{ends-reached}
 use Rattle.tenant_runner.proofs.runner.Runner.end.Goals as goal
 
 pub returns-in_err-end_form-clause-refused : goal.returns-in_err-end_form-clause-refused
-returns-in_err-end_form-clause-refused c = λ g q e right s at.
+returns-in_err-end_form-clause-refused c = λ g l e right s at.
     let a = c.args.actor in
     let d = c.in-Some-Ends.ending in
     let kept = at-so (λ p. p.now) c.get.result _ (Progress.Ends d) _ c.get.ensures
     c.in-Some-Ends.is c.in-Some-Ends.field-0-is in
     let same = ends-same d e (some-same _ _ (sym kept ∙ at)) in
-    let P : EndingData → Type 0 = λ x. world.Refuses g tenant_number q
-    (outcome g tenant_number q (deeds.ends a x)) c.end_form.new.self
+    let P : EndingData → Type 0 = λ x. world.Refuses g l.quiet l.store
+    (comes_to g l (deeds.ends a x)) c.end_form.new.self
     c.in_err-end_form.field-0.0 in
     let first : EndingData = record {
       job = job_view c.job.result.now;
@@ -32,19 +32,19 @@ returns-in_err-end_form-clause-refused c = λ g q e right s at.
     ap (λ j. record first { job = job_view j }) c.job.ensures
     ∙ ap (λ t. record first { job = job_view d.job; trace = trace_view t }) c.trace.ensures
     ∙ ap (λ f. record (ended d) { end = finished_view f }) c.end.ensures ∙ ap ended same in
-    refused-runner g q (deeds.ends a (ended e)) c.args.self.now _ c.in_err-end_form.field-0.0
+    refused-runner g l (deeds.ends a (ended e)) c.args.self.now _ c.in_err-end_form.field-0.0
     c.from_residual.result s c.from_residual.ensures.1
-    (subst P is (c.in_err-end_form.ensures.refused g tenant_number q right s.tenant)) refl
+    (subst P is (c.in_err-end_form.ensures.refused g l.quiet l.store right s.tenant)) s.serves refl
 
 pub returns-clause-done : goal.returns-clause-done
-returns-clause-done c = λ g q e right s at.
+returns-clause-done c = λ g l e right s at.
     let a = c.args.actor in
     let d = c.in-Some-Ends.ending in
     let kept = at-so (λ p. p.now) c.get.result _ (Progress.Ends d) _ c.get.ensures
     c.in-Some-Ends.is c.in-Some-Ends.field-0-is in
     let same = ends-same d e (some-same _ _ (sym kept ∙ at)) in
-    let P : EndingData → Type 0 = λ x. world.DoesBy g tenant_number a q
-    (outcome g tenant_number q (deeds.ends a x)) c.end_form.new.self
+    let P : EndingData → Type 0 = λ x. world.DoesBy g a l.quiet
+    (comes_to g l (deeds.ends a x)) c.end_form.new.self
     (ended_view c.in_ok-end_form.field-0) in
     let first : EndingData = record {
       job = job_view c.job.result.now;
@@ -55,7 +55,10 @@ returns-clause-done c = λ g q e right s at.
     ap (λ j. record first { job = job_view j }) c.job.ensures
     ∙ ap (λ t. record first { job = job_view d.job; trace = trace_view t }) c.trace.ensures
     ∙ ap (λ f. record (ended d) { end = finished_view f }) c.end.ensures ∙ ap ended same in
-    does-followed g q (deeds.ends a (ended e)) a c.args.self.now c.follow.new.self
-    c.end_form.new.self _ s
-    (subst P is (c.in_ok-end_form.ensures.done g tenant_number q right s.tenant))
-    c.follow.ensures.tenant (c.follow.ensures.walked g)
+    does-followed g l (deeds.ends a (ended e)) a c.args.self.now c.follow.new.self
+    c.end_form.new.self s.refs _ s
+    (subst P is (c.in_ok-end_form.ensures.done g l.quiet l.store right s.tenant))
+    c.follow.ensures.tenant
+    (serves-same g l (deeds.ends a (ended e)) c.args.self.now c.follow.new.self s
+    (ends-reached g l.quiet l.store a (ended e)) c.follow.ensures.refs)
+    (c.follow.ensures.walked g)

@@ -1,5 +1,4 @@
-use Rattle.tenant_turns.specs.Turns.{tenant_number}
 use Rattle.tenant_runner.proofs.turns.RunnerCore.actors.Goals as goal
 
 pub returns : goal.returns
-returns c = λ g q s. c.actors.ensures g tenant_number q s.tenant
+returns c = λ g l s. c.actors.ensures g l s.tenant

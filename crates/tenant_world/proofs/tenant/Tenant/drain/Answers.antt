@@ -3,8 +3,8 @@ use Rattle.tenant_world.proofs.Draining.{drains}
 use Rattle.tenant_world.proofs.tenant.Tenant.drain.Goals as goal
 
 pub returns-clause-drained : goal.returns-clause-drained
-returns-clause-drained c = λ g t q stands.
-    drains (λ v. v.items) g t q c.args.self.now _ c.take.result (record {
+returns-clause-drained c = λ g q s stands.
+    drains (λ v. v.items) g q s c.args.self.now _ c.take.result (record {
       retries = refl;
       steps = refl;
       decoder = refl;
@@ -12,4 +12,5 @@ returns-clause-drained c = λ g t q stands.
       sessions = refl;
       bare = refl;
       spaces = refl;
+      attempts = refl;
     }) stands c.take.ensures

@@ -4,7 +4,9 @@ use Rattle.server_rules.specs.Plan.{Plan}
 use Rattle.server_rules.specs.Ending.{end_of}
 use Rattle.server_rules.specs.Tenant.{ActorData}
 use Rattle.tenant_actors.specs.View.{actor_view}
-use Rattle.tenant_turns.specs.NoRefs.{outcome}
+use Rattle.tenant_turns.specs.Deeded.{carried_out, deeded}
+use Rattle.tenant_world.specs.Memories.{Remembers}
+use Rattle.tenant_world.proofs.Standing.{carried-tenant}
 use Rattle.tenant_world.specs.Acting.{left_by}
 use Rattle.tenant_world.specs.Answers.{ended_view, ending_view}
 use Rattle.tenant_world.specs.Standing.{Refuses}
@@ -12,41 +14,44 @@ use Rattle.tenant_world.proofs.Standing.{ends-by, does-acted, refuses-declined, 
 use Rattle.tenant_world.proofs.tenant.Tenant.end_form.Goals as goal
 
 pub returns-in_err-state-clause-refused : goal.returns-in_err-state-clause-refused
-returns-in_err-state-clause-refused c = λ g t q right stands.
+returns-in_err-state-clause-refused c = λ g q s right stands.
     let a = c.args.actor in
     let e = ending_view c.args.ending.now in
     let p : ActorData → Plan = λ actor. end_of g a actor e q actor.hand in
-    refuses-so g t q (outcome g t q (deeds.ends a e)) c.lend.new.self c.in_err-state.field-0.0
+    refuses-so g q s (deeded g s q (deeds.ends a e)) c.lend.new.self c.in_err-state.field-0.0
     c.from_residual.result c.from_residual.ensures.1
-    (subst (λ x. Refuses g t q x c.lend.new.self c.in_err-state.field-0.0)
-    (sym (ends-by g t q a e)) (c.in_err-state.ensures.refused g t q p stands))
+    (subst (λ x. Refuses g q s x c.lend.new.self c.in_err-state.field-0.0)
+    (sym (ends-by g q s a e)) (c.in_err-state.ensures.refused g q s p stands))
 
 pub returns-in-Ok-clause-done : goal.returns-in-Ok-clause-done
-returns-in-Ok-clause-done c = λ g t q right stands.
+returns-in-Ok-clause-done c = λ g q s right stands.
     let a = c.args.actor in
     let e = ending_view c.args.ending.now in
     let p : ActorData → Plan = λ actor. end_of g a actor e q actor.hand in
-    let lent = c.in_ok-state.ensures.lent g t q stands in
+    let lent = c.in_ok-state.ensures.lent g q s stands in
     let some = subst (λ n. 0 < n) stands.steps c.in_ok-state.ensures.some in
-    let acted = c.in-Ok.ensures.acted g t q right lent.2 in
-    let lends = lends-memory g t a c.lend.new.self _ q refl refl refl refl lent.0 in
+    let acted = c.in-Ok.ensures.acted g q s right lent.2 lent.3 in
+    let lends = lends-memory g a c.lend.new.self _ q refl refl refl refl lent.0 in
     let actor = actor_view c.end.new.state in
-    does-acted g t a q p (outcome g t q (deeds.ends a e)) (actor_view c.in_ok-state.state)
+    does-acted g s.tenant a q s p (deeded g s q (deeds.ends a e)) (actor_view c.in_ok-state.state)
     c.end.new.memory actor (ended_view c.in-Ok.ended) c.settle.new.self
-    (ends-by g t q a e) some lent.1 acted
-    (λ after r actors steps heard. c.settle.ensures.stands g t q after lends r
+    (ends-by g q s a e) some lent.1 acted.0
+    (λ after r actors steps heard. c.settle.ensures.stands g q after
+    (carried_out s (p (actor_view c.in_ok-state.state))).store lends
+    (subst (λ t. Remembers g t c.end.new.memory after)
+    (sym (carried-tenant s (p (actor_view c.in_ok-state.state)))) r) acted.1
     (actors ∙ ap (λ b. left_by b a actor q.actors) (sym c.is_interrupted.ensures)) steps heard)
 
 pub returns-in-Err-clause-refused : goal.returns-in-Err-clause-refused
-returns-in-Err-clause-refused c = λ g t q right stands.
+returns-in-Err-clause-refused c = λ g q s right stands.
     let a = c.args.actor in
     let e = ending_view c.args.ending.now in
     let p : ActorData → Plan = λ actor. end_of g a actor e q actor.hand in
-    let lent = c.in_ok-state.ensures.lent g t q stands in
+    let lent = c.in_ok-state.ensures.lent g q s stands in
     let some = subst (λ n. 0 < n) stands.steps c.in_ok-state.ensures.some in
-    let declined = c.in-Err.ensures.declined g t q right lent.2 in
-    let lends = lends-memory g t a c.lend.new.self _ q refl refl refl refl lent.0 in
-    refuses-declined g t a q p (outcome g t q (deeds.ends a e)) (actor_view c.in_ok-state.state)
-    c.end.new.memory c.in-Err.why c.restore.new.self (ends-by g t q a e) some lent.1
-    declined (λ r. c.restore.ensures.stands g t q lends r
+    let declined = c.in-Err.ensures.declined g q s right lent.2 lent.3 in
+    let lends = lends-memory g a c.lend.new.self _ q refl refl refl refl lent.0 in
+    refuses-declined g s.tenant a q s p (deeded g s q (deeds.ends a e)) (actor_view c.in_ok-state.state)
+    c.end.new.memory c.in-Err.why c.restore.new.self (ends-by g q s a e) some lent.1
+    declined.0 (λ r. c.restore.ensures.stands g q s lends r declined.1
     (lent.1 ∙ ap Some (sym c.in-Err.ensures.stays)))

@@ -12,43 +12,43 @@ use Rattle.tenant_world.proofs.Heard.{heard_by, hears-by, none-long, does-hear, 
 use Rattle.tenant_world.proofs.tenant.Tenant.hear.Goals as goal
 
 pub returns-then-self-eq0-clause-refused : goal.returns-then-self-eq0-clause-refused
-returns-then-self-eq0-clause-refused c = λ g t q right s.
+returns-then-self-eq0-clause-refused c = λ g q s right st.
     let piece = c.args.piece.now in
     record {
-      refused = λ ne. hears-by g t q piece
-          ∙ ap (λ b. heard_by g t piece q b (stream_fault g.readings q.heard))
-          (eq-eqb q.steps 0 (sym s.steps ∙ c.if-self-eq0.true));
-      stands = s;
+      refused = λ ne. hears-by g q s piece
+          ∙ ap (λ b. heard_by g s.tenant piece q b (stream_fault g.readings q.heard))
+          (eq-eqb q.steps 0 (sym st.steps ∙ c.if-self-eq0.true));
+      stands = st;
     }
 
 pub returns-in-Some-clause-refused : goal.returns-in-Some-clause-refused
-returns-in-Some-clause-refused c = λ g t q right s.
+returns-in-Some-clause-refused c = λ g q s right st.
     let piece = c.args.piece.now in
     let fault = sym (read-fault c.a_stream_has_one_reading.ensures g.readings
-    c.args.self.now.decoder q.heard _ right.readings s.stream)
+    c.args.self.now.decoder q.heard _ right.readings st.stream)
     ∙ sym c.fault.ensures ∙ c.in-Some.is in
     record {
-      refused = λ ne. hears-by g t q piece
-          ∙ ap (λ b. heard_by g t piece q b (stream_fault g.readings q.heard))
-          (not-zero q.steps (λ none. c.if-self-eq0.false (s.steps ∙ none)))
-          ∙ ap (hears_more g t piece q) fault;
-      stands = stands-same g t q c.args.self.now _ refl refl refl refl refl s;
+      refused = λ ne. hears-by g q s piece
+          ∙ ap (λ b. heard_by g s.tenant piece q b (stream_fault g.readings q.heard))
+          (not-zero q.steps (λ none. c.if-self-eq0.false (st.steps ∙ none)))
+          ∙ ap (hears_more g s.tenant piece q) fault;
+      stands = stands-same g q s c.args.self.now _ refl refl refl refl refl refl st;
     }
 
 pub returns-then-is_held-clause-refused : goal.returns-then-is_held-clause-refused
-returns-then-is_held-clause-refused c = λ g t q right s.
+returns-then-is_held-clause-refused c = λ g q s right st.
     let piece = c.args.piece.now in
     let sound = sym c.in_default.is ∙ c.fault.ensures
     ∙ read-fault c.a_stream_has_one_reading.ensures g.readings c.args.self.now.decoder q.heard _
-    right.readings s.stream in
+    right.readings st.stream in
     record {
-      refused = λ ne. hears-by g t q piece
-          ∙ ap (λ b. heard_by g t piece q b (stream_fault g.readings q.heard))
-          (not-zero q.steps (λ none. c.if-self-eq0.false (s.steps ∙ none)))
-          ∙ ap (hears_more g t piece q) (sym sound)
-          ∙ held-back g t piece q (held-so g t c.args.self.now.memory q c.is_held.result
-          s.remembers c.is_held.ensures ∙ c.if-is_held.true);
-      stands = stands-same g t q c.args.self.now _ refl refl refl refl refl s;
+      refused = λ ne. hears-by g q s piece
+          ∙ ap (λ b. heard_by g s.tenant piece q b (stream_fault g.readings q.heard))
+          (not-zero q.steps (λ none. c.if-self-eq0.false (st.steps ∙ none)))
+          ∙ ap (hears_more g s.tenant piece q) (sym sound)
+          ∙ held-back g s.tenant piece q (held-so g s.tenant c.args.self.now.memory q c.is_held.result
+          st.remembers c.is_held.ensures ∙ c.if-is_held.true);
+      stands = stands-same g q s c.args.self.now _ refl refl refl refl refl refl st;
     }
 
 pub hear-requires-clause-seated : goal.hear-requires-clause-seated
@@ -61,23 +61,24 @@ invariant_of-self-2 c = record {
 }
 
 pub returns-clause-done : goal.returns-clause-done
-returns-clause-done c = λ g t q right s.
+returns-clause-done c = λ g q s right st.
     let d = c.args.self.now.decoder in
     let read = read-fault c.a_stream_has_one_reading.ensures g.readings d q.heard _
-    right.readings s.stream in
+    right.readings st.stream in
     let sound = sym c.in_default.is ∙ c.fault.ensures ∙ read in
-    let free = held-so g t c.args.self.now.memory q c.is_held.result s.remembers c.is_held.ensures
+    let free = held-so g s.tenant c.args.self.now.memory q c.is_held.result st.remembers c.is_held.ensures
     ∙ c.if-is_held.false in
     let reads : Reads g q.heard d = record {
-      stands = s.stream;
+      stands = st.stream;
       ready = none-long (ready_of d) c.args.self.now.taken;
       fault = read;
     } in
-    let held : Holds g t q c.args.self.now.memory.sessions _ _ = record {
-      sessions = s.remembers.sessions;
-      actors = s.actors;
-      replies = s.remembers.replies;
+    let held : Holds g s.tenant q c.args.self.now.memory.sessions _ _ = record {
+      sessions = st.remembers.sessions;
+      actors = st.actors;
+      replies = st.remembers.replies;
     } in
-    does-hear g t q c.args.self.now _ c.args.piece.now c.in_ok-count.count s
-    (not-zero q.steps (λ none. c.if-self-eq0.false (s.steps ∙ none))) sound free
-    refl refl refl refl (c.in_ok-count.ensures.heard g t q right.readings reads held)
+    does-hear g q s c.args.self.now _ c.args.piece.now c.in_ok-count.count st
+    (not-zero q.steps (λ none. c.if-self-eq0.false (st.steps ∙ none))) sound free
+    refl refl refl refl refl
+    (c.in_ok-count.ensures.heard g s.tenant q right.readings reads held)

@@ -9,11 +9,11 @@ use Rattle.tenant_world.proofs.Seating.{below-replaced}
 use Rattle.tenant_world.proofs.tenant.Tenant.lend.Goals as goal
 
 pub returns-in-None-clause-refused : goal.returns-in-None-clause-refused
-returns-in-None-clause-refused c = λ g t q p stands.
+returns-in-None-clause-refused c = λ g q s p stands.
     let a = c.args.actor in
     let absent = sym c.in-None.ensures.was in
     record {
-      refused = λ ne. missing-by q a p
+      refused = λ ne. missing-by q s a p
           (not-zero q.steps (λ none. c.if-self-eq0.false (stands.steps ∙ none)))
           (ap (found (seat_of a)) (sym stands.actors) ∙ absent);
       stands = record {
@@ -23,6 +23,7 @@ returns-in-None-clause-refused c = λ g t q p stands.
         stream = stands.stream;
         actors = c.in-None.ensures.put ∙ replaced-nothing (seat_of a) _ _ absent ∙ stands.actors;
         remembers = stands.remembers;
+        attempts = stands.attempts;
       };
     }
 

@@ -8,9 +8,9 @@ use Rattle.tenant_world.proofs.Seating.{below-replaced}
 use Rattle.tenant_world.proofs.tenant.Tenant.restore.Goals as goal
 
 pub returns-clause-stands : goal.returns-clause-stands
-returns-clause-stands c = λ g t q lends r there.
-    restored g t c.args.actor c.args.self.now _ q (actor_view c.args.state) lends r there
-    refl refl refl refl c.replace.ensures.put
+returns-clause-stands c = λ g q s lends r reaches there.
+    restored g c.args.actor c.args.self.now _ q s (actor_view c.args.state) lends r reaches there
+    refl refl refl refl refl c.replace.ensures.put
 
 pub invariant_of-self : goal.invariant_of-self
 invariant_of-self c =

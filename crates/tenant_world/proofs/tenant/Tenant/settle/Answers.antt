@@ -7,9 +7,10 @@ use Rattle.tenant_world.proofs.Seating.{below-left}
 use Rattle.tenant_world.proofs.tenant.Tenant.settle.Goals as goal
 
 pub returns-clause-stands : goal.returns-clause-stands
-returns-clause-stands c = λ g t q after lends r actors steps heard.
-    settled g t c.args.actor c.args.self.now _ q after c.args.is_interrupted
-    (actor_view c.args.state) lends r actors steps heard refl refl refl refl c.put_back.ensures
+returns-clause-stands c = λ g q after s lends r reaches actors steps heard.
+    settled g c.args.actor c.args.self.now _ q after s c.args.is_interrupted
+    (actor_view c.args.state) lends r reaches actors steps heard refl refl refl refl refl
+    c.put_back.ensures
 
 pub invariant_of-self : goal.invariant_of-self
 invariant_of-self c =

@@ -7,7 +7,7 @@ use Rattle.name_spaces.specs.Seen.{namespaces_of}
 use Rattle.name_spaces.specs.Resolving as names
 use Rattle.server_rules.specs.Tenant.{state_of}
 use Rattle.server_rules.specs.Asking.{resolution_of, answer_to}
-use Rattle.tenant_world.proofs.asking.answer_of.Goals as goal
+use Rattle.tenant_world.proofs.naming.answer_of.Goals as goal
 
 pub returns-in_ok-resolution_of-in-Resolve : goal.returns-in_ok-resolution_of-in-Resolve
 returns-in_ok-resolution_of-in-Resolve c = λ g t q shares r.

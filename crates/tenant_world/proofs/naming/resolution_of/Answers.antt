@@ -3,7 +3,7 @@ use Rattle.repl_asks.specs.Exchange.{names_value}
 use Rattle.name_spaces.specs.Seen.{found_view}
 use Rattle.server_rules.specs.Tenant.{state_of}
 use Rattle.server_rules.specs.Asking.{resolution_of, latest_of}
-use Rattle.tenant_world.proofs.asking.resolution_of.Goals as goal
+use Rattle.tenant_world.proofs.naming.resolution_of.Goals as goal
 
 pub returns-in_ok-copy-in-Latest : goal.returns-in_ok-copy-in-Latest
 returns-in_ok-copy-in-Latest c = λ g t q r.

@@ -1,0 +1,231 @@
+-- What calls of the refs leave as it was.
+use Rattle.std.proofs.Common.{◌≡◌, ◌+◌, ℕ, List, [], ◌∷◌, Bool, true, false, ◌&&◌}
+use Rattle.std.proofs.Common.{Option, None, Some, refl, sym, ap, ◌∙◌}
+use Rattle.std.specs.Prelude.{option_map}
+use Rattle.value_data.specs.Datum.{Datum, OwnerData, shared, tenant}
+use Rattle.repl_asks.specs.Transactions.{RefNameData, ChangeData, IntentData}
+use Rattle.repl_asks.specs.Exchange.{AnswerData, reading, found, retry}
+use Rattle.server_rules.specs.Numbered as numbered
+use Rattle.server_rules.specs.Numbered.{Entry, entry, without}
+use Rattle.server_rules.specs.Versions.{Ref, faulted, with_least, with_most, with_version}
+use Rattle.server_rules.specs.Versions.{readable, newest}
+use Rattle.server_rules.specs.Store.{Store, named, changed_of, changed}
+use Rattle.server_rules.specs.Commit.{touched, all_there, fits, any_newer, with_changes, raised}
+use Rattle.server_rules.specs.Commit.{with_sets, checked, commit_by}
+use Rattle.server_rules.specs.Calls.{Call, nothing, makes, begins, leaves_attempt, reads, counts}
+use Rattle.server_rules.specs.Calls.{tells_least, tells_most, sets_least, sets_most, commits, gives_up}
+use Rattle.server_rules.specs.Calls.{begun, read_at, read_by, bound_set, given_up, performed}
+
+-- the same tenant with the same attempts
+pub record Same (old new : Store) : Type 0 where
+  pub tenant : new.tenant ≡ old.tenant
+  pub points : new.mine.points ≡ old.mine.points
+
+same-all : (s : Store) → Same s s
+same-all s = record { tenant = refl; points = refl }
+
+same-then : (a b c : Store) → Same a b → Same b c → Same a c
+same-then a b c first more = record {
+  tenant = more.tenant ∙ first.tenant;
+  points = more.points ∙ first.points;
+}
+
+changed_of-same : (o : OwnerData) (n : ℕ) (f : Ref → Ref) (s : Store) → Same s (changed_of o n f s)
+changed_of-same shared n f s = record { tenant = refl; points = refl }
+changed_of-same (tenant t) n f s = record { tenant = refl; points = refl }
+
+pub changed-same : (name : RefNameData) (f : Ref → Ref) (s : Store) → Same s (changed name f s)
+changed-same name f s = changed_of-same name.owner name.number f s
+
+changes-same : (stamp : ℕ) (cs : List ChangeData) (s : Store) → Same s (with_changes stamp cs s)
+changes-same stamp [] s = same-all s
+changes-same stamp (c ∷ cs) s =
+    let f : Ref → Ref = with_version (record { stamp = stamp; content = c.now }) in
+    same-then s (changed c.name f s) (with_changes stamp cs (changed c.name f s))
+    (changed-same c.name f s) (changes-same stamp cs (changed c.name f s))
+
+sets-same : (cs : List ChangeData) (s : Store) → Same s (with_sets cs s)
+sets-same [] s = same-all s
+sets-same (c ∷ cs) s =
+    let more = changes-same (s.around.counter + 1) (c ∷ cs) (raised s) in
+    record { tenant = more.tenant; points = more.points }
+
+-- The tenant
+
+begun-tenant : (seat : ℕ) (s : Store) (o : Option ℕ) → (begun seat s o).store.tenant ≡ s.tenant
+begun-tenant seat s None = refl
+begun-tenant seat s (Some point) = refl
+
+read-tenant : (seat : ℕ) (name : RefNameData) (s : Store) (point : Option ℕ) (o : Option Ref)
+    → (read_by seat name s point o).store.tenant ≡ s.tenant
+read-tenant seat name s point None = refl
+read-tenant seat name s None (Some r) = refl
+read-tenant seat name s (Some point) (Some r) = by (readable point r) where
+  by : (o : Option Datum) → (read_at seat name s o).store.tenant ≡ s.tenant
+  by (Some d) = refl
+  by None = (changed-same name faulted s).tenant
+
+bound-tenant : (name : RefNameData) (owner : OwnerData) (f : Ref → Ref) (s : Store) (o : Option Ref)
+    → (bound_set name owner f s o).store.tenant ≡ s.tenant
+bound-tenant name owner f s None = refl
+bound-tenant name shared f s (Some r) = refl
+bound-tenant name (tenant t) f s (Some r) = (changed-same name f s).tenant
+
+checked-tenant : (seat : ℕ) (intent : IntentData) (s : Store) (fit newer : Bool)
+    → (checked seat intent s fit newer).store.tenant ≡ s.tenant
+checked-tenant seat intent s false newer = refl
+checked-tenant seat intent s true true = refl
+checked-tenant seat intent s true false = (sets-same intent.sets s).tenant
+
+commit-tenant : (seat : ℕ) (intent : IntentData) (s : Store) (o : Option ℕ)
+    → (commit_by seat intent s o).store.tenant ≡ s.tenant
+commit-tenant seat intent s None = refl
+commit-tenant seat intent s (Some point) = checked-tenant seat intent s
+    (all_there (touched intent) s && fits intent) (any_newer point (touched intent) s)
+
+given-tenant : (seat : ℕ) (s : Store) (o : Option AnswerData)
+    → (given_up seat s o).store.tenant ≡ s.tenant
+given-tenant seat s None = refl
+given-tenant seat s (Some answer) = refl
+
+pub performed-tenant : (s : Store) (call : Call) → (performed s call).store.tenant ≡ s.tenant
+performed-tenant s nothing = refl
+performed-tenant s (makes d least most) = refl
+performed-tenant s (begins seat) = begun-tenant seat s (numbered.found seat s.mine.points)
+performed-tenant s (leaves_attempt seat) = refl
+performed-tenant s (reads seat name) =
+    read-tenant seat name s (numbered.found seat s.mine.points) (named name s)
+performed-tenant s (counts seat name) = refl
+performed-tenant s (tells_least name) = refl
+performed-tenant s (tells_most name) = refl
+performed-tenant s (sets_least name n) = bound-tenant name name.owner (with_least n) s (named name s)
+performed-tenant s (sets_most name n) = bound-tenant name name.owner (with_most n) s (named name s)
+performed-tenant s (commits seat intent) =
+    commit-tenant seat intent s (numbered.found seat s.mine.points)
+performed-tenant s (gives_up seat call) = given-tenant seat s (performed s call).told
+
+-- What is told of nothing
+
+pub none-some : {A : Type 0} {x : A} → ◌≡◌ {A = Option A} None (Some x) → ⊥
+none-some e = cc
+
+begun-untold : (seat : ℕ) (s : Store) (o : Option ℕ) → None ≡ (begun seat s o).told
+    → (begun seat s o).store ≡ s
+begun-untold seat s None e = absurd (none-some e)
+begun-untold seat s (Some point) e = refl
+
+read-untold : (seat : ℕ) (name : RefNameData) (s : Store) (point : Option ℕ) (o : Option Ref)
+    → None ≡ (read_by seat name s point o).told → (read_by seat name s point o).store ≡ s
+read-untold seat name s point None e = refl
+read-untold seat name s None (Some r) e = refl
+read-untold seat name s (Some point) (Some r) e = by (readable point r) e where
+  by : (o : Option Datum) → None ≡ (read_at seat name s o).told → (read_at seat name s o).store ≡ s
+  by (Some d) e = refl
+  by None e = absurd (none-some e)
+
+bound-untold : (name : RefNameData) (owner : OwnerData) (f : Ref → Ref) (s : Store) (o : Option Ref)
+    → None ≡ (bound_set name owner f s o).told → (bound_set name owner f s o).store ≡ s
+bound-untold name owner f s None e = refl
+bound-untold name shared f s (Some r) e = refl
+bound-untold name (tenant t) f s (Some r) e = absurd (none-some e)
+
+checked-untold : (seat : ℕ) (intent : IntentData) (s : Store) (fit newer : Bool)
+    → None ≡ (checked seat intent s fit newer).told
+    → (checked seat intent s fit newer).store ≡ s
+checked-untold seat intent s false newer e = refl
+checked-untold seat intent s true true e = absurd (none-some e)
+checked-untold seat intent s true false e = absurd (none-some e)
+
+commit-untold : (seat : ℕ) (intent : IntentData) (s : Store) (o : Option ℕ)
+    → None ≡ (commit_by seat intent s o).told → (commit_by seat intent s o).store ≡ s
+commit-untold seat intent s None e = refl
+commit-untold seat intent s (Some point) e = checked-untold seat intent s
+    (all_there (touched intent) s && fits intent) (any_newer point (touched intent) s) e
+
+given-untold : (seat : ℕ) (s : Store) (o : Option AnswerData)
+    → None ≡ (given_up seat s o).told → (given_up seat s o).store ≡ s
+given-untold seat s None e = refl
+given-untold seat s (Some answer) e = absurd (none-some e)
+
+-- where nothing is told, all is as it was
+pub untold-stays : (s : Store) (call : Call) → None ≡ (performed s call).told
+    → (performed s call).store ≡ s
+untold-stays s nothing e = absurd (none-some e)
+untold-stays s (makes d least most) e = absurd (none-some e)
+untold-stays s (begins seat) e = begun-untold seat s (numbered.found seat s.mine.points) e
+untold-stays s (leaves_attempt seat) e = absurd (none-some e)
+untold-stays s (reads seat name) e =
+    read-untold seat name s (numbered.found seat s.mine.points) (named name s) e
+untold-stays s (counts seat name) e = refl
+untold-stays s (tells_least name) e = refl
+untold-stays s (tells_most name) e = refl
+untold-stays s (sets_least name n) e = bound-untold name name.owner (with_least n) s (named name s) e
+untold-stays s (sets_most name n) e = bound-untold name name.owner (with_most n) s (named name s) e
+untold-stays s (commits seat intent) e =
+    commit-untold seat intent s (numbered.found seat s.mine.points) e
+untold-stays s (gives_up seat call) e = given-untold seat s (performed s call).told e
+
+-- Reads
+
+pub read-found : (s : Store) (seat : ℕ) (name : RefNameData) (d : Datum)
+    → Some (reading (found d)) ≡ (performed s (reads seat name)).told
+    → (performed s (reads seat name)).store ≡ s
+read-found s seat name d e = by (numbered.found seat s.mine.points) (named name s) e where
+  at : (o : Option Datum) → Some (reading (found d)) ≡ (read_at seat name s o).told
+      → (read_at seat name s o).store ≡ s
+  at (Some x) e = refl
+  at None e = absurd (cc)
+
+  by : (point : Option ℕ) (o : Option Ref)
+      → Some (reading (found d)) ≡ (read_by seat name s point o).told
+      → (read_by seat name s point o).store ≡ s
+  by point None e = refl
+  by None (Some r) e = refl
+  by (Some point) (Some r) e = at (readable point r) e
+
+-- the attempt that is to be made again is over
+pub read-retried : (s : Store) (seat : ℕ) (name : RefNameData)
+    → Some (reading retry) ≡ (performed s (reads seat name)).told
+    → (performed s (reads seat name)).store.mine.points ≡ without seat s.mine.points
+read-retried s seat name e = by (numbered.found seat s.mine.points) (named name s) e where
+  never : (o : Option Datum) → Some (reading retry) ≡ option_map (λ d. reading (found d)) o → ⊥
+  never None e = none-some (sym e)
+  never (Some d) e = cc
+
+  at : (o : Option Datum) → Some (reading retry) ≡ (read_at seat name s o).told
+      → (read_at seat name s o).store.mine.points ≡ without seat s.mine.points
+  at (Some x) e = absurd (cc)
+  at None e = ap (without seat) (changed-same name faulted s).points
+
+  by : (point : Option ℕ) (o : Option Ref)
+      → Some (reading retry) ≡ (read_by seat name s point o).told
+      → (read_by seat name s point o).store.mine.points ≡ without seat s.mine.points
+  by point None e = absurd (none-some (sym e))
+  by None (Some r) e = absurd (never (newest r.versions) e)
+  by (Some point) (Some r) e = at (readable point r) e
+
+-- Commits
+
+pub commit-told : (s : Store) (seat : ℕ) (intent : IntentData) (v : AnswerData)
+    → Some v ≡ (performed s (commits seat intent)).told
+    → (performed s (commits seat intent)).store.mine.points ≡ without seat s.mine.points
+commit-told s seat intent v e = by (numbered.found seat s.mine.points) e where
+  at : (fit newer : Bool) → Some v ≡ (checked seat intent s fit newer).told
+      → (checked seat intent s fit newer).store.mine.points ≡ without seat s.mine.points
+  at false newer e = absurd (none-some (sym e))
+  at true true e = refl
+  at true false e = ap (without seat) (sets-same intent.sets s).points
+
+  by : (o : Option ℕ) → Some v ≡ (commit_by seat intent s o).told
+      → (commit_by seat intent s o).store.mine.points ≡ without seat s.mine.points
+  by None e = absurd (none-some (sym e))
+  by (Some point) e = at (all_there (touched intent) s && fits intent)
+      (any_newer point (touched intent) s) e
+
+-- Bounds that are set
+
+pub bound-points : (name : RefNameData) (owner : OwnerData) (f : Ref → Ref) (s : Store)
+    (o : Option Ref) → (bound_set name owner f s o).store.mine.points ≡ s.mine.points
+bound-points name owner f s None = refl
+bound-points name shared f s (Some r) = refl
+bound-points name (tenant t) f s (Some r) = (changed-same name f s).points

@@ -1,0 +1,5 @@
+pub mod Twice
+pub mod Attempts
+pub mod Sound
+pub mod Serving
+pub mod Bounds

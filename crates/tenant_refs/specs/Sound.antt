@@ -1,0 +1,21 @@
+-- Refs of which all can be told: what their histories count are numbers of the language, and they
+-- have a value.
+use Rattle.std.specs.Prelude.{◌≡◌, ◌<◌, ◌^◌, true, is_some}
+use Rattle.std.specs.List.{AllByRecursion}
+use Rattle.value_data.specs.Datum.{OwnerData}
+use Rattle.server_rules.specs.Store.{Store}
+use Rattle.server_rules.specs.Versions.{Ref, newest}
+use Rattle.ref_table.specs.Refs.{Refs}
+
+pub record IsSound (r : Ref) : Type 0 where
+  pub kept : r.kept < 2 ^ 63
+  pub least : r.least < 2 ^ 63
+  pub most : r.most < 2 ^ 63
+  pub value : is_some (newest r.versions) ≡ true
+
+abbrev pub AreSound : Refs → Type 0
+AreSound r = (owner : OwnerData) → AllByRecursion IsSound (r.owned owner)
+
+-- those that a tenant reaches
+abbrev pub ReachesSound : Store → Type 0
+ReachesSound s = AllByRecursion IsSound s.around.refs × AllByRecursion IsSound s.mine.refs

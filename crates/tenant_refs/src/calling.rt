@@ -1,0 +1,237 @@
+// What a form asks of the refs.
+ghost use Rattle.std.specs.Prelude.{◌≡◌, ◌<◌, ◌≤◌, ◌+◌, ◌^◌, true, IsNone, IfOk, OnErr};
+ghost use Rattle.repl_asks.specs.View.{ask_view, name_view, intent_view};
+ghost use Rattle.value_data.specs.View.{view};
+ghost use Rattle.server_rules.specs.Asking.{call_of, is_allowed, may_be_set};
+ghost use Rattle.server_rules.specs.Calls.{performed, makes, begins, reads, counts, commits};
+ghost use Rattle.server_rules.specs.Store.{Store};
+ghost use Rattle.server_rules.specs.Tenant.{seat_of};
+ghost use Rattle.ref_table.specs.Refs.{Refs};
+ghost use Rattle.ref_table.specs.Standing.{counter_of};
+ghost use Rattle.ref_table.specs.Told.{setting_told};
+ghost use Rattle.tenant_refs.specs.Bounds.{least_call, most_call};
+ghost use Rattle.tenant_refs.specs.Serving.{Serves, Holds, Comes};
+ghost use Rattle.tenant_refs.specs.Twice.{told, AreTwice};
+
+use crate::attempts::Attempts;
+use crate::twice::Twice;
+use ref_history::{Bounds, ListHistory};
+use ref_table::{Outcome, RefTable};
+use repl_asks::{Ask, Intent, Reading};
+use repl_values::{Owner, RefName, Value, copy};
+use server_rules::Actor;
+use std::alloc::{AllocError, Global};
+
+/// What the refs tell where this is asked, if they tell anything: they do not where a ref or an
+/// attempt is not there. It fails only for want of memory. Then, and where nothing is told, nothing
+/// has changed.
+pub fn call(
+    alloc: Global,
+    refs: &mut RefTable<ListHistory>,
+    attempts: &mut Attempts,
+    actor: Actor,
+    ask: &Ask,
+) -> Result<Option<Twice>, AllocError>
+    requires { counter_of refs.old < u128.MAX }
+    ensures called { (s : Store) (r : Refs) → Holds refs.old attempts.old s r
+        → is_allowed (ask_view ask.now) ≡ true
+        → IfOk result (λ it. Comes refs.new attempts.new r (told it)
+        (performed s (call_of (seat_of actor) (ask_view ask.now)))) }
+    ensures stays { (s : Store) (r : Refs) → Holds refs.old attempts.old s r
+        → OnErr result (Holds refs.new attempts.new s r) }
+    ensures counter { counter_of refs.new ≤ counter_of refs.old + 1 }
+    ensures untold { IfOk result (λ it. IsNone it → counter_of refs.new ≡ counter_of refs.old) }
+    ensures failed { OnErr result (counter_of refs.new ≡ counter_of refs.old) }
+    ensures twice { IfOk result AreTwice }
+{
+    match ask {
+        Ask::Resolve { .. } | Ask::Define { .. } | Ask::Enter(_) => Ok(Some(Twice::done())),
+        Ask::NewRef {
+            value,
+            min_history,
+            max_history,
+        } => {
+            let bounds = Bounds {
+                least: *min_history,
+                most: *max_history,
+            };
+            make(alloc, refs, attempts, value, bounds)
+        }
+        Ask::Begin => begin(refs, attempts, actor),
+        Ask::Read(name) => read(refs, attempts, actor, *name),
+        Ask::History(name) => Ok(count(refs, attempts, actor, *name)),
+        Ask::MinHistory { name, set } => Ok(least(refs, attempts, *name, *set)),
+        Ask::MaxHistory { name, set } => Ok(most(refs, attempts, *name, *set)),
+        Ask::Commit(intent) => commit(alloc, refs, attempts, actor, intent),
+    }
+}
+
+// A ref is made.
+fn make(
+    alloc: Global,
+    refs: &mut RefTable<ListHistory>,
+    attempts: &Attempts,
+    value: &Value,
+    bounds: Bounds,
+) -> Result<Option<Twice>, AllocError>
+    ensures called { (s : Store) (r : Refs) → Holds refs.old attempts.now s r
+        → IfOk result (λ it. Comes refs.new attempts.now r (told it)
+        (performed s (makes (view value.now) bounds.least bounds.most))) }
+    ensures stays { (s : Store) (r : Refs) → Holds refs.old attempts.now s r
+        → OnErr result (Holds refs.new attempts.now s r) }
+    ensures counter { counter_of refs.new ≡ counter_of refs.old }
+    ensures twice { IfOk result AreTwice }
+{
+    let owner = Owner::Tenant(attempts.tenant);
+    let name = refs.make(alloc, owner, copy(value)?, bounds)?;
+    Ok(Some(Twice::of_name(name)))
+}
+
+// An attempt begins.
+fn begin(
+    refs: &RefTable<ListHistory>,
+    attempts: &mut Attempts,
+    actor: Actor,
+) -> Result<Option<Twice>, AllocError>
+    ensures called { (s : Store) (r : Refs) → Holds refs.now attempts.old s r
+        → IfOk result (λ it. Comes refs.now attempts.new r (told it)
+        (performed s (begins (seat_of actor)))) }
+    ensures stays { (s : Store) (r : Refs) → Holds refs.now attempts.old s r
+        → OnErr result (Holds refs.now attempts.new s r) }
+    ensures twice { IfOk result AreTwice }
+{
+    if attempts.point(actor).is_some() {
+        return Ok(None);
+    }
+    attempts.begin(actor, refs.begin())?;
+    Ok(Some(Twice::done()))
+}
+
+// A ref is read. The attempt that is to be made again is over.
+fn read(
+    refs: &mut RefTable<ListHistory>,
+    attempts: &mut Attempts,
+    actor: Actor,
+    name: RefName,
+) -> Result<Option<Twice>, AllocError>
+    ensures called { (s : Store) (r : Refs) → Holds refs.old attempts.old s r
+        → IfOk result (λ it. Comes refs.new attempts.new r (told it)
+        (performed s (reads (seat_of actor) (name_view name)))) }
+    ensures stays { (s : Store) (r : Refs) → Holds refs.old attempts.old s r
+        → OnErr result (Holds refs.new attempts.new s r) }
+    ensures counter { counter_of refs.new ≡ counter_of refs.old }
+    ensures twice { IfOk result AreTwice }
+{
+    let point = attempts.point(actor);
+    match refs.read(attempts.tenant, name, point)? {
+        Some(Reading::Found(value)) => Ok(Some(Twice::of_found(value)?)),
+        Some(Reading::Retry) => {
+            attempts.leave(actor);
+            Ok(Some(Twice::retry()))
+        }
+        None => Ok(None),
+    }
+}
+
+// How long a ref's history is. In an attempt that of a shared ref is not told.
+fn count(
+    refs: &RefTable<ListHistory>,
+    attempts: &Attempts,
+    actor: Actor,
+    name: RefName,
+) -> Option<Twice>
+    ensures called { (s : Store) (r : Refs) → Holds refs.now attempts.now s r
+        → Comes refs.now attempts.now r (told result)
+        (performed s (counts (seat_of actor) (name_view name))) }
+    ensures twice { AreTwice result }
+{
+    if matches!(name.owner, Owner::Shared) && attempts.point(actor).is_some() {
+        return None;
+    }
+    let count = refs.history_count(attempts.tenant, name)?;
+    Some(Twice::of_number(count))
+}
+
+// The lower bound of a ref's history, or the ref where it is set.
+fn least(
+    refs: &mut RefTable<ListHistory>,
+    attempts: &Attempts,
+    name: RefName,
+    set: Option<u64>,
+) -> Option<Twice>
+    ensures called { (s : Store) (r : Refs) → Holds refs.old attempts.now s r
+        → Comes refs.new attempts.now r (told result)
+        (performed s (least_call (name_view name) set)) }
+    ensures counter { counter_of refs.new ≡ counter_of refs.old }
+    ensures twice { AreTwice result }
+{
+    match set {
+        Some(least) => named_if(name, refs.set_least(attempts.tenant, name, least)),
+        None => Some(Twice::of_number(refs.bounds(attempts.tenant, name)?.least)),
+    }
+}
+
+// The upper bound, likewise.
+fn most(
+    refs: &mut RefTable<ListHistory>,
+    attempts: &Attempts,
+    name: RefName,
+    set: Option<u64>,
+) -> Option<Twice>
+    ensures called { (s : Store) (r : Refs) → Holds refs.old attempts.now s r
+        → Comes refs.new attempts.now r (told result)
+        (performed s (most_call (name_view name) set)) }
+    ensures counter { counter_of refs.new ≡ counter_of refs.old }
+    ensures twice { AreTwice result }
+{
+    match set {
+        Some(most) => named_if(name, refs.set_most(attempts.tenant, name, most)),
+        None => Some(Twice::of_number(refs.bounds(attempts.tenant, name)?.most)),
+    }
+}
+
+fn named_if(name: RefName, is_set: bool) -> Option<Twice>
+    ensures told { told result ≡ setting_told name is_set }
+    ensures twice { AreTwice result }
+{
+    if is_set {
+        Some(Twice::of_name(name))
+    } else {
+        None
+    }
+}
+
+// What an attempt changed is to stand for all. The attempt is over.
+fn commit(
+    alloc: Global,
+    refs: &mut RefTable<ListHistory>,
+    attempts: &mut Attempts,
+    actor: Actor,
+    intent: &Intent,
+) -> Result<Option<Twice>, AllocError>
+    requires { counter_of refs.old < u128.MAX }
+    ensures called { (s : Store) (r : Refs) → Holds refs.old attempts.old s r
+        → IfOk result (λ it. Comes refs.new attempts.new r (told it)
+        (performed s (commits (seat_of actor) (intent_view intent.now)))) }
+    ensures stays { (s : Store) (r : Refs) → Holds refs.old attempts.old s r
+        → OnErr result (Holds refs.new attempts.new s r) }
+    ensures counter { counter_of refs.new ≤ counter_of refs.old + 1 }
+    ensures untold { IfOk result (λ it. IsNone it → counter_of refs.new ≡ counter_of refs.old) }
+    ensures failed { OnErr result (counter_of refs.new ≡ counter_of refs.old) }
+    ensures twice { IfOk result AreTwice }
+{
+    let Some(point) = attempts.point(actor) else {
+        return Ok(None);
+    };
+    match refs.commit(alloc, attempts.tenant, intent, point)? {
+        Outcome::Committed => {
+            attempts.leave(actor);
+            Ok(Some(Twice::committed()))
+        }
+        Outcome::Conflict => {
+            attempts.leave(actor);
+            Ok(Some(Twice::conflict()))
+        }
+        Outcome::Refused => Ok(None),
+    }
+}

@@ -1,0 +1,12 @@
+//! What a tenant asks of the table of refs, and the attempts of its transactions.
+#![tactic(auto)]
+
+mod attempts;
+mod calling;
+mod telling;
+mod twice;
+
+pub use attempts::Attempts;
+pub use calling::call;
+pub use telling::is_told;
+pub use twice::Twice;

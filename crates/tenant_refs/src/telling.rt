@@ -1,0 +1,95 @@
+// Whether the refs would tell what a form asks.
+ghost use Rattle.std.specs.Prelude.{◌≡◌, is_some, IfOk};
+ghost use Rattle.repl_asks.specs.View.{ask_view, name_view, intent_view};
+ghost use Rattle.server_rules.specs.Asking.{call_of};
+ghost use Rattle.server_rules.specs.Calls.{performed, counts, commits};
+ghost use Rattle.server_rules.specs.Store.{Store, named};
+ghost use Rattle.server_rules.specs.Tenant.{seat_of};
+ghost use Rattle.ref_table.specs.Refs.{Refs};
+ghost use Rattle.tenant_refs.specs.Bounds.{is_bounded};
+ghost use Rattle.tenant_refs.specs.Serving.{Holds};
+
+use crate::attempts::Attempts;
+use ref_history::ListHistory;
+use ref_table::RefTable;
+use repl_asks::{Ask, Intent};
+use repl_values::{Owner, RefName};
+use server_rules::Actor;
+use std::alloc::{AllocError, Global};
+
+/// Whether the refs would tell anything where this is asked. It fails only for want of memory.
+pub fn is_told(
+    alloc: Global,
+    refs: &RefTable<ListHistory>,
+    attempts: &Attempts,
+    actor: Actor,
+    ask: &Ask,
+) -> Result<bool, AllocError>
+    ensures { (s : Store) (r : Refs) → Holds refs.now attempts.now s r → IfOk result (λ it.
+        it ≡ is_some (performed s (call_of (seat_of actor) (ask_view ask.now))).told) }
+{
+    match ask {
+        Ask::Resolve { .. } | Ask::Define { .. } | Ask::Enter(_) | Ask::NewRef { .. } => Ok(true),
+        Ask::Begin => Ok(attempts.point(actor).is_none()),
+        Ask::Read(name) => Ok(is_there(refs, attempts, *name)),
+        Ask::History(name) => Ok(is_counted(refs, attempts, actor, *name)),
+        Ask::MinHistory { name, set } | Ask::MaxHistory { name, set } => {
+            Ok(is_bounded(refs, attempts, *name, set.is_some()))
+        }
+        Ask::Commit(intent) => is_committed(alloc, refs, attempts, actor, intent),
+    }
+}
+
+// Whether the tenant reaches a ref.
+fn is_there(refs: &RefTable<ListHistory>, attempts: &Attempts, name: RefName) -> bool
+    ensures { (s : Store) (r : Refs) → Holds refs.now attempts.now s r
+        → result ≡ is_some (named (name_view name) s) }
+{
+    refs.bounds(attempts.tenant, name).is_some()
+}
+
+fn is_counted(
+    refs: &RefTable<ListHistory>,
+    attempts: &Attempts,
+    actor: Actor,
+    name: RefName,
+) -> bool
+    ensures { (s : Store) (r : Refs) → Holds refs.now attempts.now s r → result
+        ≡ is_some (performed s (counts (seat_of actor) (name_view name))).told }
+{
+    if matches!(name.owner, Owner::Shared) && attempts.point(actor).is_some() {
+        return false;
+    }
+    is_there(refs, attempts, name)
+}
+
+fn is_bounded(
+    refs: &RefTable<ListHistory>,
+    attempts: &Attempts,
+    name: RefName,
+    is_set: bool,
+) -> bool
+    ensures { (s : Store) (r : Refs) → Holds refs.now attempts.now s r → result
+        ≡ is_bounded is_set (name_view name).owner (named (name_view name) s) }
+{
+    if is_set && matches!(name.owner, Owner::Shared) {
+        return false;
+    }
+    is_there(refs, attempts, name)
+}
+
+fn is_committed(
+    alloc: Global,
+    refs: &RefTable<ListHistory>,
+    attempts: &Attempts,
+    actor: Actor,
+    intent: &Intent,
+) -> Result<bool, AllocError>
+    ensures { (s : Store) (r : Refs) → Holds refs.now attempts.now s r → IfOk result (λ it. it
+        ≡ is_some (performed s (commits (seat_of actor) (intent_view intent.now))).told) }
+{
+    if attempts.point(actor).is_none() {
+        return Ok(false);
+    }
+    refs.accepts(alloc, attempts.tenant, intent)
+}

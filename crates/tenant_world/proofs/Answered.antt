@@ -1,0 +1,87 @@
+-- What an ask is answered, from what the refs tell.
+use Rattle.std.proofs.Common.{◌≡◌, ℕ, true, false, Option, None, Some, MatchOption, Result, Ok, Err}
+use Rattle.std.proofs.Common.{IfOk, refl, sym, ap, subst, ◌∙◌}
+use Rattle.repl_asks.specs.Exchange.{AskData, AnswerData, done}
+use Rattle.server_rules.specs.Calls.{Call, performed}
+use Rattle.server_rules.specs.Ground.{Ground}
+use Rattle.server_rules.specs.Store.{Store}
+use Rattle.server_rules.specs.Tenant.{Quiet, seat_of}
+use Rattle.server_rules.specs.Asking.{answer_to, spaces_after, call_of, is_allowed}
+use Rattle.server_rules.specs.declared.actor.Actor.{Actor}
+use Rattle.ref_history.specs.Histories.{ListStands}
+use Rattle.ref_table.specs.Refs.{Refs, after}
+use Rattle.ref_table.specs.Standing as refs
+use Rattle.tenant_refs.specs.Attempts.{Reaches}
+use Rattle.tenant_world.specs.Asking.{is_of_names, Answers}
+use Rattle.tenant_world.specs.Memories.{Remembers}
+use Rattle.tenant_refs.specs.Serving.{Table, Holds, Comes}
+use Rattle.tenant_refs.specs.Twice.{twice_view, told}
+use Rattle.tenant_refs.specs.declared.attempts.Attempts.{Attempts}
+use Rattle.tenant_world.specs.declared.memory.Memory.{Memory}
+use Rattle.tenant_refs.specs.declared.twice.Twice.{Twice}
+use Rattle.tenant_world.proofs.Answering.{names-nothing, refs-told, allowed-may}
+use Rattle.tenant_refs.proofs.Calls.{untold-stays}
+use Rattle.tenant_refs.proofs.Serving.{after-seen, holds-after}
+
+-- an ask of names needs none of them
+pub names-answered : (g : Ground) (t : ℕ) (a : Actor) (q : Quiet) (ask : AskData) (s : Store)
+    (r : Refs) (m : Memory) (table : Table) (attempts : Attempts) (answer : AnswerData)
+    → Holds table attempts s r → is_of_names ask ≡ true → answer ≡ answer_to g a q ask done
+    → Remembers g t m (record q { spaces = spaces_after ask q.spaces })
+    → Answers g t a q ask (performed s (call_of (seat_of a) ask)) m table attempts r answer
+names-answered g t a q ask s r m table attempts answer holds names is remembers =
+    let P : Call → Type 0 = λ call.
+    Answers g t a q ask (performed s call) m table attempts r answer in
+    subst P (sym (names-nothing (seat_of a) ask names)) (record {
+      told = done;
+      is_told = refl;
+      is = is;
+      remembers = remembers;
+      holds = subst (Holds table attempts s) (sym (after-seen s r holds.serves.reached)) holds;
+    })
+
+-- nothing was told
+holds-untold : (new old : Table) (attempts later : Attempts) (s : Store) (r : Refs) (call : Call)
+    → Holds old attempts s r → Comes new later r None (performed s call) → Holds new later s r
+holds-untold new old attempts later s r call holds comes =
+    let same = untold-stays s call comes.called.told in
+    record {
+      serves = record {
+        stands = subst (refs.Stands ListStands new)
+            (ap (λ x. after x r) same ∙ after-seen s r holds.serves.reached) comes.called.left;
+        sound = holds.serves.sound;
+        reached = holds.serves.reached;
+      };
+      reaches = subst (Reaches later) same comes.reaches;
+    }
+
+pub refs-answered : {E : Type 0} (g : Ground) (t : ℕ) (a : Actor) (q : Quiet) (ask : AskData)
+    (s : Store) (r : Refs) (m : Memory) (new old : Table) (attempts later : Attempts)
+    (result : Result (Option Twice) E) → Holds old attempts s r → is_of_names ask ≡ false
+    → is_allowed ask ≡ true → Remembers g t m q
+    → IfOk result (λ it. Comes new later r (told it) (performed s (call_of (seat_of a) ask)))
+    → IfOk result (λ it. MatchOption it
+    (((performed s (call_of (seat_of a) ask)).told ≡ None) × Remembers g t m q × Holds new later s r)
+    (λ answer. Answers g t a q ask (performed s (call_of (seat_of a) ask)) m new later r
+    (twice_view answer)))
+refs-answered g t a q ask s r m new old attempts later (Err e) holds refs allowed remembers comes = tt
+refs-answered g t a q ask s r m new old attempts later (Ok None) holds refs allowed remembers comes = (
+  sym comes.called.told,
+  remembers,
+  holds-untold new old attempts later s r (call_of (seat_of a) ask) holds comes,
+)
+refs-answered g t a q ask s r m new old attempts later (Ok (Some it)) holds refs allowed remembers comes =
+    let still = refs-told g a q ask (twice_view it) refs in
+    record {
+      told = twice_view it;
+      is_told = sym comes.called.told;
+      is = still.0;
+      remembers = record {
+        sessions = remembers.sessions;
+        bare = remembers.bare;
+        spaces = remembers.spaces ∙ still.1;
+        replies = remembers.replies;
+      };
+      holds = holds-after new old attempts later s r (Some (twice_view it))
+          (call_of (seat_of a) ask) holds (allowed-may (seat_of a) ask allowed) comes;
+    }

@@ -1,0 +1,131 @@
+// What a form asks of names.
+ghost use Rattle.std.specs.Prelude.{◌≡◌, ℕ, IfOk, OnOk, OnErr};
+ghost use Rattle.value_data.specs.View.{view};
+ghost use Rattle.repl_asks.specs.Exchange.{done};
+ghost use Rattle.repl_asks.specs.View.{ask_view, answer_view, resolution_view};
+ghost use Rattle.repl_sessions.specs.StateView.{state_view};
+ghost use Rattle.name_spaces.specs.Seen.{found_view};
+ghost use Rattle.server_rules.specs.Ground.{Ground};
+ghost use Rattle.server_rules.specs.Tenant.{Quiet, state_of};
+ghost use Rattle.server_rules.specs.Asking.{answer_to, spaces_after};
+ghost use Rattle.server_rules.specs.Asking as meant;
+ghost use Rattle.tenant_world.specs.Memories.{Remembers, opened_by};
+ghost use Rattle.tenant_world.specs.Asking.{SharesNoNames};
+ghost use Rattle.tenant_refs.specs.Twice.{twice_view, IsTwice};
+
+use crate::memory::Memory;
+use name_spaces::{Found, Latest};
+use repl_asks::{Answer, Ask, Resolution};
+use repl_sessions::SessionState;
+use repl_values::{Value, copy, copy_text};
+use server_rules::Actor;
+use std::alloc::{AllocError, Global};
+use tenant_refs::Twice;
+
+/// Answers an ask of names, and does what is asked. It fails only for want of memory, and has then
+/// changed nothing.
+pub(crate) fn name(
+    alloc: Global,
+    memory: &mut Memory,
+    actor: Actor,
+    ask: &Ask,
+) -> Result<Twice, AllocError>
+    ensures answered { (g : Ground) (t : ℕ) (q : Quiet) → SharesNoNames g
+        → Remembers g t memory.old q → IfOk result (λ it.
+        (twice_view it ≡ answer_to g actor q (ask_view ask.now) done)
+        × Remembers g t memory.new
+        (record q { spaces = spaces_after (ask_view ask.now) q.spaces })) }
+    ensures stays { (g : Ground) (t : ℕ) (q : Quiet) → Remembers g t memory.old q
+        → OnErr result (Remembers g t memory.new q) }
+    ensures opened { opened_by memory.new ≡ opened_by memory.old }
+    ensures twice { IfOk result IsTwice }
+{
+    let answer = Twice::of(answer_of(alloc, memory, actor, ask)?)?;
+    change(alloc, memory, ask)?;
+    Ok(answer)
+}
+
+fn answer_of(alloc: Global, memory: &Memory, actor: Actor, ask: &Ask) -> Result<Answer, AllocError>
+    ensures { (g : Ground) (t : ℕ) (q : Quiet) → SharesNoNames g → Remembers g t memory.now q
+        → IfOk result (λ a. answer_view a ≡ answer_to g actor q (ask_view ask.now) done) }
+{
+    match ask {
+        Ask::Resolve { namespace, symbol } => {
+            let found = memory
+                .spaces
+                .resolve(alloc, namespace.as_str(), symbol.as_str())?;
+            Ok(Answer::Resolution(resolution_of(alloc, memory, actor, found)?))
+        }
+        Ask::Define { .. } | Ask::Enter(_) => Ok(Answer::Done),
+        // None of these is of names.
+        Ask::NewRef { .. }
+        | Ask::Begin
+        | Ask::Read(_)
+        | Ask::History(_)
+        | Ask::MinHistory { .. }
+        | Ask::MaxHistory { .. }
+        | Ask::Commit(_) => Ok(Answer::Done),
+    }
+}
+
+fn resolution_of(
+    alloc: Global,
+    memory: &Memory,
+    actor: Actor,
+    found: Found,
+) -> Result<Resolution, AllocError>
+    ensures { (g : Ground) (t : ℕ) (q : Quiet) → Remembers g t memory.now q
+        → IfOk result (λ named. resolution_view named
+        ≡ meant.resolution_of (state_of actor q) (found_view found)) }
+{
+    match found {
+        Found::Resolution(resolution) => Ok(resolution),
+        Found::Latest(latest) => {
+            let session = memory.state_of(alloc, actor)?;
+            Ok(Resolution::Value(copy(latest_of(&session, latest))?))
+        }
+    }
+}
+
+fn latest_of(state: &SessionState, latest: Latest) -> &Value
+    ensures { view result.now ≡ meant.latest_of latest (state_view state.now) }
+{
+    match latest {
+        Latest::One => &state.one,
+        Latest::Two => &state.two,
+        Latest::Three => &state.three,
+        Latest::Fault => &state.fault,
+    }
+}
+
+// A name is bound, or a namespace made. It fails only for want of memory, and then changes nothing.
+fn change(alloc: Global, memory: &mut Memory, ask: &Ask) -> Result<(), AllocError>
+    ensures changed { (g : Ground) (t : ℕ) (q : Quiet) → Remembers g t memory.old q
+        → OnOk result (Remembers g t memory.new
+        (record q { spaces = spaces_after (ask_view ask.now) q.spaces })) }
+    ensures stays { (g : Ground) (t : ℕ) (q : Quiet) → Remembers g t memory.old q
+        → OnErr result (Remembers g t memory.new q) }
+    ensures opened { opened_by memory.new ≡ opened_by memory.old }
+{
+    match ask {
+        Ask::Define {
+            namespace,
+            name,
+            binding,
+        } => {
+            let (name, binding) = (copy_text(name)?, binding.copy()?);
+            memory
+                .spaces
+                .define(alloc, namespace.as_str(), name, binding)
+        }
+        Ask::Enter(name) => memory.spaces.enter(alloc, name.as_str()),
+        Ask::Resolve { .. }
+        | Ask::NewRef { .. }
+        | Ask::Begin
+        | Ask::Read(_)
+        | Ask::History(_)
+        | Ask::MinHistory { .. }
+        | Ask::MaxHistory { .. }
+        | Ask::Commit(_) => Ok(()),
+    }
+}
