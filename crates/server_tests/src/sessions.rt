@@ -137,12 +137,7 @@ fn clone_and_its_session_are_apart(rt: HostRuntime) -> Result<(), Fail> {
     Ok(())
 }
 
-fn hear(
-    rt: &impl Abort,
-    alloc: Global,
-    runner: &mut Runner,
-    piece: &[u8],
-) -> Result<(), Fail> {
+fn hear(rt: &impl Abort, alloc: Global, runner: &mut Runner, piece: &[u8]) -> Result<(), Fail> {
     let piece = Bytes::copy_from_slice(alloc, piece)?;
     assert!(rt; runner.hear(&piece).is_ok(), "the piece is heard");
     Ok(())
@@ -199,6 +194,10 @@ fn closed_session_is_interrupted(rt: HostRuntime) -> Result<(), Fail> {
     hear(&rt, rt.alloc(), &mut runner, NEXT_EVAL)?;
     hear(&rt, rt.alloc(), &mut runner, CLOSE)?;
     go(&rt, &mut runner, first)?;
-    assert_eq!(rt; runner.go(first), Err(Refusal::NoSuchActor), "the actor is gone");
+    assert_eq!(rt;
+        runner.go(first),
+        Err(Refusal::NoSuchActor),
+        "the actor is gone"
+    );
     expect_drained(&rt, rt.alloc(), &mut runner, 4, INTERRUPTED)
 }
