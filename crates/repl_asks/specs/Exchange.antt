@@ -4,6 +4,7 @@ use Rattle.value_data.specs.Datum.{Datum, nil}
 use Rattle.repl_faults.specs.Failure.{Failure}
 use Rattle.special_forms.specs.Functions.{FunctionData}
 use Rattle.function_names.specs.declared.function.CoreFunction.{CoreFunction}
+use Rattle.function_names.specs.declared.store.StoreFunction.{StoreFunction}
 use Rattle.repl_asks.specs.Transactions.{RefNameData, IntentData}
 use Rattle.repl_asks.specs.declared.ask.AnswerKind.{AnswerKind}
 
@@ -33,9 +34,10 @@ pub data AskData : Type 0 where
   -- what the attempt changed is to stand for all
   commit : IntentData → AskData
 
--- a function that has a name: one of the language, or one of the program
+-- a function that has a name: one of the language, which needs no store or asks it, or one of the program
 pub data NamedFunctionData : Type 0 where
   core_function : CoreFunction → NamedFunctionData
+  store_function : StoreFunction → NamedFunctionData
   program_function : FunctionData → NamedFunctionData
 
 -- what a symbol names

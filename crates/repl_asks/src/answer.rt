@@ -5,7 +5,7 @@ ghost use Rattle.repl_asks.specs.View.{answer_view, named_view, resolution_view}
 ghost use Rattle.repl_asks.specs.View.{reading_view, verdict_view};
 
 use crate::ask::AnswerKind;
-use function_names::CoreFunction;
+use function_names::{CoreFunction, StoreFunction};
 use repl_values::{Fault, Value, copy};
 use special_forms::Function;
 use std::alloc::AllocError;
@@ -13,8 +13,10 @@ use std::alloc::AllocError;
 /// A function that has a name.
 #[derive(Debug, Drop)]
 pub enum NamedFunction {
-    /// One of the language.
+    /// One of the language that needs no store.
     Core(CoreFunction),
+    /// One of the language that asks the store.
+    Store(StoreFunction),
     /// One that the program defined.
     Program(Function),
 }
@@ -63,6 +65,7 @@ impl NamedFunction {
     {
         match self {
             NamedFunction::Core(function) => Ok(NamedFunction::Core(*function)),
+            NamedFunction::Store(function) => Ok(NamedFunction::Store(*function)),
             NamedFunction::Program(function) => Ok(NamedFunction::Program(function.copy()?)),
         }
     }
