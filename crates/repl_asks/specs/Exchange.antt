@@ -108,6 +108,20 @@ resolution_in (value d) = names_value nil
 resolution_in (reading r) = names_value nil
 resolution_in (verdict v) = names_value nil
 
+-- What the answer says of a value, of the value of a ref in an attempt, and of a commit, each to an ask that it fits. Any
+-- other answer counts as nil, and as committed.
+abbrev pub value_in : AnswerData → Datum
+value_in (value d) = d
+value_in answer = nil
+
+abbrev pub reading_in : AnswerData → ReadingData
+reading_in (reading r) = r
+reading_in answer = found nil
+
+abbrev pub verdict_in : AnswerData → VerdictData
+verdict_in (verdict v) = v
+verdict_in answer = committed
+
 -- no answer is left for the ask: there is none, or the next is of another kind
 abbrev pub NoneFits : AskData → List AnswerData → Type 0
 NoneFits ask [] = ⊤

@@ -1,6 +1,7 @@
 // The answers, by their kinds.
 ghost use Rattle.std.specs.Prelude.{◌≡◌, IfOk};
-ghost use Rattle.repl_asks.specs.Exchange.{kind_of, resolution_in};
+ghost use Rattle.repl_asks.specs.Exchange.{kind_of, resolution_in, value_in, reading_in, verdict_in};
+ghost use Rattle.value_data.specs.View.{view};
 ghost use Rattle.repl_asks.specs.View.{answer_view, named_view, resolution_view};
 ghost use Rattle.repl_asks.specs.View.{reading_view, verdict_view};
 
@@ -132,6 +133,44 @@ impl Answer {
             Answer::Resolution(resolution) => resolution,
             Answer::Done | Answer::Value(_) | Answer::Reading(_) | Answer::Verdict(_) => {
                 Resolution::Value(Value::Nil)
+            }
+        }
+    }
+
+    /// The value that it is. An answer of another kind counts as nil.
+    #[tactic(auto, using(value_data::proofs::Views::value_views))]
+    pub fn into_value(self) -> Value
+        ensures { view result ≡ value_in (answer_view self) }
+    {
+        match self {
+            Answer::Value(value) => value,
+            Answer::Done | Answer::Resolution(_) | Answer::Reading(_) | Answer::Verdict(_) =>
+                Value::Nil,
+        }
+    }
+
+    /// What it says of a ref's value. An answer of another kind, which fits no read, counts as nil.
+    #[tactic(auto, using(value_data::proofs::Views::value_views))]
+    pub fn into_reading(self) -> Reading
+        ensures { reading_view result ≡ reading_in (answer_view self) }
+    {
+        match self {
+            Answer::Reading(reading) => reading,
+            Answer::Done | Answer::Resolution(_) | Answer::Value(_) | Answer::Verdict(_) => {
+                Reading::Found(Value::Nil)
+            }
+        }
+    }
+
+    /// What it says of a commit. An answer of another kind, which fits no commit, counts as
+    /// committed.
+    pub fn into_verdict(self) -> Verdict
+        ensures { verdict_view result ≡ verdict_in (answer_view self) }
+    {
+        match self {
+            Answer::Verdict(verdict) => verdict,
+            Answer::Done | Answer::Resolution(_) | Answer::Value(_) | Answer::Reading(_) => {
+                Verdict::Committed
             }
         }
     }
