@@ -14,7 +14,7 @@ use Rattle.repl_asks.specs.Exchange.{NamedFunctionData, core_function, store_fun
 use Rattle.special_forms.specs.Functions.{FunctionData}
 use Rattle.local_names.specs.Locals.{LocalData}
 use Rattle.store_calls.specs.Calling.{altered_in}
-use Rattle.evaluation_rules.specs.Doing.{Kept, failed, left, printing, Part, ◌>>=◌, fails}
+use Rattle.evaluation_rules.specs.Doing.{failed, left, printing, Part, ◌>>=◌, fails}
 use Rattle.evaluation_rules.specs.Places.{PlaceData, Walk}
 use Rattle.evaluation_rules.specs.Rows.{row, last_of}
 use Rattle.evaluation_rules.specs.Naming.{function_value}
@@ -80,7 +80,7 @@ function_called walk f args next kept = with_calls kept.calls (function_applied 
 
 -- the call of `alter`, which calls its function in turn
 unfoldable pub alter_call : Walk → NamedFunctionData → List Datum → Part Datum
-alter_call walk f [] = fails (failures.wrong_arity (store_name_of StoreFunction.Alter) 1)
+alter_call walk f [] next kept = left (failed (failures.wrong_arity (store_name_of StoreFunction.Alter) 1)) kept
 alter_call walk f (d ∷ args) next kept = altered (function_called walk f) args (altered_in kept.running d) next kept
 
 abbrev pub applied : Walk → CalleeData → List Datum → Part Datum

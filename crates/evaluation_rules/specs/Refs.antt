@@ -1,5 +1,5 @@
 -- Reads and sets of refs, and what else is asked of the store (the Clojure reference, Refs and Transactions).
-use Rattle.std.specs.Prelude.{List, [], ◌∷◌, Option, Some, None, Result, Ok, Err, if◌then◌else◌}
+use Rattle.std.specs.Prelude.{List, ◌∷◌, Option, Some, None, Result, Ok, Err, if◌then◌else◌}
 use Rattle.value_data.specs.Datum.{Datum}
 use Rattle.repl_faults.specs.Failure.{Failure, broken}
 use Rattle.repl_faults.specs.declared.rule.Rule.{Rule}
@@ -8,7 +8,7 @@ use Rattle.repl_asks.specs.Transactions.{RefNameData}
 use Rattle.repl_asks.specs.Exchange.{AskData, read, ReadingData, found, retry, reading_in, value_in}
 use Rattle.tx_attempt.specs.Operations.{got, put, value_of}
 use Rattle.store_calls.specs.Calling.{CallData, refused, reads, puts, asks_value, call_of, may_hold}
-use Rattle.evaluation_rules.specs.Doing.{left, retried, asking, looking, noting, Part, ◌>>=◌, done, fails}
+use Rattle.evaluation_rules.specs.Doing.{left, retried, asking, looking, noting, Part, ◌>>=◌, fails}
 
 -- A value that was read is noted. One that is kept no longer ends the attempt, and another is made.
 abbrev pub read_value : RefNameData → ReadingData → Part Datum
@@ -16,7 +16,7 @@ read_value name (found d) next kept = noting (got name d) (next d kept)
 read_value name retry next kept = left retried kept
 
 abbrev pub known_or_read : RefNameData → Option Datum → Part Datum
-known_or_read name (Some d) = done d
+known_or_read name (Some d) next kept = next d kept
 known_or_read name None next kept = asking (read name) (λ answer. read_value name (reading_in answer) next kept)
 
 -- the value that the attempt knows, else that which is read

@@ -5,7 +5,7 @@ use Rattle.repl_faults.specs.Failure.{broken}
 use Rattle.repl_faults.specs.declared.rule.Rule.{Rule}
 use Rattle.repl_asks.specs.Exchange.{begin, commit, VerdictData, committed, conflict, faulted, verdict_in}
 use Rattle.tx_attempt.specs.Operations.{OperationData, intent_of}
-use Rattle.evaluation_rules.specs.Doing.{Kept, Exit, gave, failed, retried, Doing, left, asking, Part, done, fails}
+use Rattle.evaluation_rules.specs.Doing.{Kept, Exit, gave, failed, retried, Doing, left, asking, Part}
 use Rattle.evaluation_rules.specs.Tree.{attempted}
 
 abbrev pub with_running : Bool → Kept → Kept
@@ -17,9 +17,9 @@ body_of body kept = body (λ d after. left (gave d) after) (with_running true ke
 
 -- what comes of a commit
 abbrev pub settled : Doing → Datum → VerdictData → Part Datum
-settled again d committed = done d
+settled again d committed next kept = next d kept
 settled again d conflict next kept = again
-settled again d (faulted f) = fails f
+settled again d (faulted f) next kept = left (failed f) kept
 
 -- What is done when an attempt's body is left: what it did is to be committed, or another attempt is made.
 abbrev pub after_body : (Kept → Doing) → (Datum → Kept → Doing) → Exit → Kept → List OperationData → Doing

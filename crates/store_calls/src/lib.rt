@@ -4,4 +4,4 @@
 
 mod call;
 
-pub use call::{Call, call};
+pub use call::Call;

@@ -1,7 +1,7 @@
 -- Forms in a row, of which some have values already.
 use mathlib.Core.Path.{fun_ext}
 use Rattle.std.specs.Prelude.{string_bytes}
-use Rattle.std.proofs.Common.{◌≡◌, ℕ, ◌<◌, Bool, true, false, if◌then◌else◌, Option, Some, None, MatchOption, subst, Result, Ok, Err, IfOk, List, [], ◌∷◌, ◌++◌, refl, sym, ap, ◌∙◌, append_assoc, append-nil, zero, suc, length, nat_lt, arith}
+use Rattle.std.proofs.Common.{◌≡◌, ℕ, ◌+◌, ◌<◌, Bool, true, false, if◌then◌else◌, Option, Some, None, MatchOption, subst, Result, Ok, Err, IfOk, List, [], ◌∷◌, ◌++◌, refl, sym, ap, ◌∙◌, append_assoc, append-nil, zero, suc, length, nat_lt, arith}
 use Rattle.std.proofs.lemmas.List.{map-append, length-map}
 use Rattle.std.proofs.lemmas.Bool.Decides.{nat_tests}
 use Rattle.std.proofs.lemmas.Grind.{common_steps}
@@ -27,16 +27,18 @@ use Rattle.special_forms.specs.Seen.{views, forms_view, binding_view}
 use Rattle.special_forms.specs.declared.forms.Binding.{Binding}
 use Rattle.special_forms.specs.declared.forms.Forms.{Forms}
 use Rattle.special_forms.specs.declared.special.SpecialForm.{SpecialForm}
-use Rattle.walker_machine.specs.Doing.{Kept, Doing, Part}
+use Rattle.evaluation_rules.specs.Doing.{Kept, Doing, Part, fails}
+use Rattle.walker_state.proofs.Stepping.{within-failed, within-printing}
 use Rattle.repl_jobs.specs.Tree.{Tree}
-use Rattle.walker_machine.specs.Tree.{ends}
-use Rattle.walker_machine.specs.Places.{PlaceData}
-use Rattle.walker_machine.specs.Calls.{CalleeData, row, call_value, called, printed, outcome, core_call}
-use Rattle.walker_machine.specs.Evaluation.{value_at}
-use Rattle.walker_machine.specs.Machine.{kept_of, next_of, from_state, tree, call_behind, items_behind, collected, items_value, list_at}
-use Rattle.walker_machine.specs.declared.frames.Collection.{Collection}
-use Rattle.walker_machine.specs.declared.frames.Control.{Control}
-use Rattle.walker_machine.specs.declared.frames.State.{State}
+use Rattle.evaluation_rules.specs.Tree.{ends}
+use Rattle.evaluation_rules.specs.Places.{PlaceData}
+use Rattle.evaluation_rules.specs.Calls.{CalleeData, call_value, called, printed, outcome, core_call}
+use Rattle.evaluation_rules.specs.Rows.{row}
+use Rattle.evaluation_rules.specs.Evaluation.{value_at}
+use Rattle.walker_state.specs.Machine.{bottom, place_of, kept_of, next_of, from_state, tree, call_behind, items_behind, collected, items_value, list_at}
+use Rattle.walker_state.specs.declared.frames.Collection.{Collection}
+use Rattle.walker_state.specs.declared.frames.Control.{Control}
+use Rattle.walker_state.specs.declared.frames.State.{State}
 use Rattle.function_names.specs.declared.function.CoreFunction.{CoreFunction}
 
 -- one more form has its value
@@ -105,14 +107,21 @@ forms-chosen false consequent alternative body chosen = ap forms_view chosen
 printed-long : (text : List ℕ) (d : Datum) (s : State) → most_text < length text
     → from_state (printed text d) s ≡ ends (Err output_too_long) (string_bytes s.text) (kept_of s)
 unfolding printed
-printed-long text d s h = grind (arith, common_steps, nat_tests, h)
+printed-long text d s h =
+    let test : nat_lt most_text (length (string_bytes s.text) + length text) ≡ true = grind (arith, nat_tests, h) in
+    within-printing s.retries s.transaction (bottom s.frames.items (place_of s)) text (kept_of s) (next_of s d (kept_of s)) (string_bytes s.text)
+    ∙ rw test refl
+
+-- a fault ends the evaluation, wherever it stands
+fails-at : (f : Failure) (s : State) → from_state (fails f) s ≡ ends (Err f) (string_bytes s.text) (kept_of s)
+fails-at f s = within-failed s.retries s.transaction (bottom s.frames.items (place_of s)) f (kept_of s) (string_bytes s.text)
 
 pub outcome-bounded : (o : Outcome) (s : State) → from_state (outcome (bounded o)) s ≡ from_state (outcome o) s
 outcome-bounded (outcomes.gives d text) s = by_test (nat_lt most_text (length text)) refl
   where
     by_test : (t : Bool) → nat_lt most_text (length text) ≡ t
         → from_state (outcome (if t then outcomes.fails output_too_long else outcomes.gives d text)) s ≡ from_state (printed text d) s
-    by_test true e = sym (printed-long text d s (grind (arith, nat_tests, e)))
+    by_test true e = fails-at output_too_long s ∙ sym (printed-long text d s (grind (arith, nat_tests, e)))
     by_test false e = refl
 outcome-bounded (outcomes.fails f) s = refl
 
@@ -122,7 +131,7 @@ outcome-gives o d text s h = sym (outcome-bounded o s) ∙ ap (λ (p : Outcome).
 
 pub outcome-fails : (o : Outcome) (f : Failure) (s : State) → bounded o ≡ outcomes.fails f
     → from_state (outcome o) s ≡ ends (Err f) (string_bytes s.text) (kept_of s)
-outcome-fails o f s h = sym (outcome-bounded o s) ∙ ap (λ (p : Outcome). from_state (outcome p) s) h
+outcome-fails o f s h = sym (outcome-bounded o s) ∙ ap (λ (p : Outcome). from_state (outcome p) s) h ∙ fails-at f s
 
 pub ruleset bounds = (value_views, outcome-gives, outcome-fails)
 

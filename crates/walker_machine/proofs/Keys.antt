@@ -12,11 +12,11 @@ use Rattle.value_data.specs.declared.building.Built.{Built}
 use Rattle.value_data.specs.declared.value.Value.{Value}
 use Rattle.special_forms.specs.Seen.{views}
 use Rattle.repl_faults.specs.Failure.{Failure, duplicate_key}
-use Rattle.walker_machine.specs.Doing.{Part, fails}
-use Rattle.walker_machine.specs.Tree.{ends}
-use Rattle.walker_machine.specs.Machine.{kept_of, from_state}
-use Rattle.walker_machine.specs.Collections.{keys_in, values_in, item_at, within_limits, map_value}
-use Rattle.walker_machine.specs.declared.frames.State.{State}
+use Rattle.evaluation_rules.specs.Doing.{Part, fails}
+use Rattle.evaluation_rules.specs.Tree.{ends}
+use Rattle.walker_state.specs.Machine.{kept_of, from_state}
+use Rattle.evaluation_rules.specs.Collections.{keys_in, values_in, item_at, within_limits, map_value}
+use Rattle.walker_state.specs.declared.frames.State.{State}
 
 -- the keys of keys and values that stand by turns
 pub keys_of-turns : (ds : List Datum) → keys_of (pairs_of (zip (keys_in ds) (values_in ds))) ≡ items_of (keys_in ds)

@@ -1,17 +1,17 @@
 // Vectors and maps of values that were evaluated.
 ghost use Rattle.std.specs.Prelude.{◌≡◌, ◌<◌, map, zip, IfOk};
 ghost use Rattle.value_data.specs.View.{view, pair_view};
-ghost use Rattle.walker_machine.specs.Machine.{collected, from_state, tree};
-ghost use Rattle.walker_machine.specs.declared.frames.State.{State};
+ghost use Rattle.walker_state.specs.Machine.{collected, from_state, tree};
+ghost use Rattle.walker_state.specs.declared.frames.State.{State};
 ghost use Rattle.special_forms.specs.Seen.{views};
-ghost use Rattle.walker_machine.specs.Size.{control_size, spent};
-ghost use Rattle.walker_machine.specs.Collections.{keys_in, map_value, values_in, within_limits};
+ghost use Rattle.walker_state.specs.Size.{control_size, control_calls, control_around, around};
+ghost use Rattle.evaluation_rules.specs.Collections.{keys_in, map_value, values_in, within_limits};
 
-use crate::frames::{Collection, Control};
 use repl_faults::{duplicate_key, too_large};
 use repl_values::{Built, Sequence, Table, Value, copy, nesting, weight};
 use std::alloc::{AllocError, Global};
 use std::collections::VecDeque;
+use walker_state::{Collection, Control};
 
 // The greatest weight and the deepest nesting of a value that is made.
 const MAX_WEIGHT: u64 = 1_048_576;
@@ -25,7 +25,8 @@ pub(crate) fn collected(
     values: Vec<Value>,
 ) -> Result<Control, AllocError>
     ensures size { IfOk result (λ control. control_size control < 2) }
-    ensures calls { IfOk result (λ control. spent control ≡ 0) }
+    ensures calls { IfOk result (λ control. (s : State) → control_calls control s ≡ s.calls) }
+    ensures around { IfOk result (λ control. (s : State) → control_around control s ≡ around s.transaction) }
     ensures meaning { IfOk result (λ control. (s : State) → tree control s ≡ from_state (collected kind (views values.items)) s) }
 {
     match kind {
@@ -37,10 +38,11 @@ pub(crate) fn collected(
     }
 }
 
-#[tactic(auto, unfolding(core_functions::specs::Outcome::limited))]
+#[tactic(auto, using(walker_state::proofs::Stepping::steps), unfolding(core_functions::specs::Outcome::limited))]
 fn within_limits(alloc: Global, value: Value) -> Result<Control, AllocError>
     ensures size { IfOk result (λ control. control_size control < 2) }
-    ensures calls { IfOk result (λ control. spent control ≡ 0) }
+    ensures calls { IfOk result (λ control. (s : State) → control_calls control s ≡ s.calls) }
+    ensures around { IfOk result (λ control. (s : State) → control_around control s ≡ around s.transaction) }
     ensures meaning { IfOk result (λ control. (s : State) → tree control s ≡ from_state (within_limits (view value)) s) }
 {
     if weight(&value) > MAX_WEIGHT || nesting(&value) > MAX_NESTING {
@@ -52,7 +54,8 @@ fn within_limits(alloc: Global, value: Value) -> Result<Control, AllocError>
 // A map of its keys and values, which stand by turns.
 fn map_of(alloc: Global, values: Vec<Value>) -> Result<Control, AllocError>
     ensures size { IfOk result (λ control. control_size control < 2) }
-    ensures calls { IfOk result (λ control. spent control ≡ 0) }
+    ensures calls { IfOk result (λ control. (s : State) → control_calls control s ≡ s.calls) }
+    ensures around { IfOk result (λ control. (s : State) → control_around control s ≡ around s.transaction) }
     ensures meaning { IfOk result (λ control. (s : State) → tree control s ≡ from_state (map_value (views values.items)) s) }
 {
     let Entries { keys, pairs } = by_turns(alloc, values)?;

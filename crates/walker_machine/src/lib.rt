@@ -4,14 +4,15 @@
 //! `Waiting::go_on` goes on with an answer.
 #![tactic(auto)]
 
+mod alter;
 mod answers;
 mod calls;
 mod collect;
 mod evaluate;
-mod frames;
 mod give;
 mod names;
 mod namespaces;
+mod position;
 mod rows;
 mod special;
 mod steps;

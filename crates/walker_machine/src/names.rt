@@ -1,29 +1,31 @@
 // What a symbol names before anybody is asked.
-ghost use Rattle.std.specs.Prelude.{◌≡◌, option_map, is_some, IfOk};
+ghost use Rattle.std.specs.Prelude.{◌≡◌, ◌||◌, option_map, is_some, IfOk};
 ghost use Rattle.std.specs.Arc.{arc_str_bytes};
 ghost use Rattle.function_names.specs.Names.{function_named};
+ghost use Rattle.function_names.specs.StoreNames.{store_function_named};
 ghost use Rattle.repl_asks.specs.Exchange.{resolve};
 ghost use Rattle.value_data.specs.View.{view};
 ghost use Rattle.repl_asks.specs.View.{ask_view, resolution_view};
-ghost use Rattle.walker_machine.specs.Machine.{place_view, place_of, kept_of, known_view};
-ghost use Rattle.walker_machine.specs.Naming.{core_name, core_resolution, local_resolution, known};
-ghost use Rattle.walker_machine.specs.Places.{space_of};
+ghost use Rattle.walker_state.specs.Machine.{place_view, place_of, kept_of, known_view};
+ghost use Rattle.evaluation_rules.specs.Naming.{core_name, core_resolution, store_resolution, local_resolution, known};
+ghost use Rattle.evaluation_rules.specs.Places.{space_of};
 
-use crate::frames::{Place, State};
 use core_functions::{CoreFunction, knows};
+use function_names::StoreFunction;
 use repl_asks::{Ask, NamedFunction, Resolution};
 use repl_faults::no_such_var;
 use repl_values::{Value, copy, copy_text};
 use std::alloc::{AllocError, Global};
 use std::sync::ArcStr;
+use walker_state::{Place, State};
 
 const CORE: &str = "clojure.core";
 
 /// Whether a function of the language has this name, without its namespace. It takes no memory.
 pub fn names_function(name: &str) -> bool
-    ensures { result ≡ is_some (function_named name.now) }
+    ensures { result ≡ is_some (function_named name.now) || is_some (store_function_named name.now) }
 {
-    knows(name)
+    knows(name) || StoreFunction::named(name).is_some()
 }
 
 // What a symbol names, as far as that can be known without an ask.
@@ -41,7 +43,7 @@ pub(crate) fn look_up(
 }
 
 // What follows the slash of a name in `clojure.core`.
-#[tactic(auto, unfolding(crate::specs::Naming::core_name))]
+#[tactic(auto, unfolding(evaluation_rules::specs::Naming::core_name))]
 fn core_name(symbol: &str) -> Option<&str>
     ensures { option_map (λ name. name.now) result ≡ core_name symbol.now }
 {
@@ -52,10 +54,22 @@ fn core_name(symbol: &str) -> Option<&str>
 }
 
 fn core_resolution(alloc: Global, symbol: &ArcStr, name: &str) -> Result<Resolution, AllocError>
-    ensures { IfOk result (λ found. resolution_view found ≡ core_resolution (arc_str_bytes symbol.now) (function_named name.now)) }
+    ensures { IfOk result (λ found. resolution_view found
+        ≡ core_resolution (arc_str_bytes symbol.now) name.now (function_named name.now)) }
 {
     match CoreFunction::named(name) {
         Some(function) => Ok(Resolution::Function(NamedFunction::Core(function))),
+        None => store_resolution(alloc, symbol, name),
+    }
+}
+
+// A function that asks the store is of the language too.
+fn store_resolution(alloc: Global, symbol: &ArcStr, name: &str) -> Result<Resolution, AllocError>
+    ensures { IfOk result (λ found. resolution_view found
+        ≡ store_resolution (arc_str_bytes symbol.now) (store_function_named name.now)) }
+{
+    match StoreFunction::named(name) {
+        Some(function) => Ok(Resolution::Function(NamedFunction::Store(function))),
         None => Ok(Resolution::Nothing(no_such_var(alloc, symbol.as_str())?)),
     }
 }

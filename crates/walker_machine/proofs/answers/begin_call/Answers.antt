@@ -1,8 +1,8 @@
 use Rattle.std.proofs.Common.{ap}
-use Rattle.walker_machine.specs.Doing.{Kept, Doing}
+use Rattle.evaluation_rules.specs.Doing.{Kept, Doing}
 use Rattle.repl_asks.specs.View.{named_view}
-use Rattle.walker_machine.specs.Calls.{named_callee}
-use Rattle.walker_machine.specs.Machine.{whole, place_of, kept_of, next_of}
+use Rattle.evaluation_rules.specs.Calls.{named_callee}
+use Rattle.walker_state.specs.Machine.{whole, place_of, kept_of, next_of}
 use Rattle.special_forms.specs.Seen.{forms_view}
 use Rattle.walker_machine.proofs.Evaluating.{if_ok-turned, call_start}
 use Rattle.walker_machine.proofs.answers.begin_call.Goals as goal

@@ -1,4 +1,4 @@
-use Rattle.walker_machine.specs.Calls.{outcome, core_call}
+use Rattle.evaluation_rules.specs.Calls.{outcome, core_call}
 use Rattle.special_forms.specs.Seen.{views}
 use Rattle.core_functions.specs.Meaning.{meaning}
 use Rattle.walker_machine.proofs.Evaluating.{if_ok-here, core_call-fits}

@@ -1,7 +1,7 @@
 use Rattle.std.proofs.Common.{◌≡◌, ◌++◌, length, map}
 use Rattle.std.specs.Prelude.{zip}
 use Rattle.value_data.specs.View.{pair_view}
-use Rattle.walker_machine.specs.Collections.{keys_in, values_in}
+use Rattle.evaluation_rules.specs.Collections.{keys_in, values_in}
 use Rattle.special_forms.specs.Seen.{views}
 use Rattle.walker_machine.proofs.collect.by_turns.Given as goal
 

@@ -1,8 +1,8 @@
 use Rattle.std.proofs.Common.{ap, sym, arith, rules}
 use Rattle.value_data.specs.Datum.{Datum}
 use Rattle.value_data.specs.View.{view}
-use Rattle.walker_machine.specs.Doing.{Part}
-use Rattle.walker_machine.specs.Machine.{place_of, from_state}
+use Rattle.evaluation_rules.specs.Doing.{Part}
+use Rattle.walker_state.specs.Machine.{place_of, from_state}
 use Rattle.value_data.proofs.Views.{value_views}
 use Rattle.special_forms.proofs.Sizes.{datum_size-pos}
 use Rattle.walker_machine.proofs.Evaluating.{if_ok-turned, list-at}

@@ -1,9 +1,9 @@
 use Rattle.std.proofs.Common.{refl, ap, List}
 use Rattle.value_data.specs.Datum.{Datum, nil}
 use Rattle.value_data.specs.View.{view}
-use Rattle.walker_machine.specs.Calls.{last_of}
-use Rattle.walker_machine.specs.Evaluation.{value_at}
-use Rattle.walker_machine.specs.Machine.{whole, callee_view, place_of, kept_of, next_of, call_behind, items_behind}
+use Rattle.evaluation_rules.specs.Rows.{last_of}
+use Rattle.evaluation_rules.specs.Evaluation.{value_at}
+use Rattle.walker_state.specs.Machine.{whole, callee_view, place_of, kept_of, next_of, call_behind, items_behind}
 use Rattle.value_data.proofs.Views.{view-Nil}
 use Rattle.special_forms.specs.Truth.{is_true}
 use Rattle.special_forms.specs.Seen.{forms_view}

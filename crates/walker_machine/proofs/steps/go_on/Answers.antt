@@ -1,6 +1,6 @@
 use Rattle.std.proofs.Common.{◌≡◌, ◌∙◌, subst}
 use Rattle.walker_machine.specs.Waits.{leg_tree}
-use Rattle.walker_machine.specs.Machine.{tree}
+use Rattle.walker_state.specs.Machine.{tree}
 use Rattle.walker_machine.specs.declared.steps.Leg.{Leg}
 use Rattle.walker_machine.proofs.steps.go_on.Goals as goal
 

@@ -1,6 +1,6 @@
 use Rattle.std.proofs.Common.{◌≡◌, ◌≤◌, ◌<◌, ◌+◌, ◌⊎◌}
-use Rattle.walker_machine.specs.Size.{control_size, frames_size, spent}
-use Rattle.walker_machine.specs.Machine.{tree}
+use Rattle.walker_state.specs.Size.{control_size, frames_size, spent}
+use Rattle.walker_state.specs.Machine.{tree}
 use Rattle.walker_machine.proofs.steps.go_on.Given as goal
 
 abbrev pub invariant-loop-state : goal.invariant-loop-state

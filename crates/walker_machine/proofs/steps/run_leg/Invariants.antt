@@ -1,6 +1,6 @@
 use Rattle.std.proofs.Common.{◌≡◌, ◌≤◌, ◌+◌}
-use Rattle.walker_machine.specs.Size.{control_size, frames_size, spent}
-use Rattle.walker_machine.specs.Machine.{tree}
+use Rattle.walker_state.specs.Size.{control_size, frames_size, spent}
+use Rattle.walker_state.specs.Machine.{tree}
 use Rattle.walker_machine.proofs.steps.run_leg.Given as goal
 
 abbrev pub invariant-loop-control : goal.invariant-loop-control
