@@ -1,18 +1,30 @@
 -- What an attempt around a part of an evaluation leaves as it is.
-use Rattle.std.specs.Prelude.{Box, Global, string_bytes, nat_lt}
-use Rattle.std.proofs.Common.{◌≡◌, ◌≢◌, ◌≤◌, ◌-◌, ◌+◌, ℕ, zero, suc, List, [], ◌∷◌, ◌++◌, length, Option, Some, None, Result, Ok, Err, IfOk, ap, ◌∙◌, if◌then◌else◌, refl, sym, subst, arith}
-use Rattle.value_data.specs.Datum.{Datum}
-use Rattle.repl_faults.specs.Failure.{Failure, output_too_long}
+use Rattle.std.specs.Global.{Global}
+use Rattle.std.specs.Prelude.{Box, string_bytes, nat_lt}
+use Rattle.std.specs.Arc.{arc_str_bytes}
+use Rattle.std.proofs.Common.{true, false, ◌≡◌, ◌≢◌, ◌≤◌, ◌-◌, ◌+◌, ℕ, zero, suc, List, [], ◌∷◌, ◌++◌, length, Option, Some, None}
+use Rattle.std.proofs.Common.{Result, Ok, Err, IfOk, ap, ◌∙◌, if◌then◌else◌, refl, sym, subst, arith}
+use Rattle.value_data.specs.Datum.{Datum, nil}
+use Rattle.repl_faults.specs.Failure.{Failure, broken, output_too_long}
+use Rattle.repl_faults.specs.declared.rule.Rule.{Rule}
 use Rattle.core_texts.specs.Limits.{most_text}
-use Rattle.repl_asks.specs.Exchange.{AskData, AnswerData, begin}
+use Rattle.repl_asks.specs.Transactions.{IntentData}
+use Rattle.repl_asks.specs.Exchange.{AskData, AnswerData, begin, commit, verdict_in}
 use Rattle.repl_jobs.specs.Tree.{Tree, asks}
-use Rattle.tx_attempt.specs.Operations.{OperationData}
+use Rattle.special_forms.specs.Seen.{forms_view}
+use Rattle.special_forms.specs.declared.forms.Forms.{Forms}
+use Rattle.tx_attempt.specs.Operations.{OperationData, intent_of}
 use Rattle.tx_attempt.specs.Seen.{operations_of}
-use Rattle.evaluation_rules.specs.Doing.{Kept, Doing, left, failed, asking, printing, looking, noting}
+use Rattle.tx_attempt.specs.declared.attempt.Attempt.{Attempt}
+use Rattle.evaluation_rules.specs.Doing.{Kept, Doing, left, failed, retried, asking, printing, looking, noting, Part, done}
 use Rattle.evaluation_rules.specs.Tree.{attempted, ends, written}
 use Rattle.evaluation_rules.specs.Places.{PlaceData}
-use Rattle.evaluation_rules.specs.Transactions.{attempts, after_body}
-use Rattle.walker_state.specs.Machine.{within}
+use Rattle.evaluation_rules.specs.Rows.{last_of}
+use Rattle.evaluation_rules.specs.Evaluation.{value_at}
+use Rattle.evaluation_rules.specs.Transactions.{attempts, after_body, body_of, transacted, with_running}
+use Rattle.walker_state.specs.Machine.{again, begun_tree, body_at, bottom, frames_next, from_state, kept_of, next_of, place_of}
+use Rattle.walker_state.specs.Machine.{settled_tree, whole, within}
+use Rattle.walker_state.specs.declared.frames.State.{State}
 use Rattle.walker_state.specs.declared.frames.Transaction.{Transaction}
 
 abbrev Running : Type 0
@@ -62,3 +74,59 @@ attempts-left zero body next last some = absurd (some refl)
 attempts-left (suc n) body next last some =
     let e : suc n - 1 ≡ n = omega arith in
     ap (λ (m : ℕ). asking begin (λ answer. attempted (after_body (attempts m body next) next) [] body)) (sym e)
+
+-- no attempt is left
+pub again-none : (r : ℕ) (t : Transaction) (p : PlaceData) (last : Kept) (text : List ℕ) → t.left ≡ 0
+    → written text (again r t p last) ≡ ends (Err (broken Rule.AttemptsAreLimited)) text last
+unfolding again
+again-none r t p last text none = rw none refl
+
+-- one is, and it begins
+pub again-left : (r : ℕ) (t u : Transaction) (p : PlaceData) (last : Kept) (text : List ℕ) → t.left ≢ 0
+    → u ≡ record t { left = t.left - 1; is_first = false }
+    → asks begin (λ answer. written text (attempted (after_body (again r u p) (frames_next u.frames.items p)) [] (body_at r u p)))
+    ≡ written text (again r t p last)
+unfolding again
+again-left r t u p last text some is =
+    rw is (ap (written text) (sym (attempts-left t.left (body_at r t p) (frames_next t.frames.items p) last some)))
+
+-- where no transaction runs
+pub outside : (r : ℕ) (t : Running) (p : PlaceData) (d : Doing) → t ≡ None → within r t p d ≡ d
+unfolding within
+outside r t p d none = rw none refl
+
+pub transaction-none : (s : State) (body : Part Datum) → s.transaction ≡ None → s.retries ≡ 0
+    → ends (Err (broken Rule.AttemptsAreLimited)) (string_bytes s.text) (kept_of s) ≡ from_state (transacted false body) s
+transaction-none s body none zero =
+    sym (ap (written (string_bytes s.text)) (outside s.retries s.transaction _ (transacted false body (next_of s) (kept_of s)) none) ∙ rw zero refl)
+
+-- the first attempt is asked for
+pub transaction-begun : (s u : State) (t : Transaction) (forms : Forms) (room : ℕ) → s.transaction ≡ None → s.retries ≢ 0
+    → (place_of u ≡ place_of s) × (string_bytes u.text ≡ string_bytes s.text) × (u.retries ≡ s.retries)
+    → (t.body ≡ forms) × (t.room ≡ room) × (t.calls ≡ s.calls) × (arc_str_bytes t.namespace ≡ arc_str_bytes s.namespace)
+    → (t.left ≡ s.retries - 1) × (t.frames ≡ s.frames)
+    → asks begin (λ answer. begun_tree t u) ≡ from_state (transacted false (last_of (value_at room (place_of s)) nil (forms_view forms))) s
+unfolding again
+transaction-begun s u t forms room none some same entered around =
+    let body : Part Datum = last_of (value_at room (place_of s)) nil (forms_view forms) in
+    rw (same.0, same.1, same.2, entered.0, entered.1, entered.2, entered.3, around.0, around.1)
+    (sym (ap (written (string_bytes s.text)) (outside s.retries s.transaction _ (transacted false body (next_of s) (kept_of s)) none
+    ∙ attempts-left s.retries (body_of body (kept_of s)) (next_of s) (kept_of s) some)))
+
+-- an attempt that is left for another
+pub retried-at : (s : State) (t : Box Transaction Global) → s.transaction ≡ Some t
+    → whole s (left retried (kept_of s))
+    ≡ written (string_bytes s.text) (again s.retries t.value (bottom s.frames.items (place_of s)) (with_running true (kept_of s)))
+unfolding within
+retried-at s t runs = rw runs refl
+
+pub left-outside : (s : State) (v : Datum) → s.frames.items ≡ [] → s.transaction ≡ None
+    → ends (Ok v) (string_bytes s.text) (kept_of s) ≡ from_state (done v) s
+unfolding within
+left-outside s v empty none = rw (empty, none) refl
+
+pub left-inside : (s : State) (t : Box Transaction Global) (u : Transaction) (a : Attempt) (v : Datum) (intent : IntentData)
+    → s.frames.items ≡ [] → s.transaction ≡ Some t → u ≡ record (t.value) { attempt = a } → intent ≡ intent_of (operations_of t.value.attempt)
+    → asks (commit intent) (λ answer. settled_tree u v (verdict_in answer) (record s { transaction = None })) ≡ from_state (done v) s
+unfolding within again
+left-inside s t u a v intent empty runs is wants = rw (empty, runs, is, wants) refl

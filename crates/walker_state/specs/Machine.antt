@@ -1,6 +1,7 @@
 -- What the machine has still to do, in the words of the definition. Contracts of private functions speak of it.
 use Rattle.std.specs.Prelude.{drop, ℕ, zero, suc, List, [], ◌∷◌, ◌++◌, Bool, true, false, Option, Some, None, option_map}
-use Rattle.std.specs.Prelude.{Err, if◌then◌else◌, string_bytes, Box, Global}
+use Rattle.std.specs.Prelude.{Err, if◌then◌else◌, string_bytes, Box}
+use Rattle.std.specs.Global.{Global}
 use Rattle.std.specs.Arc.{arc_str_bytes}
 use Rattle.value_data.specs.Datum.{Datum, nil, list, no_items}
 use Rattle.value_data.specs.View.{view}
@@ -115,12 +116,16 @@ frames_next (Frame.Held name ∷ frames) p v kept = held_value (name_view name) 
 frames_next (Frame.Unbind ∷ frames) p v kept = frames_next frames (without_local p) v kept
 frames_next (Frame.Leave place ∷ frames) p v kept = frames_next frames (place_view place) v kept
 
+-- the place behind a frame
+abbrev pub behind_frame : Frame → PlaceData → PlaceData
+behind_frame Frame.Unbind p = without_local p
+behind_frame (Frame.Leave place) p = place_view place
+behind_frame frame p = p
+
 -- the place in which the frames leave what they give: that of the transaction, or of the whole
 abbrev pub bottom : List Frame → PlaceData → PlaceData
 bottom [] p = p
-bottom (Frame.Unbind ∷ frames) p = bottom frames (without_local p)
-bottom (Frame.Leave place ∷ frames) p = bottom frames (place_view place)
-bottom (frame ∷ frames) p = bottom frames p
+bottom (frame ∷ frames) p = bottom frames (behind_frame frame p)
 
 -- Transactions
 

@@ -1,6 +1,7 @@
 -- How much an evaluation has still to do, for the proof that it ends. No promise speaks of it.
 use Rattle.std.specs.Prelude.{ℕ, ◌≡◌, ◌+◌, ◌-◌, ◌*◌, ◌<◌, ◌≤◌, ◌⊎◌, Bool, true, false, if◌then◌else◌, max}
-use Rattle.std.specs.Prelude.{List, sum_by, Option, Some, None, Box, Global}
+use Rattle.std.specs.Prelude.{List, sum_by, Option, Some, None, Box}
+use Rattle.std.specs.Global.{Global}
 use Rattle.value_data.specs.View.{view}
 use Rattle.special_forms.specs.Bindings.{bindings_in}
 use Rattle.special_forms.specs.Seen.{forms_view}
@@ -51,7 +52,6 @@ control_size (Control.Return v) = 1
 control_size (Control.Fault f) = 0
 control_size (Control.Ask ask wanted) = wanted_size wanted
 control_size (Control.Enter function values room) = 0
-
 
 -- The transaction that is under way: the calls on entering it, what is to be done around it, and twice the attempts left,
 -- and one more where an attempt is not yet begun. One of which no attempt was begun is not under way.

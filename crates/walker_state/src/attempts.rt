@@ -9,11 +9,11 @@ ghost use Rattle.value_data.specs.declared.value.RefName.{RefName};
 ghost use Rattle.value_data.specs.Datum.{nil};
 ghost use Rattle.special_forms.specs.Seen.{forms_view};
 ghost use Rattle.walker_state.specs.Machine as machine;
-ghost use Rattle.walker_state.specs.Machine.{again, begun_tree, bottom, from_state, kept_of, place_of, tree, whole};
+ghost use Rattle.walker_state.specs.Machine.{again, begun_tree, behind_frame, bottom, place_view, from_state, kept_of, place_of, tree, whole};
 ghost use Rattle.walker_state.specs.Size.{control_size, control_calls, control_around, control_position, wanted_position, around, frames_size, IsLater, IsRetried};
 ghost use Rattle.walker_state.specs.declared.frames.Wanted.{Wanted};
 
-use crate::frames::{Control, Frame, State, Transaction, Wanted};
+use crate::frames::{Control, Frame, Place, State, Transaction, Wanted};
 use crate::rows::next_in_body;
 use repl_asks::Ask;
 use repl_faults::{Rule, broken};
@@ -87,11 +87,13 @@ pub fn retry(alloc: Global, state: &mut State) -> Result<Control, AllocError>
     ensures later { IfOk result (λ control. (name : RefName) → IsLater (control_position control state.new)
         (wanted_position (Wanted.Reading name) state.old)) }
 {
-    let Some(transaction) = state.transaction.take() else {
-        return Ok(Control::Fault(broken(alloc, Rule::AttemptsAreLimited)?));
-    };
-    unwind(state);
-    begin_again(alloc, state, transaction)
+    match state.transaction.take() {
+        None => Ok(Control::Fault(broken(alloc, Rule::AttemptsAreLimited)?)),
+        Some(transaction) => {
+            unwind(state);
+            begin_again(alloc, state, transaction)
+        }
+    }
 }
 
 // The frames lead back to the place in which they leave what they give.
@@ -105,11 +107,29 @@ fn unwind(state: &mut State)
     ensures transaction { state.new.transaction ≡ state.old.transaction }
 {
     while let Some(frame) = state.frames.pop_front() {
-        match frame {
-            Frame::Unbind => state.place.locals.unbind(),
-            Frame::Leave { place } => state.place = place,
-            _ => {}
-        }
+        go_behind(frame, &mut state.place);
+    }
+}
+
+// The place behind a frame.
+fn go_behind(frame: Frame, place: &mut Place)
+    ensures { place_view place.new ≡ behind_frame frame (place_view place.old) }
+{
+    match frame {
+        Frame::Unbind => place.locals.unbind(),
+        Frame::Leave { place: outer } => *place = outer,
+        Frame::Arguments { .. }
+        | Frame::Collection { .. }
+        | Frame::Body { .. }
+        | Frame::Choice { .. }
+        | Frame::Logic { .. }
+        | Frame::Let { .. }
+        | Frame::Define { .. }
+        | Frame::Throw
+        | Frame::Namespace
+        | Frame::AlterRef { .. }
+        | Frame::AlterCall { .. }
+        | Frame::Held { .. } => {}
     }
 }
 

@@ -32,12 +32,14 @@ pub fn leave(alloc: Global, state: &mut State, value: Value) -> Result<Left, All
     ensures meaning { IfOk result (λ left. left_tree left state.new ≡ from_state (done (view value)) state.old) }
     ensures on { IfOk result (λ left. IsLeftBy left state.new (control_position (Control.Return value) state.old)) }
 {
-    let Some(mut transaction) = state.transaction.take() else {
-        return Ok(Left::Ends(value));
-    };
-    let attempt = mem::replace(&mut transaction.attempt, Attempt::new(alloc));
-    let intent = Arc::new(alloc, attempt.into_intent()?)?;
-    Ok(Left::Asks(Ask::Commit(intent), Wanted::Verdict(value, transaction)))
+    match state.transaction.take() {
+        None => Ok(Left::Ends(value)),
+        Some(mut transaction) => {
+            let attempt = mem::replace(&mut transaction.attempt, Attempt::new(alloc));
+            let intent = Arc::new(alloc, attempt.into_intent()?)?;
+            Ok(Left::Asks(Ask::Commit(intent), Wanted::Verdict(value, transaction)))
+        }
+    }
 }
 
 /// The verdict on a body with this value: the transaction is over, or another attempt is made, if one

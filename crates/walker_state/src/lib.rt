@@ -9,7 +9,9 @@ mod refs;
 mod rows;
 
 pub use attempts::{begin_again, begin_transaction, begun, retry};
-pub use commits::{leave, settle, Left};
-pub use frames::{Callee, Collection, Control, Frame, Place, State, SymbolUse, Transaction, Wanted};
+pub use commits::{Left, leave, settle};
+pub use frames::{
+    Callee, Collection, Control, Frame, Place, State, SymbolUse, Transaction, Wanted,
+};
 pub use refs::{note_read, read, set};
 pub use rows::next_in_body;

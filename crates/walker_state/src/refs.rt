@@ -22,12 +22,12 @@ pub fn read(state: &State, name: RefName) -> Result<Control, AllocError>
     ensures around { IfOk result (λ control. control_around control state.now ≡ around state.now.transaction) }
     ensures meaning { IfOk result (λ control. tree control state.now ≡ from_state (ref_value (name_view name)) state.now) }
 {
-    let Some(transaction) = &state.transaction else {
-        return Ok(Control::Ask(Ask::Read(name), Wanted::Reading(name)));
-    };
-    match transaction.attempt.value_of(name) {
-        Some(value) => Ok(Control::Return(copy(value)?)),
+    match &state.transaction {
         None => Ok(Control::Ask(Ask::Read(name), Wanted::Reading(name))),
+        Some(transaction) => match transaction.attempt.value_of(name) {
+            Some(value) => Ok(Control::Return(copy(value)?)),
+            None => Ok(Control::Ask(Ask::Read(name), Wanted::Reading(name))),
+        },
     }
 }
 
@@ -42,10 +42,14 @@ pub fn note_read(state: &mut State, name: RefName, value: &Value) -> Result<(), 
     ensures noted { IfOk result (λ _. (d : Doing) → machine.whole state.new d
         ≡ machine.whole state.old (noting (got (name_view name) (view value.now)) d)) }
 {
-    let Some(transaction) = &mut state.transaction else {
-        return Ok(());
-    };
-    transaction.attempt.note_read(name, copy(value)?)
+    match state.transaction.take() {
+        None => Ok(()),
+        Some(mut transaction) => {
+            transaction.attempt.note_read(name, copy(value)?)?;
+            state.transaction = Some(transaction);
+            Ok(())
+        }
+    }
 }
 
 /// Sets a ref, if an attempt runs.
@@ -59,8 +63,12 @@ pub fn set(state: &mut State, name: RefName, value: &Value) -> Result<(), AllocE
     ensures noted { IfOk result (λ _. (d : Doing) → machine.whole state.new d
         ≡ machine.whole state.old (noting (put (name_view name) (view value.now)) d)) }
 {
-    let Some(transaction) = &mut state.transaction else {
-        return Ok(());
-    };
-    transaction.attempt.set(name, copy(value)?)
+    match state.transaction.take() {
+        None => Ok(()),
+        Some(mut transaction) => {
+            transaction.attempt.set(name, copy(value)?)?;
+            state.transaction = Some(transaction);
+            Ok(())
+        }
+    }
 }
