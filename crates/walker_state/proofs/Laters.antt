@@ -1,7 +1,13 @@
 -- Where an evaluation stands after an answer.
 use Rattle.std.proofs.Common.{◌≡◌, ◌≢◌, ℕ, ◌+◌, ◌-◌, ◌*◌, ◌<◌, ◌≤◌, ◌⊎◌, Bool, true, false, List, refl, sym, subst, ap, ◌∙◌, inl, inr, arith, max, Option, Some, None}
+use Rattle.std.specs.Global.{Global}
+use Rattle.std.specs.Prelude.{Box}
+use Rattle.std.proofs.Common.{Result, Ok, Err, IfOk}
+use Rattle.value_data.specs.declared.value.RefName.{RefName}
+use Rattle.value_data.specs.declared.value.Value.{Value}
+use Rattle.walker_state.specs.declared.frames.Wanted.{Wanted}
 use Rattle.walker_state.specs.Size.{Around, no_attempt, around, begun_around, attempt_around, frames_size}
-use Rattle.walker_state.specs.Size.{control_position, control_around, control_calls, wanted_around, wanted_calls}
+use Rattle.walker_state.specs.Size.{control_position, control_around, control_calls, wanted_around, wanted_calls, wanted_position}
 use Rattle.walker_state.specs.Size.{Position, IsLess, IsLater, IsOn, IsRetried}
 use Rattle.walker_state.specs.declared.frames.Transaction.{Transaction}
 use Rattle.walker_state.specs.declared.frames.State.{State}
@@ -84,10 +90,36 @@ pub on_asked : (old middle : Position) (r : Around) (calls size : ℕ) → IsOn 
 unfolding IsOn
 on_asked old middle r calls size on same fewer smaller = (same ∙ on.0, omega (arith, on.1), behind_both _ _ _ _ _ _ fewer smaller on.2)
 
-pub on_entered : (old middle : Position) (c : Control) (s entered : State) → IsOn middle old → around entered.attempt ≡ middle.transaction → 1 + entered.calls ≤ middle.calls
-    → control_around c s ≡ around entered.attempt → control_calls c s ≤ entered.calls → IsOn (control_position c s) old
+pub on_entered : (old middle : Position) (c : Control) (s entered : State) → IsOn middle old → around entered.transaction ≡ middle.transaction → 1 + entered.calls ≤ middle.calls
+    → control_around c s ≡ around entered.transaction → control_calls c s ≤ entered.calls → IsOn (control_position c s) old
 unfolding IsOn
 on_entered old middle c s entered on same fewer same' fewer' = (same' ∙ same ∙ on.0, omega (arith, on.1), inl (omega (arith, on.1)))
 
 pub entered_less : (a b c : ℕ) → a ≤ b → 1 + b ≤ c → a < c
 entered_less a b c h k = omega arith
+
+-- the body of an attempt that was begun
+pub begun-later : {E : Type 0} (r : Result Control E) (new u s : State) (b c : Box Transaction Global) → u.calls ≡ b.value.calls
+    → u.transaction ≡ Some c → attempt_around (2 * c.value.left) c.value ≡ attempt_around (2 * b.value.left) b.value
+    → IfOk r (λ k. control_calls k new ≤ u.calls) → IfOk r (λ k. control_around k new ≡ around u.transaction)
+    → IfOk r (λ k. IsLater (control_position k new) (wanted_position (Wanted.Begin b) s))
+begun-later (Ok k) new u s b c entered runs same calls stays =
+    later_begun b.value.is_first b.value _ _ _ _ (stays ∙ ap around runs ∙ same) (omega (arith, calls, entered)) (omega arith)
+begun-later (Err e) new u s b c entered runs same calls stays = tt
+
+-- another attempt after a read, and after a commit
+pub retried-later : {E : Type 0} (r : Result Control E) (new s : State) (t : Box Transaction Global) (calls : ℕ) → s.transaction ≡ Some t → calls ≡ s.calls
+    → IfOk r (λ k. IsRetried k new t.value calls)
+    → IfOk r (λ k. (name : RefName) → IsLater (control_position k new) (wanted_position (Wanted.Reading name) s))
+retried-later (Ok k) new s t calls runs same h =
+    let P : Option (Box Transaction Global) → Type 0 = λ a. IsLater (control_position k new)
+      (record { transaction = around a; calls = s.calls; size = 2 + frames_size s.frames.items }) in
+    let Q : ℕ → Type 0 = λ n. IsRetried k new t.value n in
+    λ name. subst P (sym runs) (later_retried k new t.value s.calls _ (subst Q same h))
+retried-later (Err e) new s t calls runs same h = tt
+
+pub conflict-later : {E : Type 0} (r : Result Control E) (new s : State) (t : Box Transaction Global) (v : Value)
+    → IfOk r (λ k. IsRetried k new t.value s.calls)
+    → IfOk r (λ k. IsLater (control_position k new) (wanted_position (Wanted.Verdict v t) s))
+conflict-later (Ok k) new s t v h = later_retried k new t.value s.calls _ h
+conflict-later (Err e) new s t v h = tt

@@ -9,7 +9,7 @@ use Rattle.repl_faults.specs.Failure.{Failure, broken, output_too_long}
 use Rattle.repl_faults.specs.declared.rule.Rule.{Rule}
 use Rattle.core_texts.specs.Limits.{most_text}
 use Rattle.repl_asks.specs.Transactions.{IntentData}
-use Rattle.repl_asks.specs.Exchange.{AskData, AnswerData, begin, commit, verdict_in}
+use Rattle.repl_asks.specs.Exchange.{AskData, AnswerData, begin, commit, committed, verdict_in}
 use Rattle.repl_jobs.specs.Tree.{Tree, asks}
 use Rattle.special_forms.specs.Seen.{forms_view}
 use Rattle.special_forms.specs.declared.forms.Forms.{Forms}
@@ -97,8 +97,8 @@ outside r t p d none = rw none refl
 
 pub transaction-none : (s : State) (body : Part Datum) → s.transaction ≡ None → s.retries ≡ 0
     → ends (Err (broken Rule.AttemptsAreLimited)) (string_bytes s.text) (kept_of s) ≡ from_state (transacted false body) s
-transaction-none s body none zero =
-    sym (ap (written (string_bytes s.text)) (outside s.retries s.transaction _ (transacted false body (next_of s) (kept_of s)) none) ∙ rw zero refl)
+transaction-none s body none nothing =
+    sym (ap (written (string_bytes s.text)) (outside s.retries s.transaction _ (transacted false body (next_of s) (kept_of s)) none) ∙ rw nothing refl)
 
 -- the first attempt is asked for
 pub transaction-begun : (s u : State) (t : Transaction) (forms : Forms) (room : ℕ) → s.transaction ≡ None → s.retries ≢ 0
@@ -130,3 +130,29 @@ pub left-inside : (s : State) (t : Box Transaction Global) (u : Transaction) (a 
     → asks (commit intent) (λ answer. settled_tree u v (verdict_in answer) (record s { transaction = None })) ≡ from_state (done v) s
 unfolding within again
 left-inside s t u a v intent empty runs is wants = rw (empty, runs, is, wants) refl
+
+-- an attempt that has begun
+pub begun-at : (s u : State) (b : Box Transaction Global) (t : Transaction) (a : Attempt) (forms : Forms) (room : ℕ) (v : Datum)
+    → (place_of u ≡ place_of s) × (string_bytes u.text ≡ string_bytes s.text) × (u.retries ≡ s.retries)
+    → (u.frames.items ≡ []) × (u.calls ≡ t.calls) × (arc_str_bytes u.namespace ≡ arc_str_bytes t.namespace) × (u.transaction ≡ Some b)
+    → (b.value ≡ record t { attempt = a }) × (operations_of a ≡ [])
+    → (forms_view forms ≡ forms_view t.body) × (room ≡ t.room) × (v ≡ nil)
+    → from_state (last_of (value_at room (place_of u)) v (forms_view forms)) u ≡ begun_tree t s
+unfolding within again
+begun-at s u b t a forms room v same entered fresh body =
+    rw (same.0, same.1, same.2, entered.0, entered.1, entered.2, entered.3, fresh.0, fresh.1, body.0, body.1, body.2) refl
+
+-- the attempt is over, and its frames are unwound
+pub retried-from : (s u : State) (t : Box Transaction Global) → s.transaction ≡ Some t
+    → (place_of u ≡ bottom s.frames.items (place_of s)) × (u.text ≡ s.text) × (u.retries ≡ s.retries) × (u.calls ≡ s.calls)
+    → arc_str_bytes u.namespace ≡ arc_str_bytes s.namespace
+    → written (string_bytes u.text) (again u.retries t.value (place_of u) (with_running true (kept_of u))) ≡ whole s (left retried (kept_of s))
+retried-from s u t runs same named = rw (same.0, same.1, same.2, same.3, named) (sym (retried-at s t runs))
+
+-- the transaction is over, and its value goes on
+pub committed-at : (s u : State) (t : Transaction) (v : Datum)
+    → (place_of u ≡ place_of s) × (u.text ≡ s.text) × (u.retries ≡ s.retries) × (u.calls ≡ s.calls) × (u.namespace ≡ s.namespace)
+    → (u.frames ≡ t.frames) × (u.transaction ≡ None)
+    → from_state (done v) u ≡ settled_tree t v committed s
+unfolding within
+committed-at s u t v same around = rw (same.0, same.1, same.2, same.3, same.4, around.0, around.1) refl

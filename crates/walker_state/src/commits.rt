@@ -15,6 +15,7 @@ use repl_asks::{Ask, Verdict};
 use repl_values::Value;
 use std::alloc::{AllocError, Global};
 use std::boxed::Box;
+use std::collections::VecDeque;
 use std::mem;
 use std::sync::Arc;
 use tx_attempt::Attempt;
@@ -65,6 +66,7 @@ pub fn settle(
         }
         Verdict::Conflict => begin_again(alloc, state, transaction),
         Verdict::Faulted(fault) => {
+            state.frames = VecDeque::new(alloc);
             state.transaction = None;
             Ok(Control::Fault(fault))
         }

@@ -1,9 +1,7 @@
-use Rattle.std.proofs.Common.{refl, sym, ap, ◌∙◌}
-use Rattle.walker_state.proofs.Stepping.{left-outside, left-inside}
+use Rattle.std.proofs.Common.{sym}
+use Rattle.value_data.specs.View.{view}
+use Rattle.walker_state.proofs.Stepping.{left-outside}
 use Rattle.walker_state.proofs.commits.leave.Goals as goal
 
 pub returns-in-None-clause-meaning : goal.returns-in-None-clause-meaning
-returns-in-None-clause-meaning c = ?
-
-pub returns-in-Some-clause-meaning : goal.returns-in-Some-clause-meaning
-returns-in-Some-clause-meaning c = ?
+returns-in-None-clause-meaning c = left-outside c.args.state.now (view c.args.value) c.requires (sym c.in-None.ensures.value)
