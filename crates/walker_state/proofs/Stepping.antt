@@ -142,6 +142,12 @@ unfolding within again
 begun-at s u b t a forms room v same entered fresh body =
     rw (same.0, same.1, same.2, entered.0, entered.1, entered.2, entered.3, fresh.0, fresh.1, body.0, body.1, body.2) refl
 
+-- no transaction runs, so no attempt can be made again
+pub retried-outside : (s : State) → s.transaction ≡ None
+    → ends (Err (broken Rule.AttemptsAreLimited)) (string_bytes s.text) (kept_of s) ≡ whole s (left retried (kept_of s))
+unfolding within
+retried-outside s none = rw none refl
+
 -- the attempt is over, and its frames are unwound
 pub retried-from : (s u : State) (t : Box Transaction Global) → s.transaction ≡ Some t
     → (place_of u ≡ bottom s.frames.items (place_of s)) × (u.text ≡ s.text) × (u.retries ≡ s.retries) × (u.calls ≡ s.calls)
