@@ -113,7 +113,7 @@ pub retried-later : {E : Type 0} (r : Result Control E) (new s : State) (t : Box
     → IfOk r (λ k. (name : RefName) → IsLater (control_position k new) (wanted_position (Wanted.Reading name) s))
 retried-later (Ok k) new s t calls runs same h =
     let P : Option (Box Transaction Global) → Type 0 = λ a. IsLater (control_position k new)
-      (record { transaction = around a; calls = s.calls; size = 2 + frames_size s.frames.items }) in
+    (record { transaction = around a; calls = s.calls; size = 2 + frames_size s.frames.items }) in
     let Q : ℕ → Type 0 = λ n. IsRetried k new t.value n in
     λ name. subst P (sym runs) (later_retried k new t.value s.calls _ (subst Q same h))
 retried-later (Err e) new s t calls runs same h = tt

@@ -20,7 +20,10 @@ returns-clause-meaning c =
     let s = c.args.state.now in
     let made = c.in_ok-new.ensures.ok in
     transaction-begun s (record s { frames = c.replace-frames.new.dest }) c.in_ok-new.field-0.value c.args.body c.args.room c.requires c.if-state-eq0.false
-    (refl, refl, refl)
-    (ap (λ (t : Transaction). t.body) made, ap (λ (t : Transaction). t.room) made, ap (λ (t : Transaction). t.calls) made,
-    ap (λ (t : Transaction). arc_str_bytes t.namespace) made ∙ c.in_ok-namespace.ensures)
+    (refl, refl, refl) (
+      ap (λ (t : Transaction). t.body) made,
+      ap (λ (t : Transaction). t.room) made,
+      ap (λ (t : Transaction). t.calls) made,
+      ap (λ (t : Transaction). arc_str_bytes t.namespace) made ∙ c.in_ok-namespace.ensures,
+    )
     (ap (λ (t : Transaction). t.left) made, ap (λ (t : Transaction). t.frames) made ∙ c.replace-frames.ensures.value)

@@ -14,9 +14,12 @@ returns-clause-meaning c =
     let b = record c.args.transaction { value = record c.deref_mut.result.now { attempt = c.new.result } } in
     let u = record s { frames = c.new-2.result; calls = c.deref-3.result.now.calls; namespace = c.in_ok-state.field-0; transaction = Some b } in
     if_ok-turned _ _
-    (begun-at s u b c.args.transaction.value c.new.result c.in_ok-body.body _ _ (refl, refl, refl)
-    (c.new-2.ensures.items, ap (λ (t : Transaction). t.calls) c.deref-3.ensures,
-    c.in_ok-state.ensures ∙ ap (λ (t : Transaction). arc_str_bytes t.namespace) c.deref-4.ensures, refl)
+    (begun-at s u b c.args.transaction.value c.new.result c.in_ok-body.body _ _ (refl, refl, refl) (
+      c.new-2.ensures.items,
+      ap (λ (t : Transaction). t.calls) c.deref-3.ensures,
+      c.in_ok-state.ensures ∙ ap (λ (t : Transaction). arc_str_bytes t.namespace) c.deref-4.ensures,
+      refl,
+    )
     (ap (λ (t : Transaction). record t { attempt = c.new.result }) c.deref_mut.ensures.value, c.new.ensures)
     (c.in_ok-body.ensures ∙ ap (λ (t : Transaction). forms_view t.body) c.deref.ensures, ap (λ (t : Transaction). t.room) c.deref-2.ensures, view-Nil))
     c.next_in_body.ensures.meaning
