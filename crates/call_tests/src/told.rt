@@ -32,7 +32,12 @@ pub(crate) fn expect_always(
     rows: &[(&'static [Given], &'static str)],
 ) -> Result<(), AllocError> {
     for (given, wanted) in rows {
-        expect(rt, alloc, function, &[(true, *given, *wanted), (false, *given, *wanted)])?;
+        expect(
+            rt,
+            alloc,
+            function,
+            &[(true, *given, *wanted), (false, *given, *wanted)],
+        )?;
     }
     Ok(())
 }

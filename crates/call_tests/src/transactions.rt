@@ -36,8 +36,16 @@ fn refs_alone_are_read(rt: HostRuntime) -> Result<(), Fail> {
 fn refs_get_values_in_a_transaction(rt: HostRuntime) -> Result<(), Fail> {
     let rows: [Row; 6] = [
         (true, &[Given::Ref(MINE), Given::Int(5)], "#ref[3] gets 5"),
-        (true, &[Given::Ref(MINE), Given::Ref(OURS)], "#ref[3] gets #ref[shared/0]"),
-        (true, &[Given::Ref(OURS), Given::Vector(1)], "#ref[shared/0] gets [1]"),
+        (
+            true,
+            &[Given::Ref(MINE), Given::Ref(OURS)],
+            "#ref[3] gets #ref[shared/0]",
+        ),
+        (
+            true,
+            &[Given::Ref(OURS), Given::Vector(1)],
+            "#ref[shared/0] gets [1]",
+        ),
         (true, &[Given::Ref(OURS), Given::Ref(MINE)], NOT_PLAIN),
         (true, &[Given::Ref(OURS), Given::Holding(OURS)], NOT_PLAIN),
         (true, &[Given::Ref(OURS), Given::Atom], NOT_PLAIN),

@@ -17,11 +17,7 @@ use std::alloc::{AllocError, Global};
 /// The ref that `(alter ref function argument ..)` alters, whose first argument is this value, while
 /// a transaction runs or none does. What is no ref is refused first, then what stands in no
 /// transaction. It fails only for want of memory.
-pub fn altered(
-    alloc: Global,
-    in_transaction: bool,
-    value: &Value,
-) -> Result<Altered, AllocError>
+pub fn altered(alloc: Global, in_transaction: bool, value: &Value) -> Result<Altered, AllocError>
     ensures { IfOk result (λ altered. altered_view altered
         ≡ altered_in in_transaction (view value.now)) }
 {
@@ -32,11 +28,7 @@ pub fn altered(
     }
 }
 
-fn ref_altered(
-    alloc: Global,
-    in_transaction: bool,
-    value: &Value,
-) -> Result<RefName, ApplyError>
+fn ref_altered(alloc: Global, in_transaction: bool, value: &Value) -> Result<RefName, ApplyError>
     ensures { Gives name_view result (altered_in in_transaction (view value.now)) }
 {
     let name = ref_of(alloc, StoreFunction::Alter, value)?;

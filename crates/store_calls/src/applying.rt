@@ -120,11 +120,7 @@ fn alter_by_value(alloc: Global, target: &Value, by: &Value) -> Result<Call, App
 }
 
 // `(ref-history-count ref)`
-fn history_counted(
-    alloc: Global,
-    in_transaction: bool,
-    target: &Value,
-) -> Result<Call, ApplyError>
+fn history_counted(alloc: Global, in_transaction: bool, target: &Value) -> Result<Call, ApplyError>
     ensures { Gives call_view result (meant.history_counted in_transaction (view target.now)) }
 {
     let name = ref_of(alloc, StoreFunction::HistoryCount, target)?;
@@ -141,7 +137,7 @@ fn bound_called(
     count: Option<&Value>,
 ) -> Result<Call, ApplyError>
     ensures { Gives call_view result
-        (bound_called bound (view target.now) (option_map (λ v. view v.now) count)) }
+        (bound_called bound (view target.now) (option_map (λ v. view v.now) count.entry)) }
 {
     match count {
         None => bound_told(alloc, bound, target),

@@ -56,8 +56,14 @@ impl Bounds {
         ensures { bounds_view result ≡ meant.with_bound bound count (bounds_view self) }
     {
         match bound {
-            HistoryBound::Least => Bounds { least: count, ..self },
-            HistoryBound::Greatest => Bounds { most: count, ..self },
+            HistoryBound::Least => Bounds {
+                least: count,
+                ..self
+            },
+            HistoryBound::Greatest => Bounds {
+                most: count,
+                ..self
+            },
         }
     }
 }
