@@ -85,13 +85,16 @@ as_option d = None
 abbrev pub option_in : Datum → Result HistoryBound Failure
 option_in d = ok_or (as_option d) (wrong_argument (store_name_of StoreFunction.Ref) d)
 
+-- an option, and the number behind it
+abbrev pub with_option : BoundsData → Datum → Datum → Result BoundsData Failure
+with_option bounds d e =
+    option_in d >>= λ bound. (count_in StoreFunction.Ref e >>= λ n. Ok (with_bound bound n bounds))
+
 -- options and their numbers by turns, from the left; of one that stands twice the later counts
 abbrev pub bounds_in : BoundsData → List Datum → Result BoundsData Failure
 bounds_in bounds [] = Ok bounds
 bounds_in bounds (d ∷ []) = Ok bounds
-bounds_in bounds (d ∷ e ∷ ds) =
-    option_in d >>= λ bound. (count_in StoreFunction.Ref e
-    >>= λ n. bounds_in (with_bound bound n bounds) ds)
+bounds_in bounds (d ∷ e ∷ ds) = with_option bounds d e >>= λ next. bounds_in next ds
 
 -- the function that tells a bound of a ref, or sets it, and what it asks
 abbrev pub function_of : HistoryBound → StoreFunction

@@ -43,6 +43,7 @@ pub fn call(
     }
 }
 
+#[tactic(auto, using(crate::proofs::Taken::calls))]
 fn call_with(
     alloc: Global,
     function: StoreFunction,

@@ -70,18 +70,31 @@ impl Bounds {
 
 // The bounds of a new ref with these options, each in front of its count; the last of an odd number
 // is left out.
+#[tactic(auto, using(crate::proofs::Options::options))]
 pub(crate) fn bounds_in(alloc: Global, options: &[Value]) -> Result<Bounds, ApplyError>
     ensures { Gives bounds_view result (meant.bounds_in meant.usual_bounds (views options.now)) }
 {
     let mut bounds = Bounds { least: 0, most: 10 };
     let mut left = options;
     while left.len() >= 2 {
-        let bound = option_of(alloc, &left[0])?;
-        let count = count_of(alloc, StoreFunction::Ref, &left[1])?;
-        bounds = bounds.with(bound, count);
+        bounds = with_option(alloc, bounds, &left[0], &left[1])?;
         left = &left[2..];
     }
     Ok(bounds)
+}
+
+fn with_option(
+    alloc: Global,
+    bounds: Bounds,
+    option: &Value,
+    count: &Value,
+) -> Result<Bounds, ApplyError>
+    ensures { Gives bounds_view result
+        (meant.with_option (bounds_view bounds) (view option.now) (view count.now)) }
+{
+    let bound = option_of(alloc, option)?;
+    let count = count_of(alloc, StoreFunction::Ref, count)?;
+    Ok(bounds.with(bound, count))
 }
 
 fn option_of(alloc: Global, argument: &Value) -> Result<HistoryBound, ApplyError>
