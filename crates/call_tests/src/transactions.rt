@@ -54,7 +54,7 @@ fn refs_get_values_in_a_transaction(rt: HostRuntime) -> Result<(), Fail> {
     Ok(())
 }
 
-// First the number of arguments, then their kinds, then the transaction, then what a shared ref holds.
+// First the number of arguments, then their kinds, then the transaction, then what may be held.
 #[test]
 fn faults_of_ref_set_have_an_order(rt: HostRuntime) -> Result<(), Fail> {
     let rows: [Row; 6] = [

@@ -1,5 +1,6 @@
 -- Options with their counts, two values at a time.
-use Rattle.std.proofs.Common.{◌≡◌, ◌<◌, ◌≤◌, List, [], ◌∷◌, get_or, take, drop, length, ◌-◌, Result, Ok, refl, ap, sym, ◌∙◌, arith}
+use Rattle.std.proofs.Common.{◌≡◌, ◌<◌, ◌≤◌, List, [], ◌∷◌, get_or, take, drop, length, ◌-◌}
+use Rattle.std.proofs.Common.{Result, Ok, refl, ap, sym, ◌∙◌, arith}
 use Rattle.std.proofs.lemmas.List.{take_all}
 use Rattle.value_data.specs.View.{view}
 use Rattle.value_data.specs.declared.value.Value.{Value}

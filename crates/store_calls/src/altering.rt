@@ -14,8 +14,8 @@ use repl_faults::{ApplyError, Rule};
 use repl_values::{RefName, Value};
 use std::alloc::{AllocError, Global};
 
-/// The ref that `(alter ref function argument ..)` alters, whose first argument is this value, while
-/// a transaction runs or none does. What is no ref is refused first, then what stands in no
+/// The ref that `(alter ref function argument ..)` alters, whose first argument is this value,
+/// while a transaction runs or none does. What is no ref is refused first, then what stands in no
 /// transaction. It fails only for want of memory.
 pub fn altered(alloc: Global, in_transaction: bool, value: &Value) -> Result<Altered, AllocError>
     ensures { IfOk result (λ altered. altered_view altered

@@ -18,10 +18,10 @@ use repl_faults::{ApplyError, Rule, wrong_argument, wrong_arity};
 use repl_values::Value;
 use std::alloc::{AllocError, Global};
 
-/// What a call of the function with these values comes to, while a transaction runs or none does. The
-/// number of values is checked first, then the kinds of all of them from the left, then the rules of
-/// transactions, then those of shared refs. The values are taken and not copied; where a shared ref
-/// is set, the new value is walked once. It fails only for want of memory.
+/// What a call of the function with these values comes to, while a transaction runs or none does.
+/// The number of values is checked first, then the kinds of all of them from the left, then the
+/// rules of transactions, then those of shared refs. The values are taken and not copied; where a
+/// shared ref is set, the new value is walked once. It fails only for want of memory.
 #[tactic(auto, unfolding(crate::specs::Calling::call_of))]
 pub fn call(
     alloc: Global,
