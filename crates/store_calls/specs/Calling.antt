@@ -1,8 +1,8 @@
 -- What a call of a function that asks the store comes to, before anybody is asked (the Clojure reference, Refs and
--- Transactions). The kinds of all arguments are looked at first, from the left; then whether a transaction runs; then
--- what a ref may hold.
-use Rattle.std.specs.Prelude.{ℕ, pos, List, [], ◌∷◌, Bool, true, false, ◌||◌, Option, Some, None, ok_or, Result, Ok, Err}
-use Rattle.std.specs.Prelude.{if◌then◌else◌, not, length, codes}
+-- Transactions). The number of arguments is looked at first, then the kinds of all of them, from the left; then whether
+-- a transaction runs; then what is forbidden for a ref that all tenants share.
+use Rattle.std.specs.Prelude.{ℕ, ℤ, pos, negsuc, List, [], ◌∷◌, Bool, true, false, ◌||◌, not, Option, Some, None, ok_or}
+use Rattle.std.specs.Prelude.{Result, Ok, Err, if◌then◌else◌, length, codes}
 use Rattle.std.specs.Str.{bytes_eq}
 use Rattle.value_data.specs.Datum.{Datum, OwnerData, shared, tenant, integer, keyword, ref}
 use Rattle.value_data.specs.Measures.{is_plain}
@@ -12,6 +12,7 @@ use Rattle.function_names.specs.StoreNames.{store_name_of, store_fits}
 use Rattle.function_names.specs.declared.store.StoreFunction.{StoreFunction}
 use Rattle.repl_asks.specs.Transactions.{RefNameData}
 use Rattle.repl_asks.specs.Exchange.{AskData, new_ref, history, min_history, max_history}
+use Rattle.store_calls.specs.declared.bounds.HistoryBound.{HistoryBound}
 
 pub data CallData : Type 0 where
   refused : Failure → CallData
@@ -28,9 +29,13 @@ abbrev pub as_ref : Datum → Option RefNameData
 as_ref (ref owner n) = Some (record { owner = owner; number = n })
 as_ref d = None
 
+abbrev pub from_zero : ℤ → Option ℕ
+from_zero (pos n) = Some n
+from_zero (negsuc n) = None
+
 -- a whole number from 0
 abbrev pub as_count : Datum → Option ℕ
-as_count (integer (pos n)) = Some n
+as_count (integer n) = from_zero n
 as_count d = None
 
 abbrev pub ref_in : StoreFunction → Datum → Result RefNameData Failure
@@ -53,7 +58,7 @@ abbrev pub may_hold : OwnerData → Datum → Bool
 may_hold shared d = is_plain d
 may_hold (tenant t) d = true
 
--- The bounds of a new ref's history: the least count, and the greatest
+-- The bounds of a ref's history: the least count, and the greatest
 
 pub record BoundsData : Type 0 where
   pub least : ℕ
@@ -63,33 +68,42 @@ pub record BoundsData : Type 0 where
 abbrev pub usual_bounds : BoundsData
 usual_bounds = record { least = 0; most = 10 }
 
--- which bound an option sets: the least, or the greatest
-pub data OptionData : Type 0 where
-  least_count : OptionData
-  greatest_count : OptionData
+abbrev pub with_bound : HistoryBound → ℕ → BoundsData → BoundsData
+with_bound HistoryBound.Least n bounds = record { least = n; most = bounds.most }
+with_bound HistoryBound.Greatest n bounds = record { least = bounds.least; most = n }
 
-unfoldable pub option_named : List ℕ → Option OptionData
+-- the bound that an option of `ref` sets
+unfoldable pub option_named : List ℕ → Option HistoryBound
 option_named s =
-    if bytes_eq s (codes "min-history") then Some least_count else (
-    if bytes_eq s (codes "max-history") then Some greatest_count else None)
+    if bytes_eq s (codes "min-history") then Some HistoryBound.Least else (
+    if bytes_eq s (codes "max-history") then Some HistoryBound.Greatest else None)
 
-abbrev pub as_option : Datum → Option OptionData
+abbrev pub as_option : Datum → Option HistoryBound
 as_option (keyword s) = option_named s
 as_option d = None
 
-abbrev pub option_in : Datum → Result OptionData Failure
+abbrev pub option_in : Datum → Result HistoryBound Failure
 option_in d = ok_or (as_option d) (wrong_argument (store_name_of StoreFunction.Ref) d)
 
-abbrev pub with_bound : OptionData → ℕ → BoundsData → BoundsData
-with_bound least_count n bounds = record { least = n; most = bounds.most }
-with_bound greatest_count n bounds = record { least = bounds.least; most = n }
+-- an option, and the number behind it
+abbrev pub with_option : BoundsData → Datum → Datum → Result BoundsData Failure
+with_option bounds d e =
+    option_in d >>= λ bound. (count_in StoreFunction.Ref e >>= λ n. Ok (with_bound bound n bounds))
 
 -- options and their numbers by turns, from the left; of one that stands twice the later counts
 abbrev pub bounds_in : BoundsData → List Datum → Result BoundsData Failure
 bounds_in bounds [] = Ok bounds
 bounds_in bounds (d ∷ []) = Ok bounds
-bounds_in bounds (d ∷ e ∷ ds) =
-    option_in d >>= λ option. (count_in StoreFunction.Ref e >>= λ n. bounds_in (with_bound option n bounds) ds)
+bounds_in bounds (d ∷ e ∷ ds) = with_option bounds d e >>= λ next. bounds_in next ds
+
+-- the function that tells a bound of a ref, or sets it, and what it asks
+abbrev pub function_of : HistoryBound → StoreFunction
+function_of HistoryBound.Least = StoreFunction.MinHistory
+function_of HistoryBound.Greatest = StoreFunction.MaxHistory
+
+abbrev pub ask_for : HistoryBound → RefNameData → Option ℕ → AskData
+ask_for HistoryBound.Least name set = min_history name set
+ask_for HistoryBound.Greatest name set = max_history name set
 
 -- Calls
 
@@ -113,16 +127,19 @@ ref_set running d e =
 abbrev pub history_counted : Bool → Datum → Result CallData Failure
 history_counted running d =
     ref_in StoreFunction.HistoryCount d
-    >>= λ name. (kept_to Rule.SharedHistoryIsHidden (not running || not (is_shared name.owner)) >>= λ _. Ok (asks_value (history name)))
+    >>= λ name. (kept_to Rule.SharedHistoryIsHidden (not running || not (is_shared name.owner))
+    >>= λ _. Ok (asks_value (history name)))
 
--- a bound is told, or set; not for a shared ref
-abbrev pub bound_told : StoreFunction → (RefNameData → Option ℕ → AskData) → Datum → Result CallData Failure
-bound_told f asked d = ref_in f d >>= λ name. Ok (asks_value (asked name None))
+-- `(ref-min-history ref)`, `(ref-max-history ref)`
+abbrev pub bound_told : HistoryBound → Datum → Result CallData Failure
+bound_told bound d = ref_in (function_of bound) d >>= λ name. Ok (asks_value (ask_for bound name None))
 
-abbrev pub bound_set : StoreFunction → (RefNameData → Option ℕ → AskData) → Datum → Datum → Result CallData Failure
-bound_set f asked d e =
-    ref_in f d >>= λ name. (count_in f e >>= λ n. (kept_to Rule.SharedBoundsStay (not (is_shared name.owner))
-    >>= λ _. Ok (asks_value (asked name (Some n)))))
+-- `(ref-min-history ref number)`, `(ref-max-history ref number)`; not for a shared ref
+abbrev pub bound_set : HistoryBound → Datum → Datum → Result CallData Failure
+bound_set bound d e =
+    ref_in (function_of bound) d >>= λ name. (count_in (function_of bound) e
+    >>= λ n. (kept_to Rule.SharedBoundsStay (not (is_shared name.owner))
+    >>= λ _. Ok (asks_value (ask_for bound name (Some n)))))
 
 -- The ref that `(alter ref function argument ..)` alters: a transaction has to run.
 abbrev pub altered_in : Bool → Datum → Result RefNameData Failure
@@ -140,10 +157,10 @@ call_with StoreFunction.Deref running (d ∷ []) = dereferenced d
 call_with StoreFunction.RefSet running (d ∷ e ∷ []) = ref_set running d e
 call_with StoreFunction.Alter running (d ∷ e ∷ ds) = alter_by_value d e
 call_with StoreFunction.HistoryCount running (d ∷ []) = history_counted running d
-call_with StoreFunction.MinHistory running (d ∷ []) = bound_told StoreFunction.MinHistory min_history d
-call_with StoreFunction.MinHistory running (d ∷ e ∷ []) = bound_set StoreFunction.MinHistory min_history d e
-call_with StoreFunction.MaxHistory running (d ∷ []) = bound_told StoreFunction.MaxHistory max_history d
-call_with StoreFunction.MaxHistory running (d ∷ e ∷ []) = bound_set StoreFunction.MaxHistory max_history d e
+call_with StoreFunction.MinHistory running (d ∷ []) = bound_told HistoryBound.Least d
+call_with StoreFunction.MinHistory running (d ∷ e ∷ []) = bound_set HistoryBound.Least d e
+call_with StoreFunction.MaxHistory running (d ∷ []) = bound_told HistoryBound.Greatest d
+call_with StoreFunction.MaxHistory running (d ∷ e ∷ []) = bound_set HistoryBound.Greatest d e
 call_with f running ds = Err (wrong_arity (store_name_of f) (length ds))
 
 abbrev pub called_for : Result CallData Failure → CallData

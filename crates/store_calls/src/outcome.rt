@@ -1,4 +1,4 @@
-// A call of a function that asks the store.
+// What calls of the functions that ask the store come to.
 use repl_asks::Ask;
 use repl_values::{Fault, RefName, Value};
 
@@ -12,4 +12,12 @@ pub enum Call {
     Puts(RefName, Value),
     /// The answer to this ask is the value.
     AsksValue(Ask),
+}
+
+/// What a call of `alter` begins with.
+#[derive(Debug, Drop)]
+pub enum Altered {
+    /// This ref gets what the function makes of its value.
+    Ref(RefName),
+    Refused(Fault),
 }
