@@ -24,8 +24,7 @@ use repl_values::{RefName, Value};
 use special_forms::Forms;
 use std::alloc::{AllocError, Global};
 use std::sync::ArcStr;
-use walker_state::{Callee, Control, State, SymbolUse, Wanted};
-use walker_state::{begun, note_read, retry, settle};
+use walker_state::{Callee, Control, State, SymbolUse, Wanted, begun, note_read, retry, settle};
 
 pub(crate) fn take_answer(
     alloc: Global,

@@ -141,7 +141,9 @@ fn ended(state: State, end: End) -> Reached
     ensures on { (old : Position) → IsOnReached result old }
 {
     let State {
-        namespace, text, ..
+        namespace,
+        text,
+        ..
     } = state;
     Reached::Ends(Finished::new(end, text, namespace))
 }
