@@ -18,7 +18,7 @@ use Rattle.server_rules.specs.declared.actor.Actor.{Actor}
 use Rattle.walker_machine.specs.Evaluation.{evaluation}
 use Rattle.tenant_world.specs.Asking.{exchanged, run_with}
 use Rattle.tenant_world.specs.Running.{running_in}
-use Rattle.tenant_runner.specs.Walked.{IsWalkOf, AreWalked, AreWalkedBut}
+use Rattle.tenant_walks.specs.Walked.{IsWalkOf, AreWalked, AreWalkedBut}
 
 seat-back : (a : Actor) → actor_at (seat_of a) ≡ a
 seat-back Actor.Bare = refl

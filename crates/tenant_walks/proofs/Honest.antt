@@ -1,6 +1,5 @@
 -- The honest deed of an actor, from the form of it that runs and how far its evaluation came.
-use Rattle.std.proofs.Common.{◌≡◌, ◌≢◌, Option, Some, None, option_and_then, refl, sym, ap, subst, ◌∙◌}
-use Rattle.std.proofs.Common.{Result, Ok, Err, IfErr, OnOk}
+use Rattle.std.proofs.Common.{◌≡◌, Option, Some, None, option_and_then, refl, sym, ap, ◌∙◌}
 use Rattle.repl_asks.specs.View.{ask_view}
 use Rattle.repl_jobs.specs.Leading.{after}
 use Rattle.repl_walker.specs.Waits.{progress_tree}
@@ -12,18 +11,12 @@ use Rattle.server_rules.specs.Numbered.{found}
 use Rattle.server_rules.specs.Request.{Hand, Run}
 use Rattle.server_rules.specs.Tenant.{ActorData, Quiet, seat_of}
 use Rattle.server_rules.specs.Plan as deeds
-use Rattle.server_rules.specs.Plan.{Deed, Outcome, refuses, leaves}
 use Rattle.server_rules.specs.Turns.{honest, honest_at, honest_of, honest_in, honest_by}
 use Rattle.server_rules.specs.declared.actor.Actor.{Actor}
-use Rattle.server_rules.specs.declared.refusal.Refusal.{Refusal}
-use Rattle.tenant_turns.specs.Turns.{Turn, Lone, deed_of, step, stepped_as, ended_as}
-use Rattle.tenant_turns.specs.Turned.{Accepted, IsRefused}
 use Rattle.tenant_world.specs.Running.{running_of, running_in}
-use Rattle.tenant_runner.specs.Ended.{ended}
-use Rattle.tenant_runner.specs.Grounds.{Evaluates}
-use Rattle.tenant_runner.specs.Walked.{IsWalkOf}
-use Rattle.tenant_runner.specs.Standing.{Stands, Does, Refuses, comes_to}
-use Rattle.tenant_runner.specs.declared.runner.Runner.{Runner}
+use Rattle.tenant_walks.specs.Ended.{ended}
+use Rattle.tenant_walks.specs.Grounds.{Evaluates}
+use Rattle.tenant_walks.specs.Walked.{IsWalkOf}
 
 -- no form of the actor runs
 pub honest-starts : (g : Ground) (a : Actor) (q : Quiet) → running_in a q ≡ None
@@ -84,31 +77,3 @@ honest-ends g a q run e ground some walk =
     ap (λ job. deeds.ends a (record (ended e) { job = job })) walk.job
     ∙ ap (λ trace. deeds.ends a (record (ended e) { job = run.job; trace = trace })) walk.trace
     ∙ sym (walked-so g a q run (Progress.Ends e) ground some walk)
-
--- Turns
-
-pub accepted-turn : (g : Ground) (l : Lone) (turn : Turn) (deed : Deed) (new : Runner)
-    → deed ≡ deed_of g l turn → Does g l deed new → Accepted (Stands g new) (step g l turn)
-unfolding step
-accepted-turn g l turn deed new is does =
-    let D : Deed → Type 0 = λ x. Accepted (Stands g new) (stepped_as (comes_to g l x)) in
-    let S : Outcome → Type 0 = λ o. Accepted (Stands g new) (ended_as (comes_to g l deed).store o) in
-    subst D is (subst S (sym does.accepted) does.stands)
-
-pub does-turn : {X : Type 0} (g : Ground) (l : Lone) (turn : Turn) (deed : Deed) (new : Runner)
-    (r : Result X Refusal) → deed ≡ deed_of g l turn → OnOk r (Does g l deed new)
-    → OnOk r (Accepted (Stands g new) (step g l turn))
-does-turn g l turn deed new (Err why) is does = tt
-does-turn g l turn deed new (Ok x) is does = accepted-turn g l turn deed new is does
-
-pub refuses-turn : {X : Type 0} (g : Ground) (l : Lone) (turn : Turn) (deed : Deed) (new : Runner)
-    (r : Result X Refusal) → deed ≡ deed_of g l turn → IfErr r (Refuses g l deed new)
-    → IfErr r (λ why. why ≢ Refusal.NoMemory
-    → IsRefused why (step g l turn) × Stands g new l)
-unfolding step
-refuses-turn g l turn deed new (Ok x) is refuses_so = tt
-refuses-turn g l turn deed new (Err why) is refuses_so = λ ne. (
-  ap (λ x. stepped_as (comes_to g l x)) (sym is)
-      ∙ ap (ended_as (comes_to g l deed).store) (refuses_so.refused ne),
-  refuses_so.stands ne,
-)

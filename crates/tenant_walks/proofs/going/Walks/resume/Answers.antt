@@ -2,10 +2,10 @@ use Rattle.std.proofs.Common.{◌∙◌, sym, subst}
 use Rattle.repl_asks.specs.View.{ask_view, answer_view}
 use Rattle.repl_walker.specs.declared.waiting.Progress.{Progress}
 use Rattle.tenant_world.specs.Asking.{exchanged, run_with}
-use Rattle.tenant_runner.specs.Walked.{IsWalkOf}
-use Rattle.tenant_runner.proofs.Walking.{walk-resumed, some-same, asks-same}
-use Rattle.tenant_runner.proofs.Steps.{put-so}
-use Rattle.tenant_runner.proofs.runner.Runner.resume.Goals as goal
+use Rattle.tenant_walks.specs.Walked.{IsWalkOf}
+use Rattle.tenant_walks.proofs.Walking.{walk-resumed, some-same, asks-same}
+use Rattle.tenant_walks.proofs.Steps.{put-so}
+use Rattle.tenant_walks.proofs.going.Walks.resume.Goals as goal
 
 pub returns-clause-resumed : goal.returns-clause-resumed
 returns-clause-resumed c = λ run w p at walk there.

@@ -24,7 +24,7 @@ use Rattle.tenant_world.specs.Asking.{exchanged, run_with}
 use Rattle.tenant_world.specs.Running.{running_of, running_in}
 use Rattle.tenant_world.proofs.Standing.{asks-by}
 use Rattle.tenant_world.proofs.Heard.{heard_by, hears-by}
-use Rattle.tenant_runner.proofs.Runs.{found-put}
+use Rattle.tenant_walks.proofs.Runs.{found-put}
 
 -- what is left
 abbrev left_of : Quiet → Outcome → Quiet

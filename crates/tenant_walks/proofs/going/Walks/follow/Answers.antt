@@ -1,28 +1,28 @@
 use Rattle.std.proofs.Common.{◌≡◌, ◌∙◌, Some, None, sym, ap, subst, option_map}
 use Rattle.tenant_actors.specs.View.{run_view}
-use Rattle.tenant_runner.specs.Walked.{IsWalkOf}
-use Rattle.tenant_runner.specs.WalkAt.{walk_at}
-use Rattle.tenant_runner.proofs.Walking.{walked-all, some-same}
-use Rattle.tenant_runner.proofs.Steps.{put-so, put-others}
-use Rattle.tenant_runner.proofs.runner.Runner.follow.Goals as goal
+use Rattle.tenant_walks.specs.Walked.{IsWalkOf}
+use Rattle.tenant_walks.specs.WalkAt.{walk_at}
+use Rattle.tenant_walks.proofs.Walking.{walked-all, some-same}
+use Rattle.tenant_walks.proofs.Steps.{put-so, put-others}
+use Rattle.tenant_walks.proofs.going.Walks.follow.Goals as goal
 
-pub returns-in_default-clause-walked : goal.returns-in_default-clause-walked
-returns-in_default-clause-walked c = λ g q st s but.
+pub returns-in_default : goal.returns-in_default
+returns-in_default c = λ g q st s but.
     walked-all c.args.actor (walk_at c.remove.new.self) q
     (λ b run p apart runs at. but b run p apart runs (sym (c.take.ensures.others b apart)
     ∙ sym (c.remove.ensures.others b apart) ∙ at))
     (λ run p runs at.
     let never : None ≡ Some p = sym c.remove.ensures.gone ∙ at in absurd (cc))
 
-pub returns-in_default-begun-clause-walked : goal.returns-in_default-begun-clause-walked
-returns-in_default-begun-clause-walked c = λ g q st s but.
+pub returns-in_default-begun : goal.returns-in_default-begun
+returns-in_default-begun c = λ g q st s but.
     walked-all c.args.actor (walk_at c.take.new.self) q
     (λ b run p apart runs at. but b run p apart runs (sym (c.take.ensures.others b apart) ∙ at))
     (λ run p runs at.
     let never : None ≡ Some p = sym c.take.ensures.gone ∙ at in absurd (cc))
 
-pub returns-clause-walked : goal.returns-clause-walked
-returns-clause-walked c = λ g q st s but.
+pub returns : goal.returns
+returns c = λ g q st s but.
     let a = c.args.actor in
     let running = c.running.ensures g q st s in
     let mine = sym running ∙ ap (option_map (λ r. run_view r.now)) c.in-Some.is in

@@ -4,7 +4,7 @@ use Rattle.std.specs.BTreeMap.{get}
 use Rattle.repl_walker.specs.declared.waiting.Progress.{Progress}
 use Rattle.server_rules.specs.contracts.actor.ActorOrd.TheImpl as order
 use Rattle.server_rules.specs.declared.actor.Actor.{Actor}
-use Rattle.tenant_runner.specs.declared.walks.Walks.{Walks}
+use Rattle.tenant_walks.specs.declared.walks.Walks.{Walks}
 
 -- that of the form of this actor, if there is one
 abbrev pub walk_at : Walks → Actor → Option Progress

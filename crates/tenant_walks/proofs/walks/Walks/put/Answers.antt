@@ -2,7 +2,7 @@ use Rattle.std.proofs.Common.{rules, ap, sym, ◌∙◌, option_and_then}
 use Rattle.std.proofs.lemmas.Bool.{ne_eqb}
 use Rattle.server_rules.specs.Tenant.{seat_of}
 use Rattle.tenant_actors.proofs.Seats.{at-seats}
-use Rattle.tenant_runner.proofs.walks.Walks.put.Goals as goal
+use Rattle.tenant_walks.proofs.walks.Walks.put.Goals as goal
 
 pub returns-in-Some-clause-others : goal.returns-in-Some-clause-others
 returns-in-Some-clause-others c = λ b apart.

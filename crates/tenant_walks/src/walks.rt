@@ -1,26 +1,32 @@
 // The evaluations by the names of their actors.
 ghost use Rattle.std.specs.Prelude.{◌≡◌, ◌≢◌, None, Some, OnOk, OnErr, option_map};
 ghost use Rattle.server_rules.specs.Tenant.{seat_of};
-ghost use Rattle.tenant_runner.specs.WalkAt.{walk_at};
+ghost use Rattle.tenant_walks.specs.WalkAt.{walk_at};
 
 use repl_walker::Progress;
 use server_rules::Actor;
 use std::alloc::{AllocError, Global};
 use std::collections::BTreeMap;
 
-/// How far the evaluations of the forms that run have come.
+/// How far the evaluations of the forms of a tenant that run have come.
+///
+/// An evaluation that was lost for want of memory is not found again: each later turn of its actor
+/// is refused for want of memory.
 #[derive(Drop)]
-pub(crate) struct Walks {
+pub struct Walks {
+    pub(crate) alloc: Global,
     // An actor keeps its place while its evaluation is taken out, so that a step takes no memory.
     pub(crate) live: BTreeMap<Actor, Option<Progress>>,
 }
 
 // Each takes about the logarithm of the number of forms that run.
 impl Walks {
-    pub(crate) fn new(alloc: Global) -> Walks
+    /// No form runs yet. It takes no memory.
+    pub fn new(alloc: Global) -> Walks
         ensures { (b : Actor) → walk_at result b ≡ None }
     {
         Walks {
+            alloc,
             live: BTreeMap::new(alloc),
         }
     }

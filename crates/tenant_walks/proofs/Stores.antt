@@ -12,8 +12,9 @@ use Rattle.server_rules.specs.Deeds.{for_actor, start_of}
 use Rattle.server_rules.specs.Ending.{end_of, end_running, end_compared, with_left_attempt}
 use Rattle.server_rules.specs.Starting.{interrupted_in}
 use Rattle.server_rules.specs.declared.actor.Actor.{Actor}
-use Rattle.ref_table.specs.Refs.{Refs, store_of}
+use Rattle.ref_table.specs.Refs.{Refs, store_of, after}
 use Rattle.tenant_refs.specs.Serving.{Table, Serves}
+use Rattle.tenant_refs.proofs.Serving.{after-seen}
 use Rattle.tenant_turns.specs.Deeded.{carried_out, deeded}
 use Rattle.tenant_world.proofs.Standing.{worn_by, starts-by, ends-by}
 use Rattle.tenant_world.proofs.Ends.{held_by, closed_by}
@@ -54,6 +55,26 @@ serves-still table old new r serves same =
           ∙ ap with_points serves.reached
           ∙ ap (λ t. store_of t new.mine.points r) (sym same.tenant);
     }
+
+-- and all refs are as they were
+pub refs-still : (old new : Store) (r : Refs) → old ≡ store_of old.tenant old.mine.points r
+    → Reached old new → after new r ≡ r
+refs-still old new r seen same =
+    ap (λ x. after (record new { around = x }) r) same.around
+    ∙ ap (λ x. after (record { around = old.around; tenant = x; mine = new.mine }) r) same.tenant
+    ∙ ap (λ x. after (record {
+      around = old.around;
+      tenant = old.tenant;
+      mine = record { refs = x; points = old.mine.points };
+    }) r) same.refs
+    ∙ after-seen old r seen
+
+-- the table serves it as before, and stands for the same refs
+pub serves-all-still : (table : Table) (old new : Store) (r : Refs) → Serves table old r
+    → Reached old new → Serves table new (after new r)
+serves-all-still table old new r serves same =
+    subst (Serves table new) (sym (refs-still old new r serves.reached same))
+    (serves-still table old new r serves same)
 
 pub hears-reached : (g : Ground) (q : Quiet) (s : Store) (piece : List ℕ)
     → Reached s (deeded g s q (deeds.hears piece)).store
