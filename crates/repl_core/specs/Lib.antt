@@ -1,0 +1,3 @@
+pub mod TenantAt
+pub mod Standing
+pub mod Steps
