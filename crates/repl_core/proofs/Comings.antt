@@ -31,7 +31,7 @@ use Rattle.repl_core.specs.declared.tenants.Tenants.{Tenants}
 use Rattle.repl_core.proofs.Worlds.{used-none, used-replaced, reached-more, found-open, count-less}
 use Rattle.repl_core.proofs.Worlds.{close-none, close-some}
 use Rattle.repl_core.proofs.Deeds.{machine_with, stands-with}
-use Rattle.repl_core.proofs.Places.{place-of, place-none, place-moved, data-at, none-at, refs-none}
+use Rattle.repl_core.proofs.Places.{place-of, place-none, place-moved, kept-at, none-at, refs-none}
 use Rattle.repl_core.proofs.Places.{all-places, open-others, open-mine}
 
 -- Coming
@@ -152,8 +152,8 @@ pub does-close : (g : Ground) (w : World) (t n : ℕ) (old : Machine) (ts : Tena
     → n ≡ old.places_taken - 1
     → Does g w (closes t) (machine_less old ts table n) tenant_gone
 does-close g w t n old ts table was s there gone others released less =
-    let place = data-at g s.refs t was (tenant_at old.tenants t) (open_in t w) (s.tenants t) there in
-    let data = place.0 in
+    let place = kept-at g s.refs t was (tenant_at old.tenants t) (open_in t w) (s.tenants t) there in
+    let kept = place.0 in
     let behind : World = with_tenant t None w.around w in
     let left = without_refs (tenant t) s.refs in
     let owned : (u : ℕ) (b : Bool) → (u == t) ≡ b
@@ -161,7 +161,7 @@ does-close g w t n old ts table was s there gone others released less =
     = λ u b is. ap (λ (x : Bool). if x then [] else s.refs.owned (tenant u)) is in
     record {
       after = behind;
-      accepted = close-some g w t data place.1;
+      accepted = close-some g w t kept place.1;
       stands = record {
         names = s.names;
         seed = s.seed;
@@ -175,13 +175,13 @@ does-close g w t n old ts table was s there gone others released less =
         tenants = all-places
             (λ u. PlaceStands g left u (tenant_at ts u) (open_in u behind)) t
             (place-none g left t (tenant_at ts t) (open_in t behind) gone
-            (open-mine w w.around t None data place.1) (owned t true (eq-eqb t t refl)))
+            (open-mine w w.around t None kept place.1) (owned t true (eq-eqb t t refl)))
             (λ u apart is. place-moved g s.refs left u (tenant_at old.tenants u) (tenant_at ts u)
             (open_in u w) (open_in u behind) (others u apart)
-            (open-others w w.around t u None data place.1 apart) (owned u false is)
+            (open-others w w.around t u None kept place.1 apart) (owned u false is)
             (s.tenants u));
         newest = λ u. used-replaced u t None w.tenants ∙ s.newest u;
-        places_taken = count-less t data w.tenants (found-open _ data place.1)
+        places_taken = count-less t kept w.tenants (found-open _ kept place.1)
             ∙ ap (λ k. k - 1) s.places_taken ∙ sym less;
       };
     }

@@ -25,7 +25,7 @@ use Rattle.repl_core.specs.Steps.{Does, Refuses}
 use Rattle.repl_core.specs.declared.machine.Machine.{Machine}
 use Rattle.repl_core.specs.declared.tenants.Tenants.{Tenants}
 use Rattle.repl_core.proofs.Worlds.{deed_of, found-open, used-replaced, count-replaced, step-deed, step-none}
-use Rattle.repl_core.proofs.Places.{tenant-stands, serves-in, place-of, place-moved, data-at, none-at}
+use Rattle.repl_core.proofs.Places.{tenant-stands, serves-in, place-of, place-moved, kept-at, none-at}
 use Rattle.repl_core.proofs.Places.{all-places, open-others, open-mine, owned-others, owned-mine}
 
 -- Results
@@ -85,23 +85,23 @@ unfolding deeded
 deeded-tenant g s q d = performed-tenant s (plan g s.tenant q d).call
 
 does-one : (g : Ground) (w : World) (t : ℕ) (d : Deed) (old : Machine) (ts : Tenants)
-    (table : Table) (code : Tenant) (answer : StepAnswer) (data : TenantData) (s : Stands g old w)
-    → open_in t w ≡ Some data
-    → world.Does g (deed_of g w t data d) code answer
-    → Serves table (deed_of g w t data d).store (refs_after (deed_of g w t data d).store s.refs)
+    (table : Table) (code : Tenant) (answer : StepAnswer) (kept : TenantData) (s : Stands g old w)
+    → open_in t w ≡ Some kept
+    → world.Does g (deed_of g w t kept d) code answer
+    → Serves table (deed_of g w t kept d).store (refs_after (deed_of g w t kept d).store s.refs)
     → tenant_at ts t ≡ Some code
     → ((u : ℕ) → u ≢ t → tenant_at ts u ≡ tenant_at old.tenants u)
     → Does g w (does t d) (machine_with old ts table) answer
-does-one g w t d old ts table code answer data s there did serves put others =
-    let e = deed_of g w t data d in
+does-one g w t d old ts table code answer kept s there did serves put others =
+    let e = deed_of g w t kept d in
     let same : e.store.tenant ≡ t =
-    deeded-tenant g (store_in w.around t data.mine) data.quiet d in
+    deeded-tenant g (store_in w.around t kept.mine) kept.quiet d in
     let part : TenantData = record { quiet = did.after; mine = e.store.mine } in
     let behind : World = with_tenant t (Some part) e.store.around w in
     let refs = refs_after e.store s.refs in
     record {
       after = behind;
-      accepted = step-deed g w t d data there ∙ ap (ended_as w t e.store) did.accepted;
+      accepted = step-deed g w t d kept there ∙ ap (ended_as w t e.store) did.accepted;
       stands = record {
         names = s.names;
         seed = s.seed;
@@ -115,51 +115,51 @@ does-one g w t d old ts table code answer data s there did serves put others =
         tenants = all-places
             (λ u. PlaceStands g refs u (tenant_at ts u) (open_in u behind)) t
             (place-of g refs t code part (tenant_at ts t) (open_in t behind) put
-            (open-mine w e.store.around t (Some part) data there)
+            (open-mine w e.store.around t (Some part) kept there)
             (tenant-stands g refs t code did.after e.store same
             (owned-mine e.store s.refs t same) did.stands))
             (λ u apart is. place-moved g s.refs refs u (tenant_at old.tenants u) (tenant_at ts u)
             (open_in u w) (open_in u behind) (others u apart)
-            (open-others w e.store.around t u (Some part) data there apart)
+            (open-others w e.store.around t u (Some part) kept there apart)
             (owned-others e.store s.refs t u same is) (s.tenants u));
         newest = λ u. used-replaced u t (Some part) w.tenants ∙ s.newest u;
-        places_taken = count-replaced t part data w.tenants
-            (found-open _ data there) ∙ s.places_taken;
+        places_taken = count-replaced t part kept w.tenants
+            (found-open _ kept there) ∙ s.places_taken;
       };
     }
 
 pub does-so : {X : Type 0} (g : Ground) (w : World) (t : ℕ) (d : Deed) (old : Machine)
     (ts : Tenants) (table : Table) (was code : Tenant) (answer : X → StepAnswer)
     (res : Result X Refusal) (s : Stands g old w) → tenant_at old.tenants t ≡ Some was
-    → ((data : TenantData) → world.Stands g was data.quiet (store_in w.around t data.mine)
-    → Serves old.refs (store_in w.around t data.mine) s.refs
-    → let e = deed_of g w t data d in IfOk res (λ x. world.Does g e code (answer x)
+    → ((kept : TenantData) → world.Stands g was kept.quiet (store_in w.around t kept.mine)
+    → Serves old.refs (store_in w.around t kept.mine) s.refs
+    → let e = deed_of g w t kept d in IfOk res (λ x. world.Does g e code (answer x)
     × Serves table e.store (refs_after e.store s.refs)))
     → tenant_at ts t ≡ Some code
     → ((u : ℕ) → u ≢ t → tenant_at ts u ≡ tenant_at old.tenants u)
     → IfOk res (λ x. Does g w (does t d) (machine_with old ts table) (answer x))
 does-so g w t d old ts table was code answer res s there did put others =
-    let found = data-at g s.refs t was (tenant_at old.tenants t) (open_in t w) (s.tenants t) there in
-    let data = found.0 in
+    let found = kept-at g s.refs t was (tenant_at old.tenants t) (open_in t w) (s.tenants t) there in
+    let kept = found.0 in
     let it = found.2 in
-    ok-map _ _ res (λ x both. does-one g w t d old ts table code (answer x) data s found.1
+    ok-map _ _ res (λ x both. does-one g w t d old ts table code (answer x) kept s found.1
     both.0 both.1 put others)
-    (did data (it.stands w.around) (serves-in g old w t was data s it))
+    (did kept (it.stands w.around) (serves-in g old w t was kept s it))
 
 -- A deed that is refused
 
 refuses-one : (g : Ground) (w : World) (t : ℕ) (d : Deed) (old : Machine) (ts : Tenants)
-    (table : Table) (code : Tenant) (why : Refusal) (data : TenantData) (s : Stands g old w)
-    → open_in t w ≡ Some data → data.mine.refs ≡ s.refs.owned (tenant t)
-    → world.Refuses g data.quiet (store_in w.around t data.mine) (deed_of g w t data d) code why
-    → Serves table (store_in w.around t data.mine) s.refs
+    (table : Table) (code : Tenant) (why : Refusal) (kept : TenantData) (s : Stands g old w)
+    → open_in t w ≡ Some kept → kept.mine.refs ≡ s.refs.owned (tenant t)
+    → world.Refuses g kept.quiet (store_in w.around t kept.mine) (deed_of g w t kept d) code why
+    → Serves table (store_in w.around t kept.mine) s.refs
     → tenant_at ts t ≡ Some code
     → ((u : ℕ) → u ≢ t → tenant_at ts u ≡ tenant_at old.tenants u)
     → Refuses g w (does t d) (machine_with old ts table) why
-refuses-one g w t d old ts table code why data s there refs told serves put others =
-    let e = deed_of g w t data d in
+refuses-one g w t d old ts table code why kept s there refs told serves put others =
+    let e = deed_of g w t kept d in
     record {
-      refused = λ ne. step-deed g w t d data there ∙ ap (ended_as w t e.store) (told.refused ne);
+      refused = λ ne. step-deed g w t d kept there ∙ ap (ended_as w t e.store) (told.refused ne);
       stands = record {
         names = s.names;
         seed = s.seed;
@@ -172,8 +172,8 @@ refuses-one g w t d old ts table code why data s there refs told serves put othe
         around = s.around;
         tenants = all-places
             (λ u. PlaceStands g s.refs u (tenant_at ts u) (open_in u w)) t
-            (place-of g s.refs t code data (tenant_at ts t) (open_in t w) put there
-            (tenant-stands g s.refs t code data.quiet (store_in w.around t data.mine) refl refs
+            (place-of g s.refs t code kept (tenant_at ts t) (open_in t w) put there
+            (tenant-stands g s.refs t code kept.quiet (store_in w.around t kept.mine) refl refs
             told.stands))
             (λ u apart is. subst (λ o. PlaceStands g s.refs u o (open_in u w))
             (sym (others u apart)) (s.tenants u));
@@ -185,20 +185,20 @@ refuses-one g w t d old ts table code why data s there refs told serves put othe
 pub refuses-so : {X : Type 0} (g : Ground) (w : World) (t : ℕ) (d : Deed) (old : Machine)
     (ts : Tenants) (table : Table) (was code : Tenant) (res : Result X Refusal)
     (s : Stands g old w) → tenant_at old.tenants t ≡ Some was
-    → ((data : TenantData) → world.Stands g was data.quiet (store_in w.around t data.mine)
-    → Serves old.refs (store_in w.around t data.mine) s.refs
-    → IfErr res (λ why. world.Refuses g data.quiet (store_in w.around t data.mine)
-    (deed_of g w t data d) code why × Serves table (store_in w.around t data.mine) s.refs))
+    → ((kept : TenantData) → world.Stands g was kept.quiet (store_in w.around t kept.mine)
+    → Serves old.refs (store_in w.around t kept.mine) s.refs
+    → IfErr res (λ why. world.Refuses g kept.quiet (store_in w.around t kept.mine)
+    (deed_of g w t kept d) code why × Serves table (store_in w.around t kept.mine) s.refs))
     → tenant_at ts t ≡ Some code
     → ((u : ℕ) → u ≢ t → tenant_at ts u ≡ tenant_at old.tenants u)
     → IfErr res (Refuses g w (does t d) (machine_with old ts table))
 refuses-so g w t d old ts table was code res s there told put others =
-    let found = data-at g s.refs t was (tenant_at old.tenants t) (open_in t w) (s.tenants t) there in
-    let data = found.0 in
+    let found = kept-at g s.refs t was (tenant_at old.tenants t) (open_in t w) (s.tenants t) there in
+    let kept = found.0 in
     let it = found.2 in
-    err-map _ _ res (λ why both. refuses-one g w t d old ts table code why data s found.1 it.refs
+    err-map _ _ res (λ why both. refuses-one g w t d old ts table code why kept s found.1 it.refs
     both.0 both.1 put others)
-    (told data (it.stands w.around) (serves-in g old w t was data s it))
+    (told kept (it.stands w.around) (serves-in g old w t was kept s it))
 
 -- the deed of an actor
 pub of-actor : {X : Type 0} (g : Ground) (a : Actor) (q : Quiet) (e : Deeded) (code : Tenant)
@@ -210,3 +210,11 @@ of-actor g a q e code answer S res did s = ok-map _ _ res (λ x it. (record {
   accepted = it.accepted;
   stands = it.stands;
 }, s)) did
+
+pub ok-with : {X E : Type 0} (P : X → Type 0) (S : Type 0) (res : Result X E) → IfOk res P → S
+    → IfOk res (λ x. P x × S)
+ok-with P S res p s = ok-map P (λ x. P x × S) res (λ x it. (it, s)) p
+
+pub err-with : {X E : Type 0} (P : E → Type 0) (S : Type 0) (res : Result X E) → IfErr res P → S
+    → IfErr res (λ e. P e × S)
+err-with P S res p s = err-map P (λ e. P e × S) res (λ e it. (it, s)) p

@@ -48,24 +48,24 @@ tenant-stands g r t code q s same refs st = record {
 }
 
 -- the table serves a tenant that is open
-pub serves-in : (g : Ground) (m : Machine) (w : World) (t : ℕ) (code : Tenant) (data : TenantData)
-    (s : Stands g m w) → TenantStands g s.refs t code data
-    → Serves m.refs (store_in w.around t data.mine) s.refs
-serves-in g m w t code data s it = record {
+pub serves-in : (g : Ground) (m : Machine) (w : World) (t : ℕ) (code : Tenant) (kept : TenantData)
+    (s : Stands g m w) → TenantStands g s.refs t code kept
+    → Serves m.refs (store_in w.around t kept.mine) s.refs
+serves-in g m w t code kept s it = record {
   stands = s.table;
   sound = s.sound;
   reached =
-      ap (λ a. store_in a t data.mine) s.around
+      ap (λ a. store_in a t kept.mine) s.around
       ∙ ap (λ refs. store_in (around_in s.refs) t
-      (record { refs = refs; points = data.mine.points })) it.refs;
+      (record { refs = refs; points = kept.mine.points })) it.refs;
 }
 
 -- One place
 
-pub place-of : (g : Ground) (r : Refs) (t : ℕ) (code : Tenant) (data : TenantData)
-    (o : Option Tenant) (p : Option TenantData) → o ≡ Some code → p ≡ Some data
-    → TenantStands g r t code data → PlaceStands g r t o p
-place-of g r t code data o p same is it =
+pub place-of : (g : Ground) (r : Refs) (t : ℕ) (code : Tenant) (kept : TenantData)
+    (o : Option Tenant) (p : Option TenantData) → o ≡ Some code → p ≡ Some kept
+    → TenantStands g r t code kept → PlaceStands g r t o p
+place-of g r t code kept o p same is it =
     subst (λ x. PlaceStands g r t x p) (sym same)
     (subst (PlaceStands g r t (Some code)) (sym is) it)
 
@@ -77,9 +77,9 @@ place-none g r t o p same is it =
 pub place-still : (g : Ground) (r new : Refs) (t : ℕ) (o : Option Tenant) (p : Option TenantData)
     → new.owned (tenant t) ≡ r.owned (tenant t) → PlaceStands g r t o p → PlaceStands g new t o p
 place-still g r new t None None same it = same ∙ it
-place-still g r new t None (Some data) same it = it
+place-still g r new t None (Some kept) same it = it
 place-still g r new t (Some code) None same it = it
-place-still g r new t (Some code) (Some data) same it = record {
+place-still g r new t (Some code) (Some kept) same it = record {
   stands = it.stands;
   refs = it.refs ∙ sym same;
 }
@@ -92,28 +92,28 @@ place-moved g r new t o x p y same is refs it =
     (subst (PlaceStands g new t o) (sym is) (place-still g r new t o p refs it))
 
 -- the tenant of the rules that stands there
-pub data-at : (g : Ground) (r : Refs) (t : ℕ) (code : Tenant) (o : Option Tenant)
+pub kept-at : (g : Ground) (r : Refs) (t : ℕ) (code : Tenant) (o : Option Tenant)
     (p : Option TenantData) → PlaceStands g r t o p → o ≡ Some code
-    → (data : TenantData) × (p ≡ Some data) × TenantStands g r t code data
-data-at g r t code None p it never = absurd (cc)
-data-at g r t code (Some x) None it same = absurd (it)
-data-at g r t code (Some x) (Some data) it same =
+    → (kept : TenantData) × (p ≡ Some kept) × TenantStands g r t code kept
+kept-at g r t code None p it never = absurd (cc)
+kept-at g r t code (Some x) None it same = absurd (it)
+kept-at g r t code (Some x) (Some kept) it same =
     let equal : x ≡ code = cc in
-    (data, refl, subst (λ y. TenantStands g r t y data) equal it)
+    (kept, refl, subst (λ y. TenantStands g r t y kept) equal it)
 
 pub none-at : (g : Ground) (r : Refs) (t : ℕ) (o : Option Tenant) (p : Option TenantData)
     → PlaceStands g r t o p → o ≡ None → p ≡ None
 none-at g r t None None it e = refl
-none-at g r t None (Some data) it e = absurd (it)
+none-at g r t None (Some kept) it e = absurd (it)
 none-at g r t (Some x) p it never = absurd (cc)
 
 -- and where none of the rules stands there
 pub refs-none : (g : Ground) (r : Refs) (t : ℕ) (o : Option Tenant) (p : Option TenantData)
     → PlaceStands g r t o p → p ≡ None → r.owned (tenant t) ≡ []
 refs-none g r t None None it e = it
-refs-none g r t None (Some data) it e = absurd (it)
+refs-none g r t None (Some kept) it e = absurd (it)
 refs-none g r t (Some x) None it e = absurd (it)
-refs-none g r t (Some x) (Some data) it never = absurd (cc)
+refs-none g r t (Some x) (Some kept) it never = absurd (cc)
 
 -- All places
 

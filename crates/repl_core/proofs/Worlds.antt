@@ -40,15 +40,16 @@ le-same n m e = grind (arith, nat_tests)
 pub used-none : (t : ℕ) (es : List (Entry (Option TenantData))) → is_used t es ≡ false
     → found t es ≡ None
 used-none t [] unused = refl
-used-none t (e ∷ es) unused = by (t == e.number) refl
+used-none t (e ∷ es) unused = by (λ h. used-none t es h) (t == e.number) refl
   where
     parts : (nat_le t e.number ≡ false) × (is_used t es ≡ false)
     parts = or-false (nat_le t e.number) (is_used t es) unused
 
-    by : (b : Bool) → (t == e.number) ≡ b → found_first b e.part (found t es) ≡ None
-    by true same = absurd (true≢false
+    by : (is_used t es ≡ false → found t es ≡ None) → (b : Bool) → (t == e.number) ≡ b
+        → found_first b e.part (found t es) ≡ None
+    by behind true same = absurd (true≢false
         (sym (le-same t e.number (eqb-true t e.number same)) ∙ parts.0))
-    by false apart = used-none t es parts.1
+    by behind false apart = behind parts.1
 
 le-less : (u t n : ℕ) → nat_le t n ≡ false → nat_le u t ≡ false → nat_le u n ≡ false
 le-less u t n above apart = grind (arith, nat_tests)
@@ -112,7 +113,7 @@ found-open (Some (Some x)) y same = ap (λ it. Some it) same
 
 -- what a deed of a tenant comes to
 abbrev pub deed_of : Ground → World → ℕ → TenantData → Deed → Deeded
-deed_of g w t data d = deeded g (store_in w.around t data.mine) data.quiet d
+deed_of g w t kept d = deeded g (store_in w.around t kept.mine) kept.quiet d
 
 deeded-by : (g : Ground) (s : Store) (q : Quiet) (d : Deed)
     → deeded g s q d ≡ carried_out s (plan g s.tenant q d)
@@ -124,14 +125,14 @@ step-by : (g : Ground) (w : World) (t : ℕ) (d : Deed) → step g w (does t d)
 unfolding step
 step-by g w t d = refl
 
-pub step-deed : (g : Ground) (w : World) (t : ℕ) (d : Deed) (data : TenantData)
-    → open_in t w ≡ Some data → step g w (does t d)
-    ≡ ended_as w t (deed_of g w t data d).store (deed_of g w t data d).outcome
-step-deed g w t d data there =
+pub step-deed : (g : Ground) (w : World) (t : ℕ) (d : Deed) (kept : TenantData)
+    → open_in t w ≡ Some kept → step g w (does t d)
+    ≡ ended_as w t (deed_of g w t kept d).store (deed_of g w t kept d).outcome
+step-deed g w t d kept there =
     step-by g w t d
-    ∙ ap (deed_step g w t d) (found-open (found t w.tenants) data there)
+    ∙ ap (deed_step g w t d) (found-open (found t w.tenants) kept there)
     ∙ ap (λ (e : Deeded). ended_as w t e.store e.outcome)
-    (sym (deeded-by g (store_in w.around t data.mine) data.quiet d))
+    (sym (deeded-by g (store_in w.around t kept.mine) kept.quiet d))
 
 pub step-none : (g : Ground) (w : World) (t : ℕ) (d : Deed) → open_in t w ≡ None
     → step g w (does t d) ≡ refused Refusal.NoSuchTenant
@@ -158,7 +159,7 @@ close-none g w t none = close-by g w t ∙ by (found t w.tenants) none
     by (Some None) e = refl
     by (Some (Some x)) e = absurd (cc)
 
-pub close-some : (g : Ground) (w : World) (t : ℕ) (data : TenantData) → open_in t w ≡ Some data
+pub close-some : (g : Ground) (w : World) (t : ℕ) (kept : TenantData) → open_in t w ≡ Some kept
     → step g w (closes t) ≡ accepted (with_tenant t None w.around w) tenant_gone
-close-some g w t data there =
-    close-by g w t ∙ ap (close_step w t) (found-open (found t w.tenants) data there)
+close-some g w t kept there =
+    close-by g w t ∙ ap (close_step w t) (found-open (found t w.tenants) kept there)

@@ -28,17 +28,17 @@ abbrev pub around_in : Refs → Around
 around_in r = record { counter = r.counter; refs = r.owned shared }
 
 -- the tenant of the code is that of the rules, and its refs are those of the table
-pub record TenantStands (g : Ground) (r : Refs) (t : ℕ) (code : Tenant) (data : TenantData)
+pub record TenantStands (g : Ground) (r : Refs) (t : ℕ) (code : Tenant) (kept : TenantData)
     : Type 0 where
-  pub stands : (around : Around) → world.Stands g code data.quiet (store_in around t data.mine)
-  pub refs : data.mine.refs ≡ r.owned (tenant t)
+  pub stands : (around : Around) → world.Stands g code kept.quiet (store_in around t kept.mine)
+  pub refs : kept.mine.refs ≡ r.owned (tenant t)
 
 -- a tenant that is not open has no refs
 abbrev pub PlaceStands : Ground → Refs → ℕ → Option Tenant → Option TenantData → Type 0
 PlaceStands g r t None None = r.owned (tenant t) ≡ []
-PlaceStands g r t None (Some data) = ⊥
+PlaceStands g r t None (Some kept) = ⊥
 PlaceStands g r t (Some code) None = ⊥
-PlaceStands g r t (Some code) (Some data) = TenantStands g r t code data
+PlaceStands g r t (Some code) (Some kept) = TenantStands g r t code kept
 
 -- the number is not above the newest
 abbrev pub is_reached : Option ℕ → ℕ → Bool
