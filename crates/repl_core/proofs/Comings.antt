@@ -40,7 +40,7 @@ open-by : (g : Ground) (w : World) (t : ℕ) → step g w (opens t) ≡ open_ste
 unfolding step
 open-by g w t = refl
 
-open_tested : Ground → World → ℕ → Bool → Bool → worlds.Stepped
+abbrev open_tested : Ground → World → ℕ → Bool → Bool → worlds.Stepped
 open_tested g w t used held =
     if used then refused Refusal.NumberUsed
     else if held then refused Refusal.Full

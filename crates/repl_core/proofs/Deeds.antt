@@ -84,6 +84,51 @@ deeded-tenant : (g : Ground) (s : Store) (q : Quiet) (d : Deed)
 unfolding deeded
 deeded-tenant g s q d = performed-tenant s (plan g s.tenant q d).call
 
+-- the server behind a deed
+abbrev pub world_behind : Ground → World → ℕ → TenantData → Deed → Quiet → World
+world_behind g w t kept d q =
+    let e = deed_of g w t kept d in
+    with_tenant t (Some (record { quiet = q; mine = e.store.mine })) e.store.around w
+
+pub stands-one : (g : Ground) (w : World) (t : ℕ) (d : Deed) (old : Machine) (ts : Tenants)
+    (table : Table) (code : Tenant) (kept : TenantData) (q : Quiet) (s : Stands g old w)
+    → open_in t w ≡ Some kept
+    → world.Stands g code q (deed_of g w t kept d).store
+    → Serves table (deed_of g w t kept d).store (refs_after (deed_of g w t kept d).store s.refs)
+    → tenant_at ts t ≡ Some code
+    → ((u : ℕ) → u ≢ t → tenant_at ts u ≡ tenant_at old.tenants u)
+    → Stands g (machine_with old ts table) (world_behind g w t kept d q)
+stands-one g w t d old ts table code kept q s there stands serves put others =
+    let e = deed_of g w t kept d in
+    let same : e.store.tenant ≡ t =
+    deeded-tenant g (store_in w.around t kept.mine) kept.quiet d in
+    let part : TenantData = record { quiet = q; mine = e.store.mine } in
+    let behind : World = world_behind g w t kept d q in
+    let refs = refs_after e.store s.refs in
+    record {
+      names = s.names;
+      seed = s.seed;
+      steps = s.steps;
+      retries = s.retries;
+      places = s.places;
+      refs = refs;
+      table = serves.stands;
+      sound = serves.sound;
+      around = refl;
+      tenants = all-places
+          (λ u. PlaceStands g refs u (tenant_at ts u) (open_in u behind)) t
+          (place-of g refs t code part (tenant_at ts t) (open_in t behind) put
+          (open-mine w e.store.around t (Some part) kept there)
+          (tenant-stands g refs t code q e.store same (owned-mine e.store s.refs t same) stands))
+          (λ u apart is. place-moved g s.refs refs u (tenant_at old.tenants u) (tenant_at ts u)
+          (open_in u w) (open_in u behind) (others u apart)
+          (open-others w e.store.around t u (Some part) kept there apart)
+          (owned-others e.store s.refs t u same is) (s.tenants u));
+      newest = λ u. used-replaced u t (Some part) w.tenants ∙ s.newest u;
+      places_taken = count-replaced t part kept w.tenants (found-open _ kept there)
+          ∙ s.places_taken;
+    }
+
 does-one : (g : Ground) (w : World) (t : ℕ) (d : Deed) (old : Machine) (ts : Tenants)
     (table : Table) (code : Tenant) (answer : StepAnswer) (kept : TenantData) (s : Stands g old w)
     → open_in t w ≡ Some kept
@@ -92,41 +137,13 @@ does-one : (g : Ground) (w : World) (t : ℕ) (d : Deed) (old : Machine) (ts : T
     → tenant_at ts t ≡ Some code
     → ((u : ℕ) → u ≢ t → tenant_at ts u ≡ tenant_at old.tenants u)
     → Does g w (does t d) (machine_with old ts table) answer
-does-one g w t d old ts table code answer kept s there did serves put others =
-    let e = deed_of g w t kept d in
-    let same : e.store.tenant ≡ t =
-    deeded-tenant g (store_in w.around t kept.mine) kept.quiet d in
-    let part : TenantData = record { quiet = did.after; mine = e.store.mine } in
-    let behind : World = with_tenant t (Some part) e.store.around w in
-    let refs = refs_after e.store s.refs in
-    record {
-      after = behind;
-      accepted = step-deed g w t d kept there ∙ ap (ended_as w t e.store) did.accepted;
-      stands = record {
-        names = s.names;
-        seed = s.seed;
-        steps = s.steps;
-        retries = s.retries;
-        places = s.places;
-        refs = refs;
-        table = serves.stands;
-        sound = serves.sound;
-        around = refl;
-        tenants = all-places
-            (λ u. PlaceStands g refs u (tenant_at ts u) (open_in u behind)) t
-            (place-of g refs t code part (tenant_at ts t) (open_in t behind) put
-            (open-mine w e.store.around t (Some part) kept there)
-            (tenant-stands g refs t code did.after e.store same
-            (owned-mine e.store s.refs t same) did.stands))
-            (λ u apart is. place-moved g s.refs refs u (tenant_at old.tenants u) (tenant_at ts u)
-            (open_in u w) (open_in u behind) (others u apart)
-            (open-others w e.store.around t u (Some part) kept there apart)
-            (owned-others e.store s.refs t u same is) (s.tenants u));
-        newest = λ u. used-replaced u t (Some part) w.tenants ∙ s.newest u;
-        places_taken = count-replaced t part kept w.tenants
-            (found-open _ kept there) ∙ s.places_taken;
-      };
-    }
+does-one g w t d old ts table code answer kept s there did serves put others = record {
+  after = world_behind g w t kept d did.after;
+  accepted = step-deed g w t d kept there
+      ∙ ap (ended_as w t (deed_of g w t kept d).store) did.accepted;
+  stands = stands-one g w t d old ts table code kept did.after s there did.stands serves put
+      others;
+}
 
 pub does-so : {X : Type 0} (g : Ground) (w : World) (t : ℕ) (d : Deed) (old : Machine)
     (ts : Tenants) (table : Table) (was code : Tenant) (answer : X → StepAnswer)
@@ -148,6 +165,34 @@ does-so g w t d old ts table was code answer res s there did put others =
 
 -- A deed that is refused
 
+pub stays-one : (g : Ground) (w : World) (t : ℕ) (old : Machine) (ts : Tenants) (table : Table)
+    (code : Tenant) (kept : TenantData) (s : Stands g old w)
+    → open_in t w ≡ Some kept → kept.mine.refs ≡ s.refs.owned (tenant t)
+    → world.Stands g code kept.quiet (store_in w.around t kept.mine)
+    → Serves table (store_in w.around t kept.mine) s.refs
+    → tenant_at ts t ≡ Some code
+    → ((u : ℕ) → u ≢ t → tenant_at ts u ≡ tenant_at old.tenants u)
+    → Stands g (machine_with old ts table) w
+stays-one g w t old ts table code kept s there refs stands serves put others = record {
+  names = s.names;
+  seed = s.seed;
+  steps = s.steps;
+  retries = s.retries;
+  places = s.places;
+  refs = s.refs;
+  table = serves.stands;
+  sound = s.sound;
+  around = s.around;
+  tenants = all-places
+      (λ u. PlaceStands g s.refs u (tenant_at ts u) (open_in u w)) t
+      (place-of g s.refs t code kept (tenant_at ts t) (open_in t w) put there
+      (tenant-stands g s.refs t code kept.quiet (store_in w.around t kept.mine) refl refs stands))
+      (λ u apart is. subst (λ o. PlaceStands g s.refs u o (open_in u w))
+      (sym (others u apart)) (s.tenants u));
+  newest = s.newest;
+  places_taken = s.places_taken;
+}
+
 refuses-one : (g : Ground) (w : World) (t : ℕ) (d : Deed) (old : Machine) (ts : Tenants)
     (table : Table) (code : Tenant) (why : Refusal) (kept : TenantData) (s : Stands g old w)
     → open_in t w ≡ Some kept → kept.mine.refs ≡ s.refs.owned (tenant t)
@@ -156,31 +201,11 @@ refuses-one : (g : Ground) (w : World) (t : ℕ) (d : Deed) (old : Machine) (ts 
     → tenant_at ts t ≡ Some code
     → ((u : ℕ) → u ≢ t → tenant_at ts u ≡ tenant_at old.tenants u)
     → Refuses g w (does t d) (machine_with old ts table) why
-refuses-one g w t d old ts table code why kept s there refs told serves put others =
-    let e = deed_of g w t kept d in
-    record {
-      refused = λ ne. step-deed g w t d kept there ∙ ap (ended_as w t e.store) (told.refused ne);
-      stands = record {
-        names = s.names;
-        seed = s.seed;
-        steps = s.steps;
-        retries = s.retries;
-        places = s.places;
-        refs = s.refs;
-        table = serves.stands;
-        sound = s.sound;
-        around = s.around;
-        tenants = all-places
-            (λ u. PlaceStands g s.refs u (tenant_at ts u) (open_in u w)) t
-            (place-of g s.refs t code kept (tenant_at ts t) (open_in t w) put there
-            (tenant-stands g s.refs t code kept.quiet (store_in w.around t kept.mine) refl refs
-            told.stands))
-            (λ u apart is. subst (λ o. PlaceStands g s.refs u o (open_in u w))
-            (sym (others u apart)) (s.tenants u));
-        newest = s.newest;
-        places_taken = s.places_taken;
-      };
-    }
+refuses-one g w t d old ts table code why kept s there refs told serves put others = record {
+  refused = λ ne. step-deed g w t d kept there
+      ∙ ap (ended_as w t (deed_of g w t kept d).store) (told.refused ne);
+  stands = stays-one g w t old ts table code kept s there refs told.stands serves put others;
+}
 
 pub refuses-so : {X : Type 0} (g : Ground) (w : World) (t : ℕ) (d : Deed) (old : Machine)
     (ts : Tenants) (table : Table) (was code : Tenant) (res : Result X Refusal)

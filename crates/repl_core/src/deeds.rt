@@ -117,7 +117,7 @@ impl Machine {
 }
 
 // Whether there is a stamp for one more commit. There always is: no run has 2^128 commits.
-fn has_stamps(refs: &RefTable<ListHistory>) -> bool
+pub(crate) fn has_stamps(refs: &RefTable<ListHistory>) -> bool
     ensures { result ≡ true → counter_of refs.now < u128.MAX }
 {
     refs.begin().stamp < u128::MAX

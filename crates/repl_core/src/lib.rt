@@ -2,6 +2,7 @@
 #![tactic(auto)]
 
 mod deeds;
+mod going;
 mod machine;
 mod opening;
 mod step;
