@@ -115,7 +115,7 @@ drained-runs q after answer a (oldest ∷ more) is = ap (running_in a) (sym (ap 
     left_of (refuses why) = q
     left_of (leaves x y) = x
 
-drains-by : (g : Ground) (l : Lone)
+pub drains-by : (g : Ground) (l : Lone)
     → (comes_to g l deeds.drains).outcome ≡ drained l.quiet l.quiet.replies
 unfolding deeded
 drains-by g l = refl
