@@ -31,7 +31,8 @@ use Rattle.repl_core.specs.Going.{AreWalkedIn}
 use Rattle.repl_core.specs.Standing.{open_in, store_in}
 use Rattle.repl_core.proofs.Worlds.{deed_of, step-deed, step-none, close-none, close-some}
 use Rattle.repl_core.proofs.Places.{all-places, open-mine}
-use Rattle.machine_turns.specs.Driver.{IsWalkedAt, KeepsForms, StepKeepsForms}
+use Rattle.machine_turns.specs.Driver.{KeepsForms, StepKeepsForms}
+use Rattle.machine_turns.specs.Kept.{IsWalkedAt}
 
 -- what an accepted step leaves of another tenant
 others-open : (g : Ground) (w after : World) (s : worlds.Step) (answer : StepAnswer) (u : ℕ)
@@ -198,3 +199,9 @@ pub walked-still : (w : World) (t : ℕ) (old new : ℕ → Option Walks)
 walked-still w t old new mine others walked =
     all-places (λ u. IsWalkedAt (new u) (open_in u w)) t mine
     (λ u apart e. subst (λ o. IsWalkedAt o (open_in u w)) (sym (others u apart)) (walked u))
+
+pub fresh-walked : (walks : Walks) (o : Option TenantData)
+    → ((a : Actor) → walk_at walks a ≡ None) → AreWalkedIn walks o
+fresh-walked walks None none = tt
+fresh-walked walks (Some kept) none = λ a run p runs at.
+    let never : None ≡ Some p = sym (none a) ∙ at in absurd (cc)

@@ -1,24 +1,17 @@
 -- A driver stands for the server of the rules, with the evaluations of all forms that run.
-use Rattle.std.specs.Prelude.{◌≡◌, ℕ, List, Option, None, Some, ⊤}
+use Rattle.std.specs.Prelude.{◌≡◌, ℕ, List, ⊤}
 use Rattle.server_rules.specs.Ground.{Ground}
 use Rattle.server_rules.specs.Plan.{Deed, StepAnswer, hears, drains}
 use Rattle.server_rules.specs.Turns.{Turn, stepped, bytes_in}
 use Rattle.server_rules.specs.World as worlds
-use Rattle.server_rules.specs.World.{TenantData, World, opens, does, closes, accepted, refused, step}
+use Rattle.server_rules.specs.World.{World, opens, does, closes, accepted, refused, step}
 use Rattle.server_rules.specs.declared.refusal.Refusal.{Refusal}
 use Rattle.tenant_turns.specs.Grounds.{IsRight}
 use Rattle.tenant_walks.specs.Grounds.{Evaluates}
-use Rattle.tenant_walks.specs.declared.walks.Walks.{Walks}
-use Rattle.repl_core.specs.Going.{AreWalkedIn}
 use Rattle.repl_core.specs.Standing as machine
 use Rattle.repl_core.specs.Standing.{open_in}
 use Rattle.machine_turns.specs.declared.driver.Driver.{Driver}
-use Rattle.machine_turns.specs.Kept.{walks_at}
-
--- what is kept of a tenant's evaluations, if anything is, is of that tenant
-abbrev pub IsWalkedAt : Option Walks → Option TenantData → Type 0
-IsWalkedAt None it = ⊤
-IsWalkedAt (Some walks) it = AreWalkedIn walks it
+use Rattle.machine_turns.specs.Kept.{walks_at, IsWalkedAt}
 
 pub record Stands (g : Ground) (d : Driver) (w : World) : Type 0 where
   pub right : IsRight g

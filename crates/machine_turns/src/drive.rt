@@ -1,12 +1,11 @@
 // Lists of turns.
-ghost use Rattle.std.specs.Prelude.{◌≡◌, ℕ, [], map, IfOk, OnOk};
+ghost use Rattle.std.specs.Prelude.{[], map, IfOk, OnOk};
 ghost use Rattle.server_rules.specs.Ground.{Ground};
-ghost use Rattle.server_rules.specs.Turns.{serve};
 ghost use Rattle.server_rules.specs.World.{World, opening};
-ghost use Rattle.repl_core.specs.Driving.{refusals};
 ghost use Rattle.machine_turns.specs.Configured.{IsConfigured};
-ghost use Rattle.machine_turns.specs.Driven.{IsDriven, Drives};
-ghost use Rattle.machine_turns.specs.Turns.{turn_view, drained_of, refused_in};
+ghost use Rattle.machine_turns.specs.Driver.{Stands};
+ghost use Rattle.machine_turns.specs.Driven.{IsDriven, Takes};
+ghost use Rattle.machine_turns.specs.Turns.{turn_view};
 
 use crate::driver::Driver;
 use crate::outputs::{Outputs, RefusedTurn};
@@ -38,8 +37,8 @@ fn take_turn(
     place: usize,
     turn: &Turn,
 ) -> Result<(), AllocError>
-    ensures { (g : Ground) (w : World) → Drives g driver.old w → OnOk result
-        (TakesOn g w place (turn_view turn.now) driver.new outputs.old outputs.new) }
+    ensures { (g : Ground) (w : World) → Stands g driver.old w → OnOk result
+        (Takes g w place (turn_view turn.now) driver.new outputs.old outputs.new) }
 {
     match driver.turn(turn) {
         Ok(Some(bytes)) => outputs.add(turn.whose(), bytes),

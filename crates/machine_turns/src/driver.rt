@@ -3,7 +3,6 @@ ghost use Rattle.std.specs.Prelude.{◌≡◌, ◌≢◌, [], IfOk, IfErr, OnOk}
 ghost use Rattle.server_rules.specs.Ground.{Ground};
 ghost use Rattle.server_rules.specs.Turns.{given, goes, bytes_in};
 ghost use Rattle.server_rules.specs.World.{World, opening};
-ghost use Rattle.tenant_turns.specs.Grounds.{IsRight};
 ghost use Rattle.repl_core.specs.Steps.{step_view, step_answer_view};
 ghost use Rattle.machine_turns.specs.Configured.{IsConfigured};
 ghost use Rattle.machine_turns.specs.Driver.{StepKeepsForms};
@@ -14,7 +13,6 @@ use crate::turn::Turn;
 use repl_core::{Config, Machine, Step, StepAnswer};
 use server_rules::{Actor, Refusal};
 use std::alloc::Global;
-use tenant_walks::Walks;
 
 /// A server, and the evaluations of all forms that run.
 #[derive(Drop)]
@@ -75,14 +73,13 @@ impl Driver {
         ensures refused { (g : Ground) (w : World) → Stands g self.old w → IfErr result
             (λ why. why ≢ Refusal.NoMemory → Halted g w (goes number actor) self.new why) }
     {
-        let mut walks = match self.kept.take(number) {
-            Some(walks) => walks,
-            None => Walks::new(self.alloc),
-        };
+        let mut walks = self.kept.take(self.alloc, number);
         let result = self.machine.go(number, actor, &mut walks);
         self.kept.put(number, walks)?;
-        result?;
-        Ok(None)
+        match result {
+            Ok(()) => Ok(None),
+            Err(why) => Err(why),
+        }
     }
 }
 

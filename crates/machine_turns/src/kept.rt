@@ -1,6 +1,8 @@
 // The evaluations of all tenants.
-ghost use Rattle.std.specs.Prelude.{◌≡◌, ◌≢◌, ℕ, None, Some, OnOk};
-ghost use Rattle.machine_turns.specs.Kept.{walks_at};
+ghost use Rattle.std.specs.Prelude.{◌≡◌, ◌≢◌, ℕ, Option, None, Some, OnOk};
+ghost use Rattle.server_rules.specs.World.{TenantData};
+ghost use Rattle.repl_core.specs.Going.{AreWalkedIn};
+ghost use Rattle.machine_turns.specs.Kept.{walks_at, IsWalkedAt};
 
 use std::alloc::{AllocError, Global};
 use std::collections::BTreeMap;
@@ -23,12 +25,15 @@ impl Kept {
     }
 
     /// Takes those of a tenant out.
-    pub(crate) fn take(&mut self, number: u64) -> Option<Walks>
-        ensures taken { result ≡ walks_at self.old number }
-        ensures gone { walks_at self.new number ≡ None }
+    pub(crate) fn take(&mut self, alloc: Global, number: u64) -> Walks
+        ensures walked { (o : Option TenantData) → IsWalkedAt (walks_at self.old number) o
+            → AreWalkedIn result o }
         ensures others { (u : ℕ) → u ≢ number → walks_at self.new u ≡ walks_at self.old u }
     {
-        self.live.remove(&number)
+        match self.live.remove(&number) {
+            Some(walks) => walks,
+            None => Walks::new(alloc),
+        }
     }
 
     /// Puts those of a tenant in. It fails only for want of memory.

@@ -55,6 +55,7 @@ impl Outputs {
             (refused_in self.new ≡ refused_in self.old ++ refused_view refused ∷ []) }
         ensures drained { (t : ℕ) → drained_of self.new t ≡ drained_of self.old t }
     {
-        self.refused.push(refused)
+        self.refused.push(refused)?;
+        Ok(())
     }
 }
