@@ -1,6 +1,7 @@
 -- A list of turns, one after another.
 use Rattle.std.proofs.Common.{◌≡◌, ◌≢◌, ℕ, ◌+◌, ◌==◌, List, [], ◌∷◌, ◌++◌, length, Bool, true, false}
-use Rattle.std.proofs.Common.{refl, sym, ap, subst, ◌∙◌, if◌then◌else◌, append-nil, append_assoc, arith}
+use Rattle.std.proofs.Common.{refl, sym, ap, subst, ◌∙◌, if◌then◌else◌, append-nil, arith}
+use Rattle.std.proofs.Common.{Result, Ok, Err, OnOk}
 use Rattle.std.proofs.lemmas.Bool.{eqb-true, eqb-false}
 use Rattle.server_rules.specs.Ground.{Ground}
 use Rattle.server_rules.specs.Plan.{StepAnswer}
@@ -10,7 +11,7 @@ use Rattle.server_rules.specs.World.{World, Stepped, accepted, refused, world_or
 use Rattle.server_rules.specs.declared.refusal.Refusal.{Refusal}
 use Rattle.repl_core.specs.Driving.{behind, RefusedData, with_refusal, refusals}
 use Rattle.repl_core.proofs.Driving.{behind-more, serve-one, refusals-one}
-use Rattle.machine_turns.specs.Driver.{Stands}
+use Rattle.machine_turns.specs.Driver.{Stands, Turned, Halted}
 use Rattle.machine_turns.specs.Driven.{IsDriven, Drives, Takes}
 use Rattle.machine_turns.specs.Turns.{drained_of, refused_in}
 use Rattle.machine_turns.specs.declared.driver.Driver.{Driver}
@@ -104,3 +105,26 @@ drives-more g w place turns turn before d old new on count takes = record {
   where
     zero-more : (n : ℕ) → n ≡ 0 + n
     zero-more n = omega arith
+
+-- Results
+
+pub takes-added : {X E : Type 0} (g : Ground) (w : World) (place number : ℕ) (turn : Turn)
+    (d : Driver) (old new : Outputs) (bytes : List ℕ) (res : Result X E) → Turned g w turn d bytes
+    → number ≡ whose turn
+    → OnOk res (drained_of new number ≡ drained_of old number ++ bytes)
+    → OnOk res ((t : ℕ) → t ≢ number → drained_of new t ≡ drained_of old t)
+    → refused_in new ≡ refused_in old → OnOk res (Takes g w place turn d old new)
+takes-added g w place number turn d old new bytes (Err e) did same mine others kept = tt
+takes-added g w place number turn d old new bytes (Ok x) did same mine others kept =
+    takes-bytes g w did.after place turn d old new did.answer bytes did.accepted did.gives
+    did.stands
+    (subst (λ t. drained_of new t ≡ drained_of old t ++ bytes) same mine)
+    (subst (λ u. (t : ℕ) → t ≢ u → drained_of new t ≡ drained_of old t) same others) kept
+
+pub takes-noted : {X E : Type 0} (g : Ground) (w : World) (place : ℕ) (turn : Turn) (d : Driver)
+    (old new : Outputs) (why : Refusal) (res : Result X E) → Halted g w turn d why
+    → OnOk res (refused_in new ≡ refused_in old ++ record { place = place; why = why } ∷ [])
+    → ((t : ℕ) → drained_of new t ≡ drained_of old t) → OnOk res (Takes g w place turn d old new)
+takes-noted g w place turn d old new why (Err e) did noted same = tt
+takes-noted g w place turn d old new why (Ok x) did noted same =
+    takes-refused g w place turn d old new why did.refused did.stands same noted
