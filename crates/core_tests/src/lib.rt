@@ -4,6 +4,6 @@
 #[cfg(test)]
 mod refusals;
 #[cfg(test)]
-mod serving;
-#[cfg(test)]
 mod servers;
+#[cfg(test)]
+mod serving;

@@ -29,7 +29,12 @@ fn tenant_that_is_gone_is_none(rt: HostRuntime) -> Result<(), Fail> {
     expect_refused(&rt, &mut machine, Step::Drain(0), Refusal::NoSuchTenant)?;
     expect_accepted(&rt, &mut machine, Step::Open(0))?;
     expect_accepted(&rt, &mut machine, Step::Bye(0))?;
-    expect_refused(&rt, &mut machine, Step::Start(0, Actor::Bare), Refusal::NoSuchTenant)?;
+    expect_refused(
+        &rt,
+        &mut machine,
+        Step::Start(0, Actor::Bare),
+        Refusal::NoSuchTenant,
+    )?;
     expect_refused(&rt, &mut machine, Step::Bye(0), Refusal::NoSuchTenant)
 }
 
@@ -38,7 +43,12 @@ fn worn_tenant_takes_no_piece(rt: HostRuntime) -> Result<(), Fail> {
     let mut machine = fresh_machine(rt.alloc(), 1);
     expect_accepted(&rt, &mut machine, Step::Open(0))?;
     hear(&rt, rt.alloc(), &mut machine, 0, b"")?;
-    expect_refused(&rt, &mut machine, Step::Start(0, Actor::Bare), Refusal::Worn)?;
+    expect_refused(
+        &rt,
+        &mut machine,
+        Step::Start(0, Actor::Bare),
+        Refusal::Worn,
+    )?;
     expect_refused(&rt, &mut machine, Step::Drain(0), Refusal::Idle)
 }
 
@@ -46,8 +56,18 @@ fn worn_tenant_takes_no_piece(rt: HostRuntime) -> Result<(), Fail> {
 fn actor_that_is_not_there_is_none(rt: HostRuntime) -> Result<(), Fail> {
     let mut machine = fresh_machine(rt.alloc(), 10);
     expect_accepted(&rt, &mut machine, Step::Open(0))?;
-    expect_refused(&rt, &mut machine, Step::Start(0, Actor::Bare), Refusal::Idle)?;
-    expect_refused(&rt, &mut machine, Step::Start(0, Actor::Session(0)), Refusal::NoSuchActor)
+    expect_refused(
+        &rt,
+        &mut machine,
+        Step::Start(0, Actor::Bare),
+        Refusal::Idle,
+    )?;
+    expect_refused(
+        &rt,
+        &mut machine,
+        Step::Start(0, Actor::Session(0)),
+        Refusal::NoSuchActor,
+    )
 }
 
 #[test]

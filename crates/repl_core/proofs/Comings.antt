@@ -1,7 +1,8 @@
 -- A machine where a tenant comes or goes.
 use Rattle.std.proofs.Common.{◌≡◌, ◌≢◌, ℕ, ◌+◌, ◌-◌, ◌==◌, [], ◌∷◌, Bool, true, false, ◌||◌, nat_le}
 use Rattle.std.proofs.Common.{Option, Some, None, option_and_then, refl, sym, ap, subst, ◌∙◌}
-use Rattle.std.proofs.Common.{if◌then◌else◌}
+use Rattle.std.proofs.Common.{if◌then◌else◌, Result, Ok, Err, IfErr}
+use Rattle.std.specs.Result.{IsErrAnd}
 use Rattle.std.proofs.lemmas.Bool.{eq-eqb, ne_eqb}
 use Rattle.value_data.specs.Datum.{OwnerData, shared, tenant}
 use Rattle.server_rules.specs.Commit.{same_owner}
@@ -196,4 +197,15 @@ refuses-close g w t old ts s none gone others = record {
   stands = stands-with g old w ts s (all-places
       (λ u. tenant_at ts u ≡ tenant_at old.tenants u) t (gone ∙ sym none)
       (λ u apart is. others u apart));
+}
+
+-- Want of memory
+
+pub refuses-memory : {X : Type 0} (g : Ground) (w : World) (t : ℕ) (m : Machine)
+    (res : Result X Refusal) → IsErrAnd res (λ e. e ≡ Refusal.NoMemory) → Stands g m w
+    → IfErr res (Refuses g w (opens t) m)
+refuses-memory g w t m (Ok x) never s = tt
+refuses-memory g w t m (Err e) is s = record {
+  refused = λ ne. absurd (ne is);
+  stands = s;
 }

@@ -230,11 +230,14 @@ pub of-actor : {X : Type 0} (g : Ground) (a : Actor) (q : Quiet) (e : Deeded) (c
     (answer : X → StepAnswer) (S : Type 0) (res : Result X Refusal)
     → IfOk res (λ x. world.DoesBy g a q e code (answer x)) → S
     → IfOk res (λ x. world.Does g e code (answer x) × S)
-of-actor g a q e code answer S res did s = ok-map _ _ res (λ x it. (record {
-  after = it.after;
-  accepted = it.accepted;
-  stands = it.stands;
-}, s)) did
+of-actor g a q e code answer S res did s = ok-map _ _ res (λ x it. (
+  record {
+    after = it.after;
+    accepted = it.accepted;
+    stands = it.stands;
+  },
+  s,
+)) did
 
 pub ok-with : {X E : Type 0} (P : X → Type 0) (S : Type 0) (res : Result X E) → IfOk res P → S
     → IfOk res (λ x. P x × S)

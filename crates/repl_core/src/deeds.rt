@@ -76,7 +76,12 @@ impl Machine {
     }
 
     /// The form of an actor that runs has ended so.
-    pub(crate) fn ended(&mut self, number: u64, actor: Actor, ending: &Ending) -> Result<Ended, Refusal>
+    pub(crate) fn ended(
+        &mut self,
+        number: u64,
+        actor: Actor,
+        ending: &Ending,
+    ) -> Result<Ended, Refusal>
         ensures done { (g : Ground) (w : World) → IsRight g → Stands g self.old w
             → IfOk result (λ x. Does g w (does number (deeds.ends actor (endings.ended ending.now))) self.new
             (ended_view x)) }

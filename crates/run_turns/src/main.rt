@@ -78,11 +78,7 @@ fn write_refused<W: Write>(refused: RefusedTurn, writer: &mut W) -> io::Result<(
 }
 
 // What each tenant took out, and then the turns that were refused.
-fn write_outputs<W: Write>(
-    alloc: Global,
-    outputs: &Outputs,
-    writer: &mut W,
-) -> io::Result<()> {
+fn write_outputs<W: Write>(alloc: Global, outputs: &Outputs, writer: &mut W) -> io::Result<()> {
     for (number, bytes) in outputs.drained.iter() {
         let digits = hex::encode(alloc, bytes.as_slice())?;
         writeln!(writer, "out {number} {digits}")?;

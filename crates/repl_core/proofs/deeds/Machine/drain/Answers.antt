@@ -19,9 +19,10 @@ returns-in-Some-clause-done c = λ g w right s.
     does-so g w t deeds.drains old c.put_back.new.self old.refs c.in-Some.tenant c.drain.new.self
     (λ x. reply_given x.items) (Ok c.in-Some-2.bytes) s (sym c.in-Some.ensures.taken)
     (λ kept st serves.
-    let at = store_in w.around t kept.mine in
-    (c.in-Some-2.ensures.drained g kept.quiet at st,
-    serves-all-still old.refs at _ s.refs serves (drains-reached g kept.quiet at)))
+    let at = store_in w.around t kept.mine in (
+      c.in-Some-2.ensures.drained g kept.quiet at st,
+      serves-all-still old.refs at _ s.refs serves (drains-reached g kept.quiet at),
+    ))
     (c.put_back.ensures.put (c.in-Some.ensures.place refl))
     (λ u apart. c.put_back.ensures.others u apart ∙ c.in-Some.ensures.others u apart)
 
@@ -31,7 +32,10 @@ returns-in-None-clause-refused c = λ g w right s.
     let old = c.args.self.now in
     refuses-so g w t deeds.drains old c.put_back.new.self old.refs c.in-Some.tenant
     c.drain.new.self (Err Refusal.Idle) s (sym c.in-Some.ensures.taken)
-    (λ kept st serves. (c.in-None.ensures.drained g kept.quiet
-    (store_in w.around t kept.mine) st, serves))
+    (λ kept st serves. (
+      c.in-None.ensures.drained g kept.quiet
+          (store_in w.around t kept.mine) st,
+      serves,
+    ))
     (c.put_back.ensures.put (c.in-Some.ensures.place refl))
     (λ u apart. c.put_back.ensures.others u apart ∙ c.in-Some.ensures.others u apart)

@@ -63,7 +63,7 @@ returns-clause-refused c = λ g w right s.
     let d = deeds.ends c.args.actor (ended c.args.ending.now) in
     refuses-so g w t d old c.put_back.new.self old.refs c.in-Some.tenant c.end_form.new.self
     c.end_form.result s (sym c.in-Some.ensures.taken)
-    (λ kept st serves. 
+    (λ kept st serves.
     let at = store_in w.around t kept.mine in
     let D : EndingData → Type 0 = λ x. IfErr c.end_form.result
     (world.Refuses g kept.quiet at (deeded g at kept.quiet (deeds.ends c.args.actor x))

@@ -33,7 +33,7 @@ returns-clause-refused c = λ g w right s.
     let d = deeds.hears c.args.piece.now in
     refuses-so g w t d old c.put_back.new.self old.refs c.in-Some.tenant c.hear.new.self
     c.hear.result s (sym c.in-Some.ensures.taken)
-    (λ kept st serves. 
+    (λ kept st serves.
     err-with _ _ c.hear.result
     (c.hear.ensures.refused g kept.quiet (store_in w.around t kept.mine) right st) serves)
     (c.put_back.ensures.put (c.in-Some.ensures.place refl))
