@@ -1,5 +1,5 @@
 use Rattle.std.proofs.Common.{refl}
-use Rattle.tenant_runner.proofs.Turns.{drains-so}
+use Rattle.tenant_runner.proofs.Behind.{drains-so}
 use Rattle.tenant_runner.proofs.turns.RunnerCore.drain.Goals as goal
 
 pub returns-clause-drained : goal.returns-clause-drained

@@ -1,7 +1,7 @@
 use Rattle.std.proofs.Common.{refl, Some}
 use Rattle.server_rules.specs.Turns.{honest}
 use Rattle.tenant_turns.specs.Turns.{goes}
-use Rattle.tenant_runner.proofs.Turns.{does-turn, refuses-turn}
+use Rattle.tenant_runner.proofs.Behind.{does-turn, refuses-turn}
 use Rattle.tenant_runner.proofs.turns.RunnerCore.go.Goals as goal
 
 pub returns-clause-accepted : goal.returns-clause-accepted

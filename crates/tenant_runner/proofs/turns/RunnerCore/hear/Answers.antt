@@ -3,7 +3,7 @@ use Rattle.server_rules.specs.Plan as deeds
 use Rattle.tenant_turns.specs.Turns.{hears}
 use Rattle.tenant_walks.proofs.Steps.{does-heard, refused-parts}
 use Rattle.tenant_runner.specs.Standing.{parts_of}
-use Rattle.tenant_runner.proofs.Turns.{accepted-turn, refuses-turn}
+use Rattle.tenant_runner.proofs.Behind.{accepted-turn, refuses-turn}
 use Rattle.tenant_runner.proofs.turns.RunnerCore.hear.Goals as goal
 
 pub returns-in_err-hear-clause-as_it_was : goal.returns-in_err-hear-clause-as_it_was
