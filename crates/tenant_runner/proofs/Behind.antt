@@ -5,13 +5,14 @@ use Rattle.server_rules.specs.Ground.{Ground}
 use Rattle.server_rules.specs.Plan as deeds
 use Rattle.server_rules.specs.Plan.{Deed, Outcome, reply_given}
 use Rattle.server_rules.specs.declared.refusal.Refusal.{Refusal}
-use Rattle.ref_table.specs.Refs.{Refs}
+use Rattle.ref_table.specs.Refs.{Refs, after as refs_after}
 use Rattle.tenant_turns.specs.Turns.{Turn, Lone, drains, accepted, deed_of, step, stepped_as, ended_as}
 use Rattle.tenant_turns.specs.Turned.{Accepted, IsRefused}
 use Rattle.tenant_world.specs.Standing as world
 use Rattle.tenant_walks.specs.Standing as walks
 use Rattle.tenant_walks.specs.Standing.{Does, Refuses, comes_to}
-use Rattle.tenant_walks.proofs.Steps.{does-drained}
+use Rattle.tenant_walks.proofs.Steps.{drained-runs, drains-by}
+use Rattle.tenant_walks.proofs.Stores.{serves-all-still, drains-reached}
 use Rattle.tenant_runner.specs.Standing.{Stands, parts_of}
 use Rattle.tenant_runner.specs.declared.runner.Runner.{Runner}
 
@@ -75,13 +76,24 @@ drains-so items g l old new None s kept same told = (
     never : Refusal.Idle ≡ Refusal.NoMemory → ⊥
     never e = cc
 drains-so items g l old new (Some x) s kept same told =
-    let does = does-drained g l s.refs (parts_of old) new.tenant (reply_given (items x)) s.stands
-    told in
-    let after : Lone = walks.behind (comes_to g l deeds.drains) told.after in
-    let stands : Stands g new after = record {
-      refs = _;
-      stands = subst (λ t. walks.Stands g (walks.parts new.tenant t new.walks) after _) (sym kept)
-          (subst (λ ws. walks.Stands g (walks.parts new.tenant old.refs ws) after _) (sym same)
-          does.stands);
+    let d = comes_to g l deeds.drains in
+    let after : Lone = walks.behind d told.after in
+    let refs = refs_after d.store s.refs in
+    let with_old : walks.Stands g (walks.parts new.tenant old.refs old.walks) after refs = record {
+      right = s.stands.right;
+      ground = s.stands.ground;
+      tenant = told.stands;
+      serves = serves-all-still old.refs l.store d.store s.refs s.stands.serves
+          (drains-reached g l.quiet l.store);
+      walked = λ a run p runs at. s.stands.walked a run p
+          (sym (drained-runs l.quiet told.after _ a l.quiet.replies
+          (sym (drains-by g l) ∙ told.accepted)) ∙ runs) at;
     } in
-    (after, ap (ended_as (comes_to g l deeds.drains).store) told.accepted, stands)
+    let stands : Stands g new after = record {
+      refs = refs;
+      stands = subst (λ t. walks.Stands g (walks.parts new.tenant t new.walks) after refs)
+          (sym kept)
+          (subst (λ ws. walks.Stands g (walks.parts new.tenant old.refs ws) after refs) (sym same)
+          with_old);
+    } in
+    (after, ap (ended_as d.store) told.accepted, stands)
