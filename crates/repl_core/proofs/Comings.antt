@@ -31,7 +31,7 @@ use Rattle.repl_core.specs.declared.machine.Machine.{Machine}
 use Rattle.repl_core.specs.declared.tenants.Tenants.{Tenants}
 use Rattle.repl_core.proofs.Worlds.{used-none, used-replaced, reached-more, found-open, count-less}
 use Rattle.repl_core.proofs.Worlds.{close-none, close-some}
-use Rattle.repl_core.proofs.Deeds.{machine_with, stands-with}
+use Rattle.repl_core.proofs.Behind.{machine_with, stands-with}
 use Rattle.repl_core.proofs.Places.{place-of, place-none, place-moved, kept-at, none-at, refs-none}
 use Rattle.repl_core.proofs.Places.{all-places, open-others, open-mine}
 

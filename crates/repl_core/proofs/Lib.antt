@@ -1,6 +1,6 @@
 pub mod Worlds
 pub mod Places
-pub mod Deeds
+pub mod Behind
 pub mod Comings
-pub mod Going
+pub mod Honest
 pub mod Driving

@@ -3,7 +3,7 @@ use Rattle.server_rules.specs.Plan as deeds
 use Rattle.repl_asks.specs.View.{ask_view}
 use Rattle.tenant_world.specs.Answers.{asked_view}
 use Rattle.repl_core.specs.Standing.{store_in}
-use Rattle.repl_core.proofs.Deeds.{does-so, refuses-so, refuses-none, ok-map}
+use Rattle.repl_core.proofs.Behind.{does-so, refuses-so, refuses-none, ok-map}
 use Rattle.repl_core.proofs.machine.Machine.asked.Goals as goal
 
 pub returns-in_default-clause-refused : goal.returns-in_default-clause-refused

@@ -4,7 +4,7 @@ use Rattle.server_rules.specs.Plan.{reply_given}
 use Rattle.server_rules.specs.declared.refusal.Refusal.{Refusal}
 use Rattle.tenant_walks.proofs.Stores.{serves-all-still, drains-reached}
 use Rattle.repl_core.specs.Standing.{store_in}
-use Rattle.repl_core.proofs.Deeds.{does-so, refuses-so, refuses-none}
+use Rattle.repl_core.proofs.Behind.{does-so, refuses-so, refuses-none}
 use Rattle.repl_core.proofs.machine.Machine.drain.Goals as goal
 
 pub returns-in_default-clause-refused : goal.returns-in_default-clause-refused

@@ -9,7 +9,7 @@ use Rattle.tenant_walks.proofs.Stores.{serves-all-still, ends-reached}
 use Rattle.tenant_world.specs.Answers.{ended_view}
 use Rattle.tenant_world.specs.Standing as world
 use Rattle.repl_core.specs.Standing.{store_in}
-use Rattle.repl_core.proofs.Deeds.{does-so, refuses-so, refuses-none, of-actor, err-with}
+use Rattle.repl_core.proofs.Behind.{does-so, refuses-so, refuses-none, of-actor, err-with}
 use Rattle.repl_core.proofs.machine.Machine.ended.Goals as goal
 
 pub returns-in_default-clause-refused : goal.returns-in_default-clause-refused

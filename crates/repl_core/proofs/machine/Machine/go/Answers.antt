@@ -1,5 +1,5 @@
 use Rattle.std.proofs.Common.{◌∙◌, refl, sym}
-use Rattle.repl_core.proofs.Going.{goes-so, halts-so, halts-none}
+use Rattle.repl_core.proofs.Honest.{goes-so, halts-so, halts-none}
 use Rattle.repl_core.proofs.machine.Machine.go.Goals as goal
 
 pub returns-in_default-clause-refused : goal.returns-in_default-clause-refused

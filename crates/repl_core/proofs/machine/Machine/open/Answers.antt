@@ -1,6 +1,6 @@
 use Rattle.std.proofs.Common.{◌∙◌, sym}
 use Rattle.repl_core.proofs.Comings.{refuses-used, refuses-full, does-open, refuses-memory}
-use Rattle.repl_core.proofs.Deeds.{stands-with}
+use Rattle.repl_core.proofs.Behind.{stands-with}
 use Rattle.repl_core.proofs.machine.Machine.open.Goals as goal
 
 pub returns-then-is_reached-clause-refused : goal.returns-then-is_reached-clause-refused

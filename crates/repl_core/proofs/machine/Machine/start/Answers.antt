@@ -3,7 +3,7 @@ use Rattle.server_rules.specs.Plan as deeds
 use Rattle.tenant_walks.proofs.Stores.{serves-all-still, starts-reached}
 use Rattle.tenant_world.specs.Answers.{started_view}
 use Rattle.repl_core.specs.Standing.{store_in}
-use Rattle.repl_core.proofs.Deeds.{does-so, refuses-so, refuses-none, of-actor, err-with}
+use Rattle.repl_core.proofs.Behind.{does-so, refuses-so, refuses-none, of-actor, err-with}
 use Rattle.repl_core.proofs.machine.Machine.start.Goals as goal
 
 pub returns-in_default-clause-refused : goal.returns-in_default-clause-refused

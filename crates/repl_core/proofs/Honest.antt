@@ -23,7 +23,7 @@ use Rattle.repl_core.specs.declared.machine.Machine.{Machine}
 use Rattle.repl_core.specs.declared.tenants.Tenants.{Tenants}
 use Rattle.repl_core.proofs.Worlds.{deed_of, found-open, step-deed, step-none}
 use Rattle.repl_core.proofs.Places.{serves-in, kept-at, none-at, open-mine, all-places}
-use Rattle.repl_core.proofs.Deeds.{machine_with, stands-with, stands-one, stays-one, world_behind}
+use Rattle.repl_core.proofs.Behind.{machine_with, stands-with, stands-one, stays-one, world_behind}
 
 -- the turn is the honest deed
 honest-turn : (g : Ground) (w : World) (t : ℕ) (a : Actor) (kept : TenantData)
