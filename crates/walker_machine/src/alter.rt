@@ -1,4 +1,6 @@
 // Functions that ask the store, and `alter`, which calls a function in turn.
+#![tactic(auto, using(walker_state::proofs::Stepping::steps))]
+
 ghost use Rattle.std.specs.Prelude.{◌≡◌, ◌+◌, ◌*◌, ◌<◌, ◌≤◌, drop, IfOk};
 ghost use Rattle.value_data.specs.View.{view};
 ghost use Rattle.function_names.specs.declared.store.StoreFunction.{StoreFunction};
@@ -153,7 +155,7 @@ pub(crate) fn call_alter(
 }
 
 // `alter` calls its function with the value of the ref, and these arguments behind it.
-#[tactic(auto, unfolding(walker_state::specs::Machine::alter_step))]
+#[tactic(auto, using(walker_state::proofs::Stepping::steps), unfolding(walker_state::specs::Machine::alter_step))]
 pub(crate) fn call_altering(
     alloc: Global,
     state: &mut State,

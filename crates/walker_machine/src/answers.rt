@@ -1,4 +1,6 @@
 // An answer goes to what it was wanted for.
+#![tactic(auto, using(walker_state::proofs::Stepping::steps))]
+
 ghost use Rattle.std.specs.Prelude.{◌≡◌, ◌+◌, ◌<◌, ◌≤◌, IfOk};
 ghost use Rattle.std.specs.Arc.{arc_str_bytes};
 ghost use Rattle.repl_asks.specs.View.{answer_view, name_view, named_view, reading_view, resolution_view};

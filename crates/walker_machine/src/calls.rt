@@ -1,5 +1,7 @@
 // Calls: first one call is taken from the budget, then the number of arguments is checked, then the
 // function is applied.
+#![tactic(auto, using(walker_state::proofs::Stepping::steps))]
+
 ghost use Rattle.std.specs.Prelude.{◌≡◌, ◌+◌, ◌<◌, ◌≤◌, [], map, IfOk};
 ghost use Rattle.std.specs.Arc.{arc_str_bytes};
 ghost use Rattle.core_functions.specs.Outcome.{Outcome, bounded};
@@ -180,7 +182,7 @@ fn call_keyword(
 }
 
 // The map, the keyword and what comes behind the map.
-#[tactic(auto, using(value_data::proofs::Views::value_views))]
+#[tactic(auto, using(value_data::proofs::Views::value_views, walker_state::proofs::Stepping::steps))]
 fn get_arguments(name: ArcStr, mut values: Vec<Value>) -> Result<Vec<Value>, AllocError>
     ensures { IfOk result (λ args. views args.items ≡ get_arguments (arc_str_bytes name) (views values.items)) }
 {

@@ -1,4 +1,6 @@
 // Vectors and maps of values that were evaluated.
+#![tactic(auto, using(walker_state::proofs::Stepping::steps))]
+
 ghost use Rattle.std.specs.Prelude.{◌≡◌, ◌<◌, map, zip, IfOk};
 ghost use Rattle.value_data.specs.View.{view, pair_view};
 ghost use Rattle.walker_state.specs.Machine.{collected, from_state, tree};

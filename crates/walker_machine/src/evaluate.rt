@@ -1,4 +1,6 @@
 // The first step of a form's evaluation.
+#![tactic(auto, using(walker_state::proofs::Stepping::steps))]
+
 ghost use Rattle.std.specs.Prelude.{◌≡◌, ◌+◌, ◌*◌, ◌<◌, ◌≤◌, IfOk};
 ghost use Rattle.std.specs.Arc.{arc_str_bytes};
 ghost use Rattle.value_data.specs.Listed.{listed};
@@ -149,7 +151,7 @@ fn evaluate_behind(
 }
 
 // A special form's name at the head always is that form.
-#[tactic(auto, unfolding(walker_state::specs::Machine::call_behind))]
+#[tactic(auto, using(walker_state::proofs::Stepping::steps), unfolding(walker_state::specs::Machine::call_behind))]
 fn evaluate_headed(
     alloc: Global,
     state: &mut State,

@@ -1,4 +1,6 @@
 // The value of the innermost form goes to what waits for it.
+#![tactic(auto, using(walker_state::proofs::Stepping::steps))]
+
 ghost use Rattle.std.specs.Prelude.{◌≡◌, ◌+◌, ◌<◌, ◌≤◌, ◌∷◌, string_bytes, IfOk};
 ghost use Rattle.value_data.specs.View.{view};
 ghost use Rattle.repl_faults.specs.View.{failure_of};
@@ -99,7 +101,7 @@ pub(crate) fn give(
 }
 
 // A fault is thrown as it is, any other value by its text.
-#[tactic(auto, using(value_data::proofs::Views::value_views))]
+#[tactic(auto, using(value_data::proofs::Views::value_views, walker_state::proofs::Stepping::steps))]
 fn throw(alloc: Global, value: Value) -> Result<Control, AllocError>
     ensures size { IfOk result (λ control. control_size control < 2) }
     ensures calls { IfOk result (λ control. (s : State) → control_calls control s ≡ s.calls) }
@@ -117,7 +119,7 @@ fn throw(alloc: Global, value: Value) -> Result<Control, AllocError>
 }
 
 // The text has to be one that a value may have.
-#[tactic(auto, unfolding(evaluation_rules::specs::SpecialForms::thrown_failure))]
+#[tactic(auto, using(walker_state::proofs::Stepping::steps), unfolding(evaluation_rules::specs::SpecialForms::thrown_failure))]
 fn thrown_fault(alloc: Global, text: String) -> Result<Fault, AllocError>
     ensures { IfOk result (λ fault. failure_of fault ≡ thrown_failure (string_bytes text)) }
 {

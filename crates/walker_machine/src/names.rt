@@ -1,4 +1,6 @@
 // What a symbol names before anybody is asked.
+#![tactic(auto, using(walker_state::proofs::Stepping::steps))]
+
 ghost use Rattle.std.specs.Prelude.{◌≡◌, ◌||◌, option_map, is_some, IfOk};
 ghost use Rattle.std.specs.Arc.{arc_str_bytes};
 ghost use Rattle.function_names.specs.Names.{function_named};
@@ -43,7 +45,7 @@ pub(crate) fn look_up(
 }
 
 // What follows the slash of a name in `clojure.core`.
-#[tactic(auto, unfolding(evaluation_rules::specs::Naming::core_name))]
+#[tactic(auto, using(walker_state::proofs::Stepping::steps), unfolding(evaluation_rules::specs::Naming::core_name))]
 fn core_name(symbol: &str) -> Option<&str>
     ensures { option_map (λ name. name.now) result ≡ core_name symbol.now }
 {

@@ -1,4 +1,6 @@
 // The namespace in which an evaluation goes on.
+#![tactic(auto, using(walker_state::proofs::Stepping::steps))]
+
 ghost use Rattle.std.specs.Prelude.{◌≡◌, ◌<◌, IfOk};
 ghost use Rattle.std.specs.Arc.{arc_str_bytes};
 ghost use Rattle.value_data.specs.Datum.{nil};
@@ -52,7 +54,7 @@ pub(crate) fn enter_named(alloc: Global, value: Value) -> Result<Control, AllocE
 }
 
 // The namespace is there: what follows is evaluated in it.
-#[tactic(auto, using(value_data::proofs::Views::value_views))]
+#[tactic(auto, using(value_data::proofs::Views::value_views, walker_state::proofs::Stepping::steps))]
 pub(crate) fn go_on_in(state: &mut State, name: ArcStr) -> Control
     ensures size { control_size result ≡ 1 }
     ensures calls { control_calls result state.new ≡ state.old.calls }

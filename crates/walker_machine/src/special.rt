@@ -1,4 +1,6 @@
 // The special forms.
+#![tactic(auto, using(walker_state::proofs::Stepping::steps))]
+
 ghost use Rattle.std.specs.Prelude.{◌≡◌, ◌+◌, ◌*◌, ◌<◌, ◌≤◌, ◌∷◌, map, IfOk};
 ghost use Rattle.std.specs.Arc.{arc_str_bytes};
 ghost use Rattle.value_data.specs.Datum.{nil};
@@ -82,7 +84,7 @@ fn begin(alloc: Global, state: &mut State, shape: Shape, room: u32) -> Result<Co
 }
 
 // A transaction within another joins it.
-#[tactic(auto, unfolding(evaluation_rules::specs::Transactions::transaction_value))]
+#[tactic(auto, using(walker_state::proofs::Stepping::steps), unfolding(evaluation_rules::specs::Transactions::transaction_value))]
 fn transact(alloc: Global, state: &mut State, body: Forms, room: u32) -> Result<Control, AllocError>
     ensures size { IfOk result (λ control. control_size control + frames_size state.new.frames.items
         < 3 + forms_size (forms_view body) + frames_size state.old.frames.items) }
@@ -153,7 +155,7 @@ fn define_function(
 }
 
 // Binds the name in the form's namespace. The form's value is the var.
-#[tactic(auto, using(value_data::proofs::Views::value_views))]
+#[tactic(auto, using(value_data::proofs::Views::value_views, walker_state::proofs::Stepping::steps))]
 pub(crate) fn define(state: &State, name: ArcStr, binding: Binding) -> Result<Control, AllocError>
     ensures size { IfOk result (λ control. control_size control < 3) }
     ensures calls { IfOk result (λ control. (s : State) → control_calls control s ≡ s.calls) }

@@ -1,4 +1,6 @@
 // An evaluation, from one ask to the next.
+#![tactic(auto, using(walker_state::proofs::Stepping::steps))]
+
 ghost use Rattle.std.specs.Prelude.{◌≡◌, ◌≤◌, [], string_bytes, IfOk};
 ghost use Rattle.repl_asks.specs.View.{answer_view};
 ghost use Rattle.repl_jobs.specs.View.{end_view, job_view};
