@@ -8,7 +8,7 @@ ghost use Rattle.value_data.specs.View.{view};
 ghost use Rattle.evaluation_rules.specs.Rows.{last_of};
 ghost use Rattle.evaluation_rules.specs.Transactions.{transaction_value, effects_value};
 ghost use Rattle.repl_asks.specs.View.{binding_view};
-ghost use Rattle.walker_state.specs.Machine.{whole, frames_next, place_of, kept_of, from_state, tree};
+ghost use Rattle.walker_state.specs.Machine.{bottom, whole_at, frames_next, place_of, kept_of, from_state, tree};
 ghost use Rattle.special_forms.specs.Seen.{forms_view, shape_view};
 ghost use Rattle.special_forms.specs.Shapes.{shape_of};
 ghost use Rattle.special_forms.specs.Size.{datum_size, forms_size, shape_size};
@@ -126,8 +126,9 @@ fn evaluate_for(
         ≡ 3 * datum_size (view form) + frame_size frame + frames_size state.old.frames.items) }
     ensures calls { IfOk result (λ control. control_calls control state.new ≤ state.old.calls) }
     ensures around { IfOk result (λ control. control_around control state.new ≡ around state.old.transaction) }
-    ensures meaning { IfOk result (λ control. tree control state.new ≡ whole state.old
-        (value_at room (place_of state.old) (view form) (frames_next (frame ∷ state.old.frames.items) (place_of state.old)) (kept_of state.old))) }
+    ensures meaning { IfOk result (λ control. tree control state.new
+        ≡ whole_at state.old (bottom (frame ∷ state.old.frames.items) (place_of state.old))
+            (value_at room (place_of state.old) (view form) (frames_next (frame ∷ state.old.frames.items) (place_of state.old)) (kept_of state.old))) }
 {
     state.frames.push_front(frame)?;
     Ok(Control::Evaluate(form, room))
