@@ -1,7 +1,7 @@
 -- Forms in a row, of which some have values already.
 use mathlib.Core.Path.{fun_ext}
-use Rattle.std.specs.Prelude.{string_bytes}
-use Rattle.std.proofs.Common.{◌≡◌, ℕ, ◌+◌, ◌<◌, Bool, true, false, if◌then◌else◌, Option, Some, None, MatchOption, subst, Result, Ok, Err, IfOk, List, [], ◌∷◌, ◌++◌, refl, sym, ap, ◌∙◌, append_assoc, append-nil, zero, suc, length, nat_lt, arith}
+use Rattle.std.specs.Prelude.{string_bytes, codes, ◌==◌}
+use Rattle.std.proofs.Common.{◌≡◌, ◌≢◌, ℕ, ◌+◌, ◌<◌, Bool, true, false, if◌then◌else◌, Option, Some, None, MatchOption, subst, Result, Ok, Err, IfOk, List, [], ◌∷◌, ◌++◌, refl, sym, ap, ◌∙◌, append_assoc, append-nil, zero, suc, length, nat_lt, arith}
 use Rattle.std.proofs.lemmas.List.{map-append, length-map}
 use Rattle.std.proofs.lemmas.Bool.Decides.{nat_tests}
 use Rattle.std.proofs.lemmas.Grind.{common_steps}
@@ -12,16 +12,17 @@ use Rattle.value_data.specs.declared.value.Value as value
 use Rattle.value_data.proofs.Lists.{lists}
 use Rattle.value_data.proofs.Views.{value_views}
 use Rattle.repl_values.specs.declared.fault.Fault.{Fault}
-use Rattle.repl_faults.specs.Failure.{Failure, output_too_long}
+use Rattle.repl_faults.specs.Failure.{Failure, output_too_long, wrong_arity}
 use Rattle.repl_faults.specs.View.{failure_of}
 use Rattle.repl_faults.specs.declared.error.ApplyError.{ApplyError}
-use Rattle.function_names.specs.Names.{fits}
+use Rattle.function_names.specs.Names.{fits, name_of}
 use Rattle.core_functions.specs.Meaning.{meaning}
 use Rattle.core_functions.specs.View.{FailsIn}
 use Rattle.core_texts.specs.Limits.{most_text}
 use Rattle.core_functions.specs.Outcome as outcomes
 use Rattle.core_functions.specs.Outcome.{Outcome, bounded}
 use Rattle.special_forms.proofs.Sizes.{datum_size-pos, datum_size-list, datum_size-vector, datum_size-map}
+use Rattle.special_forms.specs.Functions.{FunctionData}
 use Rattle.special_forms.specs.Rows.{BoundForm, in_a_row}
 use Rattle.special_forms.specs.Seen.{views, forms_view, binding_view}
 use Rattle.special_forms.specs.declared.forms.Binding.{Binding}
@@ -31,8 +32,8 @@ use Rattle.evaluation_rules.specs.Doing.{Kept, Doing, Part, fails}
 use Rattle.walker_state.proofs.Stepping.{within-failed, within-printing}
 use Rattle.repl_jobs.specs.Tree.{Tree}
 use Rattle.evaluation_rules.specs.Tree.{ends}
-use Rattle.evaluation_rules.specs.Places.{PlaceData}
-use Rattle.evaluation_rules.specs.Calls.{CalleeData, call_value, called, printed, outcome, core_call}
+use Rattle.evaluation_rules.specs.Places.{PlaceData, Walk}
+use Rattle.evaluation_rules.specs.Calls.{CalleeData, call_value, called, printed, outcome, core_call, program_call}
 use Rattle.evaluation_rules.specs.Rows.{row}
 use Rattle.evaluation_rules.specs.Evaluation.{value_at}
 use Rattle.walker_state.specs.Machine.{bottom, place_of, kept_of, next_of, from_state, tree, call_behind, items_behind, collected, items_value, list_at}
@@ -113,7 +114,7 @@ printed-long text d s h =
     ∙ rw test refl
 
 -- a fault ends the evaluation, wherever it stands
-fails-at : (f : Failure) (s : State) → from_state (fails f) s ≡ ends (Err f) (string_bytes s.text) (kept_of s)
+pub fails-at : (f : Failure) (s : State) → from_state (fails f) s ≡ ends (Err f) (string_bytes s.text) (kept_of s)
 fails-at f s = within-failed s.retries s.transaction (bottom s.frames.items (place_of s)) f (kept_of s) (string_bytes s.text)
 
 pub outcome-bounded : (o : Outcome) (s : State) → from_state (outcome (bounded o)) s ≡ from_state (outcome o) s
@@ -165,3 +166,17 @@ pub fails-told : (o : Outcome) (e : ApplyError) (f : Fault) (s : State) → Fail
     → ends (Err (failure_of f)) (string_bytes s.text) (kept_of s) ≡ from_state (outcome o) s
 fails-told o e f s told is =
     let P : ApplyError → Type 0 = λ d. FailsIn (bounded o) d in sym (outcome-fails o (failure_of f) s (subst P is told))
+
+-- calls with a wrong number of arguments
+pub core_call-misfits : (f : CoreFunction) (vs : List value.Value) (told : Failure) (s : State) → fits f (length vs) ≡ false
+    → told ≡ wrong_arity (name_of f) (length vs) → ends (Err told) (string_bytes s.text) (kept_of s) ≡ from_state (core_call f (views vs)) s
+unfolding core_call
+core_call-misfits f vs told s misfits is = rw (length-map vs view, misfits, is) (sym (fails-at (wrong_arity (name_of f) (length vs)) s))
+
+pub program_call-misfits : (walk : Walk) (g : FunctionData) (vs : List value.Value) (told : Failure) (s : State) → length g.params ≢ length vs
+    → told ≡ wrong_arity (g.space ++ codes "/" ++ g.name) (length vs)
+    → ends (Err told) (string_bytes s.text) (kept_of s) ≡ from_state (program_call walk g (views vs)) s
+unfolding program_call
+program_call-misfits walk g vs told s other is =
+    let test : (length g.params == length vs) ≡ false = grind (arith, nat_tests, other) in
+    rw (length-map vs view, test, is) (sym (fails-at (wrong_arity (g.space ++ codes "/" ++ g.name) (length vs)) s))

@@ -35,7 +35,8 @@ impl Waiting {
 
     /// How many calls it may still make, in the attempt that waits or is to begin.
     pub fn calls(&self) -> u32
-        ensures { result ≡ (position_of self.now).calls }
+        ensures value { result ≡ (position_of self.now).calls }
+        ensures small { result < 2 ^ 32 }
     {
         match &self.wanted {
             Wanted::Begin(transaction) => transaction.calls,

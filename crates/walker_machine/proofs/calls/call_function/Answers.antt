@@ -1,0 +1,8 @@
+use Rattle.evaluation_rules.specs.Evaluation.{value_at}
+use Rattle.special_forms.specs.Seen.{function_view}
+use Rattle.walker_machine.proofs.Evaluating.{program_call-misfits}
+use Rattle.walker_machine.proofs.calls.call_function.Goals as goal
+
+pub returns-clause-meaning : goal.returns-clause-meaning
+returns-clause-meaning c = λ s.
+    program_call-misfits (value_at c.args.room) (function_view c.args.function) c.args.values.items _ s c.if-len.false c.in_ok-fault.ensures
