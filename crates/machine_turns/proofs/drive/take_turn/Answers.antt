@@ -1,0 +1,17 @@
+use Rattle.std.proofs.Common.{refl}
+use Rattle.machine_turns.specs.Turns.{turn_view}
+use Rattle.machine_turns.proofs.Turning.{takes-added, takes-nothing, takes-noted}
+use Rattle.machine_turns.proofs.drive.take_turn.Goals as goal
+
+pub returns-in-Ok-Some : goal.returns-in-Ok-Some
+returns-in-Ok-Some c = λ g w s.
+    takes-added g w c.args.place c.whose.result (turn_view c.args.turn.now) c.turn.new.self
+    c.args.outputs.now c.add.new.self c.in-Ok-Some.bytes.items c.add.result
+    (c.in-Ok-Some.ensures.done g w s) c.whose.ensures c.add.ensures.added c.add.ensures.others
+    c.add.ensures.refused
+
+pub returns-in-Ok-None : goal.returns-in-Ok-None
+returns-in-Ok-None c = λ g w s.
+    let did = c.in-Ok-None.ensures.done g w s in
+    takes-nothing g w did.after c.args.place (turn_view c.args.turn.now) c.turn.new.self
+    c.args.outputs.now did.answer did.accepted did.gives did.stands

@@ -1,0 +1,6 @@
+pub mod Worlds
+pub mod Places
+pub mod Behind
+pub mod Comings
+pub mod Honest
+pub mod Driving

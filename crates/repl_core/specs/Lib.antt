@@ -1,0 +1,5 @@
+pub mod TenantAt
+pub mod Standing
+pub mod Steps
+pub mod Going
+pub mod Driving
