@@ -19,8 +19,15 @@ fn what_cannot_be_noted_leaves_all_as_it_was(rt: HostRuntime) -> Result<(), Fail
     }
     assert_eq!(rt; number_of(&attempt, MINE), Some(1));
     assert_eq!(rt; number_of(&attempt, MY_OTHER), Some(2));
-    let Ok(intent) = attempt.into_intent() else {
-        return Ok(());
+    let intent = match attempt.into_intent() {
+        Ok(intent) => intent,
+        Err(unmade) => {
+            assert_eq!(rt; number_of(&unmade.attempt, MY_OTHER), Some(2));
+            let Ok(intent) = unmade.attempt.into_intent() else {
+                return Ok(());
+            };
+            intent
+        }
     };
     let Ok(numbers) = numbers_in(alloc, &intent) else {
         return Ok(());

@@ -1,5 +1,5 @@
 // What an attempt wants committed.
-ghost use Rattle.std.specs.Prelude.{◌≡◌, map, filter_map, IfOk};
+ghost use Rattle.std.specs.Prelude.{◌≡◌, map, filter_map, IfOk, IfErr};
 ghost use Rattle.repl_asks.specs.View.{name_view, change_view, intent_view};
 ghost use Rattle.tx_attempt.specs.Operations.{ref_put, each_once, change_of, intent_of};
 ghost use Rattle.tx_attempt.specs.Seen.{operations_of};
@@ -11,12 +11,34 @@ use repl_values::{RefName, copy};
 use std::alloc::{AllocError, Global};
 use std::collections::BTreeSet;
 
+/// The attempt whose intent could not be made for want of memory. It is as it was.
+#[derive(Drop)]
+pub struct Unmade {
+    pub attempt: Attempt,
+}
+
+impl From<Unmade> for AllocError {
+    fn from(_unmade: Unmade) -> AllocError {
+        AllocError
+    }
+}
+
 impl Attempt {
     /// What is to be committed: each ref that was set, with its value, in the order in which they were
     /// first set. It takes about n log n steps for n operations, and fails only for want of memory.
+    pub fn into_intent(self) -> Result<Intent, Unmade>
+        ensures made { IfOk result (λ intent. intent_view intent ≡ intent_of (operations_of self)) }
+        ensures handed_back { IfErr result (λ unmade. operations_of unmade.attempt ≡ operations_of self) }
+    {
+        match self.intent() {
+            Ok(intent) => Ok(intent),
+            Err(AllocError) => Err(Unmade { attempt: self }),
+        }
+    }
+
     #[tactic(auto, unfolding(crate::specs::Operations::intent_of, crate::specs::Operations::set_refs))]
-    pub fn into_intent(self) -> Result<Intent, AllocError>
-        ensures { IfOk result (λ intent. intent_view intent ≡ intent_of (operations_of self)) }
+    fn intent(&self) -> Result<Intent, AllocError>
+        ensures { IfOk result (λ intent. intent_view intent ≡ intent_of (operations_of self.now)) }
     {
         let put = self.refs_put()?;
         let names = each_once(self.alloc, &put)?;

@@ -10,3 +10,4 @@ mod key;
 mod operation;
 
 pub use attempt::Attempt;
+pub use intent::Unmade;
