@@ -17,6 +17,6 @@ returns-in_ok-intent-in-Some-clause-meaning c =
     left-inside c.args.state.now c.in-Some.transaction (record c.deref_mut.result.now { attempt = c.replace-attempt.new.dest })
     c.replace-attempt.new.dest (view c.args.value) _ c.requires (sym c.in-Some.ensures.value)
     (ap (λ (t : Transaction). record t { attempt = c.replace-attempt.new.dest }) now)
-    (ap intent_view c.in_ok-intent-in-Some.ensures.ok ∙ c.in_ok-into_intent-in-Some.ensures
+    (ap intent_view c.in_ok-intent-in-Some.ensures.ok ∙ c.in_ok-into_intent-in-Some.ensures.made
     ∙ ap (λ (a : Attempt). intent_of (operations_of a)) c.replace-attempt.ensures.value
     ∙ ap (λ (t : Transaction). intent_of (operations_of t.attempt)) now)
