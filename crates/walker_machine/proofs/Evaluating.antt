@@ -1,26 +1,27 @@
 -- Forms in a row, of which some have values already.
 use mathlib.Core.Path.{fun_ext}
-use Rattle.std.specs.Prelude.{string_bytes, codes, ◌==◌}
-use Rattle.std.proofs.Common.{◌≡◌, ◌≢◌, ℕ, ◌+◌, ◌<◌, Bool, true, false, if◌then◌else◌, Option, Some, None, MatchOption, subst, Result, Ok, Err, IfOk, List, [], ◌∷◌, ◌++◌, refl, sym, ap, ◌∙◌, append_assoc, append-nil, zero, suc, length, nat_lt, arith}
+use Rattle.std.specs.Prelude.{string_bytes, codes, ◌==◌, ◌&&◌, nat_le}
+use Rattle.std.proofs.Common.{◌≡◌, ◌≢◌, ℕ, ◌+◌, ◌-◌, ◌<◌, Bool, true, false, if◌then◌else◌, Option, Some, None, MatchOption, subst, Result, Ok, Err, IfOk, List, [], ◌∷◌, ◌++◌, refl, sym, ap, ◌∙◌, append_assoc, append-nil, zero, suc, length, nat_lt, arith}
 use Rattle.std.proofs.lemmas.List.{map-append, length-map}
 use Rattle.std.proofs.lemmas.Bool.Decides.{nat_tests}
 use Rattle.std.proofs.lemmas.Grind.{common_steps}
 use Rattle.value_data.specs.Datum.{Datum, Items, no_items, item, Pairs, list, vector, map}
 use Rattle.value_data.specs.Listed.{listed}
+use Rattle.value_data.specs.Measures.{weight, nesting}
 use Rattle.value_data.specs.View.{view}
 use Rattle.value_data.specs.declared.value.Value as value
 use Rattle.value_data.proofs.Lists.{lists}
 use Rattle.value_data.proofs.Views.{value_views}
 use Rattle.repl_values.specs.declared.fault.Fault.{Fault}
-use Rattle.repl_faults.specs.Failure.{Failure, output_too_long, wrong_arity}
+use Rattle.repl_faults.specs.Failure.{Failure, output_too_long, too_large, wrong_arity}
 use Rattle.repl_faults.specs.View.{failure_of}
 use Rattle.repl_faults.specs.declared.error.ApplyError.{ApplyError}
 use Rattle.function_names.specs.Names.{fits, name_of}
 use Rattle.core_functions.specs.Meaning.{meaning}
 use Rattle.core_functions.specs.View.{FailsIn}
-use Rattle.core_texts.specs.Limits.{most_text}
+use Rattle.core_texts.specs.Limits.{most_text, most_weight}
 use Rattle.core_functions.specs.Outcome as outcomes
-use Rattle.core_functions.specs.Outcome.{Outcome, bounded}
+use Rattle.core_functions.specs.Outcome.{Outcome, bounded, limited, most_nesting}
 use Rattle.special_forms.proofs.Sizes.{datum_size-pos, datum_size-list, datum_size-vector, datum_size-map}
 use Rattle.special_forms.specs.Functions.{FunctionData}
 use Rattle.special_forms.specs.Rows.{BoundForm, in_a_row}
@@ -33,9 +34,10 @@ use Rattle.walker_state.proofs.Stepping.{within-failed, within-printing}
 use Rattle.repl_jobs.specs.Tree.{Tree}
 use Rattle.evaluation_rules.specs.Tree.{ends}
 use Rattle.evaluation_rules.specs.Places.{PlaceData, Walk}
-use Rattle.evaluation_rules.specs.Calls.{CalleeData, call_value, called, printed, outcome, core_call, program_call}
+use Rattle.evaluation_rules.specs.Calls.{CalleeData, call_value, called, printed, outcome, core_call, keyword_call, program_call}
 use Rattle.evaluation_rules.specs.Rows.{row}
-use Rattle.evaluation_rules.specs.Evaluation.{value_at}
+use Rattle.evaluation_rules.specs.Collections.{within_limits}
+use Rattle.evaluation_rules.specs.Evaluation.{list_value, value_at}
 use Rattle.walker_state.specs.Machine.{bottom, place_of, kept_of, next_of, from_state, tree, call_behind, items_behind, collected, items_value, list_at}
 use Rattle.walker_state.specs.declared.frames.Collection.{Collection}
 use Rattle.walker_state.specs.declared.frames.Control.{Control}
@@ -140,6 +142,10 @@ pub ruleset bounds = (value_views, outcome-gives, outcome-fails)
 pub form-taken : (X : Type 0) (o : Option value.Value) (v : value.Value) (old new : List Datum) → MatchOption o X (λ form. old ≡ view form ∷ new) → o ≡ Some v → old ≡ view v ∷ new
 form-taken X o v old new told is = let P : Option value.Value → Type 0 = λ p. MatchOption p X (λ form. old ≡ view form ∷ new) in subst P is told
 
+-- where there was none
+pub none-taken : (X : Type 0) (Y : value.Value → Type 0) (o : Option value.Value) → MatchOption o X Y → o ≡ None → X
+none-taken X Y o told is = let P : Option value.Value → Type 0 = λ p. MatchOption p X Y in subst P is told
+
 -- and so of a name and a form of `let`
 pub binding-taken : (X : Type 0) (o : Option Binding) (b : Binding) (old new : List BoundForm)
     → MatchOption o X (λ bound. old ≡ binding_view bound ∷ new) → o ≡ Some b → old ≡ binding_view b ∷ new
@@ -180,3 +186,25 @@ unfolding program_call
 program_call-misfits walk g vs told s other is =
     let test : (length g.params == length vs) ≡ false = grind (arith, nat_tests, other) in
     rw (length-map vs view, test, is) (sym (fails-at (wrong_arity (g.space ++ codes "/" ++ g.name) (length vs)) s))
+
+pub keyword_call-misfits : (name : List ℕ) (vs : List value.Value) (told : Failure) (s : State) → length vs ≢ 1 → length vs ≢ 2
+    → told ≡ wrong_arity (codes ":" ++ name) (length vs) → ends (Err told) (string_bytes s.text) (kept_of s) ≡ from_state (keyword_call name (views vs)) s
+unfolding keyword_call
+keyword_call-misfits name vs told s not_one not_two is =
+    let one : (length vs == 1) ≡ false = grind (arith, nat_tests, not_one) in
+    let two : (length vs == 2) ≡ false = grind (arith, nat_tests, not_two) in
+    rw (length-map vs view, one, two, is) (sym (fails-at (wrong_arity (codes ":" ++ name) (length vs)) s))
+
+-- values that are too large
+pub within_limits-misfits : (d : Datum) (told : Failure) (s : State) → (nat_le (weight d) most_weight && nat_le (nesting d) most_nesting) ≡ false
+    → told ≡ too_large → ends (Err told) (string_bytes s.text) (kept_of s) ≡ from_state (within_limits d) s
+unfolding limited
+within_limits-misfits d told s misfits is = rw (misfits, is) (sym (fails-at too_large s))
+
+-- a list that is not too deep
+pub list-behind : (room : ℕ) (p : PlaceData) (d : Datum) (ds : List Datum) → (room ≡ 0 → ⊥)
+    → list_at room p (d ∷ ds) ≡ list_value (value_at (room - 1)) p d ds
+list-behind zero p d ds some = absurd (some refl)
+list-behind (suc n) p d ds some =
+    let e : suc n - 1 ≡ n = omega arith in
+    ap (λ (m : ℕ). list_value (value_at m) p d ds) (sym e)

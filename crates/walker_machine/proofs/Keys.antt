@@ -17,6 +17,7 @@ use Rattle.evaluation_rules.specs.Tree.{ends}
 use Rattle.walker_state.specs.Machine.{kept_of, from_state}
 use Rattle.evaluation_rules.specs.Collections.{keys_in, values_in, item_at, within_limits, map_value}
 use Rattle.walker_state.specs.declared.frames.State.{State}
+use Rattle.walker_machine.proofs.Evaluating.{fails-at}
 
 -- the keys of keys and values that stand by turns
 pub keys_of-turns : (ds : List Datum) → keys_of (pairs_of (zip (keys_in ds) (values_in ds))) ≡ items_of (keys_in ds)
@@ -95,4 +96,5 @@ map_value-repeated ds ks qs n key f s keys turns found at told =
     let within : n < length ks = repeat-within-keys ds ks qs n keys turns found in
     let here : item_at (keys_in ds) n ≡ Some (view key) = ap (λ (es : List Datum). item_at es n) (sym keys) ∙ item_at-views ks n key within at in
     let whole = map_value-repeats ds qs n (view key) turns found here in
-    ap (λ (g : Failure). ends (Err g) (string_bytes s.text) (kept_of s)) told ∙ sym (ap (λ (part : Part Datum). from_state part s) whole)
+    ap (λ (g : Failure). ends (Err g) (string_bytes s.text) (kept_of s)) told ∙ sym (fails-at (duplicate_key (view key)) s)
+    ∙ sym (ap (λ (part : Part Datum). from_state part s) whole)

@@ -1,3 +1,4 @@
-pub mod Keys
 pub mod Evaluating
+pub mod Altering
+pub mod Keys
 pub mod Going

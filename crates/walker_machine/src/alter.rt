@@ -74,21 +74,27 @@ pub(crate) fn begin_alter(
     let Some(target) = forms.take_first()? else {
         return next_argument(alloc, state, callee, values, forms, room);
     };
-    let frame = match forms.take_first()? {
-        Some(function) => Frame::AlterRef {
-            function,
-            forms,
-            room,
-        },
-        None => Frame::Arguments {
-            callee,
-            values,
-            forms,
-            room,
-        },
-    };
-    state.frames.push_front(frame)?;
-    Ok(Control::Evaluate(target, room))
+    match forms.take_first()? {
+        Some(function) => {
+            let frame = Frame::AlterRef {
+                function,
+                forms,
+                room,
+            };
+            state.frames.push_front(frame)?;
+            Ok(Control::Evaluate(target, room))
+        }
+        None => {
+            let frame = Frame::Arguments {
+                callee,
+                values,
+                forms,
+                room,
+            };
+            state.frames.push_front(frame)?;
+            Ok(Control::Evaluate(target, room))
+        }
+    }
 }
 
 // `alter` behind its first argument, which has this value: its function is named by a symbol.

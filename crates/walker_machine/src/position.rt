@@ -35,8 +35,7 @@ impl Waiting {
 
     /// How many calls it may still make, in the attempt that waits or is to begin.
     pub fn calls(&self) -> u32
-        ensures value { result ≡ (position_of self.now).calls }
-        ensures small { result < 2 ^ 32 }
+        ensures { result ≡ (position_of self.now).calls }
     {
         match &self.wanted {
             Wanted::Begin(transaction) => transaction.calls,
