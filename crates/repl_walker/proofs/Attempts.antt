@@ -9,7 +9,7 @@ use Rattle.repl_jobs.specs.Leading.{Leads}
 use Rattle.tx_attempt.specs.Operations.{OperationData}
 use Rattle.evaluation_rules.specs.Doing.{Kept, Exit, Doing, left, asking, printing, looking, noting}
 use Rattle.evaluation_rules.specs.Tree.{attempted, ends, written}
-use Rattle.repl_walker.specs.Attempts.{Leaves, IsUnderWay, IsDivided}
+use Rattle.repl_walker.specs.Attempts.{Unless, Leaves, IsUnderWay, IsDivided}
 
 abbrev Divides : (Exit → Kept → List OperationData → Doing) → List ℕ → List OperationData → Doing → List Exchanged → Tree → Type 0
 Divides after text ops d xs end = IsUnderWay after end ⊎ IsDivided after text ops d xs end
@@ -34,7 +34,7 @@ printed after text more ops kept d x xs end false test behind leads = further (b
     further : Divides after (text ++ more) ops d (x ∷ xs) end → Divides after text ops (printing more kept d) (x ∷ xs) end
     further (inl under) = inl under
     further (inr v) =
-        let P : Bool → Type 0 = λ c. if c then ⊥ else Leaves (text ++ more) ops d v.0 v.2 in
+        let P : Bool → Type 0 = λ c. Unless c (Leaves (text ++ more) ops d v.0 v.2) in
         inr (v.0, v.1, v.2, v.3, subst P (sym test) v.4, v.5)
 
 pub divides : (after : Exit → Kept → List OperationData → Doing) (d : Doing) (text : List ℕ) (ops : List OperationData) (xs : List Exchanged) (end : Tree)

@@ -1,5 +1,5 @@
 -- The trace of a transaction, attempt by attempt.
-use Rattle.std.specs.Prelude.{◌≡◌, ◌⊎◌, ◌+◌, ℕ, List, [], ◌∷◌, ◌++◌, ⊥, length, nat_lt, if◌then◌else◌}
+use Rattle.std.specs.Prelude.{◌≡◌, ◌⊎◌, ◌+◌, ℕ, List, [], ◌∷◌, ◌++◌, Bool, true, false, length, nat_lt}
 use Rattle.core_texts.specs.Limits.{most_text}
 use Rattle.repl_asks.specs.Exchange.{Exchanged}
 use Rattle.repl_jobs.specs.Tree.{Tree}
@@ -15,6 +15,10 @@ pub record Leaving : Type 0 where
   pub text : List ℕ
   pub operations : List OperationData
 
+abbrev pub Unless : Bool → Type 0 → Type 0
+Unless true t = ⊥
+Unless false t = t
+
 -- A body is left so by this trace, where this text was printed before and the attempt did these operations.
 abbrev pub Leaves : List ℕ → List OperationData → Doing → List Exchanged → Leaving → Type 0
 Leaves before ops (left exit kept) [] l = l ≡ record { exit = exit; kept = kept; text = before; operations = ops }
@@ -22,7 +26,7 @@ Leaves before ops (left exit kept) (x ∷ xs) l = ⊥
 Leaves before ops (asking ask behind) [] l = ⊥
 Leaves before ops (asking ask behind) (x ∷ xs) l = (x.ask ≡ ask) × Leaves before ops (behind x.answer) xs l
 Leaves before ops (printing text kept d) xs l =
-    if nat_lt most_text (length before + length text) then ⊥ else Leaves (before ++ text) ops d xs l
+    Unless (nat_lt most_text (length before + length text)) (Leaves (before ++ text) ops d xs l)
 Leaves before ops (looking behind) xs l = Leaves before ops (behind ops) xs l
 Leaves before ops (noting op d) xs l = Leaves before (ops ++ op ∷ []) d xs l
 

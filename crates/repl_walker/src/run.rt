@@ -124,10 +124,11 @@ fn until_a_turn<R: Refs>(alloc: Global, walk: Walk, refs: &mut R) -> Result<Prog
                 if !later.waiting.is_inside() {
                     return Ok(Progress::Asks(later));
                 }
+                let calls_left = later.waiting.calls();
                 if later.waiting.turn() < turn {
                     return Ok(Progress::Asks(later));
                 }
-                if later.waiting.calls() < calls {
+                if calls_left < calls {
                     return Ok(Progress::Asks(later));
                 }
                 walk = later;

@@ -8,7 +8,7 @@ use Rattle.repl_walker.proofs.Turns.{settled_less, settled_calls}
 use Rattle.repl_walker.proofs.run.until_a_call.Goals as goal
 
 pub loop-ending-init : goal.loop-ending-init
-loop-ending-init g c = record { goes_on = c.requires; came = went-nowhere _ _; calls = sym c.most_calls-calls.ensures }
+loop-ending-init g c = record { goes_on = c.requires; came = went-nowhere c.args.walk _; calls = sym c.most_calls-calls.ensures }
 
 pub loop-ending-smaller : goal.loop-ending-smaller
 loop-ending-smaller g c =
@@ -34,6 +34,16 @@ loop-ending-preserved g c =
     let as_many : Q (outer_calls old) = subst Q (sym c.loop-ending.invariant.calls) (subst (λ n. c.most_calls-calls.result ≤ n) c.most_calls.ensures c.if-most_calls-calls.false) in
     record {
       goes_on = e.ok;
-      came = went-on _ c.loop-ending.walk _ _ _ _ c.loop-ending.invariant.came came;
+      came = went-on c.args.walk c.loop-ending.walk _ _ _ (Progress.Asks c.in-Asks.later) c.loop-ending.invariant.came came;
       calls = settled_calls new old outer as_many ∙ c.loop-ending.invariant.calls;
     }
+
+pub returns-in-Ends-clause-meaning : goal.returns-in-Ends-clause-meaning
+returns-in-Ends-clause-meaning g c =
+    let R : Progress → Type 0 = λ p. WentOn c.loop-ending.walk (g.R.Refs.heard c.loop-ending.refs).trace (g.R.Refs.heard c.out_of_transaction.new.refs).trace p in
+    went-on c.args.walk c.loop-ending.walk _ _ _ (Progress.Ends c.in-Ends.ending) c.loop-ending.invariant.came (subst R c.in-Ends.is c.in_ok-ending.ensures.meaning)
+
+pub returns-then-most_calls-calls-clause-meaning : goal.returns-then-most_calls-calls-clause-meaning
+returns-then-most_calls-calls-clause-meaning g c =
+    let R : Progress → Type 0 = λ p. WentOn c.loop-ending.walk (g.R.Refs.heard c.loop-ending.refs).trace (g.R.Refs.heard c.out_of_transaction.new.refs).trace p in
+    went-on c.args.walk c.loop-ending.walk _ _ _ (Progress.Asks c.in-Asks.later) c.loop-ending.invariant.came (subst R c.in-Asks.is c.in_ok-ending.ensures.meaning)
