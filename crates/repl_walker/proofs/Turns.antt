@@ -1,7 +1,8 @@
 -- Answers in a row, for the proof that a walk ends.
 use Rattle.std.proofs.Common.{◌≡◌, ℕ, ◌+◌, ◌*◌, ◌<◌, ◌≤◌, ◌^◌, ◌⊎◌, Bool, true, false, refl, sym, subst, inl, inr, arith}
 use Rattle.walker_state.specs.Size.{Position, IsLess, IsLater, LaterIn, outer_calls, outer_size}
-use Rattle.repl_walker.specs.Positions.{rank, IsOuter, OuterIn, walk_position, IsLaterProgress, IsOuterProgress}
+use Rattle.repl_walker.specs.Positions.{rank, IsOuter, OuterIn, walk_position, calls_left, IsLaterProgress, IsOuterProgress, HasFewerCalls}
+use Rattle.repl_walker.specs.declared.waiting.Walk.{Walk}
 use Rattle.repl_walker.specs.declared.waiting.Progress.{Progress}
 
 pub outer_itself : (p : Position) → p.transaction.runs ≡ true → IsOuter p p
@@ -94,3 +95,8 @@ outer_after (Progress.Ends e) old h = tt
 pub outer_behind : (p : Progress) (middle old : Position) → middle.transaction.runs ≡ true → IsOuter middle old → IsOuterProgress p middle → IsOuterProgress p old
 outer_behind (Progress.Asks w) middle old runs first second = outer_on (walk_position w) middle old runs first second
 outer_behind (Progress.Ends e) middle old runs first second = tt
+
+-- fewer calls are left behind a walk than at it
+pub fewer_less : (p : Progress) (w : Walk) → HasFewerCalls p (walk_position w) → calls_left p < calls_left (Progress.Asks w)
+fewer_less (Progress.Asks v) w h = omega (arith, h)
+fewer_less (Progress.Ends e) w h = omega arith

@@ -43,7 +43,10 @@ pub fn walk<R: Refs>(alloc: Global, job: &Job, refs: &mut R) -> Result<Ending, W
     loop {
         match progress {
             Progress::Ends(ending) => return Ok(ending),
-            Progress::Asks(walk) => progress = until_a_call(alloc, walk, refs)?,
+            Progress::Asks(walk) => match until_a_call(alloc, walk, refs) {
+                Ok(later) => progress = later,
+                Err(error) => return Err(error),
+            },
         }
     }
 }
@@ -61,7 +64,11 @@ fn until_a_call<R: Refs>(alloc: Global, walk: Walk, refs: &mut R) -> Result<Prog
     let calls = walk.waiting.most_calls();
     let mut walk = walk;
     loop {
-        match out_of_transaction(alloc, walk, refs)? {
+        let further = match out_of_transaction(alloc, walk, refs) {
+            Ok(further) => further,
+            Err(error) => return Err(error),
+        };
+        match further {
             Progress::Ends(ending) => return Ok(Progress::Ends(ending)),
             Progress::Asks(later) => {
                 if later.waiting.most_calls() < calls {
@@ -96,7 +103,10 @@ fn out_of_transaction<R: Refs>(
                 if !walk.waiting.is_inside() {
                     return Ok(Progress::Asks(walk));
                 }
-                progress = until_a_turn(alloc, walk, refs)?;
+                progress = match until_a_turn(alloc, walk, refs) {
+                    Ok(later) => later,
+                    Err(error) => return Err(error),
+                };
             }
         }
     }
@@ -118,7 +128,11 @@ fn until_a_turn<R: Refs>(alloc: Global, walk: Walk, refs: &mut R) -> Result<Prog
     let calls = walk.waiting.calls();
     let mut walk = walk;
     loop {
-        match one_further(alloc, walk, refs)? {
+        let further = match one_further(alloc, walk, refs) {
+            Ok(further) => further,
+            Err(error) => return Err(error),
+        };
+        match further {
             Progress::Ends(ending) => return Ok(Progress::Ends(ending)),
             Progress::Asks(later) => {
                 if !later.waiting.is_inside() {

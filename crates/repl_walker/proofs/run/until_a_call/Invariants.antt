@@ -5,12 +5,12 @@ use Rattle.repl_walker.specs.Positions.{walk_position}
 use Rattle.repl_walker.specs.declared.waiting.Progress.{Progress}
 use Rattle.repl_walker.proofs.run.until_a_call.Given as goal
 
-abbrev pub invariant-loop-ending : goal.invariant-loop-ending
-invariant-loop-ending g l = record {
+abbrev pub invariant-loop-further : goal.invariant-loop-further
+invariant-loop-further g l = record {
   goes_on : (g.R.Refs.heard l.refs).stopped ≡ false;
   came : WentOn l.initial.walk (g.R.Refs.heard l.initial.refs).trace (g.R.Refs.heard l.refs).trace (Progress.Asks l.walk);
   calls : outer_calls (walk_position l.walk) ≡ l.calls;
 }
 
-abbrev pub decreases-loop-ending : goal.decreases-loop-ending
-decreases-loop-ending g l = outer_size (walk_position l.walk)
+abbrev pub decreases-loop-further : goal.decreases-loop-further
+decreases-loop-further g l = outer_size (walk_position l.walk)

@@ -4,8 +4,8 @@ use Rattle.repl_walker.specs.Positions.{walk_position, IsOuter}
 use Rattle.repl_walker.specs.declared.waiting.Progress.{Progress}
 use Rattle.repl_walker.proofs.run.until_a_turn.Given as goal
 
-abbrev pub invariant-loop-ending : goal.invariant-loop-ending
-invariant-loop-ending g l = record {
+abbrev pub invariant-loop-further : goal.invariant-loop-further
+invariant-loop-further g l = record {
   goes_on : (g.R.Refs.heard l.refs).stopped ≡ false;
   came : WentOn l.initial.walk (g.R.Refs.heard l.initial.refs).trace (g.R.Refs.heard l.refs).trace (Progress.Asks l.walk);
   inside : (walk_position l.walk).transaction.runs ≡ true;
@@ -14,5 +14,5 @@ invariant-loop-ending g l = record {
   outer : IsOuter (walk_position l.walk) (walk_position l.initial.walk);
 }
 
-abbrev pub decreases-loop-ending : goal.decreases-loop-ending
-decreases-loop-ending g l = (walk_position l.walk).size
+abbrev pub decreases-loop-further : goal.decreases-loop-further
+decreases-loop-further g l = (walk_position l.walk).size
