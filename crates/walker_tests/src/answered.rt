@@ -47,7 +47,8 @@ fn own(number: u64) -> RefName {
 }
 
 // A function that makes 6 * 2^a - 4 calls, its own among them.
-const MANY: &str = "(if (clojure.core/= a 0) 0 (do (many (clojure.core/dec a)) (many (clojure.core/dec a))))";
+const MANY: &str =
+    "(if (clojure.core/= a 0) 0 (do (many (clojure.core/dec a)) (many (clojure.core/dec a))))";
 
 // What a symbol names: `r`, `q` and `shared` are refs, `twice` and `many` functions of a program, and
 // `n` is the namespace in which it is resolved.

@@ -1,9 +1,9 @@
 // Refs and transactions: what is asked of the store, answer by answer, and what comes of it.
 use crate::answered::{Told, asked};
+use Told::{Committed, Conflict, Count, Done, Found, Made, Refused, Retry};
 use std::alloc::Global;
 use std::process::Abort;
 use std::test::Fail;
-use Told::{Committed, Conflict, Count, Done, Found, Made, Refused, Retry};
 
 // How many attempts a transaction has, the form, the answers that it is given, and what is told of it.
 type Row = (u32, &'static str, &'static [Told], &'static str);
@@ -29,16 +29,36 @@ const OUTSIDE: [Row; 14] = [
         "new-ref [1] 2 3; #ref[4]",
     ),
     (1, "@r", &[Found(5)], "read #ref[0]; 5"),
-    (1, "[@r @r]", &[Found(5), Found(6)], "read #ref[0]; read #ref[0]; [5 6]"),
+    (
+        1,
+        "[@r @r]",
+        &[Found(5), Found(6)],
+        "read #ref[0]; read #ref[0]; [5 6]",
+    ),
     (
         1,
         "(deref 5)",
         &[],
         "#error{java.lang.ClassCastException: Wrong argument to deref: 5}",
     ),
-    (1, "(ref-history-count r)", &[Count(2)], "history #ref[0]; 2"),
-    (1, "(ref-min-history r)", &[Count(0)], "min-history #ref[0]; 0"),
-    (1, "(ref-max-history r 7)", &[Made(0)], "max-history #ref[0] 7; #ref[0]"),
+    (
+        1,
+        "(ref-history-count r)",
+        &[Count(2)],
+        "history #ref[0]; 2",
+    ),
+    (
+        1,
+        "(ref-min-history r)",
+        &[Count(0)],
+        "min-history #ref[0]; 0",
+    ),
+    (
+        1,
+        "(ref-max-history r 7)",
+        &[Made(0)],
+        "max-history #ref[0] 7; #ref[0]",
+    ),
     (
         1,
         "(ref-max-history r -1)",
@@ -86,7 +106,12 @@ fn refs_are_made_and_read_outside_of_transactions(rt: HostRuntime) -> Result<(),
 const INSIDE: [Row; 15] = [
     (1, "(dosync)", &[Done, Committed], "begin; commit; nil"),
     (1, "(dosync 1 2)", &[Done, Committed], "begin; commit; 2"),
-    (1, "(dosync @r)", &[Done, Found(5), Committed], "begin; read #ref[0]; commit; 5"),
+    (
+        1,
+        "(dosync @r)",
+        &[Done, Found(5), Committed],
+        "begin; read #ref[0]; commit; 5",
+    ),
     (
         1,
         "(dosync [@r @q @r])",
@@ -234,7 +259,12 @@ const FAULTS: [Row; 15] = [
         &[Done, Found(1)],
         "begin; read #ref[0]; #error{clojure.lang.ArityException: Wrong number of args (2) passed to: inc}",
     ),
-    (9, "(dosync @r)", &[Done, Found(1), Refused], "begin; read #ref[0]; commit; #error{C: t}"),
+    (
+        9,
+        "(dosync @r)",
+        &[Done, Found(1), Refused],
+        "begin; read #ref[0]; commit; #error{C: t}",
+    ),
     (
         9,
         "(dosync (print 1) (many 11))",
@@ -304,7 +334,18 @@ const AGAIN: [Row; 10] = [
     (
         2,
         "[1 (dosync @r) (dosync @r)]",
-        &[Done, Retry, Done, Found(5), Committed, Done, Retry, Done, Found(6), Committed],
+        &[
+            Done,
+            Retry,
+            Done,
+            Found(5),
+            Committed,
+            Done,
+            Retry,
+            Done,
+            Found(6),
+            Committed,
+        ],
         "begin; read #ref[0]; begin; read #ref[0]; commit; begin; read #ref[0]; begin; read #ref[0]; commit; [1 5 6]",
     ),
     (
@@ -322,7 +363,12 @@ fn another_attempt_begins_as_the_first_did(rt: HostRuntime) -> Result<(), Fail> 
 
 // No attempt is left: the namespace is that of the last.
 const LIMITS: [Row; 5] = [
-    (0, "(dosync 1)", &[], "#error{java.lang.RuntimeException: Transaction failed after reaching retry limit}"),
+    (
+        0,
+        "(dosync 1)",
+        &[],
+        "#error{java.lang.RuntimeException: Transaction failed after reaching retry limit}",
+    ),
     (
         1,
         "(dosync @r)",
