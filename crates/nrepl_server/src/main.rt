@@ -5,24 +5,30 @@ use clap::error::ErrorKind;
 use clap::{Arg, ArgAction, ArgMatches, Command};
 use hex::FromHex;
 use nrepl_pipe::{bad_options, out_of_memory, pipe_command};
+use repl_core::{Config, RETRIES, STEPS};
 use std::alloc::{AllocError, Global};
 use std::process::ExitCode;
 use std::rt::Env;
 use std::{env, io};
-use tenant_runner::{RETRIES, Runner, STEPS};
+use tenant_runner::Runner;
+
+const MOST_RETRIES: u32 = 1_000_000;
 
 // What the command line asks for.
 #[derive(Clone, Copy)]
 enum Chosen {
-    // One stream, with ids of sessions under this seed.
-    Pipe { seed: [u8; 32] },
+    // One stream, served so.
+    Pipe(Config),
     BadOptions,
     NoMemory,
 }
 
 fn command_line<'a>(alloc: Global) -> Result<Command<'a>, AllocError> {
     let seed = Arg::new(alloc, "seed").long("seed").action(ArgAction::Set);
-    let pipe = Command::new(alloc, "pipe").arg(seed)?;
+    let retries = Arg::new(alloc, "retries")
+        .long("retries")
+        .action(ArgAction::Set);
+    let pipe = Command::new(alloc, "pipe").arg(seed)?.arg(retries)?;
     Command::new(alloc, "nrepl_server")
         .subcommand_required(true)
         .subcommand(pipe)
@@ -44,14 +50,36 @@ fn choice_of(alloc: Global, words: &[String]) -> Chosen {
     }
 }
 
-// A seed is 64 hexadecimal digits, in either case; it is all zeros where none is given.
 fn pipe_chosen(pipe: &ArgMatches<'_>) -> Chosen {
-    let Some(text) = pipe.get_str("seed") else {
-        return Chosen::Pipe { seed: [0; 32] };
+    let Some(seed) = seed_chosen(pipe) else {
+        return Chosen::BadOptions;
     };
-    match <[u8; 32] as FromHex>::from_hex(text) {
-        Ok(seed) => Chosen::Pipe { seed },
-        Err(_) => Chosen::BadOptions,
+    let Some(retries) = retries_chosen(pipe) else {
+        return Chosen::BadOptions;
+    };
+    Chosen::Pipe(Config {
+        seed,
+        retries,
+        steps: STEPS,
+    })
+}
+
+// A seed is 64 hexadecimal digits, in either case; it is all zeros where none is given.
+fn seed_chosen(pipe: &ArgMatches<'_>) -> Option<[u8; 32]> {
+    let Some(text) = pipe.get_str("seed") else {
+        return Some([0; 32]);
+    };
+    <[u8; 32] as FromHex>::from_hex(text).ok()
+}
+
+// How many attempts a transaction has is a number from 1 to 1,000,000.
+fn retries_chosen(pipe: &ArgMatches<'_>) -> Option<u32> {
+    let Some(text) = pipe.get_str("retries") else {
+        return Some(RETRIES);
+    };
+    match text.parse::<u32>() {
+        Ok(retries) if (1..=MOST_RETRIES).contains(&retries) => Some(retries),
+        _ => None,
     }
 }
 
@@ -76,10 +104,10 @@ fn main(rt: HostRuntime) -> ExitCode {
         Err(chosen) => chosen,
     };
     let status = match chosen {
-        Chosen::Pipe { seed } => {
+        Chosen::Pipe(config) => {
             let mut reader = rt.reader();
             let mut writer = rt.stdout();
-            match Runner::new(alloc, seed, STEPS, RETRIES) {
+            match Runner::new(alloc, config) {
                 Ok(mut runner) => {
                     pipe_command(alloc, &mut runner, &mut reader, &mut writer, &mut errors)
                 }

@@ -79,7 +79,7 @@ refuses-none g w t d old ts s none gone others = record {
 
 -- A deed that is accepted
 
-deeded-tenant : (g : Ground) (s : Store) (q : Quiet) (d : Deed)
+pub deeded-tenant : (g : Ground) (s : Store) (q : Quiet) (d : Deed)
     → (deeded g s q d).store.tenant ≡ s.tenant
 unfolding deeded
 deeded-tenant g s q d = performed-tenant s (plan g s.tenant q d).call

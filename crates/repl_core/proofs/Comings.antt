@@ -41,13 +41,13 @@ open-by : (g : Ground) (w : World) (t : ℕ) → step g w (opens t) ≡ open_ste
 unfolding step
 open-by g w t = refl
 
-abbrev open_tested : Ground → World → ℕ → Bool → Bool → worlds.Stepped
+abbrev pub open_tested : Ground → World → ℕ → Bool → Bool → worlds.Stepped
 open_tested g w t used held =
     if used then refused Refusal.NumberUsed
     else if held then refused Refusal.Full
     else accepted (record w { tenants = entry t (Some (opened_tenant g)) ∷ w.tenants }) tenant_opened
 
-open-tested : (g : Ground) (w : World) (t : ℕ) (used held : Bool) → is_used t w.tenants ≡ used
+pub open-tested : (g : Ground) (w : World) (t : ℕ) (used held : Bool) → is_used t w.tenants ≡ used
     → nat_le g.places (open_count w.tenants) ≡ held
     → step g w (opens t) ≡ open_tested g w t used held
 open-tested g w t used held is full =

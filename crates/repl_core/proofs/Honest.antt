@@ -26,7 +26,7 @@ use Rattle.repl_core.proofs.Places.{serves-in, kept-at, none-at, open-mine, all-
 use Rattle.repl_core.proofs.Behind.{machine_with, stands-with, stands-one, stays-one, world_behind}
 
 -- the turn is the honest deed
-honest-turn : (g : Ground) (w : World) (t : ℕ) (a : Actor) (kept : TenantData)
+pub honest-turn : (g : Ground) (w : World) (t : ℕ) (a : Actor) (kept : TenantData)
     → open_in t w ≡ Some kept
     → stepped g w (goes t a) ≡ step g w (does t (honest g a (Some (Some kept.quiet))))
 honest-turn g w t a kept there =
