@@ -16,7 +16,6 @@ use Rattle.server_rules.specs.declared.actor.Actor.{Actor}
 use Rattle.server_rules.specs.declared.refusal.Refusal.{Refusal}
 use Rattle.server_rules.proofs.Steps.{step-other}
 use Rattle.tenant_actors.proofs.EntryLaws.{found_first}
-use Rattle.tenant_walks.specs.WalkAt.{walk_at}
 use Rattle.tenant_walks.specs.declared.walks.Walks.{Walks}
 use Rattle.tenant_world.specs.Running.{running_of, running_in}
 use Rattle.repl_core.specs.Going.{AreWalkedIn, KeepsForms, StepKeepsForms}
@@ -143,9 +142,3 @@ pub walked-still : (w : World) (t : ℕ) (old new : ℕ → Option Walks)
 walked-still w t old new mine others walked =
     all-places (λ u. IsWalkedAt (new u) (open_in u w)) t mine
     (λ u apart e. subst (λ o. IsWalkedAt o (open_in u w)) (sym (others u apart)) (walked u))
-
-pub fresh-walked : (walks : Walks) (o : Option TenantData)
-    → ((a : Actor) → walk_at walks a ≡ None) → AreWalkedIn walks o
-fresh-walked walks None none = tt
-fresh-walked walks (Some kept) none = λ a run p runs at.
-    let never : None ≡ Some p = sym (none a) ∙ at in absurd (cc)

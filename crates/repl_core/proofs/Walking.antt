@@ -77,3 +77,10 @@ deed-walked g w after t d answer walks keeps is walked = by (open_in t w) refl
     by (Some kept) there =
         left kept there (deed_of g w t kept d).outcome refl
         (sym (step-deed g w t d kept there) ∙ is)
+
+-- no form runs yet
+pub fresh-walked : (walks : Walks) (o : Option TenantData)
+    → ((a : Actor) → walk_at walks a ≡ None) → AreWalkedIn walks o
+fresh-walked walks None none = tt
+fresh-walked walks (Some kept) none = λ a run p runs at.
+    let never : None ≡ Some p = sym (none a) ∙ at in absurd (cc)

@@ -1,23 +1,26 @@
 -- A runner behind the turns of its tenant.
-use Rattle.std.proofs.Common.{◌≡◌, ◌≢◌, List, [], ◌∷◌, ℕ, Option, Some, None, Result, Ok, Err}
+use Rattle.std.proofs.Common.{◌≡◌, ◌≢◌, List, [], ◌∷◌, ℕ, false, nat_le, Option, Some, None, Result, Ok, Err}
 use Rattle.std.proofs.Common.{refl, sym, ap, subst, ◌∙◌, IfErr, OnOk}
 use Rattle.repl_replies.specs.Replies.{ReplyData}
 use Rattle.server_rules.specs.Deeds.{drained}
+use Rattle.server_rules.specs.Numbered.{entry}
 use Rattle.server_rules.specs.Ground.{Ground}
-use Rattle.server_rules.specs.Plan.{Deed, StepAnswer, Outcome, refuses, leaves}
+use Rattle.server_rules.specs.Plan.{Deed, StepAnswer, Outcome, refuses, leaves, tenant_opened}
 use Rattle.server_rules.specs.Store.{Around, Store}
 use Rattle.server_rules.specs.Tenant.{Quiet}
 use Rattle.server_rules.specs.Turns.{bytes_in, honest}
 use Rattle.server_rules.specs.World as worlds
-use Rattle.server_rules.specs.World.{TenantData, World, does, with_tenant}
+use Rattle.server_rules.specs.World.{TenantData, World, opening, opened_tenant, opens, does}
+use Rattle.server_rules.specs.World.{with_tenant}
 use Rattle.server_rules.specs.declared.actor.Actor.{Actor}
 use Rattle.server_rules.specs.declared.refusal.Refusal.{Refusal}
 use Rattle.tenant_turns.specs.Deeded.{Deeded, deeded}
 use Rattle.tenant_turns.specs.Grounds.{IsRight}
 use Rattle.tenant_turns.specs.Turns.{Turn, Lone, goes, drains, accepted, deed_of, step, stepped_as}
-use Rattle.tenant_turns.specs.Turns.{ended_as}
+use Rattle.tenant_turns.specs.Turns.{ended_as, opened_lone}
 use Rattle.tenant_turns.specs.Turned.{Accepted, IsRefused}
 use Rattle.tenant_walks.specs.Grounds.{Evaluates}
+use Rattle.tenant_walks.specs.WalkAt.{walk_at}
 use Rattle.tenant_world.specs.Standing as tenants
 use Rattle.tenant_world.specs.declared.tenant.Tenant.{Tenant}
 use Rattle.repl_core.specs.Going.{AreWalkedIn, KeepsForms, Goes, Halts}
@@ -29,8 +32,9 @@ use Rattle.repl_core.proofs.Worlds as world
 use Rattle.repl_core.proofs.Worlds.{step-deed}
 use Rattle.repl_core.proofs.Places.{open-mine, kept-at, none-at}
 use Rattle.repl_core.proofs.Behind.{deeded-tenant}
+use Rattle.repl_core.proofs.Comings.{open-tested}
 use Rattle.repl_core.proofs.Honest.{honest-turn}
-use Rattle.repl_core.proofs.Walking.{same-world, deed-walked}
+use Rattle.repl_core.proofs.Walking.{same-world, deed-walked, fresh-walked}
 use Rattle.tenant_runner.specs.Standing.{kept_of, Stands}
 use Rattle.tenant_runner.specs.declared.runner.Runner.{Runner}
 
@@ -224,3 +228,27 @@ tenant-there g l r s gone =
     none-at g s.machine.refs 0 (tenant_at r.machine.tenants 0) (open_in 0 s.world)
     (s.machine.tenants 0) gone in
     let never : None ≡ Some (kept_of l) = sym none ∙ s.there in cc
+
+-- as it begins
+pub opened-stands : (g : Ground) (made : Runner) → IsRight g → Evaluates g → g.places ≡ 1
+    → ((a : Actor) → walk_at made.walks a ≡ None)
+    → core.Does g (opening []) (opens 0) made.machine tenant_opened
+    → Stands g made (opened_lone g)
+opened-stands g made right ground places none did =
+    let first : World = record {
+      around = (opening []).around;
+      tenants = entry 0 (Some (opened_tenant g)) ∷ [];
+    } in
+    let by : worlds.step g (opening []) (opens 0) ≡ worlds.accepted first tenant_opened =
+    open-tested g (opening []) 0 false false refl (ap (λ n. nat_le n 0) places) in
+    let same : first ≡ did.after =
+    same-world first did.after tenant_opened tenant_opened (sym by ∙ did.accepted) in
+    record {
+      right = right;
+      ground = ground;
+      world = did.after;
+      machine = did.stands;
+      there = sym (ap (open_in 0) same);
+      store = ap (λ w. store_in w.around 0 (opened_lone g).store.mine) same;
+      walked = fresh-walked made.walks (open_in 0 did.after) none;
+    }

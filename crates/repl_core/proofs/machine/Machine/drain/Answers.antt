@@ -1,10 +1,11 @@
-use Rattle.std.proofs.Common.{◌∙◌, refl, sym, Ok, Err, Result}
+use Rattle.std.proofs.Common.{◌∙◌, ◌∷◌, ap, refl, sym, Ok, Err, Result}
 use Rattle.server_rules.specs.Plan as deeds
 use Rattle.server_rules.specs.Plan.{reply_given}
 use Rattle.server_rules.specs.declared.refusal.Refusal.{Refusal}
 use Rattle.tenant_walks.proofs.Stores.{serves-all-still, drains-reached}
 use Rattle.repl_core.specs.Standing.{store_in}
 use Rattle.repl_core.proofs.Behind.{does-so, refuses-so, refuses-none}
+use Rattle.repl_core.proofs.Left.{left-still, left-none, waits-so, none-waits}
 use Rattle.repl_core.proofs.machine.Machine.drain.Goals as goal
 
 pub returns-in_default-clause-refused : goal.returns-in_default-clause-refused
@@ -39,3 +40,34 @@ returns-in-None-clause-refused c = λ g w right s.
     ))
     (c.put_back.ensures.put (c.in-Some.ensures.place refl))
     (λ u apart. c.put_back.ensures.others u apart ∙ c.in-Some.ensures.others u apart)
+
+pub returns-in_default-clause-steps : goal.returns-in_default-clause-steps
+returns-in_default-clause-steps c =
+    left-none _ _ (sym c.in_default.ensures.taken) c.in_default.ensures.gone
+
+pub returns-in_default-clause-emptied : goal.returns-in_default-clause-emptied
+returns-in_default-clause-emptied c =
+    (none-waits _ (sym c.in_default.ensures.taken), none-waits _ c.in_default.ensures.gone)
+
+pub returns-in-Some-clause-steps : goal.returns-in-Some-clause-steps
+returns-in-Some-clause-steps c =
+    left-still _ _ c.in-Some.tenant c.drain.new.self (sym c.in-Some.ensures.taken)
+    (c.put_back.ensures.put (c.in-Some.ensures.place refl)) c.drain.ensures.steps
+
+pub returns-in-None-clause-steps : goal.returns-in-None-clause-steps
+returns-in-None-clause-steps c =
+    left-still _ _ c.in-Some.tenant c.drain.new.self (sym c.in-Some.ensures.taken)
+    (c.put_back.ensures.put (c.in-Some.ensures.place refl)) c.drain.ensures.steps
+
+pub returns-in-Some-clause-oldest : goal.returns-in-Some-clause-oldest
+returns-in-Some-clause-oldest c =
+    waits-so _ c.in-Some.tenant (sym c.in-Some.ensures.taken) ∙ c.in-Some-2.ensures.oldest
+    ∙ ap (λ more. c.in-Some-2.bytes.items ∷ more)
+    (sym (waits-so _ c.drain.new.self (c.put_back.ensures.put (c.in-Some.ensures.place refl))))
+
+pub returns-in-None-clause-emptied : goal.returns-in-None-clause-emptied
+returns-in-None-clause-emptied c = (
+  waits-so _ c.in-Some.tenant (sym c.in-Some.ensures.taken) ∙ c.in-None.ensures.oldest.0,
+  waits-so _ c.drain.new.self (c.put_back.ensures.put (c.in-Some.ensures.place refl))
+      ∙ c.in-None.ensures.oldest.1,
+)

@@ -4,6 +4,7 @@ use Rattle.server_rules.specs.Plan.{messages_heard}
 use Rattle.tenant_walks.proofs.Stores.{serves-all-still, hears-reached}
 use Rattle.repl_core.specs.Standing.{store_in}
 use Rattle.repl_core.proofs.Behind.{does-so, refuses-so, refuses-none, ok-with, err-with}
+use Rattle.repl_core.proofs.Left.{left-less, left-kept, left-none}
 use Rattle.repl_core.proofs.machine.Machine.hear.Goals as goal
 
 pub returns-in_default-clause-refused : goal.returns-in_default-clause-refused
@@ -38,3 +39,17 @@ returns-clause-refused c = λ g w right s.
     (c.hear.ensures.refused g kept.quiet (store_in w.around t kept.mine) right st) serves)
     (c.put_back.ensures.put (c.in-Some.ensures.place refl))
     (λ u apart. c.put_back.ensures.others u apart ∙ c.in-Some.ensures.others u apart)
+
+pub returns-in_default-clause-kept : goal.returns-in_default-clause-kept
+returns-in_default-clause-kept c =
+    left-none _ _ (sym c.in_default.ensures.taken) c.in_default.ensures.gone
+
+pub returns-clause-steps : goal.returns-clause-steps
+returns-clause-steps c =
+    left-less _ _ c.in-Some.tenant c.hear.new.self c.hear.result (sym c.in-Some.ensures.taken)
+    (c.put_back.ensures.put (c.in-Some.ensures.place refl)) c.hear.ensures.steps
+
+pub returns-clause-kept : goal.returns-clause-kept
+returns-clause-kept c =
+    left-kept _ _ c.in-Some.tenant c.hear.new.self c.hear.result (sym c.in-Some.ensures.taken)
+    (c.put_back.ensures.put (c.in-Some.ensures.place refl)) c.hear.ensures.kept
