@@ -1,9 +1,10 @@
 -- A machine where a tenant comes or goes.
 use Rattle.std.proofs.Common.{◌≡◌, ◌≢◌, ℕ, ◌+◌, ◌-◌, ◌==◌, [], ◌∷◌, Bool, true, false, ◌||◌, nat_le}
 use Rattle.std.proofs.Common.{Option, Some, None, option_and_then, refl, sym, ap, subst, ◌∙◌}
-use Rattle.std.proofs.Common.{if◌then◌else◌, Result, Ok, Err, IfErr}
+use Rattle.std.proofs.Common.{if◌then◌else◌, Result, Ok, Err, IfErr, ◌<◌, ◌≤◌, arith}
 use Rattle.std.specs.Result.{IsErrAnd}
-use Rattle.std.proofs.lemmas.Bool.{eq-eqb, ne_eqb}
+use Rattle.std.proofs.lemmas.Bool.{eq-eqb}
+use Rattle.std.proofs.lemmas.Bool.Decides.{nat_tests}
 use Rattle.value_data.specs.Datum.{OwnerData, shared, tenant}
 use Rattle.server_rules.specs.Commit.{same_owner}
 use Rattle.server_rules.specs.Ground.{Ground}
@@ -67,6 +68,12 @@ full-so : (g : Ground) (w : World) (m : Machine) (s : Stands g m w) (b : Bool)
     → nat_le m.places m.places_taken ≡ b → nat_le g.places (open_count w.tenants) ≡ b
 full-so g w m s b is =
     ap (λ k. nat_le k (open_count w.tenants)) s.places ∙ ap (nat_le m.places) s.places_taken ∙ is
+
+pub le-true : (n m : ℕ) → n ≤ m → nat_le n m ≡ true
+le-true n m h = grind (arith, nat_tests)
+
+pub lt-false : (n m : ℕ) → m < n → nat_le n m ≡ false
+lt-false n m h = grind (arith, nat_tests)
 
 pub refuses-full : (g : Ground) (w : World) (t : ℕ) (m : Machine) (s : Stands g m w)
     → is_reached m.newest t ≡ false → nat_le m.places m.places_taken ≡ true

@@ -17,11 +17,11 @@ returns-clause-done c = λ g w right s.
     let t = c.args.number in
     let old = c.args.self.now in
     let d = deeds.hears c.args.piece.now in
-    does-so g w t d old c.put_back.new.self old.refs c.in-Some.tenant c.hear.new.self
-    (λ n. messages_heard n) c.hear.result s (sym c.in-Some.ensures.taken)
+    does-so g w t d old c.put_back.new.self old.refs c.in-Some.tenant c.hear-result.new.self
+    (λ n. messages_heard n) c.hear-result.result s (sym c.in-Some.ensures.taken)
     (λ kept st serves.
     let at = store_in w.around t kept.mine in
-    ok-with _ _ c.hear.result (c.hear.ensures.done g kept.quiet at right st)
+    ok-with _ _ c.hear-result.result (c.hear-result.ensures.done g kept.quiet at right st)
     (serves-all-still old.refs at _ s.refs serves
     (hears-reached g kept.quiet at c.args.piece.now)))
     (c.put_back.ensures.put (c.in-Some.ensures.place refl))
@@ -32,11 +32,11 @@ returns-clause-refused c = λ g w right s.
     let t = c.args.number in
     let old = c.args.self.now in
     let d = deeds.hears c.args.piece.now in
-    refuses-so g w t d old c.put_back.new.self old.refs c.in-Some.tenant c.hear.new.self
-    c.hear.result s (sym c.in-Some.ensures.taken)
+    refuses-so g w t d old c.put_back.new.self old.refs c.in-Some.tenant c.hear-result.new.self
+    c.hear-result.result s (sym c.in-Some.ensures.taken)
     (λ kept st serves.
-    err-with _ _ c.hear.result
-    (c.hear.ensures.refused g kept.quiet (store_in w.around t kept.mine) right st) serves)
+    err-with _ _ c.hear-result.result
+    (c.hear-result.ensures.refused g kept.quiet (store_in w.around t kept.mine) right st) serves)
     (c.put_back.ensures.put (c.in-Some.ensures.place refl))
     (λ u apart. c.put_back.ensures.others u apart ∙ c.in-Some.ensures.others u apart)
 
@@ -46,10 +46,10 @@ returns-in_default-clause-kept c =
 
 pub returns-clause-steps : goal.returns-clause-steps
 returns-clause-steps c =
-    left-less _ _ c.in-Some.tenant c.hear.new.self c.hear.result (sym c.in-Some.ensures.taken)
-    (c.put_back.ensures.put (c.in-Some.ensures.place refl)) c.hear.ensures.steps
+    left-less _ _ c.in-Some.tenant c.hear-result.new.self c.hear-result.result (sym c.in-Some.ensures.taken)
+    (c.put_back.ensures.put (c.in-Some.ensures.place refl)) c.hear-result.ensures.steps
 
 pub returns-clause-kept : goal.returns-clause-kept
 returns-clause-kept c =
-    left-kept _ _ c.in-Some.tenant c.hear.new.self c.hear.result (sym c.in-Some.ensures.taken)
-    (c.put_back.ensures.put (c.in-Some.ensures.place refl)) c.hear.ensures.kept
+    left-kept _ _ c.in-Some.tenant c.hear-result.new.self c.hear-result.result (sym c.in-Some.ensures.taken)
+    (c.put_back.ensures.put (c.in-Some.ensures.place refl)) c.hear-result.ensures.kept
