@@ -1,16 +1,16 @@
 -- A machine where a tenant comes or goes.
 use Rattle.std.proofs.Common.{◌≡◌, ◌≢◌, ℕ, ◌+◌, ◌-◌, ◌==◌, [], ◌∷◌, Bool, true, false, ◌||◌, nat_le}
-use Rattle.std.proofs.Common.{Option, Some, None, option_and_then, refl, sym, ap, subst, ◌∙◌}
+use Rattle.std.proofs.Common.{Some, None, option_and_then, refl, sym, ap, ◌∙◌}
 use Rattle.std.proofs.Common.{if◌then◌else◌, Result, Ok, Err, IfErr, ◌<◌, ◌≤◌, arith}
 use Rattle.std.specs.Result.{IsErrAnd}
 use Rattle.std.proofs.lemmas.Bool.{eq-eqb}
 use Rattle.std.proofs.lemmas.Bool.Decides.{nat_tests}
-use Rattle.value_data.specs.Datum.{OwnerData, shared, tenant}
+use Rattle.value_data.specs.Datum.{OwnerData, tenant}
 use Rattle.server_rules.specs.Commit.{same_owner}
 use Rattle.server_rules.specs.Ground.{Ground}
 use Rattle.server_rules.specs.Numbered.{entry, found}
 use Rattle.server_rules.specs.Plan.{tenant_opened, tenant_gone}
-use Rattle.server_rules.specs.Store.{Around, Store}
+use Rattle.server_rules.specs.Store.{Store}
 use Rattle.server_rules.specs.Tenant.{opened_quiet}
 use Rattle.server_rules.specs.World.{TenantData, World, opens, closes, opened_tenant, with_tenant}
 use Rattle.server_rules.specs.World as worlds

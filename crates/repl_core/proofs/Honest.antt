@@ -1,11 +1,10 @@
 -- A machine behind the turn of an actor.
-use Rattle.std.proofs.Common.{◌≡◌, ◌≢◌, ℕ, Option, Some, None, option_map, option_and_then}
-use Rattle.std.proofs.Common.{Result, Ok, Err, IfErr, OnOk, refl, sym, ap, subst, ◌∙◌}
+use Rattle.std.proofs.Common.{◌≡◌, ◌≢◌, ℕ, Some, None, option_map}
+use Rattle.std.proofs.Common.{Result, Ok, Err, IfErr, OnOk, sym, ap, subst, ◌∙◌}
 use Rattle.server_rules.specs.Ground.{Ground}
 use Rattle.server_rules.specs.Numbered.{found}
-use Rattle.server_rules.specs.Plan.{Deed}
 use Rattle.server_rules.specs.Turns.{goes, stepped, honest, quiet_of}
-use Rattle.server_rules.specs.World.{TenantData, World, step, does, refused, ended_as}
+use Rattle.server_rules.specs.World.{TenantData, World, step, does, ended_as}
 use Rattle.server_rules.specs.declared.actor.Actor.{Actor}
 use Rattle.server_rules.specs.declared.refusal.Refusal.{Refusal}
 use Rattle.tenant_refs.specs.Serving.{Table}

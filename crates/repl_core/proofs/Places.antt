@@ -8,7 +8,7 @@ use Rattle.server_rules.specs.Numbered.{found, replaced}
 use Rattle.server_rules.specs.Store.{Around, Store}
 use Rattle.server_rules.specs.Tenant.{Quiet}
 use Rattle.server_rules.specs.World.{TenantData, World}
-use Rattle.ref_table.specs.Refs.{Refs, store_of, after as refs_after}
+use Rattle.ref_table.specs.Refs.{Refs, after as refs_after}
 use Rattle.tenant_refs.specs.Attempts.{ArePoints}
 use Rattle.tenant_refs.specs.Serving.{Serves}
 use Rattle.tenant_walks.proofs.Runs.{found-put}
@@ -18,7 +18,6 @@ use Rattle.tenant_world.specs.declared.tenant.Tenant.{Tenant}
 use Rattle.repl_core.specs.TenantAt.{tenant_at}
 use Rattle.repl_core.specs.Standing.{open_in, store_in, around_in, TenantStands, PlaceStands, Stands}
 use Rattle.repl_core.specs.declared.machine.Machine.{Machine}
-use Rattle.repl_core.specs.declared.tenants.Tenants.{Tenants}
 use Rattle.repl_core.proofs.Worlds.{found-open}
 
 -- the code stands for a tenant, whatever all have in common

@@ -1,11 +1,9 @@
 -- The evaluations of a tenant's forms, through deeds by which none goes on.
-use Rattle.std.proofs.Common.{◌≡◌, ◌≢◌, ℕ, List, Option, Some, None, option_and_then}
+use Rattle.std.proofs.Common.{◌≡◌, ℕ, Option, Some, None}
 use Rattle.std.proofs.Common.{refl, sym, ap, subst, ◌∙◌}
 use Rattle.server_rules.specs.Ground.{Ground}
-use Rattle.server_rules.specs.Numbered.{found}
 use Rattle.server_rules.specs.Plan as deeds
 use Rattle.server_rules.specs.Plan.{Deed, StepAnswer, Outcome, refuses, leaves}
-use Rattle.server_rules.specs.Request.{Run}
 use Rattle.server_rules.specs.Store.{Store}
 use Rattle.server_rules.specs.Tenant.{Quiet}
 use Rattle.server_rules.specs.World.{TenantData, World, Stepped, accepted, refused, step, does}

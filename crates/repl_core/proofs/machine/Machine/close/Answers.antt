@@ -1,4 +1,4 @@
-use Rattle.std.proofs.Common.{sym, refl}
+use Rattle.std.proofs.Common.{sym}
 use Rattle.repl_core.proofs.Comings.{does-close, refuses-close}
 use Rattle.repl_core.proofs.machine.Machine.close.Goals as goal
 

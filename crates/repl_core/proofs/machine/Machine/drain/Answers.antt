@@ -1,4 +1,4 @@
-use Rattle.std.proofs.Common.{ℕ, ◌∙◌, ◌∷◌, ap, refl, sym, Ok, Err, Result}
+use Rattle.std.proofs.Common.{ℕ, ◌∙◌, ◌∷◌, ap, refl, sym, Ok, Err}
 use Rattle.server_rules.specs.Plan as deeds
 use Rattle.server_rules.specs.Plan.{reply_given}
 use Rattle.server_rules.specs.declared.refusal.Refusal.{Refusal}
