@@ -5,30 +5,24 @@ use clap::error::ErrorKind;
 use clap::{Arg, ArgAction, ArgMatches, Command};
 use hex::FromHex;
 use nrepl_pipe::{bad_options, out_of_memory, pipe_command};
-use repl_core::{Config, RETRIES, STEPS};
 use std::alloc::{AllocError, Global};
 use std::process::ExitCode;
 use std::rt::Env;
 use std::{env, io};
-use tenant_runner::Runner;
-
-const MOST_RETRIES: u32 = 1_000_000;
+use tenant_runner::{RETRIES, Runner, STEPS};
 
 // What the command line asks for.
 #[derive(Clone, Copy)]
 enum Chosen {
-    // One stream, served so.
-    Pipe(Config),
+    // One stream, with ids of sessions under this seed.
+    Pipe { seed: [u8; 32] },
     BadOptions,
     NoMemory,
 }
 
 fn command_line<'a>(alloc: Global) -> Result<Command<'a>, AllocError> {
     let seed = Arg::new(alloc, "seed").long("seed").action(ArgAction::Set);
-    let retries = Arg::new(alloc, "retries")
-        .long("retries")
-        .action(ArgAction::Set);
-    let pipe = Command::new(alloc, "pipe").arg(seed)?.arg(retries)?;
+    let pipe = Command::new(alloc, "pipe").arg(seed)?;
     Command::new(alloc, "nrepl_server")
         .subcommand_required(true)
         .subcommand(pipe)
@@ -50,36 +44,14 @@ fn choice_of(alloc: Global, words: &[String]) -> Chosen {
     }
 }
 
-fn pipe_chosen(pipe: &ArgMatches<'_>) -> Chosen {
-    let Some(seed) = seed_chosen(pipe) else {
-        return Chosen::BadOptions;
-    };
-    let Some(retries) = retries_chosen(pipe) else {
-        return Chosen::BadOptions;
-    };
-    Chosen::Pipe(Config {
-        seed,
-        retries,
-        steps: STEPS,
-    })
-}
-
 // A seed is 64 hexadecimal digits, in either case; it is all zeros where none is given.
-fn seed_chosen(pipe: &ArgMatches<'_>) -> Option<[u8; 32]> {
+fn pipe_chosen(pipe: &ArgMatches<'_>) -> Chosen {
     let Some(text) = pipe.get_str("seed") else {
-        return Some([0; 32]);
+        return Chosen::Pipe { seed: [0; 32] };
     };
-    <[u8; 32] as FromHex>::from_hex(text).ok()
-}
-
-// How many attempts a transaction has is a number from 1 to 1,000,000.
-fn retries_chosen(pipe: &ArgMatches<'_>) -> Option<u32> {
-    let Some(text) = pipe.get_str("retries") else {
-        return Some(RETRIES);
-    };
-    match text.parse::<u32>() {
-        Ok(retries) if (1..=MOST_RETRIES).contains(&retries) => Some(retries),
-        _ => None,
+    match <[u8; 32] as FromHex>::from_hex(text) {
+        Ok(seed) => Chosen::Pipe { seed },
+        Err(_) => Chosen::BadOptions,
     }
 }
 
@@ -104,10 +76,10 @@ fn main(rt: HostRuntime) -> ExitCode {
         Err(chosen) => chosen,
     };
     let status = match chosen {
-        Chosen::Pipe(config) => {
+        Chosen::Pipe { seed } => {
             let mut reader = rt.reader();
             let mut writer = rt.stdout();
-            match Runner::new(alloc, config) {
+            match Runner::new(alloc, seed, STEPS, RETRIES) {
                 Ok(mut runner) => {
                     pipe_command(alloc, &mut runner, &mut reader, &mut writer, &mut errors)
                 }

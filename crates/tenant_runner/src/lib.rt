@@ -1,7 +1,7 @@
-//! A server that serves its first tenant alone: each actor goes on as its evaluation says.
+//! A tenant with the evaluations of its forms: each actor goes on as its evaluation says.
 #![tactic(auto)]
 
 mod runner;
 mod turns;
 
-pub use runner::Runner;
+pub use runner::{RETRIES, Runner, STEPS};

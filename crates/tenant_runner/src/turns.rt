@@ -5,31 +5,35 @@ ghost use Rattle.tenant_turns.specs.Turns.{opened_lone};
 ghost use Rattle.tenant_turns.specs.Grounds.{IsRight};
 ghost use Rattle.tenant_walks.specs.Grounds.{Evaluates};
 
-use crate::runner::{NUMBER, Runner};
+use crate::runner::Runner;
 use bytes::Bytes;
-use repl_core::{Config, Machine};
+use ref_history::ListHistory;
+use ref_table::RefTable;
 use server_rules::{Actor, Refusal};
 use std::alloc::{AllocError, Global};
 use tenant_turns::{Core, Wire};
 use tenant_walks::Walks;
+use tenant_world::Tenant;
 
 impl Runner {
     ghost use Rattle.tenant_runner.specs.Standing.{Stands};
 
-    /// A server whose first tenant has heard nothing. It fails only for want of memory.
-    pub fn new(alloc: Global, config: Config) -> Result<Runner, AllocError>
-        ensures { (g : Ground) → IsRight g → Evaluates g → g.seed ≡ config.seed
-            → g.steps ≡ config.steps → g.retries ≡ config.retries → g.places ≡ 1
-            → IfOk result (λ made. Stands g made (opened_lone g)) }
+    /// A tenant that has heard nothing, the first one under the server's seed. It fails only for
+    /// want of memory.
+    pub fn new(
+        alloc: Global,
+        seed: [u8; 32],
+        steps: u32,
+        retries: u32,
+    ) -> Result<Runner, AllocError>
+        ensures { (g : Ground) → IsRight g → Evaluates g → g.seed ≡ seed → g.steps ≡ steps
+            → g.retries ≡ retries → IfOk result (λ made. Stands g made (opened_lone g)) }
     {
-        let mut machine = Machine::new(alloc, config);
-        match machine.open(NUMBER) {
-            Ok(()) => Ok(Runner {
-                machine,
-                walks: Walks::new(alloc),
-            }),
-            Err(_) => Err(AllocError),
-        }
+        Ok(Runner {
+            tenant: Tenant::new(alloc, seed, 0, steps, retries)?,
+            refs: RefTable::new(alloc, ListHistory::new(alloc)),
+            walks: Walks::new(alloc),
+        })
     }
 }
 
@@ -41,34 +45,23 @@ impl Core for Runner {
     ghost stands = { Stands };
 
     fn hear(&mut self, piece: &Bytes) -> Result<(), Refusal> {
-        match self.machine.hear(NUMBER, piece) {
-            Ok(_) => Ok(()),
-            Err(why) => Err(why),
-        }
+        self.tenant.hear(piece)?;
+        Ok(())
     }
 
     fn actors(&self, alloc: Global) -> Result<Vec<Actor>, AllocError> {
-        match self.machine.tenant(NUMBER) {
-            Some(tenant) => tenant.actors(alloc),
-            None => Ok(Vec::new(alloc)),
-        }
+        self.tenant.actors(alloc)
     }
 
     fn go(&mut self, actor: Actor) -> Result<(), Refusal> {
-        self.machine.go(NUMBER, actor, &mut self.walks)
+        self.walks.go(&mut self.tenant, &mut self.refs, actor)
     }
 
     fn drain(&mut self) -> Option<Vec<u8>> {
-        match self.machine.drain(NUMBER) {
-            Ok(reply) => Some(reply),
-            Err(_) => None,
-        }
+        self.tenant.drain()
     }
 
     fn wire(&self) -> Wire {
-        match self.machine.tenant(NUMBER) {
-            Some(tenant) => tenant.wire(),
-            None => Wire::Whole,
-        }
+        self.tenant.wire()
     }
 }
