@@ -71,10 +71,10 @@ const EVAL_IN_FIRST: &[u8] =
 const WAITING_IN_FIRST: &[u8] =
     b"d4:code1:12:id1:42:op4:eval7:session36:76b8e0ad-a0f1-4d90-805d-6ae55386bd28e";
 
-const CLOSE_FIRST: &[u8] =
-    b"d2:id1:52:op5:close7:session36:76b8e0ad-a0f1-4d90-805d-6ae55386bd28e";
+const CLOSE_FIRST: &[u8] = b"d2:id1:52:op5:close7:session36:76b8e0ad-a0f1-4d90-805d-6ae55386bd28e";
 
-const CLOSED_REPLIES: &[u8] = b"d2:id1:47:session36:76b8e0ad-a0f1-4d90-805d-6ae55386bd286:statusl4:done11:interruptedeed2:id1:57:session36:76b8e0ad-a0f1-4d90-805d-6ae55386bd286:statusl4:done14:session-closedeed2:id1:37:session36:76b8e0ad-a0f1-4d90-805d-6ae55386bd286:statusl4:done11:interruptedee";
+const CLOSED_REPLIES: &[u8] =
+    b"d2:id1:47:session36:76b8e0ad-a0f1-4d90-805d-6ae55386bd286:statusl4:done11:interruptedeed2:id1:57:session36:76b8e0ad-a0f1-4d90-805d-6ae55386bd286:statusl4:done14:session-closedeed2:id1:37:session36:76b8e0ad-a0f1-4d90-805d-6ae55386bd286:statusl4:done11:interruptedee";
 
 // A request that waits is answered at the close, and the one in hand at its next turn. Then its actor
 // is gone.

@@ -77,7 +77,11 @@ pub(crate) fn expect_refused(
     outputs: &Outputs,
     refused: &[(usize, Refusal)],
 ) -> Result<(), Fail> {
-    assert_eq!(rt; outputs.refused.len(), refused.len(), "how many are refused");
+    assert_eq!(rt;
+        outputs.refused.len(),
+        refused.len(),
+        "how many are refused"
+    );
     for (told, wanted) in outputs.refused.iter().zip(refused) {
         let (place, why) = *wanted;
         assert_eq!(rt; *told, RefusedTurn { place, why }, "the refusal");
