@@ -83,3 +83,26 @@ fn refused_step_is_given_back(rt: HostRuntime) -> Result<(), Fail> {
     assert_eq!(rt; back, Some(7), "the step");
     Ok(())
 }
+
+#[test]
+fn steps_are_copied(rt: HostRuntime) -> Result<(), Fail> {
+    let steps = [
+        Step::Open(1),
+        Step::Start(2, Actor::Session(3)),
+        Step::Drain(4),
+        Step::Bye(5),
+    ];
+    for step in &steps {
+        let is_same = match (step.copy(rt.alloc())?, step) {
+            (Step::Open(copied), Step::Open(number))
+            | (Step::Drain(copied), Step::Drain(number))
+            | (Step::Bye(copied), Step::Bye(number)) => copied == *number,
+            (Step::Start(copied, seat), Step::Start(number, actor)) => {
+                copied == *number && seat == *actor
+            }
+            _ => false,
+        };
+        assert!(&rt; is_same, "the copy");
+    }
+    Ok(())
+}

@@ -51,7 +51,8 @@ pub(crate) fn hear(
     piece: &[u8],
 ) -> Result<(), Fail> {
     let piece = Bytes::copy_from_slice(alloc, piece)?;
-    expect_accepted(rt, machine, Step::Hear(number, piece))
+    let step = Step::Hear(number, piece).copy(alloc)?;
+    expect_accepted(rt, machine, step)
 }
 
 // The reply that is taken out is this.

@@ -1,10 +1,9 @@
 -- A driver stands for the server of the rules, with the evaluations of all forms that run.
-use Rattle.std.specs.Prelude.{◌≡◌, ℕ, List, ⊤}
+use Rattle.std.specs.Prelude.{◌≡◌, ℕ, List}
 use Rattle.server_rules.specs.Ground.{Ground}
-use Rattle.server_rules.specs.Plan.{Deed, StepAnswer, hears, drains}
+use Rattle.server_rules.specs.Plan.{StepAnswer}
 use Rattle.server_rules.specs.Turns.{Turn, stepped, bytes_in}
-use Rattle.server_rules.specs.World as worlds
-use Rattle.server_rules.specs.World.{World, opens, does, closes, accepted, refused, step}
+use Rattle.server_rules.specs.World.{World, accepted, refused}
 use Rattle.server_rules.specs.declared.refusal.Refusal.{Refusal}
 use Rattle.tenant_turns.specs.Grounds.{IsRight}
 use Rattle.tenant_walks.specs.Grounds.{Evaluates}
@@ -18,17 +17,6 @@ pub record Stands (g : Ground) (d : Driver) (w : World) : Type 0 where
   pub ground : Evaluates g
   pub machine : machine.Stands g d.machine w
   pub walked : (t : ℕ) → IsWalkedAt (walks_at d.kept t) (open_in t w)
-
--- a deed by which no form goes on
-abbrev pub KeepsForms : Deed → Type 0
-KeepsForms (hears piece) = ⊤
-KeepsForms drains = ⊤
-KeepsForms _ = ⊥
-
-abbrev pub StepKeepsForms : worlds.Step → Type 0
-StepKeepsForms (opens t) = ⊤
-StepKeepsForms (does t d) = KeepsForms d
-StepKeepsForms (closes t) = ⊤
 
 -- the turn is accepted and gives these bytes
 pub record Turned (g : Ground) (w : World) (turn : Turn) (d : Driver) (bytes : List ℕ) : Type 0 where

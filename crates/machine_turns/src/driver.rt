@@ -3,9 +3,9 @@ ghost use Rattle.std.specs.Prelude.{◌≡◌, ◌≢◌, [], IfOk, IfErr, OnOk}
 ghost use Rattle.server_rules.specs.Ground.{Ground};
 ghost use Rattle.server_rules.specs.Turns.{given, goes, bytes_in};
 ghost use Rattle.server_rules.specs.World.{World, opening};
+ghost use Rattle.repl_core.specs.Going.{StepKeepsForms};
 ghost use Rattle.repl_core.specs.Steps.{step_view, step_answer_view};
 ghost use Rattle.machine_turns.specs.Configured.{IsConfigured};
-ghost use Rattle.machine_turns.specs.Driver.{StepKeepsForms};
 ghost use Rattle.machine_turns.specs.Turns.{turn_view, bytes_given};
 
 use crate::kept::Kept;

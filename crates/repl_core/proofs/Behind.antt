@@ -1,26 +1,23 @@
 -- A machine behind the deeds of a tenant.
-use Rattle.std.proofs.Common.{◌≡◌, ◌≢◌, ℕ, ◌==◌, Bool, true, false, Option, Some, None}
+use Rattle.std.proofs.Common.{◌≡◌, ◌≢◌, ℕ, Some, None}
 use Rattle.std.proofs.Common.{Result, Ok, Err, IfOk, IfErr, refl, sym, ap, subst, ◌∙◌}
-use Rattle.std.proofs.lemmas.Bool.{eqb-true}
 use Rattle.value_data.specs.Datum.{tenant}
-use Rattle.server_rules.specs.Calls.{performed}
 use Rattle.server_rules.specs.Deeds.{plan}
 use Rattle.server_rules.specs.Ground.{Ground}
-use Rattle.server_rules.specs.Plan.{Deed, StepAnswer, Outcome, refuses, leaves}
+use Rattle.server_rules.specs.Plan.{Deed, StepAnswer}
 use Rattle.server_rules.specs.Store.{Store}
 use Rattle.server_rules.specs.Tenant.{Quiet}
-use Rattle.server_rules.specs.World as worlds
-use Rattle.server_rules.specs.World.{TenantData, World, does, ended_as, with_tenant, is_used}
+use Rattle.server_rules.specs.World.{TenantData, World, does, ended_as, with_tenant}
 use Rattle.server_rules.specs.declared.actor.Actor.{Actor}
 use Rattle.server_rules.specs.declared.refusal.Refusal.{Refusal}
-use Rattle.ref_table.specs.Refs.{Refs, after as refs_after}
+use Rattle.ref_table.specs.Refs.{after as refs_after}
 use Rattle.tenant_refs.specs.Serving.{Table, Serves}
 use Rattle.tenant_refs.proofs.Calls.{performed-tenant}
 use Rattle.tenant_turns.specs.Deeded.{Deeded, deeded}
 use Rattle.tenant_world.specs.Standing as world
 use Rattle.tenant_world.specs.declared.tenant.Tenant.{Tenant}
 use Rattle.repl_core.specs.TenantAt.{tenant_at}
-use Rattle.repl_core.specs.Standing.{open_in, store_in, TenantStands, PlaceStands, Stands}
+use Rattle.repl_core.specs.Standing.{open_in, store_in, PlaceStands, Stands}
 use Rattle.repl_core.specs.Steps.{Does, Refuses}
 use Rattle.repl_core.specs.declared.machine.Machine.{Machine}
 use Rattle.repl_core.specs.declared.tenants.Tenants.{Tenants}
@@ -79,7 +76,7 @@ refuses-none g w t d old ts s none gone others = record {
 
 -- A deed that is accepted
 
-deeded-tenant : (g : Ground) (s : Store) (q : Quiet) (d : Deed)
+pub deeded-tenant : (g : Ground) (s : Store) (q : Quiet) (d : Deed)
     → (deeded g s q d).store.tenant ≡ s.tenant
 unfolding deeded
 deeded-tenant g s q d = performed-tenant s (plan g s.tenant q d).call

@@ -1,15 +1,16 @@
 -- A machine where a tenant comes or goes.
 use Rattle.std.proofs.Common.{◌≡◌, ◌≢◌, ℕ, ◌+◌, ◌-◌, ◌==◌, [], ◌∷◌, Bool, true, false, ◌||◌, nat_le}
-use Rattle.std.proofs.Common.{Option, Some, None, option_and_then, refl, sym, ap, subst, ◌∙◌}
-use Rattle.std.proofs.Common.{if◌then◌else◌, Result, Ok, Err, IfErr}
+use Rattle.std.proofs.Common.{Some, None, option_and_then, refl, sym, ap, ◌∙◌}
+use Rattle.std.proofs.Common.{if◌then◌else◌, Result, Ok, Err, IfErr, ◌<◌, ◌≤◌, arith}
 use Rattle.std.specs.Result.{IsErrAnd}
-use Rattle.std.proofs.lemmas.Bool.{eq-eqb, ne_eqb}
-use Rattle.value_data.specs.Datum.{OwnerData, shared, tenant}
+use Rattle.std.proofs.lemmas.Bool.{eq-eqb}
+use Rattle.std.proofs.lemmas.Bool.Decides.{nat_tests}
+use Rattle.value_data.specs.Datum.{OwnerData, tenant}
 use Rattle.server_rules.specs.Commit.{same_owner}
 use Rattle.server_rules.specs.Ground.{Ground}
 use Rattle.server_rules.specs.Numbered.{entry, found}
 use Rattle.server_rules.specs.Plan.{tenant_opened, tenant_gone}
-use Rattle.server_rules.specs.Store.{Around, Store}
+use Rattle.server_rules.specs.Store.{Store}
 use Rattle.server_rules.specs.Tenant.{opened_quiet}
 use Rattle.server_rules.specs.World.{TenantData, World, opens, closes, opened_tenant, with_tenant}
 use Rattle.server_rules.specs.World as worlds
@@ -41,13 +42,13 @@ open-by : (g : Ground) (w : World) (t : ℕ) → step g w (opens t) ≡ open_ste
 unfolding step
 open-by g w t = refl
 
-abbrev open_tested : Ground → World → ℕ → Bool → Bool → worlds.Stepped
+abbrev pub open_tested : Ground → World → ℕ → Bool → Bool → worlds.Stepped
 open_tested g w t used held =
     if used then refused Refusal.NumberUsed
     else if held then refused Refusal.Full
     else accepted (record w { tenants = entry t (Some (opened_tenant g)) ∷ w.tenants }) tenant_opened
 
-open-tested : (g : Ground) (w : World) (t : ℕ) (used held : Bool) → is_used t w.tenants ≡ used
+pub open-tested : (g : Ground) (w : World) (t : ℕ) (used held : Bool) → is_used t w.tenants ≡ used
     → nat_le g.places (open_count w.tenants) ≡ held
     → step g w (opens t) ≡ open_tested g w t used held
 open-tested g w t used held is full =
@@ -67,6 +68,12 @@ full-so : (g : Ground) (w : World) (m : Machine) (s : Stands g m w) (b : Bool)
     → nat_le m.places m.places_taken ≡ b → nat_le g.places (open_count w.tenants) ≡ b
 full-so g w m s b is =
     ap (λ k. nat_le k (open_count w.tenants)) s.places ∙ ap (nat_le m.places) s.places_taken ∙ is
+
+pub le-true : (n m : ℕ) → n ≤ m → nat_le n m ≡ true
+le-true n m h = grind (arith, nat_tests)
+
+pub lt-false : (n m : ℕ) → m < n → nat_le n m ≡ false
+lt-false n m h = grind (arith, nat_tests)
 
 pub refuses-full : (g : Ground) (w : World) (t : ℕ) (m : Machine) (s : Stands g m w)
     → is_reached m.newest t ≡ false → nat_le m.places m.places_taken ≡ true

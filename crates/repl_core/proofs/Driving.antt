@@ -1,5 +1,5 @@
 -- A list of turns, one after another.
-use Rattle.std.proofs.Common.{◌≡◌, ℕ, suc, ◌+◌, ◌==◌, List, [], ◌∷◌, ◌++◌, length, Bool, true, false}
+use Rattle.std.proofs.Common.{◌≡◌, ℕ, suc, ◌+◌, ◌==◌, List, [], ◌∷◌, ◌++◌, length}
 use Rattle.std.proofs.Common.{refl, sym, ap, ◌∙◌, if◌then◌else◌, append_assoc, append-nil, arith}
 use Rattle.server_rules.specs.Ground.{Ground}
 use Rattle.server_rules.specs.Turns.{Turn, whose, stepped, next, serve, bytes_given}

@@ -1,11 +1,10 @@
 -- A machine behind the turn of an actor.
-use Rattle.std.proofs.Common.{◌≡◌, ◌≢◌, ℕ, Option, Some, None, option_map, option_and_then}
-use Rattle.std.proofs.Common.{Result, Ok, Err, IfErr, OnOk, refl, sym, ap, subst, ◌∙◌}
+use Rattle.std.proofs.Common.{◌≡◌, ◌≢◌, ℕ, Some, None, option_map}
+use Rattle.std.proofs.Common.{Result, Ok, Err, IfErr, OnOk, sym, ap, subst, ◌∙◌}
 use Rattle.server_rules.specs.Ground.{Ground}
 use Rattle.server_rules.specs.Numbered.{found}
-use Rattle.server_rules.specs.Plan.{Deed}
 use Rattle.server_rules.specs.Turns.{goes, stepped, honest, quiet_of}
-use Rattle.server_rules.specs.World.{TenantData, World, step, does, refused, ended_as}
+use Rattle.server_rules.specs.World.{TenantData, World, step, does, ended_as}
 use Rattle.server_rules.specs.declared.actor.Actor.{Actor}
 use Rattle.server_rules.specs.declared.refusal.Refusal.{Refusal}
 use Rattle.tenant_refs.specs.Serving.{Table}
@@ -26,7 +25,7 @@ use Rattle.repl_core.proofs.Places.{serves-in, kept-at, none-at, open-mine, all-
 use Rattle.repl_core.proofs.Behind.{machine_with, stands-with, stands-one, stays-one, world_behind}
 
 -- the turn is the honest deed
-honest-turn : (g : Ground) (w : World) (t : ℕ) (a : Actor) (kept : TenantData)
+pub honest-turn : (g : Ground) (w : World) (t : ℕ) (a : Actor) (kept : TenantData)
     → open_in t w ≡ Some kept
     → stepped g w (goes t a) ≡ step g w (does t (honest g a (Some (Some kept.quiet))))
 honest-turn g w t a kept there =

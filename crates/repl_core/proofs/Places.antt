@@ -8,7 +8,7 @@ use Rattle.server_rules.specs.Numbered.{found, replaced}
 use Rattle.server_rules.specs.Store.{Around, Store}
 use Rattle.server_rules.specs.Tenant.{Quiet}
 use Rattle.server_rules.specs.World.{TenantData, World}
-use Rattle.ref_table.specs.Refs.{Refs, store_of, after as refs_after}
+use Rattle.ref_table.specs.Refs.{Refs, after as refs_after}
 use Rattle.tenant_refs.specs.Attempts.{ArePoints}
 use Rattle.tenant_refs.specs.Serving.{Serves}
 use Rattle.tenant_walks.proofs.Runs.{found-put}
@@ -18,7 +18,6 @@ use Rattle.tenant_world.specs.declared.tenant.Tenant.{Tenant}
 use Rattle.repl_core.specs.TenantAt.{tenant_at}
 use Rattle.repl_core.specs.Standing.{open_in, store_in, around_in, TenantStands, PlaceStands, Stands}
 use Rattle.repl_core.specs.declared.machine.Machine.{Machine}
-use Rattle.repl_core.specs.declared.tenants.Tenants.{Tenants}
 use Rattle.repl_core.proofs.Worlds.{found-open}
 
 -- the code stands for a tenant, whatever all have in common
@@ -92,28 +91,36 @@ place-moved g r new t o x p y same is refs it =
     (subst (PlaceStands g new t o) (sym is) (place-still g r new t o p refs it))
 
 -- the tenant of the rules that stands there
+kept-some : (g : Ground) (r : Refs) (t : ℕ) (code : Tenant) (p : Option TenantData)
+    → PlaceStands g r t (Some code) p
+    → (kept : TenantData) × (p ≡ Some kept) × TenantStands g r t code kept
+kept-some g r t code None it = absurd (it)
+kept-some g r t code (Some kept) it = (kept, refl, it)
+
 pub kept-at : (g : Ground) (r : Refs) (t : ℕ) (code : Tenant) (o : Option Tenant)
     (p : Option TenantData) → PlaceStands g r t o p → o ≡ Some code
     → (kept : TenantData) × (p ≡ Some kept) × TenantStands g r t code kept
-kept-at g r t code None p it never = absurd (cc)
-kept-at g r t code (Some x) None it same = absurd (it)
-kept-at g r t code (Some x) (Some kept) it same =
-    let equal : x ≡ code = cc in
-    (kept, refl, subst (λ y. TenantStands g r t y kept) equal it)
+kept-at g r t code o p it same =
+    kept-some g r t code p (subst (λ x. PlaceStands g r t x p) same it)
+
+none-there : (g : Ground) (r : Refs) (t : ℕ) (p : Option TenantData) → PlaceStands g r t None p
+    → p ≡ None
+none-there g r t None it = refl
+none-there g r t (Some kept) it = absurd (it)
 
 pub none-at : (g : Ground) (r : Refs) (t : ℕ) (o : Option Tenant) (p : Option TenantData)
     → PlaceStands g r t o p → o ≡ None → p ≡ None
-none-at g r t None None it e = refl
-none-at g r t None (Some kept) it e = absurd (it)
-none-at g r t (Some x) p it never = absurd (cc)
+none-at g r t o p it e = none-there g r t p (subst (λ x. PlaceStands g r t x p) e it)
 
 -- and where none of the rules stands there
+refs-there : (g : Ground) (r : Refs) (t : ℕ) (o : Option Tenant) → PlaceStands g r t o None
+    → r.owned (tenant t) ≡ []
+refs-there g r t None it = it
+refs-there g r t (Some x) it = absurd (it)
+
 pub refs-none : (g : Ground) (r : Refs) (t : ℕ) (o : Option Tenant) (p : Option TenantData)
     → PlaceStands g r t o p → p ≡ None → r.owned (tenant t) ≡ []
-refs-none g r t None None it e = it
-refs-none g r t None (Some kept) it e = absurd (it)
-refs-none g r t (Some x) None it e = absurd (it)
-refs-none g r t (Some x) (Some kept) it never = absurd (cc)
+refs-none g r t o p it e = refs-there g r t o (subst (PlaceStands g r t o) e it)
 
 -- All places
 
@@ -153,3 +160,14 @@ pub owned-mine : (s : Store) (r : Refs) (t : ℕ) → s.tenant ≡ t
 owned-mine s r t same =
     sym (ap (λ k. if t == k then s.mine.refs else r.owned (tenant t)) same
     ∙ ap (λ (b : Bool). if b then s.mine.refs else r.owned (tenant t)) (eq-eqb t t refl))
+
+-- what a tenant that is open shows
+pub shown-of : {X : Type 0} (g : Ground) (m : Machine) (w : World) (t : ℕ) (code : Tenant)
+    (show : Quiet → Option X) (shown : Option X) (s : Stands g m w)
+    → tenant_at m.tenants t ≡ Some code
+    → ((q : Quiet) (st : Store) → world.Stands g code q st → shown ≡ show q)
+    → shown ≡ option_and_then (λ it. show it.quiet) (open_in t w)
+shown-of g m w t code show shown s there is =
+    let at = kept-at g s.refs t code (tenant_at m.tenants t) (open_in t w) (s.tenants t) there in
+    is at.0.quiet (store_in w.around t at.0.mine) (at.2.stands w.around)
+    ∙ sym (ap (option_and_then (λ it. show it.quiet)) at.1)

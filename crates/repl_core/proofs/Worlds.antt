@@ -10,7 +10,7 @@ use Rattle.server_rules.specs.Deeds.{plan}
 use Rattle.server_rules.specs.Store.{Store}
 use Rattle.server_rules.specs.Tenant.{Quiet}
 use Rattle.server_rules.specs.World.{TenantData, World, is_used, open_count}
-use Rattle.server_rules.specs.World.{Stepped, accepted, refused, step, opens, does, closes}
+use Rattle.server_rules.specs.World.{accepted, refused, step, does, closes}
 use Rattle.server_rules.specs.World.{deed_step, close_step, ended_as, with_tenant}
 use Rattle.server_rules.specs.Plan.{tenant_gone}
 use Rattle.server_rules.specs.declared.refusal.Refusal.{Refusal}

@@ -1,9 +1,10 @@
 -- An actor of a tenant goes on as its evaluation says.
 use Rattle.std.specs.Prelude.{◌≡◌, ◌≢◌, ℕ, Option, None, Some, ⊤}
 use Rattle.server_rules.specs.Ground.{Ground}
-use Rattle.server_rules.specs.Plan.{StepAnswer}
+use Rattle.server_rules.specs.Plan.{Deed, StepAnswer, hears, starts, asks_for, ends, drains}
 use Rattle.server_rules.specs.Turns.{goes, stepped}
-use Rattle.server_rules.specs.World.{TenantData, World, accepted, refused}
+use Rattle.server_rules.specs.World as worlds
+use Rattle.server_rules.specs.World.{TenantData, World, opens, does, closes, accepted, refused}
 use Rattle.server_rules.specs.declared.actor.Actor.{Actor}
 use Rattle.server_rules.specs.declared.refusal.Refusal.{Refusal}
 use Rattle.tenant_walks.specs.WalkAt.{walk_at}
@@ -16,6 +17,19 @@ use Rattle.repl_core.specs.declared.machine.Machine.{Machine}
 abbrev pub AreWalkedIn : Walks → Option TenantData → Type 0
 AreWalkedIn walks None = ⊤
 AreWalkedIn walks (Some kept) = AreWalked (walk_at walks) kept.quiet
+
+-- a deed by which no form goes on
+abbrev pub KeepsForms : Deed → Type 0
+KeepsForms (hears piece) = ⊤
+KeepsForms drains = ⊤
+KeepsForms (starts a) = ⊥
+KeepsForms (asks_for a ask) = ⊥
+KeepsForms (ends a e) = ⊥
+
+abbrev pub StepKeepsForms : worlds.Step → Type 0
+StepKeepsForms (opens t) = ⊤
+StepKeepsForms (does t d) = KeepsForms d
+StepKeepsForms (closes t) = ⊤
 
 -- the turn is accepted
 pub record Goes (g : Ground) (w : World) (t : ℕ) (a : Actor) (m : Machine) (walks : Walks)

@@ -47,9 +47,9 @@ is_reached (Some newest) t = nat_le t newest
 
 pub record Stands (g : Ground) (m : Machine) (w : World) : Type 0 where
   pub names : SharesNoNames g
-  pub seed : g.seed ≡ m.seed
-  pub steps : g.steps ≡ m.steps
-  pub retries : g.retries ≡ m.retries
+  pub seed : g.seed ≡ m.config.seed
+  pub steps : g.steps ≡ m.config.steps
+  pub retries : g.retries ≡ m.config.retries
   pub places : g.places ≡ m.places
   pub refs : Refs
   pub table : table.Stands ListStands m.refs refs

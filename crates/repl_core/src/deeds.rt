@@ -1,5 +1,6 @@
 // What tenants do.
-ghost use Rattle.std.specs.Prelude.{◌≡◌, ◌<◌, true, IfOk, IfErr};
+ghost use Rattle.std.specs.Prelude.{◌≡◌, ◌≢◌, ◌+◌, ◌<◌, ◌∷◌, [], true, Err};
+ghost use Rattle.std.specs.Prelude.{IfOk, IfErr, OnOk, OnErr};
 ghost use Rattle.repl_asks.specs.View.{ask_view};
 ghost use Rattle.server_rules.specs.Ground.{Ground};
 ghost use Rattle.server_rules.specs.Plan as deeds;
@@ -21,16 +22,21 @@ use tenant_world as world;
 use tenant_world::{Asked, Ended, Started};
 
 impl Machine {
+    ghost use Rattle.repl_core.specs.Left.{left_at};
     ghost use Rattle.repl_core.specs.Standing.{Stands};
     ghost use Rattle.repl_core.specs.Steps.{Does, Refuses};
 
     /// A tenant hears a piece of its stream.
-    pub(crate) fn hear(&mut self, number: u64, piece: &Bytes) -> Result<usize, Refusal>
+    pub fn hear(&mut self, number: u64, piece: &Bytes) -> Result<usize, Refusal>
         ensures done { (g : Ground) (w : World) → IsRight g → Stands g self.old w
             → IfOk result (λ x. Does g w (does number (deeds.hears piece.now)) self.new
             (messages_heard x)) }
         ensures refused { (g : Ground) (w : World) → IsRight g → Stands g self.old w
             → IfErr result (Refuses g w (does number (deeds.hears piece.now)) self.new) }
+        ensures steps { OnOk result
+            ((left_at number self.old).steps ≡ (left_at number self.new).steps + 1) }
+        ensures kept { OnErr result
+            ((left_at number self.new).steps ≡ (left_at number self.old).steps) }
     {
         let Some(mut tenant) = self.tenants.take(number) else {
             return Err(Refusal::NoSuchTenant);
@@ -102,12 +108,18 @@ impl Machine {
     }
 
     /// A tenant's oldest reply is taken out. It takes no memory.
-    pub(crate) fn drain(&mut self, number: u64) -> Result<Vec<u8>, Refusal>
+    pub fn drain(&mut self, number: u64) -> Result<Vec<u8>, Refusal>
         ensures done { (g : Ground) (w : World) → IsRight g → Stands g self.old w
             → IfOk result (λ x. Does g w (does number deeds.drains) self.new
             (reply_given x.items)) }
         ensures refused { (g : Ground) (w : World) → IsRight g → Stands g self.old w
             → IfErr result (Refuses g w (does number deeds.drains) self.new) }
+        ensures steps { (left_at number self.new).steps ≡ (left_at number self.old).steps }
+        ensures oldest { IfOk result (λ reply. (left_at number self.old).outbox
+            ≡ reply.items ∷ (left_at number self.new).outbox) }
+        ensures emptied { OnErr result (((left_at number self.old).outbox ≡ [])
+            × ((left_at number self.new).outbox ≡ [])) }
+        ensures free { result ≢ Err Refusal.NoMemory }
     {
         let Some(mut tenant) = self.tenants.take(number) else {
             return Err(Refusal::NoSuchTenant);

@@ -1,5 +1,5 @@
 // An actor goes on as its evaluation says.
-ghost use Rattle.std.specs.Prelude.{◌≡◌, OnOk, IfErr};
+ghost use Rattle.std.specs.Prelude.{◌≡◌, ◌+◌, ◌<◌, Err, OnOk, IfErr, OnErr, length};
 ghost use Rattle.server_rules.specs.Ground.{Ground};
 ghost use Rattle.server_rules.specs.World.{World};
 ghost use Rattle.tenant_turns.specs.Grounds.{IsRight};
@@ -13,6 +13,7 @@ use server_rules::{Actor, Refusal};
 use tenant_walks::Walks;
 
 impl Machine {
+    ghost use Rattle.repl_core.specs.Left.{left_at};
     ghost use Rattle.repl_core.specs.Standing.{Stands};
     ghost use Rattle.repl_core.specs.Going.{Goes, Halts};
 
@@ -26,6 +27,11 @@ impl Machine {
         ensures refused { (g : Ground) (w : World) → IsRight g → Evaluates g → Stands g self.old w
             → AreWalkedIn walks.old (open_in number w)
             → IfErr result (Halts g w number actor self.new walks.new) }
+        ensures steps { OnOk result
+            ((left_at number self.old).steps ≡ (left_at number self.new).steps + 1) }
+        ensures kept { OnErr result
+            ((left_at number self.new).steps ≡ (left_at number self.old).steps) }
+        ensures held { result ≡ Err Refusal.Held → 0 < length (left_at number self.old).outbox }
     {
         if !has_stamps(&self.refs) {
             return Err(Refusal::NoMemory);

@@ -9,5 +9,5 @@ mod step;
 mod stepping;
 mod tenants;
 
-pub use machine::{Config, Machine, PLACES};
+pub use machine::{Config, Machine, PLACES, RETRIES, STEPS};
 pub use step::{Refused, Step, StepAnswer};

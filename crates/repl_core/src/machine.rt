@@ -1,19 +1,27 @@
 // The machine as it begins, and what it shows.
-ghost use Rattle.std.specs.Prelude.{◌≡◌, [], option_and_then};
+ghost use Rattle.std.specs.Prelude.{◌≡◌, [], option_and_then, option_map};
 ghost use Rattle.server_rules.specs.Ground.{Ground};
 ghost use Rattle.server_rules.specs.Ready.{ready};
 ghost use Rattle.server_rules.specs.World.{World, opening};
-ghost use Rattle.repl_core.specs.Standing.{open_in};
 ghost use Rattle.tenant_world.specs.Asking.{SharesNoNames};
+ghost use Rattle.repl_core.specs.Standing.{open_in};
+ghost use Rattle.repl_core.specs.TenantAt.{tenant_at};
 
 use crate::tenants::Tenants;
 use ref_history::ListHistory;
 use ref_table::RefTable;
 use server_rules::Actor;
 use std::alloc::Global;
+use tenant_world::Tenant;
 
 /// How many tenants may be open at once.
 pub const PLACES: usize = 1;
+
+/// The steps that a tenant takes unless told otherwise.
+pub const STEPS: u32 = 4_194_304;
+
+/// How many attempts a transaction has unless told otherwise.
+pub const RETRIES: u32 = 10_000;
 
 /// What a server begins with.
 #[derive(Clone, Copy)]
@@ -30,9 +38,7 @@ pub struct Config {
 #[derive(Drop)]
 pub struct Machine {
     pub(crate) alloc: Global,
-    pub(crate) seed: [u8; 32],
-    pub(crate) steps: u32,
-    pub(crate) retries: u32,
+    pub(crate) config: Config,
     pub(crate) places: usize,
     // how many tenants are open
     pub(crate) places_taken: usize,
@@ -52,15 +58,20 @@ impl Machine {
     {
         Machine {
             alloc,
-            seed: config.seed,
-            steps: config.steps,
-            retries: config.retries,
+            config,
             places: PLACES,
             places_taken: 0,
             newest: None,
             refs: RefTable::new(alloc, ListHistory::new(alloc)),
             tenants: Tenants::new(alloc),
         }
+    }
+
+    /// A tenant, if it is open.
+    pub fn tenant(&self, number: u64) -> Option<&Tenant>
+        ensures { option_map (λ it. it.now) result ≡ tenant_at self.now.tenants number }
+    {
+        self.tenants.get(number)
     }
 
     /// The first actor of a tenant that has a form or a request to begin, if the tenant is open and

@@ -1,12 +1,12 @@
 // Tenants come and go.
-ghost use Rattle.std.specs.Prelude.{◌≡◌, OnOk, IfErr};
+ghost use Rattle.std.specs.Prelude.{◌≡◌, ◌≢◌, Err, OnOk, IfErr};
 ghost use Rattle.server_rules.specs.Ground.{Ground};
 ghost use Rattle.server_rules.specs.Plan.{tenant_opened, tenant_gone};
 ghost use Rattle.server_rules.specs.World.{World, opens, closes};
 ghost use Rattle.tenant_turns.specs.Grounds.{IsRight};
 ghost use Rattle.repl_core.specs.Standing.{is_reached};
 
-use crate::machine::Machine;
+use crate::machine::{Config, Machine};
 use server_rules::Refusal;
 use tenant_world::Tenant;
 
@@ -15,7 +15,7 @@ impl Machine {
     ghost use Rattle.repl_core.specs.Steps.{Does, Refuses};
 
     /// A tenant comes.
-    pub(crate) fn open(&mut self, number: u64) -> Result<(), Refusal>
+    pub fn open(&mut self, number: u64) -> Result<(), Refusal>
         ensures done { (g : Ground) (w : World) → IsRight g → Stands g self.old w
             → OnOk result (Does g w (opens number) self.new tenant_opened) }
         ensures refused { (g : Ground) (w : World) → IsRight g → Stands g self.old w
@@ -27,7 +27,12 @@ impl Machine {
         if self.places_taken >= self.places {
             return Err(Refusal::Full);
         }
-        let tenant = Tenant::new(self.alloc, self.seed, number, self.steps, self.retries)?;
+        let Config {
+            seed,
+            retries,
+            steps,
+        } = self.config;
+        let tenant = Tenant::new(self.alloc, seed, number, steps, retries)?;
         self.tenants.add(number, tenant)?;
         self.newest = Some(number);
         self.places_taken += 1;
@@ -44,12 +49,13 @@ impl Machine {
         }
     }
 
-    /// A tenant goes, and its refs with it.
-    pub(crate) fn close(&mut self, number: u64) -> Result<(), Refusal>
+    /// A tenant goes, and its refs with it. It takes no memory.
+    pub fn close(&mut self, number: u64) -> Result<(), Refusal>
         ensures done { (g : Ground) (w : World) → Stands g self.old w
             → OnOk result (Does g w (closes number) self.new tenant_gone) }
         ensures refused { (g : Ground) (w : World) → Stands g self.old w
             → IfErr result (Refuses g w (closes number) self.new) }
+        ensures free { result ≢ Err Refusal.NoMemory }
     {
         let Some(tenant) = self.tenants.remove(number) else {
             return Err(Refusal::NoSuchTenant);

@@ -6,12 +6,11 @@ mod lines;
 
 use crate::lines::{Line, LineError, read_line};
 use machine_turns::{Outputs, RefusedTurn, Turn, drive};
-use repl_core::Config;
+use repl_core::{Config, RETRIES, STEPS};
 use server_rules::Refusal;
 use std::alloc::{AllocError, Global};
 use std::io::{self, Read, Write};
 use std::process::ExitCode;
-use tenant_runner::{RETRIES, STEPS};
 
 // A configuration and a list of turns.
 #[derive(Drop)]

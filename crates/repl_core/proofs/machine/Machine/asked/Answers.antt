@@ -16,18 +16,18 @@ returns-clause-done c = λ g w right s.
     let t = c.args.number in
     let old = c.args.self.now in
     let d = deeds.asks_for c.args.actor (ask_view c.args.ask.now) in
-    does-so g w t d old c.put_back.new.self c.answer.new.refs c.in-Some.tenant c.answer.new.self
-    asked_view c.answer.result s (sym c.in-Some.ensures.taken)
+    does-so g w t d old c.put_back.new.self c.answer-result.new.refs c.in-Some.tenant c.answer-result.new.self
+    asked_view c.answer-result.result s (sym c.in-Some.ensures.taken)
     (λ kept st serves.
     let at = store_in w.around t kept.mine in
-    ok-map _ _ c.answer.result (λ x it. (
+    ok-map _ _ c.answer-result.result (λ x it. (
       record {
         after = it.0.after;
         accepted = it.0.accepted;
         stands = it.0.stands;
       },
       it.1,
-    )) (c.answer.ensures.done g kept.quiet at s.refs right st serves))
+    )) (c.answer-result.ensures.done g kept.quiet at s.refs right st serves))
     (c.put_back.ensures.put (c.in-Some.ensures.place refl))
     (λ u apart. c.put_back.ensures.others u apart ∙ c.in-Some.ensures.others u apart)
 
@@ -36,9 +36,9 @@ returns-clause-refused c = λ g w right s.
     let t = c.args.number in
     let old = c.args.self.now in
     let d = deeds.asks_for c.args.actor (ask_view c.args.ask.now) in
-    refuses-so g w t d old c.put_back.new.self c.answer.new.refs c.in-Some.tenant c.answer.new.self
-    c.answer.result s (sym c.in-Some.ensures.taken)
+    refuses-so g w t d old c.put_back.new.self c.answer-result.new.refs c.in-Some.tenant c.answer-result.new.self
+    c.answer-result.result s (sym c.in-Some.ensures.taken)
     (λ kept st serves.
-    c.answer.ensures.refused g kept.quiet (store_in w.around t kept.mine) s.refs right st serves)
+    c.answer-result.ensures.refused g kept.quiet (store_in w.around t kept.mine) s.refs right st serves)
     (c.put_back.ensures.put (c.in-Some.ensures.place refl))
     (λ u apart. c.put_back.ensures.others u apart ∙ c.in-Some.ensures.others u apart)

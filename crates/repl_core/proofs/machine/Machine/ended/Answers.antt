@@ -32,15 +32,15 @@ returns-clause-done c = λ g w right s.
     ∙ ap (λ x. record first { job = job_view e.job; trace = trace_view x }) c.trace.ensures
     ∙ ap (λ f. record (ended e) { end = finished_view f }) c.end.ensures in
     let d = deeds.ends c.args.actor (ended c.args.ending.now) in
-    does-so g w t d old c.put_back.new.self old.refs c.in-Some.tenant c.end_form.new.self
-    ended_view c.end_form.result s (sym c.in-Some.ensures.taken)
+    does-so g w t d old c.put_back.new.self old.refs c.in-Some.tenant c.end_form-result.new.self
+    ended_view c.end_form-result.result s (sym c.in-Some.ensures.taken)
     (λ kept st serves.
     let at = store_in w.around t kept.mine in
-    let D : EndingData → Type 0 = λ x. IfOk c.end_form.result (λ y.
+    let D : EndingData → Type 0 = λ x. IfOk c.end_form-result.result (λ y.
     world.DoesBy g c.args.actor kept.quiet
-    (deeded g at kept.quiet (deeds.ends c.args.actor x)) c.end_form.new.self (ended_view y)) in
-    of-actor g c.args.actor kept.quiet _ c.end_form.new.self ended_view _ c.end_form.result
-    (subst D is (c.end_form.ensures.done g kept.quiet at right st))
+    (deeded g at kept.quiet (deeds.ends c.args.actor x)) c.end_form-result.new.self (ended_view y)) in
+    of-actor g c.args.actor kept.quiet _ c.end_form-result.new.self ended_view _ c.end_form-result.result
+    (subst D is (c.end_form-result.ensures.done g kept.quiet at right st))
     (serves-all-still old.refs at _ s.refs serves
     (ends-reached g kept.quiet at c.args.actor (ended e))))
     (c.put_back.ensures.put (c.in-Some.ensures.place refl))
@@ -61,14 +61,14 @@ returns-clause-refused c = λ g w right s.
     ∙ ap (λ x. record first { job = job_view e.job; trace = trace_view x }) c.trace.ensures
     ∙ ap (λ f. record (ended e) { end = finished_view f }) c.end.ensures in
     let d = deeds.ends c.args.actor (ended c.args.ending.now) in
-    refuses-so g w t d old c.put_back.new.self old.refs c.in-Some.tenant c.end_form.new.self
-    c.end_form.result s (sym c.in-Some.ensures.taken)
+    refuses-so g w t d old c.put_back.new.self old.refs c.in-Some.tenant c.end_form-result.new.self
+    c.end_form-result.result s (sym c.in-Some.ensures.taken)
     (λ kept st serves.
     let at = store_in w.around t kept.mine in
-    let D : EndingData → Type 0 = λ x. IfErr c.end_form.result
+    let D : EndingData → Type 0 = λ x. IfErr c.end_form-result.result
     (world.Refuses g kept.quiet at (deeded g at kept.quiet (deeds.ends c.args.actor x))
-    c.end_form.new.self) in
-    err-with _ _ c.end_form.result
-    (subst D is (c.end_form.ensures.refused g kept.quiet at right st)) serves)
+    c.end_form-result.new.self) in
+    err-with _ _ c.end_form-result.result
+    (subst D is (c.end_form-result.ensures.refused g kept.quiet at right st)) serves)
     (c.put_back.ensures.put (c.in-Some.ensures.place refl))
     (λ u apart. c.put_back.ensures.others u apart ∙ c.in-Some.ensures.others u apart)

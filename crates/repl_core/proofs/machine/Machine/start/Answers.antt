@@ -16,12 +16,12 @@ returns-clause-done c = λ g w right s.
     let t = c.args.number in
     let old = c.args.self.now in
     let d = deeds.starts c.args.actor in
-    does-so g w t d old c.put_back.new.self old.refs c.in-Some.tenant c.start.new.self
-    started_view c.start.result s (sym c.in-Some.ensures.taken)
+    does-so g w t d old c.put_back.new.self old.refs c.in-Some.tenant c.start-result.new.self
+    started_view c.start-result.result s (sym c.in-Some.ensures.taken)
     (λ kept st serves.
     let at = store_in w.around t kept.mine in
-    of-actor g c.args.actor kept.quiet _ c.start.new.self started_view _ c.start.result
-    (c.start.ensures.done g kept.quiet at right st)
+    of-actor g c.args.actor kept.quiet _ c.start-result.new.self started_view _ c.start-result.result
+    (c.start-result.ensures.done g kept.quiet at right st)
     (serves-all-still old.refs at _ s.refs serves
     (starts-reached g kept.quiet at c.args.actor)))
     (c.put_back.ensures.put (c.in-Some.ensures.place refl))
@@ -32,10 +32,10 @@ returns-clause-refused c = λ g w right s.
     let t = c.args.number in
     let old = c.args.self.now in
     let d = deeds.starts c.args.actor in
-    refuses-so g w t d old c.put_back.new.self old.refs c.in-Some.tenant c.start.new.self
-    c.start.result s (sym c.in-Some.ensures.taken)
+    refuses-so g w t d old c.put_back.new.self old.refs c.in-Some.tenant c.start-result.new.self
+    c.start-result.result s (sym c.in-Some.ensures.taken)
     (λ kept st serves.
-    err-with _ _ c.start.result
-    (c.start.ensures.refused g kept.quiet (store_in w.around t kept.mine) right st) serves)
+    err-with _ _ c.start-result.result
+    (c.start-result.ensures.refused g kept.quiet (store_in w.around t kept.mine) right st) serves)
     (c.put_back.ensures.put (c.in-Some.ensures.place refl))
     (λ u apart. c.put_back.ensures.others u apart ∙ c.in-Some.ensures.others u apart)
