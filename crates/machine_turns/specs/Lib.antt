@@ -1,5 +1,0 @@
-pub mod Kept
-pub mod Configured
-pub mod Driver
-pub mod Turns
-pub mod Driven

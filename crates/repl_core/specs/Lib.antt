@@ -1,6 +1,0 @@
-pub mod TenantAt
-pub mod Standing
-pub mod Left
-pub mod Steps
-pub mod Going
-pub mod Driving
