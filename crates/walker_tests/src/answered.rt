@@ -9,6 +9,7 @@ use repl_jobs::{Finished, Job, Work};
 use repl_values::{Owner, RefName, Value};
 use repl_walker::{End, Progress, start};
 use std::alloc::{AllocError, Global};
+use std::collections::VecDeque;
 
 // More asks than an evaluation of these tests has.
 const MOST_ASKS: usize = 20_000;
@@ -104,8 +105,34 @@ fn end_told(alloc: Global, finished: &Finished, told: &mut String) -> Result<(),
     told.push_str(end.as_str())
 }
 
-// What is asked but for symbols, each ask with a semicolon behind it, and the end; or `waits` where
-// no answer is left.
+// The answer to an ask: to a symbol what it names, and else the next that is left, where the ask is
+// told with a semicolon behind it.
+fn answer_to(
+    alloc: Global,
+    ask: &Ask,
+    left: &mut VecDeque<Told>,
+    told: &mut String,
+) -> Result<Option<Answer>, AllocError> {
+    if let Ask::Resolve { namespace, symbol } = ask {
+        return Ok(Some(named(alloc, namespace.as_str(), symbol.as_str())?));
+    }
+    told.push_str(ask_told(alloc, ask)?.as_str())?;
+    told.push_str("; ")?;
+    match left.pop_front() {
+        Some(next) => Ok(Some(answer(alloc, next)?)),
+        None => Ok(None),
+    }
+}
+
+fn all(alloc: Global, given: &[Told]) -> Result<VecDeque<Told>, AllocError> {
+    let mut left = Vec::new(alloc);
+    for told in given {
+        left.push(*told)?;
+    }
+    Ok(VecDeque::from_vec(left))
+}
+
+// What is asked but for symbols, and the end; or `waits` where no answer is left.
 pub(crate) fn asked(
     alloc: Global,
     retries: u32,
@@ -113,37 +140,21 @@ pub(crate) fn asked(
     given: &[Told],
 ) -> Result<String, AllocError> {
     let mut told = String::new(alloc);
-    let mut next = 0;
+    let mut left = all(alloc, given)?;
     let mut progress = start(alloc, &job(alloc, code, retries)?)?;
     for _ in 0..MOST_ASKS {
-        progress = match progress {
+        let walk = match progress {
+            Progress::Asks(walk) => walk,
             Progress::Ends(ending) => {
                 end_told(alloc, ending.end(), &mut told)?;
                 return Ok(told);
             }
-            Progress::Asks(walk) => {
-                let answer = match walk.ask() {
-                    Ask::Resolve { namespace, symbol } => {
-                        named(alloc, namespace.as_str(), symbol.as_str())?
-                    }
-                    ask => {
-                        told.push_str(ask_told(alloc, ask)?.as_str())?;
-                        told.push_str("; ")?;
-                        match given.get(next) {
-                            Some(given) => {
-                                next += 1;
-                                answer(alloc, *given)?
-                            }
-                            None => {
-                                told.push_str("waits")?;
-                                return Ok(told);
-                            }
-                        }
-                    }
-                };
-                walk.resume(alloc, answer)?
-            }
         };
+        let Some(answer) = answer_to(alloc, walk.ask(), &mut left, &mut told)? else {
+            told.push_str("waits")?;
+            return Ok(told);
+        };
+        progress = walk.resume(alloc, answer)?;
     }
     told.push_str("goes on")?;
     Ok(told)
