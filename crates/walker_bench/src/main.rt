@@ -47,7 +47,10 @@ fn job(alloc: Global, size: Size) -> Result<Job, AllocError> {
         code.push_str(" (clojure.core/alter r clojure.core/inc)")?;
     }
     code.push_str(")")?;
-    let form = read_all(alloc, code.as_str())?.forms.pop().unwrap_or(Value::Nil);
+    let form = read_all(alloc, code.as_str())?
+        .forms
+        .pop()
+        .unwrap_or(Value::Nil);
     Ok(Job {
         work: Work::Form(form),
         namespace: ArcStr::from_str(alloc, "user")?,
@@ -81,20 +84,35 @@ fn most_asks(size: Size) -> u64 {
     size.alters.saturating_add(4).saturating_mul(attempts)
 }
 
+fn one_further(
+    alloc: Global,
+    reached: Reached,
+    size: Size,
+    counts: &mut Counts,
+) -> Result<Reached, AllocError> {
+    match reached {
+        Reached::Asks(waiting, ask) => waiting.go_on(alloc, answer(&ask, size, counts)),
+        Reached::Ends(finished) => Ok(Reached::Ends(finished)),
+    }
+}
+
+fn values_in(reached: &Reached) -> u64 {
+    match reached {
+        Reached::Ends(finished) => match finished.end() {
+            End::Value(_value) => 1,
+            End::Fault(_fault) => 0,
+        },
+        Reached::Asks(_waiting, _ask) => 0,
+    }
+}
+
 fn run(alloc: Global, size: Size) -> Result<Counts, AllocError> {
     let mut counts = Counts::default();
     let mut reached = begin(alloc, &job(alloc, size)?)?;
     for _ in 0..most_asks(size) {
-        reached = match reached {
-            Reached::Asks(waiting, ask) => waiting.go_on(alloc, answer(&ask, size, &mut counts))?,
-            Reached::Ends(finished) => Reached::Ends(finished),
-        };
+        reached = one_further(alloc, reached, size, &mut counts)?;
     }
-    if let Reached::Ends(finished) = reached {
-        if let End::Value(_) = finished.end() {
-            counts.values = 1;
-        }
-    }
+    counts.values = values_in(&reached);
     Ok(counts)
 }
 
