@@ -3,9 +3,10 @@ use crate::parts::{Part, text};
 use crate::steps::{PROGRAM, Program, Step, exchange_of, forms_of, function_of, trace_of};
 use Part::{Int, List, Vector};
 use Step::{
-    DefinesProgram, DefinesValue, NamesCore, NamesDone, NamesNothing, NamesProgram, NamesValue,
+    DefinesProgram, DefinesValue, NamesCore, NamesDone, NamesNothing, NamesProgram, NamesStore,
+    NamesValue,
 };
-use function_names::CoreFunction;
+use function_names::{CoreFunction, StoreFunction};
 use repl_asks::Ask;
 use std::test::Fail;
 use trace_comparison::{first_difference, same_ask, same_exchange, same_function, same_trace};
@@ -15,7 +16,7 @@ fn exchanges_are_the_same_in_all_parts_alone(rt: HostRuntime) -> Result<(), Fail
     let (Some(plus), Some(minus)) = (CoreFunction::named("+"), CoreFunction::named("-")) else {
         panic!(rt; "no function + or -");
     };
-    let rows: [Step; 18] = [
+    let rows: [Step; 20] = [
         NamesValue("x", &[Int(1)]),
         NamesValue("y", &[Int(1)]),
         NamesValue("x", &[Int(2)]),
@@ -23,6 +24,8 @@ fn exchanges_are_the_same_in_all_parts_alone(rt: HostRuntime) -> Result<(), Fail
         NamesValue("x", &[Vector(0)]),
         NamesCore("x", plus),
         NamesCore("x", minus),
+        NamesStore("x", StoreFunction::Ref),
+        NamesStore("x", StoreFunction::Deref),
         NamesProgram("x", PROGRAM),
         NamesNothing("x", "C", "t"),
         NamesNothing("x", "C", "u"),

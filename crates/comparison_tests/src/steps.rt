@@ -1,6 +1,6 @@
 // Asks and answers in short.
 use crate::parts::{Part, text, value_of};
-use function_names::CoreFunction;
+use function_names::{CoreFunction, StoreFunction};
 use repl_asks::{Answer, Ask, Binding, Exchange, NamedFunction, Resolution, Trace};
 use repl_values::{Fault, Sequence, Value};
 use special_forms::{Forms, Function};
@@ -21,6 +21,7 @@ pub(crate) struct Program {
 pub(crate) enum Step {
     NamesValue(&'static str, &'static [Part]),
     NamesCore(&'static str, CoreFunction),
+    NamesStore(&'static str, StoreFunction),
     NamesProgram(&'static str, Program),
     NamesNothing(&'static str, &'static str, &'static str),
     // Answered by an answer of the other kind, as only a broken store does.
@@ -89,6 +90,10 @@ pub(crate) fn exchange_of(alloc: Global, step: Step) -> Result<Exchange, AllocEr
         }
         Step::NamesCore(symbol, function) => {
             let function = NamedFunction::Core(function);
+            resolved(alloc, symbol, Resolution::Function(function))
+        }
+        Step::NamesStore(symbol, function) => {
+            let function = NamedFunction::Store(function);
             resolved(alloc, symbol, Resolution::Function(function))
         }
         Step::NamesProgram(symbol, program) => {

@@ -76,15 +76,15 @@ impl CoreFunction {
     }
 }
 
-/// Whether there is a function of this name. It takes no memory.
+/// Whether there is a function of this name that needs no store. It takes no memory.
 pub fn knows(name: &str) -> bool
     ensures { result ≡ is_some (function_named name.now) }
 {
     CoreFunction::named(name).is_some()
 }
 
-/// Whether the function of this name takes this many arguments; false for a name that is unknown.
-/// It takes no memory.
+/// Whether the function of this name, which needs no store, takes this many arguments; false for a
+/// name that is unknown. It takes no memory.
 pub fn arity_fits(name: &str, arguments: usize) -> bool
     ensures { result ≡ option_map_or (λ f. fits f arguments) (function_named name.now) false }
 {

@@ -5,10 +5,12 @@ use Rattle.std.specs.List.{position}
 use Rattle.std.specs.Str.{bytes_eq}
 use Rattle.repl_faults.specs.Failure as failures
 use Rattle.function_names.specs.Names.{function_named}
+use Rattle.function_names.specs.StoreNames.{store_function_named}
 use Rattle.function_names.specs.declared.function.CoreFunction.{CoreFunction}
+use Rattle.function_names.specs.declared.store.StoreFunction.{StoreFunction}
 use Rattle.repl_asks.specs.Exchange.{BindingData, bound_value, bound_function}
 use Rattle.repl_asks.specs.Exchange.{ResolutionData, names_value, names_function, names_nothing}
-use Rattle.repl_asks.specs.Exchange.{core_function, program_function}
+use Rattle.repl_asks.specs.Exchange.{core_function, store_function, program_function}
 use Rattle.name_spaces.specs.declared.latest.Latest.{Latest}
 use Rattle.name_spaces.specs.Latest.{latest_named}
 use Rattle.name_spaces.specs.Bindings.{Bindings}
@@ -24,16 +26,20 @@ abbrev pub bound_resolution : BindingData → ResolutionData
 bound_resolution (bound_value d) = names_value d
 bound_resolution (bound_function f) = names_function (program_function f)
 
+abbrev pub store_resolution : List ℕ → Option StoreFunction → ResolutionData
+store_resolution symbol (Some f) = names_function (store_function f)
+store_resolution symbol None = names_nothing (failures.unresolved symbol)
+
 abbrev pub core_resolution : List ℕ → Option CoreFunction → ResolutionData
 core_resolution symbol (Some f) = names_function (core_function f)
-core_resolution symbol None = names_nothing (failures.unresolved symbol)
+core_resolution symbol None = store_resolution symbol (store_function_named symbol)
 
 abbrev pub unbound_symbol : List ℕ → Option Latest → FoundData
 unbound_symbol symbol (Some latest) = found_latest latest
 unbound_symbol symbol None = found_resolution (core_resolution symbol (function_named symbol))
 
 -- A symbol without a slash: what it is bound to, else the latest result of that name, else the core
--- function.
+-- function, else the function that asks the store, else nothing.
 abbrev pub simple_symbol : List ℕ → Option BindingData → FoundData
 simple_symbol symbol (Some binding) = found_resolution (bound_resolution binding)
 simple_symbol symbol None = unbound_symbol symbol (latest_named symbol)

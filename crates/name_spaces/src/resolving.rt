@@ -1,18 +1,20 @@
 // How symbols are resolved in the namespaces of a tenant.
 ghost use Rattle.std.specs.Prelude.{◌≡◌, IfOk, option_map};
 ghost use Rattle.repl_faults.specs.View.{failure_of};
-ghost use Rattle.repl_asks.specs.Exchange.{names_nothing};
-ghost use Rattle.repl_asks.specs.View.{binding_view, resolution_view};
+ghost use Rattle.function_names.specs.StoreNames.{store_function_named};
+ghost use Rattle.repl_asks.specs.Exchange.{names_function, names_nothing};
+ghost use Rattle.repl_asks.specs.View.{binding_view, named_view, resolution_view};
 ghost use Rattle.name_spaces.specs.Bindings.{nothing_bound};
 ghost use Rattle.name_spaces.specs.Latest.{latest_named};
 ghost use Rattle.name_spaces.specs.Resolving.{resolved, simple_symbol, qualified_symbol};
-ghost use Rattle.name_spaces.specs.Resolving.{unbound_symbol, bound_resolution, found_resolution};
+ghost use Rattle.name_spaces.specs.Resolving.{unbound_symbol, store_resolution};
+ghost use Rattle.name_spaces.specs.Resolving.{bound_resolution, found_resolution};
 ghost use Rattle.name_spaces.specs.Seen.{namespaces_of, bindings_in, found_view};
 
 use crate::found::Found;
 use crate::latest::Latest;
 use crate::spaces::Spaces;
-use function_names::CoreFunction;
+use function_names::{CoreFunction, StoreFunction};
 use repl_asks::{Binding, NamedFunction, Resolution};
 use repl_faults::{no_such_namespace, no_such_var, unresolved};
 use repl_values::{Fault, copy};
@@ -23,8 +25,8 @@ const SHARED: &str = "shared";
 
 impl Spaces {
     /// What a symbol in this namespace names. One without a slash is looked up in the namespace,
-    /// then among the latest results, then among the core functions; in a namespace that is not
-    /// there nothing is bound. One with a slash is looked up in the namespace that it names, and
+    /// then among the latest results, then among the functions of the language; in a namespace
+    /// that is not there nothing is bound. One with a slash is looked up in the namespace that it names, and
     /// nowhere else: `clojure.core` is not found here, since evaluation asks for none of its
     /// symbols. It takes about the logarithm of the number of namespaces and of names, and fails
     /// only for want of memory.
@@ -112,11 +114,26 @@ fn unbound(alloc: Global, symbol: &str) -> Result<Found, AllocError>
         return Ok(Found::Latest(latest));
     }
     match CoreFunction::named(symbol) {
-        Some(function) => Ok(Found::Resolution(Resolution::Function(NamedFunction::Core(
-            function,
-        )))),
+        Some(function) => Ok(function_found(NamedFunction::Core(function))),
+        None => outside_core(alloc, symbol),
+    }
+}
+
+// What a symbol names that nothing binds and that names no core function.
+fn outside_core(alloc: Global, symbol: &str) -> Result<Found, AllocError>
+    ensures { IfOk result (λ found. found_view found
+        ≡ found_resolution (store_resolution symbol.now (store_function_named symbol.now))) }
+{
+    match StoreFunction::named(symbol) {
+        Some(function) => Ok(function_found(NamedFunction::Store(function))),
         None => Ok(nothing(unresolved(alloc, symbol)?)),
     }
+}
+
+fn function_found(function: NamedFunction) -> Found
+    ensures { found_view result ≡ found_resolution (names_function (named_view function)) }
+{
+    Found::Resolution(Resolution::Function(function))
 }
 
 fn nothing(fault: Fault) -> Found

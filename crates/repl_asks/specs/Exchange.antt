@@ -4,6 +4,7 @@ use Rattle.value_data.specs.Datum.{Datum, nil}
 use Rattle.repl_faults.specs.Failure.{Failure}
 use Rattle.special_forms.specs.Functions.{FunctionData}
 use Rattle.function_names.specs.declared.function.CoreFunction.{CoreFunction}
+use Rattle.function_names.specs.declared.store.StoreFunction.{StoreFunction}
 use Rattle.repl_asks.specs.Transactions.{RefNameData, IntentData}
 use Rattle.repl_asks.specs.declared.ask.AnswerKind.{AnswerKind}
 
@@ -33,9 +34,10 @@ pub data AskData : Type 0 where
   -- what the attempt changed is to stand for all
   commit : IntentData → AskData
 
--- a function that has a name: one of the language, or one of the program
+-- a function that has a name: one of the language, which needs no store or asks it, or one of the program
 pub data NamedFunctionData : Type 0 where
   core_function : CoreFunction → NamedFunctionData
+  store_function : StoreFunction → NamedFunctionData
   program_function : FunctionData → NamedFunctionData
 
 -- what a symbol names
@@ -105,6 +107,20 @@ resolution_in done = names_value nil
 resolution_in (value d) = names_value nil
 resolution_in (reading r) = names_value nil
 resolution_in (verdict v) = names_value nil
+
+-- What the answer says of a value, of the value of a ref in an attempt, and of a commit, each to an ask that it fits. Any
+-- other answer counts as nil, and as committed.
+abbrev pub value_in : AnswerData → Datum
+value_in (value d) = d
+value_in answer = nil
+
+abbrev pub reading_in : AnswerData → ReadingData
+reading_in (reading r) = r
+reading_in answer = found nil
+
+abbrev pub verdict_in : AnswerData → VerdictData
+verdict_in (verdict v) = v
+verdict_in answer = committed
 
 -- no answer is left for the ask: there is none, or the next is of another kind
 abbrev pub NoneFits : AskData → List AnswerData → Type 0

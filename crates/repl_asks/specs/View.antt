@@ -9,7 +9,7 @@ use Rattle.repl_asks.specs.Transactions.{RefNameData, ChangeData, IntentData}
 use Rattle.repl_asks.specs.Exchange.{BindingData, bound_value, bound_function}
 use Rattle.repl_asks.specs.Exchange.{AskData, resolve, define, enter, new_ref, begin, read}
 use Rattle.repl_asks.specs.Exchange.{history, min_history, max_history, commit}
-use Rattle.repl_asks.specs.Exchange.{NamedFunctionData, core_function, program_function}
+use Rattle.repl_asks.specs.Exchange.{NamedFunctionData, core_function, store_function, program_function}
 use Rattle.repl_asks.specs.Exchange.{ResolutionData, names_value, names_function, names_nothing}
 use Rattle.repl_asks.specs.Exchange.{ReadingData, found, retry}
 use Rattle.repl_asks.specs.Exchange.{VerdictData, committed, conflict, faulted}
@@ -56,6 +56,7 @@ ask_view (Ask.Commit intent) = commit (intent_view (arc_value intent))
 
 abbrev pub named_view : NamedFunction → NamedFunctionData
 named_view (NamedFunction.Core f) = core_function f
+named_view (NamedFunction.Store f) = store_function f
 named_view (NamedFunction.Program f) = program_function (function_view f)
 
 abbrev pub resolution_view : Resolution → ResolutionData

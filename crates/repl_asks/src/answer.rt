@@ -1,11 +1,12 @@
 // The answers, by their kinds.
 ghost use Rattle.std.specs.Prelude.{◌≡◌, IfOk};
-ghost use Rattle.repl_asks.specs.Exchange.{kind_of, resolution_in};
+ghost use Rattle.repl_asks.specs.Exchange.{kind_of, resolution_in, value_in, reading_in, verdict_in};
+ghost use Rattle.value_data.specs.View.{view};
 ghost use Rattle.repl_asks.specs.View.{answer_view, named_view, resolution_view};
 ghost use Rattle.repl_asks.specs.View.{reading_view, verdict_view};
 
 use crate::ask::AnswerKind;
-use function_names::CoreFunction;
+use function_names::{CoreFunction, StoreFunction};
 use repl_values::{Fault, Value, copy};
 use special_forms::Function;
 use std::alloc::AllocError;
@@ -13,8 +14,10 @@ use std::alloc::AllocError;
 /// A function that has a name.
 #[derive(Debug, Drop)]
 pub enum NamedFunction {
-    /// One of the language.
+    /// One of the language that needs no store.
     Core(CoreFunction),
+    /// One of the language that asks the store.
+    Store(StoreFunction),
     /// One that the program defined.
     Program(Function),
 }
@@ -63,6 +66,7 @@ impl NamedFunction {
     {
         match self {
             NamedFunction::Core(function) => Ok(NamedFunction::Core(*function)),
+            NamedFunction::Store(function) => Ok(NamedFunction::Store(*function)),
             NamedFunction::Program(function) => Ok(NamedFunction::Program(function.copy()?)),
         }
     }
@@ -129,6 +133,44 @@ impl Answer {
             Answer::Resolution(resolution) => resolution,
             Answer::Done | Answer::Value(_) | Answer::Reading(_) | Answer::Verdict(_) => {
                 Resolution::Value(Value::Nil)
+            }
+        }
+    }
+
+    /// The value that it is. An answer of another kind counts as nil.
+    #[tactic(auto, using(value_data::proofs::Views::value_views))]
+    pub fn into_value(self) -> Value
+        ensures { view result ≡ value_in (answer_view self) }
+    {
+        match self {
+            Answer::Value(value) => value,
+            Answer::Done | Answer::Resolution(_) | Answer::Reading(_) | Answer::Verdict(_) =>
+                Value::Nil,
+        }
+    }
+
+    /// What it says of a ref's value. An answer of another kind, which fits no read, counts as nil.
+    #[tactic(auto, using(value_data::proofs::Views::value_views))]
+    pub fn into_reading(self) -> Reading
+        ensures { reading_view result ≡ reading_in (answer_view self) }
+    {
+        match self {
+            Answer::Reading(reading) => reading,
+            Answer::Done | Answer::Resolution(_) | Answer::Value(_) | Answer::Verdict(_) => {
+                Reading::Found(Value::Nil)
+            }
+        }
+    }
+
+    /// What it says of a commit. An answer of another kind, which fits no commit, counts as
+    /// committed.
+    pub fn into_verdict(self) -> Verdict
+        ensures { verdict_view result ≡ verdict_in (answer_view self) }
+    {
+        match self {
+            Answer::Verdict(verdict) => verdict,
+            Answer::Done | Answer::Resolution(_) | Answer::Value(_) | Answer::Reading(_) => {
+                Verdict::Committed
             }
         }
     }

@@ -8,10 +8,13 @@ use Rattle.std.proofs.lemmas.List.{map-append}
 use Rattle.repl_jobs.specs.Job.{JobData, EndData}
 use Rattle.repl_jobs.specs.Tree.{Tree, finished, asks}
 use Rattle.repl_jobs.specs.Leading.{Leads, after, AreItsAsks}
-use Rattle.walker_machine.specs.Evaluation.{evaluation}
+use Rattle.evaluation_rules.specs.Evaluation.{evaluation}
 use Rattle.repl_walker.specs.Led.{LedTo, Led, Recorded}
 use Rattle.repl_walker.specs.Ends.{EndingData, IsEndOf}
 use Rattle.repl_walker.specs.Stops.{LeftAt}
+use Rattle.repl_walker.specs.Waits.{walk_tree, progress_tree, progress_job, progress_trace, WentOn}
+use Rattle.repl_walker.specs.declared.waiting.Walk.{Walk}
+use Rattle.repl_walker.specs.declared.waiting.Progress.{Progress}
 use Rattle.repl_walker.specs.declared.run.WalkError.{WalkError}
 
 leads-append : (start middle end : Tree) (xs ys : List Exchanged) → Leads start xs middle → Leads middle ys end → Leads start (xs ++ ys) end
@@ -99,6 +102,18 @@ end-recorded job old new kept e same traced r =
     let whole : e.trace ≡ r.0 = traced ∙ r.2 in
     let P : List Exchanged → Type 0 = λ xs. Leads (evaluation job) xs (finished e.end) in
     (same, r.1 ∙ ap (λ (xs : List Exchanged). old ++ xs) (sym whole), subst P (sym whole) r.3)
+
+-- Walks that go on
+
+pub went-nowhere : (w : Walk) (trace : List Exchanged) → WentOn w trace trace (Progress.Asks w)
+went-nowhere w trace = (refl, recorded-nothing _ _ _)
+
+pub went-on : (a b : Walk) (old now new : List Exchanged) (p : Progress) → WentOn a old now (Progress.Asks b) → WentOn b now new p → WentOn a old new p
+went-on a b old now new p first second = (second.0 ∙ first.0, recorded-on _ _ _ _ _ _ _ _ _ first.1 second.1)
+
+pub left-further : (a b : Walk) (old now new : List Exchanged) (error : WalkError) → WentOn a old now (Progress.Asks b)
+    → LeftAt (walk_tree b) now new error → LeftAt (walk_tree a) old new error
+left-further a b old now new error came left = left-on _ _ _ _ _ error (recorded-led _ _ _ _ _ _ came.1) left
 
 -- What comes after a trace
 

@@ -6,7 +6,7 @@ use Rattle.repl_jobs.specs.Job.{JobData, EndData}
 use Rattle.repl_jobs.specs.View.{job_view, finished_view}
 use Rattle.repl_jobs.specs.Tree.{finished}
 use Rattle.repl_jobs.specs.Leading.{Leads}
-use Rattle.walker_machine.specs.Evaluation.{evaluation}
+use Rattle.evaluation_rules.specs.Evaluation.{evaluation}
 use Rattle.repl_walker.specs.declared.ending.Ending.{Ending}
 
 pub record EndingData : Type 0 where

@@ -4,7 +4,7 @@ use Rattle.repl_asks.specs.Exchange.{Exchanged}
 use Rattle.repl_jobs.specs.Job.{JobData}
 use Rattle.repl_jobs.specs.Tree.{Tree}
 use Rattle.repl_jobs.specs.Leading.{Leads}
-use Rattle.walker_machine.specs.Evaluation.{evaluation}
+use Rattle.evaluation_rules.specs.Evaluation.{evaluation}
 
 -- the evaluation of a job was led by this trace to what is still done
 abbrev pub LedTo : JobData → List Exchanged → Tree → Type 0

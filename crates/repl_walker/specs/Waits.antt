@@ -8,6 +8,7 @@ use Rattle.repl_jobs.specs.Tree.{Tree, finished, asks}
 use Rattle.walker_machine.specs.Waits as machine
 use Rattle.repl_walker.specs.declared.waiting.Walk.{Walk}
 use Rattle.repl_walker.specs.declared.waiting.Progress.{Progress}
+use Rattle.repl_walker.specs.Led.{Recorded}
 
 abbrev pub behind : Walk → AnswerData → Tree
 behind w = machine.behind w.waiting
@@ -30,3 +31,8 @@ progress_trace (Progress.Ends e) = trace_view e.trace.items
 -- the trace with one more answer, to what a walk asks
 abbrev pub trace_with : Walk → AnswerData → List Exchanged
 trace_with w answer = trace_view w.trace.items ++ record { ask = ask_view w.ask; answer = answer } ∷ []
+
+-- A walk went on to here by exchanges that were heard, and written down.
+abbrev pub WentOn : Walk → List Exchanged → List Exchanged → Progress → Type 0
+WentOn w old new p = (progress_job p ≡ job_view w.job)
+    × Recorded (walk_tree w) old new (trace_view w.trace.items) (progress_trace p) (progress_tree p)

@@ -2,11 +2,12 @@
 ghost use Rattle.std.specs.Prelude.{◌≡◌, ◌≤◌, [], IfOk};
 ghost use Rattle.repl_asks.specs.View.{answer_view, trace_view};
 ghost use Rattle.repl_jobs.specs.View.{job_view};
-ghost use Rattle.walker_machine.specs.Evaluation.{evaluation};
-ghost use Rattle.walker_machine.specs.Waits.{reached_tree, reached_size, reached_calls};
+ghost use Rattle.evaluation_rules.specs.Evaluation.{evaluation};
+ghost use Rattle.walker_machine.specs.Waits.{reached_tree, most_calls_of, IsLaterReached};
+ghost use Rattle.walker_state.specs.Size.{Position};
 ghost use Rattle.repl_walker.specs.Led.{LedTo};
 ghost use Rattle.repl_walker.specs.Waits.{behind, progress_tree, progress_job, progress_trace, trace_with};
-ghost use Rattle.repl_walker.specs.Further.{progress_size, progress_calls, IsFurther};
+ghost use Rattle.repl_walker.specs.Positions.{walk_position, most_calls, IsLaterProgress};
 
 use crate::ending::Ending;
 use crate::waiting::{Progress, Walk};
@@ -20,7 +21,7 @@ pub fn start(alloc: Global, job: &Job) -> Result<Progress, AllocError>
     ensures meaning { IfOk result (λ progress. progress_tree progress ≡ evaluation (job_view job.now)) }
     ensures job { IfOk result (λ progress. progress_job progress ≡ job_view job.now) }
     ensures trace { IfOk result (λ progress. progress_trace progress ≡ []) }
-    ensures calls { IfOk result (λ progress. progress_calls progress ≤ 10_000) }
+    ensures calls { IfOk result (λ progress. most_calls progress ≤ 10_000) }
 {
     let copied = job.copy()?;
     let reached = begin(alloc, job)?;
@@ -33,7 +34,7 @@ impl Walk {
         ensures meaning { IfOk result (λ later. progress_tree later ≡ behind self (answer_view answer)) }
         ensures job { IfOk result (λ later. progress_job later ≡ job_view self.job) }
         ensures trace { IfOk result (λ later. progress_trace later ≡ trace_with self (answer_view answer)) }
-        ensures further { IfOk result (IsFurther self) }
+        ensures later { IfOk result (λ later. IsLaterProgress later (walk_position self)) }
     {
         let Walk {
             job,
@@ -47,26 +48,14 @@ impl Walk {
     }
 }
 
-impl Progress {
-    // The calls that are left, none behind the end.
-    pub(crate) fn calls_left(&self) -> u32
-        ensures { result ≡ progress_calls self.now }
-    {
-        match self {
-            Progress::Asks(walk) => walk.waiting.calls_left(),
-            Progress::Ends(_ending) => 0,
-        }
-    }
-}
-
 // How far the job came by this trace.
 fn progress(job: Job, trace: Trace, reached: Reached) -> Progress
     requires { LedTo (job_view job) (trace_view trace.items) (reached_tree reached) }
     ensures meaning { progress_tree result ≡ reached_tree reached }
     ensures job { progress_job result ≡ job_view job }
     ensures trace { progress_trace result ≡ trace_view trace.items }
-    ensures calls { progress_calls result ≡ reached_calls reached }
-    ensures size { progress_size result ≡ reached_size reached }
+    ensures calls { most_calls result ≡ most_calls_of reached }
+    ensures later { (old : Position) → IsLaterReached reached old → IsLaterProgress result old }
 {
     match reached {
         Reached::Asks(waiting, ask) => Progress::Asks(Walk {

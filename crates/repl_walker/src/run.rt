@@ -1,12 +1,11 @@
 // An evaluation over somebody who answers.
-ghost use Rattle.std.specs.Prelude.{◌≡◌, ◌++◌, [], ◌∷◌, false, OnOk, IfOk, IfErr};
-ghost use Rattle.repl_asks.specs.View.{ask_view, answer_view, trace_view};
+ghost use Rattle.std.specs.Prelude.{◌≡◌, ◌++◌, [], ◌∷◌, true, false, OnOk, IfOk, IfErr};
+ghost use Rattle.repl_asks.specs.View.{ask_view, answer_view};
 ghost use Rattle.repl_jobs.specs.View.{job_view};
-ghost use Rattle.walker_machine.specs.Evaluation.{evaluation};
-ghost use Rattle.repl_walker.specs.Led.{Recorded};
+ghost use Rattle.evaluation_rules.specs.Evaluation.{evaluation};
 ghost use Rattle.repl_walker.specs.Ends.{ending_view, IsEndOf};
-ghost use Rattle.repl_walker.specs.Waits.{walk_tree, progress_tree, progress_job, progress_trace};
-ghost use Rattle.repl_walker.specs.Further.{HasFewerCalls, IsFurther};
+ghost use Rattle.repl_walker.specs.Waits.{walk_tree, WentOn};
+ghost use Rattle.repl_walker.specs.Positions.{walk_position, IsLaterProgress, IsOuterProgress, IsTurned, IsSettled, HasFewerCalls};
 ghost use Rattle.repl_walker.specs.Stops.{IsStoppedBy, LeftAt};
 
 use crate::ending::Ending;
@@ -42,43 +41,112 @@ pub fn walk<R: Refs>(alloc: Global, job: &Job, refs: &mut R) -> Result<Ending, W
         Err(AllocError) => return Err(WalkError::NoMemory),
     };
     loop {
-        match until_a_call(alloc, progress, refs) {
-            Ok(Progress::Ends(ending)) => return Ok(ending),
-            Ok(later) => progress = later,
-            Err(error) => return Err(error),
+        match progress {
+            Progress::Ends(ending) => return Ok(ending),
+            Progress::Asks(walk) => match until_a_call(alloc, walk, refs) {
+                Ok(later) => progress = later,
+                Err(error) => return Err(error),
+            },
         }
     }
 }
 
-// Answers asks until a call is taken from the budget, or to the end.
-fn until_a_call<R: Refs>(
+// To the end, or until fewer calls are left outside of transactions.
+fn until_a_call<R: Refs>(alloc: Global, walk: Walk, refs: &mut R) -> Result<Progress, WalkError>
+    requires { (R.heard refs.old).stopped ≡ false }
+    ensures ok { OnOk result ((R.heard refs.new).stopped ≡ false) }
+    ensures stopped { IfErr result (λ error. IsStoppedBy error (R.heard refs.new)) }
+    ensures meaning { IfOk result (λ later. WentOn walk (R.heard refs.old).trace (R.heard refs.new).trace later) }
+    ensures left_at { IfErr result (λ error. LeftAt (walk_tree walk)
+        (R.heard refs.old).trace (R.heard refs.new).trace error) }
+    ensures fewer { IfOk result (λ later. HasFewerCalls later (walk_position walk)) }
+{
+    let calls = walk.waiting.most_calls();
+    let mut walk = walk;
+    loop {
+        let further = match out_of_transaction(alloc, walk, refs) {
+            Ok(further) => further,
+            Err(error) => return Err(error),
+        };
+        match further {
+            Progress::Ends(ending) => return Ok(Progress::Ends(ending)),
+            Progress::Asks(later) => {
+                if later.waiting.most_calls() < calls {
+                    return Ok(Progress::Asks(later));
+                }
+                walk = later;
+            }
+        }
+    }
+}
+
+// To the end, or to the next ask outside of the transaction that is under way.
+fn out_of_transaction<R: Refs>(
     alloc: Global,
-    progress: Progress,
+    walk: Walk,
     refs: &mut R,
 ) -> Result<Progress, WalkError>
     requires { (R.heard refs.old).stopped ≡ false }
     ensures ok { OnOk result ((R.heard refs.new).stopped ≡ false) }
     ensures stopped { IfErr result (λ error. IsStoppedBy error (R.heard refs.new)) }
-    ensures meaning { IfOk result (λ later. Recorded (progress_tree progress)
-        (R.heard refs.old).trace (R.heard refs.new).trace
-        (progress_trace progress) (progress_trace later) (progress_tree later)) }
-    ensures job { IfOk result (λ later. progress_job later ≡ progress_job progress) }
-    ensures left_at { IfErr result (λ error. LeftAt (progress_tree progress)
+    ensures meaning { IfOk result (λ later. WentOn walk (R.heard refs.old).trace (R.heard refs.new).trace later) }
+    ensures left_at { IfErr result (λ error. LeftAt (walk_tree walk)
         (R.heard refs.old).trace (R.heard refs.new).trace error) }
-    ensures fewer { IfOk result (λ later. HasFewerCalls progress later) }
+    ensures outer { IfOk result (λ later. IsOuterProgress later (walk_position walk)) }
+    ensures settled { IfOk result (λ later. IsSettled later) }
 {
-    let calls = progress.calls_left();
-    let mut progress = progress;
+    let mut progress = one_further(alloc, walk, refs)?;
     loop {
-        progress = match progress {
+        match progress {
             Progress::Ends(ending) => return Ok(Progress::Ends(ending)),
-            Progress::Asks(walk) => match one_further(alloc, walk, refs) {
-                Ok(later) => later,
-                Err(error) => return Err(error),
-            },
+            Progress::Asks(walk) => {
+                if !walk.waiting.is_inside() {
+                    return Ok(Progress::Asks(walk));
+                }
+                progress = match until_a_turn(alloc, walk, refs) {
+                    Ok(later) => later,
+                    Err(error) => return Err(error),
+                };
+            }
+        }
+    }
+}
+
+// To the end or out of the transaction, or until fewer attempts or fewer calls are left in it.
+fn until_a_turn<R: Refs>(alloc: Global, walk: Walk, refs: &mut R) -> Result<Progress, WalkError>
+    requires goes_on { (R.heard refs.old).stopped ≡ false }
+    requires inside { (walk_position walk).transaction.runs ≡ true }
+    ensures ok { OnOk result ((R.heard refs.new).stopped ≡ false) }
+    ensures stopped { IfErr result (λ error. IsStoppedBy error (R.heard refs.new)) }
+    ensures meaning { IfOk result (λ later. WentOn walk (R.heard refs.old).trace (R.heard refs.new).trace later) }
+    ensures left_at { IfErr result (λ error. LeftAt (walk_tree walk)
+        (R.heard refs.old).trace (R.heard refs.new).trace error) }
+    ensures outer { IfOk result (λ later. IsOuterProgress later (walk_position walk)) }
+    ensures turned { IfOk result (λ later. IsTurned later (walk_position walk)) }
+{
+    let turn = walk.waiting.turn();
+    let calls = walk.waiting.calls();
+    let mut walk = walk;
+    loop {
+        let further = match one_further(alloc, walk, refs) {
+            Ok(further) => further,
+            Err(error) => return Err(error),
         };
-        if progress.calls_left() < calls {
-            return Ok(progress);
+        match further {
+            Progress::Ends(ending) => return Ok(Progress::Ends(ending)),
+            Progress::Asks(later) => {
+                if !later.waiting.is_inside() {
+                    return Ok(Progress::Asks(later));
+                }
+                let calls_left = later.waiting.calls();
+                if later.waiting.turn() < turn {
+                    return Ok(Progress::Asks(later));
+                }
+                if calls_left < calls {
+                    return Ok(Progress::Asks(later));
+                }
+                walk = later;
+            }
         }
     }
 }
@@ -88,13 +156,10 @@ fn one_further<R: Refs>(alloc: Global, walk: Walk, refs: &mut R) -> Result<Progr
     requires { (R.heard refs.old).stopped ≡ false }
     ensures ok { OnOk result ((R.heard refs.new).stopped ≡ false) }
     ensures stopped { IfErr result (λ error. IsStoppedBy error (R.heard refs.new)) }
-    ensures meaning { IfOk result (λ later. Recorded (walk_tree walk)
-        (R.heard refs.old).trace (R.heard refs.new).trace
-        (trace_view walk.trace.items) (progress_trace later) (progress_tree later)) }
-    ensures job { IfOk result (λ later. progress_job later ≡ job_view walk.job) }
+    ensures meaning { IfOk result (λ later. WentOn walk (R.heard refs.old).trace (R.heard refs.new).trace later) }
     ensures left_at { IfErr result (λ error. LeftAt (walk_tree walk)
         (R.heard refs.old).trace (R.heard refs.new).trace error) }
-    ensures further { IfOk result (IsFurther walk) }
+    ensures later { IfOk result (λ later. IsLaterProgress later (walk_position walk)) }
 {
     let answer = answer_to(alloc, &walk, refs)?;
     match walk.resume(alloc, answer) {

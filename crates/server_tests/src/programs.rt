@@ -1,7 +1,7 @@
 // Programs with their replies, as the language's rules say. One request each, the bare actor's.
 use crate::cases::Case;
 
-pub(crate) const PROGRAMS: [Case; 45] = [
+pub(crate) const PROGRAMS: [Case; 47] = [
     // (str nil "a" [1 "b"])
     Case {
         input: b"d4:code21:(str nil \"a\" [1 \"b\"])2:id1:12:op4:evale",
@@ -285,14 +285,28 @@ pub(crate) const PROGRAMS: [Case; 45] = [
     // @x
     Case {
         input: b"d4:code2:@x2:id1:12:op4:evale",
-        output: b"d2:ex32:class java.lang.RuntimeException2:id1:17:root-ex32:class java.lang.RuntimeException6:statusl10:eval-erroreed3:err60:java.lang.RuntimeException: No such var: clojure.core/deref\n2:id1:1ed2:id1:16:statusl4:doneee",
+        output: b"d2:ex32:class java.lang.RuntimeException2:id1:17:root-ex32:class java.lang.RuntimeException6:statusl10:eval-erroreed3:err72:java.lang.RuntimeException: Unable to resolve symbol: x in this context\n2:id1:1ed2:id1:16:statusl4:doneee",
         status: 0,
         line: "",
     },
     // (dosync 1) (ns a)
     Case {
         input: b"d4:code17:(dosync 1) (ns a)2:id1:12:op4:evale",
-        output: b"d2:ex32:class java.lang.RuntimeException2:id1:17:root-ex32:class java.lang.RuntimeException6:statusl10:eval-erroreed3:err77:java.lang.RuntimeException: Unable to resolve symbol: dosync in this context\n2:id1:1ed2:id1:12:ns1:a5:value3:niled2:id1:16:statusl4:doneee",
+        output: b"d2:id1:12:ns4:user5:value1:1ed2:id1:12:ns1:a5:value3:niled2:id1:16:statusl4:doneee",
+        status: 0,
+        line: "",
+    },
+    // (def r (ref 1)) (dosync (alter r + 2) (ref-set r (inc @r))) @r (ref-history-count r)
+    Case {
+        input: b"d4:code84:(def r (ref 1)) (dosync (alter r + 2) (ref-set r (inc @r))) @r (ref-history-count r)2:id1:12:op4:evale",
+        output: b"d2:id1:12:ns4:user5:value8:#'user/red2:id1:12:ns4:user5:value1:4ed2:id1:12:ns4:user5:value1:4ed2:id1:12:ns4:user5:value1:0ed2:id1:16:statusl4:doneee",
+        status: 0,
+        line: "",
+    },
+    // (def r (ref 1 :max-history 2)) (ref-set r 2) (dosync (ref-set r 2) (throw 3)) @r
+    Case {
+        input: b"d4:code80:(def r (ref 1 :max-history 2)) (ref-set r 2) (dosync (ref-set r 2) (throw 3)) @r2:id1:12:op4:evale",
+        output: b"d2:id1:12:ns4:user5:value8:#'user/red2:ex37:class java.lang.IllegalStateException2:id1:17:root-ex37:class java.lang.IllegalStateException6:statusl10:eval-erroreed3:err56:java.lang.IllegalStateException: No transaction running\n2:id1:1ed2:ex32:class clojure.lang.ExceptionInfo2:id1:17:root-ex32:class clojure.lang.ExceptionInfo6:statusl10:eval-erroreed3:err30:clojure.lang.ExceptionInfo: 3\n2:id1:1ed2:id1:12:ns4:user5:value1:1ed2:id1:16:statusl4:doneee",
         status: 0,
         line: "",
     },

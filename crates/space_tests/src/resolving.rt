@@ -7,7 +7,7 @@ use std::test::Fail;
 fn nothing_is_bound_at_the_start(rt: HostRuntime) -> Result<(), Fail> {
     let a = rt.alloc();
     let spaces = Spaces::new(a)?;
-    let rows: [Row; 14] = [
+    let rows: [Row; 17] = [
         (USER, "x", "Unable to resolve symbol: x in this context"),
         (USER, "if", "Unable to resolve symbol: if in this context"),
         (USER, "é", "Unable to resolve symbol: é in this context"),
@@ -15,6 +15,13 @@ fn nothing_is_bound_at_the_start(rt: HostRuntime) -> Result<(), Fail> {
         (USER, "inc", "core inc"),
         (USER, "+", "core +"),
         (USER, "*", "core *"),
+        (USER, "deref", "store deref"),
+        (USER, "ref-set", "store ref-set"),
+        (
+            USER,
+            "dosync",
+            "Unable to resolve symbol: dosync in this context",
+        ),
         (USER, "*1", "latest value"),
         (USER, "*2", "value before the latest"),
         (USER, "*3", "value before that"),
@@ -55,18 +62,19 @@ fn qualified_symbols_name_vars_alone(rt: HostRuntime) -> Result<(), Fail> {
     Ok(())
 }
 
-// What is bound hides a latest result and a core function of its name, in its namespace alone.
+// What is bound hides a latest result and a function of the language of its name, in its namespace
+// alone.
 #[test]
 fn bound_names_come_first(rt: HostRuntime) -> Result<(), Fail> {
     let a = rt.alloc();
     let mut spaces = Spaces::new(a)?;
     spaces.enter(a, "app")?;
-    for (name, integer) in [("x", 1), ("*1", 2), ("inc", 3), ("if", 4)] {
+    for (name, integer) in [("x", 1), ("*1", 2), ("inc", 3), ("if", 4), ("ref", 6)] {
         define(a, &mut spaces, USER, name, integer)?;
     }
     define(a, &mut spaces, "app", "x", 5)?;
     define_function(a, &mut spaces, "app", "*e")?;
-    let rows: [Row; 18] = [
+    let rows: [Row; 20] = [
         (USER, "x", "1"),
         (USER, "user/x", "1"),
         (USER, "app/x", "5"),
@@ -77,12 +85,14 @@ fn bound_names_come_first(rt: HostRuntime) -> Result<(), Fail> {
         (USER, "inc", "3"),
         (USER, "user/inc", "3"),
         (USER, "if", "4"),
+        (USER, "ref", "6"),
         ("app", "x", "5"),
         ("app", "user/x", "1"),
         ("app", "*1", "latest value"),
         ("app", "user/*1", "2"),
         ("app", "*e", "function app/*e"),
         ("app", "inc", "core inc"),
+        ("app", "ref", "store ref"),
         ("app", "user/inc", "3"),
         ("app", "app/inc", "No such var: app/inc"),
     ];

@@ -36,6 +36,10 @@ fn told(alloc: Global, found: &Found) -> Result<String, AllocError> {
             let name = function.name();
             format!(in alloc; "core {name}")
         }
+        Found::Resolution(Resolution::Function(NamedFunction::Store(function))) => {
+            let name = function.name();
+            format!(in alloc; "store {name}")
+        }
         Found::Resolution(Resolution::Function(NamedFunction::Program(function))) => {
             let (space, name) = (function.space.as_str(), function.name.as_str());
             format!(in alloc; "function {space}/{name}")

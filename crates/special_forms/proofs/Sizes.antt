@@ -177,6 +177,7 @@ pub shape-sized : (special : SpecialForm) (ds : List Datum) → Sized (shape_of 
 shape-sized SpecialForm.And ds = omega arith
 shape-sized SpecialForm.Or ds = omega arith
 shape-sized SpecialForm.Do ds = omega arith
+shape-sized SpecialForm.Dosync ds = omega arith
 shape-sized SpecialForm.Io ds = omega arith
 shape-sized SpecialForm.Quote ds = only-quoted ds
 shape-sized SpecialForm.Throw ds = only-thrown ds

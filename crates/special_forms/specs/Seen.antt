@@ -8,7 +8,7 @@ use Rattle.value_data.specs.declared.value.Value.{Value}
 use Rattle.special_forms.specs.Functions.{FunctionData}
 use Rattle.special_forms.specs.Rows.{BoundForm, in_a_row}
 use Rattle.special_forms.specs.Bindings.{bindings_in}
-use Rattle.special_forms.specs.Shapes.{ShapeData, quoted, body, choice, bindings, logic, definition, function_definition, thrown, entry, computed_entry}
+use Rattle.special_forms.specs.Shapes.{ShapeData, quoted, body, transaction, effects, choice, bindings, logic, definition, function_definition, thrown, entry, computed_entry}
 use Rattle.special_forms.specs.declared.forms.Source.{Source}
 use Rattle.special_forms.specs.declared.forms.Forms.{Forms}
 use Rattle.special_forms.specs.declared.forms.Binding.{Binding}
@@ -32,6 +32,8 @@ binding_view b = record { name = arc_str_bytes b.name; form = view b.form }
 abbrev pub shape_view : Shape → ShapeData
 shape_view (Shape.Quote form) = quoted (view form)
 shape_view (Shape.Body forms) = body (forms_view forms)
+shape_view (Shape.Transaction forms) = transaction (forms_view forms)
+shape_view (Shape.Effects forms) = effects (forms_view forms)
 shape_view (Shape.Choice condition consequent alternative) = choice (view condition) (forms_view consequent) (forms_view alternative)
 shape_view (Shape.Let bs forms) = bindings (bindings_in (forms_view bs)) (forms_view forms)
 shape_view (Shape.Logic which forms) = logic which (forms_view forms)

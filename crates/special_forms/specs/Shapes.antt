@@ -14,6 +14,10 @@ pub data ShapeData : Type 0 where
   quoted : Datum → ShapeData
   -- forms in a row
   body : List Datum → ShapeData
+  -- forms in a row that are one transaction
+  transaction : List Datum → ShapeData
+  -- forms in a row that stand outside of transactions
+  effects : List Datum → ShapeData
   -- a condition, the forms where it is true, and those where it is not
   choice : Datum → List Datum → List Datum → ShapeData
   bindings : List BoundForm → List Datum → ShapeData
@@ -88,7 +92,8 @@ abbrev pub shape_of : SpecialForm → List Datum → Option ShapeData
 shape_of SpecialForm.And ds = Some (logic Logic.And ds)
 shape_of SpecialForm.Or ds = Some (logic Logic.Or ds)
 shape_of SpecialForm.Do ds = Some (body ds)
-shape_of SpecialForm.Io ds = Some (body ds)
+shape_of SpecialForm.Dosync ds = Some (transaction ds)
+shape_of SpecialForm.Io ds = Some (effects ds)
 shape_of SpecialForm.Quote ds = option_map quoted (only ds)
 shape_of SpecialForm.Throw ds = option_map thrown (only ds)
 shape_of SpecialForm.InNs ds = option_map computed_entry (only ds)

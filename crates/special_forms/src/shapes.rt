@@ -29,6 +29,10 @@ pub enum Logic {
 pub enum Shape {
     Quote(Value),
     Body(Forms),
+    /// Forms that are evaluated as one transaction.
+    Transaction(Forms),
+    /// Forms that are evaluated outside of transactions alone.
+    Effects(Forms),
     Choice {
         condition: Value,
         consequent: Forms,
@@ -75,7 +79,9 @@ fn parts_of(alloc: Global, special: SpecialForm, forms: Forms) -> Result<Option<
     match special {
         SpecialForm::And => Ok(Some(Shape::Logic(Logic::And, forms))),
         SpecialForm::Or => Ok(Some(Shape::Logic(Logic::Or, forms))),
-        SpecialForm::Do | SpecialForm::Io => Ok(Some(Shape::Body(forms))),
+        SpecialForm::Do => Ok(Some(Shape::Body(forms))),
+        SpecialForm::Dosync => Ok(Some(Shape::Transaction(forms))),
+        SpecialForm::Io => Ok(Some(Shape::Effects(forms))),
         SpecialForm::Quote => quote(forms),
         SpecialForm::Throw => throw(forms),
         SpecialForm::Ns => namespace(forms),

@@ -2,10 +2,9 @@
 ghost use Rattle.std.specs.Prelude.{◌+◌, ◌<◌, ◌^◌};
 ghost use Rattle.ref_table.specs.Standing.{counter_of};
 
-use crate::walks::Walks;
 use ref_history::ListHistory;
 use ref_table::RefTable;
-use std::alloc::Global;
+use tenant_walks::Walks;
 use tenant_world::Tenant;
 
 /// The steps that a tenant takes unless told otherwise.
@@ -21,7 +20,6 @@ pub const RETRIES: u32 = 10_000;
 /// is refused for want of memory.
 #[derive(Drop)]
 pub struct Runner {
-    pub(crate) alloc: Global,
     pub(crate) tenant: Tenant,
     pub(crate) refs: RefTable<ListHistory>,
     pub(crate) walks: Walks,

@@ -3,17 +3,16 @@ ghost use Rattle.std.specs.Prelude.{◌≡◌, IfOk};
 ghost use Rattle.server_rules.specs.Ground.{Ground};
 ghost use Rattle.tenant_turns.specs.Turns.{opened_lone};
 ghost use Rattle.tenant_turns.specs.Grounds.{IsRight};
-ghost use Rattle.tenant_runner.specs.Grounds.{Evaluates};
+ghost use Rattle.tenant_walks.specs.Grounds.{Evaluates};
 
 use crate::runner::Runner;
-use crate::walks::Walks;
 use bytes::Bytes;
 use ref_history::ListHistory;
 use ref_table::RefTable;
-use repl_walker::Progress;
 use server_rules::{Actor, Refusal};
 use std::alloc::{AllocError, Global};
 use tenant_turns::{Core, Wire};
+use tenant_walks::Walks;
 use tenant_world::Tenant;
 
 impl Runner {
@@ -31,7 +30,6 @@ impl Runner {
             → g.retries ≡ retries → IfOk result (λ made. Stands g made (opened_lone g)) }
     {
         Ok(Runner {
-            alloc,
             tenant: Tenant::new(alloc, seed, 0, steps, retries)?,
             refs: RefTable::new(alloc, ListHistory::new(alloc)),
             walks: Walks::new(alloc),
@@ -56,14 +54,7 @@ impl Core for Runner {
     }
 
     fn go(&mut self, actor: Actor) -> Result<(), Refusal> {
-        if self.tenant.running(actor).is_none() {
-            return self.begin(actor);
-        }
-        match self.walks.get(actor) {
-            Some(Progress::Asks(_walk)) => self.ask(actor),
-            Some(Progress::Ends(_ending)) => self.end(actor),
-            None => Err(Refusal::NoMemory),
-        }
+        self.walks.go(&mut self.tenant, &mut self.refs, actor)
     }
 
     fn drain(&mut self) -> Option<Vec<u8>> {

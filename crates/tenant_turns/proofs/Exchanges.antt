@@ -17,6 +17,8 @@ use Rattle.core_integers.specs.declared.function.IntegerTest.{IntegerTest}
 use Rattle.core_integers.specs.contracts.function.IntegerTest.{the_type as integer_test}
 use Rattle.core_predicates.specs.declared.function.ValueTest.{ValueTest}
 use Rattle.core_predicates.specs.contracts.function.ValueTest.{the_type as value_test}
+use Rattle.function_names.specs.declared.store.StoreFunction.{StoreFunction}
+use Rattle.function_names.specs.contracts.store.StoreFunction.{the_type as storing}
 use Rattle.core_texts.specs.declared.function.TextFunction.{TextFunction}
 use Rattle.core_texts.specs.contracts.function.TextFunction.{the_type as text_function}
 use Rattle.core_texts.specs.declared.function.PrintFunction.{PrintFunction}
@@ -30,7 +32,7 @@ use Rattle.core_predicates.specs.declared.function.PredicateFunction.{PredicateF
 use Rattle.function_names.specs.declared.function.CoreFunction.{CoreFunction}
 use Rattle.repl_asks.specs.Exchange.{BindingData, bound_value, bound_function, AskData, resolve, define, enter}
 use Rattle.repl_asks.specs.Exchange.{new_ref, begin, read, history, min_history, max_history, commit}
-use Rattle.repl_asks.specs.Exchange.{NamedFunctionData, core_function, program_function, ResolutionData}
+use Rattle.repl_asks.specs.Exchange.{NamedFunctionData, core_function, store_function, program_function, ResolutionData}
 use Rattle.repl_asks.specs.Exchange.{names_value, names_function, names_nothing, ReadingData, found, retry}
 use Rattle.repl_asks.specs.Exchange.{VerdictData, committed, conflict, faulted, AnswerData, resolution, done}
 use Rattle.repl_asks.specs.Exchange.{value, reading, verdict, Exchanged}
@@ -230,23 +232,26 @@ core = by_parts CoreParts
     core_parts core_whole core_back
 
 abbrev NamedParts : Type 0
-NamedParts = CoreFunction ⊎ FunctionData
+NamedParts = CoreFunction ⊎ (StoreFunction ⊎ FunctionData)
 
 abbrev named_parts : NamedFunctionData → NamedParts
 named_parts (core_function f) = inl f
-named_parts (program_function f) = inr f
+named_parts (store_function f) = inr (inl f)
+named_parts (program_function f) = inr (inr f)
 
 abbrev named_whole : NamedParts → NamedFunctionData
 named_whole (inl x) = core_function x
-named_whole (inr x) = program_function x
+named_whole (inr (inl x)) = store_function x
+named_whole (inr (inr x)) = program_function x
 
 named_back : (x : NamedFunctionData) → named_whole (named_parts x) ≡ x
 named_back (core_function f) = refl
+named_back (store_function f) = refl
 named_back (program_function f) = refl
 
 named : Tells NamedFunctionData
 named = by_parts NamedParts
-    (either core function)
+    (either core (either (bare storing tt) function))
     named_parts named_whole named_back
 
 abbrev ToldParts : Type 0

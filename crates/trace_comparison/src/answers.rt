@@ -13,6 +13,7 @@ pub fn same_named_function(left: &NamedFunction, right: &NamedFunction) -> bool
 {
     match (left, right) {
         (NamedFunction::Core(a), NamedFunction::Core(b)) => a == b,
+        (NamedFunction::Store(a), NamedFunction::Store(b)) => a == b,
         (NamedFunction::Program(a), NamedFunction::Program(b)) => same_function(a, b),
         _ => false,
     }

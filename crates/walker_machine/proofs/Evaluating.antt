@@ -1,42 +1,47 @@
 -- Forms in a row, of which some have values already.
 use mathlib.Core.Path.{fun_ext}
-use Rattle.std.specs.Prelude.{string_bytes}
-use Rattle.std.proofs.Common.{◌≡◌, ℕ, ◌<◌, Bool, true, false, if◌then◌else◌, Option, Some, None, MatchOption, subst, Result, Ok, Err, IfOk, List, [], ◌∷◌, ◌++◌, refl, sym, ap, ◌∙◌, append_assoc, append-nil, zero, suc, length, nat_lt, arith}
+use Rattle.std.specs.Prelude.{string_bytes, codes, ◌==◌, ◌&&◌, nat_le}
+use Rattle.std.proofs.Common.{◌≡◌, ◌≢◌, ℕ, ◌+◌, ◌-◌, ◌<◌, Bool, true, false, if◌then◌else◌, Option, Some, None, MatchOption, subst, Result, Ok, Err, IfOk, List, [], ◌∷◌, ◌++◌, refl, sym, ap, ◌∙◌, append_assoc, append-nil, zero, suc, length, nat_lt, arith}
 use Rattle.std.proofs.lemmas.List.{map-append, length-map}
 use Rattle.std.proofs.lemmas.Bool.Decides.{nat_tests}
 use Rattle.std.proofs.lemmas.Grind.{common_steps}
 use Rattle.value_data.specs.Datum.{Datum, Items, no_items, item, Pairs, list, vector, map}
 use Rattle.value_data.specs.Listed.{listed}
+use Rattle.value_data.specs.Measures.{weight, nesting}
 use Rattle.value_data.specs.View.{view}
 use Rattle.value_data.specs.declared.value.Value as value
 use Rattle.value_data.proofs.Lists.{lists}
 use Rattle.value_data.proofs.Views.{value_views}
 use Rattle.repl_values.specs.declared.fault.Fault.{Fault}
-use Rattle.repl_faults.specs.Failure.{Failure, output_too_long}
+use Rattle.repl_faults.specs.Failure.{Failure, output_too_long, too_large, wrong_arity}
 use Rattle.repl_faults.specs.View.{failure_of}
 use Rattle.repl_faults.specs.declared.error.ApplyError.{ApplyError}
-use Rattle.function_names.specs.Names.{fits}
+use Rattle.function_names.specs.Names.{fits, name_of}
 use Rattle.core_functions.specs.Meaning.{meaning}
 use Rattle.core_functions.specs.View.{FailsIn}
-use Rattle.core_texts.specs.Limits.{most_text}
+use Rattle.core_texts.specs.Limits.{most_text, most_weight}
 use Rattle.core_functions.specs.Outcome as outcomes
-use Rattle.core_functions.specs.Outcome.{Outcome, bounded}
+use Rattle.core_functions.specs.Outcome.{Outcome, bounded, limited, most_nesting}
 use Rattle.special_forms.proofs.Sizes.{datum_size-pos, datum_size-list, datum_size-vector, datum_size-map}
+use Rattle.special_forms.specs.Functions.{FunctionData}
 use Rattle.special_forms.specs.Rows.{BoundForm, in_a_row}
 use Rattle.special_forms.specs.Seen.{views, forms_view, binding_view}
 use Rattle.special_forms.specs.declared.forms.Binding.{Binding}
 use Rattle.special_forms.specs.declared.forms.Forms.{Forms}
 use Rattle.special_forms.specs.declared.special.SpecialForm.{SpecialForm}
-use Rattle.walker_machine.specs.Doing.{Kept, Doing, Part}
+use Rattle.evaluation_rules.specs.Doing.{Kept, Doing, Part, fails}
+use Rattle.walker_state.proofs.Stepping.{fails-at, within-printing}
 use Rattle.repl_jobs.specs.Tree.{Tree}
-use Rattle.walker_machine.specs.Tree.{ends}
-use Rattle.walker_machine.specs.Places.{PlaceData}
-use Rattle.walker_machine.specs.Calls.{CalleeData, row, call_value, called, printed, outcome, core_call}
-use Rattle.walker_machine.specs.Evaluation.{value_at}
-use Rattle.walker_machine.specs.Machine.{kept_of, next_of, from_state, tree, call_behind, items_behind, collected, items_value, list_at}
-use Rattle.walker_machine.specs.declared.frames.Collection.{Collection}
-use Rattle.walker_machine.specs.declared.frames.Control.{Control}
-use Rattle.walker_machine.specs.declared.frames.State.{State}
+use Rattle.evaluation_rules.specs.Tree.{ends}
+use Rattle.evaluation_rules.specs.Places.{PlaceData, Walk}
+use Rattle.evaluation_rules.specs.Calls.{CalleeData, call_value, called, printed, outcome, core_call, keyword_call, program_call}
+use Rattle.evaluation_rules.specs.Rows.{row}
+use Rattle.evaluation_rules.specs.Collections.{within_limits}
+use Rattle.evaluation_rules.specs.Evaluation.{list_value, value_at}
+use Rattle.walker_state.specs.Machine.{bottom, place_of, kept_of, next_of, from_state, tree, call_behind, items_behind, collected, items_value, list_at}
+use Rattle.walker_state.specs.declared.frames.Collection.{Collection}
+use Rattle.walker_state.specs.declared.frames.Control.{Control}
+use Rattle.walker_state.specs.declared.frames.State.{State}
 use Rattle.function_names.specs.declared.function.CoreFunction.{CoreFunction}
 
 -- one more form has its value
@@ -105,14 +110,17 @@ forms-chosen false consequent alternative body chosen = ap forms_view chosen
 printed-long : (text : List ℕ) (d : Datum) (s : State) → most_text < length text
     → from_state (printed text d) s ≡ ends (Err output_too_long) (string_bytes s.text) (kept_of s)
 unfolding printed
-printed-long text d s h = grind (arith, common_steps, nat_tests, h)
+printed-long text d s h =
+    let test : nat_lt most_text (length (string_bytes s.text) + length text) ≡ true = grind (arith, nat_tests, h) in
+    within-printing s.retries s.transaction (bottom s.frames.items (place_of s)) text (kept_of s) (next_of s d (kept_of s)) (string_bytes s.text)
+    ∙ rw test refl
 
 pub outcome-bounded : (o : Outcome) (s : State) → from_state (outcome (bounded o)) s ≡ from_state (outcome o) s
 outcome-bounded (outcomes.gives d text) s = by_test (nat_lt most_text (length text)) refl
   where
     by_test : (t : Bool) → nat_lt most_text (length text) ≡ t
         → from_state (outcome (if t then outcomes.fails output_too_long else outcomes.gives d text)) s ≡ from_state (printed text d) s
-    by_test true e = sym (printed-long text d s (grind (arith, nat_tests, e)))
+    by_test true e = fails-at output_too_long s ∙ sym (printed-long text d s (grind (arith, nat_tests, e)))
     by_test false e = refl
 outcome-bounded (outcomes.fails f) s = refl
 
@@ -122,13 +130,17 @@ outcome-gives o d text s h = sym (outcome-bounded o s) ∙ ap (λ (p : Outcome).
 
 pub outcome-fails : (o : Outcome) (f : Failure) (s : State) → bounded o ≡ outcomes.fails f
     → from_state (outcome o) s ≡ ends (Err f) (string_bytes s.text) (kept_of s)
-outcome-fails o f s h = sym (outcome-bounded o s) ∙ ap (λ (p : Outcome). from_state (outcome p) s) h
+outcome-fails o f s h = sym (outcome-bounded o s) ∙ ap (λ (p : Outcome). from_state (outcome p) s) h ∙ fails-at f s
 
 pub ruleset bounds = (value_views, outcome-gives, outcome-fails)
 
 -- a form that was taken from the front
 pub form-taken : (X : Type 0) (o : Option value.Value) (v : value.Value) (old new : List Datum) → MatchOption o X (λ form. old ≡ view form ∷ new) → o ≡ Some v → old ≡ view v ∷ new
 form-taken X o v old new told is = let P : Option value.Value → Type 0 = λ p. MatchOption p X (λ form. old ≡ view form ∷ new) in subst P is told
+
+-- where there was none
+pub none-taken : (X : Type 0) (Y : value.Value → Type 0) (o : Option value.Value) → MatchOption o X Y → o ≡ None → X
+none-taken X Y o told is = let P : Option value.Value → Type 0 = λ p. MatchOption p X Y in subst P is told
 
 -- and so of a name and a form of `let`
 pub binding-taken : (X : Type 0) (o : Option Binding) (b : Binding) (old new : List BoundForm)
@@ -137,11 +149,6 @@ binding-taken X o b old new told is =
     let P : Option Binding → Type 0 = λ p. MatchOption p X (λ bound. old ≡ binding_view bound ∷ new) in subst P is told
 
 -- what holds wherever the machine stands holds where it stands
-pub if_ok-part : {E : Type 0} (r : Result Control E) (p q : Part Datum) → p ≡ q
-    → IfOk r (λ control. (s : State) → tree control s ≡ from_state p s) → IfOk r (λ control. (s : State) → tree control s ≡ from_state q s)
-if_ok-part (Ok control) p q same h = λ s. h s ∙ ap (λ (part : Part Datum). from_state part s) same
-if_ok-part (Err e) p q same h = tt
-
 pub if_ok-here : {E : Type 0} (r : Result Control E) (p q : Part Datum) (s : State) → p ≡ q
     → IfOk r (λ control. (t : State) → tree control t ≡ from_state p t) → IfOk r (λ control. tree control s ≡ from_state q s)
 if_ok-here (Ok control) p q s same h = h s ∙ ap (λ (part : Part Datum). from_state part s) same
@@ -156,3 +163,33 @@ pub fails-told : (o : Outcome) (e : ApplyError) (f : Fault) (s : State) → Fail
     → ends (Err (failure_of f)) (string_bytes s.text) (kept_of s) ≡ from_state (outcome o) s
 fails-told o e f s told is =
     let P : ApplyError → Type 0 = λ d. FailsIn (bounded o) d in sym (outcome-fails o (failure_of f) s (subst P is told))
+
+-- calls with a wrong number of arguments
+pub core_call-misfits : (f : CoreFunction) (vs : List value.Value) (told : Failure) (s : State) → fits f (length vs) ≡ false
+    → told ≡ wrong_arity (name_of f) (length vs) → ends (Err told) (string_bytes s.text) (kept_of s) ≡ from_state (core_call f (views vs)) s
+unfolding core_call
+core_call-misfits f vs told s misfits is = rw (length-map vs view, misfits, is) (sym (fails-at (wrong_arity (name_of f) (length vs)) s))
+
+pub program_call-misfits : (walk : Walk) (g : FunctionData) (vs : List value.Value) (told : Failure) (s : State) → length g.params ≢ length vs
+    → told ≡ wrong_arity (g.space ++ codes "/" ++ g.name) (length vs)
+    → ends (Err told) (string_bytes s.text) (kept_of s) ≡ from_state (program_call walk g (views vs)) s
+unfolding program_call
+program_call-misfits walk g vs told s other is =
+    let test : (length g.params == length vs) ≡ false = grind (arith, nat_tests, other) in
+    rw (length-map vs view, test, is) (sym (fails-at (wrong_arity (g.space ++ codes "/" ++ g.name) (length vs)) s))
+
+pub keyword_call-misfits : (name : List ℕ) (vs : List value.Value) (told : Failure) (s : State) → length vs ≢ 1 → length vs ≢ 2
+    → told ≡ wrong_arity (codes ":" ++ name) (length vs) → ends (Err told) (string_bytes s.text) (kept_of s) ≡ from_state (keyword_call name (views vs)) s
+unfolding keyword_call
+keyword_call-misfits name vs told s not_one not_two is =
+    let one : (length vs == 1) ≡ false = grind (arith, nat_tests, not_one) in
+    let two : (length vs == 2) ≡ false = grind (arith, nat_tests, not_two) in
+    rw (length-map vs view, one, two, is) (sym (fails-at (wrong_arity (codes ":" ++ name) (length vs)) s))
+
+-- a list that is not too deep
+pub list-behind : (room : ℕ) (p : PlaceData) (d : Datum) (ds : List Datum) → (room ≡ 0 → ⊥)
+    → list_at room p (d ∷ ds) ≡ list_value (value_at (room - 1)) p d ds
+list-behind zero p d ds some = absurd (some refl)
+list-behind (suc n) p d ds some =
+    let e : suc n - 1 ≡ n = omega arith in
+    ap (λ (m : ℕ). list_value (value_at m) p d ds) (sym e)

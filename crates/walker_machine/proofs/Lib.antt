@@ -1,2 +1,3 @@
-pub mod Keys
 pub mod Evaluating
+pub mod Altering
+pub mod Going

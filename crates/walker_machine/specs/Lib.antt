@@ -1,11 +1,1 @@
-pub mod Doing
-pub mod Tree
-pub mod Places
-pub mod Naming
-pub mod Calls
-pub mod SpecialForms
-pub mod Collections
-pub mod Evaluation
-pub mod Machine
-pub mod Size
 pub mod Waits

@@ -1,18 +1,17 @@
 -- How far an evaluation came: to its next ask, or to its end; and how much it has still to do.
-use Rattle.std.specs.Prelude.{ℕ, ◌+◌, ◌<◌, ◌≤◌, ◌⊎◌, ⊤}
+use Rattle.std.specs.Prelude.{◌≡◌, ℕ, ◌+◌, ◌≤◌, ⊤, string_bytes}
 use Rattle.repl_asks.specs.Exchange.{AnswerData}
 use Rattle.repl_asks.specs.View.{ask_view}
+use Rattle.repl_jobs.specs.Tree.{Tree, finished, asks}
 use Rattle.repl_jobs.specs.View.{end_view, finished_view}
 use Rattle.special_forms.specs.Seen.{views, function_view}
-use Rattle.std.specs.Prelude.{Result, Ok, Err, string_bytes}
-use Rattle.value_data.specs.View.{view}
-use Rattle.repl_jobs.specs.Tree.{Tree, finished, asks}
-use Rattle.walker_machine.specs.Tree.{ends}
-use Rattle.walker_machine.specs.Calls.{body_value}
-use Rattle.walker_machine.specs.Evaluation.{value_at}
-use Rattle.walker_machine.specs.Machine.{answered, from_state, kept_of}
-use Rattle.walker_machine.specs.Size.{wanted_size, frames_size}
-use Rattle.walker_machine.specs.declared.frames.State.{State}
+use Rattle.evaluation_rules.specs.Tree.{ends}
+use Rattle.evaluation_rules.specs.Calls.{body_value}
+use Rattle.evaluation_rules.specs.Evaluation.{value_at}
+use Rattle.walker_state.specs.Leaving.{IsAskedFrom}
+use Rattle.walker_state.specs.Machine.{answered, from_state, kept_of}
+use Rattle.walker_state.specs.Size.{Position, IsOn, IsLater, around, outer_calls, wanted_position}
+use Rattle.walker_state.specs.declared.frames.State.{State}
 use Rattle.walker_machine.specs.declared.steps.Leg.{Leg}
 use Rattle.walker_machine.specs.declared.steps.Waiting.{Waiting}
 use Rattle.walker_machine.specs.declared.steps.Reached.{Reached}
@@ -31,28 +30,28 @@ abbrev pub reached_tree : Reached → Tree
 reached_tree (Reached.Asks w ask) = asks (ask_view ask) (behind w)
 reached_tree (Reached.Ends end) = finished (finished_view end)
 
-abbrev pub leg_size : Leg → ℕ
-leg_size (Leg.Asks ask wanted) = wanted_size wanted
-leg_size (Leg.Enters function values room) = 0
-leg_size (Leg.Ends end) = 0
+-- Where an evaluation stands, for the proof that it ends. No promise speaks of it.
 
-abbrev pub leg_spent : Leg → ℕ
-leg_spent (Leg.Asks ask wanted) = 0
-leg_spent (Leg.Enters function values room) = 1
-leg_spent (Leg.Ends end) = 0
+abbrev pub position_of : Waiting → Position
+position_of w = wanted_position w.wanted w.state
 
-abbrev pub waiting_size : Waiting → ℕ
-waiting_size w = wanted_size w.wanted + frames_size w.state.frames.items
+-- without the body of another function
+abbrev pub IsOnLeg : Leg → State → Position → Type 0
+IsOnLeg (Leg.Asks ask wanted) s old = IsAskedFrom wanted s old
+IsOnLeg (Leg.Enters f values room) s old = (around s.transaction ≡ old.transaction) × (1 + s.calls ≤ old.calls)
+IsOnLeg (Leg.Ends end) s old = ⊤
 
-abbrev pub reached_size : Reached → ℕ
-reached_size (Reached.Asks w ask) = waiting_size w
-reached_size (Reached.Ends end) = 0
+-- it came on without an answer, or there is no more to do
+abbrev pub IsOnReached : Reached → Position → Type 0
+IsOnReached (Reached.Asks w ask) old = IsOn (position_of w) old
+IsOnReached (Reached.Ends end) old = ⊤
 
--- the calls that are left, none behind the end
-abbrev pub reached_calls : Reached → ℕ
-reached_calls (Reached.Asks w ask) = w.state.calls
-reached_calls (Reached.Ends end) = 0
+-- an answer led on: to a later attempt, or to fewer calls, or to less to do
+abbrev pub IsLaterReached : Reached → Position → Type 0
+IsLaterReached (Reached.Asks w ask) old = IsLater (position_of w) old
+IsLaterReached (Reached.Ends end) old = ⊤
 
--- an evaluation that waited came further: it has fewer calls left, or as many and less to do
-abbrev pub IsFurther : Waiting → Reached → Type 0
-IsFurther w r = (reached_calls r ≤ w.state.calls) × ((reached_calls r < w.state.calls) ⊎ (reached_size r < waiting_size w))
+-- the most calls that are left once a transaction is over, none behind the end
+abbrev pub most_calls_of : Reached → ℕ
+most_calls_of (Reached.Asks w ask) = outer_calls (position_of w)
+most_calls_of (Reached.Ends end) = 0

@@ -1,24 +1,33 @@
 // An answer goes to what it was wanted for.
+#![tactic(auto, using(walker_state::proofs::Stepping::steps))]
+
 ghost use Rattle.std.specs.Prelude.{◌≡◌, ◌+◌, ◌<◌, ◌≤◌, IfOk};
 ghost use Rattle.std.specs.Arc.{arc_str_bytes};
-ghost use Rattle.repl_asks.specs.View.{answer_view, named_view, resolution_view};
+ghost use Rattle.repl_asks.specs.View.{answer_view, name_view, named_view, reading_view, resolution_view};
+ghost use Rattle.evaluation_rules.specs.Refs.{read_value};
 ghost use Rattle.special_forms.specs.Seen.{forms_view};
 ghost use Rattle.special_forms.specs.Size.{forms_size};
-ghost use Rattle.walker_machine.specs.Calls.{named_callee, call_value};
-ghost use Rattle.walker_machine.specs.Evaluation.{value_at};
-ghost use Rattle.walker_machine.specs.Machine.{answered, used, resolved_call, from_state, place_of, tree};
-ghost use Rattle.walker_machine.specs.Naming.{as_value};
-ghost use Rattle.walker_machine.specs.declared.frames.State.{State};
-ghost use Rattle.walker_machine.specs.Size.{wanted_size, use_size, control_size, frames_size, spent};
+ghost use Rattle.evaluation_rules.specs.Calls.{named_call};
+ghost use Rattle.evaluation_rules.specs.Evaluation.{value_at};
+ghost use Rattle.walker_state.specs.Machine.{answered, used, resolved_call, from_state, place_of, tree};
+ghost use Rattle.evaluation_rules.specs.Naming.{as_value};
+ghost use Rattle.walker_state.specs.declared.frames.State.{State};
+ghost use Rattle.walker_state.specs.declared.frames.SymbolUse.{SymbolUse};
+ghost use Rattle.walker_state.specs.declared.frames.Wanted.{Wanted};
+ghost use Rattle.walker_state.specs.Size.{use_size, control_size, frames_size, control_calls, control_around, control_position, wanted_position, around, IsLater};
 
-use crate::frames::{Callee, Control, State, SymbolUse, Wanted};
-use crate::namespaces::go_on_in;
+use crate::alter::begin_alter;
 use crate::rows::next_argument;
-use repl_asks::{Answer, NamedFunction, Resolution};
+use function_names::StoreFunction;
+use repl_asks::{Answer, NamedFunction, Reading, Resolution};
 use repl_faults::{not_a_function, not_a_value};
+use repl_values::{RefName, Value};
 use special_forms::Forms;
 use std::alloc::{AllocError, Global};
 use std::sync::ArcStr;
+use walker_state::{
+    Callee, Control, State, SymbolUse, Wanted, begun, go_on_in, note_read, retry, settle,
+};
 
 pub(crate) fn take_answer(
     alloc: Global,
@@ -26,9 +35,7 @@ pub(crate) fn take_answer(
     wanted: Wanted,
     answer: Answer,
 ) -> Result<Control, AllocError>
-    ensures size { IfOk result (λ control. control_size control + frames_size state.new.frames.items
-        < wanted_size wanted + frames_size state.old.frames.items) }
-    ensures calls { IfOk result (λ control. spent control + state.new.calls ≤ state.old.calls) }
+    ensures later { IfOk result (λ control. IsLater (control_position control state.new) (wanted_position wanted state.old)) }
     ensures meaning { IfOk result (λ control. tree control state.new ≡ answered wanted (answer_view answer) state.old) }
 {
     match wanted {
@@ -37,6 +44,33 @@ pub(crate) fn take_answer(
         }
         Wanted::Completion(value) => Ok(Control::Return(value)),
         Wanted::Namespace(name) => Ok(go_on_in(state, name)),
+        Wanted::Value => Ok(Control::Return(answer.into_value())),
+        Wanted::Reading(name) => take_reading(alloc, state, name, answer.into_reading()),
+        Wanted::Begin(transaction) => begun(alloc, state, transaction),
+        Wanted::Verdict(value, transaction) => {
+            settle(alloc, state, value, transaction, answer.into_verdict())
+        }
+    }
+}
+
+// The value of a ref, which the attempt notes.
+fn take_reading(
+    alloc: Global,
+    state: &mut State,
+    name: RefName,
+    reading: Reading,
+) -> Result<Control, AllocError>
+    ensures later { IfOk result (λ control. IsLater (control_position control state.new)
+        (wanted_position (Wanted.Reading name) state.old)) }
+    ensures meaning { IfOk result (λ control. tree control state.new
+        ≡ from_state (read_value (name_view name) (reading_view reading)) state.old) }
+{
+    match reading {
+        Reading::Found(value) => {
+            note_read(state, name, &value)?;
+            Ok(Control::Return(value))
+        }
+        Reading::Retry => retry(alloc, state),
     }
 }
 
@@ -48,20 +82,25 @@ pub(crate) fn take_resolution(
 ) -> Result<Control, AllocError>
     ensures size { IfOk result (λ control. control_size control + frames_size state.new.frames.items
         < use_size purpose + frames_size state.old.frames.items) }
-    ensures calls { IfOk result (λ control. spent control + state.new.calls ≤ state.old.calls) }
+    ensures calls { IfOk result (λ control. control_calls control state.new ≤ state.old.calls) }
+    ensures around { IfOk result (λ control. control_around control state.new ≡ around state.old.transaction) }
     ensures meaning { IfOk result (λ control. tree control state.new
         ≡ from_state (used (place_of state.old) purpose (resolution_view resolution)) state.old) }
 {
     match purpose {
         SymbolUse::Value(symbol) => take_value(alloc, symbol, resolution),
         SymbolUse::Head(forms, room) => take_function(alloc, state, forms, room, resolution),
+        SymbolUse::Alter(target, forms, room) => {
+            take_alter(alloc, state, target, forms, room, resolution)
+        }
     }
 }
 
 // The symbol stands in a value's place.
 fn take_value(alloc: Global, symbol: ArcStr, resolution: Resolution) -> Result<Control, AllocError>
     ensures size { IfOk result (λ control. control_size control < 2) }
-    ensures calls { IfOk result (λ control. spent control ≡ 0) }
+    ensures calls { IfOk result (λ control. (s : State) → control_calls control s ≡ s.calls) }
+    ensures around { IfOk result (λ control. (s : State) → control_around control s ≡ around s.transaction) }
     ensures meaning { IfOk result (λ control. (s : State) → tree control s
         ≡ from_state (as_value (arc_str_bytes symbol) (resolution_view resolution)) s) }
 {
@@ -81,13 +120,41 @@ fn take_function(
     resolution: Resolution,
 ) -> Result<Control, AllocError>
     ensures size { IfOk result (λ control. control_size control + frames_size state.new.frames.items
-        < 2 + forms_size (forms_view forms) + frames_size state.old.frames.items) }
-    ensures calls { IfOk result (λ control. spent control + state.new.calls ≤ state.old.calls) }
+        < 6 + forms_size (forms_view forms) + frames_size state.old.frames.items) }
+    ensures calls { IfOk result (λ control. control_calls control state.new ≤ state.old.calls) }
+    ensures around { IfOk result (λ control. control_around control state.new ≡ around state.old.transaction) }
     ensures meaning { IfOk result (λ control. tree control state.new
         ≡ from_state (resolved_call room (place_of state.old) (forms_view forms) (resolution_view resolution)) state.old) }
 {
     match resolution {
         Resolution::Function(function) => begin_call(alloc, state, function, forms, room),
+        Resolution::Value(value) => Ok(Control::Fault(not_a_function(alloc, &value)?)),
+        Resolution::Nothing(fault) => Ok(Control::Fault(fault)),
+    }
+}
+
+// The symbol stands in the place of the function of `alter`, behind this value and before these forms.
+fn take_alter(
+    alloc: Global,
+    state: &mut State,
+    target: Value,
+    forms: Forms,
+    room: u32,
+    resolution: Resolution,
+) -> Result<Control, AllocError>
+    ensures size { IfOk result (λ control. control_size control + frames_size state.new.frames.items
+        < 6 + forms_size (forms_view forms) + frames_size state.old.frames.items) }
+    ensures calls { IfOk result (λ control. control_calls control state.new ≤ state.old.calls) }
+    ensures around { IfOk result (λ control. control_around control state.new ≡ around state.old.transaction) }
+    ensures meaning { IfOk result (λ control. tree control state.new
+        ≡ from_state (used (place_of state.old) (SymbolUse.Alter target forms room) (resolution_view resolution)) state.old) }
+{
+    match resolution {
+        Resolution::Function(function) => {
+            let mut values = Vec::new(alloc);
+            values.push(target)?;
+            next_argument(alloc, state, Callee::Alter(function), values, forms, room)
+        }
         Resolution::Value(value) => Ok(Control::Fault(not_a_function(alloc, &value)?)),
         Resolution::Nothing(fault) => Ok(Control::Fault(fault)),
     }
@@ -102,11 +169,17 @@ fn begin_call(
     room: u32,
 ) -> Result<Control, AllocError>
     ensures size { IfOk result (λ control. control_size control + frames_size state.new.frames.items
-        < 2 + forms_size (forms_view forms) + frames_size state.old.frames.items) }
-    ensures calls { IfOk result (λ control. spent control + state.new.calls ≤ state.old.calls) }
+        < 6 + forms_size (forms_view forms) + frames_size state.old.frames.items) }
+    ensures calls { IfOk result (λ control. control_calls control state.new ≤ state.old.calls) }
+    ensures around { IfOk result (λ control. control_around control state.new ≡ around state.old.transaction) }
     ensures meaning { IfOk result (λ control. tree control state.new
-        ≡ from_state (call_value (value_at room) (place_of state.old) (forms_view forms) (named_callee (named_view function))) state.old) }
+        ≡ from_state (named_call (value_at room) (place_of state.old) (forms_view forms) (named_view function)) state.old) }
 {
-    let callee = Callee::Named(function);
-    next_argument(alloc, state, callee, Vec::new(alloc), forms, room)
+    match function {
+        NamedFunction::Store(StoreFunction::Alter) => begin_alter(alloc, state, forms, room),
+        other => {
+            let callee = Callee::Named(other);
+            next_argument(alloc, state, callee, Vec::new(alloc), forms, room)
+        }
+    }
 }

@@ -1,19 +1,21 @@
 // Calls: first one call is taken from the budget, then the number of arguments is checked, then the
 // function is applied.
+#![tactic(auto, using(walker_state::proofs::Stepping::steps))]
+
 ghost use Rattle.std.specs.Prelude.{◌≡◌, ◌+◌, ◌<◌, ◌≤◌, [], map, IfOk};
 ghost use Rattle.std.specs.Arc.{arc_str_bytes};
 ghost use Rattle.core_functions.specs.Outcome.{Outcome, bounded};
 ghost use Rattle.core_functions.specs.View.{FailsIn};
 ghost use Rattle.value_data.specs.View.{view};
-ghost use Rattle.walker_machine.specs.Machine.{callee_view, from_state, tree};
-ghost use Rattle.walker_machine.specs.declared.frames.State.{State};
+ghost use Rattle.walker_state.specs.Machine.{callee_view, from_state, tree};
+ghost use Rattle.walker_state.specs.declared.frames.State.{State};
 ghost use Rattle.special_forms.specs.Seen.{views, function_view};
-ghost use Rattle.walker_machine.specs.Size.{control_size, frames_size, spent};
-ghost use Rattle.walker_machine.specs.Calls.{body_value, bound_to, called, core_call, get_arguments, keyword_call, outcome, printed, program_call};
-ghost use Rattle.walker_machine.specs.Evaluation.{value_at};
+ghost use Rattle.walker_state.specs.Size.{control_size, frames_size, control_calls, control_around, around};
+ghost use Rattle.repl_asks.specs.View.{named_view};
+ghost use Rattle.evaluation_rules.specs.Calls.{body_value, bound_to, called, core_call, function_applied, function_called, get_arguments, keyword_call, outcome, printed, program_call};
+ghost use Rattle.evaluation_rules.specs.Evaluation.{value_at};
 
-use crate::frames::{Callee, Control, Frame, Place, State};
-use crate::rows::next_in_body;
+use crate::alter::{call_alter, call_store};
 use core_functions::{Applied, CoreFunction, apply};
 use core_maps::MapFunction;
 use local_names::Locals;
@@ -25,11 +27,13 @@ use std::alloc::{AllocError, Global};
 use std::collections::VecDeque;
 use std::mem;
 use std::sync::ArcStr;
+use walker_state::{Callee, Control, Frame, Place, State, next_in_body};
 
 // The most that an evaluation may print, in bytes.
 const MOST_TEXT: usize = 1_048_576;
 
-#[tactic(auto, unfolding(crate::specs::Calls::called))]
+// One call is taken from the budget, and the callee is applied.
+#[tactic(auto, using(walker_state::proofs::Stepping::steps), unfolding(evaluation_rules::specs::Calls::called))]
 pub(crate) fn call(
     alloc: Global,
     state: &mut State,
@@ -38,8 +42,9 @@ pub(crate) fn call(
     room: u32,
 ) -> Result<Control, AllocError>
     ensures size { IfOk result (λ control. control_size control + frames_size state.new.frames.items
-        < 2 + frames_size state.old.frames.items) }
-    ensures calls { IfOk result (λ control. spent control + state.new.calls ≤ state.old.calls) }
+        < 6 + frames_size state.old.frames.items) }
+    ensures calls { IfOk result (λ control. control_calls control state.new ≤ state.old.calls) }
+    ensures around { IfOk result (λ control. control_around control state.new ≡ around state.old.transaction) }
     ensures meaning { IfOk result (λ control. tree control state.new ≡ from_state (called (value_at room) (callee_view callee) (views values.items)) state.old) }
 {
     if state.calls == 0 {
@@ -47,17 +52,56 @@ pub(crate) fn call(
     }
     state.calls -= 1;
     match callee {
-        Callee::Named(NamedFunction::Core(function)) => {
-            call_core(alloc, state, function, values.as_slice())
-        }
-        Callee::Named(NamedFunction::Program(function)) => {
-            call_function(alloc, function, values, room)
-        }
+        Callee::Named(function) => apply_named(alloc, state, function, values, room),
         Callee::Keyword(name) => call_keyword(alloc, state, name, values),
+        Callee::Alter(function) => call_alter(alloc, state, function, values, room),
     }
 }
 
-#[tactic(auto, using(crate::proofs::Evaluating::bounds), unfolding(crate::specs::Calls::core_call))]
+// One call is taken from the budget, and the function is applied.
+#[tactic(auto, using(walker_state::proofs::Stepping::steps), unfolding(evaluation_rules::specs::Calls::function_called))]
+pub(crate) fn call_named(
+    alloc: Global,
+    state: &mut State,
+    function: NamedFunction,
+    values: Vec<Value>,
+    room: u32,
+) -> Result<Control, AllocError>
+    ensures size { IfOk result (λ control. control_size control + frames_size state.new.frames.items
+        < 3 + frames_size state.old.frames.items) }
+    ensures calls { IfOk result (λ control. control_calls control state.new ≤ state.old.calls) }
+    ensures around { IfOk result (λ control. control_around control state.new ≡ around state.old.transaction) }
+    ensures meaning { IfOk result (λ control. tree control state.new ≡ from_state (function_called (value_at room) (named_view function) (views values.items)) state.old) }
+{
+    if state.calls == 0 {
+        return Ok(Control::Fault(too_many_calls(alloc)?));
+    }
+    state.calls -= 1;
+    apply_named(alloc, state, function, values, room)
+}
+
+// The function at these arguments, its call taken from the budget already.
+fn apply_named(
+    alloc: Global,
+    state: &mut State,
+    function: NamedFunction,
+    values: Vec<Value>,
+    room: u32,
+) -> Result<Control, AllocError>
+    ensures size { IfOk result (λ control. control_size control + frames_size state.new.frames.items
+        < 3 + frames_size state.old.frames.items) }
+    ensures calls { IfOk result (λ control. control_calls control state.new ≤ 1 + state.old.calls) }
+    ensures around { IfOk result (λ control. control_around control state.new ≡ around state.old.transaction) }
+    ensures meaning { IfOk result (λ control. tree control state.new ≡ from_state (function_applied (value_at room) (named_view function) (views values.items)) state.old) }
+{
+    match function {
+        NamedFunction::Core(function) => call_core(alloc, state, function, values.as_slice()),
+        NamedFunction::Store(function) => call_store(alloc, state, function, values),
+        NamedFunction::Program(function) => call_function(alloc, function, values, room),
+    }
+}
+
+#[tactic(auto, using(walker_state::proofs::Stepping::steps, crate::proofs::Evaluating::bounds), unfolding(evaluation_rules::specs::Calls::core_call))]
 fn call_core(
     alloc: Global,
     state: &mut State,
@@ -66,7 +110,8 @@ fn call_core(
 ) -> Result<Control, AllocError>
     ensures size { IfOk result (λ control. control_size control + frames_size state.new.frames.items
         < 2 + frames_size state.old.frames.items) }
-    ensures calls { IfOk result (λ control. spent control + state.new.calls ≤ state.old.calls) }
+    ensures calls { IfOk result (λ control. control_calls control state.new ≤ state.old.calls) }
+    ensures around { IfOk result (λ control. control_around control state.new ≡ around state.old.transaction) }
     ensures meaning { IfOk result (λ control. tree control state.new ≡ from_state (core_call function (views values.now)) state.old) }
 {
     if !function.takes(values.len()) {
@@ -85,7 +130,8 @@ fn call_core(
 // The fault of a function ends the evaluation.
 fn failed(error: ApplyError) -> Result<Control, AllocError>
     ensures size { IfOk result (λ control. control_size control < 2) }
-    ensures calls { IfOk result (λ control. spent control ≡ 0) }
+    ensures calls { IfOk result (λ control. (s : State) → control_calls control s ≡ s.calls) }
+    ensures around { IfOk result (λ control. (s : State) → control_around control s ≡ around s.transaction) }
     ensures meaning { (o : Outcome) → FailsIn (bounded o) error → IfOk result (λ control. (s : State) → tree control s ≡ from_state (outcome o) s) }
 {
     match error {
@@ -95,11 +141,12 @@ fn failed(error: ApplyError) -> Result<Control, AllocError>
 }
 
 // The value, with this text printed. Text that would pass the limit is not printed at all.
-#[tactic(auto, unfolding(crate::specs::Calls::printed))]
+#[tactic(auto, using(walker_state::proofs::Stepping::steps), unfolding(evaluation_rules::specs::Calls::printed))]
 fn print(alloc: Global, state: &mut State, text: &str, value: Value) -> Result<Control, AllocError>
     ensures size { IfOk result (λ control. control_size control + frames_size state.new.frames.items
         < 2 + frames_size state.old.frames.items) }
-    ensures calls { IfOk result (λ control. spent control + state.new.calls ≤ state.old.calls) }
+    ensures calls { IfOk result (λ control. control_calls control state.new ≤ state.old.calls) }
+    ensures around { IfOk result (λ control. control_around control state.new ≡ around state.old.transaction) }
     ensures meaning { IfOk result (λ control. tree control state.new ≡ from_state (printed text.now (view value)) state.old) }
 {
     if state.text.len().saturating_add(text.len()) > MOST_TEXT {
@@ -110,7 +157,7 @@ fn print(alloc: Global, state: &mut State, text: &str, value: Value) -> Result<C
 }
 
 // `(:name map)` and `(:name map default)` look the keyword up.
-#[tactic(auto, unfolding(crate::specs::Calls::keyword_call))]
+#[tactic(auto, using(walker_state::proofs::Stepping::steps), unfolding(evaluation_rules::specs::Calls::keyword_call))]
 fn call_keyword(
     alloc: Global,
     state: &mut State,
@@ -119,7 +166,8 @@ fn call_keyword(
 ) -> Result<Control, AllocError>
     ensures size { IfOk result (λ control. control_size control + frames_size state.new.frames.items
         < 2 + frames_size state.old.frames.items) }
-    ensures calls { IfOk result (λ control. spent control + state.new.calls ≤ state.old.calls) }
+    ensures calls { IfOk result (λ control. control_calls control state.new ≤ state.old.calls) }
+    ensures around { IfOk result (λ control. control_around control state.new ≡ around state.old.transaction) }
     ensures meaning { IfOk result (λ control. tree control state.new ≡ from_state (keyword_call (arc_str_bytes name) (views values.items)) state.old) }
 {
     if values.len() == 1 || values.len() == 2 {
@@ -134,7 +182,7 @@ fn call_keyword(
 }
 
 // The map, the keyword and what comes behind the map.
-#[tactic(auto, using(value_data::proofs::Views::value_views))]
+#[tactic(auto, using(value_data::proofs::Views::value_views, walker_state::proofs::Stepping::steps))]
 fn get_arguments(name: ArcStr, mut values: Vec<Value>) -> Result<Vec<Value>, AllocError>
     ensures { IfOk result (λ args. views args.items ≡ get_arguments (arc_str_bytes name) (views values.items)) }
 {
@@ -144,7 +192,7 @@ fn get_arguments(name: ArcStr, mut values: Vec<Value>) -> Result<Vec<Value>, All
     Ok(values)
 }
 
-#[tactic(auto, unfolding(crate::specs::Calls::program_call))]
+#[tactic(auto, using(walker_state::proofs::Stepping::steps), unfolding(evaluation_rules::specs::Calls::program_call))]
 fn call_function(
     alloc: Global,
     function: Function,
@@ -152,6 +200,8 @@ fn call_function(
     room: u32,
 ) -> Result<Control, AllocError>
     ensures size { IfOk result (λ control. control_size control < 2) }
+    ensures calls { IfOk result (λ control. (s : State) → control_calls control s ≤ 1 + s.calls) }
+    ensures around { IfOk result (λ control. (s : State) → control_around control s ≡ around s.transaction) }
     ensures meaning { IfOk result (λ control. (s : State) → tree control s ≡ from_state (program_call (value_at room) (function_view function) (views values.items)) s) }
 {
     if function.params.len() == values.len() {
@@ -172,7 +222,8 @@ pub(crate) fn enter(
     values: Vec<Value>,
     room: u32,
 ) -> Result<Control, AllocError>
-    ensures calls { IfOk result (λ control. spent control + state.new.calls ≤ state.old.calls) }
+    ensures calls { IfOk result (λ control. control_calls control state.new ≤ state.old.calls) }
+    ensures around { IfOk result (λ control. control_around control state.new ≡ around state.old.transaction) }
     ensures meaning { IfOk result (λ control. tree control state.new ≡ from_state (body_value (value_at room) (function_view function) (views values.items)) state.old) }
 {
     let Function {

@@ -1,18 +1,18 @@
 // The first step of a form's evaluation.
+#![tactic(auto, using(walker_state::proofs::Stepping::steps))]
+
 ghost use Rattle.std.specs.Prelude.{◌≡◌, ◌+◌, ◌*◌, ◌<◌, ◌≤◌, IfOk};
 ghost use Rattle.std.specs.Arc.{arc_str_bytes};
 ghost use Rattle.value_data.specs.Listed.{listed};
 ghost use Rattle.value_data.specs.View.{view};
-ghost use Rattle.walker_machine.specs.Machine.{items_value, list_at, place_of, from_state, tree, named};
+ghost use Rattle.walker_state.specs.Machine.{items_value, list_at, place_of, from_state, tree, named};
 ghost use Rattle.special_forms.specs.Seen.{forms_view};
 ghost use Rattle.special_forms.specs.Names.{special_named};
 ghost use Rattle.special_forms.specs.Size.{datum_size, forms_size};
-ghost use Rattle.walker_machine.specs.Size.{control_size, frames_size, spent, use_size};
-ghost use Rattle.walker_machine.specs.Evaluation.{headed_value, list_value, value_at};
+ghost use Rattle.walker_state.specs.Size.{control_size, frames_size, use_size, control_calls, control_around, around};
+ghost use Rattle.evaluation_rules.specs.Evaluation.{headed_value, list_value, value_at};
 
 use crate::answers::take_resolution;
-use crate::frames::{Callee, Collection, Control, State, SymbolUse, Wanted};
-use crate::names::{look_up, resolve};
 use crate::rows::{next_argument, next_item};
 use crate::special::evaluate_special;
 use repl_faults::{not_a_function, too_deep};
@@ -20,6 +20,7 @@ use repl_values::{Sequence, Value, copy_text};
 use special_forms::{Forms, SpecialForm};
 use std::alloc::{AllocError, Global};
 use std::sync::ArcStr;
+use walker_state::{Callee, Collection, Control, State, SymbolUse, Wanted, look_up, resolve};
 
 // The form's value, or what has to be known first. Symbols, lists, vectors and maps apart, a form is
 // its own value. `room` is how many lists, vectors and maps may be under way inside one another.
@@ -32,7 +33,8 @@ pub(crate) fn evaluate(
 ) -> Result<Control, AllocError>
     ensures size { IfOk result (λ control. control_size control + frames_size state.new.frames.items
         < 3 * datum_size (view form) + frames_size state.old.frames.items) }
-    ensures calls { IfOk result (λ control. spent control + state.new.calls ≤ state.old.calls) }
+    ensures calls { IfOk result (λ control. control_calls control state.new ≤ state.old.calls) }
+    ensures around { IfOk result (λ control. control_around control state.new ≡ around state.old.transaction) }
     ensures meaning { IfOk result (λ control. tree control state.new ≡ from_state (value_at room (place_of state.old) (view form)) state.old) }
 {
     match form {
@@ -54,7 +56,8 @@ pub(crate) fn evaluate(
 }
 
 // What the symbol names goes to what it is wanted for, at once or after an ask.
-fn evaluate_symbol(
+#[tactic(auto, using(walker_state::proofs::Stepping::steps))]
+pub(crate) fn evaluate_symbol(
     alloc: Global,
     state: &mut State,
     symbol: ArcStr,
@@ -62,7 +65,8 @@ fn evaluate_symbol(
 ) -> Result<Control, AllocError>
     ensures size { IfOk result (λ control. control_size control + frames_size state.new.frames.items
         < 1 + use_size purpose + frames_size state.old.frames.items) }
-    ensures calls { IfOk result (λ control. spent control + state.new.calls ≤ state.old.calls) }
+    ensures calls { IfOk result (λ control. control_calls control state.new ≤ state.old.calls) }
+    ensures around { IfOk result (λ control. control_around control state.new ≡ around state.old.transaction) }
     ensures meaning { IfOk result (λ control. tree control state.new
         ≡ from_state (named (place_of state.old) (arc_str_bytes symbol) purpose) state.old) }
 {
@@ -75,7 +79,7 @@ fn evaluate_symbol(
     }
 }
 
-#[tactic(auto, unfolding(crate::specs::Machine::items_behind))]
+#[tactic(auto, using(walker_state::proofs::Stepping::steps), unfolding(walker_state::specs::Machine::items_behind))]
 fn evaluate_items(
     alloc: Global,
     state: &mut State,
@@ -85,7 +89,8 @@ fn evaluate_items(
 ) -> Result<Control, AllocError>
     ensures size { IfOk result (λ control. control_size control + frames_size state.new.frames.items
         < 2 + forms_size (forms_view forms) + frames_size state.old.frames.items) }
-    ensures calls { IfOk result (λ control. spent control + state.new.calls ≤ state.old.calls) }
+    ensures calls { IfOk result (λ control. control_calls control state.new ≤ state.old.calls) }
+    ensures around { IfOk result (λ control. control_around control state.new ≡ around state.old.transaction) }
     ensures meaning { IfOk result (λ control. tree control state.new ≡ from_state (items_value room (place_of state.old) kind (forms_view forms)) state.old) }
 {
     if room == 0 {
@@ -95,7 +100,7 @@ fn evaluate_items(
 }
 
 // A list's head is looked at first. An empty list is itself.
-#[tactic(auto, using(crate::proofs::Evaluating::steps), unfolding(crate::specs::Machine::call_behind))]
+#[tactic(auto, using(walker_state::proofs::Stepping::steps, crate::proofs::Evaluating::steps), unfolding(walker_state::specs::Machine::call_behind))]
 fn evaluate_list(
     alloc: Global,
     state: &mut State,
@@ -104,7 +109,8 @@ fn evaluate_list(
 ) -> Result<Control, AllocError>
     ensures size { IfOk result (λ control. control_size control + frames_size state.new.frames.items
         < 3 + forms_size (listed items.items) + frames_size state.old.frames.items) }
-    ensures calls { IfOk result (λ control. spent control + state.new.calls ≤ state.old.calls) }
+    ensures calls { IfOk result (λ control. control_calls control state.new ≤ state.old.calls) }
+    ensures around { IfOk result (λ control. control_around control state.new ≡ around state.old.transaction) }
     ensures meaning { IfOk result (λ control. tree control state.new ≡ from_state (list_at room (place_of state.old) (listed items.items)) state.old) }
 {
     let mut forms = Forms::of_items(items);
@@ -119,7 +125,7 @@ fn evaluate_list(
 }
 
 // The list with this head, and these forms behind it.
-#[tactic(auto, using(crate::proofs::Evaluating::steps), unfolding(crate::specs::Machine::call_behind))]
+#[tactic(auto, using(walker_state::proofs::Stepping::steps, crate::proofs::Evaluating::steps), unfolding(walker_state::specs::Machine::call_behind))]
 fn evaluate_behind(
     alloc: Global,
     state: &mut State,
@@ -128,8 +134,9 @@ fn evaluate_behind(
     room: u32,
 ) -> Result<Control, AllocError>
     ensures size { IfOk result (λ control. control_size control + frames_size state.new.frames.items
-        < 3 + forms_size (forms_view forms) + frames_size state.old.frames.items) }
-    ensures calls { IfOk result (λ control. spent control + state.new.calls ≤ state.old.calls) }
+        < 7 + forms_size (forms_view forms) + frames_size state.old.frames.items) }
+    ensures calls { IfOk result (λ control. control_calls control state.new ≤ state.old.calls) }
+    ensures around { IfOk result (λ control. control_around control state.new ≡ around state.old.transaction) }
     ensures meaning { IfOk result (λ control. tree control state.new ≡ from_state (list_value (value_at room) (place_of state.old) (view head) (forms_view forms)) state.old) }
 {
     match head {
@@ -143,7 +150,7 @@ fn evaluate_behind(
 }
 
 // A special form's name at the head always is that form.
-#[tactic(auto, unfolding(crate::specs::Machine::call_behind))]
+#[tactic(auto, using(walker_state::proofs::Stepping::steps), unfolding(walker_state::specs::Machine::call_behind))]
 fn evaluate_headed(
     alloc: Global,
     state: &mut State,
@@ -152,8 +159,9 @@ fn evaluate_headed(
     room: u32,
 ) -> Result<Control, AllocError>
     ensures size { IfOk result (λ control. control_size control + frames_size state.new.frames.items
-        < 3 + forms_size (forms_view forms) + frames_size state.old.frames.items) }
-    ensures calls { IfOk result (λ control. spent control + state.new.calls ≤ state.old.calls) }
+        < 7 + forms_size (forms_view forms) + frames_size state.old.frames.items) }
+    ensures calls { IfOk result (λ control. control_calls control state.new ≤ state.old.calls) }
+    ensures around { IfOk result (λ control. control_around control state.new ≡ around state.old.transaction) }
     ensures meaning { IfOk result (λ control. tree control state.new ≡ from_state (headed_value (value_at room) (place_of state.old) (arc_str_bytes name) (forms_view forms) (special_named (arc_str_bytes name))) state.old) }
 {
     if let Some(special) = SpecialForm::named(name.as_str()) {

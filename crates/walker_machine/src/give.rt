@@ -1,25 +1,19 @@
 // The value of the innermost form goes to what waits for it.
-ghost use Rattle.std.specs.Prelude.{◌≡◌, ◌+◌, ◌<◌, ◌≤◌, ◌∷◌, string_bytes, IfOk};
-ghost use Rattle.value_data.specs.View.{view};
-ghost use Rattle.repl_faults.specs.View.{failure_of};
-ghost use Rattle.walker_machine.specs.Machine.{whole, frames_next, place_of, kept_of, from_state, tree};
-ghost use Rattle.walker_machine.specs.declared.frames.State.{State};
-ghost use Rattle.walker_machine.specs.Size.{frame_size, control_size, frames_size, spent};
-ghost use Rattle.walker_machine.specs.SpecialForms.{thrown_failure, thrown_value};
+#![tactic(auto, using(walker_state::proofs::Stepping::steps))]
 
-use crate::frames::{Control, Frame, State};
-use crate::namespaces::enter_named;
-use crate::rows::{bind, next_argument, next_binding, next_in_body, next_in_logic, next_item};
+ghost use Rattle.std.specs.Prelude.{◌≡◌, ◌+◌, ◌<◌, ◌≤◌, IfOk};
+ghost use Rattle.value_data.specs.View.{view};
+ghost use Rattle.walker_state.specs.Machine.{given, tree};
+ghost use Rattle.walker_state.specs.Size.{frame_size, control_size, frames_size, control_calls, control_around, around};
+
+use crate::alter::{call_altering, hold, name_function};
+use crate::rows::{bind, next_argument, next_binding, next_in_logic, next_item};
 use crate::special::define;
-use core_texts::show_into;
 use repl_asks::Binding;
-use repl_faults::{thrown, too_large};
-use repl_values::{Fault, Value};
+use repl_values::Value;
 use special_forms::chosen;
 use std::alloc::{AllocError, Global};
-
-// A text of so many bytes is too large for a value.
-const MOST_WEIGHT: usize = 1_048_576;
+use walker_state::{Control, Frame, State, enter_named, next_in_body, throw};
 
 pub(crate) fn give(
     alloc: Global,
@@ -29,8 +23,9 @@ pub(crate) fn give(
 ) -> Result<Control, AllocError>
     ensures size { IfOk result (λ control. control_size control + frames_size state.new.frames.items
         < 1 + frame_size frame + frames_size state.old.frames.items) }
-    ensures calls { IfOk result (λ control. spent control + state.new.calls ≤ state.old.calls) }
-    ensures meaning { IfOk result (λ control. tree control state.new ≡ whole state.old (frames_next (frame ∷ state.old.frames.items) (place_of state.old) (view value) (kept_of state.old))) }
+    ensures calls { IfOk result (λ control. control_calls control state.new ≤ state.old.calls) }
+    ensures around { IfOk result (λ control. control_around control state.new ≡ around state.old.transaction) }
+    ensures meaning { IfOk result (λ control. tree control state.new ≡ given frame (view value) state.old) }
 {
     match frame {
         Frame::Arguments {
@@ -73,6 +68,18 @@ pub(crate) fn give(
         Frame::Define { name } => define(state, name, Binding::Value(value)),
         Frame::Throw => throw(alloc, value),
         Frame::Namespace => enter_named(alloc, value),
+        Frame::AlterRef {
+            function,
+            forms,
+            room,
+        } => name_function(alloc, state, value, function, forms, room),
+        Frame::AlterCall {
+            name,
+            function,
+            values,
+            room,
+        } => call_altering(alloc, state, name, function, values, value, room),
+        Frame::Held { name } => hold(alloc, state, name, value),
         Frame::Unbind => {
             state.place.locals.unbind();
             Ok(Control::Return(value))
@@ -82,32 +89,4 @@ pub(crate) fn give(
             Ok(Control::Return(value))
         }
     }
-}
-
-// A fault is thrown as it is, any other value by its text.
-#[tactic(auto, using(value_data::proofs::Views::value_views))]
-fn throw(alloc: Global, value: Value) -> Result<Control, AllocError>
-    ensures size { IfOk result (λ control. control_size control < 2) }
-    ensures calls { IfOk result (λ control. spent control ≡ 0) }
-    ensures meaning { IfOk result (λ control. (s : State) → tree control s ≡ from_state (thrown_value (view value)) s) }
-{
-    match value {
-        Value::Fault { class, text } => Ok(Control::Fault(Fault { class, text })),
-        other => {
-            let mut text = String::new(alloc);
-            show_into(alloc, &other, &mut text)?;
-            Ok(Control::Fault(thrown_fault(alloc, text)?))
-        }
-    }
-}
-
-// The text has to be one that a value may have.
-#[tactic(auto, unfolding(crate::specs::SpecialForms::thrown_failure))]
-fn thrown_fault(alloc: Global, text: String) -> Result<Fault, AllocError>
-    ensures { IfOk result (λ fault. failure_of fault ≡ thrown_failure (string_bytes text)) }
-{
-    if text.len() < MOST_WEIGHT {
-        return thrown(alloc, text);
-    }
-    too_large(alloc)
 }

@@ -4,17 +4,14 @@
 //! `Waiting::go_on` goes on with an answer.
 #![tactic(auto)]
 
+mod alter;
 mod answers;
 mod calls;
-mod collect;
 mod evaluate;
-mod frames;
 mod give;
-mod names;
-mod namespaces;
+mod position;
 mod rows;
 mod special;
 mod steps;
 
-pub use names::names_function;
 pub use steps::{Reached, Waiting, begin};

@@ -1,24 +1,24 @@
 // Forms in a row: arguments, items, bodies, `and`, `or` and bindings.
+#![tactic(auto, using(walker_state::proofs::Stepping::steps))]
+
 ghost use Rattle.std.specs.Prelude.{◌≡◌, ◌+◌, ◌<◌, ◌≤◌, IfOk};
 ghost use Rattle.std.specs.Arc.{arc_str_bytes};
 ghost use Rattle.value_data.specs.View.{view};
-ghost use Rattle.walker_machine.specs.Machine.{call_behind, items_behind, callee_view, place_of, kept_of, next_of, from_state, tree};
+ghost use Rattle.walker_state.specs.Machine.{bottom, call_behind, items_behind, callee_view, place_of, kept_of, next_of, from_state, tree};
 ghost use Rattle.special_forms.specs.Bindings.{bindings_in};
 ghost use Rattle.special_forms.specs.Seen.{views, forms_view};
 ghost use Rattle.special_forms.specs.Size.{forms_size, bindings_size};
-ghost use Rattle.walker_machine.specs.Size.{control_size, frames_size, spent};
-ghost use Rattle.walker_machine.specs.Calls.{last_of};
-ghost use Rattle.walker_machine.specs.Evaluation.{value_at};
-ghost use Rattle.walker_machine.specs.Places.{with_local};
-ghost use Rattle.walker_machine.specs.SpecialForms.{let_value, logic_value};
+ghost use Rattle.walker_state.specs.Size.{control_size, frames_size, control_calls, control_around, around};
+ghost use Rattle.evaluation_rules.specs.Evaluation.{value_at};
+ghost use Rattle.evaluation_rules.specs.Places.{with_local};
+ghost use Rattle.evaluation_rules.specs.SpecialForms.{let_value, logic_value};
 
 use crate::calls::call;
-use crate::collect::collected;
-use crate::frames::{Callee, Collection, Control, Frame, State};
 use repl_values::Value;
 use special_forms::{Binding, Forms, Logic};
 use std::alloc::{AllocError, Global};
 use std::sync::ArcStr;
+use walker_state::{Callee, Collection, Control, Frame, State, collected, next_in_body};
 
 // The next argument is evaluated, or the function is called.
 #[tactic(auto, using(crate::proofs::Evaluating::steps))]
@@ -31,8 +31,9 @@ pub(crate) fn next_argument(
     room: u32,
 ) -> Result<Control, AllocError>
     ensures size { IfOk result (λ control. control_size control + frames_size state.new.frames.items
-        < 2 + forms_size (forms_view forms) + frames_size state.old.frames.items) }
-    ensures calls { IfOk result (λ control. spent control + state.new.calls ≤ state.old.calls) }
+        < 6 + forms_size (forms_view forms) + frames_size state.old.frames.items) }
+    ensures calls { IfOk result (λ control. control_calls control state.new ≤ state.old.calls) }
+    ensures around { IfOk result (λ control. control_around control state.new ≡ around state.old.transaction) }
     ensures meaning { IfOk result (λ control. tree control state.new ≡ from_state (call_behind room (place_of state.old) (callee_view callee) (views values.items) (forms_view forms)) state.old) }
 {
     let Some(form) = forms.take_first()? else {
@@ -60,7 +61,8 @@ pub(crate) fn next_item(
 ) -> Result<Control, AllocError>
     ensures size { IfOk result (λ control. control_size control + frames_size state.new.frames.items
         < 2 + forms_size (forms_view forms) + frames_size state.old.frames.items) }
-    ensures calls { IfOk result (λ control. spent control + state.new.calls ≤ state.old.calls) }
+    ensures calls { IfOk result (λ control. control_calls control state.new ≤ state.old.calls) }
+    ensures around { IfOk result (λ control. control_around control state.new ≡ around state.old.transaction) }
     ensures meaning { IfOk result (λ control. tree control state.new ≡ from_state (items_behind room (place_of state.old) kind (views values.items) (forms_view forms)) state.old) }
 {
     match forms.take_first()? {
@@ -78,27 +80,6 @@ pub(crate) fn next_item(
     }
 }
 
-// The next form of a body is evaluated, or its value is that of the last.
-pub(crate) fn next_in_body(
-    state: &mut State,
-    last: Value,
-    mut forms: Forms,
-    room: u32,
-) -> Result<Control, AllocError>
-    ensures size { IfOk result (λ control. control_size control + frames_size state.new.frames.items
-        < 2 + forms_size (forms_view forms) + frames_size state.old.frames.items) }
-    ensures calls { IfOk result (λ control. spent control + state.new.calls ≤ state.old.calls) }
-    ensures meaning { IfOk result (λ control. tree control state.new ≡ from_state (last_of (value_at room (place_of state.old)) (view last) (forms_view forms)) state.old) }
-{
-    match forms.take_first()? {
-        None => Ok(Control::Return(last)),
-        Some(form) => {
-            state.frames.push_front(Frame::Body { forms, room })?;
-            Ok(Control::Evaluate(form, room))
-        }
-    }
-}
-
 // The next form of `and` or `or` is evaluated, unless the last value decides.
 pub(crate) fn next_in_logic(
     state: &mut State,
@@ -109,7 +90,8 @@ pub(crate) fn next_in_logic(
 ) -> Result<Control, AllocError>
     ensures size { IfOk result (λ control. control_size control + frames_size state.new.frames.items
         < 2 + forms_size (forms_view forms) + frames_size state.old.frames.items) }
-    ensures calls { IfOk result (λ control. spent control + state.new.calls ≤ state.old.calls) }
+    ensures calls { IfOk result (λ control. control_calls control state.new ≤ state.old.calls) }
+    ensures around { IfOk result (λ control. control_around control state.new ≡ around state.old.transaction) }
     ensures meaning { IfOk result (λ control. tree control state.new ≡ from_state (logic_value (value_at room (place_of state.old)) logic (view last) (forms_view forms)) state.old) }
 {
     match forms.take_first()? {
@@ -133,7 +115,8 @@ pub(crate) fn next_binding(
 ) -> Result<Control, AllocError>
     ensures size { IfOk result (λ control. control_size control + frames_size state.new.frames.items
         < 2 + bindings_size (bindings_in (forms_view bindings)) + forms_size (forms_view body) + frames_size state.old.frames.items) }
-    ensures calls { IfOk result (λ control. spent control + state.new.calls ≤ state.old.calls) }
+    ensures calls { IfOk result (λ control. control_calls control state.new ≤ state.old.calls) }
+    ensures around { IfOk result (λ control. control_around control state.new ≡ around state.old.transaction) }
     ensures meaning { IfOk result (λ control. tree control state.new ≡ from_state (let_value (value_at room) (place_of state.old) (bindings_in (forms_view bindings)) (forms_view body)) state.old) }
 {
     match bindings.take_binding(alloc)? {
@@ -156,6 +139,9 @@ pub(crate) fn next_binding(
 pub(crate) fn bind(state: &mut State, name: ArcStr, value: Value) -> Result<(), AllocError>
     ensures size { IfOk result (λ _. frames_size state.new.frames.items ≡ 1 + frames_size state.old.frames.items) }
     ensures calls { state.new.calls ≡ state.old.calls }
+    ensures transaction { state.new.transaction ≡ state.old.transaction }
+    ensures retries { state.new.retries ≡ state.old.retries }
+    ensures bottom { IfOk result (λ _. bottom state.new.frames.items (place_of state.new) ≡ bottom state.old.frames.items (place_of state.old)) }
     ensures place { IfOk result (λ _. place_of state.new ≡ with_local (place_of state.old) (arc_str_bytes name) (view value)) }
     ensures next { IfOk result (λ _. next_of state.new ≡ next_of state.old) }
     ensures kept { kept_of state.new ≡ kept_of state.old }

@@ -1,17 +1,21 @@
 // An evaluation, from one ask to the next.
-ghost use Rattle.std.specs.Prelude.{◌≡◌, ◌+◌, ◌<◌, ◌≤◌, ◌⊎◌, string_bytes, IfOk};
+#![tactic(auto, using(walker_state::proofs::Stepping::steps))]
+
+ghost use Rattle.std.specs.Prelude.{◌≡◌, ◌≤◌, [], string_bytes, IfOk};
 ghost use Rattle.repl_asks.specs.View.{answer_view};
 ghost use Rattle.repl_jobs.specs.View.{end_view, job_view};
-ghost use Rattle.walker_machine.specs.Tree.{ends};
-ghost use Rattle.walker_machine.specs.Evaluation.{evaluation};
-ghost use Rattle.walker_machine.specs.Machine.{tree, kept_of};
-ghost use Rattle.walker_machine.specs.Size.{control_size, frames_size, spent};
-ghost use Rattle.walker_machine.specs.Waits.{leg_tree, leg_size, leg_spent, behind, reached_tree, reached_size, reached_calls, IsFurther};
+ghost use Rattle.evaluation_rules.specs.Tree.{ends};
+ghost use Rattle.evaluation_rules.specs.Evaluation.{evaluation};
+ghost use Rattle.walker_state.specs.Machine.{from_state, tree, kept_of};
+ghost use Rattle.value_data.specs.View.{view};
+ghost use Rattle.evaluation_rules.specs.Doing.{done};
+ghost use Rattle.walker_state.specs.Size.{control_position, Position};
+ghost use Rattle.walker_state.specs.declared.frames.Control.{Control};
+ghost use Rattle.walker_machine.specs.Waits.{leg_tree, behind, reached_tree, position_of, most_calls_of, IsOnLeg, IsOnReached, IsLaterReached};
 
 use crate::answers::take_answer;
 use crate::calls::enter;
 use crate::evaluate::evaluate;
-use crate::frames::{Control, Place, State, Wanted};
 use crate::give::give;
 use local_names::Locals;
 use repl_asks::{Answer, Ask};
@@ -20,6 +24,7 @@ use repl_values::{Value, copy, copy_text};
 use special_forms::Function;
 use std::alloc::{AllocError, Global};
 use std::collections::VecDeque;
+use walker_state::{Control, Left, Place, State, Wanted, leave};
 
 // How many calls an evaluation may make.
 const CALLS: u32 = 10_000;
@@ -30,8 +35,8 @@ const ROOM: u32 = 200;
 /// An evaluation that waits for the answer to its last ask.
 #[derive(Drop)]
 pub struct Waiting {
-    state: State,
-    wanted: Wanted,
+    pub(crate) state: State,
+    pub(crate) wanted: Wanted,
 }
 
 /// How far an evaluation came: to its next ask, or to its end.
@@ -52,7 +57,7 @@ enum Leg {
 /// Begins the job, up to its first ask or its end. It fails only for want of memory.
 pub fn begin(alloc: Global, job: &Job) -> Result<Reached, AllocError>
     ensures meaning { IfOk result (λ reached. reached_tree reached ≡ evaluation (job_view job.now)) }
-    ensures calls { IfOk result (λ reached. reached_calls reached ≤ CALLS) }
+    ensures calls { IfOk result (λ reached. most_calls_of reached ≤ CALLS) }
 {
     let state = State {
         frames: VecDeque::new(alloc),
@@ -63,23 +68,18 @@ pub fn begin(alloc: Global, job: &Job) -> Result<Reached, AllocError>
         calls: CALLS,
         namespace: copy_text(&job.namespace)?,
         text: String::new(alloc),
+        retries: job.retries,
+        transaction: None,
     };
     let form = copy(job.work.form())?;
     go_on(alloc, state, Control::Evaluate(form, ROOM))
 }
 
 impl Waiting {
-    /// How many more calls it may make.
-    pub fn calls_left(&self) -> u32
-        ensures { result ≡ self.now.state.calls }
-    {
-        self.state.calls
-    }
-
     /// Goes on with this answer, up to the next ask or the end. It fails only for want of memory.
     pub fn go_on(self, alloc: Global, answer: Answer) -> Result<Reached, AllocError>
         ensures meaning { IfOk result (λ reached. reached_tree reached ≡ behind self (answer_view answer)) }
-        ensures further { IfOk result (IsFurther self) }
+        ensures later { IfOk result (λ reached. IsLaterReached reached (position_of self)) }
     {
         let Waiting { mut state, wanted } = self;
         let control = take_answer(alloc, &mut state, wanted, answer)?;
@@ -90,9 +90,7 @@ impl Waiting {
 // Each further leg has taken a call from the budget.
 fn go_on(alloc: Global, state: State, control: Control) -> Result<Reached, AllocError>
     ensures meaning { IfOk result (λ reached. reached_tree reached ≡ tree control state) }
-    ensures calls { IfOk result (λ reached. reached_calls reached ≤ spent control + state.calls) }
-    ensures falls { IfOk result (λ reached. (reached_calls reached < spent control + state.calls)
-        ⊎ (reached_size reached ≤ control_size control + frames_size state.frames.items)) }
+    ensures on { IfOk result (λ reached. IsOnReached reached (control_position control state)) }
 {
     let mut state = state;
     let mut control = control;
@@ -109,9 +107,7 @@ fn go_on(alloc: Global, state: State, control: Control) -> Result<Reached, Alloc
 
 fn run_leg(alloc: Global, state: &mut State, control: Control) -> Result<Leg, AllocError>
     ensures meaning { IfOk result (λ leg. leg_tree leg state.new ≡ tree control state.old) }
-    ensures size { IfOk result (λ leg. leg_size leg + frames_size state.new.frames.items
-        ≤ control_size control + frames_size state.old.frames.items) }
-    ensures calls { IfOk result (λ leg. leg_spent leg + state.new.calls ≤ spent control + state.old.calls) }
+    ensures on { IfOk result (λ leg. IsOnLeg leg state.new (control_position control state.old)) }
 {
     let mut control = control;
     loop {
@@ -119,7 +115,7 @@ fn run_leg(alloc: Global, state: &mut State, control: Control) -> Result<Leg, Al
             Control::Evaluate(form, room) => evaluate(alloc, state, form, room)?,
             Control::Return(value) => match state.frames.pop_front() {
                 Some(frame) => give(alloc, state, frame, value)?,
-                None => return Ok(Leg::Ends(End::Value(value))),
+                None => return end_or_commit(alloc, state, value),
             },
             Control::Fault(fault) => return Ok(Leg::Ends(End::Fault(fault))),
             Control::Ask(ask, wanted) => return Ok(Leg::Asks(ask, wanted)),
@@ -130,17 +126,26 @@ fn run_leg(alloc: Global, state: &mut State, control: Control) -> Result<Leg, Al
     }
 }
 
+// No frame waits for the value: the whole ends, or an attempt asks to be committed.
+fn end_or_commit(alloc: Global, state: &mut State, value: Value) -> Result<Leg, AllocError>
+    requires { state.old.frames.items ≡ [] }
+    ensures meaning { IfOk result (λ leg. leg_tree leg state.new ≡ from_state (done (view value)) state.old) }
+    ensures on { IfOk result (λ leg. IsOnLeg leg state.new (control_position (Control.Return value) state.old)) }
+{
+    match leave(alloc, state, value)? {
+        Left::Ends(value) => Ok(Leg::Ends(End::Value(value))),
+        Left::Asks(ask, wanted) => Ok(Leg::Asks(ask, wanted)),
+    }
+}
+
 fn ended(state: State, end: End) -> Reached
     ensures meaning { reached_tree result ≡ ends (end_view end) (string_bytes state.text) (kept_of state) }
-    ensures size { reached_size result ≡ 0 }
-    ensures calls { reached_calls result ≡ 0 }
+    ensures on { (old : Position) → IsOnReached result old }
 {
     let State {
-        frames: _,
-        place: _,
-        calls: _,
         namespace,
         text,
+        ..
     } = state;
     Reached::Ends(Finished::new(end, text, namespace))
 }

@@ -104,6 +104,9 @@ fn resolution_told(alloc: Global, resolution: &Resolution) -> Result<String, All
         Resolution::Function(NamedFunction::Core(function)) => {
             String::from_str(alloc, function.name())
         }
+        Resolution::Function(NamedFunction::Store(function)) => {
+            String::from_str(alloc, function.name())
+        }
         Resolution::Function(NamedFunction::Program(function)) => function_told(alloc, function),
         Resolution::Nothing(fault) => fault_told(alloc, fault),
     }

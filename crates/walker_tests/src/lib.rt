@@ -3,6 +3,8 @@
 #![tactic(auto)]
 
 #[cfg(test)]
+mod answered;
+#[cfg(test)]
 mod asks;
 #[cfg(test)]
 mod exchanged;
@@ -14,6 +16,8 @@ mod namespaces;
 mod steps;
 #[cfg(test)]
 mod told;
+#[cfg(test)]
+mod transactions;
 #[cfg(test)]
 mod walked;
 #[cfg(test)]

@@ -23,7 +23,7 @@ pub(crate) enum Given {
     Fault,
 }
 
-fn program(alloc: Global, params: &[&str], body: &str) -> Result<Answer, AllocError> {
+pub(crate) fn program(alloc: Global, params: &[&str], body: &str) -> Result<Answer, AllocError> {
     let mut names = Vec::new(alloc);
     for name in params {
         names.push(text(alloc, name)?)?;

@@ -1,9 +1,12 @@
-use Rattle.std.proofs.Common.{◌≡◌, ◌∙◌, [], refl, subst}
+use Rattle.std.proofs.Common.{◌≡◌, ◌<◌, ◌∙◌, [], refl, sym, ap, subst}
 use Rattle.repl_jobs.specs.View.{job_view}
-use Rattle.walker_machine.specs.Evaluation.{evaluation}
+use Rattle.repl_asks.specs.View.{trace_view}
+use Rattle.evaluation_rules.specs.Evaluation.{evaluation}
 use Rattle.repl_walker.specs.Led.{Recorded}
 use Rattle.repl_walker.specs.Ends.{ending_view}
-use Rattle.repl_walker.specs.Waits.{progress_tree, progress_job, progress_trace}
+use Rattle.repl_walker.specs.Positions.{calls_left}
+use Rattle.repl_walker.proofs.Turns.{fewer_less}
+use Rattle.repl_walker.specs.Waits.{walk_tree, progress_tree, progress_job, progress_trace}
 use Rattle.repl_walker.specs.declared.waiting.Progress.{Progress}
 use Rattle.repl_walker.proofs.Leading.{led-nowhere, recorded-on, recorded-led, end-recorded, left-on}
 use Rattle.repl_walker.proofs.run.walk.Goals as goal
@@ -11,21 +14,50 @@ use Rattle.repl_walker.proofs.run.walk.Goals as goal
 pub returns-in-Err-clause-left_at : goal.returns-in-Err-clause-left_at
 returns-in-Err-clause-left_at g c = (evaluation (job_view c.args.job.now), led-nowhere _ _)
 
-pub returns-in-Ok-Ends-clause-meaning : goal.returns-in-Ok-Ends-clause-meaning
-returns-in-Ok-Ends-clause-meaning g c =
-    let P : Progress → Type 0 = λ p. Recorded (progress_tree c.loop-ending.progress) (g.R.Refs.heard c.loop-ending.refs).trace (g.R.Refs.heard c.until_a_call.new.refs).trace
-    (progress_trace c.loop-ending.progress) (progress_trace p) (progress_tree p) in
-    let Q : Progress → Type 0 = λ p. progress_job p ≡ progress_job c.loop-ending.progress in
-    let recorded = recorded-on _ _ _ _ _ _ [] _ _ c.loop-ending.invariant.recorded (subst P c.in-Ok-Ends.field-0-is c.in-Ok-Ends.ensures.meaning) in
-    let job = subst Q c.in-Ok-Ends.field-0-is c.in-Ok-Ends.ensures.job in
-    end-recorded (job_view c.args.job.now) _ _ _ (ending_view c.in-Ok-Ends.ending) (job ∙ c.loop-ending.invariant.job) refl recorded
+pub returns-in-Ends-clause-meaning : goal.returns-in-Ends-clause-meaning
+returns-in-Ends-clause-meaning g c =
+    let job = job_view c.args.job.now in
+    let old = (g.R.Refs.heard c.args.refs.now).trace in
+    let now = (g.R.Refs.heard c.loop-progress.refs).trace in
+    let e = c.in-Ends.ending in
+    let P : Progress → Type 0 = λ p. Recorded (evaluation job) old now [] (progress_trace p) (progress_tree p) in
+    let recorded : P (Progress.Ends e) = subst P c.in-Ends.is c.loop-progress.invariant.recorded in
+    let Q : Progress → Type 0 = λ p. progress_job p ≡ job in
+    let same : Q (Progress.Ends e) = subst Q c.in-Ends.is c.loop-progress.invariant.job in
+    end-recorded job old now (progress_trace (Progress.Ends e)) (ending_view e) same refl recorded
 
-pub loop-ending-preserved : goal.loop-ending-preserved
-loop-ending-preserved g c = record {
-  goes_on = c.in-Ok-until_a_call.ensures.ok;
-  recorded = recorded-on _ _ _ _ _ _ [] _ _ c.loop-ending.invariant.recorded c.in-Ok-until_a_call.ensures.meaning;
-  job = c.in-Ok-until_a_call.ensures.job ∙ c.loop-ending.invariant.job;
-}
+pub loop-progress-smaller : goal.loop-progress-smaller
+loop-progress-smaller g c =
+    let P : Progress → Type 0 = λ p. calls_left c.in-Ok-until_a_call.later < calls_left p in
+    subst P (sym c.in-Asks.is) (fewer_less c.in-Ok-until_a_call.later c.in-Asks.walk c.in-Ok-until_a_call.ensures.fewer)
+
+pub loop-progress-preserved : goal.loop-progress-preserved
+loop-progress-preserved g c =
+    let job = job_view c.args.job.now in
+    let old = (g.R.Refs.heard c.args.refs.now).trace in
+    let now = (g.R.Refs.heard c.loop-progress.refs).trace in
+    let new = (g.R.Refs.heard c.until_a_call.new.refs).trace in
+    let w = c.in-Asks.walk in
+    let p = c.in-Ok-until_a_call.later in
+    let e = c.in-Ok-until_a_call.ensures in
+    let P : Progress → Type 0 = λ q. Recorded (evaluation job) old now [] (progress_trace q) (progress_tree q) in
+    let recorded : P (Progress.Asks w) = subst P c.in-Asks.is c.loop-progress.invariant.recorded in
+    let Q : Progress → Type 0 = λ q. progress_job q ≡ job in
+    let same : Q (Progress.Asks w) = subst Q c.in-Asks.is c.loop-progress.invariant.job in
+    record {
+      goes_on = e.ok;
+      recorded = recorded-on (evaluation job) (walk_tree w) (progress_tree p) old now new [] (trace_view w.trace.items) (progress_trace p) recorded e.meaning.1;
+      job = e.meaning.0 ∙ same;
+    }
 
 pub returns-in-Err-until_a_call-clause-left_at : goal.returns-in-Err-until_a_call-clause-left_at
-returns-in-Err-until_a_call-clause-left_at g c = left-on _ _ _ _ _ _ (recorded-led _ _ _ _ [] _ c.loop-ending.invariant.recorded) c.in-Err-until_a_call.ensures.left_at
+returns-in-Err-until_a_call-clause-left_at g c =
+    let job = job_view c.args.job.now in
+    let old = (g.R.Refs.heard c.args.refs.now).trace in
+    let now = (g.R.Refs.heard c.loop-progress.refs).trace in
+    let new = (g.R.Refs.heard c.until_a_call.new.refs).trace in
+    let w = c.in-Asks.walk in
+    let P : Progress → Type 0 = λ q. Recorded (evaluation job) old now [] (progress_trace q) (progress_tree q) in
+    let recorded : P (Progress.Asks w) = subst P c.in-Asks.is c.loop-progress.invariant.recorded in
+    let led = recorded-led (evaluation job) (walk_tree w) old now [] (trace_view w.trace.items) recorded in
+    left-on (evaluation job) (walk_tree w) old now new c.in-Err-until_a_call.error led c.in-Err-until_a_call.ensures.left_at

@@ -1,6 +1,6 @@
 use Rattle.std.proofs.Common.{◌≡◌, [], map, drop}
 use Rattle.std.specs.Arc.{arc_str_bytes}
-use Rattle.walker_machine.specs.Calls.{bound_to}
+use Rattle.evaluation_rules.specs.Calls.{bound_to}
 use Rattle.special_forms.specs.Seen.{views}
 use Rattle.walker_machine.proofs.calls.bound.Given as goal
 

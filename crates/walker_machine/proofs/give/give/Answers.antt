@@ -1,9 +1,9 @@
 use Rattle.std.proofs.Common.{refl, ap, List}
 use Rattle.value_data.specs.Datum.{Datum, nil}
 use Rattle.value_data.specs.View.{view}
-use Rattle.walker_machine.specs.Calls.{last_of}
-use Rattle.walker_machine.specs.Evaluation.{value_at}
-use Rattle.walker_machine.specs.Machine.{whole, callee_view, place_of, kept_of, next_of, call_behind, items_behind}
+use Rattle.evaluation_rules.specs.Rows.{last_of}
+use Rattle.evaluation_rules.specs.Evaluation.{value_at}
+use Rattle.walker_state.specs.Machine.{whole, callee_view, place_of, kept_of, next_of, call_behind, items_behind}
 use Rattle.value_data.proofs.Views.{view-Nil}
 use Rattle.special_forms.specs.Truth.{is_true}
 use Rattle.special_forms.specs.Seen.{forms_view}
@@ -37,4 +37,7 @@ returns-in-Choice-clause-meaning c =
 pub returns-in_ok-bind-in-Let-clause-meaning : goal.returns-in_ok-bind-in-Let-clause-meaning
 returns-in_ok-bind-in-Let-clause-meaning c =
     let e = c.in_ok-bind-in-Let.ensures in
-    if_ok-turned _ _ (rw (c.in-Let.is, e.next, e.kept, e.place, e.text) refl) c.next_binding.ensures.meaning
+    if_ok-turned _ _ (rw (c.in-Let.is, e.bottom, e.next, e.kept, e.place, e.text, e.retries, e.transaction) refl) c.next_binding.ensures.meaning
+
+pub returns-in-Define-clause-meaning : goal.returns-in-Define-clause-meaning
+returns-in-Define-clause-meaning c = if_ok-turned _ _ (rw c.in-Define.is refl) c.define.ensures.meaning

@@ -5,12 +5,14 @@ use Rattle.tenant_runner.proofs.runner.Runner.new.Goals as goal
 
 pub returns : goal.returns
 returns c = λ g right ground seed steps retries. record {
-  right = right;
-  ground = ground;
-  tenant = c.in_ok-new.ensures g right ground.names seed steps retries (opened_lone g).store
-      refl refl;
   refs = no_refs;
-  serves = record { stands = c.new-3.ensures; sound = λ owner. tt; reached = refl };
-  walked = λ a run p runs at.
-      let never : None ≡ Some p = sym (c.new-4.ensures a) ∙ at in absurd (cc);
+  stands = record {
+    right = right;
+    ground = ground;
+    tenant = c.in_ok-new.ensures g right ground.names seed steps retries (opened_lone g).store
+        refl refl;
+    serves = record { stands = c.new-3.ensures; sound = λ owner. tt; reached = refl };
+    walked = λ a run p runs at.
+        let never : None ≡ Some p = sym (c.new-4.ensures a) ∙ at in absurd (cc);
+  };
 }

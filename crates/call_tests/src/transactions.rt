@@ -1,0 +1,149 @@
+// Refs are read, set and altered.
+use crate::given::{Given, MINE, OURS, value_of};
+use crate::told::{Row, altered_told, expect, expect_always};
+use function_names::StoreFunction;
+use std::test::Fail;
+use store_calls::may_hold;
+
+const NOT_RUNNING: &str = "#error{java.lang.IllegalStateException: No transaction running}";
+
+const NOT_PLAIN: &str =
+    "#error{java.lang.IllegalArgumentException: Only plain data goes into a shared ref}";
+
+#[test]
+fn refs_alone_are_read(rt: HostRuntime) -> Result<(), Fail> {
+    let rows: [(&'static [Given], &'static str); 5] = [
+        (&[Given::Ref(MINE)], "reads #ref[3]"),
+        (&[Given::Ref(OURS)], "reads #ref[shared/0]"),
+        (
+            &[Given::Int(5)],
+            "#error{java.lang.ClassCastException: Wrong argument to deref: 5}",
+        ),
+        (
+            &[],
+            "#error{clojure.lang.ArityException: Wrong number of args (0) passed to: deref}",
+        ),
+        (
+            &[Given::Ref(MINE), Given::Nil],
+            "#error{clojure.lang.ArityException: Wrong number of args (2) passed to: deref}",
+        ),
+    ];
+    expect_always(&rt, rt.alloc(), StoreFunction::Deref, &rows)?;
+    Ok(())
+}
+
+#[test]
+fn refs_get_values_in_a_transaction(rt: HostRuntime) -> Result<(), Fail> {
+    let rows: [Row; 6] = [
+        (true, &[Given::Ref(MINE), Given::Int(5)], "#ref[3] gets 5"),
+        (
+            true,
+            &[Given::Ref(MINE), Given::Ref(OURS)],
+            "#ref[3] gets #ref[shared/0]",
+        ),
+        (
+            true,
+            &[Given::Ref(OURS), Given::Vector(1)],
+            "#ref[shared/0] gets [1]",
+        ),
+        (true, &[Given::Ref(OURS), Given::Ref(MINE)], NOT_PLAIN),
+        (true, &[Given::Ref(OURS), Given::Holding(OURS)], NOT_PLAIN),
+        (true, &[Given::Ref(OURS), Given::Atom], NOT_PLAIN),
+    ];
+    expect(&rt, rt.alloc(), StoreFunction::RefSet, &rows)?;
+    Ok(())
+}
+
+// First the number of arguments, then their kinds, then the transaction, then what may be held.
+#[test]
+fn faults_of_ref_set_have_an_order(rt: HostRuntime) -> Result<(), Fail> {
+    let rows: [Row; 6] = [
+        (false, &[Given::Ref(MINE), Given::Int(5)], NOT_RUNNING),
+        (false, &[Given::Ref(OURS), Given::Ref(OURS)], NOT_RUNNING),
+        (
+            false,
+            &[Given::Int(5), Given::Ref(OURS)],
+            "#error{java.lang.ClassCastException: Wrong argument to ref-set: 5}",
+        ),
+        (
+            true,
+            &[Given::Text("a"), Given::Nil],
+            "#error{java.lang.ClassCastException: Wrong argument to ref-set: \"a\"}",
+        ),
+        (
+            false,
+            &[Given::Int(5)],
+            "#error{clojure.lang.ArityException: Wrong number of args (1) passed to: ref-set}",
+        ),
+        (
+            true,
+            &[Given::Ref(MINE), Given::Nil, Given::Nil],
+            "#error{clojure.lang.ArityException: Wrong number of args (3) passed to: ref-set}",
+        ),
+    ];
+    expect(&rt, rt.alloc(), StoreFunction::RefSet, &rows)?;
+    Ok(())
+}
+
+// A function is no value, so the second argument is a wrong one, unless the first is one already.
+#[test]
+fn no_value_alters_a_ref(rt: HostRuntime) -> Result<(), Fail> {
+    let rows: [(&'static [Given], &'static str); 4] = [
+        (
+            &[Given::Ref(MINE), Given::Int(1)],
+            "#error{java.lang.ClassCastException: Wrong argument to alter: 1}",
+        ),
+        (
+            &[Given::Int(0), Given::Int(1), Given::Nil],
+            "#error{java.lang.ClassCastException: Wrong argument to alter: 0}",
+        ),
+        (
+            &[Given::Ref(OURS), Given::Ref(MINE), Given::Nil],
+            "#error{java.lang.ClassCastException: Wrong argument to alter: #ref[3]}",
+        ),
+        (
+            &[Given::Ref(MINE)],
+            "#error{clojure.lang.ArityException: Wrong number of args (1) passed to: alter}",
+        ),
+    ];
+    expect_always(&rt, rt.alloc(), StoreFunction::Alter, &rows)?;
+    Ok(())
+}
+
+#[test]
+fn refs_are_altered_in_a_transaction(rt: HostRuntime) -> Result<(), Fail> {
+    for (in_transaction, given, wanted) in [
+        (true, Given::Ref(MINE), "#ref[3]"),
+        (true, Given::Ref(OURS), "#ref[shared/0]"),
+        (false, Given::Ref(MINE), NOT_RUNNING),
+        (
+            false,
+            Given::Atom,
+            "#error{java.lang.ClassCastException: Wrong argument to alter: #atom[0]}",
+        ),
+        (
+            true,
+            Given::Nil,
+            "#error{java.lang.ClassCastException: Wrong argument to alter: nil}",
+        ),
+    ] {
+        let told = altered_told(rt.alloc(), in_transaction, given)?;
+        assert_eq!(rt; told.as_str(), wanted);
+    }
+    Ok(())
+}
+
+#[test]
+fn shared_refs_hold_plain_data(rt: HostRuntime) -> Result<(), Fail> {
+    for (name, given, wanted) in [
+        (MINE, Given::Holding(MINE), true),
+        (MINE, Given::Atom, true),
+        (OURS, Given::Vector(1), true),
+        (OURS, Given::Text("a"), true),
+        (OURS, Given::Holding(OURS), false),
+        (OURS, Given::Atom, false),
+    ] {
+        assert_eq!(rt; may_hold(name, &value_of(rt.alloc(), given)?), wanted);
+    }
+    Ok(())
+}

@@ -1,0 +1,11 @@
+pub mod Doing
+pub mod Tree
+pub mod Places
+pub mod Rows
+pub mod Naming
+pub mod Refs
+pub mod Calls
+pub mod Transactions
+pub mod SpecialForms
+pub mod Collections
+pub mod Evaluation

@@ -1,0 +1,50 @@
+-- Reads and sets of refs, and what else is asked of the store (the Clojure reference, Refs and Transactions).
+use Rattle.std.specs.Prelude.{List, ◌∷◌, Option, Some, None, Result, Ok, Err, if◌then◌else◌}
+use Rattle.value_data.specs.Datum.{Datum}
+use Rattle.repl_faults.specs.Failure.{Failure, broken}
+use Rattle.repl_faults.specs.declared.rule.Rule.{Rule}
+use Rattle.function_names.specs.declared.store.StoreFunction.{StoreFunction}
+use Rattle.repl_asks.specs.Transactions.{RefNameData}
+use Rattle.repl_asks.specs.Exchange.{AskData, read, ReadingData, found, retry, reading_in, value_in}
+use Rattle.tx_attempt.specs.Operations.{got, put, value_of}
+use Rattle.store_calls.specs.Calling.{CallData, refused, reads, puts, asks_value, call_of, may_hold}
+use Rattle.evaluation_rules.specs.Doing.{left, retried, asking, looking, noting, Part, ◌>>=◌, fails}
+
+-- A value that was read is noted. One that is kept no longer ends the attempt, and another is made.
+abbrev pub read_value : RefNameData → ReadingData → Part Datum
+read_value name (found d) next kept = noting (got name d) (next d kept)
+read_value name retry next kept = left retried kept
+
+abbrev pub known_or_read : RefNameData → Option Datum → Part Datum
+known_or_read name (Some d) next kept = next d kept
+known_or_read name None next kept = asking (read name) (λ answer. read_value name (reading_in answer) next kept)
+
+-- the value that the attempt knows, else that which is read
+abbrev pub ref_value : RefNameData → Part Datum
+ref_value name next kept = looking (λ ops. known_or_read name (value_of name ops) next kept)
+
+-- a ref is set, and the value given
+abbrev pub put_value : RefNameData → Datum → Part Datum
+put_value name d next kept = noting (put name d) (next d kept)
+
+-- the same, where the ref may hold it
+unfoldable pub held_value : RefNameData → Datum → Part Datum
+held_value name d = if may_hold name.owner d then put_value name d else fails (broken Rule.SharedRefsArePlain)
+
+abbrev pub asked_value : AskData → Part Datum
+asked_value ask next kept = asking ask (λ answer. next (value_in answer) kept)
+
+abbrev pub called_value : CallData → Part Datum
+called_value (refused f) = fails f
+called_value (reads name) = ref_value name
+called_value (puts name d) = put_value name d
+called_value (asks_value ask) = asked_value ask
+
+-- a call of a function that asks the store
+unfoldable pub store_call : StoreFunction → List Datum → Part Datum
+store_call f args next kept = called_value (call_of f kept.running args) next kept
+
+-- `alter` reads a ref, calls its function with the value and these arguments, and sets what that gives.
+abbrev pub altered : (List Datum → Part Datum) → List Datum → Result RefNameData Failure → Part Datum
+altered call args (Ok name) = ref_value name >>= λ d. (call (d ∷ args) >>= held_value name)
+altered call args (Err f) = fails f

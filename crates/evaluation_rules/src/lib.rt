@@ -1,0 +1,3 @@
+//! The rules of evaluation, by cases on the form: what a job asks next after these answers, or how it
+//! ends. There are definitions alone in this crate.
+#![tactic(auto)]

@@ -1,0 +1,73 @@
+-- Values of a call, by their places.
+use Rattle.std.proofs.Common.{◌≡◌, List, [], ◌∷◌, ◌++◌, get_or, take, drop, length}
+use Rattle.std.proofs.Common.{Bool, true, option_map, slice_get, arith}
+use Rattle.std.proofs.lemmas.Bool.Decides.{nat_tests}
+use Rattle.value_data.specs.View.{view}
+use Rattle.value_data.specs.declared.value.Value.{Value}
+use Rattle.special_forms.specs.Seen.{views}
+use Rattle.function_names.specs.StoreNames.{store_fits}
+use Rattle.function_names.specs.declared.store.StoreFunction.{StoreFunction}
+use Rattle.store_calls.specs.Calling.{call_with, ref_made, dereferenced, ref_set, history_counted, alter_by_value}
+use Rattle.store_calls.specs.Parts.{bound_called}
+use Rattle.store_calls.specs.declared.bounds.HistoryBound.{HistoryBound}
+
+pub ref-called : (running : Bool) (xs : List Value) (x : Value)
+    → store_fits StoreFunction.Ref (length xs) ≡ true → x ≡ get_or xs 0 x
+    → call_with StoreFunction.Ref running (views xs) ≡ ref_made (view x ∷ views (drop 1 xs))
+ref-called running [] x fits is = absurd (grind (arith, nat_tests))
+ref-called running (y ∷ xs) x fits is = let same : x ≡ y = is in cc
+
+pub deref-called : (running : Bool) (xs : List Value) (x : Value)
+    → store_fits StoreFunction.Deref (length xs) ≡ true → x ≡ get_or xs 0 x
+    → call_with StoreFunction.Deref running (views xs) ≡ dereferenced (view x)
+deref-called running [] x fits is = absurd (grind (arith, nat_tests))
+deref-called running (y ∷ []) x fits is = let same : x ≡ y = is in cc
+deref-called running (y ∷ z ∷ xs) x fits is = absurd (grind (arith, nat_tests))
+
+pub set-called : (running : Bool) (xs ys : List Value) (x y : Value)
+    → store_fits StoreFunction.RefSet (length xs) ≡ true → y ≡ get_or xs 1 y
+    → ys ≡ take 1 xs ++ drop 2 xs → x ≡ get_or ys 0 x
+    → call_with StoreFunction.RefSet running (views xs) ≡ ref_set running (view x) (view y)
+set-called running [] ys x y fits is left first = absurd (grind (arith, nat_tests))
+set-called running (u ∷ []) ys x y fits is left first = absurd (grind (arith, nat_tests))
+set-called running (u ∷ v ∷ []) ys x y fits is left first =
+    let one : ys ≡ u ∷ [] = left in
+    let same : x ≡ u = rw one at first in
+    let other : y ≡ v = is in cc
+set-called running (u ∷ v ∷ w ∷ xs) ys x y fits is left first = absurd (grind (arith, nat_tests))
+
+pub alter-called : (running : Bool) (xs : List Value) (x y : Value)
+    → store_fits StoreFunction.Alter (length xs) ≡ true → x ≡ get_or xs 0 x → y ≡ get_or xs 1 y
+    → call_with StoreFunction.Alter running (views xs) ≡ alter_by_value (view x) (view y)
+alter-called running [] x y fits first is = absurd (grind (arith, nat_tests))
+alter-called running (u ∷ []) x y fits first is = absurd (grind (arith, nat_tests))
+alter-called running (u ∷ v ∷ xs) x y fits first is =
+    let one : x ≡ u = first in let other : y ≡ v = is in cc
+
+pub count-called : (running : Bool) (xs : List Value) (x : Value)
+    → store_fits StoreFunction.HistoryCount (length xs) ≡ true → x ≡ get_or xs 0 x
+    → call_with StoreFunction.HistoryCount running (views xs) ≡ history_counted running (view x)
+count-called running [] x fits is = absurd (grind (arith, nat_tests))
+count-called running (y ∷ []) x fits is = let same : x ≡ y = is in cc
+count-called running (y ∷ z ∷ xs) x fits is = absurd (grind (arith, nat_tests))
+
+pub least-called : (running : Bool) (xs : List Value) (x : Value)
+    → store_fits StoreFunction.MinHistory (length xs) ≡ true → x ≡ get_or xs 0 x
+    → call_with StoreFunction.MinHistory running (views xs)
+    ≡ bound_called HistoryBound.Least (view x) (option_map view (slice_get xs 1))
+least-called running [] x fits is = absurd (grind (arith, nat_tests))
+least-called running (y ∷ []) x fits is = let same : x ≡ y = is in cc
+least-called running (y ∷ z ∷ []) x fits is = let same : x ≡ y = is in cc
+least-called running (y ∷ z ∷ w ∷ xs) x fits is = absurd (grind (arith, nat_tests))
+
+pub greatest-called : (running : Bool) (xs : List Value) (x : Value)
+    → store_fits StoreFunction.MaxHistory (length xs) ≡ true → x ≡ get_or xs 0 x
+    → call_with StoreFunction.MaxHistory running (views xs)
+    ≡ bound_called HistoryBound.Greatest (view x) (option_map view (slice_get xs 1))
+greatest-called running [] x fits is = absurd (grind (arith, nat_tests))
+greatest-called running (y ∷ []) x fits is = let same : x ≡ y = is in cc
+greatest-called running (y ∷ z ∷ []) x fits is = let same : x ≡ y = is in cc
+greatest-called running (y ∷ z ∷ w ∷ xs) x fits is = absurd (grind (arith, nat_tests))
+
+-- the calls of all functions
+pub ruleset calls = (ref-called, deref-called, set-called, alter-called, count-called, least-called, greatest-called)

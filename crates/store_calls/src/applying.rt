@@ -1,0 +1,169 @@
+// Calls, by the functions that are called.
+ghost use Rattle.std.specs.Prelude.{◌≡◌, ◌∷◌, true, option_map, vec_len, IfOk};
+ghost use Rattle.value_data.specs.View.{view};
+ghost use Rattle.special_forms.specs.Seen.{views};
+ghost use Rattle.function_names.specs.StoreNames.{store_fits};
+ghost use Rattle.repl_faults.specs.View.{Gives};
+ghost use Rattle.store_calls.specs.Calling as meant;
+ghost use Rattle.store_calls.specs.Parts.{bound_called};
+ghost use Rattle.store_calls.specs.View.{call_view};
+
+use crate::arguments::{count_of, ref_of};
+use crate::bounds::{HistoryBound, bounds_in};
+use crate::outcome::Call;
+use crate::rules::{is_shared, keep_to, may_hold};
+use function_names::StoreFunction;
+use repl_asks::Ask;
+use repl_faults::{ApplyError, Rule, wrong_argument, wrong_arity};
+use repl_values::Value;
+use std::alloc::{AllocError, Global};
+
+/// What a call of the function with these values comes to, while a transaction runs or none does.
+/// The number of values is checked first, then the kinds of all of them from the left, then the
+/// rules of transactions, then those of shared refs. The values are taken and not copied; where a
+/// shared ref is set, the new value is walked once. It fails only for want of memory.
+#[tactic(auto, unfolding(crate::specs::Calling::call_of))]
+pub fn call(
+    alloc: Global,
+    function: StoreFunction,
+    in_transaction: bool,
+    values: Vec<Value>,
+) -> Result<Call, AllocError>
+    ensures { IfOk result (λ call. call_view call
+        ≡ meant.call_of function in_transaction (views values.items)) }
+{
+    if !function.takes(values.len()) {
+        let fault = wrong_arity(alloc, function.name(), values.len())?;
+        return Ok(Call::Refused(fault));
+    }
+    match call_with(alloc, function, in_transaction, values) {
+        Ok(call) => Ok(call),
+        Err(ApplyError::Fault(fault)) => Ok(Call::Refused(fault)),
+        Err(ApplyError::NoMemory) => Err(AllocError),
+    }
+}
+
+#[tactic(auto, using(crate::proofs::Taken::calls))]
+fn call_with(
+    alloc: Global,
+    function: StoreFunction,
+    in_transaction: bool,
+    mut values: Vec<Value>,
+) -> Result<Call, ApplyError>
+    requires { store_fits function (vec_len values) ≡ true }
+    ensures { Gives call_view result
+        (meant.call_with function in_transaction (views values.items)) }
+{
+    match function {
+        StoreFunction::Ref => {
+            let value = values.remove(0);
+            ref_made(alloc, value, values.as_slice())
+        }
+        StoreFunction::Deref => dereferenced(alloc, &values[0]),
+        StoreFunction::RefSet => {
+            let value = values.remove(1);
+            ref_set(alloc, in_transaction, &values[0], value)
+        }
+        StoreFunction::Alter => alter_by_value(alloc, &values[0], &values[1]),
+        StoreFunction::HistoryCount => history_counted(alloc, in_transaction, &values[0]),
+        StoreFunction::MinHistory => {
+            bound_called(alloc, HistoryBound::Least, &values[0], values.get(1))
+        }
+        StoreFunction::MaxHistory => {
+            bound_called(alloc, HistoryBound::Greatest, &values[0], values.get(1))
+        }
+    }
+}
+
+// `(ref value option count ..)`
+fn ref_made(alloc: Global, value: Value, options: &[Value]) -> Result<Call, ApplyError>
+    ensures { Gives call_view result (meant.ref_made (view value ∷ views options.now)) }
+{
+    let bounds = bounds_in(alloc, options)?;
+    Ok(Call::AsksValue(Ask::NewRef {
+        value,
+        min_history: bounds.least,
+        max_history: bounds.most,
+    }))
+}
+
+// `(deref ref)`
+fn dereferenced(alloc: Global, target: &Value) -> Result<Call, ApplyError>
+    ensures { Gives call_view result (meant.dereferenced (view target.now)) }
+{
+    let name = ref_of(alloc, StoreFunction::Deref, target)?;
+    Ok(Call::Reads(name))
+}
+
+// `(ref-set ref value)`
+fn ref_set(
+    alloc: Global,
+    in_transaction: bool,
+    target: &Value,
+    value: Value,
+) -> Result<Call, ApplyError>
+    ensures { Gives call_view result
+        (meant.ref_set in_transaction (view target.now) (view value)) }
+{
+    let name = ref_of(alloc, StoreFunction::RefSet, target)?;
+    keep_to(alloc, Rule::ATransactionRuns, in_transaction)?;
+    keep_to(alloc, Rule::SharedRefsArePlain, may_hold(name, &value))?;
+    Ok(Call::Puts(name, value))
+}
+
+// `(alter ref value ..)`, where no function stands: one of the two is a wrong argument.
+fn alter_by_value(alloc: Global, target: &Value, by: &Value) -> Result<Call, ApplyError>
+    ensures { Gives call_view result (meant.alter_by_value (view target.now) (view by.now)) }
+{
+    let _name = ref_of(alloc, StoreFunction::Alter, target)?;
+    let name = StoreFunction::Alter.name();
+    Err(ApplyError::Fault(wrong_argument(alloc, name, by)?))
+}
+
+// `(ref-history-count ref)`
+fn history_counted(alloc: Global, in_transaction: bool, target: &Value) -> Result<Call, ApplyError>
+    ensures { Gives call_view result (meant.history_counted in_transaction (view target.now)) }
+{
+    let name = ref_of(alloc, StoreFunction::HistoryCount, target)?;
+    let is_told = !in_transaction || !is_shared(name);
+    keep_to(alloc, Rule::SharedHistoryIsHidden, is_told)?;
+    Ok(Call::AsksValue(Ask::History(name)))
+}
+
+// `(ref-min-history ref)` or `(ref-max-history ref)`, and where there is a count it is set.
+fn bound_called(
+    alloc: Global,
+    bound: HistoryBound,
+    target: &Value,
+    count: Option<&Value>,
+) -> Result<Call, ApplyError>
+    ensures { Gives call_view result
+        (bound_called bound (view target.now) (option_map (λ v. view v.now) count.entry)) }
+{
+    match count {
+        None => bound_told(alloc, bound, target),
+        Some(count) => bound_set(alloc, bound, target, count),
+    }
+}
+
+fn bound_told(alloc: Global, bound: HistoryBound, target: &Value) -> Result<Call, ApplyError>
+    ensures { Gives call_view result (meant.bound_told bound (view target.now)) }
+{
+    let name = ref_of(alloc, bound.function(), target)?;
+    Ok(Call::AsksValue(bound.ask(name, None)))
+}
+
+fn bound_set(
+    alloc: Global,
+    bound: HistoryBound,
+    target: &Value,
+    count: &Value,
+) -> Result<Call, ApplyError>
+    ensures { Gives call_view result
+        (meant.bound_set bound (view target.now) (view count.now)) }
+{
+    let name = ref_of(alloc, bound.function(), target)?;
+    let count = count_of(alloc, bound.function(), count)?;
+    keep_to(alloc, Rule::SharedBoundsStay, !is_shared(name))?;
+    Ok(Call::AsksValue(bound.ask(name, Some(count))))
+}

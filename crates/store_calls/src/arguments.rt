@@ -1,0 +1,58 @@
+// Arguments by their kinds. Each is refused by the function of the call.
+#![tactic(auto, using(value_data::proofs::Views::value_views))]
+
+ghost use Rattle.std.specs.Prelude.{◌≡◌};
+ghost use Rattle.value_data.specs.View.{view};
+ghost use Rattle.repl_asks.specs.View.{name_view};
+ghost use Rattle.repl_faults.specs.View.{Gives};
+ghost use Rattle.store_calls.specs.Calling as meant;
+
+use function_names::StoreFunction;
+use repl_faults::{ApplyError, wrong_argument};
+use repl_values::{RefName, Value};
+use std::alloc::Global;
+
+pub(crate) fn ref_of(
+    alloc: Global,
+    function: StoreFunction,
+    argument: &Value,
+) -> Result<RefName, ApplyError>
+    ensures { Gives name_view result (meant.ref_in function (view argument.now)) }
+{
+    match argument {
+        Value::Ref(name) => Ok(*name),
+        other => Err(ApplyError::Fault(wrong_argument(alloc, function.name(), other)?)),
+    }
+}
+
+// A whole number from 0.
+pub(crate) fn count_of(
+    alloc: Global,
+    function: StoreFunction,
+    argument: &Value,
+) -> Result<u64, ApplyError>
+    ensures { Gives (λ n. n) result (meant.count_in function (view argument.now)) }
+{
+    match count(argument) {
+        Some(count) => Ok(count),
+        None => Err(ApplyError::Fault(wrong_argument(alloc, function.name(), argument)?)),
+    }
+}
+
+fn count(argument: &Value) -> Option<u64>
+    ensures { result ≡ meant.as_count (view argument.now) }
+{
+    match argument {
+        Value::Int(number) => from_zero(*number),
+        _other => None,
+    }
+}
+
+fn from_zero(number: i64) -> Option<u64>
+    ensures { result ≡ meant.from_zero number }
+{
+    if number < 0 {
+        return None;
+    }
+    Some(number as u64)
+}

@@ -1,0 +1,18 @@
+//! What calls of the functions that ask the store come to, before anybody is asked: a fault, a read
+//! or a set in the attempt, or an ask whose answer is the value.
+//!
+//! The kinds of all arguments are looked at first, from the left; then whether a transaction runs;
+//! then what a shared ref forbids.
+#![tactic(auto)]
+
+mod altering;
+mod applying;
+mod arguments;
+mod bounds;
+mod outcome;
+mod rules;
+
+pub use altering::altered;
+pub use applying::call;
+pub use outcome::{Altered, Call};
+pub use rules::may_hold;

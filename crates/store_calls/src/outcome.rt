@@ -1,0 +1,23 @@
+// What calls of the functions that ask the store come to.
+use repl_asks::Ask;
+use repl_values::{Fault, RefName, Value};
+
+/// What a call comes to, before anybody is asked.
+#[derive(Debug, Drop)]
+pub enum Call {
+    Refused(Fault),
+    /// The value of a ref is read.
+    Reads(RefName),
+    /// A ref gets a value, in the attempt alone.
+    Puts(RefName, Value),
+    /// The answer to this ask is the value.
+    AsksValue(Ask),
+}
+
+/// What a call of `alter` begins with.
+#[derive(Debug, Drop)]
+pub enum Altered {
+    /// This ref gets what the function makes of its value.
+    Ref(RefName),
+    Refused(Fault),
+}

@@ -1,0 +1,6 @@
+pub mod Honest
+pub mod Runs
+pub mod Outcomes
+pub mod Walking
+pub mod Stores
+pub mod Steps

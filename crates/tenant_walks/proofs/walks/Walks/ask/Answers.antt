@@ -1,0 +1,74 @@
+use Rattle.std.proofs.Common.{◌∙◌, sym, ap, subst}
+use Rattle.repl_asks.specs.Exchange.{AskData}
+use Rattle.repl_asks.specs.View.{ask_view, answer_view}
+use Rattle.repl_walker.specs.declared.waiting.Progress.{Progress}
+use Rattle.server_rules.specs.Plan as deeds
+use Rattle.tenant_world.specs.Answers.{asked_view}
+use Rattle.tenant_world.specs.declared.answers.Asked.{Asked}
+use Rattle.tenant_world.specs.Standing as world
+use Rattle.ref_table.specs.Refs.{after}
+use Rattle.tenant_refs.specs.Serving.{Serves}
+use Rattle.tenant_walks.specs.Standing.{parts, comes_to}
+use Rattle.tenant_walks.proofs.Walking.{asks-same, at-so, some-same}
+use Rattle.tenant_walks.proofs.Steps.{does-followed, does-resumed, refused-parts}
+use Rattle.tenant_walks.proofs.walks.Walks.ask.Goals as goal
+
+pub returns-in_err-answer-clause-refused : goal.returns-in_err-answer-clause-refused
+returns-in_err-answer-clause-refused c = λ g l r w right s at.
+    let a = c.args.actor in
+    let old = parts c.args.tenant.now c.args.refs.now c.args.self.now in
+    let v = c.in-Some-Asks.walk in
+    let kept = at-so (λ p. p.now) c.get.result _ (Progress.Asks v) _ c.get.ensures
+    c.in-Some-Asks.is c.in-Some-Asks.field-0-is in
+    let same = asks-same v w (some-same _ _ (sym kept ∙ at)) in
+    let asked = ap ask_view c.ask.ensures ∙ ap (λ x. ask_view x.ask) same in
+    let P : AskData → Type 0 = λ x. world.Refuses g l.quiet l.store
+    (comes_to g l (deeds.asks_for a x)) c.answer.new.self c.in_err-answer.field-0.0
+    × Serves c.answer.new.refs l.store r in
+    let told = subst P asked
+    (c.in_err-answer.ensures.refused g l.quiet l.store r right s.tenant s.serves) in
+    refused-parts g l r (deeds.asks_for a (ask_view w.ask)) old c.answer.new.self
+    c.answer.new.refs c.in_err-answer.field-0.0 c.from_residual.result s
+    c.from_residual.ensures.1 told.0 told.1
+
+pub returns-in-Answer-clause-done : goal.returns-in-Answer-clause-done
+returns-in-Answer-clause-done c = λ g l r run w right s runs at.
+    let a = c.args.actor in
+    let old = parts c.args.tenant.now c.args.refs.now c.args.self.now in
+    let v = c.in-Some-Asks.walk in
+    let kept = at-so (λ p. p.now) c.get.result _ (Progress.Asks v) _ c.get.ensures
+    c.in-Some-Asks.is c.in-Some-Asks.field-0-is in
+    let same = asks-same v w (some-same _ _ (sym kept ∙ at)) in
+    let asked = ap ask_view c.ask.ensures ∙ ap (λ x. ask_view x.ask) same in
+    let P : AskData → Type 0 = λ x. world.DoesBy g a l.quiet
+    (comes_to g l (deeds.asks_for a x)) c.answer.new.self (asked_view c.in_ok-answer.field-0)
+    × Serves c.answer.new.refs (comes_to g l (deeds.asks_for a x)).store
+    (after (comes_to g l (deeds.asks_for a x)).store r) in
+    let did = subst P asked
+    (c.in_ok-answer.ensures.done g l.quiet l.store r right s.tenant s.serves) in
+    let d = comes_to g l (deeds.asks_for a (ask_view w.ask)) in
+    let Q : Asked → Type 0 = λ x. world.DoesBy g a l.quiet d c.answer.new.self (asked_view x) in
+    does-resumed g l r a old (parts c.answer.new.self c.answer.new.refs c.resume.new.self)
+    (ask_view w.ask) (answer_view c.in-Answer.answer) run s runs (subst Q c.in-Answer.is did.0)
+    did.1
+    (λ p there. c.resume.ensures.resumed run w p at (s.walked a run (Progress.Asks w) runs at) there)
+    c.resume.ensures.others
+
+pub returns-in-Interrupted-clause-done : goal.returns-in-Interrupted-clause-done
+returns-in-Interrupted-clause-done c = λ g l r run w right s runs at.
+    let a = c.args.actor in
+    let old = parts c.args.tenant.now c.args.refs.now c.args.self.now in
+    let v = c.in-Some-Asks.walk in
+    let kept = at-so (λ p. p.now) c.get.result _ (Progress.Asks v) _ c.get.ensures
+    c.in-Some-Asks.is c.in-Some-Asks.field-0-is in
+    let same = asks-same v w (some-same _ _ (sym kept ∙ at)) in
+    let asked = ap ask_view c.ask.ensures ∙ ap (λ x. ask_view x.ask) same in
+    let P : AskData → Type 0 = λ x. world.DoesBy g a l.quiet
+    (comes_to g l (deeds.asks_for a x)) c.answer.new.self (asked_view c.in_ok-answer.field-0)
+    × Serves c.answer.new.refs (comes_to g l (deeds.asks_for a x)).store
+    (after (comes_to g l (deeds.asks_for a x)).store r) in
+    let did = subst P asked
+    (c.in_ok-answer.ensures.done g l.quiet l.store r right s.tenant s.serves) in
+    does-followed g l r (deeds.asks_for a (ask_view w.ask)) a old
+    (parts c.answer.new.self c.answer.new.refs c.follow.new.self) _ s did.0 did.1
+    (λ then st. c.follow.ensures g then st)

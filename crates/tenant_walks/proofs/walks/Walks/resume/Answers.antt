@@ -1,0 +1,22 @@
+use Rattle.std.proofs.Common.{◌∙◌, sym, subst}
+use Rattle.repl_asks.specs.View.{ask_view, answer_view}
+use Rattle.repl_walker.specs.declared.waiting.Progress.{Progress}
+use Rattle.tenant_world.specs.Asking.{exchanged, run_with}
+use Rattle.tenant_walks.specs.Walked.{IsWalkOf}
+use Rattle.tenant_walks.proofs.Walking.{walk-resumed, some-same, asks-same}
+use Rattle.tenant_walks.proofs.Steps.{put-so}
+use Rattle.tenant_walks.proofs.walks.Walks.resume.Goals as goal
+
+pub returns-clause-resumed : goal.returns-clause-resumed
+returns-clause-resumed c = λ run w p at walk there.
+    let answer = answer_view c.args.answer in
+    let v = c.in-Some-Asks.walk in
+    let found = sym c.in-Some-Asks.is ∙ c.take.ensures.taken ∙ at in
+    let same = asks-same v w (sym c.in-Some-Asks.field-0-is ∙ some-same _ _ found) in
+    let put = put-so c.args.actor c.take.new.self c.put.new.self c.in-Ok.progress p c.put.result
+    c.put.ensures.put c.put.ensures.stays c.take.ensures.gone there in
+    let of_v = subst (λ x. IsWalkOf run (Progress.Asks x)) (sym same) walk in
+    let later = walk-resumed run v c.in-Ok.progress answer of_v c.in-Ok.ensures.meaning
+    c.in-Ok.ensures.job c.in-Ok.ensures.trace in
+    subst (λ x. IsWalkOf (run_with (exchanged (ask_view x.ask) answer) run) p) same
+    (subst (IsWalkOf (run_with (exchanged (ask_view v.ask) answer) run)) put later)

@@ -1,0 +1,5 @@
+pub mod Grounds
+pub mod Ended
+pub mod WalkAt
+pub mod Walked
+pub mod Standing

@@ -1,0 +1,11 @@
+-- The evaluations by the names of their actors.
+use Rattle.std.specs.Prelude.{Option, option_and_then}
+use Rattle.std.specs.BTreeMap.{get}
+use Rattle.repl_walker.specs.declared.waiting.Progress.{Progress}
+use Rattle.server_rules.specs.contracts.actor.ActorOrd.TheImpl as order
+use Rattle.server_rules.specs.declared.actor.Actor.{Actor}
+use Rattle.tenant_walks.specs.declared.walks.Walks.{Walks}
+
+-- that of the form of this actor, if there is one
+abbrev pub walk_at : Walks → Actor → Option Progress
+walk_at walks a = option_and_then (λ place. place) (get (order.ghosts).cmp walks.live a)

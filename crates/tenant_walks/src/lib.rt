@@ -1,0 +1,7 @@
+//! The evaluations of a tenant's forms: each actor goes on as its evaluation says.
+#![tactic(auto)]
+
+mod going;
+mod walks;
+
+pub use walks::Walks;

@@ -1,0 +1,5 @@
+pub mod Operations
+pub mod Keys
+pub mod View
+pub mod Places
+pub mod Seen

@@ -1,0 +1,26 @@
+-- How operations are found by the refs that they name.
+use Rattle.std.specs.Prelude.{◌≡◌, ℕ, zero, suc, List, [], ◌∷◌, Bool, true, false, Option, None, Some, map}
+use Rattle.std.specs.declared.cmp.Ordering.{Ordering}
+use Rattle.std.specs.BTreeMap.{BTreeMap, get}
+use Rattle.repl_asks.specs.Transactions.{RefNameData}
+use Rattle.tx_attempt.specs.Operations.{names_ref}
+use Rattle.tx_attempt.specs.View.{operation_view}
+use Rattle.tx_attempt.specs.Keys.{key_of}
+use Rattle.tx_attempt.specs.declared.key.Key.{Key}
+use Rattle.tx_attempt.specs.declared.operation.Operation.{Operation}
+
+-- of the place among the items behind the first, if there is one, and of whether the first passes
+abbrev pub last_of : Option ℕ → Bool → Option ℕ
+last_of (Some n) first = Some (suc n)
+last_of None true = Some zero
+last_of None false = None
+
+-- the last place at which the test passes
+abbrev pub last_place : {A : Type 0} → (A → Bool) → List A → Option ℕ
+last_place test [] = None
+last_place test (x ∷ xs) = last_of (last_place test xs) (test x)
+
+-- the map has the place of the last operation that names a ref, for each ref
+abbrev pub KeepsLatest : (Key → Key → Ordering) → BTreeMap Key ℕ → List Operation → Type 0
+KeepsLatest order latest operations = (name : RefNameData)
+    → get order latest (key_of name) ≡ last_place (names_ref name) (map operation_view operations)

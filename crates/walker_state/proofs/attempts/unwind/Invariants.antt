@@ -1,0 +1,16 @@
+use Rattle.std.proofs.Common.{◌≡◌, length}
+use Rattle.walker_state.specs.Machine.{bottom, kept_of, place_of}
+use Rattle.walker_state.proofs.attempts.unwind.Given as goal
+
+abbrev pub invariant-loop-frame : goal.invariant-loop-frame
+invariant-loop-frame l = record {
+  place : bottom l.state.frames.items (place_of l.state) ≡ bottom l.initial.state.frames.items (place_of l.initial.state);
+  kept : kept_of l.state ≡ kept_of l.initial.state;
+  text : l.state.text ≡ l.initial.state.text;
+  retries : l.state.retries ≡ l.initial.state.retries;
+  calls : l.state.calls ≡ l.initial.state.calls;
+  transaction : l.state.transaction ≡ l.initial.state.transaction;
+}
+
+abbrev pub decreases-loop-frame : goal.decreases-loop-frame
+decreases-loop-frame l = length l.state.frames.items

@@ -1,0 +1,155 @@
+// Attempts at a transaction: how they begin, and how they are made again.
+ghost use Rattle.std.specs.Prelude.{◌≡◌, ◌+◌, ◌<◌, ◌≤◌, [], false, None, IfOk, string_bytes};
+ghost use Rattle.evaluation_rules.specs.Doing.{left, retried};
+ghost use Rattle.evaluation_rules.specs.Tree.{written};
+ghost use Rattle.evaluation_rules.specs.Rows.{last_of};
+ghost use Rattle.evaluation_rules.specs.Evaluation.{value_at};
+ghost use Rattle.evaluation_rules.specs.Transactions.{transacted};
+ghost use Rattle.value_data.specs.declared.value.RefName.{RefName};
+ghost use Rattle.value_data.specs.Datum.{nil};
+ghost use Rattle.special_forms.specs.Seen.{forms_view};
+ghost use Rattle.walker_state.specs.Machine as machine;
+ghost use Rattle.walker_state.specs.Machine.{again, begun_tree, behind_frame, bottom, place_view, from_state, kept_of, place_of, tree, whole};
+ghost use Rattle.walker_state.specs.Size.{control_size, control_calls, control_around, control_position, wanted_position, around, frames_size, IsLater, IsRetried};
+ghost use Rattle.walker_state.specs.declared.frames.Wanted.{Wanted};
+
+use crate::frames::{Control, Frame, Place, State, Transaction, Wanted};
+use crate::rows::next_in_body;
+use repl_asks::Ask;
+use repl_faults::{Rule, broken};
+use repl_values::{Value, copy_text};
+use special_forms::Forms;
+use std::alloc::{AllocError, Global};
+use std::boxed::Box;
+use std::collections::VecDeque;
+use std::mem;
+use tx_attempt::Attempt;
+
+/// A transaction begins, where none runs: its first attempt is asked for.
+pub fn begin_transaction(
+    alloc: Global,
+    state: &mut State,
+    body: Forms,
+    room: u32,
+) -> Result<Control, AllocError>
+    requires { state.old.transaction ≡ None }
+    ensures size { IfOk result (λ control. control_size control + frames_size state.new.frames.items
+        < 3 + frames_size state.old.frames.items) }
+    ensures calls { IfOk result (λ control. control_calls control state.new ≤ state.old.calls) }
+    ensures around { IfOk result (λ control. control_around control state.new ≡ around state.old.transaction) }
+    ensures meaning { IfOk result (λ control. tree control state.new
+        ≡ from_state (transacted false (last_of (value_at room (place_of state.old)) nil (forms_view body))) state.old) }
+{
+    if state.retries == 0 {
+        return Ok(Control::Fault(broken(alloc, Rule::AttemptsAreLimited)?));
+    }
+    let namespace = copy_text(&state.namespace)?;
+    let frames = mem::replace(&mut state.frames, VecDeque::new(alloc));
+    let transaction = Transaction {
+        body,
+        room,
+        calls: state.calls,
+        namespace,
+        left: state.retries - 1,
+        is_first: true,
+        frames,
+        attempt: Attempt::new(alloc),
+    };
+    let wanted = Wanted::Begin(Box::new(alloc, transaction)?);
+    Ok(Control::Ask(Ask::Begin, wanted))
+}
+
+/// An attempt has begun: its body is evaluated as the first was.
+pub fn begun(
+    alloc: Global,
+    state: &mut State,
+    transaction: Box<Transaction>,
+) -> Result<Control, AllocError>
+    ensures meaning { IfOk result (λ control. tree control state.new ≡ begun_tree transaction.value state.old) }
+    ensures later { IfOk result (λ control. IsLater (control_position control state.new)
+        (wanted_position (Wanted.Begin transaction) state.old)) }
+{
+    let mut transaction = transaction;
+    let body = transaction.body.copy()?;
+    let room = transaction.room;
+    state.calls = transaction.calls;
+    state.namespace = copy_text(&transaction.namespace)?;
+    transaction.attempt = Attempt::new(alloc);
+    state.frames = VecDeque::new(alloc);
+    state.transaction = Some(transaction);
+    next_in_body(state, Value::Nil, body, room)
+}
+
+/// The attempt is over, since a value is kept no longer: another is made, if one is left.
+pub fn retry(alloc: Global, state: &mut State) -> Result<Control, AllocError>
+    ensures meaning { IfOk result (λ control. tree control state.new
+        ≡ whole state.old (left retried (kept_of state.old))) }
+    ensures later { IfOk result (λ control. (name : RefName) → IsLater (control_position control state.new)
+        (wanted_position (Wanted.Reading name) state.old)) }
+{
+    match state.transaction.take() {
+        None => Ok(Control::Fault(broken(alloc, Rule::AttemptsAreLimited)?)),
+        Some(transaction) => {
+            unwind(state);
+            begin_again(alloc, state, transaction)
+        }
+    }
+}
+
+// The frames lead back to the place in which they leave what they give.
+fn unwind(state: &mut State)
+    ensures frames { state.new.frames.items ≡ [] }
+    ensures place { place_of state.new ≡ bottom state.old.frames.items (place_of state.old) }
+    ensures kept { kept_of state.new ≡ kept_of state.old }
+    ensures text { state.new.text ≡ state.old.text }
+    ensures retries { state.new.retries ≡ state.old.retries }
+    ensures calls { state.new.calls ≡ state.old.calls }
+    ensures transaction { state.new.transaction ≡ state.old.transaction }
+{
+    while let Some(frame) = state.frames.pop_front() {
+        go_behind(frame, &mut state.place);
+    }
+}
+
+// The place behind a frame.
+fn go_behind(frame: Frame, place: &mut Place)
+    ensures { place_view place.new ≡ behind_frame frame (place_view place.old) }
+{
+    match frame {
+        Frame::Unbind => place.locals.unbind(),
+        Frame::Leave { place: outer } => *place = outer,
+        Frame::Arguments { .. }
+        | Frame::Collection { .. }
+        | Frame::Body { .. }
+        | Frame::Choice { .. }
+        | Frame::Logic { .. }
+        | Frame::Let { .. }
+        | Frame::Define { .. }
+        | Frame::Throw
+        | Frame::Namespace
+        | Frame::AlterRef { .. }
+        | Frame::AlterCall { .. }
+        | Frame::Held { .. } => {}
+    }
+}
+
+/// The next attempt is asked for, if one is left. The place is that of the transaction.
+pub fn begin_again(
+    alloc: Global,
+    state: &mut State,
+    transaction: Box<Transaction>,
+) -> Result<Control, AllocError>
+    ensures meaning { IfOk result (λ control. tree control state.new ≡ written (string_bytes state.old.text)
+        (again state.old.retries transaction.value (place_of state.old) (machine.inside state.old))) }
+    ensures retried { IfOk result (λ control. IsRetried control state.new transaction.value state.old.calls) }
+{
+    state.frames = VecDeque::new(alloc);
+    state.transaction = None;
+    if transaction.left == 0 {
+        return Ok(Control::Fault(broken(alloc, Rule::AttemptsAreLimited)?));
+    }
+    let mut transaction = transaction;
+    transaction.left -= 1;
+    transaction.is_first = false;
+    Ok(Control::Ask(Ask::Begin, Wanted::Begin(transaction)))
+}

@@ -1,0 +1,88 @@
+// Vectors and maps of values that were evaluated.
+#![tactic(auto, using(crate::proofs::Stepping::steps))]
+
+ghost use Rattle.std.specs.Prelude.{◌≡◌, ◌<◌, map, zip, IfOk};
+ghost use Rattle.value_data.specs.View.{view, pair_view};
+ghost use Rattle.walker_state.specs.Machine.{collected, from_state, tree};
+ghost use Rattle.walker_state.specs.declared.frames.State.{State};
+ghost use Rattle.special_forms.specs.Seen.{views};
+ghost use Rattle.walker_state.specs.Size.{control_size, control_calls, control_around, around};
+ghost use Rattle.evaluation_rules.specs.Collections.{keys_in, map_value, values_in, within_limits};
+
+use crate::frames::{Collection, Control};
+use repl_faults::{duplicate_key, too_large};
+use repl_values::{Built, Sequence, Table, Value, copy, nesting, weight};
+use std::alloc::{AllocError, Global};
+use std::collections::VecDeque;
+
+// The greatest weight and the deepest nesting of a value that is made.
+const MAX_WEIGHT: u64 = 1_048_576;
+
+const MAX_NESTING: u64 = 128;
+
+/// The collection, or the fault of a key that stands twice or of what is too large.
+pub fn collected(alloc: Global, kind: Collection, values: Vec<Value>) -> Result<Control, AllocError>
+    ensures size { IfOk result (λ control. control_size control < 2) }
+    ensures calls { IfOk result (λ control. (s : State) → control_calls control s ≡ s.calls) }
+    ensures around { IfOk result (λ control. (s : State) → control_around control s ≡ around s.transaction) }
+    ensures meaning { IfOk result (λ control. (s : State) → tree control s ≡ from_state (collected kind (views values.items)) s) }
+{
+    match kind {
+        Collection::Vector => {
+            let items = Sequence::from_vec(alloc, values)?;
+            within_limits(alloc, Value::Vector(items))
+        }
+        Collection::Map => map_of(alloc, values),
+    }
+}
+
+#[tactic(auto, using(crate::proofs::Stepping::steps), unfolding(core_functions::specs::Outcome::limited))]
+fn within_limits(alloc: Global, value: Value) -> Result<Control, AllocError>
+    ensures size { IfOk result (λ control. control_size control < 2) }
+    ensures calls { IfOk result (λ control. (s : State) → control_calls control s ≡ s.calls) }
+    ensures around { IfOk result (λ control. (s : State) → control_around control s ≡ around s.transaction) }
+    ensures meaning { IfOk result (λ control. (s : State) → tree control s ≡ from_state (within_limits (view value)) s) }
+{
+    if weight(&value) > MAX_WEIGHT || nesting(&value) > MAX_NESTING {
+        return Ok(Control::Fault(too_large(alloc)?));
+    }
+    Ok(Control::Return(value))
+}
+
+// A map of its keys and values, which stand by turns.
+fn map_of(alloc: Global, values: Vec<Value>) -> Result<Control, AllocError>
+    ensures size { IfOk result (λ control. control_size control < 2) }
+    ensures calls { IfOk result (λ control. (s : State) → control_calls control s ≡ s.calls) }
+    ensures around { IfOk result (λ control. (s : State) → control_around control s ≡ around s.transaction) }
+    ensures meaning { IfOk result (λ control. (s : State) → tree control s ≡ from_state (map_value (views values.items)) s) }
+{
+    let Entries { keys, pairs } = by_turns(alloc, values)?;
+    match Table::from_pairs(alloc, pairs)? {
+        Built::Made(pairs) => within_limits(alloc, Value::Map(pairs)),
+        Built::Repeats(place) => Ok(Control::Fault(duplicate_key(alloc, &keys[place])?)),
+    }
+}
+
+// The pairs of a map in order, and once more their keys, of which a fault may have to tell.
+#[derive(Drop)]
+struct Entries {
+    keys: Vec<Value>,
+    pairs: Vec<(Value, Value)>,
+}
+
+fn by_turns(alloc: Global, row: Vec<Value>) -> Result<Entries, AllocError>
+    ensures keys { IfOk result (λ entries. views entries.keys.items ≡ keys_in (views row.items)) }
+    ensures pairs { IfOk result (λ entries. map pair_view entries.pairs.items ≡ zip (keys_in (views row.items)) (values_in (views row.items))) }
+{
+    let mut row = VecDeque::from_vec(row);
+    let mut keys = Vec::new(alloc);
+    let mut pairs = Vec::new(alloc);
+    while let Some(key) = row.pop_front() {
+        let Some(value) = row.pop_front() else {
+            return Ok(Entries { keys, pairs });
+        };
+        keys.push(copy(&key)?)?;
+        pairs.push((key, value))?;
+    }
+    Ok(Entries { keys, pairs })
+}

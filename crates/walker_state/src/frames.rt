@@ -1,0 +1,180 @@
+// What an evaluation has still to do, from the inside out.
+use local_names::Locals;
+use repl_asks::{Ask, NamedFunction};
+use repl_values::{Fault, RefName, Value};
+use special_forms::{Forms, Function, Logic};
+use std::boxed::Box;
+use std::collections::VecDeque;
+use std::sync::ArcStr;
+use tx_attempt::Attempt;
+
+/// What is called.
+#[derive(Drop)]
+pub enum Callee {
+    Named(NamedFunction),
+    // A keyword looks itself up in its argument.
+    Keyword(ArcStr),
+    // `alter`, with the function that it was given.
+    Alter(NamedFunction),
+}
+
+/// What is made of values in a row.
+#[derive(Clone, Copy)]
+pub enum Collection {
+    Vector,
+    Map,
+}
+
+/// What waits for the value of the form that is evaluated. Forms that are still to be evaluated have
+// `room` for so many forms inside one another.
+#[derive(Drop)]
+pub enum Frame {
+    // A call: the values of its first arguments, and the forms of those behind the one that is
+    // evaluated.
+    Arguments {
+        callee: Callee,
+        values: Vec<Value>,
+        forms: Forms,
+        room: u32,
+    },
+    // The items of a vector or, by turns, the keys and values of a map: those that have values, and
+    // the forms behind the one that is evaluated.
+    Collection {
+        kind: Collection,
+        values: Vec<Value>,
+        forms: Forms,
+        room: u32,
+    },
+    // The forms of a body behind the one that is evaluated.
+    Body {
+        forms: Forms,
+        room: u32,
+    },
+    // The bodies of which a condition chooses one.
+    Choice {
+        consequent: Forms,
+        alternative: Forms,
+        room: u32,
+    },
+    // The forms of `and` or `or` behind the one that is evaluated.
+    Logic {
+        logic: Logic,
+        forms: Forms,
+        room: u32,
+    },
+    // The name whose value is evaluated, the names and forms behind it by turns, and the body.
+    Let {
+        name: ArcStr,
+        bindings: Forms,
+        body: Forms,
+        room: u32,
+    },
+    // The definition of this name.
+    Define {
+        name: ArcStr,
+    },
+    Throw,
+    // The value is the name of the namespace to enter.
+    Namespace,
+    // The ref of `alter`: the form of its function, and the forms of the arguments behind that.
+    AlterRef {
+        function: Value,
+        forms: Forms,
+        room: u32,
+    },
+    // The value of the ref that `alter` alters, with its function and the arguments behind it.
+    AlterCall {
+        name: RefName,
+        function: NamedFunction,
+        values: Vec<Value>,
+        room: u32,
+    },
+    // What goes into this ref.
+    Held {
+        name: RefName,
+    },
+    // The newest local goes.
+    Unbind,
+    // A function's body ends, and this is the place of its call.
+    Leave {
+        place: Place,
+    },
+}
+
+/// Where a form stands: the locals, and the namespace in which the function was defined
+// whose body it is in; none outside of functions.
+#[derive(Drop)]
+pub struct Place {
+    pub locals: Locals,
+    pub home: Option<ArcStr>,
+}
+
+/// The frames of an evaluation up to its transaction, innermost first, where it stands, and what it
+// carries from form to form: how many calls it may still make, its namespace, the text that it
+// printed, how many attempts a transaction may make, and the transaction that runs.
+#[derive(Drop)]
+pub struct State {
+    pub frames: VecDeque<Frame>,
+    pub place: Place,
+    pub calls: u32,
+    pub namespace: ArcStr,
+    pub text: String,
+    pub retries: u32,
+    pub transaction: Option<Box<Transaction>>,
+}
+
+/// A transaction: its body, the calls and the namespace with which each attempt begins, how many
+// attempts are left behind this one, whether this is the first, the frames around the transaction,
+// and what the attempt did so far. Its place is the one that its frames lead back to.
+#[derive(Drop)]
+pub struct Transaction {
+    pub body: Forms,
+    pub room: u32,
+    pub calls: u32,
+    pub namespace: ArcStr,
+    pub left: u32,
+    pub is_first: bool,
+    pub frames: VecDeque<Frame>,
+    pub attempt: Attempt,
+}
+
+/// What a symbol is resolved for.
+#[derive(Drop)]
+pub enum SymbolUse {
+    // The value of this symbol.
+    Value(ArcStr),
+    // The function at the head of a list, with the forms of its arguments.
+    Head(Forms, u32),
+    // The function of `alter`, with the value before it and the forms of the arguments behind it.
+    Alter(Value, Forms, u32),
+}
+
+/// What an answer is wanted for, by its kind.
+#[derive(Drop)]
+pub enum Wanted {
+    Resolution(SymbolUse),
+    // That something is done; the form's value is this one.
+    Completion(Value),
+    // That the namespace of this name is there. What follows is evaluated in it; the form's value is
+    // nil.
+    Namespace(ArcStr),
+    // The form's value.
+    Value,
+    // The value of this ref, which is noted.
+    Reading(RefName),
+    // That an attempt has begun. The state has no transaction and no frames.
+    Begin(Box<Transaction>),
+    // What comes of the commit of a body with this value. The state has no transaction and no frames.
+    Verdict(Value, Box<Transaction>),
+}
+
+/// What comes next.
+#[derive(Drop)]
+pub enum Control {
+    Evaluate(Value, u32),
+    Return(Value),
+    Fault(Fault),
+    Ask(Ask, Wanted),
+    // The body of this function, at these arguments.
+    Enter(Function, Vec<Value>, u32),
+}
