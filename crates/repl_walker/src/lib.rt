@@ -16,4 +16,4 @@ pub use repl_jobs::{End, Finished, Job, Work};
 pub use resume::start;
 pub use run::{WalkError, walk};
 pub use waiting::{Progress, Walk};
-pub use walker_machine::names_function;
+pub use walker_state::names_function;

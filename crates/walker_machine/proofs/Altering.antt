@@ -31,7 +31,7 @@ use Rattle.walker_state.specs.declared.frames.Callee.{Callee}
 use Rattle.walker_state.specs.declared.frames.Frame.{Frame}
 use Rattle.walker_state.specs.declared.frames.State.{State}
 use Rattle.walker_state.specs.declared.frames.Transaction.{Transaction}
-use Rattle.walker_machine.proofs.Evaluating.{fails-at}
+use Rattle.walker_state.proofs.Stepping.{fails-at}
 
 -- A list with `alter` at its head
 

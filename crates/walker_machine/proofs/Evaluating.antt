@@ -30,7 +30,7 @@ use Rattle.special_forms.specs.declared.forms.Binding.{Binding}
 use Rattle.special_forms.specs.declared.forms.Forms.{Forms}
 use Rattle.special_forms.specs.declared.special.SpecialForm.{SpecialForm}
 use Rattle.evaluation_rules.specs.Doing.{Kept, Doing, Part, fails}
-use Rattle.walker_state.proofs.Stepping.{within-failed, within-printing}
+use Rattle.walker_state.proofs.Stepping.{fails-at, within-printing}
 use Rattle.repl_jobs.specs.Tree.{Tree}
 use Rattle.evaluation_rules.specs.Tree.{ends}
 use Rattle.evaluation_rules.specs.Places.{PlaceData, Walk}
@@ -115,10 +115,6 @@ printed-long text d s h =
     within-printing s.retries s.transaction (bottom s.frames.items (place_of s)) text (kept_of s) (next_of s d (kept_of s)) (string_bytes s.text)
     ∙ rw test refl
 
--- a fault ends the evaluation, wherever it stands
-pub fails-at : (f : Failure) (s : State) → from_state (fails f) s ≡ ends (Err f) (string_bytes s.text) (kept_of s)
-fails-at f s = within-failed s.retries s.transaction (bottom s.frames.items (place_of s)) f (kept_of s) (string_bytes s.text)
-
 pub outcome-bounded : (o : Outcome) (s : State) → from_state (outcome (bounded o)) s ≡ from_state (outcome o) s
 outcome-bounded (outcomes.gives d text) s = by_test (nat_lt most_text (length text)) refl
   where
@@ -153,11 +149,6 @@ binding-taken X o b old new told is =
     let P : Option Binding → Type 0 = λ p. MatchOption p X (λ bound. old ≡ binding_view bound ∷ new) in subst P is told
 
 -- what holds wherever the machine stands holds where it stands
-pub if_ok-part : {E : Type 0} (r : Result Control E) (p q : Part Datum) → p ≡ q
-    → IfOk r (λ control. (s : State) → tree control s ≡ from_state p s) → IfOk r (λ control. (s : State) → tree control s ≡ from_state q s)
-if_ok-part (Ok control) p q same h = λ s. h s ∙ ap (λ (part : Part Datum). from_state part s) same
-if_ok-part (Err e) p q same h = tt
-
 pub if_ok-here : {E : Type 0} (r : Result Control E) (p q : Part Datum) (s : State) → p ≡ q
     → IfOk r (λ control. (t : State) → tree control t ≡ from_state p t) → IfOk r (λ control. tree control s ≡ from_state q s)
 if_ok-here (Ok control) p q s same h = h s ∙ ap (λ (part : Part Datum). from_state part s) same
@@ -194,12 +185,6 @@ keyword_call-misfits name vs told s not_one not_two is =
     let one : (length vs == 1) ≡ false = grind (arith, nat_tests, not_one) in
     let two : (length vs == 2) ≡ false = grind (arith, nat_tests, not_two) in
     rw (length-map vs view, one, two, is) (sym (fails-at (wrong_arity (codes ":" ++ name) (length vs)) s))
-
--- values that are too large
-pub within_limits-misfits : (d : Datum) (told : Failure) (s : State) → (nat_le (weight d) most_weight && nat_le (nesting d) most_nesting) ≡ false
-    → told ≡ too_large → ends (Err told) (string_bytes s.text) (kept_of s) ≡ from_state (within_limits d) s
-unfolding limited
-within_limits-misfits d told s misfits is = rw (misfits, is) (sym (fails-at too_large s))
 
 -- a list that is not too deep
 pub list-behind : (room : ℕ) (p : PlaceData) (d : Datum) (ds : List Datum) → (room ≡ 0 → ⊥)

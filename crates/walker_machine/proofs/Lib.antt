@@ -1,4 +1,3 @@
 pub mod Evaluating
 pub mod Altering
-pub mod Keys
 pub mod Going

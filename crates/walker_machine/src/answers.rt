@@ -17,7 +17,6 @@ ghost use Rattle.walker_state.specs.declared.frames.Wanted.{Wanted};
 ghost use Rattle.walker_state.specs.Size.{use_size, control_size, frames_size, control_calls, control_around, control_position, wanted_position, around, IsLater};
 
 use crate::alter::begin_alter;
-use crate::namespaces::go_on_in;
 use crate::rows::next_argument;
 use function_names::StoreFunction;
 use repl_asks::{Answer, NamedFunction, Reading, Resolution};
@@ -26,7 +25,7 @@ use repl_values::{RefName, Value};
 use special_forms::Forms;
 use std::alloc::{AllocError, Global};
 use std::sync::ArcStr;
-use walker_state::{Callee, Control, State, SymbolUse, Wanted, begun, note_read, retry, settle};
+use walker_state::{Callee, Control, State, SymbolUse, Wanted, begun, go_on_in, note_read, retry, settle};
 
 pub(crate) fn take_answer(
     alloc: Global,

@@ -13,7 +13,6 @@ ghost use Rattle.walker_state.specs.Size.{control_size, frames_size, use_size, c
 ghost use Rattle.evaluation_rules.specs.Evaluation.{headed_value, list_value, value_at};
 
 use crate::answers::take_resolution;
-use crate::names::{look_up, resolve};
 use crate::rows::{next_argument, next_item};
 use crate::special::evaluate_special;
 use repl_faults::{not_a_function, too_deep};
@@ -21,7 +20,7 @@ use repl_values::{Sequence, Value, copy_text};
 use special_forms::{Forms, SpecialForm};
 use std::alloc::{AllocError, Global};
 use std::sync::ArcStr;
-use walker_state::{Callee, Collection, Control, State, SymbolUse, Wanted};
+use walker_state::{Callee, Collection, Control, State, SymbolUse, Wanted, look_up, resolve};
 
 // The form's value, or what has to be known first. Symbols, lists, vectors and maps apart, a form is
 // its own value. `room` is how many lists, vectors and maps may be under way inside one another.

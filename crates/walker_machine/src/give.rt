@@ -1,28 +1,19 @@
 // The value of the innermost form goes to what waits for it.
 #![tactic(auto, using(walker_state::proofs::Stepping::steps))]
 
-ghost use Rattle.std.specs.Prelude.{◌≡◌, ◌+◌, ◌<◌, ◌≤◌, ◌∷◌, string_bytes, IfOk};
+ghost use Rattle.std.specs.Prelude.{◌≡◌, ◌+◌, ◌<◌, ◌≤◌, IfOk};
 ghost use Rattle.value_data.specs.View.{view};
-ghost use Rattle.repl_faults.specs.View.{failure_of};
-ghost use Rattle.walker_state.specs.Machine.{given, from_state, tree};
-ghost use Rattle.walker_state.specs.declared.frames.State.{State};
+ghost use Rattle.walker_state.specs.Machine.{given, tree};
 ghost use Rattle.walker_state.specs.Size.{frame_size, control_size, frames_size, control_calls, control_around, around};
-ghost use Rattle.evaluation_rules.specs.SpecialForms.{thrown_failure, thrown_value};
 
 use crate::alter::{call_altering, hold, name_function};
-use crate::namespaces::enter_named;
 use crate::rows::{bind, next_argument, next_binding, next_in_logic, next_item};
 use crate::special::define;
-use core_texts::show_into;
 use repl_asks::Binding;
-use repl_faults::{thrown, too_large};
-use repl_values::{Fault, Value};
+use repl_values::Value;
 use special_forms::chosen;
 use std::alloc::{AllocError, Global};
-use walker_state::{Control, Frame, State, next_in_body};
-
-// A text of so many bytes is too large for a value.
-const MOST_WEIGHT: usize = 1_048_576;
+use walker_state::{Control, Frame, State, enter_named, next_in_body, throw};
 
 pub(crate) fn give(
     alloc: Global,
@@ -98,33 +89,4 @@ pub(crate) fn give(
             Ok(Control::Return(value))
         }
     }
-}
-
-// A fault is thrown as it is, any other value by its text.
-#[tactic(auto, using(value_data::proofs::Views::value_views, walker_state::proofs::Stepping::steps))]
-fn throw(alloc: Global, value: Value) -> Result<Control, AllocError>
-    ensures size { IfOk result (λ control. control_size control < 2) }
-    ensures calls { IfOk result (λ control. (s : State) → control_calls control s ≡ s.calls) }
-    ensures around { IfOk result (λ control. (s : State) → control_around control s ≡ around s.transaction) }
-    ensures meaning { IfOk result (λ control. (s : State) → tree control s ≡ from_state (thrown_value (view value)) s) }
-{
-    match value {
-        Value::Fault { class, text } => Ok(Control::Fault(Fault { class, text })),
-        other => {
-            let mut text = String::new(alloc);
-            show_into(alloc, &other, &mut text)?;
-            Ok(Control::Fault(thrown_fault(alloc, text)?))
-        }
-    }
-}
-
-// The text has to be one that a value may have.
-#[tactic(auto, using(walker_state::proofs::Stepping::steps), unfolding(evaluation_rules::specs::SpecialForms::thrown_failure))]
-fn thrown_fault(alloc: Global, text: String) -> Result<Fault, AllocError>
-    ensures { IfOk result (λ fault. failure_of fault ≡ thrown_failure (string_bytes text)) }
-{
-    if text.len() < MOST_WEIGHT {
-        return thrown(alloc, text);
-    }
-    too_large(alloc)
 }

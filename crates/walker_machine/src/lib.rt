@@ -7,15 +7,11 @@
 mod alter;
 mod answers;
 mod calls;
-mod collect;
 mod evaluate;
 mod give;
-mod names;
-mod namespaces;
 mod position;
 mod rows;
 mod special;
 mod steps;
 
-pub use names::names_function;
 pub use steps::{Reached, Waiting, begin};

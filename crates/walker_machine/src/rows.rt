@@ -14,12 +14,11 @@ ghost use Rattle.evaluation_rules.specs.Places.{with_local};
 ghost use Rattle.evaluation_rules.specs.SpecialForms.{let_value, logic_value};
 
 use crate::calls::call;
-use crate::collect::collected;
 use repl_values::Value;
 use special_forms::{Binding, Forms, Logic};
 use std::alloc::{AllocError, Global};
 use std::sync::ArcStr;
-use walker_state::{Callee, Collection, Control, Frame, State, next_in_body};
+use walker_state::{Callee, Collection, Control, Frame, State, collected, next_in_body};
 
 // The next argument is evaluated, or the function is called.
 #[tactic(auto, using(crate::proofs::Evaluating::steps))]

@@ -17,8 +17,6 @@ ghost use Rattle.evaluation_rules.specs.Evaluation.{value_at};
 ghost use Rattle.evaluation_rules.specs.SpecialForms.{defined, function_defined, shape_value, special_value};
 ghost use Rattle.walker_state.specs.declared.frames.State.{State};
 
-use crate::names::space;
-use crate::namespaces::enter_namespace;
 use crate::rows::{next_binding, next_in_logic};
 use repl_asks::{Ask, Binding};
 use repl_faults::{Rule, bad_form, broken};
@@ -26,7 +24,7 @@ use repl_values::{Value, copy_text};
 use special_forms::{Forms, Function, Shape, SpecialForm, shape_of};
 use std::alloc::{AllocError, Global};
 use std::sync::{Arc, ArcStr};
-use walker_state::{Control, Frame, State, Wanted, begin_transaction, next_in_body};
+use walker_state::{Control, Frame, State, Wanted, begin_transaction, enter_namespace, next_in_body, space};
 
 pub(crate) fn evaluate_special(
     alloc: Global,

@@ -1,3 +1,4 @@
 pub mod Stepping
 pub mod Laters
 pub mod Noting
+pub mod Collecting

@@ -16,7 +16,7 @@ use Rattle.special_forms.specs.declared.forms.Forms.{Forms}
 use Rattle.tx_attempt.specs.Operations.{OperationData, intent_of}
 use Rattle.tx_attempt.specs.Seen.{operations_of}
 use Rattle.tx_attempt.specs.declared.attempt.Attempt.{Attempt}
-use Rattle.evaluation_rules.specs.Doing.{Kept, Doing, left, failed, retried, asking, printing, looking, noting, Part, done}
+use Rattle.evaluation_rules.specs.Doing.{Kept, Doing, left, failed, retried, asking, printing, looking, noting, Part, done, fails}
 use Rattle.evaluation_rules.specs.Tree.{attempted, ends, written}
 use Rattle.evaluation_rules.specs.Places.{PlaceData}
 use Rattle.evaluation_rules.specs.Rows.{last_of}
@@ -59,6 +59,10 @@ pub within-looking : (r : ℕ) (t : Running) (p : PlaceData) (behind : List Oper
 unfolding within
 within-looking r None p behind text = refl
 within-looking r (Some t) p behind text = refl
+
+-- a fault ends the evaluation, wherever it stands
+pub fails-at : (f : Failure) (s : State) → from_state (fails f) s ≡ ends (Err f) (string_bytes s.text) (kept_of s)
+fails-at f s = within-failed s.retries s.transaction (bottom s.frames.items (place_of s)) f (kept_of s) (string_bytes s.text)
 
 pub ruleset steps = (within-failed, within-asking, within-printing, within-looking)
 

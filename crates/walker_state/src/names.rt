@@ -1,5 +1,5 @@
 // What a symbol names before anybody is asked.
-#![tactic(auto, using(walker_state::proofs::Stepping::steps))]
+#![tactic(auto, using(crate::proofs::Stepping::steps))]
 
 ghost use Rattle.std.specs.Prelude.{◌≡◌, ◌||◌, option_map, is_some, IfOk};
 ghost use Rattle.std.specs.Arc.{arc_str_bytes};
@@ -19,7 +19,7 @@ use repl_faults::no_such_var;
 use repl_values::{Value, copy, copy_text};
 use std::alloc::{AllocError, Global};
 use std::sync::ArcStr;
-use walker_state::{Place, State};
+use crate::frames::{Place, State};
 
 const CORE: &str = "clojure.core";
 
@@ -30,8 +30,8 @@ pub fn names_function(name: &str) -> bool
     knows(name) || StoreFunction::named(name).is_some()
 }
 
-// What a symbol names, as far as that can be known without an ask.
-pub(crate) fn look_up(
+/// What a symbol names, as far as that can be known without an ask.
+pub fn look_up(
     alloc: Global,
     place: &Place,
     symbol: &ArcStr,
@@ -45,7 +45,7 @@ pub(crate) fn look_up(
 }
 
 // What follows the slash of a name in `clojure.core`.
-#[tactic(auto, using(walker_state::proofs::Stepping::steps), unfolding(evaluation_rules::specs::Naming::core_name))]
+#[tactic(auto, using(crate::proofs::Stepping::steps), unfolding(evaluation_rules::specs::Naming::core_name))]
 fn core_name(symbol: &str) -> Option<&str>
     ensures { option_map (λ name. name.now) result ≡ core_name symbol.now }
 {
@@ -85,9 +85,9 @@ fn local_resolution(value: Option<&Value>) -> Result<Option<Resolution>, AllocEr
     }
 }
 
-// The namespace in which a symbol is resolved and a name defined: that of the function whose body
-// the form is in, else the evaluation's own.
-pub(crate) fn space(state: &State) -> Result<ArcStr, AllocError>
+/// The namespace in which a symbol is resolved and a name defined: that of the function whose body
+/// the form is in, else the evaluation's own.
+pub fn space(state: &State) -> Result<ArcStr, AllocError>
     ensures { IfOk result (λ name. arc_str_bytes name ≡ space_of (place_of state.now) (kept_of state.now)) }
 {
     match &state.place.home {
@@ -96,7 +96,8 @@ pub(crate) fn space(state: &State) -> Result<ArcStr, AllocError>
     }
 }
 
-pub(crate) fn resolve(state: &State, symbol: &ArcStr) -> Result<Ask, AllocError>
+/// What a symbol names is asked for, in the namespace that counts. It fails only for want of memory.
+pub fn resolve(state: &State, symbol: &ArcStr) -> Result<Ask, AllocError>
     ensures { IfOk result (λ ask. ask_view ask ≡ resolve (space_of (place_of state.now) (kept_of state.now)) (arc_str_bytes symbol.now)) }
 {
     Ok(Ask::Resolve {

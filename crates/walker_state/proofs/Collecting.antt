@@ -1,4 +1,4 @@
--- Keys of pairs, and the first that stands twice.
+-- Vectors and maps of values: their limits, the keys of pairs, and the first that stands twice.
 use Rattle.std.proofs.Common.{◌≡◌, ℕ, zero, suc, ◌<◌, Bool, true, false, if◌then◌else◌, List, [], ◌∷◌, Option, Some, None, Err, option_map, get_or, length, refl, sym, subst, ap, ◌∙◌, arith}
 use Rattle.std.specs.Prelude.{string_bytes, zip}
 use Rattle.value_data.specs.Datum.{Datum, Items, no_items, item, Pairs, map}
@@ -17,7 +17,19 @@ use Rattle.evaluation_rules.specs.Tree.{ends}
 use Rattle.walker_state.specs.Machine.{kept_of, from_state}
 use Rattle.evaluation_rules.specs.Collections.{keys_in, values_in, item_at, within_limits, map_value}
 use Rattle.walker_state.specs.declared.frames.State.{State}
-use Rattle.walker_machine.proofs.Evaluating.{fails-at}
+use Rattle.walker_state.proofs.Stepping.{fails-at}
+
+-- what holds wherever the machine stands holds where it stands
+pub if_ok-part : {E : Type 0} (r : Result Control E) (p q : Part Datum) → p ≡ q
+    → IfOk r (λ control. (s : State) → tree control s ≡ from_state p s) → IfOk r (λ control. (s : State) → tree control s ≡ from_state q s)
+if_ok-part (Ok control) p q same h = λ s. h s ∙ ap (λ (part : Part Datum). from_state part s) same
+if_ok-part (Err e) p q same h = tt
+
+-- values that are too large
+pub within_limits-misfits : (d : Datum) (told : Failure) (s : State) → (nat_le (weight d) most_weight && nat_le (nesting d) most_nesting) ≡ false
+    → told ≡ too_large → ends (Err told) (string_bytes s.text) (kept_of s) ≡ from_state (within_limits d) s
+unfolding limited
+within_limits-misfits d told s misfits is = rw (misfits, is) (sym (fails-at too_large s))
 
 -- the keys of keys and values that stand by turns
 pub keys_of-turns : (ds : List Datum) → keys_of (pairs_of (zip (keys_in ds) (values_in ds))) ≡ items_of (keys_in ds)

@@ -1,8 +1,8 @@
 use Rattle.std.proofs.Common.{◌<◌, length, sym, arith}
 use Rattle.special_forms.specs.Seen.{views}
-use Rattle.walker_machine.proofs.Evaluating.{if_ok-part}
-use Rattle.walker_machine.proofs.Keys.{made-of, repeats-of, map_value-made, repeat-within-keys, map_value-repeated}
-use Rattle.walker_machine.proofs.collect.map_of.Goals as goal
+use Rattle.walker_state.proofs.Collecting.{if_ok-part}
+use Rattle.walker_state.proofs.Collecting.{made-of, repeats-of, map_value-made, repeat-within-keys, map_value-repeated}
+use Rattle.walker_state.proofs.collect.map_of.Goals as goal
 
 pub returns-in-Made-clause-meaning : goal.returns-in-Made-clause-meaning
 returns-in-Made-clause-meaning c =

@@ -1,5 +1,5 @@
 // Vectors and maps of values that were evaluated.
-#![tactic(auto, using(walker_state::proofs::Stepping::steps))]
+#![tactic(auto, using(crate::proofs::Stepping::steps))]
 
 ghost use Rattle.std.specs.Prelude.{◌≡◌, ◌<◌, map, zip, IfOk};
 ghost use Rattle.value_data.specs.View.{view, pair_view};
@@ -13,15 +13,15 @@ use repl_faults::{duplicate_key, too_large};
 use repl_values::{Built, Sequence, Table, Value, copy, nesting, weight};
 use std::alloc::{AllocError, Global};
 use std::collections::VecDeque;
-use walker_state::{Collection, Control};
+use crate::frames::{Collection, Control};
 
 // The greatest weight and the deepest nesting of a value that is made.
 const MAX_WEIGHT: u64 = 1_048_576;
 
 const MAX_NESTING: u64 = 128;
 
-// The collection, or the fault of a key that stands twice or of what is too large.
-pub(crate) fn collected(
+/// The collection, or the fault of a key that stands twice or of what is too large.
+pub fn collected(
     alloc: Global,
     kind: Collection,
     values: Vec<Value>,
@@ -40,7 +40,7 @@ pub(crate) fn collected(
     }
 }
 
-#[tactic(auto, using(walker_state::proofs::Stepping::steps), unfolding(core_functions::specs::Outcome::limited))]
+#[tactic(auto, using(crate::proofs::Stepping::steps), unfolding(core_functions::specs::Outcome::limited))]
 fn within_limits(alloc: Global, value: Value) -> Result<Control, AllocError>
     ensures size { IfOk result (λ control. control_size control < 2) }
     ensures calls { IfOk result (λ control. (s : State) → control_calls control s ≡ s.calls) }

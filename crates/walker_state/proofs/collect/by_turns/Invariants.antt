@@ -3,7 +3,7 @@ use Rattle.std.specs.Prelude.{zip}
 use Rattle.value_data.specs.View.{pair_view}
 use Rattle.evaluation_rules.specs.Collections.{keys_in, values_in}
 use Rattle.special_forms.specs.Seen.{views}
-use Rattle.walker_machine.proofs.collect.by_turns.Given as goal
+use Rattle.walker_state.proofs.collect.by_turns.Given as goal
 
 abbrev pub invariant-loop-key : goal.invariant-loop-key
 invariant-loop-key l = record {

@@ -1,7 +1,7 @@
 use Rattle.std.proofs.Common.{rules}
 use Rattle.value_data.specs.View.{view}
-use Rattle.walker_machine.proofs.Evaluating.{within_limits-misfits}
-use Rattle.walker_machine.proofs.collect.within_limits.Goals as goal
+use Rattle.walker_state.proofs.Collecting.{within_limits-misfits}
+use Rattle.walker_state.proofs.collect.within_limits.Goals as goal
 
 pub returns-then-weight-gt-MAX_WEIGHT-clause-meaning : goal.returns-then-weight-gt-MAX_WEIGHT-clause-meaning
 returns-then-weight-gt-MAX_WEIGHT-clause-meaning c = λ s.

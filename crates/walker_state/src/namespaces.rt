@@ -1,5 +1,5 @@
 // The namespace in which an evaluation goes on.
-#![tactic(auto, using(walker_state::proofs::Stepping::steps))]
+#![tactic(auto, using(crate::proofs::Stepping::steps))]
 
 ghost use Rattle.std.specs.Prelude.{◌≡◌, ◌<◌, IfOk};
 ghost use Rattle.std.specs.Arc.{arc_str_bytes};
@@ -16,11 +16,11 @@ use repl_values::{Value, copy_text};
 use special_forms::SpecialForm;
 use std::alloc::{AllocError, Global};
 use std::sync::ArcStr;
-use walker_state::{Control, State, Wanted};
+use crate::frames::{Control, State, Wanted};
 
-// The namespace is asked for, unless it is the same for all.
-#[tactic(auto, using(walker_state::proofs::Stepping::steps), unfolding(evaluation_rules::specs::SpecialForms::entered))]
-pub(crate) fn enter_namespace(alloc: Global, name: ArcStr) -> Result<Control, AllocError>
+/// The namespace is asked for, unless it is the same for all.
+#[tactic(auto, using(crate::proofs::Stepping::steps), unfolding(evaluation_rules::specs::SpecialForms::entered))]
+pub fn enter_namespace(alloc: Global, name: ArcStr) -> Result<Control, AllocError>
     ensures size { IfOk result (λ control. control_size control < 3) }
     ensures calls { IfOk result (λ control. (s : State) → control_calls control s ≡ s.calls) }
     ensures around { IfOk result (λ control. (s : State) → control_around control s ≡ around s.transaction) }
@@ -35,9 +35,9 @@ pub(crate) fn enter_namespace(alloc: Global, name: ArcStr) -> Result<Control, Al
     Ok(Control::Ask(ask, Wanted::Namespace(name)))
 }
 
-// `in-ns` takes the name that a symbol is.
-#[tactic(auto, using(value_data::proofs::Views::value_views, walker_state::proofs::Stepping::steps))]
-pub(crate) fn enter_named(alloc: Global, value: Value) -> Result<Control, AllocError>
+/// `in-ns` takes the name that a symbol is.
+#[tactic(auto, using(value_data::proofs::Views::value_views, crate::proofs::Stepping::steps))]
+pub fn enter_named(alloc: Global, value: Value) -> Result<Control, AllocError>
     ensures size { IfOk result (λ control. control_size control < 3) }
     ensures calls { IfOk result (λ control. (s : State) → control_calls control s ≡ s.calls) }
     ensures around { IfOk result (λ control. (s : State) → control_around control s ≡ around s.transaction) }
@@ -53,9 +53,9 @@ pub(crate) fn enter_named(alloc: Global, value: Value) -> Result<Control, AllocE
     }
 }
 
-// The namespace is there: what follows is evaluated in it.
-#[tactic(auto, using(value_data::proofs::Views::value_views, walker_state::proofs::Stepping::steps))]
-pub(crate) fn go_on_in(state: &mut State, name: ArcStr) -> Control
+/// The namespace is there: what follows is evaluated in it.
+#[tactic(auto, using(value_data::proofs::Views::value_views, crate::proofs::Stepping::steps))]
+pub fn go_on_in(state: &mut State, name: ArcStr) -> Control
     ensures size { control_size result ≡ 1 }
     ensures calls { control_calls result state.new ≡ state.old.calls }
     ensures around { control_around result state.new ≡ around state.old.transaction }
