@@ -11,18 +11,23 @@ use std::rt::Env;
 use std::{env, io};
 use tenant_runner::{RETRIES, Runner, STEPS};
 
+const MOST_RETRIES: u32 = 1_000_000;
+
 // What the command line asks for.
 #[derive(Clone, Copy)]
 enum Chosen {
-    // One stream, with ids of sessions under this seed.
-    Pipe { seed: [u8; 32] },
+    // One stream, with ids of sessions under this seed and at most so many attempts of a transaction.
+    Pipe { seed: [u8; 32], retries: u32 },
     BadOptions,
     NoMemory,
 }
 
 fn command_line<'a>(alloc: Global) -> Result<Command<'a>, AllocError> {
     let seed = Arg::new(alloc, "seed").long("seed").action(ArgAction::Set);
-    let pipe = Command::new(alloc, "pipe").arg(seed)?;
+    let retries = Arg::new(alloc, "retries")
+        .long("retries")
+        .action(ArgAction::Set);
+    let pipe = Command::new(alloc, "pipe").arg(seed)?.arg(retries)?;
     Command::new(alloc, "nrepl_server")
         .subcommand_required(true)
         .subcommand(pipe)
@@ -44,14 +49,32 @@ fn choice_of(alloc: Global, words: &[String]) -> Chosen {
     }
 }
 
-// A seed is 64 hexadecimal digits, in either case; it is all zeros where none is given.
 fn pipe_chosen(pipe: &ArgMatches<'_>) -> Chosen {
-    let Some(text) = pipe.get_str("seed") else {
-        return Chosen::Pipe { seed: [0; 32] };
+    let Some(seed) = seed_chosen(pipe) else {
+        return Chosen::BadOptions;
     };
-    match <[u8; 32] as FromHex>::from_hex(text) {
-        Ok(seed) => Chosen::Pipe { seed },
-        Err(_) => Chosen::BadOptions,
+    let Some(retries) = retries_chosen(pipe) else {
+        return Chosen::BadOptions;
+    };
+    Chosen::Pipe { seed, retries }
+}
+
+// A seed is 64 hexadecimal digits, in either case; it is all zeros where none is given.
+fn seed_chosen(pipe: &ArgMatches<'_>) -> Option<[u8; 32]> {
+    let Some(text) = pipe.get_str("seed") else {
+        return Some([0; 32]);
+    };
+    <[u8; 32] as FromHex>::from_hex(text).ok()
+}
+
+// How many attempts a transaction has is a number from 1 to 1,000,000.
+fn retries_chosen(pipe: &ArgMatches<'_>) -> Option<u32> {
+    let Some(text) = pipe.get_str("retries") else {
+        return Some(RETRIES);
+    };
+    match text.parse::<u32>() {
+        Ok(retries) if (1..=MOST_RETRIES).contains(&retries) => Some(retries),
+        _ => None,
     }
 }
 
@@ -76,10 +99,10 @@ fn main(rt: HostRuntime) -> ExitCode {
         Err(chosen) => chosen,
     };
     let status = match chosen {
-        Chosen::Pipe { seed } => {
+        Chosen::Pipe { seed, retries } => {
             let mut reader = rt.reader();
             let mut writer = rt.stdout();
-            match Runner::new(alloc, seed, STEPS, RETRIES) {
+            match Runner::new(alloc, seed, STEPS, retries) {
                 Ok(mut runner) => {
                     pipe_command(alloc, &mut runner, &mut reader, &mut writer, &mut errors)
                 }
