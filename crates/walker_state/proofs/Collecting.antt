@@ -1,6 +1,9 @@
 -- Vectors and maps of values: their limits, the keys of pairs, and the first that stands twice.
-use Rattle.std.proofs.Common.{◌≡◌, ℕ, zero, suc, ◌<◌, Bool, true, false, if◌then◌else◌, List, [], ◌∷◌, Option, Some, None, Err, option_map, get_or, length, refl, sym, subst, ap, ◌∙◌, arith}
-use Rattle.std.specs.Prelude.{string_bytes, zip}
+use Rattle.std.proofs.Common.{◌≡◌, ℕ, zero, suc, ◌<◌, Bool, true, false, if◌then◌else◌, List, [], ◌∷◌, Option, Some, None, Result, Ok, Err, IfOk, option_map, get_or, length, refl, sym, subst, ap, ◌∙◌, arith}
+use Rattle.std.specs.Prelude.{string_bytes, zip, ◌&&◌, nat_le}
+use Rattle.value_data.specs.Measures.{weight, nesting}
+use Rattle.core_texts.specs.Limits.{most_weight}
+use Rattle.core_functions.specs.Outcome.{limited, most_nesting}
 use Rattle.value_data.specs.Datum.{Datum, Items, no_items, item, Pairs, map}
 use Rattle.value_data.specs.Keyed.{keys_of}
 use Rattle.value_data.specs.Repeats.{is_one_of, repeat_behind, first_repeat}
@@ -11,10 +14,11 @@ use Rattle.value_data.specs.Held.{TableData}
 use Rattle.value_data.specs.declared.building.Built.{Built}
 use Rattle.value_data.specs.declared.value.Value.{Value}
 use Rattle.special_forms.specs.Seen.{views}
-use Rattle.repl_faults.specs.Failure.{Failure, duplicate_key}
+use Rattle.repl_faults.specs.Failure.{Failure, duplicate_key, too_large}
 use Rattle.evaluation_rules.specs.Doing.{Part, fails}
 use Rattle.evaluation_rules.specs.Tree.{ends}
-use Rattle.walker_state.specs.Machine.{kept_of, from_state}
+use Rattle.walker_state.specs.Machine.{kept_of, from_state, tree}
+use Rattle.walker_state.specs.declared.frames.Control.{Control}
 use Rattle.evaluation_rules.specs.Collections.{keys_in, values_in, item_at, within_limits, map_value}
 use Rattle.walker_state.specs.declared.frames.State.{State}
 use Rattle.walker_state.proofs.Stepping.{fails-at}

@@ -1,5 +1,5 @@
 -- Where an evaluation stands after an answer.
-use Rattle.std.proofs.Common.{◌≡◌, ◌≢◌, ℕ, ◌+◌, ◌-◌, ◌*◌, ◌<◌, ◌≤◌, ◌⊎◌, Bool, true, false, List, refl, sym, subst, ap, ◌∙◌, inl, inr, arith, max, Option, Some, None}
+use Rattle.std.proofs.Common.{◌≡◌, ℕ, ◌+◌, ◌-◌, ◌*◌, ◌<◌, ◌≤◌, ◌⊎◌, Bool, true, false, refl, sym, subst, ap, ◌∙◌, inl, inr, arith, max, Option, Some}
 use Rattle.std.specs.Global.{Global}
 use Rattle.std.specs.Prelude.{Box}
 use Rattle.std.proofs.Common.{Result, Ok, Err, IfOk}
@@ -7,7 +7,7 @@ use Rattle.value_data.specs.declared.value.RefName.{RefName}
 use Rattle.value_data.specs.declared.value.Value.{Value}
 use Rattle.walker_state.specs.declared.frames.Wanted.{Wanted}
 use Rattle.walker_state.specs.Size.{Around, no_attempt, around, begun_around, attempt_around, frames_size}
-use Rattle.walker_state.specs.Size.{control_position, control_around, control_calls, wanted_around, wanted_calls, wanted_position}
+use Rattle.walker_state.specs.Size.{control_position, control_around, control_calls, wanted_position}
 use Rattle.walker_state.specs.Size.{Position, IsLess, IsLater, IsOn, IsRetried}
 use Rattle.walker_state.specs.declared.frames.Transaction.{Transaction}
 use Rattle.walker_state.specs.declared.frames.State.{State}

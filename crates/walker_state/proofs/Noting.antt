@@ -1,7 +1,7 @@
 -- Reads and sets of refs, where a transaction runs and where none does.
 use Rattle.std.specs.Global.{Global}
-use Rattle.std.specs.Prelude.{Box, string_bytes}
-use Rattle.std.proofs.Common.{◌≡◌, ℕ, List, [], ◌∷◌, ◌++◌, Option, Some, None, refl}
+use Rattle.std.specs.Prelude.{Box}
+use Rattle.std.proofs.Common.{◌≡◌, [], ◌∷◌, ◌++◌, Some, None, refl}
 use Rattle.repl_asks.specs.Exchange.{read}
 use Rattle.repl_asks.specs.View.{name_view}
 use Rattle.repl_jobs.specs.Tree.{asks}

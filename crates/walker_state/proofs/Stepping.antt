@@ -2,8 +2,8 @@
 use Rattle.std.specs.Global.{Global}
 use Rattle.std.specs.Prelude.{Box, string_bytes, nat_lt}
 use Rattle.std.specs.Arc.{arc_str_bytes}
-use Rattle.std.proofs.Common.{true, false, ◌≡◌, ◌≢◌, ◌≤◌, ◌-◌, ◌+◌, ℕ, zero, suc, List, [], ◌∷◌, ◌++◌, length, Option, Some, None}
-use Rattle.std.proofs.Common.{Result, Ok, Err, IfOk, ap, ◌∙◌, if◌then◌else◌, refl, sym, subst, arith}
+use Rattle.std.proofs.Common.{true, false, ◌≡◌, ◌≢◌, ◌-◌, ◌+◌, ℕ, zero, suc, List, [], ◌++◌, length, Option, Some, None}
+use Rattle.std.proofs.Common.{Result, Ok, Err, IfOk, ap, ◌∙◌, if◌then◌else◌, refl, sym, arith}
 use Rattle.value_data.specs.Datum.{Datum, nil}
 use Rattle.repl_faults.specs.Failure.{Failure, broken, output_too_long}
 use Rattle.repl_faults.specs.declared.rule.Rule.{Rule}
@@ -16,7 +16,7 @@ use Rattle.special_forms.specs.declared.forms.Forms.{Forms}
 use Rattle.tx_attempt.specs.Operations.{OperationData, intent_of}
 use Rattle.tx_attempt.specs.Seen.{operations_of}
 use Rattle.tx_attempt.specs.declared.attempt.Attempt.{Attempt}
-use Rattle.evaluation_rules.specs.Doing.{Kept, Doing, left, failed, retried, asking, printing, looking, noting, Part, done, fails}
+use Rattle.evaluation_rules.specs.Doing.{Kept, Doing, left, failed, retried, asking, printing, looking, Part, done, fails}
 use Rattle.evaluation_rules.specs.Tree.{attempted, ends, written}
 use Rattle.evaluation_rules.specs.Places.{PlaceData}
 use Rattle.evaluation_rules.specs.Rows.{last_of}

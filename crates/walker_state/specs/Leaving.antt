@@ -1,5 +1,5 @@
 -- What is left of an evaluation behind its last frame.
-use Rattle.std.specs.Prelude.{◌≡◌, ℕ, ◌+◌, ◌≤◌, Ok, string_bytes, ⊤}
+use Rattle.std.specs.Prelude.{◌≡◌, ◌+◌, ◌≤◌, Ok, string_bytes, ⊤}
 use Rattle.value_data.specs.View.{view}
 use Rattle.repl_asks.specs.View.{ask_view}
 use Rattle.repl_jobs.specs.Tree.{Tree, asks}

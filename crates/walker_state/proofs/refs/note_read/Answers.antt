@@ -1,4 +1,4 @@
-use Rattle.std.proofs.Common.{sym, ap, ◌∙◌, List, ◌++◌, ◌∷◌, []}
+use Rattle.std.proofs.Common.{sym, ap, ◌∙◌, ◌++◌, ◌∷◌, []}
 use Rattle.value_data.specs.Datum.{Datum}
 use Rattle.value_data.specs.View.{view}
 use Rattle.repl_asks.specs.View.{name_view}

@@ -1,4 +1,3 @@
-use Rattle.std.proofs.Common.{sym}
 use Rattle.walker_state.proofs.Noting.{asked-outside}
 use Rattle.walker_state.proofs.refs.read.Goals as goal
 
