@@ -51,6 +51,7 @@ turn_less new old runs ran later no_later no_fewer = by_turn (within new old run
         → (new.transaction.turn ≡ old.transaction.turn) × (new.calls ≡ old.calls) × (new.size < old.size)
     by_less turn (inl fewer) = absurd (omega arith)
     by_less turn (inr smaller) = (omega (arith, turn), omega (arith, smaller.0), smaller.1)
+
     by_turn : LaterTurn new old → (new.transaction.turn ≡ old.transaction.turn) × (new.calls ≡ old.calls) × (new.size < old.size)
     by_turn (inl turn) = absurd (omega arith)
     by_turn (inr less) = by_less less.0 less.1

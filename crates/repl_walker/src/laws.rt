@@ -25,5 +25,5 @@ pub fn a_transaction_is_its_attempts()
         → (exchange : Exchanged) → (trace : List Exchanged) → (end : Tree)
         → Leads (written text (attempts (suc left) body next last)) (exchange ∷ trace) end
         → (exchange.ask ≡ begin) × (IsUnderWay (after_body (attempts left body next) next) end
-            ⊎ IsDivided (after_body (attempts left body next) next) text [] body trace end) }
+        ⊎ IsDivided (after_body (attempts left body next) next) text [] body trace end) }
 {}

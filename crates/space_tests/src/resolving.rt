@@ -17,7 +17,11 @@ fn nothing_is_bound_at_the_start(rt: HostRuntime) -> Result<(), Fail> {
         (USER, "*", "core *"),
         (USER, "deref", "store deref"),
         (USER, "ref-set", "store ref-set"),
-        (USER, "dosync", "Unable to resolve symbol: dosync in this context"),
+        (
+            USER,
+            "dosync",
+            "Unable to resolve symbol: dosync in this context",
+        ),
         (USER, "*1", "latest value"),
         (USER, "*2", "value before the latest"),
         (USER, "*3", "value before that"),

@@ -24,11 +24,11 @@ ghost use Rattle.repl_walker.specs.declared.waiting.Walk.{Walk};
 ghost use Rattle.repl_walker.specs.declared.ending.Ending as endings;
 
 use crate::walks::Walks;
+use ref_history::ListHistory;
+use ref_table::RefTable;
 use repl_asks::Answer;
 use repl_walker::{Progress, start};
 use server_rules::{Actor, Refusal};
-use ref_history::ListHistory;
-use ref_table::RefTable;
 use std::alloc::{AllocError, Global};
 use tenant_actors::Run;
 use tenant_world::{Asked, Ending, Tenant};

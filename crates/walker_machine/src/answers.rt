@@ -25,7 +25,9 @@ use repl_values::{RefName, Value};
 use special_forms::Forms;
 use std::alloc::{AllocError, Global};
 use std::sync::ArcStr;
-use walker_state::{Callee, Control, State, SymbolUse, Wanted, begun, go_on_in, note_read, retry, settle};
+use walker_state::{
+    Callee, Control, State, SymbolUse, Wanted, begun, go_on_in, note_read, retry, settle,
+};
 
 pub(crate) fn take_answer(
     alloc: Global,

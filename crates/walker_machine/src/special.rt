@@ -24,7 +24,9 @@ use repl_values::{Value, copy_text};
 use special_forms::{Forms, Function, Shape, SpecialForm, shape_of};
 use std::alloc::{AllocError, Global};
 use std::sync::{Arc, ArcStr};
-use walker_state::{Control, Frame, State, Wanted, begin_transaction, enter_namespace, next_in_body, space};
+use walker_state::{
+    Control, Frame, State, Wanted, begin_transaction, enter_namespace, next_in_body, space,
+};
 
 pub(crate) fn evaluate_special(
     alloc: Global,
@@ -126,7 +128,7 @@ fn evaluate_for(
     ensures around { IfOk result (λ control. control_around control state.new ≡ around state.old.transaction) }
     ensures meaning { IfOk result (λ control. tree control state.new
         ≡ whole_at state.old (bottom (frame ∷ state.old.frames.items) (place_of state.old))
-            (value_at room (place_of state.old) (view form) (frames_next (frame ∷ state.old.frames.items) (place_of state.old)) (kept_of state.old))) }
+        (value_at room (place_of state.old) (view form) (frames_next (frame ∷ state.old.frames.items) (place_of state.old)) (kept_of state.old))) }
 {
     state.frames.push_front(frame)?;
     Ok(Control::Evaluate(form, room))

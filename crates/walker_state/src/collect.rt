@@ -9,11 +9,11 @@ ghost use Rattle.special_forms.specs.Seen.{views};
 ghost use Rattle.walker_state.specs.Size.{control_size, control_calls, control_around, around};
 ghost use Rattle.evaluation_rules.specs.Collections.{keys_in, map_value, values_in, within_limits};
 
+use crate::frames::{Collection, Control};
 use repl_faults::{duplicate_key, too_large};
 use repl_values::{Built, Sequence, Table, Value, copy, nesting, weight};
 use std::alloc::{AllocError, Global};
 use std::collections::VecDeque;
-use crate::frames::{Collection, Control};
 
 // The greatest weight and the deepest nesting of a value that is made.
 const MAX_WEIGHT: u64 = 1_048_576;
@@ -21,11 +21,7 @@ const MAX_WEIGHT: u64 = 1_048_576;
 const MAX_NESTING: u64 = 128;
 
 /// The collection, or the fault of a key that stands twice or of what is too large.
-pub fn collected(
-    alloc: Global,
-    kind: Collection,
-    values: Vec<Value>,
-) -> Result<Control, AllocError>
+pub fn collected(alloc: Global, kind: Collection, values: Vec<Value>) -> Result<Control, AllocError>
     ensures size { IfOk result (λ control. control_size control < 2) }
     ensures calls { IfOk result (λ control. (s : State) → control_calls control s ≡ s.calls) }
     ensures around { IfOk result (λ control. (s : State) → control_around control s ≡ around s.transaction) }

@@ -12,6 +12,7 @@ ghost use Rattle.walker_state.specs.Machine.{place_view, place_of, kept_of, know
 ghost use Rattle.evaluation_rules.specs.Naming.{core_name, core_resolution, store_resolution, local_resolution, known};
 ghost use Rattle.evaluation_rules.specs.Places.{space_of};
 
+use crate::frames::{Place, State};
 use core_functions::{CoreFunction, knows};
 use function_names::StoreFunction;
 use repl_asks::{Ask, NamedFunction, Resolution};
@@ -19,7 +20,6 @@ use repl_faults::no_such_var;
 use repl_values::{Value, copy, copy_text};
 use std::alloc::{AllocError, Global};
 use std::sync::ArcStr;
-use crate::frames::{Place, State};
 
 const CORE: &str = "clojure.core";
 

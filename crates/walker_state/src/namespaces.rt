@@ -10,13 +10,13 @@ ghost use Rattle.walker_state.specs.Size.{control_size, control_calls, control_a
 ghost use Rattle.evaluation_rules.specs.SpecialForms.{entered, entered_by};
 ghost use Rattle.walker_state.specs.declared.frames.State.{State};
 
+use crate::frames::{Control, State, Wanted};
 use repl_asks::{Ask, is_fixed};
 use repl_faults::{namespace_is_fixed, wrong_argument};
 use repl_values::{Value, copy_text};
 use special_forms::SpecialForm;
 use std::alloc::{AllocError, Global};
 use std::sync::ArcStr;
-use crate::frames::{Control, State, Wanted};
 
 /// The namespace is asked for, unless it is the same for all.
 #[tactic(auto, using(crate::proofs::Stepping::steps), unfolding(evaluation_rules::specs::SpecialForms::entered))]

@@ -6,9 +6,11 @@ use Rattle.repl_walker.proofs.run.one_further.Goals as goal
 
 pub returns-in-Ok-clause-meaning : goal.returns-in-Ok-clause-meaning
 returns-in-Ok-clause-meaning g c =
-    let w = c.args.walk in
-    (c.in-Ok.ensures.job, recorded-answered _ _ _ _ _ _ _ _ (ask_view w.ask) (answer_view c.in_ok-answer.answer) (behind w) (recorded-nothing _ _ _)
-    c.in_ok-answer.ensures.grows c.in-Ok.ensures.trace (sym c.in-Ok.ensures.meaning))
+    let w = c.args.walk in (
+      c.in-Ok.ensures.job,
+      recorded-answered _ _ _ _ _ _ _ _ (ask_view w.ask) (answer_view c.in_ok-answer.answer) (behind w) (recorded-nothing _ _ _)
+          c.in_ok-answer.ensures.grows c.in-Ok.ensures.trace (sym c.in-Ok.ensures.meaning),
+    )
 
 pub returns-in-Err-clause-left_at : goal.returns-in-Err-clause-left_at
 returns-in-Err-clause-left_at g c =

@@ -34,6 +34,6 @@ returns-in_ok-push_front-in-None-clause-meaning c =
     let target = form-taken _ _ _ _ _ c.in_ok-target.ensures c.in-Some.is in
     let none = none-taken _ _ _ c.in_ok-function.ensures c.in-None.is in
     let begun : List Value → List Datum → Datum → Kept → Doing = λ vs ds v kept.
-      call_behind c.args.room (place_of s) (named_callee (store_function StoreFunction.Alter)) (views vs ++ v ∷ []) ds (next_of s) kept in
+    call_behind c.args.room (place_of s) (named_callee (store_function StoreFunction.Alter)) (views vs ++ v ∷ []) ds (next_of s) kept in
     alter-alone s (record s { frames = c.push_front-in-None.new.self }) c.args.room (view c.in-Some.target) (forms_view c.args.forms)
     (rw pushed (ap (λ (vs : List Value). begun vs (forms_view c.take_first-2.new.self)) c.new-values.ensures.items ∙ ap (begun []) none.1), rw pushed refl, refl, refl, refl, refl, refl) (target ∙ ap (λ (ds : List Datum). view c.in-Some.target ∷ ds) none.0)

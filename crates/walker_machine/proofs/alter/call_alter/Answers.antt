@@ -22,7 +22,7 @@ returns-in-Refused-clause-meaning c =
     let taken = c.remove-target in
     let given = first-removed vs.items taken.new.self.items taken.result vs.len (omega (arith, vs.ok)) c.if-is_empty.ensures taken.ensures.value taken.ensures.items in
     let told = altered-told _ (Err (failure_of c.in-Refused.fault)) s.transaction c.is_some.result (view taken.result) c.in_ok-fault-2.ensures c.is_some.ensures
-      (ap altered_view c.in-Refused.is) in
+    (ap altered_view c.in-Refused.is) in
     alter_call-refused (value_at c.args.room) (named_view c.args.function) (view taken.result) (views taken.new.self.items) vs.items _ s given told
 
 pub returns-in_ok-push_front-in-Ref-clause-meaning : goal.returns-in_ok-push_front-in-Ref-clause-meaning
@@ -33,6 +33,6 @@ returns-in_ok-push_front-in-Ref-clause-meaning c =
     let pushed = c.in_ok-push_front-in-Ref.ensures.items in
     let given = first-removed vs.items taken.new.self.items taken.result vs.len (omega (arith, vs.ok)) c.if-is_empty.ensures taken.ensures.value taken.ensures.items in
     let told = altered-told _ (Ok (name_view c.in-Ref.name)) s.transaction c.is_some.result (view taken.result) c.in_ok-fault-2.ensures c.is_some.ensures
-      (ap altered_view c.in-Ref.is) in
+    (ap altered_view c.in-Ref.is) in
     if_ok-turned _ _ (alter_call-reads s (record s { frames = c.push_front.new.self }) (named_view c.args.function) (name_view c.in-Ref.name) c.args.room (view taken.result)
     (views taken.new.self.items) vs.items (rw pushed refl, rw pushed refl, refl, refl, refl, refl, refl) given told) c.read.ensures.meaning
