@@ -5,3 +5,5 @@
 mod lists;
 #[cfg(test)]
 mod scripts;
+#[cfg(test)]
+mod transactions;
