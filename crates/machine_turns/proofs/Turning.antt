@@ -7,12 +7,12 @@ use Rattle.server_rules.specs.Ground.{Ground}
 use Rattle.server_rules.specs.Plan.{StepAnswer}
 use Rattle.server_rules.specs.Turns as rules
 use Rattle.server_rules.specs.Turns.{Turn, whose, stepped, next, bytes_in, serve}
-use Rattle.server_rules.specs.World.{World, Stepped, accepted, refused, world_or}
+use Rattle.server_rules.specs.World.{World, accepted, refused, world_or}
 use Rattle.server_rules.specs.declared.refusal.Refusal.{Refusal}
-use Rattle.repl_core.specs.Driving.{behind, RefusedData, with_refusal, refusals}
+use Rattle.repl_core.specs.Driving.{behind, with_refusal, refusals}
 use Rattle.repl_core.proofs.Driving.{behind-more, serve-one, refusals-one}
 use Rattle.machine_turns.specs.Driver.{Stands, Turned, Halted}
-use Rattle.machine_turns.specs.Driven.{IsDriven, Drives, Takes}
+use Rattle.machine_turns.specs.Driven.{Drives, Takes}
 use Rattle.machine_turns.specs.Turns.{drained_of, refused_in}
 use Rattle.machine_turns.specs.declared.driver.Driver.{Driver}
 use Rattle.machine_turns.specs.declared.outputs.Outputs.{Outputs}

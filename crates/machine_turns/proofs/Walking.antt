@@ -1,12 +1,11 @@
 -- The evaluations of all forms that run, through steps by which none goes on.
-use Rattle.std.proofs.Common.{◌≡◌, ◌≢◌, ℕ, ◌==◌, List, [], ◌∷◌, Bool, true, false}
+use Rattle.std.proofs.Common.{◌≡◌, ◌≢◌, ℕ, ◌==◌, ◌∷◌, Bool, true, false}
 use Rattle.std.proofs.Common.{Option, Some, None, option_and_then, refl, sym, ap, subst, ◌∙◌}
 use Rattle.std.proofs.Common.{if◌then◌else◌, nat_le}
 use Rattle.std.proofs.lemmas.Bool.{eq-eqb}
 use Rattle.server_rules.specs.Ground.{Ground}
 use Rattle.server_rules.specs.Numbered.{entry, found}
 use Rattle.server_rules.specs.Plan.{Deed, StepAnswer, tenant_opened}
-use Rattle.server_rules.specs.Request.{Run}
 use Rattle.server_rules.specs.Tenant.{unoccupied, seat_of, opened_quiet}
 use Rattle.server_rules.specs.Turns.{whose_step}
 use Rattle.server_rules.specs.World as worlds
@@ -18,7 +17,7 @@ use Rattle.server_rules.proofs.Steps.{step-other}
 use Rattle.tenant_actors.proofs.EntryLaws.{found_first}
 use Rattle.tenant_walks.specs.declared.walks.Walks.{Walks}
 use Rattle.tenant_world.specs.Running.{running_of, running_in}
-use Rattle.repl_core.specs.Going.{AreWalkedIn, KeepsForms, StepKeepsForms}
+use Rattle.repl_core.specs.Going.{KeepsForms, StepKeepsForms}
 use Rattle.repl_core.specs.Standing.{open_in}
 use Rattle.repl_core.proofs.Worlds.{close-none, close-some}
 use Rattle.repl_core.proofs.Walking.{same-world, deed-walked}

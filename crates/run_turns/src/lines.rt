@@ -16,11 +16,19 @@ pub(crate) enum Line {
     Turn(Turn),
 }
 
+// What a line may ask for that the server does not have yet.
+#[derive(Clone, Copy)]
+pub(crate) enum Missing {
+    SharedText,
+    Agents,
+}
+
 // Why a line is not read.
 #[derive(Clone, Copy)]
 pub(crate) enum LineError {
     NoMemory,
     Malformed,
+    Missing(Missing),
 }
 
 impl From<AllocError> for LineError {
@@ -44,6 +52,7 @@ pub(crate) fn read_line(alloc: Global, line: &str) -> Result<Line, LineError> {
         "retries" => Ok(Line::Retries(read_count(rest)?)),
         "steps" => Ok(Line::Steps(read_count(rest)?)),
         "version" => read_version(rest),
+        "shared" => Err(LineError::Missing(Missing::SharedText)),
         _ => Ok(Line::Turn(read_turn(alloc, word, rest)?)),
     }
 }
@@ -96,10 +105,11 @@ fn read_version(text: &str) -> Result<Line, LineError> {
 }
 
 fn read_actor(name: &str) -> Result<Actor, LineError> {
-    if name == "bare" {
-        return Ok(Actor::Bare);
+    match name {
+        "bare" => Ok(Actor::Bare),
+        "agents" => Err(LineError::Missing(Missing::Agents)),
+        _ => Ok(Actor::Session(read_number(name)?)),
     }
-    Ok(Actor::Session(read_number(name)?))
 }
 
 fn read_seed(digits: &str) -> Result<[u8; 32], LineError> {

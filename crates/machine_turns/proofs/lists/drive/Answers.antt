@@ -1,5 +1,5 @@
 use Rattle.std.proofs.Common.{◌≡◌, ◌∙◌, ◌+◌, ◌<◌, ◌≤◌, ap, refl, sym, subst, ℕ, List, [], ◌∷◌, ◌++◌}
-use Rattle.std.proofs.Common.{take, map, length, get_or, arith}
+use Rattle.std.proofs.Common.{take, map, length, arith}
 use Rattle.std.proofs.lemmas.List.{map_more, length-map, length-take-le, take_all}
 use Rattle.server_rules.specs.World.{opening}
 use Rattle.machine_turns.specs.Driven.{IsDriven, Drives}

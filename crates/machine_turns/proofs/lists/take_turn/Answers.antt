@@ -1,8 +1,8 @@
-use Rattle.std.proofs.Common.{ℕ, Option, Vec, refl, subst}
+use Rattle.std.proofs.Common.{ℕ, Option, Vec, subst}
 use Rattle.std.specs.declared.alloc.Global.{Global}
 use Rattle.machine_turns.specs.Driver.{Turned}
 use Rattle.machine_turns.specs.Turns.{turn_view, bytes_given}
-use Rattle.machine_turns.proofs.Turning.{takes-added, takes-nothing, takes-noted}
+use Rattle.machine_turns.proofs.Turning.{takes-added, takes-nothing}
 use Rattle.machine_turns.proofs.lists.take_turn.Goals as goal
 
 pub returns-in-Ok-Some : goal.returns-in-Ok-Some

@@ -1,4 +1,4 @@
-use Rattle.std.proofs.Common.{refl, sym, subst, ◌∙◌}
+use Rattle.std.proofs.Common.{sym, subst, ◌∙◌}
 use Rattle.repl_core.specs.Standing.{open_in}
 use Rattle.machine_turns.specs.Kept.{walks_at, IsWalkedAt}
 use Rattle.machine_turns.proofs.Giving.{goes-give}
