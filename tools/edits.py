@@ -7,6 +7,7 @@ is, since another function's proof may rest on the one that was changed. `rt mus
 and check the whole crate for each."""
 
 import contextlib
+import glob
 import os
 import re
 import shutil
@@ -195,7 +196,7 @@ def read(edit, folder):
         before, now = changes.get(path) or [workspace.content(f"{folder}/{path}").decode()] * 2
         if now.count(old) != 1:
             raise Bad(f"an old text is in {path} {now.count(old)} times, and not once")
-        function = function or enclosing(path, now[: now.index(old) + len(old)])
+        function = function or enclosing(path, now[: now.index(old) + len(old)], folder)
         changes[path] = before, now.replace(old, new)
     return changes, function
 
@@ -213,14 +214,28 @@ def changes_of(edit):
             yield path, old, text
 
 
-def enclosing(path, text):
-    """The path of the last function that begins in the text of a source file."""
+def enclosing(path, text, folder):
+    """The path of the last function that begins in the text of a source file. A method's is below the module of its type."""
     names = re.findall(r"^( *)(?:pub(?:\([a-z]+\))? )?(?:const )?fn (\w+)", text, re.MULTILINE)
     if not path.startswith("src/") or not names:
         return None
     indent, name = names[-1]
     # a trait's functions are named by the type and the trait
     owner = re.findall(r"^impl(?:<[^>]*>)? (?:(\w+)(?:<[^>]*>)? for )?(\w+)", text, re.MULTILINE)[-1:] if indent else []
+    module = module_of(path)
+    for _, type_name in owner:
+        module = declares(folder, type_name) or module
     owner = [type_name + trait for trait, type_name in owner]
-    module = path[len("src/") : -len(".rt")].split("/")
     return "::".join([*[it for it in module if it not in ("lib", "main")], *owner, name])
+
+
+def module_of(path):
+    return path[len("src/") : -len(".rt")].split("/")
+
+
+def declares(folder, type_name):
+    """The module of a crate in which a type is declared, or none where the crate does not declare it, or does twice."""
+    declared = re.compile(rf"^(?:pub(?:\([a-z]+\))? )?(?:struct|enum) {type_name}\b", re.MULTILINE)
+    sources = glob.glob("src/**/*.rt", root_dir=folder, recursive=True)
+    found = [it for it in sources if declared.search(workspace.content(f"{folder}/{it}").decode())]
+    return module_of(found[0]) if len(found) == 1 else None
