@@ -1,7 +1,7 @@
 """Tries a crate's must-fail edits over the work that its checks kept.
 
-Edits are made in a copy of the crate beside the libraries below it. First many are tried in one check, in functions that do not
-call one another: the check says of each function whether it is proved, and the first goal or answer that fails. Of an edit of which
+Edits are made in a copy of the crate beside the libraries below it. First many are tried in one check, at most one in a
+function: the check says of each function whether it is proved, and the first goal or answer of its own that fails. Of an edit of which
 that does not tell, only the function that it changes is checked, with what that calls; where this is not refused the whole crate
 is, since another function's proof may rest on the one that was changed. `rt must-fail` and `rt ci` try the same edits one by one,
 and check the whole crate for each."""
@@ -68,9 +68,9 @@ def tell(crate, edit, said):
 
 
 def in_rounds(crate, edits, inside):
-    """Tries many edits in one check: at most one in a function, and none in a function that calls another with an edit, since
-    what a function is held to are the contracts of those that it calls, which no edit of a body touches. Yields each edit of
-    which a round tells that it was refused for its meaning, and what was said."""
+    """Tries many edits in one check, at most one in a function, since what a function is held to are the contracts of those that
+    it calls, which no edit of a body touches. Where a check tells only of one that it calls, the two are tried apart. Yields
+    each edit of which a round tells that it was refused for its meaning, and what was said."""
     left = {}
     for edit in edits:
         with contextlib.suppress(Bad):
@@ -125,19 +125,21 @@ def verdicts(crate, inside, chosen):
         verdict = lines.get(full, "proved")
         if not verdict.startswith(("no proof", "not proved")):
             continue
+        own = [it for it in errors if it[0].startswith(f"proofs/{function.replace('::', '/')}/")]
+        told = [it for it in own if not LOST_NAME.search(it[2])]
+        # said of the function itself, also where it calls another that is not proved
+        if told:
+            found[function] = "refused", told[0][2]
+            continue
+        if "expected answers" in verdict and not own:
+            found[function] = "refused", "a goal is not proved"
+            continue
         callee, seen = CALLEE.search(verdict), set()
         while callee and callee[1] not in known and callee[1] not in seen:
             seen.add(callee[1])
             callee = CALLEE.search(lines.get(callee[1], ""))
         if CALLEE.search(verdict):
             found[function] = "calls", known.get(callee[1]) if callee else None
-            continue
-        own = [it for it in errors if it[0].startswith(f"proofs/{function.replace('::', '/')}/")]
-        told = [it for it in own if not LOST_NAME.search(it[2])]
-        if told:
-            found[function] = "refused", told[0][2]
-        elif "expected answers" in verdict and not own:
-            found[function] = "refused", "a goal is not proved"
     return found
 
 
