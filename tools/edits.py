@@ -1,12 +1,13 @@
 """Tries a crate's must-fail edits over the work that its checks kept.
 
-Edits are made in a copy of the crate beside the libraries below it. First many are tried in one check, in functions that do not
-call one another: the check says of each function whether it is proved, and the first goal or answer that fails. Of an edit of which
+Edits are made in a copy of the crate beside the libraries below it. First many are tried in one check, at most one in a
+function: the check says of each function whether it is proved, and the first goal or answer of its own that fails. Of an edit of which
 that does not tell, only the function that it changes is checked, with what that calls; where this is not refused the whole crate
 is, since another function's proof may rest on the one that was changed. `rt must-fail` and `rt ci` try the same edits one by one,
 and check the whole crate for each."""
 
 import contextlib
+import glob
 import os
 import re
 import shutil
@@ -67,9 +68,9 @@ def tell(crate, edit, said):
 
 
 def in_rounds(crate, edits, inside):
-    """Tries many edits in one check: at most one in a function, and none in a function that calls another with an edit, since
-    what a function is held to are the contracts of those that it calls, which no edit of a body touches. Yields each edit of
-    which a round tells that it was refused for its meaning, and what was said."""
+    """Tries many edits in one check, at most one in a function, since what a function is held to are the contracts of those that
+    it calls, which no edit of a body touches. Where a check tells only of one that it calls, the two are tried apart. Yields
+    each edit of which a round tells that it was refused for its meaning, and what was said."""
     left = {}
     for edit in edits:
         with contextlib.suppress(Bad):
@@ -124,19 +125,21 @@ def verdicts(crate, inside, chosen):
         verdict = lines.get(full, "proved")
         if not verdict.startswith(("no proof", "not proved")):
             continue
+        own = [it for it in errors if it[0].startswith(f"proofs/{function.replace('::', '/')}/")]
+        told = [it for it in own if not LOST_NAME.search(it[2])]
+        # said of the function itself, also where it calls another that is not proved
+        if told:
+            found[function] = "refused", told[0][2]
+            continue
+        if "expected answers" in verdict and not own:
+            found[function] = "refused", "a goal is not proved"
+            continue
         callee, seen = CALLEE.search(verdict), set()
         while callee and callee[1] not in known and callee[1] not in seen:
             seen.add(callee[1])
             callee = CALLEE.search(lines.get(callee[1], ""))
         if CALLEE.search(verdict):
             found[function] = "calls", known.get(callee[1]) if callee else None
-            continue
-        own = [it for it in errors if it[0].startswith(f"proofs/{function.replace('::', '/')}/")]
-        told = [it for it in own if not LOST_NAME.search(it[2])]
-        if told:
-            found[function] = "refused", told[0][2]
-        elif "expected answers" in verdict and not own:
-            found[function] = "refused", "a goal is not proved"
     return found
 
 
@@ -195,7 +198,7 @@ def read(edit, folder):
         before, now = changes.get(path) or [workspace.content(f"{folder}/{path}").decode()] * 2
         if now.count(old) != 1:
             raise Bad(f"an old text is in {path} {now.count(old)} times, and not once")
-        function = function or enclosing(path, now[: now.index(old) + len(old)])
+        function = function or enclosing(path, now[: now.index(old) + len(old)], folder)
         changes[path] = before, now.replace(old, new)
     return changes, function
 
@@ -213,14 +216,28 @@ def changes_of(edit):
             yield path, old, text
 
 
-def enclosing(path, text):
-    """The path of the last function that begins in the text of a source file."""
+def enclosing(path, text, folder):
+    """The path of the last function that begins in the text of a source file. A method's is below the module of its type."""
     names = re.findall(r"^( *)(?:pub(?:\([a-z]+\))? )?(?:const )?fn (\w+)", text, re.MULTILINE)
     if not path.startswith("src/") or not names:
         return None
     indent, name = names[-1]
     # a trait's functions are named by the type and the trait
     owner = re.findall(r"^impl(?:<[^>]*>)? (?:(\w+)(?:<[^>]*>)? for )?(\w+)", text, re.MULTILINE)[-1:] if indent else []
+    module = module_of(path)
+    for _, type_name in owner:
+        module = declares(folder, type_name) or module
     owner = [type_name + trait for trait, type_name in owner]
-    module = path[len("src/") : -len(".rt")].split("/")
     return "::".join([*[it for it in module if it not in ("lib", "main")], *owner, name])
+
+
+def module_of(path):
+    return path[len("src/") : -len(".rt")].split("/")
+
+
+def declares(folder, type_name):
+    """The module of a crate in which a type is declared, or none where the crate does not declare it, or does twice."""
+    declared = re.compile(rf"^(?:pub(?:\([a-z]+\))? )?(?:struct|enum) {type_name}\b", re.MULTILINE)
+    sources = glob.glob("src/**/*.rt", root_dir=folder, recursive=True)
+    found = [it for it in sources if declared.search(workspace.content(f"{folder}/{it}").decode())]
+    return module_of(found[0]) if len(found) == 1 else None

@@ -5,19 +5,20 @@ use clap::error::ErrorKind;
 use clap::{Arg, ArgAction, ArgMatches, Command};
 use hex::FromHex;
 use nrepl_pipe::{bad_options, out_of_memory, pipe_command};
+use repl_core::{Config, RETRIES, STEPS, SharedText};
 use std::alloc::{AllocError, Global};
 use std::process::ExitCode;
 use std::rt::Env;
 use std::{env, io};
-use tenant_runner::{RETRIES, Runner, STEPS};
+use tenant_runner::Runner;
 
 const MOST_RETRIES: u32 = 1_000_000;
 
 // What the command line asks for.
 #[derive(Clone, Copy)]
 enum Chosen {
-    // One stream, with ids of sessions under this seed and at most so many attempts of a transaction.
-    Pipe { seed: [u8; 32], retries: u32 },
+    // One stream, of a server that begins with this.
+    Pipe(Config),
     BadOptions,
     NoMemory,
 }
@@ -56,7 +57,12 @@ fn pipe_chosen(pipe: &ArgMatches<'_>) -> Chosen {
     let Some(retries) = retries_chosen(pipe) else {
         return Chosen::BadOptions;
     };
-    Chosen::Pipe { seed, retries }
+    Chosen::Pipe(Config {
+        seed,
+        retries,
+        steps: STEPS,
+        shared: SharedText::Empty,
+    })
 }
 
 // A seed is 64 hexadecimal digits, in either case; it is all zeros where none is given.
@@ -99,10 +105,10 @@ fn main(rt: HostRuntime) -> ExitCode {
         Err(chosen) => chosen,
     };
     let status = match chosen {
-        Chosen::Pipe { seed, retries } => {
+        Chosen::Pipe(config) => {
             let mut reader = rt.reader();
             let mut writer = rt.stdout();
-            match Runner::new(alloc, seed, STEPS, retries) {
+            match Runner::new(alloc, config) {
                 Ok(mut runner) => {
                     pipe_command(alloc, &mut runner, &mut reader, &mut writer, &mut errors)
                 }

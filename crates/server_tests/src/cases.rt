@@ -1,9 +1,10 @@
 // A stream with what is written for it, as the protocol says.
 use nrepl_pipe::pipe_command;
+use repl_core::{Config, RETRIES, STEPS, SharedText};
 use std::alloc::{AllocError, Global};
 use std::process::Abort;
 use std::test::Fail;
-use tenant_runner::{RETRIES, Runner, STEPS};
+use tenant_runner::Runner;
 
 pub(crate) const SUM: &[u8] = b"d4:code7:(+ 1 2)2:id1:72:op4:evale";
 
@@ -11,7 +12,18 @@ pub(crate) const SUM_REPLIES: &[u8] = b"d2:id1:72:ns4:user5:value1:3ed2:id1:76:s
 
 // A tenant that has heard nothing, with the ids of the seed that is all zeros.
 pub(crate) fn fresh_runner(alloc: Global) -> Result<Runner, AllocError> {
-    Runner::new(alloc, [0; 32], STEPS, RETRIES)
+    runner_of_steps(alloc, STEPS)
+}
+
+// The same, which takes so many steps.
+pub(crate) fn runner_of_steps(alloc: Global, steps: u32) -> Result<Runner, AllocError> {
+    let config = Config {
+        seed: [0; 32],
+        retries: RETRIES,
+        steps,
+        shared: SharedText::Empty,
+    };
+    Runner::new(alloc, config)
 }
 
 // An input, what is written for it, the exit status and the line on standard error.

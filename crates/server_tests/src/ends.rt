@@ -1,11 +1,11 @@
 // How a stream ends: by its steps, by what is too long or too deep, and where replies are held.
-use crate::cases::{SUM, SUM_REPLIES, fresh_runner};
+use crate::cases::{SUM, SUM_REPLIES, fresh_runner, runner_of_steps};
 use nrepl_pipe::{bad_options, out_of_memory, pipe_command};
 use std::alloc::{AllocError, Global};
 use std::io;
 use std::io::Read;
 use std::test::Fail;
-use tenant_runner::{RETRIES, Runner};
+use tenant_runner::Runner;
 
 // Gives so many bytes at each read.
 #[derive(Drop)]
@@ -54,7 +54,7 @@ fn steps_end_the_stream(rt: HostRuntime) -> Result<(), Fail> {
         (4, SUM_REPLIES, 1, worn),
         (5, SUM_REPLIES, 0, ""),
     ] {
-        let runner = Runner::new(rt.alloc(), [0; 32], steps, RETRIES)?;
+        let runner = runner_of_steps(rt.alloc(), steps)?;
         let all = serve_in_pieces(rt.alloc(), runner, SUM, SUM.len());
         assert_eq!(&rt; all.output.as_slice(), output, "{steps}");
         assert_eq!(&rt; all.errors.as_slice(), line.as_bytes(), "{steps}");

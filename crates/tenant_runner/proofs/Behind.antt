@@ -1,99 +1,254 @@
 -- A runner behind the turns of its tenant.
-use Rattle.std.proofs.Common.{◌≡◌, ◌≢◌, List, ℕ, Option, Some, None, Result, Ok, Err}
-use Rattle.std.proofs.Common.{refl, sym, ap, subst, ◌∙◌, IfErr, OnOk, MatchOption}
+use Rattle.std.proofs.Common.{◌≡◌, ◌≢◌, List, [], ◌∷◌, ℕ, false, nat_le, Some, None, Result, Ok, Err}
+use Rattle.std.proofs.Common.{refl, sym, ap, subst, ◌∙◌, IfErr, OnOk}
+use Rattle.repl_replies.specs.Replies.{ReplyData}
+use Rattle.server_rules.specs.Deeds.{drained}
+use Rattle.server_rules.specs.Numbered.{entry}
 use Rattle.server_rules.specs.Ground.{Ground}
-use Rattle.server_rules.specs.Plan as deeds
-use Rattle.server_rules.specs.Plan.{Deed, Outcome, reply_given}
+use Rattle.server_rules.specs.Plan.{Deed, StepAnswer, Outcome, refuses, leaves, tenant_opened}
+use Rattle.server_rules.specs.Store.{Around, Store}
+use Rattle.server_rules.specs.Tenant.{Quiet}
+use Rattle.server_rules.specs.Turns.{bytes_in, honest}
+use Rattle.server_rules.specs.World as worlds
+use Rattle.server_rules.specs.World.{TenantData, World, opening, opened_tenant, opens, does}
+use Rattle.server_rules.specs.World.{with_tenant}
+use Rattle.server_rules.specs.declared.actor.Actor.{Actor}
 use Rattle.server_rules.specs.declared.refusal.Refusal.{Refusal}
-use Rattle.ref_table.specs.Refs.{Refs, after as refs_after}
-use Rattle.tenant_turns.specs.Turns.{Turn, Lone, drains, accepted, deed_of, step, stepped_as, ended_as}
+use Rattle.tenant_turns.specs.Deeded.{Deeded, deeded}
+use Rattle.tenant_turns.specs.Grounds.{IsRight}
+use Rattle.tenant_turns.specs.Turns.{Turn, Lone, goes, drains, accepted, deed_of, step, stepped_as}
+use Rattle.tenant_turns.specs.Turns.{ended_as, opened_lone}
 use Rattle.tenant_turns.specs.Turned.{Accepted, IsRefused}
-use Rattle.tenant_world.specs.Standing as world
-use Rattle.tenant_walks.specs.Standing as walks
-use Rattle.tenant_walks.specs.Standing.{Does, Refuses, comes_to}
-use Rattle.tenant_walks.proofs.Steps.{drained-runs, drains-by}
-use Rattle.tenant_walks.proofs.Stores.{serves-all-still, drains-reached}
-use Rattle.tenant_runner.specs.Standing.{Stands, parts_of}
+use Rattle.tenant_walks.specs.Grounds.{Evaluates}
+use Rattle.tenant_walks.specs.WalkAt.{walk_at}
+use Rattle.tenant_world.specs.Standing as tenants
+use Rattle.tenant_world.specs.declared.tenant.Tenant.{Tenant}
+use Rattle.repl_core.specs.Going.{AreWalkedIn, KeepsForms, Goes, Halts}
+use Rattle.repl_core.specs.Standing as machine
+use Rattle.repl_core.specs.Standing.{open_in, store_in}
+use Rattle.repl_core.specs.Steps as core
+use Rattle.repl_core.specs.TenantAt.{tenant_at}
+use Rattle.repl_core.proofs.Worlds as world
+use Rattle.repl_core.proofs.Worlds.{step-deed}
+use Rattle.repl_core.proofs.Places.{open-mine, kept-at, none-at}
+use Rattle.repl_core.proofs.Behind.{deeded-tenant}
+use Rattle.repl_core.proofs.Comings.{open-tested}
+use Rattle.repl_core.proofs.Honest.{honest-turn}
+use Rattle.repl_core.proofs.Walking.{same-world, deed-walked, fresh-walked}
+use Rattle.tenant_runner.specs.Standing.{kept_of, Stands}
 use Rattle.tenant_runner.specs.declared.runner.Runner.{Runner}
 
-pub accepted-turn : (g : Ground) (l : Lone) (r : Refs) (turn : Turn) (deed : Deed) (new : Runner)
-    → deed ≡ deed_of g l turn → Does g l r deed (parts_of new)
-    → Accepted (Stands g new) (step g l turn)
-unfolding step
-accepted-turn g l r turn deed new is does =
-    let D : Deed → Type 0 = λ x. Accepted (Stands g new) (stepped_as (comes_to g l x)) in
-    let S : Outcome → Type 0 = λ o. Accepted (Stands g new) (ended_as (comes_to g l deed).store o) in
-    let stands : Stands g new (walks.behind (comes_to g l deed) does.after) = record {
-      refs = _;
-      stands = does.stands;
-    } in
-    subst D is (subst S (sym does.accepted) stands)
+-- what a deed of the tenant comes to, in its server
+abbrev deeded_in : Ground → World → Lone → Deed → Deeded
+deeded_in g w l d = world.deed_of g w 0 (kept_of l) d
 
-pub does-turn : {X : Type 0} (g : Ground) (l : Lone) (r : Refs) (turn : Turn) (deed : Deed)
-    (new : Runner) (res : Result X Refusal) → deed ≡ deed_of g l turn
-    → OnOk res (Does g l r deed (parts_of new))
-    → OnOk res (Accepted (Stands g new) (step g l turn))
-does-turn g l r turn deed new (Err why) is does = tt
-does-turn g l r turn deed new (Ok x) is does = accepted-turn g l r turn deed new is does
-
-pub refuses-turn : {X : Type 0} (g : Ground) (l : Lone) (r : Refs) (turn : Turn) (deed : Deed)
-    (new : Runner) (res : Result X Refusal) → deed ≡ deed_of g l turn
-    → IfErr res (Refuses g l r deed (parts_of new))
-    → IfErr res (λ why. why ≢ Refusal.NoMemory
-    → IsRefused why (step g l turn) × Stands g new l)
+-- the turn comes to what the deed does
+turn-so : (g : Ground) (w : World) (l : Lone) (turn : Turn) (d : Deed)
+    → l.store ≡ store_in w.around 0 l.store.mine → d ≡ deed_of g l turn
+    → step g l turn ≡ ended_as (deeded_in g w l d).store (deeded_in g w l d).outcome
 unfolding step
-refuses-turn g l r turn deed new (Ok x) is told = tt
-refuses-turn g l r turn deed new (Err why) is told = λ ne. (
-  ap (λ x. stepped_as (comes_to g l x)) (sym is)
-      ∙ ap (ended_as (comes_to g l deed).store) (told.refused ne),
-  record { refs = r; stands = told.stands },
-)
+turn-so g w l turn d seen is =
+    ap (λ x. stepped_as (deeded g l.store l.quiet x)) (sym is)
+    ∙ ap (λ s. stepped_as (deeded g s l.quiet d)) seen
 
-pub drains-so : {X : Type 0} (items : X → List ℕ) (g : Ground) (l : Lone) (old new : Runner)
-    (res : Option X) → Stands g old l → new.refs ≡ old.refs → new.walks ≡ old.walks
-    → MatchOption res
-    (world.Refuses g l.quiet l.store (comes_to g l deeds.drains) new.tenant Refusal.Idle)
-    (λ x. world.Does g (comes_to g l deeds.drains) new.tenant (reply_given (items x)))
-    → MatchOption res (IsRefused Refusal.Idle (step g l drains) × Stands g new l)
-    (λ x. (after : Lone) × (step g l drains ≡ accepted after (items x)) × Stands g new after)
-unfolding step
-drains-so items g l old new None s kept same told = (
-  ap (ended_as (comes_to g l deeds.drains).store) (told.refused (λ e. never e)),
-  record {
-    refs = s.refs;
-    stands = subst (λ t. walks.Stands g (walks.parts new.tenant t new.walks) l s.refs) (sym kept)
-        (subst (λ ws. walks.Stands g (walks.parts new.tenant old.refs ws) l s.refs) (sym same)
-        (record {
-          right = s.stands.right;
-          ground = s.stands.ground;
-          tenant = told.stands;
-          serves = s.stands.serves;
-          walked = s.stands.walked;
-        }));
-  },
-)
+-- what is seen behind it
+seen-behind : (around : Around) (s : Store) → s.around ≡ around → s.tenant ≡ 0
+    → s ≡ store_in around 0 s.mine
+seen-behind around s same mine =
+    ap (λ a. record { around = a; tenant = s.tenant; mine = s.mine }) same
+    ∙ ap (λ t. record { around = around; tenant = t; mine = s.mine }) mine
+
+stands-behind : (g : Ground) (w after : World) (l : Lone) (d : Deed) (q : Quiet) (new : Runner)
+    → IsRight g → Evaluates g → open_in 0 w ≡ Some (kept_of l)
+    → with_tenant 0 (Some (record { quiet = q; mine = (deeded_in g w l d).store.mine }))
+    (deeded_in g w l d).store.around w ≡ after
+    → machine.Stands g new.machine after → AreWalkedIn new.walks (open_in 0 after)
+    → Stands g new (record { quiet = q; store = (deeded_in g w l d).store })
+stands-behind g w after l d q new right ground there same stands walked =
+    let e = deeded_in g w l d in
+    let part : TenantData = record { quiet = q; mine = e.store.mine } in
+    record {
+      right = right;
+      ground = ground;
+      world = after;
+      machine = stands;
+      there = sym (ap (open_in 0) same) ∙ open-mine w e.store.around 0 (Some part) (kept_of l) there;
+      store = seen-behind after.around e.store (ap (λ x. x.around) same)
+          (deeded-tenant g (store_in w.around 0 l.store.mine) l.quiet d);
+      walked = walked;
+    }
+
+-- the deed is accepted
+accepted-deed : (g : Ground) (w after : World) (l : Lone) (d : Deed) (answer : StepAnswer)
+    (new : Runner) → IsRight g → Evaluates g → open_in 0 w ≡ Some (kept_of l)
+    → worlds.step g w (does 0 d) ≡ worlds.accepted after answer
+    → machine.Stands g new.machine after → AreWalkedIn new.walks (open_in 0 after)
+    → (it : Lone) × (ended_as (deeded_in g w l d).store (deeded_in g w l d).outcome
+    ≡ accepted it (bytes_in answer)) × Stands g new it
+accepted-deed g w after l d answer new right ground there is stands walked =
+    by e.outcome refl (sym (step-deed g w 0 d (kept_of l) there) ∙ is)
   where
-    never : Refusal.Idle ≡ Refusal.NoMemory → ⊥
-    never e = cc
-drains-so items g l old new (Some x) s kept same told =
-    let d = comes_to g l deeds.drains in
-    let after : Lone = walks.behind d told.after in
-    let refs = refs_after d.store s.refs in
-    let with_old : walks.Stands g (walks.parts new.tenant old.refs old.walks) after refs = record {
-      right = s.stands.right;
-      ground = s.stands.ground;
-      tenant = told.stands;
-      serves = serves-all-still old.refs l.store d.store s.refs s.stands.serves
-          (drains-reached g l.quiet l.store);
-      walked = λ a run p runs at. s.stands.walked a run p
-          (sym (drained-runs l.quiet told.after _ a l.quiet.replies
-          (sym (drains-by g l) ∙ told.accepted)) ∙ runs) at;
+    e : Deeded
+    e = deeded_in g w l d
+
+    by : (o : Outcome) → e.outcome ≡ o → worlds.ended_as w 0 e.store o ≡ worlds.accepted after answer
+        → (it : Lone) × (ended_as e.store e.outcome ≡ accepted it (bytes_in answer))
+        × Stands g new it
+    by (refuses why) out never = absurd (cc)
+    by (leaves q x) out same =
+        let given : x ≡ answer = cc in (
+          record { quiet = q; store = e.store },
+          ap (ended_as e.store) out
+              ∙ ap (λ a. accepted (record { quiet = q; store = e.store }) (bytes_in a)) given,
+          stands-behind g w after l d q new right ground there (same-world _ after x answer same)
+              stands walked,
+        )
+
+pub accepted-turn : (g : Ground) (w after : World) (l : Lone) (turn : Turn) (d : Deed)
+    (answer : StepAnswer) (new : Runner) → IsRight g → Evaluates g
+    → open_in 0 w ≡ Some (kept_of l) → l.store ≡ store_in w.around 0 l.store.mine
+    → d ≡ deed_of g l turn → worlds.step g w (does 0 d) ≡ worlds.accepted after answer
+    → machine.Stands g new.machine after → AreWalkedIn new.walks (open_in 0 after)
+    → (it : Lone) × (step g l turn ≡ accepted it (bytes_in answer)) × Stands g new it
+accepted-turn g w after l turn d answer new right ground there seen same is stands walked =
+    let it = accepted-deed g w after l d answer new right ground there is stands walked in
+    (it.0, turn-so g w l turn d seen same ∙ it.1, it.2)
+
+-- the deed is refused
+pub refused-turn : (g : Ground) (w : World) (l : Lone) (turn : Turn) (d : Deed) (why : Refusal)
+    → open_in 0 w ≡ Some (kept_of l) → l.store ≡ store_in w.around 0 l.store.mine
+    → d ≡ deed_of g l turn → worlds.step g w (does 0 d) ≡ worlds.refused why
+    → IsRefused why (step g l turn)
+refused-turn g w l turn d why there seen same is =
+    turn-so g w l turn d seen same
+    ∙ by e.outcome refl (sym (step-deed g w 0 d (kept_of l) there) ∙ is)
+  where
+    e : Deeded
+    e = deeded_in g w l d
+
+    by : (o : Outcome) → e.outcome ≡ o → worlds.ended_as w 0 e.store o ≡ worlds.refused why
+        → IsRefused why (ended_as e.store e.outcome)
+    by (refuses x) out same =
+        let told : x ≡ why = cc in
+        ap (ended_as e.store) out ∙ ap (λ y. ended_as e.store (refuses y)) told
+    by (leaves q x) out never = absurd (cc)
+
+stands-same : (g : Ground) (l : Lone) (old new : Runner) (s : Stands g old l)
+    → machine.Stands g new.machine s.world → AreWalkedIn new.walks (open_in 0 s.world)
+    → Stands g new l
+stands-same g l old new s stands walked = record {
+  right = s.right;
+  ground = s.ground;
+  world = s.world;
+  machine = stands;
+  there = s.there;
+  store = s.store;
+  walked = walked;
+}
+
+-- a deed by which no form goes on
+pub does-turn : (g : Ground) (l : Lone) (turn : Turn) (d : Deed) (old new : Runner)
+    (answer : StepAnswer) (s : Stands g old l) → KeepsForms d → d ≡ deed_of g l turn
+    → new.walks ≡ old.walks → core.Does g s.world (does 0 d) new.machine answer
+    → (it : Lone) × (step g l turn ≡ accepted it (bytes_in answer)) × Stands g new it
+does-turn g l turn d old new answer s keeps is same did =
+    accepted-turn g s.world did.after l turn d answer new s.right s.ground s.there s.store is
+    did.accepted did.stands
+    (subst (λ walks. AreWalkedIn walks (open_in 0 did.after)) (sym same)
+    (deed-walked g s.world did.after 0 d answer old.walks keeps did.accepted s.walked))
+
+pub refuses-turn : (g : Ground) (l : Lone) (turn : Turn) (d : Deed) (old new : Runner)
+    (why : Refusal) (s : Stands g old l) → d ≡ deed_of g l turn → new.walks ≡ old.walks
+    → core.Refuses g s.world (does 0 d) new.machine why → why ≢ Refusal.NoMemory
+    → IsRefused why (step g l turn) × Stands g new l
+refuses-turn g l turn d old new why s is same told ne = (
+  refused-turn g s.world l turn d why s.there s.store is (told.refused ne),
+  stands-same g l old new s told.stands
+      (subst (λ walks. AreWalkedIn walks (open_in 0 s.world)) (sym same) s.walked),
+)
+
+pub accepted-so : (g : Ground) (l : Lone) (turn : Turn) (new : Runner) (bytes : List ℕ)
+    → ((it : Lone) × (step g l turn ≡ accepted it bytes) × Stands g new it)
+    → Accepted (Stands g new) (step g l turn)
+accepted-so g l turn new bytes it = subst (Accepted (Stands g new)) (sym it.1) it.2
+
+-- an actor goes on
+pub goes-turn : {X : Type 0} (g : Ground) (l : Lone) (a : Actor) (old new : Runner)
+    (res : Result X Refusal) (s : Stands g old l)
+    → OnOk res (Goes g s.world 0 a new.machine new.walks)
+    → OnOk res (Accepted (Stands g new) (step g l (goes a)))
+goes-turn g l a old new (Err why) s did = tt
+goes-turn g l a old new (Ok x) s did =
+    accepted-so g l (goes a) new _
+    (accepted-turn g s.world did.after l (goes a) (honest g a (Some (Some l.quiet))) did.answer new
+    s.right s.ground s.there s.store refl
+    (sym (honest-turn g s.world 0 a (kept_of l) s.there) ∙ did.accepted) did.stands did.walked)
+
+pub halts-turn : {X : Type 0} (g : Ground) (l : Lone) (a : Actor) (old new : Runner)
+    (res : Result X Refusal) (s : Stands g old l)
+    → IfErr res (Halts g s.world 0 a new.machine new.walks)
+    → IfErr res (λ why. why ≢ Refusal.NoMemory
+    → IsRefused why (step g l (goes a)) × Stands g new l)
+halts-turn g l a old new (Ok x) s told = tt
+halts-turn g l a old new (Err why) s told = λ ne. (
+  refused-turn g s.world l (goes a) (honest g a (Some (Some l.quiet))) why s.there s.store refl
+      (sym (honest-turn g s.world 0 a (kept_of l) s.there) ∙ told.refused ne),
+  stands-same g l old new s told.stands told.walked,
+)
+
+-- what is refused where no reply waits
+drained-idle : (g : Ground) (q : Quiet) (s : Store) (why : Refusal) (replies : List ReplyData)
+    → IsRefused why (ended_as s (drained q replies))
+    → IsRefused Refusal.Idle (ended_as s (drained q replies))
+drained-idle g q s why [] is = refl
+drained-idle g q s why (oldest ∷ more) never = absurd (cc)
+
+pub drains-idle : (g : Ground) (l : Lone) (why : Refusal) → IsRefused why (step g l drains)
+    → IsRefused Refusal.Idle (step g l drains)
+unfolding step deeded
+drains-idle g l why is = drained-idle g l.quiet l.store why l.quiet.replies is
+
+-- What is shown
+
+pub tenant-of : (g : Ground) (l : Lone) (r : Runner) (code : Tenant) (s : Stands g r l)
+    → tenant_at r.machine.tenants 0 ≡ Some code → tenants.Stands g code l.quiet l.store
+tenant-of g l r code s is =
+    let w = s.world in
+    let m = s.machine in
+    let at = kept-at g m.refs 0 code (tenant_at r.machine.tenants 0) (open_in 0 w) (m.tenants 0) is in
+    let same : at.0 ≡ kept_of l = cc (at.1, s.there) in
+    subst (tenants.Stands g code l.quiet) (sym s.store)
+    (subst (λ k. tenants.Stands g code k.quiet (store_in w.around 0 k.mine)) same
+    (at.2.stands w.around))
+
+pub tenant-there : (g : Ground) (l : Lone) (r : Runner) (s : Stands g r l)
+    → tenant_at r.machine.tenants 0 ≡ None → ⊥
+tenant-there g l r s gone =
+    let none : open_in 0 s.world ≡ None =
+    none-at g s.machine.refs 0 (tenant_at r.machine.tenants 0) (open_in 0 s.world)
+    (s.machine.tenants 0) gone in
+    let never : None ≡ Some (kept_of l) = sym none ∙ s.there in cc
+
+-- as it begins
+pub opened-stands : (g : Ground) (made : Runner) → IsRight g → Evaluates g → g.places ≡ 1
+    → ((a : Actor) → walk_at made.walks a ≡ None)
+    → core.Does g (opening []) (opens 0) made.machine tenant_opened
+    → Stands g made (opened_lone g)
+opened-stands g made right ground places none did =
+    let first : World = record {
+      around = (opening []).around;
+      tenants = entry 0 (Some (opened_tenant g)) ∷ [];
     } in
-    let stands : Stands g new after = record {
-      refs = refs;
-      stands = subst (λ t. walks.Stands g (walks.parts new.tenant t new.walks) after refs)
-          (sym kept)
-          (subst (λ ws. walks.Stands g (walks.parts new.tenant old.refs ws) after refs) (sym same)
-          with_old);
-    } in
-    (after, ap (ended_as d.store) told.accepted, stands)
+    let by : worlds.step g (opening []) (opens 0) ≡ worlds.accepted first tenant_opened =
+    open-tested g (opening []) 0 false false refl (ap (λ n. nat_le n 0) places) in
+    let same : first ≡ did.after =
+    same-world first did.after tenant_opened tenant_opened (sym by ∙ did.accepted) in
+    record {
+      right = right;
+      ground = ground;
+      world = did.after;
+      machine = did.stands;
+      there = sym (ap (open_in 0) same);
+      store = ap (λ w. store_in w.around 0 (opened_lone g).store.mine) same;
+      walked = fresh-walked made.walks (open_in 0 did.after) none;
+    }

@@ -1,20 +1,29 @@
 -- The code stands for a tenant that is served alone.
+use Rattle.std.specs.Prelude.{◌≡◌, Some}
 use Rattle.server_rules.specs.Ground.{Ground}
-use Rattle.ref_table.specs.Refs.{Refs}
+use Rattle.server_rules.specs.World.{TenantData, World}
+use Rattle.tenant_turns.specs.Grounds.{IsRight}
 use Rattle.tenant_turns.specs.Turned.{Left}
 use Rattle.tenant_turns.specs.Turns.{Lone}
-use Rattle.tenant_world.specs.Standing.{replies_of}
-use Rattle.tenant_walks.specs.Standing as walks
-use Rattle.tenant_walks.specs.Standing.{Parts, parts}
+use Rattle.tenant_walks.specs.Grounds.{Evaluates}
+use Rattle.repl_core.specs.Going.{AreWalkedIn}
+use Rattle.repl_core.specs.Left.{left_at}
+use Rattle.repl_core.specs.Standing as machine
+use Rattle.repl_core.specs.Standing.{open_in, store_in}
 use Rattle.tenant_runner.specs.declared.runner.Runner.{Runner}
 
 abbrev pub left_by : Runner → Left
-left_by r = record { steps = r.tenant.steps; outbox = replies_of r.tenant }
+left_by r = left_at 0 r.machine
 
-abbrev pub parts_of : Runner → Parts
-parts_of r = parts r.tenant r.refs r.walks
+abbrev pub kept_of : Lone → TenantData
+kept_of l = record { quiet = l.quiet; mine = l.store.mine }
 
+-- it is the first tenant of a server
 pub record Stands (g : Ground) (r : Runner) (l : Lone) : Type 0 where
-  -- those of the table
-  pub refs : Refs
-  pub stands : walks.Stands g (parts_of r) l refs
+  pub right : IsRight g
+  pub ground : Evaluates g
+  pub world : World
+  pub machine : machine.Stands g r.machine world
+  pub there : open_in 0 world ≡ Some (kept_of l)
+  pub store : l.store ≡ store_in world.around 0 l.store.mine
+  pub walked : AreWalkedIn r.walks (open_in 0 world)

@@ -1,7 +1,7 @@
-//! A tenant with the evaluations of its forms: each actor goes on as its evaluation says.
+//! A server that serves its first tenant alone: each actor goes on as its evaluation says.
 #![tactic(auto)]
 
 mod runner;
 mod turns;
 
-pub use runner::{RETRIES, Runner, STEPS};
+pub use runner::Runner;

@@ -5,35 +5,31 @@ ghost use Rattle.tenant_turns.specs.Turns.{opened_lone};
 ghost use Rattle.tenant_turns.specs.Grounds.{IsRight};
 ghost use Rattle.tenant_walks.specs.Grounds.{Evaluates};
 
-use crate::runner::Runner;
+use crate::runner::{NUMBER, Runner};
 use bytes::Bytes;
-use ref_history::ListHistory;
-use ref_table::RefTable;
+use repl_core::{Config, Machine};
 use server_rules::{Actor, Refusal};
 use std::alloc::{AllocError, Global};
 use tenant_turns::{Core, Wire};
 use tenant_walks::Walks;
-use tenant_world::Tenant;
 
 impl Runner {
     ghost use Rattle.tenant_runner.specs.Standing.{Stands};
 
-    /// A tenant that has heard nothing, the first one under the server's seed. It fails only for
-    /// want of memory.
-    pub fn new(
-        alloc: Global,
-        seed: [u8; 32],
-        steps: u32,
-        retries: u32,
-    ) -> Result<Runner, AllocError>
-        ensures { (g : Ground) → IsRight g → Evaluates g → g.seed ≡ seed → g.steps ≡ steps
-            → g.retries ≡ retries → IfOk result (λ made. Stands g made (opened_lone g)) }
+    /// A server whose first tenant has heard nothing. It fails only for want of memory.
+    pub fn new(alloc: Global, config: Config) -> Result<Runner, AllocError>
+        ensures { (g : Ground) → IsRight g → Evaluates g → g.seed ≡ config.seed
+            → g.steps ≡ config.steps → g.retries ≡ config.retries → g.places ≡ 1
+            → IfOk result (λ made. Stands g made (opened_lone g)) }
     {
-        Ok(Runner {
-            tenant: Tenant::new(alloc, seed, 0, steps, retries)?,
-            refs: RefTable::new(alloc, ListHistory::new(alloc)),
-            walks: Walks::new(alloc),
-        })
+        let mut machine = Machine::new(alloc, config);
+        match machine.open(NUMBER) {
+            Ok(()) => Ok(Runner {
+                machine,
+                walks: Walks::new(alloc),
+            }),
+            Err(_) => Err(AllocError),
+        }
     }
 }
 
@@ -45,23 +41,34 @@ impl Core for Runner {
     ghost stands = { Stands };
 
     fn hear(&mut self, piece: &Bytes) -> Result<(), Refusal> {
-        self.tenant.hear(piece)?;
-        Ok(())
+        match self.machine.hear(NUMBER, piece) {
+            Ok(_) => Ok(()),
+            Err(why) => Err(why),
+        }
     }
 
     fn actors(&self, alloc: Global) -> Result<Vec<Actor>, AllocError> {
-        self.tenant.actors(alloc)
+        match self.machine.tenant(NUMBER) {
+            Some(tenant) => tenant.actors(alloc),
+            None => Ok(Vec::new(alloc)),
+        }
     }
 
     fn go(&mut self, actor: Actor) -> Result<(), Refusal> {
-        self.walks.go(&mut self.tenant, &mut self.refs, actor)
+        self.machine.go(NUMBER, actor, &mut self.walks)
     }
 
     fn drain(&mut self) -> Option<Vec<u8>> {
-        self.tenant.drain()
+        match self.machine.drain(NUMBER) {
+            Ok(reply) => Some(reply),
+            Err(_) => None,
+        }
     }
 
     fn wire(&self) -> Wire {
-        self.tenant.wire()
+        match self.machine.tenant(NUMBER) {
+            Some(tenant) => tenant.wire(),
+            None => Wire::Whole,
+        }
     }
 }

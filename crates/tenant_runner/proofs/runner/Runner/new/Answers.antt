@@ -1,18 +1,12 @@
-use Rattle.std.proofs.Common.{◌≡◌, ◌∙◌, None, Some, refl, sym}
-use Rattle.ref_table.specs.Refs.{no_refs}
-use Rattle.tenant_turns.specs.Turns.{opened_lone}
+use Rattle.std.proofs.Common.{[]}
+use Rattle.server_rules.specs.World.{opening}
+use Rattle.tenant_runner.proofs.Behind.{opened-stands}
+use Rattle.tenant_runner.specs.declared.runner.Runner.{Runner}
 use Rattle.tenant_runner.proofs.runner.Runner.new.Goals as goal
 
-pub returns : goal.returns
-returns c = λ g right ground seed steps retries. record {
-  refs = no_refs;
-  stands = record {
-    right = right;
-    ground = ground;
-    tenant = c.in_ok-new.ensures g right ground.names seed steps retries (opened_lone g).store
-        refl refl;
-    serves = record { stands = c.new-3.ensures; sound = λ owner. tt; reached = refl };
-    walked = λ a run p runs at.
-        let never : None ≡ Some p = sym (c.new-4.ensures a) ∙ at in absurd (cc);
-  };
-}
+pub returns-in-Ok : goal.returns-in-Ok
+returns-in-Ok c = λ g right ground seed steps retries places.
+    let made : Runner = record { machine = c.«open».new.self; walks = c.new.result } in
+    opened-stands g made right ground places c.new.ensures
+    (c.in-Ok.ensures.done g (opening []) right
+    (c.new-machine.ensures g ground.names seed steps retries places))

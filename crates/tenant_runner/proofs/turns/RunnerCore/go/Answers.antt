@@ -1,17 +1,15 @@
-use Rattle.std.proofs.Common.{refl, Some}
-use Rattle.server_rules.specs.Turns.{honest}
-use Rattle.tenant_turns.specs.Turns.{goes}
-use Rattle.tenant_runner.proofs.Behind.{does-turn, refuses-turn}
+use Rattle.tenant_runner.proofs.Behind.{goes-turn, halts-turn}
+use Rattle.tenant_runner.specs.declared.runner.Runner.{Runner}
 use Rattle.tenant_runner.proofs.turns.RunnerCore.go.Goals as goal
 
 pub returns-clause-accepted : goal.returns-clause-accepted
 returns-clause-accepted c = λ g l right s.
-    let a = c.args.actor in
-    does-turn g l s.refs (goes a) (honest g a (Some (Some l.quiet))) _ c.go.result refl
-    (c.go.ensures.done g l s.refs right s.stands)
+    let new : Runner = record { machine = c.go.new.self; walks = c.go.new.walks } in
+    goes-turn g l c.args.actor c.args.self.now new c.go.result s
+    (c.go.ensures.done g s.world right s.ground s.machine s.walked)
 
 pub returns-clause-as_it_was : goal.returns-clause-as_it_was
 returns-clause-as_it_was c = λ g l right s.
-    let a = c.args.actor in
-    refuses-turn g l s.refs (goes a) (honest g a (Some (Some l.quiet))) _ c.go.result refl
-    (c.go.ensures.refused g l s.refs right s.stands)
+    let new : Runner = record { machine = c.go.new.self; walks = c.go.new.walks } in
+    halts-turn g l c.args.actor c.args.self.now new c.go.result s
+    (c.go.ensures.refused g s.world right s.ground s.machine s.walked)

@@ -1,0 +1,101 @@
+// A server that makes turns.
+ghost use Rattle.std.specs.Prelude.{◌≡◌, ◌≢◌, [], IfOk, IfErr, OnOk};
+ghost use Rattle.server_rules.specs.Ground.{Ground};
+ghost use Rattle.server_rules.specs.Turns.{given, goes, bytes_in};
+ghost use Rattle.server_rules.specs.World.{World, opening};
+ghost use Rattle.repl_core.specs.Going.{StepKeepsForms};
+ghost use Rattle.repl_core.specs.Steps.{step_view, step_answer_view};
+ghost use Rattle.machine_turns.specs.Configured.{IsConfigured};
+ghost use Rattle.machine_turns.specs.Turns.{turn_view, bytes_given};
+
+use crate::kept::Kept;
+use crate::turn::Turn;
+use repl_core::{Config, Machine, Step, StepAnswer};
+use server_rules::{Actor, Refusal};
+use std::alloc::Global;
+
+/// A server, and the evaluations of all forms that run.
+#[derive(Drop)]
+pub(crate) struct Driver {
+    alloc: Global,
+    pub(crate) machine: Machine,
+    pub(crate) kept: Kept,
+}
+
+impl Driver {
+    ghost use Rattle.machine_turns.specs.Driver.{Stands, Turned, Halted};
+
+    pub(crate) fn new(alloc: Global, config: Config) -> Driver
+        ensures { (g : Ground) → IsConfigured g config → Stands g result (opening []) }
+    {
+        Driver {
+            alloc,
+            machine: Machine::new(alloc, config),
+            kept: Kept::new(alloc),
+        }
+    }
+
+    /// Makes a turn, and gives the reply where one was taken out. Where memory is wanted, the
+    /// evaluations of a tenant may be lost.
+    pub(crate) fn turn(&mut self, turn: &Turn) -> Result<Option<Vec<u8>>, Refusal>
+        ensures done { (g : Ground) (w : World) → Stands g self.old w → IfOk result
+            (λ it. Turned g w (turn_view turn.now) self.new (bytes_given it)) }
+        ensures refused { (g : Ground) (w : World) → Stands g self.old w → IfErr result
+            (λ why. why ≢ Refusal.NoMemory → Halted g w (turn_view turn.now) self.new why) }
+    {
+        match turn {
+            Turn::Open(number) => self.step(Step::Open(*number)),
+            Turn::Bytes(number, piece) => self.step(Step::Hear(*number, piece.slice(..)?)),
+            Turn::Go(number, actor) => self.go(*number, *actor),
+            Turn::Drain(number) => self.step(Step::Drain(*number)),
+            Turn::Bye(number) => self.step(Step::Bye(*number)),
+        }
+    }
+
+    // Makes a step by which no form goes on.
+    fn step(&mut self, step: Step) -> Result<Option<Vec<u8>>, Refusal>
+        requires { StepKeepsForms (step_view step) }
+        ensures done { (g : Ground) (w : World) → Stands g self.old w → IfOk result
+            (λ it. Turned g w (given (step_view step)) self.new (bytes_given it)) }
+        ensures refused { (g : Ground) (w : World) → Stands g self.old w → IfErr result
+            (λ why. why ≢ Refusal.NoMemory → Halted g w (given (step_view step)) self.new why) }
+    {
+        match self.machine.step(step) {
+            Ok(answer) => Ok(reply_in(answer)),
+            Err(refused) => Err(refused.why),
+        }
+    }
+
+    // An actor goes on.
+    fn go(&mut self, number: u64, actor: Actor) -> Result<Option<Vec<u8>>, Refusal>
+        ensures done { (g : Ground) (w : World) → Stands g self.old w → IfOk result
+            (λ it. Turned g w (goes number actor) self.new (bytes_given it)) }
+        ensures refused { (g : Ground) (w : World) → Stands g self.old w → IfErr result
+            (λ why. why ≢ Refusal.NoMemory → Halted g w (goes number actor) self.new why) }
+    {
+        let mut walks = self.kept.take(self.alloc, number);
+        let result = self.machine.go(number, actor, &mut walks);
+        self.kept.put(number, walks)?;
+        match result {
+            Ok(()) => Ok(None),
+            Err(why) => Err(why),
+        }
+    }
+}
+
+// The reply that was taken out.
+fn reply_in(answer: StepAnswer) -> Option<Vec<u8>>
+    ensures { bytes_given result ≡ bytes_in (step_answer_view answer) }
+{
+    match answer {
+        StepAnswer::Bytes(bytes) => Some(bytes),
+        StepAnswer::Opened
+        | StepAnswer::Heard(_)
+        | StepAnswer::Begun(_)
+        | StepAnswer::Answered
+        | StepAnswer::Answer(_)
+        | StepAnswer::Finished
+        | StepAnswer::Interrupted
+        | StepAnswer::Gone => None,
+    }
+}

@@ -1,0 +1,49 @@
+use Rattle.std.proofs.Common.{◌∙◌, refl, sym}
+use Rattle.repl_core.proofs.Honest.{goes-so, halts-so, halts-none}
+use Rattle.repl_core.proofs.Left.{left-less, left-kept, left-none, some-waits}
+use Rattle.repl_core.proofs.machine.Machine.go.Goals as goal
+
+pub returns-in_default-clause-refused : goal.returns-in_default-clause-refused
+returns-in_default-clause-refused c = λ g w right ground s walked.
+    halts-none g w c.args.number c.args.actor c.args.self.now c.take.new.self c.args.walks.now s
+    walked (sym c.in_default.ensures.taken) c.in_default.ensures.gone c.in_default.ensures.others
+
+pub returns-clause-done : goal.returns-clause-done
+returns-clause-done c = λ g w right ground s walked.
+    let t = c.args.number in
+    let old = c.args.self.now in
+    goes-so g w t c.args.actor old c.put_back.new.self c.go-result.new.refs c.in-Some.tenant
+    c.go-result.new.tenant c.args.walks.now c.go-result.new.self c.go-result.result s right ground
+    (sym c.in-Some.ensures.taken) walked
+    (λ l st. c.go-result.ensures.done g l s.refs right st)
+    (c.put_back.ensures.put (c.in-Some.ensures.place refl))
+    (λ u apart. c.put_back.ensures.others u apart ∙ c.in-Some.ensures.others u apart)
+
+pub returns-clause-refused : goal.returns-clause-refused
+returns-clause-refused c = λ g w right ground s walked.
+    let t = c.args.number in
+    let old = c.args.self.now in
+    halts-so g w t c.args.actor old c.put_back.new.self c.go-result.new.refs c.in-Some.tenant
+    c.go-result.new.tenant c.args.walks.now c.go-result.new.self c.go-result.result s right ground
+    (sym c.in-Some.ensures.taken) walked
+    (λ l st. c.go-result.ensures.refused g l s.refs right st)
+    (c.put_back.ensures.put (c.in-Some.ensures.place refl))
+    (λ u apart. c.put_back.ensures.others u apart ∙ c.in-Some.ensures.others u apart)
+
+pub returns-in_default-clause-kept : goal.returns-in_default-clause-kept
+returns-in_default-clause-kept c =
+    left-none _ _ (sym c.in_default.ensures.taken) c.in_default.ensures.gone
+
+pub returns-clause-steps : goal.returns-clause-steps
+returns-clause-steps c =
+    left-less _ _ c.in-Some.tenant c.go-result.new.tenant c.go-result.result (sym c.in-Some.ensures.taken)
+    (c.put_back.ensures.put (c.in-Some.ensures.place refl)) c.go-result.ensures.steps
+
+pub returns-clause-kept : goal.returns-clause-kept
+returns-clause-kept c =
+    left-kept _ _ c.in-Some.tenant c.go-result.new.tenant c.go-result.result (sym c.in-Some.ensures.taken)
+    (c.put_back.ensures.put (c.in-Some.ensures.place refl)) c.go-result.ensures.kept
+
+pub returns-clause-held : goal.returns-clause-held
+returns-clause-held c = λ held.
+    some-waits _ c.in-Some.tenant (sym c.in-Some.ensures.taken) (c.go-result.ensures.held held)

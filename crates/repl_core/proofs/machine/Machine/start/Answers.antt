@@ -1,0 +1,41 @@
+use Rattle.std.proofs.Common.{◌∙◌, refl, sym}
+use Rattle.server_rules.specs.Plan as deeds
+use Rattle.tenant_walks.proofs.Stores.{serves-all-still, starts-reached}
+use Rattle.tenant_world.specs.Answers.{started_view}
+use Rattle.repl_core.specs.Standing.{store_in}
+use Rattle.repl_core.proofs.Behind.{does-so, refuses-so, refuses-none, of-actor, err-with}
+use Rattle.repl_core.proofs.machine.Machine.start.Goals as goal
+
+pub returns-in_default-clause-refused : goal.returns-in_default-clause-refused
+returns-in_default-clause-refused c = λ g w right s.
+    refuses-none g w c.args.number (deeds.starts c.args.actor) c.args.self.now c.take.new.self s
+    (sym c.in_default.ensures.taken) c.in_default.ensures.gone c.in_default.ensures.others
+
+pub returns-clause-done : goal.returns-clause-done
+returns-clause-done c = λ g w right s.
+    let t = c.args.number in
+    let old = c.args.self.now in
+    let d = deeds.starts c.args.actor in
+    does-so g w t d old c.put_back.new.self old.refs c.in-Some.tenant c.start-result.new.self
+    started_view c.start-result.result s (sym c.in-Some.ensures.taken)
+    (λ kept st serves.
+    let at = store_in w.around t kept.mine in
+    of-actor g c.args.actor kept.quiet _ c.start-result.new.self started_view _ c.start-result.result
+    (c.start-result.ensures.done g kept.quiet at right st)
+    (serves-all-still old.refs at _ s.refs serves
+    (starts-reached g kept.quiet at c.args.actor)))
+    (c.put_back.ensures.put (c.in-Some.ensures.place refl))
+    (λ u apart. c.put_back.ensures.others u apart ∙ c.in-Some.ensures.others u apart)
+
+pub returns-clause-refused : goal.returns-clause-refused
+returns-clause-refused c = λ g w right s.
+    let t = c.args.number in
+    let old = c.args.self.now in
+    let d = deeds.starts c.args.actor in
+    refuses-so g w t d old c.put_back.new.self old.refs c.in-Some.tenant c.start-result.new.self
+    c.start-result.result s (sym c.in-Some.ensures.taken)
+    (λ kept st serves.
+    err-with _ _ c.start-result.result
+    (c.start-result.ensures.refused g kept.quiet (store_in w.around t kept.mine) right st) serves)
+    (c.put_back.ensures.put (c.in-Some.ensures.place refl))
+    (λ u apart. c.put_back.ensures.others u apart ∙ c.in-Some.ensures.others u apart)

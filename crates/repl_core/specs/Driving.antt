@@ -1,0 +1,26 @@
+-- What a list of turns comes to.
+use Rattle.std.specs.Prelude.{ℕ, ◌+◌, List, [], ◌∷◌}
+use Rattle.server_rules.specs.Ground.{Ground}
+use Rattle.server_rules.specs.Turns.{Turn, stepped, next}
+use Rattle.server_rules.specs.World.{World, Stepped, accepted, refused}
+use Rattle.server_rules.specs.declared.refusal.Refusal.{Refusal}
+
+-- the server behind a list of turns
+abbrev pub behind : Ground → World → List Turn → World
+behind g w [] = w
+behind g w (turn ∷ turns) = behind g (next g w turn) turns
+
+-- a turn that was refused: its place in the list, and why
+pub record RefusedData : Type 0 where
+  pub place : ℕ
+  pub why : Refusal
+
+abbrev pub with_refusal : ℕ → Stepped → List RefusedData → List RefusedData
+with_refusal place (accepted w answer) rest = rest
+with_refusal place (refused why) rest = record { place = place; why = why } ∷ rest
+
+-- the refused turns of a list whose first turn has this place
+abbrev pub refusals : Ground → World → ℕ → List Turn → List RefusedData
+refusals g w place [] = []
+refusals g w place (turn ∷ turns) =
+    with_refusal place (stepped g w turn) (refusals g (next g w turn) (place + 1) turns)

@@ -1,0 +1,48 @@
+-- An actor of a tenant goes on as its evaluation says.
+use Rattle.std.specs.Prelude.{◌≡◌, ◌≢◌, ℕ, Option, None, Some, ⊤}
+use Rattle.server_rules.specs.Ground.{Ground}
+use Rattle.server_rules.specs.Plan.{Deed, StepAnswer, hears, starts, asks_for, ends, drains}
+use Rattle.server_rules.specs.Turns.{goes, stepped}
+use Rattle.server_rules.specs.World as worlds
+use Rattle.server_rules.specs.World.{TenantData, World, opens, does, closes, accepted, refused}
+use Rattle.server_rules.specs.declared.actor.Actor.{Actor}
+use Rattle.server_rules.specs.declared.refusal.Refusal.{Refusal}
+use Rattle.tenant_walks.specs.WalkAt.{walk_at}
+use Rattle.tenant_walks.specs.Walked.{AreWalked}
+use Rattle.tenant_walks.specs.declared.walks.Walks.{Walks}
+use Rattle.repl_core.specs.Standing.{open_in, Stands}
+use Rattle.repl_core.specs.declared.machine.Machine.{Machine}
+
+-- the evaluations are those of the forms of a tenant, if it is open
+abbrev pub AreWalkedIn : Walks → Option TenantData → Type 0
+AreWalkedIn walks None = ⊤
+AreWalkedIn walks (Some kept) = AreWalked (walk_at walks) kept.quiet
+
+-- a deed by which no form goes on
+abbrev pub KeepsForms : Deed → Type 0
+KeepsForms (hears piece) = ⊤
+KeepsForms drains = ⊤
+KeepsForms (starts a) = ⊥
+KeepsForms (asks_for a ask) = ⊥
+KeepsForms (ends a e) = ⊥
+
+abbrev pub StepKeepsForms : worlds.Step → Type 0
+StepKeepsForms (opens t) = ⊤
+StepKeepsForms (does t d) = KeepsForms d
+StepKeepsForms (closes t) = ⊤
+
+-- the turn is accepted
+pub record Goes (g : Ground) (w : World) (t : ℕ) (a : Actor) (m : Machine) (walks : Walks)
+    : Type 0 where
+  pub after : World
+  pub answer : StepAnswer
+  pub accepted : stepped g w (goes t a) ≡ accepted after answer
+  pub stands : Stands g m after
+  pub walked : AreWalkedIn walks (open_in t after)
+
+-- the turn is refused so, unless for want of memory, and all is as it was
+pub record Halts (g : Ground) (w : World) (t : ℕ) (a : Actor) (m : Machine) (walks : Walks)
+    (why : Refusal) : Type 0 where
+  pub refused : why ≢ Refusal.NoMemory → stepped g w (goes t a) ≡ refused why
+  pub stands : Stands g m w
+  pub walked : AreWalkedIn walks (open_in t w)

@@ -1,0 +1,141 @@
+// What tenants do.
+ghost use Rattle.std.specs.Prelude.{◌≡◌, ◌≢◌, ◌+◌, ◌<◌, ◌∷◌, [], true, Err};
+ghost use Rattle.std.specs.Prelude.{IfOk, IfErr, OnOk, OnErr};
+ghost use Rattle.repl_asks.specs.View.{ask_view};
+ghost use Rattle.server_rules.specs.Ground.{Ground};
+ghost use Rattle.server_rules.specs.Plan as deeds;
+ghost use Rattle.server_rules.specs.Plan.{messages_heard, reply_given};
+ghost use Rattle.server_rules.specs.World.{World, does};
+ghost use Rattle.ref_table.specs.Standing.{counter_of};
+ghost use Rattle.tenant_turns.specs.Grounds.{IsRight};
+ghost use Rattle.tenant_walks.specs.Ended as endings;
+ghost use Rattle.tenant_world.specs.Answers.{started_view, asked_view, ended_view};
+
+use crate::machine::Machine;
+use bytes::Bytes;
+use ref_history::ListHistory;
+use ref_table::RefTable;
+use repl_asks::Ask;
+use repl_walker::Ending;
+use server_rules::{Actor, Refusal};
+use tenant_world as world;
+use tenant_world::{Asked, Ended, Started};
+
+impl Machine {
+    ghost use Rattle.repl_core.specs.Left.{left_at};
+    ghost use Rattle.repl_core.specs.Standing.{Stands};
+    ghost use Rattle.repl_core.specs.Steps.{Does, Refuses};
+
+    /// A tenant hears a piece of its stream.
+    pub fn hear(&mut self, number: u64, piece: &Bytes) -> Result<usize, Refusal>
+        ensures done { (g : Ground) (w : World) → IsRight g → Stands g self.old w
+            → IfOk result (λ x. Does g w (does number (deeds.hears piece.now)) self.new
+            (messages_heard x)) }
+        ensures refused { (g : Ground) (w : World) → IsRight g → Stands g self.old w
+            → IfErr result (Refuses g w (does number (deeds.hears piece.now)) self.new) }
+        ensures steps { OnOk result
+            ((left_at number self.old).steps ≡ (left_at number self.new).steps + 1) }
+        ensures kept { OnErr result
+            ((left_at number self.new).steps ≡ (left_at number self.old).steps) }
+    {
+        let Some(mut tenant) = self.tenants.take(number) else {
+            return Err(Refusal::NoSuchTenant);
+        };
+        let result = tenant.hear(piece);
+        self.tenants.put_back(number, tenant);
+        result
+    }
+
+    /// An actor begins its next form, or takes up its next request.
+    pub(crate) fn start(&mut self, number: u64, actor: Actor) -> Result<Started, Refusal>
+        ensures done { (g : Ground) (w : World) → IsRight g → Stands g self.old w
+            → IfOk result (λ x. Does g w (does number (deeds.starts actor)) self.new
+            (started_view x)) }
+        ensures refused { (g : Ground) (w : World) → IsRight g → Stands g self.old w
+            → IfErr result (Refuses g w (does number (deeds.starts actor)) self.new) }
+    {
+        let Some(mut tenant) = self.tenants.take(number) else {
+            return Err(Refusal::NoSuchTenant);
+        };
+        let result = tenant.start(actor);
+        self.tenants.put_back(number, tenant);
+        result
+    }
+
+    /// The form of an actor that runs asks this.
+    pub(crate) fn asked(&mut self, number: u64, actor: Actor, ask: &Ask) -> Result<Asked, Refusal>
+        ensures done { (g : Ground) (w : World) → IsRight g → Stands g self.old w
+            → IfOk result (λ x. Does g w (does number (deeds.asks_for actor (ask_view ask.now))) self.new
+            (asked_view x)) }
+        ensures refused { (g : Ground) (w : World) → IsRight g → Stands g self.old w
+            → IfErr result (Refuses g w (does number (deeds.asks_for actor (ask_view ask.now))) self.new) }
+    {
+        if !has_stamps(&self.refs) {
+            return Err(Refusal::NoMemory);
+        }
+        let Some(mut tenant) = self.tenants.take(number) else {
+            return Err(Refusal::NoSuchTenant);
+        };
+        let result = tenant.answer(&mut self.refs, actor, ask);
+        self.tenants.put_back(number, tenant);
+        result
+    }
+
+    /// The form of an actor that runs has ended so.
+    pub(crate) fn ended(
+        &mut self,
+        number: u64,
+        actor: Actor,
+        ending: &Ending,
+    ) -> Result<Ended, Refusal>
+        ensures done { (g : Ground) (w : World) → IsRight g → Stands g self.old w
+            → IfOk result (λ x. Does g w (does number (deeds.ends actor (endings.ended ending.now))) self.new
+            (ended_view x)) }
+        ensures refused { (g : Ground) (w : World) → IsRight g → Stands g self.old w
+            → IfErr result (Refuses g w (does number (deeds.ends actor (endings.ended ending.now))) self.new) }
+    {
+        let Some(mut tenant) = self.tenants.take(number) else {
+            return Err(Refusal::NoSuchTenant);
+        };
+        let parts = world::Ending {
+            job: ending.job(),
+            trace: ending.trace(),
+            finished: ending.end(),
+        };
+        let result = tenant.end_form(actor, &parts);
+        self.tenants.put_back(number, tenant);
+        result
+    }
+
+    /// A tenant's oldest reply is taken out. It takes no memory.
+    pub fn drain(&mut self, number: u64) -> Result<Vec<u8>, Refusal>
+        ensures done { (g : Ground) (w : World) → IsRight g → Stands g self.old w
+            → IfOk result (λ x. Does g w (does number deeds.drains) self.new
+            (reply_given x.items)) }
+        ensures refused { (g : Ground) (w : World) → IsRight g → Stands g self.old w
+            → IfErr result (Refuses g w (does number deeds.drains) self.new) }
+        ensures steps { (left_at number self.new).steps ≡ (left_at number self.old).steps }
+        ensures oldest { IfOk result (λ reply. (left_at number self.old).outbox
+            ≡ reply.items ∷ (left_at number self.new).outbox) }
+        ensures emptied { OnErr result (((left_at number self.old).outbox ≡ [])
+            × ((left_at number self.new).outbox ≡ [])) }
+        ensures free { result ≢ Err Refusal.NoMemory }
+    {
+        let Some(mut tenant) = self.tenants.take(number) else {
+            return Err(Refusal::NoSuchTenant);
+        };
+        let reply = tenant.drain();
+        self.tenants.put_back(number, tenant);
+        match reply {
+            Some(bytes) => Ok(bytes),
+            None => Err(Refusal::Idle),
+        }
+    }
+}
+
+// Whether there is a stamp for one more commit. There always is: no run has 2^128 commits.
+pub(crate) fn has_stamps(refs: &RefTable<ListHistory>) -> bool
+    ensures { result ≡ true → counter_of refs.now < u128.MAX }
+{
+    refs.begin().stamp < u128::MAX
+}

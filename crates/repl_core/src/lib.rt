@@ -1,0 +1,14 @@
+//! The server of many tenants: each step is that of the rules, or is refused as they say.
+#![tactic(auto)]
+
+mod deeds;
+mod going;
+pub mod laws;
+mod machine;
+mod opening;
+mod step;
+mod stepping;
+mod tenants;
+
+pub use machine::{Config, Machine, PLACES, RETRIES, STEPS, SharedText};
+pub use step::{Refused, Step, StepAnswer};

@@ -1,0 +1,69 @@
+// Tenants come and go.
+ghost use Rattle.std.specs.Prelude.{◌≡◌, ◌≢◌, Err, OnOk, IfErr};
+ghost use Rattle.server_rules.specs.Ground.{Ground};
+ghost use Rattle.server_rules.specs.Plan.{tenant_opened, tenant_gone};
+ghost use Rattle.server_rules.specs.World.{World, opens, closes};
+ghost use Rattle.tenant_turns.specs.Grounds.{IsRight};
+ghost use Rattle.repl_core.specs.Standing.{is_reached};
+
+use crate::machine::{Config, Machine};
+use server_rules::Refusal;
+use tenant_world::Tenant;
+
+impl Machine {
+    ghost use Rattle.repl_core.specs.Standing.{Stands};
+    ghost use Rattle.repl_core.specs.Steps.{Does, Refuses};
+
+    /// A tenant comes.
+    pub fn open(&mut self, number: u64) -> Result<(), Refusal>
+        ensures done { (g : Ground) (w : World) → IsRight g → Stands g self.old w
+            → OnOk result (Does g w (opens number) self.new tenant_opened) }
+        ensures refused { (g : Ground) (w : World) → IsRight g → Stands g self.old w
+            → IfErr result (Refuses g w (opens number) self.new) }
+    {
+        if self.is_reached(number) {
+            return Err(Refusal::NumberUsed);
+        }
+        if self.places_taken >= self.places {
+            return Err(Refusal::Full);
+        }
+        let Config {
+            seed,
+            retries,
+            steps,
+            shared: _,
+        } = self.config;
+        let tenant = Tenant::new(self.alloc, seed, number, steps, retries)?;
+        self.tenants.add(number, tenant)?;
+        self.newest = Some(number);
+        self.places_taken += 1;
+        Ok(())
+    }
+
+    // Whether the number is not above all that were opened.
+    fn is_reached(&self, number: u64) -> bool
+        ensures { result ≡ is_reached self.now.newest number }
+    {
+        match self.newest {
+            Some(newest) => number <= newest,
+            None => false,
+        }
+    }
+
+    /// A tenant goes, and its refs with it. It takes no memory.
+    pub fn close(&mut self, number: u64) -> Result<(), Refusal>
+        ensures done { (g : Ground) (w : World) → Stands g self.old w
+            → OnOk result (Does g w (closes number) self.new tenant_gone) }
+        ensures refused { (g : Ground) (w : World) → Stands g self.old w
+            → IfErr result (Refuses g w (closes number) self.new) }
+        ensures free { result ≢ Err Refusal.NoMemory }
+    {
+        let Some(tenant) = self.tenants.remove(number) else {
+            return Err(Refusal::NoSuchTenant);
+        };
+        drop(tenant);
+        self.refs.release(number);
+        self.places_taken = self.places_taken.saturating_sub(1);
+        Ok(())
+    }
+}

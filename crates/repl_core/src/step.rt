@@ -1,0 +1,74 @@
+// What a machine is given and answers.
+ghost use Rattle.std.specs.Prelude.{◌≡◌, IfOk};
+ghost use Rattle.repl_core.specs.Steps.{step_view};
+
+use bytes::Bytes;
+use repl_asks::{Answer, Ask};
+use repl_jobs::Job;
+use repl_walker::Ending;
+use server_rules::{Actor, Refusal};
+use std::alloc::{AllocError, Global};
+
+/// A step of the server. Tenants are named by their numbers.
+#[derive(Drop)]
+pub enum Step {
+    /// A tenant comes; its number is above all before it.
+    Open(u64),
+    /// A tenant hears a piece of its stream.
+    Hear(u64, Bytes),
+    /// An actor begins its next form, or takes up its next request.
+    Start(u64, Actor),
+    /// The form of an actor that runs asks this.
+    Asked(u64, Actor, Ask),
+    /// The form of an actor that runs has ended so.
+    Ended(u64, Actor, Ending),
+    /// A tenant's oldest reply is taken out.
+    Drain(u64),
+    /// A tenant goes.
+    Bye(u64),
+}
+
+/// What a step that was accepted answers.
+#[derive(Drop)]
+pub enum StepAnswer {
+    Opened,
+    /// How many messages became whole.
+    Heard(usize),
+    /// A form is to be evaluated.
+    Begun(Job),
+    /// The request was done at once.
+    Answered,
+    Answer(Answer),
+    Finished,
+    /// The session was closed meanwhile, and the request is answered so.
+    Interrupted,
+    /// A reply.
+    Bytes(Vec<u8>),
+    Gone,
+}
+
+/// A step that was refused, and why.
+#[derive(Drop)]
+pub struct Refused {
+    pub why: Refusal,
+    pub step: Step,
+}
+
+impl Step {
+    /// The same step once more. It fails only for want of memory.
+    pub fn copy(&self, alloc: Global) -> Result<Step, AllocError>
+        ensures { IfOk result (λ copied. step_view copied ≡ step_view self.now) }
+    {
+        match self {
+            Step::Open(number) => Ok(Step::Open(*number)),
+            Step::Hear(number, piece) => Ok(Step::Hear(*number, piece.slice(..)?)),
+            Step::Start(number, actor) => Ok(Step::Start(*number, *actor)),
+            Step::Asked(number, actor, ask) => Ok(Step::Asked(*number, *actor, ask.copy()?)),
+            Step::Ended(number, actor, ending) => {
+                Ok(Step::Ended(*number, *actor, ending.copy(alloc)?))
+            }
+            Step::Drain(number) => Ok(Step::Drain(*number)),
+            Step::Bye(number) => Ok(Step::Bye(*number)),
+        }
+    }
+}

@@ -1,0 +1,84 @@
+// The step of the server.
+ghost use Rattle.std.specs.Prelude.{◌≡◌, IfOk, IfErr};
+ghost use Rattle.server_rules.specs.Ground.{Ground};
+ghost use Rattle.server_rules.specs.World.{World};
+ghost use Rattle.tenant_turns.specs.Grounds.{IsRight};
+ghost use Rattle.tenant_world.specs.Answers.{started_view, asked_view, ended_view};
+ghost use Rattle.repl_core.specs.Steps.{step_view, step_answer_view};
+
+use crate::machine::Machine;
+use crate::step::{Refused, Step, StepAnswer};
+use server_rules::Refusal;
+use tenant_world::{Asked, Ended, Started};
+
+impl Machine {
+    ghost use Rattle.repl_core.specs.Standing.{Stands};
+    ghost use Rattle.repl_core.specs.Steps.{Does, Refuses};
+
+    /// Makes a step. A step that is refused changes nothing, and is given back.
+    pub fn step(&mut self, step: Step) -> Result<StepAnswer, Refused>
+        ensures done { (g : Ground) (w : World) → IsRight g → Stands g self.old w
+            → IfOk result (λ x. Does g w (step_view step) self.new (step_answer_view x)) }
+        ensures refused { (g : Ground) (w : World) → IsRight g → Stands g self.old w
+            → IfErr result (λ it. Refuses g w (step_view step) self.new it.why) }
+        ensures handed_back { IfErr result (λ it. it.step ≡ step) }
+    {
+        match self.make(&step) {
+            Ok(answer) => Ok(answer),
+            Err(why) => Err(Refused { why, step }),
+        }
+    }
+
+    fn make(&mut self, step: &Step) -> Result<StepAnswer, Refusal>
+        ensures done { (g : Ground) (w : World) → IsRight g → Stands g self.old w
+            → IfOk result (λ x. Does g w (step_view step.now) self.new (step_answer_view x)) }
+        ensures refused { (g : Ground) (w : World) → IsRight g → Stands g self.old w
+            → IfErr result (Refuses g w (step_view step.now) self.new) }
+    {
+        match step {
+            Step::Open(number) => {
+                self.open(*number)?;
+                Ok(StepAnswer::Opened)
+            }
+            Step::Hear(number, piece) => Ok(StepAnswer::Heard(self.hear(*number, piece)?)),
+            Step::Start(number, actor) => Ok(of_started(self.start(*number, *actor)?)),
+            Step::Asked(number, actor, ask) => Ok(of_asked(self.asked(*number, *actor, ask)?)),
+            Step::Ended(number, actor, ending) => {
+                Ok(of_ended(self.ended(*number, *actor, ending)?))
+            }
+            Step::Drain(number) => Ok(StepAnswer::Bytes(self.drain(*number)?)),
+            Step::Bye(number) => {
+                self.close(*number)?;
+                Ok(StepAnswer::Gone)
+            }
+        }
+    }
+}
+
+fn of_started(started: Started) -> StepAnswer
+    ensures { step_answer_view result ≡ started_view started }
+{
+    match started {
+        Started::Begun(job) => StepAnswer::Begun(job),
+        Started::Answered => StepAnswer::Answered,
+        Started::Interrupted => StepAnswer::Interrupted,
+    }
+}
+
+fn of_asked(asked: Asked) -> StepAnswer
+    ensures { step_answer_view result ≡ asked_view asked }
+{
+    match asked {
+        Asked::Answer(answer) => StepAnswer::Answer(answer),
+        Asked::Interrupted => StepAnswer::Interrupted,
+    }
+}
+
+fn of_ended(ended: Ended) -> StepAnswer
+    ensures { step_answer_view result ≡ ended_view ended }
+{
+    match ended {
+        Ended::Finished => StepAnswer::Finished,
+        Ended::Interrupted => StepAnswer::Interrupted,
+    }
+}
