@@ -1,6 +1,6 @@
 // A server to which nobody came, and steps of it that are accepted.
 use bytes::Bytes;
-use repl_core::{Config, Machine, SharedText, Step};
+use repl_core::{Config, Machine, SharedText, Step, StepAnswer};
 use server_rules::Refusal;
 use std::alloc::Global;
 use std::process::Abort;
@@ -63,9 +63,9 @@ pub(crate) fn expect_reply(
     number: u64,
     reply: &[u8],
 ) -> Result<(), Fail> {
-    match machine.drain(number) {
-        Ok(bytes) => assert_eq!(rt; bytes.as_slice(), reply, "the reply"),
-        Err(_) => assert!(rt; false, "a reply"),
+    match machine.step(Step::Drain(number)) {
+        Ok(StepAnswer::Bytes(bytes)) => assert_eq!(rt; bytes.as_slice(), reply, "the reply"),
+        _ => assert!(rt; false, "a reply"),
     }
     Ok(())
 }

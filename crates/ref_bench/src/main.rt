@@ -73,13 +73,14 @@ fn set(alloc: Global, table: &mut Table, name: RefName) -> Result<bool, AllocErr
     let intent = Intent {
         sets,
         ensured: Vec::new(alloc),
+        commuted: Vec::new(alloc),
     };
     let point = table.begin();
     if point.stamp == u128::MAX {
         return Ok(false);
     }
     let outcome = table.commit(alloc, tenant_of(name), &intent, point)?;
-    Ok(outcome == Outcome::Committed)
+    Ok(matches!(outcome, Outcome::Committed))
 }
 
 // Sets each ref once.
