@@ -5,7 +5,7 @@ use repl_asks::Ask;
 use repl_values::{RefName, Value, print_into};
 use std::alloc::{AllocError, Global};
 use std::process::Abort;
-use store_calls::{Altered, Call, altered, call};
+use store_calls::{Alteration, Altered, Call, altered, call};
 
 /// Whether a transaction runs, the arguments, and what the call should come to.
 pub(crate) type Row = (bool, &'static [Given], &'static str);
@@ -42,13 +42,14 @@ pub(crate) fn expect_always(
     Ok(())
 }
 
-/// The ref that `alter` alters, or the fault.
+/// The ref that `alter` or `commute` alters, or the fault.
 pub(crate) fn altered_told(
     alloc: Global,
+    by: Alteration,
     in_transaction: bool,
     given: Given,
 ) -> Result<String, AllocError> {
-    match altered(alloc, in_transaction, &value_of(alloc, given)?)? {
+    match altered(alloc, by, in_transaction, &value_of(alloc, given)?)? {
         Altered::Ref(name) => printed_ref(alloc, name),
         Altered::Refused(fault) => printed(alloc, &fault.into_value()),
     }
@@ -64,6 +65,10 @@ fn call_told(alloc: Global, call: Call) -> Result<String, AllocError> {
         Call::Puts(name, value) => {
             let (name, value) = (printed_ref(alloc, name)?, printed(alloc, &value)?);
             format!(in alloc; "{name} gets {value}")
+        }
+        Call::Ensures(name) => {
+            let name = printed_ref(alloc, name)?;
+            format!(in alloc; "ensures {name}")
         }
         Call::AsksValue(ask) => ask_told(alloc, &ask),
     }

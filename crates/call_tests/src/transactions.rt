@@ -1,9 +1,9 @@
-// Refs are read, set and altered.
+// Refs are read, set, altered, commuted and ensured.
 use crate::given::{Given, MINE, OURS, value_of};
 use crate::told::{Row, altered_told, expect, expect_always};
 use function_names::StoreFunction;
 use std::test::Fail;
-use store_calls::may_hold;
+use store_calls::{Alteration, may_hold};
 
 const NOT_RUNNING: &str = "#error{java.lang.IllegalStateException: No transaction running}";
 
@@ -111,25 +111,117 @@ fn no_value_alters_a_ref(rt: HostRuntime) -> Result<(), Fail> {
 }
 
 #[test]
-fn refs_are_altered_in_a_transaction(rt: HostRuntime) -> Result<(), Fail> {
-    for (in_transaction, given, wanted) in [
-        (true, Given::Ref(MINE), "#ref[3]"),
-        (true, Given::Ref(OURS), "#ref[shared/0]"),
-        (false, Given::Ref(MINE), NOT_RUNNING),
+fn no_value_commutes_a_ref(rt: HostRuntime) -> Result<(), Fail> {
+    let rows: [(&'static [Given], &'static str); 6] = [
         (
+            &[Given::Ref(MINE), Given::Int(1)],
+            "#error{java.lang.ClassCastException: Wrong argument to commute: 1}",
+        ),
+        (
+            &[Given::Int(0), Given::Int(1), Given::Nil],
+            "#error{java.lang.ClassCastException: Wrong argument to commute: 0}",
+        ),
+        (
+            &[Given::Ref(OURS), Given::Ref(MINE), Given::Nil],
+            "#error{java.lang.ClassCastException: Wrong argument to commute: #ref[3]}",
+        ),
+        (
+            &[
+                Given::Ref(MINE),
+                Given::Keyword("a"),
+                Given::Nil,
+                Given::Nil,
+            ],
+            "#error{java.lang.ClassCastException: Wrong argument to commute: :a}",
+        ),
+        (
+            &[Given::Ref(MINE)],
+            "#error{clojure.lang.ArityException: Wrong number of args (1) passed to: commute}",
+        ),
+        (
+            &[],
+            "#error{clojure.lang.ArityException: Wrong number of args (0) passed to: commute}",
+        ),
+    ];
+    expect_always(&rt, rt.alloc(), StoreFunction::Commute, &rows)?;
+    Ok(())
+}
+
+#[test]
+fn refs_are_altered_in_a_transaction(rt: HostRuntime) -> Result<(), Fail> {
+    for (by, in_transaction, given, wanted) in [
+        (Alteration::Alter, true, Given::Ref(MINE), "#ref[3]"),
+        (Alteration::Commute, true, Given::Ref(MINE), "#ref[3]"),
+        (Alteration::Alter, true, Given::Ref(OURS), "#ref[shared/0]"),
+        (
+            Alteration::Commute,
+            true,
+            Given::Ref(OURS),
+            "#ref[shared/0]",
+        ),
+        (Alteration::Alter, false, Given::Ref(MINE), NOT_RUNNING),
+        (Alteration::Commute, false, Given::Ref(MINE), NOT_RUNNING),
+        (
+            Alteration::Alter,
             false,
             Given::Atom,
             "#error{java.lang.ClassCastException: Wrong argument to alter: #atom[0]}",
         ),
         (
+            Alteration::Commute,
+            false,
+            Given::Atom,
+            "#error{java.lang.ClassCastException: Wrong argument to commute: #atom[0]}",
+        ),
+        (
+            Alteration::Alter,
             true,
             Given::Nil,
             "#error{java.lang.ClassCastException: Wrong argument to alter: nil}",
         ),
+        (
+            Alteration::Commute,
+            true,
+            Given::Nil,
+            "#error{java.lang.ClassCastException: Wrong argument to commute: nil}",
+        ),
     ] {
-        let told = altered_told(rt.alloc(), in_transaction, given)?;
+        let told = altered_told(rt.alloc(), by, in_transaction, given)?;
         assert_eq!(rt; told.as_str(), wanted);
     }
+    Ok(())
+}
+
+// First the number of arguments, then their kinds, then the transaction.
+#[test]
+fn refs_are_ensured_in_a_transaction(rt: HostRuntime) -> Result<(), Fail> {
+    let rows: [Row; 8] = [
+        (true, &[Given::Ref(MINE)], "ensures #ref[3]"),
+        (true, &[Given::Ref(OURS)], "ensures #ref[shared/0]"),
+        (false, &[Given::Ref(MINE)], NOT_RUNNING),
+        (false, &[Given::Ref(OURS)], NOT_RUNNING),
+        (
+            true,
+            &[Given::Int(5)],
+            "#error{java.lang.ClassCastException: Wrong argument to ensure: 5}",
+        ),
+        (
+            false,
+            &[Given::Atom],
+            "#error{java.lang.ClassCastException: Wrong argument to ensure: #atom[0]}",
+        ),
+        (
+            false,
+            &[],
+            "#error{clojure.lang.ArityException: Wrong number of args (0) passed to: ensure}",
+        ),
+        (
+            true,
+            &[Given::Ref(MINE), Given::Ref(MINE)],
+            "#error{clojure.lang.ArityException: Wrong number of args (2) passed to: ensure}",
+        ),
+    ];
+    expect(&rt, rt.alloc(), StoreFunction::Ensure, &rows)?;
     Ok(())
 }
 

@@ -1,6 +1,8 @@
 // Asks of namespaces, refs and transactions in pairs, and whether the two are the same.
 use crate::parts::text;
-use repl_asks::{Ask, Change, Intent};
+use core_integers::{ArithmeticFunction, IntegerFunction};
+use function_names::CoreFunction;
+use repl_asks::{Ask, Change, Commute, Commuted, Intent};
 use repl_values::{Owner, RefName, Value};
 use std::alloc::{AllocError, Global};
 use std::sync::Arc;
@@ -10,6 +12,25 @@ use trace_comparison::{same_ask, same_intent};
 const OWN: Owner = Owner::Tenant(7);
 
 const OTHER: Owner = Owner::Tenant(8);
+
+// A ref of `OWN`, and the functions that are applied to it, each with the integers behind its
+// value.
+type Applied = (u64, &'static [(&'static str, &'static [i64])]);
+
+const APPLIED: &[&[Applied]] = &[
+    &[],
+    &[(3, &[])],
+    &[(3, &[("+", &[1])])],
+    &[(4, &[("+", &[1])])],
+    &[(3, &[("-", &[1])])],
+    &[(3, &[("+", &[2])])],
+    &[(3, &[("+", &[])])],
+    &[(3, &[("+", &[1, 1])])],
+    &[(3, &[("+", &[1]), ("-", &[1])])],
+    &[(3, &[("-", &[1]), ("+", &[1])])],
+    &[(3, &[("+", &[1])]), (4, &[("+", &[1])])],
+    &[(4, &[("+", &[1])]), (3, &[("+", &[1])])],
+];
 
 // An ask in short.
 #[derive(Clone, Copy)]
@@ -30,7 +51,38 @@ fn own(number: u64) -> RefName {
     RefName { owner: OWN, number }
 }
 
-fn intent(alloc: Global, sets: &[(u64, i64)], ensured: &[u64]) -> Result<Intent, AllocError> {
+fn function_named(name: &str) -> CoreFunction {
+    let arithmetic = match name {
+        "+" => ArithmeticFunction::Add,
+        _ => ArithmeticFunction::Subtract,
+    };
+    CoreFunction::Integer(IntegerFunction::Arithmetic(arithmetic))
+}
+
+fn commutes(
+    alloc: Global,
+    functions: &[(&'static str, &'static [i64])],
+) -> Result<Vec<Commute>, AllocError> {
+    let mut commutes = Vec::new(alloc);
+    for (function, integers) in functions {
+        let mut arguments = Vec::new(alloc);
+        for integer in *integers {
+            arguments.push(Value::Int(*integer))?;
+        }
+        commutes.push(Commute {
+            function: function_named(function),
+            arguments,
+        })?;
+    }
+    Ok(commutes)
+}
+
+fn intent(
+    alloc: Global,
+    sets: &[(u64, i64)],
+    ensured: &[u64],
+    applied: &[Applied],
+) -> Result<Intent, AllocError> {
     let mut changes = Vec::new(alloc);
     for (number, now) in sets {
         changes.push(Change {
@@ -42,9 +94,17 @@ fn intent(alloc: Global, sets: &[(u64, i64)], ensured: &[u64]) -> Result<Intent,
     for number in ensured {
         names.push(own(*number))?;
     }
+    let mut commuted = Vec::new(alloc);
+    for (number, functions) in applied {
+        commuted.push(Commuted {
+            name: own(*number),
+            commutes: commutes(alloc, functions)?,
+        })?;
+    }
     Ok(Intent {
         sets: changes,
         ensured: names,
+        commuted,
     })
 }
 
@@ -68,7 +128,7 @@ fn ask_of(alloc: Global, asked: Asked) -> Result<Ask, AllocError> {
             set,
         }),
         Asked::Commit(sets, ensured) => {
-            let intent = intent(alloc, sets, ensured)?;
+            let intent = intent(alloc, sets, ensured, &[])?;
             Ok(Ask::Commit(Arc::new(alloc, intent)?))
         }
     }
@@ -132,11 +192,24 @@ fn intents_are_the_same_in_their_order(rt: HostRuntime) -> Result<(), Fail> {
         (&[(1, 10), (2, 20)], &[3, 4, 4], false),
     ];
     let a = rt.alloc();
-    let first = intent(a, &[(1, 10), (2, 20)], &[3, 4])?;
+    let first = intent(a, &[(1, 10), (2, 20)], &[3, 4], &[])?;
     for (sets, ensured, expected) in rows {
-        let other = intent(a, sets, ensured)?;
+        let other = intent(a, sets, ensured, &[])?;
         assert_eq!(rt; same_intent(&first, &other), expected);
         assert_eq!(rt; same_intent(&other, &first), expected);
+    }
+    Ok(())
+}
+
+#[test]
+fn commutes_are_the_same_in_all_parts_alone(rt: HostRuntime) -> Result<(), Fail> {
+    let a = rt.alloc();
+    for (place, applied) in APPLIED.iter().enumerate() {
+        let one = intent(a, &[(1, 10)], &[2], applied)?;
+        for (other_place, other_applied) in APPLIED.iter().enumerate() {
+            let other = intent(a, &[(1, 10)], &[2], other_applied)?;
+            assert_eq!(rt; same_intent(&one, &other), place == other_place);
+        }
     }
     Ok(())
 }

@@ -1,14 +1,14 @@
 -- Reads and sets of refs, and what else is asked of the store (the Clojure reference, Refs and Transactions).
-use Rattle.std.specs.Prelude.{List, ◌∷◌, Option, Some, None, Result, Ok, Err, if◌then◌else◌}
+use Rattle.std.specs.Prelude.{List, Bool, true, false, Option, Some, None, Result, Ok, Err, if◌then◌else◌}
 use Rattle.value_data.specs.Datum.{Datum}
 use Rattle.repl_faults.specs.Failure.{Failure, broken}
 use Rattle.repl_faults.specs.declared.rule.Rule.{Rule}
 use Rattle.function_names.specs.declared.store.StoreFunction.{StoreFunction}
 use Rattle.repl_asks.specs.Transactions.{RefNameData}
 use Rattle.repl_asks.specs.Exchange.{AskData, read, ReadingData, found, retry, reading_in, value_in}
-use Rattle.tx_attempt.specs.Operations.{got, put, value_of}
-use Rattle.store_calls.specs.Calling.{CallData, refused, reads, puts, asks_value, call_of, may_hold}
-use Rattle.evaluation_rules.specs.Doing.{left, retried, asking, looking, noting, Part, ◌>>=◌, fails}
+use Rattle.tx_attempt.specs.Operations.{got, put, ensured, value_of, is_commuted}
+use Rattle.store_calls.specs.Calling.{CallData, refused, reads, puts, ensures, asks_value, call_of, may_hold}
+use Rattle.evaluation_rules.specs.Doing.{left, failed, retried, asking, looking, noting, Part, ◌>>=◌, fails}
 
 -- A value that was read is noted. One that is kept no longer ends the attempt, and another is made.
 abbrev pub read_value : RefNameData → ReadingData → Part Datum
@@ -23,13 +23,28 @@ known_or_read name None next kept = asking (read name) (λ answer. read_value na
 abbrev pub ref_value : RefNameData → Part Datum
 ref_value name next kept = looking (λ ops. known_or_read name (value_of name ops) next kept)
 
--- a ref is set, and the value given
-abbrev pub put_value : RefNameData → Datum → Part Datum
-put_value name d next kept = noting (put name d) (next d kept)
+-- A ref is set, and the value given. One that was commuted is set no more.
+abbrev pub put_by : RefNameData → Datum → Bool → Part Datum
+put_by name d true next kept = left (failed (broken Rule.NoSetAfterCommute)) kept
+put_by name d false next kept = noting (put name d) (next d kept)
+
+unfoldable pub put_value : RefNameData → Datum → Part Datum
+put_value name d next kept = looking (λ ops. put_by name d (is_commuted name ops) next kept)
 
 -- the same, where the ref may hold it
 unfoldable pub held_value : RefNameData → Datum → Part Datum
 held_value name d = if may_hold name.owner d then put_value name d else fails (broken Rule.SharedRefsArePlain)
+
+-- the value of a ref that nobody else is to change
+abbrev pub ensure_noted : RefNameData → Datum → Part Datum
+ensure_noted name d next kept = noting (ensured name d) (next d kept)
+
+unfoldable pub ensured_value : RefNameData → Part Datum
+ensured_value name = ref_value name >>= ensure_noted name
+
+-- the same, where it was read
+abbrev pub ensured_read : RefNameData → ReadingData → Part Datum
+ensured_read name r = read_value name r >>= ensure_noted name
 
 abbrev pub asked_value : AskData → Part Datum
 asked_value ask next kept = asking ask (λ answer. next (value_in answer) kept)
@@ -38,13 +53,14 @@ abbrev pub called_value : CallData → Part Datum
 called_value (refused f) = fails f
 called_value (reads name) = ref_value name
 called_value (puts name d) = put_value name d
+called_value (ensures name) = ensured_value name
 called_value (asks_value ask) = asked_value ask
 
 -- a call of a function that asks the store
 unfoldable pub store_call : StoreFunction → List Datum → Part Datum
 store_call f args next kept = called_value (call_of f kept.running args) next kept
 
--- `alter` reads a ref, calls its function with the value and these arguments, and sets what that gives.
-abbrev pub altered : (List Datum → Part Datum) → List Datum → Result RefNameData Failure → Part Datum
-altered call args (Ok name) = ref_value name >>= λ d. (call (d ∷ args) >>= held_value name)
-altered call args (Err f) = fails f
+-- `alter` and `commute` read a ref and go on with its value
+abbrev pub altered : Result RefNameData Failure → (RefNameData → Datum → Part Datum) → Part Datum
+altered (Ok name) behind = ref_value name >>= behind name
+altered (Err f) behind = fails f

@@ -11,6 +11,8 @@ const STORE_NAMES: &[(&str, &[usize])] = &[
     ("deref", &[1]),
     ("ref-set", &[2]),
     ("alter", &[2, 3, 4, 5, 6, 7]),
+    ("commute", &[2, 3, 4, 5, 6, 7]),
+    ("ensure", &[1]),
     ("ref-history-count", &[1]),
     ("ref-min-history", &[1, 2]),
     ("ref-max-history", &[1, 2]),

@@ -1,10 +1,12 @@
-//! Makes refs, sets each of them in rounds and reads each as it was at every round, so that the
-//! table of refs can be timed alone. Standard input has the number of refs and that of rounds.
+//! Makes refs, sets each of them in rounds, reads each as it was at every round, and commutes one more
+//! ref in one transaction, so that the table of refs can be timed alone. Standard input has the number
+//! of refs, that of rounds and that of commutes.
 #![tactic(auto)]
 
+use function_names::CoreFunction;
 use ref_history::{Bounds, ListHistory};
 use ref_table::{Outcome, Point, RefTable};
-use repl_asks::{Change, Intent, Reading};
+use repl_asks::{Change, Commute, Commuted, Intent, Reading};
 use repl_values::{Owner, RefName, Value};
 use std::alloc::{AllocError, Global};
 use std::io;
@@ -18,6 +20,7 @@ type Table = RefTable<ListHistory>;
 struct Size {
     refs: u64,
     rounds: u64,
+    commutes: u64,
 }
 
 #[derive(Clone, Copy, Debug, Default)]
@@ -32,6 +35,7 @@ fn size_of(text: &str) -> Size {
     Size {
         refs: number_of(words.next()),
         rounds: number_of(words.next()),
+        commutes: number_of(words.next()),
     }
 }
 
@@ -73,13 +77,14 @@ fn set(alloc: Global, table: &mut Table, name: RefName) -> Result<bool, AllocErr
     let intent = Intent {
         sets,
         ensured: Vec::new(alloc),
+        commuted: Vec::new(alloc),
     };
     let point = table.begin();
     if point.stamp == u128::MAX {
         return Ok(false);
     }
     let outcome = table.commit(alloc, tenant_of(name), &intent, point)?;
-    Ok(outcome == Outcome::Committed)
+    Ok(matches!(outcome, Outcome::Committed))
 }
 
 // Sets each ref once.
@@ -114,6 +119,40 @@ fn read_all(
     Ok(())
 }
 
+// The increments of one ref in one transaction.
+fn increments(alloc: Global, name: RefName, times: u64) -> Result<Commuted, AllocError> {
+    let mut commutes = Vec::new(alloc);
+    if let Some(function) = CoreFunction::named("inc") {
+        for _ in 0..times {
+            let arguments = Vec::new(alloc);
+            commutes.push(Commute {
+                function,
+                arguments,
+            })?;
+        }
+    }
+    Ok(Commuted { name, commutes })
+}
+
+// A commit that commutes one new ref so many times. Answers whether it was done.
+fn commute(alloc: Global, table: &mut Table, times: u64) -> Result<bool, AllocError> {
+    let bounds = Bounds { least: 0, most: 0 };
+    let name = table.make(alloc, Owner::Tenant(0), Value::Int(0), bounds)?;
+    let mut commuted = Vec::new(alloc);
+    commuted.push(increments(alloc, name, times)?)?;
+    let intent = Intent {
+        sets: Vec::new(alloc),
+        ensured: Vec::new(alloc),
+        commuted,
+    };
+    let point = table.begin();
+    if point.stamp == u128::MAX {
+        return Ok(false);
+    }
+    let outcome = table.commit(alloc, tenant_of(name), &intent, point)?;
+    Ok(matches!(outcome, Outcome::Committed))
+}
+
 fn run(alloc: Global, size: Size) -> Result<Counts, AllocError> {
     let mut table = RefTable::new(alloc, ListHistory::new(alloc));
     let mut counts = Counts::default();
@@ -125,6 +164,9 @@ fn run(alloc: Global, size: Size) -> Result<Counts, AllocError> {
     }
     for point in &points {
         read_all(&mut table, &names, *point, &mut counts)?;
+    }
+    if size.commutes > 0 && commute(alloc, &mut table, size.commutes)? {
+        counts.committed = counts.committed.saturating_add(1);
     }
     Ok(counts)
 }

@@ -1,32 +1,46 @@
 -- What a commit looks at.
 use Rattle.std.proofs.Common.{◌≡◌, ℕ, List, [], ◌∷◌, ◌++◌, Bool, true, false, ◌&&◌, ◌||◌, is_some}
-use Rattle.std.proofs.Common.{map}
-use Rattle.std.proofs.Common.{Option, Some, ◌+◌, ◌<◌, length, refl, sym, ap, ap₂, ◌∙◌, subst, arith}
+use Rattle.std.proofs.Common.{map, Option, Some, None, ◌+◌, refl, sym, ap, ap₂, ◌∙◌, subst}
+use Rattle.std.specs.Prelude.{Result, Ok, Err}
+use Rattle.std.proofs.lemmas.List.{map-append}
+use Rattle.value_data.specs.Datum.{Datum}
 use Rattle.value_data.specs.declared.value.RefName.{RefName}
+use Rattle.repl_faults.specs.Failure.{Failure, ◌>>=◌}
 use Rattle.repl_asks.specs.Transactions.{RefNameData, ChangeData, IntentData}
-use Rattle.repl_asks.specs.Exchange.{verdict, committed}
-use Rattle.repl_asks.specs.View.{name_view, change_view}
+use Rattle.repl_asks.specs.Exchange.{AnswerData, verdict, committed, faulted}
+use Rattle.repl_asks.specs.View.{name_view, change_view, commuted_view}
 use Rattle.repl_asks.specs.declared.intent.Change.{Change}
+use Rattle.repl_asks.specs.declared.intent.Commuted.{Commuted}
 use Rattle.server_rules.specs.Numbered.{Entry}
 use Rattle.server_rules.specs.Versions.{Ref}
-use Rattle.server_rules.specs.Store.{Store, named}
-use Rattle.server_rules.specs.Commit.{touched, all_there, all_fit, are_distinct, fits}
-use Rattle.server_rules.specs.Commit.{is_newer_ref}
-use Rattle.server_rules.specs.Commit.{any_newer, with_changes, raised, with_sets, checked}
-use Rattle.server_rules.specs.Commit.{commit_by}
+use Rattle.server_rules.specs.Store.{Store, named, left_attempt}
+use Rattle.server_rules.specs.Performed.{as_was, tells}
+use Rattle.server_rules.specs.Commit.{guarded, touched, changing, all_there, all_fit, all_take}
+use Rattle.server_rules.specs.Commit.{are_distinct, fits, is_newer_ref, any_newer, all_folded}
+use Rattle.server_rules.specs.Commit.{with_changes, raised, with_all, concluded, checked, commit_by}
+use Rattle.server_rules.proofs.Calls.{folded-names}
 use Rattle.ref_history.specs.declared.ref_id.RefId.{RefId}
 use Rattle.ref_table.specs.Refs.{Refs, store_of, after}
-use Rattle.ref_table.specs.Directory.{id_named, all_named}
+use Rattle.ref_table.specs.Directory.{id_named, all_named, ids_named}
+use Rattle.ref_table.specs.Placing.{with_place, places_of, all_distinct}
+use Rattle.ref_table.specs.Accepting.{may_commit, is_acceptable}
 use Rattle.ref_table.specs.Standing.{Stands}
 use Rattle.ref_table.specs.Told.{Performs}
 use Rattle.ref_table.specs.declared.directory.Directory.{Directory}
 use Rattle.ref_table.specs.declared.table.RefTable.{RefTable}
+use Rattle.ref_table.proofs.Once.{both_true, distinct-ids}
+use Rattle.ref_table.proofs.Rooms.{same_id}
 use Rattle.ref_table.proofs.Tables.{all-named, seen-stands}
 
-set-names : (sets : List Change)
+pub set-names : (sets : List Change)
     → map (λ c. c.name) (map change_view sets) ≡ map (λ c. name_view c.name) sets
 set-names [] = refl
 set-names (c ∷ sets) = ap (λ names. name_view c.name ∷ names) (set-names sets)
+
+pub commuted-names : (cs : List Commuted)
+    → map (λ c. c.name) (map commuted_view cs) ≡ map (λ c. name_view c.name) cs
+commuted-names [] = refl
+commuted-names (c ∷ cs) = ap (λ names. name_view c.name ∷ names) (commuted-names cs)
 
 named-append : (d : Directory) (caller : ℕ) (xs ys : List RefNameData)
     → all_named d caller (xs ++ ys) ≡ (all_named d caller xs && all_named d caller ys)
@@ -48,14 +62,21 @@ newer-append point (x ∷ xs) ys s =
       groups true b c = refl
       groups false b c = refl
 
--- all are there where those that are set and those that are ensured are there
-pub both_named : (d : Directory) (caller : ℕ) (sets : List Change) (ensured : List RefName)
-    → all_named d caller (map (λ c. c.name) (map change_view sets) ++ map name_view ensured)
+-- all are there where those that are set, those that are ensured and those that are commuted are
+pub three_named : (d : Directory) (caller : ℕ) (sets : List Change) (ensured : List RefName)
+    (commuted : List Commuted)
+    → all_named d caller (map (λ c. c.name) (map change_view sets) ++ map name_view ensured
+    ++ map (λ c. c.name) (map commuted_view commuted))
     ≡ (all_named d caller (map (λ c. name_view c.name) sets)
-    && all_named d caller (map name_view ensured))
-both_named d caller sets ensured =
-    ap (λ names. all_named d caller (names ++ map name_view ensured)) (set-names sets)
-    ∙ named-append d caller (map (λ c. name_view c.name) sets) (map name_view ensured)
+    && all_named d caller (map name_view ensured)
+    && all_named d caller (map (λ c. name_view c.name) commuted))
+three_named d caller sets ensured commuted =
+    ap₂ (λ names more. all_named d caller (names ++ map name_view ensured ++ more))
+    (set-names sets) (commuted-names commuted)
+    ∙ named-append d caller (map (λ c. name_view c.name) sets ++ map name_view ensured)
+    (map (λ c. name_view c.name) commuted)
+    ∙ ap (λ b. b && all_named d caller (map (λ c. name_view c.name) commuted))
+    (named-append d caller (map (λ c. name_view c.name) sets) (map name_view ensured))
 
 -- one is newer where one that is set or one that is ensured is
 pub either_newer : (point : ℕ) (sets : List Change) (ensured : List RefName) (s : Store)
@@ -66,59 +87,161 @@ either_newer point sets ensured s =
     ap (λ names. any_newer point (names ++ map name_view ensured) s) (set-names sets)
     ∙ newer-append point (map (λ c. name_view c.name) sets) (map name_view ensured) s
 
+-- What is acceptable
+
+-- the refs that change are there where all that are named are
+changing-named : (d : Directory) (caller : ℕ) (intent : IntentData)
+    → all_named d caller (touched intent) ≡ true → all_named d caller (changing intent) ≡ true
+changing-named d caller intent e =
+    let sets = map (λ c. c.name) intent.sets in
+    let commuted = map (λ c. c.name) intent.commuted in
+    let all = both_true (all_named d caller (guarded intent)) (all_named d caller commuted)
+    (sym (named-append d caller (guarded intent) commuted) ∙ e) in
+    let first = both_true (all_named d caller sets) (all_named d caller intent.ensured)
+    (sym (named-append d caller sets intent.ensured) ∙ all.0) in
+    named-append d caller sets commuted ∙ ap₂ ◌&&◌ first.0 all.1
+
+-- what was looked through is what the rules want
+pub acceptable : {H : Type 0} (stands : H → RefId → Ref → Type 0) (t : RefTable H) (r : Refs)
+    (caller : ℕ) (points : List (Entry ℕ)) (intent : IntentData) → Stands stands t r
+    → is_acceptable t.directory caller intent
+    ≡ (all_there (touched intent) (store_of caller points r) && fits intent)
+acceptable stands t r caller points intent s =
+    by (all_named t.directory caller (touched intent))
+    (all_there (touched intent) (store_of caller points r)) (all_fit intent.sets)
+    (are_distinct (changing intent))
+    (all_distinct same_id (ids_named t.directory caller (changing intent)))
+    (all_take intent.commuted)
+    (all-named stands t (store_of caller points r) r (touched intent)
+    (seen-stands stands t caller points r s))
+    (λ e. distinct-ids t.directory caller (changing intent) s.apart
+    (changing-named t.directory caller intent e)) where
+      turned : (f a t : Bool) → ((f && t) && a) ≡ ((f && a) && t)
+      turned true true true = refl
+      turned true true false = refl
+      turned true false true = refl
+      turned true false false = refl
+      turned false a t = refl
+
+      by : (n there f a d t : Bool) → n ≡ there → (n ≡ true → d ≡ a)
+          → (((n && f) && t) && d) ≡ (there && ((f && a) && t))
+      by false there f a d t e same = ap (λ b. b && ((f && a) && t)) e
+      by true there f a d t e same =
+          ap (λ b. (f && t) && b) (same refl) ∙ turned f a t ∙ ap (λ b. b && ((f && a) && t)) e
+
+pub record IsAccepted (d : Directory) (caller : ℕ) (intent : IntentData) : Type 0 where
+  pub takes : all_take intent.commuted ≡ true
+  pub named : all_named d caller (changing intent) ≡ true
+  pub once : all_distinct same_id (ids_named d caller (changing intent)) ≡ true
+
+pub accepted : (d : Directory) (caller : ℕ) (intent : IntentData)
+    → is_acceptable d caller intent ≡ true → IsAccepted d caller intent
+accepted d caller intent e =
+    let all = both_true (may_commit d caller intent)
+    (all_distinct same_id (ids_named d caller (changing intent))) e in
+    let may = both_true (all_named d caller (touched intent) && all_fit intent.sets)
+    (all_take intent.commuted) all.0 in
+    record {
+      takes = may.1;
+      named = changing-named d caller intent
+          (both_true (all_named d caller (touched intent)) (all_fit intent.sets) may.0).0;
+      once = all.1;
+    }
+
 -- The commit, by what was found out
 
-regroup : (a b c : Bool) → ((a && b) && c) ≡ (a && (b && c))
-regroup true b c = refl
-regroup false b c = refl
+pub checked-performs : {H : Type 0} (stands : H → RefId → Ref → Type 0) (new : RefTable H)
+    (r : Refs) (caller : ℕ) (points : List (Entry ℕ)) (seat point : ℕ) (intent : IntentData)
+    (o : Option ℕ) (answer : Option AnswerData) (fit newer : Bool) → o ≡ Some point
+    → fit ≡ (all_there (touched intent) (store_of caller points r) && fits intent)
+    → newer ≡ any_newer point (guarded intent) (store_of caller points r)
+    → Performs stands new r answer (checked seat intent (store_of caller points r) fit newer)
+    → Performs stands new r answer (commit_by seat intent (store_of caller points r) o)
+checked-performs stands new r caller points seat point intent o answer fit newer runs is late did =
+    let s = store_of caller points r in
+    subst (Performs stands new r answer)
+    (sym (ap (commit_by seat intent s) runs ∙ sym (ap₂ (checked seat intent s) is late))) did
 
--- what was looked through, and whether each ref is set once
-pub may-commit : {H : Type 0} (stands : H → RefId → Ref → Type 0) (t : RefTable H) (r : Refs)
-    (caller : ℕ) (points : List (Entry ℕ)) (intent : IntentData) (may : Bool) → Stands stands t r
-    → may ≡ (all_named t.directory caller (touched intent) && all_fit intent.sets)
-    → (may && are_distinct intent.sets)
-    ≡ (all_there (touched intent) (store_of caller points r) && fits intent)
-may-commit stands t r caller points intent may s looked =
-    let store = store_of caller points r in
-    ap (λ b. b && are_distinct intent.sets) (looked ∙ ap (λ b. b && all_fit intent.sets)
-    (all-named stands t store r (touched intent) (seen-stands stands t caller points r s)))
-    ∙ regroup (all_there (touched intent) store) (all_fit intent.sets) (are_distinct intent.sets)
+-- where a commit changes nothing
+pub unchanged-performs : {H : Type 0} (stands : H → RefId → Ref → Type 0) (t : RefTable H)
+    (r : Refs) (caller : ℕ) (points : List (Entry ℕ)) (seat : ℕ) (answer : AnswerData)
+    → Stands stands t r
+    → Performs stands t r (Some answer)
+    (tells answer (left_attempt seat (store_of caller points r)))
+unchanged-performs stands t r caller points seat answer s = record {
+  told = refl;
+  left = seen-stands stands t caller points r s;
+}
 
-commit-checked : (seat point : ℕ) (intent : IntentData) (s : Store) (o : Option ℕ) (b n : Bool)
-    → o ≡ Some point → b ≡ (all_there (touched intent) s && fits intent)
-    → n ≡ any_newer point (touched intent) s
-    → commit_by seat intent s o ≡ checked seat intent s b n
-commit-checked seat point intent s o b n runs fit newer =
-    ap (commit_by seat intent s) runs ∙ sym (ap₂ (checked seat intent s) fit newer)
+pub refused-performs : {H : Type 0} (stands : H → RefId → Ref → Type 0) (t : RefTable H)
+    (r : Refs) (caller : ℕ) (points : List (Entry ℕ)) → Stands stands t r
+    → Performs stands t r None (as_was (store_of caller points r) None)
+refused-performs stands t r caller points s = record {
+  told = refl;
+  left = seen-stands stands t caller points r s;
+}
+
+pub faulted-performs : {H : Type 0} (stands : H → RefId → Ref → Type 0) (t : RefTable H)
+    (r : Refs) (caller : ℕ) (points : List (Entry ℕ)) (seat : ℕ) (sets : List ChangeData)
+    (f : Failure) (folds : Result (List ChangeData) Failure) → folds ≡ Err f → Stands stands t r
+    → Performs stands t r (Some (verdict (faulted f)))
+    (concluded seat sets (store_of caller points r) folds)
+faulted-performs stands t r caller points seat sets f folds is s =
+    subst (λ folds. Performs stands t r (Some (verdict (faulted f)))
+    (concluded seat sets (store_of caller points r) folds)) (sym is)
+    (unchanged-performs stands t r caller points seat (verdict (faulted f)) s)
 
 pub committed-performs : {H : Type 0} (stands : H → RefId → Ref → Type 0) (new : RefTable H)
-    (r : Refs) (caller : ℕ) (points : List (Entry ℕ)) (seat point : ℕ) (intent : IntentData)
-    (o : Option ℕ) → o ≡ Some point
-    → true ≡ (all_there (touched intent) (store_of caller points r) && fits intent)
-    → false ≡ any_newer point (touched intent) (store_of caller points r)
-    → Stands stands new (after (with_sets intent.sets (store_of caller points r)) r)
+    (r : Refs) (caller : ℕ) (points : List (Entry ℕ)) (seat : ℕ) (sets changes : List ChangeData)
+    (folds : Result (List ChangeData) Failure) → folds ≡ Ok changes
+    → Stands stands new (after (with_all (sets ++ changes) (store_of caller points r)) r)
     → Performs stands new r (Some (verdict committed))
-    (commit_by seat intent (store_of caller points r) o)
-committed-performs stands new r caller points seat point intent o runs fit older left =
-    subst (Performs stands new r (Some (verdict committed)))
-    (sym (commit-checked seat point intent (store_of caller points r) o true false runs fit older))
+    (concluded seat sets (store_of caller points r) folds)
+committed-performs stands new r caller points seat sets changes folds is left =
+    subst (λ folds. Performs stands new r (Some (verdict committed))
+    (concluded seat sets (store_of caller points r) folds)) (sym is)
     (record { told = refl; left = left })
 
--- where a ref is set the counter rises
-pub with_sets-some : (sets : List ChangeData) (s : Store) → 0 < length sets
-    → with_sets sets s ≡ with_changes (s.around.counter + 1) sets (raised s)
-with_sets-some [] s some = absurd (omega arith)
-with_sets-some (c ∷ cs) s some = refl
+-- The places of what changes
 
--- the refs that are set are there where all that are named are
-pub sets-named : (d : Directory) (caller : ℕ) (intent : IntentData)
-    → (all_named d caller (touched intent) && all_fit intent.sets) ≡ true
-    → all_named d caller (map (λ c. c.name) intent.sets) ≡ true
-sets-named d caller intent e =
-    first_true (all_named d caller (map (λ c. c.name) intent.sets))
-    (all_named d caller intent.ensured)
-    (sym (named-append d caller (map (λ c. c.name) intent.sets) intent.ensured)
-    ∙ first_true (all_named d caller (touched intent)) (all_fit intent.sets) e) where
-      first_true : (a b : Bool) → (a && b) ≡ true → a ≡ true
-      first_true true b e = refl
-      first_true false b e = cc
+-- what gives a value was given one
+pub given-first : {A B : Type 0} (first : Result A Failure) (f : A → B) (y : B)
+    → (first >>= λ x. Ok (f x)) ≡ Ok y → (x : A) × (first ≡ Ok x) × (f x ≡ y)
+given-first (Err e) f y is = cc
+given-first (Ok x) f y is = (x, refl, same (f x) y is) where
+  same : {B : Type 0} (x y : B) → ◌≡◌ {A = Result B Failure} (Ok x) (Ok y) → x ≡ y
+  same x y is = cc
+
+pub failed-first : {A B : Type 0} (first : Result A Failure) (f : A → B) (e : Failure)
+    → (first >>= λ x. Ok (f x)) ≡ Err e → first ≡ Err e
+failed-first (Err d) f e is = ap Err (same d e is) where
+  same : {B : Type 0} (x y : Failure) → ◌≡◌ {A = Result B Failure} (Err x) (Err y) → x ≡ y
+  same x y is = cc
+failed-first (Ok x) f e is = cc
+
+-- where refs that are there change, there are places
+pub no-places : (d : Directory) (caller : ℕ) (cs : List ChangeData)
+    → all_named d caller (map (λ c. c.name) cs) ≡ true → [] ≡ places_of d caller cs → cs ≡ []
+no-places d caller [] named none = refl
+no-places d caller (c ∷ cs) named none =
+    absurd (by (id_named d caller c.name)
+    (both_true (is_some (id_named d caller c.name)) _ named).0 none) where
+      by : (o : Option RefId) → is_some o ≡ true
+          → [] ≡ with_place o c.now (places_of d caller cs) → ⊥
+      by None there none = cc
+      by (Some id) there none = cc
+
+-- the counter rises where a ref changes
+pub with_all-some : (cs : List ChangeData) (s : Store) → (cs ≡ [] → ⊥)
+    → with_all cs s ≡ with_changes (s.around.counter + 1) cs (raised s)
+with_all-some [] s some = absurd (some refl)
+with_all-some (c ∷ cs) s some = refl
+
+-- those of the refs that are set and of those that are commuted
+pub changed-names : (value : RefNameData → Option Datum) (intent : IntentData)
+    (changes : List ChangeData) → all_folded value intent.commuted ≡ Ok changes
+    → map (λ c. c.name) (intent.sets ++ changes) ≡ changing intent
+changed-names value intent changes e =
+    map-append (λ c. c.name) intent.sets changes
+    ∙ ap (λ names. map (λ c. c.name) intent.sets ++ names)
+    (folded-names value intent.commuted changes e)

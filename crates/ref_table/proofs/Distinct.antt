@@ -86,10 +86,15 @@ all_new-repeat cmp s k ks added is_not new =
     (sym new ∙ is_not)
 
 -- the first of those that are left
+pub drop-got : {A : Type 0} (xs : List A) (i : ℕ) (x : A) → i < length xs
+    → drop i xs ≡ get_or xs i x ∷ drop (i + 1) xs
+drop-got [] i x below = absurd (omega arith)
+drop-got (y ∷ xs) zero x below = refl
+drop-got (y ∷ xs) (suc i) x below =
+    let next : suc (i + 1) ≡ suc i + 1 = omega arith in
+    drop-got xs i x (omega arith) ∙ ap (λ n. get_or xs i x ∷ drop n (y ∷ xs)) next
+
 pub drop-item : {A : Type 0} (xs : List A) (i : ℕ) (x : A) → i < length xs → x ≡ get_or xs i x
     → drop i xs ≡ x ∷ drop (i + 1) xs
-drop-item [] i x below e = absurd (omega arith)
-drop-item (y ∷ xs) zero x below e = ap (λ z. z ∷ xs) (sym e)
-drop-item (y ∷ xs) (suc i) x below e =
-    let next : suc (i + 1) ≡ suc i + 1 = omega arith in
-    drop-item xs i x (omega arith) e ∙ ap (λ n. x ∷ drop n (y ∷ xs)) next
+drop-item xs i x below e =
+    drop-got xs i x below ∙ ap (λ y. y ∷ drop (i + 1) xs) (sym e)

@@ -7,5 +7,6 @@ pub mod Rooms
 pub mod Adding
 pub mod Committing
 pub mod Once
+pub mod Commuting
 pub mod Telling
 pub mod Values

@@ -1,28 +1,23 @@
 -- Refs that are kept under different ids have different names.
-use Rattle.std.proofs.Common.{◌≡◌, ℕ, List, [], ◌∷◌, Bool, true, false, not, ◌&&◌, ◌||◌, ◌==◌}
-use Rattle.std.proofs.Common.{is_some}
-use Rattle.std.proofs.Common.{Option, Some, None, map, refl, sym, ap, ap₂, ◌∙◌, subst}
+use Rattle.std.proofs.Common.{◌≡◌, ℕ, List, [], ◌∷◌, ◌++◌, Bool, true, false, not, ◌&&◌, ◌||◌}
+use Rattle.std.proofs.Common.{◌==◌, is_some, Option, Some, None, map, refl, sym, ap, ap₂, ◌∙◌}
+use Rattle.std.proofs.Common.{subst}
 use Rattle.std.specs.List.{list_any}
 use Rattle.std.specs.Cmp.{unsigned_tied}
 use Rattle.std.proofs.lemmas.Bool.{eqb-true, eq-eqb}
-use Rattle.value_data.specs.Datum.{OwnerData, shared, tenant}
-use Rattle.repl_asks.specs.Transactions.{RefNameData, ChangeData, IntentData}
-use Rattle.server_rules.specs.Numbered.{Entry}
-use Rattle.server_rules.specs.Versions.{Ref}
-use Rattle.server_rules.specs.Commit.{same_owner, same_name, touched, all_there, all_fit, fits}
-use Rattle.server_rules.specs.Commit.{are_distinct}
+use Rattle.value_data.specs.Datum.{Datum, OwnerData, shared, tenant}
+use Rattle.repl_asks.specs.Transactions.{RefNameData, ChangeData}
+use Rattle.repl_asks.specs.View.{change_view}
+use Rattle.repl_asks.specs.declared.intent.Change.{Change}
+use Rattle.server_rules.specs.Commit.{same_owner, same_name, are_distinct}
 use Rattle.ref_history.specs.declared.ref_id.RefId.{RefId}
-use Rattle.ref_table.specs.Refs.{Refs, store_of}
-use Rattle.ref_table.specs.Directory.{ids_of, id_named, all_named}
+use Rattle.ref_table.specs.Directory.{ids_of, id_named, all_named, with_id, ids_named}
 use Rattle.ref_table.specs.Placing.{placed_view, with_place, places_of, all_distinct}
-use Rattle.ref_table.specs.Standing.{AreApart, Stands}
+use Rattle.ref_table.specs.Standing.{AreApart}
 use Rattle.ref_table.specs.declared.directory.Directory.{Directory}
 use Rattle.ref_table.specs.declared.placing.Placed.{Placed}
-use Rattle.ref_table.specs.declared.table.RefTable.{RefTable}
 use Rattle.ref_table.proofs.Seen.{id-there}
 use Rattle.ref_table.proofs.Rooms.{same_id}
-use Rattle.ref_table.proofs.Adding.{same_pair}
-use Rattle.ref_table.proofs.Committing.{sets-named, may-commit}
 
 both-ways : (a b : Bool) → (a ≡ true → b ≡ true) → (b ≡ true → a ≡ true) → a ≡ b
 both-ways true b f g = sym (f refl)
@@ -75,62 +70,72 @@ named-first : (o : Option RefId) (rest : Bool) → (is_some o && rest) ≡ true
 named-first None rest e = cc
 named-first (Some i) rest e = (i, refl, e)
 
-abbrev name_of : ChangeData → RefNameData
-name_of c = c.name
-
 -- whether an id or a name comes again
 any-same : (d : Directory) (caller : ℕ) (name : RefNameData) (i : RefId)
-    (cs : List ChangeData) (ps : List Placed) → AreApart (ids_of d)
-    → id_named d caller name ≡ Some i → all_named d caller (map name_of cs) ≡ true
-    → map placed_view ps ≡ places_of d caller cs
-    → list_any (same_id i) (map (λ p. p.id) ps) ≡ list_any (λ c. same_name name c.name) cs
-any-same d caller name i [] [] apart here named placed = refl
-any-same d caller name i [] (p ∷ ps) apart here named placed = cc
-any-same d caller name i (c ∷ cs) [] apart here named placed =
-    let first = named-first (id_named d caller c.name) (all_named d caller (map name_of cs)) named in
-    absurd (nil_cons (placed ∙ ap (λ o. with_place o c.now (places_of d caller cs)) first.1)) where
-      nil_cons : {A : Type 0} {x : A} {xs : List A} → [] ≡ x ∷ xs → ⊥
-      nil_cons e = cc
-any-same d caller name i (c ∷ cs) (p ∷ ps) apart here named placed =
-    let first = named-first (id_named d caller c.name) (all_named d caller (map name_of cs)) named in
-    let same = same_pair (placed_view p) (first.0, c.now) (map placed_view ps) (places_of d caller cs)
-    (placed ∙ ap (λ o. with_place o c.now (places_of d caller cs)) first.1) in
-    ap₂ ◌||◌
-    (same-names d caller name c.name i p.id apart here (first.1 ∙ ap Some (sym same.0)))
-    (any-same d caller name i cs ps apart here first.2 same.2)
+    (names : List RefNameData) → AreApart (ids_of d) → id_named d caller name ≡ Some i
+    → all_named d caller names ≡ true
+    → list_any (same_id i) (ids_named d caller names) ≡ list_any (same_name name) names
+any-same d caller name i [] apart here named = refl
+any-same d caller name i (b ∷ names) apart here named =
+    let first = named-first (id_named d caller b) (all_named d caller names) named in
+    ap (λ o. list_any (same_id i) (with_id o (ids_named d caller names))) first.1
+    ∙ ap₂ ◌||◌ (same-names d caller name b i first.0 apart here first.1)
+    (any-same d caller name i names apart here first.2)
 
--- the places are apart exactly where each ref is set once
-distinct-places : (d : Directory) (caller : ℕ) (cs : List ChangeData) (ps : List Placed)
-    → AreApart (ids_of d) → all_named d caller (map name_of cs) ≡ true
-    → map placed_view ps ≡ places_of d caller cs
-    → all_distinct same_id (map (λ p. p.id) ps) ≡ are_distinct cs
-distinct-places d caller [] [] apart named placed = refl
-distinct-places d caller [] (p ∷ ps) apart named placed = cc
-distinct-places d caller (c ∷ cs) [] apart named placed =
-    let first = named-first (id_named d caller c.name) (all_named d caller (map name_of cs)) named in
-    absurd (nil_cons (placed ∙ ap (λ o. with_place o c.now (places_of d caller cs)) first.1)) where
-      nil_cons : {A : Type 0} {x : A} {xs : List A} → [] ≡ x ∷ xs → ⊥
-      nil_cons e = cc
-distinct-places d caller (c ∷ cs) (p ∷ ps) apart named placed =
-    let first = named-first (id_named d caller c.name) (all_named d caller (map name_of cs)) named in
-    let same = same_pair (placed_view p) (first.0, c.now) (map placed_view ps) (places_of d caller cs)
-    (placed ∙ ap (λ o. with_place o c.now (places_of d caller cs)) first.1) in
-    ap₂ (λ a b. not a && b)
-    (any-same d caller c.name p.id cs ps apart (first.1 ∙ ap Some (sym same.0)) first.2 same.2)
-    (distinct-places d caller cs ps apart first.2 same.2)
+-- the ids are apart exactly where no ref is named twice
+pub distinct-ids : (d : Directory) (caller : ℕ) (names : List RefNameData) → AreApart (ids_of d)
+    → all_named d caller names ≡ true
+    → all_distinct same_id (ids_named d caller names) ≡ are_distinct names
+distinct-ids d caller [] apart named = refl
+distinct-ids d caller (name ∷ names) apart named =
+    let first = named-first (id_named d caller name) (all_named d caller names) named in
+    ap (λ o. all_distinct same_id (with_id o (ids_named d caller names))) first.1
+    ∙ ap₂ (λ a b. not a && b)
+    (any-same d caller name first.0 names apart first.1 first.2)
+    (distinct-ids d caller names apart first.2)
 
--- what was looked through is what the rules want
-pub looked-through : {H : Type 0} (stands : H → RefId → Ref → Type 0) (t : RefTable H) (r : Refs)
-    (caller : ℕ) (points : List (Entry ℕ)) (intent : IntentData) (may distinct : Bool)
-    (ps : List Placed) → Stands stands t r
-    → may ≡ (all_named t.directory caller (touched intent) && all_fit intent.sets)
-    → may ≡ true
-    → map placed_view ps ≡ places_of t.directory caller intent.sets
-    → distinct ≡ all_distinct same_id (map (λ p. p.id) ps)
-    → distinct ≡ (all_there (touched intent) (store_of caller points r) && fits intent)
-looked-through stands t r caller points intent may distinct ps s looked fit placed once =
-    once
-    ∙ distinct-places t.directory caller intent.sets ps s.apart
-    (sets-named t.directory caller intent (sym looked ∙ fit)) placed
-    ∙ ap (λ b. b && are_distinct intent.sets) (sym fit)
-    ∙ may-commit stands t r caller points intent may s looked
+-- the ids at the places of changes
+pub places-ids : (d : Directory) (caller : ℕ) (cs : List ChangeData)
+    → map (λ q. q.0) (places_of d caller cs) ≡ ids_named d caller (map (λ c. c.name) cs)
+places-ids d caller [] = refl
+places-ids d caller (c ∷ cs) =
+    by (id_named d caller c.name) (places_of d caller cs)
+    ∙ ap (with_id (id_named d caller c.name)) (places-ids d caller cs) where
+      by : (o : Option RefId) (rest : List (RefId × Datum))
+          → map (λ q. q.0) (with_place o c.now rest) ≡ with_id o (map (λ q. q.0) rest)
+      by None rest = refl
+      by (Some id) rest = refl
+
+pub places-same : (d : Directory) (caller : ℕ) (xs sets ys folded : List Change)
+    (ps : List (RefId × Datum))
+    → ps ≡ places_of d caller (map change_view xs ++ map change_view ys)
+    → xs ≡ sets → ys ≡ folded
+    → ps ≡ places_of d caller (map change_view sets ++ map change_view folded)
+places-same d caller xs sets ys folded ps e same more =
+    e ∙ ap₂ (λ xs ys. places_of d caller (map change_view xs ++ map change_view ys)) same more
+
+pub placed-ids : (ps : List Placed) → map (λ p. p.id) ps ≡ map (λ q. q.0) (map placed_view ps)
+placed-ids [] = refl
+placed-ids (p ∷ ps) = ap (λ ids. p.id ∷ ids) (placed-ids ps)
+
+pub ids-append : (d : Directory) (caller : ℕ) (xs ys : List RefNameData)
+    → ids_named d caller (xs ++ ys) ≡ ids_named d caller xs ++ ids_named d caller ys
+ids-append d caller [] ys = refl
+ids-append d caller (x ∷ xs) ys =
+    ap (with_id (id_named d caller x)) (ids-append d caller xs ys) ∙ by (id_named d caller x) where
+      by : (o : Option RefId) → with_id o (ids_named d caller xs ++ ids_named d caller ys)
+          ≡ with_id o (ids_named d caller xs) ++ ids_named d caller ys
+      by None = refl
+      by (Some id) = refl
+
+pub places-append : (d : Directory) (caller : ℕ) (xs ys : List ChangeData)
+    → places_of d caller (xs ++ ys) ≡ places_of d caller xs ++ places_of d caller ys
+places-append d caller [] ys = refl
+places-append d caller (x ∷ xs) ys =
+    ap (with_place (id_named d caller x.name) x.now) (places-append d caller xs ys)
+    ∙ by (id_named d caller x.name) where
+      by : (o : Option RefId)
+          → with_place o x.now (places_of d caller xs ++ places_of d caller ys)
+          ≡ with_place o x.now (places_of d caller xs) ++ places_of d caller ys
+      by None = refl
+      by (Some id) = refl

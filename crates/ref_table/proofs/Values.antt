@@ -1,24 +1,27 @@
 -- What a commit means to those who read refs.
 use Rattle.std.proofs.Common.{◌≡◌, ◌≢◌, ℕ, zero, suc, ◌+◌, ◌<◌, List, [], ◌∷◌, length, Bool, true}
-use Rattle.std.proofs.Common.{false}
-use Rattle.std.proofs.Common.{◌++◌, not, ◌&&◌, ◌||◌, ◌==◌, is_some, Option, Some, None, slice_get}
-use Rattle.std.proofs.Common.{slice_index_or, map}
+use Rattle.std.proofs.Common.{false, ◌++◌, not, ◌&&◌, ◌||◌, ◌==◌, is_some, Option, Some, None}
+use Rattle.std.proofs.Common.{slice_get, slice_index_or, map}
 use Rattle.std.proofs.Common.{refl, sym, ap, ap₂, ◌∙◌, subst, if◌then◌else◌, arith, inl, inr}
-use Rattle.std.specs.Prelude.{option_map, Contains}
+use Rattle.std.specs.Prelude.{option_map, Contains, Result, Ok, Err}
 use Rattle.std.specs.List.{list_any}
 use Rattle.std.proofs.lemmas.Bool.{cases_Bool, eqb-true, eq-eqb}
-use Rattle.value_data.specs.Datum.{OwnerData, shared, tenant}
-use Rattle.repl_asks.specs.Transactions.{RefNameData, ChangeData, IntentData}
+use Rattle.std.proofs.lemmas.List.Elements.{Contains-append_left, Contains-append_right}
+use Rattle.value_data.specs.Datum.{Datum, OwnerData, shared, tenant}
+use Rattle.repl_faults.specs.Failure.{Failure, ◌>>=◌}
+use Rattle.repl_asks.specs.Transactions.{RefNameData, ChangeData, CommutedData, IntentData}
 use Rattle.repl_asks.specs.Exchange.{verdict, committed}
 use Rattle.server_rules.specs.Versions.{Version, Ref, with_version}
-use Rattle.server_rules.specs.Store.{Store, ref_of, named, changed_of, changed, left_attempt}
-use Rattle.server_rules.specs.Commit.{touched, all_there, all_fit, are_distinct, fits, same_owner}
-use Rattle.server_rules.specs.Commit.{same_name, is_newer_ref, any_newer, with_changes, raised}
-use Rattle.server_rules.specs.Commit.{with_sets, checked, commit_by}
+use Rattle.server_rules.specs.Store.{Store, ref_of, named, value_in, value_of, changed_of, changed}
+use Rattle.server_rules.specs.Store.{left_attempt}
+use Rattle.server_rules.specs.Commit.{guarded, touched, changing, all_there, all_fit, all_take}
+use Rattle.server_rules.specs.Commit.{are_distinct, fits, same_owner, same_name, is_newer_ref}
+use Rattle.server_rules.specs.Commit.{any_newer, folded_from, all_folded, with_changes, raised}
+use Rattle.server_rules.specs.Commit.{with_all, concluded, checked, commit_by}
 use Rattle.server_rules.specs.Numbered.{changed_at}
-use Rattle.ref_table.specs.Values.{value_in, value_of}
 use Rattle.ref_table.proofs.Owners.{slice_get-changed, slice_get-changed_other}
 use Rattle.ref_table.proofs.Once.{both_true, same_owner-true, same_owner-refl}
+use Rattle.ref_table.proofs.Committing.{changed-names}
 
 -- Changes of one ref, as they are seen
 
@@ -110,12 +113,27 @@ raised-there : (names : List RefNameData) (s : Store)
 raised-there [] s = refl
 raised-there (b ∷ names) s = ap₂ ◌&&◌ (ap is_some (raised-named b s)) (raised-there names s)
 
-first-there : (xs ys : List RefNameData) (s : Store) → all_there (xs ++ ys) s ≡ true
-    → all_there xs s ≡ true
-first-there [] ys s e = refl
-first-there (x ∷ xs) ys s e =
-    let parts = both_true (is_some (named x s)) (all_there (xs ++ ys) s) e in
-    ap₂ ◌&&◌ parts.0 (first-there xs ys s parts.1)
+there-append : (xs ys : List RefNameData) (s : Store)
+    → all_there (xs ++ ys) s ≡ (all_there xs s && all_there ys s)
+there-append [] ys s = refl
+there-append (x ∷ xs) ys s =
+    ap (λ b. is_some (named x s) && b) (there-append xs ys s)
+    ∙ groups (is_some (named x s)) (all_there xs s) (all_there ys s) where
+      groups : (a b c : Bool) → (a && (b && c)) ≡ ((a && b) && c)
+      groups true b c = refl
+      groups false b c = refl
+
+-- the refs that change are there where all that are named are
+changing-there : (intent : IntentData) (s : Store) → all_there (touched intent) s ≡ true
+    → all_there (changing intent) s ≡ true
+changing-there intent s e =
+    let sets = map (λ c. c.name) intent.sets in
+    let commuted = map (λ c. c.name) intent.commuted in
+    let all = both_true (all_there (guarded intent) s) (all_there commuted s)
+    (sym (there-append (guarded intent) commuted s) ∙ e) in
+    let first = both_true (all_there sets s) (all_there intent.ensured s)
+    (sym (there-append sets intent.ensured s) ∙ all.0) in
+    there-append sets commuted s ∙ ap₂ ◌&&◌ first.0 all.1
 
 -- Changes of many
 
@@ -124,18 +142,19 @@ neither true b e = cc
 neither false b e = (refl, e)
 
 none-other : (name : RefNameData) (stamp : ℕ) (cs : List ChangeData) (s : Store)
-    → list_any (λ c. same_name name c.name) cs ≡ false
+    → list_any (same_name name) (map (λ c. c.name) cs) ≡ false
     → named name (with_changes stamp cs s) ≡ named name s
 none-other name stamp [] s none = refl
 none-other name stamp (c ∷ cs) s none =
-    let both = neither (same_name name c.name) (list_any (λ c. same_name name c.name) cs) none in
+    let both = neither (same_name name c.name) (list_any (same_name name) (map (λ c. c.name) cs))
+    none in
     none-other name stamp cs
     (changed c.name (with_version (record { stamp = stamp; content = c.now })) s) both.1
     ∙ other-named c.name name (with_version (record { stamp = stamp; content = c.now })) s both.0
 
 -- a change that is among these is read
 set-value : (stamp : ℕ) (cs : List ChangeData) (c : ChangeData) (s : Store)
-    → are_distinct cs ≡ true → all_there (map (λ c. c.name) cs) s ≡ true
+    → are_distinct (map (λ c. c.name) cs) ≡ true → all_there (map (λ c. c.name) cs) s ≡ true
     → (k : ℕ) → k < length cs → slice_index_or cs k c ≡ c
     → value_of c.name (with_changes stamp cs s) ≡ Some c.now
 set-value stamp [] c s once there k below here = absurd (omega arith)
@@ -162,13 +181,81 @@ set-value stamp (d ∷ cs) c s once there (suc k) below here =
     (map (λ c. c.name) cs) s ∙ (both_true _ _ there).1)
     k (omega arith) here
 
+-- What was commuted
+
+pub record Folds (name : RefNameData) (first : Result Datum Failure)
+    (rest : Result (List ChangeData) Failure) (changes : List ChangeData) : Type 0 where
+  pub now : Datum
+  pub is_first : first ≡ Ok now
+  pub others : List ChangeData
+  pub are_rest : rest ≡ Ok others
+  pub all : changes ≡ record { name = name; now = now } ∷ others
+
+folds-parted : (name : RefNameData) (first : Result Datum Failure)
+    (rest : Result (List ChangeData) Failure) (changes : List ChangeData)
+    → (first >>= λ d. (rest >>= λ ds. Ok (record { name = name; now = d } ∷ ds))) ≡ Ok changes
+    → Folds name first rest changes
+folds-parted name (Err f) rest changes e = cc
+folds-parted name (Ok d) (Err f) changes e = cc
+folds-parted name (Ok d) (Ok ds) changes e = record {
+  now = d;
+  is_first = refl;
+  others = ds;
+  are_rest = refl;
+  all = same (record { name = name; now = d } ∷ ds) changes e;
+} where
+  same : (xs ys : List ChangeData)
+      → ◌≡◌ {A = Result (List ChangeData) Failure} (Ok xs) (Ok ys) → ys ≡ xs
+  same xs ys e = cc
+
+-- each ref that was commuted is among those that change, with what its commutes make
+folded-among
+    : (value : RefNameData → Option Datum) (cs : List CommutedData) (changes : List ChangeData)
+    (c : CommutedData) → all_folded value cs ≡ Ok changes
+    → (k : ℕ) → k < length cs → slice_index_or cs k c ≡ c
+    → (now : Datum) × (folded_from c (value c.name) ≡ Ok now)
+    × Contains changes (record { name = c.name; now = now })
+folded-among value [] changes c e k below here = absurd (omega arith)
+folded-among value (b ∷ cs) changes c e zero below here =
+    let parts = folds-parted b.name (folded_from b (value b.name)) (all_folded value cs) changes e
+    in (
+      parts.now,
+      subst (λ b. folded_from b (value b.name) ≡ Ok parts.now) here parts.is_first,
+      subst (λ b. Contains changes (record { name = b.name; now = parts.now })) here
+          (subst (λ ds. Contains ds (record { name = b.name; now = parts.now })) (sym parts.all)
+          (0, omega arith, refl)),
+    )
+folded-among value (b ∷ cs) changes c e (suc k) below here =
+    let parts = folds-parted b.name (folded_from b (value b.name)) (all_folded value cs) changes e
+    in
+    let rest = folded-among value cs parts.others c parts.are_rest k (omega arith) here in (
+      rest.0,
+      rest.1,
+      subst (λ ds. Contains ds (record { name = c.name; now = rest.0 })) (sym parts.all)
+          (suc rest.2.0, omega (arith, rest.2.1), rest.2.2),
+    )
+
 -- What was told of a commit
 
+-- what was committed was acceptable and met nothing newer, and its commutes gave values
+pub record IsCommitted (intent : IntentData) (s : Store) (fit newer : Bool) : Type 0 where
+  pub is_fit : fit ≡ true
+  pub is_older : newer ≡ false
+  pub changes : List ChangeData
+  pub folded : all_folded (λ name. value_of name s) intent.commuted ≡ Ok changes
+
 parted : (seat : ℕ) (intent : IntentData) (s : Store) (b n : Bool)
-    → (checked seat intent s b n).told ≡ Some (verdict committed) → (b ≡ true) × (n ≡ false)
+    → (checked seat intent s b n).told ≡ Some (verdict committed) → IsCommitted intent s b n
 parted seat intent s false n e = cc
 parted seat intent s true true e = cc
-parted seat intent s true false e = (refl, refl)
+parted seat intent s true false e =
+    let given = by (all_folded (λ name. value_of name s) intent.commuted) e in
+    record { is_fit = refl; is_older = refl; changes = given.0; folded = given.1 } where
+      by : (folds : Result (List ChangeData) Failure)
+          → (concluded seat intent.sets s folds).told ≡ Some (verdict committed)
+          → (changes : List ChangeData) × (folds ≡ Ok changes)
+      by (Err f) e = cc
+      by (Ok changes) e = (changes, refl)
 
 none-newer : (point : ℕ) (names : List RefNameData) (s : Store) (name : RefNameData)
     → any_newer point names s ≡ false → (k : ℕ) → k < length names
@@ -183,60 +270,103 @@ none-newer point (b ∷ names) s name none (suc k) below here =
 
 pub met-none_newer : (s : Store) (seat point : ℕ) (intent : IntentData) (name : RefNameData)
     → (commit_by seat intent s (Some point)).told ≡ Some (verdict committed)
-    → Contains (touched intent) name → is_newer_ref point (named name s) ≡ false
+    → Contains (guarded intent) name → is_newer_ref point (named name s) ≡ false
 met-none_newer s seat point intent name told has =
-    none-newer point (touched intent) s name
+    none-newer point (guarded intent) s name
     (parted seat intent s (all_there (touched intent) s && fits intent)
-    (any_newer point (touched intent) s) told).1 has.0 has.1 has.2
+    (any_newer point (guarded intent) s) told).is_older has.0 has.1 has.2
 
-set-all-value : (sets : List ChangeData) (c : ChangeData) (s : Store) → are_distinct sets ≡ true
-    → all_there (map (λ c. c.name) sets) s ≡ true → Contains sets c
-    → value_of c.name (with_sets sets s) ≡ Some c.now
-set-all-value [] c s once there has = absurd (omega (arith, has.1))
-set-all-value (d ∷ cs) c s once there has =
+all-value : (cs : List ChangeData) (c : ChangeData) (s : Store)
+    → are_distinct (map (λ c. c.name) cs) ≡ true → all_there (map (λ c. c.name) cs) s ≡ true
+    → Contains cs c → value_of c.name (with_all cs s) ≡ Some c.now
+all-value [] c s once there has = absurd (omega (arith, has.1))
+all-value (d ∷ cs) c s once there has =
     set-value (s.around.counter + 1) (d ∷ cs) c (raised s) once
     (raised-there (map (λ c. c.name) (d ∷ cs)) s ∙ there) has.0 has.1 has.2
+
+-- a change of what was committed is read
+change-is_read : (s : Store) (seat point : ℕ) (intent : IntentData) (c : ChangeData)
+    (did : IsCommitted intent s (all_there (touched intent) s && fits intent)
+    (any_newer point (guarded intent) s)) → Contains (intent.sets ++ did.changes) c
+    → value_of c.name (commit_by seat intent s (Some point)).store ≡ Some c.now
+change-is_read s seat point intent c did has =
+    let there = all_there (touched intent) s in
+    let fit = both_true there (fits intent) did.is_fit in
+    let once = both_true (all_fit intent.sets) (are_distinct (changing intent))
+    (both_true (all_fit intent.sets && are_distinct (changing intent)) (all_take intent.commuted)
+    fit.1).0 in
+    let all = intent.sets ++ did.changes in
+    let names = changed-names (λ name. value_of name s) intent did.changes did.folded in
+    ap₂ (λ b n. value_of c.name (checked seat intent s b n).store) did.is_fit did.is_older
+    ∙ ap (λ folds. value_of c.name (concluded seat intent.sets s folds).store) did.folded
+    ∙ ap value_in (left-named seat c.name (with_all all s))
+    ∙ all-value all c s (ap are_distinct names ∙ once.1)
+    (ap (λ names. all_there names s) names ∙ changing-there intent s fit.0) has
 
 pub set-is_read : (s : Store) (seat point : ℕ) (intent : IntentData) (c : ChangeData)
     → (commit_by seat intent s (Some point)).told ≡ Some (verdict committed)
     → Contains intent.sets c
     → value_of c.name (commit_by seat intent s (Some point)).store ≡ Some c.now
 set-is_read s seat point intent c told has =
-    let there = all_there (touched intent) s in
-    let newer = any_newer point (touched intent) s in
-    let parts = parted seat intent s (there && fits intent) newer told in
-    let fit = both_true there (fits intent) parts.0 in
-    ap₂ (λ b n. value_of c.name (checked seat intent s b n).store) parts.0 parts.1
-    ∙ ap value_in (left-named seat c.name (with_sets intent.sets s))
-    ∙ set-all-value intent.sets c s (both_true (all_fit intent.sets) _ fit.1).1
-    (first-there (map (λ c. c.name) intent.sets) intent.ensured s fit.0) has
+    let did = parted seat intent s (all_there (touched intent) s && fits intent)
+    (any_newer point (guarded intent) s) told in
+    change-is_read s seat point intent c did
+    (Contains-append_left intent.sets did.changes c has)
+
+pub commuted-is_folded : (s : Store) (seat point : ℕ) (intent : IntentData) (c : CommutedData)
+    → (commit_by seat intent s (Some point)).told ≡ Some (verdict committed)
+    → Contains intent.commuted c
+    → (now : Datum) × (folded_from c (value_of c.name s) ≡ Ok now)
+    × (value_of c.name (commit_by seat intent s (Some point)).store ≡ Some now)
+commuted-is_folded s seat point intent c told has =
+    let did = parted seat intent s (all_there (touched intent) s && fits intent)
+    (any_newer point (guarded intent) s) told in
+    let among = folded-among (λ name. value_of name s) intent.commuted did.changes c did.folded
+    has.0 has.1 has.2 in
+    let change : ChangeData = record { name = c.name; now = among.0 } in (
+      among.0,
+      among.1,
+      change-is_read s seat point intent change did
+          (Contains-append_right intent.sets did.changes change among.2),
+    )
 
 -- no change is of this name
-not_among : (name : RefNameData) (cs : List ChangeData)
-    → ((c : ChangeData) → Contains cs c → c.name ≢ name)
-    → list_any (λ c. same_name name c.name) cs ≡ false
+not_among : (name : RefNameData) (names : List RefNameData)
+    → ((other : RefNameData) → Contains names other → other ≢ name)
+    → list_any (same_name name) names ≡ false
 not_among name [] none = refl
-not_among name (c ∷ cs) none = elim (cases_Bool (same_name name c.name)) [
-  | inl same ↦ absurd (none c (0, omega arith, refl)
-      (sym (same-data name c.name (same_name-true name c.name same))))
-  | inr differs ↦ ap₂ ◌||◌ differs (not_among name cs
-      (λ d has. none d (suc has.0, omega (arith, has.1), has.2)))
+not_among name (b ∷ names) none = elim (cases_Bool (same_name name b)) [
+  | inl same ↦ absurd (none b (0, omega arith, refl)
+      (sym (same-data name b (same_name-true name b same))))
+  | inr differs ↦ ap₂ ◌||◌ differs (not_among name names
+      (λ other has. none other (suc has.0, omega (arith, has.1), has.2)))
 ]
 
-sets-others : (name : RefNameData) (sets : List ChangeData) (s : Store)
-    → list_any (λ c. same_name name c.name) sets ≡ false
-    → named name (with_sets sets s) ≡ named name s
-sets-others name [] s none = refl
-sets-others name (c ∷ cs) s none =
+all-others : (name : RefNameData) (cs : List ChangeData) (s : Store)
+    → list_any (same_name name) (map (λ c. c.name) cs) ≡ false
+    → named name (with_all cs s) ≡ named name s
+all-others name [] s none = refl
+all-others name (c ∷ cs) s none =
     none-other name (s.around.counter + 1) (c ∷ cs) (raised s) none ∙ raised-named name s
 
 pub others-named : (s : Store) (seat point : ℕ) (intent : IntentData) (name : RefNameData)
-    → ((c : ChangeData) → Contains intent.sets c → c.name ≢ name)
+    → ((other : RefNameData) → Contains (changing intent) other → other ≢ name)
     → named name (commit_by seat intent s (Some point)).store ≡ named name s
 others-named s seat point intent name none =
-    by (all_there (touched intent) s && fits intent) (any_newer point (touched intent) s) where
+    by (all_there (touched intent) s && fits intent) (any_newer point (guarded intent) s) where
+      concluded-so : (folds : Result (List ChangeData) Failure)
+          → all_folded (λ name. value_of name s) intent.commuted ≡ folds
+          → named name (concluded seat intent.sets s folds).store ≡ named name s
+      concluded-so (Err f) is = left-named seat name s
+      concluded-so (Ok changes) is =
+          left-named seat name (with_all (intent.sets ++ changes) s)
+          ∙ all-others name (intent.sets ++ changes) s
+          (ap (list_any (same_name name))
+          (changed-names (λ name. value_of name s) intent changes is)
+          ∙ not_among name (changing intent) none)
+
       by : (b n : Bool) → named name (checked seat intent s b n).store ≡ named name s
       by false n = refl
       by true true = left-named seat name s
-      by true false = left-named seat name (with_sets intent.sets s)
-          ∙ sets-others name intent.sets s (not_among name intent.sets none)
+      by true false =
+          concluded-so (all_folded (λ name. value_of name s) intent.commuted) refl

@@ -30,6 +30,15 @@ abbrev pub all_named : Directory → ℕ → List RefNameData → Bool
 all_named d caller [] = true
 all_named d caller (name ∷ names) = is_some (id_named d caller name) && all_named d caller names
 
+abbrev pub with_id : Option RefId → List RefId → List RefId
+with_id None ids = ids
+with_id (Some id) ids = id ∷ ids
+
+-- the ids of those that are there
+abbrev pub ids_named : Directory → ℕ → List RefNameData → List RefId
+ids_named d caller [] = []
+ids_named d caller (name ∷ names) = with_id (id_named d caller name) (ids_named d caller names)
+
 -- the same, where it is the tenant's own
 abbrev pub own_id_within : Directory → ℕ → OwnerData → ℕ → Option RefId
 own_id_within d caller shared n = None

@@ -3,4 +3,4 @@ pub mod Directory
 pub mod Standing
 pub mod Told
 pub mod Placing
-pub mod Values
+pub mod Accepting

@@ -1,9 +1,10 @@
 -- Where a commit puts its values.
 use Rattle.std.specs.Prelude.{◌≡◌, ◌≢◌, ℕ, List, [], ◌∷◌, Option, None, Some, ⊤, All}
-use Rattle.std.specs.Prelude.{Bool, true, not, ◌&&◌}
+use Rattle.std.specs.Prelude.{Bool, true, not, ◌&&◌, ◌++◌, Result, Ok}
 use Rattle.std.specs.List.{list_any}
 use Rattle.value_data.specs.Datum.{Datum}
 use Rattle.value_data.specs.View.{view}
+use Rattle.repl_faults.specs.Failure.{Failure, ◌>>=◌}
 use Rattle.repl_asks.specs.Transactions.{ChangeData}
 use Rattle.server_rules.specs.Versions.{Ref, with_version}
 use Rattle.ref_history.specs.Changes.{Changed}
@@ -26,6 +27,12 @@ abbrev pub places_of : Directory → ℕ → List ChangeData → List (RefId × 
 places_of d caller [] = []
 places_of d caller (c ∷ cs) =
     with_place (id_named d caller c.name) c.now (places_of d caller cs)
+
+-- where what is set goes, and what was folded behind it
+abbrev pub all_placed
+    : Directory → ℕ → List ChangeData → Result (List ChangeData) Failure
+    → Result (List (RefId × Datum)) Failure
+all_placed d caller sets folds = folds >>= λ changes. Ok (places_of d caller (sets ++ changes))
 
 -- no two are the same
 abbrev pub all_distinct : {K : Type 0} → (K → K → Bool) → List K → Bool

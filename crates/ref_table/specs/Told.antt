@@ -3,7 +3,9 @@ use Rattle.std.specs.Prelude.{◌≡◌, Bool, true, false, Option, Some, None, 
 use Rattle.value_data.specs.Datum as datum
 use Rattle.value_data.specs.View.{owner_view}
 use Rattle.value_data.specs.declared.value.RefName.{RefName}
+use Rattle.repl_faults.specs.View.{failure_of}
 use Rattle.repl_asks.specs.Exchange.{AnswerData, value, reading, verdict, committed, conflict}
+use Rattle.repl_asks.specs.Exchange.{faulted}
 use Rattle.repl_asks.specs.View.{reading_view}
 use Rattle.repl_asks.specs.declared.answer.Reading.{Reading}
 use Rattle.server_rules.specs.Versions.{Ref}
@@ -33,4 +35,11 @@ setting_told name false = None
 abbrev pub outcome_told : Outcome → Option AnswerData
 outcome_told Outcome.Committed = Some (verdict committed)
 outcome_told Outcome.Conflict = Some (verdict conflict)
+outcome_told (Outcome.Faulted f) = Some (verdict (faulted (failure_of f)))
 outcome_told Outcome.Refused = None
+
+abbrev pub is_committed : Outcome → Bool
+is_committed Outcome.Committed = true
+is_committed Outcome.Conflict = false
+is_committed (Outcome.Faulted f) = false
+is_committed Outcome.Refused = false

@@ -1,35 +1,39 @@
 // Commits.
-ghost use Rattle.std.specs.Prelude.{◌≡◌, ℕ, ◌+◌, ◌<◌, ◌≤◌, ◌&&◌, List, Some, is_some, true, map};
-ghost use Rattle.std.specs.Prelude.{IfOk, IfSome, OnOk, OnErr};
+ghost use Rattle.std.specs.Prelude.{◌≡◌, ℕ, ◌+◌, ◌<◌, ◌≤◌, ◌&&◌, List, Some, true, false, map};
+ghost use Rattle.std.specs.Prelude.{IfOk, OnOk, OnErr};
 ghost use Rattle.std.specs.Ordering.{eq_by_cmp};
+ghost use Rattle.repl_faults.specs.View.{Gives};
 ghost use Rattle.repl_asks.specs.Transactions.{ChangeData};
 ghost use Rattle.repl_asks.specs.View.{name_view, intent_view};
 ghost use Rattle.server_rules.specs.Numbered.{Entry, found};
-ghost use Rattle.server_rules.specs.Store.{named};
+ghost use Rattle.server_rules.specs.Store.{named, value_of};
 ghost use Rattle.server_rules.specs.Calls.{performed, commits};
-ghost use Rattle.server_rules.specs.Commit.{touched, all_there, all_fit, fits, is_newer_ref};
-ghost use Rattle.server_rules.specs.Commit.{any_newer};
-ghost use Rattle.server_rules.specs.Commit.{with_changes, raised};
+ghost use Rattle.server_rules.specs.Commit.{guarded, touched, changing, all_there, all_fit};
+ghost use Rattle.server_rules.specs.Commit.{all_take, fits, is_newer_ref, any_newer, all_folded, with_all};
 ghost use Rattle.ref_table.specs.Refs.{Refs, store_of, after};
-ghost use Rattle.ref_table.specs.Directory.{all_named};
+ghost use Rattle.ref_table.specs.Directory.{all_named, ids_named};
 ghost use Rattle.ref_table.specs.Standing.{Stands, counter_of};
-ghost use Rattle.ref_table.specs.Placing.{placed_view, places_of, all_distinct};
-ghost use Rattle.ref_table.specs.Told.{Performs, outcome_told};
+ghost use Rattle.ref_table.specs.Placing.{placed_view, places_of, all_placed, all_distinct};
+ghost use Rattle.ref_table.specs.Accepting.{may_commit, is_acceptable};
+ghost use Rattle.ref_table.specs.Told.{Performs, outcome_told, is_committed};
 
-use crate::fitting::all_fit;
+use crate::fitting::{all_fit, all_take};
 use crate::outcome::{Outcome, Point};
 use crate::placing::{Placed, add_all, are_distinct, reserve_all};
 use crate::table::RefTable;
 use ref_history::{History, RefId};
 use repl_asks::{Change, Intent};
+use repl_faults::ApplyError;
 use repl_values::RefName;
 use std::alloc::{AllocError, Global};
 
 impl<H: History> RefTable<H> {
-    /// Sets what an attempt of the caller wants set, unless a ref that it set or ensured has a
-    /// version from after the attempt's read point. For n refs that it names it takes about n log n
-    /// steps, and it reads whole what goes into shared ones. It fails only for want of memory, and
-    /// then all stays as it was.
+    /// Changes what an attempt of the caller wants changed, unless a ref that it set or ensured has
+    /// a version from after the attempt's read point. What it commuted is made again, of the values
+    /// that the refs have now; where that is a fault, nothing changes. For n refs that it names it
+    /// takes about n log n steps, and one for each commute beside those of its function; and it
+    /// reads whole what goes into shared refs. It fails only for want of memory, and then all is as
+    /// it was.
     pub fn commit(
         &mut self,
         alloc: Global,
@@ -45,75 +49,86 @@ impl<H: History> RefTable<H> {
         ensures as_it_was { (r : Refs) → Stands H.stands self.old r
             → OnErr result (Stands H.stands self.new r) }
         ensures counter { counter_of self.new ≤ counter_of self.old + 1 }
-        ensures refused { IfOk result (λ outcome. outcome ≡ Outcome.Refused
+        ensures unmoved { IfOk result (λ outcome. is_committed outcome ≡ false
             → counter_of self.new ≡ counter_of self.old) }
         ensures failed { OnErr result (counter_of self.new ≡ counter_of self.old) }
     {
-        let Some(placed) = self.fitting_places(alloc, caller, intent)? else {
+        if !self.fits(alloc, caller, intent)? {
             return Ok(Outcome::Refused);
-        };
-        if self.is_any_touched_newer(caller, intent, point) {
+        }
+        if self.is_any_guarded_newer(caller, intent, point) {
             return Ok(Outcome::Conflict);
         }
-        if !intent.sets.is_empty() {
-            self.set_all(placed)?;
+        match self.new_values(alloc, caller, intent) {
+            Ok(placed) => {
+                self.put_all(placed)?;
+                Ok(Outcome::Committed)
+            }
+            Err(ApplyError::Fault(fault)) => Ok(Outcome::Faulted(fault)),
+            Err(ApplyError::NoMemory) => Err(AllocError),
         }
-        Ok(Outcome::Committed)
     }
 
-    /// Whether a commit of this would not be refused: all refs are there, none is set twice, and each
-    /// may hold what it is set to. It fails only for want of memory.
+    /// Whether a commit of this would not be refused: all refs are there, none changes twice, each
+    /// may hold what it is set to, and what is commuted takes its arguments. It fails only for
+    /// want of memory.
     pub fn accepts(&self, alloc: Global, caller: u64, intent: &Intent) -> Result<bool, AllocError>
         ensures { (r : Refs) (points : List (Entry ℕ)) → Stands H.stands self.now r
             → let s = store_of caller points r in IfOk result (λ fit. fit
             ≡ (all_there (touched (intent_view intent.now)) s && fits (intent_view intent.now))) }
     {
-        Ok(self.fitting_places(alloc, caller, intent)?.is_some())
+        self.fits(alloc, caller, intent)
     }
 
-    // Where the values go, if all refs are there, none is set twice, and each may hold what it is
-    // set to.
-    fn fitting_places(
+    // The same, as the directory says it.
+    fn fits(&self, alloc: Global, caller: u64, intent: &Intent) -> Result<bool, AllocError>
+        ensures { IfOk result (λ fit. fit
+            ≡ is_acceptable self.now.directory caller (intent_view intent.now)) }
+    {
+        if !self.may_commit(caller, intent) {
+            return Ok(false);
+        }
+        let ids = self.directory.ids_changing(alloc, caller, intent)?;
+        are_distinct(alloc, &ids)
+    }
+
+    // The same, but for refs that change twice.
+    #[tactic(auto, using(crate::proofs::Committing::three_named))]
+    fn may_commit(&self, caller: u64, intent: &Intent) -> bool
+        ensures { result ≡ may_commit self.now.directory caller (intent_view intent.now) }
+    {
+        self.directory.has_all_set(caller, &intent.sets)
+            && self.directory.has_all(caller, &intent.ensured)
+            && self.directory.has_all_commuted(caller, &intent.commuted)
+            && all_fit(&intent.sets)
+            && all_take(&intent.commuted)
+    }
+
+    // What the refs get that change, at their places. It changes nothing.
+    fn new_values(
         &self,
         alloc: Global,
         caller: u64,
         intent: &Intent,
-    ) -> Result<Option<Vec<Placed>>, AllocError>
-        ensures fit { (r : Refs) (points : List (Entry ℕ)) → Stands H.stands self.now r
-            → let s = store_of caller points r in IfOk result (λ found. is_some found
-            ≡ (all_there (touched (intent_view intent.now)) s && fits (intent_view intent.now))) }
-        ensures places { IfOk result (λ found. IfSome found (λ placed. map placed_view placed.items
-            ≡ places_of self.now.directory caller (intent_view intent.now).sets)) }
-        ensures once { IfOk result (λ found. IfSome found (λ placed.
-            all_distinct (eq_by_cmp ⟦<RefId as Ord>⟧.cmp) (map (λ p. p.id) placed.items) ≡ true)) }
+    ) -> Result<Vec<Placed>, ApplyError>
+        requires { all_take (intent_view intent.now).commuted ≡ true }
+        ensures placed { (r : Refs) (points : List (Entry ℕ)) → Stands H.stands self.now r
+            → let i = intent_view intent.now in
+            Gives (λ placed. map placed_view placed.items) result
+            (all_placed self.now.directory caller i.sets
+            (all_folded (λ name. value_of name (store_of caller points r)) i.commuted)) }
+        ensures ids { IfOk result (λ placed. map (λ p. p.id) placed.items
+            ≡ ids_named self.now.directory caller (changing (intent_view intent.now))) }
     {
-        if !self.may_commit(caller, intent) {
-            return Ok(None);
-        }
-        let placed = self.directory.places(alloc, caller, &intent.sets)?;
-        if are_distinct(alloc, &placed)? {
-            Ok(Some(placed))
-        } else {
-            Ok(None)
-        }
-    }
-
-    // Whether all refs are there, and each may hold what it is set to.
-    #[tactic(auto, using(crate::proofs::Committing::both_named))]
-    fn may_commit(&self, caller: u64, intent: &Intent) -> bool
-        ensures { result ≡ (all_named self.now.directory caller (touched (intent_view intent.now))
-            && all_fit (intent_view intent.now).sets) }
-    {
-        self.directory.has_all_set(caller, &intent.sets)
-            && self.directory.has_all(caller, &intent.ensured)
-            && all_fit(&intent.sets)
+        let folded = self.all_folded(alloc, caller, &intent.commuted)?;
+        Ok(self.directory.places(alloc, caller, &intent.sets, &folded)?)
     }
 
     // Whether a ref that was set or ensured has a version from after the point.
     #[tactic(auto, using(crate::proofs::Committing::either_newer))]
-    fn is_any_touched_newer(&self, caller: u64, intent: &Intent, point: Point) -> bool
+    fn is_any_guarded_newer(&self, caller: u64, intent: &Intent, point: Point) -> bool
         ensures { (r : Refs) (points : List (Entry ℕ)) → Stands H.stands self.now r → result
-            ≡ any_newer point.stamp (touched (intent_view intent.now)) (store_of caller points r) }
+            ≡ any_newer point.stamp (guarded (intent_view intent.now)) (store_of caller points r) }
     {
         self.is_any_set_newer(caller, &intent.sets, point)
             || self.is_any_newer(caller, &intent.ensured, point)
@@ -154,21 +169,25 @@ impl<H: History> RefTable<H> {
         false
     }
 
-    // Adds a version at each place, at the next stamp.
-    fn set_all(&mut self, placed: Vec<Placed>) -> Result<(), AllocError>
+    // Adds a version at each place, at the next stamp. Where there is none, the counter stays.
+    fn put_all(&mut self, placed: Vec<Placed>) -> Result<(), AllocError>
         requires room { counter_of self.old < u128.MAX }
         requires once { all_distinct (eq_by_cmp ⟦<RefId as Ord>⟧.cmp)
             (map (λ p. p.id) placed.items) ≡ true }
-        ensures set { (r : Refs) (caller : ℕ) (points : List (Entry ℕ)) (sets : List ChangeData)
+        ensures put { (r : Refs) (caller : ℕ) (points : List (Entry ℕ)) (changes : List ChangeData)
             → Stands H.stands self.old r
-            → map placed_view placed.items ≡ places_of self.old.directory caller sets
-            → OnOk result (Stands H.stands self.new (after (with_changes (r.counter + 1) sets
-            (raised (store_of caller points r))) r)) }
+            → all_named self.old.directory caller (map (λ c. c.name) changes) ≡ true
+            → map placed_view placed.items ≡ places_of self.old.directory caller changes
+            → OnOk result (Stands H.stands self.new
+            (after (with_all changes (store_of caller points r)) r)) }
         ensures as_it_was { (r : Refs) → Stands H.stands self.old r
             → OnErr result (Stands H.stands self.new r) }
         ensures counter { counter_of self.new ≤ counter_of self.old + 1 }
         ensures failed { OnErr result (counter_of self.new ≡ counter_of self.old) }
     {
+        if placed.is_empty() {
+            return Ok(());
+        }
         reserve_all(&mut self.history, &placed)?;
         self.counter += 1;
         add_all(&mut self.history, self.counter, placed);

@@ -6,7 +6,7 @@ ghost use Rattle.value_data.specs.View.{owner_view};
 ghost use Rattle.repl_asks.specs.View.{name_view};
 
 use ref_history::RefId;
-use repl_asks::Change;
+use repl_asks::{Change, Commuted};
 use repl_values::{Owner, RefName};
 use std::alloc::{AllocError, Global};
 use std::collections::BTreeMap;
@@ -60,6 +60,17 @@ impl Directory {
     {
         for change in sets {
             if self.id_of(caller, change.name).is_none() {
+                return false;
+            }
+        }
+        true
+    }
+
+    pub(crate) fn has_all_commuted(&self, caller: u64, commuted: &[Commuted]) -> bool
+        ensures { result ≡ all_named self.now caller (map (λ c. name_view c.name) commuted.now) }
+    {
+        for one in commuted {
+            if self.id_of(caller, one.name).is_none() {
                 return false;
             }
         }

@@ -1,18 +1,19 @@
 //! What a commit means, in the words of those who read refs. The functions do nothing: what they
 //! ensure is proved.
 
-ghost use Rattle.std.specs.Prelude.{◌≡◌, ◌≢◌, ℕ, Some, false, Contains};
-ghost use Rattle.repl_asks.specs.Transactions.{RefNameData, ChangeData, IntentData};
+ghost use Rattle.std.specs.Prelude.{◌≡◌, ◌≢◌, ℕ, Some, Ok, false, Contains};
+ghost use Rattle.value_data.specs.Datum.{Datum};
+ghost use Rattle.repl_asks.specs.Transactions.{RefNameData, ChangeData, CommutedData, IntentData};
 ghost use Rattle.repl_asks.specs.Exchange.{verdict, committed};
-ghost use Rattle.server_rules.specs.Store.{Store, named};
-ghost use Rattle.server_rules.specs.Commit.{touched, is_newer_ref, commit_by};
-ghost use Rattle.ref_table.specs.Values.{value_of};
+ghost use Rattle.server_rules.specs.Store.{Store, named, value_of};
+ghost use Rattle.server_rules.specs.Commit.{guarded, changing, is_newer_ref, folded_from};
+ghost use Rattle.server_rules.specs.Commit.{commit_by};
 
 /// What was committed met no version from after its read point of a ref that it set or ensured.
 pub fn committed_met_nothing_newer()
     ensures { (s : Store) (seat point : ℕ) (intent : IntentData) (name : RefNameData)
         → (commit_by seat intent s (Some point)).told ≡ Some (verdict committed)
-        → Contains (touched intent) name → is_newer_ref point (named name s) ≡ false }
+        → Contains (guarded intent) name → is_newer_ref point (named name s) ≡ false }
 {}
 
 /// Once it was committed, each ref that it set has the value that it was set to.
@@ -23,14 +24,25 @@ pub fn committed_is_read()
         → value_of change.name (commit_by seat intent s (Some point)).store ≡ Some change.now }
 {}
 
-/// Whatever comes of a commit, the refs that it does not set stay as they were.
+/// Once it was committed, each ref that it commuted has what its commutes make, one after the
+/// other, of the value that the ref had.
+pub fn commuted_is_folded()
+    ensures { (s : Store) (seat point : ℕ) (intent : IntentData) (c : CommutedData)
+        → (commit_by seat intent s (Some point)).told ≡ Some (verdict committed)
+        → Contains intent.commuted c
+        → (now : Datum) × (folded_from c (value_of c.name s) ≡ Ok now)
+        × (value_of c.name (commit_by seat intent s (Some point)).store ≡ Some now) }
+{}
+
+/// Whatever comes of a commit, the refs that it neither sets nor commutes stay as they were.
 pub fn others_stay()
     ensures { (s : Store) (seat point : ℕ) (intent : IntentData) (name : RefNameData)
-        → ((change : ChangeData) → Contains intent.sets change → change.name ≢ name)
+        → ((other : RefNameData) → Contains (changing intent) other → other ≢ name)
         → named name (commit_by seat intent s (Some point)).store ≡ named name s }
 {}
 
-/// A commit that meets a conflict, or that is refused, leaves all refs as they were.
+/// A commit that meets a conflict, that ends in a fault, or that is refused leaves all refs as
+/// they were.
 pub fn only_commits_set()
     ensures { (s : Store) (seat point : ℕ) (intent : IntentData) (name : RefNameData)
         → (commit_by seat intent s (Some point)).told ≢ Some (verdict committed)

@@ -1,10 +1,11 @@
-//! The refs of all tenants and those that all share: how they are made, read at a point, and set by
-//! commits.
+//! The refs of all tenants and those that all share: how they are made, read at a point, and changed
+//! by commits.
 #![tactic(auto)]
 
 mod commit;
 mod directory;
 mod fitting;
+mod folding;
 pub mod laws;
 mod outcome;
 mod placing;

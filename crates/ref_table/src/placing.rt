@@ -1,14 +1,16 @@
 // Where a commit puts its values.
-ghost use Rattle.std.specs.Prelude.{◌≡◌, map, All, IfOk, OnOk};
+ghost use Rattle.std.specs.Prelude.{◌≡◌, [], ◌++◌, map, All, IfOk, OnOk};
 ghost use Rattle.std.specs.Ordering.{eq_by_cmp};
-ghost use Rattle.repl_asks.specs.View.{change_view};
+ghost use Rattle.repl_asks.specs.View.{name_view, change_view, intent_view};
+ghost use Rattle.server_rules.specs.Commit.{changing};
 ghost use Rattle.ref_history.specs.Changes.{SameRefs};
+ghost use Rattle.ref_table.specs.Directory.{id_named, with_id, ids_named};
 ghost use Rattle.ref_table.specs.Placing.{placed_view, places_of, all_distinct, HaveRoom, AddsAll};
 
 use crate::directory::Directory;
 use ref_history::{History, RefId};
-use repl_asks::Change;
-use repl_values::{Value, copy};
+use repl_asks::{Change, Intent};
+use repl_values::{RefName, Value, copy};
 use std::alloc::{AllocError, Global};
 use std::collections::BTreeSet;
 
@@ -20,35 +22,82 @@ pub(crate) struct Placed {
 }
 
 impl Directory {
-    // Where the values go. A ref that is not there has no place. It fails only for want of memory.
+    // Where the values of both go. A ref that is not there has no place. It fails only for want of
+    // memory.
     pub(crate) fn places(
         &self,
         alloc: Global,
         caller: u64,
         sets: &[Change],
+        folded: &[Change],
     ) -> Result<Vec<Placed>, AllocError>
         ensures { IfOk result (λ placed. map placed_view placed.items
-            ≡ places_of self.now caller (map change_view sets.now)) }
+            ≡ places_of self.now caller (map change_view sets.now ++ map change_view folded.now)) }
     {
-        let mut placed = Vec::with_capacity(alloc, sets.len())?;
-        for change in sets {
+        let mut placed = Vec::new(alloc);
+        self.place(caller, sets, &mut placed)?;
+        self.place(caller, folded, &mut placed)?;
+        Ok(placed)
+    }
+
+    fn place(
+        &self,
+        caller: u64,
+        changes: &[Change],
+        placed: &mut Vec<Placed>,
+    ) -> Result<(), AllocError>
+        ensures { OnOk result (map placed_view placed.new.items
+            ≡ map placed_view placed.old.items ++ places_of self.now caller
+            (map change_view changes.now)) }
+    {
+        for change in changes {
             if let Some(id) = self.id_of(caller, change.name) {
                 let value = copy(&change.now)?;
                 placed.push(Placed { id, value })?;
             }
         }
-        Ok(placed)
+        Ok(())
+    }
+
+    // The ids of the refs that change and are there. It fails only for want of memory.
+    pub(crate) fn ids_changing(
+        &self,
+        alloc: Global,
+        caller: u64,
+        intent: &Intent,
+    ) -> Result<Vec<RefId>, AllocError>
+        ensures { IfOk result (λ ids. ids.items
+            ≡ ids_named self.now caller (changing (intent_view intent.now))) }
+    {
+        let mut ids = Vec::new(alloc);
+        for change in &intent.sets {
+            self.note_id(caller, change.name, &mut ids)?;
+        }
+        for one in &intent.commuted {
+            self.note_id(caller, one.name, &mut ids)?;
+        }
+        Ok(ids)
+    }
+
+    fn note_id(&self, caller: u64, name: RefName, ids: &mut Vec<RefId>) -> Result<(), AllocError>
+        ensures { OnOk result (ids.new.items
+            ≡ ids.old.items ++ with_id (id_named self.now caller (name_view name)) []) }
+    {
+        if let Some(id) = self.id_of(caller, name) {
+            ids.push(id)?;
+        }
+        Ok(())
     }
 }
 
-// Whether no two places are the same. It takes n log n steps, and fails only for want of memory.
-pub(crate) fn are_distinct(alloc: Global, placed: &[Placed]) -> Result<bool, AllocError>
+// Whether no two ids are the same. It takes n log n steps, and fails only for want of memory.
+pub(crate) fn are_distinct(alloc: Global, ids: &[RefId]) -> Result<bool, AllocError>
     ensures { IfOk result (λ distinct. distinct
-        ≡ all_distinct (eq_by_cmp ⟦<RefId as Ord>⟧.cmp) (map (λ p. p.id) placed.now)) }
+        ≡ all_distinct (eq_by_cmp ⟦<RefId as Ord>⟧.cmp) ids.now) }
 {
     let mut seen = BTreeSet::new(alloc);
-    for place in placed {
-        if !seen.insert(place.id)? {
+    for id in ids {
+        if !seen.insert(*id)? {
             return Ok(false);
         }
     }

@@ -1,6 +1,7 @@
 -- What transactions ask for (the Clojure reference, Refs and Transactions).
 use Rattle.std.specs.Prelude.{ℕ, List}
 use Rattle.value_data.specs.Datum.{Datum, OwnerData}
+use Rattle.function_names.specs.declared.function.CoreFunction.{CoreFunction}
 
 -- a ref, by who made it and its number among those
 pub record RefNameData : Type 0 where
@@ -12,9 +13,21 @@ pub record ChangeData : Type 0 where
   pub name : RefNameData
   pub now : Datum
 
--- What an attempt changed. Commutes and sends come later.
+-- a function that is applied to the value of a ref, with these arguments behind that
+pub record CommuteData : Type 0 where
+  pub function : CoreFunction
+  pub arguments : List Datum
+
+-- a ref, and what is applied to its value, in order
+pub record CommutedData : Type 0 where
+  pub name : RefNameData
+  pub commutes : List CommuteData
+
+-- What an attempt changed. Sends come later.
 pub record IntentData : Type 0 where
   -- the refs that were set, each with its last value
   pub sets : List ChangeData
   -- the refs that nobody else may have changed
   pub ensured : List RefNameData
+  -- the refs that were commuted and not set, in the order in which they were first commuted
+  pub commuted : List CommutedData

@@ -4,8 +4,9 @@ use Rattle.std.specs.Arc.{arc_str_bytes, arc_value}
 use Rattle.value_data.specs.View.{owner_view, view}
 use Rattle.value_data.specs.declared.value.RefName.{RefName}
 use Rattle.repl_faults.specs.View.{failure_of}
-use Rattle.special_forms.specs.Seen.{function_view}
-use Rattle.repl_asks.specs.Transactions.{RefNameData, ChangeData, IntentData}
+use Rattle.special_forms.specs.Seen.{function_view, views}
+use Rattle.repl_asks.specs.Transactions.{RefNameData, ChangeData, CommuteData, CommutedData}
+use Rattle.repl_asks.specs.Transactions.{IntentData}
 use Rattle.repl_asks.specs.Exchange.{BindingData, bound_value, bound_function}
 use Rattle.repl_asks.specs.Exchange.{AskData, resolve, define, enter, new_ref, begin, read}
 use Rattle.repl_asks.specs.Exchange.{history, min_history, max_history, commit}
@@ -16,6 +17,8 @@ use Rattle.repl_asks.specs.Exchange.{VerdictData, committed, conflict, faulted}
 use Rattle.repl_asks.specs.Exchange.{AnswerData, resolution, done, value, reading, verdict}
 use Rattle.repl_asks.specs.Exchange.{Exchanged}
 use Rattle.repl_asks.specs.declared.intent.Change.{Change}
+use Rattle.repl_asks.specs.declared.intent.Commute.{Commute}
+use Rattle.repl_asks.specs.declared.intent.Commuted.{Commuted}
 use Rattle.repl_asks.specs.declared.intent.Intent.{Intent}
 use Rattle.repl_asks.specs.declared.answer.Reading.{Reading}
 use Rattle.repl_asks.specs.declared.answer.Verdict.{Verdict}
@@ -36,10 +39,17 @@ name_view r = record { owner = owner_view r.owner; number = r.number }
 abbrev pub change_view : Change → ChangeData
 change_view c = record { name = name_view c.name; now = view c.now }
 
+abbrev pub commute_view : Commute → CommuteData
+commute_view c = record { function = c.function; arguments = views c.arguments.items }
+
+abbrev pub commuted_view : Commuted → CommutedData
+commuted_view c = record { name = name_view c.name; commutes = map commute_view c.commutes.items }
+
 abbrev pub intent_view : Intent → IntentData
 intent_view i = record {
   sets = map change_view i.sets.items;
   ensured = map name_view i.ensured.items;
+  commuted = map commuted_view i.commuted.items;
 }
 
 abbrev pub ask_view : Ask → AskData

@@ -16,7 +16,7 @@ mod replay;
 pub use answer::{Answer, NamedFunction, Reading, Resolution, Verdict};
 pub use ask::{AnswerKind, Ask, Binding};
 pub use exchange::{Exchange, Trace, copy_trace};
-pub use intent::{Change, Intent};
+pub use intent::{Change, Commute, Commuted, Intent};
 pub use namespaces::is_fixed;
 pub use refs::{Refs, Stop, StopReason};
 pub use replay::Replay;

@@ -2,9 +2,10 @@
 use Rattle.std.proofs.Common.{◌≡◌, ℕ, ◌+◌, ◌==◌, List, [], ◌∷◌, ◌++◌, length, Bool, true, false}
 use Rattle.std.proofs.Common.{◌&&◌, map, Option, Some, None, is_some, slice_get}
 use Rattle.std.proofs.Common.{refl, sym, ap, subst, ◌∙◌, if◌then◌else◌, true≢false}
-use Rattle.std.specs.Prelude.{option_map, option_and_then}
+use Rattle.std.specs.Prelude.{option_map, option_and_then, Result, Ok, Err}
 use Rattle.std.proofs.lemmas.Bool.{eqb-true, eqb-false, eq-eqb, ne_eqb, and_parts}
 use Rattle.value_data.specs.Datum.{Datum, OwnerData, shared, tenant}
+use Rattle.repl_faults.specs.Failure.{Failure}
 use Rattle.repl_asks.specs.Transactions.{RefNameData, ChangeData, IntentData}
 use Rattle.repl_asks.specs.Exchange as exchange
 use Rattle.repl_asks.specs.Exchange.{AskData, AnswerData, value, verdict, committed, conflict}
@@ -12,30 +13,20 @@ use Rattle.server_rules.specs.Numbered as numbered
 use Rattle.server_rules.specs.Numbered.{Entry, entry, changed_at, without}
 use Rattle.server_rules.specs.Versions.{Ref, new_ref, faulted, with_least, with_most}
 use Rattle.server_rules.specs.Versions.{readable, newest}
-use Rattle.server_rules.specs.Store.{Store, ref_of, named, changed_of, changed}
+use Rattle.server_rules.specs.Store.{Store, ref_of, named, value_in, value_of, changed_of, changed}
 use Rattle.server_rules.specs.Store.{with_points, left_attempt}
-use Rattle.server_rules.specs.Commit.{touched, all_there, same_owner, same_name, fits, any_newer}
-use Rattle.server_rules.specs.Commit.{with_changes, raised, with_sets, checked, commit_by}
+use Rattle.server_rules.specs.Commit.{guarded, touched, changing, all_there, all_fit, all_take}
+use Rattle.server_rules.specs.Commit.{same_owner, same_name, are_distinct, fits, any_newer}
+use Rattle.server_rules.specs.Commit.{all_folded, with_changes, raised, with_all, concluded}
+use Rattle.server_rules.specs.Commit.{checked, commit_by}
 use Rattle.server_rules.specs.Calls.{made_ref, made, begun, read_at, read_by, bound_set, performed}
 use Rattle.server_rules.specs.Asking.{call_of}
 use Rattle.server_rules.proofs.Sound.{version_with}
 use Rattle.ref_table.proofs.Owners.{some-same, none-some, slice_get-changed, slice_get-added}
 use Rattle.ref_table.proofs.Owners.{slice_get-changed_other, slice_get-added_other}
+use Rattle.ref_table.proofs.Committing.{changed-names}
 use Rattle.repl_core.specs.Commits.{last_set, is_named, given_by}
-
--- Names
-
-same_owner-true : (o p : OwnerData) → same_owner o p ≡ true → o ≡ p
-same_owner-true shared shared e = refl
-same_owner-true shared (tenant t) e = absurd (true≢false (sym e))
-same_owner-true (tenant t) shared e = absurd (true≢false (sym e))
-same_owner-true (tenant t) (tenant u) e = ap tenant (eqb-true t u e)
-
-same_name-named : (a b : RefNameData) (s : Store) → same_name a b ≡ true → named a s ≡ named b s
-same_name-named a b s e =
-    let parts = and_parts (same_owner a.owner b.owner) (a.number == b.number) e in
-    ap (λ o. ref_of o a.number s) (same_owner-true a.owner b.owner parts.0)
-    ∙ ap (λ n. ref_of b.owner n s) (eqb-true a.number b.number parts.1)
+use Rattle.repl_core.proofs.CommitFolds.{same_name-true, changes-gave, changed-none}
 
 -- A ref is changed
 
@@ -100,12 +91,29 @@ all_there-as (name ∷ names) s new same =
     ap (λ b. b && all_there names new) (same name)
     ∙ ap (λ b. is_some (named name s) && b) (all_there-as names s new same)
 
-all_there-front : (names more : List RefNameData) (s : Store)
-    → all_there (names ++ more) s ≡ true → all_there names s ≡ true
-all_there-front [] more s e = refl
-all_there-front (name ∷ names) more s e =
+pub all_there-parts : (names more : List RefNameData) (s : Store)
+    → all_there (names ++ more) s ≡ true → (all_there names s ≡ true) × (all_there more s ≡ true)
+all_there-parts [] more s e = (refl, e)
+all_there-parts (name ∷ names) more s e =
     let parts = and_parts (is_some (named name s)) (all_there (names ++ more) s) e in
-    ap (λ b. b && all_there names s) parts.0 ∙ all_there-front names more s parts.1
+    let behind = all_there-parts names more s parts.1 in
+    (ap (λ b. b && all_there names s) parts.0 ∙ behind.0, behind.1)
+
+all_there-both : (names more : List RefNameData) (s : Store) → all_there names s ≡ true
+    → all_there more s ≡ true → all_there (names ++ more) s ≡ true
+all_there-both [] more s here there = there
+all_there-both (name ∷ names) more s here there =
+    let parts = and_parts (is_some (named name s)) (all_there names s) here in
+    ap (λ b. b && all_there (names ++ more) s) parts.0 ∙ all_there-both names more s parts.1 there
+
+-- the refs that change are there where all that are named are
+changing-there : (intent : IntentData) (s : Store) → all_there (touched intent) s ≡ true
+    → all_there (changing intent) s ≡ true
+changing-there intent s there =
+    let sets = map (λ c. c.name) intent.sets in
+    let commuted = map (λ c. c.name) intent.commuted in
+    let all = all_there-parts (guarded intent) commuted s there in
+    all_there-both sets commuted s (all_there-parts sets intent.ensured s all.0).0 all.1
 
 -- What is newest
 
@@ -145,7 +153,8 @@ version-newest name c stamp s there =
         → newest_of (changed_if b (version_with stamp c) (named name s))
         ≡ (if b then Some c.now else newest_at name s)
     by true same =
-        added (named name s) (ap is_some (same_name-named name c.name s same) ∙ there)
+        added (named name s)
+        (ap (λ other. is_some (named other s)) (same_name-true name c.name same) ∙ there)
     by false apart = refl
 
 changes-newest : (name : RefNameData) (stamp : ℕ) (cs : List ChangeData) (s : Store)
@@ -167,11 +176,11 @@ raised-named name s = by name.owner
     by shared = refl
     by (tenant t) = refl
 
-sets-newest : (name : RefNameData) (cs : List ChangeData) (s : Store)
+all-newest : (name : RefNameData) (cs : List ChangeData) (s : Store)
     → all_there (map (λ c. c.name) cs) s ≡ true
-    → newest_at name (with_sets cs s) ≡ last_set name cs (newest_at name s)
-sets-newest name [] s there = refl
-sets-newest name (c ∷ cs) s there =
+    → newest_at name (with_all cs s) ≡ last_set name cs (newest_at name s)
+all-newest name [] s there = refl
+all-newest name (c ∷ cs) s there =
     changes-newest name (s.around.counter + 1) (c ∷ cs) (raised s)
     (all_there-as (map (λ c. c.name) (c ∷ cs)) s (raised s)
     (λ other. ap is_some (raised-named other s)) ∙ there)
@@ -249,22 +258,48 @@ bound-newest name other owner f s None keeps = refl
 bound-newest name other shared f s (Some r) keeps = refl
 bound-newest name other (tenant t) f s (Some r) keeps = kept-newest name other f s keeps
 
+value-newest : (o : Option Ref) → newest_of o ≡ value_in o
+value-newest None = refl
+value-newest (Some r) = refl
+
+concluded-newest : (name : RefNameData) (seat : ℕ) (intent : IntentData) (answer : AnswerData)
+    (s : Store) (folds : Result (List ChangeData) Failure)
+    → (all_there (touched intent) s && fits intent) ≡ true
+    → all_folded (λ other. value_of other s) intent.commuted ≡ folds
+    → (concluded seat intent.sets s folds).told ≡ Some answer
+    → newest_at name (concluded seat intent.sets s folds).store
+    ≡ given_by name (exchange.commit intent) answer (newest_at name s)
+concluded-newest name seat intent answer s (Err f) fit is told =
+    left-newest name seat s
+    ∙ ap (λ v. given_by name (exchange.commit intent) v (newest_at name s))
+    (some-same (verdict (exchange.faulted f)) answer told)
+concluded-newest name seat intent answer s (Ok changes) fit is told =
+    let parts = and_parts (all_there (touched intent) s) (fits intent) fit in
+    let once = and_parts (all_fit intent.sets) (are_distinct (changing intent))
+    (and_parts (all_fit intent.sets && are_distinct (changing intent)) (all_take intent.commuted)
+    parts.1).0 in
+    left-newest name seat (with_all (intent.sets ++ changes) s)
+    ∙ all-newest name (intent.sets ++ changes) s
+    (ap (λ names. all_there names s) (changed-names (λ other. value_of other s) intent changes is)
+    ∙ changing-there intent s parts.0)
+    ∙ changes-gave name (λ other. value_of other s) intent.sets intent.commuted changes
+    (newest_at name s) once.1 is (λ among. value-newest (named name s))
+    ∙ ap (λ v. given_by name (exchange.commit intent) v (newest_at name s))
+    (some-same (verdict committed) answer told)
+
 checked-newest : (name : RefNameData) (seat : ℕ) (intent : IntentData) (answer : AnswerData)
-    (s : Store) (fit newer : Bool) → (fit ≡ true → all_there (touched intent) s ≡ true)
+    (s : Store) (fit newer : Bool) → (all_there (touched intent) s && fits intent) ≡ fit
     → (checked seat intent s fit newer).told ≡ Some answer
     → newest_at name (checked seat intent s fit newer).store
     ≡ given_by name (exchange.commit intent) answer (newest_at name s)
-checked-newest name seat intent answer s false newer there told = absurd (none-some told)
-checked-newest name seat intent answer s true true there told =
+checked-newest name seat intent answer s false newer is told = absurd (none-some told)
+checked-newest name seat intent answer s true true is told =
     left-newest name seat s
     ∙ ap (λ v. given_by name (exchange.commit intent) v (newest_at name s))
     (some-same (verdict conflict) answer told)
-checked-newest name seat intent answer s true false there told =
-    left-newest name seat (with_sets intent.sets s)
-    ∙ sets-newest name intent.sets s
-    (all_there-front (map (λ c. c.name) intent.sets) intent.ensured s (there refl))
-    ∙ ap (λ v. given_by name (exchange.commit intent) v (newest_at name s))
-    (some-same (verdict committed) answer told)
+checked-newest name seat intent answer s true false is told =
+    concluded-newest name seat intent answer s
+    (all_folded (λ other. value_of other s) intent.commuted) is refl told
 
 commit-newest : (name : RefNameData) (seat : ℕ) (intent : IntentData) (answer : AnswerData)
     (s : Store) (point : Option ℕ) → (commit_by seat intent s point).told ≡ Some answer
@@ -273,8 +308,7 @@ commit-newest : (name : RefNameData) (seat : ℕ) (intent : IntentData) (answer 
 commit-newest name seat intent answer s None told = absurd (none-some told)
 commit-newest name seat intent answer s (Some point) told =
     checked-newest name seat intent answer s (all_there (touched intent) s && fits intent)
-    (any_newer point (touched intent) s)
-    (λ fit. (and_parts (all_there (touched intent) s) (fits intent) fit).0) told
+    (any_newer point (guarded intent) s) refl told
 
 -- what an ask that is answered makes of each ref
 pub asked-newest : (name : RefNameData) (seat : ℕ) (ask : AskData) (answer : AnswerData)
@@ -304,32 +338,10 @@ asked-newest name seat (exchange.commit intent) answer s told =
 
 -- What is given to a ref that has no value
 
-last-some : (name : RefNameData) (cs : List ChangeData) (d : Datum)
-    → last_set name cs (Some d) ≡ None → ⊥
-last-some name [] d e = none-some (sym e)
-last-some name (c ∷ cs) d e = by (λ x h. last-some name cs x h) (same_name name c.name) e
-  where
-    by : ((x : Datum) → last_set name cs (Some x) ≡ None → ⊥) → (b : Bool)
-        → last_set name cs (if b then Some c.now else Some d) ≡ None → ⊥
-    by behind true h = behind c.now h
-    by behind false h = behind d h
-
-last-none : (name : RefNameData) (cs : List ChangeData) (before : Option Datum)
-    → last_set name cs None ≡ None → last_set name cs before ≡ before
-last-none name [] before e = refl
-last-none name (c ∷ cs) before e =
-    by (λ h. last-none name cs before h) (same_name name c.name) e
-  where
-    by : (last_set name cs None ≡ None → last_set name cs before ≡ before) → (b : Bool)
-        → last_set name cs (if b then Some c.now else None) ≡ None
-        → last_set name cs (if b then Some c.now else before) ≡ before
-    by behind true h = absurd (last-some name cs c.now h)
-    by behind false h = behind h
-
 pub given-none : (name : RefNameData) (ask : AskData) (answer : AnswerData) (before : Option Datum)
     → given_by name ask answer None ≡ None → given_by name ask answer before ≡ before
 given-none name (exchange.commit intent) (verdict committed) before e =
-    last-none name intent.sets before e
+    changed-none name intent.sets intent.commuted before e
 given-none name (exchange.new_ref d least most) (value it) before e = by (is_named name it) e
   where
     by : (b : Bool) → ◌≡◌ {A = Option Datum} (if b then Some d else None) None

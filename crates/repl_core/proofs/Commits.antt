@@ -1,17 +1,18 @@
 -- What commits make of refs, over the steps of a server.
 use Rattle.std.proofs.Common.{◌≡◌, ℕ, ◌==◌, List, [], ◌∷◌, Bool, true, false, ◌&&◌, ◌||◌}
-use Rattle.std.proofs.Common.{Option, Some, None, is_some, slice_get, refl, sym, ap, ◌∙◌}
+use Rattle.std.proofs.Common.{map, Option, Some, None, is_some, slice_get, refl, sym, ap, ◌∙◌}
 use Rattle.std.proofs.Common.{if◌then◌else◌, true≢false}
 use Rattle.std.specs.List.{list_any}
-use Rattle.std.specs.Prelude.{option_and_then}
+use Rattle.std.specs.Prelude.{option_and_then, Result, Ok, Err}
 use Rattle.std.proofs.lemmas.Bool.{eqb-true, and_parts, or_parts}
 use Rattle.value_data.specs.Datum.{OwnerData, shared, tenant}
-use Rattle.repl_asks.specs.Transactions.{RefNameData, IntentData}
+use Rattle.repl_faults.specs.Failure.{Failure}
+use Rattle.repl_asks.specs.Transactions.{RefNameData, ChangeData, IntentData}
 use Rattle.repl_asks.specs.Exchange.{AnswerData, commit, verdict, committed}
 use Rattle.server_rules.specs.Numbered.{found}
-use Rattle.server_rules.specs.Store.{Store, ref_of, named}
-use Rattle.server_rules.specs.Commit.{touched, all_there, fits, is_newer_ref, any_newer}
-use Rattle.server_rules.specs.Commit.{checked, commit_by}
+use Rattle.server_rules.specs.Store.{Store, ref_of, named, value_of}
+use Rattle.server_rules.specs.Commit.{guarded, touched, all_there, fits, is_newer_ref, any_newer}
+use Rattle.server_rules.specs.Commit.{all_folded, concluded, checked, commit_by}
 use Rattle.server_rules.specs.Performed.{Performed}
 use Rattle.server_rules.specs.Calls.{commits, given_up, performed}
 use Rattle.server_rules.specs.Ground.{Ground}
@@ -28,6 +29,7 @@ use Rattle.server_rules.specs.declared.refusal.Refusal.{Refusal}
 use Rattle.repl_core.specs.Standing.{open_in, store_in}
 use Rattle.repl_core.specs.Commits.{refs_of, refs_in, ref_in, newest_in, MetNoNewer}
 use Rattle.repl_core.specs.Commits.{newest_through}
+use Rattle.repl_core.proofs.CommitCalls.{all_there-parts}
 use Rattle.repl_core.proofs.CommitSteps.{closed_plan, open_plan, asked-by, step-gives}
 
 -- A commit that is answered so
@@ -100,24 +102,30 @@ module _ (g : Ground) (w after : World) (t : ℕ) (a : Actor) (intent : IntentDa
           (when_told called.told (answered g a actor h form (commit intent) kept.quiet))
           ≡ accepted after (ask_answered (verdict committed)) → MetNoNewer w t a intent
 
+      concludes : MetNoNewer w t a intent → (folds : Result (List ChangeData) Failure)
+          → Comes (concluded (seat_of a) intent.sets s folds)
+      concludes none (Err f) e = let same = same-answer _ _ _ _ e in absurd (cc)
+      concludes none (Ok changes) e = none
+
       at : (point : ℕ) → found (seat_of a) kept.mine.points ≡ Some point → (fit newer : Bool)
           → (all_there (touched intent) s && fits intent) ≡ fit
-          → any_newer point (touched intent) s ≡ newer
+          → any_newer point (guarded intent) s ≡ newer
           → Comes (checked (seat_of a) intent s fit newer)
       at point began false newer fit met e = absurd (never-refused _ _ _ e)
       at point began true true fit met e = let same = same-answer _ _ _ _ e in absurd (cc)
-      at point began true false fit met e = record {
+      at point began true false fit met e = concludes (record {
         point = point;
         began = ap (option_and_then (λ part. found (seat_of a) part.mine.points)) there ∙ began;
-        none_newer = none-newer (touched intent) point w t kept there
-            (and_parts (all_there (touched intent) s) (fits intent) fit).0 met;
-      }
+        none_newer = none-newer (guarded intent) point w t kept there
+            (all_there-parts (guarded intent) (map (λ c. c.name) intent.commuted) s
+            (and_parts (all_there (touched intent) s) (fits intent) fit).0).0 met;
+      }) (all_folded (λ name. value_of name s) intent.commuted) e
 
       by : (o : Option ℕ) → found (seat_of a) kept.mine.points ≡ o
           → Comes (commit_by (seat_of a) intent s o)
       by None began = λ e. absurd (never-refused _ _ _ e)
       by (Some point) began = at point began (all_there (touched intent) s && fits intent)
-          (any_newer point (touched intent) s) refl refl
+          (any_newer point (guarded intent) s) refl refl
 
   met-planned : Met (plan g t kept.quiet (asks_for a (commit intent)))
   met-planned = asked-by Met g a (commit intent) kept.quiet

@@ -6,6 +6,7 @@ pub mod Honest
 pub mod Walking
 pub mod Left
 pub mod Driving
+pub mod CommitFolds
 pub mod CommitCalls
 pub mod CommitSteps
 pub mod Commits

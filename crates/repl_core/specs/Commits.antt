@@ -1,15 +1,18 @@
 -- What commits make of refs, over the steps of a server (the Clojure reference, Refs and
--- Transactions): each ref's newest value is that of the last change that was committed.
+-- Transactions): each ref's newest value is the fold of the changes that were committed, in order.
 use Rattle.std.specs.Prelude.{◌≡◌, ℕ, ◌==◌, List, [], ◌∷◌, Bool, false}
 use Rattle.std.specs.Prelude.{Option, None, Some, option_and_then, slice_get, if◌then◌else◌}
+use Rattle.std.specs.Prelude.{Result, Ok, Err}
 use Rattle.std.specs.List.{list_any}
 use Rattle.value_data.specs.Datum as datum
 use Rattle.value_data.specs.Datum.{Datum, OwnerData, shared, tenant}
-use Rattle.repl_asks.specs.Transactions.{RefNameData, ChangeData, IntentData}
-use Rattle.repl_asks.specs.Exchange.{AskData, AnswerData, new_ref, commit, value, verdict, committed}
+use Rattle.repl_faults.specs.Failure.{Failure}
+use Rattle.repl_asks.specs.Transactions.{RefNameData, ChangeData, CommutedData, IntentData}
+use Rattle.repl_asks.specs.Exchange.{AskData, AnswerData, new_ref, commit, value, verdict}
+use Rattle.repl_asks.specs.Exchange.{committed}
 use Rattle.server_rules.specs.Numbered as numbered
 use Rattle.server_rules.specs.Versions.{Ref, newest}
-use Rattle.server_rules.specs.Commit.{touched, same_name, is_newer_ref}
+use Rattle.server_rules.specs.Commit.{guarded, same_name, is_newer_ref, folded_from}
 use Rattle.server_rules.specs.Ground.{Ground}
 use Rattle.server_rules.specs.Tenant.{seat_of}
 use Rattle.server_rules.specs.Plan.{StepAnswer, asks_for, ask_answered}
@@ -34,7 +37,8 @@ ref_in name w = slice_get (refs_in name.owner w) name.number
 abbrev pub newest_in : RefNameData → World → Option Datum
 newest_in name w = option_and_then (λ r. newest r.versions) (ref_in name w)
 
--- A commit that was answered so met no version that is newer than its read point
+-- A commit that was answered so met no version that is newer than its read point, of a ref that it
+-- set or ensured
 
 abbrev pub point_in : ℕ → Actor → World → Option ℕ
 point_in t a w =
@@ -43,7 +47,7 @@ point_in t a w =
 pub record MetNoNewer (w : World) (t : ℕ) (a : Actor) (intent : IntentData) : Type 0 where
   pub point : ℕ
   pub began : point_in t a w ≡ Some point
-  pub none_newer : list_any (λ name. is_newer_ref point (ref_in name w)) (touched intent) ≡ false
+  pub none_newer : list_any (λ name. is_newer_ref point (ref_in name w)) (guarded intent) ≡ false
 
 abbrev pub CommittedMetNoNewer : Type 0
 CommittedMetNoNewer =
@@ -59,13 +63,25 @@ last_set name [] before = before
 last_set name (c ∷ cs) before =
     last_set name cs (if same_name name c.name then Some c.now else before)
 
+-- what a fold came to; where it is a fault nothing is committed, and all stays
+abbrev pub folded_or : Option Datum → Result Datum Failure → Option Datum
+folded_or before (Ok d) = Some d
+folded_or before (Err f) = before
+
+-- a ref that was commuted gets the fold of its commutes over what it had
+abbrev pub last_commuted : RefNameData → List CommutedData → Option Datum → Option Datum
+last_commuted name [] before = before
+last_commuted name (c ∷ cs) before = last_commuted name cs
+    (if same_name name c.name then folded_or before (folded_from c before) else before)
+
 -- whether the value is the ref of this name
 abbrev pub is_named : RefNameData → Datum → Bool
 is_named name (datum.ref owner n) = same_name name (record { owner = owner; number = n })
 is_named name _ = false
 
 abbrev pub given_by : RefNameData → AskData → AnswerData → Option Datum → Option Datum
-given_by name (commit intent) (verdict committed) before = last_set name intent.sets before
+given_by name (commit intent) (verdict committed) before =
+    last_commuted name intent.commuted (last_set name intent.sets before)
 given_by name (new_ref d least most) (value made) before =
     if is_named name made then Some d else before
 given_by name _ _ before = before
@@ -90,7 +106,7 @@ newest_through name g w [] before = before
 newest_through name g w (s ∷ ss) before =
     newest_through name g (world_or w (step g w s)) ss (newest_behind name s (step g w s) before)
 
-abbrev pub NewestIsTheLastCommitted : Type 0
-NewestIsTheLastCommitted =
+abbrev pub NewestIsTheFoldOfWhatWasCommitted : Type 0
+NewestIsTheFoldOfWhatWasCommitted =
     (g : Ground) (w : World) (steps : List Step) (name : RefNameData)
     → newest_in name (run g w steps) ≡ newest_through name g w steps (newest_in name w)

@@ -1,16 +1,19 @@
 //! Laws of transactions, over any run of the server's steps. The functions do nothing: what they
 //! ensure is proved.
-ghost use Rattle.repl_core.specs.Commits.{CommittedMetNoNewer, NewestIsTheLastCommitted};
+ghost use Rattle.repl_core.specs.Commits.{CommittedMetNoNewer, NewestIsTheFoldOfWhatWasCommitted};
 
-/// Where a commit was answered as committed, the newest version of each ref that it set or ensured was
-/// not newer than the read point of its attempt.
+/// Where a commit was answered as committed, the newest version of each ref that it set or ensured
+/// was not newer than the read point of its attempt. That of a ref that it commuted may be newer,
+/// where the ref wasn't ensured.
 pub fn committed_met_no_newer()
     ensures { CommittedMetNoNewer }
 {}
 
-/// Through a run of steps the newest value of a ref is that of the last change of it that was
-/// committed; or the one that it was made with; or, where the run has neither, what it was. The refs of
-/// a tenant that goes are gone.
-pub fn newest_is_the_last_committed()
-    ensures { NewestIsTheLastCommitted }
+/// Through a run of steps the newest value of a ref is the fold of the changes of it that were
+/// committed, in order: a commit that sets it puts another value in its place, and one that
+/// commutes it applies its functions to the value that was there. The fold begins with the value
+/// that the ref was made with or, where the run doesn't make it, with what it was. The refs of a
+/// tenant that goes are gone.
+pub fn newest_is_the_fold_of_what_was_committed()
+    ensures { NewestIsTheFoldOfWhatWasCommitted }
 {}

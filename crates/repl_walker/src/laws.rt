@@ -9,6 +9,7 @@ ghost use Rattle.evaluation_rules.specs.Doing.{Kept, Doing};
 ghost use Rattle.evaluation_rules.specs.Tree.{written};
 ghost use Rattle.evaluation_rules.specs.Transactions.{after_body, attempts};
 ghost use Rattle.repl_walker.specs.Attempts.{IsUnderWay, IsDivided};
+ghost use Rattle.repl_walker.specs.Values.{ValuesStay};
 
 /// A trace leads an evaluation to one thing alone: to what it does after these answers, where each
 /// ask of the trace is what the evaluation asks next.
@@ -26,4 +27,10 @@ pub fn a_transaction_is_its_attempts()
         → Leads (written text (attempts (suc left) body next last)) (exchange ∷ trace) end
         → (exchange.ask ≡ begin) × (IsUnderWay (after_body (attempts left body next) next) end
         ⊎ IsDivided (after_body (attempts left body next) next) text [] body trace end) }
+{}
+
+/// With more answers, or with less text printed before, an attempt's body has the same values first. So
+/// two runs of it agree up to the first answer in which they differ.
+pub fn more_answers_keep_the_values()
+    ensures { ValuesStay }
 {}

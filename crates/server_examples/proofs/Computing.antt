@@ -7,6 +7,9 @@ use Rattle.rand_chacha.specs.Block.{quarter_round, column_round, diagonal_round,
 use Rattle.rand_chacha.specs.Block.{block_word}
 use Rattle.uuid.specs.Text.{by_index}
 use Rattle.repl_sessions.specs.Ids.{session_id, id_text}
+use Rattle.core_integers.specs.Arithmetic.{held, arithmetic}
+use Rattle.core_integers.specs.Meaning as integers
+use Rattle.core_functions.specs.Outcome.{limited, settled}
 use Rattle.name_spaces.specs.Namespaces.{is_there, at_start, entered, defined}
 use Rattle.name_spaces.specs.Resolving.{resolved}
 use Rattle.repl_asks.specs.Namespaces.{is_fixed}
@@ -17,7 +20,7 @@ use Rattle.server_rules.specs.Moves.{form_ended}
 use Rattle.server_rules.specs.World.{step}
 use Rattle.server_examples.specs.Examples.{ReadIsRetried, TwoAreApart, CloseInterrupts}
 use Rattle.server_examples.specs.Examples.{OtherTraceIsRefused, PlaceIsFreed, NothingIsLeft}
-use Rattle.server_examples.specs.Examples.{IdleCostsNothing}
+use Rattle.server_examples.specs.Examples.{IdleCostsNothing, BothCommute}
 
 pub read-is-retried : ReadIsRetried
 unfolding step form_ended taken_in with_message asked is_fixed is_there at_start entered defined resolved is_utf8 chars encode_utf8 id_text session_id by_index u32_at quarter_round column_round diagonal_round double_rounds block_word
@@ -26,6 +29,10 @@ read-is-retried = refl
 pub two-are-apart : TwoAreApart
 unfolding step form_ended taken_in with_message asked is_fixed is_there at_start entered defined resolved is_utf8 chars encode_utf8 id_text session_id by_index u32_at quarter_round column_round diagonal_round double_rounds block_word
 two-are-apart = (refl, refl)
+
+pub both-commute : BothCommute
+unfolding step form_ended taken_in with_message asked is_fixed is_there at_start entered defined resolved is_utf8 chars encode_utf8 id_text session_id by_index u32_at quarter_round column_round diagonal_round double_rounds block_word settled limited integers.value_of arithmetic held
+both-commute = refl
 
 pub close-interrupts : CloseInterrupts
 unfolding step form_ended taken_in with_message asked is_fixed is_there at_start entered defined resolved is_utf8 chars encode_utf8 id_text session_id by_index u32_at quarter_round column_round diagonal_round double_rounds block_word

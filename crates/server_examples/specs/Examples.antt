@@ -1,5 +1,6 @@
 -- Runs with one tenant and with two.
 use Rattle.std.specs.Prelude.{◌≡◌, ℕ, List, [], ◌∷◌, ◌++◌, Option, Some, None, Ok, Err, codes}
+use Rattle.value_data.specs.Datum.{nil}
 use Rattle.repl_jobs.specs.Job as jobs
 use Rattle.repl_jobs.specs.Job.{JobData}
 use Rattle.repl_replies.specs.Replies as replies
@@ -41,6 +42,17 @@ abbrev pub TwoAreApart : Type 0
 TwoAreApart =
     let both = by_turns (retried_run 0) (retried_run 1) in
     (given_to 0 both ≡ retried_replies 0) × (given_to 1 both ≡ retried_replies 1)
+
+-- Two sessions commute one ref, and the second commits first: the first meets no conflict, and its
+-- commute is made again of what the second left.
+abbrev pub BothCommute : Type 0
+BothCommute =
+    given_to 0 (given (opens 0) ∷ begun 0 ++ heard 0 7 ∷ heard 0 8 ∷ turns_of 0 0 6 ++ turns_of 0 1 8
+    ++ turns_of 0 0 2 ++ heard 0 2 ∷ turns_of 0 0 6 ++ drained 0 10)
+    ≡ joined (begun_replies 0
+    ++ second_reply 0 (codes "9") (value_of nil) ∷ second_reply 0 (codes "9") replies.done
+    ∷ first_reply 0 (codes "8") (value_of nil) ∷ first_reply 0 (codes "8") replies.done
+    ∷ first_reply 0 (codes "2") (value_of (number 2)) ∷ first_reply 0 (codes "2") replies.done ∷ [])
 
 -- A session is closed while one request is in hand and another waits. The one that waits is answered
 -- first, then the close, and at its next turn the one in hand; then the actor is gone.

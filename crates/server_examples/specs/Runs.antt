@@ -12,9 +12,9 @@ use Rattle.server_rules.specs.Turns.{Turn, given, goes, next, serve}
 use Rattle.server_rules.specs.declared.actor.Actor.{Actor}
 use Rattle.server_examples.specs.Tables.{text, number, first_id, second_id, ground}
 
--- the tenant 0 or 1 sends one of its seven messages
+-- the tenant 0 or 1 sends one of its nine messages
 abbrev pub heard : ℕ → ℕ → Turn
-heard t message = given (does t (hears ((t * 7 + message) ∷ [])))
+heard t message = given (does t (hears ((t * 9 + message) ∷ [])))
 
 abbrev pub drained : ℕ → ℕ → List Turn
 drained t zero = []

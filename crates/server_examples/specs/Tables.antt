@@ -10,7 +10,10 @@ use Rattle.bencode_wire.specs.Stream as streams
 use Rattle.value_data.specs.Datum as datum
 use Rattle.value_data.specs.Datum.{Datum, tenant}
 use Rattle.value_data.specs.Listed.{items_of}
-use Rattle.repl_asks.specs.Transactions.{RefNameData, ChangeData}
+use Rattle.core_integers.specs.declared.function.ArithmeticFunction.{ArithmeticFunction}
+use Rattle.core_integers.specs.declared.function.IntegerFunction.{IntegerFunction}
+use Rattle.function_names.specs.declared.function.CoreFunction.{CoreFunction}
+use Rattle.repl_asks.specs.Transactions.{RefNameData, ChangeData, CommutedData}
 use Rattle.repl_asks.specs.Exchange as exchange
 use Rattle.repl_asks.specs.Exchange.{AskData, AnswerData, bound_value}
 use Rattle.repl_jobs.specs.Job as jobs
@@ -48,7 +51,7 @@ closing_of id session = wire.dictionary (pair (codes "op") (text (codes "close")
     (pair (codes "id") (text id) (pair (codes "session") (text session) no_pairs)))
 
 -- what a tenant sends: a clone, evals of the forms `d`, `r`, `s`, `h` and `t` in one of its sessions,
--- and a close
+-- a close, and evals of the form `c` in both
 abbrev pub messages : ℕ → List wire.Tree
 messages t =
     cloning
@@ -57,7 +60,9 @@ messages t =
     ∷ eval_of (codes "3") (second_id t) (codes "s")
     ∷ eval_of (codes "4") (first_id t) (codes "h")
     ∷ eval_of (codes "5") (second_id t) (codes "t")
-    ∷ closing_of (codes "7") (first_id t) ∷ []
+    ∷ closing_of (codes "7") (first_id t)
+    ∷ eval_of (codes "8") (first_id t) (codes "c")
+    ∷ eval_of (codes "9") (second_id t) (codes "c") ∷ []
 
 -- the message at this place among those of the tenants 0 and 1
 abbrev pub message_of : ℕ → wire.Tree
@@ -93,9 +98,9 @@ abbrev pub when_committed : AnswerData → Tree → Tree → Tree
 when_committed (exchange.verdict exchange.committed) behind again = behind
 when_committed _ behind again = again
 
-abbrev pub committing : List ChangeData → Tree → Tree → Tree
-committing sets behind again =
-    asks (exchange.commit (record { sets = sets; ensured = [] }))
+abbrev pub committing : List ChangeData → List CommutedData → Tree → Tree → Tree
+committing sets commuted behind again =
+    asks (exchange.commit (record { sets = sets; ensured = []; commuted = commuted }))
     (λ a. when_committed a behind again)
 
 -- `(dosync @r)`, with so many attempts
@@ -103,15 +108,29 @@ abbrev pub reading : ℕ → Tree
 reading zero = ends_with datum.nil
 reading (suc n) = asks exchange.begin (λ b. asks (symbol (codes "r"))
     (λ r. asks (exchange.read (ref_in r)) (λ a.
-    when_found a (λ d. committing [] (ends_with d) (reading n)) (reading n))))
+    when_found a (λ d. committing [] [] (ends_with d) (reading n)) (reading n))))
 
 -- `(dosync (ref-set r n))`
 abbrev pub setting : ℕ → ℕ → Tree
 setting n zero = ends_with datum.nil
 setting n (suc k) = asks exchange.begin (λ b. asks (symbol (codes "ref-set"))
     (λ f. asks (symbol (codes "r")) (λ r.
-    committing (record { name = ref_in r; now = number n } ∷ []) (ends_with (number n))
+    committing (record { name = ref_in r; now = number n } ∷ []) [] (ends_with (number n))
     (setting n k))))
+
+abbrev pub adding : CoreFunction
+adding = CoreFunction.Integer (IntegerFunction.Arithmetic ArithmeticFunction.Add)
+
+-- `(dosync (commute r + 1) nil)`
+abbrev pub commuting : ℕ → Tree
+commuting zero = ends_with datum.nil
+commuting (suc n) = asks exchange.begin (λ b. asks (symbol (codes "commute"))
+    (λ f. asks (symbol (codes "r")) (λ r. asks (symbol (codes "+"))
+    (λ g. asks (exchange.read (ref_in r)) (λ a. when_found a (λ d. committing []
+    (record {
+      name = ref_in r;
+      commutes = record { function = adding; arguments = number 1 ∷ [] } ∷ [];
+    } ∷ []) (ends_with datum.nil) (commuting n)) (commuting n))))))
 
 -- `(def r (ref 0))`
 abbrev pub defining : Tree
@@ -124,13 +143,14 @@ abbrev pub counting : Tree
 counting = asks (symbol (codes "ref-history-count")) (λ f. asks (symbol (codes "r")) (λ r.
     asks (exchange.history (ref_in r)) (λ a. ends_with (value_told a))))
 
--- the forms `d`, `r`, `s`, `h` and `t`
+-- the forms `d`, `r`, `s`, `h`, `c` and `t`
 abbrev pub form_named : ℕ → Tree
 form_named n =
     if n == 100 then defining else (
     if n == 114 then reading 3 else (
     if n == 115 then setting 5 3 else (
-    if n == 104 then counting else setting 6 3)))
+    if n == 104 then counting else (
+    if n == 99 then commuting 3 else setting 6 3))))
 
 abbrev pub work_tree : WorkData → Tree
 work_tree (jobs.form (datum.integer (pos n))) = form_named n

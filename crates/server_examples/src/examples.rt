@@ -1,7 +1,7 @@
 //! The runs. The functions do nothing: what they ensure is proved by computing it.
 ghost use Rattle.server_examples.specs.Examples.{ReadIsRetried, TwoAreApart, CloseInterrupts};
 ghost use Rattle.server_examples.specs.Examples.{OtherTraceIsRefused, PlaceIsFreed, NothingIsLeft};
-ghost use Rattle.server_examples.specs.Examples.{IdleCostsNothing};
+ghost use Rattle.server_examples.specs.Examples.{IdleCostsNothing, BothCommute};
 
 /// A read whose version is kept no longer is made again, and a ref of which a read failed keeps one
 /// version more from its next commit on.
@@ -12,6 +12,11 @@ pub fn read_is_retried()
 /// Two tenants that do the same by turns are each answered as if they were alone.
 pub fn two_are_apart()
     ensures { TwoAreApart }
+{}
+
+/// Two sessions commute one ref, and both commits stand, whichever came first.
+pub fn both_commute()
+    ensures { BothCommute }
 {}
 
 /// A close answers what waits, then itself, and interrupts what is in hand.

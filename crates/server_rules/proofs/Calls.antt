@@ -1,22 +1,25 @@
 -- What is seen of a call is the call over what is seen.
-use Rattle.std.proofs.Common.{◌≡◌, ℕ, zero, suc, ◌+◌, ◌-◌, ◌<◌, ◌≤◌, ◌==◌, List, [], ◌∷◌, ◌++◌}
+use Rattle.std.proofs.Common.{◌≡◌, ℕ, zero, suc, ◌+◌, ◌<◌, ◌≤◌, ◌==◌, List, [], ◌∷◌, ◌++◌}
 use Rattle.std.proofs.Common.{Bool, true, false, ◌&&◌, ◌||◌, if◌then◌else◌, Option, Some, None}
 use Rattle.std.proofs.Common.{refl, sym, ap, ap₂, ◌∙◌, subst, map, length, is_some, slice_get, arith}
-use Rattle.std.specs.Prelude.{option_map}
+use Rattle.std.specs.Prelude.{option_map, Result, Ok, Err}
 use Rattle.std.proofs.lemmas.List.{length-map, map-append}
 use Rattle.std.proofs.lemmas.Bool.{le-leb}
 use Rattle.value_data.specs.Datum as datum
 use Rattle.value_data.specs.Datum.{Datum, OwnerData, shared, tenant}
-use Rattle.repl_asks.specs.Transactions.{RefNameData, ChangeData, IntentData}
+use Rattle.repl_faults.specs.Failure.{Failure, ◌>>=◌}
+use Rattle.repl_asks.specs.Transactions.{RefNameData, ChangeData, CommutedData, IntentData}
 use Rattle.repl_asks.specs.Exchange as exchange
 use Rattle.repl_asks.specs.Exchange.{AnswerData}
-use Rattle.server_rules.specs.Numbered.{changed_at, Entry, entry, found, without, map_entry}
+use Rattle.server_rules.specs.Numbered.{changed_at, Entry, entry, found, map_entry}
 use Rattle.server_rules.specs.Versions.{RefOf, new_ref, with_version, faulted, with_least, with_most}
 use Rattle.server_rules.specs.Versions.{Ref, readable}
-use Rattle.server_rules.specs.Store.{Store, ref_of, named, changed, changed_of, left_attempt}
+use Rattle.server_rules.specs.Store.{Store, ref_of, named, value_in, value_of, changed, changed_of}
+use Rattle.server_rules.specs.Store.{left_attempt}
 use Rattle.server_rules.specs.Performed.{Performed, as_was, tells}
-use Rattle.server_rules.specs.Commit.{touched, all_there, fits, is_newer_ref, any_newer}
-use Rattle.server_rules.specs.Commit.{with_changes, raised, with_sets, checked, commit_by}
+use Rattle.server_rules.specs.Commit.{guarded, touched, all_there, fits, is_newer_ref, any_newer}
+use Rattle.server_rules.specs.Commit.{folded_from, all_folded, with_changes, raised, with_all}
+use Rattle.server_rules.specs.Commit.{concluded, checked, commit_by}
 use Rattle.server_rules.specs.Calls.{Call, nothing, makes, begins, leaves_attempt, reads, counts}
 use Rattle.server_rules.specs.Calls.{tells_least, tells_most, sets_least, sets_most, commits}
 use Rattle.server_rules.specs.Calls.{gives_up, begun, read_at, read_by, number_told, count_told}
@@ -25,10 +28,11 @@ use Rattle.server_rules.specs.View.{map_ref, content_of, count_at, counts_at, Se
 use Rattle.server_rules.specs.Privacy.{IsOwned, AreOwned}
 use Rattle.server_rules.proofs.Numbered.{none-some, some-same, slice_get-map, changed_at-map}
 use Rattle.server_rules.proofs.Numbered.{changed_at-unseen, found-map, without-map}
-use Rattle.server_rules.proofs.Seen.{first, readable_seen, ref_seen, named_seen, changed_seen_of}
-use Rattle.server_rules.proofs.Seen.{changed_seen, left_seen, begun_seen, made_seen, read_at_seen}
+use Rattle.server_rules.proofs.Seen.{ref_seen, changed_seen_of}
+use Rattle.server_rules.proofs.Seen.{left_seen, begun_seen, read_at_seen}
 use Rattle.server_rules.proofs.Seen.{read_in_seen, read_by_seen, bound_seen, all_there_seen}
-use Rattle.server_rules.proofs.Seen.{is_newer_seen, any_newer_seen, with_changes_seen, checked_seen}
+use Rattle.server_rules.proofs.Seen.{is_newer_seen, any_newer_seen, with_changes_seen, value_in_seen}
+use Rattle.server_rules.proofs.Seen.{value_seen, concluded_seen, checked_seen}
 use Rattle.server_rules.proofs.Seen.{commit_seen, given_up_seen, performed_seen, IsPrivateCall}
 use Rattle.server_rules.proofs.Counting.{Fall, count_at-all, read-count, newer-count}
 use Rattle.server_rules.proofs.Counting.{newest-first, count_at-later}
@@ -276,29 +280,100 @@ version-seen below stamp c under = record {
 }
 
 changes-seen
-    : (below stamp : ℕ) (sets : List ChangeData) (ensured : List RefNameData) (s : Store)
-    → below < stamp → AllBelow below s.mine.points → AreOwned (map (λ c. c.name) sets ++ ensured)
-    → seen (with_changes stamp sets s).mine ≡ with_changes_seen s.tenant sets (seen s.mine)
-changes-seen below stamp [] ensured s under points private = refl
-changes-seen below stamp (c ∷ cs) ensured s under points private =
+    : (below stamp : ℕ) (cs : List ChangeData) (s : Store)
+    → below < stamp → AllBelow below s.mine.points → AreOwned (map (λ c. c.name) cs)
+    → seen (with_changes stamp cs s).mine ≡ with_changes_seen s.tenant cs (seen s.mine)
+changes-seen below stamp [] s under points private = refl
+changes-seen below stamp (c ∷ cs) s under points private =
     let f = version_with stamp c in
     let kept = points-kept c.name.owner c.name.number f s in
     let whose = tenant-kept c.name.owner c.name.number f s in
-    changes-seen below stamp cs ensured (changed c.name f s) under
+    changes-seen below stamp cs (changed c.name f s) under
     (subst (AllBelow below) (sym kept) points) private.1
     ∙ ap (λ t. with_changes_seen t cs (seen (changed c.name f s).mine)) whose
     ∙ ap (with_changes_seen s.tenant cs)
     (change-seen below c.name.owner c.name.number f (with_version c.now) s
     (version-seen below stamp c under) points private.0)
 
-sets-seen
-    : (sets : List ChangeData) (ensured : List RefNameData) (s : Store)
-    → AllBelow s.around.counter s.mine.points → AreOwned (map (λ c. c.name) sets ++ ensured)
-    → seen (with_sets sets s).mine ≡ with_changes_seen s.tenant sets (seen s.mine)
-sets-seen [] ensured s points private = refl
-sets-seen (c ∷ cs) ensured s points private =
-    changes-seen s.around.counter (s.around.counter + 1) (c ∷ cs) ensured (raised s) (omega arith)
+all-seen
+    : (cs : List ChangeData) (s : Store)
+    → AllBelow s.around.counter s.mine.points → AreOwned (map (λ c. c.name) cs)
+    → seen (with_all cs s).mine ≡ with_changes_seen s.tenant cs (seen s.mine)
+all-seen [] s points private = refl
+all-seen (c ∷ cs) s points private =
+    changes-seen s.around.counter (s.around.counter + 1) (c ∷ cs) (raised s) (omega arith)
     points private
+
+-- What is commuted
+
+owned-both : (xs ys : List RefNameData) → AreOwned (xs ++ ys) → AreOwned xs × AreOwned ys
+owned-both [] ys private = (tt, private)
+owned-both (x ∷ xs) ys private =
+    let both = owned-both xs ys private.1 in ((private.0, both.0), both.1)
+
+owned-append : (xs ys : List RefNameData) → AreOwned xs → AreOwned ys → AreOwned (xs ++ ys)
+owned-append [] ys own more = more
+owned-append (x ∷ xs) ys own more = (own.0, owned-append xs ys own.1 more)
+
+value-seen : (s : Store) (name : RefNameData) → IsOwned name.owner
+    → value_seen s.tenant (seen s.mine) name ≡ value_of name s
+value-seen s name private =
+    ap value_in_seen (ref-seen name.owner name.number s private) ∙ by (named name s) where
+      by : (r : Option Ref) → value_in_seen (option_map (map_ref content_of) r) ≡ value_in r
+      by None = refl
+      by (Some r) = newest-first r.versions
+
+-- one value more, in front
+abbrev in_front
+    : RefNameData → Result Datum Failure → Result (List ChangeData) Failure
+    → Result (List ChangeData) Failure
+in_front name first rest =
+    first >>= λ d. (rest >>= λ changes. Ok (record { name = name; now = d } ∷ changes))
+
+-- only the values of the refs that are commuted count
+folded-same : (value known : RefNameData → Option Datum) (cs : List CommutedData)
+    → AreOwned (map (λ c. c.name) cs)
+    → ((name : RefNameData) → IsOwned name.owner → value name ≡ known name)
+    → all_folded value cs ≡ all_folded known cs
+folded-same value known [] private same = refl
+folded-same value known (c ∷ cs) private same =
+    ap₂ (λ o rest. in_front c.name (folded_from c o) rest)
+    (same c.name private.0) (folded-same value known cs private.1 same)
+
+ok-same : {A : Type 0} (x y : A) → ◌≡◌ {A = Result A Failure} (Ok x) (Ok y) → x ≡ y
+ok-same x y e = cc
+
+-- each gets a value
+pub folded-names
+    : (value : RefNameData → Option Datum) (cs : List CommutedData) (changes : List ChangeData)
+    → all_folded value cs ≡ Ok changes → map (λ c. c.name) changes ≡ map (λ c. c.name) cs
+folded-names value [] changes e = ap (map (λ c. c.name)) (sym (ok-same [] changes e))
+folded-names value (c ∷ cs) changes e =
+    by (folded_from c (value c.name)) (all_folded value cs) (folded-names value cs) e where
+      by : (first : Result Datum Failure) (rest : Result (List ChangeData) Failure)
+          → ((ds : List ChangeData) → rest ≡ Ok ds
+          → map (λ c. c.name) ds ≡ map (λ c. c.name) cs)
+          → in_front c.name first rest ≡ Ok changes
+          → map (λ c. c.name) changes ≡ c.name ∷ map (λ c. c.name) cs
+      by (Err f) rest behind e = cc
+      by (Ok d) (Err f) behind e = cc
+      by (Ok d) (Ok ds) behind e =
+          ap (map (λ c. c.name)) (sym (ok-same (record { name = c.name; now = d } ∷ ds) changes e))
+          ∙ ap (λ ns. c.name ∷ ns) (behind ds refl)
+
+concluded-seen
+    : (seat : ℕ) (sets : List ChangeData) (s : Store) (folds : Result (List ChangeData) Failure)
+    → AllBelow s.around.counter s.mine.points
+    → ((changes : List ChangeData) → folds ≡ Ok changes
+    → AreOwned (map (λ c. c.name) (sets ++ changes)))
+    → concluded_seen s.tenant seat sets (seen s.mine) folds
+    ≡ seen_performed (concluded seat sets s folds)
+concluded-seen seat sets s (Err f) points private =
+    ap (tells (exchange.verdict (exchange.faulted f))) (sym (left-seen seat s))
+concluded-seen seat sets s (Ok changes) points private =
+    ap (tells (exchange.verdict exchange.committed))
+    (ap (left_seen seat) (sym (all-seen (sets ++ changes) s points (private changes refl)))
+    ∙ sym (left-seen seat (with_all (sets ++ changes) s)))
 
 checked-seen
     : (seat : ℕ) (intent : IntentData) (s : Store) (fits newer : Bool)
@@ -309,9 +384,15 @@ checked-seen seat intent s false newer points private = refl
 checked-seen seat intent s true true points private =
     ap (tells (exchange.verdict exchange.conflict)) (sym (left-seen seat s))
 checked-seen seat intent s true false points private =
-    ap (tells (exchange.verdict exchange.committed))
-    (ap (left_seen seat) (sym (sets-seen intent.sets intent.ensured s points private))
-    ∙ sym (left-seen seat (with_sets intent.sets s)))
+    let all = owned-both (guarded intent) (map (λ c. c.name) intent.commuted) private in
+    let sets = owned-both (map (λ c. c.name) intent.sets) intent.ensured all.0 in
+    let value : RefNameData → Option Datum = λ name. value_of name s in
+    ap (concluded_seen s.tenant seat intent.sets (seen s.mine))
+    (folded-same (value_seen s.tenant (seen s.mine)) value intent.commuted all.1 (value-seen s))
+    ∙ concluded-seen seat intent.sets s (all_folded value intent.commuted) points
+    (λ changes e. subst AreOwned (sym (map-append (λ c. c.name) intent.sets changes))
+    (owned-append (map (λ c. c.name) intent.sets) (map (λ c. c.name) changes) sets.0
+    (subst AreOwned (sym (folded-names value intent.commuted changes e)) all.1)))
 
 commit-seen
     : (seat : ℕ) (intent : IntentData) (s : Store) (point : Option ℕ)
@@ -322,9 +403,10 @@ commit-seen seat intent s None sound private = refl
 commit-seen seat intent s (Some p) sound private =
     ap₂ (λ there newer.
     checked_seen s.tenant seat intent (seen s.mine) (there && fits intent) newer)
-    (all_there-seen s (touched intent) private) (any_newer-seen s p (touched intent) sound private)
+    (all_there-seen s (touched intent) private) (any_newer-seen s p (guarded intent) sound
+    (owned-both (guarded intent) (map (λ c. c.name) intent.commuted) private).0)
     ∙ checked-seen seat intent s (all_there (touched intent) s && fits intent)
-    (any_newer p (touched intent) s) sound.points private
+    (any_newer p (guarded intent) s) sound.points private
 
 -- Each call
 

@@ -2,17 +2,19 @@
 use Rattle.std.proofs.Common.{ℕ, ◌+◌, ◌-◌, ◌==◌, List, [], ◌∷◌, ◌++◌, Bool, true, false, ◌&&◌, ◌||◌}
 use Rattle.std.proofs.Common.{Option, None, Some, is_some, nat_lt, length, take, drop, map}
 use Rattle.std.proofs.Common.{slice_get, if◌then◌else◌}
-use Rattle.std.specs.Prelude.{option_map, ⊤}
+use Rattle.std.specs.Prelude.{option_map, ⊤, Result, Ok, Err}
 use Rattle.value_data.specs.Datum as datum
 use Rattle.value_data.specs.Datum.{Datum, OwnerData, shared, tenant}
+use Rattle.repl_faults.specs.Failure.{Failure}
 use Rattle.repl_asks.specs.Transactions.{RefNameData, ChangeData, IntentData}
+use Rattle.repl_asks.specs.Exchange as exchange
 use Rattle.repl_asks.specs.Exchange.{AnswerData, done, value, reading, found, retry}
 use Rattle.repl_asks.specs.Exchange.{verdict, committed, conflict}
 use Rattle.server_rules.specs.Numbered as numbered
 use Rattle.server_rules.specs.Numbered.{changed_at, Entry, entry, without, map_entry}
 use Rattle.server_rules.specs.Versions.{RefOf, new_ref, with_version, faulted, with_least, with_most}
 use Rattle.server_rules.specs.Performed.{Performed, as_was, tells}
-use Rattle.server_rules.specs.Commit.{touched, fits}
+use Rattle.server_rules.specs.Commit.{guarded, touched, fits, all_folded}
 use Rattle.server_rules.specs.Calls.{Call, nothing, makes, begins, leaves_attempt, reads, counts}
 use Rattle.server_rules.specs.Calls.{tells_least, tells_most, sets_least, sets_most, commits}
 use Rattle.server_rules.specs.Calls.{gives_up, number_told}
@@ -104,17 +106,30 @@ with_changes_seen t [] s = s
 with_changes_seen t (c ∷ cs) s =
     with_changes_seen t cs (changed_seen t c.name (with_version c.now) s)
 
+abbrev pub value_in_seen : Option (RefOf Datum) → Option Datum
+value_in_seen None = None
+value_in_seen (Some r) = first r.versions
+
+abbrev pub value_seen : ℕ → Seen → RefNameData → Option Datum
+value_seen t s name = value_in_seen (named_seen t name s)
+
+abbrev pub concluded_seen
+    : ℕ → ℕ → List ChangeData → Seen → Result (List ChangeData) Failure → Performed Seen
+concluded_seen t seat sets s (Err f) = tells (verdict (exchange.faulted f)) (left_seen seat s)
+concluded_seen t seat sets s (Ok changes) =
+    tells (verdict committed) (left_seen seat (with_changes_seen t (sets ++ changes) s))
+
 abbrev pub checked_seen : ℕ → ℕ → IntentData → Seen → Bool → Bool → Performed Seen
 checked_seen t seat intent s false newer = as_was s None
 checked_seen t seat intent s true true = tells (verdict conflict) (left_seen seat s)
 checked_seen t seat intent s true false =
-    tells (verdict committed) (left_seen seat (with_changes_seen t intent.sets s))
+    concluded_seen t seat intent.sets s (all_folded (value_seen t s) intent.commuted)
 
 abbrev pub commit_seen : ℕ → ℕ → IntentData → Seen → Option (List ℕ) → Performed Seen
 commit_seen t seat intent s None = as_was s None
 commit_seen t seat intent s (Some ns) = checked_seen t seat intent s
     (all_there_seen t (touched intent) s && fits intent)
-    (any_newer_seen t ns (touched intent) s)
+    (any_newer_seen t ns (guarded intent) s)
 
 abbrev pub given_up_seen : ℕ → Seen → Option AnswerData → Performed Seen
 given_up_seen seat s None = as_was s None

@@ -1,14 +1,16 @@
 -- Stamps and read points stay at most the counter, which never falls.
 use Rattle.std.proofs.Common.{◌≡◌, ℕ, zero, suc, ◌+◌, ◌≤◌, List, [], ◌∷◌, ◌++◌, Bool, true, false}
 use Rattle.std.proofs.Common.{Option, Some, None, refl, sym, ◌∙◌, ◌==◌, ◌&&◌, arith, if◌then◌else◌}
+use Rattle.std.specs.Prelude.{Result, Ok, Err}
 use Rattle.value_data.specs.Datum.{Datum, OwnerData, shared, tenant}
+use Rattle.repl_faults.specs.Failure.{Failure}
 use Rattle.repl_asks.specs.Transactions.{RefNameData, ChangeData, IntentData}
 use Rattle.server_rules.specs.Numbered.{changed_at, Entry, found, without}
 use Rattle.server_rules.specs.Versions.{Ref, new_ref, with_version, faulted, with_least, with_most}
 use Rattle.server_rules.specs.Versions.{readable}
-use Rattle.server_rules.specs.Store.{Own, Store, named, changed, changed_of, left_attempt}
-use Rattle.server_rules.specs.Commit.{touched, all_there, fits, any_newer, with_changes, raised}
-use Rattle.server_rules.specs.Commit.{with_sets, checked, commit_by}
+use Rattle.server_rules.specs.Store.{Own, Store, named, value_of, changed, changed_of, left_attempt}
+use Rattle.server_rules.specs.Commit.{guarded, touched, all_there, fits, any_newer, all_folded}
+use Rattle.server_rules.specs.Commit.{with_changes, raised, with_all, concluded, checked, commit_by}
 use Rattle.server_rules.specs.Calls.{Call, nothing, makes, begins, leaves_attempt, reads, counts}
 use Rattle.server_rules.specs.Calls.{tells_least, tells_most, sets_least, sets_most, commits}
 use Rattle.server_rules.specs.Calls.{gives_up, begun, read_at, read_by, bound_set, given_up, performed}
@@ -112,8 +114,8 @@ counter-kept (tenant t) n f s = refl
 abbrev pub version_with : ℕ → ChangeData → Ref → Ref
 version_with stamp c = with_version (record { stamp = stamp; content = c.now })
 
-changes-rise : (counter stamp : ℕ) (sets : List ChangeData) (s : Store)
-    → stamp ≡ s.around.counter → Rises counter s → Rises counter (with_changes stamp sets s)
+changes-rise : (counter stamp : ℕ) (cs : List ChangeData) (s : Store)
+    → stamp ≡ s.around.counter → Rises counter s → Rises counter (with_changes stamp cs s)
 changes-rise counter stamp [] s now h = h
 changes-rise counter stamp (c ∷ cs) s now h =
     changes-rise counter stamp cs (changed c.name (version_with stamp c) s)
@@ -124,10 +126,10 @@ changes-rise counter stamp (c ∷ cs) s now h =
       Fall-higher s.around.counter stamp r.versions (omega (arith, now)) fall,
     )) h)
 
-sets-rise : (counter : ℕ) (sets : List ChangeData) (s : Store) → Rises counter s
-    → Rises counter (with_sets sets s)
-sets-rise counter [] s h = h
-sets-rise counter (c ∷ cs) s h =
+all-rise : (counter : ℕ) (cs : List ChangeData) (s : Store) → Rises counter s
+    → Rises counter (with_all cs s)
+all-rise counter [] s h = h
+all-rise counter (c ∷ cs) s h =
     changes-rise counter (s.around.counter + 1) (c ∷ cs) (raised s) refl (record {
       rises = omega (arith, h.rises);
       sound = Sound-higher s.around.counter (s.around.counter + 1) s.mine (omega arith) h.sound;
@@ -165,13 +167,23 @@ bound-rises counter name owner f s None keeps h = h
 bound-rises counter name shared f s (Some r) keeps h = h
 bound-rises counter name (tenant t) f s (Some r) keeps h = changed-rises counter name f s keeps h
 
+concluded-rises
+    : (counter seat : ℕ) (sets : List ChangeData) (s : Store)
+    (folds : Result (List ChangeData) Failure) → Rises counter s
+    → Rises counter (concluded seat sets s folds).store
+concluded-rises counter seat sets s (Err f) h = left-rises counter seat s h
+concluded-rises counter seat sets s (Ok changes) h =
+    left-rises counter seat (with_all (sets ++ changes) s)
+    (all-rise counter (sets ++ changes) s h)
+
 checked-rises
     : (counter seat : ℕ) (intent : IntentData) (s : Store) (fits newer : Bool) → Rises counter s
     → Rises counter (checked seat intent s fits newer).store
 checked-rises counter seat intent s false newer h = h
 checked-rises counter seat intent s true true h = left-rises counter seat s h
 checked-rises counter seat intent s true false h =
-    left-rises counter seat (with_sets intent.sets s) (sets-rise counter intent.sets s h)
+    concluded-rises counter seat intent.sets s
+    (all_folded (λ name. value_of name s) intent.commuted) h
 
 commit-rises
     : (counter seat : ℕ) (intent : IntentData) (s : Store) (point : Option ℕ) → Rises counter s
@@ -179,7 +191,7 @@ commit-rises
 commit-rises counter seat intent s None h = h
 commit-rises counter seat intent s (Some p) h =
     checked-rises counter seat intent s
-    (all_there (touched intent) s && fits intent) (any_newer p (touched intent) s) h
+    (all_there (touched intent) s && fits intent) (any_newer p (guarded intent) s) h
 
 given_up-rises : (counter seat : ℕ) (s : Store) (told : Option AnswerData) → Rises counter s
     → Rises counter (given_up seat s told).store

@@ -1,21 +1,33 @@
--- The commit of an attempt (the Clojure reference, Refs and Transactions): it meets no newer version
--- of what it set or ensured and adds one to each ref that was set, or it changes no ref. The attempt
--- ends either way.
-use Rattle.std.specs.Prelude.{ℕ, ◌+◌, ◌==◌, List, [], ◌∷◌, ◌++◌, Bool, true, false}
+-- The commit of an attempt (the Clojure reference, Refs and Transactions). Where it meets a newer
+-- version of what it set or ensured, it changes no ref. Otherwise what was commuted alone is made
+-- again, of the newest values; and each ref that was set or commuted gets one version more, or, at the
+-- first fault, none does. The attempt ends in each case.
+use Rattle.std.specs.Prelude.{ℕ, suc, ◌+◌, ◌==◌, List, [], ◌∷◌, ◌++◌, Bool, true, false}
 use Rattle.std.specs.Prelude.{not, ◌&&◌, ◌||◌}
-use Rattle.std.specs.List.{list_any}
-use Rattle.std.specs.Prelude.{Option, None, Some, is_some, map}
-use Rattle.value_data.specs.Datum.{Datum, OwnerData, shared, tenant}
+use Rattle.std.specs.List.{list_any, list_all}
+use Rattle.std.specs.Prelude.{Option, None, Some, is_some, map, Result, Ok, Err, length}
+use Rattle.std.specs.Prelude.{if◌then◌else◌}
+use Rattle.value_data.specs.Datum.{Datum, nil, OwnerData, shared, tenant}
 use Rattle.value_data.specs.Measures.{is_plain}
-use Rattle.repl_asks.specs.Transactions.{RefNameData, ChangeData, IntentData}
-use Rattle.repl_asks.specs.Exchange.{verdict, committed, conflict}
+use Rattle.repl_faults.specs.Failure.{Failure, ◌>>=◌, broken}
+use Rattle.repl_faults.specs.declared.rule.Rule.{Rule}
+use Rattle.function_names.specs.Names as names
+use Rattle.core_functions.specs.Outcome.{Outcome, gives, fails}
+use Rattle.core_functions.specs.Meaning.{meaning}
+use Rattle.repl_asks.specs.Transactions.{RefNameData, ChangeData, CommuteData, CommutedData}
+use Rattle.repl_asks.specs.Transactions.{IntentData}
+use Rattle.repl_asks.specs.Exchange.{verdict, committed, conflict, faulted}
 use Rattle.server_rules.specs.Versions.{Ref, is_newer, with_version}
-use Rattle.server_rules.specs.Store.{Store, named, changed, left_attempt}
+use Rattle.server_rules.specs.Store.{Store, named, value_of, changed, left_attempt}
 use Rattle.server_rules.specs.Performed.{Performed, as_was, tells}
+
+-- the refs that nobody else may have changed
+abbrev pub guarded : IntentData → List RefNameData
+guarded intent = map (λ c. c.name) intent.sets ++ intent.ensured
 
 -- the refs that the intent names
 abbrev pub touched : IntentData → List RefNameData
-touched intent = map (λ c. c.name) intent.sets ++ intent.ensured
+touched intent = guarded intent ++ map (λ c. c.name) intent.commuted
 
 abbrev pub all_there : List RefNameData → Store → Bool
 all_there [] s = true
@@ -40,12 +52,24 @@ same_owner (tenant t) (tenant u) = t == u
 abbrev pub same_name : RefNameData → RefNameData → Bool
 same_name a b = same_owner a.owner b.owner && a.number == b.number
 
-abbrev pub are_distinct : List ChangeData → Bool
+abbrev pub are_distinct : List RefNameData → Bool
 are_distinct [] = true
-are_distinct (c ∷ cs) = not (list_any (λ d. same_name c.name d.name) cs) && are_distinct cs
+are_distinct (name ∷ names) = not (list_any (same_name name) names) && are_distinct names
+
+-- the refs that change, each once
+abbrev pub changing : IntentData → List RefNameData
+changing intent = map (λ c. c.name) intent.sets ++ map (λ c. c.name) intent.commuted
+
+-- each function takes the value of the ref and its arguments
+abbrev pub takes_its_arguments : CommuteData → Bool
+takes_its_arguments c = names.fits c.function (suc (length c.arguments))
+
+abbrev pub all_take : List CommutedData → Bool
+all_take cs = list_all (λ c. list_all takes_its_arguments c.commutes) cs
 
 abbrev pub fits : IntentData → Bool
-fits intent = all_fit intent.sets && are_distinct intent.sets
+fits intent =
+    all_fit intent.sets && are_distinct (changing intent) && all_take intent.commuted
 
 abbrev pub is_newer_ref : ℕ → Option Ref → Bool
 is_newer_ref point None = false
@@ -55,7 +79,33 @@ abbrev pub any_newer : ℕ → List RefNameData → Store → Bool
 any_newer point [] s = false
 any_newer point (name ∷ names) s = is_newer_ref point (named name s) || any_newer point names s
 
--- each ref that was set gets one version with this stamp
+-- What was commuted is made again: each function is applied to what the one before it gave, the first
+-- to the newest value of the ref. What they print is dropped.
+
+abbrev pub result_of : Outcome → Result Datum Failure
+result_of (gives d text) = Ok d
+result_of (fails f) = Err f
+
+abbrev pub folded : List CommuteData → Datum → Result Datum Failure
+folded [] d = Ok d
+folded (c ∷ cs) d = result_of (meaning c.function (d ∷ c.arguments)) >>= folded cs
+
+abbrev pub held : OwnerData → Datum → Result Datum Failure
+held owner d = if may_hold owner d then Ok d else Err (broken Rule.SharedRefsArePlain)
+
+-- from what the ref has; one that is there has a value
+abbrev pub folded_from : CommutedData → Option Datum → Result Datum Failure
+folded_from c None = Ok nil
+folded_from c (Some d) = folded c.commutes d >>= held c.name.owner
+
+-- one ref after another, up to the first fault, where this is what refs have
+abbrev pub all_folded
+    : (RefNameData → Option Datum) → List CommutedData → Result (List ChangeData) Failure
+all_folded value [] = Ok []
+all_folded value (c ∷ cs) = folded_from c (value c.name) >>= λ d.
+    (all_folded value cs >>= λ changes. Ok (record { name = c.name; now = d } ∷ changes))
+
+-- each ref that changes gets one version with this stamp
 abbrev pub with_changes : ℕ → List ChangeData → Store → Store
 with_changes stamp [] s = s
 with_changes stamp (c ∷ cs) s = with_changes stamp cs
@@ -64,20 +114,26 @@ with_changes stamp (c ∷ cs) s = with_changes stamp cs
 abbrev pub raised : Store → Store
 raised s = record s { around = record { counter = s.around.counter + 1; refs = s.around.refs } }
 
--- the counter rises where a ref was set
-abbrev pub with_sets : List ChangeData → Store → Store
-with_sets [] s = s
-with_sets (c ∷ cs) s = with_changes (s.around.counter + 1) (c ∷ cs) (raised s)
+-- the counter rises where a ref changes
+abbrev pub with_all : List ChangeData → Store → Store
+with_all [] s = s
+with_all (c ∷ cs) s = with_changes (s.around.counter + 1) (c ∷ cs) (raised s)
+
+abbrev pub concluded
+    : ℕ → List ChangeData → Store → Result (List ChangeData) Failure → Performed Store
+concluded seat sets s (Err f) = tells (verdict (faulted f)) (left_attempt seat s)
+concluded seat sets s (Ok changes) =
+    tells (verdict committed) (left_attempt seat (with_all (sets ++ changes) s))
 
 abbrev pub checked : ℕ → IntentData → Store → Bool → Bool → Performed Store
 checked seat intent s false newer = as_was s None
 checked seat intent s true true = tells (verdict conflict) (left_attempt seat s)
 checked seat intent s true false =
-    tells (verdict committed) (left_attempt seat (with_sets intent.sets s))
+    concluded seat intent.sets s (all_folded (λ name. value_of name s) intent.commuted)
 
 -- at the read point of the actor's attempt
 abbrev pub commit_by : ℕ → IntentData → Store → Option ℕ → Performed Store
 commit_by seat intent s None = as_was s None
 commit_by seat intent s (Some point) = checked seat intent s
     (all_there (touched intent) s && fits intent)
-    (any_newer point (touched intent) s)
+    (any_newer point (guarded intent) s)

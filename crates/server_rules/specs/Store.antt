@@ -1,9 +1,9 @@
 -- The refs that a tenant reaches: its own and the shared ones.
-use Rattle.std.specs.Prelude.{ℕ, ◌==◌, List, Option, None, slice_get, if◌then◌else◌}
-use Rattle.value_data.specs.Datum.{OwnerData, shared, tenant}
+use Rattle.std.specs.Prelude.{ℕ, ◌==◌, List, Option, None, Some, slice_get, if◌then◌else◌}
+use Rattle.value_data.specs.Datum.{Datum, OwnerData, shared, tenant}
 use Rattle.repl_asks.specs.Transactions.{RefNameData}
 use Rattle.server_rules.specs.Numbered.{changed_at, Entry, without}
-use Rattle.server_rules.specs.Versions.{Ref}
+use Rattle.server_rules.specs.Versions.{Ref, newest}
 
 -- what all tenants have in common
 pub record Around : Type 0 where
@@ -32,6 +32,14 @@ ref_of (tenant t) n s = if t == s.tenant then slice_get s.mine.refs n else None
 
 abbrev pub named : RefNameData → Store → Option Ref
 named name s = ref_of name.owner name.number s
+
+abbrev pub value_in : Option Ref → Option Datum
+value_in None = None
+value_in (Some r) = newest r.versions
+
+-- the value of a ref for those who are in no transaction
+abbrev pub value_of : RefNameData → Store → Option Datum
+value_of name s = value_in (named name s)
 
 abbrev pub with_mine : Own → Store → Store
 with_mine mine s = record s { mine = mine }

@@ -7,8 +7,10 @@ use Rattle.value_data.specs.declared.value.Value.{Value}
 use Rattle.special_forms.specs.Seen.{views}
 use Rattle.function_names.specs.StoreNames.{store_fits}
 use Rattle.function_names.specs.declared.store.StoreFunction.{StoreFunction}
-use Rattle.store_calls.specs.Calling.{call_with, ref_made, dereferenced, ref_set, history_counted, alter_by_value}
+use Rattle.store_calls.specs.Calling.{call_with, ref_made, dereferenced, ref_set, ref_ensured, history_counted}
+use Rattle.store_calls.specs.Calling.{alter_by_value}
 use Rattle.store_calls.specs.Parts.{bound_called}
+use Rattle.store_calls.specs.declared.altering.Alteration.{Alteration}
 use Rattle.store_calls.specs.declared.bounds.HistoryBound.{HistoryBound}
 
 pub ref-called : (running : Bool) (xs : List Value) (x : Value)
@@ -38,11 +40,26 @@ set-called running (u ∷ v ∷ w ∷ xs) ys x y fits is left first = absurd (gr
 
 pub alter-called : (running : Bool) (xs : List Value) (x y : Value)
     → store_fits StoreFunction.Alter (length xs) ≡ true → x ≡ get_or xs 0 x → y ≡ get_or xs 1 y
-    → call_with StoreFunction.Alter running (views xs) ≡ alter_by_value (view x) (view y)
+    → call_with StoreFunction.Alter running (views xs) ≡ alter_by_value Alteration.Alter (view x) (view y)
 alter-called running [] x y fits first is = absurd (grind (arith, nat_tests))
 alter-called running (u ∷ []) x y fits first is = absurd (grind (arith, nat_tests))
 alter-called running (u ∷ v ∷ xs) x y fits first is =
     let one : x ≡ u = first in let other : y ≡ v = is in cc
+
+pub commute-called : (running : Bool) (xs : List Value) (x y : Value)
+    → store_fits StoreFunction.Commute (length xs) ≡ true → x ≡ get_or xs 0 x → y ≡ get_or xs 1 y
+    → call_with StoreFunction.Commute running (views xs) ≡ alter_by_value Alteration.Commute (view x) (view y)
+commute-called running [] x y fits first is = absurd (grind (arith, nat_tests))
+commute-called running (u ∷ []) x y fits first is = absurd (grind (arith, nat_tests))
+commute-called running (u ∷ v ∷ xs) x y fits first is =
+    let one : x ≡ u = first in let other : y ≡ v = is in cc
+
+pub ensure-called : (running : Bool) (xs : List Value) (x : Value)
+    → store_fits StoreFunction.Ensure (length xs) ≡ true → x ≡ get_or xs 0 x
+    → call_with StoreFunction.Ensure running (views xs) ≡ ref_ensured running (view x)
+ensure-called running [] x fits is = absurd (grind (arith, nat_tests))
+ensure-called running (y ∷ []) x fits is = let same : x ≡ y = is in cc
+ensure-called running (y ∷ z ∷ xs) x fits is = absurd (grind (arith, nat_tests))
 
 pub count-called : (running : Bool) (xs : List Value) (x : Value)
     → store_fits StoreFunction.HistoryCount (length xs) ≡ true → x ≡ get_or xs 0 x
@@ -70,4 +87,14 @@ greatest-called running (y ∷ z ∷ []) x fits is = let same : x ≡ y = is in 
 greatest-called running (y ∷ z ∷ w ∷ xs) x fits is = absurd (grind (arith, nat_tests))
 
 -- the calls of all functions
-pub ruleset calls = (ref-called, deref-called, set-called, alter-called, count-called, least-called, greatest-called)
+pub ruleset calls = (
+  ref-called,
+  deref-called,
+  set-called,
+  alter-called,
+  commute-called,
+  ensure-called,
+  count-called,
+  least-called,
+  greatest-called,
+)

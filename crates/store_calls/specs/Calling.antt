@@ -12,6 +12,7 @@ use Rattle.function_names.specs.StoreNames.{store_name_of, store_fits}
 use Rattle.function_names.specs.declared.store.StoreFunction.{StoreFunction}
 use Rattle.repl_asks.specs.Transactions.{RefNameData}
 use Rattle.repl_asks.specs.Exchange.{AskData, new_ref, history, min_history, max_history}
+use Rattle.store_calls.specs.declared.altering.Alteration.{Alteration}
 use Rattle.store_calls.specs.declared.bounds.HistoryBound.{HistoryBound}
 
 pub data CallData : Type 0 where
@@ -20,6 +21,8 @@ pub data CallData : Type 0 where
   reads : RefNameData → CallData
   -- a ref gets a value, in the attempt alone
   puts : RefNameData → Datum → CallData
+  -- nobody else is to change a ref until the attempt is committed
+  ensures : RefNameData → CallData
   -- the answer to an ask is the value
   asks_value : AskData → CallData
 
@@ -141,21 +144,32 @@ bound_set bound d e =
     >>= λ n. (kept_to Rule.SharedBoundsStay (not (is_shared name.owner))
     >>= λ _. Ok (asks_value (ask_for bound name (Some n)))))
 
--- The ref that `(alter ref function argument ..)` alters: a transaction has to run.
-abbrev pub altered_in : Bool → Datum → Result RefNameData Failure
-altered_in running d =
-    ref_in StoreFunction.Alter d >>= λ name. (kept_to Rule.ATransactionRuns running >>= λ _. Ok name)
+-- `(ensure ref)`
+abbrev pub ref_ensured : Bool → Datum → Result CallData Failure
+ref_ensured running d =
+    ref_in StoreFunction.Ensure d >>= λ name. (kept_to Rule.ATransactionRuns running >>= λ _. Ok (ensures name))
 
--- `alter` where its function is a value: functions are none, so the first wrong argument is that, or the ref
-abbrev pub alter_by_value : Datum → Datum → Result CallData Failure
-alter_by_value d e =
-    ref_in StoreFunction.Alter d >>= λ _. Err (wrong_argument (store_name_of StoreFunction.Alter) e)
+abbrev pub altering : Alteration → StoreFunction
+altering Alteration.Alter = StoreFunction.Alter
+altering Alteration.Commute = StoreFunction.Commute
+
+-- The ref that `(alter ref function argument ..)` alters, or that is commuted: a transaction has to run.
+abbrev pub altered_in : Alteration → Bool → Datum → Result RefNameData Failure
+altered_in by running d =
+    ref_in (altering by) d >>= λ name. (kept_to Rule.ATransactionRuns running >>= λ _. Ok name)
+
+-- either of them where its function is a value: functions are none, so the first wrong argument is that, or the ref
+abbrev pub alter_by_value : Alteration → Datum → Datum → Result CallData Failure
+alter_by_value by d e =
+    ref_in (altering by) d >>= λ _. Err (wrong_argument (store_name_of (altering by)) e)
 
 abbrev pub call_with : StoreFunction → Bool → List Datum → Result CallData Failure
 call_with StoreFunction.Ref running ds = ref_made ds
 call_with StoreFunction.Deref running (d ∷ []) = dereferenced d
 call_with StoreFunction.RefSet running (d ∷ e ∷ []) = ref_set running d e
-call_with StoreFunction.Alter running (d ∷ e ∷ ds) = alter_by_value d e
+call_with StoreFunction.Alter running (d ∷ e ∷ ds) = alter_by_value Alteration.Alter d e
+call_with StoreFunction.Commute running (d ∷ e ∷ ds) = alter_by_value Alteration.Commute d e
+call_with StoreFunction.Ensure running (d ∷ []) = ref_ensured running d
 call_with StoreFunction.HistoryCount running (d ∷ []) = history_counted running d
 call_with StoreFunction.MinHistory running (d ∷ []) = bound_told HistoryBound.Least d
 call_with StoreFunction.MinHistory running (d ∷ e ∷ []) = bound_set HistoryBound.Least d e

@@ -5,7 +5,8 @@ use Rattle.repl_faults.specs.Failure.{Failure}
 use Rattle.repl_faults.specs.View.{failure_of}
 use Rattle.repl_asks.specs.Transactions.{RefNameData}
 use Rattle.repl_asks.specs.View.{name_view, ask_view}
-use Rattle.store_calls.specs.Calling.{CallData, refused, reads, puts, asks_value, BoundsData}
+use Rattle.store_calls.specs.Calling.{CallData, refused, reads, puts, ensures, asks_value}
+use Rattle.store_calls.specs.Calling.{BoundsData}
 use Rattle.store_calls.specs.declared.bounds.Bounds.{Bounds}
 use Rattle.store_calls.specs.declared.outcome.Altered.{Altered}
 use Rattle.store_calls.specs.declared.outcome.Call.{Call}
@@ -14,6 +15,7 @@ abbrev pub call_view : Call → CallData
 call_view (Call.Refused f) = refused (failure_of f)
 call_view (Call.Reads name) = reads (name_view name)
 call_view (Call.Puts name v) = puts (name_view name) (view v)
+call_view (Call.Ensures name) = ensures (name_view name)
 call_view (Call.AsksValue ask) = asks_value (ask_view ask)
 
 -- the ref that is altered, or why none is

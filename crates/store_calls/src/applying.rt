@@ -8,6 +8,7 @@ ghost use Rattle.store_calls.specs.Calling as meant;
 ghost use Rattle.store_calls.specs.Parts.{bound_called};
 ghost use Rattle.store_calls.specs.View.{call_view};
 
+use crate::altering::Alteration;
 use crate::arguments::{count_of, ref_of};
 use crate::bounds::{HistoryBound, bounds_in};
 use crate::outcome::Call;
@@ -64,7 +65,11 @@ fn call_with(
             let value = values.remove(1);
             ref_set(alloc, in_transaction, &values[0], value)
         }
-        StoreFunction::Alter => alter_by_value(alloc, &values[0], &values[1]),
+        StoreFunction::Alter => { alter_by_value(alloc, Alteration::Alter, &values[0], &values[1]) }
+        StoreFunction::Commute => {
+            alter_by_value(alloc, Alteration::Commute, &values[0], &values[1])
+        }
+        StoreFunction::Ensure => ref_ensured(alloc, in_transaction, &values[0]),
         StoreFunction::HistoryCount => history_counted(alloc, in_transaction, &values[0]),
         StoreFunction::MinHistory => {
             bound_called(alloc, HistoryBound::Least, &values[0], values.get(1))
@@ -111,13 +116,29 @@ fn ref_set(
     Ok(Call::Puts(name, value))
 }
 
-// `(alter ref value ..)`, where no function stands: one of the two is a wrong argument.
-fn alter_by_value(alloc: Global, target: &Value, by: &Value) -> Result<Call, ApplyError>
-    ensures { Gives call_view result (meant.alter_by_value (view target.now) (view by.now)) }
+// `(ensure ref)`
+fn ref_ensured(alloc: Global, in_transaction: bool, target: &Value) -> Result<Call, ApplyError>
+    ensures { Gives call_view result (meant.ref_ensured in_transaction (view target.now)) }
 {
-    let _name = ref_of(alloc, StoreFunction::Alter, target)?;
-    let name = StoreFunction::Alter.name();
-    Err(ApplyError::Fault(wrong_argument(alloc, name, by)?))
+    let name = ref_of(alloc, StoreFunction::Ensure, target)?;
+    keep_to(alloc, Rule::ATransactionRuns, in_transaction)?;
+    Ok(Call::Ensures(name))
+}
+
+// `(alter ref value ..)` or `(commute ref value ..)`, where no function stands: one of the two is a
+// wrong argument.
+fn alter_by_value(
+    alloc: Global,
+    by: Alteration,
+    target: &Value,
+    function: &Value,
+) -> Result<Call, ApplyError>
+    ensures { Gives call_view result
+        (meant.alter_by_value by (view target.now) (view function.now)) }
+{
+    let _name = ref_of(alloc, by.function(), target)?;
+    let name = by.function().name();
+    Err(ApplyError::Fault(wrong_argument(alloc, name, function)?))
 }
 
 // `(ref-history-count ref)`

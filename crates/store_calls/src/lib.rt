@@ -12,7 +12,7 @@ mod bounds;
 mod outcome;
 mod rules;
 
-pub use altering::altered;
+pub use altering::{Alteration, altered};
 pub use applying::call;
 pub use outcome::{Altered, Call};
 pub use rules::may_hold;

@@ -10,11 +10,13 @@ pub enum Call {
     Reads(RefName),
     /// A ref gets a value, in the attempt alone.
     Puts(RefName, Value),
+    /// Nobody else is to change a ref until the attempt is committed. Its value is read.
+    Ensures(RefName),
     /// The answer to this ask is the value.
     AsksValue(Ask),
 }
 
-/// What a call of `alter` begins with.
+/// What a call of `alter` or `commute` begins with.
 #[derive(Debug, Drop)]
 pub enum Altered {
     /// This ref gets what the function makes of its value.

@@ -1,6 +1,5 @@
 // What is set by a commit, and what keeps it from being set.
-use crate::told::{Told, commit, commit_intent, make, new_table, read};
-use ref_table::Outcome;
+use crate::told::{Came, Told, commit, commit_intent, make, new_table, outcome_of, read};
 use repl_asks::{Change, Intent};
 use repl_values::{Owner, RefName, Value};
 use std::test::Fail;
@@ -14,18 +13,18 @@ fn first_of_two_commits_wins(rt: HostRuntime) -> Result<(), Fail> {
     assert_eq!(rt; point.stamp, 0);
     assert_eq!(rt;
         commit(&mut table, alloc, 1, &[(name, 2)], &[], point)?,
-        Outcome::Committed
+        Came::Committed
     );
     assert_eq!(rt;
         commit(&mut table, alloc, 1, &[(name, 3)], &[], point)?,
-        Outcome::Conflict
+        Came::Conflict
     );
     assert_eq!(rt; read(&mut table, 1, name, None)?, Told::Number(2));
     let point = table.begin();
     assert_eq!(rt; point.stamp, 1);
     assert_eq!(rt;
         commit(&mut table, alloc, 1, &[(name, 3)], &[], point)?,
-        Outcome::Committed
+        Came::Committed
     );
     assert_eq!(rt; read(&mut table, 1, name, None)?, Told::Number(3));
     Ok(())
@@ -42,15 +41,15 @@ fn ensured_ref_is_held(rt: HostRuntime) -> Result<(), Fail> {
     let point = table.begin();
     assert_eq!(rt;
         commit(&mut table, alloc, 1, &[(one, 3)], &[other], point)?,
-        Outcome::Committed
+        Came::Committed
     );
     assert_eq!(rt;
         commit(&mut table, alloc, 1, &[(other, 4)], &[one], point)?,
-        Outcome::Conflict
+        Came::Conflict
     );
     assert_eq!(rt;
         commit(&mut table, alloc, 1, &[(other, 4)], &[], point)?,
-        Outcome::Committed
+        Came::Committed
     );
     assert_eq!(rt; read(&mut table, 1, other, None)?, Told::Number(4));
     Ok(())
@@ -64,16 +63,16 @@ fn commit_that_sets_nothing_leaves_the_counter(rt: HostRuntime) -> Result<(), Fa
     let point = table.begin();
     assert_eq!(rt;
         commit(&mut table, alloc, 1, &[], &[name], point)?,
-        Outcome::Committed
+        Came::Committed
     );
     assert_eq!(rt; table.begin(), point);
     assert_eq!(rt;
         commit(&mut table, alloc, 1, &[(name, 2)], &[], point)?,
-        Outcome::Committed
+        Came::Committed
     );
     assert_eq!(rt;
         commit(&mut table, alloc, 1, &[], &[name], point)?,
-        Outcome::Conflict
+        Came::Conflict
     );
     Ok(())
 }
@@ -91,19 +90,19 @@ fn what_breaks_a_rule_is_refused(rt: HostRuntime) -> Result<(), Fail> {
     let twice = [(name, 2), (name, 3)];
     assert_eq!(rt;
         commit(&mut table, alloc, 1, &twice, &[], point)?,
-        Outcome::Refused
+        Came::Refused
     );
     assert_eq!(rt;
         commit(&mut table, alloc, 1, &[(absent, 2)], &[], point)?,
-        Outcome::Refused
+        Came::Refused
     );
     assert_eq!(rt;
         commit(&mut table, alloc, 1, &[(name, 2)], &[absent], point)?,
-        Outcome::Refused
+        Came::Refused
     );
     assert_eq!(rt;
         commit(&mut table, alloc, 2, &[(name, 2)], &[], point)?,
-        Outcome::Refused
+        Came::Refused
     );
     assert_eq!(rt; read(&mut table, 1, name, None)?, Told::Number(1));
     assert_eq!(rt; table.begin(), point);
@@ -117,7 +116,7 @@ fn shared_ref_holds_what_is_plain(rt: HostRuntime) -> Result<(), Fail> {
     let shared = make(&mut table, alloc, Owner::Shared, 1)?;
     let own = make(&mut table, alloc, Owner::Tenant(1), 2)?;
     let point = table.begin();
-    for (name, expected) in [(shared, Outcome::Refused), (own, Outcome::Committed)] {
+    for (name, expected) in [(shared, Came::Refused), (own, Came::Committed)] {
         let mut sets = Vec::new(alloc);
         sets.push(Change {
             name,
@@ -126,15 +125,14 @@ fn shared_ref_holds_what_is_plain(rt: HostRuntime) -> Result<(), Fail> {
         let intent = Intent {
             sets,
             ensured: Vec::new(alloc),
+            commuted: Vec::new(alloc),
         };
-        assert_eq!(rt;
-            commit_intent(&mut table, alloc, 1, &intent, point)?,
-            expected
-        );
+        let outcome = commit_intent(&mut table, alloc, 1, &intent, point)?;
+        assert_eq!(rt; outcome_of(outcome), expected);
     }
     assert_eq!(rt;
         commit(&mut table, alloc, 2, &[(shared, 3)], &[], point)?,
-        Outcome::Committed
+        Came::Committed
     );
     assert_eq!(rt; read(&mut table, 1, shared, None)?, Told::Number(3));
     Ok(())

@@ -4,6 +4,10 @@
 #[cfg(test)]
 mod committing;
 #[cfg(test)]
+mod commuting;
+#[cfg(test)]
+mod intents;
+#[cfg(test)]
 mod memory;
 #[cfg(test)]
 mod owning;

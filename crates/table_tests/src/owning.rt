@@ -1,6 +1,5 @@
 // Whose a ref is.
-use crate::told::{Told, commit, make, new_table, read};
-use ref_table::Outcome;
+use crate::told::{Came, Told, commit, make, new_table, read};
 use repl_values::{Owner, RefName};
 use std::test::Fail;
 
@@ -47,7 +46,7 @@ fn release_takes_the_refs_of_one_tenant(rt: HostRuntime) -> Result<(), Fail> {
     let sets = [(shared, 4), (mine, 5)];
     assert_eq!(rt;
         commit(&mut table, alloc, 1, &sets, &[], point)?,
-        Outcome::Committed
+        Came::Committed
     );
     table.release(1);
     table.release(1);

@@ -9,8 +9,27 @@ use std::alloc::{AllocError, Global};
 #[derive(Clone, Copy, Debug, PartialEq, Eq)]
 pub(crate) enum Told {
     Number(i64),
+    Nil,
     Retry,
     Nothing,
+}
+
+/// What a commit came to.
+#[derive(Clone, Copy, Debug, PartialEq, Eq)]
+pub(crate) enum Came {
+    Committed,
+    Conflict,
+    Faulted,
+    Refused,
+}
+
+pub(crate) fn outcome_of(outcome: Outcome) -> Came {
+    match outcome {
+        Outcome::Committed => Came::Committed,
+        Outcome::Conflict => Came::Conflict,
+        Outcome::Faulted(_) => Came::Faulted,
+        Outcome::Refused => Came::Refused,
+    }
 }
 
 pub(crate) type Table = RefTable<ListHistory>;
@@ -42,6 +61,7 @@ pub(crate) fn read(
 ) -> Result<Told, AllocError> {
     match table.read(caller, name, point)? {
         Some(Reading::Found(Value::Int(number))) => Ok(Told::Number(number)),
+        Some(Reading::Found(Value::Nil)) => Ok(Told::Nil),
         Some(Reading::Retry) => Ok(Told::Retry),
         _ => Ok(Told::Nothing),
     }
@@ -54,7 +74,7 @@ pub(crate) fn commit(
     sets: &[(RefName, i64)],
     ensured: &[RefName],
     point: Point,
-) -> Result<Outcome, AllocError> {
+) -> Result<Came, AllocError> {
     let mut changes = Vec::with_capacity(alloc, sets.len())?;
     for (name, number) in sets {
         changes.push(Change {
@@ -66,8 +86,9 @@ pub(crate) fn commit(
     let intent = Intent {
         sets: changes,
         ensured,
+        commuted: Vec::new(alloc),
     };
-    commit_intent(table, alloc, caller, &intent, point)
+    Ok(outcome_of(commit_intent(table, alloc, caller, &intent, point)?))
 }
 
 pub(crate) fn commit_intent(

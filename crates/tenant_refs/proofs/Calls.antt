@@ -1,17 +1,19 @@
 -- What calls of the refs leave as it was.
-use Rattle.std.proofs.Common.{◌≡◌, ◌+◌, ℕ, List, [], ◌∷◌, Bool, true, false, ◌&&◌}
+use Rattle.std.proofs.Common.{◌≡◌, ◌+◌, ℕ, List, [], ◌∷◌, ◌++◌, Bool, true, false, ◌&&◌}
 use Rattle.std.proofs.Common.{Option, None, Some, refl, sym, ap, ◌∙◌}
-use Rattle.std.specs.Prelude.{option_map}
+use Rattle.std.specs.Prelude.{option_map, Result, Ok, Err}
 use Rattle.value_data.specs.Datum.{Datum, OwnerData, shared, tenant}
 use Rattle.repl_asks.specs.Transactions.{RefNameData, ChangeData, IntentData}
-use Rattle.repl_asks.specs.Exchange.{AnswerData, reading, found, retry}
+use Rattle.repl_faults.specs.Failure.{Failure}
+use Rattle.repl_asks.specs.Exchange as exchange
+use Rattle.repl_asks.specs.Exchange.{AnswerData, reading, found, retry, verdict}
 use Rattle.server_rules.specs.Numbered as numbered
 use Rattle.server_rules.specs.Numbered.{Entry, entry, without}
 use Rattle.server_rules.specs.Versions.{Ref, faulted, with_least, with_most, with_version}
 use Rattle.server_rules.specs.Versions.{readable, newest}
-use Rattle.server_rules.specs.Store.{Store, named, changed_of, changed}
-use Rattle.server_rules.specs.Commit.{touched, all_there, fits, any_newer, with_changes, raised}
-use Rattle.server_rules.specs.Commit.{with_sets, checked, commit_by}
+use Rattle.server_rules.specs.Store.{Store, named, value_of, changed_of, changed, left_attempt}
+use Rattle.server_rules.specs.Commit.{guarded, touched, all_there, fits, any_newer, all_folded}
+use Rattle.server_rules.specs.Commit.{with_changes, raised, with_all, concluded, checked, commit_by}
 use Rattle.server_rules.specs.Calls.{Call, nothing, makes, begins, leaves_attempt, reads, counts}
 use Rattle.server_rules.specs.Calls.{tells_least, tells_most, sets_least, sets_most, commits, gives_up}
 use Rattle.server_rules.specs.Calls.{begun, read_at, read_by, bound_set, given_up, performed}
@@ -44,9 +46,9 @@ changes-same stamp (c ∷ cs) s =
     same-then s (changed c.name f s) (with_changes stamp cs (changed c.name f s))
     (changed-same c.name f s) (changes-same stamp cs (changed c.name f s))
 
-sets-same : (cs : List ChangeData) (s : Store) → Same s (with_sets cs s)
-sets-same [] s = same-all s
-sets-same (c ∷ cs) s =
+with_all-same : (cs : List ChangeData) (s : Store) → Same s (with_all cs s)
+with_all-same [] s = same-all s
+with_all-same (c ∷ cs) s =
     let more = changes-same (s.around.counter + 1) (c ∷ cs) (raised s) in
     record { tenant = more.tenant; points = more.points }
 
@@ -71,17 +73,24 @@ bound-tenant name owner f s None = refl
 bound-tenant name shared f s (Some r) = refl
 bound-tenant name (tenant t) f s (Some r) = (changed-same name f s).tenant
 
+concluded-tenant : (seat : ℕ) (sets : List ChangeData) (s : Store)
+    (folds : Result (List ChangeData) Failure)
+    → (concluded seat sets s folds).store.tenant ≡ s.tenant
+concluded-tenant seat sets s (Err f) = refl
+concluded-tenant seat sets s (Ok changes) = (with_all-same (sets ++ changes) s).tenant
+
 checked-tenant : (seat : ℕ) (intent : IntentData) (s : Store) (fit newer : Bool)
     → (checked seat intent s fit newer).store.tenant ≡ s.tenant
 checked-tenant seat intent s false newer = refl
 checked-tenant seat intent s true true = refl
-checked-tenant seat intent s true false = (sets-same intent.sets s).tenant
+checked-tenant seat intent s true false =
+    concluded-tenant seat intent.sets s (all_folded (λ name. value_of name s) intent.commuted)
 
 commit-tenant : (seat : ℕ) (intent : IntentData) (s : Store) (o : Option ℕ)
     → (commit_by seat intent s o).store.tenant ≡ s.tenant
 commit-tenant seat intent s None = refl
 commit-tenant seat intent s (Some point) = checked-tenant seat intent s
-    (all_there (touched intent) s && fits intent) (any_newer point (touched intent) s)
+    (all_there (touched intent) s && fits intent) (any_newer point (guarded intent) s)
 
 given-tenant : (seat : ℕ) (s : Store) (o : Option AnswerData)
     → (given_up seat s o).store.tenant ≡ s.tenant
@@ -129,18 +138,25 @@ bound-untold name owner f s None e = refl
 bound-untold name shared f s (Some r) e = refl
 bound-untold name (tenant t) f s (Some r) e = absurd (none-some e)
 
+concluded-untold : (seat : ℕ) (sets : List ChangeData) (s : Store)
+    (folds : Result (List ChangeData) Failure) → None ≡ (concluded seat sets s folds).told
+    → (concluded seat sets s folds).store ≡ s
+concluded-untold seat sets s (Err f) e = absurd (none-some e)
+concluded-untold seat sets s (Ok changes) e = absurd (none-some e)
+
 checked-untold : (seat : ℕ) (intent : IntentData) (s : Store) (fit newer : Bool)
     → None ≡ (checked seat intent s fit newer).told
     → (checked seat intent s fit newer).store ≡ s
 checked-untold seat intent s false newer e = refl
 checked-untold seat intent s true true e = absurd (none-some e)
-checked-untold seat intent s true false e = absurd (none-some e)
+checked-untold seat intent s true false e =
+    concluded-untold seat intent.sets s (all_folded (λ name. value_of name s) intent.commuted) e
 
 commit-untold : (seat : ℕ) (intent : IntentData) (s : Store) (o : Option ℕ)
     → None ≡ (commit_by seat intent s o).told → (commit_by seat intent s o).store ≡ s
 commit-untold seat intent s None e = refl
 commit-untold seat intent s (Some point) e = checked-untold seat intent s
-    (all_there (touched intent) s && fits intent) (any_newer point (touched intent) s) e
+    (all_there (touched intent) s && fits intent) (any_newer point (guarded intent) s) e
 
 given-untold : (seat : ℕ) (s : Store) (o : Option AnswerData)
     → None ≡ (given_up seat s o).told → (given_up seat s o).store ≡ s
@@ -214,13 +230,41 @@ commit-told s seat intent v e = by (numbered.found seat s.mine.points) e where
       → (checked seat intent s fit newer).store.mine.points ≡ without seat s.mine.points
   at false newer e = absurd (none-some (sym e))
   at true true e = refl
-  at true false e = ap (without seat) (sets-same intent.sets s).points
+  at true false e = left (all_folded (λ name. value_of name s) intent.commuted) where
+    left : (folds : Result (List ChangeData) Failure)
+        → (concluded seat intent.sets s folds).store.mine.points ≡ without seat s.mine.points
+    left (Err f) = refl
+    left (Ok changes) = ap (without seat) (with_all-same (intent.sets ++ changes) s).points
 
   by : (o : Option ℕ) → Some v ≡ (commit_by seat intent s o).told
       → (commit_by seat intent s o).store.mine.points ≡ without seat s.mine.points
   by None e = absurd (none-some (sym e))
   by (Some point) e = at (all_there (touched intent) s && fits intent)
-      (any_newer point (touched intent) s) e
+      (any_newer point (guarded intent) s) e
+
+-- a fault of what was commuted ends the attempt, and no more
+pub commit-faulted : (s : Store) (seat : ℕ) (intent : IntentData) (f : Failure)
+    → Some (verdict (exchange.faulted f)) ≡ (performed s (commits seat intent)).told
+    → (performed s (commits seat intent)).store ≡ left_attempt seat s
+commit-faulted s seat intent f e = by (numbered.found seat s.mine.points) e where
+  ended : (folds : Result (List ChangeData) Failure)
+      → Some (verdict (exchange.faulted f)) ≡ (concluded seat intent.sets s folds).told
+      → (concluded seat intent.sets s folds).store ≡ left_attempt seat s
+  ended (Err g) e = refl
+  ended (Ok changes) e = absurd (cc)
+
+  at : (fit newer : Bool)
+      → Some (verdict (exchange.faulted f)) ≡ (checked seat intent s fit newer).told
+      → (checked seat intent s fit newer).store ≡ left_attempt seat s
+  at false newer e = absurd (none-some (sym e))
+  at true true e = refl
+  at true false e = ended (all_folded (λ name. value_of name s) intent.commuted) e
+
+  by : (o : Option ℕ) → Some (verdict (exchange.faulted f)) ≡ (commit_by seat intent s o).told
+      → (commit_by seat intent s o).store ≡ left_attempt seat s
+  by None e = absurd (none-some (sym e))
+  by (Some point) e = at (all_there (touched intent) s && fits intent)
+      (any_newer point (guarded intent) s) e
 
 -- Bounds that are set
 

@@ -140,6 +140,21 @@ holds-still new old attempts later s r answer p holds told same is = record {
   reaches = subst (λ x. Reaches x s) (sym is) holds.reaches;
 }
 
+-- an attempt that would be over goes on
+pub holds-unended : (new old : Table) (attempts : Attempts) (seat : ℕ) (s : Store) (r : Refs)
+    (answer : Option AnswerData) (p : Performed Store) → Holds old attempts s r
+    → Performs ListStands new r answer p → p.store ≡ left_attempt seat s
+    → Holds new attempts s r
+holds-unended new old attempts seat s r answer p holds told left = record {
+  serves = record {
+    stands = subst (refs.Stands ListStands new)
+        (ap (λ x. after x r) left ∙ after-seen s r holds.serves.reached) told.left;
+    sound = holds.serves.sound;
+    reached = holds.serves.reached;
+  };
+  reaches = holds.reaches;
+}
+
 pub holds-new : (new old : Table) (attempts : Attempts) (s : Store) (r : Refs)
     → Holds old attempts s r → refs.Stands ListStands new r → Holds new attempts s r
 holds-new new old attempts s r holds stands = record {

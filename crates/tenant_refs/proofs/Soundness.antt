@@ -2,19 +2,20 @@
 use Rattle.std.proofs.Common.{◌≡◌, ◌<◌, ◌+◌, ◌==◌, ◌^◌, ℕ, zero, suc, List, [], ◌∷◌, ◌++◌}
 use Rattle.std.proofs.Common.{Bool, true, false, ◌&&◌, ◌||◌, nat_lt, refl, sym, subst}
 use Rattle.std.proofs.Common.{Option, None, Some, slice_get, if◌then◌else◌, arith}
-use Rattle.std.specs.Prelude.{⊤}
+use Rattle.std.specs.Prelude.{⊤, Result, Ok, Err}
 use Rattle.std.specs.List.{AllByRecursion}
 use Rattle.std.proofs.lemmas.Bool.{ltb-true}
 use Rattle.value_data.specs.Datum.{Datum, OwnerData, shared, tenant}
+use Rattle.repl_faults.specs.Failure.{Failure}
 use Rattle.repl_asks.specs.Transactions.{RefNameData, ChangeData, IntentData}
 use Rattle.repl_asks.specs.Exchange.{AnswerData}
 use Rattle.server_rules.specs.Numbered as numbered
 use Rattle.server_rules.specs.Numbered.{changed_at}
 use Rattle.server_rules.specs.Versions.{Version, Ref, new_ref, grows, faulted, with_least, with_most}
 use Rattle.server_rules.specs.Versions.{with_version, readable}
-use Rattle.server_rules.specs.Store.{Store, ref_of, named, changed_of, changed}
-use Rattle.server_rules.specs.Commit.{touched, all_there, fits, any_newer, with_changes, raised}
-use Rattle.server_rules.specs.Commit.{with_sets, checked, commit_by}
+use Rattle.server_rules.specs.Store.{Store, ref_of, named, value_of, changed_of, changed}
+use Rattle.server_rules.specs.Commit.{guarded, touched, all_there, fits, any_newer, all_folded}
+use Rattle.server_rules.specs.Commit.{with_changes, raised, with_all, concluded, checked, commit_by}
 use Rattle.server_rules.specs.Calls.{Call, nothing, makes, begins, leaves_attempt, reads, counts}
 use Rattle.server_rules.specs.Calls.{tells_least, tells_most, sets_least, sets_most, commits, gives_up}
 use Rattle.server_rules.specs.Calls.{begun, read_at, read_by, bound_set, given_up, performed}
@@ -111,9 +112,9 @@ changes-sound stamp (c ∷ cs) s sound =
     changes-sound stamp cs (changed c.name (with_version v) s)
     (changed-sound c.name (with_version v) s (version-keeps v) sound)
 
-sets-sound : (cs : List ChangeData) (s : Store) → ReachesSound s → ReachesSound (with_sets cs s)
-sets-sound [] s sound = sound
-sets-sound (c ∷ cs) s sound = changes-sound (s.around.counter + 1) (c ∷ cs) (raised s) sound
+with_all-sound : (cs : List ChangeData) (s : Store) → ReachesSound s → ReachesSound (with_all cs s)
+with_all-sound [] s sound = sound
+with_all-sound (c ∷ cs) s sound = changes-sound (s.around.counter + 1) (c ∷ cs) (raised s) sound
 
 begun-sound : (seat : ℕ) (s : Store) (o : Option ℕ) → ReachesSound s
     → ReachesSound (begun seat s o).store
@@ -135,18 +136,25 @@ bound-sound name owner f s None keeps sound = sound
 bound-sound name shared f s (Some r) keeps sound = sound
 bound-sound name (tenant t) f s (Some r) keeps sound = changed-sound name f s keeps sound
 
+concluded-sound : (seat : ℕ) (sets : List ChangeData) (s : Store)
+    (folds : Result (List ChangeData) Failure) → ReachesSound s
+    → ReachesSound (concluded seat sets s folds).store
+concluded-sound seat sets s (Err f) sound = sound
+concluded-sound seat sets s (Ok changes) sound =
+    let there = with_all-sound (sets ++ changes) s sound in (there.0, there.1)
+
 checked-sound : (seat : ℕ) (intent : IntentData) (s : Store) (fit newer : Bool) → ReachesSound s
     → ReachesSound (checked seat intent s fit newer).store
 checked-sound seat intent s false newer sound = sound
 checked-sound seat intent s true true sound = sound
 checked-sound seat intent s true false sound =
-    let there = sets-sound intent.sets s sound in (there.0, there.1)
+    concluded-sound seat intent.sets s (all_folded (λ name. value_of name s) intent.commuted) sound
 
 commit-sound : (seat : ℕ) (intent : IntentData) (s : Store) (o : Option ℕ) → ReachesSound s
     → ReachesSound (commit_by seat intent s o).store
 commit-sound seat intent s None sound = sound
 commit-sound seat intent s (Some point) sound = checked-sound seat intent s
-    (all_there (touched intent) s && fits intent) (any_newer point (touched intent) s) sound
+    (all_there (touched intent) s && fits intent) (any_newer point (guarded intent) s) sound
 
 given-sound : (seat : ℕ) (s : Store) (o : Option AnswerData) → ReachesSound s
     → ReachesSound (given_up seat s o).store

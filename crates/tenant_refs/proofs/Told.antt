@@ -1,14 +1,16 @@
 -- Whether the refs would tell what is asked.
 use Rattle.std.proofs.Common.{◌≡◌, ℕ, Bool, true, false, not, ◌&&◌, Option, None, Some}
 use Rattle.std.proofs.Common.{refl, sym, ap, ◌∙◌, is_some}
-use Rattle.std.specs.Prelude.{option_map}
+use Rattle.std.specs.Prelude.{List, option_map, Result, Ok, Err}
 use Rattle.value_data.specs.Datum.{Datum, OwnerData, shared, tenant}
-use Rattle.repl_asks.specs.Transactions.{RefNameData, IntentData}
+use Rattle.repl_faults.specs.Failure.{Failure}
+use Rattle.repl_asks.specs.Transactions.{RefNameData, ChangeData, IntentData}
 use Rattle.repl_asks.specs.Exchange.{reading, found}
 use Rattle.server_rules.specs.Numbered as numbered
 use Rattle.server_rules.specs.Versions.{Ref, readable, newest, with_least, with_most}
-use Rattle.server_rules.specs.Store.{Store, named}
-use Rattle.server_rules.specs.Commit.{touched, all_there, fits, any_newer, checked, commit_by}
+use Rattle.server_rules.specs.Store.{Store, named, value_of}
+use Rattle.server_rules.specs.Commit.{guarded, touched, all_there, fits, any_newer, all_folded}
+use Rattle.server_rules.specs.Commit.{concluded, checked, commit_by}
 use Rattle.server_rules.specs.Calls.{performed, begins, reads, commits, begun, read_at, read_by}
 use Rattle.server_rules.specs.Calls.{count_told, bound_set, number_told}
 use Rattle.tenant_refs.specs.Bounds.{least_call, most_call, is_bounded}
@@ -88,14 +90,18 @@ pub commits-told : (s : Store) (seat : ℕ) (intent : IntentData) (point : ℕ) 
     → fit ≡ (all_there (touched intent) s && fits intent)
     → fit ≡ is_some (performed s (commits seat intent)).told
 commits-told s seat intent point fit runs is =
-    by fit (any_newer point (touched intent) s)
-    ∙ ap (λ b. is_some (checked seat intent s b (any_newer point (touched intent) s)).told) is
+    by fit (any_newer point (guarded intent) s)
+    ∙ ap (λ b. is_some (checked seat intent s b (any_newer point (guarded intent) s)).told) is
     ∙ ap (λ o. is_some (commit_by seat intent s o).told) (sym runs)
   where
     by : (fit newer : Bool) → fit ≡ is_some (checked seat intent s fit newer).told
     by false newer = refl
     by true true = refl
-    by true false = refl
+    by true false = ended (all_folded (λ name. value_of name s) intent.commuted) where
+      ended : (folds : Result (List ChangeData) Failure)
+          → true ≡ is_some (concluded seat intent.sets s folds).told
+      ended (Err f) = refl
+      ended (Ok changes) = refl
 
 pub commits-untold : (s : Store) (seat : ℕ) (intent : IntentData)
     → numbered.found seat s.mine.points ≡ None

@@ -232,6 +232,11 @@ fn commit(
             attempts.leave(actor);
             Ok(Some(Twice::conflict()))
         }
+        Outcome::Faulted(fault) => {
+            let told = Twice::faulted(fault)?;
+            attempts.leave(actor);
+            Ok(Some(told))
+        }
         Outcome::Refused => Ok(None),
     }
 }

@@ -3,12 +3,13 @@ ghost use Rattle.std.specs.Prelude.{◌≡◌, ◌<◌, ◌^◌, IfOk};
 ghost use Rattle.value_data.specs.Datum.{ref};
 ghost use Rattle.value_data.specs.View.{view, owner_view};
 ghost use Rattle.repl_asks.specs.Exchange.{done, value, reading, found, retry, verdict};
-ghost use Rattle.repl_asks.specs.Exchange.{committed, conflict};
+ghost use Rattle.repl_faults.specs.View.{failure_of};
+ghost use Rattle.repl_asks.specs.Exchange.{committed, conflict, faulted};
 ghost use Rattle.repl_asks.specs.View.{answer_view};
 ghost use Rattle.server_rules.specs.Calls.{number_told};
 
 use repl_asks::{Answer, Reading, Verdict};
-use repl_values::{RefName, Value, copy};
+use repl_values::{Fault, RefName, Value, copy};
 use std::alloc::AllocError;
 
 /// One answer, to be kept with its ask and to be given. What can fail of its making is over before
@@ -105,5 +106,16 @@ impl Twice {
             kept: Answer::Verdict(Verdict::Conflict),
             given: Answer::Verdict(Verdict::Conflict),
         }
+    }
+
+    pub(crate) fn faulted(fault: Fault) -> Result<Twice, AllocError>
+        ensures view { IfOk result (λ it. twice_view it ≡ verdict (faulted (failure_of fault))) }
+        ensures twice { IfOk result IsTwice }
+    {
+        let given = fault.copy()?;
+        Ok(Twice {
+            kept: Answer::Verdict(Verdict::Faulted(fault)),
+            given: Answer::Verdict(Verdict::Faulted(given)),
+        })
     }
 }

@@ -36,7 +36,7 @@ use Rattle.repl_asks.specs.Exchange.{NamedFunctionData, core_function, store_fun
 use Rattle.repl_asks.specs.Exchange.{names_value, names_function, names_nothing, ReadingData, found, retry}
 use Rattle.repl_asks.specs.Exchange.{VerdictData, committed, conflict, faulted, AnswerData, resolution, done}
 use Rattle.repl_asks.specs.Exchange.{value, reading, verdict, Exchanged}
-use Rattle.repl_asks.specs.Transactions.{RefNameData, ChangeData, IntentData}
+use Rattle.repl_asks.specs.Transactions.{RefNameData, ChangeData, CommuteData, CommutedData, IntentData}
 use Rattle.repl_jobs.specs.Job.{WorkData, form, JobData}
 use Rattle.tenant_turns.proofs.Telling.{Tells, coded, items, pair, either, by_parts}
 
@@ -69,78 +69,6 @@ ref_name = by_parts (OwnerData × ℕ) (pair (coded owner_code) number) (λ r. (
 change : Tells ChangeData
 change = by_parts (RefNameData × Datum) (pair ref_name datum) (λ c. (c.name, c.now))
     (λ p. record { name = p.0; now = p.1 }) (λ _. refl)
-
-intent : Tells IntentData
-intent = by_parts (List ChangeData × List RefNameData) (pair (items change) (items ref_name))
-    (λ i. (i.sets, i.ensured)) (λ p. record { sets = p.0; ensured = p.1 }) (λ _. refl)
-
-function : Tells FunctionData
-function = by_parts (Text × (Text × (List Text × List Datum)))
-    (pair text (pair text (pair (items text) (items datum))))
-    (λ f. (f.space, (f.name, (f.params, f.body))))
-    (λ p. record { space = p.0; name = p.1.0; params = p.1.1.0; body = p.1.1.1 }) (λ _. refl)
-
-binding : Tells BindingData
-binding = by_parts (Datum ⊎ FunctionData) (either datum function) parts whole back where
-  parts : BindingData → Datum ⊎ FunctionData
-  parts (bound_value d) = inl d
-  parts (bound_function f) = inr f
-
-  whole : Datum ⊎ FunctionData → BindingData
-  whole (inl d) = bound_value d
-  whole (inr f) = bound_function f
-
-  back : (b : BindingData) → whole (parts b) ≡ b
-  back (bound_value d) = refl
-  back (bound_function f) = refl
-
-abbrev AskParts : Type 0
-AskParts = (Text × Text) ⊎ ((Text × (Text × BindingData)) ⊎ (Text ⊎ ((Datum × (ℕ × ℕ))
-    ⊎ (Unit {0} ⊎ (RefNameData ⊎ (RefNameData ⊎ ((RefNameData × Option ℕ)
-    ⊎ ((RefNameData × Option ℕ) ⊎ IntentData))))))))
-
-abbrev ask_parts : AskData → AskParts
-ask_parts (resolve s t) = inl (s, t)
-ask_parts (define s t b) = inr (inl (s, (t, b)))
-ask_parts (enter s) = inr (inr (inl s))
-ask_parts (new_ref d m n) = inr (inr (inr (inl (d, (m, n)))))
-ask_parts begin = inr (inr (inr (inr (inl tt))))
-ask_parts (read r) = inr (inr (inr (inr (inr (inl r)))))
-ask_parts (history r) = inr (inr (inr (inr (inr (inr (inl r))))))
-ask_parts (min_history r n) = inr (inr (inr (inr (inr (inr (inr (inl (r, n))))))))
-ask_parts (max_history r n) = inr (inr (inr (inr (inr (inr (inr (inr (inl (r, n)))))))))
-ask_parts (commit i) = inr (inr (inr (inr (inr (inr (inr (inr (inr i))))))))
-
-abbrev ask_whole : AskParts → AskData
-ask_whole (inl p) = resolve p.0 p.1
-ask_whole (inr (inl p)) = define p.0 p.1.0 p.1.1
-ask_whole (inr (inr (inl x))) = enter x
-ask_whole (inr (inr (inr (inl p)))) = new_ref p.0 p.1.0 p.1.1
-ask_whole (inr (inr (inr (inr (inl _))))) = begin
-ask_whole (inr (inr (inr (inr (inr (inl x)))))) = read x
-ask_whole (inr (inr (inr (inr (inr (inr (inl x))))))) = history x
-ask_whole (inr (inr (inr (inr (inr (inr (inr (inl p)))))))) = min_history p.0 p.1
-ask_whole (inr (inr (inr (inr (inr (inr (inr (inr (inl p))))))))) = max_history p.0 p.1
-ask_whole (inr (inr (inr (inr (inr (inr (inr (inr (inr x))))))))) = commit x
-
-ask_back : (x : AskData) → ask_whole (ask_parts x) ≡ x
-ask_back (resolve s t) = refl
-ask_back (define s t b) = refl
-ask_back (enter s) = refl
-ask_back (new_ref d m n) = refl
-ask_back begin = refl
-ask_back (read r) = refl
-ask_back (history r) = refl
-ask_back (min_history r n) = refl
-ask_back (max_history r n) = refl
-ask_back (commit i) = refl
-
-ask : Tells AskData
-ask = by_parts AskParts
-    (either (pair text text) (either (pair text (pair text binding)) (either text
-    (either (pair datum (pair number number)) (either nothing (either ref_name (either ref_name
-    (either (pair ref_name bound) (either (pair ref_name bound) intent)))))))))
-    ask_parts ask_whole ask_back
 
 -- of functions that are no more than their names
 bare : (D : Declared) → Bare D.parts → Tells D.D
@@ -230,6 +158,88 @@ core : Tells CoreFunction
 core = by_parts CoreParts
     (either integers (either predicates (either (bare text_function tt) (either (bare sequence_function tt) (either (bare map_function tt) ((bare print_function tt)))))))
     core_parts core_whole core_back
+
+commute : Tells CommuteData
+commute = by_parts (CoreFunction × List Datum) (pair core (items datum))
+    (λ c. (c.function, c.arguments)) (λ p. record { function = p.0; arguments = p.1 }) (λ _. refl)
+
+commuted_ref : Tells CommutedData
+commuted_ref = by_parts (RefNameData × List CommuteData) (pair ref_name (items commute))
+    (λ c. (c.name, c.commutes)) (λ p. record { name = p.0; commutes = p.1 }) (λ _. refl)
+
+intent : Tells IntentData
+intent = by_parts (List ChangeData × (List RefNameData × List CommutedData))
+    (pair (items change) (pair (items ref_name) (items commuted_ref)))
+    (λ i. (i.sets, (i.ensured, i.commuted)))
+    (λ p. record { sets = p.0; ensured = p.1.0; commuted = p.1.1 }) (λ _. refl)
+
+function : Tells FunctionData
+function = by_parts (Text × (Text × (List Text × List Datum)))
+    (pair text (pair text (pair (items text) (items datum))))
+    (λ f. (f.space, (f.name, (f.params, f.body))))
+    (λ p. record { space = p.0; name = p.1.0; params = p.1.1.0; body = p.1.1.1 }) (λ _. refl)
+
+binding : Tells BindingData
+binding = by_parts (Datum ⊎ FunctionData) (either datum function) parts whole back where
+  parts : BindingData → Datum ⊎ FunctionData
+  parts (bound_value d) = inl d
+  parts (bound_function f) = inr f
+
+  whole : Datum ⊎ FunctionData → BindingData
+  whole (inl d) = bound_value d
+  whole (inr f) = bound_function f
+
+  back : (b : BindingData) → whole (parts b) ≡ b
+  back (bound_value d) = refl
+  back (bound_function f) = refl
+
+abbrev AskParts : Type 0
+AskParts = (Text × Text) ⊎ ((Text × (Text × BindingData)) ⊎ (Text ⊎ ((Datum × (ℕ × ℕ))
+    ⊎ (Unit {0} ⊎ (RefNameData ⊎ (RefNameData ⊎ ((RefNameData × Option ℕ)
+    ⊎ ((RefNameData × Option ℕ) ⊎ IntentData))))))))
+
+abbrev ask_parts : AskData → AskParts
+ask_parts (resolve s t) = inl (s, t)
+ask_parts (define s t b) = inr (inl (s, (t, b)))
+ask_parts (enter s) = inr (inr (inl s))
+ask_parts (new_ref d m n) = inr (inr (inr (inl (d, (m, n)))))
+ask_parts begin = inr (inr (inr (inr (inl tt))))
+ask_parts (read r) = inr (inr (inr (inr (inr (inl r)))))
+ask_parts (history r) = inr (inr (inr (inr (inr (inr (inl r))))))
+ask_parts (min_history r n) = inr (inr (inr (inr (inr (inr (inr (inl (r, n))))))))
+ask_parts (max_history r n) = inr (inr (inr (inr (inr (inr (inr (inr (inl (r, n)))))))))
+ask_parts (commit i) = inr (inr (inr (inr (inr (inr (inr (inr (inr i))))))))
+
+abbrev ask_whole : AskParts → AskData
+ask_whole (inl p) = resolve p.0 p.1
+ask_whole (inr (inl p)) = define p.0 p.1.0 p.1.1
+ask_whole (inr (inr (inl x))) = enter x
+ask_whole (inr (inr (inr (inl p)))) = new_ref p.0 p.1.0 p.1.1
+ask_whole (inr (inr (inr (inr (inl _))))) = begin
+ask_whole (inr (inr (inr (inr (inr (inl x)))))) = read x
+ask_whole (inr (inr (inr (inr (inr (inr (inl x))))))) = history x
+ask_whole (inr (inr (inr (inr (inr (inr (inr (inl p)))))))) = min_history p.0 p.1
+ask_whole (inr (inr (inr (inr (inr (inr (inr (inr (inl p))))))))) = max_history p.0 p.1
+ask_whole (inr (inr (inr (inr (inr (inr (inr (inr (inr x))))))))) = commit x
+
+ask_back : (x : AskData) → ask_whole (ask_parts x) ≡ x
+ask_back (resolve s t) = refl
+ask_back (define s t b) = refl
+ask_back (enter s) = refl
+ask_back (new_ref d m n) = refl
+ask_back begin = refl
+ask_back (read r) = refl
+ask_back (history r) = refl
+ask_back (min_history r n) = refl
+ask_back (max_history r n) = refl
+ask_back (commit i) = refl
+
+ask : Tells AskData
+ask = by_parts AskParts
+    (either (pair text text) (either (pair text (pair text binding)) (either text
+    (either (pair datum (pair number number)) (either nothing (either ref_name (either ref_name
+    (either (pair ref_name bound) (either (pair ref_name bound) intent)))))))))
+    ask_parts ask_whole ask_back
 
 abbrev NamedParts : Type 0
 NamedParts = CoreFunction ⊎ (StoreFunction ⊎ FunctionData)

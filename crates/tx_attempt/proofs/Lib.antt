@@ -1,3 +1,7 @@
-pub mod Latest
-pub mod Naming
+pub mod Names
+pub mod LastPlaces
+pub mod Noting
+pub mod Reading
 pub mod Once
+pub mod Grouped
+pub mod Ordered

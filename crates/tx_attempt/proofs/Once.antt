@@ -11,7 +11,7 @@ use Rattle.tx_attempt.specs.contracts.key.KeyOrd.TheImpl as order
 use Rattle.tx_attempt.specs.declared.key.Key.{Key}
 use Rattle.tx_attempt.specs.Keys.{key_of}
 use Rattle.tx_attempt.specs.Operations.{same_name, each_once}
-use Rattle.tx_attempt.proofs.Naming.{keys-tied}
+use Rattle.tx_attempt.proofs.Names.{keys-tied}
 
 -- not among the keys
 abbrev pub is_new : BTreeSet Key → RefNameData → Bool

@@ -1,5 +1,7 @@
 pub mod Operations
 pub mod Keys
 pub mod View
+pub mod Parts
 pub mod Places
+pub mod Groups
 pub mod Seen

@@ -1,16 +1,21 @@
 -- What an attempt at a transaction did, in order; the values that it sees, and what it wants committed (the Clojure
 -- reference, Refs and Transactions).
 use Rattle.std.specs.Prelude.{List, [], ◌∷◌, Bool, not, ◌&&◌, ◌==◌, Option, None, Some, option_map}
-use Rattle.std.specs.Prelude.{find, reverse, filter, filter_map}
+use Rattle.std.specs.Prelude.{find, reverse, filter, filter_map, map, if◌then◌else◌}
+use Rattle.std.specs.List.{list_any}
 use Rattle.value_data.specs.Datum.{Datum}
 use Rattle.value_data.specs.Same.{same_owner}
-use Rattle.repl_asks.specs.Transactions.{RefNameData, ChangeData, IntentData}
+use Rattle.repl_asks.specs.Transactions.{RefNameData, ChangeData, CommuteData, CommutedData, IntentData}
 
 pub data OperationData : Type 0 where
   -- a ref was read, and this was its value
   got : RefNameData → Datum → OperationData
   -- a ref was set to this value
   put : RefNameData → Datum → OperationData
+  -- a function was applied to the value of a ref, and gave this
+  commuted : RefNameData → CommuteData → Datum → OperationData
+  -- nobody else is to change a ref, and this was its value
+  ensured : RefNameData → Datum → OperationData
 
 abbrev pub same_name : RefNameData → RefNameData → Bool
 same_name a b = same_owner a.owner b.owner && a.number == b.number
@@ -19,10 +24,14 @@ same_name a b = same_owner a.owner b.owner && a.number == b.number
 abbrev pub named_in : OperationData → RefNameData
 named_in (got n d) = n
 named_in (put n d) = n
+named_in (commuted n c d) = n
+named_in (ensured n d) = n
 
 abbrev pub value_in : OperationData → Datum
 value_in (got n d) = d
 value_in (put n d) = d
+value_in (commuted n c d) = d
+value_in (ensured n d) = d
 
 abbrev pub names_ref : RefNameData → OperationData → Bool
 names_ref name op = same_name name (named_in op)
@@ -31,9 +40,25 @@ names_ref name op = same_name name (named_in op)
 unfoldable pub value_of : RefNameData → List OperationData → Option Datum
 value_of name ops = option_map value_in (find (names_ref name) (reverse ops))
 
+-- the ref that an operation sets, commutes or ensures
 abbrev pub ref_put : OperationData → Option RefNameData
-ref_put (got n d) = None
 ref_put (put n d) = Some n
+ref_put op = None
+
+abbrev pub ref_commuted : OperationData → Option RefNameData
+ref_commuted (commuted n c d) = Some n
+ref_commuted op = None
+
+abbrev pub ref_ensured : OperationData → Option RefNameData
+ref_ensured (ensured n d) = Some n
+ref_ensured op = None
+
+abbrev pub is_among : RefNameData → List RefNameData → Bool
+is_among name names = list_any (same_name name) names
+
+-- a ref that was commuted is set no more
+unfoldable pub is_commuted : RefNameData → List OperationData → Bool
+is_commuted name ops = is_among name (filter_map ref_commuted ops)
 
 -- each name once, where it comes first
 abbrev pub each_once : List RefNameData → List RefNameData
@@ -48,6 +73,24 @@ set_refs ops = each_once (filter_map ref_put ops)
 abbrev pub change_of : List OperationData → RefNameData → Option ChangeData
 change_of ops name = option_map (λ d. record { name = name; now = d }) (value_of name ops)
 
--- what the attempt wants committed: each ref that was set, with its value
+-- those that were commuted and not set, likewise
+unfoldable pub commuted_refs : List OperationData → List RefNameData
+commuted_refs ops =
+    filter (λ name. not (is_among name (filter_map ref_put ops))) (each_once (filter_map ref_commuted ops))
+
+-- what was applied to the value of a ref, in order
+abbrev pub commute_of : RefNameData → OperationData → Option CommuteData
+commute_of name (commuted n c d) = if same_name name n then Some c else None
+commute_of name op = None
+
+abbrev pub commutes_of : List OperationData → RefNameData → CommutedData
+commutes_of ops name = record { name = name; commutes = filter_map (commute_of name) ops }
+
+-- What the attempt wants committed: each ref that was set, with its value; those that were ensured; and what was
+-- applied to each that was commuted alone.
 unfoldable pub intent_of : List OperationData → IntentData
-intent_of ops = record { sets = filter_map (change_of ops) (set_refs ops); ensured = [] }
+intent_of ops = record {
+  sets = filter_map (change_of ops) (set_refs ops);
+  ensured = each_once (filter_map ref_ensured ops);
+  commuted = map (commutes_of ops) (commuted_refs ops);
+}

@@ -1,12 +1,14 @@
 -- How operations are found by the refs that they name.
-use Rattle.std.specs.Prelude.{◌≡◌, ℕ, zero, suc, List, [], ◌∷◌, Bool, true, false, Option, None, Some, map}
+use Rattle.std.specs.Prelude.{◌≡◌, ℕ, zero, suc, List, [], ◌∷◌, Bool, true, false, Option, None, Some, option_map, map}
+use Rattle.std.specs.Option.{option_map_or}
 use Rattle.std.specs.declared.cmp.Ordering.{Ordering}
 use Rattle.std.specs.BTreeMap.{BTreeMap, get}
 use Rattle.repl_asks.specs.Transactions.{RefNameData}
-use Rattle.tx_attempt.specs.Operations.{names_ref}
+use Rattle.tx_attempt.specs.Operations.{names_ref, is_commuted}
 use Rattle.tx_attempt.specs.View.{operation_view}
 use Rattle.tx_attempt.specs.Keys.{key_of}
 use Rattle.tx_attempt.specs.declared.key.Key.{Key}
+use Rattle.tx_attempt.specs.declared.latest.Latest.{Latest}
 use Rattle.tx_attempt.specs.declared.operation.Operation.{Operation}
 
 -- of the place among the items behind the first, if there is one, and of whether the first passes
@@ -21,6 +23,13 @@ last_place test [] = None
 last_place test (x ∷ xs) = last_of (last_place test xs) (test x)
 
 -- the map has the place of the last operation that names a ref, for each ref
-abbrev pub KeepsLatest : (Key → Key → Ordering) → BTreeMap Key ℕ → List Operation → Type 0
-KeepsLatest order latest operations = (name : RefNameData)
-    → get order latest (key_of name) ≡ last_place (names_ref name) (map operation_view operations)
+abbrev pub KeepsPlaces : (Key → Key → Ordering) → BTreeMap Key Latest → List Operation → Type 0
+KeepsPlaces order latest operations = (name : RefNameData)
+    → option_map (λ l. l.place) (get order latest (key_of name))
+    ≡ last_place (names_ref name) (map operation_view operations)
+
+-- and whether it was commuted
+abbrev pub KeepsMarks : (Key → Key → Ordering) → BTreeMap Key Latest → List Operation → Type 0
+KeepsMarks order latest operations = (name : RefNameData)
+    → option_map_or (λ l. l.is_commuted) (get order latest (key_of name)) false
+    ≡ is_commuted name (map operation_view operations)

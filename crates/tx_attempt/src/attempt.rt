@@ -1,8 +1,11 @@
-// What an attempt read and set.
-ghost use Rattle.tx_attempt.specs.Places.{KeepsLatest};
+// What an attempt read, set, commuted and ensured.
+ghost use Rattle.tx_attempt.specs.Places.{KeepsPlaces, KeepsMarks};
 
+use crate::error::SetError;
 use crate::key::Key;
+use crate::latest::Latest;
 use crate::operation::Operation;
+use repl_asks::Commute;
 use repl_values::{RefName, Value};
 use std::alloc::{AllocError, Global};
 use std::collections::BTreeMap;
@@ -12,21 +15,23 @@ use std::collections::BTreeMap;
 pub struct Attempt {
     pub(crate) alloc: Global,
     pub(crate) operations: Vec<Operation>,
-    // The place of the last operation on each ref.
-    pub(crate) latest: BTreeMap<Key, usize>,
-    ghost kept: { KeepsLatest ⟦<Key as Ord>⟧.cmp latest operations.items },
+    pub(crate) latest: BTreeMap<Key, Latest>,
+    ghost places: { KeepsPlaces ⟦<Key as Ord>⟧.cmp latest operations.items },
+    ghost marks: { KeepsMarks ⟦<Key as Ord>⟧.cmp latest operations.items },
 }
 
 impl Attempt {
     ghost use Rattle.std.specs.Prelude.{◌≡◌, [], ◌∷◌, ◌++◌, option_map, OnOk, OnErr};
     ghost use Rattle.value_data.specs.View.{view};
-    ghost use Rattle.repl_asks.specs.View.{name_view};
-    ghost use Rattle.tx_attempt.specs.Operations.{got, put, value_of};
+    ghost use Rattle.repl_asks.specs.View.{name_view, commute_view};
+    ghost use Rattle.tx_attempt.specs.Operations.{got, put, commuted, ensured};
+    ghost use Rattle.tx_attempt.specs.Operations.{named_in, value_of, is_commuted};
+    ghost use Rattle.tx_attempt.specs.Parts.{is_refused};
     ghost use Rattle.tx_attempt.specs.View.{operation_view};
     ghost use Rattle.tx_attempt.specs.Seen.{operations_of};
 
     /// An attempt that begins. It takes no memory.
-    #[tactic(auto, unfolding(crate::specs::Seen::operations_of))]
+    #[tactic(auto, unfolding(crate::specs::Seen::operations_of, crate::specs::Operations::is_commuted))]
     pub fn new(alloc: Global) -> Attempt
         ensures { operations_of result ≡ [] }
     {
@@ -37,19 +42,19 @@ impl Attempt {
         }
     }
 
-    /// The value of a ref in this attempt, if it was read or set. It takes about the logarithm of the
-    /// number of refs that were, and no memory.
+    /// The value of a ref in this attempt, if an operation named it: that of the last one. It takes
+    /// about the logarithm of the number of refs that were named, and no memory.
     #[tactic(auto, unfolding(crate::specs::Seen::operations_of))]
     pub fn value_of(&self, name: RefName) -> Option<&Value>
         ensures { option_map (λ v. view v.now) result
             ≡ value_of (name_view name) (operations_of self.now) }
     {
-        let place = *self.latest.get(&Key::of(name))?;
-        Some(self.operations[place].value())
+        let latest = self.latest.get(&Key::of(name))?;
+        Some(self.operations[latest.place].value())
     }
 
-    /// Notes that a ref was read, and its value. It fails only for want of memory; then all stays as it
-    /// was.
+    /// Notes that a ref was read, and its value. It fails only for want of memory; then all stays
+    /// as it was.
     pub fn note_read(&mut self, name: RefName, value: Value) -> Result<(), AllocError>
         ensures noted { OnOk result (operations_of self.new
             ≡ operations_of self.old ++ got (name_view name) (view value) ∷ []) }
@@ -58,13 +63,69 @@ impl Attempt {
         self.note(Operation::Got { name, value })
     }
 
-    /// Sets a ref, in this attempt alone. It fails only for want of memory; then all stays as it was.
-    pub fn set(&mut self, name: RefName, value: Value) -> Result<(), AllocError>
+    /// Sets a ref, in this attempt alone. One that was commuted is not set: that is looked at
+    /// first, and takes no memory. After either error all stays as it was.
+    pub fn set(&mut self, name: RefName, value: Value) -> Result<(), SetError>
         ensures set { OnOk result (operations_of self.new
             ≡ operations_of self.old ++ put (name_view name) (view value) ∷ []) }
+        ensures commuted { is_refused result
+            ≡ is_commuted (name_view name) (operations_of self.old) }
         ensures stays { OnErr result (operations_of self.new ≡ operations_of self.old) }
     {
-        self.note(Operation::Set { name, value })
+        if self.is_commuted(name) {
+            return Err(SetError::Commuted);
+        }
+        self.note(Operation::Set { name, value })?;
+        Ok(())
+    }
+
+    /// Notes what was applied to the value of a ref, and what that gave. It fails only for want of
+    /// memory; then all stays as it was.
+    pub fn commute(
+        &mut self,
+        name: RefName,
+        commute: Commute,
+        value: Value,
+    ) -> Result<(), AllocError>
+        ensures noted { OnOk result (operations_of self.new
+            ≡ operations_of self.old
+            ++ commuted (name_view name) (commute_view commute) (view value) ∷ []) }
+        ensures stays { OnErr result (operations_of self.new ≡ operations_of self.old) }
+    {
+        self.note(Operation::Commuted {
+            name,
+            function: commute.function,
+            arguments: commute.arguments,
+            value,
+        })
+    }
+
+    /// Notes that nobody else is to change a ref, and its value. It fails only for want of memory;
+    /// then all stays as it was.
+    pub fn ensure(&mut self, name: RefName, value: Value) -> Result<(), AllocError>
+        ensures noted { OnOk result (operations_of self.new
+            ≡ operations_of self.old ++ ensured (name_view name) (view value) ∷ []) }
+        ensures stays { OnErr result (operations_of self.new ≡ operations_of self.old) }
+    {
+        self.note(Operation::Ensured { name, value })
+    }
+
+    #[tactic(auto, unfolding(crate::specs::Seen::operations_of))]
+    fn is_commuted(&self, name: RefName) -> bool
+        ensures { result ≡ is_commuted (name_view name) (operations_of self.now) }
+    {
+        match self.latest.get(&Key::of(name)) {
+            Some(latest) => latest.is_commuted,
+            None => false,
+        }
+    }
+
+    // Whether the ref of this operation is commuted once that is noted.
+    fn is_commuted_with(&self, operation: &Operation) -> bool
+        ensures { result ≡ is_commuted (named_in (operation_view operation.now))
+            (operations_of self.now ++ operation_view operation.now ∷ []) }
+    {
+        operation.is_commute() || self.is_commuted(operation.name())
     }
 
     // Each takes about the logarithm of the number of refs.
@@ -75,8 +136,11 @@ impl Attempt {
         ensures stays { OnErr result (operations_of self.new ≡ operations_of self.old) }
     {
         self.operations.reserve(1)?;
-        let key = Key::of(operation.name());
-        self.latest.insert(key, self.operations.len())?;
+        let latest = Latest {
+            place: self.operations.len(),
+            is_commuted: self.is_commuted_with(&operation),
+        };
+        self.latest.insert(Key::of(operation.name()), latest)?;
         self.operations.push_reserved(operation);
         Ok(())
     }

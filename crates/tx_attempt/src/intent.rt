@@ -1,11 +1,13 @@
 // What an attempt wants committed.
 ghost use Rattle.std.specs.Prelude.{◌≡◌, map, filter_map, IfOk, IfErr};
 ghost use Rattle.repl_asks.specs.View.{name_view, change_view, intent_view};
-ghost use Rattle.tx_attempt.specs.Operations.{ref_put, each_once, change_of, intent_of};
+ghost use Rattle.tx_attempt.specs.Operations.{each_once, change_of, intent_of};
+ghost use Rattle.tx_attempt.specs.Parts.{ref_of};
 ghost use Rattle.tx_attempt.specs.Seen.{operations_of};
 
 use crate::attempt::Attempt;
 use crate::key::Key;
+use crate::operation::Deed;
 use repl_asks::{Change, Intent};
 use repl_values::{RefName, copy};
 use std::alloc::{AllocError, Global};
@@ -24,11 +26,14 @@ impl From<Unmade> for AllocError {
 }
 
 impl Attempt {
-    /// What is to be committed: each ref that was set, with its value, in the order in which they were
-    /// first set. It takes about n log n steps for n operations, and fails only for want of memory.
+    /// What is to be committed: each ref that was set, with its last value; each that was ensured;
+    /// and each that was commuted and not set, with its commutes. Each list has its refs once, in
+    /// the order in which that was first done to them. It takes about n log n steps for n
+    /// operations and their arguments, and fails only for want of memory.
     pub fn into_intent(self) -> Result<Intent, Unmade>
         ensures made { IfOk result (λ intent. intent_view intent ≡ intent_of (operations_of self)) }
-        ensures handed_back { IfErr result (λ unmade. operations_of unmade.attempt ≡ operations_of self) }
+        ensures handed_back { IfErr result
+            (λ unmade. operations_of unmade.attempt ≡ operations_of self) }
     {
         match self.intent() {
             Ok(intent) => Ok(intent),
@@ -40,24 +45,27 @@ impl Attempt {
     fn intent(&self) -> Result<Intent, AllocError>
         ensures { IfOk result (λ intent. intent_view intent ≡ intent_of (operations_of self.now)) }
     {
-        let put = self.refs_put()?;
+        let put = self.refs(Deed::Set)?;
         let names = each_once(self.alloc, &put)?;
         let sets = self.changes(&names)?;
+        let ensured = each_once(self.alloc, &self.refs(Deed::Ensure)?)?;
+        let commuted = self.commuted()?;
         Ok(Intent {
             sets,
-            ensured: Vec::new(self.alloc),
+            ensured,
+            commuted,
         })
     }
 
-    // The ref of each operation that set one, in order.
+    // The ref of each operation that does this to one, in order.
     #[tactic(auto, unfolding(crate::specs::Seen::operations_of))]
-    fn refs_put(&self) -> Result<Vec<RefName>, AllocError>
+    pub(crate) fn refs(&self, deed: Deed) -> Result<Vec<RefName>, AllocError>
         ensures { IfOk result (λ names.
-            map name_view names.items ≡ filter_map ref_put (operations_of self.now)) }
+            map name_view names.items ≡ filter_map (ref_of deed) (operations_of self.now)) }
     {
         let mut names = Vec::new(self.alloc);
         for operation in &self.operations {
-            if let Some(name) = operation.ref_put() {
+            if let Some(name) = operation.ref_of(deed) {
                 names.push(name)?;
             }
         }

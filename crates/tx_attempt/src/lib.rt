@@ -1,13 +1,21 @@
-//! One attempt at a transaction: what it read and set, in order, and what of it is to be committed.
+//! One attempt at a transaction: what it did with refs, in order, and what of it is to be
+//! committed.
 //!
-//! A ref has one value in an attempt, whatever others commit meanwhile: the one that the attempt read
-//! or set last. What was set is an `Intent`, which the store is asked to commit.
+//! A ref is read, set, commuted or ensured. It has one value in an attempt, whatever others commit
+//! meanwhile: that of the last operation that named it. A commute applies a function of the
+//! language to that value, and the store applies it once more at the commit, to the value that the
+//! ref has then; so a ref that was commuted is set no more. A ref that was ensured is changed by
+//! nobody else until the commit. What the store is asked to commit is an `Intent`.
 #![tactic(auto)]
 
 mod attempt;
+mod error;
+mod grouping;
 mod intent;
 mod key;
+mod latest;
 mod operation;
 
 pub use attempt::Attempt;
+pub use error::SetError;
 pub use intent::Unmade;

@@ -1,86 +1,91 @@
 -- `alter`, and what stands where a function is named.
-use Rattle.std.proofs.Common.{◌≡◌, ◌∙◌, ap, arith, ℕ, zero, suc, Bool, true, false, length, get_or, drop, Option, Some, None, Result, Ok, Err, List, [], ◌∷◌, ◌++◌, refl, sym}
+use Rattle.std.proofs.Common.{◌≡◌, ◌∙◌, ap, arith, ℕ, zero, suc, Bool, true, false, length, get_or, drop, Option, Some, None, Result, Ok, Err, List, [], ◌∷◌, refl, sym}
 use Rattle.std.specs.Prelude.{string_bytes, ◌==◌, is_some, Box}
 use Rattle.std.proofs.lemmas.Bool.Decides.{nat_tests}
+use Rattle.std.proofs.lemmas.List.{length-map}
 use Rattle.std.specs.Global.{Global}
 use Rattle.value_data.specs.Datum.{Datum, symbol}
 use Rattle.value_data.specs.View.{view}
-use Rattle.value_data.specs.declared.value.RefName.{RefName}
 use Rattle.value_data.specs.declared.value.Value.{Value}
-use Rattle.repl_faults.specs.Failure.{Failure, wrong_arity, not_a_function}
+use Rattle.repl_faults.specs.Failure.{Failure, broken, wrong_arity, not_a_function}
+use Rattle.repl_faults.specs.declared.rule.Rule.{Rule}
+use Rattle.function_names.specs.declared.function.CoreFunction.{CoreFunction}
 use Rattle.function_names.specs.StoreNames.{store_name_of}
 use Rattle.function_names.specs.declared.store.StoreFunction.{StoreFunction}
 use Rattle.repl_asks.specs.Transactions.{RefNameData}
-use Rattle.repl_asks.specs.Exchange.{NamedFunctionData, store_function}
-use Rattle.repl_asks.specs.View.{name_view, named_view}
+use Rattle.repl_asks.specs.Exchange.{NamedFunctionData, core_function, store_function}
+use Rattle.repl_asks.specs.View.{named_view}
 use Rattle.repl_asks.specs.declared.answer.NamedFunction.{NamedFunction}
-use Rattle.special_forms.specs.Seen.{views, forms_view}
-use Rattle.special_forms.specs.declared.forms.Forms.{Forms}
-use Rattle.store_calls.specs.Calling.{altered_in}
+use Rattle.special_forms.specs.Seen.{views}
+use Rattle.store_calls.specs.Calling.{altered_in, altering}
+use Rattle.store_calls.specs.declared.altering.Alteration.{Alteration}
 use Rattle.store_calls.specs.View.{altered_view}
 use Rattle.store_calls.specs.declared.outcome.Altered.{Altered}
-use Rattle.evaluation_rules.specs.Doing.{Kept, Doing, Part, fails}
+use Rattle.evaluation_rules.specs.Doing.{Kept, Doing, fails}
 use Rattle.evaluation_rules.specs.Tree.{ends}
 use Rattle.evaluation_rules.specs.Places.{PlaceData, Walk}
 use Rattle.evaluation_rules.specs.Naming.{function_value, symbol_value}
 use Rattle.evaluation_rules.specs.Refs.{held_value, ref_value}
 use Rattle.evaluation_rules.specs.Calls.{named_callee, alter_callee, function_called, call_value, alter_call, named_call}
+use Rattle.evaluation_rules.specs.Calls.{core_call, commute_applied, commute_noted, commuting_value, not_of_core}
 use Rattle.evaluation_rules.specs.Evaluation.{value_at}
 use Rattle.walker_state.specs.Machine.{alter_behind, alter_step, alter_with, bottom, call_behind, from_state, is_running, kept_of, next_of, place_of}
-use Rattle.walker_state.specs.declared.frames.Callee.{Callee}
-use Rattle.walker_state.specs.declared.frames.Frame.{Frame}
 use Rattle.walker_state.specs.declared.frames.State.{State}
 use Rattle.walker_state.specs.declared.frames.Transaction.{Transaction}
 use Rattle.walker_state.proofs.Stepping.{fails-at}
 
 -- A list with `alter` at its head
 
-pub alter-none : (room : ℕ) (ds es : List Datum) (s : State) → ds ≡ [] → es ≡ []
-    → from_state (call_behind room (place_of s) (named_callee (store_function StoreFunction.Alter)) [] es) s
-    ≡ from_state (named_call (value_at room) (place_of s) ds (store_function StoreFunction.Alter)) s
+pub alter-none : (by : Alteration) (room : ℕ) (ds es : List Datum) (s : State) → ds ≡ [] → es ≡ []
+    → from_state (call_behind room (place_of s) (named_callee (store_function (altering by))) [] es) s
+    ≡ from_state (named_call (value_at room) (place_of s) ds (store_function (altering by))) s
 unfolding call_behind
-alter-none room ds es s none nothing = rw (none, nothing) refl
+alter-none by room ds es s none nothing = rw (none, nothing) refl
 
 pub named_call-other : (walk : Walk) (p : PlaceData) (ds : List Datum) (f : NamedFunction) → (f ≡ NamedFunction.Store StoreFunction.Alter → ⊥)
+    → (f ≡ NamedFunction.Store StoreFunction.Commute → ⊥)
     → named_call walk p ds (named_view f) ≡ call_value walk p ds (named_callee (named_view f))
-named_call-other walk p [] f other = refl
-named_call-other walk p (d ∷ []) f other = refl
-named_call-other walk p (d ∷ e ∷ ds) (NamedFunction.Core f) other = refl
-named_call-other walk p (d ∷ e ∷ ds) (NamedFunction.Program f) other = refl
-named_call-other walk p (d ∷ e ∷ ds) (NamedFunction.Store StoreFunction.Ref) other = refl
-named_call-other walk p (d ∷ e ∷ ds) (NamedFunction.Store StoreFunction.Deref) other = refl
-named_call-other walk p (d ∷ e ∷ ds) (NamedFunction.Store StoreFunction.RefSet) other = refl
-named_call-other walk p (d ∷ e ∷ ds) (NamedFunction.Store StoreFunction.Alter) other = absurd (other refl)
-named_call-other walk p (d ∷ e ∷ ds) (NamedFunction.Store StoreFunction.HistoryCount) other = refl
-named_call-other walk p (d ∷ e ∷ ds) (NamedFunction.Store StoreFunction.MinHistory) other = refl
-named_call-other walk p (d ∷ e ∷ ds) (NamedFunction.Store StoreFunction.MaxHistory) other = refl
+named_call-other walk p [] f other apart = refl
+named_call-other walk p (d ∷ []) f other apart = refl
+named_call-other walk p (d ∷ e ∷ ds) (NamedFunction.Core f) other apart = refl
+named_call-other walk p (d ∷ e ∷ ds) (NamedFunction.Program f) other apart = refl
+named_call-other walk p (d ∷ e ∷ ds) (NamedFunction.Store StoreFunction.Ref) other apart = refl
+named_call-other walk p (d ∷ e ∷ ds) (NamedFunction.Store StoreFunction.Deref) other apart = refl
+named_call-other walk p (d ∷ e ∷ ds) (NamedFunction.Store StoreFunction.RefSet) other apart = refl
+named_call-other walk p (d ∷ e ∷ ds) (NamedFunction.Store StoreFunction.Alter) other apart = absurd (other refl)
+named_call-other walk p (d ∷ e ∷ ds) (NamedFunction.Store StoreFunction.Commute) other apart = absurd (apart refl)
+named_call-other walk p (d ∷ e ∷ ds) (NamedFunction.Store StoreFunction.Ensure) other apart = refl
+named_call-other walk p (d ∷ e ∷ ds) (NamedFunction.Store StoreFunction.HistoryCount) other apart = refl
+named_call-other walk p (d ∷ e ∷ ds) (NamedFunction.Store StoreFunction.MinHistory) other apart = refl
+named_call-other walk p (d ∷ e ∷ ds) (NamedFunction.Store StoreFunction.MaxHistory) other apart = refl
 
 -- Its function
 
-pub function_value-other : (s : State) (room : ℕ) (v d : Datum) (ds : List Datum) (told : Failure)
+pub function_value-other : (s : State) (by : Alteration) (room : ℕ) (v d : Datum) (ds : List Datum) (told : Failure)
     → function_value (place_of s) d ≡ fails (not_a_function d) → told ≡ not_a_function d
-    → ends (Err told) (string_bytes s.text) (kept_of s) ≡ from_state (alter_behind room (place_of s) v d ds) s
+    → ends (Err told) (string_bytes s.text) (kept_of s) ≡ from_state (alter_behind room (place_of s) by v d ds) s
 unfolding alter_behind
-function_value-other s room v d ds told other is = rw (other, is) (sym (fails-at (not_a_function d) s))
+function_value-other s by room v d ds told other is = rw (other, is) (sym (fails-at (not_a_function d) s))
 
-pub alter_with-start : (room : ℕ) (p : PlaceData) (f : NamedFunctionData) (v : Value) (vs : List Value) (ds : List Datum) (next : Datum → Kept → Doing)
-    → vs ≡ v ∷ [] → call_behind room p (alter_callee f) (views vs) ds next ≡ alter_with room p (view v) ds f next
+pub alter_with-start : (by : Alteration) (room : ℕ) (p : PlaceData) (f : NamedFunctionData) (v : Value) (vs : List Value) (ds : List Datum) (next : Datum → Kept → Doing)
+    → vs ≡ v ∷ [] → call_behind room p (alter_callee by f) (views vs) ds next ≡ alter_with room p by (view v) ds f next
 unfolding call_behind
-alter_with-start room p f v vs ds next is = rw is refl
+alter_with-start by room p f v vs ds next is = rw is refl
 
 -- Its call
 
-pub alter_call-empty : (walk : Walk) (f : NamedFunctionData) (vs : List Value) (told : Failure) (s : State) → vs ≡ []
-    → told ≡ wrong_arity (store_name_of StoreFunction.Alter) 1
-    → ends (Err told) (string_bytes s.text) (kept_of s) ≡ from_state (alter_call walk f (views vs)) s
+pub alter_call-empty : (walk : Walk) (by : Alteration) (f : NamedFunctionData) (vs : List Value) (told : Failure) (s : State) → vs ≡ []
+    → told ≡ wrong_arity (store_name_of (altering by)) 1
+    → ends (Err told) (string_bytes s.text) (kept_of s) ≡ from_state (alter_call walk by f (views vs)) s
 unfolding alter_call
-alter_call-empty walk f vs told s none is = rw (none, is) (sym (fails-at (wrong_arity (store_name_of StoreFunction.Alter) 1) s))
+alter_call-empty walk by f vs told s none is =
+    rw (none, is) (sym (fails-at (wrong_arity (store_name_of (altering by)) 1) s))
 
-pub alter_call-refused : (walk : Walk) (f : NamedFunctionData) (d : Datum) (ds : List Datum) (vs : List Value) (told : Failure) (s : State)
-    → views vs ≡ d ∷ ds → altered_in (is_running s.transaction) d ≡ Err told
-    → ends (Err told) (string_bytes s.text) (kept_of s) ≡ from_state (alter_call walk f (views vs)) s
+pub alter_call-refused : (walk : Walk) (by : Alteration) (f : NamedFunctionData) (d : Datum) (ds : List Datum) (vs : List Value) (told : Failure) (s : State)
+    → views vs ≡ d ∷ ds → altered_in by (is_running s.transaction) d ≡ Err told
+    → ends (Err told) (string_bytes s.text) (kept_of s) ≡ from_state (alter_call walk by f (views vs)) s
 unfolding alter_call
-alter_call-refused walk f d ds vs told s given refused = rw (given, refused) (sym (fails-at told s))
+alter_call-refused walk by f d ds vs told s given refused = rw (given, refused) (sym (fails-at told s))
 
 -- A state that differs from another in its frames alone: with this done with the value of the innermost form
 abbrev pub IsPushed : State → State → (Datum → Kept → Doing) → Type 0
@@ -88,33 +93,60 @@ IsPushed s u next = (next_of u ≡ next) × (bottom u.frames.items (place_of u) 
     × (kept_of u ≡ kept_of s) × (string_bytes u.text ≡ string_bytes s.text) × (u.retries ≡ s.retries) × (u.transaction ≡ s.transaction)
 
 -- the ref is read, and then its function called
-pub alter_call-reads : (s u : State) (f : NamedFunctionData) (name : RefNameData) (room : ℕ) (d : Datum) (ds : List Datum) (vs : List Value)
-    → IsPushed s u (λ (v : Datum) (kept : Kept). alter_step room name f ds v (next_of s) kept) → views vs ≡ d ∷ ds → altered_in (is_running s.transaction) d ≡ Ok name
-    → from_state (ref_value name) u ≡ from_state (alter_call (value_at room) f (views vs)) s
+pub alter_call-reads : (s u : State) (by : Alteration) (f : NamedFunctionData) (name : RefNameData) (room : ℕ) (d : Datum) (ds : List Datum) (vs : List Value)
+    → IsPushed s u (λ (v : Datum) (kept : Kept). alter_step room by name f ds v (next_of s) kept) → views vs ≡ d ∷ ds → altered_in by (is_running s.transaction) d ≡ Ok name
+    → from_state (ref_value name) u ≡ from_state (alter_call (value_at room) by f (views vs)) s
 unfolding alter_call alter_step
-alter_call-reads s u f name room d ds vs same given reads = rw (same.0, same.1, same.3, same.4, same.5, same.6, given, reads) refl
+alter_call-reads s u by f name room d ds vs same given reads = rw (same.0, same.1, same.3, same.4, same.5, same.6, given, reads) refl
 
 -- the function is called, and its value goes into the ref
 pub alter_step-calls : (s u : State) (f : NamedFunctionData) (name : RefNameData) (room : ℕ) (d : Datum) (ds : List Datum) (vs : List Value)
     → IsPushed s u (λ (v : Datum) (kept : Kept). held_value name v (next_of s) kept) → views vs ≡ d ∷ ds
-    → from_state (function_called (value_at room) f (views vs)) u ≡ from_state (alter_step room name f ds d) s
+    → from_state (function_called (value_at room) f (views vs)) u ≡ from_state (alter_step room Alteration.Alter name f ds d) s
 unfolding alter_step
 alter_step-calls s u f name room d ds vs same given = rw (same.0, same.1, same.3, same.4, same.5, same.6, given) refl
 
+-- the function is applied and noted
+pub alter_step-commutes : (s : State) (f : NamedFunctionData) (name : RefNameData) (room : ℕ) (d : Datum) (ds : List Datum)
+    → from_state (commuting_value f ds name d) s ≡ from_state (alter_step room Alteration.Commute name f ds d) s
+unfolding alter_step
+alter_step-commutes s f name room d ds = refl
+
+pub commute-applied : (s u : State) (f : CoreFunction) (name : RefNameData) (d : Datum) (ds : List Datum) (vs : List Value)
+    → IsPushed s u (λ (v : Datum) (kept : Kept). commute_noted name (record { function = f; arguments = ds }) v (next_of s) kept)
+    → views vs ≡ d ∷ ds
+    → from_state (core_call f (views vs)) u ≡ from_state (commute_applied (core_function f) ds name d) s
+commute-applied s u f name d ds vs same given = rw (same.0, same.1, same.3, same.4, same.5, same.6, given) refl
+
+-- as many parameters as there are names
+pub ruleset lengths = (length-map)
+
+-- a function that is none of the language
+pub not_of_core-takes : (takes : Bool) (name : List ℕ) (n : ℕ) (told : Failure) (s : State) → takes ≡ true
+    → told ≡ broken Rule.CommutesAreOfCore
+    → ends (Err told) (string_bytes s.text) (kept_of s) ≡ from_state (not_of_core takes name n) s
+not_of_core-takes takes name n told s fits is = rw (fits, is) (sym (fails-at (broken Rule.CommutesAreOfCore) s))
+
+pub not_of_core-misfits : (takes : Bool) (name : List ℕ) (n : ℕ) (told : Failure) (s : State) → takes ≡ false
+    → told ≡ wrong_arity name n
+    → ends (Err told) (string_bytes s.text) (kept_of s) ≡ from_state (not_of_core takes name n) s
+not_of_core-misfits takes name n told s misfits is = rw (misfits, is) (sym (fails-at (wrong_arity name n) s))
+
 -- the ref is evaluated, with a function behind it
-pub alter-ref : (s u : State) (room : ℕ) (d e : Datum) (ds whole : List Datum)
-    → IsPushed s u (λ (v : Datum) (kept : Kept). alter_behind room (place_of s) v e ds (next_of s) kept) → whole ≡ d ∷ e ∷ ds
-    → from_state (value_at room (place_of u) d) u ≡ from_state (named_call (value_at room) (place_of s) whole (store_function StoreFunction.Alter)) s
+pub alter-ref : (s u : State) (by : Alteration) (room : ℕ) (d e : Datum) (ds whole : List Datum)
+    → IsPushed s u (λ (v : Datum) (kept : Kept). alter_behind room (place_of s) by v e ds (next_of s) kept) → whole ≡ d ∷ e ∷ ds
+    → from_state (value_at room (place_of u) d) u ≡ from_state (named_call (value_at room) (place_of s) whole (store_function (altering by))) s
 unfolding alter_behind
-alter-ref s u room d e ds whole same given = rw (same.0, same.1, same.2, same.3, same.4, same.5, same.6, given) refl
+alter-ref s u Alteration.Alter room d e ds whole same given = rw (same.0, same.1, same.2, same.3, same.4, same.5, same.6, given) refl
+alter-ref s u Alteration.Commute room d e ds whole same given = rw (same.0, same.1, same.2, same.3, same.4, same.5, same.6, given) refl
 
 -- with nothing behind it
-pub alter-alone : (s u : State) (room : ℕ) (d : Datum) (whole : List Datum)
-    → IsPushed s u (λ (v : Datum) (kept : Kept). call_behind room (place_of s) (named_callee (store_function StoreFunction.Alter)) (v ∷ []) [] (next_of s) kept)
+pub alter-alone : (s u : State) (by : Alteration) (room : ℕ) (d : Datum) (whole : List Datum)
+    → IsPushed s u (λ (v : Datum) (kept : Kept). call_behind room (place_of s) (named_callee (store_function (altering by))) (v ∷ []) [] (next_of s) kept)
     → whole ≡ d ∷ []
-    → from_state (value_at room (place_of u) d) u ≡ from_state (named_call (value_at room) (place_of s) whole (store_function StoreFunction.Alter)) s
+    → from_state (value_at room (place_of u) d) u ≡ from_state (named_call (value_at room) (place_of s) whole (store_function (altering by))) s
 unfolding call_behind
-alter-alone s u room d whole same given = rw (same.0, same.1, same.2, same.3, same.4, same.5, same.6, given) refl
+alter-alone s u by room d whole same given = rw (same.0, same.1, same.2, same.3, same.4, same.5, same.6, given) refl
 
 -- a symbol in a value's place
 pub symbol-at : (room : ℕ) (p : PlaceData) (s : List ℕ) → value_at room p (symbol s) ≡ symbol_value p s
@@ -159,6 +191,6 @@ running-some None = refl
 running-some (Some t) = refl
 
 -- the ref that is altered, or why none is
-pub altered-told : (a : Altered) (r : Result RefNameData Failure) (t : Option (Box Transaction Global)) (b : Bool) (d : Datum) → altered_view a ≡ altered_in b d
-    → b ≡ is_some t → altered_view a ≡ r → altered_in (is_running t) d ≡ r
-altered-told a r t b d told some is = ap (λ (c : Bool). altered_in c d) (running-some t ∙ sym some) ∙ sym told ∙ is
+pub altered-told : (a : Altered) (by : Alteration) (r : Result RefNameData Failure) (t : Option (Box Transaction Global)) (b : Bool) (d : Datum)
+    → altered_view a ≡ altered_in by b d → b ≡ is_some t → altered_view a ≡ r → altered_in by (is_running t) d ≡ r
+altered-told a by r t b d told some is = ap (λ (c : Bool). altered_in by c d) (running-some t ∙ sym some) ∙ sym told ∙ is

@@ -1,48 +1,33 @@
 -- Forms in a row, of which some have values already.
 use mathlib.Core.Path.{fun_ext}
-use Rattle.std.specs.Prelude.{string_bytes, codes, ◌==◌, ◌&&◌, nat_le}
-use Rattle.std.proofs.Common.{◌≡◌, ◌≢◌, ℕ, ◌+◌, ◌-◌, ◌<◌, Bool, true, false, if◌then◌else◌, Option, Some, None, MatchOption, subst, Result, Ok, Err, IfOk, List, [], ◌∷◌, ◌++◌, refl, sym, ap, ◌∙◌, append_assoc, append-nil, zero, suc, length, nat_lt, arith}
+use Rattle.std.specs.Prelude.{string_bytes, codes, ◌==◌}
+use Rattle.std.proofs.Common.{◌≡◌, ◌≢◌, ℕ, ◌-◌, Bool, true, false, if◌then◌else◌, Option, Some, None, MatchOption, subst, Result, Ok, Err, IfOk, List, [], ◌∷◌, ◌++◌, refl, sym, ap, ◌∙◌, append_assoc, append-nil, zero, suc, length, arith}
 use Rattle.std.proofs.lemmas.List.{map-append, length-map}
 use Rattle.std.proofs.lemmas.Bool.Decides.{nat_tests}
-use Rattle.std.proofs.lemmas.Grind.{common_steps}
 use Rattle.value_data.specs.Datum.{Datum, Items, no_items, item, Pairs, list, vector, map}
 use Rattle.value_data.specs.Listed.{listed}
-use Rattle.value_data.specs.Measures.{weight, nesting}
 use Rattle.value_data.specs.View.{view}
 use Rattle.value_data.specs.declared.value.Value as value
 use Rattle.value_data.proofs.Lists.{lists}
 use Rattle.value_data.proofs.Views.{value_views}
-use Rattle.repl_values.specs.declared.fault.Fault.{Fault}
-use Rattle.repl_faults.specs.Failure.{Failure, output_too_long, too_large, wrong_arity}
-use Rattle.repl_faults.specs.View.{failure_of}
-use Rattle.repl_faults.specs.declared.error.ApplyError.{ApplyError}
-use Rattle.function_names.specs.Names.{fits, name_of}
-use Rattle.core_functions.specs.Meaning.{meaning}
-use Rattle.core_functions.specs.View.{FailsIn}
-use Rattle.core_texts.specs.Limits.{most_text, most_weight}
-use Rattle.core_functions.specs.Outcome as outcomes
-use Rattle.core_functions.specs.Outcome.{Outcome, bounded, limited, most_nesting}
+use Rattle.repl_faults.specs.Failure.{Failure, wrong_arity}
 use Rattle.special_forms.proofs.Sizes.{datum_size-pos, datum_size-list, datum_size-vector, datum_size-map}
 use Rattle.special_forms.specs.Functions.{FunctionData}
 use Rattle.special_forms.specs.Rows.{BoundForm, in_a_row}
 use Rattle.special_forms.specs.Seen.{views, forms_view, binding_view}
 use Rattle.special_forms.specs.declared.forms.Binding.{Binding}
 use Rattle.special_forms.specs.declared.forms.Forms.{Forms}
-use Rattle.special_forms.specs.declared.special.SpecialForm.{SpecialForm}
-use Rattle.evaluation_rules.specs.Doing.{Kept, Doing, Part, fails}
-use Rattle.walker_state.proofs.Stepping.{fails-at, within-printing}
+use Rattle.evaluation_rules.specs.Doing.{Kept, Doing, Part}
+use Rattle.walker_state.proofs.Stepping.{fails-at}
 use Rattle.repl_jobs.specs.Tree.{Tree}
 use Rattle.evaluation_rules.specs.Tree.{ends}
 use Rattle.evaluation_rules.specs.Places.{PlaceData, Walk}
-use Rattle.evaluation_rules.specs.Calls.{CalleeData, call_value, called, printed, outcome, core_call, keyword_call, program_call}
+use Rattle.evaluation_rules.specs.Calls.{CalleeData, call_value, called, keyword_call, program_call}
 use Rattle.evaluation_rules.specs.Rows.{row}
-use Rattle.evaluation_rules.specs.Collections.{within_limits}
 use Rattle.evaluation_rules.specs.Evaluation.{list_value, value_at}
-use Rattle.walker_state.specs.Machine.{bottom, place_of, kept_of, next_of, from_state, tree, call_behind, items_behind, collected, items_value, list_at}
+use Rattle.walker_state.specs.Machine.{kept_of, from_state, call_behind, items_behind, collected, items_value, list_at}
 use Rattle.walker_state.specs.declared.frames.Collection.{Collection}
-use Rattle.walker_state.specs.declared.frames.Control.{Control}
 use Rattle.walker_state.specs.declared.frames.State.{State}
-use Rattle.function_names.specs.declared.function.CoreFunction.{CoreFunction}
 
 -- one more form has its value
 row_step : (walk : Datum → Part Datum) (then_ : List Datum → Kept → Doing) (values : List Datum) (d : Datum) (ds : List Datum)
@@ -106,34 +91,6 @@ pub forms-chosen : (b : Bool) (consequent alternative body : Forms) → body ≡
 forms-chosen true consequent alternative body chosen = ap forms_view chosen
 forms-chosen false consequent alternative body chosen = ap forms_view chosen
 
--- a text that is longer than all that may be printed passes the limit wherever it stands
-printed-long : (text : List ℕ) (d : Datum) (s : State) → most_text < length text
-    → from_state (printed text d) s ≡ ends (Err output_too_long) (string_bytes s.text) (kept_of s)
-unfolding printed
-printed-long text d s h =
-    let test : nat_lt most_text (length (string_bytes s.text) + length text) ≡ true = grind (arith, nat_tests, h) in
-    within-printing s.retries s.transaction (bottom s.frames.items (place_of s)) text (kept_of s) (next_of s d (kept_of s)) (string_bytes s.text)
-    ∙ rw test refl
-
-pub outcome-bounded : (o : Outcome) (s : State) → from_state (outcome (bounded o)) s ≡ from_state (outcome o) s
-outcome-bounded (outcomes.gives d text) s = by_test (nat_lt most_text (length text)) refl
-  where
-    by_test : (t : Bool) → nat_lt most_text (length text) ≡ t
-        → from_state (outcome (if t then outcomes.fails output_too_long else outcomes.gives d text)) s ≡ from_state (printed text d) s
-    by_test true e = fails-at output_too_long s ∙ sym (printed-long text d s (grind (arith, nat_tests, e)))
-    by_test false e = refl
-outcome-bounded (outcomes.fails f) s = refl
-
-pub outcome-gives : (o : Outcome) (d : Datum) (text : List ℕ) (s : State) → bounded o ≡ outcomes.gives d text
-    → from_state (outcome o) s ≡ from_state (printed text d) s
-outcome-gives o d text s h = sym (outcome-bounded o s) ∙ ap (λ (p : Outcome). from_state (outcome p) s) h
-
-pub outcome-fails : (o : Outcome) (f : Failure) (s : State) → bounded o ≡ outcomes.fails f
-    → from_state (outcome o) s ≡ ends (Err f) (string_bytes s.text) (kept_of s)
-outcome-fails o f s h = sym (outcome-bounded o s) ∙ ap (λ (p : Outcome). from_state (outcome p) s) h ∙ fails-at f s
-
-pub ruleset bounds = (value_views, outcome-gives, outcome-fails)
-
 -- a form that was taken from the front
 pub form-taken : (X : Type 0) (o : Option value.Value) (v : value.Value) (old new : List Datum) → MatchOption o X (λ form. old ≡ view form ∷ new) → o ≡ Some v → old ≡ view v ∷ new
 form-taken X o v old new told is = let P : Option value.Value → Type 0 = λ p. MatchOption p X (λ form. old ≡ view form ∷ new) in subst P is told
@@ -147,28 +104,6 @@ pub binding-taken : (X : Type 0) (o : Option Binding) (b : Binding) (old new : L
     → MatchOption o X (λ bound. old ≡ binding_view bound ∷ new) → o ≡ Some b → old ≡ binding_view b ∷ new
 binding-taken X o b old new told is =
     let P : Option Binding → Type 0 = λ p. MatchOption p X (λ bound. old ≡ binding_view bound ∷ new) in subst P is told
-
--- what holds wherever the machine stands holds where it stands
-pub if_ok-here : {E : Type 0} (r : Result Control E) (p q : Part Datum) (s : State) → p ≡ q
-    → IfOk r (λ control. (t : State) → tree control t ≡ from_state p t) → IfOk r (λ control. tree control s ≡ from_state q s)
-if_ok-here (Ok control) p q s same h = h s ∙ ap (λ (part : Part Datum). from_state part s) same
-if_ok-here (Err e) p q s same h = tt
-
-pub core_call-fits : (f : CoreFunction) (vs : List value.Value) → true ≡ fits f (length vs) → outcome (meaning f (views vs)) ≡ core_call f (views vs)
-unfolding core_call
-core_call-fits f vs h = let takes : fits f (length (views vs)) ≡ true = ap (fits f) (length-map vs view) ∙ sym h in rw takes refl
-
--- the fault of a function, which ends the evaluation
-pub fails-told : (o : Outcome) (e : ApplyError) (f : Fault) (s : State) → FailsIn (bounded o) e → e ≡ ApplyError.Fault f
-    → ends (Err (failure_of f)) (string_bytes s.text) (kept_of s) ≡ from_state (outcome o) s
-fails-told o e f s told is =
-    let P : ApplyError → Type 0 = λ d. FailsIn (bounded o) d in sym (outcome-fails o (failure_of f) s (subst P is told))
-
--- calls with a wrong number of arguments
-pub core_call-misfits : (f : CoreFunction) (vs : List value.Value) (told : Failure) (s : State) → fits f (length vs) ≡ false
-    → told ≡ wrong_arity (name_of f) (length vs) → ends (Err told) (string_bytes s.text) (kept_of s) ≡ from_state (core_call f (views vs)) s
-unfolding core_call
-core_call-misfits f vs told s misfits is = rw (length-map vs view, misfits, is) (sym (fails-at (wrong_arity (name_of f) (length vs)) s))
 
 pub program_call-misfits : (walk : Walk) (g : FunctionData) (vs : List value.Value) (told : Failure) (s : State) → length g.params ≢ length vs
     → told ≡ wrong_arity (g.space ++ codes "/" ++ g.name) (length vs)

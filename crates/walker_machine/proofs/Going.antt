@@ -13,11 +13,6 @@ if_later (Ok (Reached.Asks w ask)) old middle later h = later_on old middle (pos
 if_later (Ok (Reached.Ends end)) old middle later h = tt
 if_later (Err e) old middle later h = tt
 
--- what holds for all holds for one
-pub if_ok-for : {A B E : Type 0} (F : A → B → Type 0) (b : B) (r : Result A E) → IfOk r (λ a. (c : B) → F a c) → IfOk r (λ a. F a b)
-if_ok-for F b (Ok a) h = h b
-if_ok-for F b (Err e) h = tt
-
 -- an answer that leads on in the same attempt
 pub if_ok-smaller : {E : Type 0} (r : Result Control E) (new : State) (old : Position)
     → IfOk r (λ c. control_around c new ≡ old.transaction) → IfOk r (λ c. control_calls c new ≤ old.calls)

@@ -1,63 +1,38 @@
-// Functions that ask the store, and `alter`, which calls a function in turn.
+// `alter` and `commute`, which call a function in turn.
 #![tactic(auto, using(walker_state::proofs::Stepping::steps))]
 
-ghost use Rattle.std.specs.Prelude.{◌≡◌, ◌+◌, ◌*◌, ◌<◌, ◌≤◌, drop, IfOk};
+ghost use Rattle.std.specs.Prelude.{◌≡◌, ◌+◌, ◌*◌, ◌<◌, ◌≤◌, ◌==◌, drop, length, IfOk};
 ghost use Rattle.value_data.specs.View.{view};
-ghost use Rattle.function_names.specs.declared.store.StoreFunction.{StoreFunction};
-ghost use Rattle.repl_asks.specs.Exchange.{store_function};
+ghost use Rattle.repl_asks.specs.Exchange.{core_function, store_function};
 ghost use Rattle.repl_asks.specs.View.{name_view, named_view};
-ghost use Rattle.special_forms.specs.Seen.{views, forms_view};
+ghost use Rattle.special_forms.specs.Seen.{views, forms_view, function_view};
 ghost use Rattle.special_forms.specs.Size.{forms_size};
-ghost use Rattle.evaluation_rules.specs.Calls.{alter_call, named_call};
+ghost use Rattle.store_calls.specs.Calling.{altering};
+ghost use Rattle.evaluation_rules.specs.Calls as meant;
+ghost use Rattle.evaluation_rules.specs.Calls.{alter_call, commute_applied, commuting_value, named_call, not_of_core};
 ghost use Rattle.evaluation_rules.specs.Evaluation.{value_at};
-ghost use Rattle.evaluation_rules.specs.Refs.{held_value, store_call};
 ghost use Rattle.walker_state.specs.Machine.{alter_behind, alter_step, from_state, place_of, tree};
+ghost use Rattle.walker_state.specs.declared.frames.State.{State};
 ghost use Rattle.walker_state.specs.Size.{control_size, control_calls, control_around, frames_size, around};
 
-use crate::calls::call_named;
+use crate::calls::{call_named, full_name};
 use crate::evaluate::evaluate_symbol;
 use crate::rows::next_argument;
-use function_names::StoreFunction;
-use repl_asks::NamedFunction;
-use repl_faults::{Rule, broken, not_a_function, wrong_arity};
-use repl_values::{RefName, Value};
-use special_forms::Forms;
+use function_names::CoreFunction;
+use repl_asks::{Commute, NamedFunction};
+use repl_faults::{Rule, broken, not_a_function, too_many_calls, wrong_arity};
+use repl_values::{RefName, Value, copy_items};
+use special_forms::{Forms, Function};
 use std::alloc::{AllocError, Global};
-use store_calls::{Altered, Call, altered, may_hold};
-use walker_state::{Callee, Control, Frame, State, SymbolUse, Wanted, read, set};
+use store_calls::{Alteration, Altered, altered};
+use walker_state::{Callee, Control, Frame, State, SymbolUse, call_core, read};
 
-// A call of a function that asks the store.
-#[tactic(auto, using(walker_state::proofs::Stepping::steps), unfolding(evaluation_rules::specs::Refs::store_call))]
-pub(crate) fn call_store(
-    alloc: Global,
-    state: &mut State,
-    function: StoreFunction,
-    values: Vec<Value>,
-) -> Result<Control, AllocError>
-    ensures size { IfOk result (λ control. control_size control + frames_size state.new.frames.items
-        < 3 + frames_size state.old.frames.items) }
-    ensures calls { IfOk result (λ control. control_calls control state.new ≤ state.old.calls) }
-    ensures around { IfOk result (λ control. control_around control state.new ≡ around state.old.transaction) }
-    ensures meaning { IfOk result (λ control. tree control state.new
-        ≡ from_state (store_call function (views values.items)) state.old) }
-{
-    let in_transaction = state.transaction.is_some();
-    match store_calls::call(alloc, function, in_transaction, values)? {
-        Call::Refused(fault) => Ok(Control::Fault(fault)),
-        Call::Reads(name) => read(state, name),
-        Call::Puts(name, value) => {
-            set(state, name, &value)?;
-            Ok(Control::Return(value))
-        }
-        Call::AsksValue(ask) => Ok(Control::Ask(ask, Wanted::Value)),
-    }
-}
-
-// A list with `alter` at its head, and these forms behind it: a function stands between the first
-// argument and those behind it.
+// A list with `alter` or `commute` at its head, and these forms behind it: a function stands between the
+// first argument and those behind it.
 pub(crate) fn begin_alter(
     alloc: Global,
     state: &mut State,
+    by: Alteration,
     forms: Forms,
     room: u32,
 ) -> Result<Control, AllocError>
@@ -66,9 +41,9 @@ pub(crate) fn begin_alter(
     ensures calls { IfOk result (λ control. control_calls control state.new ≤ state.old.calls) }
     ensures around { IfOk result (λ control. control_around control state.new ≡ around state.old.transaction) }
     ensures meaning { IfOk result (λ control. tree control state.new
-        ≡ from_state (named_call (value_at room) (place_of state.old) (forms_view forms) (store_function StoreFunction.Alter)) state.old) }
+        ≡ from_state (named_call (value_at room) (place_of state.old) (forms_view forms) (store_function (altering by))) state.old) }
 {
-    let callee = Callee::Named(NamedFunction::Store(StoreFunction::Alter));
+    let callee = Callee::Named(NamedFunction::Store(by.function()));
     let values = Vec::new(alloc);
     let mut forms = forms;
     let Some(target) = forms.take_first()? else {
@@ -77,6 +52,7 @@ pub(crate) fn begin_alter(
     match forms.take_first()? {
         Some(function) => {
             let frame = Frame::AlterRef {
+                by,
                 function,
                 forms,
                 room,
@@ -97,11 +73,12 @@ pub(crate) fn begin_alter(
     }
 }
 
-// `alter` behind its first argument, which has this value: its function is named by a symbol.
+// Either of them behind its first argument, which has this value: its function is named by a symbol.
 #[tactic(auto, using(value_data::proofs::Views::value_views, walker_state::proofs::Stepping::steps), unfolding(walker_state::specs::Machine::alter_behind))]
 pub(crate) fn name_function(
     alloc: Global,
     state: &mut State,
+    by: Alteration,
     target: Value,
     function: Value,
     forms: Forms,
@@ -112,22 +89,24 @@ pub(crate) fn name_function(
     ensures calls { IfOk result (λ control. control_calls control state.new ≤ state.old.calls) }
     ensures around { IfOk result (λ control. control_around control state.new ≡ around state.old.transaction) }
     ensures meaning { IfOk result (λ control. tree control state.new
-        ≡ from_state (alter_behind room (place_of state.old) (view target) (view function) (forms_view forms)) state.old) }
+        ≡ from_state (alter_behind room (place_of state.old) by (view target) (view function) (forms_view forms)) state.old) }
 {
     match function {
         Value::Symbol(symbol) => {
-            let purpose = SymbolUse::Alter(target, forms, room);
+            let purpose = SymbolUse::Alter(by, target, forms, room);
             evaluate_symbol(alloc, state, symbol, purpose)
         }
         other => Ok(Control::Fault(not_a_function(alloc, &other)?)),
     }
 }
 
-// A call of `alter` with this function: the value of its ref goes to it, with the other arguments.
+// A call of `alter` or `commute` with this function: the value of its ref goes to it, with the other
+// arguments.
 #[tactic(auto, using(walker_state::proofs::Stepping::steps), unfolding(evaluation_rules::specs::Calls::alter_call))]
 pub(crate) fn call_alter(
     alloc: Global,
     state: &mut State,
+    by: Alteration,
     function: NamedFunction,
     values: Vec<Value>,
     room: u32,
@@ -137,18 +116,19 @@ pub(crate) fn call_alter(
     ensures calls { IfOk result (λ control. control_calls control state.new ≤ state.old.calls) }
     ensures around { IfOk result (λ control. control_around control state.new ≡ around state.old.transaction) }
     ensures meaning { IfOk result (λ control. tree control state.new
-        ≡ from_state (alter_call (value_at room) (named_view function) (views values.items)) state.old) }
+        ≡ from_state (alter_call (value_at room) by (named_view function) (views values.items)) state.old) }
 {
     let mut values = values;
     if values.is_empty() {
-        let fault = wrong_arity(alloc, StoreFunction::Alter.name(), 1)?;
+        let fault = wrong_arity(alloc, by.function().name(), 1)?;
         return Ok(Control::Fault(fault));
     }
     let target = values.remove(0);
-    match altered(alloc, state.transaction.is_some(), &target)? {
+    match altered(alloc, by, state.transaction.is_some(), &target)? {
         Altered::Refused(fault) => Ok(Control::Fault(fault)),
         Altered::Ref(name) => {
             let frame = Frame::AlterCall {
+                by,
                 name,
                 function,
                 values,
@@ -160,11 +140,12 @@ pub(crate) fn call_alter(
     }
 }
 
-// `alter` calls its function with the value of the ref, and these arguments behind it.
+// The function is called with the value of the ref, and these arguments behind it.
 #[tactic(auto, using(walker_state::proofs::Stepping::steps), unfolding(walker_state::specs::Machine::alter_step))]
 pub(crate) fn call_altering(
     alloc: Global,
     state: &mut State,
+    by: Alteration,
     name: RefName,
     function: NamedFunction,
     values: Vec<Value>,
@@ -176,32 +157,113 @@ pub(crate) fn call_altering(
     ensures calls { IfOk result (λ control. control_calls control state.new ≤ state.old.calls) }
     ensures around { IfOk result (λ control. control_around control state.new ≡ around state.old.transaction) }
     ensures meaning { IfOk result (λ control. tree control state.new
-        ≡ from_state (alter_step room (name_view name) (named_view function) (views values.items) (view value)) state.old) }
+        ≡ from_state (alter_step room by (name_view name) (named_view function) (views values.items) (view value)) state.old) }
 {
-    let mut values = values;
-    values.insert(0, value)?;
-    state.frames.push_front(Frame::Held { name })?;
-    call_named(alloc, state, function, values, room)
+    match by {
+        Alteration::Alter => {
+            let mut values = values;
+            values.insert(0, value)?;
+            state.frames.push_front(Frame::Held { name })?;
+            call_named(alloc, state, function, values, room)
+        }
+        Alteration::Commute => call_commuting(alloc, state, name, function, values, value),
+    }
 }
 
-// What a function gave goes into the ref, if the ref may hold it.
-#[tactic(auto, using(walker_state::proofs::Stepping::steps), unfolding(evaluation_rules::specs::Refs::held_value))]
-pub(crate) fn hold(
+// One call is taken from the budget, and a function of the language is applied to the value of a ref.
+// No other function may be.
+#[tactic(auto, using(walker_state::proofs::Stepping::steps, crate::proofs::Altering::lengths), unfolding(evaluation_rules::specs::Calls::commuting_value))]
+fn call_commuting(
     alloc: Global,
     state: &mut State,
     name: RefName,
+    function: NamedFunction,
+    values: Vec<Value>,
     value: Value,
 ) -> Result<Control, AllocError>
     ensures size { IfOk result (λ control. control_size control + frames_size state.new.frames.items
-        < 2 + frames_size state.old.frames.items) }
+        < 4 + frames_size state.old.frames.items) }
     ensures calls { IfOk result (λ control. control_calls control state.new ≤ state.old.calls) }
     ensures around { IfOk result (λ control. control_around control state.new ≡ around state.old.transaction) }
     ensures meaning { IfOk result (λ control. tree control state.new
-        ≡ from_state (held_value (name_view name) (view value)) state.old) }
+        ≡ from_state (commuting_value (named_view function) (views values.items) (name_view name) (view value)) state.old) }
 {
-    if !may_hold(name, &value) {
-        return Ok(Control::Fault(broken(alloc, Rule::SharedRefsArePlain)?));
+    if state.calls == 0 {
+        return Ok(Control::Fault(too_many_calls(alloc)?));
     }
-    set(state, name, &value)?;
-    Ok(Control::Return(value))
+    state.calls -= 1;
+    let arguments = values.len().saturating_add(1);
+    match function {
+        NamedFunction::Core(function) => {
+            apply_commuting(alloc, state, name, function, values, value)
+        }
+        NamedFunction::Store(function) => {
+            let takes = function.takes(arguments);
+            refuse_commuting(alloc, takes, function.name(), arguments)
+        }
+        NamedFunction::Program(function) => refuse_program(alloc, &function, arguments),
+    }
+}
+
+// The function is applied, and noted with what it gives.
+fn apply_commuting(
+    alloc: Global,
+    state: &mut State,
+    name: RefName,
+    function: CoreFunction,
+    values: Vec<Value>,
+    value: Value,
+) -> Result<Control, AllocError>
+    ensures size { IfOk result (λ control. control_size control + frames_size state.new.frames.items
+        < 3 + frames_size state.old.frames.items) }
+    ensures calls { IfOk result (λ control. control_calls control state.new ≤ state.old.calls) }
+    ensures around { IfOk result (λ control. control_around control state.new ≡ around state.old.transaction) }
+    ensures meaning { IfOk result (λ control. tree control state.new
+        ≡ from_state (commute_applied (core_function function) (views values.items) (name_view name) (view value)) state.old) }
+{
+    let mut row = copy_items(alloc, &values)?;
+    row.insert(0, value)?;
+    let commute = Commute {
+        function,
+        arguments: values,
+    };
+    state.frames.push_front(Frame::Commuted { name, commute })?;
+    call_core(alloc, state, function, row.as_slice())
+}
+
+// A function of the program.
+#[tactic(auto, using(walker_state::proofs::Stepping::steps, crate::proofs::Altering::lengths))]
+fn refuse_program(
+    alloc: Global,
+    function: &Function,
+    arguments: usize,
+) -> Result<Control, AllocError>
+    ensures size { IfOk result (λ control. control_size control < 2) }
+    ensures calls { IfOk result (λ control. (s : State) → control_calls control s ≤ s.calls) }
+    ensures around { IfOk result (λ control. (s : State) → control_around control s ≡ around s.transaction) }
+    ensures meaning { IfOk result (λ control. (s : State) → tree control s ≡ from_state (not_of_core
+        (length (function_view function.now).params == arguments) (meant.full_name (function_view function.now)) arguments) s) }
+{
+    let takes = function.params.len() == arguments;
+    let name = full_name(alloc, function)?;
+    refuse_commuting(alloc, takes, name.as_str(), arguments)
+}
+
+// A function that is none of the language, where it would take so many arguments, or would not.
+fn refuse_commuting(
+    alloc: Global,
+    takes: bool,
+    name: &str,
+    arguments: usize,
+) -> Result<Control, AllocError>
+    ensures size { IfOk result (λ control. control_size control < 2) }
+    ensures calls { IfOk result (λ control. (s : State) → control_calls control s ≤ s.calls) }
+    ensures around { IfOk result (λ control. (s : State) → control_around control s ≡ around s.transaction) }
+    ensures meaning { IfOk result (λ control. (s : State) → tree control s
+        ≡ from_state (not_of_core takes name.now arguments) s) }
+{
+    if takes {
+        return Ok(Control::Fault(broken(alloc, Rule::CommutesAreOfCore)?));
+    }
+    Ok(Control::Fault(wrong_arity(alloc, name, arguments)?))
 }

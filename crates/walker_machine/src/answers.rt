@@ -3,8 +3,7 @@
 
 ghost use Rattle.std.specs.Prelude.{◌≡◌, ◌+◌, ◌<◌, ◌≤◌, IfOk};
 ghost use Rattle.std.specs.Arc.{arc_str_bytes};
-ghost use Rattle.repl_asks.specs.View.{answer_view, name_view, named_view, reading_view, resolution_view};
-ghost use Rattle.evaluation_rules.specs.Refs.{read_value};
+ghost use Rattle.repl_asks.specs.View.{answer_view, named_view, resolution_view};
 ghost use Rattle.special_forms.specs.Seen.{forms_view};
 ghost use Rattle.special_forms.specs.Size.{forms_size};
 ghost use Rattle.evaluation_rules.specs.Calls.{named_call};
@@ -19,14 +18,15 @@ ghost use Rattle.walker_state.specs.Size.{use_size, control_size, frames_size, c
 use crate::alter::begin_alter;
 use crate::rows::next_argument;
 use function_names::StoreFunction;
-use repl_asks::{Answer, NamedFunction, Reading, Resolution};
+use repl_asks::{Answer, NamedFunction, Resolution};
 use repl_faults::{not_a_function, not_a_value};
-use repl_values::{RefName, Value};
+use repl_values::Value;
 use special_forms::Forms;
 use std::alloc::{AllocError, Global};
 use std::sync::ArcStr;
+use store_calls::Alteration;
 use walker_state::{
-    Callee, Control, State, SymbolUse, Wanted, begun, go_on_in, note_read, retry, settle,
+    Callee, Control, State, SymbolUse, Wanted, begun, go_on_in, settle, take_ensured, take_reading,
 };
 
 pub(crate) fn take_answer(
@@ -46,31 +46,11 @@ pub(crate) fn take_answer(
         Wanted::Namespace(name) => Ok(go_on_in(state, name)),
         Wanted::Value => Ok(Control::Return(answer.into_value())),
         Wanted::Reading(name) => take_reading(alloc, state, name, answer.into_reading()),
+        Wanted::Ensuring(name) => take_ensured(alloc, state, name, answer.into_reading()),
         Wanted::Begin(transaction) => begun(alloc, state, transaction),
         Wanted::Verdict(value, transaction) => {
             settle(alloc, state, value, transaction, answer.into_verdict())
         }
-    }
-}
-
-// The value of a ref, which the attempt notes.
-fn take_reading(
-    alloc: Global,
-    state: &mut State,
-    name: RefName,
-    reading: Reading,
-) -> Result<Control, AllocError>
-    ensures later { IfOk result (λ control. IsLater (control_position control state.new)
-        (wanted_position (Wanted.Reading name) state.old)) }
-    ensures meaning { IfOk result (λ control. tree control state.new
-        ≡ from_state (read_value (name_view name) (reading_view reading)) state.old) }
-{
-    match reading {
-        Reading::Found(value) => {
-            note_read(state, name, &value)?;
-            Ok(Control::Return(value))
-        }
-        Reading::Retry => retry(alloc, state),
     }
 }
 
@@ -90,8 +70,8 @@ pub(crate) fn take_resolution(
     match purpose {
         SymbolUse::Value(symbol) => take_value(alloc, symbol, resolution),
         SymbolUse::Head(forms, room) => take_function(alloc, state, forms, room, resolution),
-        SymbolUse::Alter(target, forms, room) => {
-            take_alter(alloc, state, target, forms, room, resolution)
+        SymbolUse::Alter(by, target, forms, room) => {
+            take_alter(alloc, state, by, target, forms, room, resolution)
         }
     }
 }
@@ -133,10 +113,12 @@ fn take_function(
     }
 }
 
-// The symbol stands in the place of the function of `alter`, behind this value and before these forms.
+// The symbol stands in the place of the function of `alter` or `commute`, behind this value and before
+// these forms.
 fn take_alter(
     alloc: Global,
     state: &mut State,
+    by: Alteration,
     target: Value,
     forms: Forms,
     room: u32,
@@ -147,13 +129,20 @@ fn take_alter(
     ensures calls { IfOk result (λ control. control_calls control state.new ≤ state.old.calls) }
     ensures around { IfOk result (λ control. control_around control state.new ≡ around state.old.transaction) }
     ensures meaning { IfOk result (λ control. tree control state.new
-        ≡ from_state (used (place_of state.old) (SymbolUse.Alter target forms room) (resolution_view resolution)) state.old) }
+        ≡ from_state (used (place_of state.old) (SymbolUse.Alter by target forms room) (resolution_view resolution)) state.old) }
 {
     match resolution {
         Resolution::Function(function) => {
             let mut values = Vec::new(alloc);
             values.push(target)?;
-            next_argument(alloc, state, Callee::Alter(function), values, forms, room)
+            next_argument(
+                alloc,
+                state,
+                Callee::Alter(by, function),
+                values,
+                forms,
+                room,
+            )
         }
         Resolution::Value(value) => Ok(Control::Fault(not_a_function(alloc, &value)?)),
         Resolution::Nothing(fault) => Ok(Control::Fault(fault)),
@@ -176,7 +165,12 @@ fn begin_call(
         ≡ from_state (named_call (value_at room) (place_of state.old) (forms_view forms) (named_view function)) state.old) }
 {
     match function {
-        NamedFunction::Store(StoreFunction::Alter) => begin_alter(alloc, state, forms, room),
+        NamedFunction::Store(StoreFunction::Alter) => {
+            begin_alter(alloc, state, Alteration::Alter, forms, room)
+        }
+        NamedFunction::Store(StoreFunction::Commute) => {
+            begin_alter(alloc, state, Alteration::Commute, forms, room)
+        }
         other => {
             let callee = Callee::Named(other);
             next_argument(alloc, state, callee, Vec::new(alloc), forms, room)

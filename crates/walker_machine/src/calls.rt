@@ -2,35 +2,30 @@
 // function is applied.
 #![tactic(auto, using(walker_state::proofs::Stepping::steps))]
 
-ghost use Rattle.std.specs.Prelude.{◌≡◌, ◌+◌, ◌<◌, ◌≤◌, [], map, IfOk};
+ghost use Rattle.std.specs.Prelude.{◌≡◌, ◌+◌, ◌<◌, ◌≤◌, [], map, IfOk, string_bytes};
 ghost use Rattle.std.specs.Arc.{arc_str_bytes};
-ghost use Rattle.core_functions.specs.Outcome.{Outcome, bounded};
-ghost use Rattle.core_functions.specs.View.{FailsIn};
 ghost use Rattle.value_data.specs.View.{view};
 ghost use Rattle.walker_state.specs.Machine.{callee_view, from_state, tree};
 ghost use Rattle.walker_state.specs.declared.frames.State.{State};
 ghost use Rattle.special_forms.specs.Seen.{views, function_view};
 ghost use Rattle.walker_state.specs.Size.{control_size, frames_size, control_calls, control_around, around};
 ghost use Rattle.repl_asks.specs.View.{named_view};
-ghost use Rattle.evaluation_rules.specs.Calls.{body_value, bound_to, called, core_call, function_applied, function_called, get_arguments, keyword_call, outcome, printed, program_call};
+ghost use Rattle.evaluation_rules.specs.Calls.{body_value, bound_to, called, full_name, function_applied, function_called, get_arguments, keyword_call, program_call};
 ghost use Rattle.evaluation_rules.specs.Evaluation.{value_at};
 
-use crate::alter::{call_alter, call_store};
-use core_functions::{Applied, CoreFunction, apply};
+use crate::alter::call_alter;
+use core_functions::CoreFunction;
 use core_maps::MapFunction;
 use local_names::Locals;
 use repl_asks::NamedFunction;
-use repl_faults::{ApplyError, output_too_long, too_many_calls, wrong_arity};
+use repl_faults::{too_many_calls, wrong_arity};
 use repl_values::{Value, copy_text};
 use special_forms::Function;
 use std::alloc::{AllocError, Global};
 use std::collections::VecDeque;
 use std::mem;
 use std::sync::ArcStr;
-use walker_state::{Callee, Control, Frame, Place, State, next_in_body};
-
-// The most that an evaluation may print, in bytes.
-const MOST_TEXT: usize = 1_048_576;
+use walker_state::{Callee, Control, Frame, Place, State, call_core, call_store, next_in_body};
 
 // One call is taken from the budget, and the callee is applied.
 #[tactic(auto, using(walker_state::proofs::Stepping::steps), unfolding(evaluation_rules::specs::Calls::called))]
@@ -54,7 +49,7 @@ pub(crate) fn call(
     match callee {
         Callee::Named(function) => apply_named(alloc, state, function, values, room),
         Callee::Keyword(name) => call_keyword(alloc, state, name, values),
-        Callee::Alter(function) => call_alter(alloc, state, function, values, room),
+        Callee::Alter(by, function) => call_alter(alloc, state, by, function, values, room),
     }
 }
 
@@ -99,61 +94,6 @@ fn apply_named(
         NamedFunction::Store(function) => call_store(alloc, state, function, values),
         NamedFunction::Program(function) => call_function(alloc, function, values, room),
     }
-}
-
-#[tactic(auto, using(walker_state::proofs::Stepping::steps, crate::proofs::Evaluating::bounds), unfolding(evaluation_rules::specs::Calls::core_call))]
-fn call_core(
-    alloc: Global,
-    state: &mut State,
-    function: CoreFunction,
-    values: &[Value],
-) -> Result<Control, AllocError>
-    ensures size { IfOk result (λ control. control_size control + frames_size state.new.frames.items
-        < 2 + frames_size state.old.frames.items) }
-    ensures calls { IfOk result (λ control. control_calls control state.new ≤ state.old.calls) }
-    ensures around { IfOk result (λ control. control_around control state.new ≡ around state.old.transaction) }
-    ensures meaning { IfOk result (λ control. tree control state.new ≡ from_state (core_call function (views values.now)) state.old) }
-{
-    if !function.takes(values.len()) {
-        let fault = wrong_arity(alloc, function.name(), values.len())?;
-        return Ok(Control::Fault(fault));
-    }
-    match apply(alloc, function, values) {
-        Ok(applied) => {
-            let Applied { value, text } = applied;
-            print(alloc, state, text.as_str(), value)
-        }
-        Err(error) => failed(error),
-    }
-}
-
-// The fault of a function ends the evaluation.
-fn failed(error: ApplyError) -> Result<Control, AllocError>
-    ensures size { IfOk result (λ control. control_size control < 2) }
-    ensures calls { IfOk result (λ control. (s : State) → control_calls control s ≡ s.calls) }
-    ensures around { IfOk result (λ control. (s : State) → control_around control s ≡ around s.transaction) }
-    ensures meaning { (o : Outcome) → FailsIn (bounded o) error → IfOk result (λ control. (s : State) → tree control s ≡ from_state (outcome o) s) }
-{
-    match error {
-        ApplyError::Fault(fault) => Ok(Control::Fault(fault)),
-        ApplyError::NoMemory => Err(AllocError),
-    }
-}
-
-// The value, with this text printed. Text that would pass the limit is not printed at all.
-#[tactic(auto, using(walker_state::proofs::Stepping::steps), unfolding(evaluation_rules::specs::Calls::printed))]
-fn print(alloc: Global, state: &mut State, text: &str, value: Value) -> Result<Control, AllocError>
-    ensures size { IfOk result (λ control. control_size control + frames_size state.new.frames.items
-        < 2 + frames_size state.old.frames.items) }
-    ensures calls { IfOk result (λ control. control_calls control state.new ≤ state.old.calls) }
-    ensures around { IfOk result (λ control. control_around control state.new ≡ around state.old.transaction) }
-    ensures meaning { IfOk result (λ control. tree control state.new ≡ from_state (printed text.now (view value)) state.old) }
-{
-    if state.text.len().saturating_add(text.len()) > MOST_TEXT {
-        return Ok(Control::Fault(output_too_long(alloc)?));
-    }
-    state.text.push_str(text)?;
-    Ok(Control::Return(value))
 }
 
 // `(:name map)` and `(:name map default)` look the keyword up.
@@ -207,11 +147,19 @@ fn call_function(
     if function.params.len() == values.len() {
         return Ok(Control::Enter(function, values, room));
     }
+    let name = full_name(alloc, &function)?;
+    let fault = wrong_arity(alloc, name.as_str(), values.len())?;
+    Ok(Control::Fault(fault))
+}
+
+// The name of a function behind that of its namespace.
+pub(crate) fn full_name(alloc: Global, function: &Function) -> Result<String, AllocError>
+    ensures { IfOk result (λ name. string_bytes name ≡ full_name (function_view function.now)) }
+{
     let mut name = String::from_str(alloc, function.space.as_str())?;
     name.push_str("/")?;
     name.push_str(function.name.as_str())?;
-    let fault = wrong_arity(alloc, name.as_str(), values.len())?;
-    Ok(Control::Fault(fault))
+    Ok(name)
 }
 
 // The function's body is evaluated with its parameters as the only locals.

@@ -6,14 +6,14 @@ ghost use Rattle.value_data.specs.View.{view};
 ghost use Rattle.walker_state.specs.Machine.{given, tree};
 ghost use Rattle.walker_state.specs.Size.{frame_size, control_size, frames_size, control_calls, control_around, around};
 
-use crate::alter::{call_altering, hold, name_function};
+use crate::alter::{call_altering, name_function};
 use crate::rows::{bind, next_argument, next_binding, next_in_logic, next_item};
 use crate::special::define;
 use repl_asks::Binding;
 use repl_values::Value;
 use special_forms::chosen;
 use std::alloc::{AllocError, Global};
-use walker_state::{Control, Frame, State, enter_named, next_in_body, throw};
+use walker_state::{Control, Frame, State, commute, enter_named, hold, next_in_body, throw};
 
 pub(crate) fn give(
     alloc: Global,
@@ -69,17 +69,23 @@ pub(crate) fn give(
         Frame::Throw => throw(alloc, value),
         Frame::Namespace => enter_named(alloc, value),
         Frame::AlterRef {
+            by,
             function,
             forms,
             room,
-        } => name_function(alloc, state, value, function, forms, room),
+        } => name_function(alloc, state, by, value, function, forms, room),
         Frame::AlterCall {
+            by,
             name,
             function,
             values,
             room,
-        } => call_altering(alloc, state, name, function, values, value, room),
+        } => call_altering(alloc, state, by, name, function, values, value, room),
         Frame::Held { name } => hold(alloc, state, name, value),
+        Frame::Commuted {
+            name,
+            commute: applied,
+        } => commute(alloc, state, name, applied, value),
         Frame::Unbind => {
             state.place.locals.unbind();
             Ok(Control::Return(value))

@@ -123,3 +123,8 @@ pub conflict-later : {E : Type 0} (r : Result Control E) (new s : State) (t : Bo
     → IfOk r (λ k. IsLater (control_position k new) (wanted_position (Wanted.Verdict v t) s))
 conflict-later (Ok k) new s t v h = later_retried k new t.value s.calls _ h
 conflict-later (Err e) new s t v h = tt
+
+-- what holds for all holds for one
+pub if_ok-for : {A B E : Type 0} (F : A → B → Type 0) (b : B) (r : Result A E) → IfOk r (λ a. (c : B) → F a c) → IfOk r (λ a. F a b)
+if_ok-for F b (Ok a) h = h b
+if_ok-for F b (Err e) h = tt

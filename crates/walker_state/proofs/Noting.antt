@@ -1,17 +1,23 @@
 -- Reads and sets of refs, where a transaction runs and where none does.
 use Rattle.std.specs.Global.{Global}
-use Rattle.std.specs.Prelude.{Box}
-use Rattle.std.proofs.Common.{◌≡◌, [], ◌∷◌, ◌++◌, Some, None, refl}
+use Rattle.std.specs.Prelude.{Box, string_bytes}
+use Rattle.std.proofs.Common.{◌≡◌, ◌∙◌, ap, Bool, true, false, [], ◌∷◌, ◌++◌, Some, None, Err, refl, sym}
+use Rattle.value_data.specs.Datum.{Datum}
+use Rattle.repl_faults.specs.Failure.{Failure, broken}
+use Rattle.repl_faults.specs.declared.rule.Rule.{Rule}
+use Rattle.repl_asks.specs.Transactions.{RefNameData}
 use Rattle.repl_asks.specs.Exchange.{read}
 use Rattle.repl_asks.specs.View.{name_view}
 use Rattle.repl_jobs.specs.Tree.{asks}
 use Rattle.value_data.specs.declared.value.RefName.{RefName}
-use Rattle.tx_attempt.specs.Operations.{OperationData, value_of}
+use Rattle.tx_attempt.specs.Operations.{OperationData, put, value_of, is_commuted}
 use Rattle.tx_attempt.specs.Seen.{operations_of}
 use Rattle.tx_attempt.specs.declared.attempt.Attempt.{Attempt}
-use Rattle.evaluation_rules.specs.Doing.{Doing, noting}
-use Rattle.evaluation_rules.specs.Refs.{ref_value}
-use Rattle.walker_state.specs.Machine.{again, answered, from_state, whole, within}
+use Rattle.evaluation_rules.specs.Doing.{Doing, noting, done}
+use Rattle.evaluation_rules.specs.Tree.{ends}
+use Rattle.evaluation_rules.specs.Refs.{ref_value, put_by, put_value}
+use Rattle.walker_state.specs.Machine.{again, answered, from_state, kept_of, next_of, so_far, whole, within}
+use Rattle.walker_state.proofs.Stepping.{fails-at, within-looking}
 use Rattle.walker_state.specs.declared.frames.State.{State}
 use Rattle.walker_state.specs.declared.frames.Transaction.{Transaction}
 use Rattle.walker_state.specs.declared.frames.Wanted.{Wanted}
@@ -31,3 +37,40 @@ pub noted-inside : (s : State) (t u : Box Transaction Global) (a : Attempt) (op 
     → whole (record s { transaction = Some u }) d ≡ whole s (noting op d)
 unfolding within again
 noted-inside s t u a op d runs is noted = rw (runs, is, noted) refl
+
+-- A ref is set
+
+pub put-outside : (s : State) (name : RefNameData) (v : Datum) → s.transaction ≡ None
+    → from_state (done v) (record s { transaction = None }) ≡ from_state (put_value name v) s
+unfolding put_value within is_commuted
+put-outside s name v none = rw none refl
+
+put-at : (s : State) (name : RefNameData) (v : Datum) (b : Bool) → is_commuted name (so_far s.transaction) ≡ b
+    → from_state (put_value name v) s ≡ from_state (put_by name v b) s
+unfolding put_value
+put-at s name v b is =
+    within-looking s.retries s.transaction _ _ (string_bytes s.text)
+    ∙ ap (λ c. whole s (put_by name v c (next_of s) (kept_of s))) is
+
+kept-inside : (s : State) (t u : Box Transaction Global) → s.transaction ≡ Some t
+    → kept_of (record s { transaction = Some u }) ≡ kept_of s
+kept-inside s t u runs = rw runs refl
+
+pub put-inside : (s : State) (t u : Box Transaction Global) (a : Attempt) (name : RefNameData) (v : Datum) → s.transaction ≡ Some t
+    → u.value ≡ record (t.value) { attempt = a } → operations_of a ≡ operations_of t.value.attempt ++ put name v ∷ []
+    → is_commuted name (operations_of t.value.attempt) ≡ false
+    → from_state (done v) (record s { transaction = Some u }) ≡ from_state (put_value name v) s
+put-inside s t u a name v runs is noted free =
+    ap (λ k. whole (record s { transaction = Some u }) (next_of s v k)) (kept-inside s t u runs)
+    ∙ noted-inside s t u a (put name v) (next_of s v (kept_of s)) runs is noted
+    ∙ sym (put-at s name v false (ap (λ t. is_commuted name (so_far t)) runs ∙ free))
+
+-- one that was commuted is not
+pub put-refused : (s : State) (t u : Box Transaction Global) (name : RefNameData) (v : Datum) (told : Failure) → s.transaction ≡ Some t
+    → is_commuted name (operations_of t.value.attempt) ≡ true → told ≡ broken Rule.NoSetAfterCommute
+    → ends (Err told) (string_bytes s.text) (kept_of (record s { transaction = Some u })) ≡ from_state (put_value name v) s
+put-refused s t u name v told runs blocked is =
+    ap (λ f. ends (Err f) (string_bytes s.text) (kept_of (record s { transaction = Some u }))) is
+    ∙ ap (ends (Err (broken Rule.NoSetAfterCommute)) (string_bytes s.text)) (kept-inside s t u runs)
+    ∙ sym (fails-at (broken Rule.NoSetAfterCommute) s)
+    ∙ sym (put-at s name v true (ap (λ t. is_commuted name (so_far t)) runs ∙ blocked))

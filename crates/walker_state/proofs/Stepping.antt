@@ -23,7 +23,7 @@ use Rattle.evaluation_rules.specs.Rows.{last_of}
 use Rattle.evaluation_rules.specs.Evaluation.{value_at}
 use Rattle.evaluation_rules.specs.Transactions.{attempts, after_body, body_of, transacted, with_running}
 use Rattle.walker_state.specs.Machine.{again, begun_tree, body_at, bottom, frames_next, from_state, kept_of, next_of, place_of}
-use Rattle.walker_state.specs.Machine.{settled_tree, whole, within}
+use Rattle.walker_state.specs.Machine.{settled_tree, so_far, whole, within}
 use Rattle.walker_state.specs.declared.frames.State.{State}
 use Rattle.walker_state.specs.declared.frames.Transaction.{Transaction}
 
@@ -48,11 +48,6 @@ pub within-printing : (r : ℕ) (t : Running) (p : PlaceData) (more : List ℕ) 
 unfolding within
 within-printing r None p more kept d text = refl
 within-printing r (Some t) p more kept d text = refl
-
--- the operations of the attempt that runs
-abbrev pub so_far : Running → List OperationData
-so_far None = []
-so_far (Some t) = operations_of t.value.attempt
 
 pub within-looking : (r : ℕ) (t : Running) (p : PlaceData) (behind : List OperationData → Doing) (text : List ℕ)
     → written text (within r t p (looking behind)) ≡ written text (within r t p (behind (so_far t)))

@@ -10,21 +10,23 @@ use Rattle.repl_faults.specs.View.{failure_of}
 use Rattle.repl_asks.specs.Transactions.{RefNameData}
 use Rattle.repl_asks.specs.Exchange.{AnswerData, bound_value, ResolutionData, resolution_in, value_in, reading_in}
 use Rattle.repl_asks.specs.Exchange.{NamedFunctionData, VerdictData, verdict_in}
-use Rattle.repl_asks.specs.View.{ask_view, name_view, named_view, resolution_view}
+use Rattle.repl_asks.specs.View.{ask_view, commute_view, name_view, named_view, resolution_view}
 use Rattle.repl_asks.specs.declared.answer.Resolution.{Resolution}
 use Rattle.repl_jobs.specs.Tree.{Tree, asks}
 use Rattle.special_forms.specs.Bindings.{bindings_in}
 use Rattle.special_forms.specs.Truth.{is_true}
 use Rattle.special_forms.specs.Seen.{views, forms_view, function_view}
+use Rattle.store_calls.specs.declared.altering.Alteration.{Alteration}
+use Rattle.tx_attempt.specs.Operations.{OperationData}
 use Rattle.tx_attempt.specs.Seen.{operations_of}
 use Rattle.evaluation_rules.specs.Doing.{Kept, Doing, gave, left, Part, ◌>>=◌, done, fails}
 use Rattle.evaluation_rules.specs.Tree.{attempted, ends, written}
 use Rattle.evaluation_rules.specs.Places.{PlaceData, with_local}
 use Rattle.evaluation_rules.specs.Rows.{row, last_of}
 use Rattle.evaluation_rules.specs.Naming.{resolution, as_value, as_function, function_value}
-use Rattle.evaluation_rules.specs.Refs.{read_value, held_value}
+use Rattle.evaluation_rules.specs.Refs.{read_value, ensured_read, held_value}
 use Rattle.evaluation_rules.specs.Calls.{CalleeData, named_callee, keyword_callee, alter_callee}
-use Rattle.evaluation_rules.specs.Calls.{function_called, called, named_call, body_value}
+use Rattle.evaluation_rules.specs.Calls.{alteration_value, commute_noted, called, named_call, body_value}
 use Rattle.evaluation_rules.specs.Transactions.{with_running, body_of, settled, after_body, attempts}
 use Rattle.evaluation_rules.specs.SpecialForms.{logic_value, let_value, defined, thrown_value, entered_by}
 use Rattle.evaluation_rules.specs.Collections.{vector_value, map_value}
@@ -48,7 +50,7 @@ known_view = option_map resolution_view
 abbrev pub callee_view : Callee → CalleeData
 callee_view (Callee.Named f) = named_callee (named_view f)
 callee_view (Callee.Keyword s) = keyword_callee (arc_str_bytes s)
-callee_view (Callee.Alter f) = alter_callee (named_view f)
+callee_view (Callee.Alter by f) = alter_callee by (named_view f)
 
 abbrev pub collected : Collection → List Datum → Part Datum
 collected Collection.Vector = vector_value
@@ -76,17 +78,18 @@ call_behind room p callee values forms next =
 unfoldable pub items_behind : ℕ → PlaceData → Collection → List Datum → List Datum → Part Datum
 items_behind room p kind values forms next = row (value_at room p) forms (λ vs. collected kind (values ++ vs) next)
 
--- the arguments of `alter` behind the function, and the call
-abbrev pub alter_with : ℕ → PlaceData → Datum → List Datum → NamedFunctionData → Part Datum
-alter_with room p d forms f = row (value_at room p) forms >>= λ vs. called (value_at room) (alter_callee f) (d ∷ vs)
+-- the arguments of `alter` or `commute` behind the function, and the call
+abbrev pub alter_with : ℕ → PlaceData → Alteration → Datum → List Datum → NamedFunctionData → Part Datum
+alter_with room p by d forms f =
+    row (value_at room p) forms >>= λ vs. called (value_at room) (alter_callee by f) (d ∷ vs)
 
--- `alter` behind its first argument
-unfoldable pub alter_behind : ℕ → PlaceData → Datum → Datum → List Datum → Part Datum
-alter_behind room p d function forms = function_value p function >>= alter_with room p d forms
+-- either of them behind its first argument
+unfoldable pub alter_behind : ℕ → PlaceData → Alteration → Datum → Datum → List Datum → Part Datum
+alter_behind room p by d function forms = function_value p function >>= alter_with room p by d forms
 
--- `alter` behind the value of its ref
-unfoldable pub alter_step : ℕ → RefNameData → NamedFunctionData → List Datum → Datum → Part Datum
-alter_step room name f args d = function_called (value_at room) f (d ∷ args) >>= held_value name
+-- either of them behind the value of its ref
+unfoldable pub alter_step : ℕ → Alteration → RefNameData → NamedFunctionData → List Datum → Datum → Part Datum
+alter_step room by name f args d = alteration_value (value_at room) by f args name d
 
 -- what is done with the value of the innermost form
 abbrev pub frames_next : List Frame → PlaceData → Datum → Kept → Doing
@@ -108,11 +111,13 @@ frames_next (Frame.Define name ∷ frames) p v kept =
     defined p (arc_str_bytes name) (bound_value v) (frames_next frames p) kept
 frames_next (Frame.Throw ∷ frames) p v kept = thrown_value v (frames_next frames p) kept
 frames_next (Frame.Namespace ∷ frames) p v kept = entered_by v (frames_next frames p) kept
-frames_next (Frame.AlterRef function forms room ∷ frames) p v kept =
-    alter_behind room p v (view function) (forms_view forms) (frames_next frames p) kept
-frames_next (Frame.AlterCall name f values room ∷ frames) p v kept =
-    alter_step room (name_view name) (named_view f) (views values.items) v (frames_next frames p) kept
+frames_next (Frame.AlterRef by function forms room ∷ frames) p v kept =
+    alter_behind room p by v (view function) (forms_view forms) (frames_next frames p) kept
+frames_next (Frame.AlterCall by name f values room ∷ frames) p v kept =
+    alter_step room by (name_view name) (named_view f) (views values.items) v (frames_next frames p) kept
 frames_next (Frame.Held name ∷ frames) p v kept = held_value (name_view name) v (frames_next frames p) kept
+frames_next (Frame.Commuted name commute ∷ frames) p v kept =
+    commute_noted (name_view name) (commute_view commute) v (frames_next frames p) kept
 frames_next (Frame.Unbind ∷ frames) p v kept = frames_next frames (without_local p) v kept
 frames_next (Frame.Leave place ∷ frames) p v kept = frames_next frames (place_view place) v kept
 
@@ -145,6 +150,11 @@ unfoldable pub within : ℕ → Option (Box Transaction Global) → PlaceData �
 within retries None p d = d
 within retries (Some t) p d =
     attempted (after_body (again retries t.value p) (frames_next t.value.frames.items p)) (operations_of t.value.attempt) d
+
+-- what the attempt that runs did so far
+abbrev pub so_far : Option (Box Transaction Global) → List OperationData
+so_far None = []
+so_far (Some t) = operations_of t.value.attempt
 
 abbrev pub is_running : Option (Box Transaction Global) → Bool
 is_running None = false
@@ -189,7 +199,7 @@ resolved_call room p forms r = as_function r >>= λ f. named_call (value_at room
 abbrev pub used : PlaceData → SymbolUse → ResolutionData → Part Datum
 used p (SymbolUse.Value name) r = as_value (arc_str_bytes name) r
 used p (SymbolUse.Head forms room) r = resolved_call room p (forms_view forms) r
-used p (SymbolUse.Alter v forms room) r = as_function r >>= alter_with room p (view v) (forms_view forms)
+used p (SymbolUse.Alter by v forms room) r = as_function r >>= alter_with room p by (view v) (forms_view forms)
 
 -- a symbol in its place
 abbrev pub named : PlaceData → List ℕ → SymbolUse → Part Datum
@@ -217,6 +227,7 @@ answered (Wanted.Completion v) answer s = from_state (done (view v)) s
 answered (Wanted.Namespace name) answer s = whole s (next_of s nil (record (kept_of s) { namespace = arc_str_bytes name }))
 answered Wanted.Value answer s = from_state (done (value_in answer)) s
 answered (Wanted.Reading name) answer s = from_state (read_value (name_view name) (reading_in answer)) s
+answered (Wanted.Ensuring name) answer s = from_state (ensured_read (name_view name) (reading_in answer)) s
 answered (Wanted.Begin t) answer s = begun_tree t.value s
 answered (Wanted.Verdict v t) answer s = settled_tree t.value (view v) (verdict_in answer) s
 

@@ -23,9 +23,10 @@ frame_size (Frame.Let name bindings body room) = 2 + (bindings_size (bindings_in
 frame_size (Frame.Define name) = 2
 frame_size Frame.Throw = 1
 frame_size Frame.Namespace = 2
-frame_size (Frame.AlterRef function forms room) = 6 + (3 * datum_size (view function) + forms_size (forms_view forms))
-frame_size (Frame.AlterCall name f values room) = 3
+frame_size (Frame.AlterRef by function forms room) = 6 + (3 * datum_size (view function) + forms_size (forms_view forms))
+frame_size (Frame.AlterCall by name f values room) = 3
 frame_size (Frame.Held name) = 1
+frame_size (Frame.Commuted name commute) = 1
 frame_size Frame.Unbind = 1
 frame_size (Frame.Leave place) = 1
 
@@ -35,7 +36,7 @@ frames_size = sum_by frame_size
 abbrev pub use_size : SymbolUse → ℕ
 use_size (SymbolUse.Value name) = 2
 use_size (SymbolUse.Head forms room) = 6 + forms_size (forms_view forms)
-use_size (SymbolUse.Alter v forms room) = 6 + forms_size (forms_view forms)
+use_size (SymbolUse.Alter by v forms room) = 6 + forms_size (forms_view forms)
 
 abbrev pub wanted_size : Wanted → ℕ
 wanted_size (Wanted.Resolution purpose) = use_size purpose
@@ -43,6 +44,7 @@ wanted_size (Wanted.Completion v) = 2
 wanted_size (Wanted.Namespace name) = 2
 wanted_size Wanted.Value = 2
 wanted_size (Wanted.Reading name) = 2
+wanted_size (Wanted.Ensuring name) = 2
 wanted_size (Wanted.Begin t) = 2 + frames_size t.value.frames.items
 wanted_size (Wanted.Verdict v t) = 0
 
@@ -81,6 +83,7 @@ wanted_around (Wanted.Completion v) s = around s.transaction
 wanted_around (Wanted.Namespace name) s = around s.transaction
 wanted_around Wanted.Value s = around s.transaction
 wanted_around (Wanted.Reading name) s = around s.transaction
+wanted_around (Wanted.Ensuring name) s = around s.transaction
 wanted_around (Wanted.Begin t) s = begun_around t.value.is_first t.value
 wanted_around (Wanted.Verdict v t) s = attempt_around (2 * t.value.left) t.value
 
@@ -90,6 +93,7 @@ wanted_calls (Wanted.Completion v) s = s.calls
 wanted_calls (Wanted.Namespace name) s = s.calls
 wanted_calls Wanted.Value s = s.calls
 wanted_calls (Wanted.Reading name) s = s.calls
+wanted_calls (Wanted.Ensuring name) s = s.calls
 wanted_calls (Wanted.Begin t) s = t.value.calls
 wanted_calls (Wanted.Verdict v t) s = s.calls
 

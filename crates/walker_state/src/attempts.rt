@@ -129,7 +129,8 @@ fn go_behind(frame: Frame, place: &mut Place)
         | Frame::Namespace
         | Frame::AlterRef { .. }
         | Frame::AlterCall { .. }
-        | Frame::Held { .. } => {}
+        | Frame::Held { .. }
+        | Frame::Commuted { .. } => {}
     }
 }
 

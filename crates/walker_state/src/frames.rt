@@ -1,11 +1,12 @@
 // What an evaluation has still to do, from the inside out.
 use local_names::Locals;
-use repl_asks::{Ask, NamedFunction};
+use repl_asks::{Ask, Commute, NamedFunction};
 use repl_values::{Fault, RefName, Value};
 use special_forms::{Forms, Function, Logic};
 use std::boxed::Box;
 use std::collections::VecDeque;
 use std::sync::ArcStr;
+use store_calls::Alteration;
 use tx_attempt::Attempt;
 
 /// What is called.
@@ -14,8 +15,8 @@ pub enum Callee {
     Named(NamedFunction),
     // A keyword looks itself up in its argument.
     Keyword(ArcStr),
-    // `alter`, with the function that it was given.
-    Alter(NamedFunction),
+    // `alter` or `commute`, with the function that it was given.
+    Alter(Alteration, NamedFunction),
 }
 
 /// What is made of values in a row.
@@ -76,14 +77,17 @@ pub enum Frame {
     Throw,
     // The value is the name of the namespace to enter.
     Namespace,
-    // The ref of `alter`: the form of its function, and the forms of the arguments behind that.
+    // The ref of `alter` or `commute`: the form of its function, and the forms of the arguments behind
+    // that.
     AlterRef {
+        by: Alteration,
         function: Value,
         forms: Forms,
         room: u32,
     },
-    // The value of the ref that `alter` alters, with its function and the arguments behind it.
+    // The value of the ref that is altered, with its function and the arguments behind it.
     AlterCall {
+        by: Alteration,
         name: RefName,
         function: NamedFunction,
         values: Vec<Value>,
@@ -92,6 +96,11 @@ pub enum Frame {
     // What goes into this ref.
     Held {
         name: RefName,
+    },
+    // What a function gave that is applied to this ref's value, and is to be applied again.
+    Commuted {
+        name: RefName,
+        commute: Commute,
     },
     // The newest local goes.
     Unbind,
@@ -145,8 +154,9 @@ pub enum SymbolUse {
     Value(ArcStr),
     // The function at the head of a list, with the forms of its arguments.
     Head(Forms, u32),
-    // The function of `alter`, with the value before it and the forms of the arguments behind it.
-    Alter(Value, Forms, u32),
+    // The function of `alter` or `commute`, with the value before it and the forms of the arguments
+    // behind it.
+    Alter(Alteration, Value, Forms, u32),
 }
 
 /// What an answer is wanted for, by its kind.
@@ -162,6 +172,8 @@ pub enum Wanted {
     Value,
     // The value of this ref, which is noted.
     Reading(RefName),
+    // The same, of a ref that is ensured.
+    Ensuring(RefName),
     // That an attempt has begun. The state has no transaction and no frames.
     Begin(Box<Transaction>),
     // What comes of the commit of a body with this value. The state has no transaction and no frames.

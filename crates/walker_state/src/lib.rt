@@ -1,8 +1,9 @@
 //! The state of an evaluation: what it has still to do, from the inside out, and the transaction that
 //! runs; and its small steps: what a name means before anybody is asked, collections, namespaces,
-//! what is thrown, reads, sets, attempts and commits.
+//! what is thrown, functions of the language, refs, attempts and commits.
 #![tactic(auto)]
 
+mod applying;
 mod attempts;
 mod collect;
 mod commits;
@@ -11,8 +12,10 @@ mod names;
 mod namespaces;
 mod refs;
 mod rows;
+mod store;
 mod thrown;
 
+pub use applying::call_core;
 pub use attempts::{begin_again, begin_transaction, begun, retry};
 pub use collect::collected;
 pub use commits::{Left, leave, settle};
@@ -21,6 +24,7 @@ pub use frames::{
 };
 pub use names::{look_up, names_function, resolve, space};
 pub use namespaces::{enter_named, enter_namespace, go_on_in};
-pub use refs::{note_read, read, set};
+pub use refs::read;
 pub use rows::next_in_body;
+pub use store::{call_store, commute, hold, take_ensured, take_reading};
 pub use thrown::throw;

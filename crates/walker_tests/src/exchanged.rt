@@ -1,6 +1,8 @@
 // What is asked and answered, as texts by which a test compares it.
 use crate::told::{binding_told, fault_told, function_told, printed};
-use repl_asks::{Answer, Ask, Exchange, Intent, NamedFunction, Reading, Resolution, Verdict};
+use repl_asks::{
+    Answer, Ask, Commute, Exchange, Intent, NamedFunction, Reading, Resolution, Verdict,
+};
 use repl_values::{RefName, Value};
 use std::alloc::{AllocError, Global};
 
@@ -82,7 +84,24 @@ fn intent_told(alloc: Global, intent: &Intent) -> Result<String, AllocError> {
     for name in intent.ensured.as_slice() {
         told.push_str(named(alloc, " ensured", *name)?.as_str())?;
     }
+    for commuted in intent.commuted.as_slice() {
+        told.push_str(named(alloc, " commuted", commuted.name)?.as_str())?;
+        for commute in commuted.commutes.as_slice() {
+            commute_told(alloc, commute, &mut told)?;
+        }
+    }
     Ok(told)
+}
+
+// The function and its arguments behind the value of the ref.
+fn commute_told(alloc: Global, commute: &Commute, told: &mut String) -> Result<(), AllocError> {
+    told.push_str(" (")?;
+    told.push_str(commute.function.name())?;
+    for argument in commute.arguments.as_slice() {
+        told.push_str(" ")?;
+        told.push_str(printed(alloc, argument)?.as_str())?;
+    }
+    told.push_str(")")
 }
 
 pub(crate) fn answer_told(alloc: Global, answer: &Answer) -> Result<String, AllocError> {

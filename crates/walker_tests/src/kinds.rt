@@ -1,8 +1,10 @@
 // Asks and answers of all kinds: each is copied, and an answer fits the asks of its kind alone.
 use crate::exchanged::{answer_told, ask_told};
 use crate::told::{fault, form, text};
+use function_names::CoreFunction;
 use repl_asks::{
-    Answer, AnswerKind, Ask, Binding, Change, Intent, Reading, Refs, Replay, Resolution, Verdict,
+    Answer, AnswerKind, Ask, Binding, Change, Commute, Commuted, Intent, Reading, Refs, Replay,
+    Resolution, Verdict,
 };
 use repl_values::{Owner, RefName, Value};
 use std::alloc::{AllocError, Global};
@@ -58,7 +60,7 @@ fn asks_of_history(alloc: Global) -> Result<Vec<Asked>, AllocError> {
     Ok(asks)
 }
 
-// Two refs that were set, and one that nobody may have changed.
+// Two refs that were set, one that nobody may have changed, and one that was commuted twice.
 fn intent(alloc: Global) -> Result<Intent, AllocError> {
     let mut sets = Vec::new(alloc);
     for (number, code) in [(1, "[10]"), (2, "\"é\"")] {
@@ -70,10 +72,34 @@ fn intent(alloc: Global) -> Result<Intent, AllocError> {
     }
     let mut ensured = Vec::new(alloc);
     ensured.push(own(3))?;
-    Ok(Intent { sets, ensured })
+    let mut commuted = Vec::new(alloc);
+    commuted.push(commuted_ref(alloc)?)?;
+    Ok(Intent {
+        sets,
+        ensured,
+        commuted,
+    })
 }
 
-const COMMIT: &str = "commit set #ref[1] [10] set #ref[2] \"é\" ensured #ref[3]";
+fn commuted_ref(alloc: Global) -> Result<Commuted, AllocError> {
+    let mut commutes = Vec::new(alloc);
+    for (name, code) in [("+", "[5 -6]"), ("conj", "[:a]")] {
+        let Some(function) = CoreFunction::named(name) else {
+            continue;
+        };
+        let mut arguments = Vec::new(alloc);
+        arguments.push(form(alloc, code)?)?;
+        commutes.push(Commute {
+            function,
+            arguments,
+        })?;
+    }
+    let name = own(4);
+    Ok(Commuted { name, commutes })
+}
+
+const COMMIT: &str =
+    "commit set #ref[1] [10] set #ref[2] \"é\" ensured #ref[3] commuted #ref[4] (+ [5 -6]) (conj [:a])";
 
 fn asks_of_transactions(alloc: Global) -> Result<Vec<Asked>, AllocError> {
     let new_ref = Ask::NewRef {

@@ -7,6 +7,8 @@ mod answered;
 #[cfg(test)]
 mod asks;
 #[cfg(test)]
+mod commuting;
+#[cfg(test)]
 mod exchanged;
 #[cfg(test)]
 mod kinds;

@@ -6,9 +6,9 @@ use std::process::Abort;
 use std::test::Fail;
 
 // How many attempts a transaction has, the form, the answers that it is given, and what is told of it.
-type Row = (u32, &'static str, &'static [Told], &'static str);
+pub(crate) type Row = (u32, &'static str, &'static [Told], &'static str);
 
-fn check(rt: &impl Abort, alloc: Global, rows: &[Row]) -> Result<(), Fail> {
+pub(crate) fn check(rt: &impl Abort, alloc: Global, rows: &[Row]) -> Result<(), Fail> {
     for (retries, code, given, told) in rows {
         let expected = format!(in alloc; "{code} => {told}")?;
         let found = asked(alloc, *retries, code, given)?;

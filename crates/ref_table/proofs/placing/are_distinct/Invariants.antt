@@ -1,4 +1,4 @@
-use Rattle.std.proofs.Common.{◌≡◌, map, drop}
+use Rattle.std.proofs.Common.{◌≡◌, drop}
 use Rattle.std.specs.Ordering.{eq_by_cmp}
 use Rattle.std.specs.BTreeSet as set
 use Rattle.ref_history.specs.contracts.ref_id.RefIdOrd.TheImpl as order
@@ -7,8 +7,8 @@ use Rattle.ref_table.proofs.Distinct.{all_new}
 use Rattle.ref_table.proofs.placing.are_distinct.Given as goal
 
 -- what is left is distinct, and nothing of it was seen
-abbrev pub invariant-loop-place : goal.invariant-loop-place
-invariant-loop-place l =
+abbrev pub invariant-loop-id : goal.invariant-loop-id
+invariant-loop-id l =
     all_new (eq_by_cmp (order.ghosts).cmp) (set.contains (order.ghosts).cmp l.seen)
-    (map (λ p. p.id) (drop l.place-index l.placed))
-    ≡ all_distinct (eq_by_cmp (order.ghosts).cmp) (map (λ p. p.id) l.placed)
+    (drop l.id-index l.ids)
+    ≡ all_distinct (eq_by_cmp (order.ghosts).cmp) l.ids

@@ -10,5 +10,5 @@ returns-in_ok-not_a_function-in_default c = record {
   size = omega arith;
   calls = omega arith;
   around = refl;
-  meaning = function_value-other c.args.state.now c.args.room (view c.args.target) (view c.args.function) (forms_view c.args.forms) _ (function_value-of (place_of c.args.state.now) c.args.function c.in_default.not-Symbol) (search rules);
+  meaning = function_value-other c.args.state.now c.args.by c.args.room (view c.args.target) (view c.args.function) (forms_view c.args.forms) _ (function_value-of (place_of c.args.state.now) c.args.function c.in_default.not-Symbol) (search rules);
 }

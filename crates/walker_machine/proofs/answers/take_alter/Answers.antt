@@ -10,5 +10,5 @@ use Rattle.walker_machine.proofs.answers.take_alter.Goals as goal
 pub returns-in_ok-push-in-Function-clause-meaning : goal.returns-in_ok-push-in-Function-clause-meaning
 returns-in_ok-push-in-Function-clause-meaning c =
     let s = c.args.state.now in
-    let start = alter_with-start c.args.room (place_of s) (named_view c.in-Function.function) c.args.target c.push.new.self.items (forms_view c.args.forms) (next_of s) (search rules) in
+    let start = alter_with-start c.args.by c.args.room (place_of s) (named_view c.in-Function.function) c.args.target c.push.new.self.items (forms_view c.args.forms) (next_of s) (search rules) in
     if_ok-turned _ _ (rw c.in-Function.is (ap (λ (part : Kept → Doing). whole s (part (kept_of s))) start)) c.next_argument.ensures.meaning

@@ -4,7 +4,6 @@ use Rattle.value_data.specs.Listed.{listed}
 use Rattle.value_data.specs.View.{view}
 use Rattle.special_forms.proofs.Sizes.{datum_size-pos, forms_size-cons}
 use Rattle.special_forms.specs.Seen.{forms_view}
-use Rattle.special_forms.specs.Size.{forms_size}
 use Rattle.evaluation_rules.specs.Doing.{Part}
 use Rattle.walker_state.specs.Machine.{from_state, list_at, place_of}
 use Rattle.walker_state.specs.Size.{control_size, frames_size}

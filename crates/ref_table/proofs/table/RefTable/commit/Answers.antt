@@ -1,24 +1,79 @@
-use Rattle.std.proofs.Common.{◌≡◌, ◌<◌, length, is_some, map, sym, ap, ◌∙◌, subst, arith}
-use Rattle.std.proofs.lemmas.Grind.{common_steps}
+use Rattle.std.proofs.Common.{◌++◌, Option, true, false, refl, sym, ap, ◌∙◌}
+use Rattle.value_data.specs.Datum.{Datum}
+use Rattle.repl_faults.specs.View.{failure_of}
+use Rattle.repl_asks.specs.Transactions.{RefNameData}
+use Rattle.repl_asks.specs.Exchange.{verdict, conflict}
 use Rattle.repl_asks.specs.View.{intent_view}
-use Rattle.ref_table.specs.Refs.{store_of, after}
-use Rattle.ref_table.specs.Placing.{placed_view, places_of}
-use Rattle.ref_table.specs.Standing.{Stands}
-use Rattle.ref_table.proofs.Committing.{committed-performs, with_sets-some}
+use Rattle.server_rules.specs.Numbered.{found}
+use Rattle.server_rules.specs.Store.{value_of}
+use Rattle.server_rules.specs.Commit.{all_folded}
+use Rattle.ref_table.specs.Refs.{store_of}
+use Rattle.ref_table.specs.Directory.{all_named}
+use Rattle.ref_table.specs.Placing.{places_of}
+use Rattle.ref_table.proofs.Committing.{acceptable, accepted, checked-performs, refused-performs}
+use Rattle.ref_table.proofs.Committing.{unchanged-performs, faulted-performs, committed-performs}
+use Rattle.ref_table.proofs.Committing.{given-first, failed-first, changed-names}
 use Rattle.ref_table.proofs.table.RefTable.commit.Goals as goal
 
-pub returns-in_ok-set_all-clause-committed : goal.returns-in_ok-set_all-clause-committed
-returns-in_ok-set_all-clause-committed g c = λ r points seat s runs.
+pub returns-then-not-branch-clause-committed : goal.returns-then-not-branch-clause-committed
+returns-then-not-branch-clause-committed g c = λ r points seat s runs.
     let stands = g.H.History.stands in
     let intent = intent_view c.args.intent.now in
-    let some : 0 < length intent.sets = grind (arith, common_steps, c.is_empty.ensures) in
-    let placed : map placed_view c.in-Some.placed.items
-    ≡ places_of c.args.self.now.directory c.args.caller intent.sets
-    = rw c.in-Some.is at c.in_ok-placed.ensures.places in
-    committed-performs stands c.set_all.new.self r c.args.caller points seat c.args.point.stamp intent
-    _ runs
-    (ap is_some (sym c.in-Some.is) ∙ c.in_ok-placed.ensures.fit r points s)
-    (sym c.if-is_any_touched_newer.false ∙ c.is_any_touched_newer.ensures r points s)
-    (subst (λ after_sets. Stands stands c.set_all.new.self (after after_sets r))
-    (sym (with_sets-some intent.sets (store_of c.args.caller points r) some))
-    (c.in_ok-set_all.ensures.set r c.args.caller points intent.sets s placed))
+    checked-performs stands c.args.self.now r c.args.caller points seat c.args.point.stamp intent
+    (found seat points) _ false _ runs
+    (sym c.if-not-branch.true ∙ c.in_ok-fits.ensures
+    ∙ acceptable stands c.args.self.now r c.args.caller points intent s) refl
+    (refused-performs stands c.args.self.now r c.args.caller points s)
+
+pub returns-then-is_any_guarded_newer-clause-committed
+    : goal.returns-then-is_any_guarded_newer-clause-committed
+returns-then-is_any_guarded_newer-clause-committed g c = λ r points seat s runs.
+    let stands = g.H.History.stands in
+    let intent = intent_view c.args.intent.now in
+    checked-performs stands c.args.self.now r c.args.caller points seat c.args.point.stamp intent
+    (found seat points) _ true true runs
+    (sym c.if-not-branch.false ∙ c.in_ok-fits.ensures
+    ∙ acceptable stands c.args.self.now r c.args.caller points intent s)
+    (sym c.if-is_any_guarded_newer.true ∙ c.is_any_guarded_newer.ensures r points s)
+    (unchanged-performs stands c.args.self.now r c.args.caller points seat (verdict conflict) s)
+
+pub returns-in_ok-put_all-in-Ok-clause-committed
+    : goal.returns-in_ok-put_all-in-Ok-clause-committed
+returns-in_ok-put_all-in-Ok-clause-committed g c = λ r points seat s runs.
+    let stands = g.H.History.stands in
+    let intent = intent_view c.args.intent.now in
+    let d = c.args.self.now.directory in
+    let value : RefNameData → Option Datum =
+    λ name. value_of name (store_of c.args.caller points r) in
+    let fit = sym c.if-not-branch.false ∙ c.in_ok-fits.ensures in
+    let given = given-first (all_folded value intent.commuted)
+    (λ changes. places_of d c.args.caller (intent.sets ++ changes)) _
+    (c.in-Ok.ensures.placed r points s) in
+    checked-performs stands c.put_all.new.self r c.args.caller points seat c.args.point.stamp
+    intent (found seat points) _ true false runs
+    (fit ∙ acceptable stands c.args.self.now r c.args.caller points intent s)
+    (sym c.if-is_any_guarded_newer.false ∙ c.is_any_guarded_newer.ensures r points s)
+    (committed-performs stands c.put_all.new.self r c.args.caller points seat intent.sets given.0
+    (all_folded value intent.commuted) given.1
+    (c.in_ok-put_all-in-Ok.ensures.put r c.args.caller points (intent.sets ++ given.0) s
+    (ap (all_named d c.args.caller) (changed-names value intent given.0 given.1)
+    ∙ (accepted d c.args.caller intent (sym fit)).named)
+    (sym given.2)))
+
+pub returns-in-Err-Fault-clause-committed : goal.returns-in-Err-Fault-clause-committed
+returns-in-Err-Fault-clause-committed g c = λ r points seat s runs.
+    let stands = g.H.History.stands in
+    let intent = intent_view c.args.intent.now in
+    let value : RefNameData → Option Datum =
+    λ name. value_of name (store_of c.args.caller points r) in
+    let told = rw c.in-Err-Fault.field-0-is at c.in-Err-Fault.ensures.placed in
+    checked-performs stands c.args.self.now r c.args.caller points seat c.args.point.stamp intent
+    (found seat points) _ true false runs
+    (sym c.if-not-branch.false ∙ c.in_ok-fits.ensures
+    ∙ acceptable stands c.args.self.now r c.args.caller points intent s)
+    (sym c.if-is_any_guarded_newer.false ∙ c.is_any_guarded_newer.ensures r points s)
+    (faulted-performs stands c.args.self.now r c.args.caller points seat intent.sets
+    (failure_of c.in-Err-Fault.fault) (all_folded value intent.commuted)
+    (failed-first (all_folded value intent.commuted)
+    (λ changes. places_of c.args.self.now.directory c.args.caller (intent.sets ++ changes))
+    (failure_of c.in-Err-Fault.fault) (told r points s)) s)

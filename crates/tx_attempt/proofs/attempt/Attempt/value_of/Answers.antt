@@ -2,21 +2,21 @@ use Rattle.std.proofs.Common.{rules, ◌<◌, length, ap, ◌∙◌, option_map,
 use Rattle.value_data.specs.View.{view}
 use Rattle.repl_asks.specs.View.{name_view}
 use Rattle.tx_attempt.specs.Seen.{operations_of}
-use Rattle.tx_attempt.proofs.Naming.{value-nowhere, place-below, value-there}
+use Rattle.tx_attempt.proofs.Reading.{value-nowhere, place-below, value-there}
 use Rattle.tx_attempt.proofs.attempt.Attempt.value_of.Goals as goal
 
-pub returns-in_err-place : goal.returns-in_err-place
+pub returns-in_err-latest : goal.returns-in_err-latest
 unfolding operations_of
-returns-in_err-place c =
+returns-in_err-latest c =
     ap (option_map (λ v. view v.now)) c.from_residual.ensures
     ∙ value-nowhere c.args.self.now.latest c.args.self.now.operations.items c.of.result (name_view c.args.name)
-    c.of.ensures c.args.self.now.kept c.in_err-place.ensures.value
+    c.of.ensures c.args.self.now.places c.in_err-latest.ensures.value
 
 pub index-requires : goal.index-requires
 index-requires c =
-    let below : c.in_ok-place.field-0.now < length c.args.self.now.operations.items =
+    let below : c.in_ok-latest.latest.now.place < length c.args.self.now.operations.items =
     place-below c.args.self.now.latest c.args.self.now.operations.items c.of.result (name_view c.args.name)
-    c.in_ok-place.field-0.now c.of.ensures c.args.self.now.kept c.in_ok-place.ensures.value in
+    c.in_ok-latest.latest.now c.of.ensures c.args.self.now.places c.in_ok-latest.ensures.value in
     search (rules, below)
 
 pub returns : goal.returns
@@ -24,5 +24,5 @@ unfolding operations_of
 returns c =
     ap Some c.value.ensures
     ∙ value-there c.args.self.now.latest c.args.self.now.operations.items c.of.result (name_view c.args.name)
-    c.in_ok-place.field-0.now c.index.result.now c.of.ensures c.args.self.now.kept c.in_ok-place.ensures.value
+    c.in_ok-latest.latest.now c.index.result.now c.of.ensures c.args.self.now.places c.in_ok-latest.ensures.value
     c.index.ensures

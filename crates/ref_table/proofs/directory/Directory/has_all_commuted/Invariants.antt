@@ -1,0 +1,8 @@
+use Rattle.std.proofs.Common.{◌≡◌, map, drop}
+use Rattle.repl_asks.specs.View.{name_view}
+use Rattle.ref_table.specs.Directory.{all_named}
+use Rattle.ref_table.proofs.directory.Directory.has_all_commuted.Given as goal
+
+abbrev pub invariant-loop-one : goal.invariant-loop-one
+invariant-loop-one l = all_named l.self l.caller (map (λ c. name_view c.name) l.commuted)
+    ≡ all_named l.self l.caller (map (λ c. name_view c.name) (drop l.one-index l.commuted))

@@ -1,5 +1,0 @@
-use Rattle.repl_core.proofs.Commits.{run-newest}
-use Rattle.repl_core.proofs.laws.newest_is_the_last_committed.Goals as goal
-
-pub returns : goal.returns
-returns c = run-newest

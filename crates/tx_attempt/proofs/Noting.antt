@@ -1,0 +1,124 @@
+-- What is kept of each ref, once an operation was noted.
+use Rattle.std.proofs.Common.{◌≡◌, List, [], ◌∷◌, ◌++◌, length, map, filter_map, Bool, true, false, ◌||◌}
+use Rattle.std.proofs.Common.{Option, Some, None, option_map, cond, is_some, refl, sym, ap, ◌∙◌}
+use Rattle.std.specs.List.{list_any, cons_option}
+use Rattle.std.specs.Option.{option_map_or}
+use Rattle.std.specs.Ordering.{is_eq}
+use Rattle.std.specs.BTreeMap.{BTreeMap, get, Updates}
+use Rattle.std.proofs.lemmas.List.{map_push, length-map}
+use Rattle.std.proofs.lemmas.List.Elements.{filter_map-append}
+use Rattle.std.proofs.lemmas.List.Folds.{list_any-append}
+use Rattle.repl_asks.specs.Transactions.{RefNameData}
+use Rattle.tx_attempt.specs.contracts.key.KeyOrd.TheImpl as order
+use Rattle.tx_attempt.specs.declared.key.Key.{Key}
+use Rattle.tx_attempt.specs.declared.latest.Latest.{Latest}
+use Rattle.tx_attempt.specs.declared.operation.Operation.{Operation}
+use Rattle.tx_attempt.specs.Keys.{key_of}
+use Rattle.tx_attempt.specs.Operations.{OperationData, got, put, commuted, ensured, same_name, named_in, names_ref}
+use Rattle.tx_attempt.specs.Operations.{ref_commuted, is_among, is_commuted}
+use Rattle.tx_attempt.specs.Places.{last_place, KeepsPlaces, KeepsMarks}
+use Rattle.tx_attempt.specs.View.{operation_view}
+use Rattle.tx_attempt.proofs.LastPlaces.{last_place-push}
+use Rattle.tx_attempt.proofs.Names.{keys-tied, same_name-sym, same_name-refl, same_name-true}
+
+or-false : (b : Bool) → (b || false) ≡ b
+or-false true = refl
+or-false false = refl
+
+or-true : (b : Bool) → (b || true) ≡ true
+or-true true = refl
+or-true false = refl
+
+-- what is found of a name behind an operation
+found-now : (old new : BTreeMap Key Latest) (op : OperationData) (k : Key) (latest : Latest) (name : RefNameData)
+    → k ≡ key_of (named_in op) → Updates (order.ghosts).cmp old new k (Some latest)
+    → get (order.ghosts).cmp new (key_of name)
+    ≡ cond (names_ref name op) (Some latest) (get (order.ghosts).cmp old (key_of name))
+found-now old new op k latest name key now =
+    let tied : is_eq ((order.ghosts).cmp k (key_of name)) ≡ names_ref name op =
+    ap (λ (q : Key). is_eq ((order.ghosts).cmp q (key_of name))) key
+    ∙ keys-tied (named_in op) name ∙ same_name-sym (named_in op) name in
+    now.0 (key_of name)
+    ∙ ap (λ b. cond b (Some latest) (get (order.ghosts).cmp old (key_of name))) tied
+
+-- the places
+pub noted-places : (old new : BTreeMap Key Latest) (xs ys : List Operation) (op : Operation) (k : Key) (latest : Latest)
+    → k ≡ key_of (named_in (operation_view op)) → latest.place ≡ length xs → ys ≡ xs ++ op ∷ []
+    → KeepsPlaces (order.ghosts).cmp old xs → Updates (order.ghosts).cmp old new k (Some latest)
+    → KeepsPlaces (order.ghosts).cmp new ys
+noted-places old new xs ys op k latest key is e kept now name =
+    let ov = operation_view op in
+    let test : OperationData → Bool = names_ref name in
+    ap (option_map (λ l. l.place)) (found-now old new ov k latest name key now)
+    ∙ at (test ov) (get (order.ghosts).cmp old (key_of name))
+    ∙ ap (λ o. cond (test ov) (Some latest.place) o) (kept name)
+    ∙ ap (λ m. cond (test ov) (Some m) (last_place test (map operation_view xs)))
+    (is ∙ sym (length-map xs operation_view))
+    ∙ sym (last_place-push test (map operation_view xs) ov)
+    ∙ ap (last_place test) (sym (ap (map operation_view) e ∙ map_push operation_view xs op))
+  where
+    at : (b : Bool) (found : Option Latest) → option_map (λ (l : Latest). l.place) (cond b (Some latest) found)
+        ≡ cond b (Some latest.place) (option_map (λ (l : Latest). l.place) found)
+    at true found = refl
+    at false found = refl
+
+pub is_commuted-push : (name : RefNameData) (ops : List OperationData) (op : OperationData)
+    → is_commuted name (ops ++ op ∷ [])
+    ≡ (is_commuted name ops || option_map_or (same_name name) (ref_commuted op) false)
+unfolding is_commuted
+is_commuted-push name ops op =
+    ap (is_among name) (filter_map-append ref_commuted ops (op ∷ []))
+    ∙ list_any-append (same_name name) (filter_map ref_commuted ops) (filter_map ref_commuted (op ∷ []))
+    ∙ ap (λ b. list_any (same_name name) (filter_map ref_commuted ops) || b) (at (ref_commuted op))
+  where
+    at : (o : Option RefNameData) → list_any (same_name name) (cons_option o []) ≡ option_map_or (same_name name) o false
+    at None = refl
+    at (Some n) = or-false (same_name name n)
+
+-- an operation on another ref commutes none
+unnamed-commute : (name : RefNameData) (op : OperationData) → names_ref name op ≡ false
+    → option_map_or (same_name name) (ref_commuted op) false ≡ false
+unnamed-commute name (got n d) e = refl
+unnamed-commute name (put n d) e = refl
+unnamed-commute name (commuted n c d) e = e
+unnamed-commute name (ensured n d) e = refl
+
+-- and the marks
+pub noted-marks : (old new : BTreeMap Key Latest) (xs ys : List Operation) (op : Operation) (k : Key) (latest : Latest)
+    → k ≡ key_of (named_in (operation_view op))
+    → latest.is_commuted
+    ≡ is_commuted (named_in (operation_view op)) (map operation_view xs ++ operation_view op ∷ [])
+    → ys ≡ xs ++ op ∷ []
+    → KeepsMarks (order.ghosts).cmp old xs → Updates (order.ghosts).cmp old new k (Some latest)
+    → KeepsMarks (order.ghosts).cmp new ys
+noted-marks old new xs ys op k latest key is e kept now name =
+    ap (λ o. option_map_or (λ l. l.is_commuted) o false) (found-now old new ov k latest name key now)
+    ∙ at (names_ref name ov) refl
+    ∙ ap (is_commuted name) (sym (ap (map operation_view) e ∙ map_push operation_view xs op))
+  where
+    ov : OperationData
+    ov = operation_view op
+
+    at : (b : Bool) → names_ref name (operation_view op) ≡ b
+        → option_map_or (λ (l : Latest). l.is_commuted)
+        (cond b (Some latest) (get (order.ghosts).cmp old (key_of name))) false
+        ≡ is_commuted name (map operation_view xs ++ operation_view op ∷ [])
+    at true same =
+        is ∙ ap (λ n. is_commuted n (map operation_view xs ++ operation_view op ∷ []))
+        (sym (same_name-true name (named_in (operation_view op)) same))
+    at false other =
+        kept name ∙ sym (is_commuted-push name (map operation_view xs) (operation_view op)
+        ∙ ap (λ b. is_commuted name (map operation_view xs) || b) (unnamed-commute name (operation_view op) other)
+        ∙ or-false (is_commuted name (map operation_view xs)))
+
+-- the ref of an operation is commuted behind it where the operation commutes it, or one before did
+pub commuted-with : (ops : List OperationData) (op : OperationData)
+    → (is_some (ref_commuted op) || is_commuted (named_in op) ops) ≡ is_commuted (named_in op) (ops ++ op ∷ [])
+commuted-with ops op = at op ∙ sym (is_commuted-push (named_in op) ops op)
+  where
+    at : (op : OperationData) → (is_some (ref_commuted op) || is_commuted (named_in op) ops)
+        ≡ (is_commuted (named_in op) ops || option_map_or (same_name (named_in op)) (ref_commuted op) false)
+    at (got n d) = sym (or-false (is_commuted n ops))
+    at (put n d) = sym (or-false (is_commuted n ops))
+    at (commuted n c d) = sym (ap (λ b. is_commuted n ops || b) (same_name-refl n) ∙ or-true (is_commuted n ops))
+    at (ensured n d) = sym (or-false (is_commuted n ops))

@@ -1,0 +1,17 @@
+-- Operations and errors, as the code takes them apart.
+use Rattle.std.specs.Prelude.{Bool, true, false, Option, Result, Ok, Err}
+use Rattle.repl_asks.specs.Transactions.{RefNameData}
+use Rattle.tx_attempt.specs.Operations.{OperationData, ref_put, ref_commuted, ref_ensured}
+use Rattle.tx_attempt.specs.declared.operation.Deed.{Deed}
+use Rattle.tx_attempt.specs.declared.error.SetError.{SetError}
+
+abbrev pub ref_of : Deed → OperationData → Option RefNameData
+ref_of Deed.Set = ref_put
+ref_of Deed.Commute = ref_commuted
+ref_of Deed.Ensure = ref_ensured
+
+-- whether a ref was not set since it was commuted
+abbrev pub is_refused : Result (Unit {0}) SetError → Bool
+is_refused (Ok done) = false
+is_refused (Err SetError.NoMemory) = false
+is_refused (Err SetError.Commuted) = true

@@ -1,0 +1,164 @@
+// Functions that ask the store: what a call of one leaves to be done, and what becomes of what they are
+// answered.
+#![tactic(auto, using(crate::proofs::Stepping::steps))]
+
+ghost use Rattle.std.specs.Prelude.{◌≡◌, ◌+◌, ◌<◌, ◌≤◌, IfOk};
+ghost use Rattle.value_data.specs.View.{view};
+ghost use Rattle.repl_asks.specs.View.{commute_view, name_view, reading_view};
+ghost use Rattle.special_forms.specs.Seen.{views};
+ghost use Rattle.evaluation_rules.specs.Calls.{commute_noted};
+ghost use Rattle.evaluation_rules.specs.Refs.{ensured_read, held_value, put_value, read_value, store_call};
+ghost use Rattle.walker_state.specs.Machine.{from_state, tree};
+ghost use Rattle.walker_state.specs.Size.{control_size, control_calls, control_around, control_position, wanted_position, frames_size, around, IsLater};
+ghost use Rattle.walker_state.specs.declared.frames.Wanted.{Wanted};
+
+use crate::attempts::retry;
+use crate::frames::{Control, State, Wanted};
+use crate::refs::{ensure, note_commuted, note_ensured, note_read, read};
+use function_names::StoreFunction;
+use repl_asks::{Commute, Reading};
+use repl_faults::{Rule, broken};
+use repl_values::{RefName, Value, copy};
+use std::alloc::{AllocError, Global};
+use store_calls::{Call, may_hold};
+use tx_attempt::SetError;
+
+/// A call of a function that asks the store.
+#[tactic(auto, using(crate::proofs::Stepping::steps), unfolding(evaluation_rules::specs::Refs::store_call))]
+pub fn call_store(
+    alloc: Global,
+    state: &mut State,
+    function: StoreFunction,
+    values: Vec<Value>,
+) -> Result<Control, AllocError>
+    ensures size { IfOk result (λ control. control_size control + frames_size state.new.frames.items
+        < 3 + frames_size state.old.frames.items) }
+    ensures calls { IfOk result (λ control. control_calls control state.new ≤ state.old.calls) }
+    ensures around { IfOk result (λ control. control_around control state.new ≡ around state.old.transaction) }
+    ensures meaning { IfOk result (λ control. tree control state.new
+        ≡ from_state (store_call function (views values.items)) state.old) }
+{
+    let in_transaction = state.transaction.is_some();
+    match store_calls::call(alloc, function, in_transaction, values)? {
+        Call::Refused(fault) => Ok(Control::Fault(fault)),
+        Call::Reads(name) => read(state, name),
+        Call::Puts(name, value) => put(alloc, state, name, value),
+        Call::Ensures(name) => ensure(state, name),
+        Call::AsksValue(ask) => Ok(Control::Ask(ask, Wanted::Value)),
+    }
+}
+
+// A ref is set, if an attempt runs, and the value given. One that was commuted is set no more.
+fn put(alloc: Global, state: &mut State, name: RefName, value: Value) -> Result<Control, AllocError>
+    ensures size { IfOk result (λ control. control_size control + frames_size state.new.frames.items
+        < 2 + frames_size state.old.frames.items) }
+    ensures calls { IfOk result (λ control. control_calls control state.new ≤ state.old.calls) }
+    ensures around { IfOk result (λ control. control_around control state.new ≡ around state.old.transaction) }
+    ensures meaning { IfOk result (λ control. tree control state.new
+        ≡ from_state (put_value (name_view name) (view value)) state.old) }
+{
+    match state.transaction.take() {
+        None => Ok(Control::Return(value)),
+        Some(mut transaction) => {
+            let outcome = transaction.attempt.set(name, copy(&value)?);
+            state.transaction = Some(transaction);
+            match outcome {
+                Ok(()) => Ok(Control::Return(value)),
+                Err(SetError::Commuted) => {
+                    Ok(Control::Fault(broken(alloc, Rule::NoSetAfterCommute)?))
+                }
+                Err(SetError::NoMemory) => Err(AllocError),
+            }
+        }
+    }
+}
+
+/// What a function gave goes into a ref, if the ref may hold it.
+#[tactic(auto, using(crate::proofs::Stepping::steps), unfolding(evaluation_rules::specs::Refs::held_value))]
+pub fn hold(
+    alloc: Global,
+    state: &mut State,
+    name: RefName,
+    value: Value,
+) -> Result<Control, AllocError>
+    ensures size { IfOk result (λ control. control_size control + frames_size state.new.frames.items
+        < 2 + frames_size state.old.frames.items) }
+    ensures calls { IfOk result (λ control. control_calls control state.new ≤ state.old.calls) }
+    ensures around { IfOk result (λ control. control_around control state.new ≡ around state.old.transaction) }
+    ensures meaning { IfOk result (λ control. tree control state.new
+        ≡ from_state (held_value (name_view name) (view value)) state.old) }
+{
+    if !may_hold(name, &value) {
+        return Ok(Control::Fault(broken(alloc, Rule::SharedRefsArePlain)?));
+    }
+    put(alloc, state, name, value)
+}
+
+/// What a function gave that was applied to the value of a ref: it is noted, and is to be made again at
+/// the commit, if the ref may hold it.
+pub fn commute(
+    alloc: Global,
+    state: &mut State,
+    name: RefName,
+    commute: Commute,
+    value: Value,
+) -> Result<Control, AllocError>
+    ensures size { IfOk result (λ control. control_size control + frames_size state.new.frames.items
+        < 2 + frames_size state.old.frames.items) }
+    ensures calls { IfOk result (λ control. control_calls control state.new ≤ state.old.calls) }
+    ensures around { IfOk result (λ control. control_around control state.new ≡ around state.old.transaction) }
+    ensures meaning { IfOk result (λ control. tree control state.new
+        ≡ from_state (commute_noted (name_view name) (commute_view commute) (view value)) state.old) }
+{
+    if !may_hold(name, &value) {
+        return Ok(Control::Fault(broken(alloc, Rule::SharedRefsArePlain)?));
+    }
+    note_commuted(state, name, commute, &value)?;
+    Ok(Control::Return(value))
+}
+
+/// The value of a ref, which the attempt notes. One that is kept no longer ends the attempt.
+pub fn take_reading(
+    alloc: Global,
+    state: &mut State,
+    name: RefName,
+    reading: Reading,
+) -> Result<Control, AllocError>
+    ensures later { IfOk result (λ control. IsLater (control_position control state.new)
+        (wanted_position (Wanted.Reading name) state.old)) }
+    ensures meaning { IfOk result (λ control. tree control state.new
+        ≡ from_state (read_value (name_view name) (reading_view reading)) state.old) }
+{
+    match reading {
+        Reading::Found(value) => {
+            note_read(state, name, &value)?;
+            Ok(Control::Return(value))
+        }
+        Reading::Retry => retry(alloc, state),
+    }
+}
+
+/// The same, of a ref that nobody else is to change.
+pub fn take_ensured(
+    alloc: Global,
+    state: &mut State,
+    name: RefName,
+    reading: Reading,
+) -> Result<Control, AllocError>
+    ensures later { IfOk result (λ control. IsLater (control_position control state.new)
+        (wanted_position (Wanted.Ensuring name) state.old)) }
+    ensures meaning { IfOk result (λ control. tree control state.new
+        ≡ from_state (ensured_read (name_view name) (reading_view reading)) state.old) }
+{
+    match reading {
+        Reading::Retry => {
+            // As for a read: the body begins anew.
+            retry(alloc, state)
+        }
+        Reading::Found(found) => {
+            note_read(state, name, &found)?;
+            note_ensured(state, name, &found)?;
+            Ok(Control::Return(found))
+        }
+    }
+}
