@@ -6,7 +6,7 @@ use Rattle.bencode_wire.specs.Tree.{Tree}
 use Rattle.bencode_wire.specs.View.{view}
 use Rattle.bencode_wire.specs.State.{Earlier}
 use Rattle.bencode_wire.specs.Stream.{IsRest}
-use Rattle.bencode_wire.specs.Decoder.{ready_of, rest_of, place_of, fault_of, Stands}
+use Rattle.bencode_wire.specs.Decoder.{ready_of, rest_of, rest_place, fault_of, Stands}
 use Rattle.bencode_wire.specs.Return.{earlier_of, as_it_was, CanReturn}
 use Rattle.bencode_wire.specs.declared.ben.Ben.{Ben}
 use Rattle.bencode_wire.specs.declared.cut.Reader.{Reader}
@@ -18,7 +18,7 @@ pub record IsEarlier (old : Decoder) (e : Earlier) : Type 0 where
   pub ready : ready_of old ≡ []
   pub fault : fault_of old ≡ None
   pub rest : e.rest ≡ rest_of old
-  pub place : e.place ≡ place_of old
+  pub place : e.place ≡ rest_place old
 
 pub can_return : (limit : ℕ) (all : List ℕ) (taken : List Tree) (old new : Decoder) (e : Earlier) → Stands limit old all taken
     → IsEarlier old e → new.limit ≡ old.limit → earlier_of new ≡ Some e → CanReturn limit new all taken

@@ -46,7 +46,7 @@ pub(crate) fn resume(
     reader: Option<Reader>,
 ) -> Option<Reader>
     ensures { (c : Cut) → MatchOption reader (Unit {0}) (Holds kept.now) → IsRest limit kept.now
-        → machine.reading limit put_pair 0 machine.start 0 kept.now ≡ machine.ended (machine.rests (length kept.now) c)
+        → machine.stream_reading limit put_pair 0 machine.start 0 kept.now ≡ machine.ended_reading (machine.rests (length kept.now) c)
         → IfSome result (λ r. cut_view r ≡ c) }
 {
     if let Some(reader) = reader {
@@ -112,7 +112,7 @@ fn advance(
 // Reads a run, whose length `run_len` gave.
 fn read_run(alloc: Global, limit: usize, reader: Reader, run: &[u8]) -> Result<Progress, Refusal>
     requires { 0 < length run.now }
-    ensures { Gives (machine.checked limit (machine.judged (machine.step_run put_pair (frames_view reader.frames.items) (token_view reader.token) run.now))) result }
+    ensures { Gives (machine.within_limit limit (machine.judged (machine.step_run put_pair (frames_view reader.frames.items) (token_view reader.token) run.now))) result }
 {
     match reader.step(alloc, run) {
         Ok(Progress::Partial(next)) => within_limit(limit, next),
@@ -123,7 +123,7 @@ fn read_run(alloc: Global, limit: usize, reader: Reader, run: &[u8]) -> Result<P
 
 // The digits of a string's length are not above the limit.
 fn within_limit(limit: usize, reader: Reader) -> Result<Progress, Refusal>
-    ensures { Gives (machine.checked limit (machine.reads (cut_view reader))) result }
+    ensures { Gives (machine.within_limit limit (machine.reads (cut_view reader))) result }
 {
     if is_large(limit, &reader.token) {
         Err(Refusal::TooLong)

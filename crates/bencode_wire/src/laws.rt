@@ -2,7 +2,7 @@
 ghost use Rattle.std.specs.Prelude.{◌≡◌, ℕ, ◌+◌, ◌≤◌, List, ◌∷◌, ◌++◌, length};
 ghost use Rattle.bencode_wire.specs.Tree.{Tree, Pairs, dictionary};
 ghost use Rattle.bencode_wire.specs.Spelling.{text, canonical, sorted, Spells, IsSpellable, IsDistinct};
-ghost use Rattle.bencode_wire.specs.Stream.{Ending, Streams};
+ghost use Rattle.bencode_wire.specs.Stream.{StreamEnding, Streams};
 ghost use Rattle.bencode_wire.specs.Nesting.{nesting};
 
 /// No spelling of a value is a proper prefix of a spelling of any value: where two begin the same
@@ -31,19 +31,19 @@ pub fn a_text_has_one_value()
 /// A stream has one reading: its messages, how it ends, and a fault's kind and place are known. So
 /// the cutting into pieces does not matter.
 pub fn a_stream_has_one_reading()
-    ensures { (limit : ℕ) (bytes : List ℕ) (ms ns : List Tree) (e f : Ending)
+    ensures { (limit : ℕ) (bytes : List ℕ) (ms ns : List Tree) (e f : StreamEnding)
         → Streams limit 0 bytes ms e → Streams limit 0 bytes ns f → (ms ≡ ns) × (e ≡ f) }
 {}
 
 /// Each stream has a reading.
 pub fn every_stream_reads()
-    ensures { (limit : ℕ) (bytes : List ℕ) → (ms : List Tree) × (end : Ending) × Streams limit 0 bytes ms end }
+    ensures { (limit : ℕ) (bytes : List ℕ) → (ms : List Tree) × (end : StreamEnding) × Streams limit 0 bytes ms end }
 {}
 
 /// What is spelled within the limits is read, whatever follows: each spelling of a dictionary is read
 /// as the dictionary, and the stream goes on behind it.
 pub fn a_spelling_is_read()
-    ensures { (limit place : ℕ) (ps : Pairs) (bytes more : List ℕ) (ts : List Tree) (end : Ending)
+    ensures { (limit place : ℕ) (ps : Pairs) (bytes more : List ℕ) (ts : List Tree) (end : StreamEnding)
         → Spells (dictionary ps) bytes → nesting (dictionary ps) ≤ 64 → length bytes ≤ limit
         → Streams limit (place + length bytes) more ts end
         → Streams limit place (bytes ++ more) (sorted (dictionary ps) ∷ ts) end }
@@ -52,7 +52,7 @@ pub fn a_spelling_is_read()
 /// What `write_into` wrote is read again, whatever follows, within the limits: of every dictionary
 /// whose integers and strings fit, as those of each `Ben` do (`write_into` says so).
 pub fn what_is_written_is_read()
-    ensures { (limit place : ℕ) (ps : Pairs) (more : List ℕ) (ts : List Tree) (end : Ending)
+    ensures { (limit place : ℕ) (ps : Pairs) (more : List ℕ) (ts : List Tree) (end : StreamEnding)
         → IsSpellable (dictionary ps) → nesting (dictionary ps) ≤ 64 → length (canonical (dictionary ps)) ≤ limit
         → Streams limit (place + length (canonical (dictionary ps))) more ts end
         → Streams limit place (canonical (dictionary ps) ++ more) (sorted (dictionary ps) ∷ ts) end }

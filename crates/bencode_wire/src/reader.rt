@@ -88,7 +88,7 @@ fn pop(mut frames: Vec<Frame>) -> (Vec<Frame>, Option<Frame>)
 }
 
 fn wanted_in(frames: &[Frame]) -> Wanted
-    ensures { result ≡ machine.wanted_in (frames_view frames.now) }
+    ensures { result ≡ machine.expected_in (frames_view frames.now) }
 {
     match frames.last() {
         None => Wanted::Message,
@@ -345,7 +345,7 @@ fn longer(value: u64, digit: u8, greatest: u64) -> Option<u64>
 // The integer of these digits.
 fn signed(is_negative: bool, value: u64) -> i64
     requires { value ≤ cuts.greatest is_negative }
-    ensures { result ≡ machine.signed is_negative value }
+    ensures { result ≡ machine.integer_with_sign is_negative value }
 {
     if is_negative {
         -(value.saturating_sub(1) as i64) - 1

@@ -3,7 +3,7 @@
 
 ghost use Rattle.std.specs.Prelude.{◌≡◌, ◌<◌, ◌≤◌, length, IfOk};
 ghost use Rattle.chunked_list.specs.Joined.{joined};
-ghost use Rattle.chunked_list.specs.Stands.{Stands};
+ghost use Rattle.chunked_list.specs.Stands.{IsSpotOf};
 
 use std::alloc::{AllocError, Global};
 
@@ -21,7 +21,7 @@ pub(crate) struct Spot {
 pub(crate) fn found(chunks: &[Vec<usize>], place: usize) -> Spot
     requires some { 1 ≤ length chunks.now }
     requires within { place ≤ length (joined chunks.now) }
-    ensures { Stands result place chunks.now }
+    ensures { IsSpotOf result place chunks.now }
 {
     let mut left = place;
     for (number, chunk) in chunks.iter().enumerate() {
@@ -43,7 +43,7 @@ pub(crate) fn with_room(
     place: usize,
 ) -> Result<Spot, AllocError>
     requires { place ≤ length (joined chunks.old.items) }
-    ensures found { IfOk result (λ spot. Stands spot place chunks.new.items) }
+    ensures found { IfOk result (λ spot. IsSpotOf spot place chunks.new.items) }
     ensures stays { joined chunks.new.items ≡ joined chunks.old.items }
 {
     if chunks.is_empty() {

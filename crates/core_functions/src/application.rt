@@ -2,9 +2,9 @@
 ghost use Rattle.std.specs.Prelude.{◌≡◌, true, length, map, option_map, string_bytes};
 ghost use Rattle.value_data.specs.View.{view};
 ghost use Rattle.function_names.specs.Names.{fits};
-ghost use Rattle.core_functions.specs.Outcome.{limited, bounded, printing};
+ghost use Rattle.core_functions.specs.Outcome.{limited_outcome, bounded_outcome, printed_nil};
 ghost use Rattle.core_functions.specs.Meaning.{meaning};
-ghost use Rattle.core_functions.specs.View.{Answers};
+ghost use Rattle.core_functions.specs.View.{GivesOutcome};
 
 use core_integers::apply_integers;
 use core_maps::apply_maps;
@@ -31,10 +31,10 @@ const MOST_NESTING: u64 = 128;
 /// Applies the function. All arguments' kinds are checked from the left before anything else, and
 /// the size of the value last. A function that prints gives nil, and fails where it alone prints more
 /// than 1,048,576 bytes.
-#[tactic(auto, using(crate::proofs::Outcomes::outcomes), unfolding(crate::specs::Outcome::settled))]
+#[tactic(auto, using(crate::proofs::Outcomes::outcomes), unfolding(crate::specs::Outcome::apply_outcome))]
 pub fn apply(alloc: Global, function: CoreFunction, args: &[Value]) -> Result<Applied, ApplyError>
     requires { fits function (length args.now) ≡ true }
-    ensures { Answers (bounded (meaning function (map view args.now))) result }
+    ensures { GivesOutcome (bounded_outcome (meaning function (map view args.now))) result }
 {
     match function {
         CoreFunction::Integer(function) => {
@@ -67,7 +67,7 @@ pub fn apply(alloc: Global, function: CoreFunction, args: &[Value]) -> Result<Ap
 // Nil, with this text printed, where there is one.
 #[tactic(auto, using(value_data::proofs::Views::value_views))]
 fn printing(alloc: Global, text: Option<String>) -> Result<Applied, ApplyError>
-    ensures { Answers (printing (option_map string_bytes text)) result }
+    ensures { GivesOutcome (printed_nil (option_map string_bytes text)) result }
 {
     match text {
         Some(text) => Ok(Applied {
@@ -79,9 +79,9 @@ fn printing(alloc: Global, text: Option<String>) -> Result<Applied, ApplyError>
 }
 
 // The value with nothing printed, where it keeps within the limits.
-#[tactic(auto, unfolding(crate::specs::Outcome::limited))]
+#[tactic(auto, unfolding(crate::specs::Outcome::limited_outcome))]
 fn limited(alloc: Global, value: Value) -> Result<Applied, ApplyError>
-    ensures { Answers (limited (view value)) result }
+    ensures { GivesOutcome (limited_outcome (view value)) result }
 {
     if weight(&value) > MOST_WEIGHT || nesting(&value) > MOST_NESTING {
         return Err(ApplyError::Fault(too_large(alloc)?));

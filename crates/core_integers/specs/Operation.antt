@@ -4,9 +4,9 @@ use Rattle.repl_faults.specs.Failure.{Failure}
 use Rattle.core_integers.specs.Arithmetic.{add, subtract, multiply, maximum, minimum}
 use Rattle.core_integers.specs.declared.arithmetic.Operation.{Operation}
 
-abbrev pub operation_of : Operation → ℤ → ℤ → Result ℤ Failure
-operation_of Operation.Add = add
-operation_of Operation.Subtract = subtract
-operation_of Operation.Multiply = multiply
-operation_of Operation.Maximum = maximum
-operation_of Operation.Minimum = minimum
+abbrev pub binary_operation : Operation → ℤ → ℤ → Result ℤ Failure
+binary_operation Operation.Add = add
+binary_operation Operation.Subtract = subtract
+binary_operation Operation.Multiply = multiply
+binary_operation Operation.Maximum = maximum
+binary_operation Operation.Minimum = minimum

@@ -4,7 +4,7 @@ ghost use Rattle.std.specs.Int.{w64, IsNonZero};
 ghost use Rattle.core_integers.specs.Names.{fits_arithmetic};
 ghost use Rattle.repl_faults.specs.View.{Gives};
 ghost use Rattle.core_integers.specs.Arithmetic as meant;
-ghost use Rattle.core_integers.specs.Operation.{operation_of};
+ghost use Rattle.core_integers.specs.Operation.{binary_operation};
 
 use crate::function::ArithmeticFunction;
 use repl_faults::{ApplyError, divide_by_zero, integer_overflow};
@@ -58,7 +58,7 @@ fn difference(alloc: Global, integers: &[i64]) -> Result<i64, ApplyError>
 
 fn fold_from_first(alloc: Global, operation: Operation, integers: &[i64]) -> Result<i64, ApplyError>
     requires { 0 < length integers.now }
-    ensures { Gives (λ n. n) result (meant.from_first (operation_of operation) integers.now) }
+    ensures { Gives (λ n. n) result (meant.from_first (binary_operation operation) integers.now) }
 {
     fold(alloc, operation, integers[0], &integers[1..])
 }
@@ -69,7 +69,7 @@ fn fold(
     start: i64,
     integers: &[i64],
 ) -> Result<i64, ApplyError>
-    ensures { Gives (λ n. n) result (meant.folded (operation_of operation) start integers.now) }
+    ensures { Gives (λ n. n) result (meant.left_fold (binary_operation operation) start integers.now) }
 {
     let mut total = start;
     for n in integers {
@@ -79,7 +79,7 @@ fn fold(
 }
 
 fn operate(alloc: Global, operation: Operation, left: i64, right: i64) -> Result<i64, ApplyError>
-    ensures { Gives (λ n. n) result (operation_of operation left right) }
+    ensures { Gives (λ n. n) result (binary_operation operation left right) }
 {
     match operation {
         Operation::Add => or_overflow(alloc, left.checked_add(right)),
@@ -143,7 +143,7 @@ fn with_sign_of(divisor: i64, rest: i64) -> i64
 
 // What a checked operation gave, or the fault where it gave nothing.
 fn or_overflow(alloc: Global, checked: Option<i64>) -> Result<i64, ApplyError>
-    ensures { (n : ℤ) → SomeIff checked (FitsSigned w64 n) n → Gives (λ n. n) result (meant.held n) }
+    ensures { (n : ℤ) → SomeIff checked (FitsSigned w64 n) n → Gives (λ n. n) result (meant.or_overflow n) }
 {
     match checked {
         Some(n) => Ok(n),

@@ -6,7 +6,7 @@ ghost use Rattle.value_data.specs.View.{view};
 ghost use Rattle.repl_faults.specs.View.{Gives};
 ghost use Rattle.value_data.specs.Seen.{entry_view};
 ghost use Rattle.core_maps.specs.Arguments as meant;
-ghost use Rattle.core_maps.specs.View.{place_view};
+ghost use Rattle.core_maps.specs.View.{indexed_view};
 
 use core_items::integer_of;
 use repl_faults::ApplyError;
@@ -42,7 +42,7 @@ pub(crate) fn places_of<'a>(
     function: &str,
     pairs: &[(&'a Value, &'a Value)],
 ) -> Result<Vec<(i64, &'a Value)>, ApplyError>
-    ensures { Gives (λ places. map place_view places.items) result (meant.places_in function.now (map entry_view pairs.now)) }
+    ensures { Gives (λ places. map indexed_view places.items) result (meant.places_in function.now (map entry_view pairs.now)) }
 {
     let mut places = Vec::new(alloc);
     for (index, value) in pairs {

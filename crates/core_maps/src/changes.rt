@@ -5,7 +5,7 @@ ghost use Rattle.std.specs.Prelude.{◌≡◌, ◌≤◌, ◌+◌, ◌∷◌, �
 ghost use Rattle.value_data.specs.View.{view};
 ghost use Rattle.repl_faults.specs.View.{Gives};
 ghost use Rattle.value_data.specs.Seen.{entry_view};
-ghost use Rattle.core_maps.specs.View.{place_view};
+ghost use Rattle.core_maps.specs.View.{indexed_view};
 ghost use Rattle.core_maps.specs.Meaning as meant;
 
 use crate::arguments::places_of;
@@ -58,7 +58,7 @@ fn with_items(
     items: &[Value],
     places: &[(i64, &Value)],
 ) -> Result<Vec<Value>, ApplyError>
-    ensures { Gives (λ all. map view all.items) result (meant.with_items (map place_view places.now) (map view items.now)) }
+    ensures { Gives (λ all. map view all.items) result (meant.with_items (map indexed_view places.now) (map view items.now)) }
 {
     let mut all = copy_items(alloc, items)?;
     for (index, value) in places {

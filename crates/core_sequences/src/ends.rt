@@ -62,9 +62,9 @@ fn behind_first(alloc: Global, function: &str, argument: &Value) -> Result<Seque
     }
 }
 
-#[tactic(auto, using(crate::proofs::Values::seen), unfolding(crate::specs::Meaning::reversed))]
+#[tactic(auto, using(crate::proofs::Values::seen), unfolding(crate::specs::Meaning::reversed_list))]
 pub(crate) fn reversed(alloc: Global, argument: &Value) -> Result<Value, ApplyError>
-    ensures { Gives view result (meant.reversed (view argument.now)) }
+    ensures { Gives view result (meant.reversed_list (view argument.now)) }
 {
     let row = ItemRow::of(alloc, SequenceFunction::Reverse.name(), argument)?;
     let mut items = row.copies(alloc)?;

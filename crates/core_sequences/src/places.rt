@@ -28,9 +28,9 @@ pub(crate) fn is_empty(alloc: Global, argument: &Value) -> Result<Value, ApplyEr
     Ok(Value::Bool(count == 0))
 }
 
-#[tactic(auto, using(crate::proofs::Values::seen), unfolding(crate::specs::Meaning::counted))]
+#[tactic(auto, using(crate::proofs::Values::seen), unfolding(crate::specs::Meaning::length_in))]
 fn counted(alloc: Global, function: &str, argument: &Value) -> Result<usize, ApplyError>
-    ensures count { Gives (λ n. n) result (meant.counted function.now (view argument.now)) }
+    ensures count { Gives (λ n. n) result (meant.length_in function.now (view argument.now)) }
     ensures bound { IfOk result (λ n. n < 2 ^ 63) }
 {
     match argument {

@@ -36,9 +36,9 @@ pub fn apply_texts(
     }
 }
 
-#[tactic(auto, using(crate::proofs::Shortness::short_steps), unfolding(crate::specs::Meaning::name_of))]
+#[tactic(auto, using(crate::proofs::Shortness::short_steps), unfolding(crate::specs::Meaning::name_value))]
 fn name_of(alloc: Global, value: &Value) -> Result<Value, ApplyError>
-    ensures { Gives view result (within_weight (meant.name_of (view value.now))) }
+    ensures { Gives view result (within_weight (meant.name_value (view value.now))) }
 {
     let name = name_in(alloc, value)?;
     string_of(alloc, name)
@@ -67,7 +67,7 @@ fn string_of(alloc: Global, text: ArcStr) -> Result<Value, ApplyError>
 
 #[tactic(auto, using(crate::proofs::Shortness::short_steps))]
 fn all_shown(alloc: Global, values: &[Value]) -> Result<Option<String>, AllocError>
-    ensures { IfOk result (λ text. option_map string_bytes text ≡ if_short (flat_map meant.shown (map view values.now))) }
+    ensures { IfOk result (λ text. option_map string_bytes text ≡ if_short (flat_map meant.shown_text (map view values.now))) }
 {
     let mut text = String::new(alloc);
     for value in values {
@@ -83,7 +83,7 @@ fn all_shown(alloc: Global, values: &[Value]) -> Result<Option<String>, AllocErr
 /// `out` is as it was.
 #[tactic(auto, using(value_data::proofs::Views::value_views))]
 pub fn show_into(alloc: Global, value: &Value, out: &mut String) -> Result<(), AllocError>
-    ensures ok { OnOk result (string_bytes out.new ≡ string_bytes out.old ++ meant.shown (view value.now)) }
+    ensures ok { OnOk result (string_bytes out.new ≡ string_bytes out.old ++ meant.shown_text (view value.now)) }
     ensures err { OnErr result (string_bytes out.new ≡ string_bytes out.old) }
 {
     match value {

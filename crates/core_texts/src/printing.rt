@@ -29,7 +29,7 @@ pub fn printed(
     function: PrintFunction,
     args: &[Value],
 ) -> Result<Option<String>, AllocError>
-    ensures { IfOk result (λ text. option_map string_bytes text ≡ if_short (meant.printed function (map view args.now))) }
+    ensures { IfOk result (λ text. option_map string_bytes text ≡ if_short (meant.text_printed function (map view args.now))) }
 {
     match function {
         PrintFunction::Print => spaced(alloc, Spelling::Display, args),
@@ -40,7 +40,7 @@ pub fn printed(
 }
 
 fn line(alloc: Global, spelling: Spelling, values: &[Value]) -> Result<Option<String>, AllocError>
-    ensures { IfOk result (λ text. option_map string_bytes text ≡ if_short (meant.spaced (spelling_of spelling) (map view values.now) ++ meant.newline)) }
+    ensures { IfOk result (λ text. option_map string_bytes text ≡ if_short (meant.spaced_text (spelling_of spelling) (map view values.now) ++ meant.newline)) }
 {
     let Some(mut text) = spaced(alloc, spelling, values)? else {
         return Ok(None);
@@ -65,7 +65,7 @@ pub(crate) fn spaced(
     spelling: Spelling,
     values: &[Value],
 ) -> Result<Option<String>, AllocError>
-    ensures { IfOk result (λ text. option_map string_bytes text ≡ if_short (meant.spaced (spelling_of spelling) (map view values.now))) }
+    ensures { IfOk result (λ text. option_map string_bytes text ≡ if_short (meant.spaced_text (spelling_of spelling) (map view values.now))) }
 {
     let mut text = String::new(alloc);
     let Some((first, rest)) = values.split_first() else {

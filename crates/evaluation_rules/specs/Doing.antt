@@ -4,7 +4,7 @@ use Rattle.std.specs.Prelude.{ℕ, List, Bool}
 use Rattle.value_data.specs.Datum.{Datum}
 use Rattle.repl_faults.specs.Failure.{Failure}
 use Rattle.repl_asks.specs.Exchange.{AskData, AnswerData, ResolutionData, resolution_in}
-use Rattle.tx_attempt.specs.Operations.{OperationData}
+use Rattle.tx_attempt.specs.Operations.{AccessData}
 
 -- What an evaluation carries from form to form: the calls that it may still make, its namespace, whether a transaction
 -- runs, and how many attempts a transaction may make.
@@ -26,9 +26,9 @@ pub data Doing : Type 0 where
   asking : AskData → (AnswerData → Doing) → Doing
   printing : List ℕ → Kept → Doing → Doing
   -- at the operations of the attempt so far
-  looking : (List OperationData → Doing) → Doing
+  looking : (List AccessData → Doing) → Doing
   -- one more operation of the attempt
-  noting : OperationData → Doing → Doing
+  noting : AccessData → Doing → Doing
 
 -- a part of an evaluation, which gives an A: by what is done with it, and from there, the whole
 abbrev pub Part : Type 0 → Type 0
@@ -39,8 +39,8 @@ infixl 10 ◌>>=◌
 abbrev pub ◌>>=◌ : {A B : Type 0} → Part A → (A → Part B) → Part B
 ◌>>=◌ part behind next kept = part (λ a. behind a next) kept
 
-abbrev pub done : {A : Type 0} → A → Part A
-done a next kept = next a kept
+abbrev pub pure_part : {A : Type 0} → A → Part A
+pure_part a next kept = next a kept
 
 abbrev pub fails : {A : Type 0} → Failure → Part A
 fails f next kept = left (failed f) kept

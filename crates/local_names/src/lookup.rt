@@ -6,8 +6,8 @@ ghost use Rattle.std.specs.VecDeque.{deque_len};
 ghost use Rattle.std.specs.BTreeMap.{get, Updates};
 ghost use Rattle.std.specs.Arc.{arc_str_bytes};
 ghost use Rattle.value_data.specs.View.{view};
-ghost use Rattle.local_names.specs.Locals.{LocalData, value_of};
-ghost use Rattle.local_names.specs.View.{by_bytes, local_view, place_of};
+ghost use Rattle.local_names.specs.Locals.{LocalData, local_value};
+ghost use Rattle.local_names.specs.View.{by_bytes, local_view, newest_place};
 
 use crate::local::Local;
 use crate::locals::Locals;
@@ -55,7 +55,7 @@ impl Locals {
 
     /// The value that the name is bound to. It takes about the logarithm of the number of names.
     pub fn value(&self, name: &ArcStr) -> Option<&Value>
-        ensures { option_map (λ v. view v.now) result ≡ value_of self.now (arc_str_bytes name.now) }
+        ensures { option_map (λ v. view v.now) result ≡ local_value self.now (arc_str_bytes name.now) }
     {
         match self.index.get(name) {
             Some(place) => Some(value_at(&self.locals, *place)),
@@ -67,7 +67,7 @@ impl Locals {
 // The value of the local at the place, counted from the oldest.
 fn value_at(locals: &VecDeque<Local>, place: usize) -> &Value
     requires { place < deque_len locals.now }
-    ensures { (s : List ℕ) → place_of (map local_view locals.now.items) s ≡ Some place → value_of (map local_view locals.now.items) s ≡ Some (view result.now) }
+    ensures { (s : List ℕ) → newest_place (map local_view locals.now.items) s ≡ Some place → local_value (map local_view locals.now.items) s ≡ Some (view result.now) }
 {
     &locals[locals.len() - 1 - place].value
 }

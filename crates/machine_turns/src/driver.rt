@@ -2,7 +2,7 @@
 ghost use Rattle.std.specs.Prelude.{◌≡◌, ◌≢◌, [], IfOk, IfErr, OnOk};
 ghost use Rattle.server_rules.specs.Ground.{Ground};
 ghost use Rattle.server_rules.specs.Turns.{given, goes, bytes_in};
-ghost use Rattle.server_rules.specs.World.{World, opening};
+ghost use Rattle.server_rules.specs.World.{World, new_world};
 ghost use Rattle.repl_core.specs.Going.{StepKeepsForms};
 ghost use Rattle.repl_core.specs.Steps.{step_view, step_answer_view};
 ghost use Rattle.machine_turns.specs.Configured.{IsConfigured};
@@ -26,7 +26,7 @@ impl Driver {
     ghost use Rattle.machine_turns.specs.Driver.{Stands, Turned, Halted};
 
     pub(crate) fn new(alloc: Global, config: Config) -> Driver
-        ensures { (g : Ground) → IsConfigured g config → Stands g result (opening []) }
+        ensures { (g : Ground) → IsConfigured g config → Stands g result (new_world []) }
     {
         Driver {
             alloc,

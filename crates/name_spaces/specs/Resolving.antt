@@ -26,17 +26,17 @@ abbrev pub bound_resolution : BindingData → ResolutionData
 bound_resolution (bound_value d) = names_value d
 bound_resolution (bound_function f) = names_function (program_function f)
 
-abbrev pub store_resolution : List ℕ → Option StoreFunction → ResolutionData
-store_resolution symbol (Some f) = names_function (store_function f)
-store_resolution symbol None = names_nothing (failures.unresolved symbol)
+abbrev pub resolution_outside_core : List ℕ → Option StoreFunction → ResolutionData
+resolution_outside_core symbol (Some f) = names_function (store_function f)
+resolution_outside_core symbol None = names_nothing (failures.unresolved_symbol symbol)
 
-abbrev pub core_resolution : List ℕ → Option CoreFunction → ResolutionData
-core_resolution symbol (Some f) = names_function (core_function f)
-core_resolution symbol None = store_resolution symbol (store_function_named symbol)
+abbrev pub unbound_resolution : List ℕ → Option CoreFunction → ResolutionData
+unbound_resolution symbol (Some f) = names_function (core_function f)
+unbound_resolution symbol None = resolution_outside_core symbol (store_function_named symbol)
 
 abbrev pub unbound_symbol : List ℕ → Option Latest → FoundData
 unbound_symbol symbol (Some latest) = found_latest latest
-unbound_symbol symbol None = found_resolution (core_resolution symbol (function_named symbol))
+unbound_symbol symbol None = found_resolution (unbound_resolution symbol (function_named symbol))
 
 -- A symbol without a slash: what it is bound to, else the latest result of that name, else the core
 -- function, else the function that asks the store, else nothing.

@@ -7,9 +7,9 @@ ghost use Rattle.repl_asks.specs.View.{binding_view, named_view, resolution_view
 ghost use Rattle.name_spaces.specs.Bindings.{nothing_bound};
 ghost use Rattle.name_spaces.specs.Latest.{latest_named};
 ghost use Rattle.name_spaces.specs.Resolving.{resolved, simple_symbol, qualified_symbol};
-ghost use Rattle.name_spaces.specs.Resolving.{unbound_symbol, store_resolution};
+ghost use Rattle.name_spaces.specs.Resolving.{unbound_symbol, resolution_outside_core};
 ghost use Rattle.name_spaces.specs.Resolving.{bound_resolution, found_resolution};
-ghost use Rattle.name_spaces.specs.Seen.{namespaces_of, bindings_in, found_view};
+ghost use Rattle.name_spaces.specs.Seen.{namespaces_of, bindings_named, found_view};
 
 use crate::found::Found;
 use crate::latest::Latest;
@@ -51,7 +51,7 @@ impl Spaces {
         symbol: &str,
     ) -> Result<Found, AllocError>
         ensures { IfOk result (λ found. found_view found
-            ≡ simple_symbol symbol.now (bindings_in self.now namespace.now symbol.now)) }
+            ≡ simple_symbol symbol.now (bindings_named self.now namespace.now symbol.now)) }
     {
         match self.binding_in(namespace, symbol) {
             Some(binding) => bound(binding),
@@ -85,7 +85,7 @@ impl Spaces {
 
     fn binding_in(&self, namespace: &str, name: &str) -> Option<&Binding>
         ensures { option_map (λ b. binding_view b.now) result
-            ≡ bindings_in self.now namespace.now name.now }
+            ≡ bindings_named self.now namespace.now name.now }
     {
         self.namespaces.get(namespace)?.binding(name)
     }
@@ -122,7 +122,7 @@ fn unbound(alloc: Global, symbol: &str) -> Result<Found, AllocError>
 // What a symbol names that nothing binds and that names no core function.
 fn outside_core(alloc: Global, symbol: &str) -> Result<Found, AllocError>
     ensures { IfOk result (λ found. found_view found
-        ≡ found_resolution (store_resolution symbol.now (store_function_named symbol.now))) }
+        ≡ found_resolution (resolution_outside_core symbol.now (store_function_named symbol.now))) }
 {
     match StoreFunction::named(symbol) {
         Some(function) => Ok(function_found(NamedFunction::Store(function))),

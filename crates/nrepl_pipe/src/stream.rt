@@ -3,11 +3,11 @@ ghost use Rattle.std.specs.Prelude.{◌≡◌, ◌+◌, ℕ, [], false, Ok, OnEr
 ghost use Rattle.std.specs.Io.KnownBytes.{Consumes, IsAtEnd};
 ghost use Rattle.server_rules.specs.Ground.{Ground};
 ghost use Rattle.tenant_turns.specs.Grounds.{IsRight};
-ghost use Rattle.tenant_turns.specs.Turns.{Lone, hears, step};
+ghost use Rattle.tenant_turns.specs.Turns.{Lone, hears, lone_step};
 ghost use Rattle.nrepl_pipe.specs.Schedule.{stream_end};
-ghost use Rattle.nrepl_pipe.specs.Served.{Outcome};
+ghost use Rattle.nrepl_pipe.specs.Served.{IsPipeOutcome};
 ghost use Rattle.nrepl_pipe.specs.Fresh.{IsFresh, IsReady};
-ghost use Rattle.nrepl_pipe.specs.Failing.{Marks, Tells, is_read_failed, is_write_failed};
+ghost use Rattle.nrepl_pipe.specs.Failing.{Marks, TellsFailures, is_read_failed, is_write_failed};
 ghost use Rattle.nrepl_pipe.specs.Parts.{IsPiece, LosesPiece, HearsSo};
 
 use crate::ends::{PipeEnd, PipeError};
@@ -39,9 +39,9 @@ pub fn pipe<C: Core, R: Source, W: Sink>(
     writer: &mut W,
 ) -> Result<PipeEnd, PipeError>
     ensures served { (g : Ground) (l : Lone) → IsRight g → C.stands g core.old l → IsFresh l
-        → Outcome g l (R.remaining reader.old) (R.remaining reader.new)
+        → IsPipeOutcome g l (R.remaining reader.old) (R.remaining reader.new)
         (W.contents writer.old) (W.contents writer.new) result }
-    ensures told { Tells (R.failed reader.old) (R.failed reader.new)
+    ensures told { TellsFailures (R.failed reader.old) (R.failed reader.new)
         (W.failed writer.old) (W.failed writer.new) result }
 {
     loop {
@@ -104,7 +104,7 @@ fn take_piece<C: Core>(core: &mut C, piece: &Bytes) -> Result<Heard, PipeError>
     ensures steps { result ≡ Ok Heard.Taken
         → (C.left core.old).steps ≡ (C.left core.new).steps + 1 }
     ensures heard { (g : Ground) (l : Lone) → IsRight g → C.stands g core.old l → IsReady g l
-        → IfOk result (λ came. HearsSo came (C.stands g core.new) (step g l (hears piece.now))) }
+        → IfOk result (λ came. HearsSo came (C.stands g core.new) (lone_step g l (hears piece.now))) }
     ensures told { IfErr result (λ why. why ≡ PipeError.NoMemory) }
 {
     match core.hear(piece) {

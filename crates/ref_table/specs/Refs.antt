@@ -29,8 +29,8 @@ owned_with common caller own owned shared = common
 owned_with common caller own owned (tenant t) = if t == caller then own else owned (tenant t)
 
 -- all refs, once a tenant sees this
-abbrev pub after : Store → Refs → Refs
-after s r = record {
+abbrev pub refs_after : Store → Refs → Refs
+refs_after s r = record {
   counter = s.around.counter;
   owned = owned_with s.around.refs s.tenant s.mine.refs r.owned;
 }

@@ -6,8 +6,8 @@ ghost use Rattle.repl_faults.specs.View.{Gives};
 ghost use Rattle.core_functions.specs.Meaning.{meaning};
 ghost use Rattle.repl_asks.specs.View.{name_view, change_view, commute_view, commuted_view};
 ghost use Rattle.server_rules.specs.Numbered.{Entry};
-ghost use Rattle.server_rules.specs.Store.{value_of};
-ghost use Rattle.server_rules.specs.Commit.{takes_its_arguments, all_take, result_of, folded};
+ghost use Rattle.server_rules.specs.Store.{newest_value};
+ghost use Rattle.server_rules.specs.Commit.{takes_its_arguments, all_take, result_of, folded_value};
 ghost use Rattle.server_rules.specs.Commit.{folded_from, all_folded};
 ghost use Rattle.ref_table.specs.Refs.{Refs, store_of};
 ghost use Rattle.ref_table.specs.Standing.{Stands};
@@ -34,7 +34,7 @@ impl<H: History> RefTable<H> {
         requires { all_take (map commuted_view commuted.now) ≡ true }
         ensures folded { (r : Refs) (points : List (Entry ℕ)) → Stands H.stands self.now r
             → Gives (λ changes. map change_view changes.items) result
-            (all_folded (λ name. value_of name (store_of caller points r))
+            (all_folded (λ name. newest_value name (store_of caller points r))
             (map commuted_view commuted.now)) }
         ensures names { IfOk result (λ changes. map (λ c. name_view c.name) changes.items
             ≡ map (λ c. name_view c.name) commuted.now) }
@@ -60,7 +60,7 @@ impl<H: History> RefTable<H> {
         requires { list_all takes_its_arguments (commuted_view commuted.now).commutes ≡ true }
         ensures { (r : Refs) (points : List (Entry ℕ)) → Stands H.stands self.now r
             → Gives view result (folded_from (commuted_view commuted.now)
-            (value_of (name_view commuted.now.name) (store_of caller points r))) }
+            (newest_value (name_view commuted.now.name) (store_of caller points r))) }
     {
         match self.newest(caller, commuted.name) {
             Some(value) => ref_folded(alloc, commuted, copy(value)?),
@@ -71,7 +71,7 @@ impl<H: History> RefTable<H> {
     fn newest(&self, caller: u64, name: RefName) -> Option<&Value>
         ensures { (r : Refs) (points : List (Entry ℕ)) → Stands H.stands self.now r
             → option_map (λ v. view v.now) result
-            ≡ value_of (name_view name) (store_of caller points r) }
+            ≡ newest_value (name_view name) (store_of caller points r) }
     {
         self.history.newest(self.directory.id_of(caller, name)?)
     }
@@ -93,7 +93,7 @@ fn ref_folded(alloc: Global, commuted: &Commuted, value: Value) -> Result<Value,
 // Each is applied to what the one before it gave.
 fn folded(alloc: Global, commutes: &[Commute], value: Value) -> Result<Value, ApplyError>
     requires { list_all takes_its_arguments (map commute_view commutes.now) ≡ true }
-    ensures { Gives view result (folded (map commute_view commutes.now) (view value)) }
+    ensures { Gives view result (folded_value (map commute_view commutes.now) (view value)) }
 {
     let mut now = value;
     for commute in commutes {

@@ -16,18 +16,18 @@ use Rattle.server_rules.specs.Request.{Hand, Run}
 use Rattle.server_rules.specs.Tenant.{ActorData, seat_of, Quiet, is_held, state_of}
 use Rattle.server_rules.specs.Plan.{EndingData, Deed, hears, starts, asks_for, ends, drains}
 use Rattle.server_rules.specs.Plan.{StepAnswer, ask_answered, form_finished, Outcome, refuses}
-use Rattle.server_rules.specs.Plan.{leaves, Plan, quietly, spent}
-use Rattle.server_rules.specs.Hearing.{hearing}
+use Rattle.server_rules.specs.Plan.{leaves, Plan, quietly, with_step_spent}
+use Rattle.server_rules.specs.Hearing.{hearing_plan}
 use Rattle.server_rules.specs.Moves.{form_ended}
-use Rattle.server_rules.specs.Starting.{moved, interrupted_in}
-use Rattle.server_rules.specs.Asking.{call_of, is_allowed, answer_to, answered, when_told}
+use Rattle.server_rules.specs.Starting.{after_move, interrupted_in}
+use Rattle.server_rules.specs.Asking.{call_of, is_allowed, answer_to, answer_outcome, when_told}
 use Rattle.server_rules.specs.Asking.{asked_allowed, asked_running, asked_of}
 use Rattle.server_rules.specs.Ending.{with_left_attempt, end_compared, end_checked}
 use Rattle.server_rules.specs.Ending.{end_running, end_of}
-use Rattle.server_rules.specs.Deeds.{start_of, for_actor, unless_worn, drained, plan}
+use Rattle.server_rules.specs.Deeds.{start_of, for_actor, unless_worn, drain_outcome, plan}
 use Rattle.server_rules.specs.World.{TenantData, World, Step, opens, does, closes}
 use Rattle.server_rules.specs.World.{Stepped, refused, is_used, open_count, opened_tenant}
-use Rattle.server_rules.specs.World.{open_step, with_tenant, ended_as, planned, deed_step}
+use Rattle.server_rules.specs.World.{open_step, with_tenant, ended_as, planned_step, deed_step}
 use Rattle.server_rules.specs.World.{close_step, step, world_or}
 use Rattle.server_rules.specs.declared.actor.Actor.{Actor}
 use Rattle.server_rules.specs.declared.refusal.Refusal.{Refusal}
@@ -67,7 +67,7 @@ closed_plan a h ask q = record {
 abbrev pub open_plan : Ground → Actor → ActorData → Hand → Run → AskData → Quiet → Plan
 open_plan g a actor h form ask q = record {
   call = call_of (seat_of a) ask;
-  next = λ told. when_told told (answered g a actor h form ask q);
+  next = λ told. when_told told (answer_outcome g a actor h form ask q);
 }
 
 module _ (P : Plan → Type 0) (g : Ground) (a : Actor) (ask : AskData) (q : Quiet)
@@ -167,7 +167,7 @@ ended-gives name w t d kept s (leaves q answer) there same here =
 module _ (name : RefNameData) (w : World) (t : ℕ) (kept : TenantData)
     (there : open_in t w ≡ Some kept) where
   abbrev Planned : Deed → Plan → Type 0
-  Planned d p = Gives name w (does t d) (planned w t kept p)
+  Planned d p = Gives name w (does t d) (planned_step w t kept p)
 
   -- the deed gives no ref a value
   abbrev Still : Deed → Type 0
@@ -191,7 +191,7 @@ module _ (name : RefNameData) (w : World) (t : ℕ) (kept : TenantData)
   compared-gives d still a actor h e false difference = refl
   compared-gives d still a actor h e true (Some place) = refl
   compared-gives d still a actor h e true None = left-gives d still a
-      (leaves (spent (moved a actor (form_ended h e.end (state_of a kept.quiet)) kept.quiet))
+      (leaves (with_step_spent (after_move a actor (form_ended h e.end (state_of a kept.quiet)) kept.quiet))
       form_finished)
 
   checked-gives : (g : Ground) (d : Deed) → Still d → (a : Actor) (actor : ActorData) (h : Hand)
@@ -253,7 +253,7 @@ module _ (name : RefNameData) (w : World) (t : ℕ) (kept : TenantData)
       by : (o : Option AnswerData) → (performed s (call_of (seat_of a) ask)).told ≡ o
           → Gives name w (does t (asks_for a ask))
           (ended_as w t (performed s (call_of (seat_of a) ask)).store
-          (when_told o (answered g a actor h form ask kept.quiet)))
+          (when_told o (answer_outcome g a actor h form ask kept.quiet)))
       by None told = refl
       by (Some v) told = put-newest name w t kept _ (performed s (call_of (seat_of a) ask)).store
           (given_by name ask (answer_to g a kept.quiet ask v)) there
@@ -264,7 +264,7 @@ module _ (name : RefNameData) (w : World) (t : ℕ) (kept : TenantData)
 
   plan-gives : (g : Ground) (d : Deed) → Planned d (plan g t kept.quiet d)
   plan-gives g (hears piece) =
-      quiet-gives (hears piece) (λ answer before. refl) ((hearing g t piece kept.quiet).next None)
+      quiet-gives (hears piece) (λ answer before. refl) ((hearing_plan g t piece kept.quiet).next None)
   plan-gives g (starts a) = worn-by (Planned (starts a)) kept.quiet _ refl
       (actor-by (Planned (starts a)) (found (seat_of a) kept.quiet.actors) _ refl
       (λ actor. quiet-gives (starts a) (λ answer before. refl)
@@ -275,7 +275,7 @@ module _ (name : RefNameData) (w : World) (t : ℕ) (kept : TenantData)
       (actor-by (Planned (ends a e)) (found (seat_of a) kept.quiet.actors) _ refl
       (λ actor. end-gives g (ends a e) (λ answer before. refl) a actor e actor.hand))
   plan-gives g drains = quiet-gives drains (λ answer before. refl)
-      (drained kept.quiet kept.quiet.replies)
+      (drain_outcome kept.quiet kept.quiet.replies)
 
 deed-gives : (name : RefNameData) (g : Ground) (w : World) (t : ℕ) (d : Deed)
     (o : Option (Option TenantData)) → found t w.tenants ≡ o

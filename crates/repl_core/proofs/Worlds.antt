@@ -4,7 +4,7 @@ use Rattle.std.proofs.Common.{Option, Some, None, option_and_then, refl, sym, ap
 use Rattle.std.proofs.lemmas.Bool.{eqb-true}
 use Rattle.std.proofs.lemmas.Bool.Decides.{nat_tests}
 use Rattle.server_rules.specs.Ground.{Ground}
-use Rattle.server_rules.specs.Numbered.{Entry, entry, found, replaced}
+use Rattle.server_rules.specs.Numbered.{Entry, entry, found, with_part}
 use Rattle.server_rules.specs.Plan.{Deed}
 use Rattle.server_rules.specs.Deeds.{plan}
 use Rattle.server_rules.specs.Store.{Store}
@@ -15,17 +15,17 @@ use Rattle.server_rules.specs.World.{deed_step, close_step, ended_as, with_tenan
 use Rattle.server_rules.specs.Plan.{tenant_gone}
 use Rattle.server_rules.specs.declared.refusal.Refusal.{Refusal}
 use Rattle.tenant_actors.proofs.EntryLaws.{found_first, replaced_first}
-use Rattle.tenant_turns.specs.Deeded.{Deeded, carried_out, deeded}
+use Rattle.tenant_turns.specs.Deeded.{DeedResult, carried_out, deed_result}
 use Rattle.repl_core.specs.Standing.{open_in, store_in, is_reached}
 
 -- Numbers that were used
 
-pub used-replaced : (u t : ℕ) (x : Option TenantData) (es : List (Entry (Option TenantData)))
-    → is_used u (replaced t x es) ≡ is_used u es
-used-replaced u t x [] = refl
-used-replaced u t x (e ∷ es) = by (used-replaced u t x es) (t == e.number) refl
+pub used-with_part : (u t : ℕ) (x : Option TenantData) (es : List (Entry (Option TenantData)))
+    → is_used u (with_part t x es) ≡ is_used u es
+used-with_part u t x [] = refl
+used-with_part u t x (e ∷ es) = by (used-with_part u t x es) (t == e.number) refl
   where
-    by : is_used u (replaced t x es) ≡ is_used u es → (b : Bool) → (t == e.number) ≡ b
+    by : is_used u (with_part t x es) ≡ is_used u es → (b : Bool) → (t == e.number) ≡ b
         → is_used u (replaced_first b t x e es) ≡ (nat_le u e.number || is_used u es)
     by behind true same = ap (λ k. nat_le u k || is_used u es) (eqb-true t e.number same)
     by behind false apart = ap (λ (b : Bool). nat_le u e.number || b) behind
@@ -67,13 +67,13 @@ reached-more newest t u above = by newest above (nat_le u t) refl
 
 -- Places that are taken
 
-pub count-replaced : (t : ℕ) (x y : TenantData) (es : List (Entry (Option TenantData)))
-    → found t es ≡ Some (Some y) → open_count (replaced t (Some x) es) ≡ open_count es
-count-replaced t x y [] never = absurd (cc)
-count-replaced t x y (e ∷ es) there =
-    by (λ h. count-replaced t x y es h) (t == e.number) e.part there
+pub count-with_part : (t : ℕ) (x y : TenantData) (es : List (Entry (Option TenantData)))
+    → found t es ≡ Some (Some y) → open_count (with_part t (Some x) es) ≡ open_count es
+count-with_part t x y [] never = absurd (cc)
+count-with_part t x y (e ∷ es) there =
+    by (λ h. count-with_part t x y es h) (t == e.number) e.part there
   where
-    by : (found t es ≡ Some (Some y) → open_count (replaced t (Some x) es) ≡ open_count es)
+    by : (found t es ≡ Some (Some y) → open_count (with_part t (Some x) es) ≡ open_count es)
         → (b : Bool) (part : Option TenantData) → found_first b part (found t es) ≡ Some (Some y)
         → open_count (replaced_first b t (Some x) (entry e.number part) es)
         ≡ open_count (entry e.number part ∷ es)
@@ -83,11 +83,11 @@ count-replaced t x y (e ∷ es) there =
     by behind false (Some z) h = ap (λ n. n + 1) (behind h)
 
 count-gone : (t : ℕ) (y : TenantData) (es : List (Entry (Option TenantData)))
-    → found t es ≡ Some (Some y) → open_count (replaced t None es) + 1 ≡ open_count es
+    → found t es ≡ Some (Some y) → open_count (with_part t None es) + 1 ≡ open_count es
 count-gone t y [] never = absurd (cc)
 count-gone t y (e ∷ es) there = by (λ h. count-gone t y es h) (t == e.number) e.part there
   where
-    by : (found t es ≡ Some (Some y) → open_count (replaced t None es) + 1 ≡ open_count es)
+    by : (found t es ≡ Some (Some y) → open_count (with_part t None es) + 1 ≡ open_count es)
         → (b : Bool) (part : Option TenantData) → found_first b part (found t es) ≡ Some (Some y)
         → open_count (replaced_first b t None (entry e.number part) es) + 1
         ≡ open_count (entry e.number part ∷ es)
@@ -100,7 +100,7 @@ less-one : (a b : ℕ) → a + 1 ≡ b → a ≡ b - 1
 less-one a b h = omega arith
 
 pub count-less : (t : ℕ) (y : TenantData) (es : List (Entry (Option TenantData)))
-    → found t es ≡ Some (Some y) → open_count (replaced t None es) ≡ open_count es - 1
+    → found t es ≡ Some (Some y) → open_count (with_part t None es) ≡ open_count es - 1
 count-less t y es there = less-one _ _ (count-gone t y es there)
 
 -- Steps
@@ -112,13 +112,13 @@ found-open (Some None) y never = absurd (cc)
 found-open (Some (Some x)) y same = ap (λ it. Some it) same
 
 -- what a deed of a tenant comes to
-abbrev pub deed_of : Ground → World → ℕ → TenantData → Deed → Deeded
-deed_of g w t kept d = deeded g (store_in w.around t kept.mine) kept.quiet d
+abbrev pub deed_of : Ground → World → ℕ → TenantData → Deed → DeedResult
+deed_of g w t kept d = deed_result g (store_in w.around t kept.mine) kept.quiet d
 
-deeded-by : (g : Ground) (s : Store) (q : Quiet) (d : Deed)
-    → deeded g s q d ≡ carried_out s (plan g s.tenant q d)
-unfolding deeded
-deeded-by g s q d = refl
+deed_result-by : (g : Ground) (s : Store) (q : Quiet) (d : Deed)
+    → deed_result g s q d ≡ carried_out s (plan g s.tenant q d)
+unfolding deed_result
+deed_result-by g s q d = refl
 
 step-by : (g : Ground) (w : World) (t : ℕ) (d : Deed) → step g w (does t d)
     ≡ deed_step g w t d (found t w.tenants)
@@ -131,8 +131,8 @@ pub step-deed : (g : Ground) (w : World) (t : ℕ) (d : Deed) (kept : TenantData
 step-deed g w t d kept there =
     step-by g w t d
     ∙ ap (deed_step g w t d) (found-open (found t w.tenants) kept there)
-    ∙ ap (λ (e : Deeded). ended_as w t e.store e.outcome)
-    (sym (deeded-by g (store_in w.around t kept.mine) kept.quiet d))
+    ∙ ap (λ (e : DeedResult). ended_as w t e.store e.outcome)
+    (sym (deed_result-by g (store_in w.around t kept.mine) kept.quiet d))
 
 pub step-none : (g : Ground) (w : World) (t : ℕ) (d : Deed) → open_in t w ≡ None
     → step g w (does t d) ≡ refused Refusal.NoSuchTenant

@@ -37,14 +37,14 @@ step_answer_view (StepAnswer.Bytes bytes) = reply_given bytes.items
 step_answer_view StepAnswer.Gone = tenant_gone
 
 -- the step is accepted with this answer, and the machine stands for the server behind it
-pub record Does (g : Ground) (w : World) (s : worlds.Step) (m : Machine) (answer : rules.StepAnswer)
+pub record AcceptsStep (g : Ground) (w : World) (s : worlds.Step) (m : Machine) (answer : rules.StepAnswer)
     : Type 0 where
   pub after : World
   pub accepted : step g w s ≡ accepted after answer
   pub stands : Stands g m after
 
 -- the step is refused so, unless for want of memory, and the machine stands for the server as it was
-pub record Refuses (g : Ground) (w : World) (s : worlds.Step) (m : Machine) (why : Refusal)
+pub record RefusesStep (g : Ground) (w : World) (s : worlds.Step) (m : Machine) (why : Refusal)
     : Type 0 where
   pub refused : why ≢ Refusal.NoMemory → step g w s ≡ refused why
   pub stands : Stands g m w

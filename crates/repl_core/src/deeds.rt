@@ -9,7 +9,7 @@ ghost use Rattle.server_rules.specs.World.{World, does};
 ghost use Rattle.ref_table.specs.Standing.{counter_of};
 ghost use Rattle.tenant_turns.specs.Grounds.{IsRight};
 ghost use Rattle.tenant_walks.specs.Ended as endings;
-ghost use Rattle.tenant_world.specs.Answers.{started_view, asked_view, ended_view};
+ghost use Rattle.tenant_world.specs.Answers.{start_answer_view, ask_answer_view, end_answer_view};
 
 use crate::machine::Machine;
 use bytes::Bytes;
@@ -50,7 +50,7 @@ impl Machine {
     pub(crate) fn start(&mut self, number: u64, actor: Actor) -> Result<Started, Refusal>
         ensures done { (g : Ground) (w : World) → IsRight g → Stands g self.old w
             → IfOk result (λ x. Does g w (does number (deeds.starts actor)) self.new
-            (started_view x)) }
+            (start_answer_view x)) }
         ensures refused { (g : Ground) (w : World) → IsRight g → Stands g self.old w
             → IfErr result (Refuses g w (does number (deeds.starts actor)) self.new) }
     {
@@ -66,7 +66,7 @@ impl Machine {
     pub(crate) fn asked(&mut self, number: u64, actor: Actor, ask: &Ask) -> Result<Asked, Refusal>
         ensures done { (g : Ground) (w : World) → IsRight g → Stands g self.old w
             → IfOk result (λ x. Does g w (does number (deeds.asks_for actor (ask_view ask.now))) self.new
-            (asked_view x)) }
+            (ask_answer_view x)) }
         ensures refused { (g : Ground) (w : World) → IsRight g → Stands g self.old w
             → IfErr result (Refuses g w (does number (deeds.asks_for actor (ask_view ask.now))) self.new) }
     {
@@ -90,7 +90,7 @@ impl Machine {
     ) -> Result<Ended, Refusal>
         ensures done { (g : Ground) (w : World) → IsRight g → Stands g self.old w
             → IfOk result (λ x. Does g w (does number (deeds.ends actor (endings.ended ending.now))) self.new
-            (ended_view x)) }
+            (end_answer_view x)) }
         ensures refused { (g : Ground) (w : World) → IsRight g → Stands g self.old w
             → IfErr result (Refuses g w (does number (deeds.ends actor (endings.ended ending.now))) self.new) }
     {

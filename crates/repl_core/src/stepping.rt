@@ -3,7 +3,7 @@ ghost use Rattle.std.specs.Prelude.{◌≡◌, IfOk, IfErr};
 ghost use Rattle.server_rules.specs.Ground.{Ground};
 ghost use Rattle.server_rules.specs.World.{World};
 ghost use Rattle.tenant_turns.specs.Grounds.{IsRight};
-ghost use Rattle.tenant_world.specs.Answers.{started_view, asked_view, ended_view};
+ghost use Rattle.tenant_world.specs.Answers.{start_answer_view, ask_answer_view, end_answer_view};
 ghost use Rattle.repl_core.specs.Steps.{step_view, step_answer_view};
 
 use crate::machine::Machine;
@@ -56,7 +56,7 @@ impl Machine {
 }
 
 fn of_started(started: Started) -> StepAnswer
-    ensures { step_answer_view result ≡ started_view started }
+    ensures { step_answer_view result ≡ start_answer_view started }
 {
     match started {
         Started::Begun(job) => StepAnswer::Begun(job),
@@ -66,7 +66,7 @@ fn of_started(started: Started) -> StepAnswer
 }
 
 fn of_asked(asked: Asked) -> StepAnswer
-    ensures { step_answer_view result ≡ asked_view asked }
+    ensures { step_answer_view result ≡ ask_answer_view asked }
 {
     match asked {
         Asked::Answer(answer) => StepAnswer::Answer(answer),
@@ -75,7 +75,7 @@ fn of_asked(asked: Asked) -> StepAnswer
 }
 
 fn of_ended(ended: Ended) -> StepAnswer
-    ensures { step_answer_view result ≡ ended_view ended }
+    ensures { step_answer_view result ≡ end_answer_view ended }
 {
     match ended {
         Ended::Finished => StepAnswer::Finished,

@@ -148,7 +148,7 @@ pub fn bad_form(alloc: Global, name: &str) -> Result<Fault, AllocError>
 
 /// A symbol that names nothing.
 pub fn unresolved(alloc: Global, symbol: &str) -> Result<Fault, AllocError>
-    ensures { IfOk result (λ f. failure_of f ≡ meant.unresolved symbol.now) }
+    ensures { IfOk result (λ f. failure_of f ≡ meant.unresolved_symbol symbol.now) }
 {
     let mut text = String::from_str(alloc, "Unable to resolve symbol: ")?;
     text.push_str(symbol)?;
@@ -204,14 +204,14 @@ pub fn too_deep(alloc: Global) -> Result<Fault, AllocError>
 
 /// A value that a program threw and that is no fault, by its text.
 pub fn thrown(alloc: Global, text: String) -> Result<Fault, AllocError>
-    ensures { IfOk result (λ f. failure_of f ≡ meant.thrown (string_bytes text)) }
+    ensures { IfOk result (λ f. failure_of f ≡ meant.thrown_text (string_bytes text)) }
 {
     told(alloc, "clojure.lang.ExceptionInfo", text)
 }
 
 /// The fault of a form that breaks this rule.
 pub fn broken(alloc: Global, rule: Rule) -> Result<Fault, AllocError>
-    ensures { IfOk result (λ f. failure_of f ≡ meant.broken rule) }
+    ensures { IfOk result (λ f. failure_of f ≡ meant.broken_rule rule) }
 {
     match rule {
         Rule::ATransactionRuns => fault(alloc, ILLEGAL_STATE, "No transaction running"),

@@ -2,6 +2,6 @@
 use Rattle.repl_jobs.specs.Job.{EndData}
 use Rattle.repl_asks.specs.Exchange.{AskData, AnswerData}
 
-pub data Tree : Type 0 where
-  finished : EndData → Tree
-  asks : AskData → (AnswerData → Tree) → Tree
+pub data InteractionTree : Type 0 where
+  finished : EndData → InteractionTree
+  asks : AskData → (AnswerData → InteractionTree) → InteractionTree

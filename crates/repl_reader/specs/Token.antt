@@ -44,18 +44,18 @@ abbrev pub touches_slash : List ℕ → Bool
 touches_slash t = slice_index t 0 == 47 || slice_index t (length t - 1) == 47
 
 -- no slash, or a slash alone, or one slash with something on both sides
-unfoldable pub is_symbol : List ℕ → Bool
-is_symbol t = slashes t == 0 || (slashes t == 1 && (length t == 1 || not (touches_slash t)))
+unfoldable pub is_symbol_text : List ℕ → Bool
+is_symbol_text t = slashes t == 0 || (slashes t == 1 && (length t == 1 || not (touches_slash t)))
 
 unfoldable pub symbol_of : List ℕ → Option Datum
-symbol_of t = if is_symbol t then Some (datum.symbol t) else None
+symbol_of t = if is_symbol_text t then Some (datum.symbol t) else None
 
 unfoldable pub word_of : List ℕ → Option Datum
 word_of t = if slice_index t 0 == 58 then keyword_of (drop 1 t) else symbol_of t
 
 -- what a token that begins no number stands for
-unfoldable pub name_of : List ℕ → Option Datum
-name_of t =
+unfoldable pub named_datum : List ℕ → Option Datum
+named_datum t =
     if bytes_eq t (codes "nil") then Some datum.nil else (
     if bytes_eq t (codes "true") then Some (datum.boolean true) else (
     if bytes_eq t (codes "false") then Some (datum.boolean false) else word_of t))

@@ -1,6 +1,6 @@
 // What a text can be refused for.
 ghost use Rattle.std.specs.Prelude.{◌≡◌, IfOk};
-ghost use Rattle.repl_reader.specs.Fault.{class_of, message, break_of};
+ghost use Rattle.repl_reader.specs.Fault.{class_of, fault_message, break_of};
 ghost use Rattle.repl_reader.specs.View.{break_view};
 
 use std::alloc::{AllocError, Global};
@@ -73,7 +73,7 @@ pub(crate) fn break_with(
 
 // What the message of a kind begins with.
 fn message(kind: FaultKind) -> &'static str
-    ensures { result.now ≡ message kind }
+    ensures { result.now ≡ fault_message kind }
 {
     match kind {
         FaultKind::Eof => "EOF while reading",

@@ -1,8 +1,8 @@
 // All forms of a text.
 ghost use Rattle.std.specs.Prelude.{◌≡◌, IfOk, length};
 ghost use Rattle.value_data.specs.View.{items_view};
-ghost use Rattle.repl_reader.specs.Grammar.{IsReading, placed, last_break};
-ghost use Rattle.repl_reader.specs.View.{reading_view, break_view, break_option, fault_view, fault_option};
+ghost use Rattle.repl_reader.specs.Grammar.{IsReading, placed_fault, last_break};
+ghost use Rattle.repl_reader.specs.View.{form_reading_view, break_view, break_option, fault_view, fault_option};
 
 use crate::fault::{Break, FaultKind, ReaderFault, break_with};
 use crate::nest::{Row, read_row};
@@ -31,7 +31,7 @@ pub fn read_all(alloc: Global, text: &str) -> Result<Forms, AllocError>
 
 // What is wrong after the last form, if anything is.
 fn last_break(alloc: Global, after: Reading<'_>) -> Result<Option<Break>, AllocError>
-    ensures { IfOk result (λ fault. break_option fault ≡ last_break (reading_view after.entry)) }
+    ensures { IfOk result (λ fault. break_option fault ≡ last_break (form_reading_view after.entry)) }
 {
     match after {
         Reading::Closing(bracket, rest) => {
@@ -45,7 +45,7 @@ fn last_break(alloc: Global, after: Reading<'_>) -> Result<Option<Break>, AllocE
 }
 
 fn placed(length: usize, fault: Break) -> ReaderFault
-    ensures { fault_view result ≡ placed length (break_view fault) }
+    ensures { fault_view result ≡ placed_fault length (break_view fault) }
 {
     ReaderFault {
         kind: fault.kind,

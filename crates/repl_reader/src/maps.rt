@@ -3,7 +3,7 @@ ghost use Rattle.std.specs.Prelude.{◌≡◌, Some, IfOk, string_bytes};
 ghost use Rattle.value_data.specs.View.{items_view, pairs_view};
 ghost use Rattle.value_data.specs.Keyed.{keys_of};
 ghost use Rattle.repl_reader.specs.Grammar.{paired, map_of, print_at};
-ghost use Rattle.repl_reader.specs.View.{reading_view, AreEntries};
+ghost use Rattle.repl_reader.specs.View.{form_reading_view, AreEntries};
 
 use crate::entries::Entries;
 use crate::fault::{FaultKind, break_with};
@@ -18,7 +18,7 @@ pub(crate) fn read_map<'a>(
     forms: Vec<Value>,
     rest: &'a str,
 ) -> Result<Reading<'a>, AllocError>
-    ensures { IfOk result (λ r. reading_view r ≡ map_of (paired (items_view forms.items)) rest.now) }
+    ensures { IfOk result (λ r. form_reading_view r ≡ map_of (paired (items_view forms.items)) rest.now) }
 {
     match split_forms(alloc, forms)? {
         None => {
@@ -57,7 +57,7 @@ fn split_forms(alloc: Global, forms: Vec<Value>) -> Result<Option<Entries>, Allo
 #[tactic(auto, unfolding(crate::specs::Grammar::map_of))]
 fn keyed<'a>(alloc: Global, entries: Entries, rest: &'a str) -> Result<Reading<'a>, AllocError>
     requires { keys_of (pairs_view entries.pairs.items) ≡ items_view entries.keys.items }
-    ensures { IfOk result (λ r. reading_view r ≡ map_of (Some (pairs_view entries.pairs.items)) rest.now) }
+    ensures { IfOk result (λ r. form_reading_view r ≡ map_of (Some (pairs_view entries.pairs.items)) rest.now) }
 {
     let Entries { keys, pairs } = entries;
     match Table::from_pairs(alloc, pairs)? {

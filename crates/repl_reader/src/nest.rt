@@ -3,8 +3,8 @@ ghost use Rattle.std.specs.Prelude.{◌≡◌, IfOk, MatchResult};
 ghost use Rattle.value_data.specs.Datum.{Datum, list, symbol, item, no_items};
 ghost use Rattle.value_data.specs.View.{view, items_view};
 ghost use Rattle.repl_reader.specs.Reading.{begins};
-ghost use Rattle.repl_reader.specs.Grammar.{Reads, IsForm, unmatched, too_deep, wanted, wrapped, collected, enclosed};
-ghost use Rattle.repl_reader.specs.View.{bracket_view, symbol_of, reading_view, IsPiece, IsRow, IsMarked, IsOpened};
+ghost use Rattle.repl_reader.specs.Grammar.{Reads, IsForm, unmatched, too_deep, form_or_fault, wrapped_reading, collection_reading, enclosed_reading};
+ghost use Rattle.repl_reader.specs.View.{bracket_view, mark_symbol, form_reading_view, IsFrontOf, IsRow, IsMarked, IsOpened};
 
 use crate::fault::{FaultKind, break_with};
 use crate::maps::read_map;
@@ -51,7 +51,7 @@ pub(crate) fn read_row(alloc: Global, text: &str, depth: usize) -> Result<Row<'_
 /// The form that a text begins with once the forms after each `#_` are dropped.
 #[cycle(nest)]
 fn read_form(alloc: Global, text: &str, depth: usize) -> Result<Reading<'_>, AllocError>
-    ensures { IfOk result (λ r. Reads depth text.now (reading_view r)) }
+    ensures { IfOk result (λ r. Reads depth text.now (form_reading_view r)) }
 {
     let mut to_drop: usize = 0;
     let mut text = text;
@@ -77,8 +77,8 @@ fn read_form(alloc: Global, text: &str, depth: usize) -> Result<Reading<'_>, All
 
 // What follows a form that is dropped, or what is no form.
 fn behind_form<'a>(reading: Reading<'a>) -> Result<&'a str, Reading<'a>>
-    ensures { MatchResult result (λ rest. (d : Datum) × (reading_view reading.entry ≡ begins d rest.now))
-        (λ other. (reading_view other ≡ reading_view reading.entry) × (IsForm (reading_view other) → ⊥)) }
+    ensures { MatchResult result (λ rest. (d : Datum) × (form_reading_view reading.entry ≡ begins d rest.now))
+        (λ other. (form_reading_view other ≡ form_reading_view reading.entry) × (IsForm (form_reading_view other) → ⊥)) }
 {
     match reading {
         Reading::Form(_, rest) => Ok(rest),
@@ -88,7 +88,7 @@ fn behind_form<'a>(reading: Reading<'a>) -> Result<&'a str, Reading<'a>>
 
 #[cycle(nest)]
 fn read_piece(alloc: Global, text: &str, depth: usize) -> Result<Piece<'_>, AllocError>
-    ensures { IfOk result (λ p. IsPiece depth text.now p) }
+    ensures { IfOk result (λ p. IsFrontOf depth text.now p) }
 {
     match read_next(alloc, text)? {
         Next::Settled(reading) => Ok(Piece::Read(reading)),
@@ -107,7 +107,7 @@ fn read_marked<'a>(
     text: &'a str,
     depth: usize,
 ) -> Result<Reading<'a>, AllocError>
-    ensures { IfOk result (λ r. IsMarked depth (symbol_of mark) text.now (reading_view r)) }
+    ensures { IfOk result (λ r. IsMarked depth (mark_symbol mark) text.now (form_reading_view r)) }
 {
     if depth >= MOST_NESTED {
         return too_deep(alloc, text);
@@ -123,7 +123,7 @@ fn read_enclosed<'a>(
     text: &'a str,
     depth: usize,
 ) -> Result<Reading<'a>, AllocError>
-    ensures { IfOk result (λ r. IsOpened depth (bracket_view bracket) text.now (reading_view r)) }
+    ensures { IfOk result (λ r. IsOpened depth (bracket_view bracket) text.now (form_reading_view r)) }
 {
     if depth >= MOST_NESTED {
         return too_deep(alloc, text);
@@ -134,7 +134,7 @@ fn read_enclosed<'a>(
 
 // The character before the text opens one nesting too many.
 fn too_deep(alloc: Global, text: &str) -> Result<Reading<'static>, AllocError>
-    ensures { IfOk result (λ r. reading_view r ≡ too_deep text.now) }
+    ensures { IfOk result (λ r. form_reading_view r ≡ too_deep text.now) }
 {
     let left = text.len() + 1;
     Ok(Reading::Broken(break_with(alloc, FaultKind::TooDeep, left, "")?))
@@ -142,7 +142,7 @@ fn too_deep(alloc: Global, text: &str) -> Result<Reading<'static>, AllocError>
 
 // A form is owed: a closing character or the end of the text is a fault in its place.
 fn wanted<'a>(alloc: Global, reading: Reading<'a>) -> Result<Reading<'a>, AllocError>
-    ensures { IfOk result (λ r. reading_view r ≡ wanted (reading_view reading.entry)) }
+    ensures { IfOk result (λ r. form_reading_view r ≡ form_or_fault (form_reading_view reading.entry)) }
 {
     match reading {
         Reading::Closing(bracket, rest) => unmatched(alloc, bracket, rest),
@@ -153,7 +153,7 @@ fn wanted<'a>(alloc: Global, reading: Reading<'a>) -> Result<Reading<'a>, AllocE
 }
 
 fn unmatched(alloc: Global, bracket: Bracket, rest: &str) -> Result<Reading<'static>, AllocError>
-    ensures { IfOk result (λ r. reading_view r ≡ unmatched (bracket_view bracket) rest.now) }
+    ensures { IfOk result (λ r. form_reading_view r ≡ unmatched (bracket_view bracket) rest.now) }
 {
     let fault = break_with(
         alloc,
@@ -165,7 +165,7 @@ fn unmatched(alloc: Global, bracket: Bracket, rest: &str) -> Result<Reading<'sta
 }
 
 fn wrapped<'a>(alloc: Global, mark: Mark, reading: Reading<'a>) -> Result<Reading<'a>, AllocError>
-    ensures { IfOk result (λ r. reading_view r ≡ wrapped (symbol_of mark) (reading_view reading.entry)) }
+    ensures { IfOk result (λ r. form_reading_view r ≡ wrapped_reading (mark_symbol mark) (form_reading_view reading.entry)) }
 {
     match reading {
         Reading::Form(form, rest) => Ok(Reading::Form(listed(alloc, mark, form)?, rest)),
@@ -176,7 +176,7 @@ fn wrapped<'a>(alloc: Global, mark: Mark, reading: Reading<'a>) -> Result<Readin
 }
 
 fn listed(alloc: Global, mark: Mark, form: Value) -> Result<Value, AllocError>
-    ensures { IfOk result (λ v. view v ≡ list (item (symbol (symbol_of mark)) (item (view form) no_items))) }
+    ensures { IfOk result (λ v. view v ≡ list (item (symbol (mark_symbol mark)) (item (view form) no_items))) }
 {
     let mut forms = Vec::with_capacity(alloc, 2)?;
     forms.push(Value::Symbol(ArcStr::from_str(alloc, mark.symbol())?))?;
@@ -185,8 +185,8 @@ fn listed(alloc: Global, mark: Mark, form: Value) -> Result<Value, AllocError>
 }
 
 fn enclosed<'a>(alloc: Global, bracket: Bracket, row: Row<'a>) -> Result<Reading<'a>, AllocError>
-    ensures { IfOk result (λ r. reading_view r
-        ≡ enclosed (bracket_view bracket) (items_view row.entry.forms.items) (reading_view row.entry.after)) }
+    ensures { IfOk result (λ r. form_reading_view r
+        ≡ enclosed_reading (bracket_view bracket) (items_view row.entry.forms.items) (form_reading_view row.entry.after)) }
 {
     let Row { forms, after } = row;
     match after {
@@ -209,8 +209,8 @@ fn collected<'a>(
     forms: Vec<Value>,
     rest: &'a str,
 ) -> Result<Reading<'a>, AllocError>
-    ensures { IfOk result (λ r. reading_view r
-        ≡ collected (bracket_view bracket) (items_view forms.items) rest.now) }
+    ensures { IfOk result (λ r. form_reading_view r
+        ≡ collection_reading (bracket_view bracket) (items_view forms.items) rest.now) }
 {
     match bracket {
         Bracket::Round => {

@@ -1,6 +1,6 @@
 // What comes next in a text, as far as its first characters tell.
 ghost use Rattle.std.specs.Prelude.{◌≡◌, IfOk};
-ghost use Rattle.repl_reader.specs.Reading.{next, dispatch_at};
+ghost use Rattle.repl_reader.specs.Reading.{next_in, dispatch_at};
 ghost use Rattle.repl_reader.specs.View.{next_view};
 
 use crate::blank::skip_blank;
@@ -22,7 +22,7 @@ pub(crate) enum Next<'a> {
 
 #[tactic(auto, unfolding(crate::specs::Reading::next_by))]
 pub(crate) fn read_next(alloc: Global, text: &str) -> Result<Next<'_>, AllocError>
-    ensures { IfOk result (λ n. next_view n ≡ next text.now) }
+    ensures { IfOk result (λ n. next_view n ≡ next_in text.now) }
 {
     let text = skip_blank(text);
     let [first, ..] = text.as_bytes() else {

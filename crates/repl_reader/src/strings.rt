@@ -3,7 +3,7 @@ ghost use Rattle.std.specs.Prelude.{◌≡◌, ℕ, ◌<◌, ◌≤◌, List, []
 ghost use Rattle.std.specs.List.{position_or_len};
 ghost use Rattle.repl_reader.specs.Reading.{is_escape, escape, contents, string_of, breaks, bad_escape};
 ghost use Rattle.repl_reader.specs.Quoted.{string_from, escape_from};
-ghost use Rattle.repl_reader.specs.View.{reading_view};
+ghost use Rattle.repl_reader.specs.View.{form_reading_view};
 ghost use Rattle.repl_reader.specs.Text.{ends_plain};
 
 use crate::fault::{FaultKind, break_with};
@@ -15,7 +15,7 @@ use std::sync::ArcStr;
 
 /// Reads what follows an opening quote, up to the closing one.
 pub(crate) fn read_string(alloc: Global, text: &str) -> Result<Reading<'_>, AllocError>
-    ensures { IfOk result (λ r. reading_view r ≡ string_of (contents text.now)) }
+    ensures { IfOk result (λ r. form_reading_view r ≡ string_of (contents text.now)) }
 {
     let mut contents = String::new(alloc);
     let mut text = text;
@@ -66,7 +66,7 @@ fn split_escape(text: &str) -> Option<(&'static str, &str)>
 /// The fault of a text behind a backslash.
 #[tactic(auto, unfolding(crate::specs::Reading::bad_escape))]
 fn refuse_escape(alloc: Global, text: &str) -> Result<Reading<'static>, AllocError>
-    ensures { IfOk result (λ r. reading_view r ≡ breaks (bad_escape text.now)) }
+    ensures { IfOk result (λ r. form_reading_view r ≡ breaks (bad_escape text.now)) }
 {
     if text.is_empty() {
         return Ok(Reading::Broken(break_with(alloc, FaultKind::Eof, 0, "")?));

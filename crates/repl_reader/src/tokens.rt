@@ -3,10 +3,10 @@ ghost use Rattle.std.specs.Prelude.{◌≡◌, IfOk};
 ghost use Rattle.std.specs.List.{position_or_len};
 ghost use Rattle.value_data.specs.View.{view};
 ghost use Rattle.repl_reader.specs.Text.{ends_token, token, after_token};
-ghost use Rattle.repl_reader.specs.Token.{begins_number, without_sign, has_leading_zero, integer_of, keyword_of, slashes, touches_slash, is_symbol, symbol_of, word_of, name_of};
+ghost use Rattle.repl_reader.specs.Token.{begins_number, without_sign, has_leading_zero, integer_of, keyword_of, slashes, touches_slash, is_symbol_text, symbol_of, word_of, named_datum};
 ghost use Rattle.repl_reader.specs.Reading.{token_at, breaks};
 ghost use Rattle.repl_reader.specs.Fault.{break_of};
-ghost use Rattle.repl_reader.specs.View.{reading_view, IsValue};
+ghost use Rattle.repl_reader.specs.View.{form_reading_view, IsValue};
 
 use crate::blank::ends_token;
 use crate::fault::{FaultKind, break_with};
@@ -40,7 +40,7 @@ fn split_token(text: &str) -> (&str, &str)
 /// Reads the token at the front.
 #[tactic(auto, unfolding(crate::specs::Reading::token_at))]
 pub(crate) fn read_token(alloc: Global, text: &str) -> Result<Reading<'_>, AllocError>
-    ensures { IfOk result (λ r. reading_view r ≡ token_at text.now) }
+    ensures { IfOk result (λ r. form_reading_view r ≡ token_at text.now) }
 {
     let (token, rest) = split_token(text);
     if begins_number(token) {
@@ -61,7 +61,7 @@ fn refuse(
     left: usize,
     token: &str,
 ) -> Result<Reading<'static>, AllocError>
-    ensures { IfOk result (λ r. reading_view r ≡ breaks (break_of kind left token.now)) }
+    ensures { IfOk result (λ r. form_reading_view r ≡ breaks (break_of kind left token.now)) }
 {
     Ok(Reading::Broken(break_with(alloc, kind, left, token)?))
 }
@@ -106,9 +106,9 @@ fn integer_of(token: &str) -> Option<i64>
 }
 
 /// The value of a token that is no number, if it has one.
-#[tactic(auto, unfolding(crate::specs::Token::name_of))]
+#[tactic(auto, unfolding(crate::specs::Token::named_datum))]
 fn name_of(alloc: Global, token: &str) -> Result<Option<Value>, AllocError>
-    ensures { IfOk result (λ v. IsValue v (name_of token.now)) }
+    ensures { IfOk result (λ v. IsValue v (named_datum token.now)) }
 {
     if token == "nil" {
         Ok(Some(Value::Nil))
@@ -153,9 +153,9 @@ fn symbol_of(alloc: Global, token: &str) -> Result<Option<Value>, AllocError>
 }
 
 /// Whether the token is a slash, or has none, or has one with something on both sides.
-#[tactic(auto, unfolding(crate::specs::Token::is_symbol))]
+#[tactic(auto, unfolding(crate::specs::Token::is_symbol_text))]
 fn is_symbol(token: &[u8]) -> bool
-    ensures { result ≡ is_symbol token.now }
+    ensures { result ≡ is_symbol_text token.now }
 {
     match count_slashes(token) {
         0 => true,

@@ -8,7 +8,7 @@ use Rattle.repl_replies.specs.Replies.{value, output, exception, error_text, don
 use Rattle.repl_replies.specs.Replies.{unknown_op, unknown_session, no_code, no_file}
 use Rattle.repl_replies.specs.Replies.{namespace_not_found, malformed, new_session, sessions}
 use Rattle.repl_replies.specs.Replies.{described, closed, interrupted}
-use Rattle.repl_replies.specs.Requests.{RequestData, HeardData, waits, answered}
+use Rattle.repl_replies.specs.Requests.{RequestData, RequestOrReplyData, waits, answered}
 use Rattle.repl_replies.specs.Operations as meant
 use Rattle.repl_replies.specs.Operations.{OperationData, AskedData}
 use Rattle.repl_replies.specs.declared.operation.Operation.{Operation}
@@ -52,9 +52,9 @@ abbrev pub request_view : Request → RequestData
 request_view r =
     record { origin = origin_view r.origin; code = string_bytes r.code; ns = field_view r.ns }
 
-abbrev pub heard_view : Heard → HeardData
-heard_view (Heard.Waits request) = waits (request_view request)
-heard_view (Heard.Answered reply) = answered (reply_view reply)
+abbrev pub request_or_reply_view : Heard → RequestOrReplyData
+request_or_reply_view (Heard.Waits request) = waits (request_view request)
+request_or_reply_view (Heard.Answered reply) = answered (reply_view reply)
 
 abbrev pub operation_view : Operation → OperationData
 operation_view (Operation.Clone session) = meant.clone session

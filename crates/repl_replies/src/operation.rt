@@ -55,7 +55,7 @@ pub struct Asked {
 /// memory.
 pub fn operation_of<S: OpenSessions>(mut message: Dictionary, sessions: &S) -> Result<Asked, Reply>
     ensures asked { result_map_both asked_view reply_view result
-        ≡ meant.asked (S.number sessions.now) (pairs_view message.entries) }
+        ≡ meant.operation_or_reply (S.number sessions.now) (pairs_view message.entries) }
     // The session of an operation is one that the request names.
     ensures named { IfOk result (λ asked.
         ForSome (session_of (operation_view asked.operation)) (IsNamed (S.number sessions.now))) }
@@ -86,7 +86,7 @@ fn served<S: OpenSessions>(
 ) -> Result<Operation, Body>
     ensures { result_map_both operation_view body_view result
         ≡ (let name = field_view op in
-        meant.served (pairs_view message.entries) name (meant.wanted name)
+        meant.served_operation (pairs_view message.entries) name (meant.operation_of_op name)
         (meant.session_in (S.number sessions.now) (field_view session.now))) }
 {
     match named(&op) {
@@ -96,7 +96,7 @@ fn served<S: OpenSessions>(
 }
 
 fn named(op: &Option<Ben>) -> Option<OperationName>
-    ensures { result ≡ meant.wanted (field_view op.now) }
+    ensures { result ≡ meant.operation_of_op (field_view op.now) }
 {
     match op {
         Some(Ben::String(name)) => OperationName::named(name),

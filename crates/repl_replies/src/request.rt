@@ -2,8 +2,8 @@
 ghost use Rattle.std.specs.Prelude.{◌≡◌, if◌then◌else◌, codes};
 ghost use Rattle.bencode_wire.specs.View.{pairs_view};
 ghost use Rattle.repl_replies.specs.Replies.{unknown_op};
-ghost use Rattle.repl_replies.specs.Requests.{heard, is_string, in_session, refused};
-ghost use Rattle.repl_replies.specs.View.{field_view, origin_view, body_view, heard_view};
+ghost use Rattle.repl_replies.specs.Requests.{request_or_reply, is_this_string, in_session, refused};
+ghost use Rattle.repl_replies.specs.View.{field_view, origin_view, body_view, request_or_reply_view};
 
 use crate::fields::text_of;
 use crate::reply::{Body, Origin, Reply};
@@ -28,7 +28,7 @@ pub enum Heard {
 /// Reads a message. The operation is looked at first, then the session, then the code. Keys that
 /// are not known are ignored.
 pub fn request_of(mut message: Dictionary) -> Heard
-    ensures { heard_view result ≡ heard (pairs_view message.entries) }
+    ensures { request_or_reply_view result ≡ request_or_reply (pairs_view message.entries) }
 {
     let op = take_field(&mut message, b"op");
     let code = take_field(&mut message, b"code");
@@ -39,7 +39,7 @@ pub fn request_of(mut message: Dictionary) -> Heard
 }
 
 fn judged(op: Option<Ben>, code: Option<Ben>, ns: Option<Ben>, origin: Origin) -> Heard
-    ensures { heard_view result ≡ (if is_string (codes "eval") (field_view op)
+    ensures { request_or_reply_view result ≡ (if is_this_string (codes "eval") (field_view op)
         then in_session (origin_view origin) (field_view code) (field_view ns) (field_view origin.session)
         else refused (origin_view origin) (unknown_op (field_view op))) }
 {
@@ -56,13 +56,13 @@ fn judged(op: Option<Ben>, code: Option<Ben>, ns: Option<Ben>, origin: Origin) -
 }
 
 fn answered(origin: Origin, body: Body) -> Heard
-    ensures { heard_view result ≡ refused (origin_view origin) (body_view body) }
+    ensures { request_or_reply_view result ≡ refused (origin_view origin) (body_view body) }
 {
     Heard::Answered(Reply { origin, body })
 }
 
 fn is_eval(op: &Option<Ben>) -> bool
-    ensures { result ≡ is_string (codes "eval") (field_view op.now) }
+    ensures { result ≡ is_this_string (codes "eval") (field_view op.now) }
 {
     match op {
         Some(Ben::String(name)) => name.as_slice() == b"eval".as_slice(),

@@ -21,12 +21,12 @@ abbrev pub quoted : List ℕ → List ℕ
 quoted s = codes "\"" ++ escaped s ++ codes "\""
 
 -- the texts, with the gap between each two
-abbrev pub behind : List ℕ → List (List ℕ) → List ℕ
-behind gap = flat_map (λ text. gap ++ text)
+abbrev pub each_behind : List ℕ → List (List ℕ) → List ℕ
+each_behind gap = flat_map (λ text. gap ++ text)
 
-abbrev pub joined : List ℕ → List (List ℕ) → List ℕ
-joined gap [] = []
-joined gap (text ∷ texts) = text ++ behind gap texts
+abbrev pub joined_by : List ℕ → List (List ℕ) → List ℕ
+joined_by gap [] = []
+joined_by gap (text ∷ texts) = text ++ each_behind gap texts
 
 abbrev pub ref_text : OwnerData → ℕ → List ℕ
 ref_text shared number = codes "#ref[shared/" ++ decimal number ++ codes "]"
@@ -41,9 +41,9 @@ abbrev mutual
   spelled spell (string s) = spell s
   spelled spell (keyword s) = codes ":" ++ s
   spelled spell (symbol s) = s
-  spelled spell (list ds) = codes "(" ++ joined (codes " ") (texts spell ds) ++ codes ")"
-  spelled spell (vector ds) = codes "[" ++ joined (codes " ") (texts spell ds) ++ codes "]"
-  spelled spell (map ps) = codes "{" ++ joined (codes ", ") (pair_texts spell ps) ++ codes "}"
+  spelled spell (list ds) = codes "(" ++ joined_by (codes " ") (texts spell ds) ++ codes ")"
+  spelled spell (vector ds) = codes "[" ++ joined_by (codes " ") (texts spell ds) ++ codes "]"
+  spelled spell (map ps) = codes "{" ++ joined_by (codes ", ") (pair_texts spell ps) ++ codes "}"
   spelled spell (ref owner number) = ref_text owner number
   spelled spell (atom number) = codes "#atom[" ++ decimal number ++ codes "]"
   spelled spell (agent number) = codes "#agent[" ++ decimal number ++ codes "]"

@@ -3,7 +3,7 @@
 
 ghost use Rattle.std.specs.Prelude.{◌≡◌, ◌++◌, OnOk, OnErr, string_bytes, codes, decimal, encode_utf8};
 ghost use Rattle.value_data.specs.View.{view, items_view, pairs_view, owner_view};
-ghost use Rattle.repl_values.specs.Print.{print, display, spelled, texts, pair_texts, joined, escaped, ref_text};
+ghost use Rattle.repl_values.specs.Print.{print, display, spelled, texts, pair_texts, joined_by, escaped, ref_text};
 ghost use Rattle.std.specs.Fmt.{signed_decimal};
 ghost use Rattle.repl_values.specs.Style.{spelling_of};
 
@@ -85,7 +85,7 @@ fn spell(value: &Value, strings: Strings, out: &mut String) -> Result<(), AllocE
 #[cycle(spell)]
 fn spell_items(items: &[Value], strings: Strings, out: &mut String) -> Result<(), AllocError>
     ensures { OnOk result (string_bytes out.new ≡ string_bytes out.old
-        ++ joined (codes " ") (texts (spelling_of strings) (items_view items.now))) }
+        ++ joined_by (codes " ") (texts (spelling_of strings) (items_view items.now))) }
 {
     let Some((first, rest)) = items.split_first() else {
         return Ok(());
@@ -105,7 +105,7 @@ fn spell_pairs(
     out: &mut String,
 ) -> Result<(), AllocError>
     ensures { OnOk result (string_bytes out.new ≡ string_bytes out.old
-        ++ joined (codes ", ") (pair_texts (spelling_of strings) (pairs_view pairs.now))) }
+        ++ joined_by (codes ", ") (pair_texts (spelling_of strings) (pairs_view pairs.now))) }
 {
     let Some(((key, value), rest)) = pairs.split_first() else {
         return Ok(());

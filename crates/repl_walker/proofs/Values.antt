@@ -7,19 +7,19 @@ use Rattle.std.proofs.lemmas.List.{map-append}
 use Rattle.core_texts.specs.Limits.{most_text}
 use Rattle.repl_asks.specs.Transactions.{ChangeData}
 use Rattle.repl_asks.specs.Exchange.{AnswerData}
-use Rattle.tx_attempt.specs.Operations.{OperationData, named_in, value_in}
+use Rattle.tx_attempt.specs.Operations.{AccessData, named_in, value_in}
 use Rattle.evaluation_rules.specs.Doing.{Doing, left, asking, printing, looking, noting}
 use Rattle.repl_walker.specs.Values.{operations_after, values_after}
 
 -- the one list begins as the other
-abbrev Begins : List OperationData → List OperationData → Type 0
-Begins xs ys = (rest : List OperationData) × (xs ≡ ys ++ rest)
+abbrev Begins : List AccessData → List AccessData → Type 0
+Begins xs ys = (rest : List AccessData) × (xs ≡ ys ++ rest)
 
-same : (xs : List OperationData) → Begins xs xs
+same : (xs : List AccessData) → Begins xs xs
 same xs = ([], sym (append-nil xs))
 
 -- the operations so far are the first
-grows : (before : ℕ) (ops : List OperationData) (d : Doing) (answers : List AnswerData)
+grows : (before : ℕ) (ops : List AccessData) (d : Doing) (answers : List AnswerData)
     → Begins (operations_after before ops d answers) ops
 grows before ops (left exit kept) answers = same ops
 grows before ops (asking ask behind) [] = same ops
@@ -27,7 +27,7 @@ grows before ops (asking ask behind) (answer ∷ answers) = grows before ops (be
 grows before ops (printing text kept d) answers =
     at (nat_lt most_text (before + length text)) (grows (before + length text) ops d answers)
   where
-    further : List OperationData
+    further : List AccessData
     further = operations_after (before + length text) ops d answers
 
     at : (b : Bool) → Begins further ops → Begins (if b then ops else further) ops
@@ -39,7 +39,7 @@ grows before ops (noting op d) answers =
     (op ∷ more.0, more.1 ∙ append_assoc ops (op ∷ []) more.0)
 
 stays
-    : (less before : ℕ) (ops : List OperationData) (d : Doing) (answers more : List AnswerData)
+    : (less before : ℕ) (ops : List AccessData) (d : Doing) (answers more : List AnswerData)
     → less ≤ before
     → Begins (operations_after less ops d (answers ++ more)) (operations_after before ops d answers)
 stays less before ops (left exit kept) answers more few = same ops
@@ -50,13 +50,13 @@ stays less before ops (printing text kept d) answers more few =
     at (nat_lt most_text (before + length text)) refl
     (stays (less + length text) (before + length text) ops d answers more (omega (arith, few)))
   where
-    all : List OperationData
+    all : List AccessData
     all = operations_after less ops (printing text kept d) (answers ++ more)
 
-    further : List OperationData
+    further : List AccessData
     further = operations_after (less + length text) ops d (answers ++ more)
 
-    fewer : List OperationData
+    fewer : List AccessData
     fewer = operations_after (before + length text) ops d answers
 
     at : (b : Bool) → nat_lt most_text (before + length text) ≡ b → Begins further fewer
@@ -71,7 +71,7 @@ stays less before ops (looking behind) answers more few =
 stays less before ops (noting op d) answers more few =
     stays less before (ops ++ op ∷ []) d answers more few
 
-abbrev change_in : OperationData → ChangeData
+abbrev change_in : AccessData → ChangeData
 change_in op = record { name = named_in op; now = value_in op }
 
 pub values-stay

@@ -4,13 +4,13 @@ use Rattle.std.specs.Prelude.{if◌then◌else◌}
 use Rattle.core_texts.specs.Limits.{most_text}
 use Rattle.repl_asks.specs.Transactions.{ChangeData}
 use Rattle.repl_asks.specs.Exchange.{AnswerData}
-use Rattle.tx_attempt.specs.Operations.{OperationData, named_in, value_in}
+use Rattle.tx_attempt.specs.Operations.{AccessData, named_in, value_in}
 use Rattle.evaluation_rules.specs.Doing.{Doing, left, asking, printing, looking, noting}
 
 -- Its operations: those so far, and then those up to the first ask that is left without an answer. So
 -- many bytes were printed before it, and what would pass the limit ends it.
 abbrev pub operations_after
-    : ℕ → List OperationData → Doing → List AnswerData → List OperationData
+    : ℕ → List AccessData → Doing → List AnswerData → List AccessData
 operations_after before ops (left exit kept) answers = ops
 operations_after before ops (asking ask behind) [] = ops
 operations_after before ops (asking ask behind) (answer ∷ answers) =

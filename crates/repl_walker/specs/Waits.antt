@@ -4,19 +4,19 @@ use Rattle.repl_asks.specs.Exchange.{AskData, AnswerData, Exchanged}
 use Rattle.repl_asks.specs.View.{ask_view, trace_view}
 use Rattle.repl_jobs.specs.Job.{JobData}
 use Rattle.repl_jobs.specs.View.{job_view, finished_view}
-use Rattle.repl_jobs.specs.Tree.{Tree, finished, asks}
+use Rattle.repl_jobs.specs.Tree.{InteractionTree, finished, asks}
 use Rattle.walker_machine.specs.Waits as machine
 use Rattle.repl_walker.specs.declared.waiting.Walk.{Walk}
 use Rattle.repl_walker.specs.declared.waiting.Progress.{Progress}
 use Rattle.repl_walker.specs.Led.{Recorded}
 
-abbrev pub behind : Walk → AnswerData → Tree
-behind w = machine.behind w.waiting
+abbrev pub tree_behind : Walk → AnswerData → InteractionTree
+tree_behind w = machine.tree_behind w.waiting
 
-abbrev pub walk_tree : Walk → Tree
-walk_tree w = asks (ask_view w.ask) (behind w)
+abbrev pub walk_tree : Walk → InteractionTree
+walk_tree w = asks (ask_view w.ask) (tree_behind w)
 
-abbrev pub progress_tree : Progress → Tree
+abbrev pub progress_tree : Progress → InteractionTree
 progress_tree (Progress.Asks w) = walk_tree w
 progress_tree (Progress.Ends e) = finished (finished_view e.finished)
 

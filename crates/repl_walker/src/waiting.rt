@@ -3,7 +3,7 @@ ghost use Rattle.std.specs.Prelude.{◌≡◌};
 ghost use Rattle.repl_asks.specs.View.{ask_view, trace_view};
 ghost use Rattle.repl_jobs.specs.View.{job_view};
 ghost use Rattle.repl_jobs.specs.Tree.{asks};
-ghost use Rattle.walker_machine.specs.Waits.{behind};
+ghost use Rattle.walker_machine.specs.Waits.{tree_behind};
 ghost use Rattle.repl_walker.specs.Led.{LedTo};
 
 use crate::ending::Ending;
@@ -19,7 +19,7 @@ pub struct Walk {
     pub(crate) ask: Ask,
     pub(crate) waiting: Waiting,
     // Its trace led its job to this ask.
-    ghost led: { LedTo (job_view job) (trace_view trace.items) (asks (ask_view ask) (behind waiting)) },
+    ghost led: { LedTo (job_view job) (trace_view trace.items) (asks (ask_view ask) (tree_behind waiting)) },
 }
 
 /// How far an evaluation came: to its next ask, or to its end.
@@ -55,6 +55,6 @@ impl Walk {
     /// it ensures.
     pub fn comes_from_its_job(&self)
         ensures { LedTo (job_view self.now.job) (trace_view self.now.trace.items)
-            (asks (ask_view self.now.ask) (behind self.now.waiting)) }
+            (asks (ask_view self.now.ask) (tree_behind self.now.waiting)) }
     {}
 }

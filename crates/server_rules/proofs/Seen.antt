@@ -12,9 +12,9 @@ use Rattle.repl_asks.specs.Exchange.{AnswerData, done, value, reading, found, re
 use Rattle.repl_asks.specs.Exchange.{verdict, committed, conflict}
 use Rattle.server_rules.specs.Numbered as numbered
 use Rattle.server_rules.specs.Numbered.{changed_at, Entry, entry, without, map_entry}
-use Rattle.server_rules.specs.Versions.{RefOf, new_ref, with_version, faulted, with_least, with_most}
+use Rattle.server_rules.specs.Versions.{RefOf, new_ref, with_version, with_failed_read, with_least, with_most}
 use Rattle.server_rules.specs.Performed.{Performed, as_was, tells}
-use Rattle.server_rules.specs.Commit.{guarded, touched, fits, all_folded}
+use Rattle.server_rules.specs.Commit.{guarded_refs, touched_refs, intent_fits, all_folded}
 use Rattle.server_rules.specs.Calls.{Call, nothing, makes, begins, leaves_attempt, reads, counts}
 use Rattle.server_rules.specs.Calls.{tells_least, tells_most, sets_least, sets_most, commits}
 use Rattle.server_rules.specs.Calls.{gives_up, number_told}
@@ -65,7 +65,7 @@ made_seen t s d least most = tells (value (datum.ref (tenant t) (length s.refs))
 abbrev pub read_at_seen : ℕ → ℕ → RefNameData → Seen → Option Datum → Performed Seen
 read_at_seen t seat name s (Some d) = tells (reading (found d)) s
 read_at_seen t seat name s None =
-    tells (reading retry) (left_seen seat (changed_seen t name faulted s))
+    tells (reading retry) (left_seen seat (changed_seen t name with_failed_read s))
 
 abbrev pub read_in_seen : ℕ → ℕ → RefNameData → Seen → RefOf Datum → Option ℕ → Performed Seen
 read_in_seen t seat name s r None = as_was s None
@@ -128,8 +128,8 @@ checked_seen t seat intent s true false =
 abbrev pub commit_seen : ℕ → ℕ → IntentData → Seen → Option (List ℕ) → Performed Seen
 commit_seen t seat intent s None = as_was s None
 commit_seen t seat intent s (Some ns) = checked_seen t seat intent s
-    (all_there_seen t (touched intent) s && fits intent)
-    (any_newer_seen t ns (guarded intent) s)
+    (all_there_seen t (touched_refs intent) s && intent_fits intent)
+    (any_newer_seen t ns (guarded_refs intent) s)
 
 abbrev pub given_up_seen : ℕ → Seen → Option AnswerData → Performed Seen
 given_up_seen seat s None = as_was s None
@@ -164,7 +164,7 @@ IsPrivateCall (tells_least name) = IsOwned name.owner
 IsPrivateCall (tells_most name) = IsOwned name.owner
 IsPrivateCall (sets_least name n) = IsOwned name.owner
 IsPrivateCall (sets_most name n) = IsOwned name.owner
-IsPrivateCall (commits seat intent) = AreOwned (touched intent)
+IsPrivateCall (commits seat intent) = AreOwned (touched_refs intent)
 IsPrivateCall (gives_up seat call) = IsPrivateCall call
 IsPrivateCall nothing = ⊤
 IsPrivateCall (makes d least most) = ⊤

@@ -8,7 +8,7 @@ use Rattle.bencode_wire.specs.declared.fault.WireFault.{WireFault}
 use Rattle.repl_asks.specs.Exchange as exchange
 use Rattle.repl_asks.specs.Exchange.{AskData, AnswerData}
 use Rattle.repl_replies.specs.Replies.{ReplyData}
-use Rattle.server_rules.specs.Numbered.{Entry, entry, found, replaced}
+use Rattle.server_rules.specs.Numbered.{Entry, entry, found, with_part}
 use Rattle.server_rules.specs.Store.{Store}
 use Rattle.server_rules.specs.Performed.{Performed}
 use Rattle.server_rules.specs.Calls.{gives_up, performed}
@@ -19,22 +19,22 @@ use Rattle.server_rules.specs.Plan.{EndingData, Deed, hears, starts, asks_for, e
 use Rattle.server_rules.specs.Plan.{StepAnswer, tenant_opened, Outcome, refuses, leaves, Plan, quietly}
 use Rattle.server_rules.specs.Starting.{interrupted_in}
 use Rattle.server_rules.specs.Asking.{call_of, is_allowed, asked_allowed, asked_running, asked_of}
-use Rattle.server_rules.specs.Asking.{when_told, answered}
+use Rattle.server_rules.specs.Asking.{when_told, answer_outcome}
 use Rattle.server_rules.specs.Ending.{with_left_attempt, end_compared, end_checked, end_running, end_of}
-use Rattle.server_rules.specs.Deeds.{for_actor, unless_worn, drained, plan}
+use Rattle.server_rules.specs.Deeds.{for_actor, unless_worn, drain_outcome, plan}
 use Rattle.server_rules.specs.World.{TenantData, World, Step, opens, does, closes}
 use Rattle.server_rules.specs.World.{Stepped, accepted, refused, is_used, open_count, opened_tenant}
-use Rattle.server_rules.specs.World.{open_step, ended_as, done_by, planned, deed_step, close_step}
+use Rattle.server_rules.specs.World.{open_step, ended_as, done_by, planned_step, deed_step, close_step}
 use Rattle.server_rules.specs.World.{with_tenant, step, world_or}
 use Rattle.server_rules.specs.Turns.{whose_step}
-use Rattle.server_rules.specs.View.{Seen, seen, View, tenant_view, part_view, view}
+use Rattle.server_rules.specs.View.{Seen, seen_of, View, tenant_view, part_view, view_for}
 use Rattle.server_rules.specs.Privacy.{IsPrivate, NamesNoShared}
 use Rattle.server_rules.specs.declared.actor.Actor.{Actor}
 use Rattle.server_rules.specs.declared.refusal.Refusal.{Refusal}
-use Rattle.server_rules.proofs.Numbered.{found-other, found-new}
+use Rattle.server_rules.proofs.Numbered.{part_under-other, part_under-new}
 use Rattle.server_rules.proofs.Seen.{performed_seen, IsPrivateCall}
 use Rattle.server_rules.proofs.Sound.{Sound, Sound-higher, Rises, performed-rises}
-use Rattle.server_rules.proofs.Calls.{performed-seen}
+use Rattle.server_rules.proofs.Calls.{performed-seen_of}
 
 -- The step on views
 
@@ -57,7 +57,7 @@ step_seen g t (Some (Some v)) d =
 
 abbrev pub seen_step : ℕ → Stepped → SeenStepped
 seen_step t (refused why) = not_done why
-seen_step t (accepted w answer) = done_so (view t w) answer
+seen_step t (accepted w answer) = done_so (view_for t w) answer
 
 -- A deed that names no shared ref calls none
 
@@ -100,7 +100,7 @@ allowed-private g a actor h run ask q private = by actor.is_closed where
       }
       else record {
         call = call_of (seat_of a) ask;
-        next = λ told. when_told told (answered g a actor h run ask q);
+        next = λ told. when_told told (answer_outcome g a actor h run ask q);
       }) in p).call
   by true = call-private (seat_of a) ask private
   by false = call-private (seat_of a) ask private
@@ -177,12 +177,12 @@ plan-private g t q drains h = tt
 
 -- What is seen of a deed is the deed over what is seen
 
-ended-seen : (w : World) (t : ℕ) (old : Option TenantData) → found t w.tenants ≡ Some old
-    → (s : Store) (o : Outcome) → seen_step t (ended_as w t s o) ≡ ended_seen (seen s.mine) o
-ended-seen w t old here s (refuses why) = refl
-ended-seen w t old here s (leaves q answer) =
+ended-seen_of : (w : World) (t : ℕ) (old : Option TenantData) → found t w.tenants ≡ Some old
+    → (s : Store) (o : Outcome) → seen_step t (ended_as w t s o) ≡ ended_seen (seen_of s.mine) o
+ended-seen_of w t old here s (refuses why) = refl
+ended-seen_of w t old here s (leaves q answer) =
     ap (λ part. done_so (option_map part_view part) answer)
-    (found-new t (Some (record { quiet = q; mine = s.mine })) old w.tenants here)
+    (part_under-new t (Some (record { quiet = q; mine = s.mine })) old w.tenants here)
 
 abbrev pub SoundPart : ℕ → Option (Option TenantData) → Type 0
 SoundPart counter None = ⊤
@@ -204,13 +204,13 @@ deed-seen g w t d (Some None) sound private here = refl
 deed-seen g w t d (Some (Some tenant)) sound private here =
     let p : Plan = plan g t tenant.quiet d in
     let called = performed (store_of w t tenant) p.call in
-    ended-seen w t (Some tenant) here called.store (p.next called.told)
-    ∙ ap (done_seen p) (sym (performed-seen (store_of w t tenant) p.call sound
+    ended-seen_of w t (Some tenant) here called.store (p.next called.told)
+    ∙ ap (done_seen p) (sym (performed-seen_of (store_of w t tenant) p.call sound
     (plan-private g t tenant.quiet d private)))
 
 pub step-seen
     : (g : Ground) (w : World) (t : ℕ) (d : Deed) → SoundWorld w → NamesNoShared d
-    → seen_step t (step g w (does t d)) ≡ step_seen g t (view t w) d
+    → seen_step t (step g w (does t d)) ≡ step_seen g t (view_for t w) d
 unfolding step
 step-seen g w t d sound private = deed-seen g w t d (found t w.tenants) (sound t) private refl
 
@@ -240,7 +240,7 @@ ended-other : (w : World) (t u : ℕ) (s : Store) (o : Outcome) → t ≢ u
     → found t (world_or w (ended_as w u s o)).tenants ≡ found t w.tenants
 ended-other w t u s (refuses why) other = refl
 ended-other w t u s (leaves q answer) other =
-    found-other t u (Some (record { quiet = q; mine = s.mine })) w.tenants other
+    part_under-other t u (Some (record { quiet = q; mine = s.mine })) w.tenants other
 
 deed-other
     : (g : Ground) (w : World) (t u : ℕ) (d : Deed) (part : Option (Option TenantData)) → t ≢ u
@@ -256,7 +256,7 @@ close-other : (w : World) (t u : ℕ) (part : Option (Option TenantData)) → t 
     → found t (world_or w (close_step w u part)).tenants ≡ found t w.tenants
 close-other w t u None other = refl
 close-other w t u (Some None) other = refl
-close-other w t u (Some (Some tenant)) other = found-other t u None w.tenants other
+close-other w t u (Some (Some tenant)) other = part_under-other t u None w.tenants other
 
 pub step-other : (g : Ground) (w : World) (s : Step) (t : ℕ) → t ≢ whose_step s
     → found t (world_or w (step g w s)).tenants ≡ found t w.tenants
@@ -270,11 +270,11 @@ step-other g w (closes u) t other = close-other w t u (found u w.tenants) other
 part-new
     : (counter t u : ℕ) (part old : Option TenantData) (es : List (Entry (Option TenantData)))
     → found u es ≡ Some old → SoundPart counter (Some part) → SoundPart counter (found t es)
-    → SoundPart counter (found t (replaced u part es))
+    → SoundPart counter (found t (with_part u part es))
 part-new counter t u part old es here new kept = elim (cases_eq t u) [
-  | inl same ↦ subst (λ n. SoundPart counter (found n (replaced u part es))) (sym same)
-      (subst (SoundPart counter) (sym (found-new u part old es here)) new)
-  | inr other ↦ subst (SoundPart counter) (sym (found-other t u part es other)) kept
+  | inl same ↦ subst (λ n. SoundPart counter (found n (with_part u part es))) (sym same)
+      (subst (SoundPart counter) (sym (part_under-new u part old es here)) new)
+  | inr other ↦ subst (SoundPart counter) (sym (part_under-other t u part es other)) kept
 ]
 
 part-higher : (a b : ℕ) (part : Option (Option TenantData)) → a ≤ b → SoundPart a part

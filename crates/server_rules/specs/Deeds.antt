@@ -6,7 +6,7 @@ use Rattle.server_rules.specs.Numbered.{found}
 use Rattle.server_rules.specs.Ground.{Ground}
 use Rattle.server_rules.specs.Request.{Hand}
 use Rattle.server_rules.specs.Tenant.{ActorData, seat_of, Quiet}
-use Rattle.server_rules.specs.Hearing.{hearing}
+use Rattle.server_rules.specs.Hearing.{hearing_plan}
 use Rattle.server_rules.specs.Starting.{start_in_hand, start_waiting}
 use Rattle.server_rules.specs.Asking.{asked_of}
 use Rattle.server_rules.specs.Ending.{end_of}
@@ -27,17 +27,17 @@ for_actor (Some actor) plan = plan actor
 abbrev pub unless_worn : Quiet → Plan → Plan
 unless_worn q plan = if q.steps == 0 then quietly (refuses Refusal.Worn) else plan
 
-abbrev pub drained : Quiet → List ReplyData → Outcome
-drained q [] = refuses Refusal.Idle
-drained q (oldest ∷ more) = leaves (record q { replies = more }) (reply_given (bytes_of oldest))
+abbrev pub drain_outcome : Quiet → List ReplyData → Outcome
+drain_outcome q [] = refuses Refusal.Idle
+drain_outcome q (oldest ∷ more) = leaves (record q { replies = more }) (reply_given (bytes_of oldest))
 
 -- the plan of the tenant with this number
 abbrev pub plan : Ground → ℕ → Quiet → Deed → Plan
-plan g t q (hears piece) = hearing g t piece q
+plan g t q (hears piece) = hearing_plan g t piece q
 plan g t q (starts a) = unless_worn q
     (for_actor (found (seat_of a) q.actors) (λ actor. quietly (start_of g a actor q actor.hand)))
 plan g t q (asks_for a ask) = unless_worn q
     (for_actor (found (seat_of a) q.actors) (λ actor. asked_of g a actor ask q actor.hand))
 plan g t q (ends a e) = unless_worn q
     (for_actor (found (seat_of a) q.actors) (λ actor. end_of g a actor e q actor.hand))
-plan g t q drains = quietly (drained q q.replies)
+plan g t q drains = quietly (drain_outcome q q.replies)

@@ -20,9 +20,9 @@ abbrev pub found : {A : Type 0} → ℕ → List (Entry A) → Option A
 found n [] = None
 found n (e ∷ es) = if n == e.number then Some e.part else found n es
 
-abbrev pub replaced : {A : Type 0} → ℕ → A → List (Entry A) → List (Entry A)
-replaced n part [] = []
-replaced n part (e ∷ es) = if n == e.number then entry n part ∷ es else e ∷ replaced n part es
+abbrev pub with_part : {A : Type 0} → ℕ → A → List (Entry A) → List (Entry A)
+with_part n part [] = []
+with_part n part (e ∷ es) = if n == e.number then entry n part ∷ es else e ∷ with_part n part es
 
 abbrev pub without : {A : Type 0} → ℕ → List (Entry A) → List (Entry A)
 without n [] = []

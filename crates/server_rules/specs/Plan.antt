@@ -51,5 +51,5 @@ abbrev pub quietly : Outcome → Plan
 quietly outcome = record { call = nothing; next = λ told. outcome }
 
 -- one step is used up
-abbrev pub spent : Quiet → Quiet
-spent q = record q { steps = q.steps - 1 }
+abbrev pub with_step_spent : Quiet → Quiet
+with_step_spent q = record q { steps = q.steps - 1 }

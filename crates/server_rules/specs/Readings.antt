@@ -3,7 +3,7 @@
 -- are the values of functions.
 use Rattle.std.specs.Prelude.{ℕ, List, Option}
 use Rattle.bencode_wire.specs.Tree.{Tree}
-use Rattle.bencode_wire.specs.Stream.{Ending, Streams}
+use Rattle.bencode_wire.specs.Stream.{StreamEnding, Streams}
 use Rattle.value_data.specs.Datum.{Items}
 use Rattle.repl_reader.specs.Fault.{FaultData}
 use Rattle.repl_reader.specs.Grammar.{IsReading}
@@ -11,7 +11,7 @@ use Rattle.repl_reader.specs.Grammar.{IsReading}
 -- the whole messages of a stream, and how it ends
 pub record StreamData : Type 0 where
   pub messages : List Tree
-  pub ending : Ending
+  pub ending : StreamEnding
 
 -- the forms of a text before its first fault, and that fault
 pub record ProgramData : Type 0 where

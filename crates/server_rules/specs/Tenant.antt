@@ -6,7 +6,7 @@ use Rattle.repl_sessions.specs.Sessions as sessions
 use Rattle.repl_sessions.specs.Sessions.{SessionsData, none_open, with_change}
 use Rattle.name_spaces.specs.Namespaces.{Namespaces, at_start}
 use Rattle.repl_replies.specs.Replies.{ReplyData}
-use Rattle.server_rules.specs.Numbered.{Entry, entry, replaced}
+use Rattle.server_rules.specs.Numbered.{Entry, entry, with_part}
 use Rattle.server_rules.specs.Request.{Waiting, Hand}
 use Rattle.server_rules.specs.Ground.{Ground}
 use Rattle.server_rules.specs.declared.actor.Actor.{Actor}
@@ -57,7 +57,7 @@ abbrev pub is_held : Quiet → Bool
 is_held q = nat_le 1024 (length q.replies)
 
 abbrev pub with_actor : Actor → ActorData → Quiet → Quiet
-with_actor a actor q = record q { actors = replaced (seat_of a) actor q.actors }
+with_actor a actor q = record q { actors = with_part (seat_of a) actor q.actors }
 
 abbrev pub with_replies : List ReplyData → Quiet → Quiet
 with_replies more q = record q { replies = q.replies ++ more }

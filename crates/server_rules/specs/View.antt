@@ -38,8 +38,8 @@ pub record Seen : Type 0 where
   -- when it began
   pub attempts : List (Entry (List ℕ))
 
-abbrev pub seen : Own → Seen
-seen o = record {
+abbrev pub seen_of : Own → Seen
+seen_of o = record {
   refs = map (map_ref content_of) o.refs;
   attempts = map (map_entry (counts_at o.refs)) o.points;
 }
@@ -49,11 +49,11 @@ pub record View : Type 0 where
   pub mine : Seen
 
 abbrev pub tenant_view : TenantData → View
-tenant_view tenant = record { quiet = tenant.quiet; mine = seen tenant.mine }
+tenant_view tenant = record { quiet = tenant.quiet; mine = seen_of tenant.mine }
 
 abbrev pub part_view : Option TenantData → Option View
 part_view = option_map tenant_view
 
 -- nothing where the tenant was never opened, and then its part, if it is not gone
-abbrev pub view : ℕ → World → Option (Option View)
-view t w = option_map part_view (found t w.tenants)
+abbrev pub view_for : ℕ → World → Option (Option View)
+view_for t w = option_map part_view (found t w.tenants)

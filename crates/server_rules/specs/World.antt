@@ -2,7 +2,7 @@
 use Rattle.std.specs.Prelude.{ℕ, ◌+◌, List, [], ◌∷◌, Bool, true, false, ◌||◌, nat_le}
 use Rattle.std.specs.Prelude.{Option, None, Some, if◌then◌else◌}
 use Rattle.repl_asks.specs.Exchange.{AnswerData}
-use Rattle.server_rules.specs.Numbered.{Entry, entry, found, replaced}
+use Rattle.server_rules.specs.Numbered.{Entry, entry, found, with_part}
 use Rattle.server_rules.specs.Versions.{Ref}
 use Rattle.server_rules.specs.Store.{Around, Own, Store}
 use Rattle.server_rules.specs.Performed.{Performed}
@@ -34,8 +34,8 @@ pub data Stepped : Type 0 where
   refused : Refusal → Stepped
 
 -- a server with these shared refs, to which nobody came
-abbrev pub opening : List Ref → World
-opening shared_refs = record {
+abbrev pub new_world : List Ref → World
+new_world shared_refs = record {
   around = record { counter = 0; refs = shared_refs };
   tenants = [];
 }
@@ -65,7 +65,7 @@ open_step g w t =
 -- A tenant's deed
 
 abbrev pub with_tenant : ℕ → Option TenantData → Around → World → World
-with_tenant t part around w = record { around = around; tenants = replaced t part w.tenants }
+with_tenant t part around w = record { around = around; tenants = with_part t part w.tenants }
 
 abbrev pub ended_as : World → ℕ → Store → Outcome → Stepped
 ended_as w t s (refuses why) = refused why
@@ -75,14 +75,14 @@ ended_as w t s (leaves q answer) =
 abbrev pub done_by : World → ℕ → Plan → Performed Store → Stepped
 done_by w t p called = ended_as w t called.store (p.next called.told)
 
-abbrev pub planned : World → ℕ → TenantData → Plan → Stepped
-planned w t tenant p =
+abbrev pub planned_step : World → ℕ → TenantData → Plan → Stepped
+planned_step w t tenant p =
     done_by w t p (performed (record { around = w.around; tenant = t; mine = tenant.mine }) p.call)
 
 abbrev pub deed_step : Ground → World → ℕ → Deed → Option (Option TenantData) → Stepped
 deed_step g w t d None = refused Refusal.NoSuchTenant
 deed_step g w t d (Some None) = refused Refusal.NoSuchTenant
-deed_step g w t d (Some (Some tenant)) = planned w t tenant (plan g t tenant.quiet d)
+deed_step g w t d (Some (Some tenant)) = planned_step w t tenant (plan g t tenant.quiet d)
 
 -- Going: the shared refs stay as they are
 

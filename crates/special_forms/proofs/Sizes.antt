@@ -11,7 +11,7 @@ use Rattle.special_forms.specs.Size.{nodes, items_nodes, pairs_nodes, datum_size
 use Rattle.special_forms.specs.Kinds.{symbol_name, simple_name, in_vector}
 use Rattle.special_forms.specs.Parameters.{parameters}
 use Rattle.special_forms.specs.Shapes.{ShapeData, quoted, bindings, definition, function_definition, thrown, entry, computed_entry}
-use Rattle.special_forms.specs.Shapes.{only, if_shape, when_shape, ns_shape, bound_forms, let_shape, def_shape, function_shape, behind_name, defn_shape, shape_of}
+use Rattle.special_forms.specs.Shapes.{sole_form, if_shape, when_shape, ns_shape, bound_forms, let_shape, def_shape, function_shape, behind_name, defn_shape, shape_of}
 use Rattle.special_forms.specs.Seen.{shape_view}
 use Rattle.special_forms.specs.declared.shapes.Shape.{Shape}
 use Rattle.special_forms.specs.declared.special.SpecialForm.{SpecialForm}
@@ -88,20 +88,20 @@ bound-size (d ∷ e ∷ ds) =
 abbrev pub Sized : Option ShapeData → List Datum → Type 0
 Sized o ds = IfSome o (λ s. shape_size s ≤ forms_size ds)
 
-only-quoted : (ds : List Datum) → Sized (option_map quoted (only ds)) ds
-only-quoted [] = tt
-only-quoted (d ∷ []) = omega arith
-only-quoted (d ∷ e ∷ ds) = tt
+sole_form-quoted : (ds : List Datum) → Sized (option_map quoted (sole_form ds)) ds
+sole_form-quoted [] = tt
+sole_form-quoted (d ∷ []) = omega arith
+sole_form-quoted (d ∷ e ∷ ds) = tt
 
-only-thrown : (ds : List Datum) → Sized (option_map thrown (only ds)) ds
-only-thrown [] = tt
-only-thrown (d ∷ []) = omega (arith, forms_size-cons d [])
-only-thrown (d ∷ e ∷ ds) = tt
+sole_form-thrown : (ds : List Datum) → Sized (option_map thrown (sole_form ds)) ds
+sole_form-thrown [] = tt
+sole_form-thrown (d ∷ []) = omega (arith, forms_size-cons d [])
+sole_form-thrown (d ∷ e ∷ ds) = tt
 
-only-computed : (ds : List Datum) → Sized (option_map computed_entry (only ds)) ds
-only-computed [] = tt
-only-computed (d ∷ []) = omega (arith, forms_size-cons d [])
-only-computed (d ∷ e ∷ ds) = tt
+sole_form-computed : (ds : List Datum) → Sized (option_map computed_entry (sole_form ds)) ds
+sole_form-computed [] = tt
+sole_form-computed (d ∷ []) = omega (arith, forms_size-cons d [])
+sole_form-computed (d ∷ e ∷ ds) = tt
 
 entry-with : (o : Option (List ℕ)) (ds : List Datum) → 1 ≤ forms_size ds → Sized (option_map entry o) ds
 entry-with None ds h = tt
@@ -146,7 +146,7 @@ let-sized (agent n ∷ ds) = tt
 let-sized (var space name ∷ ds) = tt
 let-sized (fault class text ∷ ds) = tt
 
-def-with : (o : Option (List ℕ)) (d : Datum) (ds : List Datum) → Sized (option_and_then (λ s. option_map (λ e. definition s e) (only ds)) o) (d ∷ ds)
+def-with : (o : Option (List ℕ)) (d : Datum) (ds : List Datum) → Sized (option_and_then (λ s. option_map (λ e. definition s e) (sole_form ds)) o) (d ∷ ds)
 def-with None d ds = tt
 def-with (Some s) d [] = tt
 def-with (Some s) d (e ∷ []) = omega (arith, forms_size-cons d (e ∷ []), forms_size-cons e [])
@@ -179,9 +179,9 @@ shape-sized SpecialForm.Or ds = omega arith
 shape-sized SpecialForm.Do ds = omega arith
 shape-sized SpecialForm.Dosync ds = omega arith
 shape-sized SpecialForm.Io ds = omega arith
-shape-sized SpecialForm.Quote ds = only-quoted ds
-shape-sized SpecialForm.Throw ds = only-thrown ds
-shape-sized SpecialForm.InNs ds = only-computed ds
+shape-sized SpecialForm.Quote ds = sole_form-quoted ds
+shape-sized SpecialForm.Throw ds = sole_form-thrown ds
+shape-sized SpecialForm.InNs ds = sole_form-computed ds
 shape-sized SpecialForm.Ns ds = ns-sized ds
 shape-sized SpecialForm.If ds = if-sized ds
 shape-sized SpecialForm.When ds = when-sized ds

@@ -26,8 +26,8 @@ source_view (Source.Pairs t) = in_a_row t.pairs
 abbrev pub forms_view : Forms → List Datum
 forms_view f = drop f.start (take f.end (source_view f.source))
 
-abbrev pub binding_view : Binding → BoundForm
-binding_view b = record { name = arc_str_bytes b.name; form = view b.form }
+abbrev pub let_binding_view : Binding → BoundForm
+let_binding_view b = record { name = arc_str_bytes b.name; form = view b.form }
 
 abbrev pub shape_view : Shape → ShapeData
 shape_view (Shape.Quote form) = quoted (view form)

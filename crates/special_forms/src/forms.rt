@@ -6,8 +6,8 @@ ghost use Rattle.std.specs.Arc.{arc_str_bytes};
 ghost use Rattle.value_data.specs.Listed.{listed};
 ghost use Rattle.value_data.specs.View.{view};
 ghost use Rattle.special_forms.specs.Rows.{in_a_row};
-ghost use Rattle.special_forms.specs.Bindings.{first_of, name_in, bindings_in};
-ghost use Rattle.special_forms.specs.Seen.{source_view, forms_view, binding_view};
+ghost use Rattle.special_forms.specs.Bindings.{first_of, bound_name, bindings_in};
+ghost use Rattle.special_forms.specs.Seen.{source_view, forms_view, let_binding_view};
 
 use repl_values::{Sequence, Table, Value, copy, copy_text};
 use std::alloc::{AllocError, Global};
@@ -138,7 +138,7 @@ impl Forms {
     /// memory.
     pub fn take_binding(&mut self, alloc: Global) -> Result<Option<Binding>, AllocError>
         ensures { IfOk result (λ taken. MatchOption taken (bindings_in (forms_view self.old) ≡ [])
-            (λ bound. bindings_in (forms_view self.old) ≡ binding_view bound ∷ bindings_in (forms_view self.new))) }
+            (λ bound. bindings_in (forms_view self.old) ≡ let_binding_view bound ∷ bindings_in (forms_view self.new))) }
     {
         let Some(symbol) = self.take_first()? else {
             return Ok(None);
@@ -248,7 +248,7 @@ fn shared(source: &Source) -> Result<Source, AllocError>
 
 // The name that a symbol is; what is none has no characters.
 fn name_in(alloc: Global, symbol: &Value) -> Result<ArcStr, AllocError>
-    ensures { IfOk result (λ name. arc_str_bytes name ≡ name_in (view symbol.now)) }
+    ensures { IfOk result (λ name. arc_str_bytes name ≡ bound_name (view symbol.now)) }
 {
     match symbol {
         Value::Symbol(name) => copy_text(name),

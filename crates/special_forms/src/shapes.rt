@@ -96,14 +96,14 @@ fn parts_of(alloc: Global, special: SpecialForm, forms: Forms) -> Result<Option<
 
 // The form that stands alone.
 fn only(mut forms: Forms) -> Result<Option<Value>, AllocError>
-    ensures { IfOk result (λ form. option_map view form ≡ meant.only (forms_view forms)) }
+    ensures { IfOk result (λ form. option_map view form ≡ meant.sole_form (forms_view forms)) }
 {
     let form = forms.take_first()?;
     if forms.is_empty() { Ok(form) } else { Ok(None) }
 }
 
 fn quote(forms: Forms) -> Result<Option<Shape>, AllocError>
-    ensures { IfOk result (λ shape. option_map shape_view shape ≡ option_map meant.quoted (meant.only (forms_view forms))) }
+    ensures { IfOk result (λ shape. option_map shape_view shape ≡ option_map meant.quoted (meant.sole_form (forms_view forms))) }
 {
     match only(forms)? {
         Some(form) => Ok(Some(Shape::Quote(form))),
@@ -112,7 +112,7 @@ fn quote(forms: Forms) -> Result<Option<Shape>, AllocError>
 }
 
 fn throw(forms: Forms) -> Result<Option<Shape>, AllocError>
-    ensures { IfOk result (λ shape. option_map shape_view shape ≡ option_map meant.thrown (meant.only (forms_view forms))) }
+    ensures { IfOk result (λ shape. option_map shape_view shape ≡ option_map meant.thrown (meant.sole_form (forms_view forms))) }
 {
     match only(forms)? {
         Some(form) => Ok(Some(Shape::Throw(form))),
@@ -135,7 +135,7 @@ fn namespace(forms: Forms) -> Result<Option<Shape>, AllocError>
 
 // `(in-ns form)`.
 fn computed_namespace(forms: Forms) -> Result<Option<Shape>, AllocError>
-    ensures { IfOk result (λ shape. option_map shape_view shape ≡ option_map meant.computed_entry (meant.only (forms_view forms))) }
+    ensures { IfOk result (λ shape. option_map shape_view shape ≡ option_map meant.computed_entry (meant.sole_form (forms_view forms))) }
 {
     match only(forms)? {
         Some(form) => Ok(Some(Shape::EnterComputed(form))),

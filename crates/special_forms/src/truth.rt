@@ -9,7 +9,7 @@ use repl_values::Value;
 
 /// Only nil and false are false.
 pub fn is_true(value: &Value) -> bool
-    ensures { result ≡ meant.is_true (view value.now) }
+    ensures { result ≡ meant.is_truthy (view value.now) }
 {
     match value {
         Value::Nil => false,
@@ -20,7 +20,7 @@ pub fn is_true(value: &Value) -> bool
 
 /// The body that a condition with this value chooses.
 pub fn chosen(condition: Value, consequent: Forms, alternative: Forms) -> Forms
-    ensures { result ≡ (if meant.is_true (view condition) then consequent else alternative) }
+    ensures { result ≡ (if meant.is_truthy (view condition) then consequent else alternative) }
 {
     if is_true(&condition) {
         consequent

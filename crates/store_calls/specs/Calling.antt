@@ -6,7 +6,7 @@ use Rattle.std.specs.Prelude.{Result, Ok, Err, if◌then◌else◌, length, code
 use Rattle.std.specs.Str.{bytes_eq}
 use Rattle.value_data.specs.Datum.{Datum, OwnerData, shared, tenant, integer, keyword, ref}
 use Rattle.value_data.specs.Measures.{is_plain}
-use Rattle.repl_faults.specs.Failure.{Failure, ◌>>=◌, wrong_argument, wrong_arity, broken}
+use Rattle.repl_faults.specs.Failure.{Failure, ◌>>=◌, wrong_argument, wrong_arity, broken_rule}
 use Rattle.repl_faults.specs.declared.rule.Rule.{Rule}
 use Rattle.function_names.specs.StoreNames.{store_name_of, store_fits}
 use Rattle.function_names.specs.declared.store.StoreFunction.{StoreFunction}
@@ -54,7 +54,7 @@ is_shared shared = true
 is_shared (tenant t) = false
 
 abbrev pub kept_to : Rule → Bool → Result Bool Failure
-kept_to rule holds = if holds then Ok true else Err (broken rule)
+kept_to rule holds = if holds then Ok true else Err (broken_rule rule)
 
 -- only plain data goes into a ref that all tenants share
 abbrev pub may_hold : OwnerData → Datum → Bool
@@ -111,42 +111,42 @@ ask_for HistoryBound.Greatest name set = max_history name set
 -- Calls
 
 -- `(ref value option number ..)`
-abbrev pub ref_made : List Datum → Result CallData Failure
-ref_made [] = Err (wrong_arity (store_name_of StoreFunction.Ref) 0)
-ref_made (d ∷ ds) =
+abbrev pub ref_call : List Datum → Result CallData Failure
+ref_call [] = Err (wrong_arity (store_name_of StoreFunction.Ref) 0)
+ref_call (d ∷ ds) =
     bounds_in usual_bounds ds >>= λ bounds. Ok (asks_value (new_ref d bounds.least bounds.most))
 
 -- `(deref ref)`
-abbrev pub dereferenced : Datum → Result CallData Failure
-dereferenced d = ref_in StoreFunction.Deref d >>= λ name. Ok (reads name)
+abbrev pub deref_call : Datum → Result CallData Failure
+deref_call d = ref_in StoreFunction.Deref d >>= λ name. Ok (reads name)
 
 -- `(ref-set ref value)`
-abbrev pub ref_set : Bool → Datum → Datum → Result CallData Failure
-ref_set running d e =
+abbrev pub ref_set_call : Bool → Datum → Datum → Result CallData Failure
+ref_set_call running d e =
     ref_in StoreFunction.RefSet d >>= λ name. (kept_to Rule.ATransactionRuns running
     >>= λ _. (kept_to Rule.SharedRefsArePlain (may_hold name.owner e) >>= λ _. Ok (puts name e)))
 
 -- `(ref-history-count ref)`; in a transaction a shared ref's history is not told
-abbrev pub history_counted : Bool → Datum → Result CallData Failure
-history_counted running d =
+abbrev pub history_count_call : Bool → Datum → Result CallData Failure
+history_count_call running d =
     ref_in StoreFunction.HistoryCount d
     >>= λ name. (kept_to Rule.SharedHistoryIsHidden (not running || not (is_shared name.owner))
     >>= λ _. Ok (asks_value (history name)))
 
 -- `(ref-min-history ref)`, `(ref-max-history ref)`
-abbrev pub bound_told : HistoryBound → Datum → Result CallData Failure
-bound_told bound d = ref_in (function_of bound) d >>= λ name. Ok (asks_value (ask_for bound name None))
+abbrev pub tell_bound_call : HistoryBound → Datum → Result CallData Failure
+tell_bound_call bound d = ref_in (function_of bound) d >>= λ name. Ok (asks_value (ask_for bound name None))
 
 -- `(ref-min-history ref number)`, `(ref-max-history ref number)`; not for a shared ref
-abbrev pub bound_set : HistoryBound → Datum → Datum → Result CallData Failure
-bound_set bound d e =
+abbrev pub set_bound_call : HistoryBound → Datum → Datum → Result CallData Failure
+set_bound_call bound d e =
     ref_in (function_of bound) d >>= λ name. (count_in (function_of bound) e
     >>= λ n. (kept_to Rule.SharedBoundsStay (not (is_shared name.owner))
     >>= λ _. Ok (asks_value (ask_for bound name (Some n)))))
 
 -- `(ensure ref)`
-abbrev pub ref_ensured : Bool → Datum → Result CallData Failure
-ref_ensured running d =
+abbrev pub ensure_call : Bool → Datum → Result CallData Failure
+ensure_call running d =
     ref_in StoreFunction.Ensure d >>= λ name. (kept_to Rule.ATransactionRuns running >>= λ _. Ok (ensures name))
 
 abbrev pub altering : Alteration → StoreFunction
@@ -164,17 +164,17 @@ alter_by_value by d e =
     ref_in (altering by) d >>= λ _. Err (wrong_argument (store_name_of (altering by)) e)
 
 abbrev pub call_with : StoreFunction → Bool → List Datum → Result CallData Failure
-call_with StoreFunction.Ref running ds = ref_made ds
-call_with StoreFunction.Deref running (d ∷ []) = dereferenced d
-call_with StoreFunction.RefSet running (d ∷ e ∷ []) = ref_set running d e
+call_with StoreFunction.Ref running ds = ref_call ds
+call_with StoreFunction.Deref running (d ∷ []) = deref_call d
+call_with StoreFunction.RefSet running (d ∷ e ∷ []) = ref_set_call running d e
 call_with StoreFunction.Alter running (d ∷ e ∷ ds) = alter_by_value Alteration.Alter d e
 call_with StoreFunction.Commute running (d ∷ e ∷ ds) = alter_by_value Alteration.Commute d e
-call_with StoreFunction.Ensure running (d ∷ []) = ref_ensured running d
-call_with StoreFunction.HistoryCount running (d ∷ []) = history_counted running d
-call_with StoreFunction.MinHistory running (d ∷ []) = bound_told HistoryBound.Least d
-call_with StoreFunction.MinHistory running (d ∷ e ∷ []) = bound_set HistoryBound.Least d e
-call_with StoreFunction.MaxHistory running (d ∷ []) = bound_told HistoryBound.Greatest d
-call_with StoreFunction.MaxHistory running (d ∷ e ∷ []) = bound_set HistoryBound.Greatest d e
+call_with StoreFunction.Ensure running (d ∷ []) = ensure_call running d
+call_with StoreFunction.HistoryCount running (d ∷ []) = history_count_call running d
+call_with StoreFunction.MinHistory running (d ∷ []) = tell_bound_call HistoryBound.Least d
+call_with StoreFunction.MinHistory running (d ∷ e ∷ []) = set_bound_call HistoryBound.Least d e
+call_with StoreFunction.MaxHistory running (d ∷ []) = tell_bound_call HistoryBound.Greatest d
+call_with StoreFunction.MaxHistory running (d ∷ e ∷ []) = set_bound_call HistoryBound.Greatest d e
 call_with f running ds = Err (wrong_arity (store_name_of f) (length ds))
 
 abbrev pub called_for : Result CallData Failure → CallData
@@ -182,7 +182,7 @@ called_for (Ok call) = call
 called_for (Err f) = refused f
 
 -- a call of the function with these values, while a transaction runs or none does
-unfoldable pub call_of : StoreFunction → Bool → List Datum → CallData
-call_of f running ds =
+unfoldable pub call_data_of : StoreFunction → Bool → List Datum → CallData
+call_data_of f running ds =
     if store_fits f (length ds) then called_for (call_with f running ds)
     else refused (wrong_arity (store_name_of f) (length ds))

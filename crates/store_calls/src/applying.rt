@@ -5,7 +5,7 @@ ghost use Rattle.special_forms.specs.Seen.{views};
 ghost use Rattle.function_names.specs.StoreNames.{store_fits};
 ghost use Rattle.repl_faults.specs.View.{Gives};
 ghost use Rattle.store_calls.specs.Calling as meant;
-ghost use Rattle.store_calls.specs.Parts.{bound_called};
+ghost use Rattle.store_calls.specs.Parts.{bound_call};
 ghost use Rattle.store_calls.specs.View.{call_view};
 
 use crate::altering::Alteration;
@@ -23,7 +23,7 @@ use std::alloc::{AllocError, Global};
 /// The number of values is checked first, then the kinds of all of them from the left, then the
 /// rules of transactions, then those of shared refs. The values are taken and not copied; where a
 /// shared ref is set, the new value is walked once. It fails only for want of memory.
-#[tactic(auto, unfolding(crate::specs::Calling::call_of))]
+#[tactic(auto, unfolding(crate::specs::Calling::call_data_of))]
 pub fn call(
     alloc: Global,
     function: StoreFunction,
@@ -31,7 +31,7 @@ pub fn call(
     values: Vec<Value>,
 ) -> Result<Call, AllocError>
     ensures { IfOk result (λ call. call_view call
-        ≡ meant.call_of function in_transaction (views values.items)) }
+        ≡ meant.call_data_of function in_transaction (views values.items)) }
 {
     if !function.takes(values.len()) {
         let fault = wrong_arity(alloc, function.name(), values.len())?;
@@ -82,7 +82,7 @@ fn call_with(
 
 // `(ref value option count ..)`
 fn ref_made(alloc: Global, value: Value, options: &[Value]) -> Result<Call, ApplyError>
-    ensures { Gives call_view result (meant.ref_made (view value ∷ views options.now)) }
+    ensures { Gives call_view result (meant.ref_call (view value ∷ views options.now)) }
 {
     let bounds = bounds_in(alloc, options)?;
     Ok(Call::AsksValue(Ask::NewRef {
@@ -94,7 +94,7 @@ fn ref_made(alloc: Global, value: Value, options: &[Value]) -> Result<Call, Appl
 
 // `(deref ref)`
 fn dereferenced(alloc: Global, target: &Value) -> Result<Call, ApplyError>
-    ensures { Gives call_view result (meant.dereferenced (view target.now)) }
+    ensures { Gives call_view result (meant.deref_call (view target.now)) }
 {
     let name = ref_of(alloc, StoreFunction::Deref, target)?;
     Ok(Call::Reads(name))
@@ -108,7 +108,7 @@ fn ref_set(
     value: Value,
 ) -> Result<Call, ApplyError>
     ensures { Gives call_view result
-        (meant.ref_set in_transaction (view target.now) (view value)) }
+        (meant.ref_set_call in_transaction (view target.now) (view value)) }
 {
     let name = ref_of(alloc, StoreFunction::RefSet, target)?;
     keep_to(alloc, Rule::ATransactionRuns, in_transaction)?;
@@ -118,7 +118,7 @@ fn ref_set(
 
 // `(ensure ref)`
 fn ref_ensured(alloc: Global, in_transaction: bool, target: &Value) -> Result<Call, ApplyError>
-    ensures { Gives call_view result (meant.ref_ensured in_transaction (view target.now)) }
+    ensures { Gives call_view result (meant.ensure_call in_transaction (view target.now)) }
 {
     let name = ref_of(alloc, StoreFunction::Ensure, target)?;
     keep_to(alloc, Rule::ATransactionRuns, in_transaction)?;
@@ -143,7 +143,7 @@ fn alter_by_value(
 
 // `(ref-history-count ref)`
 fn history_counted(alloc: Global, in_transaction: bool, target: &Value) -> Result<Call, ApplyError>
-    ensures { Gives call_view result (meant.history_counted in_transaction (view target.now)) }
+    ensures { Gives call_view result (meant.history_count_call in_transaction (view target.now)) }
 {
     let name = ref_of(alloc, StoreFunction::HistoryCount, target)?;
     let is_told = !in_transaction || !is_shared(name);
@@ -159,7 +159,7 @@ fn bound_called(
     count: Option<&Value>,
 ) -> Result<Call, ApplyError>
     ensures { Gives call_view result
-        (bound_called bound (view target.now) (option_map (λ v. view v.now) count.entry)) }
+        (bound_call bound (view target.now) (option_map (λ v. view v.now) count.entry)) }
 {
     match count {
         None => bound_told(alloc, bound, target),
@@ -168,7 +168,7 @@ fn bound_called(
 }
 
 fn bound_told(alloc: Global, bound: HistoryBound, target: &Value) -> Result<Call, ApplyError>
-    ensures { Gives call_view result (meant.bound_told bound (view target.now)) }
+    ensures { Gives call_view result (meant.tell_bound_call bound (view target.now)) }
 {
     let name = ref_of(alloc, bound.function(), target)?;
     Ok(Call::AsksValue(bound.ask(name, None)))
@@ -181,7 +181,7 @@ fn bound_set(
     count: &Value,
 ) -> Result<Call, ApplyError>
     ensures { Gives call_view result
-        (meant.bound_set bound (view target.now) (view count.now)) }
+        (meant.set_bound_call bound (view target.now) (view count.now)) }
 {
     let name = ref_of(alloc, bound.function(), target)?;
     let count = count_of(alloc, bound.function(), count)?;

@@ -1,6 +1,6 @@
 // The actors by their names.
 ghost use Rattle.std.specs.Prelude.{◌≡◌, [], ◌∷◌, ◌++◌, find, map, option_map, IfOk, OnOk, OnErr};
-ghost use Rattle.server_rules.specs.Numbered.{entry, found, replaced, without};
+ghost use Rattle.server_rules.specs.Numbered.{entry, found, with_part, without};
 ghost use Rattle.server_rules.specs.Ready.{has_work, actor_at};
 ghost use Rattle.server_rules.specs.Tenant.{seat_of, unoccupied};
 ghost use Rattle.tenant_actors.specs.View.{actor_view, actors_view, AreBelow};
@@ -44,7 +44,7 @@ impl Actors {
     pub fn replace(&mut self, actor: Actor, state: ActorState) -> Option<ActorState>
         ensures was { option_map actor_view result ≡ found (seat_of actor) (actors_view self.old) }
         ensures put { actors_view self.new
-            ≡ replaced (seat_of actor) (actor_view state) (actors_view self.old) }
+            ≡ with_part (seat_of actor) (actor_view state) (actors_view self.old) }
     {
         let Some(place) = self.live.get_mut(&actor) else {
             return None;

@@ -7,7 +7,7 @@ use Rattle.server_rules.specs.Hearing.{stream_fault}
 use Rattle.server_rules.specs.Readings.{message_limit}
 
 -- it has read them, all their messages were taken, and its fault is that of the stream
-pub record Reads (g : Ground) (bytes : List ℕ) (d : Decoder) : Type 0 where
+pub record HasReadAll (g : Ground) (bytes : List ℕ) (d : Decoder) : Type 0 where
   pub stands : Stands message_limit d bytes (g.readings.stream bytes).messages
   pub ready : ready_of d ≡ []
   pub fault : fault_of d ≡ stream_fault g.readings bytes

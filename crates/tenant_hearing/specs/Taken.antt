@@ -11,6 +11,6 @@ abbrev pub told_broken : Bool → List ReplyData
 told_broken true = reply no_origin malformed ∷ []
 told_broken false = []
 
-abbrev pub with_all : Ground → ℕ → List Tree → Bool → Quiet → Quiet
-with_all g t messages is_broken q =
+abbrev pub with_piece : Ground → ℕ → List Tree → Bool → Quiet → Quiet
+with_piece g t messages is_broken q =
     with_replies (told_broken is_broken) (with_messages g t messages q)

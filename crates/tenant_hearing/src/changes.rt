@@ -1,7 +1,7 @@
 // What was changed is undone, without memory.
 ghost use Rattle.std.specs.Prelude.{◌≡◌, ◌<◌, ◌∷◌, ◌++◌, [], vec_len, vec_capacity};
 ghost use Rattle.tenant_actors.specs.View.{actors_view};
-ghost use Rattle.tenant_hearing.specs.Undone.{parts, all_undone, undone};
+ghost use Rattle.tenant_hearing.specs.Undone.{sessions_and_actors, all_undone, undone};
 
 use repl_sessions::Sessions;
 use server_rules::Actor;
@@ -28,8 +28,8 @@ pub(crate) fn note(log: &mut Vec<Change>, change: Change)
 
 // Undoes all that was noted, the newest first.
 pub(crate) fn undo_all(mut log: Vec<Change>, sessions: &mut Sessions, actors: &mut Actors)
-    ensures { parts sessions.new (actors_view actors.new)
-        ≡ all_undone log.items (parts sessions.old (actors_view actors.old)) }
+    ensures { sessions_and_actors sessions.new (actors_view actors.new)
+        ≡ all_undone log.items (sessions_and_actors sessions.old (actors_view actors.old)) }
 {
     while let Some(change) = log.pop() {
         undo(change, sessions, actors);
@@ -37,8 +37,8 @@ pub(crate) fn undo_all(mut log: Vec<Change>, sessions: &mut Sessions, actors: &m
 }
 
 fn undo(change: Change, sessions: &mut Sessions, actors: &mut Actors)
-    ensures { parts sessions.new (actors_view actors.new)
-        ≡ undone change (parts sessions.old (actors_view actors.old)) }
+    ensures { sessions_and_actors sessions.new (actors_view actors.new)
+        ≡ undone change (sessions_and_actors sessions.old (actors_view actors.old)) }
 {
     match change {
         Change::Cloned(number) => {

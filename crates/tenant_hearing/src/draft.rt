@@ -7,8 +7,8 @@ ghost use Rattle.server_rules.specs.Operating.{with_message};
 ghost use Rattle.tenant_actors.specs.View.{actors_view};
 ghost use Rattle.tenant_replies.specs.View.{made_bytes};
 ghost use Rattle.tenant_hearing.specs.Holds.{AreSeated};
-ghost use Rattle.tenant_hearing.specs.Scene.{scene, Comes, IsKept};
-ghost use Rattle.tenant_hearing.specs.Taken.{with_all};
+ghost use Rattle.tenant_hearing.specs.Scene.{scene, FollowsRules, IsKept};
+ghost use Rattle.tenant_hearing.specs.Taken.{with_piece};
 
 use crate::changes::Change;
 use crate::staying::asked_of;
@@ -55,7 +55,7 @@ impl Draft {
         actors: &mut Actors,
     ) -> Result<(), AllocError>
         requires { AreSeated sessions.old (actors_view actors.old) }
-        ensures heard { OnOk result (Comes (λ g t. with_all g t (map view messages.items) is_broken)
+        ensures heard { OnOk result (FollowsRules (λ g t. with_piece g t (map view messages.items) is_broken)
             (scene self.old sessions.old actors.old) (scene self.new sessions.new actors.new)) }
         ensures kept { IsKept (scene self.old sessions.old actors.old)
             (scene self.new sessions.new actors.new) }
@@ -77,7 +77,7 @@ impl Draft {
         actors: &mut Actors,
     ) -> Result<(), AllocError>
         requires { AreSeated sessions.old (actors_view actors.old) }
-        ensures heard { OnOk result (Comes (λ g t. with_message g t (view message))
+        ensures heard { OnOk result (FollowsRules (λ g t. with_message g t (view message))
             (scene self.old sessions.old actors.old) (scene self.new sessions.new actors.new)) }
         ensures kept { IsKept (scene self.old sessions.old actors.old)
             (scene self.new sessions.new actors.new) }
@@ -97,7 +97,7 @@ impl Draft {
         actors: &mut Actors,
     ) -> Result<(), AllocError>
         requires { AreSeated sessions.old (actors_view actors.old) }
-        ensures heard { OnOk result (Comes
+        ensures heard { OnOk result (FollowsRules
             (λ g t. with_message g t (dictionary (pairs_view fields.entries)))
             (scene self.old sessions.old actors.old) (scene self.new sessions.new actors.new)) }
         ensures kept { IsKept (scene self.old sessions.old actors.old)

@@ -10,8 +10,8 @@ ghost use Rattle.server_rules.specs.Tenant.{Quiet};
 ghost use Rattle.tenant_actors.specs.View.{actors_view};
 ghost use Rattle.tenant_replies.specs.View.{waiting_bytes};
 ghost use Rattle.tenant_hearing.specs.Heard.{IsHeard};
-ghost use Rattle.tenant_hearing.specs.Holds.{Holds, AreSeated};
-ghost use Rattle.tenant_hearing.specs.Reads.{Reads};
+ghost use Rattle.tenant_hearing.specs.Holds.{PartsStandFor, AreSeated};
+ghost use Rattle.tenant_hearing.specs.Reads.{HasReadAll};
 
 use crate::taking::take_in;
 use bencode_wire::{Decoder, WireFault};
@@ -36,14 +36,14 @@ pub fn hear(
     requires sound { fault_of decoder.old ≡ None }
     requires seated { AreSeated sessions.old (actors_view actors.old) }
     ensures heard { (g : Ground) (t : ℕ) (q : Quiet) → AreRight g.readings
-        → Reads g q.heard decoder.old
-        → Holds g t q sessions.old (actors_view actors.old) (waiting_bytes outbox.old)
+        → HasReadAll g q.heard decoder.old
+        → PartsStandFor g t q sessions.old (actors_view actors.old) (waiting_bytes outbox.old)
         → IfOk result (λ count. IsHeard g t q piece.now count
         decoder.new sessions.new (actors_view actors.new) (waiting_bytes outbox.new)) }
     ensures ready { ready_of decoder.new ≡ [] }
     ensures seated { AreSeated sessions.new (actors_view actors.new) }
-    ensures stream_stays { (g : Ground) (bytes : List ℕ) → Reads g bytes decoder.old
-        → OnErr result (Reads g bytes decoder.new) }
+    ensures stream_stays { (g : Ground) (bytes : List ℕ) → HasReadAll g bytes decoder.old
+        → OnErr result (HasReadAll g bytes decoder.new) }
     ensures sessions_stay { OnErr result (sessions.new ≡ sessions.old) }
     ensures actors_stay { OnErr result (actors_view actors.new ≡ actors_view actors.old) }
     ensures replies_stay { OnErr result (waiting_bytes outbox.new ≡ waiting_bytes outbox.old) }

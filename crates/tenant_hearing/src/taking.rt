@@ -6,9 +6,9 @@ ghost use Rattle.server_rules.specs.Ground.{Ground};
 ghost use Rattle.server_rules.specs.Tenant.{Quiet};
 ghost use Rattle.tenant_actors.specs.View.{actors_view};
 ghost use Rattle.tenant_replies.specs.View.{made_bytes, waiting_bytes};
-ghost use Rattle.tenant_hearing.specs.Holds.{Holds, AreSeated};
+ghost use Rattle.tenant_hearing.specs.Holds.{PartsStandFor, AreSeated};
 ghost use Rattle.tenant_hearing.specs.Scene.{all_vacated};
-ghost use Rattle.tenant_hearing.specs.Taken.{with_all};
+ghost use Rattle.tenant_hearing.specs.Taken.{with_piece};
 ghost use Rattle.repl_sessions.specs.Leaving.{remaining_named};
 
 use crate::changes::undo_all;
@@ -36,8 +36,8 @@ pub fn take_in(
 ) -> Result<(), AllocError>
     requires { AreSeated sessions.old (actors_view actors.old) }
     ensures taken { (g : Ground) (t : ℕ) (q : Quiet)
-        → Holds g t q sessions.old (actors_view actors.old) (waiting_bytes outbox.old)
-        → OnOk result (Holds g t (with_all g t (map view messages.items) is_broken q)
+        → PartsStandFor g t q sessions.old (actors_view actors.old) (waiting_bytes outbox.old)
+        → OnOk result (PartsStandFor g t (with_piece g t (map view messages.items) is_broken q)
         sessions.new (actors_view actors.new) (waiting_bytes outbox.new)) }
     ensures sessions_stay { OnErr result (sessions.new ≡ sessions.old) }
     ensures actors_stay { OnErr result (actors_view actors.new ≡ actors_view actors.old) }

@@ -8,7 +8,7 @@ use Rattle.repl_replies.specs.Replies.{OriginData, namespace_not_found}
 use Rattle.repl_sessions.specs.State.{StateData}
 use Rattle.server_rules.specs.Ground.{Ground}
 use Rattle.server_rules.specs.Replying.{reply}
-use Rattle.server_rules.specs.Moves.{over, in_hand, closing}
+use Rattle.server_rules.specs.Moves.{over_move, in_hand, closing_move}
 use Rattle.server_rules.specs.Request as rules
 use Rattle.server_rules.specs.Plan.{StepAnswer, form_begun, request_answered}
 use Rattle.server_rules.specs.Starting.{Started, form_job}
@@ -43,8 +43,8 @@ abbrev pub answer_given : Option Job → StepAnswer
 answer_given None = request_answered
 answer_given (Some job) = form_begun (job_view job)
 
-abbrev pub given_by : Option Begun → Option Job
-given_by = option_map (λ b. b.given)
+abbrev pub given_job : Option Begun → Option Job
+given_job = option_map (λ b. b.given)
 
 -- the first of its forms, which is this, begins
 abbrev pub form_begun_with : Ground → rules.Hand → StateData → Datum → Started
@@ -55,21 +55,21 @@ form_begun_with g h state d =
 -- no form of it is left
 abbrev pub request_over : rules.Hand → StateData → Started
 request_over h state =
-    record { move = closing h.origin h.manner h.fault state; answer = request_answered }
+    record { move = closing_move h.origin h.manner h.fault state; answer = request_answered }
 
 -- the namespace that the request names is not there
 abbrev pub not_found : OriginData → StateData → Started
 not_found origin state =
-    record { move = over (reply origin namespace_not_found ∷ []) state; answer = request_answered }
+    record { move = over_move (reply origin namespace_not_found ∷ []) state; answer = request_answered }
 
 -- the request in hand goes on by this start
 pub record GoesOn (s : Started) (h : rules.Hand) (next : NextForm) : Type 0 where
   pub told : Tells s.move next.news
   pub hand : hand_begun h next.begun ≡ s.move.hand
-  pub answer : answer_given (given_by next.begun) ≡ s.answer
+  pub answer : answer_given (given_job next.begun) ≡ s.answer
 
 -- a request is taken up by this start
-pub record TakesUp (s : Started) (made : TakenUp) : Type 0 where
+pub record BeginsRequest (s : Started) (made : TakenUp) : Type 0 where
   pub told : Tells s.move made.news
   pub hand : option_map hand_view made.hand ≡ s.move.hand
   pub answer : answer_given made.given ≡ s.answer

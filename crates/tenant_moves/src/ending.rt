@@ -9,7 +9,7 @@ ghost use Rattle.server_rules.specs.Moves.{form_ended, form_ended_as, form_loade
 ghost use Rattle.server_rules.specs.Moves.{going_on};
 ghost use Rattle.tenant_actors.specs.View.{hand_view};
 ghost use Rattle.tenant_moves.specs.Told.{told_state};
-ghost use Rattle.tenant_moves.specs.Endings.{are_none, last_kept, hand_after, Ends, EndsBy};
+ghost use Rattle.tenant_moves.specs.Endings.{are_none, last_kept, hand_after, EndsForm, EndsFormBy};
 
 use crate::news::News;
 use repl_jobs::{End, Finished};
@@ -39,7 +39,7 @@ pub fn form_ended(
     finished: &Finished,
     state: SessionState,
 ) -> Result<(News, After), AllocError>
-    ensures { IfOk result (Ends
+    ensures { IfOk result (EndsForm
         (form_ended (hand_view hand.now) (finished_view finished.now) (state_view state))
         (hand_view hand.now)) }
 {
@@ -49,7 +49,7 @@ pub fn form_ended(
 }
 
 fn end_form(news: &mut News, hand: &Hand, finished: &Finished) -> Result<After, AllocError>
-    ensures { IfOk result (EndsBy
+    ensures { IfOk result (EndsFormBy
         (form_ended_as (hand_view hand.now) (finished_view finished.now) (told_state news.old)
         (hand_view hand.now).manner) (hand_view hand.now) news.old news.new) }
 {
@@ -64,7 +64,7 @@ fn end_form(news: &mut News, hand: &Hand, finished: &Finished) -> Result<After, 
 }
 
 fn end_here(news: &mut News, hand: &Hand, finished: &Finished) -> Result<After, AllocError>
-    ensures { IfOk result (λ after. EndsBy
+    ensures { IfOk result (λ after. EndsFormBy
         (form_ended_as (hand_view hand.now) (finished_view finished.now) (told_state news.old)
         each_form) (hand_view hand.now) news.old news.new after) }
 {
@@ -75,7 +75,7 @@ fn end_here(news: &mut News, hand: &Hand, finished: &Finished) -> Result<After, 
 }
 
 fn end_elsewhere(news: &mut News, hand: &Hand, finished: &Finished) -> Result<After, AllocError>
-    ensures { IfOk result (λ after. EndsBy
+    ensures { IfOk result (λ after. EndsFormBy
         (form_ended_as (hand_view hand.now) (finished_view finished.now) (told_state news.old)
         each_form_elsewhere) (hand_view hand.now) news.old news.new after) }
 {
@@ -90,7 +90,7 @@ fn end_with_value(
     finished: &Finished,
     value: &Value,
 ) -> Result<After, AllocError>
-    ensures { IfOk result (λ after. EndsBy
+    ensures { IfOk result (λ after. EndsFormBy
         (form_loaded (hand_view hand.now) (finished_view finished.now) (Ok (view value.now))
         (told_state news.old)) (hand_view hand.now) news.old news.new after) }
 {
@@ -113,7 +113,7 @@ fn end_with_fault(
     finished: &Finished,
     fault: &Fault,
 ) -> Result<After, AllocError>
-    ensures { IfOk result (λ after. EndsBy
+    ensures { IfOk result (λ after. EndsFormBy
         (form_loaded (hand_view hand.now) (finished_view finished.now) (Err (failure_of fault.now))
         (told_state news.old)) (hand_view hand.now) news.old news.new after) }
 {
@@ -124,7 +124,7 @@ fn end_with_fault(
 
 // Behind a form whose end was told: the next form comes, or the request is done.
 fn go_on_behind(news: &mut News, hand: &Hand, finished: &Finished) -> Result<After, AllocError>
-    ensures { IfOk result (λ after. EndsBy
+    ensures { IfOk result (λ after. EndsFormBy
         (going_on (record (hand_view hand.now) { namespace = (finished_view finished.now).namespace })
         (hand_view hand.now).forms (told_state news.old)) (hand_view hand.now) news.old news.new after) }
 {

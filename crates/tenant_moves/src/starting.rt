@@ -11,7 +11,7 @@ ghost use Rattle.value_data.specs.View.{view};
 ghost use Rattle.repl_replies.specs.View.{origin_view};
 ghost use Rattle.tenant_actors.specs.View.{hand_view, waiting_view};
 ghost use Rattle.tenant_moves.specs.Starts.{first_of, form_begun_with, request_over, with_run, not_found};
-ghost use Rattle.tenant_moves.specs.Starts.{GoesOn, TakesUp};
+ghost use Rattle.tenant_moves.specs.Starts.{GoesOn, BeginsRequest};
 
 use crate::news::News;
 use crate::request::{Opened, open_request};
@@ -130,7 +130,7 @@ pub fn take_up(
     waiting: &Waiting,
     state: SessionState,
 ) -> Result<TakenUp, AllocError>
-    ensures { (g : Ground) → AreRight g.readings → retries ≡ g.retries → IfOk result (TakesUp
+    ensures { (g : Ground) → AreRight g.readings → retries ≡ g.retries → IfOk result (BeginsRequest
         (text_begun g (namespaces_of spaces.now) (waiting_view waiting.now).origin
         (state_view state) (waiting_view waiting.now).text)) }
 {
@@ -146,7 +146,7 @@ fn take_up_hand(
     hand: Hand,
     state: SessionState,
 ) -> Result<TakenUp, AllocError>
-    ensures { (g : Ground) → retries ≡ g.retries → IfOk result (TakesUp
+    ensures { (g : Ground) → retries ≡ g.retries → IfOk result (BeginsRequest
         (next_begun g (hand_view hand) (state_view state) (hand_view hand).forms)) }
 {
     let NextForm { news, begun } = next_form(alloc, retries, &hand, state)?;
@@ -165,7 +165,7 @@ fn take_up_hand(
 }
 
 fn refuse(alloc: Global, origin: &Origin, state: SessionState) -> Result<TakenUp, AllocError>
-    ensures { IfOk result (TakesUp (not_found (origin_view origin.now) (state_view state))) }
+    ensures { IfOk result (BeginsRequest (not_found (origin_view origin.now) (state_view state))) }
 {
     let mut news = News::new(alloc, state);
     news.batch.add(origin, Body::NamespaceNotFound)?;

@@ -11,10 +11,10 @@ use Rattle.tenant_actors.proofs.EntryLaws.{found_first, without_first}
 use Rattle.tenant_refs.specs.Attempts.{point_at, ArePoints}
 use Rattle.tenant_refs.specs.declared.attempts.Attempts.{Attempts}
 
-pub found-without : {A : Type 0} (m n : ℕ) (es : List (Entry A)) → m ≢ n
+pub part_under-without : {A : Type 0} (m n : ℕ) (es : List (Entry A)) → m ≢ n
     → found m (without n es) ≡ found m es
-found-without m n [] apart = refl
-found-without {A} m n (e ∷ es) apart = by (found-without m n es apart) (n == e.number) refl
+part_under-without m n [] apart = refl
+part_under-without {A} m n (e ∷ es) apart = by (part_under-without m n es apart) (n == e.number) refl
   where
     by : found m (without n es) ≡ found m es → (b : Bool) → (n == e.number) ≡ b
         → found m (without_first b e (without n es))
@@ -25,9 +25,9 @@ found-without {A} m n (e ∷ es) apart = by (found-without m n es apart) (n == e
     by behind false other = ap (λ it. found_first (m == e.number) e.part it) behind
 
 -- one that was taken away is not found
-found-gone : {A : Type 0} (n : ℕ) (es : List (Entry A)) → found n (without n es) ≡ None
-found-gone n [] = refl
-found-gone {A} n (e ∷ es) = by (found-gone n es) (n == e.number) refl where
+part_under-gone : {A : Type 0} (n : ℕ) (es : List (Entry A)) → found n (without n es) ≡ None
+part_under-gone n [] = refl
+part_under-gone {A} n (e ∷ es) = by (part_under-gone n es) (n == e.number) refl where
   by : found n (without n es) ≡ None → (b : Bool) → (n == e.number) ≡ b
       → found n (without_first b e (without n es)) ≡ None
   by behind true same = behind
@@ -47,9 +47,9 @@ points-left old new a points updates are b = by (seat_of a == seat_of b) refl wh
   by true same =
       ap (option_map (λ p. p.stamp)) (updates b
       ∙ ap (λ c. cond c None (point_at old b)) (at-seats a b ∙ same))
-      ∙ sym (found-gone (seat_of b) points)
+      ∙ sym (part_under-gone (seat_of b) points)
       ∙ ap (λ n. found (seat_of b) (without n points)) (sym (eqb-true (seat_of a) (seat_of b) same))
   by false other =
       ap (option_map (λ p. p.stamp)) (updates b
       ∙ ap (λ c. cond c None (point_at old b)) (at-seats a b ∙ other))
-      ∙ are b ∙ sym (found-without (seat_of b) (seat_of a) points (apart-by other))
+      ∙ are b ∙ sym (part_under-without (seat_of b) (seat_of a) points (apart-by other))

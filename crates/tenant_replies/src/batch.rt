@@ -6,7 +6,7 @@ ghost use Rattle.repl_jobs.specs.View.{finished_view};
 ghost use Rattle.repl_replies.specs.Replies.{bytes_of};
 ghost use Rattle.repl_replies.specs.View.{origin_view, body_view};
 ghost use Rattle.server_rules.specs.Replying.{reply, fault_line, fault_replies, output_replies, value_reply};
-ghost use Rattle.server_rules.specs.Moves.{told};
+ghost use Rattle.server_rules.specs.Moves.{end_replies};
 ghost use Rattle.tenant_replies.specs.View.{made_bytes};
 
 use repl_jobs::{End, Finished};
@@ -86,7 +86,7 @@ impl Batch {
     /// Adds how a form ended: first what it printed, and then its value or its fault.
     pub fn add_end(&mut self, origin: &Origin, finished: &Finished) -> Result<(), AllocError>
         ensures { OnOk result (made_bytes self.new
-            ≡ made_bytes self.old ++ map bytes_of (told (origin_view origin.now) (finished_view finished.now))) }
+            ≡ made_bytes self.old ++ map bytes_of (end_replies (origin_view origin.now) (finished_view finished.now))) }
     {
         self.add_output(origin, finished.text())?;
         match finished.end() {

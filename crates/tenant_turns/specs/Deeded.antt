@@ -7,18 +7,18 @@ use Rattle.server_rules.specs.Tenant.{Quiet}
 use Rattle.server_rules.specs.Plan.{Deed, Outcome, Plan}
 use Rattle.server_rules.specs.Deeds.{plan}
 
-pub record Deeded : Type 0 where
+pub record DeedResult : Type 0 where
   pub outcome : Outcome
   -- what the tenant reaches of the refs behind it; it is left so only where the outcome is accepted
   pub store : Store
 
-abbrev pub deeded_as : Plan → Performed Store → Deeded
-deeded_as p called = record { outcome = p.next called.told; store = called.store }
+abbrev pub deed_result_as : Plan → Performed Store → DeedResult
+deed_result_as p called = record { outcome = p.next called.told; store = called.store }
 
 -- a plan with its call of the refs
-abbrev pub carried_out : Store → Plan → Deeded
-carried_out s p = deeded_as p (performed s p.call)
+abbrev pub carried_out : Store → Plan → DeedResult
+carried_out s p = deed_result_as p (performed s p.call)
 
 -- what a deed comes to of the tenant whose store this is
-unfoldable pub deeded : Ground → Store → Quiet → Deed → Deeded
-deeded g s q d = carried_out s (plan g s.tenant q d)
+unfoldable pub deed_result : Ground → Store → Quiet → Deed → DeedResult
+deed_result g s q d = carried_out s (plan g s.tenant q d)

@@ -7,13 +7,13 @@ ghost use Rattle.server_rules.specs.Store.{Store};
 ghost use Rattle.server_rules.specs.Tenant.{Quiet, seat_of};
 ghost use Rattle.server_rules.specs.Plan as deeds;
 ghost use Rattle.server_rules.specs.Request as rules;
-ghost use Rattle.server_rules.specs.Turns.{honest};
+ghost use Rattle.server_rules.specs.Turns.{honest_deed};
 ghost use Rattle.ref_table.specs.Refs.{Refs};
 ghost use Rattle.ref_table.specs.Standing.{counter_of};
 ghost use Rattle.tenant_actors.specs.View.{run_view};
 ghost use Rattle.tenant_turns.specs.Grounds.{IsRight};
 ghost use Rattle.tenant_turns.specs.Turns.{Lone};
-ghost use Rattle.tenant_world.specs.Asking.{exchanged, run_with};
+ghost use Rattle.tenant_world.specs.Asking.{exchange_from, run_with};
 ghost use Rattle.tenant_world.specs.Running.{running_in};
 ghost use Rattle.tenant_world.specs.Standing as world;
 ghost use Rattle.tenant_world.specs.Standing.{replies_of};
@@ -47,11 +47,11 @@ impl Walks {
         requires { counter_of refs.old < u128.MAX }
         ensures done { (g : Ground) (l : Lone) (r : Refs) → IsRight g
             → Stands g (parts tenant.old refs.old self.old) l r → OnOk result
-            (Does g l r (honest g actor (Some (Some l.quiet)))
+            (Does g l r (honest_deed g actor (Some (Some l.quiet)))
             (parts tenant.new refs.new self.new)) }
         ensures refused { (g : Ground) (l : Lone) (r : Refs) → IsRight g
             → Stands g (parts tenant.old refs.old self.old) l r → IfErr result
-            (Refuses g l r (honest g actor (Some (Some l.quiet)))
+            (Refuses g l r (honest_deed g actor (Some (Some l.quiet)))
             (parts tenant.new refs.new self.new)) }
         ensures steps { OnOk result (tenant.old.steps ≡ tenant.new.steps + 1) }
         ensures kept { OnErr result (tenant.new.steps ≡ tenant.old.steps) }
@@ -163,7 +163,7 @@ impl Walks {
         ensures resumed { (run : rules.Run) (w : Walk) (p : Progress)
             → walk_at self.old actor ≡ Some (Progress.Asks w)
             → IsWalkOf run (Progress.Asks w) → walk_at self.new actor ≡ Some p
-            → IsWalkOf (run_with (exchanged (ask_view w.ask) (answer_view answer)) run) p }
+            → IsWalkOf (run_with (exchange_from (ask_view w.ask) (answer_view answer)) run) p }
         ensures others { (b : Actor) → seat_of b ≢ seat_of actor
             → walk_at self.new b ≡ walk_at self.old b }
     {

@@ -13,14 +13,14 @@ use Rattle.server_rules.specs.declared.actor.Actor.{Actor}
 use Rattle.server_rules.specs.declared.refusal.Refusal.{Refusal}
 use Rattle.trace_comparison.specs.Difference.{DiffersFirstAt}
 use Rattle.tenant_turns.specs.Grounds.{IsRight}
-use Rattle.tenant_world.specs.Comparing.{difference, difference_told}
+use Rattle.tenant_world.specs.Comparing.{ending_refusal, difference_told}
 
 -- the traces differ first at this place
 pub differs-so : (g : Ground) → IsRight g → (run : Run) (e : EndingData) (place : ℕ)
     → e.job ≡ run.job → DiffersFirstAt place e.trace run.trace
     → ((m n : ℕ) (xs ys : List Exchanged) → DiffersFirstAt m xs ys → DiffersFirstAt n xs ys → m ≡ n)
     → ((n : ℕ) (xs ys : List Exchanged) → xs ≡ ys → DiffersFirstAt n xs ys → ⊥)
-    → Some (Refusal.TraceMismatch place) ≡ difference g run e
+    → Some (Refusal.TraceMismatch place) ≡ ending_refusal g run e
 differs-so g right run e place job differs unique nowhere =
     by (g.comparisons.difference e.trace run.trace) refl
     ∙ ap (λ b. difference_told b (g.comparisons.difference e.trace run.trace))
@@ -60,7 +60,7 @@ ends-interrupted g a actor e q h run hand running closed = sym (
 
 pub ends-accepted : (g : Ground) (a : Actor) (actor : ActorData) (e : EndingData) (q : Quiet)
     (h : Hand) (run : Run) → actor.hand ≡ Some h → h.running ≡ Some run → actor.is_closed ≡ false
-    → is_held q ≡ false → None ≡ difference g run e
+    → is_held q ≡ false → None ≡ ending_refusal g run e
     → end_accepted a actor h e q ≡ end_of g a actor e q actor.hand
 ends-accepted g a actor e q h run hand running open_still free same = sym (
     runs-so g a actor e q h run hand running

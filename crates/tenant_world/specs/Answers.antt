@@ -8,18 +8,18 @@ use Rattle.tenant_world.specs.declared.answers.Asked.{Asked}
 use Rattle.tenant_world.specs.declared.answers.Ended.{Ended}
 use Rattle.tenant_world.specs.declared.answers.Ending.{Ending}
 
-abbrev pub started_view : Started → StepAnswer
-started_view (Started.Begun job) = form_begun (job_view job)
-started_view Started.Answered = request_answered
-started_view Started.Interrupted = request_interrupted
+abbrev pub start_answer_view : Started → StepAnswer
+start_answer_view (Started.Begun job) = form_begun (job_view job)
+start_answer_view Started.Answered = request_answered
+start_answer_view Started.Interrupted = request_interrupted
 
-abbrev pub asked_view : Asked → StepAnswer
-asked_view (Asked.Answer answer) = ask_answered (answer_view answer)
-asked_view Asked.Interrupted = request_interrupted
+abbrev pub ask_answer_view : Asked → StepAnswer
+ask_answer_view (Asked.Answer answer) = ask_answered (answer_view answer)
+ask_answer_view Asked.Interrupted = request_interrupted
 
-abbrev pub ended_view : Ended → StepAnswer
-ended_view Ended.Finished = form_finished
-ended_view Ended.Interrupted = request_interrupted
+abbrev pub end_answer_view : Ended → StepAnswer
+end_answer_view Ended.Finished = form_finished
+end_answer_view Ended.Interrupted = request_interrupted
 
 abbrev pub ending_view : Ending → EndingData
 ending_view e = record {

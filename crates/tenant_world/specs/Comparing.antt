@@ -11,8 +11,8 @@ difference_told false place = Some (Refusal.TraceMismatch 0)
 difference_told true None = None
 difference_told true (Some place) = Some (Refusal.TraceMismatch place)
 
-abbrev pub difference : Ground → Run → EndingData → Option Refusal
-difference g run e = difference_told (g.comparisons.is_same_job e.job run.job)
+abbrev pub ending_refusal : Ground → Run → EndingData → Option Refusal
+ending_refusal g run e = difference_told (g.comparisons.is_same_job e.job run.job)
     (g.comparisons.difference e.trace run.trace)
 
 abbrev pub refusal_in : {A : Type 0} → Result A Refusal → Option Refusal

@@ -3,7 +3,7 @@ use Rattle.std.specs.Prelude.{◌≡◌, ◌≢◌, ℕ, List}
 use Rattle.bencode_wire.specs.Decoder as decoder
 use Rattle.server_rules.specs.Ground.{Ground}
 use Rattle.server_rules.specs.Readings.{message_limit}
-use Rattle.server_rules.specs.Numbered.{found, replaced}
+use Rattle.server_rules.specs.Numbered.{found, with_part}
 use Rattle.server_rules.specs.Tenant.{ActorData, Quiet, seat_of}
 use Rattle.server_rules.specs.Plan.{StepAnswer, refuses, leaves}
 use Rattle.server_rules.specs.Store.{Store}
@@ -11,7 +11,7 @@ use Rattle.server_rules.specs.declared.actor.Actor.{Actor}
 use Rattle.server_rules.specs.declared.refusal.Refusal.{Refusal}
 use Rattle.tenant_actors.specs.View.{actors_view}
 use Rattle.tenant_replies.specs.View.{waiting_bytes}
-use Rattle.tenant_turns.specs.Deeded.{Deeded}
+use Rattle.tenant_turns.specs.Deeded.{DeedResult}
 use Rattle.tenant_world.specs.Asking.{SharesNoNames}
 use Rattle.tenant_refs.specs.Attempts.{Reaches}
 use Rattle.tenant_world.specs.Memories.{Remembers}
@@ -35,16 +35,16 @@ pub record Lends (g : Ground) (a : Actor) (code : Tenant) (q : Quiet) : Type 0 w
   pub steps : code.steps ≡ q.steps
   pub stream : decoder.Stands message_limit code.decoder q.heard (g.readings.stream q.heard).messages
   pub place : ActorData
-  pub actors : actors_view code.actors ≡ replaced (seat_of a) place q.actors
+  pub actors : actors_view code.actors ≡ with_part (seat_of a) place q.actors
 
 -- the deed is accepted with this answer, and the code stands for the tenant behind it
-pub record Does (g : Ground) (d : Deeded) (code : Tenant) (answer : StepAnswer) : Type 0 where
+pub record AcceptsDeed (g : Ground) (d : DeedResult) (code : Tenant) (answer : StepAnswer) : Type 0 where
   pub after : Quiet
   pub accepted : d.outcome ≡ leaves after answer
   pub stands : Stands g code after d.store
 
 -- the deed of an actor, which leaves every other actor as it was
-pub record DoesBy (g : Ground) (a : Actor) (q : Quiet) (d : Deeded) (code : Tenant)
+pub record AcceptsDeedBy (g : Ground) (a : Actor) (q : Quiet) (d : DeedResult) (code : Tenant)
     (answer : StepAnswer) : Type 0 where
   pub after : Quiet
   pub accepted : d.outcome ≡ leaves after answer
@@ -53,7 +53,7 @@ pub record DoesBy (g : Ground) (a : Actor) (q : Quiet) (d : Deeded) (code : Tena
       → found (seat_of b) after.actors ≡ found (seat_of b) q.actors
 
 -- the deed is refused so, unless for want of memory, and the code stands for the tenant as it was
-pub record Refuses (g : Ground) (q : Quiet) (s : Store) (d : Deeded) (code : Tenant)
+pub record RefusesDeed (g : Ground) (q : Quiet) (s : Store) (d : DeedResult) (code : Tenant)
     (why : Refusal) : Type 0 where
   pub refused : why ≢ Refusal.NoMemory → d.outcome ≡ refuses why
   pub stands : Stands g code q s

@@ -1,7 +1,7 @@
 // What the steps of an actor are given and answered.
 ghost use Rattle.std.specs.Prelude.{◌≡◌};
 ghost use Rattle.tenant_world.specs.Acting.{is_interruption};
-ghost use Rattle.tenant_world.specs.Answers.{started_view, asked_view, ended_view};
+ghost use Rattle.tenant_world.specs.Answers.{start_answer_view, ask_answer_view, end_answer_view};
 
 use repl_asks::{Answer, Exchange};
 use repl_jobs::{Finished, Job};
@@ -44,7 +44,7 @@ pub enum Ended {
 
 impl Started {
     pub(crate) fn is_interrupted(&self) -> bool
-        ensures { result ≡ is_interruption (started_view self.now) }
+        ensures { result ≡ is_interruption (start_answer_view self.now) }
     {
         matches!(self, Started::Interrupted)
     }
@@ -52,7 +52,7 @@ impl Started {
 
 impl Asked {
     pub(crate) fn is_interrupted(&self) -> bool
-        ensures { result ≡ is_interruption (asked_view self.now) }
+        ensures { result ≡ is_interruption (ask_answer_view self.now) }
     {
         matches!(self, Asked::Interrupted)
     }
@@ -60,7 +60,7 @@ impl Asked {
 
 impl Ended {
     pub(crate) fn is_interrupted(self) -> bool
-        ensures { result ≡ is_interruption (ended_view self) }
+        ensures { result ≡ is_interruption (end_answer_view self) }
     {
         matches!(self, Ended::Interrupted)
     }

@@ -13,16 +13,16 @@ ghost use Rattle.server_rules.specs.Calls.{performed};
 ghost use Rattle.server_rules.specs.Store.{Store, left_attempt};
 ghost use Rattle.server_rules.specs.Asking.{asked_of, call_of};
 ghost use Rattle.server_rules.specs.Asking as meant;
-ghost use Rattle.ref_table.specs.Refs.{Refs, after};
+ghost use Rattle.ref_table.specs.Refs.{Refs, refs_after};
 ghost use Rattle.ref_table.specs.Standing.{counter_of};
 ghost use Rattle.tenant_actors.specs.View.{actor_view};
 ghost use Rattle.tenant_replies.specs.View.{waiting_bytes};
 ghost use Rattle.tenant_turns.specs.Deeded.{carried_out};
 ghost use Rattle.tenant_world.specs.Memories.{Remembers, opened_by};
-ghost use Rattle.tenant_world.specs.Answers.{asked_view};
-ghost use Rattle.tenant_world.specs.Acting.{Acted, Declined};
+ghost use Rattle.tenant_world.specs.Answers.{ask_answer_view};
+ghost use Rattle.tenant_world.specs.Acting.{AcceptsOutcome, RefusesOutcome};
 ghost use Rattle.tenant_world.specs.Asking.{SharesNoNames, Answers, answered_plan, is_of_names};
-ghost use Rattle.tenant_refs.specs.Serving.{Holds};
+ghost use Rattle.tenant_refs.specs.Serving.{ServesWithAttempts};
 ghost use Rattle.tenant_refs.specs.Twice.{twice_view, AreTwice};
 
 use crate::acting::interrupt;
@@ -54,16 +54,16 @@ pub(crate) fn ask(
 ) -> Result<Asked, Refusal>
     requires { counter_of refs.old < u128.MAX }
     ensures acted { (g : Ground) (q : Quiet) (s : Store) (r : Refs) → SharesNoNames g
-        → Remembers g s.tenant memory.old q → Holds refs.old attempts.old s r
+        → Remembers g s.tenant memory.old q → ServesWithAttempts refs.old attempts.old s r
         → let d = carried_out s (asked_of g actor (actor_view state.old) (ask_view ask.now) q
         (actor_view state.old).hand) in IfOk result (λ x.
-        Acted g s.tenant actor q d.outcome memory.new (actor_view state.new) (asked_view x)
-        × Holds refs.new attempts.new d.store (after d.store r)) }
+        AcceptsOutcome g s.tenant actor q d.outcome memory.new (actor_view state.new) (ask_answer_view x)
+        × ServesWithAttempts refs.new attempts.new d.store (refs_after d.store r)) }
     ensures declined { (g : Ground) (q : Quiet) (s : Store) (r : Refs) → SharesNoNames g
-        → Remembers g s.tenant memory.old q → Holds refs.old attempts.old s r
+        → Remembers g s.tenant memory.old q → ServesWithAttempts refs.old attempts.old s r
         → let d = carried_out s (asked_of g actor (actor_view state.old) (ask_view ask.now) q
         (actor_view state.old).hand) in IfErr result (λ why.
-        Declined g s.tenant q d.outcome memory.new why × Holds refs.new attempts.new s r) }
+        RefusesOutcome g s.tenant q d.outcome memory.new why × ServesWithAttempts refs.new attempts.new s r) }
     ensures stays { OnErr result (actor_view state.new ≡ actor_view state.old) }
     ensures opened { opened_by memory.new ≡ opened_by memory.old }
     ensures counter { counter_of refs.new ≤ counter_of refs.old + 1 }
@@ -127,18 +127,18 @@ fn give_up(
     ask: &Ask,
 ) -> Result<(), Refusal>
     ensures gone { (g : Ground) (q : Quiet) (s : Store) (r : Refs)
-        → Remembers g s.tenant memory.old q → Holds refs.now attempts.old s r
+        → Remembers g s.tenant memory.old q → ServesWithAttempts refs.now attempts.old s r
         → OnOk result
         ((is_some (performed s (call_of (seat_of actor) (ask_view ask.now))).told ≡ true)
         × Remembers g s.tenant memory.new
         (with_replies (reply (origin_view origin.now) interrupted ∷ []) q)
-        × Holds refs.now attempts.new (left_attempt (seat_of actor) s)
-        (after (left_attempt (seat_of actor) s) r)) }
+        × ServesWithAttempts refs.now attempts.new (left_attempt (seat_of actor) s)
+        (refs_after (left_attempt (seat_of actor) s) r)) }
     ensures stays { (g : Ground) (q : Quiet) (s : Store) (r : Refs)
-        → Remembers g s.tenant memory.old q → Holds refs.now attempts.old s r
+        → Remembers g s.tenant memory.old q → ServesWithAttempts refs.now attempts.old s r
         → IfErr result (λ why. (why ≢ Refusal.NoMemory → (why ≡ Refusal.Idle)
         × ((performed s (call_of (seat_of actor) (ask_view ask.now))).told ≡ None))
-        × Remembers g s.tenant memory.new q × Holds refs.now attempts.new s r) }
+        × Remembers g s.tenant memory.new q × ServesWithAttempts refs.now attempts.new s r) }
     ensures opened { opened_by memory.new ≡ opened_by memory.old }
     ensures free { result ≢ Err Refusal.Held }
 {
@@ -163,18 +163,18 @@ fn answer(
     requires { counter_of refs.old < u128.MAX }
     ensures acted { (g : Ground) (q : Quiet) (s : Store) (r : Refs) (h : rules.Hand)
         (run : rules.Run) → SharesNoNames g → Remembers g s.tenant memory.old q
-        → Holds refs.old attempts.old s r → meant.is_allowed (ask_view ask.now) ≡ true
+        → ServesWithAttempts refs.old attempts.old s r → meant.is_allowed (ask_view ask.now) ≡ true
         → (actor_view state.old).hand ≡ Some h → h.running ≡ Some run
         → let d = carried_out s (answered_plan g actor (actor_view state.old) h run
-        (ask_view ask.now) q) in IfOk result (λ x. Acted g s.tenant actor q d.outcome memory.new
+        (ask_view ask.now) q) in IfOk result (λ x. AcceptsOutcome g s.tenant actor q d.outcome memory.new
         (actor_view state.new) (ask_answered (answer_view x))
-        × Holds refs.new attempts.new d.store (after d.store r)) }
+        × ServesWithAttempts refs.new attempts.new d.store (refs_after d.store r)) }
     ensures declined { (g : Ground) (q : Quiet) (s : Store) (r : Refs) (h : rules.Hand)
         (run : rules.Run) → SharesNoNames g → Remembers g s.tenant memory.old q
-        → Holds refs.old attempts.old s r → meant.is_allowed (ask_view ask.now) ≡ true
+        → ServesWithAttempts refs.old attempts.old s r → meant.is_allowed (ask_view ask.now) ≡ true
         → let d = carried_out s (answered_plan g actor (actor_view state.old) h run
         (ask_view ask.now) q) in IfErr result (λ why.
-        Declined g s.tenant q d.outcome memory.new why × Holds refs.new attempts.new s r) }
+        RefusesOutcome g s.tenant q d.outcome memory.new why × ServesWithAttempts refs.new attempts.new s r) }
     ensures stays { OnErr result (actor_view state.new ≡ actor_view state.old) }
     ensures opened { opened_by memory.new ≡ opened_by memory.old }
     ensures counter { counter_of refs.new ≤ counter_of refs.old + 1 }
@@ -209,16 +209,16 @@ fn told(
 ) -> Result<Option<Twice>, AllocError>
     requires { counter_of refs.old < u128.MAX }
     ensures answered { (g : Ground) (q : Quiet) (s : Store) (r : Refs) → SharesNoNames g
-        → Remembers g s.tenant memory.old q → Holds refs.old attempts.old s r
+        → Remembers g s.tenant memory.old q → ServesWithAttempts refs.old attempts.old s r
         → meant.is_allowed (ask_view ask.now) ≡ true
         → let p = performed s (call_of (seat_of actor) (ask_view ask.now)) in
         IfOk result (λ it. MatchOption it
-        ((p.told ≡ None) × Remembers g s.tenant memory.new q × Holds refs.new attempts.new s r)
+        ((p.told ≡ None) × Remembers g s.tenant memory.new q × ServesWithAttempts refs.new attempts.new s r)
         (λ answer. Answers g s.tenant actor q (ask_view ask.now) p memory.new refs.new attempts.new
         r (twice_view answer))) }
     ensures stays { (g : Ground) (q : Quiet) (s : Store) (r : Refs)
-        → Remembers g s.tenant memory.old q → Holds refs.old attempts.old s r
-        → OnErr result (Remembers g s.tenant memory.new q × Holds refs.new attempts.new s r) }
+        → Remembers g s.tenant memory.old q → ServesWithAttempts refs.old attempts.old s r
+        → OnErr result (Remembers g s.tenant memory.new q × ServesWithAttempts refs.new attempts.new s r) }
     ensures opened { opened_by memory.new ≡ opened_by memory.old }
     ensures counter { counter_of refs.new ≤ counter_of refs.old + 1 }
     ensures untold { IfOk result (λ it. IsNone it → counter_of refs.new ≡ counter_of refs.old) }

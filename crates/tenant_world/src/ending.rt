@@ -11,10 +11,10 @@ ghost use Rattle.tenant_turns.specs.Grounds.{IsRight};
 ghost use Rattle.tenant_turns.specs.Deeded.{carried_out};
 ghost use Rattle.tenant_replies.specs.View.{waiting_bytes};
 ghost use Rattle.tenant_world.specs.Memories.{Remembers, opened_by};
-ghost use Rattle.tenant_world.specs.Answers.{ended_view, ending_view};
+ghost use Rattle.tenant_world.specs.Answers.{end_answer_view, ending_view};
 ghost use Rattle.tenant_refs.specs.Attempts.{Reaches};
-ghost use Rattle.tenant_world.specs.Acting.{Acted, Declined};
-ghost use Rattle.tenant_world.specs.Comparing.{difference, refusal_in};
+ghost use Rattle.tenant_world.specs.Acting.{AcceptsOutcome, RefusesOutcome};
+ghost use Rattle.tenant_world.specs.Comparing.{ending_refusal, refusal_in};
 ghost use Rattle.server_rules.specs.Plan.{form_finished};
 ghost use Rattle.tenant_moves.specs.Endings.{hand_after};
 
@@ -42,13 +42,13 @@ pub(crate) fn end(
         → Remembers g s.tenant memory.old q → Reaches attempts.old s
         → let d = carried_out s (end_of g actor (actor_view state.old) (ending_view ending.now) q
         (actor_view state.old).hand) in IfOk result (λ x.
-        Acted g s.tenant actor q d.outcome memory.new (actor_view state.new) (ended_view x)
+        AcceptsOutcome g s.tenant actor q d.outcome memory.new (actor_view state.new) (end_answer_view x)
         × Reaches attempts.new d.store) }
     ensures declined { (g : Ground) (q : Quiet) (s : Store) → IsRight g
         → Remembers g s.tenant memory.old q → Reaches attempts.old s
         → let d = carried_out s (end_of g actor (actor_view state.old) (ending_view ending.now) q
         (actor_view state.old).hand) in IfErr result (λ why.
-        Declined g s.tenant q d.outcome memory.new why × Reaches attempts.new s) }
+        RefusesOutcome g s.tenant q d.outcome memory.new why × Reaches attempts.new s) }
     ensures stays { OnErr result (actor_view state.new ≡ actor_view state.old) }
     ensures opened { opened_by memory.new ≡ opened_by memory.old }
     ensures held { result ≡ Err Refusal.Held → 0 < length (waiting_bytes memory.old.outbox) }
@@ -78,7 +78,7 @@ pub(crate) fn end(
 fn compare(run: &Run, ending: &Ending<'_>) -> Result<(), Refusal>
     ensures free { IfErr result (λ why. why ≢ Refusal.Held) }
     ensures told { (g : Ground) → IsRight g
-        → refusal_in result ≡ difference g (run_view run.now) (ending_view ending.now) }
+        → refusal_in result ≡ ending_refusal g (run_view run.now) (ending_view ending.now) }
 {
     first_difference_is_unique();
     equal_traces_differ_nowhere();
@@ -101,7 +101,7 @@ fn accept(
 ) -> Result<(), AllocError>
     ensures acted { (g : Ground) (q : Quiet) (s : Store) (h : rules.Hand)
         → Remembers g s.tenant memory.old q → (actor_view state.old).hand ≡ Some h
-        → OnOk result (Acted g s.tenant actor q (carried_out s (end_accepted actor
+        → OnOk result (AcceptsOutcome g s.tenant actor q (carried_out s (end_accepted actor
         (actor_view state.old) h (ending_view ending.now) q)).outcome memory.new
         (actor_view state.new) form_finished) }
     ensures stays { (g : Ground) (t : ℕ) (q : Quiet) → Remembers g t memory.old q

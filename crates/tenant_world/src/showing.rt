@@ -8,7 +8,7 @@ ghost use Rattle.server_rules.specs.Plan.{reply_given};
 ghost use Rattle.tenant_actors.specs.View.{run_view};
 ghost use Rattle.tenant_turns.specs.Grounds.{IsRight};
 ghost use Rattle.server_rules.specs.Store.{Store};
-ghost use Rattle.tenant_turns.specs.Deeded.{deeded};
+ghost use Rattle.tenant_turns.specs.Deeded.{deed_result};
 ghost use Rattle.tenant_turns.specs.Turns.{Lone, actors_of, wire_at};
 ghost use Rattle.tenant_world.specs.Asking.{SharesNoNames};
 ghost use Rattle.tenant_world.specs.Running.{running_in};
@@ -71,8 +71,8 @@ impl Tenant {
             (λ reply. replies_of self.old ≡ reply.items ∷ replies_of self.new) }
         ensures drained { (g : Ground) (q : Quiet) (s : Store) → Stands g self.old q s
             → MatchOption result
-            (Refuses g q s (deeded g s q deeds.drains) self.new Refusal.Idle)
-            (λ reply. Does g (deeded g s q deeds.drains) self.new (reply_given reply.items)) }
+            (Refuses g q s (deed_result g s q deeds.drains) self.new Refusal.Idle)
+            (λ reply. Does g (deed_result g s q deeds.drains) self.new (reply_given reply.items)) }
     {
         self.memory.outbox.take()
     }

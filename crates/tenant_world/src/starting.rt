@@ -2,16 +2,16 @@
 ghost use Rattle.std.specs.Prelude.{◌≡◌, ℕ, None, Some, option_map, IfOk, IfErr, OnErr, ◌<◌, length, Err};
 ghost use Rattle.server_rules.specs.Ground.{Ground};
 ghost use Rattle.server_rules.specs.Request as rules;
-ghost use Rattle.server_rules.specs.Starting.{start_waiting, held_or, started, next_begun};
+ghost use Rattle.server_rules.specs.Starting.{start_waiting, held_or, start_outcome, next_begun};
 ghost use Rattle.server_rules.specs.Tenant.{Quiet, state_of};
 ghost use Rattle.server_rules.specs.Deeds.{start_of};
 ghost use Rattle.tenant_actors.specs.View.{actor_view, hand_view, waiting_view};
-ghost use Rattle.tenant_moves.specs.Starts.{hand_begun, answer_given, given_by};
+ghost use Rattle.tenant_moves.specs.Starts.{hand_begun, answer_given, given_job};
 ghost use Rattle.tenant_turns.specs.Grounds.{IsRight};
 ghost use Rattle.tenant_replies.specs.View.{waiting_bytes};
 ghost use Rattle.tenant_world.specs.Memories.{Remembers, opened_by};
-ghost use Rattle.tenant_world.specs.Answers.{started_view};
-ghost use Rattle.tenant_world.specs.Acting.{Acted, Declined, oldest, with_taken};
+ghost use Rattle.tenant_world.specs.Answers.{start_answer_view};
+ghost use Rattle.tenant_world.specs.Acting.{AcceptsOutcome, RefusesOutcome, oldest, with_next_in_hand};
 
 use crate::acting::interrupt;
 use crate::answers::Started;
@@ -32,11 +32,11 @@ pub(crate) fn start(
     state: &mut ActorState,
 ) -> Result<Started, Refusal>
     ensures acted { (g : Ground) (t : ℕ) (q : Quiet) → IsRight g → retries ≡ g.retries
-        → Remembers g t memory.old q → IfOk result (λ s. Acted g t actor q
+        → Remembers g t memory.old q → IfOk result (λ s. AcceptsOutcome g t actor q
         (start_of g actor (actor_view state.old) q (actor_view state.old).hand)
-        memory.new (actor_view state.new) (started_view s)) }
+        memory.new (actor_view state.new) (start_answer_view s)) }
     ensures declined { (g : Ground) (t : ℕ) (q : Quiet) → IsRight g → retries ≡ g.retries
-        → Remembers g t memory.old q → IfErr result (Declined g t q
+        → Remembers g t memory.old q → IfErr result (RefusesOutcome g t q
         (start_of g actor (actor_view state.old) q (actor_view state.old).hand) memory.new) }
     ensures stays { OnErr result (actor_view state.new ≡ actor_view state.old) }
     ensures opened { opened_by memory.new ≡ opened_by memory.old }
@@ -65,14 +65,14 @@ fn start_form(
 ) -> Result<Started, Refusal>
     ensures acted { (g : Ground) (t : ℕ) (q : Quiet) (h : rules.Hand) → retries ≡ g.retries
         → Remembers g t memory.old q → (actor_view state.old).hand ≡ Some h
-        → IfOk result (λ s. Acted g t actor q
-        (held_or q (started actor (actor_view state.old)
+        → IfOk result (λ s. AcceptsOutcome g t actor q
+        (held_or q (start_outcome actor (actor_view state.old)
         (next_begun g h (state_of actor q) h.forms) q))
-        memory.new (actor_view state.new) (started_view s)) }
+        memory.new (actor_view state.new) (start_answer_view s)) }
     ensures declined { (g : Ground) (t : ℕ) (q : Quiet) (h : rules.Hand) → retries ≡ g.retries
         → Remembers g t memory.old q → (actor_view state.old).hand ≡ Some h
-        → IfErr result (Declined g t q
-        (held_or q (started actor (actor_view state.old)
+        → IfErr result (RefusesOutcome g t q
+        (held_or q (start_outcome actor (actor_view state.old)
         (next_begun g h (state_of actor q) h.forms) q)) memory.new) }
     ensures stays { OnErr result (actor_view state.new ≡ actor_view state.old) }
     ensures opened { opened_by memory.new ≡ opened_by memory.old }
@@ -94,7 +94,7 @@ fn start_form(
 fn put_begun(alloc: Global, state: &mut ActorState, begun: Option<Begun>) -> Started
     ensures hand { (h : rules.Hand) → (actor_view state.old).hand ≡ Some h
         → actor_view state.new ≡ record (actor_view state.old) { hand = hand_begun h begun } }
-    ensures answer { started_view result ≡ answer_given (given_by begun) }
+    ensures answer { start_answer_view result ≡ answer_given (given_job begun) }
 {
     match begun {
         Some(Begun { job, given }) => {
@@ -118,12 +118,12 @@ fn start_request(
 ) -> Result<Started, Refusal>
     ensures acted { (g : Ground) (t : ℕ) (q : Quiet) → IsRight g → retries ≡ g.retries
         → Remembers g t memory.old q → (actor_view state.old).hand ≡ None
-        → IfOk result (λ s. Acted g t actor q
+        → IfOk result (λ s. AcceptsOutcome g t actor q
         (start_waiting g actor (actor_view state.old) q (actor_view state.old).waiting)
-        memory.new (actor_view state.new) (started_view s)) }
+        memory.new (actor_view state.new) (start_answer_view s)) }
     ensures declined { (g : Ground) (t : ℕ) (q : Quiet) → IsRight g → retries ≡ g.retries
         → Remembers g t memory.old q → (actor_view state.old).hand ≡ None
-        → IfErr result (Declined g t q
+        → IfErr result (RefusesOutcome g t q
         (start_waiting g actor (actor_view state.old) q (actor_view state.old).waiting)
         memory.new) }
     ensures stays { OnErr result (actor_view state.new ≡ actor_view state.old) }
@@ -152,14 +152,14 @@ fn oldest(state: &ActorState) -> Option<&Waiting>
 // The oldest request waits no longer, and what is in hand is this.
 fn put_taken(state: &mut ActorState, hand: Option<Hand>)
     ensures { actor_view state.new
-        ≡ with_taken (option_map hand_view hand) (actor_view state.old) }
+        ≡ with_next_in_hand (option_map hand_view hand) (actor_view state.old) }
 {
     drop(state.waiting.pop_front());
     state.hand = hand;
 }
 
 fn answer_of(given: Option<Job>) -> Started
-    ensures { started_view result ≡ answer_given given }
+    ensures { start_answer_view result ≡ answer_given given }
 {
     match given {
         Some(job) => Started::Begun(job),

@@ -6,19 +6,19 @@ ghost use Rattle.server_rules.specs.Ground.{Ground};
 ghost use Rattle.server_rules.specs.Store.{Store};
 ghost use Rattle.server_rules.specs.Tenant.{ActorData, Quiet, seat_of};
 ghost use Rattle.server_rules.specs.Plan as deeds;
-ghost use Rattle.server_rules.specs.Plan.{Plan, spent};
+ghost use Rattle.server_rules.specs.Plan.{Plan, with_step_spent};
 ghost use Rattle.server_rules.specs.Deeds.{for_actor, unless_worn};
 ghost use Rattle.server_rules.specs.Numbered.{found};
-ghost use Rattle.ref_table.specs.Refs.{Refs, after as refs_after};
+ghost use Rattle.ref_table.specs.Refs.{Refs, refs_after as refs_after};
 ghost use Rattle.ref_table.specs.Standing.{counter_of};
 ghost use Rattle.tenant_actors.specs.View.{actor_view, actors_view};
-ghost use Rattle.tenant_turns.specs.Deeded.{carried_out, deeded};
+ghost use Rattle.tenant_turns.specs.Deeded.{carried_out, deed_result};
 ghost use Rattle.tenant_turns.specs.Grounds.{IsRight};
-ghost use Rattle.tenant_world.specs.Answers.{started_view, asked_view, ended_view, ending_view};
-ghost use Rattle.tenant_world.specs.Acting.{left_by};
+ghost use Rattle.tenant_world.specs.Answers.{start_answer_view, ask_answer_view, end_answer_view, ending_view};
+ghost use Rattle.tenant_world.specs.Acting.{actors_after};
 ghost use Rattle.tenant_refs.specs.Attempts.{Reaches};
 ghost use Rattle.tenant_world.specs.Memories.{Remembers};
-ghost use Rattle.tenant_refs.specs.Serving.{Serves};
+ghost use Rattle.tenant_refs.specs.Serving.{TableServes};
 
 use crate::answers::{Asked, Ended, Ending, Started};
 use crate::asking::ask;
@@ -38,10 +38,10 @@ impl Tenant {
     /// The actor begins its next form, or takes up its next request.
     pub fn start(&mut self, actor: Actor) -> Result<Started, Refusal>
         ensures done { (g : Ground) (q : Quiet) (s : Store) → IsRight g → Stands g self.old q s
-            → IfOk result (λ x. DoesBy g actor q (deeded g s q (deeds.starts actor)) self.new
-            (started_view x)) }
+            → IfOk result (λ x. DoesBy g actor q (deed_result g s q (deeds.starts actor)) self.new
+            (start_answer_view x)) }
         ensures refused { (g : Ground) (q : Quiet) (s : Store) → IsRight g → Stands g self.old q s
-            → IfErr result (Refuses g q s (deeded g s q (deeds.starts actor)) self.new) }
+            → IfErr result (Refuses g q s (deed_result g s q (deeds.starts actor)) self.new) }
         ensures steps { OnOk result (self.old.steps ≡ self.new.steps + 1) }
         ensures kept { OnErr result (self.new.steps ≡ self.old.steps) }
         ensures held { result ≡ Err Refusal.Held → 0 < length (replies_of self.old) }
@@ -78,14 +78,14 @@ impl Tenant {
     ) -> Result<Asked, Refusal>
         requires { counter_of refs.old < u128.MAX }
         ensures done { (g : Ground) (q : Quiet) (s : Store) (r : Refs) → IsRight g
-            → Stands g self.old q s → Serves refs.old s r
-            → let d = deeded g s q (deeds.asks_for actor (ask_view asked.now)) in
-            IfOk result (λ x. DoesBy g actor q d self.new (asked_view x)
-            × Serves refs.new d.store (refs_after d.store r)) }
+            → Stands g self.old q s → TableServes refs.old s r
+            → let d = deed_result g s q (deeds.asks_for actor (ask_view asked.now)) in
+            IfOk result (λ x. DoesBy g actor q d self.new (ask_answer_view x)
+            × TableServes refs.new d.store (refs_after d.store r)) }
         ensures refused { (g : Ground) (q : Quiet) (s : Store) (r : Refs) → IsRight g
-            → Stands g self.old q s → Serves refs.old s r
-            → let d = deeded g s q (deeds.asks_for actor (ask_view asked.now)) in
-            IfErr result (λ why. Refuses g q s d self.new why × Serves refs.new s r) }
+            → Stands g self.old q s → TableServes refs.old s r
+            → let d = deed_result g s q (deeds.asks_for actor (ask_view asked.now)) in
+            IfErr result (λ why. Refuses g q s d self.new why × TableServes refs.new s r) }
         ensures steps { OnOk result (self.old.steps ≡ self.new.steps + 1) }
         ensures kept { OnErr result (self.new.steps ≡ self.old.steps) }
         ensures counter { counter_of refs.new ≤ counter_of refs.old + 1 }
@@ -117,9 +117,9 @@ impl Tenant {
     pub fn end_form(&mut self, actor: Actor, ending: &Ending<'_>) -> Result<Ended, Refusal>
         ensures done { (g : Ground) (q : Quiet) (s : Store) → IsRight g → Stands g self.old q s
             → IfOk result (λ x. DoesBy g actor q
-            (deeded g s q (deeds.ends actor (ending_view ending.now))) self.new (ended_view x)) }
+            (deed_result g s q (deeds.ends actor (ending_view ending.now))) self.new (end_answer_view x)) }
         ensures refused { (g : Ground) (q : Quiet) (s : Store) → IsRight g → Stands g self.old q s
-            → IfErr result (Refuses g q s (deeded g s q (deeds.ends actor (ending_view ending.now)))
+            → IfErr result (Refuses g q s (deed_result g s q (deeds.ends actor (ending_view ending.now)))
             self.new) }
         ensures steps { OnOk result (self.old.steps ≡ self.new.steps + 1) }
         ensures kept { OnErr result (self.new.steps ≡ self.old.steps) }
@@ -149,7 +149,7 @@ impl Tenant {
     // as most are that go round the actors; so it is found out before the state is taken out.
     fn is_idle(&self, actor: Actor) -> bool
         ensures { result ≡ true → (g : Ground) (q : Quiet) (s : Store) → Stands g self.now q s
-            → (deeded g s q (deeds.starts actor)).outcome ≡ deeds.refuses Refusal.Idle }
+            → (deed_result g s q (deeds.starts actor)).outcome ≡ deeds.refuses Refusal.Idle }
     {
         match self.actors.get(actor) {
             Some(state) => self.steps > 0 && !state.has_work(),
@@ -188,8 +188,8 @@ impl Tenant {
         ensures steps { self.old.steps ≡ self.new.steps + 1 }
         ensures stands { (g : Ground) (q after : Quiet) (s : Store) → Lends g actor self.old q
             → Remembers g s.tenant self.old.memory after → Reaches self.old.attempts s
-            → after.actors ≡ left_by is_interrupted actor (actor_view state) q.actors
-            → after.steps ≡ q.steps → after.heard ≡ q.heard → Stands g self.new (spent after) s }
+            → after.actors ≡ actors_after is_interrupted actor (actor_view state) q.actors
+            → after.steps ≡ q.steps → after.heard ≡ q.heard → Stands g self.new (with_step_spent after) s }
     {
         put_back(&mut self.actors, actor, state, is_interrupted);
         self.steps -= 1;
@@ -210,7 +210,7 @@ impl Tenant {
 // The actor is as its step left it, or gone.
 fn put_back(actors: &mut Actors, actor: Actor, state: ActorState, is_gone: bool)
     ensures { actors_view actors.new
-        ≡ left_by is_gone actor (actor_view state) (actors_view actors.old) }
+        ≡ actors_after is_gone actor (actor_view state) (actors_view actors.old) }
 {
     if is_gone {
         actors.remove(actor);

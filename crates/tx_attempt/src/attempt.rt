@@ -31,7 +31,7 @@ impl Attempt {
     ghost use Rattle.tx_attempt.specs.Seen.{operations_of};
 
     /// An attempt that begins. It takes no memory.
-    #[tactic(auto, unfolding(crate::specs::Seen::operations_of, crate::specs::Operations::is_commuted))]
+    #[tactic(auto, unfolding(crate::specs::Seen::accesses_of, crate::specs::Operations::is_commuted))]
     pub fn new(alloc: Global) -> Attempt
         ensures { operations_of result ≡ [] }
     {
@@ -44,7 +44,7 @@ impl Attempt {
 
     /// The value of a ref in this attempt, if an operation named it: that of the last one. It takes
     /// about the logarithm of the number of refs that were named, and no memory.
-    #[tactic(auto, unfolding(crate::specs::Seen::operations_of))]
+    #[tactic(auto, unfolding(crate::specs::Seen::accesses_of))]
     pub fn value_of(&self, name: RefName) -> Option<&Value>
         ensures { option_map (λ v. view v.now) result
             ≡ value_of (name_view name) (operations_of self.now) }
@@ -110,7 +110,7 @@ impl Attempt {
         self.note(Operation::Ensured { name, value })
     }
 
-    #[tactic(auto, unfolding(crate::specs::Seen::operations_of))]
+    #[tactic(auto, unfolding(crate::specs::Seen::accesses_of))]
     fn is_commuted(&self, name: RefName) -> bool
         ensures { result ≡ is_commuted (name_view name) (operations_of self.now) }
     {
@@ -129,7 +129,7 @@ impl Attempt {
     }
 
     // Each takes about the logarithm of the number of refs.
-    #[tactic(auto, unfolding(crate::specs::Seen::operations_of))]
+    #[tactic(auto, unfolding(crate::specs::Seen::accesses_of))]
     fn note(&mut self, operation: Operation) -> Result<(), AllocError>
         ensures noted { OnOk result (operations_of self.new
             ≡ operations_of self.old ++ operation_view operation ∷ []) }

@@ -5,7 +5,7 @@ ghost use Rattle.repl_asks.specs.View.{name_view, commute_view, commuted_view};
 ghost use Rattle.tx_attempt.specs.Operations.{same_name, is_among, commute_of, commutes_of};
 ghost use Rattle.tx_attempt.specs.Operations.{commuted_refs};
 ghost use Rattle.tx_attempt.specs.Groups.{commutes_in, in_order};
-ghost use Rattle.tx_attempt.specs.Seen.{operations_of};
+ghost use Rattle.tx_attempt.specs.Seen.{accesses_of};
 
 use crate::attempt::Attempt;
 use crate::key::Key;
@@ -95,7 +95,7 @@ impl Attempt {
     // What was applied to each ref that was commuted and not set.
     pub(crate) fn commuted(&self) -> Result<Vec<Commuted>, AllocError>
         ensures { IfOk result (λ all. map commuted_view all.items
-            ≡ map (commutes_of (operations_of self.now)) (commuted_refs (operations_of self.now))) }
+            ≡ map (commutes_of (accesses_of self.now)) (commuted_refs (accesses_of self.now))) }
     {
         let put = self.refs(Deed::Set)?;
         let groups = self.groups()?.without(&put);
@@ -104,10 +104,10 @@ impl Attempt {
     }
 
     // What was applied to each ref.
-    #[tactic(auto, unfolding(crate::specs::Seen::operations_of))]
+    #[tactic(auto, unfolding(crate::specs::Seen::accesses_of))]
     fn groups(&self) -> Result<Groups, AllocError>
         ensures { IfOk result (λ groups. (n : RefNameData) → commutes_in ⟦<Key as Ord>⟧.cmp groups n
-            ≡ filter_map (commute_of n) (operations_of self.now)) }
+            ≡ filter_map (commute_of n) (accesses_of self.now)) }
     {
         let mut groups = Groups::new(self.alloc);
         for operation in &self.operations {

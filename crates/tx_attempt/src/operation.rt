@@ -4,8 +4,8 @@ ghost use Rattle.value_data.specs.View.{view};
 ghost use Rattle.repl_asks.specs.View.{name_view};
 ghost use Rattle.tx_attempt.specs.Operations.{named_in, value_in};
 ghost use Rattle.tx_attempt.specs.Operations.{ref_put, ref_commuted, ref_ensured};
-ghost use Rattle.tx_attempt.specs.Parts.{ref_of};
-ghost use Rattle.tx_attempt.specs.View.{operation_view};
+ghost use Rattle.tx_attempt.specs.Parts.{ref_accessed};
+ghost use Rattle.tx_attempt.specs.View.{access_view};
 
 use function_names::CoreFunction;
 use repl_values::{RefName, Value};
@@ -48,7 +48,7 @@ pub(crate) enum Deed {
 impl Operation {
     // The ref that it names.
     pub(crate) fn name(&self) -> RefName
-        ensures { name_view result ≡ named_in (operation_view self.now) }
+        ensures { name_view result ≡ named_in (access_view self.now) }
     {
         match self {
             Operation::Got { name, .. } => *name,
@@ -59,7 +59,7 @@ impl Operation {
     }
 
     pub(crate) fn value(&self) -> &Value
-        ensures { view result.now ≡ value_in (operation_view self.now) }
+        ensures { view result.now ≡ value_in (access_view self.now) }
     {
         match self {
             Operation::Got { value, .. } => value,
@@ -71,7 +71,7 @@ impl Operation {
 
     // The ref to which it does this, if it does.
     pub(crate) fn ref_of(&self, deed: Deed) -> Option<RefName>
-        ensures { option_map name_view result ≡ ref_of deed (operation_view self.now) }
+        ensures { option_map name_view result ≡ ref_accessed deed (access_view self.now) }
     {
         match deed {
             Deed::Set => self.ref_put(),
@@ -81,7 +81,7 @@ impl Operation {
     }
 
     fn ref_put(&self) -> Option<RefName>
-        ensures { option_map name_view result ≡ ref_put (operation_view self.now) }
+        ensures { option_map name_view result ≡ ref_put (access_view self.now) }
     {
         match self {
             Operation::Set { name, .. } => Some(*name),
@@ -90,7 +90,7 @@ impl Operation {
     }
 
     fn ref_commuted(&self) -> Option<RefName>
-        ensures { option_map name_view result ≡ ref_commuted (operation_view self.now) }
+        ensures { option_map name_view result ≡ ref_commuted (access_view self.now) }
     {
         match self {
             Operation::Commuted { name, .. } => Some(*name),
@@ -99,7 +99,7 @@ impl Operation {
     }
 
     fn ref_ensured(&self) -> Option<RefName>
-        ensures { option_map name_view result ≡ ref_ensured (operation_view self.now) }
+        ensures { option_map name_view result ≡ ref_ensured (access_view self.now) }
     {
         match self {
             Operation::Ensured { name, .. } => Some(*name),
@@ -108,7 +108,7 @@ impl Operation {
     }
 
     pub(crate) fn is_commute(&self) -> bool
-        ensures { result ≡ is_some (ref_commuted (operation_view self.now)) }
+        ensures { result ≡ is_some (ref_commuted (access_view self.now)) }
     {
         match self {
             Operation::Commuted { .. } => true,

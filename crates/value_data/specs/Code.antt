@@ -43,39 +43,39 @@ pub data Node : Type 0 where
   n_pair : Node
 
 -- a node as its kind, its number and its texts
-abbrev pub Row : Type 0
-Row = ℕ × (ℤ × (List ℕ × List ℕ))
+abbrev pub NodeFields : Type 0
+NodeFields = ℕ × (ℤ × (List ℕ × List ℕ))
 
-abbrev pub row : ℕ → ℤ → List ℕ → List ℕ → Row
-row kind n s t = (kind, (n, (s, t)))
+abbrev pub node_fields : ℕ → ℤ → List ℕ → List ℕ → NodeFields
+node_fields kind n s t = (kind, (n, (s, t)))
 
-abbrev pub node_row : Node → Row
-node_row n_nil = row 0 (pos 0) [] []
-node_row (n_boolean b) = row 1 (pos (if b then 1 else 0)) [] []
-node_row (n_integer n) = row 2 n [] []
-node_row (n_string s) = row 3 (pos 0) s []
-node_row (n_keyword s) = row 4 (pos 0) s []
-node_row (n_symbol s) = row 5 (pos 0) s []
-node_row (n_ref shared n) = row 6 (pos n) [] []
-node_row (n_ref (tenant t) n) = row 7 (pos n) (t ∷ []) []
-node_row (n_atom n) = row 8 (pos n) [] []
-node_row (n_agent n) = row 9 (pos n) [] []
-node_row (n_var s t) = row 10 (pos 0) s t
-node_row (n_fault s t) = row 11 (pos 0) s t
-node_row n_list = row 12 (pos 0) [] []
-node_row n_vector = row 13 (pos 0) [] []
-node_row n_map = row 14 (pos 0) [] []
-node_row n_no_items = row 15 (pos 0) [] []
-node_row n_item = row 16 (pos 0) [] []
-node_row n_no_pairs = row 17 (pos 0) [] []
-node_row n_pair = row 18 (pos 0) [] []
+abbrev pub fields_of_node : Node → NodeFields
+fields_of_node n_nil = node_fields 0 (pos 0) [] []
+fields_of_node (n_boolean b) = node_fields 1 (pos (if b then 1 else 0)) [] []
+fields_of_node (n_integer n) = node_fields 2 n [] []
+fields_of_node (n_string s) = node_fields 3 (pos 0) s []
+fields_of_node (n_keyword s) = node_fields 4 (pos 0) s []
+fields_of_node (n_symbol s) = node_fields 5 (pos 0) s []
+fields_of_node (n_ref shared n) = node_fields 6 (pos n) [] []
+fields_of_node (n_ref (tenant t) n) = node_fields 7 (pos n) (t ∷ []) []
+fields_of_node (n_atom n) = node_fields 8 (pos n) [] []
+fields_of_node (n_agent n) = node_fields 9 (pos n) [] []
+fields_of_node (n_var s t) = node_fields 10 (pos 0) s t
+fields_of_node (n_fault s t) = node_fields 11 (pos 0) s t
+fields_of_node n_list = node_fields 12 (pos 0) [] []
+fields_of_node n_vector = node_fields 13 (pos 0) [] []
+fields_of_node n_map = node_fields 14 (pos 0) [] []
+fields_of_node n_no_items = node_fields 15 (pos 0) [] []
+fields_of_node n_item = node_fields 16 (pos 0) [] []
+fields_of_node n_no_pairs = node_fields 17 (pos 0) [] []
+fields_of_node n_pair = node_fields 18 (pos 0) [] []
 
 abbrev pub first_number : List ℕ → ℕ
 first_number [] = 0
 first_number (n ∷ ns) = n
 
-abbrev pub row_node : Row → Node
-row_node r =
+abbrev pub node_of_fields : NodeFields → Node
+node_of_fields r =
     if r.0 == 0 then n_nil else (
     if r.0 == 1 then n_boolean (unsigned_abs r.1.0 == 1) else (
     if r.0 == 2 then n_integer r.1.0 else (
@@ -95,31 +95,31 @@ row_node r =
     if r.0 == 16 then n_item else (
     if r.0 == 17 then n_no_pairs else n_pair)))))))))))))))))
 
-pub row_node-node_row : (n : Node) → row_node (node_row n) ≡ n
-row_node-node_row n_nil = refl
-row_node-node_row (n_boolean true) = refl
-row_node-node_row (n_boolean false) = refl
-row_node-node_row (n_integer n) = refl
-row_node-node_row (n_string s) = refl
-row_node-node_row (n_keyword s) = refl
-row_node-node_row (n_symbol s) = refl
-row_node-node_row (n_ref shared n) = refl
-row_node-node_row (n_ref (tenant t) n) = refl
-row_node-node_row (n_atom n) = refl
-row_node-node_row (n_agent n) = refl
-row_node-node_row (n_var s t) = refl
-row_node-node_row (n_fault s t) = refl
-row_node-node_row n_list = refl
-row_node-node_row n_vector = refl
-row_node-node_row n_map = refl
-row_node-node_row n_no_items = refl
-row_node-node_row n_item = refl
-row_node-node_row n_no_pairs = refl
-row_node-node_row n_pair = refl
+pub node_of_fields-fields_of_node : (n : Node) → node_of_fields (fields_of_node n) ≡ n
+node_of_fields-fields_of_node n_nil = refl
+node_of_fields-fields_of_node (n_boolean true) = refl
+node_of_fields-fields_of_node (n_boolean false) = refl
+node_of_fields-fields_of_node (n_integer n) = refl
+node_of_fields-fields_of_node (n_string s) = refl
+node_of_fields-fields_of_node (n_keyword s) = refl
+node_of_fields-fields_of_node (n_symbol s) = refl
+node_of_fields-fields_of_node (n_ref shared n) = refl
+node_of_fields-fields_of_node (n_ref (tenant t) n) = refl
+node_of_fields-fields_of_node (n_atom n) = refl
+node_of_fields-fields_of_node (n_agent n) = refl
+node_of_fields-fields_of_node (n_var s t) = refl
+node_of_fields-fields_of_node (n_fault s t) = refl
+node_of_fields-fields_of_node n_list = refl
+node_of_fields-fields_of_node n_vector = refl
+node_of_fields-fields_of_node n_map = refl
+node_of_fields-fields_of_node n_no_items = refl
+node_of_fields-fields_of_node n_item = refl
+node_of_fields-fields_of_node n_no_pairs = refl
+node_of_fields-fields_of_node n_pair = refl
 
 abbrev pub nodes_code : Coded (List Node)
 nodes_code =
-    coded_list (code_by Row (coded× coded_ℕ (coded× coded_ℤ (coded× (coded_list coded_ℕ) (coded_list coded_ℕ)))) node_row row_node row_node-node_row)
+    coded_list (code_by NodeFields (coded× coded_ℕ (coded× coded_ℤ (coded× (coded_list coded_ℕ) (coded_list coded_ℕ)))) fields_of_node node_of_fields node_of_fields-fields_of_node)
 
 -- the nodes of a value, before those that follow
 abbrev mutual
@@ -148,38 +148,38 @@ abbrev mutual
   write_pairs (pair k v ps) ns = write_pairs ps (write k (write v (n_pair ∷ ns)))
 
 -- what was read and waits for its node
-pub data Part : Type 0 where
-  one : Datum → Part
-  some_items : Items → Part
-  some_pairs : Pairs → Part
+pub data StackEntry : Type 0 where
+  one : Datum → StackEntry
+  some_items : Items → StackEntry
+  some_pairs : Pairs → StackEntry
 
-abbrev pub put : Node → List Part → List Part
-put n_nil ps = one nil ∷ ps
-put (n_boolean b) ps = one (boolean b) ∷ ps
-put (n_integer n) ps = one (integer n) ∷ ps
-put (n_string s) ps = one (string s) ∷ ps
-put (n_keyword s) ps = one (keyword s) ∷ ps
-put (n_symbol s) ps = one (symbol s) ∷ ps
-put (n_ref owner number) ps = one (ref owner number) ∷ ps
-put (n_atom number) ps = one (atom number) ∷ ps
-put (n_agent number) ps = one (agent number) ∷ ps
-put (n_var space name) ps = one (var space name) ∷ ps
-put (n_fault class text) ps = one (fault class text) ∷ ps
-put n_list (some_items ds ∷ ps) = one (list ds) ∷ ps
-put n_vector (some_items ds ∷ ps) = one (vector ds) ∷ ps
-put n_map (some_pairs qs ∷ ps) = one (map qs) ∷ ps
-put n_no_items ps = some_items no_items ∷ ps
-put n_item (one d ∷ some_items ds ∷ ps) = some_items (item d ds) ∷ ps
-put n_no_pairs ps = some_pairs no_pairs ∷ ps
-put n_pair (one v ∷ one k ∷ some_pairs qs ∷ ps) = some_pairs (pair k v qs) ∷ ps
-put _ ps = ps
+abbrev pub with_node : Node → List StackEntry → List StackEntry
+with_node n_nil ps = one nil ∷ ps
+with_node (n_boolean b) ps = one (boolean b) ∷ ps
+with_node (n_integer n) ps = one (integer n) ∷ ps
+with_node (n_string s) ps = one (string s) ∷ ps
+with_node (n_keyword s) ps = one (keyword s) ∷ ps
+with_node (n_symbol s) ps = one (symbol s) ∷ ps
+with_node (n_ref owner number) ps = one (ref owner number) ∷ ps
+with_node (n_atom number) ps = one (atom number) ∷ ps
+with_node (n_agent number) ps = one (agent number) ∷ ps
+with_node (n_var space name) ps = one (var space name) ∷ ps
+with_node (n_fault class text) ps = one (fault class text) ∷ ps
+with_node n_list (some_items ds ∷ ps) = one (list ds) ∷ ps
+with_node n_vector (some_items ds ∷ ps) = one (vector ds) ∷ ps
+with_node n_map (some_pairs qs ∷ ps) = one (map qs) ∷ ps
+with_node n_no_items ps = some_items no_items ∷ ps
+with_node n_item (one d ∷ some_items ds ∷ ps) = some_items (item d ds) ∷ ps
+with_node n_no_pairs ps = some_pairs no_pairs ∷ ps
+with_node n_pair (one v ∷ one k ∷ some_pairs qs ∷ ps) = some_pairs (pair k v qs) ∷ ps
+with_node _ ps = ps
 
-abbrev pub read : List Node → List Part → List Part
+abbrev pub read : List Node → List StackEntry → List StackEntry
 read [] ps = ps
-read (n ∷ ns) ps = read ns (put n ps)
+read (n ∷ ns) ps = read ns (with_node n ps)
 
 mutual
-  pub read-write : (d : Datum) (ns : List Node) (ps : List Part) → read (write d ns) ps ≡ read ns (one d ∷ ps)
+  pub read-write : (d : Datum) (ns : List Node) (ps : List StackEntry) → read (write d ns) ps ≡ read ns (one d ∷ ps)
   read-write nil ns ps = refl
   read-write (boolean b) ns ps = refl
   read-write (integer n) ns ps = refl
@@ -195,27 +195,27 @@ mutual
   read-write (var space name) ns ps = refl
   read-write (fault class text) ns ps = refl
 
-  pub read-write_items : (ds : Items) (ns : List Node) (ps : List Part) → read (write_items ds ns) ps ≡ read ns (some_items ds ∷ ps)
+  pub read-write_items : (ds : Items) (ns : List Node) (ps : List StackEntry) → read (write_items ds ns) ps ≡ read ns (some_items ds ∷ ps)
   read-write_items no_items ns ps = refl
   read-write_items (item d ds) ns ps =
       read-write_items ds (write d (n_item ∷ ns)) ps ∙ read-write d (n_item ∷ ns) (some_items ds ∷ ps)
 
-  pub read-write_pairs : (qs : Pairs) (ns : List Node) (ps : List Part) → read (write_pairs qs ns) ps ≡ read ns (some_pairs qs ∷ ps)
+  pub read-write_pairs : (qs : Pairs) (ns : List Node) (ps : List StackEntry) → read (write_pairs qs ns) ps ≡ read ns (some_pairs qs ∷ ps)
   read-write_pairs no_pairs ns ps = refl
   read-write_pairs (pair k v qs) ns ps =
       read-write_pairs qs (write k (write v (n_pair ∷ ns))) ps
       ∙ read-write k (write v (n_pair ∷ ns)) (some_pairs qs ∷ ps)
       ∙ read-write v (n_pair ∷ ns) (one k ∷ some_pairs qs ∷ ps)
 
-abbrev pub read_datum : List Part → Datum
+abbrev pub read_datum : List StackEntry → Datum
 read_datum (one d ∷ ps) = d
 read_datum _ = nil
 
-abbrev pub read_items : List Part → Items
+abbrev pub read_items : List StackEntry → Items
 read_items (some_items ds ∷ ps) = ds
 read_items _ = no_items
 
-abbrev pub read_pairs : List Part → Pairs
+abbrev pub read_pairs : List StackEntry → Pairs
 read_pairs (some_pairs qs ∷ ps) = qs
 read_pairs _ = no_pairs
 

@@ -30,13 +30,13 @@ order (both a b) (both c d) = ordering_then (order a c) (order b d)
 order (both a b) c = Greater
 
 -- puts one among others that ascend, unless it is there
-abbrev pub put : SortKey → List SortKey → List SortKey
-put x [] = x ∷ []
-put x (y ∷ ys) = match_ordering (order x y) (x ∷ y ∷ ys) (y ∷ ys) (y ∷ put x ys)
+abbrev pub with_sort_key : SortKey → List SortKey → List SortKey
+with_sort_key x [] = x ∷ []
+with_sort_key x (y ∷ ys) = match_ordering (order x y) (x ∷ y ∷ ys) (y ∷ ys) (y ∷ with_sort_key x ys)
 
 abbrev pub sorted : List SortKey → List SortKey
 sorted [] = []
-sorted (x ∷ xs) = put x (sorted xs)
+sorted (x ∷ xs) = with_sort_key x (sorted xs)
 
 abbrev pub chain : List SortKey → SortKey
 chain [] = number 0

@@ -1,6 +1,6 @@
 -- An evaluation that went on.
 use Rattle.std.proofs.Common.{◌≡◌, ◌∙◌, ap, arith, false, ℕ, ◌+◌, ◌<◌, ◌≤◌, Result, Ok, Err, IfOk}
-use Rattle.walker_state.specs.Size.{Around, Position, IsOn, IsLater, control_around, control_calls, control_size, control_position, frames_size}
+use Rattle.walker_state.specs.Size.{TransactionPosition, Position, IsOn, IsLater, control_around, control_calls, control_size, control_position, frames_size}
 use Rattle.walker_state.specs.declared.frames.Control.{Control}
 use Rattle.walker_state.specs.declared.frames.State.{State}
 use Rattle.walker_state.proofs.Laters.{later_on, later_smaller}
@@ -25,7 +25,7 @@ pub begun-calls : {E : Type 0} (r : Result Reached E) (old : Position) → old.t
     → IfOk r (λ p. most_calls_of p ≤ old.calls)
 unfolding IsOn
 begun-calls (Ok (Reached.Asks w ask)) old outside on =
-    let runs : (position_of w).transaction.runs ≡ false = ap (λ (a : Around). a.runs) on.0 ∙ outside in
+    let runs : (position_of w).transaction.runs ≡ false = ap (λ (a : TransactionPosition). a.runs) on.0 ∙ outside in
     rw runs on.1
 begun-calls (Ok (Reached.Ends end)) old outside on = omega arith
 begun-calls (Err e) old outside on = tt

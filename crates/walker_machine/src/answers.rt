@@ -8,7 +8,7 @@ ghost use Rattle.special_forms.specs.Seen.{forms_view};
 ghost use Rattle.special_forms.specs.Size.{forms_size};
 ghost use Rattle.evaluation_rules.specs.Calls.{named_call};
 ghost use Rattle.evaluation_rules.specs.Evaluation.{value_at};
-ghost use Rattle.walker_state.specs.Machine.{answered, used, resolved_call, from_state, place_of, tree};
+ghost use Rattle.walker_state.specs.Machine.{tree_with_answer, value_for_use, resolved_call, from_state, place_of, tree};
 ghost use Rattle.evaluation_rules.specs.Naming.{as_value};
 ghost use Rattle.walker_state.specs.declared.frames.State.{State};
 ghost use Rattle.walker_state.specs.declared.frames.SymbolUse.{SymbolUse};
@@ -36,7 +36,7 @@ pub(crate) fn take_answer(
     answer: Answer,
 ) -> Result<Control, AllocError>
     ensures later { IfOk result (λ control. IsLater (control_position control state.new) (wanted_position wanted state.old)) }
-    ensures meaning { IfOk result (λ control. tree control state.new ≡ answered wanted (answer_view answer) state.old) }
+    ensures meaning { IfOk result (λ control. tree control state.new ≡ tree_with_answer wanted (answer_view answer) state.old) }
 {
     match wanted {
         Wanted::Resolution(purpose) => {
@@ -65,7 +65,7 @@ pub(crate) fn take_resolution(
     ensures calls { IfOk result (λ control. control_calls control state.new ≤ state.old.calls) }
     ensures around { IfOk result (λ control. control_around control state.new ≡ around state.old.transaction) }
     ensures meaning { IfOk result (λ control. tree control state.new
-        ≡ from_state (used (place_of state.old) purpose (resolution_view resolution)) state.old) }
+        ≡ from_state (value_for_use (place_of state.old) purpose (resolution_view resolution)) state.old) }
 {
     match purpose {
         SymbolUse::Value(symbol) => take_value(alloc, symbol, resolution),
@@ -129,7 +129,7 @@ fn take_alter(
     ensures calls { IfOk result (λ control. control_calls control state.new ≤ state.old.calls) }
     ensures around { IfOk result (λ control. control_around control state.new ≡ around state.old.transaction) }
     ensures meaning { IfOk result (λ control. tree control state.new
-        ≡ from_state (used (place_of state.old) (SymbolUse.Alter by target forms room) (resolution_view resolution)) state.old) }
+        ≡ from_state (value_for_use (place_of state.old) (SymbolUse.Alter by target forms room) (resolution_view resolution)) state.old) }
 {
     match resolution {
         Resolution::Function(function) => {

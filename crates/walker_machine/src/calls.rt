@@ -10,7 +10,7 @@ ghost use Rattle.walker_state.specs.declared.frames.State.{State};
 ghost use Rattle.special_forms.specs.Seen.{views, function_view};
 ghost use Rattle.walker_state.specs.Size.{control_size, frames_size, control_calls, control_around, around};
 ghost use Rattle.repl_asks.specs.View.{named_view};
-ghost use Rattle.evaluation_rules.specs.Calls.{body_value, bound_to, called, full_name, function_applied, function_called, get_arguments, keyword_call, program_call};
+ghost use Rattle.evaluation_rules.specs.Calls.{body_value, bound_to, counted_call, full_name, function_applied, function_called, get_arguments, keyword_call, program_call};
 ghost use Rattle.evaluation_rules.specs.Evaluation.{value_at};
 
 use crate::alter::call_alter;
@@ -28,7 +28,7 @@ use std::sync::ArcStr;
 use walker_state::{Callee, Control, Frame, Place, State, call_core, call_store, next_in_body};
 
 // One call is taken from the budget, and the callee is applied.
-#[tactic(auto, using(walker_state::proofs::Stepping::steps), unfolding(evaluation_rules::specs::Calls::called))]
+#[tactic(auto, using(walker_state::proofs::Stepping::steps), unfolding(evaluation_rules::specs::Calls::counted_call))]
 pub(crate) fn call(
     alloc: Global,
     state: &mut State,
@@ -40,7 +40,7 @@ pub(crate) fn call(
         < 6 + frames_size state.old.frames.items) }
     ensures calls { IfOk result (λ control. control_calls control state.new ≤ state.old.calls) }
     ensures around { IfOk result (λ control. control_around control state.new ≡ around state.old.transaction) }
-    ensures meaning { IfOk result (λ control. tree control state.new ≡ from_state (called (value_at room) (callee_view callee) (views values.items)) state.old) }
+    ensures meaning { IfOk result (λ control. tree control state.new ≡ from_state (counted_call (value_at room) (callee_view callee) (views values.items)) state.old) }
 {
     if state.calls == 0 {
         return Ok(Control::Fault(too_many_calls(alloc)?));

@@ -5,7 +5,7 @@ ghost use Rattle.std.specs.Prelude.{◌≡◌, ◌+◌, ◌*◌, ◌<◌, ◌≤
 ghost use Rattle.std.specs.Arc.{arc_str_bytes};
 ghost use Rattle.value_data.specs.Listed.{listed};
 ghost use Rattle.value_data.specs.View.{view};
-ghost use Rattle.walker_state.specs.Machine.{items_value, list_at, place_of, from_state, tree, named};
+ghost use Rattle.walker_state.specs.Machine.{items_value, list_at, place_of, from_state, tree, symbol_for_use};
 ghost use Rattle.special_forms.specs.Seen.{forms_view};
 ghost use Rattle.special_forms.specs.Names.{special_named};
 ghost use Rattle.special_forms.specs.Size.{datum_size, forms_size};
@@ -68,7 +68,7 @@ pub(crate) fn evaluate_symbol(
     ensures calls { IfOk result (λ control. control_calls control state.new ≤ state.old.calls) }
     ensures around { IfOk result (λ control. control_around control state.new ≡ around state.old.transaction) }
     ensures meaning { IfOk result (λ control. tree control state.new
-        ≡ from_state (named (place_of state.old) (arc_str_bytes symbol) purpose) state.old) }
+        ≡ from_state (symbol_for_use (place_of state.old) (arc_str_bytes symbol) purpose) state.old) }
 {
     match look_up(alloc, &state.place, &symbol)? {
         Some(resolution) => take_resolution(alloc, state, purpose, resolution),

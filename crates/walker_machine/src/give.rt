@@ -3,7 +3,7 @@
 
 ghost use Rattle.std.specs.Prelude.{◌≡◌, ◌+◌, ◌<◌, ◌≤◌, IfOk};
 ghost use Rattle.value_data.specs.View.{view};
-ghost use Rattle.walker_state.specs.Machine.{given, tree};
+ghost use Rattle.walker_state.specs.Machine.{tree_with_value, tree};
 ghost use Rattle.walker_state.specs.Size.{frame_size, control_size, frames_size, control_calls, control_around, around};
 
 use crate::alter::{call_altering, name_function};
@@ -25,7 +25,7 @@ pub(crate) fn give(
         < 1 + frame_size frame + frames_size state.old.frames.items) }
     ensures calls { IfOk result (λ control. control_calls control state.new ≤ state.old.calls) }
     ensures around { IfOk result (λ control. control_around control state.new ≡ around state.old.transaction) }
-    ensures meaning { IfOk result (λ control. tree control state.new ≡ given frame (view value) state.old) }
+    ensures meaning { IfOk result (λ control. tree control state.new ≡ tree_with_value frame (view value) state.old) }
 {
     match frame {
         Frame::Arguments {

@@ -14,7 +14,7 @@ ghost use Rattle.special_forms.specs.Shapes.{shape_of};
 ghost use Rattle.special_forms.specs.Size.{datum_size, forms_size, shape_size};
 ghost use Rattle.walker_state.specs.Size.{frame_size, control_size, frames_size, control_calls, control_around, around};
 ghost use Rattle.evaluation_rules.specs.Evaluation.{value_at};
-ghost use Rattle.evaluation_rules.specs.SpecialForms.{defined, function_defined, shape_value, special_value};
+ghost use Rattle.evaluation_rules.specs.SpecialForms.{definition_value, function_defined, shape_value, special_value};
 ghost use Rattle.walker_state.specs.declared.frames.State.{State};
 
 use crate::rows::{next_binding, next_in_logic};
@@ -161,7 +161,7 @@ pub(crate) fn define(state: &State, name: ArcStr, binding: Binding) -> Result<Co
     ensures size { IfOk result (λ control. control_size control < 3) }
     ensures calls { IfOk result (λ control. (s : State) → control_calls control s ≡ s.calls) }
     ensures around { IfOk result (λ control. (s : State) → control_around control s ≡ around s.transaction) }
-    ensures meaning { IfOk result (λ control. tree control state.now ≡ from_state (defined (place_of state.now) (arc_str_bytes name) (binding_view binding)) state.now) }
+    ensures meaning { IfOk result (λ control. tree control state.now ≡ from_state (definition_value (place_of state.now) (arc_str_bytes name) (binding_view binding)) state.now) }
 {
     let namespace = space(state)?;
     let var = Value::Var {

@@ -8,10 +8,10 @@ ghost use Rattle.evaluation_rules.specs.Tree.{ends};
 ghost use Rattle.evaluation_rules.specs.Evaluation.{evaluation};
 ghost use Rattle.walker_state.specs.Machine.{from_state, tree, kept_of};
 ghost use Rattle.value_data.specs.View.{view};
-ghost use Rattle.evaluation_rules.specs.Doing.{done};
+ghost use Rattle.evaluation_rules.specs.Doing.{pure_part};
 ghost use Rattle.walker_state.specs.Size.{control_position, Position};
 ghost use Rattle.walker_state.specs.declared.frames.Control.{Control};
-ghost use Rattle.walker_machine.specs.Waits.{leg_tree, behind, reached_tree, position_of, most_calls_of, IsOnLeg, IsOnReached, IsLaterReached};
+ghost use Rattle.walker_machine.specs.Waits.{leg_tree, tree_behind, reached_tree, position_of, most_calls_of, IsOnLeg, IsOnReached, IsLaterReached};
 
 use crate::answers::take_answer;
 use crate::calls::enter;
@@ -78,7 +78,7 @@ pub fn begin(alloc: Global, job: &Job) -> Result<Reached, AllocError>
 impl Waiting {
     /// Goes on with this answer, up to the next ask or the end. It fails only for want of memory.
     pub fn go_on(self, alloc: Global, answer: Answer) -> Result<Reached, AllocError>
-        ensures meaning { IfOk result (λ reached. reached_tree reached ≡ behind self (answer_view answer)) }
+        ensures meaning { IfOk result (λ reached. reached_tree reached ≡ tree_behind self (answer_view answer)) }
         ensures later { IfOk result (λ reached. IsLaterReached reached (position_of self)) }
     {
         let Waiting { mut state, wanted } = self;
@@ -129,7 +129,7 @@ fn run_leg(alloc: Global, state: &mut State, control: Control) -> Result<Leg, Al
 // No frame waits for the value: the whole ends, or an attempt asks to be committed.
 fn end_or_commit(alloc: Global, state: &mut State, value: Value) -> Result<Leg, AllocError>
     requires { state.old.frames.items ≡ [] }
-    ensures meaning { IfOk result (λ leg. leg_tree leg state.new ≡ from_state (done (view value)) state.old) }
+    ensures meaning { IfOk result (λ leg. leg_tree leg state.new ≡ from_state (pure_part (view value)) state.old) }
     ensures on { IfOk result (λ leg. IsOnLeg leg state.new (control_position (Control.Return value) state.old)) }
 {
     match leave(alloc, state, value)? {

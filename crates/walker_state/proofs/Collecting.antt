@@ -3,7 +3,7 @@ use Rattle.std.proofs.Common.{◌≡◌, ℕ, zero, suc, ◌<◌, Bool, true, fa
 use Rattle.std.specs.Prelude.{string_bytes, zip, ◌&&◌, nat_le}
 use Rattle.value_data.specs.Measures.{weight, nesting}
 use Rattle.core_texts.specs.Limits.{most_weight}
-use Rattle.core_functions.specs.Outcome.{limited, most_nesting}
+use Rattle.core_functions.specs.Outcome.{limited_outcome, most_nesting}
 use Rattle.value_data.specs.Datum.{Datum, Items, no_items, item, Pairs, map}
 use Rattle.value_data.specs.Keyed.{keys_of}
 use Rattle.value_data.specs.Repeats.{is_one_of, repeat_behind, first_repeat}
@@ -32,7 +32,7 @@ if_ok-part (Err e) p q same h = tt
 -- values that are too large
 pub within_limits-misfits : (d : Datum) (told : Failure) (s : State) → (nat_le (weight d) most_weight && nat_le (nesting d) most_nesting) ≡ false
     → told ≡ too_large → ends (Err told) (string_bytes s.text) (kept_of s) ≡ from_state (within_limits d) s
-unfolding limited
+unfolding limited_outcome
 within_limits-misfits d told s misfits is = rw (misfits, is) (sym (fails-at too_large s))
 
 -- the keys of keys and values that stand by turns

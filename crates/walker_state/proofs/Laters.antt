@@ -6,53 +6,53 @@ use Rattle.std.proofs.Common.{Result, Ok, Err, IfOk}
 use Rattle.value_data.specs.declared.value.RefName.{RefName}
 use Rattle.value_data.specs.declared.value.Value.{Value}
 use Rattle.walker_state.specs.declared.frames.Wanted.{Wanted}
-use Rattle.walker_state.specs.Size.{Around, no_attempt, around, begun_around, attempt_around, frames_size}
+use Rattle.walker_state.specs.Size.{TransactionPosition, no_attempt, around, begun_around, attempt_around, frames_size}
 use Rattle.walker_state.specs.Size.{control_position, control_around, control_calls, wanted_position}
 use Rattle.walker_state.specs.Size.{Position, IsLess, IsLater, IsOn, IsRetried}
 use Rattle.walker_state.specs.declared.frames.Transaction.{Transaction}
 use Rattle.walker_state.specs.declared.frames.State.{State}
 use Rattle.walker_state.specs.declared.frames.Control.{Control}
 
-abbrev at : Around → ℕ → ℕ → Position
+abbrev at : TransactionPosition → ℕ → ℕ → Position
 at r calls size = record { transaction = r; calls = calls; size = size }
 
 -- in the same transaction, or outside of any, with less to do
-pub later_smaller : (r r' : Around) (calls size calls' size' : ℕ) → r' ≡ r → calls' ≤ calls → size' < size
+pub later_smaller : (r r' : TransactionPosition) (calls size calls' size' : ℕ) → r' ≡ r → calls' ≤ calls → size' < size
     → IsLater (record { transaction = r'; calls = calls'; size = size' }) (record { transaction = r; calls = calls; size = size })
 unfolding IsLater
 later_smaller r r' calls size calls' size' same fewer smaller =
-    subst (λ (q : Around). IsLater (at q calls' size') (at r calls size)) (sym same) (by_runs r.runs r.calls r.size r.turn)
+    subst (λ (q : TransactionPosition). IsLater (at q calls' size') (at r calls size)) (sym same) (by_runs r.runs r.calls r.size r.turn)
   where
     by_runs : (b : Bool) (c s l : ℕ) → IsLater (at (record { runs = b; calls = c; size = s; turn = l }) calls' size') (at (record { runs = b; calls = c; size = s; turn = l }) calls size)
     by_runs true c s l = (omega arith, (omega arith, λ _. inr (omega arith, inr (fewer, smaller))))
     by_runs false c s l = (fewer, inr smaller)
 
 -- an attempt was begun
-pub later_begun : (first : Bool) (t : Transaction) (r : Around) (calls size size' : ℕ) → r ≡ attempt_around (2 * t.left) t
+pub later_begun : (first : Bool) (t : Transaction) (r : TransactionPosition) (calls size size' : ℕ) → r ≡ attempt_around (2 * t.left) t
     → calls ≤ t.calls → 2 + frames_size t.frames.items ≤ size
     → IsLater (record { transaction = r; calls = calls; size = size' }) (record { transaction = begun_around first t; calls = t.calls; size = size })
 unfolding IsLater
 later_begun first t r calls size size' same fewer room =
-    subst (λ (q : Around). IsLater (at q calls size') (at (begun_around first t) t.calls size)) (sym same) (by_first first)
+    subst (λ (q : TransactionPosition). IsLater (at q calls size') (at (begun_around first t) t.calls size)) (sym same) (by_first first)
   where
     by_first : (b : Bool) → IsLater (at (attempt_around (2 * t.left) t) calls size') (at (begun_around b t) t.calls size)
     by_first true = (omega (arith, fewer), (omega (arith, room), λ h. cc))
     by_first false = (omega (arith, fewer), (omega arith, λ _. inl (omega arith)))
 
 -- the transaction is over
-pub later_over : (r : Around) (t : Transaction) (turn calls size calls' size' : ℕ) → r ≡ no_attempt
+pub later_over : (r : TransactionPosition) (t : Transaction) (turn calls size calls' size' : ℕ) → r ≡ no_attempt
     → calls' ≤ max t.calls calls → size' < 2 + frames_size t.frames.items
     → IsLater (record { transaction = r; calls = calls'; size = size' }) (record { transaction = attempt_around turn t; calls = calls; size = size })
 unfolding IsLater
 later_over r t turn calls size calls' size' over fewer smaller =
-    subst (λ (q : Around). IsLater (at q calls' size') (at (attempt_around turn t) calls size)) (sym over) (fewer, inr smaller)
+    subst (λ (q : TransactionPosition). IsLater (at q calls' size') (at (attempt_around turn t) calls size)) (sym over) (fewer, inr smaller)
 
-later_next : (r : Around) (t : Transaction) (turn turn' calls size calls' size' : ℕ) → r ≡ attempt_around turn' t
+later_next : (r : TransactionPosition) (t : Transaction) (turn turn' calls size calls' size' : ℕ) → r ≡ attempt_around turn' t
     → calls' ≡ t.calls → turn' < turn
     → IsLater (record { transaction = r; calls = calls'; size = size' }) (record { transaction = attempt_around turn t; calls = calls; size = size })
 unfolding IsLater
 later_next r t turn turn' calls size calls' size' next same falls =
-    subst (λ (q : Around). IsLater (at q calls' size') (at (attempt_around turn t) calls size)) (sym next) (omega (arith, same), (omega arith, λ _. inl falls))
+    subst (λ (q : TransactionPosition). IsLater (at q calls' size') (at (attempt_around turn t) calls size)) (sym next) (omega (arith, same), (omega arith, λ _. inl falls))
 
 pub later_retried : (c : Control) (s : State) (t : Transaction) (calls size : ℕ) → IsRetried c s t calls
     → IsLater (control_position c s) (record { transaction = attempt_around (2 * t.left) t; calls = calls; size = size })
@@ -66,7 +66,7 @@ later_retried (Control.Enter f values room) s t calls size h = absurd h
 pub later_on : (a b c : Position) → IsLater b a → IsOn c b → IsLater c a
 unfolding IsLater IsOn
 later_on a b c later on =
-    subst (λ (q : Around). IsLater (at q c.calls c.size) a) (sym on.0) (by_runs b.transaction.runs b.transaction.calls b.transaction.size b.transaction.turn later)
+    subst (λ (q : TransactionPosition). IsLater (at q c.calls c.size) a) (sym on.0) (by_runs b.transaction.runs b.transaction.calls b.transaction.size b.transaction.turn later)
   where
     by_runs : (v : Bool) (n s l : ℕ) → IsLater (at (record { runs = v; calls = n; size = s; turn = l }) b.calls b.size) a
         → IsLater (at (record { runs = v; calls = n; size = s; turn = l }) c.calls c.size) a
@@ -85,7 +85,7 @@ pub on_itself : (p : Position) → IsOn p p
 unfolding IsOn
 on_itself p = (refl, omega arith, inr (omega arith))
 
-pub on_asked : (old middle : Position) (r : Around) (calls size : ℕ) → IsOn middle old → r ≡ middle.transaction → calls ≤ middle.calls → size ≤ middle.size
+pub on_asked : (old middle : Position) (r : TransactionPosition) (calls size : ℕ) → IsOn middle old → r ≡ middle.transaction → calls ≤ middle.calls → size ≤ middle.size
     → IsOn (record { transaction = r; calls = calls; size = size }) old
 unfolding IsOn
 on_asked old middle r calls size on same fewer smaller = (same ∙ on.0, omega (arith, on.1), behind_both _ _ _ _ _ _ fewer smaller on.2)

@@ -57,27 +57,27 @@ control_size (Control.Enter function values room) = 0
 
 -- The transaction that is under way: the calls on entering it, what is to be done around it, and twice the attempts left,
 -- and one more where an attempt is not yet begun. One of which no attempt was begun is not under way.
-pub record Around : Type 0 where
+pub record TransactionPosition : Type 0 where
   pub runs : Bool
   pub calls : ℕ
   pub size : ℕ
   pub turn : ℕ
 
-abbrev pub no_attempt : Around
+abbrev pub no_attempt : TransactionPosition
 no_attempt = record { runs = false; calls = 0; size = 0; turn = 0 }
 
-abbrev pub attempt_around : ℕ → Transaction → Around
+abbrev pub attempt_around : ℕ → Transaction → TransactionPosition
 attempt_around turn t = record { runs = true; calls = t.calls; size = 2 + frames_size t.frames.items; turn = turn }
 
-abbrev pub around : Option (Box Transaction Global) → Around
+abbrev pub around : Option (Box Transaction Global) → TransactionPosition
 around None = no_attempt
 around (Some t) = attempt_around (2 * t.value.left) t.value
 
-abbrev pub begun_around : Bool → Transaction → Around
+abbrev pub begun_around : Bool → Transaction → TransactionPosition
 begun_around true t = no_attempt
 begun_around false t = attempt_around (2 * t.left + 1) t
 
-abbrev pub wanted_around : Wanted → State → Around
+abbrev pub wanted_around : Wanted → State → TransactionPosition
 wanted_around (Wanted.Resolution purpose) s = around s.transaction
 wanted_around (Wanted.Completion v) s = around s.transaction
 wanted_around (Wanted.Namespace name) s = around s.transaction
@@ -97,7 +97,7 @@ wanted_calls (Wanted.Ensuring name) s = s.calls
 wanted_calls (Wanted.Begin t) s = t.value.calls
 wanted_calls (Wanted.Verdict v t) s = s.calls
 
-abbrev pub control_around : Control → State → Around
+abbrev pub control_around : Control → State → TransactionPosition
 control_around (Control.Evaluate form room) s = around s.transaction
 control_around (Control.Return v) s = around s.transaction
 control_around (Control.Fault f) s = around s.transaction
@@ -113,7 +113,7 @@ control_calls (Control.Ask ask wanted) s = wanted_calls wanted s
 control_calls (Control.Enter f values room) s = 1 + s.calls
 
 pub record Position : Type 0 where
-  pub transaction : Around
+  pub transaction : TransactionPosition
   pub calls : ℕ
   pub size : ℕ
 

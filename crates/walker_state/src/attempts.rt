@@ -1,10 +1,10 @@
 // Attempts at a transaction: how they begin, and how they are made again.
 ghost use Rattle.std.specs.Prelude.{◌≡◌, ◌+◌, ◌<◌, ◌≤◌, [], false, None, IfOk, string_bytes};
 ghost use Rattle.evaluation_rules.specs.Doing.{left, retried};
-ghost use Rattle.evaluation_rules.specs.Tree.{written};
+ghost use Rattle.evaluation_rules.specs.Tree.{written_tree};
 ghost use Rattle.evaluation_rules.specs.Rows.{last_of};
 ghost use Rattle.evaluation_rules.specs.Evaluation.{value_at};
-ghost use Rattle.evaluation_rules.specs.Transactions.{transacted};
+ghost use Rattle.evaluation_rules.specs.Transactions.{transacted_value};
 ghost use Rattle.value_data.specs.declared.value.RefName.{RefName};
 ghost use Rattle.value_data.specs.Datum.{nil};
 ghost use Rattle.special_forms.specs.Seen.{forms_view};
@@ -38,7 +38,7 @@ pub fn begin_transaction(
     ensures calls { IfOk result (λ control. control_calls control state.new ≤ state.old.calls) }
     ensures around { IfOk result (λ control. control_around control state.new ≡ around state.old.transaction) }
     ensures meaning { IfOk result (λ control. tree control state.new
-        ≡ from_state (transacted false (last_of (value_at room (place_of state.old)) nil (forms_view body))) state.old) }
+        ≡ from_state (transacted_value false (last_of (value_at room (place_of state.old)) nil (forms_view body))) state.old) }
 {
     if state.retries == 0 {
         return Ok(Control::Fault(broken(alloc, Rule::AttemptsAreLimited)?));
@@ -140,8 +140,8 @@ pub fn begin_again(
     state: &mut State,
     transaction: Box<Transaction>,
 ) -> Result<Control, AllocError>
-    ensures meaning { IfOk result (λ control. tree control state.new ≡ written (string_bytes state.old.text)
-        (again state.old.retries transaction.value (place_of state.old) (machine.inside state.old))) }
+    ensures meaning { IfOk result (λ control. tree control state.new ≡ written_tree (string_bytes state.old.text)
+        (again state.old.retries transaction.value (place_of state.old) (machine.kept_inside state.old))) }
     ensures retried { IfOk result (λ control. IsRetried control state.new transaction.value state.old.calls) }
 {
     state.frames = VecDeque::new(alloc);

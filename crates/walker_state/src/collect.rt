@@ -3,7 +3,7 @@
 
 ghost use Rattle.std.specs.Prelude.{◌≡◌, ◌<◌, map, zip, IfOk};
 ghost use Rattle.value_data.specs.View.{view, pair_view};
-ghost use Rattle.walker_state.specs.Machine.{collected, from_state, tree};
+ghost use Rattle.walker_state.specs.Machine.{collection_value, from_state, tree};
 ghost use Rattle.walker_state.specs.declared.frames.State.{State};
 ghost use Rattle.special_forms.specs.Seen.{views};
 ghost use Rattle.walker_state.specs.Size.{control_size, control_calls, control_around, around};
@@ -25,7 +25,7 @@ pub fn collected(alloc: Global, kind: Collection, values: Vec<Value>) -> Result<
     ensures size { IfOk result (λ control. control_size control < 2) }
     ensures calls { IfOk result (λ control. (s : State) → control_calls control s ≡ s.calls) }
     ensures around { IfOk result (λ control. (s : State) → control_around control s ≡ around s.transaction) }
-    ensures meaning { IfOk result (λ control. (s : State) → tree control s ≡ from_state (collected kind (views values.items)) s) }
+    ensures meaning { IfOk result (λ control. (s : State) → tree control s ≡ from_state (collection_value kind (views values.items)) s) }
 {
     match kind {
         Collection::Vector => {
@@ -36,7 +36,7 @@ pub fn collected(alloc: Global, kind: Collection, values: Vec<Value>) -> Result<
     }
 }
 
-#[tactic(auto, using(crate::proofs::Stepping::steps), unfolding(core_functions::specs::Outcome::limited))]
+#[tactic(auto, using(crate::proofs::Stepping::steps), unfolding(core_functions::specs::Outcome::limited_outcome))]
 fn within_limits(alloc: Global, value: Value) -> Result<Control, AllocError>
     ensures size { IfOk result (λ control. control_size control < 2) }
     ensures calls { IfOk result (λ control. (s : State) → control_calls control s ≡ s.calls) }

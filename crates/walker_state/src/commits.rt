@@ -2,8 +2,8 @@
 ghost use Rattle.std.specs.Prelude.{◌≡◌, [], IfOk};
 ghost use Rattle.value_data.specs.View.{view};
 ghost use Rattle.repl_asks.specs.View.{verdict_view};
-ghost use Rattle.evaluation_rules.specs.Doing.{done};
-ghost use Rattle.walker_state.specs.Leaving.{left_tree, IsLeftBy};
+ghost use Rattle.evaluation_rules.specs.Doing.{pure_part};
+ghost use Rattle.walker_state.specs.Leaving.{end_or_commit_tree, IsEndOrCommit};
 ghost use Rattle.walker_state.specs.Machine.{from_state, settled_tree, tree};
 ghost use Rattle.walker_state.specs.Size.{control_position, wanted_position, IsLater};
 ghost use Rattle.walker_state.specs.declared.frames.Control.{Control};
@@ -30,8 +30,8 @@ pub enum Left {
 /// No frame waits for the value: it is that of the whole, or of the attempt's body.
 pub fn leave(alloc: Global, state: &mut State, value: Value) -> Result<Left, AllocError>
     requires { state.old.frames.items ≡ [] }
-    ensures meaning { IfOk result (λ left. left_tree left state.new ≡ from_state (done (view value)) state.old) }
-    ensures on { IfOk result (λ left. IsLeftBy left state.new (control_position (Control.Return value) state.old)) }
+    ensures meaning { IfOk result (λ left. end_or_commit_tree left state.new ≡ from_state (pure_part (view value)) state.old) }
+    ensures on { IfOk result (λ left. IsEndOrCommit left state.new (control_position (Control.Return value) state.old)) }
 {
     match state.transaction.take() {
         None => Ok(Left::Ends(value)),

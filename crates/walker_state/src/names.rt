@@ -9,7 +9,7 @@ ghost use Rattle.repl_asks.specs.Exchange.{resolve};
 ghost use Rattle.value_data.specs.View.{view};
 ghost use Rattle.repl_asks.specs.View.{ask_view, resolution_view};
 ghost use Rattle.walker_state.specs.Machine.{place_view, place_of, kept_of, known_view};
-ghost use Rattle.evaluation_rules.specs.Naming.{core_name, core_resolution, store_resolution, local_resolution, known};
+ghost use Rattle.evaluation_rules.specs.Naming.{core_name, core_resolution, store_resolution, local_resolution, known_resolution};
 ghost use Rattle.evaluation_rules.specs.Places.{space_of};
 
 use crate::frames::{Place, State};
@@ -36,7 +36,7 @@ pub fn look_up(
     place: &Place,
     symbol: &ArcStr,
 ) -> Result<Option<Resolution>, AllocError>
-    ensures { IfOk result (λ found. known_view found ≡ known (place_view place.now) (arc_str_bytes symbol.now)) }
+    ensures { IfOk result (λ found. known_view found ≡ known_resolution (place_view place.now) (arc_str_bytes symbol.now)) }
 {
     match core_name(symbol.as_str()) {
         Some(name) => Ok(Some(core_resolution(alloc, symbol, name)?)),

@@ -2,7 +2,7 @@
 ghost use Rattle.std.specs.Prelude.{◌≡◌, ◌+◌, ◌<◌, ◌≤◌, IfOk, option_map};
 ghost use Rattle.value_data.specs.View.{view};
 ghost use Rattle.repl_asks.specs.View.{commute_view, name_view};
-ghost use Rattle.tx_attempt.specs.Operations.{got, commuted, ensured, value_of};
+ghost use Rattle.tx_attempt.specs.Operations.{got, commuted, ensured, attempt_value};
 ghost use Rattle.evaluation_rules.specs.Doing.{Doing, noting};
 ghost use Rattle.evaluation_rules.specs.Refs.{ref_value, ensured_value};
 ghost use Rattle.walker_state.specs.Machine as machine;
@@ -73,10 +73,10 @@ pub(crate) fn ensure(state: &mut State, name: RefName) -> Result<Control, AllocE
 }
 
 // The value that the attempt knows, if one runs.
-#[tactic(auto, unfolding(tx_attempt::specs::Operations::value_of))]
+#[tactic(auto, unfolding(tx_attempt::specs::Operations::attempt_value))]
 fn known(state: &State, name: RefName) -> Result<Option<Value>, AllocError>
     ensures { IfOk result (λ known. option_map view known
-        ≡ value_of (name_view name) (so_far state.now.transaction)) }
+        ≡ attempt_value (name_view name) (so_far state.now.transaction)) }
 {
     match &state.transaction {
         None => Ok(None),

@@ -1,6 +1,6 @@
 use Rattle.std.proofs.Common.{◌∷◌, map, ap, ◌∙◌, subst}
 use Rattle.value_data.specs.View.{view}
-use Rattle.core_functions.specs.Outcome.{bounded}
+use Rattle.core_functions.specs.Outcome.{bounded_outcome}
 use Rattle.core_functions.specs.Meaning.{meaning}
 use Rattle.core_functions.specs.View.{FailsIn}
 use Rattle.ref_table.proofs.Commuting.{applied-fails, given-err}
@@ -15,5 +15,5 @@ returns-in_err-apply-in_default c =
     given-err view c.from_residual-in_err-apply-in_default.result error _
     c.from_residual-in_err-apply-in_default.ensures.1
     (applied-fails function _ error c.in_default.not-Print
-    (subst (λ vs. FailsIn (bounded (meaning function vs)) error) values
+    (subst (λ vs. FailsIn (bounded_outcome (meaning function vs)) error) values
     c.in_err-apply-in_default.ensures))

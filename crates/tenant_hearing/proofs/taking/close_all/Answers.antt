@@ -7,7 +7,7 @@ use Rattle.server_rules.specs.Numbered.{Entry}
 use Rattle.server_rules.specs.Tenant.{ActorData}
 use Rattle.tenant_actors.specs.View.{actors_view}
 use Rattle.tenant_hearing.specs.Scene.{all_vacated}
-use Rattle.tenant_hearing.proofs.Remaining.{remaining-first, remaining-all}
+use Rattle.tenant_hearing.proofs.Remaining.{remaining_sessions-first, remaining-all}
 use Rattle.tenant_hearing.proofs.taking.close_all.Goals as goal
 
 pub loop-number-preserved : goal.loop-number-preserved
@@ -16,7 +16,7 @@ loop-number-preserved c =
     let left = keys c.pop_first.new.self in
     record {
       sessions = ap (λ (s : NamedSessions). remaining_named left s) c.close.ensures
-          ∙ sym (ap (λ (x : SessionsData). record was.sessions { sessions = x }) (remaining-first c.in-Some.number left was.sessions.sessions))
+          ∙ sym (ap (λ (x : SessionsData). record was.sessions { sessions = x }) (remaining_sessions-first c.in-Some.number left was.sessions.sessions))
           ∙ sym (ap (λ (l : List ℕ). remaining_named l was.sessions) c.in-Some.ensures.removal)
           ∙ was.invariant.sessions;
       actors = ap (λ (es : List (Entry ActorData)). all_vacated left es) c.vacate.ensures

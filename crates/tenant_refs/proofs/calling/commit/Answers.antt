@@ -9,7 +9,7 @@ use Rattle.ref_table.specs.Refs.{store_of}
 use Rattle.ref_table.specs.Told.{Performs, outcome_told}
 use Rattle.ref_table.specs.declared.outcome.Outcome.{Outcome}
 use Rattle.ref_table.proofs.Telling.{on_err}
-use Rattle.tenant_refs.specs.Serving.{Comes}
+use Rattle.tenant_refs.specs.Serving.{PerformsCall}
 use Rattle.tenant_refs.proofs.Calls.{commit-told, commit-faulted}
 use Rattle.tenant_refs.proofs.Serving.{comes-left, performs-so, holds-new, holds-unended}
 use Rattle.tenant_refs.proofs.calling.commit.Goals as goal
@@ -35,7 +35,7 @@ returns-in-Committed-clause-called c = λ s r holds.
     let told = (performs-so c.commit.new.self c.args.refs.now attempts s r
     (Some (verdict committed)) call holds did).told in
     let Q : AnswerData → Type 0 = λ v.
-    Comes c.commit.new.self c.leave.new.self r (Some v) (performed s call) in
+    PerformsCall c.commit.new.self c.leave.new.self r (Some v) (performed s call) in
     subst Q (sym c.committed.ensures.view)
     (comes-left c.commit.new.self c.args.refs.now attempts c.leave.new.self seat s r
     (Some (verdict committed)) call holds did (commit-told s seat intent (verdict committed) told)

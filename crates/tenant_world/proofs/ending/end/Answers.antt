@@ -3,7 +3,7 @@ use Rattle.server_rules.specs.Plan.{Plan, request_interrupted}
 use Rattle.tenant_actors.specs.View.{actor_view, hand_view, run_view}
 use Rattle.tenant_turns.specs.Deeded.{carried_out}
 use Rattle.tenant_world.specs.Answers.{ending_view}
-use Rattle.tenant_world.specs.Acting.{Acted}
+use Rattle.tenant_world.specs.Acting.{AcceptsOutcome}
 use Rattle.tenant_refs.specs.Attempts.{Reaches}
 use Rattle.tenant_world.proofs.Remembering.{acted-interrupted, declined-memory-with}
 use Rattle.tenant_world.proofs.Ends.{ends-interrupted}
@@ -21,7 +21,7 @@ returns-then-state-clause-acted c = λ g q s right r reaches.
     let k = hand_view c.in-Some.hand in
     let memory = c.interrupt.new.memory in
     let P : Plan → Type 0 = λ p.
-    Acted g s.tenant a q (carried_out s p).outcome memory actor request_interrupted
+    AcceptsOutcome g s.tenant a q (carried_out s p).outcome memory actor request_interrupted
     × Reaches c.leave.new.self (carried_out s p).store in
     subst P (ends-interrupted g a actor (ending_view c.args.ending.now) q k _
     (ap (option_map hand_view) c.in-Some.is) (ap (option_map run_view) c.in-Some-running.is)

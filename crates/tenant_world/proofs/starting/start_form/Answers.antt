@@ -3,13 +3,13 @@ use Rattle.repl_sessions.specs.State.{StateData}
 use Rattle.repl_sessions.specs.StateView.{state_view}
 use Rattle.server_rules.specs.Request.{Hand}
 use Rattle.server_rules.specs.Tenant.{state_of}
-use Rattle.server_rules.specs.Starting.{held_or, started, next_begun}
+use Rattle.server_rules.specs.Starting.{held_or, start_outcome, next_begun}
 use Rattle.server_rules.specs.Plan.{StepAnswer}
 use Rattle.tenant_actors.specs.View.{actor_view, hand_view}
-use Rattle.tenant_moves.specs.Starts.{answer_given, given_by}
-use Rattle.tenant_world.specs.Acting.{Acted}
+use Rattle.tenant_moves.specs.Starts.{answer_given, given_job}
+use Rattle.tenant_world.specs.Acting.{AcceptsOutcome}
 use Rattle.tenant_world.proofs.Remembering.{held-so, some-same, declined-memory}
-use Rattle.tenant_world.proofs.Begins.{acted-started}
+use Rattle.tenant_world.proofs.Begins.{acted-start_outcome}
 use Rattle.tenant_world.proofs.starting.start_form.Goals as goal
 
 pub returns-in_err-take_news-clause-declined : goal.returns-in_err-take_news-clause-declined
@@ -31,16 +31,16 @@ returns-clause-acted c = λ g t q h tries r hand.
     let free = held-so g t c.args.memory.now q c.is_held.result r c.is_held.ensures ∙ c.if-is_held.false in
     let goes = c.in_ok-news.ensures g tries in
     let start = next_begun g k s k.forms in
-    let given = given_by c.in_ok-news.field-0.begun in
+    let given = given_job c.in_ok-news.field-0.begun in
     let taken = c.in_ok-take_news.ensures.taken g t q start.move r goes.told in
     let put = c.put_begun.ensures.hand k kept
     ∙ ap (λ x. record actor { hand = x }) goes.hand in
     let told = goes.answer in
-    let here = acted-started g t memory a actor new start q given free taken put told in
-    let P : Hand → Type 0 = λ x. Acted g t a q
-    (held_or q (started a actor (next_begun g x s x.forms) q)) memory new (answer_given given) in
-    let Q : StateData → Type 0 = λ x. Acted g t a q
-    (held_or q (started a actor (next_begun g h x h.forms) q)) memory new (answer_given given) in
-    let R : StepAnswer → Type 0 = λ x. Acted g t a q
-    (held_or q (started a actor (next_begun g h (state_of a q) h.forms) q)) memory new x in
+    let here = acted-start_outcome g t memory a actor new start q given free taken put told in
+    let P : Hand → Type 0 = λ x. AcceptsOutcome g t a q
+    (held_or q (start_outcome a actor (next_begun g x s x.forms) q)) memory new (answer_given given) in
+    let Q : StateData → Type 0 = λ x. AcceptsOutcome g t a q
+    (held_or q (start_outcome a actor (next_begun g h x h.forms) q)) memory new (answer_given given) in
+    let R : StepAnswer → Type 0 = λ x. AcceptsOutcome g t a q
+    (held_or q (start_outcome a actor (next_begun g h (state_of a q) h.forms) q)) memory new x in
     subst R (sym c.put_begun.ensures.answer) (subst Q same_state (subst P same_hand here))

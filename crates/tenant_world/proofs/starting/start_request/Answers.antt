@@ -3,14 +3,14 @@ use Rattle.repl_sessions.specs.State.{StateData}
 use Rattle.repl_sessions.specs.StateView.{state_view}
 use Rattle.name_spaces.specs.Namespaces.{Namespaces}
 use Rattle.name_spaces.specs.Seen.{namespaces_of}
-use Rattle.server_rules.specs.Starting.{held_or, started, text_begun, first_state}
+use Rattle.server_rules.specs.Starting.{held_or, start_outcome, text_begun, first_state}
 use Rattle.server_rules.specs.Plan.{StepAnswer, Outcome}
 use Rattle.tenant_actors.specs.View.{actor_view, waiting_view}
 use Rattle.tenant_moves.specs.Starts.{answer_given}
-use Rattle.tenant_world.specs.Answers.{started_view}
-use Rattle.tenant_world.specs.Acting.{Acted, younger, with_taken}
+use Rattle.tenant_world.specs.Answers.{start_answer_view}
+use Rattle.tenant_world.specs.Acting.{AcceptsOutcome, younger, with_next_in_hand}
 use Rattle.tenant_world.proofs.Remembering.{held-so, declined-memory}
-use Rattle.tenant_world.proofs.Begins.{acted-started, waiting-taken}
+use Rattle.tenant_world.proofs.Begins.{acted-start_outcome, waiting-taken}
 use Rattle.tenant_world.proofs.starting.start_request.Goals as goal
 
 pub returns-in_err-take_news-clause-declined : goal.returns-in_err-take_news-clause-declined
@@ -36,15 +36,15 @@ returns-clause-acted c = λ g t q right tries r hand.
     let takes = c.in_ok-news.ensures g right.readings tries in
     let taken = c.in_ok-take_news.ensures.taken g t q start.move r takes.told in
     let put = c.put_taken.ensures
-    ∙ ap (λ x. with_taken x actor) takes.hand in
+    ∙ ap (λ x. with_next_in_hand x actor) takes.hand in
     let told = takes.answer in
-    let here = acted-started g t memory a behind new start q given free taken put told in
-    let P : Namespaces → Type 0 = λ x. Acted g t a q (held_or q (started a behind
+    let here = acted-start_outcome g t memory a behind new start q given free taken put told in
+    let P : Namespaces → Type 0 = λ x. AcceptsOutcome g t a q (held_or q (start_outcome a behind
     (text_begun g x w.origin s w.text) q)) memory new (answer_given given) in
-    let Q : StateData → Type 0 = λ x. Acted g t a q (held_or q (started a behind
+    let Q : StateData → Type 0 = λ x. AcceptsOutcome g t a q (held_or q (start_outcome a behind
     (text_begun g q.spaces w.origin x w.text) q)) memory new (answer_given given) in
-    let R : StepAnswer → Type 0 = λ x. Acted g t a q (held_or q (started a behind
+    let R : StepAnswer → Type 0 = λ x. AcceptsOutcome g t a q (held_or q (start_outcome a behind
     (text_begun g q.spaces w.origin (first_state a q) w.text) q)) memory new x in
-    let S : Outcome → Type 0 = λ x. Acted g t a q x memory new (started_view c.answer_of.result) in
+    let S : Outcome → Type 0 = λ x. AcceptsOutcome g t a q x memory new (start_answer_view c.answer_of.result) in
     subst S (waiting-taken g a actor q w actor.waiting first)
     (subst R (sym c.answer_of.ensures) (subst Q same_state (subst P r.spaces here)))

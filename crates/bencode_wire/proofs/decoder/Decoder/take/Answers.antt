@@ -3,9 +3,9 @@ use Rattle.bencode_wire.specs.Course.{Advances, ahead, Continues}
 use Rattle.bencode_wire.specs.Decoder.{fault_of, ready_of, Stands}
 use Rattle.std.proofs.lemmas.Grind.{common_steps}
 use Rattle.std.proofs.lemmas.List.{take_at}
-use Rattle.bencode_wire.specs.Fault.{counted}
+use Rattle.bencode_wire.specs.Fault.{counted_place}
 use Rattle.bencode_wire.specs.Held.{Holds}
-use Rattle.bencode_wire.specs.Inside.{state_of}
+use Rattle.bencode_wire.specs.Inside.{shown_state}
 use Rattle.bencode_wire.specs.Stream.{IsRest}
 use Rattle.bencode_wire.specs.declared.cut.Course.{Course}
 use Rattle.bencode_wire.specs.declared.decoder.Decoder.{Decoder}
@@ -17,7 +17,7 @@ use Rattle.bencode_wire.proofs.decoder.Decoder.take.Goals as goal
 
 pub invariant_of-self-in-Ok : goal.invariant_of-self-in-Ok
 invariant_of-self-in-Ok c =
-    let d : Decoder = state_of c.self.inside in
+    let d : Decoder = shown_state c.self.inside in
     let piece = c.args.piece.now in
     let none : d.fault ≡ None = ap fault_of c.self.view_is ∙ c.requires in
     let part = c.self.invariant.rests none in
@@ -45,7 +45,7 @@ invariant_of-self-in-Ok c =
 
 pub returns-in-Ok-clause-stands : goal.returns-in-Ok-clause-stands
 returns-in-Ok-clause-stands c = λ limit all taken s other.
-    let d : Decoder = state_of c.self.inside in
+    let d : Decoder = shown_state c.self.inside in
     let piece = c.args.piece.now in
     let none : d.fault ≡ None = ap fault_of c.self.view_is ∙ c.requires in
     let part = c.self.invariant.rests none in
@@ -68,7 +68,7 @@ returns-in-Ok-clause-stands c = λ limit all taken s other.
 
 pub returns-in-Ok-clause-returns : goal.returns-in-Ok-clause-returns
 returns-in-Ok-clause-returns c = λ limit all taken s nothing other.
-    let d : Decoder = state_of c.self.inside in
+    let d : Decoder = shown_state c.self.inside in
     let piece = c.args.piece.now in
     let none : d.fault ≡ None = ap fault_of c.self.view_is ∙ c.requires in
     let kept : c.len-kept.result ≡ length d.rest = search rules in
@@ -78,14 +78,14 @@ returns-in-Ok-clause-returns c = λ limit all taken s nothing other.
     let empty = none_ready d.ready was in
     let count : c.len-ready.result ≡ 0 = grind (arith, common_steps, c.len-ready.ensures, empty) in
     let front : take c.len-kept.result c.extend_from_slice.new.self.items ≡ d.rest = ap (take c.len-kept.result) bytes ∙ take_at d.rest piece c.len-kept.result (sym kept) in
-    let begin : counted c.settle.new.self.start ≡ d.place = let start = c.settle.ensures.start in omega arith in
-    can_return limit all taken d _ (record { rest = take c.len-kept.result c.extend_from_slice.new.self.items; place = counted c.settle.new.self.start }) stood
+    let begin : counted_place c.settle.new.self.start ≡ d.place = let start = c.settle.ensures.start in omega arith in
+    can_return limit all taken d _ (record { rest = take c.len-kept.result c.extend_from_slice.new.self.items; place = counted_place c.settle.new.self.start }) stood
     (record { ready = was; fault = none; rest = front; place = begin }) refl
     (noted c.then_some-self-inside.result c.len-ready.result c.len-kept.result _ count c.then_some-self-inside.ensures)
 
 pub invariant_of-self-then-is_err : goal.invariant_of-self-then-is_err
 invariant_of-self-then-is_err c =
-    let d : Decoder = state_of c.self.inside in
+    let d : Decoder = shown_state c.self.inside in
     let none : d.fault ≡ None = ap fault_of c.self.view_is ∙ c.requires in
     let bytes : c.extend_from_slice.new.self.items ≡ d.rest = grind (arith, c.extend_from_slice.ensures.items, c.is_err.ensures.value, c.if-is_err.true, c.settle.ensures.bytes) in
     let begin = c.settle.ensures.begin in
@@ -98,7 +98,7 @@ invariant_of-self-then-is_err c =
 
 pub invariant_of-self-in-Err-NoMemory : goal.invariant_of-self-in-Err-NoMemory
 invariant_of-self-in-Err-NoMemory c =
-    let d : Decoder = state_of c.self.inside in
+    let d : Decoder = shown_state c.self.inside in
     let piece = c.args.piece.now in
     let none : d.fault ≡ None = ap fault_of c.self.view_is ∙ c.requires in
     let kept : c.len-kept.result ≡ length d.rest = search rules in
@@ -115,7 +115,7 @@ invariant_of-self-in-Err-NoMemory c =
 
 pub invariant_of-self-in-Err : goal.invariant_of-self-in-Err
 invariant_of-self-in-Err c =
-    let d : Decoder = state_of c.self.inside in
+    let d : Decoder = shown_state c.self.inside in
     let piece = c.args.piece.now in
     let none : d.fault ≡ None = ap fault_of c.self.view_is ∙ c.requires in
     let kept : c.len-kept.result ≡ length d.rest = search rules in
@@ -131,7 +131,7 @@ invariant_of-self-in-Err c =
 
 pub returns-in-Err-clause-stands : goal.returns-in-Err-clause-stands
 returns-in-Err-clause-stands c = λ limit all taken s other.
-    let d : Decoder = state_of c.self.inside in
+    let d : Decoder = shown_state c.self.inside in
     let piece = c.args.piece.now in
     let none : d.fault ≡ None = ap fault_of c.self.view_is ∙ c.requires in
     let part = c.self.invariant.rests none in
@@ -153,7 +153,7 @@ returns-in-Err-clause-stands c = λ limit all taken s other.
 
 pub returns-in-Err-clause-returns : goal.returns-in-Err-clause-returns
 returns-in-Err-clause-returns c = λ limit all taken s nothing other.
-    let d : Decoder = state_of c.self.inside in
+    let d : Decoder = shown_state c.self.inside in
     let piece = c.args.piece.now in
     let none : d.fault ≡ None = ap fault_of c.self.view_is ∙ c.requires in
     let kept : c.len-kept.result ≡ length d.rest = search rules in
@@ -163,7 +163,7 @@ returns-in-Err-clause-returns c = λ limit all taken s nothing other.
     let empty = none_ready d.ready was in
     let count : c.len-ready.result ≡ 0 = grind (arith, common_steps, c.len-ready.ensures, empty) in
     let front : take c.len-kept.result c.extend_from_slice.new.self.items ≡ d.rest = ap (take c.len-kept.result) bytes ∙ take_at d.rest piece c.len-kept.result (sym kept) in
-    let begin : counted c.settle.new.self.start ≡ d.place = let start = c.settle.ensures.start in omega arith in
-    can_return limit all taken d _ (record { rest = take c.len-kept.result c.extend_from_slice.new.self.items; place = counted c.settle.new.self.start }) stood
+    let begin : counted_place c.settle.new.self.start ≡ d.place = let start = c.settle.ensures.start in omega arith in
+    can_return limit all taken d _ (record { rest = take c.len-kept.result c.extend_from_slice.new.self.items; place = counted_place c.settle.new.self.start }) stood
     (record { ready = was; fault = none; rest = front; place = begin }) refl
     (noted c.then_some-self-inside-in-Err.result c.len-ready.result c.len-kept.result _ count c.then_some-self-inside-in-Err.ensures)

@@ -6,7 +6,7 @@ use Rattle.value_data.specs.Datum.{Datum}
 use Rattle.repl_faults.specs.View.{Gives}
 use Rattle.repl_asks.specs.Transactions.{RefNameData}
 use Rattle.repl_asks.specs.View.{change_view, commuted_view}
-use Rattle.server_rules.specs.Store.{value_of}
+use Rattle.server_rules.specs.Store.{newest_value}
 use Rattle.server_rules.specs.Commit.{all_take, all_folded}
 use Rattle.ref_table.specs.Refs.{store_of}
 use Rattle.ref_table.proofs.Distinct.{drop-item}
@@ -16,7 +16,7 @@ use Rattle.ref_table.proofs.table.RefTable.all_folded.Goals as goal
 pub returns-in_err-now-clause-folded : goal.returns-in_err-now-clause-folded
 returns-in_err-now-clause-folded g c = λ r points s.
     let value : RefNameData → Option Datum =
-    λ name. value_of name (store_of c.args.caller points r) in
+    λ name. newest_value name (store_of c.args.caller points r) in
     let item = drop-item c.args.commuted.now c.loop-one.one-index c.one-item.result
     c.loop-one-test.true c.one-item.is in
     let rest = map commuted_view (drop (c.loop-one.one-index + 1) c.args.commuted.now) in
@@ -40,7 +40,7 @@ loop-one-preserved g c =
       takes = (take-first (commuted_view c.one-item.result) rest
           (ap (λ cs. all_take (map commuted_view cs)) (sym item) ∙ c.loop-one.invariant.takes)).1;
       folded = λ r points s.
-          folded-next (λ name. value_of name (store_of c.args.caller points r)) _
+          folded-next (λ name. newest_value name (store_of c.args.caller points r)) _
           c.args.commuted.now c.loop-one.one-index c.one-item.result c.in_ok-now.now c.loop-one.changes.items
           c.push.new.self.items c.loop-one-test.true c.one-item.is
           (c.loop-one.invariant.folded r points s) (c.in_ok-now.ensures r points s)
@@ -57,7 +57,7 @@ loop-one-preserved g c =
 pub returns-clause-folded : goal.returns-clause-folded
 returns-clause-folded g c = λ r points s.
     let value : RefNameData → Option Datum =
-    λ name. value_of name (store_of c.args.caller points r) in
+    λ name. newest_value name (store_of c.args.caller points r) in
     let done = map change_view c.loop-one.changes.items in
     let none : drop c.loop-one.one-index c.args.commuted.now ≡ [] =
     grind (arith, common_steps, c.loop-one-test.false) in

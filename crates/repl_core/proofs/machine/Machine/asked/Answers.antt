@@ -1,7 +1,7 @@
 use Rattle.std.proofs.Common.{◌∙◌, refl, sym}
 use Rattle.server_rules.specs.Plan as deeds
 use Rattle.repl_asks.specs.View.{ask_view}
-use Rattle.tenant_world.specs.Answers.{asked_view}
+use Rattle.tenant_world.specs.Answers.{ask_answer_view}
 use Rattle.repl_core.specs.Standing.{store_in}
 use Rattle.repl_core.proofs.Behind.{does-so, refuses-so, refuses-none, ok-map}
 use Rattle.repl_core.proofs.machine.Machine.asked.Goals as goal
@@ -17,7 +17,7 @@ returns-clause-done c = λ g w right s.
     let old = c.args.self.now in
     let d = deeds.asks_for c.args.actor (ask_view c.args.ask.now) in
     does-so g w t d old c.put_back.new.self c.answer-result.new.refs c.in-Some.tenant c.answer-result.new.self
-    asked_view c.answer-result.result s (sym c.in-Some.ensures.taken)
+    ask_answer_view c.answer-result.result s (sym c.in-Some.ensures.taken)
     (λ kept st serves.
     let at = store_in w.around t kept.mine in
     ok-map _ _ c.answer-result.result (λ x it. (

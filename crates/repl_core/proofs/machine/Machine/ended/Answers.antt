@@ -3,10 +3,10 @@ use Rattle.repl_asks.specs.View.{trace_view}
 use Rattle.repl_jobs.specs.View.{job_view, finished_view}
 use Rattle.server_rules.specs.Plan as deeds
 use Rattle.server_rules.specs.Plan.{EndingData}
-use Rattle.tenant_turns.specs.Deeded.{deeded}
+use Rattle.tenant_turns.specs.Deeded.{deed_result}
 use Rattle.tenant_walks.specs.Ended.{ended}
 use Rattle.tenant_walks.proofs.Stores.{serves-all-still, ends-reached}
-use Rattle.tenant_world.specs.Answers.{ended_view}
+use Rattle.tenant_world.specs.Answers.{end_answer_view}
 use Rattle.tenant_world.specs.Standing as world
 use Rattle.repl_core.specs.Standing.{store_in}
 use Rattle.repl_core.proofs.Behind.{does-so, refuses-so, refuses-none, of-actor, err-with}
@@ -33,13 +33,13 @@ returns-clause-done c = λ g w right s.
     ∙ ap (λ f. record (ended e) { end = finished_view f }) c.end.ensures in
     let d = deeds.ends c.args.actor (ended c.args.ending.now) in
     does-so g w t d old c.put_back.new.self old.refs c.in-Some.tenant c.end_form-result.new.self
-    ended_view c.end_form-result.result s (sym c.in-Some.ensures.taken)
+    end_answer_view c.end_form-result.result s (sym c.in-Some.ensures.taken)
     (λ kept st serves.
     let at = store_in w.around t kept.mine in
     let D : EndingData → Type 0 = λ x. IfOk c.end_form-result.result (λ y.
-    world.DoesBy g c.args.actor kept.quiet
-    (deeded g at kept.quiet (deeds.ends c.args.actor x)) c.end_form-result.new.self (ended_view y)) in
-    of-actor g c.args.actor kept.quiet _ c.end_form-result.new.self ended_view _ c.end_form-result.result
+    world.AcceptsDeedBy g c.args.actor kept.quiet
+    (deed_result g at kept.quiet (deeds.ends c.args.actor x)) c.end_form-result.new.self (end_answer_view y)) in
+    of-actor g c.args.actor kept.quiet _ c.end_form-result.new.self end_answer_view _ c.end_form-result.result
     (subst D is (c.end_form-result.ensures.done g kept.quiet at right st))
     (serves-all-still old.refs at _ s.refs serves
     (ends-reached g kept.quiet at c.args.actor (ended e))))
@@ -66,7 +66,7 @@ returns-clause-refused c = λ g w right s.
     (λ kept st serves.
     let at = store_in w.around t kept.mine in
     let D : EndingData → Type 0 = λ x. IfErr c.end_form-result.result
-    (world.Refuses g kept.quiet at (deeded g at kept.quiet (deeds.ends c.args.actor x))
+    (world.RefusesDeed g kept.quiet at (deed_result g at kept.quiet (deeds.ends c.args.actor x))
     c.end_form-result.new.self) in
     err-with _ _ c.end_form-result.result
     (subst D is (c.end_form-result.ensures.refused g kept.quiet at right st)) serves)

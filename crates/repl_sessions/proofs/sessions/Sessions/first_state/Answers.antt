@@ -4,7 +4,7 @@ use Rattle.std.specs.Map.{lookup}
 use Rattle.repl_sessions.specs.Ids.{IdsData}
 use Rattle.repl_sessions.specs.State.{StateData, fresh}
 use Rattle.repl_sessions.specs.StateView.{state_view}
-use Rattle.repl_sessions.specs.Sessions.{state_of, first_state}
+use Rattle.repl_sessions.specs.Sessions.{state_of, cloned_state}
 use Rattle.repl_sessions.specs.Named.{NamedSessions}
 use Rattle.repl_sessions.specs.declared.state.SessionState.{SessionState}
 use Rattle.repl_sessions.proofs.Numbers.{at, state-found}
@@ -23,7 +23,7 @@ pub returns-in-Some : goal.returns-in-Some
 returns-in-Some c =
     let was = c.self.inside in
     let found = ap (option_map state_view) (sym c.index.ensures) ∙ state_is was.live c.in-Some.number was.opened was.ids c.args.self.now c.self.view_is in
-    let given = ap (first_state c.args.self.now.sessions) c.in-Some.is in
+    let given = ap (cloned_state c.args.self.now.sessions) c.in-Some.is in
     let P = λ (d : StateData). IfOk c.copy.result (λ s. state_view s ≡ d) in
     subst P (ap (λ (o : Option StateData). unwrap_or o fresh) found ∙ sym given) c.copy.ensures
 

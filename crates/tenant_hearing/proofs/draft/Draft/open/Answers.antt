@@ -13,7 +13,7 @@ use Rattle.tenant_hearing.specs.Scene.{scene}
 use Rattle.tenant_hearing.specs.Undone.{retracted_named}
 use Rattle.tenant_hearing.specs.declared.changes.Change.{Change}
 use Rattle.tenant_hearing.specs.declared.changes.Change.TheVariants as change
-use Rattle.tenant_hearing.proofs.Drafting.{comes-cloned}
+use Rattle.tenant_hearing.proofs.Drafting.{comes-with_clone_of}
 use Rattle.tenant_hearing.proofs.Remaining.{open-still}
 use Rattle.tenant_hearing.proofs.Undoing.{kept-more, cloned-back, cloned-seated}
 use Rattle.tenant_hearing.proofs.draft.Draft.open.Goals as goal
@@ -62,7 +62,7 @@ returns-clause-heard c =
     let x = scene c.args.self.now c.args.sessions.now c.args.actors.now in
     let number = c.in_ok-number.number in
     on_ok_weaker c.add.result (λ added.
-    comes-cloned o c.args.original x _ number c.requires.served c.in_ok-number.ensures.number c.in_ok-number.ensures.cloned
+    comes-with_clone_of o c.args.original x _ number c.requires.served c.in_ok-number.ensures.number c.in_ok-number.ensures.cloned
     c.in_default.ensures.added refl
     (added ∙ ap (λ (i : List ℕ). x.made ++ map bytes_of (reply o (replies.new_session i) ∷ [])) c.in_ok-id.ensures))
     c.add.ensures

@@ -4,7 +4,7 @@ use Rattle.repl_jobs.specs.View.{job_view, finished_view}
 use Rattle.repl_walker.specs.declared.waiting.Progress.{Progress}
 use Rattle.server_rules.specs.Plan as deeds
 use Rattle.server_rules.specs.Plan.{EndingData}
-use Rattle.tenant_world.specs.Answers.{ended_view}
+use Rattle.tenant_world.specs.Answers.{end_answer_view}
 use Rattle.tenant_world.specs.Standing as world
 use Rattle.tenant_walks.specs.Ended.{ended}
 use Rattle.tenant_walks.specs.Standing.{parts, comes_to}
@@ -21,7 +21,7 @@ returns-in_err-end_form-clause-refused c = λ g l r e right s at.
     let kept = at-so (λ p. p.now) c.get.result _ (Progress.Ends d) _ c.get.ensures
     c.in-Some-Ends.is c.in-Some-Ends.field-0-is in
     let same = ends-same d e (some-same _ _ (sym kept ∙ at)) in
-    let P : EndingData → Type 0 = λ x. world.Refuses g l.quiet l.store
+    let P : EndingData → Type 0 = λ x. world.RefusesDeed g l.quiet l.store
     (comes_to g l (deeds.ends a x)) c.end_form.new.self
     c.in_err-end_form.field-0.0 in
     let first : EndingData = record {
@@ -45,9 +45,9 @@ returns-clause-done c = λ g l r e right s at.
     let kept = at-so (λ p. p.now) c.get.result _ (Progress.Ends d) _ c.get.ensures
     c.in-Some-Ends.is c.in-Some-Ends.field-0-is in
     let same = ends-same d e (some-same _ _ (sym kept ∙ at)) in
-    let P : EndingData → Type 0 = λ x. world.DoesBy g a l.quiet
+    let P : EndingData → Type 0 = λ x. world.AcceptsDeedBy g a l.quiet
     (comes_to g l (deeds.ends a x)) c.end_form.new.self
-    (ended_view c.in_ok-end_form.field-0) in
+    (end_answer_view c.in_ok-end_form.field-0) in
     let first : EndingData = record {
       job = job_view c.job.result.now;
       trace = trace_view c.trace.result.now;

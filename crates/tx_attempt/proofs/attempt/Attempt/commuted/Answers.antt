@@ -5,13 +5,13 @@ use Rattle.repl_asks.specs.View.{name_view, commuted_view}
 use Rattle.tx_attempt.specs.contracts.key.KeyOrd.TheImpl as order
 use Rattle.tx_attempt.specs.Groups.{commutes_in, in_order}
 use Rattle.tx_attempt.specs.Operations.{ref_put, is_among, commute_of}
-use Rattle.tx_attempt.specs.Seen.{operations_of}
+use Rattle.tx_attempt.specs.Seen.{accesses_of}
 use Rattle.tx_attempt.proofs.Ordered.{ordered}
 use Rattle.tx_attempt.proofs.attempt.Attempt.commuted.Goals as goal
 
 pub returns : goal.returns
 returns c =
-    let ops = operations_of c.args.self.now in
+    let ops = accesses_of c.args.self.now in
     let groups = commutes_in (order.ghosts).cmp c.without-groups.result in
     let left : (n : RefNameData) → groups n
     ≡ cond (is_among n (filter_map ref_put ops)) [] (filter_map (commute_of n) ops) =
