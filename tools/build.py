@@ -3,11 +3,12 @@
 
     tools/build.py NAME ..
 
-`rt` proves one crate after another, and two of its runs wait for each other where they share a crate below. So each crate
-is built in a room of its own: a copy of its sources, with the libraries below it as they were built. Crates that do not
-stand on one another are built at one time, first those with the longest chain of others behind them, and processors that no
-other crate waits for go into the crate that is being proved. What is built is kept in each crate's out/, as by `rt lib`,
-so that only what changed is proved again. How far it is stands on standard error."""
+`rt` proves one crate after another, and two of its runs wait for each other where they share a
+crate below. So each crate is built in a room of its own: a copy of its sources, with the libraries
+below it as they were built. Crates that do not stand on one another are built at one time, first
+those with the longest chain of others behind them, and processors that no other crate waits for go
+into the crate that is being proved. What is built is kept in each crate's out/, as by `rt lib`, so
+that only what changed is proved again. How far it is stands on standard error."""
 
 import contextlib
 import fcntl
@@ -101,8 +102,9 @@ def side_by_side(crates, built):
             for place, crate in enumerate(ready):
                 if len(running) >= jobs_at_once():
                     break
-                # The first has the longest chain behind it, and gets all that the others leave. None waits for the
-                # processors that another was given, since much of a check has no use for a second one.
+                # The first has the longest chain behind it, and gets all that the others leave.
+                # None waits for the processors that another was given, since much of a check has no
+                # use for a second one.
                 idle = jobs_at_once() - sum(jobs for _, jobs in running.values())
                 jobs = max(1, min(4, idle - (len(ready) - place - 1)))
                 left.remove(crate)
@@ -120,7 +122,7 @@ def jobs_at_once():
 
 
 def build(crate, jobs):
-    """Proves one crate and builds it: a library, or a program, which is then run once on an empty stream."""
+    """Proves and builds one crate: a library, or a program that is then run once on empty input."""
     command = [*workspace.RT, "lib", "--jobs", str(jobs)]
     if os.path.isfile(f"{crate.folder}/src/main.rt"):
         command = [*workspace.RT, "run", "--jobs", str(jobs), "--", *arguments(crate)]

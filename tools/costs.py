@@ -5,8 +5,8 @@
     tools/costs.py --stream ROW COUNT writes the stream of a row, by its number, for so many
 
 Counted are instructions, by `valgrind --tool=callgrind`, so what else the machine does makes no
-difference; and memory at its peak, by the system. Each row is measured at three sizes, each twice the
-one before: where the cost is a straight line, it doubles."""
+difference; and memory at its peak, by the system. Each row is measured at three sizes, each twice
+the one before: where the cost is a straight line, it doubles."""
 
 import re
 import subprocess
@@ -31,7 +31,7 @@ def evaluated(*codes):
 
 
 def sessions(count):
-    """So many clones, and the ids of their sessions, as the server with its usual seed gives them."""
+    """So many clones, and their sessions' ids, as the server with its usual seed gives them."""
     clones = [request(op="clone")] * count
     pipes = {"input": b"".join(clones), "stdout": subprocess.PIPE}
     ran = subprocess.run([SERVER, "pipe"], check=True, **pipes)

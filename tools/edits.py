@@ -1,10 +1,11 @@
 """Tries a crate's must-fail edits over the work that its checks kept.
 
-Edits are made in a copy of the crate beside the libraries below it. First many are tried in one check, at most one in a
-function: the check says of each function whether it is proved, and the first goal or answer of its own that fails. Of an edit of which
-that does not tell, only the function that it changes is checked, with what that calls; where this is not refused the whole crate
-is, since another function's proof may rest on the one that was changed. `rt must-fail` and `rt ci` try the same edits one by one,
-and check the whole crate for each."""
+Edits are made in a copy of the crate beside the libraries below it. First many are tried in one
+check, at most one in a function: the check says of each function whether it is proved, and the
+first goal or answer of its own that fails. Of an edit of which that does not tell, only the
+function that it changes is checked, with what that calls; where this is not refused the whole crate
+is, since another function's proof may rest on the one that was changed. `rt must-fail` and `rt ci`
+try the same edits one by one, and check the whole crate for each."""
 
 import contextlib
 import glob
@@ -18,10 +19,14 @@ from concurrent.futures import ThreadPoolExecutor, as_completed
 import build
 import workspace
 
-ERROR = re.compile(r"(?:so far: )?(?:\./)?((?:src|specs|proofs)/\S+?):\d+:\d+: error: (?:(`[^`]*`): )?(.*)")
+ERROR = re.compile(
+    r"(?:so far: )?(?:\./)?((?:src|specs|proofs)/\S+?):\d+:\d+: error: (?:(`[^`]*`): )?(.*)"
+)
 # What is said of a text that cannot be read, by which no contract is tried.
-UNREAD = re.compile(r"is not in scope|has no field|is no name|operand is missing|expected the end|cannot continue")
-# What is said in a proof file of a name that the edit took away, by which no contract is tried either.
+UNREAD = re.compile(
+    r"is not in scope|has no field|is no name|operand is missing|expected the end|cannot continue"
+)
+# What is said in a proof file of a name the edit took away, by which no contract is tried either.
 LOST_NAME = re.compile(r"has no field|is not in scope|has no `|was not admitted|not checked")
 # What a check says of a function in the end.
 VERDICT = re.compile(r"^fn ([\w:+]+): (.*)$", re.MULTILINE)
@@ -33,8 +38,8 @@ class Bad(Exception):
 
 
 def tried(crates):
-    """Tries the edits of these crates side by side. Yields each crate, once its last edit is tried, and whether each of its
-    edits was refused for its meaning."""
+    """Tries the edits of these crates side by side. Yields each crate, once its last edit is tried,
+    and whether each of its edits was refused for its meaning."""
     # those that take longest first
     crates = sorted(crates, key=lambda it: -it.lines() * len(it.edits()))
     with ThreadPoolExecutor(build.jobs_at_once()) as pool:
@@ -44,7 +49,7 @@ def tried(crates):
 
 
 def are_refused(crate):
-    """Tries the crate's edits in a copy of it: in rounds, and one by one those of which the rounds do not tell."""
+    """Tries a crate's edits in a copy of it: in rounds, and one by one those no round tells of."""
     well = True
     with tempfile.TemporaryDirectory(prefix=f".edits-{crate.name}-", dir=workspace.TOP) as room:
         build.furnish(room, crate)
@@ -68,9 +73,10 @@ def tell(crate, edit, said):
 
 
 def in_rounds(crate, edits, inside):
-    """Tries many edits in one check, at most one in a function, since what a function is held to are the contracts of those that
-    it calls, which no edit of a body touches. Where a check tells only of one that it calls, the two are tried apart. Yields
-    each edit of which a round tells that it was refused for its meaning, and what was said."""
+    """Tries many edits in one check, at most one in a function, since what a function is held to
+    are the contracts of those that it calls, which no edit of a body touches. Where a check tells
+    only of one that it calls, the two are tried apart. Yields each edit of which a round tells that
+    it was refused for its meaning, and what was said."""
     left = {}
     for edit in edits:
         with contextlib.suppress(Bad):
@@ -81,7 +87,9 @@ def in_rounds(crate, edits, inside):
     while left:
         chosen = {}
         for edit, function in left.items():
-            apart = function not in chosen and not any({(function, it), (it, function)} & calls for it in chosen)
+            apart = function not in chosen and not any(
+                {(function, it), (it, function)} & calls for it in chosen
+            )
             if apart and put_all(crate, inside, [*chosen.values(), edit]):
                 chosen[function] = edit
         said = verdicts(crate, inside, chosen)
@@ -97,8 +105,8 @@ def in_rounds(crate, edits, inside):
 
 
 def put_all(crate, inside, edits):
-    """Puts the crate's sources into the copy with these edits. Whether each old text stands there once, in what the edits before
-    it have left."""
+    """Puts the crate's sources into the copy with these edits. Whether each old text stands there
+    once, in what the edits before it have left."""
     texts = {}
     for edit in edits:
         for path, old, new in changes_of(edit):
@@ -113,7 +121,8 @@ def put_all(crate, inside, edits):
 
 
 def verdicts(crate, inside, chosen):
-    """What a check says of these functions: that one was refused, and how, or that it calls another that was."""
+    """What a check says of these functions: that one was refused, and how, or that it calls another
+    that was."""
     printed = checked(inside).stdout
     if not re.search(r"^logic=not-proved", printed, re.MULTILINE):
         return {}
@@ -170,7 +179,8 @@ def refusal(inside, changed, *words):
     errors = [it for it in map(ERROR.match, ran.stdout.splitlines()) if it]
     for path, name, text in [it.groups() for it in errors]:
         plain = re.sub(r"`[^`]*`", "", text)
-        if (path in changed or not path.startswith("proofs/")) and (not name or UNREAD.search(plain)):
+        edited_or_no_proof = path in changed or not path.startswith("proofs/")
+        if edited_or_no_proof and (not name or UNREAD.search(plain)):
             raise Bad(f"the prover cannot read the edited text: {path}: {text[:200]}")
     told = [it for it in errors if not (it[1].startswith("proofs/") and LOST_NAME.search(it[3]))]
     if errors and not told:
@@ -192,7 +202,8 @@ def put(inside, texts):
 
 
 def read(edit, folder):
-    """The texts that an edit changes, old and new by their paths, and the function in which its first change stands."""
+    """The texts that an edit changes, old and new by their paths, and the function in which its
+    first change stands."""
     changes, function = {}, None
     for path, old, new in changes_of(edit):
         before, now = changes.get(path) or [workspace.content(f"{folder}/{path}").decode()] * 2
@@ -217,13 +228,15 @@ def changes_of(edit):
 
 
 def enclosing(path, text, folder):
-    """The path of the last function that begins in the text of a source file. A method's is below the module of its type."""
+    """The path of the last function that begins in the text of a source file. A method's is below
+    the module of its type."""
     names = re.findall(r"^( *)(?:pub(?:\([a-z]+\))? )?(?:const )?fn (\w+)", text, re.MULTILINE)
     if not path.startswith("src/") or not names:
         return None
     indent, name = names[-1]
     # a trait's functions are named by the type and the trait
-    owner = re.findall(r"^impl(?:<[^>]*>)? (?:(\w+)(?:<[^>]*>)? for )?(\w+)", text, re.MULTILINE)[-1:] if indent else []
+    impls = re.findall(r"^impl(?:<[^>]*>)? (?:(\w+)(?:<[^>]*>)? for )?(\w+)", text, re.MULTILINE)
+    owner = impls[-1:] if indent else []
     module = module_of(path)
     for _, type_name in owner:
         module = declares(folder, type_name) or module
@@ -236,7 +249,8 @@ def module_of(path):
 
 
 def declares(folder, type_name):
-    """The module of a crate in which a type is declared, or none where the crate does not declare it, or does twice."""
+    """The module of a crate in which a type is declared, or none where the crate does not declare
+    it, or does twice."""
     declared = re.compile(rf"^(?:pub(?:\([a-z]+\))? )?(?:struct|enum) {type_name}\b", re.MULTILINE)
     sources = glob.glob("src/**/*.rt", root_dir=folder, recursive=True)
     found = [it for it in sources if declared.search(workspace.content(f"{folder}/{it}").decode())]

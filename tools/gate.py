@@ -1,17 +1,21 @@
 #!/usr/bin/env python3
 """The merge gate, started by .ci/run.
 
-    .ci/run                 `rt ci` over a copy of the tree: every proof from nothing, every test, every program. The must-fail
-                            edits of a crate are left out of the copy where the record says that just these were refused
+    .ci/run                 `rt ci` over a copy of the tree: every proof from nothing, every test,
+                            every program. The must-fail edits of a crate are left out of the copy
+                            where the record says that just these were refused
     .ci/run whole           the same, and every must-fail edit
-    .ci/run edits [NAME ..] tries the edits of the crates that are named, or of all that the record does not cover, and writes
-                            their lines of the record where each edit was refused. Nothing else writes one
+    .ci/run edits [NAME ..] tries the edits of the crates that are named, or of all that the record
+                            does not cover, and writes their lines of the record where each edit was
+                            refused. Nothing else writes one
 
-The record is tools/refused_edits.txt: for a crate its name, a fingerprint and the number of its edits. The fingerprint is a sum
-over all that the edits depend on (workspace.py): the edits, the sources of the crate and of each crate below it, their lines of
-crates.txt, HANDLES and the kit. A line counts only where fingerprint and number are those of the tree. So after a change of a crate
-its edits are tried again, and those of every crate above it; and a line that was altered, or whose edits were, covers nothing. What
-a record cannot show is that its line was written by `.ci/run edits`: `.ci/run whole` shows that."""
+The record is tools/refused_edits.txt: for a crate its name, a fingerprint and the number of its
+edits. The fingerprint is a sum over all that the edits depend on (workspace.py): the edits, the
+sources of the crate and of each crate below it, their lines of crates.txt, HANDLES and the kit. A
+line counts only where fingerprint and number are those of the tree. So after a change of a crate
+its edits are tried again, and those of every crate above it; and a line that was altered, or whose
+edits were, covers nothing. What a record cannot show is that its line was written by
+`.ci/run edits`: `.ci/run whole` shows that."""
 
 import os
 import shutil
@@ -40,7 +44,8 @@ def record():
 
 
 def recorded():
-    """The lines of the record: each crate's fingerprint and number of edits. A crate with two lines has none."""
+    """The lines of the record: each crate's fingerprint and number of edits. A crate with two lines
+    has none."""
     found = {}
     if os.path.isfile(record()):
         for line in workspace.content(record()).decode(errors="replace").splitlines():
@@ -64,7 +69,7 @@ def uncovered():
 
 
 def run_gate(left_out):
-    """Runs `rt ci` over a copy of the tree without the edits of these crates, and returns its status."""
+    """Runs `rt ci` over a copy of the tree without these crates' edits, and returns its status."""
     began = time.monotonic()
     taken = sum(len(it.edits()) for it in left_out)
     tried = sum(len(it.edits()) for it in workspace.crates()) - taken
@@ -89,7 +94,8 @@ def run_gate(left_out):
 
 
 def try_edits(names):
-    """Tries the edits of these crates, or of all that the record does not cover, some crates at a time."""
+    """Tries the edits of these crates, or of all that the record does not cover, some crates at a
+    time."""
     known = {it.name: it for it in workspace.crates()}
     lost = [it for it in names if it not in known]
     if lost:
@@ -117,7 +123,10 @@ def note(crates, now):
     for it in crates:
         lines[it.name] = f"{it.name} {now[it.name]} {len(it.edits())}"
     with open(record(), "w", encoding="utf-8") as file:
-        file.write("# A crate, the fingerprint for which all its edits were refused, and their number. Written by .ci/run edits.\n")
+        file.write(
+            "# A crate, the fingerprint for which all its edits were refused, and their number. "
+            "Written by .ci/run edits.\n"
+        )
         file.writelines(f"{lines[it.name]}\n" for it in workspace.crates() if it.name in lines)
 
 

@@ -68,12 +68,17 @@ class Table:
         rows = []
         for it in workspace.crates():
             lines = [it.lines(part) for part in workspace.SOURCES]
-            rows.append([*lines, len(it.edits()), *[self.minutes(it.name, column) for column in COLUMNS]])
+            minutes = [self.minutes(it.name, column) for column in COLUMNS]
+            rows.append([*lines, len(it.edits()), *minutes])
         names = [f"`{it.name}`" for it in workspace.crates()] + ["all"]
         rows.append([sum(column) for column in zip(*rows)])
-        text = "| Crate | Code | Definitions | Proofs | Edits | Minutes: proof | tests | edits |\n|---|---|---|---|---|---|---|---|\n"
+        text = (
+            "| Crate | Code | Definitions | Proofs | Edits | Minutes: proof | tests | edits |\n"
+            "|---|---|---|---|---|---|---|---|\n"
+        )
         for name, row in zip(names, rows):
-            text += f"| {name} | " + " | ".join([str(it) for it in row[:4]] + [f"{it:.1f}" for it in row[4:]]) + " |\n"
+            cells = [str(it) for it in row[:4]] + [f"{it:.1f}" for it in row[4:]]
+            text += f"| {name} | " + " | ".join(cells) + " |\n"
         return text
 
 

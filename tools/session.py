@@ -1,6 +1,6 @@
 #!/usr/bin/env python3
-"""A session with the server, as an editor has one: each line of the input is sent to it as a form, and what comes back is
-printed as a REPL prints it.
+"""A session with the server, as an editor has one: each line of the input is sent to it as a form,
+and what comes back is printed as a REPL prints it.
 
     python3 tools/session.py < FORMS
 

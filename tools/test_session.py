@@ -1,5 +1,6 @@
-"""That the session in README.md is what the program answers: started by .ci/run before the gate. The gate runs the program on
-crates/nrepl_server/stdin, and what it writes has to be crates/nrepl_server/stdout."""
+"""That the session in README.md is what the program answers: started by .ci/run before the gate.
+The gate runs the program on crates/nrepl_server/stdin, and what it writes has to be
+crates/nrepl_server/stdout."""
 
 import io
 import re

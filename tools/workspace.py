@@ -74,7 +74,8 @@ def fingerprints():
     sums = {}
     for crate in crates():
         below = [sums[it.name] for it in crate.below()]
-        sums[crate.name] = digest([content(f"{TOP}/HANDLES"), kit(), crate.line, below], crate, *SOURCES)
+        ground = [content(f"{TOP}/HANDLES"), kit(), crate.line, below]
+        sums[crate.name] = digest(ground, crate, *SOURCES)
     return {it.name: digest([sums[it.name]], it, "must-fail") for it in crates()}
 
 

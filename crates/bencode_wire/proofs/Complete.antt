@@ -1,27 +1,37 @@
 -- The text of a value is read as the value, and the text of a cut as the cut.
-use Rattle.std.proofs.Common.{◌≡◌, ℕ, suc, ◌+◌, ◌-◌, ◌*◌, ◌/◌, ◌%◌, ◌^◌, ◌<◌, ◌≤◌, ◌⊎◌, inl, inr, Bool, true, false, cond, nat_lt, nat_le, ◌==◌, ℤ, pos, negsuc, List, [], ◌∷◌, ◌++◌, length, decimal, refl, sym, ap, ◌∙◌, append_assoc, append-nil, arith}
+use Rattle.std.proofs.Common.{◌≡◌, ℕ, suc, ◌+◌, ◌-◌, ◌*◌, ◌/◌, ◌%◌, ◌^◌, ◌<◌, ◌≤◌, ◌⊎◌, inl, inr}
+use Rattle.std.proofs.Common.{Bool, true, false, cond, nat_lt, nat_le, ◌==◌, ℤ, pos, negsuc, List}
+use Rattle.std.proofs.Common.{[], ◌∷◌, ◌++◌, length, decimal, refl, sym, ap, ◌∙◌, append_assoc}
+use Rattle.std.proofs.Common.{append-nil, arith}
 use Rattle.std.proofs.lemmas.Bool.Decides.{nat_tests}
 use Rattle.std.proofs.lemmas.Fmt.{decimal_by_steps, decimal_by_steps_wide}
-use Rattle.bencode_wire.specs.Tree.{Tree, integer, string, list, dictionary, Trees, no_trees, tree, Pairs, no_pairs, pair, add_tree, add_pair}
-use Rattle.bencode_wire.specs.Spelling.{text, trees_text, pairs_text, string_text, integer_text, IsInteger, IsString, IsSpellable, AreSpellable, ArePairs}
-use Rattle.bencode_wire.specs.Cut.{Frame, in_list, at_key, at_value, between, after_i, after_minus, digits, count, part, Cut, cut, frames_text, token_text, cut_text, IfAny, TakesValue, TakesKey, greatest, IsCut}
+use Rattle.bencode_wire.specs.Tree.{Tree, integer, string, list, dictionary, Trees, no_trees, tree}
+use Rattle.bencode_wire.specs.Tree.{Pairs, no_pairs, pair, add_tree, add_pair}
+use Rattle.bencode_wire.specs.Spelling.{text, trees_text, pairs_text, string_text, integer_text}
+use Rattle.bencode_wire.specs.Spelling.{IsInteger, IsString, IsSpellable, AreSpellable, ArePairs}
+use Rattle.bencode_wire.specs.Cut.{Frame, in_list, at_key, at_value, between, after_i, after_minus}
+use Rattle.bencode_wire.specs.Cut.{digits, count, part, Cut, cut, frames_text, token_text, cut_text}
+use Rattle.bencode_wire.specs.Cut.{IfAny, TakesValue, TakesKey, greatest, IsCut}
 use Rattle.bencode_wire.specs.Sign.{sign_of}
 use Rattle.bencode_wire.specs.declared.sign.Sign.TheVariants as signs
-use Rattle.bencode_wire.specs.Machine.{Next, goes, opens, names, ends, stuck, put, begin, more_digits, integer_minus, integer_digits, more_length, length_digits, step_run}
+use Rattle.bencode_wire.specs.ByteSteps.{step_run}
+use Rattle.bencode_wire.specs.ByteEffects.{integer_minus, more_digits}
+use Rattle.bencode_wire.specs.Beginnings.{ByteEffect, put, begin, goes, opens, names, ends, stuck}
+use Rattle.bencode_wire.specs.ByteEffects.{length_digits, more_length, integer_digits}
 
 -- what a byte makes of what has come
-abbrev pub after : Next → ℕ → Next
+abbrev pub after : ByteEffect → ℕ → ByteEffect
 after (goes fs token) b = step_run add_pair fs token (b ∷ [])
 after (opens f fs) b = step_run add_pair (f ∷ fs) between (b ∷ [])
 after (names ps key fs) b = step_run add_pair (at_value ps key ∷ fs) between (b ∷ [])
 after (ends t) b = stuck
 after stuck b = stuck
 
-abbrev pub run : Next → List ℕ → Next
+abbrev pub run : ByteEffect → List ℕ → ByteEffect
 run next [] = next
 run next (b ∷ bs) = run (after next b) bs
 
-pub run-append : (next : Next) (xs ys : List ℕ) → run next (xs ++ ys) ≡ run (run next xs) ys
+pub run-append : (next : ByteEffect) (xs ys : List ℕ) → run next (xs ++ ys) ≡ run (run next xs) ys
 run-append next [] ys = refl
 run-append next (b ∷ xs) ys = run-append (after next b) xs ys
 
@@ -30,18 +40,18 @@ run-stuck [] = refl
 run-stuck (b ∷ bs) = run-stuck bs
 
 -- the last byte of a list with values ended one, and so on
-abbrev pub resting : Frame → List Frame → Next
+abbrev pub resting : Frame → List Frame → ByteEffect
 resting (in_list no_trees) fs = opens (in_list no_trees) fs
 resting (in_list (tree t ts)) fs = goes (in_list (tree t ts) ∷ fs) between
 resting (at_key no_pairs) fs = opens (at_key no_pairs) fs
 resting (at_key (pair k t ps)) fs = goes (at_key (pair k t ps) ∷ fs) between
 resting (at_value ps key) fs = names ps key fs
 
-abbrev pub between_in : List Frame → Next
+abbrev pub between_in : List Frame → ByteEffect
 between_in [] = goes [] between
 between_in (f ∷ fs) = resting f fs
 
-abbrev pub next_of : Cut → Next
+abbrev pub next_of : Cut → ByteEffect
 next_of (cut fs between) = between_in fs
 next_of (cut fs after_i) = goes fs after_i
 next_of (cut fs after_minus) = goes fs after_minus
@@ -115,7 +125,7 @@ run-count fs h = decimal_by_steps_wide (λ n ds. n < 10 ^ 64 → run (between_in
     ∙ more_length-fits fs (n / 10) (n % 10) (omega arith) (omega arith) ∙ ap (λ k. goes fs (count k)) all)
 
 -- the digits of an integer behind its first
-run-digits : (fs : List Frame) (negative : Bool) (from : Next) → ((d : ℕ) → d < 10 → (negative ≡ true → 0 < d) → after from (48 + d) ≡ goes fs (digits negative d))
+run-digits : (fs : List Frame) (negative : Bool) (from : ByteEffect) → ((d : ℕ) → d < 10 → (negative ≡ true → 0 < d) → after from (48 + d) ≡ goes fs (digits negative d))
     → (n : ℕ) → n < 2 ^ 64 → (n ≤ greatest negative → (negative ≡ true → 0 < n) → run from (decimal n) ≡ goes fs (digits negative n))
 run-digits fs negative from first = decimal_by_steps (λ n ds. n ≤ greatest negative → (negative ≡ true → 0 < n) → run from ds ≡ goes fs (digits negative n))
     (λ n small fits some. first n small some)

@@ -1,15 +1,17 @@
 -- A feed reads on from what is kept, and the decoder then stands for the piece too.
-use Rattle.std.proofs.Common.{◌≡◌, ℕ, ◌+◌, ◌-◌, ◌^◌, min, List, ◌++◌, length, drop, Some, None, Err, refl, sym, ap, ◌∙◌, subst, append_assoc, append-nil, length-append, arith}
+use Rattle.std.proofs.Common.{◌≡◌, ℕ, ◌+◌, ◌-◌, ◌^◌, min, List, ◌++◌, length, drop, Some, None, Err}
+use Rattle.std.proofs.Common.{refl, sym, ap, ◌∙◌, subst, append_assoc, append-nil, length-append}
+use Rattle.std.proofs.Common.{arith}
 use Rattle.std.proofs.Math.Seq.{drop-append_seam}
 use Rattle.bencode_wire.specs.Tree.{Tree}
 use Rattle.bencode_wire.specs.Spelling.{put_pair}
 use Rattle.bencode_wire.specs.Cut.{Cut}
-use Rattle.bencode_wire.specs.Fault.{counted, fault_at}
-use Rattle.bencode_wire.specs.Machine.{End, rests, faults, reading}
+use Rattle.bencode_wire.specs.Fault.{counted_place, fault_at}
+use Rattle.bencode_wire.specs.ByteSteps.{ReadingEnd, rests, faults, stream_reading}
 use Rattle.bencode_wire.specs.Reader.{cut_view}
 use Rattle.bencode_wire.specs.Stream.{rest, fault, IsRest, Streams}
 use Rattle.bencode_wire.specs.Course.{fault_of_end, ahead, ready_view, Advances, Faults, Continues}
-use Rattle.bencode_wire.specs.Decoder.{ready_of, rest_of, place_of, fault_of, Stands}
+use Rattle.bencode_wire.specs.Decoder.{ready_of, rest_of, rest_place, fault_of, Stands}
 use Rattle.bencode_wire.specs.Held.{Holds}
 use Rattle.bencode_wire.specs.declared.ben.Ben.{Ben}
 use Rattle.bencode_wire.specs.declared.cut.Course.{Course}
@@ -18,7 +20,8 @@ use Rattle.bencode_wire.specs.declared.decoder.Decoder.{Decoder}
 use Rattle.bencode_wire.specs.declared.fault.WireFault.{WireFault}
 use Rattle.bencode_wire.specs.declared.fault.WireFault.TheVariants as wire
 use Rattle.bencode_wire.proofs.Kept.{Kept, rest_kept, kept_cut}
-use Rattle.bencode_wire.proofs.Streams.{Found, FoundBy, found_behind, streams_join, rest_within, rest_is}
+use Rattle.bencode_wire.proofs.Streams.{Found, FoundBy, found_behind, streams_join, rest_within}
+use Rattle.bencode_wire.proofs.Streams.{rest_is}
 use Rattle.bencode_wire.proofs.Decoders.{ahead_done, same_cut, none_some, shift_rest, shift_fault}
 
 -- what a feed reads on from
@@ -31,17 +34,17 @@ pub record Fed (limit : ℕ) (d : Decoder) (m piece : List ℕ) (course : Course
   pub at : course.at ≡ length (rest_of d)
 
 fed_ahead : (limit : ℕ) (d : Decoder) (m piece : List ℕ) (course : Course) (c : Cut) → Fed limit d m piece course c
-    → ahead d.limit (rest_of d ++ piece) course ≡ reading limit put_pair (length m) c (0 + length m) piece
+    → ahead d.limit (rest_of d ++ piece) course ≡ stream_reading limit put_pair (length m) c (0 + length m) piece
 fed_ahead limit d m piece course c f =
     let long : course.at ≡ length m = f.at ∙ ap length f.shown in
     let before : course.at - course.begin ≡ length m = let b = f.begin in omega arith in
     let at : course.at ≡ 0 + length m = omega arith in
     let left : drop course.at (rest_of d ++ piece) ≡ piece = ap (λ k. drop k (rest_of d ++ piece)) f.at ∙ drop-append_seam (rest_of d) piece in
-    ap (λ l. reading l put_pair (course.at - course.begin) (cut_view course.reader) course.at (drop course.at (rest_of d ++ piece))) f.within
-    ∙ ap (λ bs. reading limit put_pair (course.at - course.begin) (cut_view course.reader) course.at bs) left
-    ∙ ap (λ k. reading limit put_pair k (cut_view course.reader) course.at piece) before
-    ∙ ap (λ x. reading limit put_pair (length m) x course.at piece) f.reader
-    ∙ ap (λ k. reading limit put_pair (length m) c k piece) at
+    ap (λ l. stream_reading l put_pair (course.at - course.begin) (cut_view course.reader) course.at (drop course.at (rest_of d ++ piece))) f.within
+    ∙ ap (λ bs. stream_reading limit put_pair (course.at - course.begin) (cut_view course.reader) course.at bs) left
+    ∙ ap (λ k. stream_reading limit put_pair k (cut_view course.reader) course.at piece) before
+    ∙ ap (λ x. stream_reading limit put_pair (length m) x course.at piece) f.reader
+    ∙ ap (λ k. stream_reading limit put_pair (length m) c k piece) at
 
 fed_found : (limit : ℕ) (d : Decoder) (m piece : List ℕ) (course : Course) (c : Cut) → Fed limit d m piece course c
     → FoundBy limit 0 (m ++ piece) (ahead d.limit (rest_of d ++ piece) course)
@@ -52,12 +55,12 @@ fed_found limit d m piece course c f =
 pub record IsFed (old new : Decoder) (piece : List ℕ) (next : Course) : Type 0 where
   pub limit : new.limit ≡ old.limit
   pub rest : rest_of new ≡ drop next.begin (rest_of old ++ piece)
-  pub place : place_of new ≡ min (place_of old + next.begin) (2 ^ 64 - 1)
+  pub place : rest_place new ≡ min (rest_place old + next.begin) (2 ^ 64 - 1)
   pub fault : fault_of new ≡ None
   pub done : next.at ≡ length (rest_of old ++ piece)
 
 pub feed_rest : (limit : ℕ) (old new : Decoder) (all : List ℕ) (taken : List Tree) (m piece : List ℕ) (course next : Course) (c : Cut)
-    → Streams limit 0 all (taken ++ ready_of old) (rest m) → place_of old ≡ counted (length all - length m)
+    → Streams limit 0 all (taken ++ ready_of old) (rest m) → rest_place old ≡ counted_place (length all - length m)
     → Fed limit old m piece course c → Advances (ahead old.limit (rest_of old ++ piece) course) (ahead old.limit (rest_of old ++ piece) next) old.ready new.ready
     → IsFed old new piece next → Stands limit new (all ++ piece) taken
 feed_rest limit old new all taken m piece course next c streams place fed adv is =
@@ -80,7 +83,7 @@ feed_rest limit old new all taken m piece course next c streams place fed adv is
     let total : length (all ++ piece) ≡ length all + length piece = length-append all piece in
     let from = place in
     let to = is.place in
-    let place_now : place_of new ≡ counted (length (all ++ piece) - length left) = omega arith in
+    let place_now : rest_place new ≡ counted_place (length (all ++ piece) - length left) = omega arith in
     let messages : (taken ++ ready_of old) ++ now.messages ≡ taken ++ ready_of new =
     append_assoc taken (ready_of old) now.messages
     ∙ ap (λ ms. taken ++ ms) (sym adv.messages ∙ ap (λ r. ready_view new.ready ++ r.messages) over ∙ append-nil (ready_of new)) in
@@ -123,15 +126,15 @@ pub record IsBroken (old new : Decoder) (f : WireFault) : Type 0 where
   pub limit : new.limit ≡ old.limit
   pub fault : fault_of new ≡ Some f
 
-broken_end : (limit : ℕ) (old new : Decoder) (all : List ℕ) (taken : List Tree) (m piece : List ℕ) (f : WireFault) (ms : List Tree) (end : End)
-    → Streams limit 0 all (taken ++ ready_of old) (rest m) → place_of old ≡ counted (length all - length m) → old.limit ≡ limit
-    → ready_of new ≡ ready_of old ++ ms → fault_of_end (place_of old) end ≡ Some f → Found limit 0 (m ++ piece) ms end
+broken_end : (limit : ℕ) (old new : Decoder) (all : List ℕ) (taken : List Tree) (m piece : List ℕ) (f : WireFault) (ms : List Tree) (end : ReadingEnd)
+    → Streams limit 0 all (taken ++ ready_of old) (rest m) → rest_place old ≡ counted_place (length all - length m) → old.limit ≡ limit
+    → ready_of new ≡ ready_of old ++ ms → fault_of_end (rest_place old) end ≡ Some f → Found limit 0 (m ++ piece) ms end
     → IsBroken old new f → Stands limit new (all ++ piece) taken
 broken_end limit old new all taken m piece f ms (rests n c) streams place within ready is found b = absurd (none_some f None refl is)
 broken_end limit old new all taken m piece f ms (faults rule i) streams place within ready is found b =
     let k = length all - length m in
     let from = place in
-    let counts : counted (place_of old + i) ≡ counted (k + i) = omega arith in
+    let counts : counted_place (rest_place old + i) ≡ counted_place (k + i) = omega arith in
     let messages : (taken ++ ready_of old) ++ ms ≡ taken ++ ready_of new = append_assoc taken (ready_of old) ms ∙ ap (λ ms. taken ++ ms) (sym ready) in
     let none : 0 + k ≡ k + 0 = omega arith in
     let moved : Streams limit (0 + k) (m ++ piece) ms (fault rule (k + i)) =
@@ -145,15 +148,15 @@ broken_end limit old new all taken m piece f ms (faults rule i) streams place wi
     }
 
 feed_breaks : (limit : ℕ) (old new : Decoder) (all : List ℕ) (taken : List Tree) (m piece : List ℕ) (course : Course) (c : Cut) (f : WireFault)
-    → Streams limit 0 all (taken ++ ready_of old) (rest m) → place_of old ≡ counted (length all - length m)
-    → Fed limit old m piece course c → Faults (place_of old) (ahead old.limit (rest_of old ++ piece) course) old.ready new.ready f
+    → Streams limit 0 all (taken ++ ready_of old) (rest m) → rest_place old ≡ counted_place (length all - length m)
+    → Fed limit old m piece course c → Faults (rest_place old) (ahead old.limit (rest_of old ++ piece) course) old.ready new.ready f
     → IsBroken old new f → Stands limit new (all ++ piece) taken
 feed_breaks limit old new all taken m piece course c f streams place fed met b =
     broken_end limit old new all taken m piece f _ _ streams place fed.within met.messages met.end (fed_found limit old m piece course c fed) b
 
 pub feed_broken : (limit : ℕ) (old new : Decoder) (all : List ℕ) (taken : List Tree) (m piece : List ℕ) (course : Course) (c : Cut) (f : WireFault)
-    → Streams limit 0 all (taken ++ ready_of old) (rest m) → place_of old ≡ counted (length all - length m)
-    → Fed limit old m piece course c → Continues old.limit (place_of old) (rest_of old ++ piece) course old.ready new.ready (Err f)
+    → Streams limit 0 all (taken ++ ready_of old) (rest m) → rest_place old ≡ counted_place (length all - length m)
+    → Fed limit old m piece course c → Continues old.limit (rest_place old) (rest_of old ++ piece) course old.ready new.ready (Err f)
     → (f ≡ wire.NoMemory → ⊥) → IsBroken old new f → Stands limit new (all ++ piece) taken
 feed_broken limit old new all taken m piece course c wire.NoMemory streams place fed met other b = absurd (other refl)
 feed_broken limit old new all taken m piece course c (wire.Malformed p) streams place fed met other b = feed_breaks limit old new all taken m piece course c (wire.Malformed p) streams place fed met b

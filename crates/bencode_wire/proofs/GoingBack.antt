@@ -1,12 +1,14 @@
 -- A decoder after a piece can go back to what it was before it.
-use Rattle.std.proofs.Common.{◌≡◌, ℕ, ◌≤◌, ◌==◌, drop, List, [], ◌++◌, length, map, take, Option, Some, None, IfSome, MatchOption, option_map, refl, sym, ap, ◌∙◌, subst, arith, ◌+◌, ◌∷◌, Bool, true, false, length-append}
+use Rattle.std.proofs.Common.{◌≡◌, ℕ, ◌≤◌, ◌==◌, drop, List, [], ◌++◌, length, map, take, Option}
+use Rattle.std.proofs.Common.{Some, None, IfSome, MatchOption, option_map, refl, sym, ap, ◌∙◌}
+use Rattle.std.proofs.Common.{subst, arith, ◌+◌, ◌∷◌, Bool, true, false, length-append}
 use Rattle.std.specs.Bool.{then_some}
 use Rattle.std.proofs.lemmas.List.{take_at}
 use Rattle.bencode_wire.specs.Tree.{Tree}
 use Rattle.bencode_wire.specs.View.{view}
 use Rattle.bencode_wire.specs.State.{Earlier}
 use Rattle.bencode_wire.specs.Stream.{IsRest}
-use Rattle.bencode_wire.specs.Decoder.{ready_of, rest_of, place_of, fault_of, Stands}
+use Rattle.bencode_wire.specs.Decoder.{ready_of, rest_of, rest_place, fault_of, Stands}
 use Rattle.bencode_wire.specs.Return.{earlier_of, as_it_was, CanReturn}
 use Rattle.bencode_wire.specs.declared.ben.Ben.{Ben}
 use Rattle.bencode_wire.specs.declared.cut.Reader.{Reader}
@@ -18,7 +20,7 @@ pub record IsEarlier (old : Decoder) (e : Earlier) : Type 0 where
   pub ready : ready_of old ≡ []
   pub fault : fault_of old ≡ None
   pub rest : e.rest ≡ rest_of old
-  pub place : e.place ≡ place_of old
+  pub place : e.place ≡ rest_place old
 
 pub can_return : (limit : ℕ) (all : List ℕ) (taken : List Tree) (old new : Decoder) (e : Earlier) → Stands limit old all taken
     → IsEarlier old e → new.limit ≡ old.limit → earlier_of new ≡ Some e → CanReturn limit new all taken

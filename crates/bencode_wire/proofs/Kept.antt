@@ -1,28 +1,37 @@
 -- Bytes of a message that are clean, and the cut as which the machine holds them.
-use Rattle.std.proofs.Common.{◌≡◌, ℕ, ◌+◌, ◌⊎◌, inl, inr, Bool, true, false, cond, nat_lt, List, [], ◌∷◌, ◌++◌, length, refl, sym, ap, ◌∙◌, subst, append_assoc, append-nil, length-append, arith}
+use Rattle.std.proofs.Common.{◌≡◌, ℕ, ◌+◌, ◌⊎◌, inl, inr, Bool, true, false, cond, nat_lt, List, []}
+use Rattle.std.proofs.Common.{◌∷◌, ◌++◌, length, refl, sym, ap, ◌∙◌, subst, append_assoc}
+use Rattle.std.proofs.Common.{append-nil, length-append, arith}
 use Rattle.std.proofs.lemmas.Bool.Decides.{nat_tests}
-use Rattle.bencode_wire.specs.Tree.{Tree, dictionary, Pairs, no_pairs, pair, no_trees, tree, has_key}
+use Rattle.bencode_wire.specs.Tree.{Tree, dictionary, Pairs, no_pairs, pair, no_trees, tree}
+use Rattle.bencode_wire.specs.Tree.{has_key}
 use Rattle.bencode_wire.specs.Spelling.{text, pairs_text, sorted, put_pair}
-use Rattle.bencode_wire.specs.Cut.{Frame, at_value, between, Cut, cut, cut_text, IsCut, sorted_cut, in_list, at_key, after_i, after_minus, digits, count, part}
-use Rattle.bencode_wire.specs.Fault.{Rule, malformed, too_long, too_deep}
-use Rattle.bencode_wire.specs.Machine.{Next, goes, opens, names, ends, stuck, Judged, reads, whole, refuses, judged, checked, is_large_token, start, bite, rests, ended, onward, reading}
+use Rattle.bencode_wire.specs.Cut.{Frame, at_value, between, Cut, cut, cut_text, IsCut, sorted_cut}
+use Rattle.bencode_wire.specs.Cut.{in_list, at_key, after_i, after_minus, digits, count, part}
+use Rattle.bencode_wire.specs.Fault.{StreamRule, malformed, too_long, too_deep}
+use Rattle.bencode_wire.specs.ByteSteps.{Judged, reads, whole, refuses, judged, within_limit}
+use Rattle.bencode_wire.specs.ByteSteps.{is_large_token, start, bite, rests, ended_reading, onward}
+use Rattle.bencode_wire.specs.ByteSteps.{stream_reading}
+use Rattle.bencode_wire.specs.Beginnings.{ByteEffect, goes, opens, names, ends, stuck}
 use Rattle.bencode_wire.specs.Stream.{Meets, IsClean, IsMessage, IsRest}
 use Rattle.bencode_wire.proofs.Sound.{Sound}
-use Rattle.bencode_wire.proofs.Complete.{run, run-append, run-stuck, run-message, next_of, resting, run-cut}
+use Rattle.bencode_wire.proofs.Complete.{run, run-append, run-stuck, run-message, next_of, resting}
+use Rattle.bencode_wire.proofs.Complete.{run-cut}
 use Rattle.bencode_wire.proofs.Close.{close, IsFront}
 use Rattle.bencode_wire.proofs.Orders.{sorted_judged}
-use Rattle.bencode_wire.proofs.Appends.{reading-append}
+use Rattle.bencode_wire.proofs.Appends.{stream_reading-append}
 use Rattle.bencode_wire.proofs.Messages.{clean_message, message_text}
-use Rattle.bencode_wire.proofs.Verdicts.{read, read-sound, verdict, meets_verdict, verdict_meets, At, bite_at}
+use Rattle.bencode_wire.proofs.Verdicts.{read, read-sound, verdict, meets_verdict, verdict_meets}
+use Rattle.bencode_wire.proofs.Verdicts.{At, bite_at}
 
 pub record Kept (limit : ℕ) (m : List ℕ) (c : Cut) : Type 0 where
   pub inner : Cut
   pub at : At (read m) inner
   pub is : c ≡ sorted_cut inner
-  pub reads : reading limit put_pair 0 start 0 m ≡ ended (rests (length m) c)
+  pub reads : stream_reading limit put_pair 0 start 0 m ≡ ended_reading (rests (length m) c)
   pub clean : IsClean limit m
 
-none_refused : (limit : ℕ) (rule : Rule) → Meets limit [] rule → ⊥
+none_refused : (limit : ℕ) (rule : StreamRule) → Meets limit [] rule → ⊥
 none_refused limit rule h =
     let test : nat_lt limit 0 ≡ false = grind (arith, nat_tests) in
     let e : reads start ≡ refuses rule = ap (λ t. cond t (refuses too_long) (reads start)) (sym test) ∙ meets_verdict limit [] rule h in
@@ -49,7 +58,7 @@ split_last (x ∷ m) [] more b e = inr (x ∷ m, refl)
 split_last (x ∷ m) (f ∷ front) more b e = split_more x m f front b (cc) (split_last m front more b (cc))
 
 -- one byte more that is not refused
-clean_more : (limit : ℕ) (m : List ℕ) (b : ℕ) → IsClean limit m → ((rule : Rule) → verdict limit (m ++ b ∷ []) ≡ refuses rule → ⊥) → IsClean limit (m ++ b ∷ [])
+clean_more : (limit : ℕ) (m : List ℕ) (b : ℕ) → IsClean limit m → ((rule : StreamRule) → verdict limit (m ++ b ∷ []) ≡ refuses rule → ⊥) → IsClean limit (m ++ b ∷ [])
 clean_more limit m b h never front more rule e meets =
     elim (split_last m front more b e) [
       | inl p ↦ never rule (meets_verdict limit (m ++ b ∷ []) rule (subst (λ x. Meets limit x rule) p meets))
@@ -59,7 +68,7 @@ clean_more limit m b h never front more rule e meets =
 clean_front : (limit : ℕ) (m more : List ℕ) → IsClean limit (m ++ more) → IsClean limit m
 clean_front limit m more h front left rule e meets = h front (left ++ more) rule (ap (λ x. x ++ more) e ∙ append_assoc front left more) meets
 
-verdict_clean : (limit : ℕ) (m more : List ℕ) (rule : Rule) → IsClean limit (m ++ more) → verdict limit m ≡ refuses rule → ⊥
+verdict_clean : (limit : ℕ) (m more : List ℕ) (rule : StreamRule) → IsClean limit (m ++ more) → verdict limit m ≡ refuses rule → ⊥
 verdict_clean limit m more rule h e = h m more rule refl (verdict_meets limit m rule e)
 
 -- what sorting leaves of what was judged
@@ -73,25 +82,25 @@ whole_back (reads d) t e = absurd (cc)
 whole_back (whole u) t e = (u, refl, let same : sorted u ≡ t = cc in sym same)
 whole_back (refuses rule) t e = absurd (cc)
 
-refuses_back : (v : Judged) (rule : Rule) → sorted_judged v ≡ refuses rule → v ≡ refuses rule
+refuses_back : (v : Judged) (rule : StreamRule) → sorted_judged v ≡ refuses rule → v ≡ refuses rule
 refuses_back (reads d) rule e = absurd (cc)
 refuses_back (whole u) rule e = absurd (cc)
 refuses_back (refuses other) rule e = e
 
 -- what is judged so was read so
-cut_of : (t : Bool) (rule : Rule) (c d : Cut) → cond t (refuses rule) (reads c) ≡ reads d → d ≡ c
+cut_of : (t : Bool) (rule : StreamRule) (c d : Cut) → cond t (refuses rule) (reads c) ≡ reads d → d ≡ c
 cut_of true rule c d e = absurd (cc)
 cut_of false rule c d e = cc
 
-cut_where : (t : Bool) (rule : Rule) (limit : ℕ) (c d : Cut) → checked limit (cond t (reads c) (refuses rule)) ≡ reads d → checked limit (reads c) ≡ reads d
+cut_where : (t : Bool) (rule : StreamRule) (limit : ℕ) (c d : Cut) → within_limit limit (cond t (reads c) (refuses rule)) ≡ reads d → within_limit limit (reads c) ≡ reads d
 cut_where true rule limit c d e = e
 cut_where false rule limit c d e = absurd (cc)
 
-cut_unless : (t : Bool) (rule : Rule) (limit : ℕ) (c d : Cut) → checked limit (cond t (refuses rule) (reads c)) ≡ reads d → checked limit (reads c) ≡ reads d
+cut_unless : (t : Bool) (rule : StreamRule) (limit : ℕ) (c d : Cut) → within_limit limit (cond t (refuses rule) (reads c)) ≡ reads d → within_limit limit (reads c) ≡ reads d
 cut_unless true rule limit c d e = absurd (cc)
 cut_unless false rule limit c d e = e
 
-checked_at : (limit : ℕ) (next : Next) (d : Cut) → checked limit (judged next) ≡ reads d → At next d
+checked_at : (limit : ℕ) (next : ByteEffect) (d : Cut) → within_limit limit (judged next) ≡ reads d → At next d
 checked_at limit (goes fs token) d e = cut_of (is_large_token limit token) too_long (cut fs token) d e
 checked_at limit (opens f fs) d e = cut_of false too_long (cut (f ∷ fs) between) d (cut_where (nat_lt (length fs) 64) too_deep limit (cut (f ∷ fs) between) d e)
 checked_at limit (names ps key fs) d e =
@@ -99,38 +108,38 @@ checked_at limit (names ps key fs) d e =
 checked_at limit (ends t) d e = let f : whole t ≡ reads d = e in absurd (cc)
 checked_at limit stuck d e = let f : refuses malformed ≡ reads d = e in absurd (cc)
 
-verdict_at : (limit : ℕ) (next : Next) (t : Bool) (d : Cut) → cond t (refuses too_long) (checked limit (judged next)) ≡ reads d → At next d
+verdict_at : (limit : ℕ) (next : ByteEffect) (t : Bool) (d : Cut) → cond t (refuses too_long) (within_limit limit (judged next)) ≡ reads d → At next d
 verdict_at limit next true d e = absurd (cc)
 verdict_at limit next false d e = checked_at limit next d e
 
-whole_never : {A : Type 0} → (t : Bool) (rule : Rule) (c : Cut) (u : Tree) → cond t (refuses rule) (reads c) ≡ whole u → A
+whole_never : {A : Type 0} → (t : Bool) (rule : StreamRule) (c : Cut) (u : Tree) → cond t (refuses rule) (reads c) ≡ whole u → A
 whole_never true rule c u e = absurd (cc)
 whole_never false rule c u e = absurd (cc)
 
-opens_never : {A : Type 0} → (t : Bool) (limit : ℕ) (f : Frame) (fs : List Frame) (u : Tree) → checked limit (cond t (reads (cut (f ∷ fs) between)) (refuses too_deep)) ≡ whole u → A
+opens_never : {A : Type 0} → (t : Bool) (limit : ℕ) (f : Frame) (fs : List Frame) (u : Tree) → within_limit limit (cond t (reads (cut (f ∷ fs) between)) (refuses too_deep)) ≡ whole u → A
 opens_never true limit f fs u e = absurd (let g : reads (cut (f ∷ fs) between) ≡ whole u = e in cc)
 opens_never false limit f fs u e = absurd (let g : refuses too_deep ≡ whole u = e in cc)
 
 names_never : {A : Type 0} → (t : Bool) (limit : ℕ) (ps : Pairs) (key : List ℕ) (fs : List Frame) (u : Tree)
-    → checked limit (cond t (refuses malformed) (reads (cut (at_value ps key ∷ fs) between))) ≡ whole u → A
+    → within_limit limit (cond t (refuses malformed) (reads (cut (at_value ps key ∷ fs) between))) ≡ whole u → A
 names_never true limit ps key fs u e = absurd (let g : refuses malformed ≡ whole u = e in cc)
 names_never false limit ps key fs u e = absurd (let g : reads (cut (at_value ps key ∷ fs) between) ≡ whole u = e in cc)
 
-checked_ends : (limit : ℕ) (next : Next) (u : Tree) → checked limit (judged next) ≡ whole u → next ≡ ends u
+checked_ends : (limit : ℕ) (next : ByteEffect) (u : Tree) → within_limit limit (judged next) ≡ whole u → next ≡ ends u
 checked_ends limit (goes fs token) u e = whole_never (is_large_token limit token) too_long (cut fs token) u e
 checked_ends limit (opens f fs) u e = opens_never (nat_lt (length fs) 64) limit f fs u e
 checked_ends limit (names ps key fs) u e = names_never (has_key key ps) limit ps key fs u e
 checked_ends limit (ends t) u e = let f : whole t ≡ whole u = e in cc
 checked_ends limit stuck u e = let f : refuses malformed ≡ whole u = e in absurd (cc)
 
-verdict_ends : (limit : ℕ) (next : Next) (t : Bool) (u : Tree) → cond t (refuses too_long) (checked limit (judged next)) ≡ whole u → next ≡ ends u
+verdict_ends : (limit : ℕ) (next : ByteEffect) (t : Bool) (u : Tree) → cond t (refuses too_long) (within_limit limit (judged next)) ≡ whole u → next ≡ ends u
 verdict_ends limit next true u e = absurd (cc)
 verdict_ends limit next false u e = checked_ends limit next u e
 
-ended_by : (v : Judged) (t : Tree) → v ≡ whole t → (rule : Rule) → v ≡ refuses rule → ⊥
+ended_by : (v : Judged) (t : Tree) → v ≡ whole t → (rule : StreamRule) → v ≡ refuses rule → ⊥
 ended_by v t e rule f = absurd (cc)
 
-cut_by : (v : Judged) (c : Cut) → v ≡ reads c → (rule : Rule) → v ≡ refuses rule → ⊥
+cut_by : (v : Judged) (c : Cut) → v ≡ reads c → (rule : StreamRule) → v ≡ refuses rule → ⊥
 cut_by v c e rule f = absurd (cc)
 
 -- a byte behind what is kept
@@ -138,14 +147,14 @@ pub kept_bite : (limit : ℕ) (m : List ℕ) (c : Cut) (b : ℕ) → Kept limit 
 kept_bite limit m c b k = ap (λ x. bite limit put_pair (length m) x (b ∷ [])) k.is ∙ bite_at limit m k.inner b k.at
 
 -- what the machine makes of one byte more
-pub reads_more : (limit : ℕ) (m : List ℕ) (c : Cut) (b : ℕ) (j : Judged) → reading limit put_pair 0 start 0 m ≡ ended (rests (length m) c)
+pub reads_more : (limit : ℕ) (m : List ℕ) (c : Cut) (b : ℕ) (j : Judged) → stream_reading limit put_pair 0 start 0 m ≡ ended_reading (rests (length m) c)
     → bite limit put_pair (length m) c (b ∷ []) ≡ j
-    → reading limit put_pair 0 start 0 (m ++ b ∷ []) ≡ onward j (length m) (λ next. ended (rests (length m + 1) next)) (ended (rests 0 start))
+    → stream_reading limit put_pair 0 start 0 (m ++ b ∷ []) ≡ onward j (length m) (λ next. ended_reading (rests (length m + 1) next)) (ended_reading (rests 0 start))
 reads_more limit m c b j e is =
     let place : 0 + length m ≡ length m = omega arith in
-    reading-append limit put_pair 0 start 0 (length m) c m (b ∷ []) e
-    ∙ ap (λ j. onward j (0 + length m) (λ d. ended (rests (length m + 1) d)) (ended (rests 0 start))) is
-    ∙ ap (λ k. onward j k (λ d. ended (rests (length m + 1) d)) (ended (rests 0 start))) place
+    stream_reading-append limit put_pair 0 start 0 (length m) c m (b ∷ []) e
+    ∙ ap (λ j. onward j (0 + length m) (λ d. ended_reading (rests (length m + 1) d)) (ended_reading (rests 0 start))) is
+    ∙ ap (λ k. onward j k (λ d. ended_reading (rests (length m + 1) d)) (ended_reading (rests 0 start))) place
 
 -- the message goes on
 pub kept_reads : (limit : ℕ) (m : List ℕ) (c : Cut) (b : ℕ) (next : Cut) → Kept limit m c → bite limit put_pair (length m) c (b ∷ []) ≡ reads next → Kept limit (m ++ b ∷ []) next
@@ -157,7 +166,7 @@ kept_reads limit m c b next k e =
       inner = back.0;
       at = verdict_at limit (read (m ++ b ∷ [])) (nat_lt limit (length (m ++ b ∷ []))) back.0 back.1;
       is = back.2;
-      reads = reads_more limit m c b (reads next) k.reads e ∙ ap (λ n. ended (rests n next)) long;
+      reads = reads_more limit m c b (reads next) k.reads e ∙ ap (λ n. ended_reading (rests n next)) long;
       clean = clean_more limit m b k.clean (cut_by v back.0 back.1);
     }
 
@@ -176,13 +185,13 @@ kept_whole limit m c b t k e =
     (clean_more limit m b k.clean (ended_by v back.0 back.1)))
 
 -- a rule is met
-pub kept_refuses : (limit : ℕ) (m : List ℕ) (c : Cut) (b : ℕ) (rule : Rule) → Kept limit m c → bite limit put_pair (length m) c (b ∷ []) ≡ refuses rule → Meets limit (m ++ b ∷ []) rule
+pub kept_refuses : (limit : ℕ) (m : List ℕ) (c : Cut) (b : ℕ) (rule : StreamRule) → Kept limit m c → bite limit put_pair (length m) c (b ∷ []) ≡ refuses rule → Meets limit (m ++ b ∷ []) rule
 kept_refuses limit m c b rule k e = verdict_meets limit (m ++ b ∷ []) rule (refuses_back (verdict limit (m ++ b ∷ [])) rule (sym (kept_bite limit m c b k) ∙ e))
 
-pub kept_meets : (limit : ℕ) (m : List ℕ) (c : Cut) (b : ℕ) (rule : Rule) → Kept limit m c → Meets limit (m ++ b ∷ []) rule → bite limit put_pair (length m) c (b ∷ []) ≡ refuses rule
+pub kept_meets : (limit : ℕ) (m : List ℕ) (c : Cut) (b : ℕ) (rule : StreamRule) → Kept limit m c → Meets limit (m ++ b ∷ []) rule → bite limit put_pair (length m) c (b ∷ []) ≡ refuses rule
 kept_meets limit m c b rule k h = kept_bite limit m c b k ∙ ap sorted_judged (meets_verdict limit (m ++ b ∷ []) rule h)
 
-front_of : (next : Next) (d : Cut) (m : List ℕ) → At next d → Sound next m → IsFront m
+front_of : (next : ByteEffect) (d : Cut) (m : List ℕ) → At next d → Sound next m → IsFront m
 front_of (goes fs token) d m h s = subst (λ x. IsFront x) s.1 (close (cut fs token) s.0)
 front_of (opens f fs) d m h s = subst (λ x. IsFront x) s.1 (close (cut (f ∷ fs) between) s.0)
 front_of (names ps key fs) d m h s = subst (λ x. IsFront x) s.1 (close (cut (at_value ps key ∷ fs) between) s.0)
@@ -229,12 +238,12 @@ rest_kept limit m h = kept_on limit [] start m (kept_none limit) h.0 h.1
 
 message_verdict : (limit : ℕ) (m : List ℕ) (u : Tree) (t : Bool) → IsClean limit m → nat_lt limit (length m) ≡ t → read m ≡ ends u → verdict limit m ≡ whole u
 message_verdict limit m u true clean long e =
-    absurd (verdict_clean limit m [] too_long (subst (λ x. IsClean limit x) (sym (append-nil m)) clean) (ap (λ t. cond t (refuses too_long) (checked limit (judged (read m)))) long))
+    absurd (verdict_clean limit m [] too_long (subst (λ x. IsClean limit x) (sym (append-nil m)) clean) (ap (λ t. cond t (refuses too_long) (within_limit limit (judged (read m)))) long))
 message_verdict limit m u false clean long e =
-    ap (λ t. cond t (refuses too_long) (checked limit (judged (read m)))) long ∙ ap (λ next. checked limit (judged next)) e
+    ap (λ t. cond t (refuses too_long) (within_limit limit (judged (read m)))) long ∙ ap (λ next. within_limit limit (judged next)) e
 
 -- a message is read as the message
-pub message_read : (limit : ℕ) (t : Tree) (m : List ℕ) → IsMessage limit t m → reading limit put_pair 0 start 0 m ≡ record { messages = t ∷ []; end = rests 0 start }
+pub message_read : (limit : ℕ) (t : Tree) (m : List ℕ) → IsMessage limit t m → stream_reading limit put_pair 0 start 0 m ≡ record { messages = t ∷ []; end = rests 0 start }
 message_read limit t m h =
     let by = message_text limit t m h in
     let ps = by.pairs in
@@ -243,11 +252,11 @@ message_read limit t m h =
     let clean : IsClean limit (front ++ 101 ∷ []) = subst (λ x. IsClean limit x) is h.4 in
     let k = rest_kept limit front (clean_front limit front (101 ∷ []) clean, (ps, 101, [], by.spellable, refl)) in
     let v = message_verdict limit (front ++ 101 ∷ []) (dictionary ps) (nat_lt limit (length (front ++ 101 ∷ []))) clean refl (run-message ps by.spellable) in
-    ap (λ x. reading limit put_pair 0 start 0 x) is
+    ap (λ x. stream_reading limit put_pair 0 start 0 x) is
     ∙ reads_more limit front k.0 101 (whole (sorted (dictionary ps))) k.1.reads (kept_bite limit front k.0 101 k.1 ∙ ap sorted_judged v)
     ∙ ap (λ u. record { messages = u ∷ []; end = rests 0 start }) (sym by.sorted)
 
-cut_at : (next : Next) (d : Cut) (m : List ℕ) → At next d → Sound next m → IsCut d × (cut_text d ≡ m)
+cut_at : (next : ByteEffect) (d : Cut) (m : List ℕ) → At next d → Sound next m → IsCut d × (cut_text d ≡ m)
 cut_at (goes fs token) d m h s = subst (λ x. IsCut x × (cut_text x ≡ m)) (sym h) s
 cut_at (opens f fs) d m h s = subst (λ x. IsCut x × (cut_text x ≡ m)) (sym h) (s.0, s.1)
 cut_at (names ps key fs) d m h s = subst (λ x. IsCut x × (cut_text x ≡ m)) (sym h) s

@@ -1,9 +1,11 @@
 -- A message is the text of a dictionary of the grammar that is clean, and is handed out sorted.
-use Rattle.std.proofs.Common.{◌≡◌, ℕ, ◌+◌, ◌≤◌, List, ◌∷◌, ◌++◌, length, refl, sym, ap, ◌∙◌, subst, arith}
+use Rattle.std.proofs.Common.{◌≡◌, ℕ, ◌+◌, ◌≤◌, List, ◌∷◌, ◌++◌, length, refl, sym, ap, ◌∙◌, subst}
+use Rattle.std.proofs.Common.{arith}
 use Rattle.bencode_wire.specs.Tree.{Tree, integer, string, list, dictionary, Pairs, no_pairs}
-use Rattle.bencode_wire.specs.Spelling.{text, canonical, ArePairs, IsSpellable, IsDistinct, PairsDistinct, Spells, sorted, put_pairs}
+use Rattle.bencode_wire.specs.Spelling.{text, canonical, ArePairs, IsSpellable, IsDistinct}
+use Rattle.bencode_wire.specs.Spelling.{PairsDistinct, Spells, sorted, put_pairs}
 use Rattle.bencode_wire.specs.Nesting.{nesting}
-use Rattle.bencode_wire.specs.Stream.{IsClean, IsMessage, Ending, Streams}
+use Rattle.bencode_wire.specs.Stream.{IsClean, IsMessage, StreamEnding, Streams}
 use Rattle.bencode_wire.proofs.Canonical.{distinct_sorted, spellable_sorted, nesting_sorted}
 use Rattle.bencode_wire.proofs.Depths.{nesting_kept}
 use Rattle.bencode_wire.proofs.Limits.{within}
@@ -38,14 +40,14 @@ pub message_text : (limit : ℕ) (t : Tree) (m : List ℕ) → IsMessage limit t
 message_text limit t m h = let u = h.3 in text_by t u.0 m h.0 h.1 (sym h.2 ∙ u.2.2) u.1 u.3
 
 -- a dictionary's text within the limits is read, whatever follows
-text_read : (limit place : ℕ) (ps : Pairs) (more : List ℕ) (ts : List Tree) (end : Ending) → ArePairs ps → PairsDistinct ps → nesting (dictionary ps) ≤ 64
+text_read : (limit place : ℕ) (ps : Pairs) (more : List ℕ) (ts : List Tree) (end : StreamEnding) → ArePairs ps → PairsDistinct ps → nesting (dictionary ps) ≤ 64
     → length (text (dictionary ps)) ≤ limit → Streams limit (place + length (text (dictionary ps))) more ts end
     → Streams limit place (text (dictionary ps) ++ more) (sorted (dictionary ps) ∷ ts) end
 text_read limit place ps more ts end g d deep fits later =
     (text (dictionary ps), more, message_of limit ps g d (text_clean limit ps g (within limit 64 (dictionary ps) d deep fits) fits), refl, later)
 
 -- a dictionary's spelling within the limits is the text of one that nests no deeper
-spelled_read : (limit place : ℕ) (ps : Pairs) (u : Tree) (bytes more : List ℕ) (ts : List Tree) (end : Ending) → IsSpellable u → IsDistinct u → sorted (dictionary ps) ≡ sorted u
+spelled_read : (limit place : ℕ) (ps : Pairs) (u : Tree) (bytes more : List ℕ) (ts : List Tree) (end : StreamEnding) → IsSpellable u → IsDistinct u → sorted (dictionary ps) ≡ sorted u
     → bytes ≡ text u → nesting (dictionary ps) ≤ 64 → length bytes ≤ limit → Streams limit (place + length bytes) more ts end
     → Streams limit place (bytes ++ more) (sorted (dictionary ps) ∷ ts) end
 spelled_read limit place ps (integer n) bytes more ts end g d e by deep fits later = absurd (cc)
@@ -60,12 +62,12 @@ spelled_read limit place ps (dictionary qs) bytes more ts end g d e by deep fits
     subst (λ b. Streams limit place (b ++ more) (sorted (dictionary ps) ∷ ts) end) (sym by)
     (subst (λ v. Streams limit place (text (dictionary qs) ++ more) (v ∷ ts) end) (sym e) read)
 
-pub spelling_read : (limit place : ℕ) (ps : Pairs) (bytes more : List ℕ) (ts : List Tree) (end : Ending) → Spells (dictionary ps) bytes → nesting (dictionary ps) ≤ 64
+pub spelling_read : (limit place : ℕ) (ps : Pairs) (bytes more : List ℕ) (ts : List Tree) (end : StreamEnding) → Spells (dictionary ps) bytes → nesting (dictionary ps) ≤ 64
     → length bytes ≤ limit → Streams limit (place + length bytes) more ts end → Streams limit place (bytes ++ more) (sorted (dictionary ps) ∷ ts) end
 spelling_read limit place ps bytes more ts end h deep fits later = spelled_read limit place ps h.0 bytes more ts end h.1 h.2.1 h.2.2 h.3 deep fits later
 
 -- the canonical spelling is read as what was written
-pub written_read : (limit place : ℕ) (ps : Pairs) (more : List ℕ) (ts : List Tree) (end : Ending)
+pub written_read : (limit place : ℕ) (ps : Pairs) (more : List ℕ) (ts : List Tree) (end : StreamEnding)
     → IsSpellable (dictionary ps) → nesting (dictionary ps) ≤ 64 → length (canonical (dictionary ps)) ≤ limit
     → Streams limit (place + length (canonical (dictionary ps))) more ts end → Streams limit place (canonical (dictionary ps) ++ more) (sorted (dictionary ps) ∷ ts) end
 written_read limit place ps more ts end g deep fits later =

@@ -1,20 +1,30 @@
 -- Reading with the pairs kept sorted is reading in the order in which they come, sorted.
-use Rattle.std.proofs.Common.{◌≡◌, ℕ, suc, ◌+◌, ◌-◌, ◌*◌, ◌^◌, Bool, true, false, cond, nat_lt, nat_le, ◌==◌, ◌||◌, Ordering, Less, Equal, Greater, nat_cmp, is_eq, List, [], ◌∷◌, ◌++◌, length, refl, sym, ap, ◌∙◌, arith}
+use Rattle.std.proofs.Common.{◌≡◌, ℕ, suc, ◌+◌, ◌-◌, ◌*◌, ◌^◌, Bool, true, false, cond, nat_lt}
+use Rattle.std.proofs.Common.{nat_le, ◌==◌, ◌||◌, Ordering, Less, Equal, Greater, nat_cmp, is_eq}
+use Rattle.std.proofs.Common.{List, [], ◌∷◌, ◌++◌, length, refl, sym, ap, ◌∙◌, arith}
 use Rattle.std.proofs.lemmas.Map.Text.{is_eq-slice_cmp}
 use Rattle.std.proofs.lemmas.Slice.Eq.{bytes_eq-Decides}
 use Rattle.std.specs.Str.{bytes_eq}
 use Rattle.std.specs.Cmp.Lexicographic.{slice_cmp}
 use Rattle.std.specs.Ordering.{match_ordering}
-use Rattle.bencode_wire.specs.Tree.{Tree, integer, string, list, dictionary, Trees, no_trees, tree, Pairs, no_pairs, pair, add_tree, add_pair, has_key}
+use Rattle.bencode_wire.specs.Tree.{Tree, integer, string, list, dictionary, Trees, no_trees, tree}
+use Rattle.bencode_wire.specs.Tree.{Pairs, no_pairs, pair, add_tree, add_pair, has_key}
 use Rattle.bencode_wire.specs.Spelling.{put_pair, put_pairs, sorted, sorted_trees}
-use Rattle.bencode_wire.specs.Cut.{Frame, in_list, at_key, at_value, Token, between, after_i, after_minus, digits, count, part, cut, greatest, sorted_frame, sorted_frames, sorted_cut}
+use Rattle.bencode_wire.specs.Cut.{Frame, in_list, at_key, at_value, Token, between, after_i}
+use Rattle.bencode_wire.specs.Cut.{after_minus, digits, count, part, cut, greatest, sorted_frame}
+use Rattle.bencode_wire.specs.Cut.{sorted_frames, sorted_cut}
 use Rattle.bencode_wire.specs.Sign.{sign_of}
 use Rattle.bencode_wire.specs.Fault.{malformed, too_long, too_deep}
 use Rattle.bencode_wire.specs.declared.sign.Sign.{Sign}
 use Rattle.bencode_wire.specs.declared.sign.Sign.TheVariants as signs
-use Rattle.bencode_wire.specs.Machine.{Next, goes, opens, names, ends, stuck, put, begin, begin_value, begin_item, begin_key, begin_message, integer_open, integer_minus, integer_digits, length_digits, text_bytes, signed, step_run, Judged, reads, whole, refuses, judged, checked, is_large_token}
+use Rattle.bencode_wire.specs.ByteSteps.{step_run, Judged, reads, whole, refuses, judged}
+use Rattle.bencode_wire.specs.ByteSteps.{within_limit, is_large_token}
+use Rattle.bencode_wire.specs.Beginnings.{ByteEffect, put, begin_message, begin_value, begin_item}
+use Rattle.bencode_wire.specs.Beginnings.{stuck, ends, names, opens, goes, begin, begin_key}
+use Rattle.bencode_wire.specs.ByteEffects.{text_bytes, length_digits, integer_digits}
+use Rattle.bencode_wire.specs.ByteEffects.{integer_with_sign, integer_minus, integer_open}
 
-abbrev sorted_next : Next → Next
+abbrev sorted_next : ByteEffect → ByteEffect
 sorted_next (goes fs token) = goes (sorted_frames fs) token
 sorted_next (opens f fs) = opens (sorted_frame f) (sorted_frames fs)
 sorted_next (names ps key fs) = names (put_pairs no_pairs ps) key (sorted_frames fs)
@@ -86,11 +96,11 @@ begin-sorted (in_list ts ∷ fs) s = begin_item-sorted ts fs s
 begin-sorted (at_key ps ∷ fs) s = begin_key-sorted ps fs s
 begin-sorted (at_value ps key ∷ fs) s = begin_value-sorted (at_value ps key ∷ fs) s
 
-sorted_next-cond : (t : Bool) (a b : Next) → sorted_next (cond t a b) ≡ cond t (sorted_next a) (sorted_next b)
+sorted_next-cond : (t : Bool) (a b : ByteEffect) → sorted_next (cond t a b) ≡ cond t (sorted_next a) (sorted_next b)
 sorted_next-cond true a b = refl
 sorted_next-cond false a b = refl
 
-cond_same : (t : Bool) (a b c d : Next) → a ≡ c → b ≡ d → cond t a b ≡ cond t c d
+cond_same : (t : Bool) (a b c d : ByteEffect) → a ≡ c → b ≡ d → cond t a b ≡ cond t c d
 cond_same true a b c d e f = e
 cond_same false a b c d e f = f
 
@@ -124,7 +134,7 @@ integer_digits-sorted : (fs : List Frame) (negative : Bool) (n : ℕ) (s : Sign)
 integer_digits-sorted fs negative n signs.Dictionary = refl
 integer_digits-sorted fs negative n signs.Integer = refl
 integer_digits-sorted fs negative n signs.List = refl
-integer_digits-sorted fs negative n signs.End = put-sorted fs (integer (signed negative n))
+integer_digits-sorted fs negative n signs.End = put-sorted fs (integer (integer_with_sign negative n))
 integer_digits-sorted fs negative n signs.Minus = refl
 integer_digits-sorted fs negative n signs.Colon = refl
 integer_digits-sorted fs negative n (signs.Digit d) = twice_tested (n == 0) (nat_le (10 * n + d) (greatest negative)) fs (digits negative (10 * n + d))
@@ -214,7 +224,7 @@ has_key-put_pairs k done (pair key t ps) =
 pub has_key-sorted : (k : List ℕ) (ps : Pairs) → has_key k (put_pairs no_pairs ps) ≡ has_key k ps
 has_key-sorted k ps = has_key-put_pairs k no_pairs ps
 
-judged-sorted : (next : Next) → judged (sorted_next next) ≡ sorted_judged (judged next)
+judged-sorted : (next : ByteEffect) → judged (sorted_next next) ≡ sorted_judged (judged next)
 judged-sorted (goes fs token) = refl
 judged-sorted (opens f fs) =
     ap (λ n. cond (nat_lt n 64) (reads (cut (sorted_frame f ∷ sorted_frames fs) between)) (refuses too_deep)) (sorted_length fs)
@@ -225,15 +235,15 @@ judged-sorted (names ps key fs) =
 judged-sorted (ends t) = refl
 judged-sorted stuck = refl
 
-checked-sorted : (limit : ℕ) (j : Judged) → checked limit (sorted_judged j) ≡ sorted_judged (checked limit j)
-checked-sorted limit (reads (cut fs token)) = sym (sorted_judged-cond (is_large_token limit token) (refuses too_long) (reads (cut fs token)))
-checked-sorted limit (whole t) = refl
-checked-sorted limit (refuses rule) = refl
+within_limit-sorted : (limit : ℕ) (j : Judged) → within_limit limit (sorted_judged j) ≡ sorted_judged (within_limit limit j)
+within_limit-sorted limit (reads (cut fs token)) = sym (sorted_judged-cond (is_large_token limit token) (refuses too_long) (reads (cut fs token)))
+within_limit-sorted limit (whole t) = refl
+within_limit-sorted limit (refuses rule) = refl
 
 -- a byte behind a cut whose pairs are sorted
 pub judged-step : (limit : ℕ) (fs : List Frame) (token : Token) (b : ℕ)
-    → checked limit (judged (step_run put_pair (sorted_frames fs) token (b ∷ []))) ≡ sorted_judged (checked limit (judged (step_run add_pair fs token (b ∷ []))))
+    → within_limit limit (judged (step_run put_pair (sorted_frames fs) token (b ∷ []))) ≡ sorted_judged (within_limit limit (judged (step_run add_pair fs token (b ∷ []))))
 judged-step limit fs token b =
-    ap (λ next. checked limit (judged next)) (step-sorted fs token b)
-    ∙ ap (λ j. checked limit j) (judged-sorted (step_run add_pair fs token (b ∷ [])))
-    ∙ checked-sorted limit (judged (step_run add_pair fs token (b ∷ [])))
+    ap (λ next. within_limit limit (judged next)) (step-sorted fs token b)
+    ∙ ap (λ j. within_limit limit j) (judged-sorted (step_run add_pair fs token (b ∷ [])))
+    ∙ within_limit-sorted limit (judged (step_run add_pair fs token (b ∷ [])))

@@ -1,14 +1,27 @@
 -- A byte read behind a cut makes a cut whose text is the text and the byte.
-use Rattle.std.proofs.Common.{◌≡◌, ℕ, suc, ◌+◌, ◌-◌, ◌*◌, ◌/◌, ◌%◌, ◌^◌, ◌<◌, ◌≤◌, ◌⊎◌, inl, inr, Bool, true, false, cond, nat_lt, nat_le, ◌==◌, ◌&&◌, List, [], ◌∷◌, ◌++◌, length, decimal, refl, sym, ap, ◌∙◌, subst, append_assoc, append-nil, length-append, arith}
+use Rattle.std.proofs.Common.{◌≡◌, ℕ, suc, ◌+◌, ◌-◌, ◌*◌, ◌/◌, ◌%◌, ◌^◌, ◌<◌, ◌≤◌, ◌⊎◌, inl, inr}
+use Rattle.std.proofs.Common.{Bool, true, false, cond, nat_lt, nat_le, ◌==◌, ◌&&◌, List, [], ◌∷◌}
+use Rattle.std.proofs.Common.{◌++◌, length, decimal, refl, sym, ap, ◌∙◌, subst, append_assoc}
+use Rattle.std.proofs.Common.{append-nil, length-append, arith}
 use Rattle.std.proofs.lemmas.Bool.Decides.{nat_tests}
 use Rattle.std.proofs.lemmas.Fmt.{decimal_digit, decimal_step_wide}
-use Rattle.bencode_wire.specs.Tree.{Tree, integer, string, list, dictionary, Trees, no_trees, tree, Pairs, no_pairs, pair, add_tree, add_pair}
-use Rattle.bencode_wire.specs.Spelling.{text, trees_text, pairs_text, string_text, IsInteger, IsString, IsSpellable, AreSpellable, ArePairs}
-use Rattle.bencode_wire.specs.Cut.{Frame, in_list, at_key, at_value, Token, between, after_i, after_minus, digits, count, part, cut, frames_text, token_text, cut_text, IfAny, TakesValue, TakesKey, greatest, IsCut}
+use Rattle.bencode_wire.specs.Tree.{Tree, integer, string, list, dictionary, Trees, no_trees, tree}
+use Rattle.bencode_wire.specs.Tree.{Pairs, no_pairs, pair, add_tree, add_pair}
+use Rattle.bencode_wire.specs.Spelling.{text, trees_text, pairs_text, string_text, IsInteger}
+use Rattle.bencode_wire.specs.Spelling.{IsString, IsSpellable, AreSpellable, ArePairs}
+use Rattle.bencode_wire.specs.Cut.{Frame, in_list, at_key, at_value, Token, between, after_i}
+use Rattle.bencode_wire.specs.Cut.{after_minus, digits, count, part, cut, frames_text, token_text}
+use Rattle.bencode_wire.specs.Cut.{cut_text, IfAny, TakesValue, TakesKey, greatest, IsCut}
 use Rattle.bencode_wire.specs.Sign.{sign_of}
 use Rattle.bencode_wire.specs.declared.sign.Sign.{Sign}
 use Rattle.bencode_wire.specs.declared.sign.Sign.TheVariants as signs
-use Rattle.bencode_wire.specs.Machine.{Next, goes, opens, names, ends, stuck, put, put_key, close, begin, begin_value, begin_item, begin_key, begin_message, integer_open, integer_minus, more_digits, integer_digits, more_length, open_string, length_digits, text_bytes, signed, step_run}
+use Rattle.bencode_wire.specs.ByteSteps.{step_run}
+use Rattle.bencode_wire.specs.Beginnings.{ByteEffect, put_key, put, close, begin_message, begin_key}
+use Rattle.bencode_wire.specs.Beginnings.{stuck, ends, names, opens, goes, begin, begin_item}
+use Rattle.bencode_wire.specs.Beginnings.{begin_value}
+use Rattle.bencode_wire.specs.ByteEffects.{text_bytes, length_digits, open_string, more_length}
+use Rattle.bencode_wire.specs.ByteEffects.{integer_digits, more_digits, integer_with_sign}
+use Rattle.bencode_wire.specs.ByteEffects.{integer_minus, integer_open}
 
 -- the pairs behind others
 pub pairs_text-add_pair : (ps : Pairs) (key : List ℕ) (t : Tree) → pairs_text (add_pair ps key t) ≡ pairs_text ps ++ string_text key ++ text t
@@ -64,14 +77,14 @@ sign_of-Means b =
     (tested b 45 signs.Minus _ (λ e. e) (tested b 58 signs.Colon _ (λ e. e) (digit_tested b))))))
 
 -- what a byte has made of the bytes before
-abbrev pub Sound : Next → List ℕ → Type 0
+abbrev pub Sound : ByteEffect → List ℕ → Type 0
 Sound (goes fs token) bytes = IsCut (cut fs token) × (cut_text (cut fs token) ≡ bytes)
 Sound (opens f fs) bytes = IsCut (cut (f ∷ fs) between) × (cut_text (cut (f ∷ fs) between) ≡ bytes) × ((f ≡ in_list no_trees) ⊎ (f ≡ at_key no_pairs))
 Sound (names ps key fs) bytes = IsCut (cut (at_value ps key ∷ fs) between) × (cut_text (cut (at_value ps key ∷ fs) between) ≡ bytes)
 Sound (ends t) bytes = (ps : Pairs) × (t ≡ dictionary ps) × ArePairs ps × (text t ≡ bytes)
 Sound stuck bytes = Unit {0}
 
-pub sound_at : (next : Next) (a b : List ℕ) → a ≡ b → Sound next a → Sound next b
+pub sound_at : (next : ByteEffect) (a b : List ℕ) → a ≡ b → Sound next a → Sound next b
 sound_at next a b e h = subst (λ x. Sound next x) e h
 
 -- the bound where there are no frames either
@@ -195,15 +208,15 @@ begin-sound (at_key ps ∷ fs) b (inr h) = begin_key-sound fs ps b (sign_of b) h
 begin-sound (at_value ps key ∷ fs) b (inl h) = begin_value-sound (at_value ps key ∷ fs) b (sign_of b) h (sign_of-Means b)
 begin-sound (at_value ps key ∷ fs) b (inr h) = absurd h
 
-unless : (t : Bool) (next : Next) (bytes : List ℕ) → (t ≡ false → Sound next bytes) → Sound (cond t stuck next) bytes
+unless : (t : Bool) (next : ByteEffect) (bytes : List ℕ) → (t ≡ false → Sound next bytes) → Sound (cond t stuck next) bytes
 unless true next bytes f = tt
 unless false next bytes f = f refl
 
-where_true : (t : Bool) (next : Next) (bytes : List ℕ) → (t ≡ true → Sound next bytes) → Sound (cond t next stuck) bytes
+where_true : (t : Bool) (next : ByteEffect) (bytes : List ℕ) → (t ≡ true → Sound next bytes) → Sound (cond t next stuck) bytes
 where_true true next bytes f = f refl
 where_true false next bytes f = tt
 
-either : (t : Bool) (a b : Next) (bytes : List ℕ) → (t ≡ true → Sound a bytes) → (t ≡ false → Sound b bytes) → Sound (cond t a b) bytes
+either : (t : Bool) (a b : ByteEffect) (bytes : List ℕ) → (t ≡ true → Sound a bytes) → (t ≡ false → Sound b bytes) → Sound (cond t a b) bytes
 either true a b bytes f g = f refl
 either false a b bytes f g = g refl
 
@@ -262,20 +275,20 @@ more_digits-sound fs negative n d b h m =
     let fits : 10 * n + d ≤ greatest negative = within _ _ f in
     (digits_cut fs negative (10 * n + d) h (omega arith) fits, ap (λ x. frames_text fs ++ x) (token_more negative n d b some m fits))))
 
-signed_text : (negative : Bool) (n : ℕ) → (negative ≡ true → 0 < n) → text (integer (signed negative n)) ≡ token_text (digits negative n) ++ 101 ∷ []
+signed_text : (negative : Bool) (n : ℕ) → (negative ≡ true → 0 < n) → text (integer (integer_with_sign negative n)) ≡ token_text (digits negative n) ++ 101 ∷ []
 signed_text false n h = refl
 signed_text true n h = let some : suc (n - 1) ≡ n = let s = h refl in omega arith in ap (λ k. 105 ∷ 45 ∷ (decimal k ++ 101 ∷ [])) some
 
-signed_fits : (negative : Bool) (n : ℕ) → n ≤ greatest negative → (negative ≡ true → 0 < n) → IsInteger (signed negative n)
+signed_fits : (negative : Bool) (n : ℕ) → n ≤ greatest negative → (negative ≡ true → 0 < n) → IsInteger (integer_with_sign negative n)
 signed_fits false n h g = omega arith
 signed_fits true n h g = let some = g refl in omega arith
 
 integer_digits-sound : (fs : List Frame) (negative : Bool) (n b : ℕ) (s : Sign) → TakesValue fs → n ≤ greatest negative → (negative ≡ true → 0 < n) → Means b s
     → Sound (integer_digits add_pair fs negative n s) (frames_text fs ++ (token_text (digits negative n) ++ b ∷ []))
 integer_digits-sound fs negative n b signs.End h fits some m =
-    sound_at (put add_pair fs (integer (signed negative n))) _ _
+    sound_at (put add_pair fs (integer (integer_with_sign negative n))) _ _
     (ap (λ x. frames_text fs ++ x) (signed_text negative n some ∙ ap (λ k. token_text (digits negative n) ++ k ∷ []) (sym m)))
-    (put-sound fs (integer (signed negative n)) (puts_value fs (integer (signed negative n)) h (signed_fits negative n fits some)))
+    (put-sound fs (integer (integer_with_sign negative n)) (puts_value fs (integer (integer_with_sign negative n)) h (signed_fits negative n fits some)))
 integer_digits-sound fs negative n b (signs.Digit d) h fits some m = more_digits-sound fs negative n d b h m
 integer_digits-sound fs negative n b signs.Minus h fits some m = tt
 integer_digits-sound fs negative n b signs.Integer h fits some m = tt

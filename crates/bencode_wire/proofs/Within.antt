@@ -1,16 +1,24 @@
 -- A dictionary's text within the limits is read as the dictionary.
-use Rattle.std.proofs.Common.{◌≡◌, ℕ, suc, ◌+◌, ◌-◌, ◌*◌, ◌^◌, ◌<◌, ◌≤◌, Bool, true, false, cond, nat_lt, nat_le, ◌==◌, ◌||◌, List, [], ◌∷◌, ◌++◌, length, refl, sym, ap, ◌∙◌, subst, length-append, arith}
+use Rattle.std.proofs.Common.{◌≡◌, ℕ, suc, ◌+◌, ◌-◌, ◌*◌, ◌^◌, ◌<◌, ◌≤◌, Bool, true, false, cond}
+use Rattle.std.proofs.Common.{nat_lt, nat_le, ◌==◌, ◌||◌, List, [], ◌∷◌, ◌++◌, length, refl, sym}
+use Rattle.std.proofs.Common.{ap, ◌∙◌, subst, length-append, arith}
 use Rattle.std.proofs.lemmas.Bool.Decides.{nat_tests}
 use Rattle.std.proofs.lemmas.Slice.Eq.{bytes_eq-Decides}
 use Rattle.std.specs.Str.{bytes_eq}
-use Rattle.bencode_wire.specs.Tree.{Tree, integer, string, list, dictionary, Trees, no_trees, tree, Pairs, no_pairs, pair, add_tree, add_pair, has_key, HasKey}
+use Rattle.bencode_wire.specs.Tree.{Tree, integer, string, list, dictionary, Trees, no_trees, tree}
+use Rattle.bencode_wire.specs.Tree.{Pairs, no_pairs, pair, add_tree, add_pair, has_key, HasKey}
 use Rattle.bencode_wire.specs.Spelling.{text, ArePairs}
-use Rattle.bencode_wire.specs.Cut.{Frame, in_list, at_key, at_value, Token, between, after_i, after_minus, digits, count, part, Cut, cut, greatest}
-use Rattle.bencode_wire.specs.Fault.{Rule, malformed, too_long, too_deep}
+use Rattle.bencode_wire.specs.Cut.{Frame, in_list, at_key, at_value, Token, between, after_i}
+use Rattle.bencode_wire.specs.Cut.{after_minus, digits, count, part, Cut, cut, greatest}
+use Rattle.bencode_wire.specs.Fault.{StreamRule, malformed, too_long, too_deep}
 use Rattle.bencode_wire.specs.Sign.{sign_of}
 use Rattle.bencode_wire.specs.declared.sign.Sign.{Sign}
 use Rattle.bencode_wire.specs.declared.sign.Sign.TheVariants as signs
-use Rattle.bencode_wire.specs.Machine.{Next, goes, opens, names, ends, stuck, put, begin, begin_value, begin_item, begin_key, integer_open, integer_minus, more_digits, integer_digits, more_length, length_digits, signed, step_run, reads, whole, refuses, judged, checked}
+use Rattle.bencode_wire.specs.ByteSteps.{step_run, reads, whole, refuses, judged, within_limit}
+use Rattle.bencode_wire.specs.Beginnings.{ByteEffect, put, begin_value, begin_item, begin_key, goes}
+use Rattle.bencode_wire.specs.Beginnings.{stuck, ends, names, opens, begin}
+use Rattle.bencode_wire.specs.ByteEffects.{length_digits, more_length, integer_digits, more_digits}
+use Rattle.bencode_wire.specs.ByteEffects.{integer_with_sign, integer_minus, integer_open}
 use Rattle.bencode_wire.specs.Stream.{IsClean}
 use Rattle.bencode_wire.proofs.Complete.{after, run, run-append, run-message}
 use Rattle.bencode_wire.proofs.Limits.{KeysDiffer, IsWithin, AreWithin, PairsWithin}
@@ -32,7 +40,7 @@ TokenWithin limit (digits negative n) = Unit {0}
 TokenWithin limit (count n) = n ≤ limit
 TokenWithin limit (part bytes left) = length bytes + left ≤ limit
 
-abbrev NextWithin : ℕ → Next → Type 0
+abbrev NextWithin : ℕ → ByteEffect → Type 0
 NextWithin limit (goes fs token) = FramesWithin limit fs × TokenWithin limit token
 NextWithin limit (opens f fs) = FramesWithin limit (f ∷ fs)
 NextWithin limit (names ps key fs) = FramesWithin limit (at_value ps key ∷ fs)
@@ -147,11 +155,11 @@ begin-back limit (in_list ts ∷ fs) s h = begin_item-back limit ts fs s h
 begin-back limit (at_key ps ∷ fs) s h = begin_key-back limit ps fs s h
 begin-back limit (at_value ps key ∷ fs) s h = begin_value-back limit (at_value ps key ∷ fs) s h
 
-unless-back : (limit : ℕ) (t : Bool) (next : Next) → NextWithin limit (cond t stuck next) → NextWithin limit next
+unless-back : (limit : ℕ) (t : Bool) (next : ByteEffect) → NextWithin limit (cond t stuck next) → NextWithin limit next
 unless-back limit true next h = absurd h
 unless-back limit false next h = h
 
-where-back : (limit : ℕ) (t : Bool) (next : Next) → NextWithin limit (cond t next stuck) → NextWithin limit next
+where-back : (limit : ℕ) (t : Bool) (next : ByteEffect) → NextWithin limit (cond t next stuck) → NextWithin limit next
 where-back limit true next h = h
 where-back limit false next h = absurd h
 
@@ -185,7 +193,7 @@ integer_digits-back : (limit : ℕ) (fs : List Frame) (negative : Bool) (n : ℕ
 integer_digits-back limit fs negative n signs.Integer h = absurd h
 integer_digits-back limit fs negative n signs.List h = absurd h
 integer_digits-back limit fs negative n signs.Dictionary h = absurd h
-integer_digits-back limit fs negative n signs.End h = let g = put-back limit fs (integer (signed negative n)) h in g.0
+integer_digits-back limit fs negative n signs.End h = let g = put-back limit fs (integer (integer_with_sign negative n)) h in g.0
 integer_digits-back limit fs negative n signs.Minus h = absurd h
 integer_digits-back limit fs negative n signs.Colon h = absurd h
 integer_digits-back limit fs negative n (signs.Digit d) h = more_digits-back limit fs negative n d h
@@ -238,7 +246,7 @@ step-back limit fs (digits negative n) b h = (integer_digits-back limit fs negat
 step-back limit fs (count n) b h = length_digits-back limit fs n (sign_of b) h
 step-back limit fs (part bytes left) b h = text_bytes-back limit fs bytes left b (nat_lt 1 left) refl h
 
-after-back : (limit : ℕ) (next : Next) (b : ℕ) → NextWithin limit (after next b) → NextWithin limit next
+after-back : (limit : ℕ) (next : ByteEffect) (b : ℕ) → NextWithin limit (after next b) → NextWithin limit next
 after-back limit (goes fs token) b h = step-back limit fs token b h
 after-back limit (opens f fs) b h = let g = step-back limit (f ∷ fs) between b h in g.0
 after-back limit (names ps key fs) b h = let g = step-back limit (at_value ps key ∷ fs) between b h in g.0
@@ -246,7 +254,7 @@ after-back limit (ends t) b h = absurd h
 after-back limit stuck b h = absurd h
 
 -- what is read on to a value within the limits is within them
-run-back : (limit : ℕ) (next : Next) (bs : List ℕ) → NextWithin limit (run next bs) → NextWithin limit next
+run-back : (limit : ℕ) (next : ByteEffect) (bs : List ℕ) → NextWithin limit (run next bs) → NextWithin limit next
 run-back limit next [] h = h
 run-back limit next (b ∷ bs) h = after-back limit next b (run-back limit (after next b) bs h)
 
@@ -261,10 +269,10 @@ lt_false a b h = grind (arith, nat_tests)
 lt_true : (a b : ℕ) → a < b → nat_lt a b ≡ true
 lt_true a b h = grind (arith, nat_tests)
 
-reads_not : (c : Cut) (rule : Rule) → reads c ≡ refuses rule → ⊥
+reads_not : (c : Cut) (rule : StreamRule) → reads c ≡ refuses rule → ⊥
 reads_not c rule e = absurd (cc)
 
-token_passes : (limit : ℕ) (fs : List Frame) (token : Token) → TokenWithin limit token → (rule : Rule) → checked limit (reads (cut fs token)) ≡ refuses rule → ⊥
+token_passes : (limit : ℕ) (fs : List Frame) (token : Token) → TokenWithin limit token → (rule : StreamRule) → within_limit limit (reads (cut fs token)) ≡ refuses rule → ⊥
 token_passes limit fs between h rule e = reads_not (cut fs between) rule e
 token_passes limit fs after_i h rule e = reads_not (cut fs after_i) rule e
 token_passes limit fs after_minus h rule e = reads_not (cut fs after_minus) rule e
@@ -277,13 +285,13 @@ no_key true h = absurd (h refl)
 no_key false h = refl
 
 -- no rule applies to it
-next_passes : (limit : ℕ) (next : Next) → NextWithin limit next → (rule : Rule) → checked limit (judged next) ≡ refuses rule → ⊥
+next_passes : (limit : ℕ) (next : ByteEffect) → NextWithin limit next → (rule : StreamRule) → within_limit limit (judged next) ≡ refuses rule → ⊥
 next_passes limit (goes fs token) h rule e = token_passes limit fs token h.1 rule e
 next_passes limit (opens f fs) h rule e =
-    reads_not (cut (f ∷ fs) between) rule (ap (λ t. checked limit (cond t (reads (cut (f ∷ fs) between)) (refuses too_deep))) (sym (lt_true (length fs) 64 (frame_depth limit f fs h))) ∙ e)
+    reads_not (cut (f ∷ fs) between) rule (ap (λ t. within_limit limit (cond t (reads (cut (f ∷ fs) between)) (refuses too_deep))) (sym (lt_true (length fs) 64 (frame_depth limit f fs h))) ∙ e)
 next_passes limit (names ps key fs) h rule e =
     reads_not (cut (at_value ps key ∷ fs) between) rule
-    (ap (λ t. checked limit (cond t (refuses malformed) (reads (cut (at_value ps key ∷ fs) between)))) (sym (no_key (has_key key ps) h.4)) ∙ e)
+    (ap (λ t. within_limit limit (cond t (refuses malformed) (reads (cut (at_value ps key ∷ fs) between)))) (sym (no_key (has_key key ps) h.4)) ∙ e)
 next_passes limit (ends t) h rule e = let f : whole t ≡ refuses rule = e in absurd (cc)
 next_passes limit stuck h rule e = absurd h
 
@@ -295,4 +303,4 @@ text_clean limit ps g h fits front more rule e meets =
     let size : length (text (dictionary ps)) ≡ length front + length more = ap length e ∙ length-append front more in
     let brief : nat_lt limit (length front) ≡ false = lt_false limit (length front) (omega arith) in
     next_passes limit (read front) now rule
-    (ap (λ t. cond t (refuses too_long) (checked limit (judged (read front)))) (sym brief) ∙ meets_verdict limit front rule meets)
+    (ap (λ t. cond t (refuses too_long) (within_limit limit (judged (read front)))) (sym brief) ∙ meets_verdict limit front rule meets)

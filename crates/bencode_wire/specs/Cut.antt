@@ -1,8 +1,10 @@
--- What the reader holds, a text that breaks off at some byte: the lists and dictionaries that are open, the innermost first,
--- and the part of a token that has come. No public clause speaks of it.
-use Rattle.std.specs.Prelude.{ℕ, ◌+◌, ◌<◌, ◌≤◌, ◌⊎◌, Bool, true, false, List, [], ◌∷◌, ◌++◌, length, codes, decimal}
+-- What the reader holds, a text that breaks off at some byte: the lists and dictionaries that are
+-- open, the innermost first, and the part of a token that has come. No public clause speaks of it.
+use Rattle.std.specs.Prelude.{ℕ, ◌+◌, ◌<◌, ◌≤◌, ◌⊎◌, Bool, true, false, List, [], ◌∷◌, ◌++◌, length}
+use Rattle.std.specs.Prelude.{codes, decimal}
 use Rattle.bencode_wire.specs.Tree.{Trees, Pairs, no_pairs}
-use Rattle.bencode_wire.specs.Spelling.{trees_text, pairs_text, string_text, AreSpellable, ArePairs, IsLength, IsString, sorted_trees, put_pairs}
+use Rattle.bencode_wire.specs.Spelling.{trees_text, pairs_text, string_text, AreSpellable, ArePairs}
+use Rattle.bencode_wire.specs.Spelling.{IsLength, IsString, sorted_trees, put_pairs}
 
 pub data Frame : Type 0 where
   -- a list, with the values that it holds
@@ -80,7 +82,8 @@ IsCut (cut fs after_minus) = TakesValue fs
 IsCut (cut fs (digits false n)) = TakesValue fs × (n ≤ greatest false)
 IsCut (cut fs (digits true n)) = TakesValue fs × (0 < n) × (n ≤ greatest true)
 IsCut (cut fs (count n)) = (TakesValue fs ⊎ TakesKey fs) × IsLength n
-IsCut (cut fs (part bytes left)) = (TakesValue fs ⊎ TakesKey fs) × (0 < left) × IsLength (length bytes + left)
+IsCut (cut fs (part bytes left)) = (TakesValue fs ⊎ TakesKey fs) × (0 < left)
+    × IsLength (length bytes + left)
 
 -- a cut with the pairs that it holds put in by their keys
 abbrev pub sorted_frame : Frame → Frame

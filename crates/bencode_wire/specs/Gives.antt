@@ -1,7 +1,7 @@
 -- What the private functions that read give: what is judged.
 use Rattle.std.specs.Prelude.{◌≡◌, ℕ, ◌<◌, ◌^◌, Result, Ok, Err}
 use Rattle.bencode_wire.specs.Fault.{malformed, too_long, too_deep}
-use Rattle.bencode_wire.specs.Machine.{Judged, reads, whole, refuses, checked}
+use Rattle.bencode_wire.specs.ByteSteps.{Judged, reads, whole, refuses, within_limit}
 use Rattle.bencode_wire.specs.Reader.{cut_view}
 use Rattle.bencode_wire.specs.View.{view}
 use Rattle.bencode_wire.specs.declared.fault.Refusal.{Refusal}
@@ -14,5 +14,6 @@ Gives j (Ok (Progress.Whole v)) = j ≡ whole (view v)
 Gives j (Err Refusal.NoMemory) = Unit {0}
 Gives j (Err Refusal.Malformed) = j ≡ refuses malformed
 -- under each limit that the code can hold
-Gives j (Err Refusal.TooLong) = (limit : ℕ) → limit < 2 ^ 64 → checked limit j ≡ refuses too_long
+Gives j (Err Refusal.TooLong) = (limit : ℕ) → limit < 2 ^ 64
+    → within_limit limit j ≡ refuses too_long
 Gives j (Err Refusal.TooDeep) = j ≡ refuses too_deep

@@ -1,8 +1,8 @@
 -- How a decoder is kept. No public clause speaks of it.
 use Rattle.std.specs.Prelude.{◌≡◌, ◌≤◌, ◌+◌, ℕ, List, length, take, drop, None, option_map}
 use Rattle.std.specs.Prelude.{MatchOption, IfSome}
-use Rattle.bencode_wire.specs.State.{State, Earlier}
-use Rattle.bencode_wire.specs.Fault.{counted}
+use Rattle.bencode_wire.specs.State.{DecoderState, Earlier}
+use Rattle.bencode_wire.specs.Fault.{counted_place}
 use Rattle.bencode_wire.specs.Held.{Holds}
 use Rattle.bencode_wire.specs.Stream.{IsRest}
 use Rattle.bencode_wire.specs.declared.tail.Tail.{Tail}
@@ -14,14 +14,14 @@ rest_in t = drop t.begin t.bytes.items
 
 -- so many of the bytes had come before the last piece
 abbrev pub earlier_in : Tail → ℕ → Earlier
-earlier_in t kept = record { rest = take kept t.bytes.items; place = counted t.start }
+earlier_in t kept = record { rest = take kept t.bytes.items; place = counted_place t.start }
 
-abbrev pub state_of : Inside → State
-state_of a = record {
+abbrev pub shown_state : Inside → DecoderState
+shown_state a = record {
   limit = a.limit;
   ready = a.ready.items;
   rest = rest_in a.tail;
-  place = counted (a.tail.start + a.tail.begin);
+  place = counted_place (a.tail.start + a.tail.begin);
   fault = a.fault;
   earlier = option_map (earlier_in a.tail) a.before;
 }

@@ -6,7 +6,9 @@ pub mod Fronts
 pub mod Cut
 pub mod Fault
 pub mod Stream
-pub mod Machine
+pub mod Beginnings
+pub mod ByteEffects
+pub mod ByteSteps
 pub mod Sign
 pub mod Reader
 pub mod Course

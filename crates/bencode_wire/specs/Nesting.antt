@@ -1,6 +1,7 @@
 -- How deep lists and dictionaries nest in a value, itself included.
 use Rattle.std.specs.Prelude.{ℕ, suc, max}
-use Rattle.bencode_wire.specs.Tree.{Tree, integer, string, list, dictionary, Trees, no_trees, tree, Pairs, no_pairs, pair}
+use Rattle.bencode_wire.specs.Tree.{Tree, integer, string, list, dictionary, Trees, no_trees, tree}
+use Rattle.bencode_wire.specs.Tree.{Pairs, no_pairs, pair}
 
 abbrev mutual
   pub nesting : Tree → ℕ

@@ -20,9 +20,9 @@ as_it_was d e = record {
 }
 
 -- the decoder as if its last piece had not come, where it can go back there
-abbrev pub taken_back : Decoder → Option Earlier → Decoder
-taken_back d None = d
-taken_back d (Some e) = as_it_was d e
+abbrev pub before_last_piece : Decoder → Option Earlier → Decoder
+before_last_piece d None = d
+before_last_piece d (Some e) = as_it_was d e
 
 -- the decoder can go back to where it stood for these bytes, with all messages in them taken
 pub record CanReturn (limit : ℕ) (d : Decoder) (all : List ℕ) (taken : List Tree) : Type 0 where

@@ -1,9 +1,11 @@
 -- How a value is spelled (BEP 3, "Bencoding").
-use Rattle.std.specs.Prelude.{◌≡◌, ℕ, ◌<◌, ◌^◌, ℤ, pos, negsuc, List, [], ◌∷◌, ◌++◌, length, codes, decimal}
+use Rattle.std.specs.Prelude.{◌≡◌, ℕ, ◌<◌, ◌^◌, ℤ, pos, negsuc, List, [], ◌∷◌, ◌++◌, length, codes}
+use Rattle.std.specs.Prelude.{decimal}
 use Rattle.std.specs.Fmt.{signed_decimal}
 use Rattle.std.specs.Ordering.{nat_cmp, match_ordering}
 use Rattle.std.specs.Cmp.Lexicographic.{slice_cmp}
-use Rattle.bencode_wire.specs.Tree.{Tree, integer, string, list, dictionary, Trees, no_trees, tree, Pairs, no_pairs, pair, HasKey}
+use Rattle.bencode_wire.specs.Tree.{Tree, integer, string, list, dictionary, Trees, no_trees, tree}
+use Rattle.bencode_wire.specs.Tree.{Pairs, no_pairs, pair, HasKey}
 
 abbrev pub integer_text : ℤ → List ℕ
 integer_text n = codes "i" ++ signed_decimal n ++ codes "e"
@@ -32,7 +34,8 @@ abbrev pub IsInteger : ℤ → Type 0
 IsInteger (pos n) = n < 2 ^ 63
 IsInteger (negsuc n) = n < 2 ^ 63
 
--- a length, of at most 64 digits. A decoder's limit is below 2 ^ 64, so a length passes the limit before it passes this
+-- a length, of at most 64 digits. A decoder's limit is below 2 ^ 64, so a length passes the limit
+-- before it passes this
 abbrev pub IsLength : ℕ → Type 0
 IsLength n = n < 10 ^ 64
 
@@ -75,11 +78,13 @@ abbrev mutual
   PairsDistinct no_pairs = Unit {0}
   PairsDistinct (pair key t ps) = (HasKey key ps → ⊥) × IsDistinct t × PairsDistinct ps
 
--- the pairs, sorted by their keys as raw bytes, with one more; a key that stands there takes the new value
+-- the pairs, sorted by their keys as raw bytes, with one more; a key that stands there takes the
+-- new value
 abbrev pub put_pair : Pairs → List ℕ → Tree → Pairs
 put_pair no_pairs key t = pair key t no_pairs
 put_pair (pair k u ps) key t =
-    match_ordering (slice_cmp nat_cmp key k) (pair key t (pair k u ps)) (pair k t ps) (pair k u (put_pair ps key t))
+    match_ordering (slice_cmp nat_cmp key k) (pair key t (pair k u ps)) (pair k t ps)
+    (pair k u (put_pair ps key t))
 
 -- a value with the pairs put in one by one by their keys as raw bytes, at every level
 abbrev mutual

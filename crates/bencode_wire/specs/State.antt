@@ -10,7 +10,7 @@ pub record Earlier : Type 0 where
   pub rest : List ℕ
   pub place : ℕ
 
-pub record State : Type 0 where
+pub record DecoderState : Type 0 where
   pub limit : ℕ
   pub ready : List Ben
   pub rest : List ℕ

@@ -1,5 +1,7 @@
--- What a value of bencode is (BEP 3), without where it lies in memory. A dictionary's pairs stand in some order.
-use Rattle.std.specs.Prelude.{◌≡◌, ℕ, ℤ, List, Bool, true, false, ◌||◌, Option, Some, None, if◌then◌else◌, bytes_eq}
+-- What a value of bencode is (BEP 3), without where it lies in memory. A dictionary's pairs stand
+-- in some order.
+use Rattle.std.specs.Prelude.{◌≡◌, ℕ, ℤ, List, Bool, true, false, ◌||◌, Option, Some, None}
+use Rattle.std.specs.Prelude.{if◌then◌else◌, bytes_eq}
 
 mutual
   pub data Tree : Type 0 where

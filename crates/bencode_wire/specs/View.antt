@@ -1,7 +1,8 @@
 -- The data that a `Ben` stands for. A dictionary's pairs stand in the order of its map.
 use Rattle.std.specs.Prelude.{ℕ, List, [], ◌∷◌, map, Vec}
 use Rattle.std.specs.declared.alloc.Global.{Global}
-use Rattle.bencode_wire.specs.Tree.{Tree, integer, string, list, dictionary, Trees, no_trees, tree, Pairs, no_pairs, pair}
+use Rattle.bencode_wire.specs.Tree.{Tree, integer, string, list, dictionary, Trees, no_trees, tree}
+use Rattle.bencode_wire.specs.Tree.{Pairs, no_pairs, pair}
 use Rattle.bencode_wire.specs.declared.ben.Ben.{Ben, fold-Ben}
 use Rattle.bencode_wire.specs.declared.ben.Ben.TheOpen.{Ben-F}
 

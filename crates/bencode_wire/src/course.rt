@@ -1,7 +1,7 @@
 // Reading bytes on, run by run.
 ghost use Rattle.std.specs.Prelude.{◌≡◌, ◌<◌, ◌≤◌, length, take, IfOk, IfSome, OnOk, MatchOption};
 ghost use Rattle.bencode_wire.specs.Fronts.{BeginsWith};
-ghost use Rattle.bencode_wire.specs.Machine as machine;
+ghost use Rattle.bencode_wire.specs.ByteSteps as steps;
 ghost use Rattle.bencode_wire.specs.Spelling.{put_pair};
 ghost use Rattle.bencode_wire.specs.Reader.{frames_view, token_view, cut_view};
 ghost use Rattle.bencode_wire.specs.Gives.{Gives};
@@ -27,7 +27,8 @@ pub(crate) fn read_on(
 ) -> Result<Course, WireFault>
     requires { course.at ≤ length bytes.now }
     ensures front { BeginsWith ready.new.items ready.old.items }
-    ensures continues { Continues limit start bytes.now course ready.old.items ready.new.items result }
+    ensures continues { Continues limit start bytes.now course ready.old.items ready.new.items
+        result }
     ensures all { IfOk result (λ next. next.at ≡ length bytes.now) }
 {
     let mut now = course;
@@ -46,7 +47,8 @@ pub(crate) fn resume(
     reader: Option<Reader>,
 ) -> Option<Reader>
     ensures { (c : Cut) → MatchOption reader (Unit {0}) (Holds kept.now) → IsRest limit kept.now
-        → machine.reading limit put_pair 0 machine.start 0 kept.now ≡ machine.ended (machine.rests (length kept.now) c)
+        → steps.stream_reading limit put_pair 0 steps.start 0 kept.now
+        ≡ steps.ended_reading (steps.rests (length kept.now) c)
         → IfSome result (λ r. cut_view r ≡ c) }
 {
     if let Some(reader) = reader {
@@ -76,7 +78,8 @@ fn advance(
 ) -> Result<Course, WireFault>
     requires { course.at < length bytes.now }
     ensures front { BeginsWith ready.new.items ready.old.items }
-    ensures continues { Continues limit start bytes.now course ready.old.items ready.new.items result }
+    ensures continues { Continues limit start bytes.now course ready.old.items ready.new.items
+        result }
     ensures within { IfOk result (λ next. next.at ≤ length bytes.now) }
     ensures more { IfOk result (λ next. course.at < next.at) }
 {
@@ -112,7 +115,9 @@ fn advance(
 // Reads a run, whose length `run_len` gave.
 fn read_run(alloc: Global, limit: usize, reader: Reader, run: &[u8]) -> Result<Progress, Refusal>
     requires { 0 < length run.now }
-    ensures { Gives (machine.checked limit (machine.judged (machine.step_run put_pair (frames_view reader.frames.items) (token_view reader.token) run.now))) result }
+    ensures { Gives (steps.within_limit limit
+        (steps.judged (steps.step_run put_pair (frames_view reader.frames.items)
+        (token_view reader.token) run.now))) result }
 {
     match reader.step(alloc, run) {
         Ok(Progress::Partial(next)) => within_limit(limit, next),
@@ -123,7 +128,7 @@ fn read_run(alloc: Global, limit: usize, reader: Reader, run: &[u8]) -> Result<P
 
 // The digits of a string's length are not above the limit.
 fn within_limit(limit: usize, reader: Reader) -> Result<Progress, Refusal>
-    ensures { Gives (machine.checked limit (machine.reads (cut_view reader))) result }
+    ensures { Gives (steps.within_limit limit (steps.reads (cut_view reader))) result }
 {
     if is_large(limit, &reader.token) {
         Err(Refusal::TooLong)
@@ -133,7 +138,7 @@ fn within_limit(limit: usize, reader: Reader) -> Result<Progress, Refusal>
 }
 
 fn is_large(limit: usize, token: &Token) -> bool
-    ensures { result ≡ machine.is_large_token limit (token_view token.now) }
+    ensures { result ≡ steps.is_large_token limit (token_view token.now) }
 {
     match token {
         Token::Length(len) => limit < *len,

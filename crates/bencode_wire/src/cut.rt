@@ -61,7 +61,7 @@ pub(crate) enum Progress {
 
 // What may come between two tokens.
 #[derive(Clone, Copy)]
-pub(crate) enum Wanted {
+pub(crate) enum Expected {
     Message,
     Value,
     ItemOrEnd,

@@ -1,6 +1,6 @@
 // A stream of messages, fed in pieces of any size.
-ghost use Rattle.std.specs.Prelude.{◌≡◌, ◌≢◌, ◌↔◌, ◌++◌, ℕ, List, [], IsTrue, None, Some};
-ghost use Rattle.std.specs.Prelude.{Err, OnOk, IfOk, IfErr, option_map, option_to_list};
+ghost use Rattle.std.specs.Prelude.{◌≡◌, ◌≢◌, ◌↔◌, ◌++◌, ℕ, List, [], IsTrue, None, Some, Err};
+ghost use Rattle.std.specs.Prelude.{OnOk, IfOk, IfErr, option_map, option_to_list};
 ghost use Rattle.bencode_wire.specs.Tree.{Tree};
 
 use crate::ben::Ben;
@@ -19,7 +19,7 @@ use std::marker::Model;
 /// The bytes of the unfinished message are kept beside what they were read as. So a piece costs the
 /// reading of its own bytes, however the stream is cut; only after want of memory are the kept
 /// bytes read once more. Until the next piece those of the messages that became whole are kept too,
-/// so that the last piece can be taken back. Contracts see what it shows, a `State`, and not how it
+/// so that the last piece can be taken back. Contracts see what it shows, a `DecoderState`, and not how it
 /// is kept.
 #[derive(Drop)]
 pub struct Decoder {
@@ -36,17 +36,17 @@ pub struct Decoder {
 }
 
 impl Model for Decoder {
-    ghost use Rattle.bencode_wire.specs.State.{State};
+    ghost use Rattle.bencode_wire.specs.State.{DecoderState};
     ghost use Rattle.bencode_wire.specs.contracts.ben.Ben as messages;
     ghost use Rattle.std.specs.Coded.{codes};
 
-    ghost Value = { State };
+    ghost Value = { DecoderState };
 
     ghost coded = { Prim.hlevel (codes, messages.the_row.coded) };
 
-    ghost use Rattle.bencode_wire.specs.Inside.{state_of, IsInStep};
+    ghost use Rattle.bencode_wire.specs.Inside.{shown_state, IsInStep};
 
-    ghost view = { state_of };
+    ghost view = { shown_state };
 
     ghost invariant = { IsInStep };
 }
@@ -97,7 +97,7 @@ impl Decoder {
     {
         match self.fault {
             Some(fault) => Err(fault),
-            None => self.take(piece.as_slice()),
+            None => self.feed_bytes(piece.as_slice()),
         }
     }
 
@@ -152,7 +152,7 @@ impl Decoder {
     }
 
     // Reads a piece behind the bytes that are kept.
-    fn take(&mut self, piece: &[u8]) -> Result<(), WireFault>
+    fn feed_bytes(&mut self, piece: &[u8]) -> Result<(), WireFault>
         requires { fault_of self.old ≡ None }
         ensures stands { (limit : ℕ) (all : List ℕ) (taken : List Tree)
             → Stands limit self.old all taken

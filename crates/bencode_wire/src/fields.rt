@@ -11,7 +11,8 @@ use std::alloc::AllocError;
 /// Puts a value under a key, in place of one that stands there. After want of memory the fields are
 /// as they were.
 pub fn put_field(fields: &mut Dictionary, key: Vec<u8>, value: Ben) -> Result<(), AllocError>
-    ensures ok { OnOk result (pairs_view fields.new.entries ≡ put_pair (pairs_view fields.old.entries) key.items (view value)) }
+    ensures ok { OnOk result (pairs_view fields.new.entries
+        ≡ put_pair (pairs_view fields.old.entries) key.items (view value)) }
     ensures err { OnErr result (fields.new.entries ≡ fields.old.entries) }
 {
     drop(fields.insert(key, value)?);

@@ -1,10 +1,13 @@
 // One message, read byte by byte. A `Reader` is what has come of it: the lists and dictionaries
 // that are open, and the part of the token that the last byte stands in. Each step takes the
 // reader by value and gives the next one.
-ghost use Rattle.std.specs.Prelude.{◌≡◌, ℕ, ◌<◌, ◌≤◌, ◌+◌, ◌*◌, ◌^◌, length, nat_le, if◌then◌else◌, MatchOption, IfOk, IfErr, Some, None, [], ◌∷◌};
+ghost use Rattle.std.specs.Prelude.{◌≡◌, ℕ, ◌<◌, ◌≤◌, ◌+◌, ◌*◌, ◌^◌, length, nat_le, if◌then◌else◌};
+ghost use Rattle.std.specs.Prelude.{MatchOption, IfOk, IfErr, Some, None, [], ◌∷◌};
 ghost use Rattle.bencode_wire.specs.Cut as cuts;
-ghost use Rattle.bencode_wire.specs.Machine as machine;
-ghost use Rattle.bencode_wire.specs.Machine.{judged};
+ghost use Rattle.bencode_wire.specs.Beginnings as beginnings;
+ghost use Rattle.bencode_wire.specs.ByteEffects as effects;
+ghost use Rattle.bencode_wire.specs.ByteSteps as steps;
+ghost use Rattle.bencode_wire.specs.ByteSteps.{judged};
 ghost use Rattle.bencode_wire.specs.Tree as tree;
 ghost use Rattle.bencode_wire.specs.Cut.{in_list, at_key, at_value};
 ghost use Rattle.bencode_wire.specs.Spelling.{put_pair};
@@ -14,7 +17,7 @@ ghost use Rattle.bencode_wire.specs.Reader.{frame_view, frames_view, token_view,
 ghost use Rattle.bencode_wire.specs.Gives.{Gives};
 
 use crate::ben::{Ben, Dictionary};
-use crate::cut::{Frame, PartOfInteger, PartOfString, Progress, Reader, Token, Wanted};
+use crate::cut::{Expected, Frame, PartOfInteger, PartOfString, Progress, Reader, Token};
 use crate::fault::Refusal;
 use crate::sign::Sign;
 use std::alloc::Global;
@@ -24,7 +27,7 @@ const MAX_NESTING: usize = 64;
 
 impl Reader {
     pub(crate) fn new(alloc: Global) -> Reader
-        ensures { cut_view result ≡ machine.start }
+        ensures { cut_view result ≡ steps.start }
     {
         Reader {
             frames: Vec::new(alloc),
@@ -37,7 +40,7 @@ impl Reader {
         requires { 0 < available }
         ensures some { 0 < result }
         ensures within { result ≤ available }
-        ensures run { machine.TakesRun (token_view self.now.token) result }
+        ensures run { steps.TakesRun (token_view self.now.token) result }
     {
         match &self.token {
             Token::Text(part) => part.left.min(available),
@@ -48,7 +51,8 @@ impl Reader {
     // Reads one run of bytes, whose length `run_len` gave.
     pub(crate) fn step(self, alloc: Global, run: &[u8]) -> Result<Progress, Refusal>
         requires { 0 < length run.now }
-        ensures { Gives (judged (machine.step_run put_pair (frames_view self.frames.items) (token_view self.token) run.now)) result }
+        ensures { Gives (judged (steps.step_run put_pair (frames_view self.frames.items)
+            (token_view self.token) run.now)) result }
     {
         let Reader { frames, token } = self;
         let sign = Sign::of(run[0]);
@@ -64,14 +68,15 @@ impl Reader {
 }
 
 fn partial(frames: Vec<Frame>, token: Token) -> Result<Progress, Refusal>
-    ensures { Gives (judged (machine.goes (frames_view frames.items) (token_view token))) result }
+    ensures { Gives (judged (beginnings.goes (frames_view frames.items) (token_view token))) result }
 {
     Ok(Progress::Partial(Reader { frames, token }))
 }
 
 // The frames with one more.
 fn push(mut frames: Vec<Frame>, frame: Frame) -> Result<Vec<Frame>, Refusal>
-    ensures ok { IfOk result (λ fs. frames_view fs.items ≡ frame_view frame ∷ frames_view frames.items) }
+    ensures ok { IfOk result (λ fs. frames_view fs.items
+        ≡ frame_view frame ∷ frames_view frames.items) }
     ensures err { IfErr result (λ e. e ≡ Refusal.NoMemory) }
 {
     frames.push(frame)?;
@@ -87,31 +92,31 @@ fn pop(mut frames: Vec<Frame>) -> (Vec<Frame>, Option<Frame>)
     (frames, innermost)
 }
 
-fn wanted_in(frames: &[Frame]) -> Wanted
-    ensures { result ≡ machine.wanted_in (frames_view frames.now) }
+fn expected_in(frames: &[Frame]) -> Expected
+    ensures { result ≡ beginnings.expected_in (frames_view frames.now) }
 {
     match frames.last() {
-        None => Wanted::Message,
-        Some(Frame::List(_)) => Wanted::ItemOrEnd,
-        Some(Frame::Keys(_)) => Wanted::KeyOrEnd,
-        Some(Frame::Value(_, _)) => Wanted::Value,
+        None => Expected::Message,
+        Some(Frame::List(_)) => Expected::ItemOrEnd,
+        Some(Frame::Keys(_)) => Expected::KeyOrEnd,
+        Some(Frame::Value(_, _)) => Expected::Value,
     }
 }
 
 // The first byte of a token.
 fn begin(alloc: Global, frames: Vec<Frame>, sign: Sign) -> Result<Progress, Refusal>
-    ensures { Gives (judged (machine.begin put_pair (frames_view frames.items) sign)) result }
+    ensures { Gives (judged (beginnings.begin put_pair (frames_view frames.items) sign)) result }
 {
-    match wanted_in(&frames) {
-        Wanted::Message => begin_message(alloc, frames, sign),
-        Wanted::Value => begin_value(alloc, frames, sign),
-        Wanted::ItemOrEnd => begin_item(alloc, frames, sign),
-        Wanted::KeyOrEnd => begin_key(frames, sign),
+    match expected_in(&frames) {
+        Expected::Message => begin_message(alloc, frames, sign),
+        Expected::Value => begin_value(alloc, frames, sign),
+        Expected::ItemOrEnd => begin_item(alloc, frames, sign),
+        Expected::KeyOrEnd => begin_key(frames, sign),
     }
 }
 
 fn begin_message(alloc: Global, frames: Vec<Frame>, sign: Sign) -> Result<Progress, Refusal>
-    ensures { Gives (judged (machine.begin_message (frames_view frames.items) sign)) result }
+    ensures { Gives (judged (beginnings.begin_message (frames_view frames.items) sign)) result }
 {
     match sign {
         Sign::Dictionary => open(frames, Frame::Keys(Dictionary::new(alloc))),
@@ -123,7 +128,7 @@ fn begin_message(alloc: Global, frames: Vec<Frame>, sign: Sign) -> Result<Progre
 }
 
 fn begin_value(alloc: Global, frames: Vec<Frame>, sign: Sign) -> Result<Progress, Refusal>
-    ensures { Gives (judged (machine.begin_value (frames_view frames.items) sign)) result }
+    ensures { Gives (judged (beginnings.begin_value (frames_view frames.items) sign)) result }
 {
     match sign {
         Sign::Integer => partial(frames, Token::IntegerOpen),
@@ -135,7 +140,7 @@ fn begin_value(alloc: Global, frames: Vec<Frame>, sign: Sign) -> Result<Progress
 }
 
 fn begin_item(alloc: Global, frames: Vec<Frame>, sign: Sign) -> Result<Progress, Refusal>
-    ensures { Gives (judged (machine.begin_item put_pair (frames_view frames.items) sign)) result }
+    ensures { Gives (judged (beginnings.begin_item put_pair (frames_view frames.items) sign)) result }
 {
     match sign {
         Sign::End => close(frames),
@@ -147,7 +152,7 @@ fn begin_item(alloc: Global, frames: Vec<Frame>, sign: Sign) -> Result<Progress,
 }
 
 fn begin_key(frames: Vec<Frame>, sign: Sign) -> Result<Progress, Refusal>
-    ensures { Gives (judged (machine.begin_key put_pair (frames_view frames.items) sign)) result }
+    ensures { Gives (judged (beginnings.begin_key put_pair (frames_view frames.items) sign)) result }
 {
     match sign {
         Sign::End => close(frames),
@@ -158,7 +163,7 @@ fn begin_key(frames: Vec<Frame>, sign: Sign) -> Result<Progress, Refusal>
 }
 
 fn open(frames: Vec<Frame>, frame: Frame) -> Result<Progress, Refusal>
-    ensures { Gives (judged (machine.opens (frame_view frame) (frames_view frames.items))) result }
+    ensures { Gives (judged (beginnings.opens (frame_view frame) (frames_view frames.items))) result }
 {
     if frames.len() < MAX_NESTING {
         let frames = push(frames, frame)?;
@@ -170,7 +175,7 @@ fn open(frames: Vec<Frame>, frame: Frame) -> Result<Progress, Refusal>
 
 // The end of the innermost list or dictionary.
 fn close(frames: Vec<Frame>) -> Result<Progress, Refusal>
-    ensures { Gives (judged (machine.close put_pair (frames_view frames.items))) result }
+    ensures { Gives (judged (beginnings.close put_pair (frames_view frames.items))) result }
 {
     let (outer, innermost) = pop(frames);
     match innermost {
@@ -183,7 +188,7 @@ fn close(frames: Vec<Frame>) -> Result<Progress, Refusal>
 
 // A value that is whole goes into the innermost list or dictionary, or is the message.
 fn put(frames: Vec<Frame>, value: Ben) -> Result<Progress, Refusal>
-    ensures { Gives (judged (machine.put put_pair (frames_view frames.items) (view value))) result }
+    ensures { Gives (judged (beginnings.put put_pair (frames_view frames.items) (view value))) result }
 {
     let (outer, innermost) = pop(frames);
     match innermost {
@@ -196,7 +201,8 @@ fn put(frames: Vec<Frame>, value: Ben) -> Result<Progress, Refusal>
 
 #[tactic(auto, using(crate::proofs::Rules::item_steps))]
 fn put_item(outer: Vec<Frame>, mut items: Vec<Ben>, item: Ben) -> Result<Progress, Refusal>
-    ensures { Gives (judged (machine.put put_pair (in_list (trees_view items.items) ∷ frames_view outer.items) (view item))) result }
+    ensures { Gives (judged (beginnings.put put_pair
+        (in_list (trees_view items.items) ∷ frames_view outer.items) (view item))) result }
 {
     items.push(item)?;
     let frames = push(outer, Frame::List(items))?;
@@ -206,7 +212,8 @@ fn put_item(outer: Vec<Frame>, mut items: Vec<Ben>, item: Ben) -> Result<Progres
 // A key has to be a string, and a key that stood before in its dictionary is refused at its last
 // byte.
 fn put_key(outer: Vec<Frame>, pairs: Dictionary, key: Ben) -> Result<Progress, Refusal>
-    ensures { Gives (judged (machine.put put_pair (at_key (pairs_view pairs.entries) ∷ frames_view outer.items) (view key))) result }
+    ensures { Gives (judged (beginnings.put put_pair
+        (at_key (pairs_view pairs.entries) ∷ frames_view outer.items) (view key))) result }
 {
     match key {
         Ben::String(key) => put_name(outer, pairs, key),
@@ -217,7 +224,8 @@ fn put_key(outer: Vec<Frame>, pairs: Dictionary, key: Ben) -> Result<Progress, R
 }
 
 fn put_name(outer: Vec<Frame>, pairs: Dictionary, key: Vec<u8>) -> Result<Progress, Refusal>
-    ensures { Gives (judged (machine.names (pairs_view pairs.entries) key.items (frames_view outer.items))) result }
+    ensures { Gives (judged (beginnings.names (pairs_view pairs.entries) key.items
+        (frames_view outer.items))) result }
 {
     if has_key(&pairs, &key) {
         return Err(Refusal::Malformed);
@@ -238,7 +246,9 @@ fn put_value(
     key: Vec<u8>,
     value: Ben,
 ) -> Result<Progress, Refusal>
-    ensures { Gives (judged (machine.put put_pair (at_value (pairs_view pairs.entries) key.items ∷ frames_view outer.items) (view value))) result }
+    ensures { Gives (judged (beginnings.put put_pair
+        (at_value (pairs_view pairs.entries) key.items ∷ frames_view outer.items) (view value)))
+        result }
 {
     let pairs = with_pair(pairs, key, value)?;
     let frames = push(outer, Frame::Keys(pairs))?;
@@ -246,7 +256,8 @@ fn put_value(
 }
 
 fn with_pair(mut pairs: Dictionary, key: Vec<u8>, value: Ben) -> Result<Dictionary, Refusal>
-    ensures ok { IfOk result (λ with. pairs_view with.entries ≡ put_pair (pairs_view pairs.entries) key.items (view value)) }
+    ensures ok { IfOk result (λ with. pairs_view with.entries
+        ≡ put_pair (pairs_view pairs.entries) key.items (view value)) }
     ensures err { IfErr result (λ e. e ≡ Refusal.NoMemory) }
 {
     drop(pairs.insert(key, value)?);
@@ -255,7 +266,7 @@ fn with_pair(mut pairs: Dictionary, key: Vec<u8>, value: Ben) -> Result<Dictiona
 
 // Behind `i`: a minus or the first digit.
 fn integer_open(frames: Vec<Frame>, sign: Sign) -> Result<Progress, Refusal>
-    ensures { Gives (judged (machine.integer_open (frames_view frames.items) sign)) result }
+    ensures { Gives (judged (effects.integer_open (frames_view frames.items) sign)) result }
 {
     match sign {
         Sign::Minus => partial(frames, Token::IntegerMinus),
@@ -267,7 +278,7 @@ fn integer_open(frames: Vec<Frame>, sign: Sign) -> Result<Progress, Refusal>
 
 // Behind `i-`: a digit that is not zero.
 fn integer_minus(frames: Vec<Frame>, sign: Sign) -> Result<Progress, Refusal>
-    ensures { Gives (judged (machine.integer_minus (frames_view frames.items) sign)) result }
+    ensures { Gives (judged (effects.integer_minus (frames_view frames.items) sign)) result }
 {
     match sign {
         Sign::Digit(digit) => {
@@ -284,11 +295,12 @@ fn integer_minus(frames: Vec<Frame>, sign: Sign) -> Result<Progress, Refusal>
 
 // Behind a digit of an integer: another digit, unless the number is zero, or the end.
 fn integer_digits(frames: Vec<Frame>, part: PartOfInteger, sign: Sign) -> Result<Progress, Refusal>
-    ensures { Gives (judged (machine.integer_digits put_pair (frames_view frames.items) part.is_negative part.value sign)) result }
+    ensures { Gives (judged (effects.integer_digits put_pair
+        (frames_view frames.items) part.is_negative part.value sign)) result }
 {
     let PartOfInteger { is_negative, value } = part;
     match sign {
-        Sign::End => put(frames, Ben::Integer(signed(is_negative, value))),
+        Sign::End => put(frames, Ben::Integer(integer_with_sign(is_negative, value))),
         Sign::Digit(digit) => more_digits(frames, is_negative, value, digit),
         Sign::Integer | Sign::List | Sign::Dictionary => Err(Refusal::Malformed),
         Sign::Minus | Sign::Colon | Sign::Other => Err(Refusal::Malformed),
@@ -301,12 +313,13 @@ fn more_digits(
     value: u64,
     digit: u8,
 ) -> Result<Progress, Refusal>
-    ensures { Gives (judged (machine.more_digits (frames_view frames.items) is_negative value digit)) result }
+    ensures { Gives (judged (effects.more_digits
+        (frames_view frames.items) is_negative value digit)) result }
 {
     if value == 0 {
         return Err(Refusal::Malformed);
     }
-    match longer(value, digit, greatest(is_negative)) {
+    match with_digit(value, digit, greatest(is_negative)) {
         None => Err(Refusal::Malformed),
         Some(value) => partial(frames, integer_part(is_negative, value)),
     }
@@ -331,8 +344,9 @@ fn greatest(is_negative: bool) -> u64
 }
 
 // The number with one more digit, unless it passes the greatest.
-fn longer(value: u64, digit: u8, greatest: u64) -> Option<u64>
-    ensures { result ≡ (if nat_le (10 * value + digit) greatest then Some (10 * value + digit) else None) }
+fn with_digit(value: u64, digit: u8, greatest: u64) -> Option<u64>
+    ensures { result ≡ (if nat_le (10 * value + digit) greatest then Some (10 * value + digit)
+        else None) }
 {
     let longer = value.checked_mul(10)?.checked_add(u64::from(digit))?;
     if longer <= greatest {
@@ -343,9 +357,9 @@ fn longer(value: u64, digit: u8, greatest: u64) -> Option<u64>
 }
 
 // The integer of these digits.
-fn signed(is_negative: bool, value: u64) -> i64
+fn integer_with_sign(is_negative: bool, value: u64) -> i64
     requires { value ≤ cuts.greatest is_negative }
-    ensures { result ≡ machine.signed is_negative value }
+    ensures { result ≡ effects.integer_with_sign is_negative value }
 {
     if is_negative {
         -(value.saturating_sub(1) as i64) - 1
@@ -361,7 +375,8 @@ fn length_digits(
     len: usize,
     sign: Sign,
 ) -> Result<Progress, Refusal>
-    ensures { Gives (judged (machine.length_digits put_pair (frames_view frames.items) len sign)) result }
+    ensures { Gives (judged (effects.length_digits put_pair (frames_view frames.items) len sign))
+        result }
 {
     match sign {
         Sign::Colon => open_string(alloc, frames, len),
@@ -372,12 +387,12 @@ fn length_digits(
 }
 
 fn more_length(frames: Vec<Frame>, len: usize, digit: u8) -> Result<Progress, Refusal>
-    ensures { Gives (judged (machine.more_length (frames_view frames.items) len digit)) result }
+    ensures { Gives (judged (effects.more_length (frames_view frames.items) len digit)) result }
 {
     if len == 0 {
         return Err(Refusal::Malformed);
     }
-    match longer(len as u64, digit, u64::MAX) {
+    match with_digit(len as u64, digit, u64::MAX) {
         Some(len) => partial(frames, Token::Length(len as usize)),
         // It is above each limit.
         None => Err(Refusal::TooLong),
@@ -385,7 +400,7 @@ fn more_length(frames: Vec<Frame>, len: usize, digit: u8) -> Result<Progress, Re
 }
 
 fn open_string(alloc: Global, frames: Vec<Frame>, len: usize) -> Result<Progress, Refusal>
-    ensures { Gives (judged (machine.open_string put_pair (frames_view frames.items) len)) result }
+    ensures { Gives (judged (effects.open_string put_pair (frames_view frames.items) len)) result }
 {
     let bytes = Vec::new(alloc);
     if len == 0 {
@@ -397,7 +412,8 @@ fn open_string(alloc: Global, frames: Vec<Frame>, len: usize) -> Result<Progress
 
 // More bytes of a string, at most those that are left.
 fn text(frames: Vec<Frame>, part: PartOfString, run: &[u8]) -> Result<Progress, Refusal>
-    ensures { Gives (judged (machine.text_bytes put_pair (frames_view frames.items) part.bytes.items part.left run.now)) result }
+    ensures { Gives (judged (effects.text_bytes put_pair
+        (frames_view frames.items) part.bytes.items part.left run.now)) result }
 {
     let PartOfString { left, mut bytes } = part;
     bytes.extend_from_slice(run)?;

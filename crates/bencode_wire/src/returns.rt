@@ -3,7 +3,7 @@ ghost use Rattle.std.specs.Prelude.{◌≡◌, ℕ, List, [], ◌++◌, None};
 ghost use Rattle.bencode_wire.specs.Tree.{Tree};
 ghost use Rattle.bencode_wire.specs.Course.{ready_view};
 ghost use Rattle.bencode_wire.specs.Decoder.{ready_of, fault_of, IsUnchanged, Stands};
-ghost use Rattle.bencode_wire.specs.Return.{earlier_of, taken_back, CanReturn};
+ghost use Rattle.bencode_wire.specs.Return.{earlier_of, before_last_piece, CanReturn};
 
 use crate::ben::Ben;
 use crate::decoder::Decoder;
@@ -29,7 +29,7 @@ impl Decoder {
     /// were handed out, and its fault. Where a message was ready before that piece, or it was taken
     /// back or settled, nothing changes. It takes no memory.
     pub fn take_back(&mut self)
-        ensures as_before { self.new ≡ taken_back self.old (earlier_of self.old) }
+        ensures as_before { self.new ≡ before_last_piece self.old (earlier_of self.old) }
         ensures stands { (limit : ℕ) (all : List ℕ) (taken : List Tree)
             → CanReturn limit self.old all taken
             → Stands limit self.new all taken }

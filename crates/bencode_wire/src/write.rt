@@ -1,7 +1,9 @@
 // Spelling a value. A dictionary's keys come sorted as raw bytes, which is the order of its map.
 ghost use Rattle.std.specs.Prelude.{◌≡◌, ◌++◌, IfOk, OnOk, OnErr, codes, length};
 ghost use Rattle.bencode_wire.specs.View.{view, trees_view, pairs_view};
-ghost use Rattle.bencode_wire.specs.Spelling.{canonical, sorted_trees, put_pairs, trees_text, pairs_text, string_text, integer_text, IsInteger, IsString, IsSpellable, AreSpellable, ArePairs};
+ghost use Rattle.bencode_wire.specs.Spelling.{canonical, sorted_trees, put_pairs, trees_text};
+ghost use Rattle.bencode_wire.specs.Spelling.{pairs_text, string_text, integer_text, IsInteger};
+ghost use Rattle.bencode_wire.specs.Spelling.{IsString, IsSpellable, AreSpellable, ArePairs};
 ghost use Rattle.bencode_wire.specs.Tree.{no_pairs};
 
 use crate::ben::{Ben, Dictionary};
@@ -9,15 +11,15 @@ use itoa::Buffer;
 use std::alloc::{AllocError, Global};
 
 // Most messages take no more bytes than these.
-const ROOM: usize = 128;
+const FIRST_ROOM: usize = 128;
 
 /// The value's canonical spelling. It fails only for want of memory. The integers and strings of
 /// each `Ben` fit into the grammar, which is what the law that it is read again asks.
-pub fn spelled(alloc: Global, value: &Ben) -> Result<Vec<u8>, AllocError>
+pub fn canonical_bytes(alloc: Global, value: &Ben) -> Result<Vec<u8>, AllocError>
     ensures ok { IfOk result (λ bytes. bytes.items ≡ canonical (view value.now)) }
     ensures fits { OnOk result (IsSpellable (view value.now)) }
 {
-    let mut bytes = Vec::with_capacity(alloc, ROOM)?;
+    let mut bytes = Vec::with_capacity(alloc, FIRST_ROOM)?;
     spell(value, &mut bytes)?;
     Ok(bytes)
 }
@@ -28,7 +30,7 @@ pub fn write_into(value: &Ben, out: &mut Vec<u8>) -> Result<(), AllocError>
     ensures err { OnErr result (out.new.items ≡ out.old.items) }
     ensures fits { OnOk result (IsSpellable (view value.now)) }
 {
-    let bytes = spelled(*out.allocator(), value)?;
+    let bytes = canonical_bytes(*out.allocator(), value)?;
     out.extend_from_slice(bytes.as_slice())
 }
 
@@ -56,7 +58,8 @@ fn spell(value: &Ben, out: &mut Vec<u8>) -> Result<(), AllocError>
 #[cycle(spell)]
 fn spell_items(items: &[Ben], out: &mut Vec<u8>) -> Result<(), AllocError>
     ensures fits { OnOk result (AreSpellable (trees_view items.now)) }
-    ensures text { OnOk result (out.new.items ≡ out.old.items ++ trees_text (sorted_trees (trees_view items.now))) }
+    ensures text { OnOk result (out.new.items
+        ≡ out.old.items ++ trees_text (sorted_trees (trees_view items.now))) }
 {
     for item in items {
         spell(item, out)?;
@@ -67,7 +70,8 @@ fn spell_items(items: &[Ben], out: &mut Vec<u8>) -> Result<(), AllocError>
 #[cycle(spell)]
 fn spell_pairs(pairs: &Dictionary, out: &mut Vec<u8>) -> Result<(), AllocError>
     ensures fits { OnOk result (ArePairs (pairs_view pairs.now.entries)) }
-    ensures text { OnOk result (out.new.items ≡ out.old.items ++ pairs_text (put_pairs no_pairs (pairs_view pairs.now.entries))) }
+    ensures text { OnOk result (out.new.items
+        ≡ out.old.items ++ pairs_text (put_pairs no_pairs (pairs_view pairs.now.entries))) }
 {
     for (key, value) in pairs.iter() {
         spell_string(key, out)?;

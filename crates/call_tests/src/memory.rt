@@ -4,7 +4,7 @@ use crate::given::{Given, MINE, value_of, values_of};
 use function_names::StoreFunction;
 use std::alloc::{AllocError, Global};
 use std::test::Fail;
-use store_calls::{Alteration, Altered, Call, altered, call};
+use store_calls::{Alteration, Altered, Call, call, ref_to_alter};
 
 const NOT_RUNNING: &str = "No transaction running";
 
@@ -15,7 +15,7 @@ fn set_outside(alloc: Global) -> Result<Call, AllocError> {
 
 fn altered_outside(alloc: Global) -> Result<Altered, AllocError> {
     let value = value_of(alloc, Given::Ref(MINE))?;
-    altered(alloc, Alteration::Commute, false, &value)
+    ref_to_alter(alloc, Alteration::Commute, false, &value)
 }
 
 #[test]

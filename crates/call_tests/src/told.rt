@@ -5,7 +5,7 @@ use repl_asks::Ask;
 use repl_values::{RefName, Value, print_into};
 use std::alloc::{AllocError, Global};
 use std::process::Abort;
-use store_calls::{Alteration, Altered, Call, altered, call};
+use store_calls::{Alteration, Altered, Call, call, ref_to_alter};
 
 /// Whether a transaction runs, the arguments, and what the call should come to.
 pub(crate) type Row = (bool, &'static [Given], &'static str);
@@ -49,7 +49,7 @@ pub(crate) fn altered_told(
     in_transaction: bool,
     given: Given,
 ) -> Result<String, AllocError> {
-    match altered(alloc, by, in_transaction, &value_of(alloc, given)?)? {
+    match ref_to_alter(alloc, by, in_transaction, &value_of(alloc, given)?)? {
         Altered::Ref(name) => printed_ref(alloc, name),
         Altered::Refused(fault) => printed(alloc, &fault.into_value()),
     }

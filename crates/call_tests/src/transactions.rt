@@ -147,45 +147,48 @@ fn no_value_commutes_a_ref(rt: HostRuntime) -> Result<(), Fail> {
     Ok(())
 }
 
+// What alters a ref, whether a transaction runs, what it is to alter, and the ref or the fault.
+const ALTERED: [(Alteration, bool, Given, &str); 10] = [
+    (Alteration::Alter, true, Given::Ref(MINE), "#ref[3]"),
+    (Alteration::Commute, true, Given::Ref(MINE), "#ref[3]"),
+    (Alteration::Alter, true, Given::Ref(OURS), "#ref[shared/0]"),
+    (
+        Alteration::Commute,
+        true,
+        Given::Ref(OURS),
+        "#ref[shared/0]",
+    ),
+    (Alteration::Alter, false, Given::Ref(MINE), NOT_RUNNING),
+    (Alteration::Commute, false, Given::Ref(MINE), NOT_RUNNING),
+    (
+        Alteration::Alter,
+        false,
+        Given::Atom,
+        "#error{java.lang.ClassCastException: Wrong argument to alter: #atom[0]}",
+    ),
+    (
+        Alteration::Commute,
+        false,
+        Given::Atom,
+        "#error{java.lang.ClassCastException: Wrong argument to commute: #atom[0]}",
+    ),
+    (
+        Alteration::Alter,
+        true,
+        Given::Nil,
+        "#error{java.lang.ClassCastException: Wrong argument to alter: nil}",
+    ),
+    (
+        Alteration::Commute,
+        true,
+        Given::Nil,
+        "#error{java.lang.ClassCastException: Wrong argument to commute: nil}",
+    ),
+];
+
 #[test]
 fn refs_are_altered_in_a_transaction(rt: HostRuntime) -> Result<(), Fail> {
-    for (by, in_transaction, given, wanted) in [
-        (Alteration::Alter, true, Given::Ref(MINE), "#ref[3]"),
-        (Alteration::Commute, true, Given::Ref(MINE), "#ref[3]"),
-        (Alteration::Alter, true, Given::Ref(OURS), "#ref[shared/0]"),
-        (
-            Alteration::Commute,
-            true,
-            Given::Ref(OURS),
-            "#ref[shared/0]",
-        ),
-        (Alteration::Alter, false, Given::Ref(MINE), NOT_RUNNING),
-        (Alteration::Commute, false, Given::Ref(MINE), NOT_RUNNING),
-        (
-            Alteration::Alter,
-            false,
-            Given::Atom,
-            "#error{java.lang.ClassCastException: Wrong argument to alter: #atom[0]}",
-        ),
-        (
-            Alteration::Commute,
-            false,
-            Given::Atom,
-            "#error{java.lang.ClassCastException: Wrong argument to commute: #atom[0]}",
-        ),
-        (
-            Alteration::Alter,
-            true,
-            Given::Nil,
-            "#error{java.lang.ClassCastException: Wrong argument to alter: nil}",
-        ),
-        (
-            Alteration::Commute,
-            true,
-            Given::Nil,
-            "#error{java.lang.ClassCastException: Wrong argument to commute: nil}",
-        ),
-    ] {
+    for (by, in_transaction, given, wanted) in ALTERED {
         let told = altered_told(rt.alloc(), by, in_transaction, given)?;
         assert_eq!(rt; told.as_str(), wanted);
     }

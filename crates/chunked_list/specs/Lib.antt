@@ -1,2 +1,2 @@
 pub mod Joined
-pub mod Stands
+pub mod Spots

@@ -3,7 +3,7 @@
 
 ghost use Rattle.std.specs.Prelude.{◌≡◌, ◌<◌, ◌≤◌, length, IfOk};
 ghost use Rattle.chunked_list.specs.Joined.{joined};
-ghost use Rattle.chunked_list.specs.Stands.{Stands};
+ghost use Rattle.chunked_list.specs.Spots.{IsSpotOf};
 
 use std::alloc::{AllocError, Global};
 
@@ -18,10 +18,10 @@ pub(crate) struct Spot {
 }
 
 // The spot of a place, behind the end of a chunk rather than at the begin of the next.
-pub(crate) fn found(chunks: &[Vec<usize>], place: usize) -> Spot
+pub(crate) fn spot_of(chunks: &[Vec<usize>], place: usize) -> Spot
     requires some { 1 ≤ length chunks.now }
     requires within { place ≤ length (joined chunks.now) }
-    ensures { Stands result place chunks.now }
+    ensures { IsSpotOf result place chunks.now }
 {
     let mut left = place;
     for (number, chunk) in chunks.iter().enumerate() {
@@ -43,18 +43,18 @@ pub(crate) fn with_room(
     place: usize,
 ) -> Result<Spot, AllocError>
     requires { place ≤ length (joined chunks.old.items) }
-    ensures found { IfOk result (λ spot. Stands spot place chunks.new.items) }
+    ensures found { IfOk result (λ spot. IsSpotOf spot place chunks.new.items) }
     ensures stays { joined chunks.new.items ≡ joined chunks.old.items }
 {
     if chunks.is_empty() {
         chunks.push(Vec::new(alloc))?;
     }
-    let spot = found(chunks, place);
+    let spot = spot_of(chunks, place);
     if chunks[spot.chunk].len() < MOST {
         return Ok(spot);
     }
     split(alloc, chunks, spot.chunk)?;
-    Ok(found(chunks, place))
+    Ok(spot_of(chunks, place))
 }
 
 // Makes two chunks of one. The list stays as it was.

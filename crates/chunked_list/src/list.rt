@@ -4,14 +4,14 @@
 ghost use Rattle.std.specs.Prelude.{◌≡◌, ◌<◌, ◌≤◌, [], length, slice_index_or, IfOk, OnOk, OnErr};
 ghost use Rattle.std.specs.List.{insert};
 
-use crate::chunks::{found, with_room};
+use crate::chunks::{spot_of, with_room};
 use std::alloc::{AllocError, Global};
 use std::marker::Model;
 
 /// Numbers in an order that is the caller's, in chunks.
 ///
 /// Of n numbers one is found by passing n / 1,024 chunks at most, and one more is inserted by
-/// moving 2,048 numbers at most.
+/// moving 2,048 numbers at most, and the chunks behind where a full one is parted.
 #[derive(Debug, Drop)]
 pub struct ChunkedList {
     pub(crate) chunks: Vec<Vec<usize>>,

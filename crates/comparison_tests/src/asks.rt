@@ -134,46 +134,47 @@ fn ask_of(alloc: Global, asked: Asked) -> Result<Ask, AllocError> {
     }
 }
 
+const ASKS: [Asked; 32] = [
+    Asked::Enter("a"),
+    Asked::Enter("b"),
+    Asked::NewRef(1, 0, 10),
+    Asked::NewRef(2, 0, 10),
+    Asked::NewRef(1, 1, 10),
+    Asked::NewRef(1, 0, 11),
+    Asked::Begin,
+    Asked::Read(OWN, 3),
+    Asked::Read(OWN, 4),
+    Asked::Read(OTHER, 3),
+    Asked::Read(Owner::Shared, 3),
+    Asked::History(OWN, 3),
+    Asked::History(OWN, 4),
+    Asked::History(OTHER, 3),
+    Asked::MinHistory(OWN, 3, None),
+    Asked::MinHistory(OWN, 4, None),
+    Asked::MinHistory(OTHER, 3, None),
+    Asked::MinHistory(OWN, 3, Some(0)),
+    Asked::MinHistory(OWN, 3, Some(1)),
+    Asked::MaxHistory(OWN, 3, None),
+    Asked::MaxHistory(OWN, 4, None),
+    Asked::MaxHistory(OWN, 3, Some(0)),
+    Asked::MaxHistory(OWN, 3, Some(1)),
+    Asked::Commit(&[], &[]),
+    Asked::Commit(&[(3, 1)], &[]),
+    Asked::Commit(&[(3, 2)], &[]),
+    Asked::Commit(&[(4, 1)], &[]),
+    Asked::Commit(&[(3, 1), (4, 1)], &[]),
+    Asked::Commit(&[(4, 1), (3, 1)], &[]),
+    Asked::Commit(&[], &[3]),
+    Asked::Commit(&[], &[3, 4]),
+    Asked::Commit(&[], &[4, 3]),
+];
+
 #[test]
 fn asks_are_the_same_in_all_parts_alone(rt: HostRuntime) -> Result<(), Fail> {
-    let rows: [Asked; 32] = [
-        Asked::Enter("a"),
-        Asked::Enter("b"),
-        Asked::NewRef(1, 0, 10),
-        Asked::NewRef(2, 0, 10),
-        Asked::NewRef(1, 1, 10),
-        Asked::NewRef(1, 0, 11),
-        Asked::Begin,
-        Asked::Read(OWN, 3),
-        Asked::Read(OWN, 4),
-        Asked::Read(OTHER, 3),
-        Asked::Read(Owner::Shared, 3),
-        Asked::History(OWN, 3),
-        Asked::History(OWN, 4),
-        Asked::History(OTHER, 3),
-        Asked::MinHistory(OWN, 3, None),
-        Asked::MinHistory(OWN, 4, None),
-        Asked::MinHistory(OTHER, 3, None),
-        Asked::MinHistory(OWN, 3, Some(0)),
-        Asked::MinHistory(OWN, 3, Some(1)),
-        Asked::MaxHistory(OWN, 3, None),
-        Asked::MaxHistory(OWN, 4, None),
-        Asked::MaxHistory(OWN, 3, Some(0)),
-        Asked::MaxHistory(OWN, 3, Some(1)),
-        Asked::Commit(&[], &[]),
-        Asked::Commit(&[(3, 1)], &[]),
-        Asked::Commit(&[(3, 2)], &[]),
-        Asked::Commit(&[(4, 1)], &[]),
-        Asked::Commit(&[(3, 1), (4, 1)], &[]),
-        Asked::Commit(&[(4, 1), (3, 1)], &[]),
-        Asked::Commit(&[], &[3]),
-        Asked::Commit(&[], &[3, 4]),
-        Asked::Commit(&[], &[4, 3]),
-    ];
     let a = rt.alloc();
-    for (place, asked) in rows.iter().enumerate() {
+    for (place, asked) in ASKS.iter().enumerate() {
         let ask = ask_of(a, *asked)?;
-        for (other_place, other_asked) in rows.iter().enumerate() {
+        for (other_place, other_asked) in ASKS.iter().enumerate() {
             let other = ask_of(a, *other_asked)?;
             assert_eq!(rt; same_ask(&ask, &other), place == other_place);
         }

@@ -51,43 +51,44 @@ fn same_values_are_the_same(rt: HostRuntime) -> Result<(), Fail> {
     Ok(())
 }
 
+const OTHERS: [(&[Part], &[Part]); 27] = [
+    (&[Bool(true)], &[Bool(false)]),
+    (&[Int(1)], &[Int(-1)]),
+    (&[Str("a")], &[Str("a ")]),
+    (&[Str("a")], &[Str("")]),
+    (&[Str("k")], &[Keyword("k")]),
+    (&[Keyword("k")], &[Symbol("k")]),
+    (&[Keyword("k")], &[Keyword("l")]),
+    (&[Symbol(":k")], &[Keyword("k")]),
+    // A list is no vector, at each depth.
+    (&[Int(1), List(1)], &[Int(1), Vector(1)]),
+    (&[List(0), List(1)], &[Vector(0), List(1)]),
+    (&[Nil, List(0), Map(1)], &[Nil, Vector(0), Map(1)]),
+    // Items in their order, and all of them.
+    (&[Int(1), Int(2), List(2)], &[Int(2), Int(1), List(2)]),
+    (&[Int(1), Int(2), List(2)], &[Int(1), List(1)]),
+    (&[Nil, Nil, Vector(2)], &[Nil, Vector(1)]),
+    // Numbers of one hash.
+    (&[Int(1), List(1)], &[Int(-1), List(1)]),
+    (&[Nil, Int(1), Map(1)], &[Nil, Int(-1), Map(1)]),
+    (&[Int(1), Nil, Map(1)], &[Int(-1), Nil, Map(1)]),
+    (&[Nil, Int(1), Vector(2)], &[Nil, Int(-1), Vector(2)]),
+    // Pairs in their order, at each depth.
+    (&TABLE, &TURNED),
+    (&[Ref(OWN, 3)], &[Ref(OTHER, 3)]),
+    (&[Ref(OWN, 0)], &[Ref(Owner::Shared, 0)]),
+    (&[Ref(OWN, 3)], &[Ref(OWN, 4)]),
+    (&[Atom(1)], &[Agent(1)]),
+    (&[Var("user", "x")], &[Var("other", "x")]),
+    (&[Var("user", "x")], &[Var("user", "y")]),
+    (&[Part::Error("C", "t")], &[Part::Error("C", "u")]),
+    (&[Part::Error("C", "t")], &[Part::Error("D", "t")]),
+];
+
 #[test]
 fn other_values_are_not_the_same(rt: HostRuntime) -> Result<(), Fail> {
-    let rows: [(&[Part], &[Part]); 27] = [
-        (&[Bool(true)], &[Bool(false)]),
-        (&[Int(1)], &[Int(-1)]),
-        (&[Str("a")], &[Str("a ")]),
-        (&[Str("a")], &[Str("")]),
-        (&[Str("k")], &[Keyword("k")]),
-        (&[Keyword("k")], &[Symbol("k")]),
-        (&[Keyword("k")], &[Keyword("l")]),
-        (&[Symbol(":k")], &[Keyword("k")]),
-        // A list is no vector, at each depth.
-        (&[Int(1), List(1)], &[Int(1), Vector(1)]),
-        (&[List(0), List(1)], &[Vector(0), List(1)]),
-        (&[Nil, List(0), Map(1)], &[Nil, Vector(0), Map(1)]),
-        // Items in their order, and all of them.
-        (&[Int(1), Int(2), List(2)], &[Int(2), Int(1), List(2)]),
-        (&[Int(1), Int(2), List(2)], &[Int(1), List(1)]),
-        (&[Nil, Nil, Vector(2)], &[Nil, Vector(1)]),
-        // Numbers of one hash.
-        (&[Int(1), List(1)], &[Int(-1), List(1)]),
-        (&[Nil, Int(1), Map(1)], &[Nil, Int(-1), Map(1)]),
-        (&[Int(1), Nil, Map(1)], &[Int(-1), Nil, Map(1)]),
-        (&[Nil, Int(1), Vector(2)], &[Nil, Int(-1), Vector(2)]),
-        // Pairs in their order, at each depth.
-        (&TABLE, &TURNED),
-        (&[Ref(OWN, 3)], &[Ref(OTHER, 3)]),
-        (&[Ref(OWN, 0)], &[Ref(Owner::Shared, 0)]),
-        (&[Ref(OWN, 3)], &[Ref(OWN, 4)]),
-        (&[Atom(1)], &[Agent(1)]),
-        (&[Var("user", "x")], &[Var("other", "x")]),
-        (&[Var("user", "x")], &[Var("user", "y")]),
-        (&[Part::Error("C", "t")], &[Part::Error("C", "u")]),
-        (&[Part::Error("C", "t")], &[Part::Error("D", "t")]),
-    ];
     let a = rt.alloc();
-    for (parts, others) in rows {
+    for (parts, others) in OTHERS {
         let (value, other) = (value_of(a, parts)?, value_of(a, others)?);
         assert!(rt; !same_value(&value, &other));
         assert!(rt; !same_value(&other, &value));

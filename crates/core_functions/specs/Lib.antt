@@ -1,3 +1,3 @@
-pub mod Outcome
+pub mod ApplyOutcome
 pub mod Meaning
 pub mod View

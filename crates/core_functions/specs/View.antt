@@ -4,14 +4,14 @@ use Rattle.value_data.specs.View.{view}
 use Rattle.repl_faults.specs.View.{failure_of}
 use Rattle.repl_faults.specs.declared.error.ApplyError.{ApplyError}
 use Rattle.repl_faults.specs.declared.error.ApplyError.TheVariants as errors
-use Rattle.core_functions.specs.Outcome.{Outcome, gives, fails}
+use Rattle.core_functions.specs.ApplyOutcome.{ApplyOutcome, gives, fails}
 use Rattle.core_functions.specs.declared.application.Applied.{Applied}
 
-abbrev pub FailsIn : Outcome → ApplyError → Type 0
+abbrev pub FailsIn : ApplyOutcome → ApplyError → Type 0
 FailsIn outcome errors.NoMemory = Unit {0}
 FailsIn outcome (errors.Fault f) = outcome ≡ fails (failure_of f)
 
 -- what `apply` returned is the outcome
-abbrev pub Answers : Outcome → Result Applied ApplyError → Type 0
-Answers outcome (Ok a) = outcome ≡ gives (view a.value) (string_bytes a.text)
-Answers outcome (Err e) = FailsIn outcome e
+abbrev pub GivesOutcome : ApplyOutcome → Result Applied ApplyError → Type 0
+GivesOutcome outcome (Ok a) = outcome ≡ gives (view a.value) (string_bytes a.text)
+GivesOutcome outcome (Err e) = FailsIn outcome e

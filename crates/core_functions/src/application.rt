@@ -2,18 +2,18 @@
 ghost use Rattle.std.specs.Prelude.{◌≡◌, true, length, map, option_map, string_bytes};
 ghost use Rattle.value_data.specs.View.{view};
 ghost use Rattle.function_names.specs.Names.{fits};
-ghost use Rattle.core_functions.specs.Outcome.{limited, bounded, printing};
+ghost use Rattle.core_functions.specs.ApplyOutcome.{limited_outcome, bounded_outcome, printed_nil};
 ghost use Rattle.core_functions.specs.Meaning.{meaning};
-ghost use Rattle.core_functions.specs.View.{Answers};
+ghost use Rattle.core_functions.specs.View.{GivesOutcome};
 
 use core_integers::apply_integers;
 use core_maps::apply_maps;
 use core_predicates::apply_predicates;
 use core_sequences::apply_sequences;
-use core_texts::{apply_texts, printed};
+use core_texts::{apply_texts, text_printed};
 use function_names::CoreFunction;
 use repl_faults::{ApplyError, output_too_long, too_large};
-use repl_values::{Value, nesting, weight};
+use repl_values::{MOST_NESTING, MOST_WEIGHT, Value, nesting, weight};
 use std::alloc::Global;
 
 /// What a function gave, and the text that it printed.
@@ -23,51 +23,46 @@ pub struct Applied {
     pub text: String,
 }
 
-// The most that a value may weigh, and the deepest that it may nest.
-const MOST_WEIGHT: u64 = 1_048_576;
-
-const MOST_NESTING: u64 = 128;
-
 /// Applies the function. All arguments' kinds are checked from the left before anything else, and
-/// the size of the value last. A function that prints gives nil, and fails where it alone prints more
-/// than 1,048,576 bytes.
-#[tactic(auto, using(crate::proofs::Outcomes::outcomes), unfolding(crate::specs::Outcome::settled))]
+/// the size of the value last. A function that prints gives nil, and fails where it alone prints
+/// more than 1,048,576 bytes.
+#[tactic(auto, using(crate::proofs::Outcomes::outcomes), unfolding(crate::specs::ApplyOutcome::apply_outcome))]
 pub fn apply(alloc: Global, function: CoreFunction, args: &[Value]) -> Result<Applied, ApplyError>
     requires { fits function (length args.now) ≡ true }
-    ensures { Answers (bounded (meaning function (map view args.now))) result }
+    ensures { GivesOutcome (bounded_outcome (meaning function (map view args.now))) result }
 {
     match function {
         CoreFunction::Integer(function) => {
             let value = apply_integers(alloc, function, args)?;
-            limited(alloc, value)
+            limited_value(alloc, value)
         }
         CoreFunction::Predicate(function) => {
             let value = apply_predicates(alloc, function, args)?;
-            limited(alloc, value)
+            limited_value(alloc, value)
         }
         CoreFunction::Text(function) => {
             let value = apply_texts(alloc, function, args)?;
-            limited(alloc, value)
+            limited_value(alloc, value)
         }
         CoreFunction::Sequence(function) => {
             let value = apply_sequences(alloc, function, args)?;
-            limited(alloc, value)
+            limited_value(alloc, value)
         }
         CoreFunction::Map(function) => {
             let value = apply_maps(alloc, function, args)?;
-            limited(alloc, value)
+            limited_value(alloc, value)
         }
         CoreFunction::Print(function) => {
-            let text = printed(alloc, function, args)?;
-            printing(alloc, text)
+            let text = text_printed(alloc, function, args)?;
+            printed_nil(alloc, text)
         }
     }
 }
 
 // Nil, with this text printed, where there is one.
 #[tactic(auto, using(value_data::proofs::Views::value_views))]
-fn printing(alloc: Global, text: Option<String>) -> Result<Applied, ApplyError>
-    ensures { Answers (printing (option_map string_bytes text)) result }
+fn printed_nil(alloc: Global, text: Option<String>) -> Result<Applied, ApplyError>
+    ensures { GivesOutcome (printed_nil (option_map string_bytes text)) result }
 {
     match text {
         Some(text) => Ok(Applied {
@@ -79,9 +74,9 @@ fn printing(alloc: Global, text: Option<String>) -> Result<Applied, ApplyError>
 }
 
 // The value with nothing printed, where it keeps within the limits.
-#[tactic(auto, unfolding(crate::specs::Outcome::limited))]
-fn limited(alloc: Global, value: Value) -> Result<Applied, ApplyError>
-    ensures { Answers (limited (view value)) result }
+#[tactic(auto, unfolding(crate::specs::ApplyOutcome::limited_outcome))]
+fn limited_value(alloc: Global, value: Value) -> Result<Applied, ApplyError>
+    ensures { GivesOutcome (limited_outcome (view value)) result }
 {
     if weight(&value) > MOST_WEIGHT || nesting(&value) > MOST_NESTING {
         return Err(ApplyError::Fault(too_large(alloc)?));

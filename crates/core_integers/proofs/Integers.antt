@@ -1,5 +1,8 @@
 -- What fits 64 signed bits, and folding from the left.
-use Rattle.std.proofs.Common.{◌≡◌, ℕ, ℤ, pos, negsuc, suc, ◌+◌, ◌<◌, ◌^◌, Bool, true, false, List, length, drop, get_or, Option, Some, None, Result, Ok, Err, refl, sym, ap, ◌∙◌, add-one, subst, to_z, of_z, SomeIff, FitsSigned, int_div, nat_lt, arith}
+use Rattle.std.proofs.Common.{◌≡◌, ℕ, ℤ, pos, negsuc, suc, ◌+◌, ◌<◌, ◌^◌, Bool, true, false, List}
+use Rattle.std.proofs.Common.{length, drop, get_or, Option, Some, None, Result, Ok, Err, refl, sym}
+use Rattle.std.proofs.Common.{ap, ◌∙◌, add-one, subst, to_z, of_z, SomeIff, FitsSigned, int_div}
+use Rattle.std.proofs.Common.{nat_lt, arith}
 use Rattle.std.proofs.Math.Seq.{drop-cons}
 use Rattle.std.specs.Int.{w64, CanDivide, IsNonZero}
 use Rattle.std.proofs.lemmas.Int.{to_z-of_z}
@@ -9,7 +12,7 @@ use Rattle.repl_faults.specs.Failure.{Failure, integer_overflow}
 use Rattle.repl_faults.specs.View.{Fails, failure_of}
 use Rattle.repl_faults.specs.declared.error.ApplyError.{ApplyError}
 use Rattle.repl_faults.specs.declared.error.ApplyError.TheVariants as errors
-use Rattle.core_integers.specs.Arithmetic.{fits_64, held, folded}
+use Rattle.core_integers.specs.Arithmetic.{fits_64, or_overflow, left_fold}
 
 fits_64-true : (n : ℤ) → FitsSigned w64 n → fits_64 n ≡ true
 fits_64-true (pos n) h = grind (arith, common_steps, h.sfits)
@@ -27,17 +30,17 @@ fits_64-false (pos n) h = test_fails n (nat_lt n (2 ^ 63)) refl (λ below. h (re
 fits_64-false (negsuc n) h = test_fails n (nat_lt n (2 ^ 63)) refl (λ below. h (record { sfits = below }))
 
 -- what fits is held
-pub held-Some : (checked : Option ℤ) (n m : ℤ) → checked ≡ Some m → SomeIff checked (FitsSigned w64 n) n → held n ≡ Ok (to_z w64 (of_z w64 m))
-unfolding held
-held-Some checked n m e h =
+pub or_overflow-Some : (checked : Option ℤ) (n m : ℤ) → checked ≡ Some m → SomeIff checked (FitsSigned w64 n) n → or_overflow n ≡ Ok (to_z w64 (of_z w64 m))
+unfolding or_overflow
+or_overflow-Some checked n m e h =
     let fact : (FitsSigned w64 n) × (m ≡ n) = subst (λ (o : Option ℤ). SomeIff o (FitsSigned w64 n) n) e h in
     let same : n ≡ to_z w64 (of_z w64 m) = sym (ap (λ (x : ℤ). to_z w64 (of_z w64 x)) fact.1 ∙ to_z-of_z w64 n fact.0) in
     rw (fits_64-true n fact.0) (ap Ok same)
 
 -- what does not fit overflows
-pub held-None : (checked : Option ℤ) (n : ℤ) → checked ≡ None → SomeIff checked (FitsSigned w64 n) n → held n ≡ Err integer_overflow
-unfolding held
-held-None checked n e h =
+pub or_overflow-None : (checked : Option ℤ) (n : ℤ) → checked ≡ None → SomeIff checked (FitsSigned w64 n) n → or_overflow n ≡ Err integer_overflow
+unfolding or_overflow
+or_overflow-None checked n e h =
     let fact : ¬ (FitsSigned w64 n) = subst (λ (o : Option ℤ). SomeIff o (FitsSigned w64 n) n) e h in
     rw (fits_64-false n fact) refl
 
@@ -55,23 +58,23 @@ can_divide_bits r a b fits_a fits_b nonzero h =
 
 -- one more is folded in
 fold_step : (f : ℤ → ℤ → Result ℤ Failure) (total next : ℤ) (ns : List ℤ) (i : ℕ) (d : ℤ) (r : Result ℤ Failure) → i < length ns → f total (get_or ns i d) ≡ Ok next
-    → folded f total (drop i ns) ≡ r → folded f next (drop (i + 1) ns) ≡ r
+    → left_fold f total (drop i ns) ≡ r → left_fold f next (drop (i + 1) ns) ≡ r
 fold_step f total next ns i d r below step so_far =
-    let one : folded f total (drop i ns) ≡ folded f next (drop (suc i) ns) = rw (drop-cons ns i d below, step) refl in
+    let one : left_fold f total (drop i ns) ≡ left_fold f next (drop (suc i) ns) = rw (drop-cons ns i d below, step) refl in
     rw (add-one i) (sym one ∙ so_far)
 
 -- the same, where the code spells two of the integers by their bits
 pub fold_next : (f : ℤ → ℤ → Result ℤ Failure) (total next spelled n : ℤ) (ns : List ℤ) (i : ℕ) (d : ℤ) (r : Result ℤ Failure) → i < length ns → n ≡ get_or ns i d → spelled ≡ next
-    → f total n ≡ Ok next → folded f total (drop i ns) ≡ r → folded f spelled (drop (i + 1) ns) ≡ r
+    → f total n ≡ Ok next → left_fold f total (drop i ns) ≡ r → left_fold f spelled (drop (i + 1) ns) ≡ r
 fold_next f total next spelled n ns i d r below p q step so_far =
     let exact : f total (get_or ns i d) ≡ Ok next = sym (ap (f total) p) ∙ step in
-    ap (λ (x : ℤ). folded f x (drop (i + 1) ns)) q ∙ fold_step f total next ns i d r below exact so_far
+    ap (λ (x : ℤ). left_fold f x (drop (i + 1) ns)) q ∙ fold_step f total next ns i d r below exact so_far
 
 -- the fold fails where a step does
 pub fold_fails : (f : ℤ → ℤ → Result ℤ Failure) (e : ApplyError) (total n : ℤ) (ns : List ℤ) (i : ℕ) (d : ℤ) (r : Result ℤ Failure) → i < length ns → n ≡ get_or ns i d → Fails e (f total n)
-    → folded f total (drop i ns) ≡ r → Fails e r
+    → left_fold f total (drop i ns) ≡ r → Fails e r
 fold_fails f errors.NoMemory total n ns i d r below p step so_far = tt
 fold_fails f (errors.Fault fault) total n ns i d r below p step so_far =
     let exact : f total (get_or ns i d) ≡ Err (failure_of fault) = sym (ap (f total) p) ∙ step in
-    let one : folded f total (drop i ns) ≡ Err (failure_of fault) = rw (drop-cons ns i d below, exact) refl in
+    let one : left_fold f total (drop i ns) ≡ Err (failure_of fault) = rw (drop-cons ns i d below, exact) refl in
     sym so_far ∙ one

@@ -1,5 +1,7 @@
 -- Functions of integers. They have 64 signed bits: what does not fit is a fault, never a wrap.
-use Rattle.std.specs.Prelude.{ℤ, pos, negsuc, ◌+ℤ◌, ◌-ℤ◌, ◌*ℤ◌, neg_ℤ, int_div, int_rem, int_lt, ◌^◌, ◌==◌, Bool, false, not, ◌||◌, nat_lt, List, [], ◌∷◌, length, drop, Result, Ok, Err, if◌then◌else◌, slice_index_or}
+use Rattle.std.specs.Prelude.{ℤ, pos, negsuc, ◌+ℤ◌, ◌-ℤ◌, ◌*ℤ◌, neg_ℤ, int_div, int_rem, int_lt}
+use Rattle.std.specs.Prelude.{◌^◌, ◌==◌, Bool, false, not, ◌||◌, nat_lt, List, [], ◌∷◌, length}
+use Rattle.std.specs.Prelude.{drop, Result, Ok, Err, if◌then◌else◌, slice_index_or}
 use Rattle.std.specs.Int.{int_min, int_max}
 use Rattle.repl_faults.specs.Failure.{Failure, ◌>>=◌, integer_overflow, divide_by_zero}
 use Rattle.core_integers.specs.declared.function.ArithmeticFunction.{ArithmeticFunction}
@@ -10,25 +12,25 @@ fits_64 (pos n) = nat_lt n (2 ^ 63)
 fits_64 (negsuc n) = nat_lt n (2 ^ 63)
 
 -- the integer, where 64 signed bits hold it
-unfoldable pub held : ℤ → Result ℤ Failure
-held n = if fits_64 n then Ok n else Err integer_overflow
+unfoldable pub or_overflow : ℤ → Result ℤ Failure
+or_overflow n = if fits_64 n then Ok n else Err integer_overflow
 
 abbrev pub is_zero : ℤ → Bool
 is_zero (pos n) = n == 0
 is_zero (negsuc n) = false
 
 abbrev pub add : ℤ → ℤ → Result ℤ Failure
-add a b = held (a +ℤ b)
+add a b = or_overflow (a +ℤ b)
 
 abbrev pub subtract : ℤ → ℤ → Result ℤ Failure
-subtract a b = held (a -ℤ b)
+subtract a b = or_overflow (a -ℤ b)
 
 abbrev pub multiply : ℤ → ℤ → Result ℤ Failure
-multiply a b = held (a *ℤ b)
+multiply a b = or_overflow (a *ℤ b)
 
 -- toward zero
 unfoldable pub quotient : ℤ → ℤ → Result ℤ Failure
-quotient a b = if is_zero b then Err divide_by_zero else held (int_div a b)
+quotient a b = if is_zero b then Err divide_by_zero else or_overflow (int_div a b)
 
 -- what is left of `a` when the quotient times `b` is taken away
 unfoldable pub remainder : ℤ → ℤ → Result ℤ Failure
@@ -52,33 +54,34 @@ abbrev pub minimum : ℤ → ℤ → Result ℤ Failure
 minimum a b = Ok (int_min a b)
 
 -- from the left, up to the first failure
-abbrev pub folded : (ℤ → ℤ → Result ℤ Failure) → ℤ → List ℤ → Result ℤ Failure
-folded step total [] = Ok total
-folded step total (n ∷ ns) = step total n >>= λ next. folded step next ns
+abbrev pub left_fold : (ℤ → ℤ → Result ℤ Failure) → ℤ → List ℤ → Result ℤ Failure
+left_fold step total [] = Ok total
+left_fold step total (n ∷ ns) = step total n >>= λ next. left_fold step next ns
 
 -- an argument by its place
-abbrev pub first : List ℤ → ℤ
-first ns = slice_index_or ns 0 (pos 0)
+abbrev pub first_integer : List ℤ → ℤ
+first_integer ns = slice_index_or ns 0 (pos 0)
 
-abbrev pub second : List ℤ → ℤ
-second ns = slice_index_or ns 1 (pos 0)
+abbrev pub second_integer : List ℤ → ℤ
+second_integer ns = slice_index_or ns 1 (pos 0)
 
 -- from the first argument on
 abbrev pub from_first : (ℤ → ℤ → Result ℤ Failure) → List ℤ → Result ℤ Failure
-from_first step ns = folded step (first ns) (drop 1 ns)
+from_first step ns = left_fold step (first_integer ns) (drop 1 ns)
 
 -- one argument is negated
 unfoldable pub difference : List ℤ → Result ℤ Failure
-difference ns = if length ns == 1 then held (neg_ℤ (first ns)) else from_first subtract ns
+difference ns = if length ns == 1 then or_overflow (neg_ℤ (first_integer ns))
+    else from_first subtract ns
 
 unfoldable pub arithmetic : ArithmeticFunction → List ℤ → Result ℤ Failure
-arithmetic ArithmeticFunction.Add ns = folded add (pos 0) ns
+arithmetic ArithmeticFunction.Add ns = left_fold add (pos 0) ns
 arithmetic ArithmeticFunction.Subtract ns = difference ns
-arithmetic ArithmeticFunction.Multiply ns = folded multiply (pos 1) ns
-arithmetic ArithmeticFunction.Increment ns = add (first ns) (pos 1)
-arithmetic ArithmeticFunction.Decrement ns = subtract (first ns) (pos 1)
-arithmetic ArithmeticFunction.Quotient ns = quotient (first ns) (second ns)
-arithmetic ArithmeticFunction.Remainder ns = remainder (first ns) (second ns)
-arithmetic ArithmeticFunction.Modulo ns = modulo (first ns) (second ns)
+arithmetic ArithmeticFunction.Multiply ns = left_fold multiply (pos 1) ns
+arithmetic ArithmeticFunction.Increment ns = add (first_integer ns) (pos 1)
+arithmetic ArithmeticFunction.Decrement ns = subtract (first_integer ns) (pos 1)
+arithmetic ArithmeticFunction.Quotient ns = quotient (first_integer ns) (second_integer ns)
+arithmetic ArithmeticFunction.Remainder ns = remainder (first_integer ns) (second_integer ns)
+arithmetic ArithmeticFunction.Modulo ns = modulo (first_integer ns) (second_integer ns)
 arithmetic ArithmeticFunction.Maximum ns = from_first maximum ns
 arithmetic ArithmeticFunction.Minimum ns = from_first minimum ns

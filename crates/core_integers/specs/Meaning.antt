@@ -1,24 +1,25 @@
--- What each function of integers is. Kinds of all arguments come first, from the left, then the function's own
--- faults.
+-- What each function of integers is. Kinds of all arguments come first, from the left, then the
+-- function's own faults.
 use Rattle.std.specs.Prelude.{ℕ, ℤ, List, [], ◌∷◌, Result, Ok}
 use Rattle.value_data.specs.Datum.{Datum, boolean, integer}
 use Rattle.repl_faults.specs.Failure.{Failure, ◌>>=◌}
 use Rattle.core_items.specs.Arguments.{integer_in}
 use Rattle.core_integers.specs.Names.{name_of}
-use Rattle.core_integers.specs.Arithmetic.{arithmetic, first}
+use Rattle.core_integers.specs.Arithmetic.{arithmetic, first_integer}
 use Rattle.core_integers.specs.Comparison.{is_ordered, passes}
 use Rattle.core_integers.specs.declared.function.IntegerFunction.{IntegerFunction}
 
 -- the arguments of a function that takes integers alone
 abbrev pub integers_in : List ℕ → List Datum → Result (List ℤ) Failure
 integers_in function [] = Ok []
-integers_in function (d ∷ ds) = integer_in function d >>= λ n. (integers_in function ds >>= λ ns. Ok (n ∷ ns))
+integers_in function (d ∷ ds) = integer_in function d
+    >>= λ n. (integers_in function ds >>= λ ns. Ok (n ∷ ns))
 
 -- the function at as many integers as it takes
 abbrev pub answer : IntegerFunction → List ℤ → Result Datum Failure
 answer (IntegerFunction.Arithmetic f) ns = arithmetic f ns >>= λ n. Ok (integer n)
 answer (IntegerFunction.Comparison f) ns = Ok (boolean (is_ordered f ns))
-answer (IntegerFunction.Test f) ns = Ok (boolean (passes f (first ns)))
+answer (IntegerFunction.Test f) ns = Ok (boolean (passes f (first_integer ns)))
 
 unfoldable pub value_of : IntegerFunction → List Datum → Result Datum Failure
 value_of function args = integers_in (name_of function) args >>= λ ns. answer function ns

@@ -1,5 +1,6 @@
 -- The names of the functions, and the numbers of arguments that each takes.
-use Rattle.std.specs.Prelude.{ℕ, List, Bool, true, Option, Some, None, if◌then◌else◌, ◌==◌, nat_le, codes}
+use Rattle.std.specs.Prelude.{ℕ, List, Bool, true, Option, Some, None, if◌then◌else◌, ◌==◌, nat_le}
+use Rattle.std.specs.Prelude.{codes}
 use Rattle.std.specs.Str.{bytes_eq}
 use Rattle.core_integers.specs.declared.function.ArithmeticFunction.{ArithmeticFunction}
 use Rattle.core_integers.specs.declared.function.ComparisonFunction.{ComparisonFunction}

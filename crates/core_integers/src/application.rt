@@ -49,7 +49,8 @@ fn answer(alloc: Global, function: IntegerFunction, integers: &[i64]) -> Result<
 // The arguments of a function that takes integers alone.
 #[tactic(auto, using(crate::proofs::Values::seen))]
 fn integers_of(alloc: Global, function: &str, args: &[Value]) -> Result<Vec<i64>, ApplyError>
-    ensures each { Gives (λ integers. integers.items) result (integers_in function.now (map view args.now)) }
+    ensures each { Gives (λ integers. integers.items) result
+        (integers_in function.now (map view args.now)) }
     ensures count { IfOk result (λ integers. vec_len integers ≡ length args.now) }
 {
     let mut integers = Vec::new(alloc);

@@ -4,7 +4,7 @@ ghost use Rattle.std.specs.Int.{w64, IsNonZero};
 ghost use Rattle.core_integers.specs.Names.{fits_arithmetic};
 ghost use Rattle.repl_faults.specs.View.{Gives};
 ghost use Rattle.core_integers.specs.Arithmetic as meant;
-ghost use Rattle.core_integers.specs.Operation.{operation_of};
+ghost use Rattle.core_integers.specs.BinaryOperation.{binary_operation};
 
 use crate::function::ArithmeticFunction;
 use repl_faults::{ApplyError, divide_by_zero, integer_overflow};
@@ -12,7 +12,7 @@ use std::alloc::Global;
 
 // What is folded from the left.
 #[derive(Clone, Copy)]
-enum Operation {
+enum BinaryOperation {
     Add,
     Subtract,
     Multiply,
@@ -31,16 +31,16 @@ pub(crate) fn arithmetic(
     ensures { Gives (λ n. n) result (meant.arithmetic function integers.now) }
 {
     match function {
-        ArithmeticFunction::Add => fold(alloc, Operation::Add, 0, integers),
+        ArithmeticFunction::Add => fold(alloc, BinaryOperation::Add, 0, integers),
         ArithmeticFunction::Subtract => difference(alloc, integers),
-        ArithmeticFunction::Multiply => fold(alloc, Operation::Multiply, 1, integers),
-        ArithmeticFunction::Increment => operate(alloc, Operation::Add, integers[0], 1),
-        ArithmeticFunction::Decrement => operate(alloc, Operation::Subtract, integers[0], 1),
+        ArithmeticFunction::Multiply => fold(alloc, BinaryOperation::Multiply, 1, integers),
+        ArithmeticFunction::Increment => operate(alloc, BinaryOperation::Add, integers[0], 1),
+        ArithmeticFunction::Decrement => operate(alloc, BinaryOperation::Subtract, integers[0], 1),
         ArithmeticFunction::Quotient => quotient(alloc, integers[0], integers[1]),
         ArithmeticFunction::Remainder => remainder(alloc, integers[0], integers[1]),
         ArithmeticFunction::Modulo => modulo(alloc, integers[0], integers[1]),
-        ArithmeticFunction::Maximum => fold_from_first(alloc, Operation::Maximum, integers),
-        ArithmeticFunction::Minimum => fold_from_first(alloc, Operation::Minimum, integers),
+        ArithmeticFunction::Maximum => fold_from_first(alloc, BinaryOperation::Maximum, integers),
+        ArithmeticFunction::Minimum => fold_from_first(alloc, BinaryOperation::Minimum, integers),
     }
 }
 
@@ -53,23 +53,28 @@ fn difference(alloc: Global, integers: &[i64]) -> Result<i64, ApplyError>
         let negated = integers[0].checked_neg();
         return or_overflow(alloc, negated);
     }
-    fold_from_first(alloc, Operation::Subtract, integers)
+    fold_from_first(alloc, BinaryOperation::Subtract, integers)
 }
 
-fn fold_from_first(alloc: Global, operation: Operation, integers: &[i64]) -> Result<i64, ApplyError>
+fn fold_from_first(
+    alloc: Global,
+    operation: BinaryOperation,
+    integers: &[i64],
+) -> Result<i64, ApplyError>
     requires { 0 < length integers.now }
-    ensures { Gives (λ n. n) result (meant.from_first (operation_of operation) integers.now) }
+    ensures { Gives (λ n. n) result (meant.from_first (binary_operation operation) integers.now) }
 {
     fold(alloc, operation, integers[0], &integers[1..])
 }
 
 fn fold(
     alloc: Global,
-    operation: Operation,
+    operation: BinaryOperation,
     start: i64,
     integers: &[i64],
 ) -> Result<i64, ApplyError>
-    ensures { Gives (λ n. n) result (meant.folded (operation_of operation) start integers.now) }
+    ensures { Gives (λ n. n) result (meant.left_fold
+        (binary_operation operation) start integers.now) }
 {
     let mut total = start;
     for n in integers {
@@ -78,15 +83,20 @@ fn fold(
     Ok(total)
 }
 
-fn operate(alloc: Global, operation: Operation, left: i64, right: i64) -> Result<i64, ApplyError>
-    ensures { Gives (λ n. n) result (operation_of operation left right) }
+fn operate(
+    alloc: Global,
+    operation: BinaryOperation,
+    left: i64,
+    right: i64,
+) -> Result<i64, ApplyError>
+    ensures { Gives (λ n. n) result (binary_operation operation left right) }
 {
     match operation {
-        Operation::Add => or_overflow(alloc, left.checked_add(right)),
-        Operation::Subtract => or_overflow(alloc, left.checked_sub(right)),
-        Operation::Multiply => or_overflow(alloc, left.checked_mul(right)),
-        Operation::Maximum => Ok(left.max(right)),
-        Operation::Minimum => Ok(left.min(right)),
+        BinaryOperation::Add => or_overflow(alloc, left.checked_add(right)),
+        BinaryOperation::Subtract => or_overflow(alloc, left.checked_sub(right)),
+        BinaryOperation::Multiply => or_overflow(alloc, left.checked_mul(right)),
+        BinaryOperation::Maximum => Ok(left.max(right)),
+        BinaryOperation::Minimum => Ok(left.min(right)),
     }
 }
 
@@ -104,7 +114,8 @@ fn quotient(alloc: Global, dividend: i64, divisor: i64) -> Result<i64, ApplyErro
 // Nothing where the quotient does not fit, which is at the least number by -1.
 fn divide(dividend: i64, divisor: i64) -> Option<i64>
     requires { IsNonZero w64 divisor }
-    ensures { SomeIff result (FitsSigned w64 (int_div dividend divisor)) (int_div dividend divisor) }
+    ensures { SomeIff result (FitsSigned w64 (int_div dividend divisor))
+        (int_div dividend divisor) }
 {
     dividend.checked_div(divisor)
 }
@@ -143,7 +154,8 @@ fn with_sign_of(divisor: i64, rest: i64) -> i64
 
 // What a checked operation gave, or the fault where it gave nothing.
 fn or_overflow(alloc: Global, checked: Option<i64>) -> Result<i64, ApplyError>
-    ensures { (n : ℤ) → SomeIff checked (FitsSigned w64 n) n → Gives (λ n. n) result (meant.held n) }
+    ensures { (n : ℤ) → SomeIff checked (FitsSigned w64 n) n
+        → Gives (λ n. n) result (meant.or_overflow n) }
 {
     match checked {
         Some(n) => Ok(n),

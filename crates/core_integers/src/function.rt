@@ -1,6 +1,8 @@
 // Which functions there are, and how many arguments each takes.
 ghost use Rattle.std.specs.Prelude.{◌≡◌, Some};
-ghost use Rattle.core_integers.specs.Names.{function_named, arithmetic_named, comparison_named, test_named, name_of, arithmetic_name, comparison_name, test_name, fits, fits_arithmetic};
+ghost use Rattle.core_integers.specs.Names.{function_named, arithmetic_named, comparison_named};
+ghost use Rattle.core_integers.specs.Names.{test_named, name_of, arithmetic_name, comparison_name};
+ghost use Rattle.core_integers.specs.Names.{test_name, fits, fits_arithmetic};
 
 /// A function whose value is an integer.
 #[derive(Clone, Copy, Debug, PartialEq, Eq)]

@@ -1,5 +1,6 @@
 -- Arguments by their place and by their kind, and items by their index.
-use Rattle.std.specs.Prelude.{ℕ, ℤ, pos, negsuc, List, slice_get, slice_index_or, Option, None, Result, Ok, Err}
+use Rattle.std.specs.Prelude.{ℕ, ℤ, pos, negsuc, List, slice_get, slice_index_or, Option, None}
+use Rattle.std.specs.Prelude.{Result, Ok, Err}
 use Rattle.value_data.specs.Datum.{Datum, nil, integer}
 use Rattle.repl_faults.specs.Failure.{Failure, wrong_argument}
 

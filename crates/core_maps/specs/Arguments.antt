@@ -17,12 +17,13 @@ left_alone (k ∷ []) = Some k
 left_alone (k ∷ v ∷ ds) = left_alone ds
 
 -- the pairs of a map; nil stands for an empty one
-abbrev pub pairs_in : List ℕ → Datum → Result Pairs Failure
-pairs_in function nil = Ok no_pairs
-pairs_in function (map ps) = Ok ps
-pairs_in function d = Err (wrong_argument function d)
+abbrev pub map_pairs_in : List ℕ → Datum → Result Pairs Failure
+map_pairs_in function nil = Ok no_pairs
+map_pairs_in function (map ps) = Ok ps
+map_pairs_in function d = Err (wrong_argument function d)
 
 -- what is put into a vector: each value by its index
 abbrev pub places_in : List ℕ → List (Datum × Datum) → Result (List (ℤ × Datum)) Failure
 places_in function [] = Ok []
-places_in function (p ∷ ps) = integer_in function p.0 >>= λ n. (places_in function ps >>= λ rest. Ok ((n, p.1) ∷ rest))
+places_in function (p ∷ ps) = integer_in function p.0
+    >>= λ n. (places_in function ps >>= λ rest. Ok ((n, p.1) ∷ rest))

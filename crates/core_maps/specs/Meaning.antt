@@ -1,14 +1,18 @@
--- What each function of maps is. Kinds of all arguments come first, from the left, then the function's own faults.
-use Rattle.std.specs.Prelude.{ℕ, ◌+◌, ℤ, pos, negsuc, false, nat_le, List, [], ◌∷◌, ◌++◌, length, drop, take, slice_get, unwrap_or, map as each, Option, Some, None, is_some, Result, Ok, Err, if◌then◌else◌}
+-- What each function of maps is. Kinds of all arguments come first, from the left, then the
+-- function's own faults.
+use Rattle.std.specs.Prelude.{ℕ, ◌+◌, ℤ, pos, negsuc, false, nat_le, List, [], ◌∷◌, ◌++◌, length}
+use Rattle.std.specs.Prelude.{drop, take, slice_get, unwrap_or, map as each, Option, Some, None}
+use Rattle.std.specs.Prelude.{is_some, Result, Ok, Err, if◌then◌else◌}
 use Rattle.value_data.specs.Datum.{Datum, nil, boolean, integer, vector, map, Items, no_pairs}
 use Rattle.value_data.specs.Listed.{listed, pairs_listed, items_of}
-use Rattle.value_data.specs.Keyed.{value_at}
+use Rattle.value_data.specs.Keyed.{value_under}
 use Rattle.value_data.specs.Put.{put_pairs, without_keys}
-use Rattle.repl_faults.specs.Failure.{Failure, ◌>>=◌, wrong_argument, out_of_bounds, no_value_supplied}
+use Rattle.repl_faults.specs.Failure.{Failure, ◌>>=◌, wrong_argument, out_of_bounds}
+use Rattle.repl_faults.specs.Failure.{no_value_supplied}
 use Rattle.core_items.specs.Arguments.{argument, at_index}
 use Rattle.core_items.specs.Making.{list_or_nil}
 use Rattle.core_maps.specs.Names.{name_of}
-use Rattle.core_maps.specs.Arguments.{by_turns, left_alone, pairs_in, places_in}
+use Rattle.core_maps.specs.Arguments.{by_turns, left_alone, map_pairs_in, places_in}
 use Rattle.core_maps.specs.declared.function.MapFunction.{MapFunction}
 
 -- pairs put one after another; an odd number faults
@@ -26,7 +30,7 @@ item_at d ds = None
 
 -- by key in a map, by index in a vector; anything else has nothing
 abbrev pub found_in : Datum → Datum → Option Datum
-found_in (map ps) d = value_at d ps
+found_in (map ps) d = value_under d ps
 found_in (vector ds) d = item_at d ds
 found_in _ d = None
 
@@ -35,7 +39,7 @@ get d key other = Ok (unwrap_or (found_in d key) (unwrap_or other nil))
 
 unfoldable pub contains : Datum → Datum → Result Datum Failure
 contains nil key = Ok (boolean false)
-contains (map ps) key = Ok (boolean (is_some (value_at key ps)))
+contains (map ps) key = Ok (boolean (is_some (value_under key ps)))
 contains (vector ds) key = Ok (boolean (is_some (item_at key ds)))
 contains d key = Err (wrong_argument (name_of MapFunction.Contains) d)
 
@@ -56,8 +60,9 @@ with_items (p ∷ ps) ds = put_at (place_within p.0 (length ds)) p.1 ds >>= λ n
 
 -- put one after another: into a map by key, into a vector by index
 unfoldable pub assoc : Datum → List (Datum × Datum) → Result Datum Failure
-assoc (vector ds) more = places_in (name_of MapFunction.Assoc) more >>= λ ps. (with_items ps (listed ds) >>= λ es. Ok (vector (items_of es)))
-assoc d more = pairs_in (name_of MapFunction.Assoc) d >>= λ ps. Ok (map (put_pairs ps more))
+assoc (vector ds) more = places_in (name_of MapFunction.Assoc) more
+    >>= λ ps. (with_items ps (listed ds) >>= λ es. Ok (vector (items_of es)))
+assoc d more = map_pairs_in (name_of MapFunction.Assoc) d >>= λ ps. Ok (map (put_pairs ps more))
 
 unfoldable pub dissoc : Datum → List Datum → Result Datum Failure
 dissoc nil keys = Ok nil
@@ -65,10 +70,12 @@ dissoc (map ps) keys = Ok (map (without_keys ps (items_of keys)))
 dissoc d keys = Err (wrong_argument (name_of MapFunction.Dissoc) d)
 
 unfoldable pub keys : Datum → Result Datum Failure
-keys d = pairs_in (name_of MapFunction.Keys) d >>= λ ps. Ok (list_or_nil (each (λ p. p.0) (pairs_listed ps)))
+keys d = map_pairs_in (name_of MapFunction.Keys) d
+    >>= λ ps. Ok (list_or_nil (each (λ p. p.0) (pairs_listed ps)))
 
 unfoldable pub vals : Datum → Result Datum Failure
-vals d = pairs_in (name_of MapFunction.Vals) d >>= λ ps. Ok (list_or_nil (each (λ p. p.1) (pairs_listed ps)))
+vals d = map_pairs_in (name_of MapFunction.Vals) d
+    >>= λ ps. Ok (list_or_nil (each (λ p. p.1) (pairs_listed ps)))
 
 unfoldable pub value_of : MapFunction → List Datum → Result Datum Failure
 value_of MapFunction.HashMap args = hash_map args

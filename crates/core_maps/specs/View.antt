@@ -5,5 +5,5 @@ use Rattle.value_data.specs.Datum.{Datum}
 use Rattle.value_data.specs.View.{view}
 use Rattle.value_data.specs.declared.value.Value.{Value}
 
-abbrev pub place_view : ℤ × Bor Value → ℤ × Datum
-place_view p = (p.0, view p.1.now)
+abbrev pub indexed_view : ℤ × Bor Value → ℤ × Datum
+indexed_view p = (p.0, view p.1.now)

@@ -6,7 +6,7 @@ ghost use Rattle.value_data.specs.View.{view};
 ghost use Rattle.repl_faults.specs.View.{Gives};
 ghost use Rattle.value_data.specs.Seen.{entry_view};
 ghost use Rattle.core_maps.specs.Arguments as meant;
-ghost use Rattle.core_maps.specs.View.{place_view};
+ghost use Rattle.core_maps.specs.View.{indexed_view};
 
 use core_items::integer_of;
 use repl_faults::ApplyError;
@@ -21,8 +21,10 @@ pub(crate) struct Turns<'a> {
 }
 
 pub(crate) fn by_turns<'a>(alloc: Global, args: &'a [Value]) -> Result<Turns<'a>, AllocError>
-    ensures pairs { IfOk result (λ turns. map entry_view turns.pairs.items ≡ meant.by_turns (map view args.now)) }
-    ensures left { IfOk result (λ turns. option_map (λ v. view v.now) turns.left_alone ≡ meant.left_alone (map view args.now)) }
+    ensures pairs { IfOk result (λ turns. map entry_view turns.pairs.items
+        ≡ meant.by_turns (map view args.now)) }
+    ensures left { IfOk result (λ turns. option_map (λ v. view v.now) turns.left_alone
+        ≡ meant.left_alone (map view args.now)) }
 {
     let mut pairs = Vec::new(alloc);
     let mut left = args;
@@ -42,7 +44,8 @@ pub(crate) fn places_of<'a>(
     function: &str,
     pairs: &[(&'a Value, &'a Value)],
 ) -> Result<Vec<(i64, &'a Value)>, ApplyError>
-    ensures { Gives (λ places. map place_view places.items) result (meant.places_in function.now (map entry_view pairs.now)) }
+    ensures { Gives (λ places. map indexed_view places.items) result
+        (meant.places_in function.now (map entry_view pairs.now)) }
 {
     let mut places = Vec::new(alloc);
     for (index, value) in pairs {

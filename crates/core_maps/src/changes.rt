@@ -1,11 +1,12 @@
 // Maps and vectors with more put in or keys taken out.
 #![tactic(auto, using(crate::proofs::Values::seen))]
 
-ghost use Rattle.std.specs.Prelude.{◌≡◌, ◌≤◌, ◌+◌, ◌∷◌, ◌++◌, map, take, drop, vec_len, length, IfOk, IfSome};
+ghost use Rattle.std.specs.Prelude.{◌≡◌, ◌≤◌, ◌+◌, ◌∷◌, ◌++◌, map, take, drop, vec_len, length};
+ghost use Rattle.std.specs.Prelude.{IfOk, IfSome};
 ghost use Rattle.value_data.specs.View.{view};
 ghost use Rattle.repl_faults.specs.View.{Gives};
 ghost use Rattle.value_data.specs.Seen.{entry_view};
-ghost use Rattle.core_maps.specs.View.{place_view};
+ghost use Rattle.core_maps.specs.View.{indexed_view};
 ghost use Rattle.core_maps.specs.Meaning as meant;
 
 use crate::arguments::places_of;
@@ -58,7 +59,8 @@ fn with_items(
     items: &[Value],
     places: &[(i64, &Value)],
 ) -> Result<Vec<Value>, ApplyError>
-    ensures { Gives (λ all. map view all.items) result (meant.with_items (map place_view places.now) (map view items.now)) }
+    ensures { Gives (λ all. map view all.items) result
+        (meant.with_items (map indexed_view places.now) (map view items.now)) }
 {
     let mut all = copy_items(alloc, items)?;
     for (index, value) in places {
@@ -85,18 +87,21 @@ fn put_at(
     index: i64,
     value: &Value,
 ) -> Result<Vec<Value>, ApplyError>
-    ensures { Gives (λ put. map view put.items) result (meant.put_at (meant.place_within index (vec_len all)) (view value.now) (map view all.items)) }
+    ensures { Gives (λ put. map view put.items) result
+        (meant.put_at (meant.place_within index (vec_len all)) (view value.now)
+        (map view all.items)) }
 {
     match place_within(index, all.len()) {
-        Some(place) => Ok(replaced(all, place, copy(value)?)?),
+        Some(place) => Ok(with_value_at(all, place, copy(value)?)?),
         None => Err(ApplyError::Fault(out_of_bounds(alloc)?)),
     }
 }
 
 // Puts the value at the place, in place of what stood there.
-fn replaced(mut all: Vec<Value>, place: usize, value: Value) -> Result<Vec<Value>, AllocError>
+fn with_value_at(mut all: Vec<Value>, place: usize, value: Value) -> Result<Vec<Value>, AllocError>
     requires { place ≤ vec_len all }
-    ensures { IfOk result (λ put. map view put.items ≡ take place (map view all.items) ++ view value ∷ drop (place + 1) (map view all.items)) }
+    ensures { IfOk result (λ put. map view put.items
+        ≡ take place (map view all.items) ++ view value ∷ drop (place + 1) (map view all.items)) }
 {
     if place < all.len() {
         all[place] = value;

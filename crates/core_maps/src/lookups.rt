@@ -19,7 +19,8 @@ pub(crate) fn get(
     key: &Value,
     otherwise: Option<&Value>,
 ) -> Result<Value, ApplyError>
-    ensures { Gives view result (meant.get (view collection.now) (view key.now) (option_map (λ v. view v.now) otherwise.entry)) }
+    ensures { Gives view result (meant.get (view collection.now) (view key.now)
+        (option_map (λ v. view v.now) otherwise.entry)) }
 {
     match (found_in(collection, key), otherwise) {
         (Some(value), _) => Ok(copy(value)?),
@@ -29,7 +30,8 @@ pub(crate) fn get(
 }
 
 fn found_in<'a>(collection: &'a Value, key: &Value) -> Option<&'a Value>
-    ensures { option_map (λ v. view v.now) result ≡ meant.found_in (view collection.now) (view key.now) }
+    ensures { option_map (λ v. view v.now) result
+        ≡ meant.found_in (view collection.now) (view key.now) }
 {
     match collection {
         Value::Map(pairs) => pairs.get(key),
@@ -54,7 +56,8 @@ pub(crate) fn contains(alloc: Global, collection: &Value, key: &Value) -> Result
 }
 
 fn item_at<'a>(items: &'a [Value], index: &Value) -> Option<&'a Value>
-    ensures { option_map (λ v. view v.now) result ≡ meant.item_at (view index.now) (items_view items.now) }
+    ensures { option_map (λ v. view v.now) result
+        ≡ meant.item_at (view index.now) (items_view items.now) }
 {
     match index {
         Value::Int(n) => at_index(items, *n),

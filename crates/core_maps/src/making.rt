@@ -4,7 +4,7 @@
 ghost use Rattle.std.specs.Prelude.{◌≡◌, map, IfOk};
 ghost use Rattle.value_data.specs.View.{view, pair_view, pairs_view};
 ghost use Rattle.repl_faults.specs.View.{Gives};
-ghost use Rattle.core_maps.specs.Arguments.{pairs_in};
+ghost use Rattle.core_maps.specs.Arguments.{map_pairs_in};
 ghost use Rattle.core_maps.specs.Meaning as meant;
 
 use crate::arguments::by_turns;
@@ -30,7 +30,7 @@ pub(crate) fn hash_map(alloc: Global, args: &[Value]) -> Result<Value, ApplyErro
 
 // The map to put pairs into. Nil stands for an empty one.
 pub(crate) fn table_of(alloc: Global, function: &str, argument: &Value) -> Result<Table, ApplyError>
-    ensures { Gives (λ table. table.pairs) result (pairs_in function.now (view argument.now)) }
+    ensures { Gives (λ table. table.pairs) result (map_pairs_in function.now (view argument.now)) }
 {
     match argument {
         Value::Nil => Ok(Table::empty(alloc)?),
@@ -45,7 +45,8 @@ fn pairs_of<'a>(
     function: &str,
     argument: &'a Value,
 ) -> Result<&'a [(Value, Value)], ApplyError>
-    ensures { Gives (λ pairs. pairs_view pairs.now) result (pairs_in function.now (view argument.now)) }
+    ensures { Gives (λ pairs. pairs_view pairs.now) result
+        (map_pairs_in function.now (view argument.now)) }
 {
     match argument {
         Value::Nil => Ok(&[]),

@@ -1,6 +1,7 @@
 -- Tests of one value, of any kind.
 use Rattle.std.specs.Prelude.{Bool, true, false, not}
-use Rattle.value_data.specs.Datum.{Datum, nil, boolean, integer, string, keyword, symbol, list, vector, map}
+use Rattle.value_data.specs.Datum.{Datum, nil, boolean, integer, string, keyword, symbol, list}
+use Rattle.value_data.specs.Datum.{vector, map}
 use Rattle.core_predicates.specs.declared.function.ValueTest.{ValueTest}
 
 -- what a test takes for false: nil and false alone

@@ -1,5 +1,5 @@
-//! The functions of the language that take values of any kind and have no fault: equality, and tests
-//! of what a value is.
+//! The functions of the language that take values of any kind and have no fault: equality, and
+//! tests of what a value is.
 #![tactic(auto)]
 
 mod application;

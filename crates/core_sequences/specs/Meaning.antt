@@ -1,6 +1,7 @@
--- What each function of sequences is. Kinds of all arguments come first, from the left, then the function's own
--- faults.
-use Rattle.std.specs.Prelude.{ℕ, ◌-◌, pos, ◌==◌, List, ◌∷◌, ◌++◌, length, reverse, drop, slice_get, chars, Option, Some, None, Result, Ok, Err}
+-- What each function of sequences is. Kinds of all arguments come first, from the left, then the
+-- function's own faults.
+use Rattle.std.specs.Prelude.{ℕ, ◌-◌, pos, ◌==◌, List, ◌∷◌, ◌++◌, length, reverse, drop, slice_get}
+use Rattle.std.specs.Prelude.{chars, Option, Some, None, Result, Ok, Err}
 use Rattle.value_data.specs.Datum.{Datum, nil, boolean, integer, string, list, vector, map}
 use Rattle.value_data.specs.Listed.{listed}
 use Rattle.value_data.specs.Put.{put_pairs}
@@ -28,30 +29,32 @@ rest d = behind_first (name_of SequenceFunction.Rest) d >>= λ ds. Ok (list_of d
 unfoldable pub next : Datum → Result Datum Failure
 next d = behind_first (name_of SequenceFunction.Next) d >>= λ ds. Ok (list_or_nil ds)
 
-unfoldable pub reversed : Datum → Result Datum Failure
-reversed d = items_in (name_of SequenceFunction.Reverse) d >>= λ ds. Ok (list_of (reverse ds))
+unfoldable pub reversed_list : Datum → Result Datum Failure
+reversed_list d = items_in (name_of SequenceFunction.Reverse) d >>= λ ds. Ok (list_of (reverse ds))
 
 unfoldable pub cons : Datum → Datum → Result Datum Failure
 cons d e = items_in (name_of SequenceFunction.Cons) e >>= λ ds. Ok (list_of (d ∷ ds))
 
--- put into the collection one after another: in front of a list, at the end of a vector, into a map as pairs
+-- put into the collection one after another: in front of a list, at the end of a vector, into a map
+-- as pairs
 unfoldable pub conj : Datum → List Datum → Result Datum Failure
 conj nil more = Ok (list_or_nil (reverse more))
 conj (list ds) more = Ok (list_of (reverse more ++ listed ds))
 conj (vector ds) more = Ok (vector_of (listed ds ++ more))
-conj (map ps) more = pairs_in (name_of SequenceFunction.Conj) more >>= λ qs. Ok (map (put_pairs ps qs))
+conj (map ps) more = pairs_in (name_of SequenceFunction.Conj) more
+    >>= λ qs. Ok (map (put_pairs ps qs))
 conj d more = Err (wrong_argument (name_of SequenceFunction.Conj) d)
 
 -- how many items, or how many characters of a string
-unfoldable pub counted : List ℕ → Datum → Result ℕ Failure
-counted function (string s) = Ok (length (chars s))
-counted function d = items_in function d >>= λ ds. Ok (length ds)
+unfoldable pub length_in : List ℕ → Datum → Result ℕ Failure
+length_in function (string s) = Ok (length (chars s))
+length_in function d = items_in function d >>= λ ds. Ok (length ds)
 
 unfoldable pub count : Datum → Result Datum Failure
-count d = counted (name_of SequenceFunction.Count) d >>= λ n. Ok (integer (pos n))
+count d = length_in (name_of SequenceFunction.Count) d >>= λ n. Ok (integer (pos n))
 
 unfoldable pub is_empty : Datum → Result Datum Failure
-is_empty d = counted (name_of SequenceFunction.IsEmpty) d >>= λ n. Ok (boolean (n == 0))
+is_empty d = length_in (name_of SequenceFunction.IsEmpty) d >>= λ n. Ok (boolean (n == 0))
 
 -- what there is, or else what stands in its place, or else nil of nil, or else the fault
 abbrev pub found_or : Option Datum → Option Datum → Datum → Result Datum Failure
@@ -62,7 +65,9 @@ found_or None None d = Err out_of_bounds
 
 unfoldable pub nth : Datum → Datum → Option Datum → Result Datum Failure
 nth d i other =
-    row_in (name_of SequenceFunction.Nth) d >>= λ ds. (integer_in (name_of SequenceFunction.Nth) i >>= λ n. found_or (at_index n ds) other d)
+    row_in (name_of SequenceFunction.Nth) d
+    >>= λ ds. (integer_in (name_of SequenceFunction.Nth) i
+    >>= λ n. found_or (at_index n ds) other d)
 
 unfoldable pub value_of : SequenceFunction → List Datum → Result Datum Failure
 value_of SequenceFunction.List args = Ok (list_of args)
@@ -71,7 +76,7 @@ value_of SequenceFunction.First args = first (argument 0 args)
 value_of SequenceFunction.Last args = last (argument 0 args)
 value_of SequenceFunction.Rest args = rest (argument 0 args)
 value_of SequenceFunction.Next args = next (argument 0 args)
-value_of SequenceFunction.Reverse args = reversed (argument 0 args)
+value_of SequenceFunction.Reverse args = reversed_list (argument 0 args)
 value_of SequenceFunction.Cons args = cons (argument 0 args) (argument 1 args)
 value_of SequenceFunction.Conj args = conj (argument 0 args) (drop 1 args)
 value_of SequenceFunction.Count args = count (argument 0 args)

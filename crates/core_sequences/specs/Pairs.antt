@@ -13,4 +13,5 @@ pair_in function d = ok_or (as_pair d) (wrong_argument function d)
 
 abbrev pub pairs_in : List ℕ → List Datum → Result (List (Datum × Datum)) Failure
 pairs_in function [] = Ok []
-pairs_in function (d ∷ ds) = pair_in function d >>= λ p. (pairs_in function ds >>= λ ps. Ok (p ∷ ps))
+pairs_in function (d ∷ ds) = pair_in function d
+    >>= λ p. (pairs_in function ds >>= λ ps. Ok (p ∷ ps))

@@ -5,7 +5,7 @@ ghost use Rattle.repl_faults.specs.View.{Gives};
 ghost use Rattle.core_sequences.specs.Names.{fits};
 ghost use Rattle.core_sequences.specs.Meaning.{value_of};
 
-use crate::ends::{first, last, next, rest, reversed};
+use crate::ends::{first, last, next, rest, reversed_list};
 use crate::function::SequenceFunction;
 use crate::joins::{conj, cons};
 use crate::places::{count, is_empty, nth};
@@ -32,7 +32,7 @@ pub fn apply_sequences(
         SequenceFunction::Last => last(alloc, &args[0]),
         SequenceFunction::Rest => rest(alloc, &args[0]),
         SequenceFunction::Next => next(alloc, &args[0]),
-        SequenceFunction::Reverse => reversed(alloc, &args[0]),
+        SequenceFunction::Reverse => reversed_list(alloc, &args[0]),
         SequenceFunction::Cons => cons(alloc, &args[0], &args[1]),
         SequenceFunction::Conj => conj(alloc, &args[0], &args[1..]),
         SequenceFunction::Count => count(alloc, &args[0]),

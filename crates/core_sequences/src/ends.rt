@@ -50,7 +50,8 @@ pub(crate) fn next(alloc: Global, argument: &Value) -> Result<Value, ApplyError>
 
 // The items behind the first. Those of a list or a vector are shared, where that holds little more.
 fn behind_first(alloc: Global, function: &str, argument: &Value) -> Result<Sequence, ApplyError>
-    ensures { Gives (λ made. listed made.items) result (meant.behind_first function.now (view argument.now)) }
+    ensures { Gives (λ made. listed made.items) result
+        (meant.behind_first function.now (view argument.now)) }
 {
     match argument {
         Value::List(items) => Ok(items.rest(alloc)?),
@@ -62,9 +63,9 @@ fn behind_first(alloc: Global, function: &str, argument: &Value) -> Result<Seque
     }
 }
 
-#[tactic(auto, using(crate::proofs::Values::seen), unfolding(crate::specs::Meaning::reversed))]
-pub(crate) fn reversed(alloc: Global, argument: &Value) -> Result<Value, ApplyError>
-    ensures { Gives view result (meant.reversed (view argument.now)) }
+#[tactic(auto, using(crate::proofs::Values::seen), unfolding(crate::specs::Meaning::reversed_list))]
+pub(crate) fn reversed_list(alloc: Global, argument: &Value) -> Result<Value, ApplyError>
+    ensures { Gives view result (meant.reversed_list (view argument.now)) }
 {
     let row = ItemRow::of(alloc, SequenceFunction::Reverse.name(), argument)?;
     let mut items = row.copies(alloc)?;

@@ -38,9 +38,9 @@ pub(crate) fn conj(alloc: Global, collection: &Value, more: &[Value]) -> Result<
     ensures { Gives view result (meant.conj (view collection.now) (map view more.now)) }
 {
     match collection {
-        Value::Nil => Ok(list_or_nil(alloc, reversed(alloc, more)?)?),
+        Value::Nil => Ok(list_or_nil(alloc, reversed_copies(alloc, more)?)?),
         Value::List(items) => {
-            let all = joined(reversed(alloc, more)?, items.as_slice())?;
+            let all = with_copies(reversed_copies(alloc, more)?, items.as_slice())?;
             Ok(list_of(alloc, all)?)
         }
         Value::Vector(items) => Ok(Value::Vector(with_all(alloc, items.copy()?, more)?)),
@@ -74,7 +74,7 @@ fn with_one(alloc: Global, items: Sequence, value: &Value) -> Result<Sequence, A
 }
 
 // Copies, the last first.
-fn reversed(alloc: Global, values: &[Value]) -> Result<Vec<Value>, AllocError>
+fn reversed_copies(alloc: Global, values: &[Value]) -> Result<Vec<Value>, AllocError>
     ensures { IfOk result (λ copies. map view copies.items ≡ reverse (map view values.now)) }
 {
     let mut copies = copy_items(alloc, values)?;
@@ -83,7 +83,7 @@ fn reversed(alloc: Global, values: &[Value]) -> Result<Vec<Value>, AllocError>
 }
 
 // The items, with copies of more behind them.
-fn joined(mut items: Vec<Value>, more: &[Value]) -> Result<Vec<Value>, AllocError>
+fn with_copies(mut items: Vec<Value>, more: &[Value]) -> Result<Vec<Value>, AllocError>
     ensures { IfOk result (λ all. map view all.items ≡ map view items.items ++ map view more.now) }
 {
     for value in more {
@@ -98,7 +98,8 @@ fn pairs_of<'a>(
     function: &str,
     args: &'a [Value],
 ) -> Result<Vec<(&'a Value, &'a Value)>, ApplyError>
-    ensures { Gives (λ pairs. map entry_view pairs.items) result (pairs_in function.now (map view args.now)) }
+    ensures { Gives (λ pairs. map entry_view pairs.items) result
+        (pairs_in function.now (map view args.now)) }
 {
     let mut pairs = Vec::new(alloc);
     for argument in args {

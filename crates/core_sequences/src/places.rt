@@ -16,7 +16,7 @@ use std::alloc::Global;
 pub(crate) fn count(alloc: Global, argument: &Value) -> Result<Value, ApplyError>
     ensures { Gives view result (meant.count (view argument.now)) }
 {
-    let count = counted(alloc, SequenceFunction::Count.name(), argument)?;
+    let count = length_in(alloc, SequenceFunction::Count.name(), argument)?;
     Ok(Value::Int(count as i64))
 }
 
@@ -24,13 +24,13 @@ pub(crate) fn count(alloc: Global, argument: &Value) -> Result<Value, ApplyError
 pub(crate) fn is_empty(alloc: Global, argument: &Value) -> Result<Value, ApplyError>
     ensures { Gives view result (meant.is_empty (view argument.now)) }
 {
-    let count = counted(alloc, SequenceFunction::IsEmpty.name(), argument)?;
+    let count = length_in(alloc, SequenceFunction::IsEmpty.name(), argument)?;
     Ok(Value::Bool(count == 0))
 }
 
-#[tactic(auto, using(crate::proofs::Values::seen), unfolding(crate::specs::Meaning::counted))]
-fn counted(alloc: Global, function: &str, argument: &Value) -> Result<usize, ApplyError>
-    ensures count { Gives (λ n. n) result (meant.counted function.now (view argument.now)) }
+#[tactic(auto, using(crate::proofs::Values::seen), unfolding(crate::specs::Meaning::length_in))]
+fn length_in(alloc: Global, function: &str, argument: &Value) -> Result<usize, ApplyError>
+    ensures count { Gives (λ n. n) result (meant.length_in function.now (view argument.now)) }
     ensures bound { IfOk result (λ n. n < 2 ^ 63) }
 {
     match argument {
@@ -56,7 +56,8 @@ pub(crate) fn nth(
     index: &Value,
     otherwise: Option<&Value>,
 ) -> Result<Value, ApplyError>
-    ensures { Gives view result (meant.nth (view collection.now) (view index.now) (option_map (λ v. view v.now) otherwise.entry)) }
+    ensures { Gives view result (meant.nth (view collection.now) (view index.now)
+        (option_map (λ v. view v.now) otherwise.entry)) }
 {
     let name = SequenceFunction::Nth.name();
     let row = row_of(alloc, name, collection)?;
@@ -71,7 +72,8 @@ fn found_or(
     otherwise: Option<&Value>,
     collection: &Value,
 ) -> Result<Value, ApplyError>
-    ensures { Gives view result (meant.found_or (option_map (λ v. view v.now) found.entry) (option_map (λ v. view v.now) otherwise.entry) (view collection.now)) }
+    ensures { Gives view result (meant.found_or (option_map (λ v. view v.now) found.entry)
+        (option_map (λ v. view v.now) otherwise.entry) (view collection.now)) }
 {
     match (found, otherwise, collection) {
         (Some(item), _, _) => Ok(copy(item)?),

@@ -1,5 +1,6 @@
 -- Texts that are too long, and what is put behind them.
-use Rattle.std.proofs.Common.{◌≡◌, ℕ, ◌<◌, ◌≤◌, List, [], ◌∷◌, ◌++◌, length, map, Some, None, Ok, Err, refl, sym, ap, ◌∙◌, arith}
+use Rattle.std.proofs.Common.{◌≡◌, ℕ, ◌<◌, ◌≤◌, List, [], ◌∷◌, ◌++◌, length, map, Some, None, Ok}
+use Rattle.std.proofs.Common.{Err, refl, sym, ap, ◌∙◌, arith}
 use Rattle.std.proofs.lemmas.Bool.Decides.{nat_tests}
 use Rattle.std.proofs.lemmas.Grind.{common_steps}
 use Rattle.value_data.specs.Datum.{Datum, string}
@@ -8,7 +9,7 @@ use Rattle.value_data.specs.declared.value.Value.{Value}
 use Rattle.value_data.proofs.Views.{value_views}
 use Rattle.repl_faults.specs.Failure.{Failure, too_large}
 use Rattle.core_texts.specs.Limits.{most_text, most_weight, if_short, light, within_weight}
-use Rattle.core_texts.specs.Printing.{spaced}
+use Rattle.core_texts.specs.Printing.{spaced_text}
 
 -- what is longer than the limit is not short, and nor is more
 pub if_short-long : (s more : List ℕ) → most_text < length s → if_short (s ++ more) ≡ None
@@ -33,9 +34,9 @@ unfolding if_short
 if_short-kept s t h = grind (arith, common_steps, nat_tests, h)
 
 -- no values are spelled by no bytes
-pub spaced-none : (spelling : Datum → List ℕ) (vs : List Value) → length vs ≡ 0 → if_short (spaced spelling (map view vs)) ≡ Some []
-spaced-none spelling [] none = if_short-short [] (omega arith)
-spaced-none spelling (v ∷ vs) none = absurd (omega (arith, none))
+pub spaced_text-none : (spelling : Datum → List ℕ) (vs : List Value) → length vs ≡ 0 → if_short (spaced_text spelling (map view vs)) ≡ Some []
+spaced_text-none spelling [] none = if_short-short [] (omega arith)
+spaced_text-none spelling (v ∷ vs) none = absurd (omega (arith, none))
 
 pub within_weight-light : (s : List ℕ) → length s < most_weight → within_weight (Ok (string s)) ≡ Ok (string s)
 unfolding within_weight
@@ -61,7 +62,7 @@ pub ruleset short_steps = (
   long-beginning,
   if_short-short,
   if_short-kept,
-  spaced-none,
+  spaced_text-none,
   within_weight-light,
   within_weight-heavy,
   within_weight-fails,

@@ -1,16 +1,18 @@
 -- How long a text may be.
-use Rattle.std.specs.Prelude.{ℕ, List, length, nat_le, nat_lt, Option, Some, None, Result, Ok, Err, if◌then◌else◌}
+use Rattle.std.specs.Prelude.{ℕ, List, length, nat_le, nat_lt, Option, Some, None, Result, Ok, Err}
+use Rattle.std.specs.Prelude.{if◌then◌else◌}
 use Rattle.value_data.specs.Datum.{Datum, string}
 use Rattle.value_data.specs.Measures.{weight}
+use Rattle.repl_values.specs.declared.limits.TheConstants.{MOST_WEIGHT, MOST_TEXT}
 use Rattle.repl_faults.specs.Failure.{Failure, too_large}
 
 -- the most that a value may weigh
 abbrev pub most_weight : ℕ
-most_weight = 1048576
+most_weight = MOST_WEIGHT
 
 -- the most that is printed, in bytes
 abbrev pub most_text : ℕ
-most_text = 1048576
+most_text = MOST_TEXT
 
 -- a value, where it is not too heavy
 unfoldable pub within_weight : Result Datum Failure → Result Datum Failure

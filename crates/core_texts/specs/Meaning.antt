@@ -1,27 +1,27 @@
 -- What each function that gives a text is.
-use Rattle.std.specs.Prelude.{ℕ, Bool, List, [], ◌∷◌, ◌+◌, ◌==◌, drop, if◌then◌else◌, codes, flat_map, Result, Ok, Err}
+use Rattle.std.specs.Prelude.{ℕ, List, [], ◌∷◌, ◌+◌, drop, if◌then◌else◌, codes, flat_map, Result}
+use Rattle.std.specs.Prelude.{Ok, Err}
 use Rattle.std.specs.Str.{bytes_eq}
 use Rattle.std.specs.List.{position}
 use Rattle.std.specs.Option.{option_map_or}
 use Rattle.value_data.specs.Datum.{Datum, nil, string, keyword, symbol}
 use Rattle.repl_values.specs.Print.{print}
+use Rattle.repl_values.specs.Slash.{is_slash}
 use Rattle.repl_faults.specs.Failure.{Failure, ◌>>=◌, wrong_argument}
-use Rattle.core_texts.specs.Printing.{spaced}
+use Rattle.core_texts.specs.Printing.{spaced_text}
 use Rattle.core_texts.specs.declared.function.TextFunction.{TextFunction}
 
 -- nothing for nil, the characters of a string, and the print of all else
-abbrev pub shown : Datum → List ℕ
-shown nil = []
-shown (string s) = s
-shown d = print d
-
-abbrev pub is_slash : ℕ → Bool
-is_slash b = b == 47
+abbrev pub shown_text : Datum → List ℕ
+shown_text nil = []
+shown_text (string s) = s
+shown_text d = print d
 
 -- what follows the first slash, or all of it where there is none; a slash alone is all of it
 unfoldable pub local_part : List ℕ → List ℕ
 local_part text =
-    if bytes_eq text (codes "/") then text else option_map_or (λ i. drop (i + 1) text) (position is_slash text) text
+    if bytes_eq text (codes "/") then text
+    else option_map_or (λ i. drop (i + 1) text) (position is_slash text) text
 
 abbrev pub name_in : Datum → Result (List ℕ) Failure
 name_in (string s) = Ok s
@@ -29,8 +29,8 @@ name_in (keyword s) = Ok (local_part s)
 name_in (symbol s) = Ok (local_part s)
 name_in d = Err (wrong_argument (codes "name") d)
 
-unfoldable pub name_of : Datum → Result Datum Failure
-name_of d = name_in d >>= λ s. Ok (string s)
+unfoldable pub name_value : Datum → Result Datum Failure
+name_value d = name_in d >>= λ s. Ok (string s)
 
 -- the argument of a function that takes one
 abbrev pub only : List Datum → Datum
@@ -38,6 +38,6 @@ only [] = nil
 only (d ∷ ds) = d
 
 unfoldable pub value_of : TextFunction → List Datum → Result Datum Failure
-value_of TextFunction.Str args = Ok (string (flat_map shown args))
-value_of TextFunction.PrStr args = Ok (string (spaced print args))
-value_of TextFunction.Name args = name_of (only args)
+value_of TextFunction.Str args = Ok (string (flat_map shown_text args))
+value_of TextFunction.PrStr args = Ok (string (spaced_text print args))
+value_of TextFunction.Name args = name_value (only args)

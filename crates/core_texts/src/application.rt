@@ -1,5 +1,6 @@
 // Applying a function that gives a text.
-ghost use Rattle.std.specs.Prelude.{◌≡◌, ◌++◌, Ok, true, length, map, option_map, flat_map, IfOk, OnOk, OnErr, string_bytes};
+ghost use Rattle.std.specs.Prelude.{◌≡◌, ◌++◌, Ok, true, length, map, option_map, flat_map, IfOk};
+ghost use Rattle.std.specs.Prelude.{OnOk, OnErr, string_bytes};
 ghost use Rattle.std.specs.Arc.{arc_str_bytes};
 ghost use Rattle.value_data.specs.Datum.{string};
 ghost use Rattle.value_data.specs.View.{view};
@@ -9,14 +10,11 @@ ghost use Rattle.core_texts.specs.Names.{fits};
 ghost use Rattle.core_texts.specs.Meaning as meant;
 
 use crate::function::TextFunction;
-use crate::printing::{MOST_TEXT, Spelling, if_short, spaced};
+use crate::printing::{Spelling, if_short, spaced_text};
 use repl_faults::{ApplyError, too_large, wrong_argument};
-use repl_values::{Value, copy_text, print_into};
+use repl_values::{MOST_TEXT, MOST_WEIGHT, Value, copy_text, print_into};
 use std::alloc::{AllocError, Global};
 use std::sync::ArcStr;
-
-// A text of so many bytes is too heavy for a value.
-const MOST_WEIGHT: usize = 1_048_576;
 
 /// The function's value at as many arguments as it takes, or the fault of one that is too heavy. A
 /// text that is too long already is not put together any further.
@@ -31,14 +29,14 @@ pub fn apply_texts(
 {
     match function {
         TextFunction::Str => value_of_text(alloc, all_shown(alloc, args)?),
-        TextFunction::PrStr => value_of_text(alloc, spaced(alloc, Spelling::Print, args)?),
-        TextFunction::Name => name_of(alloc, &args[0]),
+        TextFunction::PrStr => value_of_text(alloc, spaced_text(alloc, Spelling::Print, args)?),
+        TextFunction::Name => name_value(alloc, &args[0]),
     }
 }
 
-#[tactic(auto, using(crate::proofs::Shortness::short_steps), unfolding(crate::specs::Meaning::name_of))]
-fn name_of(alloc: Global, value: &Value) -> Result<Value, ApplyError>
-    ensures { Gives view result (within_weight (meant.name_of (view value.now))) }
+#[tactic(auto, using(crate::proofs::Shortness::short_steps), unfolding(crate::specs::Meaning::name_value))]
+fn name_value(alloc: Global, value: &Value) -> Result<Value, ApplyError>
+    ensures { Gives view result (within_weight (meant.name_value (view value.now))) }
 {
     let name = name_in(alloc, value)?;
     string_of(alloc, name)
@@ -59,7 +57,7 @@ fn value_of_text(alloc: Global, text: Option<String>) -> Result<Value, ApplyErro
 fn string_of(alloc: Global, text: ArcStr) -> Result<Value, ApplyError>
     ensures { Gives view result (within_weight (Ok (string (arc_str_bytes text)))) }
 {
-    if text.len() < MOST_WEIGHT {
+    if (text.len() as u64) < MOST_WEIGHT {
         return Ok(Value::Str(text));
     }
     Err(ApplyError::Fault(too_large(alloc)?))
@@ -67,7 +65,8 @@ fn string_of(alloc: Global, text: ArcStr) -> Result<Value, ApplyError>
 
 #[tactic(auto, using(crate::proofs::Shortness::short_steps))]
 fn all_shown(alloc: Global, values: &[Value]) -> Result<Option<String>, AllocError>
-    ensures { IfOk result (λ text. option_map string_bytes text ≡ if_short (flat_map meant.shown (map view values.now))) }
+    ensures { IfOk result (λ text. option_map string_bytes text
+        ≡ if_short (flat_map meant.shown_text (map view values.now))) }
 {
     let mut text = String::new(alloc);
     for value in values {
@@ -79,11 +78,12 @@ fn all_shown(alloc: Global, values: &[Value]) -> Result<Option<String>, AllocErr
     Ok(if_short(text))
 }
 
-/// Appends nothing for nil, the characters of a string, and the print of all else. After want of memory
-/// `out` is as it was.
+/// Appends nothing for nil, the characters of a string, and the print of all else. After want of
+/// memory `out` is as it was.
 #[tactic(auto, using(value_data::proofs::Views::value_views))]
 pub fn show_into(alloc: Global, value: &Value, out: &mut String) -> Result<(), AllocError>
-    ensures ok { OnOk result (string_bytes out.new ≡ string_bytes out.old ++ meant.shown (view value.now)) }
+    ensures ok { OnOk result (string_bytes out.new
+        ≡ string_bytes out.old ++ meant.shown_text (view value.now)) }
     ensures err { OnErr result (string_bytes out.new ≡ string_bytes out.old) }
 {
     match value {

@@ -1,6 +1,7 @@
 // Which functions there are, and how many arguments each takes.
 ghost use Rattle.std.specs.Prelude.{◌≡◌, Some};
-ghost use Rattle.core_texts.specs.Names.{text_function_named, print_function_named, name_of_text_function, name_of_print_function, fits};
+ghost use Rattle.core_texts.specs.Names.{text_function_named, print_function_named};
+ghost use Rattle.core_texts.specs.Names.{name_of_text_function, name_of_print_function, fits};
 
 /// A function that gives a text.
 #[derive(Clone, Copy, Debug, PartialEq, Eq)]

@@ -7,4 +7,4 @@ mod printing;
 
 pub use application::{apply_texts, show_into};
 pub use function::{PrintFunction, TextFunction};
-pub use printing::printed;
+pub use printing::text_printed;

@@ -1,5 +1,6 @@
-// What the functions that print add to the printed text. Arguments share what they hold, so a few of
-// them may print more than memory has: a text that is too long already is not put together further.
+// What the functions that print add to the printed text. Arguments share what they hold, so a few
+// of them may print more than memory has: a text that is too long already is not put together
+// further.
 #![tactic(auto, using(crate::proofs::Shortness::short_steps))]
 
 ghost use Rattle.std.specs.Prelude.{◌≡◌, ◌++◌, IfOk, OnOk, map, option_map, string_bytes};
@@ -9,11 +10,8 @@ ghost use Rattle.core_texts.specs.Printing as meant;
 ghost use Rattle.core_texts.specs.Spelling.{spelling_of};
 
 use crate::function::PrintFunction;
-use repl_values::{Value, display_into, print_into};
+use repl_values::{MOST_TEXT, Value, display_into, print_into};
 use std::alloc::{AllocError, Global};
-
-// The longest text that is put together, in bytes.
-pub(crate) const MOST_TEXT: usize = 1_048_576;
 
 // How a value is spelled: as a reply shows it, or with each string as its characters.
 #[derive(Clone, Copy)]
@@ -22,27 +20,30 @@ pub(crate) enum Spelling {
     Display,
 }
 
-/// The text that the function prints, or none where it is longer than 1,048,576 bytes. It fails only
-/// for want of memory.
-pub fn printed(
+/// The text that the function prints, or none where it is longer than 1,048,576 bytes. It fails
+/// only for want of memory.
+pub fn text_printed(
     alloc: Global,
     function: PrintFunction,
     args: &[Value],
 ) -> Result<Option<String>, AllocError>
-    ensures { IfOk result (λ text. option_map string_bytes text ≡ if_short (meant.printed function (map view args.now))) }
+    ensures { IfOk result (λ text. option_map string_bytes text
+        ≡ if_short (meant.text_printed function (map view args.now))) }
 {
     match function {
-        PrintFunction::Print => spaced(alloc, Spelling::Display, args),
+        PrintFunction::Print => spaced_text(alloc, Spelling::Display, args),
         PrintFunction::Println => line(alloc, Spelling::Display, args),
-        PrintFunction::Pr => spaced(alloc, Spelling::Print, args),
+        PrintFunction::Pr => spaced_text(alloc, Spelling::Print, args),
         PrintFunction::Prn => line(alloc, Spelling::Print, args),
     }
 }
 
 fn line(alloc: Global, spelling: Spelling, values: &[Value]) -> Result<Option<String>, AllocError>
-    ensures { IfOk result (λ text. option_map string_bytes text ≡ if_short (meant.spaced (spelling_of spelling) (map view values.now) ++ meant.newline)) }
+    ensures { IfOk result (λ text. option_map string_bytes text
+        ≡ if_short (meant.spaced_text (spelling_of spelling) (map view values.now)
+        ++ meant.newline)) }
 {
-    let Some(mut text) = spaced(alloc, spelling, values)? else {
+    let Some(mut text) = spaced_text(alloc, spelling, values)? else {
         return Ok(None);
     };
     text.push_str("\n")?;
@@ -60,12 +61,13 @@ pub(crate) fn if_short(text: String) -> Option<String>
 }
 
 // The spelling of each value, joined by a space.
-pub(crate) fn spaced(
+pub(crate) fn spaced_text(
     alloc: Global,
     spelling: Spelling,
     values: &[Value],
 ) -> Result<Option<String>, AllocError>
-    ensures { IfOk result (λ text. option_map string_bytes text ≡ if_short (meant.spaced (spelling_of spelling) (map view values.now))) }
+    ensures { IfOk result (λ text. option_map string_bytes text
+        ≡ if_short (meant.spaced_text (spelling_of spelling) (map view values.now))) }
 {
     let mut text = String::new(alloc);
     let Some((first, rest)) = values.split_first() else {
@@ -88,7 +90,8 @@ fn spell_into(
     value: &Value,
     out: &mut String,
 ) -> Result<(), AllocError>
-    ensures { OnOk result (string_bytes out.new ≡ string_bytes out.old ++ spelling_of spelling (view value.now)) }
+    ensures { OnOk result (string_bytes out.new
+        ≡ string_bytes out.old ++ spelling_of spelling (view value.now)) }
 {
     match spelling {
         Spelling::Print => print_into(alloc, value, out),

@@ -5,17 +5,17 @@ use Rattle.value_data.specs.Datum.{Datum, vector, map}
 use Rattle.value_data.specs.Listed.{items_of, pairs_of}
 use Rattle.value_data.specs.Repeats.{first_repeat}
 use Rattle.repl_faults.specs.Failure as failures
-use Rattle.core_functions.specs.Outcome as outcomes
-use Rattle.core_functions.specs.Outcome.{Outcome, limited}
-use Rattle.evaluation_rules.specs.Doing.{Part, done, fails}
+use Rattle.core_functions.specs.ApplyOutcome as outcomes
+use Rattle.core_functions.specs.ApplyOutcome.{ApplyOutcome, limited_outcome}
+use Rattle.evaluation_rules.specs.Doing.{Part, pure_part, fails}
 
-abbrev pub without_text : Outcome → Part Datum
-without_text (outcomes.gives d text) = done d
+abbrev pub without_text : ApplyOutcome → Part Datum
+without_text (outcomes.gives d text) = pure_part d
 without_text (outcomes.fails f) = fails f
 
 -- the value, where it is not too large
 abbrev pub within_limits : Datum → Part Datum
-within_limits d = without_text (limited d)
+within_limits d = without_text (limited_outcome d)
 
 abbrev pub vector_value : List Datum → Part Datum
 vector_value vs = within_limits (vector (items_of vs))
@@ -44,4 +44,5 @@ distinct_or (Some key) part = fails (failures.duplicate_key key)
 distinct_or None part = part
 
 abbrev pub map_value : List Datum → Part Datum
-map_value ds = distinct_or (repeated_key (keys_in ds)) (within_limits (map (pairs_of (zip (keys_in ds) (values_in ds)))))
+map_value ds = distinct_or (repeated_key (keys_in ds))
+    (within_limits (map (pairs_of (zip (keys_in ds) (values_in ds)))))

@@ -1,13 +1,13 @@
--- What a part of an evaluation does until it is left. It sees neither the text that was printed before it nor what an
--- attempt did so far, unless it looks.
+-- What a part of an evaluation does until it is left. It sees neither the text that was printed
+-- before it nor what an attempt did so far, unless it looks.
 use Rattle.std.specs.Prelude.{ℕ, List, Bool}
 use Rattle.value_data.specs.Datum.{Datum}
 use Rattle.repl_faults.specs.Failure.{Failure}
 use Rattle.repl_asks.specs.Exchange.{AskData, AnswerData, ResolutionData, resolution_in}
-use Rattle.tx_attempt.specs.Operations.{OperationData}
+use Rattle.tx_attempt.specs.Accesses.{AccessData}
 
--- What an evaluation carries from form to form: the calls that it may still make, its namespace, whether a transaction
--- runs, and how many attempts a transaction may make.
+-- What an evaluation carries from form to form: the calls that it may still make, its namespace,
+-- whether a transaction runs, and how many attempts a transaction may make.
 pub record Kept : Type 0 where
   pub calls : ℕ
   pub namespace : List ℕ
@@ -25,10 +25,10 @@ pub data Doing : Type 0 where
   left : Exit → Kept → Doing
   asking : AskData → (AnswerData → Doing) → Doing
   printing : List ℕ → Kept → Doing → Doing
-  -- at the operations of the attempt so far
-  looking : (List OperationData → Doing) → Doing
-  -- one more operation of the attempt
-  noting : OperationData → Doing → Doing
+  -- at the accesses of the attempt so far
+  looking : (List AccessData → Doing) → Doing
+  -- one more access of the attempt
+  noting : AccessData → Doing → Doing
 
 -- a part of an evaluation, which gives an A: by what is done with it, and from there, the whole
 abbrev pub Part : Type 0 → Type 0
@@ -39,8 +39,8 @@ infixl 10 ◌>>=◌
 abbrev pub ◌>>=◌ : {A B : Type 0} → Part A → (A → Part B) → Part B
 ◌>>=◌ part behind next kept = part (λ a. behind a next) kept
 
-abbrev pub done : {A : Type 0} → A → Part A
-done a next kept = next a kept
+abbrev pub pure_part : {A : Type 0} → A → Part A
+pure_part a next kept = next a kept
 
 abbrev pub fails : {A : Type 0} → Failure → Part A
 fails f next kept = left (failed f) kept

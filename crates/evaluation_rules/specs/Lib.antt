@@ -4,6 +4,7 @@ pub mod Places
 pub mod Rows
 pub mod Naming
 pub mod Refs
+pub mod Applying
 pub mod Calls
 pub mod Transactions
 pub mod SpecialForms

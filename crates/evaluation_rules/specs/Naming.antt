@@ -1,5 +1,5 @@
--- What symbols name (the Clojure reference, Evaluation): a local, a function of `clojure.core` where it is written so,
--- or what the namespace says.
+-- What symbols name (the Clojure reference, Evaluation): a local, a function of `clojure.core`
+-- where it is written so, or what the namespace says.
 use Rattle.std.specs.Prelude.{ℕ, List, Option, Some, None, ◌+◌, if◌then◌else◌, take, drop, codes}
 use Rattle.std.specs.List.{position}
 use Rattle.std.specs.Str.{bytes_eq}
@@ -11,14 +11,15 @@ use Rattle.function_names.specs.declared.function.CoreFunction.{CoreFunction}
 use Rattle.function_names.specs.declared.store.StoreFunction.{StoreFunction}
 use Rattle.repl_asks.specs.Exchange.{resolve, NamedFunctionData, core_function, store_function}
 use Rattle.repl_asks.specs.Exchange.{ResolutionData, names_value, names_function, names_nothing}
-use Rattle.local_names.specs.Locals.{value_of}
-use Rattle.special_forms.specs.Kinds.{is_slash}
-use Rattle.evaluation_rules.specs.Doing.{Part, ◌>>=◌, done, fails, resolving}
+use Rattle.local_names.specs.Locals.{local_value}
+use Rattle.repl_values.specs.Slash.{is_slash}
+use Rattle.evaluation_rules.specs.Doing.{Part, ◌>>=◌, pure_part, fails, resolving}
 use Rattle.evaluation_rules.specs.Places.{PlaceData, space_of}
 
 -- what follows the slash of a name in `clojure.core`
 abbrev pub core_name_at : List ℕ → Option ℕ → Option (List ℕ)
-core_name_at s (Some slash) = if bytes_eq (take slash s) (codes "clojure.core") then Some (drop (slash + 1) s) else None
+core_name_at s (Some slash) = if bytes_eq (take slash s) (codes "clojure.core")
+    then Some (drop (slash + 1) s) else None
 core_name_at s None = None
 
 unfoldable pub core_name : List ℕ → Option (List ℕ)
@@ -40,24 +41,24 @@ local_resolution None = None
 -- as far as that can be known without an ask
 abbrev pub known_by : PlaceData → List ℕ → Option (List ℕ) → Option ResolutionData
 known_by p s (Some name) = Some (core_resolution s name (function_named name))
-known_by p s None = local_resolution (value_of p.locals s)
+known_by p s None = local_resolution (local_value p.locals s)
 
-abbrev pub known : PlaceData → List ℕ → Option ResolutionData
-known p s = known_by p s (core_name s)
+abbrev pub known_resolution : PlaceData → List ℕ → Option ResolutionData
+known_resolution p s = known_by p s (core_name s)
 
-abbrev pub asked : PlaceData → List ℕ → Part ResolutionData
-asked p s next kept = resolving (resolve (space_of p kept) s) next kept
+abbrev pub asked_resolution : PlaceData → List ℕ → Part ResolutionData
+asked_resolution p s next kept = resolving (resolve (space_of p kept) s) next kept
 
 abbrev pub known_or_asked : PlaceData → List ℕ → Option ResolutionData → Part ResolutionData
-known_or_asked p s (Some r) = done r
-known_or_asked p s None = asked p s
+known_or_asked p s (Some r) = pure_part r
+known_or_asked p s None = asked_resolution p s
 
 abbrev pub resolution : PlaceData → List ℕ → Part ResolutionData
-resolution p s = known_or_asked p s (known p s)
+resolution p s = known_or_asked p s (known_resolution p s)
 
 -- in a value's place
 abbrev pub as_value : List ℕ → ResolutionData → Part Datum
-as_value s (names_value d) = done d
+as_value s (names_value d) = pure_part d
 as_value s (names_function f) = fails (failures.not_a_value s)
 as_value s (names_nothing f) = fails f
 
@@ -67,7 +68,7 @@ symbol_value p s = resolution p s >>= as_value s
 -- at the head of a list
 abbrev pub as_function : ResolutionData → Part NamedFunctionData
 as_function (names_value d) = fails (failures.not_a_function d)
-as_function (names_function f) = done f
+as_function (names_function f) = pure_part f
 as_function (names_nothing f) = fails f
 
 -- in the place of a function's argument, which is a function's name

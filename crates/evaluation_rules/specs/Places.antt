@@ -10,8 +10,8 @@ pub record PlaceData : Type 0 where
   pub home : Option (List ℕ)
 
 -- how a form is evaluated in a place
-abbrev pub Walk : Type 0
-Walk = PlaceData → Datum → Part Datum
+abbrev pub Evaluator : Type 0
+Evaluator = PlaceData → Datum → Part Datum
 
 -- outside of functions and of `let`
 abbrev pub outside : PlaceData

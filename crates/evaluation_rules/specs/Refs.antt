@@ -1,14 +1,18 @@
--- Reads and sets of refs, and what else is asked of the store (the Clojure reference, Refs and Transactions).
-use Rattle.std.specs.Prelude.{List, Bool, true, false, Option, Some, None, Result, Ok, Err, if◌then◌else◌}
+-- Reads and sets of refs, and what else is asked of the store (the Clojure reference, Refs and
+-- Transactions).
+use Rattle.std.specs.Prelude.{List, Bool, true, false, Option, Some, None, Result, Ok, Err}
+use Rattle.std.specs.Prelude.{if◌then◌else◌}
 use Rattle.value_data.specs.Datum.{Datum}
-use Rattle.repl_faults.specs.Failure.{Failure, broken}
+use Rattle.repl_faults.specs.Failure.{Failure, broken_rule}
 use Rattle.repl_faults.specs.declared.rule.Rule.{Rule}
 use Rattle.function_names.specs.declared.store.StoreFunction.{StoreFunction}
-use Rattle.repl_asks.specs.Transactions.{RefNameData}
+use Rattle.repl_asks.specs.Transactions.{RefNameData, may_hold}
 use Rattle.repl_asks.specs.Exchange.{AskData, read, ReadingData, found, retry, reading_in, value_in}
-use Rattle.tx_attempt.specs.Operations.{got, put, ensured, value_of, is_commuted}
-use Rattle.store_calls.specs.Calling.{CallData, refused, reads, puts, ensures, asks_value, call_of, may_hold}
-use Rattle.evaluation_rules.specs.Doing.{left, failed, retried, asking, looking, noting, Part, ◌>>=◌, fails}
+use Rattle.tx_attempt.specs.Accesses.{got, put, ensured, attempt_value, is_commuted}
+use Rattle.store_calls.specs.Calling.{CallData, refused, reads, puts, ensures, asks_value}
+use Rattle.store_calls.specs.Calling.{call_data_of}
+use Rattle.evaluation_rules.specs.Doing.{left, failed, retried, asking, looking, noting, Part}
+use Rattle.evaluation_rules.specs.Doing.{◌>>=◌, fails}
 
 -- A value that was read is noted. One that is kept no longer ends the attempt, and another is made.
 abbrev pub read_value : RefNameData → ReadingData → Part Datum
@@ -17,15 +21,16 @@ read_value name retry next kept = left retried kept
 
 abbrev pub known_or_read : RefNameData → Option Datum → Part Datum
 known_or_read name (Some d) next kept = next d kept
-known_or_read name None next kept = asking (read name) (λ answer. read_value name (reading_in answer) next kept)
+known_or_read name None next kept =
+    asking (read name) (λ answer. read_value name (reading_in answer) next kept)
 
 -- the value that the attempt knows, else that which is read
 abbrev pub ref_value : RefNameData → Part Datum
-ref_value name next kept = looking (λ ops. known_or_read name (value_of name ops) next kept)
+ref_value name next kept = looking (λ ops. known_or_read name (attempt_value name ops) next kept)
 
 -- A ref is set, and the value given. One that was commuted is set no more.
 abbrev pub put_by : RefNameData → Datum → Bool → Part Datum
-put_by name d true next kept = left (failed (broken Rule.NoSetAfterCommute)) kept
+put_by name d true next kept = left (failed (broken_rule Rule.NoSetAfterCommute)) kept
 put_by name d false next kept = noting (put name d) (next d kept)
 
 unfoldable pub put_value : RefNameData → Datum → Part Datum
@@ -33,7 +38,8 @@ put_value name d next kept = looking (λ ops. put_by name d (is_commuted name op
 
 -- the same, where the ref may hold it
 unfoldable pub held_value : RefNameData → Datum → Part Datum
-held_value name d = if may_hold name.owner d then put_value name d else fails (broken Rule.SharedRefsArePlain)
+held_value name d = if may_hold name.owner d then put_value name d
+    else fails (broken_rule Rule.SharedRefsArePlain)
 
 -- the value of a ref that nobody else is to change
 abbrev pub ensure_noted : RefNameData → Datum → Part Datum
@@ -58,9 +64,10 @@ called_value (asks_value ask) = asked_value ask
 
 -- a call of a function that asks the store
 unfoldable pub store_call : StoreFunction → List Datum → Part Datum
-store_call f args next kept = called_value (call_of f kept.running args) next kept
+store_call f args next kept = called_value (call_data_of f kept.running args) next kept
 
 -- `alter` and `commute` read a ref and go on with its value
-abbrev pub altered : Result RefNameData Failure → (RefNameData → Datum → Part Datum) → Part Datum
-altered (Ok name) behind = ref_value name >>= behind name
-altered (Err f) behind = fails f
+abbrev pub altered_value : Result RefNameData Failure → (RefNameData → Datum → Part Datum)
+    → Part Datum
+altered_value (Ok name) behind = ref_value name >>= behind name
+altered_value (Err f) behind = fails f

@@ -1,4 +1,5 @@
--- The names of the functions that need no store, and the numbers of arguments that each takes, group by group.
+-- The names of the functions that need no store, and the numbers of arguments that each takes,
+-- group by group.
 use Rattle.std.specs.Prelude.{ℕ, List, Bool, true, Option, Some, None}
 use Rattle.core_integers.specs.Names as integers
 use Rattle.core_predicates.specs.Names as predicates

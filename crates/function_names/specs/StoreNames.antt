@@ -1,6 +1,7 @@
--- The names of the functions that ask the store, and the numbers of arguments that each takes (the Clojure reference,
--- Refs and Transactions).
-use Rattle.std.specs.Prelude.{ℕ, List, Bool, ◌||◌, Option, Some, None, if◌then◌else◌, ◌==◌, nat_le, codes}
+-- The names of the functions that ask the store, and the numbers of arguments that each takes (the
+-- Clojure reference, Refs and Transactions).
+use Rattle.std.specs.Prelude.{ℕ, List, Bool, ◌||◌, Option, Some, None, if◌then◌else◌, ◌==◌, nat_le}
+use Rattle.std.specs.Prelude.{codes}
 use Rattle.std.specs.Str.{bytes_eq}
 use Rattle.function_names.specs.declared.store.StoreFunction.{StoreFunction}
 

@@ -15,6 +15,9 @@ pub(crate) enum Given<'a> {
     Map(&'a [(i64, i64)]),
 }
 
+// A function, its arguments, and the print of its value, or of the fault as a value.
+pub(crate) type Row = (&'static str, &'static [Given<'static>], &'static str);
+
 pub(crate) const OUT_OF_BOUNDS: &str =
     "#error{java.lang.IndexOutOfBoundsException: Index out of bounds}";
 

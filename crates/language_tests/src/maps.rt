@@ -1,5 +1,6 @@
 // Each function once on its happy path and once on each of its faults, as the language's rules say.
-use crate::given::{Given, OUT_OF_BOUNDS, printed_outcome, values_of, wrong_argument};
+use crate::given::Given::{Int, List, Map, Nil, Text, Vector};
+use crate::given::{Given, OUT_OF_BOUNDS, Row, printed_outcome, values_of};
 use core_maps::{MapFunction, apply_maps};
 use std::alloc::{AllocError, Global};
 use std::process::Abort;
@@ -21,276 +22,154 @@ fn expect(
         panic!(rt; "wrong number of arguments");
     }
     let text = printed_outcome(alloc, apply_maps(alloc, function, args.as_slice()))?;
-    assert_eq!(rt; text.as_str(), wanted);
+    assert_eq!(rt; text.as_str(), wanted, "at {name}");
     Ok(())
 }
 
-// What a table's row gives for a wrong argument.
-fn refuse(
-    rt: &impl Abort,
-    alloc: Global,
-    name: &str,
-    given: &[Given],
-    named: &str,
-) -> Result<(), AllocError> {
-    let wanted = wrong_argument(alloc, name, named)?;
-    expect(rt, alloc, name, given, wanted.as_str())
+fn check(rt: &impl Abort, alloc: Global, rows: &[Row]) -> Result<(), Fail> {
+    for (name, given, wanted) in rows {
+        expect(rt, alloc, name, given, wanted)?;
+    }
+    Ok(())
 }
+
+const MAKERS: [Row; 4] = [
+    ("hash-map", &[], "{}"),
+    (
+        "hash-map",
+        &[Int(1), Int(2), Int(3), Int(4), Int(1), Int(5)],
+        "{1 5, 3 4}",
+    ),
+    (
+        "hash-map",
+        &[List(&[1]), Int(2), Vector(&[1]), Int(3)],
+        "{(1) 3}",
+    ),
+    (
+        "hash-map",
+        &[Int(1), Int(2), Text("k")],
+        "#error{java.lang.IllegalArgumentException: No value supplied for key: \"k\"}",
+    ),
+];
 
 #[test]
 fn maps_are_made(rt: HostRuntime) -> Result<(), Fail> {
-    let a = rt.alloc();
-    expect(&rt, a, "hash-map", &[], "{}")?;
-    let repeated = [
-        Given::Int(1),
-        Given::Int(2),
-        Given::Int(3),
-        Given::Int(4),
-        Given::Int(1),
-        Given::Int(5),
-    ];
-    expect(&rt, a, "hash-map", &repeated, "{1 5, 3 4}")?;
-    let equal = [
-        Given::List(&[1]),
-        Given::Int(2),
-        Given::Vector(&[1]),
-        Given::Int(3),
-    ];
-    expect(&rt, a, "hash-map", &equal, "{(1) 3}")?;
-    let odd = [Given::Int(1), Given::Int(2), Given::Text("k")];
-    expect(
-        &rt,
-        a,
-        "hash-map",
-        &odd,
-        "#error{java.lang.IllegalArgumentException: No value supplied for key: \"k\"}",
-    )?;
-    Ok(())
+    check(&rt, rt.alloc(), &MAKERS)
 }
+
+const VALUES: [Row; 8] = [
+    ("get", &[Map(&[(1, 2), (3, 4)]), Int(3)], "4"),
+    ("get", &[Map(&[(1, 2)]), Int(9)], "nil"),
+    ("get", &[Map(&[(1, 2)]), Int(9), Int(0)], "0"),
+    ("get", &[Vector(&[7, 8]), Int(1)], "8"),
+    ("get", &[Vector(&[7, 8]), Int(-1), Int(0)], "0"),
+    ("get", &[Vector(&[7, 8]), Text("a")], "nil"),
+    ("get", &[List(&[7, 8]), Int(1)], "nil"),
+    ("get", &[Int(5), Int(1), Int(0)], "0"),
+];
 
 #[test]
 fn values_by_key(rt: HostRuntime) -> Result<(), Fail> {
-    let a = rt.alloc();
-    expect(
-        &rt,
-        a,
-        "get",
-        &[Given::Map(&[(1, 2), (3, 4)]), Given::Int(3)],
-        "4",
-    )?;
-    expect(
-        &rt,
-        a,
-        "get",
-        &[Given::Map(&[(1, 2)]), Given::Int(9)],
-        "nil",
-    )?;
-    expect(
-        &rt,
-        a,
-        "get",
-        &[Given::Map(&[(1, 2)]), Given::Int(9), Given::Int(0)],
-        "0",
-    )?;
-    expect(&rt, a, "get", &[Given::Vector(&[7, 8]), Given::Int(1)], "8")?;
-    expect(
-        &rt,
-        a,
-        "get",
-        &[Given::Vector(&[7, 8]), Given::Int(-1), Given::Int(0)],
-        "0",
-    )?;
-    expect(
-        &rt,
-        a,
-        "get",
-        &[Given::Vector(&[7, 8]), Given::Text("a")],
-        "nil",
-    )?;
-    expect(&rt, a, "get", &[Given::List(&[7, 8]), Given::Int(1)], "nil")?;
-    expect(
-        &rt,
-        a,
-        "get",
-        &[Given::Int(5), Given::Int(1), Given::Int(0)],
-        "0",
-    )?;
-    Ok(())
+    check(&rt, rt.alloc(), &VALUES)
 }
+
+const PRESENCE: [Row; 7] = [
+    ("contains?", &[Map(&[(1, 2)]), Int(1)], "true"),
+    ("contains?", &[Map(&[(1, 2)]), Int(2)], "false"),
+    ("contains?", &[Vector(&[7, 8]), Int(1)], "true"),
+    ("contains?", &[Vector(&[7, 8]), Int(2)], "false"),
+    ("contains?", &[Vector(&[7, 8]), Text("a")], "false"),
+    ("contains?", &[Nil, Int(1)], "false"),
+    (
+        "contains?",
+        &[List(&[1]), Int(0)],
+        "#error{java.lang.ClassCastException: Wrong argument to contains?: (1)}",
+    ),
+];
 
 #[test]
 fn what_is_there(rt: HostRuntime) -> Result<(), Fail> {
-    let a = rt.alloc();
-    expect(
-        &rt,
-        a,
-        "contains?",
-        &[Given::Map(&[(1, 2)]), Given::Int(1)],
-        "true",
-    )?;
-    expect(
-        &rt,
-        a,
-        "contains?",
-        &[Given::Map(&[(1, 2)]), Given::Int(2)],
-        "false",
-    )?;
-    expect(
-        &rt,
-        a,
-        "contains?",
-        &[Given::Vector(&[7, 8]), Given::Int(1)],
-        "true",
-    )?;
-    expect(
-        &rt,
-        a,
-        "contains?",
-        &[Given::Vector(&[7, 8]), Given::Int(2)],
-        "false",
-    )?;
-    expect(
-        &rt,
-        a,
-        "contains?",
-        &[Given::Vector(&[7, 8]), Given::Text("a")],
-        "false",
-    )?;
-    expect(&rt, a, "contains?", &[Given::Nil, Given::Int(1)], "false")?;
-    refuse(
-        &rt,
-        a,
-        "contains?",
-        &[Given::List(&[1]), Given::Int(0)],
-        "(1)",
-    )?;
-    Ok(())
+    check(&rt, rt.alloc(), &PRESENCE)
 }
+
+const MORE: [Row; 8] = [
+    (
+        "assoc",
+        &[Map(&[(1, 2), (3, 4)]), Int(1), Int(5), Int(6), Int(7)],
+        "{1 5, 3 4, 6 7}",
+    ),
+    ("assoc", &[Nil, Int(1), Int(5)], "{1 5}"),
+    (
+        "assoc",
+        &[Vector(&[7, 8]), Int(0), Int(5), Int(2), Int(9)],
+        "[5 8 9]",
+    ),
+    (
+        "assoc",
+        &[Vector(&[]), Int(0), Int(5), Int(1), Int(6)],
+        "[5 6]",
+    ),
+    ("assoc", &[Vector(&[7]), Int(2), Int(9)], OUT_OF_BOUNDS),
+    ("assoc", &[Vector(&[7]), Int(-1), Int(9)], OUT_OF_BOUNDS),
+    (
+        "assoc",
+        &[Vector(&[1]), Int(5), Int(0), Text("a"), Int(1)],
+        "#error{java.lang.ClassCastException: Wrong argument to assoc: \"a\"}",
+    ),
+    (
+        "assoc",
+        &[List(&[1]), Int(0), Int(0)],
+        "#error{java.lang.ClassCastException: Wrong argument to assoc: (1)}",
+    ),
+];
 
 #[test]
 fn more_is_put(rt: HostRuntime) -> Result<(), Fail> {
-    let a = rt.alloc();
-    expect(
-        &rt,
-        a,
-        "assoc",
-        &[
-            Given::Map(&[(1, 2), (3, 4)]),
-            Given::Int(1),
-            Given::Int(5),
-            Given::Int(6),
-            Given::Int(7),
-        ],
-        "{1 5, 3 4, 6 7}",
-    )?;
-    expect(
-        &rt,
-        a,
-        "assoc",
-        &[Given::Nil, Given::Int(1), Given::Int(5)],
-        "{1 5}",
-    )?;
-    expect(
-        &rt,
-        a,
-        "assoc",
-        &[
-            Given::Vector(&[7, 8]),
-            Given::Int(0),
-            Given::Int(5),
-            Given::Int(2),
-            Given::Int(9),
-        ],
-        "[5 8 9]",
-    )?;
-    expect(
-        &rt,
-        a,
-        "assoc",
-        &[
-            Given::Vector(&[]),
-            Given::Int(0),
-            Given::Int(5),
-            Given::Int(1),
-            Given::Int(6),
-        ],
-        "[5 6]",
-    )?;
-    expect(
-        &rt,
-        a,
-        "assoc",
-        &[Given::Vector(&[7]), Given::Int(2), Given::Int(9)],
-        OUT_OF_BOUNDS,
-    )?;
-    expect(
-        &rt,
-        a,
-        "assoc",
-        &[Given::Vector(&[7]), Given::Int(-1), Given::Int(9)],
-        OUT_OF_BOUNDS,
-    )?;
-    refuse(
-        &rt,
-        a,
-        "assoc",
-        &[
-            Given::Vector(&[1]),
-            Given::Int(5),
-            Given::Int(0),
-            Given::Text("a"),
-            Given::Int(1),
-        ],
-        "\"a\"",
-    )?;
-    refuse(
-        &rt,
-        a,
-        "assoc",
-        &[Given::List(&[1]), Given::Int(0), Given::Int(0)],
-        "(1)",
-    )?;
-    Ok(())
+    check(&rt, rt.alloc(), &MORE)
 }
+
+const REMOVALS: [Row; 4] = [
+    (
+        "dissoc",
+        &[Map(&[(1, 2), (3, 4), (5, 6)]), Int(3), Int(9)],
+        "{1 2, 5 6}",
+    ),
+    ("dissoc", &[Map(&[(1, 2)])], "{1 2}"),
+    ("dissoc", &[Nil, Int(1)], "nil"),
+    (
+        "dissoc",
+        &[Vector(&[1]), Int(0)],
+        "#error{java.lang.ClassCastException: Wrong argument to dissoc: [1]}",
+    ),
+];
 
 #[test]
 fn keys_are_taken_out(rt: HostRuntime) -> Result<(), Fail> {
-    let a = rt.alloc();
-    expect(
-        &rt,
-        a,
-        "dissoc",
-        &[
-            Given::Map(&[(1, 2), (3, 4), (5, 6)]),
-            Given::Int(3),
-            Given::Int(9),
-        ],
-        "{1 2, 5 6}",
-    )?;
-    expect(&rt, a, "dissoc", &[Given::Map(&[(1, 2)])], "{1 2}")?;
-    expect(&rt, a, "dissoc", &[Given::Nil, Given::Int(1)], "nil")?;
-    refuse(
-        &rt,
-        a,
-        "dissoc",
-        &[Given::Vector(&[1]), Given::Int(0)],
-        "[1]",
-    )?;
-    Ok(())
+    check(&rt, rt.alloc(), &REMOVALS)
 }
+
+const PARTS: [Row; 8] = [
+    ("keys", &[Map(&[(1, 2), (3, 4)])], "(1 3)"),
+    ("keys", &[Map(&[])], "nil"),
+    ("keys", &[Nil], "nil"),
+    (
+        "keys",
+        &[List(&[])],
+        "#error{java.lang.ClassCastException: Wrong argument to keys: ()}",
+    ),
+    ("vals", &[Map(&[(1, 2), (3, 4)])], "(2 4)"),
+    ("vals", &[Map(&[])], "nil"),
+    ("vals", &[Nil], "nil"),
+    (
+        "vals",
+        &[Vector(&[])],
+        "#error{java.lang.ClassCastException: Wrong argument to vals: []}",
+    ),
+];
 
 #[test]
 fn keys_and_values(rt: HostRuntime) -> Result<(), Fail> {
-    let a = rt.alloc();
-    expect(&rt, a, "keys", &[Given::Map(&[(1, 2), (3, 4)])], "(1 3)")?;
-    expect(&rt, a, "keys", &[Given::Map(&[])], "nil")?;
-    expect(&rt, a, "keys", &[Given::Nil], "nil")?;
-    refuse(&rt, a, "keys", &[Given::List(&[])], "()")?;
-    expect(&rt, a, "vals", &[Given::Map(&[(1, 2), (3, 4)])], "(2 4)")?;
-    expect(&rt, a, "vals", &[Given::Map(&[])], "nil")?;
-    expect(&rt, a, "vals", &[Given::Nil], "nil")?;
-    refuse(&rt, a, "vals", &[Given::Vector(&[])], "[]")?;
-    Ok(())
+    check(&rt, rt.alloc(), &PARTS)
 }
 
 #[test]

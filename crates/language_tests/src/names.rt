@@ -105,17 +105,24 @@ fn names_and_numbers_of_arguments(rt: HostRuntime) -> Result<(), Fail> {
             "assoc of {arguments}"
         );
     }
-    for name in [
-        "",
-        "modulo",
-        "INC",
-        "clojure.core/+",
-        "if",
-        "ns",
-        "in-ns",
-        "deref",
-        "swap!",
-    ] {
+    Ok(())
+}
+
+const UNKNOWN_NAMES: &[&str] = &[
+    "",
+    "modulo",
+    "INC",
+    "clojure.core/+",
+    "if",
+    "ns",
+    "in-ns",
+    "deref",
+    "swap!",
+];
+
+#[test]
+fn other_names_are_unknown(rt: HostRuntime) -> Result<(), Fail> {
+    for name in UNKNOWN_NAMES {
         assert!(&rt; !knows(name), "{name}");
         assert!(&rt; !arity_fits(name, 1), "{name}");
     }

@@ -76,77 +76,81 @@ fn forms_are_read(rt: HostRuntime) -> Result<(), Fail> {
     Ok(())
 }
 
+// A text, its forms before its fault, and the kind, place and message of the fault.
+type Faulty = (&'static str, &'static str, FaultKind, usize, &'static str);
+
+const FAULTS: [Faulty; 30] = [
+    ("1 (", "1 ", Eof, 3, "EOF while reading"),
+    ("\"é\\", "", Eof, 4, "EOF while reading"),
+    ("'#_", "", Eof, 3, "EOF while reading"),
+    ("#", "", Eof, 1, "EOF while reading"),
+    ("é )", "é ", Unmatched, 3, "Unmatched delimiter: )"),
+    ("(1]", "", Unmatched, 2, "Unmatched delimiter: ]"),
+    ("(1 #_)", "", Unmatched, 5, "Unmatched delimiter: )"),
+    ("{'}", "", Unmatched, 2, "Unmatched delimiter: }"),
+    ("1 -01", "1 ", BadNumber, 2, "Invalid number: -01"),
+    ("1.5", "", BadNumber, 0, "Invalid number: 1.5"),
+    ("→ 1é", "→ ", BadNumber, 4, "Invalid number: 1é"),
+    (
+        "9223372036854775808",
+        "",
+        BadNumber,
+        0,
+        "Invalid number: 9223372036854775808",
+    ),
+    ("é ::a", "é ", BadToken, 3, "Invalid token: ::a"),
+    (":", "", BadToken, 0, "Invalid token: :"),
+    ("a/b/c", "", BadToken, 0, "Invalid token: a/b/c"),
+    ("/a", "", BadToken, 0, "Invalid token: /a"),
+    ("#_a/", "", BadToken, 2, "Invalid token: a/"),
+    (
+        "\"a\\é\"",
+        "",
+        BadEscape,
+        2,
+        "Unsupported escape character: \\é",
+    ),
+    (
+        "1 \"\\u0041\"",
+        "1 ",
+        BadEscape,
+        3,
+        "Unsupported escape character: \\u",
+    ),
+    ("#→", "", BadDispatch, 0, "No dispatch macro for: →"),
+    ("[#{1}]", "", BadDispatch, 1, "No dispatch macro for: {"),
+    ("a^b", "a ", BadChar, 1, "Unsupported reader character: ^"),
+    ("é~", "é ", BadChar, 2, "Unsupported reader character: ~"),
+    ("\\a", "", BadChar, 0, "Unsupported reader character: \\"),
+    ("(`a)", "", BadChar, 1, "Unsupported reader character: `"),
+    (
+        "{1}",
+        "",
+        OddMap,
+        2,
+        "Map literal must contain an even number of forms",
+    ),
+    (
+        "{1 2 1}",
+        "",
+        OddMap,
+        6,
+        "Map literal must contain an even number of forms",
+    ),
+    ("{1 2 1 3}", "", SameKey, 8, "Duplicate key: 1"),
+    ("{[1] 1 (1) 2}", "", SameKey, 12, "Duplicate key: (1)"),
+    (
+        "é {\"→\" 1 \"→\" 2 1 2 1 2}",
+        "é ",
+        SameKey,
+        27,
+        "Duplicate key: \"→\"",
+    ),
+];
+
 #[test]
 fn faults_end_a_text(rt: HostRuntime) -> Result<(), Fail> {
-    let rows: [(&str, &str, FaultKind, usize, &'static str); 30] = [
-        ("1 (", "1 ", Eof, 3, "EOF while reading"),
-        ("\"é\\", "", Eof, 4, "EOF while reading"),
-        ("'#_", "", Eof, 3, "EOF while reading"),
-        ("#", "", Eof, 1, "EOF while reading"),
-        ("é )", "é ", Unmatched, 3, "Unmatched delimiter: )"),
-        ("(1]", "", Unmatched, 2, "Unmatched delimiter: ]"),
-        ("(1 #_)", "", Unmatched, 5, "Unmatched delimiter: )"),
-        ("{'}", "", Unmatched, 2, "Unmatched delimiter: }"),
-        ("1 -01", "1 ", BadNumber, 2, "Invalid number: -01"),
-        ("1.5", "", BadNumber, 0, "Invalid number: 1.5"),
-        ("→ 1é", "→ ", BadNumber, 4, "Invalid number: 1é"),
-        (
-            "9223372036854775808",
-            "",
-            BadNumber,
-            0,
-            "Invalid number: 9223372036854775808",
-        ),
-        ("é ::a", "é ", BadToken, 3, "Invalid token: ::a"),
-        (":", "", BadToken, 0, "Invalid token: :"),
-        ("a/b/c", "", BadToken, 0, "Invalid token: a/b/c"),
-        ("/a", "", BadToken, 0, "Invalid token: /a"),
-        ("#_a/", "", BadToken, 2, "Invalid token: a/"),
-        (
-            "\"a\\é\"",
-            "",
-            BadEscape,
-            2,
-            "Unsupported escape character: \\é",
-        ),
-        (
-            "1 \"\\u0041\"",
-            "1 ",
-            BadEscape,
-            3,
-            "Unsupported escape character: \\u",
-        ),
-        ("#→", "", BadDispatch, 0, "No dispatch macro for: →"),
-        ("[#{1}]", "", BadDispatch, 1, "No dispatch macro for: {"),
-        ("a^b", "a ", BadChar, 1, "Unsupported reader character: ^"),
-        ("é~", "é ", BadChar, 2, "Unsupported reader character: ~"),
-        ("\\a", "", BadChar, 0, "Unsupported reader character: \\"),
-        ("(`a)", "", BadChar, 1, "Unsupported reader character: `"),
-        (
-            "{1}",
-            "",
-            OddMap,
-            2,
-            "Map literal must contain an even number of forms",
-        ),
-        (
-            "{1 2 1}",
-            "",
-            OddMap,
-            6,
-            "Map literal must contain an even number of forms",
-        ),
-        ("{1 2 1 3}", "", SameKey, 8, "Duplicate key: 1"),
-        ("{[1] 1 (1) 2}", "", SameKey, 12, "Duplicate key: (1)"),
-        (
-            "é {\"→\" 1 \"→\" 2 1 2 1 2}",
-            "é ",
-            SameKey,
-            27,
-            "Duplicate key: \"→\"",
-        ),
-    ];
-    for (text, forms, kind, at, told) in rows {
+    for (text, forms, kind, at, told) in FAULTS {
         assert!(rt;
             is_read(rt.alloc(), text, forms, Some((kind, at, told)))?,
             "{text}"

@@ -1,5 +1,6 @@
 // Each function once on its happy path and once on each of its faults, as the language's rules say.
-use crate::given::{Given, OUT_OF_BOUNDS, printed_outcome, values_of, wrong_argument};
+use crate::given::Given::{Int, List, Map, Nil, Text, Vector};
+use crate::given::{Given, OUT_OF_BOUNDS, Row, printed_outcome, values_of, wrong_argument};
 use core_sequences::{SequenceFunction, apply_sequences};
 use std::alloc::{AllocError, Global};
 use std::process::Abort;
@@ -21,44 +22,49 @@ fn expect(
         panic!(rt; "wrong number of arguments");
     }
     let text = printed_outcome(alloc, apply_sequences(alloc, function, args.as_slice()))?;
-    assert_eq!(rt; text.as_str(), wanted);
+    assert_eq!(rt; text.as_str(), wanted, "at {name}");
     Ok(())
 }
+
+fn check(rt: &impl Abort, alloc: Global, rows: &[Row]) -> Result<(), Fail> {
+    for (name, given, wanted) in rows {
+        expect(rt, alloc, name, given, wanted)?;
+    }
+    Ok(())
+}
+
+const MAKERS: [Row; 4] = [
+    ("list", &[], "()"),
+    ("list", &[Int(1), Nil], "(1 nil)"),
+    ("vector", &[], "[]"),
+    ("vector", &[Int(1), List(&[2])], "[1 (2)]"),
+];
 
 #[test]
 fn makers(rt: HostRuntime) -> Result<(), Fail> {
-    let a = rt.alloc();
-    expect(&rt, a, "list", &[], "()")?;
-    expect(&rt, a, "list", &[Given::Int(1), Given::Nil], "(1 nil)")?;
-    expect(&rt, a, "vector", &[], "[]")?;
-    expect(
-        &rt,
-        a,
-        "vector",
-        &[Given::Int(1), Given::List(&[2])],
-        "[1 (2)]",
-    )?;
-    Ok(())
+    check(&rt, rt.alloc(), &MAKERS)
 }
+
+const ITEMS: [Row; 14] = [
+    ("first", &[List(&[1, 2])], "1"),
+    ("first", &[Nil], "nil"),
+    ("first", &[Map(&[(1, 2), (3, 4)])], "[1 2]"),
+    ("last", &[Vector(&[1, 2])], "2"),
+    ("last", &[List(&[])], "nil"),
+    ("last", &[Map(&[(1, 2), (3, 4)])], "[3 4]"),
+    ("rest", &[Vector(&[1, 2, 3])], "(2 3)"),
+    ("rest", &[Nil], "()"),
+    ("rest", &[Map(&[(1, 2), (3, 4)])], "([3 4])"),
+    ("next", &[List(&[1, 2])], "(2)"),
+    ("next", &[List(&[1])], "nil"),
+    ("next", &[Vector(&[])], "nil"),
+    ("reverse", &[Vector(&[1, 2, 3])], "(3 2 1)"),
+    ("reverse", &[Nil], "()"),
+];
 
 #[test]
 fn items_of_one_value(rt: HostRuntime) -> Result<(), Fail> {
-    let a = rt.alloc();
-    expect(&rt, a, "first", &[Given::List(&[1, 2])], "1")?;
-    expect(&rt, a, "first", &[Given::Nil], "nil")?;
-    expect(&rt, a, "first", &[Given::Map(&[(1, 2), (3, 4)])], "[1 2]")?;
-    expect(&rt, a, "last", &[Given::Vector(&[1, 2])], "2")?;
-    expect(&rt, a, "last", &[Given::List(&[])], "nil")?;
-    expect(&rt, a, "last", &[Given::Map(&[(1, 2), (3, 4)])], "[3 4]")?;
-    expect(&rt, a, "rest", &[Given::Vector(&[1, 2, 3])], "(2 3)")?;
-    expect(&rt, a, "rest", &[Given::Nil], "()")?;
-    expect(&rt, a, "rest", &[Given::Map(&[(1, 2), (3, 4)])], "([3 4])")?;
-    expect(&rt, a, "next", &[Given::List(&[1, 2])], "(2)")?;
-    expect(&rt, a, "next", &[Given::List(&[1])], "nil")?;
-    expect(&rt, a, "next", &[Given::Vector(&[])], "nil")?;
-    expect(&rt, a, "reverse", &[Given::Vector(&[1, 2, 3])], "(3 2 1)")?;
-    expect(&rt, a, "reverse", &[Given::Nil], "()")?;
-    Ok(())
+    check(&rt, rt.alloc(), &ITEMS)
 }
 
 #[test]
@@ -67,204 +73,126 @@ fn what_has_no_items(rt: HostRuntime) -> Result<(), Fail> {
     let names = ["first", "last", "rest", "next", "reverse"];
     for name in names {
         let wanted = wrong_argument(a, name, "\"ab\"")?;
-        expect(&rt, a, name, &[Given::Text("ab")], wanted.as_str())?;
+        expect(&rt, a, name, &[Text("ab")], wanted.as_str())?;
     }
     Ok(())
 }
 
+const JOINS: [Row; 10] = [
+    ("cons", &[Int(1), Vector(&[2, 3])], "(1 2 3)"),
+    ("cons", &[Int(1), Nil], "(1)"),
+    ("cons", &[Int(1), Map(&[(2, 3)])], "(1 [2 3])"),
+    (
+        "cons",
+        &[Int(1), Int(2)],
+        "#error{java.lang.ClassCastException: Wrong argument to cons: 2}",
+    ),
+    ("conj", &[Nil], "nil"),
+    ("conj", &[Nil, Int(1), Int(2)], "(2 1)"),
+    ("conj", &[List(&[3]), Int(1), Int(2)], "(2 1 3)"),
+    ("conj", &[Vector(&[3]), Int(1), Int(2)], "[3 1 2]"),
+    ("conj", &[Vector(&[])], "[]"),
+    (
+        "conj",
+        &[Text("a"), Int(1)],
+        "#error{java.lang.ClassCastException: Wrong argument to conj: \"a\"}",
+    ),
+];
+
 #[test]
 fn joins(rt: HostRuntime) -> Result<(), Fail> {
-    let a = rt.alloc();
-    expect(
-        &rt,
-        a,
-        "cons",
-        &[Given::Int(1), Given::Vector(&[2, 3])],
-        "(1 2 3)",
-    )?;
-    expect(&rt, a, "cons", &[Given::Int(1), Given::Nil], "(1)")?;
-    expect(
-        &rt,
-        a,
-        "cons",
-        &[Given::Int(1), Given::Map(&[(2, 3)])],
-        "(1 [2 3])",
-    )?;
-    expect(
-        &rt,
-        a,
-        "cons",
-        &[Given::Int(1), Given::Int(2)],
-        "#error{java.lang.ClassCastException: Wrong argument to cons: 2}",
-    )?;
-    expect(&rt, a, "conj", &[Given::Nil], "nil")?;
-    expect(
-        &rt,
-        a,
-        "conj",
-        &[Given::Nil, Given::Int(1), Given::Int(2)],
-        "(2 1)",
-    )?;
-    expect(
-        &rt,
-        a,
-        "conj",
-        &[Given::List(&[3]), Given::Int(1), Given::Int(2)],
-        "(2 1 3)",
-    )?;
-    expect(
-        &rt,
-        a,
-        "conj",
-        &[Given::Vector(&[3]), Given::Int(1), Given::Int(2)],
-        "[3 1 2]",
-    )?;
-    expect(&rt, a, "conj", &[Given::Vector(&[])], "[]")?;
-    expect(
-        &rt,
-        a,
-        "conj",
-        &[Given::Text("a"), Given::Int(1)],
-        "#error{java.lang.ClassCastException: Wrong argument to conj: \"a\"}",
-    )?;
-    Ok(())
+    check(&rt, rt.alloc(), &JOINS)
 }
+
+const PAIRS: [Row; 5] = [
+    (
+        "conj",
+        &[
+            Map(&[(1, 2), (3, 4)]),
+            Vector(&[1, 5]),
+            Vector(&[6, 7]),
+            Vector(&[6, 8]),
+        ],
+        "{1 5, 3 4, 6 8}",
+    ),
+    ("conj", &[Map(&[])], "{}"),
+    (
+        "conj",
+        &[Map(&[]), Vector(&[1, 2]), List(&[1, 2])],
+        "#error{java.lang.ClassCastException: Wrong argument to conj: (1 2)}",
+    ),
+    (
+        "conj",
+        &[Map(&[]), Vector(&[1, 2, 3])],
+        "#error{java.lang.ClassCastException: Wrong argument to conj: [1 2 3]}",
+    ),
+    (
+        "conj",
+        &[Map(&[]), Nil, Vector(&[1])],
+        "#error{java.lang.ClassCastException: Wrong argument to conj: nil}",
+    ),
+];
 
 #[test]
 fn pairs_join_a_map(rt: HostRuntime) -> Result<(), Fail> {
-    let a = rt.alloc();
-    expect(
-        &rt,
-        a,
-        "conj",
-        &[
-            Given::Map(&[(1, 2), (3, 4)]),
-            Given::Vector(&[1, 5]),
-            Given::Vector(&[6, 7]),
-            Given::Vector(&[6, 8]),
-        ],
-        "{1 5, 3 4, 6 8}",
-    )?;
-    expect(&rt, a, "conj", &[Given::Map(&[])], "{}")?;
-    expect(
-        &rt,
-        a,
-        "conj",
-        &[
-            Given::Map(&[]),
-            Given::Vector(&[1, 2]),
-            Given::List(&[1, 2]),
-        ],
-        "#error{java.lang.ClassCastException: Wrong argument to conj: (1 2)}",
-    )?;
-    expect(
-        &rt,
-        a,
-        "conj",
-        &[Given::Map(&[]), Given::Vector(&[1, 2, 3])],
-        "#error{java.lang.ClassCastException: Wrong argument to conj: [1 2 3]}",
-    )?;
-    expect(
-        &rt,
-        a,
-        "conj",
-        &[Given::Map(&[]), Given::Nil, Given::Vector(&[1])],
-        "#error{java.lang.ClassCastException: Wrong argument to conj: nil}",
-    )?;
-    Ok(())
+    check(&rt, rt.alloc(), &PAIRS)
 }
+
+const COUNTS: [Row; 11] = [
+    ("count", &[Nil], "0"),
+    ("count", &[List(&[7, 8])], "2"),
+    ("count", &[Map(&[(1, 2), (3, 4)])], "2"),
+    ("count", &[Text("aé∷😀")], "4"),
+    (
+        "count",
+        &[Int(1)],
+        "#error{java.lang.ClassCastException: Wrong argument to count: 1}",
+    ),
+    ("empty?", &[Nil], "true"),
+    ("empty?", &[Text("")], "true"),
+    ("empty?", &[Text("a")], "false"),
+    ("empty?", &[Map(&[])], "true"),
+    ("empty?", &[Vector(&[1])], "false"),
+    (
+        "empty?",
+        &[Int(0)],
+        "#error{java.lang.ClassCastException: Wrong argument to empty?: 0}",
+    ),
+];
 
 #[test]
 fn how_many(rt: HostRuntime) -> Result<(), Fail> {
-    let a = rt.alloc();
-    expect(&rt, a, "count", &[Given::Nil], "0")?;
-    expect(&rt, a, "count", &[Given::List(&[7, 8])], "2")?;
-    expect(&rt, a, "count", &[Given::Map(&[(1, 2), (3, 4)])], "2")?;
-    expect(&rt, a, "count", &[Given::Text("aé∷😀")], "4")?;
-    expect(
-        &rt,
-        a,
-        "count",
-        &[Given::Int(1)],
-        "#error{java.lang.ClassCastException: Wrong argument to count: 1}",
-    )?;
-    expect(&rt, a, "empty?", &[Given::Nil], "true")?;
-    expect(&rt, a, "empty?", &[Given::Text("")], "true")?;
-    expect(&rt, a, "empty?", &[Given::Text("a")], "false")?;
-    expect(&rt, a, "empty?", &[Given::Map(&[])], "true")?;
-    expect(&rt, a, "empty?", &[Given::Vector(&[1])], "false")?;
-    expect(
-        &rt,
-        a,
-        "empty?",
-        &[Given::Int(0)],
-        "#error{java.lang.ClassCastException: Wrong argument to empty?: 0}",
-    )?;
-    Ok(())
+    check(&rt, rt.alloc(), &COUNTS)
 }
+
+const INDEXES: [Row; 10] = [
+    ("nth", &[Vector(&[7, 8]), Int(1)], "8"),
+    ("nth", &[List(&[7, 8]), Int(0), Nil], "7"),
+    ("nth", &[List(&[7, 8]), Int(2)], OUT_OF_BOUNDS),
+    ("nth", &[Vector(&[7, 8]), Int(-1)], OUT_OF_BOUNDS),
+    ("nth", &[Vector(&[7, 8]), Int(2), Int(9)], "9"),
+    ("nth", &[Nil, Int(0)], "nil"),
+    ("nth", &[Nil, Int(0), Int(9)], "9"),
+    (
+        "nth",
+        &[Map(&[(1, 2)]), Int(0)],
+        "#error{java.lang.ClassCastException: Wrong argument to nth: {1 2}}",
+    ),
+    (
+        "nth",
+        &[Nil, Text("a")],
+        "#error{java.lang.ClassCastException: Wrong argument to nth: \"a\"}",
+    ),
+    (
+        "nth",
+        &[Text("b"), Text("a")],
+        "#error{java.lang.ClassCastException: Wrong argument to nth: \"b\"}",
+    ),
+];
 
 #[test]
 fn items_by_index(rt: HostRuntime) -> Result<(), Fail> {
-    let a = rt.alloc();
-    expect(&rt, a, "nth", &[Given::Vector(&[7, 8]), Given::Int(1)], "8")?;
-    expect(
-        &rt,
-        a,
-        "nth",
-        &[Given::List(&[7, 8]), Given::Int(0), Given::Nil],
-        "7",
-    )?;
-    expect(
-        &rt,
-        a,
-        "nth",
-        &[Given::List(&[7, 8]), Given::Int(2)],
-        OUT_OF_BOUNDS,
-    )?;
-    expect(
-        &rt,
-        a,
-        "nth",
-        &[Given::Vector(&[7, 8]), Given::Int(-1)],
-        OUT_OF_BOUNDS,
-    )?;
-    expect(
-        &rt,
-        a,
-        "nth",
-        &[Given::Vector(&[7, 8]), Given::Int(2), Given::Int(9)],
-        "9",
-    )?;
-    expect(&rt, a, "nth", &[Given::Nil, Given::Int(0)], "nil")?;
-    expect(
-        &rt,
-        a,
-        "nth",
-        &[Given::Nil, Given::Int(0), Given::Int(9)],
-        "9",
-    )?;
-    expect(
-        &rt,
-        a,
-        "nth",
-        &[Given::Map(&[(1, 2)]), Given::Int(0)],
-        "#error{java.lang.ClassCastException: Wrong argument to nth: {1 2}}",
-    )?;
-    expect(
-        &rt,
-        a,
-        "nth",
-        &[Given::Nil, Given::Text("a")],
-        "#error{java.lang.ClassCastException: Wrong argument to nth: \"a\"}",
-    )?;
-    expect(
-        &rt,
-        a,
-        "nth",
-        &[Given::Text("b"), Given::Text("a")],
-        "#error{java.lang.ClassCastException: Wrong argument to nth: \"b\"}",
-    )?;
-    Ok(())
+    check(&rt, rt.alloc(), &INDEXES)
 }
 
 #[test]

@@ -8,6 +8,6 @@ pub record LocalData : Type 0 where
   pub bound : Datum
 
 -- the value of the newest local of this name
-abbrev pub value_of : List LocalData → List ℕ → Option Datum
-value_of [] s = None
-value_of (l ∷ ls) s = if bytes_eq l.name s then Some l.bound else value_of ls s
+abbrev pub local_value : List LocalData → List ℕ → Option Datum
+local_value [] s = None
+local_value (l ∷ ls) s = if bytes_eq l.name s then Some l.bound else local_value ls s

@@ -1,13 +1,14 @@
 // Locals are bound, unbound and found by their names.
 #![tactic(auto, using(crate::proofs::Places::place_steps))]
 
-ghost use Rattle.std.specs.Prelude.{◌≡◌, ◌<◌, ℕ, List, ◌∷◌, [], drop, map, OnOk, OnErr, option_map, is_some, Some, true};
+ghost use Rattle.std.specs.Prelude.{◌≡◌, ◌<◌, ℕ, List, ◌∷◌, [], drop, map, OnOk, OnErr, option_map};
+ghost use Rattle.std.specs.Prelude.{is_some, Some, true};
 ghost use Rattle.std.specs.VecDeque.{deque_len};
 ghost use Rattle.std.specs.BTreeMap.{get, Updates};
 ghost use Rattle.std.specs.Arc.{arc_str_bytes};
 ghost use Rattle.value_data.specs.View.{view};
-ghost use Rattle.local_names.specs.Locals.{LocalData, value_of};
-ghost use Rattle.local_names.specs.View.{by_bytes, local_view, place_of};
+ghost use Rattle.local_names.specs.Locals.{LocalData, local_value};
+ghost use Rattle.local_names.specs.View.{by_bytes, local_view, newest_place};
 
 use crate::local::Local;
 use crate::locals::Locals;
@@ -30,7 +31,8 @@ impl Locals {
     /// Binds a name, which hides what it was bound to before. It takes about the logarithm of the
     /// number of names, and fails only for want of memory; then all stays as it was.
     pub fn bind(&mut self, name: ArcStr, value: Value) -> Result<(), AllocError>
-        ensures bound { OnOk result (self.new ≡ record { name = arc_str_bytes name; bound = view value } ∷ self.old) }
+        ensures bound { OnOk result (self.new
+            ≡ record { name = arc_str_bytes name; bound = view value } ∷ self.old) }
         ensures stays { OnErr result (self.new ≡ self.old) }
     {
         let key = copy_text(&name)?;
@@ -42,8 +44,8 @@ impl Locals {
         Ok(())
     }
 
-    /// Takes the newest binding back, if there is one. It takes about the logarithm of the number of
-    /// names.
+    /// Takes the newest binding back, if there is one. It takes about the logarithm of the number
+    /// of names.
     pub fn unbind(&mut self)
         ensures { self.new ≡ drop 1 self.old }
     {
@@ -55,7 +57,8 @@ impl Locals {
 
     /// The value that the name is bound to. It takes about the logarithm of the number of names.
     pub fn value(&self, name: &ArcStr) -> Option<&Value>
-        ensures { option_map (λ v. view v.now) result ≡ value_of self.now (arc_str_bytes name.now) }
+        ensures { option_map (λ v. view v.now) result
+            ≡ local_value self.now (arc_str_bytes name.now) }
     {
         match self.index.get(name) {
             Some(place) => Some(value_at(&self.locals, *place)),
@@ -67,7 +70,8 @@ impl Locals {
 // The value of the local at the place, counted from the oldest.
 fn value_at(locals: &VecDeque<Local>, place: usize) -> &Value
     requires { place < deque_len locals.now }
-    ensures { (s : List ℕ) → place_of (map local_view locals.now.items) s ≡ Some place → value_of (map local_view locals.now.items) s ≡ Some (view result.now) }
+    ensures { (s : List ℕ) → newest_place (map local_view locals.now.items) s ≡ Some place
+        → local_value (map local_view locals.now.items) s ≡ Some (view result.now) }
 {
     &locals[locals.len() - 1 - place].value
 }

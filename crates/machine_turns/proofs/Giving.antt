@@ -1,38 +1,38 @@
 -- The turn of an actor gives no bytes.
 use Rattle.std.proofs.Common.{◌≡◌, ℕ, [], Option, Some, None, option_map, refl, sym, ap, subst, ◌∙◌}
 use Rattle.server_rules.specs.Ground.{Ground}
-use Rattle.server_rules.specs.Numbered.{found}
+use Rattle.server_rules.specs.Numbered.{part_under}
 use Rattle.server_rules.specs.Plan.{Deed, StepAnswer, Outcome, refuses, leaves}
-use Rattle.server_rules.specs.Turns.{bytes_in, goes, stepped, honest, quiet_of}
+use Rattle.server_rules.specs.Turns.{bytes_in, goes, turn_step, honest_deed, quiet_of}
 use Rattle.server_rules.specs.World.{TenantData, World, accepted, refused, ended_as}
 use Rattle.server_rules.specs.declared.actor.Actor.{Actor}
 use Rattle.server_rules.specs.declared.refusal.Refusal.{Refusal}
-use Rattle.tenant_turns.specs.Deeded.{Deeded}
+use Rattle.tenant_turns.specs.DeedResult.{DeedResult}
 use Rattle.tenant_turns.specs.Turns as turns
 use Rattle.tenant_turns.specs.Turns.{Lone}
 use Rattle.nrepl_pipe.proofs.Going.{go-gives}
 use Rattle.repl_core.specs.Standing.{open_in, store_in}
-use Rattle.repl_core.proofs.Honest.{honest-turn}
+use Rattle.repl_core.proofs.Honest.{honest_deed-turn}
 use Rattle.repl_core.proofs.Worlds.{deed_of, step-deed, step-none}
 
 abbrev lone_of : World → ℕ → TenantData → Lone
 lone_of w t kept = record { quiet = kept.quiet; store = store_in w.around t kept.mine }
 
 abbrev honest_of : Ground → Actor → TenantData → Deed
-honest_of g a kept = honest g a (Some (Some kept.quiet))
+honest_of g a kept = honest_deed g a (Some (Some kept.quiet))
 
 turn-as : (g : Ground) (w : World) (t : ℕ) (a : Actor) (kept : TenantData)
-    → turns.step g (lone_of w t kept) (turns.goes a)
+    → turns.lone_step g (lone_of w t kept) (turns.goes a)
     ≡ turns.ended_as (deed_of g w t kept (honest_of g a kept)).store
     (deed_of g w t kept (honest_of g a kept)).outcome
-unfolding turns.step
+unfolding turns.lone_step
 turn-as g w t a kept = refl
 
 pub goes-give : (g : Ground) (w after : World) (t : ℕ) (a : Actor) (answer : StepAnswer)
-    → stepped g w (goes t a) ≡ accepted after answer → bytes_in answer ≡ []
+    → turn_step g w (goes t a) ≡ accepted after answer → bytes_in answer ≡ []
 goes-give g w after t a answer is = by (open_in t w) refl
   where
-    given : (kept : TenantData) (e : Deeded) (outcome : Outcome) → e.outcome ≡ outcome
+    given : (kept : TenantData) (e : DeedResult) (outcome : Outcome) → e.outcome ≡ outcome
         → turns.bytes_given (turns.ended_as e.store e.outcome) ≡ []
         → ended_as w t e.store outcome ≡ accepted after answer → bytes_in answer ≡ []
     given kept e (refuses why) out gives never = absurd (cc)
@@ -44,11 +44,11 @@ goes-give g w after t a answer is = by (open_in t w) refl
     by : (it : Option TenantData) → open_in t w ≡ it → bytes_in answer ≡ []
     by None none =
         let never : refused Refusal.NoSuchTenant ≡ accepted after answer =
-        sym (step-none g w t (honest g a (option_map quiet_of (found t w.tenants))) none) ∙ is in
+        sym (step-none g w t (honest_deed g a (option_map quiet_of (part_under t w.tenants))) none) ∙ is in
         absurd (cc)
     by (Some kept) there =
         let e = deed_of g w t kept (honest_of g a kept) in
         given kept e e.outcome refl
         (ap turns.bytes_given (sym (turn-as g w t a kept)) ∙ go-gives g (lone_of w t kept) a)
-        (sym (honest-turn g w t a kept there ∙ step-deed g w t (honest_of g a kept) kept there)
+        (sym (honest_deed-turn g w t a kept there ∙ step-deed g w t (honest_of g a kept) kept there)
         ∙ is)

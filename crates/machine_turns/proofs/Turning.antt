@@ -1,18 +1,18 @@
 -- A list of turns, one after another.
-use Rattle.std.proofs.Common.{◌≡◌, ◌≢◌, ℕ, ◌+◌, ◌==◌, List, [], ◌∷◌, ◌++◌, length, Bool, true, false}
-use Rattle.std.proofs.Common.{refl, sym, ap, subst, ◌∙◌, if◌then◌else◌, append-nil, arith}
+use Rattle.std.proofs.Common.{◌≡◌, ◌≢◌, ℕ, ◌+◌, ◌==◌, List, [], ◌∷◌, ◌++◌, length, Bool, true}
+use Rattle.std.proofs.Common.{false, refl, sym, ap, subst, ◌∙◌, if◌then◌else◌, append-nil, arith}
 use Rattle.std.proofs.Common.{Result, Ok, Err, OnOk}
 use Rattle.std.proofs.lemmas.Bool.{eqb-true, eqb-false}
 use Rattle.server_rules.specs.Ground.{Ground}
 use Rattle.server_rules.specs.Plan.{StepAnswer}
 use Rattle.server_rules.specs.Turns as rules
-use Rattle.server_rules.specs.Turns.{Turn, whose, stepped, next, bytes_in, serve}
+use Rattle.server_rules.specs.Turns.{Turn, whose, turn_step, world_after, bytes_in, serve}
 use Rattle.server_rules.specs.World.{World, accepted, refused, world_or}
 use Rattle.server_rules.specs.declared.refusal.Refusal.{Refusal}
-use Rattle.repl_core.specs.Driving.{behind, with_refusal, refusals}
-use Rattle.repl_core.proofs.Driving.{behind-more, serve-one, refusals-one}
-use Rattle.machine_turns.specs.Driver.{Stands, Turned, Halted}
-use Rattle.machine_turns.specs.Driven.{Drives, Takes}
+use Rattle.repl_core.specs.Driving.{world_after_all, with_refusal, refusals}
+use Rattle.repl_core.proofs.Driving.{world_after_all-more, serve-one, refusals-one}
+use Rattle.machine_turns.specs.Driver.{Stands, AcceptsTurn, RefusesTurn}
+use Rattle.machine_turns.specs.Driven.{Drives, MakesTurn}
 use Rattle.machine_turns.specs.Turns.{drained_of, refused_in}
 use Rattle.machine_turns.specs.declared.driver.Driver.{Driver}
 use Rattle.machine_turns.specs.declared.outputs.Outputs.{Outputs}
@@ -33,19 +33,19 @@ given-so old new bytes t u mine others = by (t == u) refl
 nothing-so : (old : List ℕ) (t u : ℕ) → old ≡ old ++ (if t == u then [] else [])
 nothing-so old t u = given-so old old [] t u (λ e. sym (append-nil old)) (λ e. refl)
 
-accepted-next : (g : Ground) (w after : World) (turn : Turn) (answer : StepAnswer)
-    → stepped g w turn ≡ accepted after answer → next g w turn ≡ after
-accepted-next g w after turn answer is = ap (world_or w) is
+accepted-world_after : (g : Ground) (w after : World) (turn : Turn) (answer : StepAnswer)
+    → turn_step g w turn ≡ accepted after answer → world_after g w turn ≡ after
+accepted-world_after g w after turn answer is = ap (world_or w) is
 
 -- a turn that gave a reply
 pub takes-bytes : (g : Ground) (w after : World) (place : ℕ) (turn : Turn) (d : Driver)
     (old new : Outputs) (answer : StepAnswer) (bytes : List ℕ)
-    → stepped g w turn ≡ accepted after answer → bytes_in answer ≡ bytes → Stands g d after
+    → turn_step g w turn ≡ accepted after answer → bytes_in answer ≡ bytes → Stands g d after
     → drained_of new (whose turn) ≡ drained_of old (whose turn) ++ bytes
     → ((t : ℕ) → t ≢ whose turn → drained_of new t ≡ drained_of old t)
-    → refused_in new ≡ refused_in old → Takes g w place turn d old new
+    → refused_in new ≡ refused_in old → MakesTurn g w place turn d old new
 takes-bytes g w after place turn d old new answer bytes is gives stands mine others kept = record {
-  stands = subst (Stands g d) (sym (accepted-next g w after turn answer is)) stands;
+  stands = subst (Stands g d) (sym (accepted-world_after g w after turn answer is)) stands;
   served = λ t. given-so (drained_of old t) (drained_of new t) bytes t (whose turn)
       (λ e. subst (λ u. drained_of new u ≡ drained_of old u ++ bytes) (sym e) mine)
       (others t)
@@ -57,18 +57,18 @@ takes-bytes g w after place turn d old new answer bytes is gives stands mine oth
 
 -- a turn that gave none
 pub takes-nothing : (g : Ground) (w after : World) (place : ℕ) (turn : Turn) (d : Driver)
-    (outputs : Outputs) (answer : StepAnswer) → stepped g w turn ≡ accepted after answer
-    → bytes_in answer ≡ [] → Stands g d after → Takes g w place turn d outputs outputs
+    (outputs : Outputs) (answer : StepAnswer) → turn_step g w turn ≡ accepted after answer
+    → bytes_in answer ≡ [] → Stands g d after → MakesTurn g w place turn d outputs outputs
 takes-nothing g w after place turn d outputs answer is gives stands =
     takes-bytes g w after place turn d outputs outputs answer [] is gives stands
     (sym (append-nil (drained_of outputs (whose turn)))) (λ t apart. refl) refl
 
 -- a turn that was refused
 pub takes-refused : (g : Ground) (w : World) (place : ℕ) (turn : Turn) (d : Driver)
-    (old new : Outputs) (why : Refusal) → stepped g w turn ≡ refused why → Stands g d w
+    (old new : Outputs) (why : Refusal) → turn_step g w turn ≡ refused why → Stands g d w
     → ((t : ℕ) → drained_of new t ≡ drained_of old t)
     → refused_in new ≡ refused_in old ++ record { place = place; why = why } ∷ []
-    → Takes g w place turn d old new
+    → MakesTurn g w place turn d old new
 takes-refused g w place turn d old new why is stands same noted = record {
   stands = subst (Stands g d) (sym (ap (world_or w) is)) stands;
   served = λ t. same t ∙ nothing-so (drained_of old t) t (whose turn)
@@ -87,18 +87,18 @@ drives-none g w d o stands none unrefused = record {
 
 pub drives-more : (g : Ground) (w : World) (place : ℕ) (turns : List Turn) (turn : Turn)
     (before d : Driver) (old new : Outputs) → Drives g w turns before old → length turns ≡ place
-    → Takes g (behind g w turns) place turn d old new → Drives g w (turns ++ turn ∷ []) d new
+    → MakesTurn g (world_after_all g w turns) place turn d old new → Drives g w (turns ++ turn ∷ []) d new
 drives-more g w place turns turn before d old new on count takes = record {
-  stands = subst (Stands g d) (sym (behind-more g w turns (turn ∷ []))) takes.stands;
+  stands = subst (Stands g d) (sym (world_after_all-more g w turns (turn ∷ []))) takes.stands;
   is = record {
     served = λ t. takes.served t
         ∙ ap (λ b. b ++ (if t == whose turn
-        then rules.bytes_given (stepped g (behind g w turns) turn) else [])) (on.is.served t)
+        then rules.bytes_given (turn_step g (world_after_all g w turns) turn) else [])) (on.is.served t)
         ∙ sym (serve-one g w turns turn t);
     refused = takes.refused
-        ∙ ap (λ b. b ++ with_refusal place (stepped g (behind g w turns) turn) []) on.is.refused
+        ∙ ap (λ b. b ++ with_refusal place (turn_step g (world_after_all g w turns) turn) []) on.is.refused
         ∙ ap (λ n. refusals g w 0 turns
-        ++ with_refusal n (stepped g (behind g w turns) turn) []) (sym count ∙ zero-more _)
+        ++ with_refusal n (turn_step g (world_after_all g w turns) turn) []) (sym count ∙ zero-more _)
         ∙ sym (refusals-one g w 0 turns turn);
   };
 }
@@ -109,11 +109,11 @@ drives-more g w place turns turn before d old new on count takes = record {
 -- Results
 
 pub takes-added : {X E : Type 0} (g : Ground) (w : World) (place number : ℕ) (turn : Turn)
-    (d : Driver) (old new : Outputs) (bytes : List ℕ) (res : Result X E) → Turned g w turn d bytes
+    (d : Driver) (old new : Outputs) (bytes : List ℕ) (res : Result X E) → AcceptsTurn g w turn d bytes
     → number ≡ whose turn
     → OnOk res (drained_of new number ≡ drained_of old number ++ bytes)
     → OnOk res ((t : ℕ) → t ≢ number → drained_of new t ≡ drained_of old t)
-    → refused_in new ≡ refused_in old → OnOk res (Takes g w place turn d old new)
+    → refused_in new ≡ refused_in old → OnOk res (MakesTurn g w place turn d old new)
 takes-added g w place number turn d old new bytes (Err e) did same mine others kept = tt
 takes-added g w place number turn d old new bytes (Ok x) did same mine others kept =
     takes-bytes g w did.after place turn d old new did.answer bytes did.accepted did.gives
@@ -122,9 +122,9 @@ takes-added g w place number turn d old new bytes (Ok x) did same mine others ke
     (subst (λ u. (t : ℕ) → t ≢ u → drained_of new t ≡ drained_of old t) same others) kept
 
 pub takes-noted : {X E : Type 0} (g : Ground) (w : World) (place : ℕ) (turn : Turn) (d : Driver)
-    (old new : Outputs) (why : Refusal) (res : Result X E) → Halted g w turn d why
+    (old new : Outputs) (why : Refusal) (res : Result X E) → RefusesTurn g w turn d why
     → OnOk res (refused_in new ≡ refused_in old ++ record { place = place; why = why } ∷ [])
-    → ((t : ℕ) → drained_of new t ≡ drained_of old t) → OnOk res (Takes g w place turn d old new)
+    → ((t : ℕ) → drained_of new t ≡ drained_of old t) → OnOk res (MakesTurn g w place turn d old new)
 takes-noted g w place turn d old new why (Err e) did noted same = tt
 takes-noted g w place turn d old new why (Ok x) did noted same =
     takes-refused g w place turn d old new why did.refused did.stands same noted

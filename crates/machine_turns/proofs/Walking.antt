@@ -1,16 +1,16 @@
 -- The evaluations of all forms that run, through steps by which none goes on.
-use Rattle.std.proofs.Common.{◌≡◌, ◌≢◌, ℕ, ◌==◌, ◌∷◌, Bool, true, false}
-use Rattle.std.proofs.Common.{Option, Some, None, option_and_then, refl, sym, ap, subst, ◌∙◌}
-use Rattle.std.proofs.Common.{if◌then◌else◌, nat_le}
+use Rattle.std.proofs.Common.{◌≡◌, ◌≢◌, ℕ, ◌==◌, ◌∷◌, Bool, true, false, Option, Some, None}
+use Rattle.std.proofs.Common.{option_and_then, refl, sym, ap, subst, ◌∙◌, if◌then◌else◌, nat_le}
 use Rattle.std.proofs.lemmas.Bool.{eq-eqb}
 use Rattle.server_rules.specs.Ground.{Ground}
-use Rattle.server_rules.specs.Numbered.{entry, found}
+use Rattle.server_rules.specs.Numbered.{entry, part_under}
 use Rattle.server_rules.specs.Plan.{Deed, StepAnswer, tenant_opened}
 use Rattle.server_rules.specs.Tenant.{unoccupied, seat_of, opened_quiet}
 use Rattle.server_rules.specs.Turns.{whose_step}
 use Rattle.server_rules.specs.World as worlds
 use Rattle.server_rules.specs.World.{TenantData, World, Stepped, accepted, refused, step, world_or}
-use Rattle.server_rules.specs.World.{opens, does, closes, open_step, opened_tenant, is_used, open_count}
+use Rattle.server_rules.specs.World.{opens, does, closes, open_step, opened_tenant, is_used}
+use Rattle.server_rules.specs.World.{open_count}
 use Rattle.server_rules.specs.declared.actor.Actor.{Actor}
 use Rattle.server_rules.specs.declared.refusal.Refusal.{Refusal}
 use Rattle.server_rules.proofs.Steps.{step-other}
@@ -22,14 +22,14 @@ use Rattle.repl_core.specs.Standing.{open_in}
 use Rattle.repl_core.proofs.Worlds.{close-none, close-some}
 use Rattle.repl_core.proofs.Walking.{same-world, deed-walked}
 use Rattle.repl_core.proofs.Places.{all-places, open-mine}
-use Rattle.machine_turns.specs.Kept.{IsWalkedAt}
+use Rattle.machine_turns.specs.AllWalks.{IsWalkedAt}
 
 -- what an accepted step leaves of another tenant
 others-open : (g : Ground) (w after : World) (s : worlds.Step) (answer : StepAnswer) (u : ℕ)
     → step g w s ≡ accepted after answer → u ≢ whose_step s → open_in u after ≡ open_in u w
 others-open g w after s answer u is apart =
     ap (option_and_then (λ part. part))
-    (sym (ap (λ it. found u (world_or w it).tenants) is) ∙ step-other g w s u apart)
+    (sym (ap (λ it. part_under u (world_or w it).tenants) is) ∙ step-other g w s u apart)
 
 -- an opened tenant runs no form
 opened-runs : (g : Ground) (a : Actor) → running_in a (opened_quiet g) ≡ None
@@ -67,9 +67,9 @@ open-walked g w after t answer o is =
   where
     first : (b : Bool) → (t == t) ≡ b
         → open_in t (record w { tenants = entry t (Some (opened_tenant g)) ∷ w.tenants })
-        ≡ option_and_then (λ part. part) (found_first b (Some (opened_tenant g)) (found t w.tenants))
+        ≡ option_and_then (λ part. part) (found_first b (Some (opened_tenant g)) (part_under t w.tenants))
     first b e = ap (λ (x : Bool). option_and_then (λ part. part)
-        (found_first x (Some (opened_tenant g)) (found t w.tenants))) e
+        (found_first x (Some (opened_tenant g)) (part_under t w.tenants))) e
 
     by : (used full : Bool) → opened g w t used full ≡ accepted after answer
         → IsWalkedAt o (open_in t after)

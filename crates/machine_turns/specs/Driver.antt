@@ -2,7 +2,7 @@
 use Rattle.std.specs.Prelude.{◌≡◌, ℕ, List}
 use Rattle.server_rules.specs.Ground.{Ground}
 use Rattle.server_rules.specs.Plan.{StepAnswer}
-use Rattle.server_rules.specs.Turns.{Turn, stepped, bytes_in}
+use Rattle.server_rules.specs.Turns.{Turn, turn_step, bytes_in}
 use Rattle.server_rules.specs.World.{World, accepted, refused}
 use Rattle.server_rules.specs.declared.refusal.Refusal.{Refusal}
 use Rattle.tenant_turns.specs.Grounds.{IsRight}
@@ -10,7 +10,7 @@ use Rattle.tenant_walks.specs.Grounds.{Evaluates}
 use Rattle.repl_core.specs.Standing as machine
 use Rattle.repl_core.specs.Standing.{open_in}
 use Rattle.machine_turns.specs.declared.driver.Driver.{Driver}
-use Rattle.machine_turns.specs.Kept.{walks_at, IsWalkedAt}
+use Rattle.machine_turns.specs.AllWalks.{walks_at, IsWalkedAt}
 
 pub record Stands (g : Ground) (d : Driver) (w : World) : Type 0 where
   pub right : IsRight g
@@ -19,14 +19,16 @@ pub record Stands (g : Ground) (d : Driver) (w : World) : Type 0 where
   pub walked : (t : ℕ) → IsWalkedAt (walks_at d.kept t) (open_in t w)
 
 -- the turn is accepted and gives these bytes
-pub record Turned (g : Ground) (w : World) (turn : Turn) (d : Driver) (bytes : List ℕ) : Type 0 where
+pub record AcceptsTurn (g : Ground) (w : World) (turn : Turn) (d : Driver)
+    (bytes : List ℕ) : Type 0 where
   pub after : World
   pub answer : StepAnswer
-  pub accepted : stepped g w turn ≡ accepted after answer
+  pub accepted : turn_step g w turn ≡ accepted after answer
   pub gives : bytes_in answer ≡ bytes
   pub stands : Stands g d after
 
 -- the turn is refused so
-pub record Halted (g : Ground) (w : World) (turn : Turn) (d : Driver) (why : Refusal) : Type 0 where
-  pub refused : stepped g w turn ≡ refused why
+pub record RefusesTurn (g : Ground) (w : World) (turn : Turn) (d : Driver)
+    (why : Refusal) : Type 0 where
+  pub refused : turn_step g w turn ≡ refused why
   pub stands : Stands g d w

@@ -1,4 +1,4 @@
-pub mod Kept
+pub mod AllWalks
 pub mod Configured
 pub mod Driver
 pub mod Turns

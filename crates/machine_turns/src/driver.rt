@@ -2,13 +2,13 @@
 ghost use Rattle.std.specs.Prelude.{◌≡◌, ◌≢◌, [], IfOk, IfErr, OnOk};
 ghost use Rattle.server_rules.specs.Ground.{Ground};
 ghost use Rattle.server_rules.specs.Turns.{given, goes, bytes_in};
-ghost use Rattle.server_rules.specs.World.{World, opening};
+ghost use Rattle.server_rules.specs.World.{World, new_world};
 ghost use Rattle.repl_core.specs.Going.{StepKeepsForms};
 ghost use Rattle.repl_core.specs.Steps.{step_view, step_answer_view};
 ghost use Rattle.machine_turns.specs.Configured.{IsConfigured};
 ghost use Rattle.machine_turns.specs.Turns.{turn_view, bytes_given};
 
-use crate::kept::Kept;
+use crate::all_walks::AllWalks;
 use crate::turn::Turn;
 use repl_core::{Config, Machine, Step, StepAnswer};
 use server_rules::{Actor, Refusal};
@@ -19,19 +19,19 @@ use std::alloc::Global;
 pub(crate) struct Driver {
     alloc: Global,
     pub(crate) machine: Machine,
-    pub(crate) kept: Kept,
+    pub(crate) kept: AllWalks,
 }
 
 impl Driver {
-    ghost use Rattle.machine_turns.specs.Driver.{Stands, Turned, Halted};
+    ghost use Rattle.machine_turns.specs.Driver.{Stands, AcceptsTurn, RefusesTurn};
 
     pub(crate) fn new(alloc: Global, config: Config) -> Driver
-        ensures { (g : Ground) → IsConfigured g config → Stands g result (opening []) }
+        ensures { (g : Ground) → IsConfigured g config → Stands g result (new_world []) }
     {
         Driver {
             alloc,
             machine: Machine::new(alloc, config),
-            kept: Kept::new(alloc),
+            kept: AllWalks::new(alloc),
         }
     }
 
@@ -39,9 +39,9 @@ impl Driver {
     /// evaluations of a tenant may be lost.
     pub(crate) fn turn(&mut self, turn: &Turn) -> Result<Option<Vec<u8>>, Refusal>
         ensures done { (g : Ground) (w : World) → Stands g self.old w → IfOk result
-            (λ it. Turned g w (turn_view turn.now) self.new (bytes_given it)) }
+            (λ it. AcceptsTurn g w (turn_view turn.now) self.new (bytes_given it)) }
         ensures refused { (g : Ground) (w : World) → Stands g self.old w → IfErr result
-            (λ why. why ≢ Refusal.NoMemory → Halted g w (turn_view turn.now) self.new why) }
+            (λ why. why ≢ Refusal.NoMemory → RefusesTurn g w (turn_view turn.now) self.new why) }
     {
         match turn {
             Turn::Open(number) => self.step(Step::Open(*number)),
@@ -56,9 +56,10 @@ impl Driver {
     fn step(&mut self, step: Step) -> Result<Option<Vec<u8>>, Refusal>
         requires { StepKeepsForms (step_view step) }
         ensures done { (g : Ground) (w : World) → Stands g self.old w → IfOk result
-            (λ it. Turned g w (given (step_view step)) self.new (bytes_given it)) }
+            (λ it. AcceptsTurn g w (given (step_view step)) self.new (bytes_given it)) }
         ensures refused { (g : Ground) (w : World) → Stands g self.old w → IfErr result
-            (λ why. why ≢ Refusal.NoMemory → Halted g w (given (step_view step)) self.new why) }
+            (λ why. why ≢ Refusal.NoMemory
+            → RefusesTurn g w (given (step_view step)) self.new why) }
     {
         match self.machine.step(step) {
             Ok(answer) => Ok(reply_in(answer)),
@@ -69,9 +70,9 @@ impl Driver {
     // An actor goes on.
     fn go(&mut self, number: u64, actor: Actor) -> Result<Option<Vec<u8>>, Refusal>
         ensures done { (g : Ground) (w : World) → Stands g self.old w → IfOk result
-            (λ it. Turned g w (goes number actor) self.new (bytes_given it)) }
+            (λ it. AcceptsTurn g w (goes number actor) self.new (bytes_given it)) }
         ensures refused { (g : Ground) (w : World) → Stands g self.old w → IfErr result
-            (λ why. why ≢ Refusal.NoMemory → Halted g w (goes number actor) self.new why) }
+            (λ why. why ≢ Refusal.NoMemory → RefusesTurn g w (goes number actor) self.new why) }
     {
         let mut walks = self.kept.take(self.alloc, number);
         let result = self.machine.go(number, actor, &mut walks);

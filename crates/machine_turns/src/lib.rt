@@ -1,8 +1,9 @@
-//! Lists of turns of the server: every interleaving of its tenants' steps is one, and is driven here.
+//! Lists of turns of the server: every interleaving of its tenants' steps is one, and is driven
+//! here.
 #![tactic(auto)]
 
+mod all_walks;
 mod driver;
-mod kept;
 mod lists;
 mod outputs;
 mod turn;

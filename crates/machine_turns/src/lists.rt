@@ -1,10 +1,10 @@
 // Lists of turns.
 ghost use Rattle.std.specs.Prelude.{[], map, IfOk, OnOk};
 ghost use Rattle.server_rules.specs.Ground.{Ground};
-ghost use Rattle.server_rules.specs.World.{World, opening};
+ghost use Rattle.server_rules.specs.World.{World, new_world};
 ghost use Rattle.machine_turns.specs.Configured.{IsConfigured};
 ghost use Rattle.machine_turns.specs.Driver.{Stands};
-ghost use Rattle.machine_turns.specs.Driven.{IsDriven, Takes};
+ghost use Rattle.machine_turns.specs.Driven.{IsDriven, MakesTurn};
 ghost use Rattle.machine_turns.specs.Turns.{turn_view};
 
 use crate::driver::Driver;
@@ -14,31 +14,31 @@ use repl_core::Config;
 use server_rules::Refusal;
 use std::alloc::{AllocError, Global};
 
-/// Makes each turn of a list, on a server to which nobody came: gives what it serves each tenant, and
-/// the turns that were refused. It fails only for want of memory.
+/// Makes each turn of a list, on a server to which nobody came: gives what it serves each tenant,
+/// and the turns that were refused. It fails only for want of memory.
 pub fn drive(alloc: Global, config: Config, turns: &[Turn]) -> Result<Outputs, AllocError>
     ensures { (g : Ground) → IsConfigured g config → IfOk result
-        (IsDriven g (opening []) (map turn_view turns.now)) }
+        (IsDriven g (new_world []) (map turn_view turns.now)) }
 {
     let mut driver = Driver::new(alloc, config);
     let mut outputs = Outputs::new(alloc);
     let mut place = 0;
     for turn in turns {
-        take_turn(&mut driver, &mut outputs, place, turn)?;
+        make_turn(&mut driver, &mut outputs, place, turn)?;
         place += 1;
     }
     Ok(outputs)
 }
 
 // Makes a turn, and notes what it comes to.
-fn take_turn(
+fn make_turn(
     driver: &mut Driver,
     outputs: &mut Outputs,
     place: usize,
     turn: &Turn,
 ) -> Result<(), AllocError>
     ensures { (g : Ground) (w : World) → Stands g driver.old w → OnOk result
-        (Takes g w place (turn_view turn.now) driver.new outputs.old outputs.new) }
+        (MakesTurn g w place (turn_view turn.now) driver.new outputs.old outputs.new) }
 {
     match driver.turn(turn) {
         Ok(Some(bytes)) => outputs.add(turn.whose(), bytes),

@@ -29,10 +29,11 @@ with_namespace namespaces name bindings q =
     if bytes_eq q name then Some bindings else namespaces q)
 
 -- a namespace that is new is empty; one that is there stays as it is
-unfoldable pub entered : Namespaces → List ℕ → Namespaces
-entered namespaces name = with_namespace namespaces name (bindings_of (namespaces name))
+unfoldable pub with_entered_namespace : Namespaces → List ℕ → Namespaces
+with_entered_namespace namespaces name =
+    with_namespace namespaces name (bindings_of (namespaces name))
 
 -- a name is bound in a namespace, which is made where it is new
-unfoldable pub defined : Namespaces → List ℕ → List ℕ → BindingData → Namespaces
-defined namespaces namespace name binding =
+unfoldable pub with_definition : Namespaces → List ℕ → List ℕ → BindingData → Namespaces
+with_definition namespaces namespace name binding =
     with_namespace namespaces namespace (rebound (bindings_of (namespaces namespace)) name binding)

@@ -1,16 +1,16 @@
 -- How symbols are resolved (the Clojure reference, Evaluation and Namespaces).
-use Rattle.std.specs.Prelude.{ℕ, List, Bool, Option, Some, None, ◌+◌, ◌==◌, if◌then◌else◌}
-use Rattle.std.specs.Prelude.{take, drop, codes}
+use Rattle.std.specs.Prelude.{ℕ, List, Option, Some, None, ◌+◌, if◌then◌else◌, take, drop, codes}
 use Rattle.std.specs.List.{position}
 use Rattle.std.specs.Str.{bytes_eq}
+use Rattle.repl_values.specs.Slash.{is_slash}
 use Rattle.repl_faults.specs.Failure as failures
 use Rattle.function_names.specs.Names.{function_named}
 use Rattle.function_names.specs.StoreNames.{store_function_named}
 use Rattle.function_names.specs.declared.function.CoreFunction.{CoreFunction}
 use Rattle.function_names.specs.declared.store.StoreFunction.{StoreFunction}
-use Rattle.repl_asks.specs.Exchange.{BindingData, bound_value, bound_function}
-use Rattle.repl_asks.specs.Exchange.{ResolutionData, names_value, names_function, names_nothing}
-use Rattle.repl_asks.specs.Exchange.{core_function, store_function, program_function}
+use Rattle.repl_asks.specs.Exchange.{BindingData, bound_value, bound_function, ResolutionData}
+use Rattle.repl_asks.specs.Exchange.{names_value, names_function, names_nothing, core_function}
+use Rattle.repl_asks.specs.Exchange.{store_function, program_function}
 use Rattle.name_spaces.specs.declared.latest.Latest.{Latest}
 use Rattle.name_spaces.specs.Latest.{latest_named}
 use Rattle.name_spaces.specs.Bindings.{Bindings}
@@ -26,17 +26,17 @@ abbrev pub bound_resolution : BindingData → ResolutionData
 bound_resolution (bound_value d) = names_value d
 bound_resolution (bound_function f) = names_function (program_function f)
 
-abbrev pub store_resolution : List ℕ → Option StoreFunction → ResolutionData
-store_resolution symbol (Some f) = names_function (store_function f)
-store_resolution symbol None = names_nothing (failures.unresolved symbol)
+abbrev pub resolution_outside_core : List ℕ → Option StoreFunction → ResolutionData
+resolution_outside_core symbol (Some f) = names_function (store_function f)
+resolution_outside_core symbol None = names_nothing (failures.unresolved_symbol symbol)
 
-abbrev pub core_resolution : List ℕ → Option CoreFunction → ResolutionData
-core_resolution symbol (Some f) = names_function (core_function f)
-core_resolution symbol None = store_resolution symbol (store_function_named symbol)
+abbrev pub unbound_resolution : List ℕ → Option CoreFunction → ResolutionData
+unbound_resolution symbol (Some f) = names_function (core_function f)
+unbound_resolution symbol None = resolution_outside_core symbol (store_function_named symbol)
 
 abbrev pub unbound_symbol : List ℕ → Option Latest → FoundData
 unbound_symbol symbol (Some latest) = found_latest latest
-unbound_symbol symbol None = found_resolution (core_resolution symbol (function_named symbol))
+unbound_symbol symbol None = found_resolution (unbound_resolution symbol (function_named symbol))
 
 -- A symbol without a slash: what it is bound to, else the latest result of that name, else the core
 -- function, else the function that asks the store, else nothing.
@@ -62,10 +62,6 @@ namespace_named shared namespaces space =
 abbrev pub qualified_symbol : Bindings → Namespaces → List ℕ → List ℕ → List ℕ → ResolutionData
 qualified_symbol shared namespaces symbol space name =
     var_in (namespace_named shared namespaces space) symbol space name
-
--- the byte `/`
-abbrev pub is_slash : ℕ → Bool
-is_slash byte = byte == 47
 
 -- where the first slash parts a symbol; `/` alone has no parts
 abbrev pub slash_of : List ℕ → Option ℕ

@@ -16,8 +16,8 @@ unfoldable pub namespaces_of : Spaces → Namespaces
 namespaces_of spaces name = option_map bound_in (get_by_text spaces.namespaces name)
 
 -- what the namespace of this name binds; `shared` binds nothing today
-abbrev pub bindings_in : Spaces → List ℕ → Bindings
-bindings_in spaces namespace =
+abbrev pub bindings_named : Spaces → List ℕ → Bindings
+bindings_named spaces namespace =
     bindings_of (namespace_named nothing_bound (namespaces_of spaces) namespace)
 
 abbrev pub found_view : Found → FoundData

@@ -7,16 +7,16 @@ ghost use Rattle.repl_asks.specs.View.{binding_view, named_view, resolution_view
 ghost use Rattle.name_spaces.specs.Bindings.{nothing_bound};
 ghost use Rattle.name_spaces.specs.Latest.{latest_named};
 ghost use Rattle.name_spaces.specs.Resolving.{resolved, simple_symbol, qualified_symbol};
-ghost use Rattle.name_spaces.specs.Resolving.{unbound_symbol, store_resolution};
+ghost use Rattle.name_spaces.specs.Resolving.{unbound_symbol, resolution_outside_core};
 ghost use Rattle.name_spaces.specs.Resolving.{bound_resolution, found_resolution};
-ghost use Rattle.name_spaces.specs.Seen.{namespaces_of, bindings_in, found_view};
+ghost use Rattle.name_spaces.specs.Seen.{namespaces_of, bindings_named, found_view};
 
 use crate::found::Found;
 use crate::latest::Latest;
 use crate::spaces::Spaces;
 use function_names::{CoreFunction, StoreFunction};
 use repl_asks::{Binding, NamedFunction, Resolution};
-use repl_faults::{no_such_namespace, no_such_var, unresolved};
+use repl_faults::{no_such_namespace, no_such_var, unresolved_symbol};
 use repl_values::{Fault, copy};
 use std::alloc::{AllocError, Global};
 
@@ -25,9 +25,9 @@ const SHARED: &str = "shared";
 
 impl Spaces {
     /// What a symbol in this namespace names. One without a slash is looked up in the namespace,
-    /// then among the latest results, then among the functions of the language; in a namespace
-    /// that is not there nothing is bound. One with a slash is looked up in the namespace that it names, and
-    /// nowhere else: `clojure.core` is not found here, since evaluation asks for none of its
+    /// then among the latest results, then among the functions of the language; in a namespace that
+    /// is not there nothing is bound. One with a slash is looked up in the namespace that it names,
+    /// and nowhere else: `clojure.core` is not found here, since evaluation asks for none of its
     /// symbols. It takes about the logarithm of the number of namespaces and of names, and fails
     /// only for want of memory.
     #[tactic(auto, unfolding(crate::specs::Resolving::resolved))]
@@ -51,11 +51,11 @@ impl Spaces {
         symbol: &str,
     ) -> Result<Found, AllocError>
         ensures { IfOk result (λ found. found_view found
-            ≡ simple_symbol symbol.now (bindings_in self.now namespace.now symbol.now)) }
+            ≡ simple_symbol symbol.now (bindings_named self.now namespace.now symbol.now)) }
     {
         match self.binding_in(namespace, symbol) {
-            Some(binding) => bound(binding),
-            None => unbound(alloc, symbol),
+            Some(binding) => find_bound(binding),
+            None => find_unbound(alloc, symbol),
         }
     }
 
@@ -78,21 +78,21 @@ impl Spaces {
             return Ok(nothing(no_such_namespace(alloc, space)?));
         };
         match vars.binding(name) {
-            Some(binding) => bound(binding),
+            Some(binding) => find_bound(binding),
             None => Ok(nothing(no_such_var(alloc, symbol)?)),
         }
     }
 
     fn binding_in(&self, namespace: &str, name: &str) -> Option<&Binding>
         ensures { option_map (λ b. binding_view b.now) result
-            ≡ bindings_in self.now namespace.now name.now }
+            ≡ bindings_named self.now namespace.now name.now }
     {
         self.namespaces.get(namespace)?.binding(name)
     }
 }
 
 // What a symbol names that is bound to this.
-fn bound(binding: &Binding) -> Result<Found, AllocError>
+fn find_bound(binding: &Binding) -> Result<Found, AllocError>
     ensures { IfOk result (λ found. found_view found
         ≡ found_resolution (bound_resolution (binding_view binding.now))) }
 {
@@ -106,7 +106,7 @@ fn bound(binding: &Binding) -> Result<Found, AllocError>
 }
 
 // What a symbol names where nothing binds it.
-fn unbound(alloc: Global, symbol: &str) -> Result<Found, AllocError>
+fn find_unbound(alloc: Global, symbol: &str) -> Result<Found, AllocError>
     ensures { IfOk result (λ found. found_view found
         ≡ unbound_symbol symbol.now (latest_named symbol.now)) }
 {
@@ -122,11 +122,11 @@ fn unbound(alloc: Global, symbol: &str) -> Result<Found, AllocError>
 // What a symbol names that nothing binds and that names no core function.
 fn outside_core(alloc: Global, symbol: &str) -> Result<Found, AllocError>
     ensures { IfOk result (λ found. found_view found
-        ≡ found_resolution (store_resolution symbol.now (store_function_named symbol.now))) }
+        ≡ found_resolution (resolution_outside_core symbol.now (store_function_named symbol.now))) }
 {
     match StoreFunction::named(symbol) {
         Some(function) => Ok(function_found(NamedFunction::Store(function))),
-        None => Ok(nothing(unresolved(alloc, symbol)?)),
+        None => Ok(nothing(unresolved_symbol(alloc, symbol)?)),
     }
 }
 

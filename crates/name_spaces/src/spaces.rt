@@ -4,8 +4,8 @@ ghost use Rattle.std.specs.Arc.{arc_str_bytes};
 ghost use Rattle.std.specs.BTreeMap.{get_by_text};
 ghost use Rattle.repl_asks.specs.View.{binding_view};
 ghost use Rattle.repl_asks.specs.Namespaces.{is_fixed};
-ghost use Rattle.name_spaces.specs.Namespaces.{is_there, at_start};
-ghost use Rattle.name_spaces.specs.Namespaces.{entered, defined, with_namespace};
+ghost use Rattle.name_spaces.specs.Namespaces.{is_there, at_start, with_entered_namespace};
+ghost use Rattle.name_spaces.specs.Namespaces.{with_definition, with_namespace};
 
 use crate::vars::Vars;
 use repl_asks::{Binding, is_fixed};
@@ -57,10 +57,10 @@ impl Spaces {
     /// Makes a namespace where it is new, and leaves one that is there as it is. A fixed one is not
     /// made. It takes about the logarithm of the number of namespaces, and fails only for want of
     /// memory; then all stays as it was.
-    #[tactic(auto, unfolding(crate::specs::Namespaces::entered, crate::specs::Seen::namespaces_of))]
+    #[tactic(auto, unfolding(crate::specs::Namespaces::with_entered_namespace, crate::specs::Seen::namespaces_of))]
     pub fn enter(&mut self, alloc: Global, name: &str) -> Result<(), AllocError>
         ensures entered { OnOk result (namespaces_of self.new
-            ≡ entered (namespaces_of self.old) name.now) }
+            ≡ with_entered_namespace (namespaces_of self.old) name.now) }
         ensures kept { OnErr result (namespaces_of self.new ≡ namespaces_of self.old) }
     {
         if is_fixed(name) || self.namespaces.contains_key(name) {
@@ -72,7 +72,7 @@ impl Spaces {
     /// Binds a name in a namespace, in place of what it was bound to. A namespace that is not there
     /// is made. In a fixed one nothing is bound. It takes about the logarithm of the number of
     /// namespaces and of names, and fails only for want of memory; then all stays as it was.
-    #[tactic(auto, unfolding(crate::specs::Namespaces::defined, crate::specs::Seen::namespaces_of))]
+    #[tactic(auto, unfolding(crate::specs::Namespaces::with_definition, crate::specs::Seen::namespaces_of))]
     pub fn define(
         &mut self,
         alloc: Global,
@@ -80,7 +80,8 @@ impl Spaces {
         name: ArcStr,
         binding: Binding,
     ) -> Result<(), AllocError>
-        ensures defined { OnOk result (namespaces_of self.new ≡ defined (namespaces_of self.old)
+        ensures defined { OnOk result (namespaces_of self.new
+            ≡ with_definition (namespaces_of self.old)
             namespace.now (arc_str_bytes name) (binding_view binding)) }
         ensures kept { OnErr result (namespaces_of self.new ≡ namespaces_of self.old) }
     {

@@ -5,15 +5,15 @@ use Rattle.std.specs.Io.KnownBytes.{Consumes}
 use Rattle.std.proofs.KnownBytes.{Appends-nil, Appends-trans}
 use Rattle.bencode_wire.specs.Spelling.{joined}
 use Rattle.server_rules.specs.Ground.{Ground}
-use Rattle.tenant_turns.specs.Turns.{Lone, Turn, hears, after, run, served}
+use Rattle.tenant_turns.specs.Turns.{Lone, LoneTurn, hears, lone_after, lone_run, lone_served}
 use Rattle.nrepl_pipe.specs.Schedule.{AreRounds}
 use Rattle.nrepl_pipe.specs.Served.{Moves, BeginsToServe}
 use Rattle.nrepl_pipe.specs.Parts.{IsPiece, LosesPiece, Begins, BeginsRounds}
-use Rattle.nrepl_pipe.proofs.Turns.{served-append}
+use Rattle.nrepl_pipe.proofs.Turns.{lone_served-append}
 use Rattle.nrepl_pipe.proofs.Hearing.{TakesIn}
 use Rattle.nrepl_pipe.proofs.Lasting.{rounds-exist}
 use Rattle.nrepl_pipe.proofs.Serving.{Serving, pieces-append, schedule-last, consumes-more}
-use Rattle.nrepl_pipe.proofs.Serving.{served-heard}
+use Rattle.nrepl_pipe.proofs.Serving.{lone_served-heard}
 use Rattle.nrepl_pipe.proofs.Ending.{schedule-all, consumes-all}
 
 -- nothing more was read
@@ -23,7 +23,7 @@ begins-all : (g : Ground) (Old : Lone → Type 0) (q : Lone)
     → Moves unread less held holds (λ read written. BeginsToServe g q read written)
 begins-all g Old q unread left less held holds on consumes = (
   joined on.pieces,
-  served g q on.turns,
+  lone_served g q on.turns,
   consumes-all unread left less (joined on.pieces) on.consumes consumes,
   on.appends,
   record {
@@ -33,23 +33,23 @@ begins-all g Old q unread left less held holds on consumes = (
     cutting = refl;
     schedule = schedule-all g Old q unread left held holds on;
     more = [];
-    begins = sym (append-nil (served g q on.turns));
+    begins = sym (append-nil (lone_served g q on.turns));
   },
 )
 
 begins-last : (g : Ground) (Old : Lone → Type 0) (q : Lone)
-    (unread left less held holds grown : Option (List ℕ)) (piece : List ℕ) (rounds : List Turn)
+    (unread left less held holds grown : Option (List ℕ)) (piece : List ℕ) (rounds : List LoneTurn)
     (on : Serving g Old q unread left held holds) → IsPiece piece → Consumes left less piece
-    → AreRounds g (after g (run g q on.turns) (hears piece)) rounds
-    → Begins g (run g q on.turns) (hears piece ∷ rounds) holds grown
+    → AreRounds g (lone_after g (lone_run g q on.turns) (hears piece)) rounds
+    → Begins g (lone_run g q on.turns) (hears piece ∷ rounds) holds grown
     → Moves unread less held grown (λ read written. BeginsToServe g q read written)
 begins-last g Old q unread left less held holds grown piece rounds on is consumes are begun =
-    let now = run g q on.turns in
-    let turns : List Turn = hears piece ∷ rounds in (
+    let now = lone_run g q on.turns in
+    let turns : List LoneTurn = hears piece ∷ rounds in (
       joined (on.pieces ++ piece ∷ []),
-      served g q on.turns ++ begun.written,
+      lone_served g q on.turns ++ begun.written,
       consumes-more unread left less on.pieces piece on.consumes consumes,
-      Appends-trans held holds grown (served g q on.turns) begun.written on.appends begun.appends,
+      Appends-trans held holds grown (lone_served g q on.turns) begun.written on.appends begun.appends,
       record {
         pieces = on.pieces ++ piece ∷ [];
         turns = on.turns ++ turns;
@@ -58,9 +58,9 @@ begins-last g Old q unread left less held holds grown piece rounds on is consume
         schedule = on.closes (piece ∷ []) turns (schedule-last g now piece rounds are);
         more = begun.more;
         begins =
-            served-append g q on.turns turns
-            ∙ ap (λ (bytes : List ℕ). served g q on.turns ++ bytes) begun.begins
-            ∙ sym (append_assoc (served g q on.turns) begun.written begun.more);
+            lone_served-append g q on.turns turns
+            ∙ ap (λ (bytes : List ℕ). lone_served g q on.turns ++ bytes) begun.begins
+            ∙ sym (append_assoc (lone_served g q on.turns) begun.written begun.more);
       },
     )
 
@@ -70,12 +70,12 @@ pub begins-unheard : (g : Ground) (Old : Lone → Type 0) (q : Lone)
     (on : Serving g Old q unread left held holds) → IsPiece piece → Consumes left less piece
     → Moves unread less held holds (λ read written. BeginsToServe g q read written)
 begins-unheard g Old q unread left less held holds piece on is consumes =
-    let now = run g q on.turns in
-    let rounds = rounds-exist g (after g now (hears piece)) in
+    let now = lone_run g q on.turns in
+    let rounds = rounds-exist g (lone_after g now (hears piece)) in
     begins-last g Old q unread left less held holds holds piece rounds.0 on is consumes rounds.1
     (record {
       written = [];
-      more = served g now (hears piece ∷ rounds.0);
+      more = lone_served g now (hears piece ∷ rounds.0);
       appends = Appends-nil holds;
       begins = refl;
     })
@@ -84,8 +84,8 @@ begins-unheard g Old q unread left less held holds piece on is consumes =
 pub begins-rounds : (g : Ground) (Old Mid : Lone → Type 0) (q : Lone)
     (unread left less held holds grown : Option (List ℕ)) (piece : List ℕ)
     (on : Serving g Old q unread left held holds) → IsPiece piece → Consumes left less piece
-    → TakesIn g Mid (run g q on.turns) piece
-    → BeginsRounds g (after g (run g q on.turns) (hears piece)) holds grown
+    → TakesIn g Mid (lone_run g q on.turns) piece
+    → BeginsRounds g (lone_after g (lone_run g q on.turns) (hears piece)) holds grown
     → Moves unread less held grown (λ read written. BeginsToServe g q read written)
 begins-rounds g Old Mid q unread left less held holds grown piece on is consumes taken begun =
     begins-last g Old q unread left less held holds grown piece begun.0 on is consumes begun.1
@@ -93,7 +93,7 @@ begins-rounds g Old Mid q unread left less held holds grown piece on is consumes
       written = begun.2.written;
       more = begun.2.more;
       appends = begun.2.appends;
-      begins = served-heard g (run g q on.turns) piece begun.0 taken.gives ∙ begun.2.begins;
+      begins = lone_served-heard g (lone_run g q on.turns) piece begun.0 taken.gives ∙ begun.2.begins;
     })
 
 -- a read that failed

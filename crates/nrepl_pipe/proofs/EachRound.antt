@@ -4,37 +4,38 @@ use Rattle.std.proofs.Common.{sym, ap, ◌∙◌, le_refl, arith}
 use Rattle.server_rules.specs.Ground.{Ground}
 use Rattle.server_rules.specs.Tenant.{is_held}
 use Rattle.server_rules.specs.declared.actor.Actor.{Actor}
-use Rattle.tenant_turns.specs.Turns.{Lone, Turn, goes, Stepped, accepted, refused, step, lone_or, after}
-use Rattle.tenant_turns.specs.Turns.{run, served, actors_of}
+use Rattle.tenant_turns.specs.Turns.{Lone, LoneTurn, goes, LoneStepped, accepted, refused}
+use Rattle.tenant_turns.specs.Turns.{lone_step, lone_or, lone_after, lone_run, lone_served}
+use Rattle.tenant_turns.specs.Turns.{actors_of}
 use Rattle.nrepl_pipe.specs.Schedule.{go_each, drain_all, round, MeetsWorn}
-use Rattle.nrepl_pipe.proofs.Turns.{run-append, served-append, meets-front, meets-either}
-use Rattle.nrepl_pipe.proofs.Draining.{left, run-drains, drains-never_worn}
+use Rattle.nrepl_pipe.proofs.Turns.{lone_run-append, lone_served-append, meets-front, meets-either}
+use Rattle.nrepl_pipe.proofs.Draining.{left, lone_run-drains, drains-never_worn}
 use Rattle.nrepl_pipe.proofs.Going.{StepsSo, go-steps, go-gives, go-heard}
 
 -- The actors' turns
 
-gos-give : (g : Ground) (q : Lone) (actors : List Actor) → served g q (go_each actors) ≡ []
+gos-give : (g : Ground) (q : Lone) (actors : List Actor) → lone_served g q (go_each actors) ≡ []
 gos-give g q [] = refl
 gos-give g q (a ∷ actors) =
-    let v = after g q (goes a) in
-    ap (λ (bytes : List ℕ). bytes ++ served g v (go_each actors)) (go-gives g q a)
+    let v = lone_after g q (goes a) in
+    ap (λ (bytes : List ℕ). bytes ++ lone_served g v (go_each actors)) (go-gives g q a)
     ∙ gos-give g v actors
 
 gos-heard : (g : Ground) (q : Lone) (actors : List Actor)
-    → (run g q (go_each actors)).quiet.heard ≡ q.quiet.heard
+    → (lone_run g q (go_each actors)).quiet.heard ≡ q.quiet.heard
 gos-heard g q [] = refl
-gos-heard g q (a ∷ actors) = gos-heard g (after g q (goes a)) actors ∙ go-heard g q a
+gos-heard g q (a ∷ actors) = gos-heard g (lone_after g q (goes a)) actors ∙ go-heard g q a
 
-steps-fall : (q : Lone) (s : Stepped) → StepsSo q s → (lone_or q s).quiet.steps ≤ q.quiet.steps
+steps-fall : (q : Lone) (s : LoneStepped) → StepsSo q s → (lone_or q s).quiet.steps ≤ q.quiet.steps
 steps-fall q (accepted new bytes) so = let one = so.0 in omega arith
 steps-fall q (refused why) so = le_refl q.quiet.steps
 
 pub gos-steps : (g : Ground) (q : Lone) (actors : List Actor)
-    → (run g q (go_each actors)).quiet.steps ≤ q.quiet.steps
+    → (lone_run g q (go_each actors)).quiet.steps ≤ q.quiet.steps
 gos-steps g q [] = le_refl q.quiet.steps
 gos-steps g q (a ∷ actors) =
-    let first = steps-fall q (step g q (goes a)) (go-steps g q a) in
-    let behind = gos-steps g (after g q (goes a)) actors in omega arith
+    let first = steps-fall q (lone_step g q (goes a)) (go-steps g q a) in
+    let behind = gos-steps g (lone_after g q (goes a)) actors in omega arith
 
 -- replies wait wherever a turn is refused for them
 pub held-waits : (q : Lone) → is_held q.quiet ≡ true → q.quiet.replies ≡ [] → ⊥
@@ -46,23 +47,23 @@ held-waits q held none =
 
 -- the actors have gone on, and the replies that wait are not taken out yet
 abbrev pub gone : Ground → Lone → Lone
-gone g q = run g q (go_each (actors_of q))
+gone g q = lone_run g q (go_each (actors_of q))
 
-pub run-round : (g : Ground) (q : Lone) → run g q (round g q) ≡ left [] (gone g q)
-run-round g q =
-    run-append g q (go_each (actors_of q)) (drain_all (gone g q).quiet.replies) ∙ run-drains g (gone g q)
+pub lone_run-round : (g : Ground) (q : Lone) → lone_run g q (round g q) ≡ left [] (gone g q)
+lone_run-round g q =
+    lone_run-append g q (go_each (actors_of q)) (drain_all (gone g q).quiet.replies) ∙ lone_run-drains g (gone g q)
 
-pub round-empty : (g : Ground) (q : Lone) → (run g q (round g q)).quiet.replies ≡ []
-round-empty g q = ap (λ (v : Lone). v.quiet.replies) (run-round g q)
+pub round-empty : (g : Ground) (q : Lone) → (lone_run g q (round g q)).quiet.replies ≡ []
+round-empty g q = ap (λ (v : Lone). v.quiet.replies) (lone_run-round g q)
 
-pub round-heard : (g : Ground) (q : Lone) → (run g q (round g q)).quiet.heard ≡ q.quiet.heard
-round-heard g q = ap (λ (v : Lone). v.quiet.heard) (run-round g q) ∙ gos-heard g q (actors_of q)
+pub round-heard : (g : Ground) (q : Lone) → (lone_run g q (round g q)).quiet.heard ≡ q.quiet.heard
+round-heard g q = ap (λ (v : Lone). v.quiet.heard) (lone_run-round g q) ∙ gos-heard g q (actors_of q)
 
-pub served-round : (g : Ground) (q : Lone)
-    → served g q (round g q) ≡ served g (gone g q) (drain_all (gone g q).quiet.replies)
-served-round g q =
-    served-append g q (go_each (actors_of q)) (drain_all (gone g q).quiet.replies)
-    ∙ ap (λ (bytes : List ℕ). bytes ++ served g (gone g q) (drain_all (gone g q).quiet.replies))
+pub lone_served-round : (g : Ground) (q : Lone)
+    → lone_served g q (round g q) ≡ lone_served g (gone g q) (drain_all (gone g q).quiet.replies)
+lone_served-round g q =
+    lone_served-append g q (go_each (actors_of q)) (drain_all (gone g q).quiet.replies)
+    ∙ ap (λ (bytes : List ℕ). bytes ++ lone_served g (gone g q) (drain_all (gone g q).quiet.replies))
     (gos-give g q (actors_of q))
 
 -- a round meets the end of the steps where an actor does
@@ -74,7 +75,7 @@ round-meets g q meets =
 pub round-meets_by : (g : Ground) (q : Lone) → MeetsWorn g q (round g q)
     → MeetsWorn g q (go_each (actors_of q))
 round-meets_by g q meets = by (meets-either g q turns (drain_all (gone g q).quiet.replies) meets) where
-  turns : List Turn
+  turns : List LoneTurn
   turns = go_each (actors_of q)
 
   by : MeetsWorn g q turns ⊎ MeetsWorn g (gone g q) (drain_all (gone g q).quiet.replies)

@@ -6,19 +6,19 @@ use Rattle.std.proofs.KnownBytes.{Appends-nil, Appends-trans, Consumes-trans}
 use Rattle.bencode_wire.specs.Spelling.{joined}
 use Rattle.server_rules.specs.Ground.{Ground}
 use Rattle.server_rules.specs.declared.refusal.Refusal.{Refusal}
-use Rattle.tenant_turns.specs.Turns.{Lone, Turn, hears, refused, step, lone_or, bytes_given, after, run}
-use Rattle.tenant_turns.specs.Turns.{served}
+use Rattle.tenant_turns.specs.Turns.{Lone, LoneTurn, hears, refused, lone_step, lone_or}
+use Rattle.tenant_turns.specs.Turns.{bytes_given, lone_after, lone_run, lone_served}
 use Rattle.nrepl_pipe.specs.Schedule.{round, AreRounds, last, MeetsWorn, IsSchedule, stream_end}
 use Rattle.nrepl_pipe.specs.Schedule.{IsEnd}
 use Rattle.nrepl_pipe.specs.Served.{Moves, Serves}
 use Rattle.nrepl_pipe.specs.Parts.{IsPiece, MakesRounds}
 use Rattle.nrepl_pipe.specs.declared.rounds.Rounds.{Rounds}
 use Rattle.nrepl_pipe.specs.declared.ends.PipeEnd.{PipeEnd}
-use Rattle.nrepl_pipe.proofs.Turns.{served-append, meets-behind, meets-neither}
+use Rattle.nrepl_pipe.proofs.Turns.{lone_served-append, meets-behind, meets-neither}
 use Rattle.nrepl_pipe.proofs.Hearing.{refused-worn, TakesIn}
 use Rattle.nrepl_pipe.proofs.Lasting.{worn-round}
 use Rattle.nrepl_pipe.proofs.Serving.{Serving, pieces-append, joined-append, schedule-last}
-use Rattle.nrepl_pipe.proofs.Serving.{consumes-more, served-heard}
+use Rattle.nrepl_pipe.proofs.Serving.{consumes-more, lone_served-heard}
 
 -- the schedule of the pieces so far
 pub schedule-all : (g : Ground) (Old : Lone → Type 0) (q : Lone)
@@ -39,11 +39,11 @@ consumes-all unread left less read first none =
 pub serves-all : (g : Ground) (Old : Lone → Type 0) (q : Lone)
     (unread left less held holds : Option (List ℕ)) (end : PipeEnd)
     (on : Serving g Old q unread left held holds) → Consumes left less []
-    → end ≡ stream_end (g.readings.stream (run g q on.turns).quiet.heard).ending
+    → end ≡ stream_end (g.readings.stream (lone_run g q on.turns).quiet.heard).ending
     → Moves unread less held holds (λ read written. Serves g q read written end)
 serves-all g Old q unread left less held holds end on consumes is = (
   joined on.pieces,
-  served g q on.turns,
+  lone_served g q on.turns,
   consumes-all unread left less (joined on.pieces) on.consumes consumes,
   on.appends,
   record {
@@ -61,15 +61,15 @@ serves-all g Old q unread left less held holds end on consumes is = (
 )
 
 -- how a last piece with its rounds ends it
-abbrev pub EndsWith : Ground → Lone → List ℕ → List Turn → PipeEnd → Type 0
+abbrev pub EndsWith : Ground → Lone → List ℕ → List LoneTurn → PipeEnd → Type 0
 EndsWith g now piece turns end =
     (MeetsWorn g now turns × (end ≡ PipeEnd.Worn))
     ⊎ ((MeetsWorn g now turns → ⊥)
     × (end ≡ stream_end (g.readings.stream (now.quiet.heard ++ piece)).ending))
 
-ends-with : (g : Ground) (q : Lone) (turns more : List Turn) (read piece all : List ℕ)
+ends-with : (g : Ground) (q : Lone) (turns more : List LoneTurn) (read piece all : List ℕ)
     (end : PipeEnd) → (MeetsWorn g q turns → ⊥) → all ≡ read ++ piece
-    → (run g q turns).quiet.heard ≡ read → EndsWith g (run g q turns) piece more end
+    → (lone_run g q turns).quiet.heard ≡ read → EndsWith g (lone_run g q turns) piece more end
     → IsEnd g q (turns ++ more) all end
 ends-with g q turns more read piece all end never same heard (inl worn) =
     inl (meets-behind g q turns more worn.0, worn.1)
@@ -83,27 +83,27 @@ ends-with g q turns more read piece all end never same heard (inr ended) =
 
 -- behind a last piece
 serves-last : (g : Ground) (Old : Lone → Type 0) (q : Lone)
-    (unread left less held holds grown : Option (List ℕ)) (piece : List ℕ) (rounds : List Turn)
+    (unread left less held holds grown : Option (List ℕ)) (piece : List ℕ) (rounds : List LoneTurn)
     (end : PipeEnd) (on : Serving g Old q unread left held holds) → IsPiece piece
-    → Consumes left less piece → AreRounds g (after g (run g q on.turns) (hears piece)) rounds
-    → Appends holds grown (served g (run g q on.turns) (hears piece ∷ rounds))
-    → EndsWith g (run g q on.turns) piece (hears piece ∷ rounds) end
+    → Consumes left less piece → AreRounds g (lone_after g (lone_run g q on.turns) (hears piece)) rounds
+    → Appends holds grown (lone_served g (lone_run g q on.turns) (hears piece ∷ rounds))
+    → EndsWith g (lone_run g q on.turns) piece (hears piece ∷ rounds) end
     → Moves unread less held grown (λ read written. Serves g q read written end)
 serves-last g Old q unread left less held holds grown piece rounds end on is consumes are appends
     ends =
-    let now = run g q on.turns in
-    let turns : List Turn = hears piece ∷ rounds in (
+    let now = lone_run g q on.turns in
+    let turns : List LoneTurn = hears piece ∷ rounds in (
       joined (on.pieces ++ piece ∷ []),
-      served g q on.turns ++ served g now turns,
+      lone_served g q on.turns ++ lone_served g now turns,
       consumes-more unread left less on.pieces piece on.consumes consumes,
-      Appends-trans held holds grown (served g q on.turns) (served g now turns) on.appends appends,
+      Appends-trans held holds grown (lone_served g q on.turns) (lone_served g now turns) on.appends appends,
       record {
         pieces = on.pieces ++ piece ∷ [];
         turns = on.turns ++ turns;
         are_pieces = pieces-append on.pieces piece on.are_pieces is;
         cutting = refl;
         schedule = on.closes (piece ∷ []) turns (schedule-last g now piece rounds are);
-        written_is = sym (served-append g q on.turns turns);
+        written_is = sym (lone_served-append g q on.turns turns);
         is_end = ends-with g q on.turns turns (joined on.pieces) piece
             (joined (on.pieces ++ piece ∷ [])) end on.never_worn (joined-append on.pieces piece)
             on.heard ends;
@@ -114,31 +114,31 @@ serves-last g Old q unread left less held holds grown piece rounds end on is con
 pub serves-rounds : (g : Ground) (Old Mid New : Lone → Type 0) (q : Lone)
     (unread left less held holds grown : Option (List ℕ)) (piece : List ℕ) (end : Rounds)
     (told : PipeEnd) (on : Serving g Old q unread left held holds) → IsPiece piece
-    → Consumes left less piece → TakesIn g Mid (run g q on.turns) piece
-    → (made : MakesRounds g New (after g (run g q on.turns) (hears piece)) holds grown end)
-    → EndsWith g (run g q on.turns) piece (hears piece ∷ made.0) told
+    → Consumes left less piece → TakesIn g Mid (lone_run g q on.turns) piece
+    → (made : MakesRounds g New (lone_after g (lone_run g q on.turns) (hears piece)) holds grown end)
+    → EndsWith g (lone_run g q on.turns) piece (hears piece ∷ made.0) told
     → Moves unread less held grown (λ read written. Serves g q read written told)
 serves-rounds g Old Mid New q unread left less held holds grown piece end told on is consumes taken
     made ends =
     serves-last g Old q unread left less held holds grown piece made.0 told on is consumes made.1
-    (subst (Appends holds grown) (sym (served-heard g (run g q on.turns) piece made.0 taken.gives))
+    (subst (Appends holds grown) (sym (lone_served-heard g (lone_run g q on.turns) piece made.0 taken.gives))
     made.2.appends) ends
 
 -- a piece was refused at the end of the steps
 pub serves-worn : (g : Ground) (Old : Lone → Type 0) (q : Lone)
     (unread left less held holds : Option (List ℕ)) (piece : List ℕ)
     (on : Serving g Old q unread left held holds) → IsPiece piece → Consumes left less piece
-    → step g (run g q on.turns) (hears piece) ≡ refused Refusal.Worn
+    → lone_step g (lone_run g q on.turns) (hears piece) ≡ refused Refusal.Worn
     → Moves unread less held holds (λ read written. Serves g q read written PipeEnd.Worn)
 serves-worn g Old q unread left less held holds piece on is consumes worn =
-    let now = run g q on.turns in
-    let v = after g now (hears piece) in
+    let now = lone_run g q on.turns in
+    let v = lone_after g now (hears piece) in
     let same : v ≡ now = ap (lone_or now) worn in
     let used = (refused-worn g now piece Refusal.Worn (on.no_fault, on.empty) worn).1 in
     let none : v.quiet.replies ≡ [] = ap (λ (u : Lone). u.quiet.replies) same ∙ on.empty in
     let stops = worn-round g v (ap (λ (u : Lone). u.quiet.steps == 0) same ∙ used) none in
-    let nothing : served g now (hears piece ∷ round g v) ≡ [] =
-    served-heard g now piece (round g v) (ap bytes_given worn) ∙ stops.1 in
+    let nothing : lone_served g now (hears piece ∷ round g v) ≡ [] =
+    lone_served-heard g now piece (round g v) (ap bytes_given worn) ∙ stops.1 in
     serves-last g Old q unread left less held holds holds piece (round g v) PipeEnd.Worn on is
     consumes (last v stops.0) (subst (Appends holds holds) (sym nothing) (Appends-nil holds))
     (inl (inl worn, refl))

@@ -5,12 +5,13 @@ use Rattle.server_rules.specs.Ground.{Ground}
 use Rattle.server_rules.specs.Request.{Hand, Run}
 use Rattle.server_rules.specs.Tenant.{ActorData, seat_of, Quiet, is_held, state_of}
 use Rattle.server_rules.specs.Calls.{gives_up}
-use Rattle.server_rules.specs.Plan.{EndingData, Outcome, refuses, leaves, form_finished, Plan}
-use Rattle.server_rules.specs.Plan.{quietly, spent}
+use Rattle.server_rules.specs.Plan.{Outcome, refuses, leaves, form_finished, Plan}
+use Rattle.repl_jobs.specs.Job.{EndingData}
+use Rattle.server_rules.specs.Plan.{quietly, with_step_spent}
 use Rattle.server_rules.specs.Moves.{Move, form_ended}
-use Rattle.server_rules.specs.Starting.{interrupted_in, moved}
-use Rattle.server_rules.specs.Asking.{is_allowed, answered, asked_allowed, asked_running, asked_of}
-use Rattle.server_rules.specs.Asking.{call_of, when_told}
+use Rattle.server_rules.specs.Starting.{interrupted_in, after_move}
+use Rattle.server_rules.specs.Asking.{is_allowed, answer_outcome, asked_allowed, asked_running}
+use Rattle.server_rules.specs.Asking.{asked_of, call_of, when_told}
 use Rattle.server_rules.specs.Ending.{with_left_attempt, end_compared, end_checked, end_running}
 use Rattle.server_rules.specs.Ending.{end_of}
 use Rattle.server_rules.specs.declared.actor.Actor.{Actor}
@@ -34,10 +35,10 @@ allowed-so g a actor h run ask q told = by actor.is_closed where
       }
       else record {
         call = call_of (seat_of a) ask;
-        next = λ told. when_told told (answered g a actor h run ask q);
+        next = λ told. when_told told (answer_outcome g a actor h run ask q);
       }) in p.next told)
   by true = told-so q told (λ _. interrupted_in a h q) (λ _. (refl, refl, refl))
-  by false = told-so q told (answered g a actor h run ask q) (λ _. (refl, refl, refl))
+  by false = told-so q told (answer_outcome g a actor h run ask q) (λ _. (refl, refl, refl))
 
 asking-so : (g : Ground) (a : Actor) (actor : ActorData) (h : Hand) (ask : AskData) (q : Quiet)
     (run : Option Run) → PlansSo q (asked_running g a actor h ask q run)
@@ -57,7 +58,7 @@ asked-so g a actor ask q (Some h) told = asking-so g a actor h ask q h.running t
 -- Ending
 
 accepted-so : (a : Actor) (actor : ActorData) (m : Move) (q : Quiet) (told : Option AnswerData)
-    → GoesSo q ((with_left_attempt a (leaves (spent (moved a actor m q)) form_finished)).next told)
+    → GoesSo q ((with_left_attempt a (leaves (with_step_spent (after_move a actor m q)) form_finished)).next told)
 accepted-so Actor.Bare actor m q told = (refl, refl, refl)
 accepted-so (Actor.Session n) actor m q told = (refl, refl, refl)
 

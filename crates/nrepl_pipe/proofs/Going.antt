@@ -2,24 +2,25 @@
 use Rattle.std.proofs.Common.{◌≡◌, ℕ, zero, suc, ◌+◌, ◌-◌, ◌==◌, [], Bool, true, false}
 use Rattle.std.proofs.Common.{if◌then◌else◌, Option, None, Some, refl, sym, ap, ◌∙◌, subst, arith}
 use Rattle.repl_asks.specs.Exchange.{AskData}
-use Rattle.repl_jobs.specs.Tree.{Tree, finished, asks}
+use Rattle.repl_jobs.specs.InteractionTree.{InteractionTree, finished, asks}
 use Rattle.repl_jobs.specs.Leading as leading
-use Rattle.server_rules.specs.Numbered.{found}
+use Rattle.server_rules.specs.Numbered.{part_under}
 use Rattle.server_rules.specs.Ground.{Ground}
 use Rattle.server_rules.specs.Request.{Hand, Run}
 use Rattle.server_rules.specs.Store.{Store}
 use Rattle.server_rules.specs.Tenant.{ActorData, seat_of, Quiet, is_held}
-use Rattle.server_rules.specs.Plan.{EndingData, Deed, starts, asks_for, ends, Outcome, refuses}
+use Rattle.server_rules.specs.Plan.{Deed, starts, asks_for, ends, Outcome, refuses}
+use Rattle.repl_jobs.specs.Job.{EndingData}
 use Rattle.server_rules.specs.Plan.{leaves, Plan, quietly}
 use Rattle.server_rules.specs.Asking.{asked_of}
 use Rattle.server_rules.specs.Ending.{end_of}
 use Rattle.server_rules.specs.Deeds.{start_of, for_actor, unless_worn, plan}
-use Rattle.server_rules.specs.Turns.{honest, honest_at, honest_of, honest_in, honest_by}
+use Rattle.server_rules.specs.Turns.{honest_deed, honest_at, honest_of, honest_in, honest_by}
 use Rattle.server_rules.specs.declared.actor.Actor.{Actor}
 use Rattle.server_rules.specs.declared.refusal.Refusal.{Refusal}
-use Rattle.tenant_turns.specs.Deeded.{carried_out, deeded}
-use Rattle.tenant_turns.specs.Turns.{Lone, goes, Stepped, accepted, refused, ended_as, stepped_as}
-use Rattle.tenant_turns.specs.Turns.{step, lone_or, bytes_given, after}
+use Rattle.tenant_turns.specs.DeedResult.{carried_out, deed_result}
+use Rattle.tenant_turns.specs.Turns.{Lone, goes, LoneStepped, accepted, refused, ended_as}
+use Rattle.tenant_turns.specs.Turns.{stepped_as, lone_step, lone_or, bytes_given, lone_after}
 use Rattle.nrepl_pipe.proofs.Starting.{PlansSo, GoesSo, start-so}
 use Rattle.nrepl_pipe.proofs.Finishing.{asked-so, ended-so}
 
@@ -38,9 +39,9 @@ for_actor-so q (Some actor) p so told = so actor told
 
 starts-acts : (g : Ground) (t : ℕ) (a : Actor) (q : Quiet) → Acts g t q (starts a)
 starts-acts g t a q = record {
-  plan_is = for_actor (found (seat_of a) q.actors)
+  plan_is = for_actor (part_under (seat_of a) q.actors)
       (λ actor. quietly (start_of g a actor q actor.hand));
-  so = for_actor-so q (found (seat_of a) q.actors)
+  so = for_actor-so q (part_under (seat_of a) q.actors)
       (λ actor. quietly (start_of g a actor q actor.hand))
       (λ actor told. start-so g a actor q actor.hand);
   is = refl;
@@ -48,9 +49,9 @@ starts-acts g t a q = record {
 
 asks-acts : (g : Ground) (t : ℕ) (a : Actor) (ask : AskData) (q : Quiet) → Acts g t q (asks_for a ask)
 asks-acts g t a ask q = record {
-  plan_is = for_actor (found (seat_of a) q.actors)
+  plan_is = for_actor (part_under (seat_of a) q.actors)
       (λ actor. asked_of g a actor ask q actor.hand);
-  so = for_actor-so q (found (seat_of a) q.actors)
+  so = for_actor-so q (part_under (seat_of a) q.actors)
       (λ actor. asked_of g a actor ask q actor.hand)
       (λ actor. asked-so g a actor ask q actor.hand);
   is = refl;
@@ -58,14 +59,14 @@ asks-acts g t a ask q = record {
 
 ends-acts : (g : Ground) (t : ℕ) (a : Actor) (e : EndingData) (q : Quiet) → Acts g t q (ends a e)
 ends-acts g t a e q = record {
-  plan_is = for_actor (found (seat_of a) q.actors) (λ actor. end_of g a actor e q actor.hand);
-  so = for_actor-so q (found (seat_of a) q.actors)
+  plan_is = for_actor (part_under (seat_of a) q.actors) (λ actor. end_of g a actor e q actor.hand);
+  so = for_actor-so q (part_under (seat_of a) q.actors)
       (λ actor. end_of g a actor e q actor.hand)
       (λ actor. ended-so g a actor e q actor.hand);
   is = refl;
 }
 
-at-acts : (g : Ground) (n : ℕ) (a : Actor) (q : Quiet) (run : Run) (t : Tree)
+at-acts : (g : Ground) (n : ℕ) (a : Actor) (q : Quiet) (run : Run) (t : InteractionTree)
     → Acts g n q (honest_at a run t)
 at-acts g n a q run (asks ask behind) = asks-acts g n a ask q
 at-acts g n a q run (finished e) =
@@ -73,7 +74,7 @@ at-acts g n a q run (finished e) =
 
 of-acts : (g : Ground) (t : ℕ) (a : Actor) (q : Quiet) (run : Option Run) → Acts g t q (honest_of g a run)
 of-acts g t a q None = starts-acts g t a q
-of-acts g t a q (Some run) = at-acts g t a q run (leading.after (g.evaluation run.job) run.trace)
+of-acts g t a q (Some run) = at-acts g t a q run (leading.tree_after (g.evaluation run.job) run.trace)
 
 in-acts : (g : Ground) (t : ℕ) (a : Actor) (q : Quiet) (h : Option Hand) → Acts g t q (honest_in g a h)
 in-acts g t a q None = starts-acts g t a q
@@ -84,13 +85,13 @@ by-acts : (g : Ground) (t : ℕ) (a : Actor) (q : Quiet) (there : Option ActorDa
 by-acts g t a q None = starts-acts g t a q
 by-acts g t a q (Some actor) = in-acts g t a q actor.hand
 
-honest-acts : (g : Ground) (t : ℕ) (a : Actor) (q : Quiet) → Acts g t q (honest g a (Some (Some q)))
-honest-acts g t a q = by-acts g t a q (found (seat_of a) q.actors)
+honest_deed-acts : (g : Ground) (t : ℕ) (a : Actor) (q : Quiet) → Acts g t q (honest_deed g a (Some (Some q)))
+honest_deed-acts g t a q = by-acts g t a q (part_under (seat_of a) q.actors)
 
 -- The step
 
 -- an actor's turn, refused or accepted
-abbrev pub StepsSo : Lone → Stepped → Type 0
+abbrev pub StepsSo : Lone → LoneStepped → Type 0
 StepsSo l (accepted new bytes) = (l.quiet.steps ≡ new.quiet.steps + 1)
     × (new.quiet.heard ≡ l.quiet.heard) × (bytes ≡ [])
 StepsSo l (refused why) = why ≡ Refusal.Held → is_held l.quiet ≡ true
@@ -114,42 +115,42 @@ worn-steps l p true is so = λ e. cc
 worn-steps l p false is so =
     outcome-steps l (carried_out l.store p).store (carried_out l.store p).outcome is (so _)
 
-step-goes : (g : Ground) (l : Lone) (a : Actor) → step g l (goes a)
+lone_step-goes : (g : Ground) (l : Lone) (a : Actor) → lone_step g l (goes a)
     ≡ stepped_as (carried_out l.store
-    (plan g l.store.tenant l.quiet (honest g a (Some (Some l.quiet)))))
-unfolding step deeded
-step-goes g l a = refl
+    (plan g l.store.tenant l.quiet (honest_deed g a (Some (Some l.quiet)))))
+unfolding lone_step deed_result
+lone_step-goes g l a = refl
 
-step-acts : (g : Ground) (l : Lone) (a : Actor) → step g l (goes a)
+lone_step-acts : (g : Ground) (l : Lone) (a : Actor) → lone_step g l (goes a)
     ≡ stepped_as (carried_out l.store
-    (unless_worn l.quiet (honest-acts g l.store.tenant a l.quiet).plan_is))
-step-acts g l a = step-goes g l a
-    ∙ ap (λ p. stepped_as (carried_out l.store p)) (honest-acts g l.store.tenant a l.quiet).is
+    (unless_worn l.quiet (honest_deed-acts g l.store.tenant a l.quiet).plan_is))
+lone_step-acts g l a = lone_step-goes g l a
+    ∙ ap (λ p. stepped_as (carried_out l.store p)) (honest_deed-acts g l.store.tenant a l.quiet).is
 
-pub go-steps : (g : Ground) (l : Lone) (a : Actor) → StepsSo l (step g l (goes a))
+pub go-steps : (g : Ground) (l : Lone) (a : Actor) → StepsSo l (lone_step g l (goes a))
 go-steps g l a =
-    let acts = honest-acts g l.store.tenant a l.quiet in
-    subst (StepsSo l) (sym (step-acts g l a))
+    let acts = honest_deed-acts g l.store.tenant a l.quiet in
+    subst (StepsSo l) (sym (lone_step-acts g l a))
     (worn-steps l acts.plan_is (l.quiet.steps == 0) refl acts.so)
 
 pub go-worn : (g : Ground) (l : Lone) (a : Actor) → (l.quiet.steps == 0) ≡ true
-    → step g l (goes a) ≡ refused Refusal.Worn
-go-worn g l a none = step-acts g l a
+    → lone_step g l (goes a) ≡ refused Refusal.Worn
+go-worn g l a none = lone_step-acts g l a
     ∙ ap (λ worn. stepped_as (carried_out l.store
-    (worn_plan (honest-acts g l.store.tenant a l.quiet).plan_is worn))) none
+    (worn_plan (honest_deed-acts g l.store.tenant a l.quiet).plan_is worn))) none
 
-steps-give : (l : Lone) (s : Stepped) → StepsSo l s → bytes_given s ≡ []
+steps-give : (l : Lone) (s : LoneStepped) → StepsSo l s → bytes_given s ≡ []
 steps-give l (accepted new bytes) so = so.2
 steps-give l (refused why) so = refl
 
-pub go-gives : (g : Ground) (l : Lone) (a : Actor) → bytes_given (step g l (goes a)) ≡ []
-go-gives g l a = steps-give l (step g l (goes a)) (go-steps g l a)
+pub go-gives : (g : Ground) (l : Lone) (a : Actor) → bytes_given (lone_step g l (goes a)) ≡ []
+go-gives g l a = steps-give l (lone_step g l (goes a)) (go-steps g l a)
 
-steps-heard : (l : Lone) (s : Stepped) → StepsSo l s
+steps-heard : (l : Lone) (s : LoneStepped) → StepsSo l s
     → (lone_or l s).quiet.heard ≡ l.quiet.heard
 steps-heard l (accepted new bytes) so = so.1
 steps-heard l (refused why) so = refl
 
 pub go-heard : (g : Ground) (l : Lone) (a : Actor)
-    → (after g l (goes a)).quiet.heard ≡ l.quiet.heard
-go-heard g l a = steps-heard l (step g l (goes a)) (go-steps g l a)
+    → (lone_after g l (goes a)).quiet.heard ≡ l.quiet.heard
+go-heard g l a = steps-heard l (lone_step g l (goes a)) (go-steps g l a)

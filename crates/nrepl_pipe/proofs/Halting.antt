@@ -3,11 +3,11 @@ use Rattle.std.proofs.Common.{◌≡◌, ℕ, List, [], ◌++◌, Bool, false, r
 use Rattle.std.proofs.Common.{Option}
 use Rattle.std.proofs.KnownBytes.{Appends-nil, Appends-trans}
 use Rattle.server_rules.specs.Ground.{Ground}
-use Rattle.tenant_turns.specs.Turns.{Lone, run, served}
+use Rattle.tenant_turns.specs.Turns.{Lone, lone_run, lone_served}
 use Rattle.nrepl_pipe.specs.Schedule.{drain_all, round}
 use Rattle.nrepl_pipe.specs.Parts.{Begins, BeginsRounds}
-use Rattle.nrepl_pipe.proofs.Turns.{served-append}
-use Rattle.nrepl_pipe.proofs.EachRound.{gone, served-round}
+use Rattle.nrepl_pipe.proofs.Turns.{lone_served-append}
+use Rattle.nrepl_pipe.proofs.EachRound.{gone, lone_served-round}
 use Rattle.nrepl_pipe.proofs.Lasting.{rounds-exist, rounds-front}
 use Rattle.nrepl_pipe.proofs.Rounding.{RoundsOn}
 
@@ -16,7 +16,7 @@ pub round-stopped : (g : Ground) (q : Lone) (held : Option (List ℕ))
     → Begins g q (round g q) held held
 round-stopped g q held = record {
   written = [];
-  more = served g q (round g q);
+  more = lone_served g q (round g q);
   appends = Appends-nil held;
   begins = refl;
 }
@@ -29,7 +29,7 @@ round-broken g q held holds drained = record {
   written = drained.written;
   more = drained.more;
   appends = drained.appends;
-  begins = served-round g q ∙ drained.begins;
+  begins = lone_served-round g q ∙ drained.begins;
 }
 
 -- a part of the first round was written
@@ -38,7 +38,7 @@ pub rounds-begun : (g : Ground) (q : Lone) (held holds : Option (List ℕ))
 rounds-begun g q held holds begun =
     let all = rounds-exist g q in
     let front = rounds-front g q all.0 all.1 in
-    let later = served g (run g q (round g q)) front.0 in (
+    let later = lone_served g (lone_run g q (round g q)) front.0 in (
       all.0,
       all.1,
       record {
@@ -46,7 +46,7 @@ rounds-begun g q held holds begun =
         more = begun.more ++ later;
         appends = begun.appends;
         begins =
-            ap (served g q) front.1 ∙ served-append g q (round g q) front.0
+            ap (lone_served g q) front.1 ∙ lone_served-append g q (round g q) front.0
             ∙ ap (λ (bytes : List ℕ). bytes ++ later) begun.begins
             ∙ append_assoc begun.written begun.more later;
       },
@@ -55,21 +55,21 @@ rounds-begun g q held holds begun =
 -- a part of the next round was written
 pub rounds-broken : (g : Ground) (Old : Lone → Type 0) (q : Lone) (is_last is_worn : Bool)
     (held holds grown : Option (List ℕ)) (on : RoundsOn g Old q is_last is_worn held holds)
-    → is_last ≡ false → Begins g (run g q on.turns) (round g (run g q on.turns)) holds grown
+    → is_last ≡ false → Begins g (lone_run g q on.turns) (round g (lone_run g q on.turns)) holds grown
     → BeginsRounds g q held grown
 rounds-broken g Old q is_last is_worn held holds grown on follows begun =
-    let now = run g q on.turns in
+    let now = lone_run g q on.turns in
     let behind = rounds-begun g now holds grown begun in (
       on.turns ++ behind.0,
       on.closes follows behind.0 behind.1,
       record {
-        written = served g q on.turns ++ behind.2.written;
+        written = lone_served g q on.turns ++ behind.2.written;
         more = behind.2.more;
-        appends = Appends-trans held holds grown (served g q on.turns) behind.2.written
+        appends = Appends-trans held holds grown (lone_served g q on.turns) behind.2.written
             on.makes.appends behind.2.appends;
         begins =
-            served-append g q on.turns behind.0
-            ∙ ap (λ (bytes : List ℕ). served g q on.turns ++ bytes) behind.2.begins
-            ∙ sym (append_assoc (served g q on.turns) behind.2.written behind.2.more);
+            lone_served-append g q on.turns behind.0
+            ∙ ap (λ (bytes : List ℕ). lone_served g q on.turns ++ bytes) behind.2.begins
+            ∙ sym (append_assoc (lone_served g q on.turns) behind.2.written behind.2.more);
       },
     )

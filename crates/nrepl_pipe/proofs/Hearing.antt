@@ -6,14 +6,14 @@ use Rattle.repl_replies.specs.Replies.{ReplyData}
 use Rattle.server_rules.specs.Ground.{Ground}
 use Rattle.server_rules.specs.Store.{Store}
 use Rattle.server_rules.specs.Tenant.{Quiet, is_held}
-use Rattle.server_rules.specs.Hearing.{stream_fault, hears_more, hearing}
+use Rattle.server_rules.specs.Hearing.{stream_fault, hears_more, hearing_plan}
 use Rattle.server_rules.specs.Plan.{Outcome, refuses, leaves}
 use Rattle.server_rules.specs.Turns.{bytes_in}
 use Rattle.server_rules.specs.declared.refusal.Refusal.{Refusal}
-use Rattle.tenant_turns.specs.Deeded.{carried_out, deeded}
+use Rattle.tenant_turns.specs.DeedResult.{carried_out, deed_result}
 use Rattle.tenant_turns.specs.Turned.{Accepted}
-use Rattle.tenant_turns.specs.Turns.{Lone, hears, Stepped, accepted, refused, ended_as, stepped_as}
-use Rattle.tenant_turns.specs.Turns.{step, lone_or, bytes_given, after}
+use Rattle.tenant_turns.specs.Turns.{Lone, hears, LoneStepped, accepted, refused, ended_as}
+use Rattle.tenant_turns.specs.Turns.{stepped_as, lone_step, lone_or, bytes_given, lone_after}
 use Rattle.nrepl_pipe.specs.Fresh.{IsReady}
 use Rattle.nrepl_pipe.proofs.Messages.{taken_in-heard}
 
@@ -55,7 +55,7 @@ hearing-so g t piece q false is = more-so g t piece q (stream_fault g.readings q
 
 -- The step
 
-abbrev pub PieceSo : Ground → Lone → List ℕ → Stepped → Type 0
+abbrev pub PieceSo : Ground → Lone → List ℕ → LoneStepped → Type 0
 PieceSo g l piece (refused why) =
     IsReady g l → (why ≡ Refusal.Worn) × ((l.quiet.steps == 0) ≡ true)
 PieceSo g l piece (accepted new bytes) =
@@ -66,24 +66,24 @@ outcome-piece : (g : Ground) (l : Lone) (s : Store) (piece : List ℕ) (o : Outc
 outcome-piece g l s piece (refuses why) so = so
 outcome-piece g l s piece (leaves new answer) so = so
 
-step-hears : (g : Ground) (l : Lone) (piece : List ℕ) → step g l (hears piece)
-    ≡ stepped_as (carried_out l.store (hearing g l.store.tenant piece l.quiet))
-unfolding step deeded
-step-hears g l piece = refl
+lone_step-hears : (g : Ground) (l : Lone) (piece : List ℕ) → lone_step g l (hears piece)
+    ≡ stepped_as (carried_out l.store (hearing_plan g l.store.tenant piece l.quiet))
+unfolding lone_step deed_result
+lone_step-hears g l piece = refl
 
 pub hears-so : (g : Ground) (l : Lone) (piece : List ℕ)
-    → PieceSo g l piece (step g l (hears piece))
+    → PieceSo g l piece (lone_step g l (hears piece))
 hears-so g l piece =
-    let d = carried_out l.store (hearing g l.store.tenant piece l.quiet) in
-    subst (PieceSo g l piece) (sym (step-hears g l piece))
+    let d = carried_out l.store (hearing_plan g l.store.tenant piece l.quiet) in
+    subst (PieceSo g l piece) (sym (lone_step-hears g l piece))
     (outcome-piece g l d.store piece d.outcome
     (hearing-so g l.store.tenant piece l.quiet (l.quiet.steps == 0) refl))
 
 -- The code was refused
 
 pub refused-worn : (g : Ground) (l : Lone) (piece : List ℕ) (why : Refusal) → IsReady g l
-    → step g l (hears piece) ≡ refused why
-    → (step g l (hears piece) ≡ refused Refusal.Worn) × ((l.quiet.steps == 0) ≡ true)
+    → lone_step g l (hears piece) ≡ refused why
+    → (lone_step g l (hears piece) ≡ refused Refusal.Worn) × ((l.quiet.steps == 0) ≡ true)
 refused-worn g l piece why ready is =
     let so : PieceSo g l piece (refused why) = subst (PieceSo g l piece) is (hears-so g l piece) in
     (is ∙ ap refused (so ready).0, (so ready).1)
@@ -93,26 +93,26 @@ refused-worn g l piece why ready is =
 -- the piece was taken in
 pub record TakesIn (g : Ground) (Stands : Lone → Type 0) (l : Lone) (piece : List ℕ)
     : Type 0 where
-  pub stands : Stands (after g l (hears piece))
-  pub gives : bytes_given (step g l (hears piece)) ≡ []
-  pub not_worn : step g l (hears piece) ≢ refused Refusal.Worn
-  pub heard : (after g l (hears piece)).quiet.heard ≡ l.quiet.heard ++ piece
+  pub stands : Stands (lone_after g l (hears piece))
+  pub gives : bytes_given (lone_step g l (hears piece)) ≡ []
+  pub not_worn : lone_step g l (hears piece) ≢ refused Refusal.Worn
+  pub heard : (lone_after g l (hears piece)).quiet.heard ≡ l.quiet.heard ++ piece
 
-takes-in_by : (g : Ground) (Stands : Lone → Type 0) (l : Lone) (piece : List ℕ) (s : Stepped)
-    → step g l (hears piece) ≡ s → PieceSo g l piece s → Accepted Stands s
+takes-in_by : (g : Ground) (Stands : Lone → Type 0) (l : Lone) (piece : List ℕ) (s : LoneStepped)
+    → lone_step g l (hears piece) ≡ s → PieceSo g l piece s → Accepted Stands s
     → TakesIn g Stands l piece
 takes-in_by g Stands l piece (accepted new bytes) is so stands =
-    let same : after g l (hears piece) ≡ new = ap (lone_or l) is in
+    let same : lone_after g l (hears piece) ≡ new = ap (lone_or l) is in
     record {
       stands = subst Stands (sym same) stands;
       gives = ap bytes_given is ∙ so.1;
-      not_worn = λ (worn : step g l (hears piece) ≡ refused Refusal.Worn).
+      not_worn = λ (worn : lone_step g l (hears piece) ≡ refused Refusal.Worn).
           let both : accepted new bytes ≡ refused Refusal.Worn = sym is ∙ worn in cc;
       heard = ap (λ (v : Lone). v.quiet.heard) same ∙ so.0;
     }
 takes-in_by g Stands l piece (refused why) is so never = absurd never
 
 pub takes-in : (g : Ground) (Stands : Lone → Type 0) (l : Lone) (piece : List ℕ)
-    → Accepted Stands (step g l (hears piece)) → TakesIn g Stands l piece
+    → Accepted Stands (lone_step g l (hears piece)) → TakesIn g Stands l piece
 takes-in g Stands l piece stands =
-    takes-in_by g Stands l piece (step g l (hears piece)) refl (hears-so g l piece) stands
+    takes-in_by g Stands l piece (lone_step g l (hears piece)) refl (hears-so g l piece) stands

@@ -4,14 +4,15 @@ use Rattle.std.proofs.Common.{◌==◌, true, refl, sym, ap, ◌∙◌, subst, a
 use Rattle.server_rules.specs.Ground.{Ground}
 use Rattle.server_rules.specs.declared.actor.Actor.{Actor}
 use Rattle.server_rules.specs.declared.refusal.Refusal.{Refusal}
-use Rattle.tenant_turns.specs.Turns.{Lone, Turn, goes, Stepped, accepted, refused, step, lone_or, after}
-use Rattle.tenant_turns.specs.Turns.{run, served, actors_of}
+use Rattle.tenant_turns.specs.Turns.{Lone, LoneTurn, goes, LoneStepped, accepted, refused}
+use Rattle.tenant_turns.specs.Turns.{lone_step, lone_or, lone_after, lone_run, lone_served}
+use Rattle.tenant_turns.specs.Turns.{actors_of}
 use Rattle.nrepl_pipe.specs.Schedule.{go_each, drain_all, round, Rests, AllRest, IsLast, AreRounds}
 use Rattle.nrepl_pipe.specs.Schedule.{last, more}
-use Rattle.nrepl_pipe.proofs.Turns.{run-append}
+use Rattle.nrepl_pipe.proofs.Turns.{lone_run-append}
 use Rattle.nrepl_pipe.proofs.Going.{StepsSo, go-steps, go-worn}
-use Rattle.nrepl_pipe.proofs.EachRound.{gos-steps, held-waits, gone, run-round, round-empty}
-use Rattle.nrepl_pipe.proofs.EachRound.{round-heard, served-round}
+use Rattle.nrepl_pipe.proofs.EachRound.{gos-steps, held-waits, gone, lone_run-round, round-empty}
+use Rattle.nrepl_pipe.proofs.EachRound.{round-heard, lone_served-round}
 
 -- A round is the last, or goes on
 
@@ -27,20 +28,20 @@ held-or Refusal.Held = inl refl
 held-or Refusal.Worn = inr (λ e. cc)
 held-or (Refusal.TraceMismatch place) = inr (λ e. cc)
 
-rests-or : (s : Stepped) → Rests s ⊎ (Rests s → ⊥)
+rests-or : (s : LoneStepped) → Rests s ⊎ (Rests s → ⊥)
 rests-or (accepted new bytes) = inr (λ never. never)
 rests-or (refused why) = by (held-or why) where
   by : (why ≡ Refusal.Held) ⊎ (why ≢ Refusal.Held) → Rests (refused why) ⊎ (Rests (refused why) → ⊥)
   by (inl held) = inr (λ other. other held)
   by (inr other) = inl other
 
-all_rest-or : (g : Ground) (q : Lone) (turns : List Turn)
+all_rest-or : (g : Ground) (q : Lone) (turns : List LoneTurn)
     → AllRest g q turns ⊎ (AllRest g q turns → ⊥)
 all_rest-or g q [] = inl tt
 all_rest-or g q (t ∷ turns) =
-    by (rests-or (step g q t)) (all_rest-or g (after g q t) turns) where
-      by : Rests (step g q t) ⊎ (Rests (step g q t) → ⊥)
-          → AllRest g (after g q t) turns ⊎ (AllRest g (after g q t) turns → ⊥)
+    by (rests-or (lone_step g q t)) (all_rest-or g (lone_after g q t) turns) where
+      by : Rests (lone_step g q t) ⊎ (Rests (lone_step g q t) → ⊥)
+          → AllRest g (lone_after g q t) turns ⊎ (AllRest g (lone_after g q t) turns → ⊥)
           → AllRest g q (t ∷ turns) ⊎ (AllRest g q (t ∷ turns) → ⊥)
       by (inl here) (inl later) = inl (here, later)
       by (inl here) (inr other) = inr (λ all. other all.1)
@@ -48,44 +49,44 @@ all_rest-or g q (t ∷ turns) =
 
 -- where no reply waits, actors of whom one goes on use up a step
 uses-step : (g : Ground) (q : Lone) (actors : List Actor) → q.quiet.replies ≡ []
-    → (AllRest g q (go_each actors) → ⊥) → (run g q (go_each actors)).quiet.steps < q.quiet.steps
+    → (AllRest g q (go_each actors) → ⊥) → (lone_run g q (go_each actors)).quiet.steps < q.quiet.steps
 uses-step g q [] none on = absurd (on tt)
 uses-step g q (a ∷ actors) none on =
-    by (step g q (goes a)) refl (go-steps g q a) (λ behind. uses-step g q actors none behind) where
-      by : (s : Stepped) → step g q (goes a) ≡ s → StepsSo q s
-          → ((AllRest g q (go_each actors) → ⊥) → (run g q (go_each actors)).quiet.steps < q.quiet.steps)
-          → (run g q (go_each (a ∷ actors))).quiet.steps < q.quiet.steps
+    by (lone_step g q (goes a)) refl (go-steps g q a) (λ behind. uses-step g q actors none behind) where
+      by : (s : LoneStepped) → lone_step g q (goes a) ≡ s → StepsSo q s
+          → ((AllRest g q (go_each actors) → ⊥) → (lone_run g q (go_each actors)).quiet.steps < q.quiet.steps)
+          → (lone_run g q (go_each (a ∷ actors))).quiet.steps < q.quiet.steps
       by (accepted new bytes) is so behind =
-          let fewer = gos-steps g (after g q (goes a)) actors in
-          let same : (after g q (goes a)).quiet.steps ≡ new.quiet.steps = ap (λ s. (lone_or q s).quiet.steps) is in
+          let fewer = gos-steps g (lone_after g q (goes a)) actors in
+          let same : (lone_after g q (goes a)).quiet.steps ≡ new.quiet.steps = ap (λ s. (lone_or q s).quiet.steps) is in
           let one = so.0 in omega arith
       by (refused why) is so behind = refused-by (held-or why) where
-        same : after g q (goes a) ≡ q
+        same : lone_after g q (goes a) ≡ q
         same = ap (lone_or q) is
 
         refused-by : (why ≡ Refusal.Held) ⊎ (why ≢ Refusal.Held)
-            → (run g q (go_each (a ∷ actors))).quiet.steps < q.quiet.steps
+            → (lone_run g q (go_each (a ∷ actors))).quiet.steps < q.quiet.steps
         refused-by (inl held) = absurd (held-waits q (so held) none)
         refused-by (inr other) =
-            subst (λ v. (run g v (go_each actors)).quiet.steps < q.quiet.steps) (sym same)
+            subst (λ v. (lone_run g v (go_each actors)).quiet.steps < q.quiet.steps) (sym same)
             (behind (λ all. on (
               subst Rests (sym is) other,
               subst (λ v. AllRest g v (go_each actors)) (sym same) all,
             )))
 
 pub round-uses : (g : Ground) (q : Lone) → q.quiet.replies ≡ [] → (IsLast g q → ⊥)
-    → (run g q (round g q)).quiet.steps < q.quiet.steps
+    → (lone_run g q (round g q)).quiet.steps < q.quiet.steps
 round-uses g q none on =
-    let same : (run g q (round g q)).quiet.steps ≡ (gone g q).quiet.steps =
-    ap (λ (v : Lone). v.quiet.steps) (run-round g q) in
+    let same : (lone_run g q (round g q)).quiet.steps ≡ (gone g q).quiet.steps =
+    ap (λ (v : Lone). v.quiet.steps) (lone_run-round g q) in
     let fewer = uses-step g q (actors_of q) none on in omega arith
 
 -- Each tenant has rounds
 
 abbrev pub HasRounds : Ground → Lone → Type 0
-HasRounds g q = (turns : List Turn) × AreRounds g q turns
+HasRounds g q = (turns : List LoneTurn) × AreRounds g q turns
 
-has-more : (g : Ground) (q : Lone) → (IsLast g q → ⊥) → HasRounds g (run g q (round g q))
+has-more : (g : Ground) (q : Lone) → (IsLast g q → ⊥) → HasRounds g (lone_run g q (round g q))
     → HasRounds g q
 has-more g q on rounds = (round g q ++ rounds.0, more q rounds.0 on rounds.1)
 
@@ -97,9 +98,9 @@ quiet-rounds g zero q few none = by (all_rest-or g q (go_each (actors_of q))) wh
   by (inr on) = let fewer = round-uses g q none on in absurd (omega arith)
 quiet-rounds g (suc n) q few none =
     by (all_rest-or g q (go_each (actors_of q)))
-    (λ fewer. quiet-rounds g n (run g q (round g q)) fewer (round-empty g q)) where
+    (λ fewer. quiet-rounds g n (lone_run g q (round g q)) fewer (round-empty g q)) where
       by : IsLast g q ⊎ (IsLast g q → ⊥)
-          → ((run g q (round g q)).quiet.steps ≤ n → HasRounds g (run g q (round g q))) → HasRounds g q
+          → ((lone_run g q (round g q)).quiet.steps ≤ n → HasRounds g (lone_run g q (round g q))) → HasRounds g q
       by (inl is) behind = (round g q, last q is)
       by (inr on) behind =
           let fewer = round-uses g q none on in has-more g q on (behind (omega arith))
@@ -109,53 +110,53 @@ rounds-exist g q = by (all_rest-or g q (go_each (actors_of q))) where
   by : IsLast g q ⊎ (IsLast g q → ⊥) → HasRounds g q
   by (inl is) = (round g q, last q is)
   by (inr on) = has-more g q on
-      (quiet-rounds g (run g q (round g q)).quiet.steps (run g q (round g q)) (le_refl _)
+      (quiet-rounds g (lone_run g q (round g q)).quiet.steps (lone_run g q (round g q)) (le_refl _)
       (round-empty g q))
 
 -- What rounds keep
 
-pub rounds-empty : (g : Ground) (q : Lone) (turns : List Turn) → AreRounds g q turns
-    → (run g q turns).quiet.replies ≡ []
+pub rounds-empty : (g : Ground) (q : Lone) (turns : List LoneTurn) → AreRounds g q turns
+    → (lone_run g q turns).quiet.replies ≡ []
 rounds-empty g q turns (last v end) = round-empty g v
 rounds-empty g q turns (more v behind on rounds) =
-    ap (λ (u : Lone). u.quiet.replies) (run-append g v (round g v) behind)
-    ∙ rounds-empty g (run g v (round g v)) behind rounds
+    ap (λ (u : Lone). u.quiet.replies) (lone_run-append g v (round g v) behind)
+    ∙ rounds-empty g (lone_run g v (round g v)) behind rounds
 
-pub rounds-heard : (g : Ground) (q : Lone) (turns : List Turn) → AreRounds g q turns
-    → (run g q turns).quiet.heard ≡ q.quiet.heard
+pub rounds-heard : (g : Ground) (q : Lone) (turns : List LoneTurn) → AreRounds g q turns
+    → (lone_run g q turns).quiet.heard ≡ q.quiet.heard
 rounds-heard g q turns (last v end) = round-heard g v
 rounds-heard g q turns (more v behind on rounds) =
-    ap (λ (u : Lone). u.quiet.heard) (run-append g v (round g v) behind)
-    ∙ rounds-heard g (run g v (round g v)) behind rounds ∙ round-heard g v
+    ap (λ (u : Lone). u.quiet.heard) (lone_run-append g v (round g v) behind)
+    ∙ rounds-heard g (lone_run g v (round g v)) behind rounds ∙ round-heard g v
 
 -- rounds begin with the first
-pub rounds-front : (g : Ground) (q : Lone) (turns : List Turn) → AreRounds g q turns
-    → (behind : List Turn) × (turns ≡ round g q ++ behind)
+pub rounds-front : (g : Ground) (q : Lone) (turns : List LoneTurn) → AreRounds g q turns
+    → (behind : List LoneTurn) × (turns ≡ round g q ++ behind)
 rounds-front g q turns (last v end) = ([], sym (append-nil (round g v)))
 rounds-front g q turns (more v behind on rounds) = (behind, refl)
 
 -- Where the steps are used up no actor goes on
 
 gos-worn : (g : Ground) (q : Lone) (actors : List Actor) → (q.quiet.steps == 0) ≡ true
-    → (AllRest g q (go_each actors)) × (run g q (go_each actors) ≡ q)
+    → (AllRest g q (go_each actors)) × (lone_run g q (go_each actors) ≡ q)
 gos-worn g q [] none = (tt, refl)
 gos-worn g q (a ∷ actors) none =
     let is = go-worn g q a none in
-    let same : after g q (goes a) ≡ q = ap (lone_or q) is in
+    let same : lone_after g q (goes a) ≡ q = ap (lone_or q) is in
     let behind = gos-worn g q actors none in (
       (
         subst Rests (sym is) (λ e. cc),
         subst (λ v. AllRest g v (go_each actors)) (sym same) behind.0,
       ),
-      ap (λ v. run g v (go_each actors)) same ∙ behind.1,
+      ap (λ v. lone_run g v (go_each actors)) same ∙ behind.1,
     )
 
 -- and a round serves what waited
 pub worn-round : (g : Ground) (q : Lone) → (q.quiet.steps == 0) ≡ true → q.quiet.replies ≡ []
-    → IsLast g q × (served g q (round g q) ≡ [])
+    → IsLast g q × (lone_served g q (round g q) ≡ [])
 worn-round g q none empty =
     let worn = gos-worn g q (actors_of q) none in (
       worn.0,
-      served-round g q ∙ ap (λ v. served g v (drain_all v.quiet.replies)) worn.1
-          ∙ ap (λ xs. served g q (drain_all xs)) empty,
+      lone_served-round g q ∙ ap (λ v. lone_served g v (drain_all v.quiet.replies)) worn.1
+          ∙ ap (λ xs. lone_served g q (drain_all xs)) empty,
     )

@@ -2,20 +2,20 @@
 use Rattle.std.proofs.Common.{◌≡◌, ℕ, ◌+◌, List, [], ◌∷◌, ◌++◌, length, Option, Some, None, Result}
 use Rattle.std.proofs.Common.{Ok, Err, refl, ap, ◌∙◌, length-append, arith}
 use Rattle.bencode_wire.specs.Tree as wire
-use Rattle.bencode_wire.specs.Stream.{Ending, rest, fault, Streams}
+use Rattle.bencode_wire.specs.Stream.{StreamEnding, rest, fault, Streams}
 use Rattle.repl_replies.specs.Replies.{OriginData, ReplyData}
 use Rattle.repl_replies.specs.Operations as operations
 use Rattle.repl_replies.specs.Operations.{AskedData, OperationData}
 use Rattle.repl_sessions.specs.Named.{number_named}
-use Rattle.server_rules.specs.Numbered.{found}
+use Rattle.server_rules.specs.Numbered.{part_under}
 use Rattle.server_rules.specs.Ground.{Ground}
 use Rattle.server_rules.specs.Readings.{Readings, AreRight, message_limit}
 use Rattle.server_rules.specs.Request.{Waiting, ProgramText, code, file}
 use Rattle.server_rules.specs.Tenant.{ActorData, seat_of, Quiet}
 use Rattle.server_rules.specs.Hearing.{fault_in, stream_fault, with_messages, new_messages}
 use Rattle.server_rules.specs.Hearing.{taken_in}
-use Rattle.server_rules.specs.Operating.{named_sessions, closed_by, asker, queued_for, queued}
-use Rattle.server_rules.specs.Operating.{operated, with_asked, with_message}
+use Rattle.server_rules.specs.Operating.{named_sessions, closed_by, asker, queued_for, with_queued}
+use Rattle.server_rules.specs.Operating.{after_operation, with_asked, with_message}
 use Rattle.server_rules.specs.declared.actor.Actor.{Actor}
 
 closed-heard : (origin : OriginData) (n : ℕ) (q : Quiet) (there : Option ActorData)
@@ -29,32 +29,32 @@ queued-heard a w q None = refl
 queued-heard a w q (Some actor) = refl
 
 text-heard : (a : Actor) (origin : OriginData) (text : ProgramText) (q : Quiet)
-    → (queued a origin text q).heard ≡ q.heard
+    → (with_queued a origin text q).heard ≡ q.heard
 text-heard a origin text q =
-    queued-heard a (record { origin = origin; text = text }) q (found (seat_of a) q.actors)
+    queued-heard a (record { origin = origin; text = text }) q (part_under (seat_of a) q.actors)
 
-operated-heard : (g : Ground) (t : ℕ) (origin : OriginData) (o : OperationData) (q : Quiet)
-    → (operated g t origin o q).heard ≡ q.heard
-operated-heard g t origin (operations.clone original) q = refl
-operated-heard g t origin (operations.close n) q =
-    closed-heard origin n q (found (seat_of (Actor.Session n)) q.actors)
-operated-heard g t origin (operations.describe session) q = refl
-operated-heard g t origin (operations.list_sessions session) q = refl
-operated-heard g t origin (operations.eval session text ns) q =
+after_operation-heard : (g : Ground) (t : ℕ) (origin : OriginData) (o : OperationData) (q : Quiet)
+    → (after_operation g t origin o q).heard ≡ q.heard
+after_operation-heard g t origin (operations.clone original) q = refl
+after_operation-heard g t origin (operations.close n) q =
+    closed-heard origin n q (part_under (seat_of (Actor.Session n)) q.actors)
+after_operation-heard g t origin (operations.describe session) q = refl
+after_operation-heard g t origin (operations.list_sessions session) q = refl
+after_operation-heard g t origin (operations.eval session text ns) q =
     text-heard (asker session) origin (code text ns) q
-operated-heard g t origin (operations.load_file session text) q =
+after_operation-heard g t origin (operations.load_file session text) q =
     text-heard (asker session) origin (file text) q
 
-asked-heard : (g : Ground) (t : ℕ) (asked : Result AskedData ReplyData) (q : Quiet)
+operation_or_reply-heard : (g : Ground) (t : ℕ) (asked : Result AskedData ReplyData) (q : Quiet)
     → (with_asked g t asked q).heard ≡ q.heard
-asked-heard g t (Ok asked) q = operated-heard g t asked.origin asked.operation q
-asked-heard g t (Err refusal) q = refl
+operation_or_reply-heard g t (Ok asked) q = after_operation-heard g t asked.origin asked.operation q
+operation_or_reply-heard g t (Err refusal) q = refl
 
 message-heard : (g : Ground) (t : ℕ) (m : wire.Tree) (q : Quiet)
     → (with_message g t m q).heard ≡ q.heard
 unfolding with_message
 message-heard g t (wire.dictionary fields) q =
-    asked-heard g t (operations.asked (number_named (named_sessions g t q)) fields) q
+    operation_or_reply-heard g t (operations.operation_or_reply (number_named (named_sessions g t q)) fields) q
 message-heard g t (wire.integer n) q = refl
 message-heard g t (wire.string bytes) q = refl
 message-heard g t (wire.list ts) q = refl
@@ -74,7 +74,7 @@ taken_in-heard g t piece q =
 
 -- No byte has no fault
 
-nothing-faulty : (limit place : ℕ) (bytes : List ℕ) (ts : List wire.Tree) (end : Ending)
+nothing-faulty : (limit place : ℕ) (bytes : List ℕ) (ts : List wire.Tree) (end : StreamEnding)
     → length bytes ≡ 0 → Streams limit place bytes ts end → fault_in end ≡ None
 nothing-faulty limit place bytes [] (rest m) none s = refl
 nothing-faulty limit place bytes [] (fault rule at) none s =

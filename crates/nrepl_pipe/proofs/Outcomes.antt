@@ -3,13 +3,13 @@ use Rattle.std.proofs.Common.{ℕ, List, Option, Result, Ok, Err}
 use Rattle.std.specs.Prelude.{IsErr}
 use Rattle.server_rules.specs.Ground.{Ground}
 use Rattle.tenant_turns.specs.Turns.{Lone}
-use Rattle.nrepl_pipe.specs.Served.{Moves, BeginsToServe, Outcome}
+use Rattle.nrepl_pipe.specs.Served.{Moves, BeginsToServe, IsPipeOutcome}
 use Rattle.nrepl_pipe.specs.declared.ends.PipeEnd.{PipeEnd}
 use Rattle.nrepl_pipe.specs.declared.ends.PipeError.{PipeError}
 
 pub outcome-err : (g : Ground) (q : Lone) (unread left held holds : Option (List ℕ))
     (result : Result PipeEnd PipeError) → IsErr result
     → Moves unread left held holds (λ read written. BeginsToServe g q read written)
-    → Outcome g q unread left held holds result
+    → IsPipeOutcome g q unread left held holds result
 outcome-err g q unread left held holds (Ok end) is begins = cc
 outcome-err g q unread left held holds (Err error) is begins = begins

@@ -5,15 +5,15 @@ use Rattle.std.specs.Prelude.{◌↔◌}
 use Rattle.std.specs.Io.KnownBytes.{Appends}
 use Rattle.std.proofs.KnownBytes.{Appends-trans}
 use Rattle.server_rules.specs.Ground.{Ground}
-use Rattle.tenant_turns.specs.Turns.{Lone, Turn, run, served, actors_of}
+use Rattle.tenant_turns.specs.Turns.{Lone, LoneTurn, lone_run, lone_served, actors_of}
 use Rattle.nrepl_pipe.specs.Schedule.{go_each, drain_all, round, IsLast, AreRounds, last, more}
 use Rattle.nrepl_pipe.specs.Schedule.{MeetsWorn}
 use Rattle.nrepl_pipe.specs.Parts.{IsRound, Makes, MakesRounds}
 use Rattle.nrepl_pipe.specs.declared.actors.Round.{Round}
 use Rattle.nrepl_pipe.specs.declared.rounds.Rounds.{Rounds}
-use Rattle.nrepl_pipe.proofs.Turns.{run-append, served-append, meets-front, meets-behind}
+use Rattle.nrepl_pipe.proofs.Turns.{lone_run-append, lone_served-append, meets-front, meets-behind}
 use Rattle.nrepl_pipe.proofs.Turns.{meets-either}
-use Rattle.nrepl_pipe.proofs.EachRound.{gone, round-empty, served-round, round-meets}
+use Rattle.nrepl_pipe.proofs.EachRound.{gone, round-empty, lone_served-round, round-meets}
 use Rattle.nrepl_pipe.proofs.EachRound.{round-meets_by}
 
 -- One round
@@ -23,9 +23,9 @@ pub round-makes : (g : Ground) (Stands : Lone → Type 0) (q : Lone) (held holds
     → Makes g Stands (gone g q) (drain_all (gone g q).quiet.replies) held holds
     → Makes g Stands q (round g q) held holds
 round-makes g Stands q held holds drained = record {
-  appends = subst (Appends held holds) (sym (served-round g q)) drained.appends;
+  appends = subst (Appends held holds) (sym (lone_served-round g q)) drained.appends;
   stands = subst Stands
-      (sym (run-append g q (go_each (actors_of q)) (drain_all (gone g q).quiet.replies))) drained.stands;
+      (sym (lone_run-append g q (go_each (actors_of q)) (drain_all (gone g q).quiet.replies))) drained.stands;
 }
 
 -- The rounds so far
@@ -33,12 +33,12 @@ round-makes g Stands q held holds drained = record {
 -- whether they end with the last round, and whether a turn met the end of the steps
 pub record RoundsOn (g : Ground) (Stands : Lone → Type 0) (q : Lone) (is_last is_worn : Bool)
     (held holds : Option (List ℕ)) : Type 0 where
-  pub turns : List Turn
+  pub turns : List LoneTurn
   pub makes : Makes g Stands q turns held holds
-  pub empty : (run g q turns).quiet.replies ≡ []
+  pub empty : (lone_run g q turns).quiet.replies ≡ []
   pub worn : (is_worn ≡ true) ↔ MeetsWorn g q turns
   pub ends : is_last ≡ true → AreRounds g q turns
-  pub closes : is_last ≡ false → (behind : List Turn) → AreRounds g (run g q turns) behind
+  pub closes : is_last ≡ false → (behind : List LoneTurn) → AreRounds g (lone_run g q turns) behind
       → AreRounds g q (turns ++ behind)
 
 -- not the last round
@@ -71,16 +71,16 @@ true-or true b is = refl
 true-or false b (inl is) = cc
 true-or false b (inr is) = is
 
-worn-more : (g : Ground) (q : Lone) (turns : List Turn) (a b : Bool)
+worn-more : (g : Ground) (q : Lone) (turns : List LoneTurn) (a b : Bool)
     → (a ≡ true) ↔ MeetsWorn g q turns
-    → (b ≡ true) ↔ MeetsWorn g (run g q turns) (go_each (actors_of (run g q turns)))
-    → ((a || b) ≡ true) ↔ MeetsWorn g q (turns ++ round g (run g q turns))
+    → (b ≡ true) ↔ MeetsWorn g (lone_run g q turns) (go_each (actors_of (lone_run g q turns)))
+    → ((a || b) ≡ true) ↔ MeetsWorn g q (turns ++ round g (lone_run g q turns))
 worn-more g q turns a b front back = (
   λ is. to (or-true a b is),
   λ meets. true-or a b (from meets),
 ) where
   now : Lone
-  now = run g q turns
+  now = lone_run g q turns
 
   to : (a ≡ true) ⊎ (b ≡ true) → MeetsWorn g q (turns ++ round g now)
   to (inl is) = meets-front g q turns (round g now) (front.0 is)
@@ -93,26 +93,26 @@ worn-more g q turns a b front back = (
   from : MeetsWorn g q (turns ++ round g now) → (a ≡ true) ⊎ (b ≡ true)
   from meets = by (meets-either g q turns (round g now) meets)
 
-makes-more : (g : Ground) (Old New : Lone → Type 0) (q : Lone) (turns others : List Turn)
+makes-more : (g : Ground) (Old New : Lone → Type 0) (q : Lone) (turns others : List LoneTurn)
     (held holds grown : Option (List ℕ)) → Makes g Old q turns held holds
-    → Makes g New (run g q turns) others holds grown → Makes g New q (turns ++ others) held grown
+    → Makes g New (lone_run g q turns) others holds grown → Makes g New q (turns ++ others) held grown
 makes-more g Old New q turns others held holds grown front back = record {
-  appends = subst (Appends held grown) (sym (served-append g q turns others))
-      (Appends-trans held holds grown (served g q turns) (served g (run g q turns) others)
+  appends = subst (Appends held grown) (sym (lone_served-append g q turns others))
+      (Appends-trans held holds grown (lone_served g q turns) (lone_served g (lone_run g q turns) others)
       front.appends back.appends);
-  stands = subst New (sym (run-append g q turns others)) back.stands;
+  stands = subst New (sym (lone_run-append g q turns others)) back.stands;
 }
 
 pub rounds-more : (g : Ground) (Old New : Lone → Type 0) (q : Lone) (is_last is_worn : Bool)
     (told : Round) (held holds grown : Option (List ℕ))
     (on : RoundsOn g Old q is_last is_worn held holds) → is_last ≡ false
-    → IsRound told g (run g q on.turns) (go_each (actors_of (run g q on.turns)))
-    → Makes g New (run g q on.turns) (round g (run g q on.turns)) holds grown
+    → IsRound told g (lone_run g q on.turns) (go_each (actors_of (lone_run g q on.turns)))
+    → Makes g New (lone_run g q on.turns) (round g (lone_run g q on.turns)) holds grown
     → RoundsOn g New q told.is_last (is_worn || told.is_worn) held grown
 rounds-more g Old New q is_last is_worn told held holds grown on follows so makes =
-    let now = run g q on.turns in
-    let gone : run g q (on.turns ++ round g now) ≡ run g now (round g now) =
-    run-append g q on.turns (round g now) in
+    let now = lone_run g q on.turns in
+    let gone : lone_run g q (on.turns ++ round g now) ≡ lone_run g now (round g now) =
+    lone_run-append g q on.turns (round g now) in
     record {
       turns = on.turns ++ round g now;
       makes = makes-more g Old New q on.turns (round g now) held holds grown on.makes makes;
@@ -120,9 +120,9 @@ rounds-more g Old New q is_last is_worn told held holds grown on follows so make
       worn = worn-more g q on.turns is_worn told.is_worn on.worn so.is_worn;
       ends = λ (is : told.is_last ≡ true).
           on.closes follows (round g now) (last now (so.is_last.0 is));
-      closes = λ (goes : told.is_last ≡ false) (behind : List Turn)
-          (rounds : AreRounds g (run g q (on.turns ++ round g now)) behind).
-          let next : AreRounds g (run g now (round g now)) behind =
+      closes = λ (goes : told.is_last ≡ false) (behind : List LoneTurn)
+          (rounds : AreRounds g (lone_run g q (on.turns ++ round g now)) behind).
+          let next : AreRounds g (lone_run g now (round g now)) behind =
           subst (λ (v : Lone). AreRounds g v behind) gone rounds in
           subst (AreRounds g q) (sym (append_assoc on.turns (round g now) behind))
           (on.closes follows (round g now ++ behind)

@@ -8,12 +8,13 @@ use Rattle.server_rules.specs.Ground.{Ground}
 use Rattle.server_rules.specs.Hearing.{stream_fault}
 use Rattle.server_rules.specs.declared.refusal.Refusal.{Refusal}
 use Rattle.tenant_turns.specs.Grounds.{IsRight}
-use Rattle.tenant_turns.specs.Turns.{Lone, Turn, hears, refused, step, bytes_given, after, run, served}
+use Rattle.tenant_turns.specs.Turns.{Lone, LoneTurn, hears, refused, lone_step, bytes_given}
+use Rattle.tenant_turns.specs.Turns.{lone_after, lone_run, lone_served}
 use Rattle.nrepl_pipe.specs.Schedule.{ArePieces, AreRounds, MeetsWorn, IsSchedule}
 use Rattle.nrepl_pipe.specs.Fresh.{IsFresh}
 use Rattle.nrepl_pipe.specs.Parts.{IsPiece, MakesRounds}
 use Rattle.nrepl_pipe.specs.declared.rounds.Rounds.{Rounds}
-use Rattle.nrepl_pipe.proofs.Turns.{run-append, served-append, meets-neither}
+use Rattle.nrepl_pipe.proofs.Turns.{lone_run-append, lone_served-append, meets-neither}
 use Rattle.nrepl_pipe.proofs.Hearing.{TakesIn}
 use Rattle.nrepl_pipe.proofs.Messages.{fresh-clean}
 use Rattle.nrepl_pipe.proofs.Lasting.{rounds-empty, rounds-heard}
@@ -32,8 +33,8 @@ joined-append (p ∷ pieces) piece =
     ap (λ (bytes : List ℕ). p ++ bytes) (joined-append pieces piece)
     ∙ sym (append_assoc p (joined pieces) piece)
 
-pub schedule-last : (g : Ground) (now : Lone) (piece : List ℕ) (rounds : List Turn)
-    → AreRounds g (after g now (hears piece)) rounds
+pub schedule-last : (g : Ground) (now : Lone) (piece : List ℕ) (rounds : List LoneTurn)
+    → AreRounds g (lone_after g now (hears piece)) rounds
     → IsSchedule g now (piece ∷ []) (hears piece ∷ rounds)
 schedule-last g now piece rounds are = (
   rounds,
@@ -49,18 +50,18 @@ schedule-last g now piece rounds are = (
 pub record Serving (g : Ground) (Stands : Lone → Type 0) (q : Lone)
     (unread left held holds : Option (List ℕ)) : Type 0 where
   pub pieces : List (List ℕ)
-  pub turns : List Turn
+  pub turns : List LoneTurn
   pub are_pieces : ArePieces pieces
   pub consumes : Consumes unread left (joined pieces)
-  pub appends : Appends held holds (served g q turns)
-  pub stands : Stands (run g q turns)
+  pub appends : Appends held holds (lone_served g q turns)
+  pub stands : Stands (lone_run g q turns)
   pub never_worn : MeetsWorn g q turns → ⊥
-  pub no_fault : stream_fault g.readings (run g q turns).quiet.heard ≡ None
-  pub heard : (run g q turns).quiet.heard ≡ joined pieces
-  pub empty : (run g q turns).quiet.replies ≡ []
+  pub no_fault : stream_fault g.readings (lone_run g q turns).quiet.heard ≡ None
+  pub heard : (lone_run g q turns).quiet.heard ≡ joined pieces
+  pub empty : (lone_run g q turns).quiet.replies ≡ []
   -- where the rest comes to from here, all comes to from the start
-  pub closes : (more : List (List ℕ)) (behind : List Turn)
-      → IsSchedule g (run g q turns) more behind
+  pub closes : (more : List (List ℕ)) (behind : List LoneTurn)
+      → IsSchedule g (lone_run g q turns) more behind
       → IsSchedule g q (pieces ++ more) (turns ++ behind)
 
 pub serving-none : (g : Ground) (Stands : Lone → Type 0) (q : Lone)
@@ -89,15 +90,15 @@ consumes-more unread left less pieces piece first second =
     subst (Consumes unread less) (sym (joined-append pieces piece))
     (Consumes-trans unread left less (joined pieces) piece first second)
 
-pub served-heard : (g : Ground) (now : Lone) (piece : List ℕ) (rounds : List Turn)
-    → bytes_given (step g now (hears piece)) ≡ []
-    → served g now (hears piece ∷ rounds) ≡ served g (after g now (hears piece)) rounds
-served-heard g now piece rounds gives =
-    ap (λ (bytes : List ℕ). bytes ++ served g (after g now (hears piece)) rounds) gives
+pub lone_served-heard : (g : Ground) (now : Lone) (piece : List ℕ) (rounds : List LoneTurn)
+    → bytes_given (lone_step g now (hears piece)) ≡ []
+    → lone_served g now (hears piece ∷ rounds) ≡ lone_served g (lone_after g now (hears piece)) rounds
+lone_served-heard g now piece rounds gives =
+    ap (λ (bytes : List ℕ). bytes ++ lone_served g (lone_after g now (hears piece)) rounds) gives
 
-pub heard-never_worn : (g : Ground) (now : Lone) (piece : List ℕ) (rounds : List Turn)
-    → step g now (hears piece) ≢ refused Refusal.Worn
-    → (MeetsWorn g (after g now (hears piece)) rounds → ⊥)
+pub heard-never_worn : (g : Ground) (now : Lone) (piece : List ℕ) (rounds : List LoneTurn)
+    → lone_step g now (hears piece) ≢ refused Refusal.Worn
+    → (MeetsWorn g (lone_after g now (hears piece)) rounds → ⊥)
     → MeetsWorn g now (hears piece ∷ rounds) → ⊥
 heard-never_worn g now piece rounds not_worn never (inl here) = not_worn here
 heard-never_worn g now piece rounds not_worn never (inr later) = never later
@@ -105,21 +106,21 @@ heard-never_worn g now piece rounds not_worn never (inr later) = never later
 pub serving-more : (g : Ground) (Old Mid New : Lone → Type 0) (q : Lone)
     (unread left less held holds grown : Option (List ℕ)) (piece : List ℕ)
     (on : Serving g Old q unread left held holds) → IsPiece piece → Consumes left less piece
-    → TakesIn g Mid (run g q on.turns) piece
-    → (made : MakesRounds g New (after g (run g q on.turns) (hears piece)) holds grown Rounds.Idle)
-    → stream_fault g.readings (run g (after g (run g q on.turns) (hears piece)) made.0).quiet.heard ≡ None
+    → TakesIn g Mid (lone_run g q on.turns) piece
+    → (made : MakesRounds g New (lone_after g (lone_run g q on.turns) (hears piece)) holds grown Rounds.Idle)
+    → stream_fault g.readings (lone_run g (lone_after g (lone_run g q on.turns) (hears piece)) made.0).quiet.heard ≡ None
     → Serving g New q unread less held grown
 serving-more g Old Mid New q unread left less held holds grown piece on is consumes taken made
     clean =
-    let now = run g q on.turns in
-    let then_on = after g now (hears piece) in
+    let now = lone_run g q on.turns in
+    let then_on = lone_after g now (hears piece) in
     let rounds = made.0 in
-    let turns : List Turn = hears piece ∷ rounds in
-    let gone : run g q (on.turns ++ turns) ≡ run g then_on rounds = run-append g q on.turns turns in
-    let gives : served g q (on.turns ++ turns) ≡ served g q on.turns ++ served g then_on rounds =
-    served-append g q on.turns turns
-    ∙ ap (λ (bytes : List ℕ). served g q on.turns ++ bytes)
-    (served-heard g now piece rounds taken.gives) in
+    let turns : List LoneTurn = hears piece ∷ rounds in
+    let gone : lone_run g q (on.turns ++ turns) ≡ lone_run g then_on rounds = lone_run-append g q on.turns turns in
+    let gives : lone_served g q (on.turns ++ turns) ≡ lone_served g q on.turns ++ lone_served g then_on rounds =
+    lone_served-append g q on.turns turns
+    ∙ ap (λ (bytes : List ℕ). lone_served g q on.turns ++ bytes)
+    (lone_served-heard g now piece rounds taken.gives) in
     let never : MeetsWorn g now turns → ⊥ =
     heard-never_worn g now piece rounds taken.not_worn made.3 in
     record {
@@ -128,7 +129,7 @@ serving-more g Old Mid New q unread left less held holds grown piece on is consu
       are_pieces = pieces-append on.pieces piece on.are_pieces is;
       consumes = consumes-more unread left less on.pieces piece on.consumes consumes;
       appends = subst (Appends held grown) (sym gives)
-          (Appends-trans held holds grown (served g q on.turns) (served g then_on rounds)
+          (Appends-trans held holds grown (lone_served g q on.turns) (lone_served g then_on rounds)
           on.appends made.2.appends);
       stands = subst New (sym gone) made.2.stands;
       never_worn = meets-neither g q on.turns turns on.never_worn never;
@@ -137,9 +138,9 @@ serving-more g Old Mid New q unread left less held holds grown piece on is consu
           ap (λ (v : Lone). v.quiet.heard) gone ∙ rounds-heard g then_on rounds made.1 ∙ taken.heard
           ∙ ap (λ (bytes : List ℕ). bytes ++ piece) on.heard ∙ sym (joined-append on.pieces piece);
       empty = ap (λ (v : Lone). v.quiet.replies) gone ∙ rounds-empty g then_on rounds made.1;
-      closes = λ (more : List (List ℕ)) (behind : List Turn)
-          (schedule : IsSchedule g (run g q (on.turns ++ turns)) more behind).
-          let later : IsSchedule g (run g then_on rounds) more behind =
+      closes = λ (more : List (List ℕ)) (behind : List LoneTurn)
+          (schedule : IsSchedule g (lone_run g q (on.turns ++ turns)) more behind).
+          let later : IsSchedule g (lone_run g then_on rounds) more behind =
           subst (λ (v : Lone). IsSchedule g v more behind) gone schedule in
           let all : IsSchedule g now (piece ∷ more) (turns ++ behind) =
           (rounds, behind, made.1, λ (some : more ≢ []). (never, clean), later, refl) in

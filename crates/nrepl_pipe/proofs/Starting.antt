@@ -16,9 +16,9 @@ use Rattle.server_rules.specs.Request.{each_form_elsewhere, last_form}
 use Rattle.server_rules.specs.Tenant.{ActorData, Quiet, is_held, state_of}
 use Rattle.server_rules.specs.Plan.{Outcome, refuses, leaves, Plan}
 use Rattle.server_rules.specs.Starting.{Started, next_begun, program_begun, elsewhere_begun}
-use Rattle.server_rules.specs.Starting.{hand_of, code_begun, text_begun, there, started}
-use Rattle.server_rules.specs.Starting.{interrupted_in, first_state, held_or, next_of}
-use Rattle.server_rules.specs.Starting.{start_in_hand, start_waiting}
+use Rattle.server_rules.specs.Starting.{hand_of, code_begun, text_begun, namespace_there}
+use Rattle.server_rules.specs.Starting.{start_outcome, interrupted_in, first_state, held_or}
+use Rattle.server_rules.specs.Starting.{next_form_of, start_in_hand, start_waiting}
 use Rattle.server_rules.specs.Deeds.{start_of}
 use Rattle.server_rules.specs.Turns.{bytes_in}
 use Rattle.server_rules.specs.declared.actor.Actor.{Actor}
@@ -57,7 +57,7 @@ code-so : (g : Ground) (spaces : Namespaces) (origin : OriginData) (text : List 
 code-so g spaces origin text state None =
     program-so g origin each_form state.namespace state (g.readings.program text)
 code-so g spaces origin text state (Some ns) =
-    elsewhere-so g origin text state (option_and_then (there spaces) (text_of (Some ns)))
+    elsewhere-so g origin text state (option_and_then (namespace_there spaces) (text_of (Some ns)))
 
 text-so : (g : Ground) (spaces : Namespaces) (origin : OriginData) (state : StateData)
     (text : ProgramText) → bytes_in (text_begun g spaces origin state text).answer ≡ []
@@ -65,10 +65,10 @@ text-so g spaces origin state (code text ns) = code-so g spaces origin text stat
 text-so g spaces origin state (file text) =
     program-so g origin (last_form nil) state.namespace state (g.readings.program text)
 
-started-so : (a : Actor) (actor : ActorData) (s : Started) (q : Quiet)
-    → bytes_in s.answer ≡ [] → GoesSo q (started a actor s q)
-started-so Actor.Bare actor s q none = (refl, refl, none)
-started-so (Actor.Session n) actor s q none = (refl, refl, none)
+start_outcome-so : (a : Actor) (actor : ActorData) (s : Started) (q : Quiet)
+    → bytes_in s.answer ≡ [] → GoesSo q (start_outcome a actor s q)
+start_outcome-so Actor.Bare actor s q none = (refl, refl, none)
+start_outcome-so (Actor.Session n) actor s q none = (refl, refl, none)
 
 held-by : (q : Quiet) (o : Outcome) (held : Bool) → is_held q ≡ held → GoesSo q o
     → GoesSo q (if held then refuses Refusal.Held else o)
@@ -79,13 +79,13 @@ held-so : (q : Quiet) (o : Outcome) → GoesSo q o → GoesSo q (held_or q o)
 held-so q o so = held-by q o (is_held q) refl so
 
 next-so : (g : Ground) (a : Actor) (actor : ActorData) (h : Hand) (q : Quiet)
-    → GoesSo q (next_of g a actor h q)
+    → GoesSo q (next_form_of g a actor h q)
 next-so g a actor h q = by actor.is_closed where
   by : (closed : Bool) → GoesSo q (if closed then interrupted_in a h q
-      else held_or q (started a actor (next_begun g h (state_of a q) h.forms) q))
+      else held_or q (start_outcome a actor (next_begun g h (state_of a q) h.forms) q))
   by true = (refl, refl, refl)
-  by false = held-so q (started a actor (next_begun g h (state_of a q) h.forms) q)
-      (started-so a actor (next_begun g h (state_of a q) h.forms) q
+  by false = held-so q (start_outcome a actor (next_begun g h (state_of a q) h.forms) q)
+      (start_outcome-so a actor (next_begun g h (state_of a q) h.forms) q
       (begun-so g h (state_of a q) h.forms))
 
 waiting-so : (g : Ground) (a : Actor) (actor : ActorData) (q : Quiet) (ws : List Waiting)
@@ -93,8 +93,8 @@ waiting-so : (g : Ground) (a : Actor) (actor : ActorData) (q : Quiet) (ws : List
 waiting-so g a actor q [] = λ e. cc
 waiting-so g a actor q (w ∷ ws) =
     let begun = text_begun g q.spaces w.origin (first_state a q) w.text in
-    held-so q (started a (record actor { waiting = ws }) begun q)
-    (started-so a (record actor { waiting = ws }) begun q
+    held-so q (start_outcome a (record actor { waiting = ws }) begun q)
+    (start_outcome-so a (record actor { waiting = ws }) begun q
     (text-so g q.spaces w.origin (first_state a q) w.text))
 
 in_hand-so : (g : Ground) (a : Actor) (actor : ActorData) (h : Hand) (q : Quiet) (runs : Bool)

@@ -3,24 +3,25 @@ use Rattle.std.proofs.Common.{◌+◌, ◌<◌, ◌≤◌, arith, ◌≡◌, ◌
 use Rattle.std.proofs.Common.{false, not, refl, sym, ap, ◌∙◌, subst}
 use Rattle.server_rules.specs.Ground.{Ground}
 use Rattle.server_rules.specs.declared.actor.Actor.{Actor}
-use Rattle.tenant_turns.specs.Turns.{Lone, goes, Stepped, accepted, refused, step, lone_or, after, run}
+use Rattle.tenant_turns.specs.Turns.{Lone, goes, LoneStepped, accepted, refused, lone_step, lone_or}
+use Rattle.tenant_turns.specs.Turns.{lone_after, lone_run}
 use Rattle.nrepl_pipe.specs.Schedule.{go_each}
 use Rattle.nrepl_pipe.specs.Parts.{TurnsSo, with_turn, IsRound}
 use Rattle.nrepl_pipe.specs.declared.actors.Round.{Round}
 use Rattle.nrepl_pipe.specs.declared.actors.Turned.{Turned}
-use Rattle.nrepl_pipe.proofs.Turns.{run-append}
+use Rattle.nrepl_pipe.proofs.Turns.{lone_run-append}
 use Rattle.nrepl_pipe.proofs.Going.{StepsSo, go-steps}
 use Rattle.nrepl_pipe.proofs.EachRound.{held-waits}
 use Rattle.nrepl_pipe.proofs.Told.{with-turn}
 
 pub record TurnsOn (g : Ground) (Stands : Lone → Type 0) (q : Lone) (actors : List Actor)
     (told : Round) : Type 0 where
-  pub stands : Stands (run g q (go_each actors))
+  pub stands : Stands (lone_run g q (go_each actors))
   pub told_so : IsRound told g q (go_each actors)
   -- another round follows where a step was used up; else all is as it was, and it does for replies
   -- that wait
   pub used : told.uses_step ≡ true → told.is_last ≡ false
-  pub untouched : told.uses_step ≡ false → (run g q (go_each actors) ≡ q)
+  pub untouched : told.uses_step ≡ false → (lone_run g q (go_each actors) ≡ q)
       × (told.is_last ≡ false → q.quiet.replies ≢ [])
 
 abbrev pub none_told : Round
@@ -62,7 +63,7 @@ fewer-left told Turned.Idle start now later before most fewer one is =
     let already = before is in omega arith
 
 -- no step is used up
-stays : (q : Lone) (told : Round) (came : Turned) (s : Stepped) → TurnsSo came s
+stays : (q : Lone) (told : Round) (came : Turned) (s : LoneStepped) → TurnsSo came s
     → (with_turn told came).uses_step ≡ false
     → (told.uses_step ≡ false) × (lone_or q s ≡ q)
 stays q told Turned.Done s is none = cc
@@ -71,7 +72,7 @@ stays q told Turned.Worn s is none = (none, ap (lone_or q) is)
 stays q told Turned.Idle (refused why) is none = (none, refl)
 stays q told Turned.Idle (accepted new bytes) is none = absurd is.0
 
-waits : (q : Lone) (told : Round) (came : Turned) (s : Stepped) → StepsSo q s → TurnsSo came s
+waits : (q : Lone) (told : Round) (came : Turned) (s : LoneStepped) → StepsSo q s → TurnsSo came s
     → (with_turn told came).uses_step ≡ false → (told.is_last ≡ false → q.quiet.replies ≢ [])
     → (with_turn told came).is_last ≡ false → q.quiet.replies ≢ []
 waits q told Turned.Done s so is none before on = cc
@@ -82,14 +83,14 @@ waits q told Turned.Idle s so is none before on = before on
 
 pub turns-more : (g : Ground) (Old New : Lone → Type 0) (q : Lone) (actors : List Actor)
     (a : Actor) (told : Round) (came : Turned) (on : TurnsOn g Old q actors told)
-    → TurnsSo came (step g (run g q (go_each actors)) (goes a))
-    → New (after g (run g q (go_each actors)) (goes a))
+    → TurnsSo came (lone_step g (lone_run g q (go_each actors)) (goes a))
+    → New (lone_after g (lone_run g q (go_each actors)) (goes a))
     → TurnsOn g New q (actors ++ a ∷ []) (with_turn told came)
 turns-more g Old New q actors a told came on is stands =
-    let v = run g q (go_each actors) in
-    let s = step g v (goes a) in
-    let gone : run g q (go_each (actors ++ a ∷ [])) ≡ after g v (goes a) =
-    ap (run g q) (go-more actors a) ∙ run-append g q (go_each actors) (goes a ∷ []) in
+    let v = lone_run g q (go_each actors) in
+    let s = lone_step g v (goes a) in
+    let gone : lone_run g q (go_each (actors ++ a ∷ [])) ≡ lone_after g v (goes a) =
+    ap (lone_run g q) (go-more actors a) ∙ lone_run-append g q (go_each actors) (goes a ∷ []) in
     record {
       stands = subst New (sym gone) stands;
       told_so = subst (IsRound (with_turn told came) g q) (sym (go-more actors a))
@@ -98,11 +99,11 @@ turns-more g Old New q actors a told came on is stands =
       untouched = λ (none : (with_turn told came).uses_step ≡ false).
           let here = stays v told came s is none in
           let before = on.untouched here.0 in
-          let so : StepsSo q (step g q (goes a)) = go-steps g q a in
-          let is_here : TurnsSo came (step g q (goes a)) =
-          subst (λ u. TurnsSo came (step g u (goes a))) before.0 is in (
+          let so : StepsSo q (lone_step g q (goes a)) = go-steps g q a in
+          let is_here : TurnsSo came (lone_step g q (goes a)) =
+          subst (λ u. TurnsSo came (lone_step g u (goes a))) before.0 is in (
             gone ∙ here.1 ∙ before.0,
-            waits q told came (step g q (goes a)) so is_here none before.1,
+            waits q told came (lone_step g q (goes a)) so is_here none before.1,
           );
     }
 

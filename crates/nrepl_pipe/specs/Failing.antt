@@ -34,8 +34,8 @@ is_write_failed (Err PipeError.WriteFailed) = true
 
 -- `ReadFailed` is answered where a read failed, `WriteFailed` where a write failed, and neither
 -- elsewhere
-abbrev pub Tells : {A : Type 0} → Option Bool → Option Bool → Option Bool → Option Bool
+abbrev pub TellsFailures : {A : Type 0} → Option Bool → Option Bool → Option Bool → Option Bool
     → Result A PipeError → Type 0
-Tells read_before read_now write_before write_now result =
+TellsFailures read_before read_now write_before write_now result =
     Marks read_before read_now (is_read_failed result)
     × Marks write_before write_now (is_write_failed result)

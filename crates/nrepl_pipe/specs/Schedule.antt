@@ -1,85 +1,86 @@
 -- The schedule of `pipe`: the turns that the pieces of a stream bring about.
 use Rattle.std.specs.Prelude.{◌≡◌, ◌≢◌, ◌⊎◌, ℕ, ◌≤◌, List, [], ◌∷◌, ◌++◌, length, ⊤, None}
-use Rattle.bencode_wire.specs.Stream.{Ending, rest, fault}
-use Rattle.bencode_wire.specs.Fault.{counted, fault_at}
+use Rattle.bencode_wire.specs.Stream.{StreamEnding, rest, fault}
+use Rattle.bencode_wire.specs.Fault.{counted_place, fault_at}
 use Rattle.repl_replies.specs.Replies.{ReplyData}
 use Rattle.server_rules.specs.Ground.{Ground}
 use Rattle.server_rules.specs.Hearing.{stream_fault}
 use Rattle.server_rules.specs.declared.actor.Actor.{Actor}
 use Rattle.server_rules.specs.declared.refusal.Refusal.{Refusal}
-use Rattle.tenant_turns.specs.Turns.{Lone, Turn, hears, goes, drains, actors_of, Stepped, accepted}
-use Rattle.tenant_turns.specs.Turns.{refused, step, after, run}
+use Rattle.tenant_turns.specs.Turns.{Lone, LoneTurn, hears, goes, drains, actors_of, LoneStepped}
+use Rattle.tenant_turns.specs.Turns.{accepted, refused, lone_step, lone_after, lone_run}
 use Rattle.nrepl_pipe.specs.declared.ends.PipeEnd.{PipeEnd}
+use Rattle.nrepl_pipe.specs.declared.stream.TheConstants.{PIECE}
 
 -- a piece has 1 to 4,096 bytes
 abbrev pub ArePieces : List (List ℕ) → Type 0
 ArePieces [] = ⊤
-ArePieces (piece ∷ pieces) = (1 ≤ length piece) × (length piece ≤ 4096) × ArePieces pieces
+ArePieces (piece ∷ pieces) = (1 ≤ length piece) × (length piece ≤ PIECE) × ArePieces pieces
 
 -- each of these actors goes on once
-abbrev pub go_each : List Actor → List Turn
+abbrev pub go_each : List Actor → List LoneTurn
 go_each [] = []
 go_each (actor ∷ actors) = goes actor ∷ go_each actors
 
 -- each reply that waits is taken out
-abbrev pub drain_all : List ReplyData → List Turn
+abbrev pub drain_all : List ReplyData → List LoneTurn
 drain_all [] = []
 drain_all (reply ∷ replies) = drains ∷ drain_all replies
 
 -- a round: each actor that is there as it begins goes on once, and then the replies that wait are
 -- taken out
-abbrev pub round : Ground → Lone → List Turn
-round g l = go_each (actors_of l) ++ drain_all (run g l (go_each (actors_of l))).quiet.replies
+abbrev pub round : Ground → Lone → List LoneTurn
+round g l = go_each (actors_of l) ++ drain_all (lone_run g l (go_each (actors_of l))).quiet.replies
 
 -- the turn is refused, and not for the replies that wait
-abbrev pub Rests : Stepped → Type 0
+abbrev pub Rests : LoneStepped → Type 0
 Rests (accepted new bytes) = ⊥
 Rests (refused why) = why ≢ Refusal.Held
 
 -- each of these turns is refused, and none for the replies that wait
-abbrev pub AllRest : Ground → Lone → List Turn → Type 0
+abbrev pub AllRest : Ground → Lone → List LoneTurn → Type 0
 AllRest g l [] = ⊤
-AllRest g l (turn ∷ turns) = Rests (step g l turn) × AllRest g (after g l turn) turns
+AllRest g l (turn ∷ turns) = Rests (lone_step g l turn) × AllRest g (lone_after g l turn) turns
 
 -- the round in which no actor goes on, nor waits for replies to be taken out
 abbrev pub IsLast : Ground → Lone → Type 0
 IsLast g l = AllRest g l (go_each (actors_of l))
 
 -- the turns of the rounds behind a piece
-pub data AreRounds (g : Ground) : Lone → List Turn → Type 0 where
+pub data AreRounds (g : Ground) : Lone → List LoneTurn → Type 0 where
   last : (l : Lone) → IsLast g l → AreRounds g l (round g l)
-  more : (l : Lone) (turns : List Turn) → (IsLast g l → ⊥)
-      → AreRounds g (run g l (round g l)) turns → AreRounds g l (round g l ++ turns)
+  more : (l : Lone) (turns : List LoneTurn) → (IsLast g l → ⊥)
+      → AreRounds g (lone_run g l (round g l)) turns → AreRounds g l (round g l ++ turns)
 
 -- a turn was refused since all steps were used up
-abbrev pub MeetsWorn : Ground → Lone → List Turn → Type 0
+abbrev pub MeetsWorn : Ground → Lone → List LoneTurn → Type 0
 MeetsWorn g l [] = ⊥
 MeetsWorn g l (turn ∷ turns) =
-    (step g l turn ≡ refused Refusal.Worn) ⊎ MeetsWorn g (after g l turn) turns
+    (lone_step g l turn ≡ refused Refusal.Worn) ⊎ MeetsWorn g (lone_after g l turn) turns
 
 -- reading goes on behind these turns: no turn met the end of the steps, and the stream has no fault
-abbrev pub ReadsOn : Ground → Lone → List Turn → Type 0
+abbrev pub ReadsOn : Ground → Lone → List LoneTurn → Type 0
 ReadsOn g l turns =
-    (MeetsWorn g l turns → ⊥) × (stream_fault g.readings (run g l turns).quiet.heard ≡ None)
+    (MeetsWorn g l turns → ⊥) × (stream_fault g.readings (lone_run g l turns).quiet.heard ≡ None)
 
 -- each piece is heard and rounds follow; another piece is read only where reading goes on
-abbrev pub IsSchedule : Ground → Lone → List (List ℕ) → List Turn → Type 0
+abbrev pub IsSchedule : Ground → Lone → List (List ℕ) → List LoneTurn → Type 0
 IsSchedule g l [] turns = turns ≡ []
 IsSchedule g l (piece ∷ pieces) turns =
-    (rounds : List Turn) × (behind : List Turn)
-    × AreRounds g (after g l (hears piece)) rounds
+    (rounds : List LoneTurn) × (behind : List LoneTurn)
+    × AreRounds g (lone_after g l (hears piece)) rounds
     × (pieces ≢ [] → ReadsOn g l (hears piece ∷ rounds))
-    × IsSchedule g (run g l (hears piece ∷ rounds)) pieces behind
+    × IsSchedule g (lone_run g l (hears piece ∷ rounds)) pieces behind
     × (turns ≡ (hears piece ∷ rounds) ++ behind)
 
 -- how a stream of these bytes ends
-abbrev pub stream_end : Ending → PipeEnd
+abbrev pub stream_end : StreamEnding → PipeEnd
 stream_end (rest []) = PipeEnd.Whole
 stream_end (rest (byte ∷ m)) = PipeEnd.Truncated
-stream_end (fault rule at) = PipeEnd.Broken (fault_at rule (counted at))
+stream_end (fault rule at) = PipeEnd.Broken (fault_at rule (counted_place at))
 
 -- wherever a turn met the end of the steps, that is the end; else what was read says how it ends
-abbrev pub IsEnd : Ground → Lone → List Turn → List ℕ → PipeEnd → Type 0
+abbrev pub IsEnd : Ground → Lone → List LoneTurn → List ℕ → PipeEnd → Type 0
 IsEnd g l turns read end =
     (MeetsWorn g l turns × (end ≡ PipeEnd.Worn))
     ⊎ ((MeetsWorn g l turns → ⊥) × (end ≡ stream_end (g.readings.stream read).ending))

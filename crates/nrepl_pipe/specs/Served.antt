@@ -3,7 +3,7 @@ use Rattle.std.specs.Prelude.{◌≡◌, ℕ, List, ◌++◌, ⊤, Option, Resul
 use Rattle.std.specs.Io.KnownBytes.{Consumes, Appends, IsAtEnd}
 use Rattle.bencode_wire.specs.Spelling.{joined}
 use Rattle.server_rules.specs.Ground.{Ground}
-use Rattle.tenant_turns.specs.Turns.{Lone, Turn, served}
+use Rattle.tenant_turns.specs.Turns.{Lone, LoneTurn, lone_served}
 use Rattle.nrepl_pipe.specs.Schedule.{ArePieces, IsSchedule, IsEnd}
 use Rattle.nrepl_pipe.specs.declared.ends.PipeEnd.{PipeEnd}
 use Rattle.nrepl_pipe.specs.declared.ends.PipeError.{PipeError}
@@ -12,22 +12,22 @@ use Rattle.nrepl_pipe.specs.declared.ends.PipeError.{PipeError}
 -- pieces serves
 pub record Serves (g : Ground) (l : Lone) (read written : List ℕ) (end : PipeEnd) : Type 0 where
   pub pieces : List (List ℕ)
-  pub turns : List Turn
+  pub turns : List LoneTurn
   pub are_pieces : ArePieces pieces
   pub cutting : joined pieces ≡ read
   pub schedule : IsSchedule g l pieces turns
-  pub written_is : written ≡ served g l turns
+  pub written_is : written ≡ lone_served g l turns
   pub is_end : IsEnd g l turns read end
 
 -- what was written begins what the schedule of these pieces serves
 pub record BeginsToServe (g : Ground) (l : Lone) (read written : List ℕ) : Type 0 where
   pub pieces : List (List ℕ)
-  pub turns : List Turn
+  pub turns : List LoneTurn
   pub are_pieces : ArePieces pieces
   pub cutting : joined pieces ≡ read
   pub schedule : IsSchedule g l pieces turns
   pub more : List ℕ
-  pub begins : served g l turns ≡ written ++ more
+  pub begins : lone_served g l turns ≡ written ++ more
 
 -- whole and truncated input was read to its end
 abbrev pub IsReadUp : PipeEnd → Option (List ℕ) → Type 0
@@ -46,10 +46,10 @@ Moves unread left held holds are =
 
 -- where it ends well, all that the schedule serves was written; after an error a part of it from
 -- its front
-abbrev pub Outcome
+abbrev pub IsPipeOutcome
     : Ground → Lone → Option (List ℕ) → Option (List ℕ) → Option (List ℕ) → Option (List ℕ)
     → Result PipeEnd PipeError → Type 0
-Outcome g l unread left held holds (Ok end) =
+IsPipeOutcome g l unread left held holds (Ok end) =
     Moves unread left held holds (λ read written. Serves g l read written end) × IsReadUp end left
-Outcome g l unread left held holds (Err error) =
+IsPipeOutcome g l unread left held holds (Err error) =
     Moves unread left held holds (λ read written. BeginsToServe g l read written)

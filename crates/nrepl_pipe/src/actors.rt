@@ -2,7 +2,7 @@
 ghost use Rattle.std.specs.Prelude.{◌≡◌, ◌+◌, ◌<◌, ◌≤◌, [], Ok, true, not, IfOk, IfErr};
 ghost use Rattle.server_rules.specs.Ground.{Ground};
 ghost use Rattle.tenant_turns.specs.Grounds.{IsRight};
-ghost use Rattle.tenant_turns.specs.Turns.{Lone, goes, actors_of, step, after, run};
+ghost use Rattle.tenant_turns.specs.Turns.{Lone, goes, actors_of, lone_step, lone_after, lone_run};
 ghost use Rattle.nrepl_pipe.specs.Schedule.{go_each};
 ghost use Rattle.nrepl_pipe.specs.Parts.{TurnsSo, with_turn, IsRound};
 
@@ -36,7 +36,7 @@ pub(crate) enum Turned {
 
 // Each actor goes on once. Where no reply waits as they begin, another round follows only if a step
 // was used up: a turn is held behind one that was accepted.
-pub(crate) fn take_turns<C: Core>(alloc: Global, core: &mut C) -> Result<Round, PipeError>
+pub(crate) fn go_each<C: Core>(alloc: Global, core: &mut C) -> Result<Round, PipeError>
     ensures steps { (C.left core.new).steps ≤ (C.left core.old).steps }
     ensures used { IfOk result (λ told. told.uses_step ≡ true
         → (C.left core.new).steps < (C.left core.old).steps) }
@@ -44,7 +44,7 @@ pub(crate) fn take_turns<C: Core>(alloc: Global, core: &mut C) -> Result<Round, 
         → l.quiet.replies ≡ [] → IfOk result (λ told. told.is_last ≡ not told.uses_step) }
     ensures turned { (g : Ground) (l : Lone) → IsRight g → C.stands g core.old l
         → IfOk result (λ told. IsRound told g l (go_each (actors_of l))
-        × C.stands g core.new (run g l (go_each (actors_of l)))) }
+        × C.stands g core.new (lone_run g l (go_each (actors_of l)))) }
     ensures told { IfErr result (λ why. why ≡ PipeError.NoMemory) }
 {
     let actors = core.actors(alloc)?;
@@ -54,7 +54,7 @@ pub(crate) fn take_turns<C: Core>(alloc: Global, core: &mut C) -> Result<Round, 
         is_worn: false,
     };
     for actor in &actors {
-        round = round.with(take_turn(core, *actor)?);
+        round = round.with(go_once(core, *actor)?);
     }
     Ok(round)
 }
@@ -83,12 +83,12 @@ impl Round {
     }
 }
 
-fn take_turn<C: Core>(core: &mut C, actor: Actor) -> Result<Turned, PipeError>
+fn go_once<C: Core>(core: &mut C, actor: Actor) -> Result<Turned, PipeError>
     ensures steps { (C.left core.new).steps ≤ (C.left core.old).steps }
     ensures done { result ≡ Ok Turned.Done → (C.left core.old).steps ≡ (C.left core.new).steps + 1 }
     ensures turned { (g : Ground) (l : Lone) → IsRight g → C.stands g core.old l
-        → IfOk result (λ came. TurnsSo came (step g l (goes actor))
-        × C.stands g core.new (after g l (goes actor))) }
+        → IfOk result (λ came. TurnsSo came (lone_step g l (goes actor))
+        × C.stands g core.new (lone_after g l (goes actor))) }
     ensures told { IfErr result (λ why. why ≡ PipeError.NoMemory) }
 {
     match core.go(actor) {

@@ -3,9 +3,9 @@ ghost use Rattle.std.specs.Prelude.{◌≡◌, Result};
 ghost use Rattle.server_rules.specs.Ground.{Ground};
 ghost use Rattle.tenant_turns.specs.Turns.{Lone};
 ghost use Rattle.tenant_turns.specs.Grounds.{IsRight};
-ghost use Rattle.nrepl_pipe.specs.Failing.{Tells};
+ghost use Rattle.nrepl_pipe.specs.Failing.{TellsFailures};
 ghost use Rattle.nrepl_pipe.specs.Fresh.{IsFresh};
-ghost use Rattle.nrepl_pipe.specs.Served.{Outcome};
+ghost use Rattle.nrepl_pipe.specs.Served.{IsPipeOutcome};
 ghost use Rattle.nrepl_pipe.specs.Status.{status_of};
 ghost use Rattle.nrepl_pipe.specs.declared.ends.PipeEnd.{PipeEnd};
 ghost use Rattle.nrepl_pipe.specs.declared.ends.PipeError.{PipeError};
@@ -28,10 +28,10 @@ pub fn pipe_command<C: Core, R: Source, W: Sink, E: Write>(
     errors: &mut E,
 ) -> u8
     ensures { (outcome : Result PipeEnd PipeError) × (result ≡ status_of outcome)
-        × Tells (R.failed reader.old) (R.failed reader.new)
+        × TellsFailures (R.failed reader.old) (R.failed reader.new)
         (W.failed writer.old) (W.failed writer.new) outcome
         × ((g : Ground) (l : Lone) → IsRight g → C.stands g core.old l → IsFresh l
-        → Outcome g l (R.remaining reader.old) (R.remaining reader.new)
+        → IsPipeOutcome g l (R.remaining reader.old) (R.remaining reader.new)
         (W.contents writer.old) (W.contents writer.new) outcome) }
 {
     let outcome = pipe(alloc, core, reader, writer);

@@ -12,7 +12,7 @@ pub enum PipeEnd {
     Truncated,
     /// The stream has this fault; nothing behind it was taken.
     Broken(WireFault),
-    /// All steps were used up before the work was done.
+    /// All steps were used up. What was not done by then is not done.
     Worn,
 }
 

@@ -7,7 +7,7 @@ ghost use Rattle.nrepl_pipe.specs.Schedule.{go_each, round};
 ghost use Rattle.nrepl_pipe.specs.Failing.{Marks, is_read_failed, is_write_failed};
 ghost use Rattle.nrepl_pipe.specs.Parts.{IsRound, Makes, Begins, MakesRounds, BeginsRounds};
 
-use crate::actors::{Round, take_turns};
+use crate::actors::{Round, go_each};
 use crate::ends::PipeError;
 use crate::ports::Sink;
 use crate::replies::write_replies;
@@ -69,7 +69,7 @@ fn run_round<C: Core, W: Sink>(
     ensures told { Marks (W.failed writer.old) (W.failed writer.new) (is_write_failed result) }
     ensures no_read { is_read_failed result ≡ false }
 {
-    let round = take_turns(alloc, core)?;
+    let round = go_each(alloc, core)?;
     write_replies(core, writer)?;
     Ok(round)
 }

@@ -3,11 +3,11 @@ ghost use Rattle.std.specs.Prelude.{◌≡◌, ◌+◌, ℕ, [], false, Ok, OnEr
 ghost use Rattle.std.specs.Io.KnownBytes.{Consumes, IsAtEnd};
 ghost use Rattle.server_rules.specs.Ground.{Ground};
 ghost use Rattle.tenant_turns.specs.Grounds.{IsRight};
-ghost use Rattle.tenant_turns.specs.Turns.{Lone, hears, step};
+ghost use Rattle.tenant_turns.specs.Turns.{Lone, hears, lone_step};
 ghost use Rattle.nrepl_pipe.specs.Schedule.{stream_end};
-ghost use Rattle.nrepl_pipe.specs.Served.{Outcome};
+ghost use Rattle.nrepl_pipe.specs.Served.{IsPipeOutcome};
 ghost use Rattle.nrepl_pipe.specs.Fresh.{IsFresh, IsReady};
-ghost use Rattle.nrepl_pipe.specs.Failing.{Marks, Tells, is_read_failed, is_write_failed};
+ghost use Rattle.nrepl_pipe.specs.Failing.{Marks, TellsFailures, is_read_failed, is_write_failed};
 ghost use Rattle.nrepl_pipe.specs.Parts.{IsPiece, LosesPiece, HearsSo};
 
 use crate::ends::{PipeEnd, PipeError};
@@ -39,16 +39,16 @@ pub fn pipe<C: Core, R: Source, W: Sink>(
     writer: &mut W,
 ) -> Result<PipeEnd, PipeError>
     ensures served { (g : Ground) (l : Lone) → IsRight g → C.stands g core.old l → IsFresh l
-        → Outcome g l (R.remaining reader.old) (R.remaining reader.new)
+        → IsPipeOutcome g l (R.remaining reader.old) (R.remaining reader.new)
         (W.contents writer.old) (W.contents writer.new) result }
-    ensures told { Tells (R.failed reader.old) (R.failed reader.new)
+    ensures told { TellsFailures (R.failed reader.old) (R.failed reader.new)
         (W.failed writer.old) (W.failed writer.new) result }
 {
     loop {
         let Some(piece) = next_piece(alloc, reader)? else {
             return Ok(end_of(core));
         };
-        if let Heard::Worn = take_piece(core, &piece)? {
+        if let HearAnswer::Worn = hear_piece(core, &piece)? {
             return Ok(PipeEnd::Worn);
         }
         if let Rounds::Worn = run_rounds(alloc, core, writer)? {
@@ -92,24 +92,25 @@ fn next_piece<R: Source>(alloc: Global, reader: &mut R) -> Result<Option<Bytes>,
 
 // What came of a piece.
 #[derive(Clone, Copy, PartialEq, Eq)]
-enum Heard {
-    Taken,
+enum HearAnswer {
+    Done,
     // Refused, since all steps are used up.
     Worn,
 }
 
 // Has the core hear a piece. Where the stream has no fault and no reply waits, it is refused at the
 // end of the steps alone, or for want of memory.
-fn take_piece<C: Core>(core: &mut C, piece: &Bytes) -> Result<Heard, PipeError>
-    ensures steps { result ≡ Ok Heard.Taken
+fn hear_piece<C: Core>(core: &mut C, piece: &Bytes) -> Result<HearAnswer, PipeError>
+    ensures steps { result ≡ Ok HearAnswer.Done
         → (C.left core.old).steps ≡ (C.left core.new).steps + 1 }
     ensures heard { (g : Ground) (l : Lone) → IsRight g → C.stands g core.old l → IsReady g l
-        → IfOk result (λ came. HearsSo came (C.stands g core.new) (step g l (hears piece.now))) }
+        → IfOk result (λ came. HearsSo came (C.stands g core.new)
+        (lone_step g l (hears piece.now))) }
     ensures told { IfErr result (λ why. why ≡ PipeError.NoMemory) }
 {
     match core.hear(piece) {
-        Ok(()) => Ok(Heard::Taken),
+        Ok(()) => Ok(HearAnswer::Done),
         Err(Refusal::NoMemory) => Err(PipeError::NoMemory),
-        Err(_) => Ok(Heard::Worn),
+        Err(_) => Ok(HearAnswer::Worn),
     }
 }

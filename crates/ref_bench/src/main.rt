@@ -1,11 +1,11 @@
-//! Makes refs, sets each of them in rounds, reads each as it was at every round, and commutes one more
-//! ref in one transaction, so that the table of refs can be timed alone. Standard input has the number
-//! of refs, that of rounds and that of commutes.
+//! Makes refs, sets each of them in rounds, reads each as it was at every round, and commutes one
+//! more ref in one transaction, so that the table of refs can be timed alone. Standard input has
+//! the number of refs, that of rounds and that of commutes.
 #![tactic(auto)]
 
 use function_names::CoreFunction;
 use ref_history::{Bounds, ListHistory};
-use ref_table::{Outcome, Point, RefTable};
+use ref_table::{CommitOutcome, Point, RefTable};
 use repl_asks::{Change, Commute, Commuted, Intent, Reading};
 use repl_values::{Owner, RefName, Value};
 use std::alloc::{AllocError, Global};
@@ -84,7 +84,7 @@ fn set(alloc: Global, table: &mut Table, name: RefName) -> Result<bool, AllocErr
         return Ok(false);
     }
     let outcome = table.commit(alloc, tenant_of(name), &intent, point)?;
-    Ok(matches!(outcome, Outcome::Committed))
+    Ok(matches!(outcome, CommitOutcome::Committed))
 }
 
 // Sets each ref once.
@@ -150,7 +150,7 @@ fn commute(alloc: Global, table: &mut Table, times: u64) -> Result<bool, AllocEr
         return Ok(false);
     }
     let outcome = table.commit(alloc, tenant_of(name), &intent, point)?;
-    Ok(matches!(outcome, Outcome::Committed))
+    Ok(matches!(outcome, CommitOutcome::Committed))
 }
 
 fn run(alloc: Global, size: Size) -> Result<Counts, AllocError> {

@@ -4,8 +4,8 @@ ghost use Rattle.std.specs.Prelude.{MatchOption, option_map};
 ghost use Rattle.std.specs.Borrow.{sem};
 ghost use Rattle.std.specs.Io.BufRead.{Rests};
 ghost use Rattle.value_data.specs.View.{view};
-ghost use Rattle.server_rules.specs.Versions.{Ref, with_version, faulted};
-ghost use Rattle.server_rules.specs.Versions.{with_least, with_most, readable, newest, is_newer};
+ghost use Rattle.server_rules.specs.Versions.{Ref, with_version, with_failed_read, with_least};
+ghost use Rattle.server_rules.specs.Versions.{with_most, readable, newest, is_newer};
 ghost use Rattle.ref_history.specs.declared.ref_id.RefId.{RefId};
 ghost use Rattle.ref_history.specs.Changes.{IsAbsent, SameRefs, SameBut, Changed};
 ghost use Rattle.ref_history.specs.Effects.{version, first_ref, bounds_of};
@@ -54,7 +54,7 @@ pub trait History: Drop {
     /// It takes no memory, and costs a step for each version that is kept of this ref.
     fn read_at(&mut self, id: RefId, point: u128) -> Option<&Value>
         ensures* noted { sem 𝓛 (Rests Self.row self.entry (λ new. MatchOption result
-            (Changed id faulted (stands self.old) (stands new))
+            (Changed id with_failed_read (stands self.old) (stands new))
             (λ _. SameRefs (stands self.old) (stands new)))) }
         ensures value { (r : Ref) → stands self.old id r
             → option_map (λ v. view v.now) result ≡ readable point r }

@@ -1,9 +1,9 @@
 // What is kept of one ref.
-ghost use Rattle.std.specs.Prelude.{◌≡◌, ◌↔◌, ◌<◌, ◌∷◌, take, length, if◌then◌else◌};
-ghost use Rattle.std.specs.Prelude.{IsTrue, IsSome, IfSome, OnOk, option_map, option_and_then};
+ghost use Rattle.std.specs.Prelude.{◌≡◌, ◌↔◌, ◌<◌, ◌∷◌, take, length, if◌then◌else◌, IsTrue};
+ghost use Rattle.std.specs.Prelude.{IsSome, IfSome, OnOk, option_map, option_and_then};
 ghost use Rattle.std.specs.VecDeque.{deque_len, deque_capacity};
 ghost use Rattle.value_data.specs.View.{view};
-ghost use Rattle.server_rules.specs.Versions.{Ref, with_version, faulted, grows, readable};
+ghost use Rattle.server_rules.specs.Versions.{Ref, with_version, with_failed_read, grows, readable};
 ghost use Rattle.ref_history.specs.Effects.{version, first_ref};
 ghost use Rattle.ref_history.specs.Kept.{KeptStands, HasRoom, content_in};
 
@@ -81,7 +81,7 @@ impl KeptRef {
     }
 
     pub(crate) fn fault(&mut self)
-        ensures { (r : Ref) → KeptStands self.old r → KeptStands self.new (faulted r) }
+        ensures { (r : Ref) → KeptStands self.old r → KeptStands self.new (with_failed_read r) }
     {
         self.is_faulted = true;
     }

@@ -1,34 +1,33 @@
 -- What a commit adds, one ref after the other, are the changes that it wants.
 use Rattle.std.proofs.Common.{◌≡◌, ℕ, ◌+◌, List, [], ◌∷◌, Option, Some, None, map, refl, sym, ap}
-use Rattle.std.proofs.Common.{◌∙◌}
-use Rattle.std.proofs.Common.{subst}
+use Rattle.std.proofs.Common.{◌∙◌, subst}
 use Rattle.value_data.specs.Datum.{Datum}
 use Rattle.repl_asks.specs.Transactions.{ChangeData}
 use Rattle.server_rules.specs.Versions.{Ref, with_version}
-use Rattle.server_rules.specs.Store.{Store, changed}
-use Rattle.server_rules.specs.Commit.{with_changes, raised}
+use Rattle.server_rules.specs.Store.{Store, with_changed_ref}
+use Rattle.server_rules.specs.Commit.{with_changes, with_raised_counter}
 use Rattle.ref_history.specs.Changes.{Changed}
 use Rattle.ref_history.specs.Effects.{version}
 use Rattle.ref_history.specs.declared.ref_id.RefId.{RefId}
-use Rattle.ref_table.specs.Refs.{Refs, after}
+use Rattle.ref_table.specs.Refs.{Refs, refs_after}
 use Rattle.ref_table.specs.Directory.{id_named}
 use Rattle.ref_table.specs.Placing.{placed_view, with_place, places_of, AddsAll}
 use Rattle.ref_table.specs.Standing.{Stands}
 use Rattle.ref_table.specs.declared.placing.Placed.{Placed}
 use Rattle.ref_table.specs.declared.table.RefTable.{RefTable}
 use Rattle.ref_table.proofs.Seen.{changed_of-tenant}
-use Rattle.ref_table.proofs.Tables.{changed-stands, unseen-stands}
+use Rattle.ref_table.proofs.Tables.{with_changed_ref-stands, unseen-stands}
 
 -- what is added at the places of these changes
 abbrev pub Leads : {H : Type 0} → (H → RefId → Ref → Type 0) → ℕ → List ChangeData → Type 0
 Leads {H} stands stamp cs = (t : RefTable H) (h : H) (ps : List Placed) (s : Store) (r : Refs)
     → map placed_view ps ≡ places_of t.directory s.tenant cs
-    → AddsAll stands stamp t.history ps h → Stands stands t (after s r)
-    → Stands stands (record t { history = h }) (after (with_changes stamp cs s) r)
+    → AddsAll stands stamp t.history ps h → Stands stands t (refs_after s r)
+    → Stands stands (record t { history = h }) (refs_after (with_changes stamp cs s) r)
 
 -- the store after one change
 abbrev one_set : ℕ → ChangeData → Store → Store
-one_set stamp c s = changed c.name (with_version (version stamp c.now)) s
+one_set stamp c s = with_changed_ref c.name (with_version (version stamp c.now)) s
 
 tenant-stays : (stamp : ℕ) (c : ChangeData) (s : Store) → (one_set stamp c s).tenant ≡ s.tenant
 tenant-stays stamp c s = changed_of-tenant c.name.owner c.name.number
@@ -42,7 +41,7 @@ same_pair p q ps qs same =
 
 nothing-added : {H : Type 0} (stands : H → RefId → Ref → Type 0) (stamp : ℕ) → Leads stands stamp []
 nothing-added stands stamp t h [] s r e adds now =
-    subst (λ h. Stands stands (record t { history = h }) (after s r)) adds now
+    subst (λ h. Stands stands (record t { history = h }) (refs_after s r)) adds now
 nothing-added stands stamp t h (p ∷ ps) s r e adds now = cc
 
 one-added : {H : Type 0} (stands : H → RefId → Ref → Type 0) (stamp : ℕ) (c : ChangeData)
@@ -50,8 +49,8 @@ one-added : {H : Type 0} (stands : H → RefId → Ref → Type 0) (stamp : ℕ)
     (t : RefTable H) (h : H) (ps : List Placed) (s : Store) (r : Refs)
     → id_named t.directory s.tenant c.name ≡ o
     → map placed_view ps ≡ with_place o c.now (places_of t.directory s.tenant cs)
-    → AddsAll stands stamp t.history ps h → Stands stands t (after s r)
-    → Stands stands (record t { history = h }) (after (with_changes stamp (c ∷ cs) s) r)
+    → AddsAll stands stamp t.history ps h → Stands stands t (refs_after s r)
+    → Stands stands (record t { history = h }) (refs_after (with_changes stamp (c ∷ cs) s) r)
 one-added stands stamp c cs leads None t h ps s r here e adds now =
     leads t h ps (one_set stamp c s) r
     (e ∙ ap (λ v. places_of t.directory v cs) (sym (tenant-stays stamp c s))) adds
@@ -62,7 +61,7 @@ one-added stands stamp c cs leads (Some id) t h (p ∷ ps) s r here e adds now =
     (places_of t.directory s.tenant cs) e in
     leads (record t { history = adds.0 }) h ps (one_set stamp c s) r
     (same.2 ∙ ap (λ v. places_of t.directory v cs) (sym (tenant-stays stamp c s))) adds.2
-    (changed-stands stands t adds.0 s r c.name id (with_version (version stamp c.now)) here
+    (with_changed_ref-stands stands t adds.0 s r c.name id (with_version (version stamp c.now)) here
     (subst (λ i. Changed i (with_version (version stamp c.now)) (stands t.history) (stands adds.0))
     same.0
     (subst (λ d. Changed p.id (with_version (version stamp d)) (stands t.history) (stands adds.0))
@@ -77,10 +76,10 @@ all-added stands stamp (c ∷ cs) = λ t h ps s r e adds now.
     t h ps s r refl e adds now
 
 -- the counter rises
-pub raised-stands : {H : Type 0} (stands : H → RefId → Ref → Type 0) (t : RefTable H) (s : Store)
-    (r : Refs) → Stands stands t (after s r)
-    → Stands stands (record t { counter = t.counter + 1 }) (after (raised s) r)
-raised-stands stands t s r now = record {
+pub with_raised_counter-stands : {H : Type 0} (stands : H → RefId → Ref → Type 0) (t : RefTable H) (s : Store)
+    (r : Refs) → Stands stands t (refs_after s r)
+    → Stands stands (record t { counter = t.counter + 1 }) (refs_after (with_raised_counter s) r)
+with_raised_counter-stands stands t s r now = record {
   counter = ap (λ n. n + 1) now.counter;
   refs = now.refs;
   apart = now.apart;

@@ -13,14 +13,15 @@ use Rattle.repl_asks.specs.declared.intent.Change.{Change}
 use Rattle.repl_asks.specs.declared.intent.Commuted.{Commuted}
 use Rattle.server_rules.specs.Numbered.{Entry}
 use Rattle.server_rules.specs.Versions.{Ref}
-use Rattle.server_rules.specs.Store.{Store, named, left_attempt}
+use Rattle.server_rules.specs.Store.{Store, ref_named, left_attempt}
 use Rattle.server_rules.specs.Performed.{as_was, tells}
-use Rattle.server_rules.specs.Commit.{guarded, touched, changing, all_there, all_fit, all_take}
-use Rattle.server_rules.specs.Commit.{are_distinct, fits, is_newer_ref, any_newer, all_folded}
-use Rattle.server_rules.specs.Commit.{with_changes, raised, with_all, concluded, checked, commit_by}
+use Rattle.server_rules.specs.Commit.{guarded_refs, touched_refs, changing_refs, all_there, all_fit}
+use Rattle.server_rules.specs.Commit.{all_take, are_distinct, intent_fits, is_newer_ref, any_newer}
+use Rattle.server_rules.specs.Commit.{all_folded, with_changes, with_raised_counter, with_all}
+use Rattle.server_rules.specs.Commit.{concluded_commit, checked_commit, commit_by}
 use Rattle.server_rules.proofs.Calls.{folded-names}
 use Rattle.ref_history.specs.declared.ref_id.RefId.{RefId}
-use Rattle.ref_table.specs.Refs.{Refs, store_of, after}
+use Rattle.ref_table.specs.Refs.{Refs, store_of, refs_after}
 use Rattle.ref_table.specs.Directory.{id_named, all_named, ids_named}
 use Rattle.ref_table.specs.Placing.{with_place, places_of, all_distinct}
 use Rattle.ref_table.specs.Accepting.{may_commit, is_acceptable}
@@ -56,8 +57,8 @@ newer-append : (point : ℕ) (xs ys : List RefNameData) (s : Store)
     → any_newer point (xs ++ ys) s ≡ (any_newer point xs s || any_newer point ys s)
 newer-append point [] ys s = refl
 newer-append point (x ∷ xs) ys s =
-    ap (λ b. is_newer_ref point (named x s) || b) (newer-append point xs ys s)
-    ∙ groups (is_newer_ref point (named x s)) (any_newer point xs s) (any_newer point ys s) where
+    ap (λ b. is_newer_ref point (ref_named x s) || b) (newer-append point xs ys s)
+    ∙ groups (is_newer_ref point (ref_named x s)) (any_newer point xs s) (any_newer point ys s) where
       groups : (a b c : Bool) → (a || (b || c)) ≡ ((a || b) || c)
       groups true b c = refl
       groups false b c = refl
@@ -90,13 +91,13 @@ either_newer point sets ensured s =
 -- What is acceptable
 
 -- the refs that change are there where all that are named are
-changing-named : (d : Directory) (caller : ℕ) (intent : IntentData)
-    → all_named d caller (touched intent) ≡ true → all_named d caller (changing intent) ≡ true
-changing-named d caller intent e =
+changing_refs-named : (d : Directory) (caller : ℕ) (intent : IntentData)
+    → all_named d caller (touched_refs intent) ≡ true → all_named d caller (changing_refs intent) ≡ true
+changing_refs-named d caller intent e =
     let sets = map (λ c. c.name) intent.sets in
     let commuted = map (λ c. c.name) intent.commuted in
-    let all = both_true (all_named d caller (guarded intent)) (all_named d caller commuted)
-    (sym (named-append d caller (guarded intent) commuted) ∙ e) in
+    let all = both_true (all_named d caller (guarded_refs intent)) (all_named d caller commuted)
+    (sym (named-append d caller (guarded_refs intent) commuted) ∙ e) in
     let first = both_true (all_named d caller sets) (all_named d caller intent.ensured)
     (sym (named-append d caller sets intent.ensured) ∙ all.0) in
     named-append d caller sets commuted ∙ ap₂ ◌&&◌ first.0 all.1
@@ -105,17 +106,17 @@ changing-named d caller intent e =
 pub acceptable : {H : Type 0} (stands : H → RefId → Ref → Type 0) (t : RefTable H) (r : Refs)
     (caller : ℕ) (points : List (Entry ℕ)) (intent : IntentData) → Stands stands t r
     → is_acceptable t.directory caller intent
-    ≡ (all_there (touched intent) (store_of caller points r) && fits intent)
+    ≡ (all_there (touched_refs intent) (store_of caller points r) && intent_fits intent)
 acceptable stands t r caller points intent s =
-    by (all_named t.directory caller (touched intent))
-    (all_there (touched intent) (store_of caller points r)) (all_fit intent.sets)
-    (are_distinct (changing intent))
-    (all_distinct same_id (ids_named t.directory caller (changing intent)))
+    by (all_named t.directory caller (touched_refs intent))
+    (all_there (touched_refs intent) (store_of caller points r)) (all_fit intent.sets)
+    (are_distinct (changing_refs intent))
+    (all_distinct same_id (ids_named t.directory caller (changing_refs intent)))
     (all_take intent.commuted)
-    (all-named stands t (store_of caller points r) r (touched intent)
+    (all-named stands t (store_of caller points r) r (touched_refs intent)
     (seen-stands stands t caller points r s))
-    (λ e. distinct-ids t.directory caller (changing intent) s.apart
-    (changing-named t.directory caller intent e)) where
+    (λ e. distinct-ids t.directory caller (changing_refs intent) s.apart
+    (changing_refs-named t.directory caller intent e)) where
       turned : (f a t : Bool) → ((f && t) && a) ≡ ((f && a) && t)
       turned true true true = refl
       turned true true false = refl
@@ -131,36 +132,36 @@ acceptable stands t r caller points intent s =
 
 pub record IsAccepted (d : Directory) (caller : ℕ) (intent : IntentData) : Type 0 where
   pub takes : all_take intent.commuted ≡ true
-  pub named : all_named d caller (changing intent) ≡ true
-  pub once : all_distinct same_id (ids_named d caller (changing intent)) ≡ true
+  pub named : all_named d caller (changing_refs intent) ≡ true
+  pub once : all_distinct same_id (ids_named d caller (changing_refs intent)) ≡ true
 
 pub accepted : (d : Directory) (caller : ℕ) (intent : IntentData)
     → is_acceptable d caller intent ≡ true → IsAccepted d caller intent
 accepted d caller intent e =
     let all = both_true (may_commit d caller intent)
-    (all_distinct same_id (ids_named d caller (changing intent))) e in
-    let may = both_true (all_named d caller (touched intent) && all_fit intent.sets)
+    (all_distinct same_id (ids_named d caller (changing_refs intent))) e in
+    let may = both_true (all_named d caller (touched_refs intent) && all_fit intent.sets)
     (all_take intent.commuted) all.0 in
     record {
       takes = may.1;
-      named = changing-named d caller intent
-          (both_true (all_named d caller (touched intent)) (all_fit intent.sets) may.0).0;
+      named = changing_refs-named d caller intent
+          (both_true (all_named d caller (touched_refs intent)) (all_fit intent.sets) may.0).0;
       once = all.1;
     }
 
 -- The commit, by what was found out
 
-pub checked-performs : {H : Type 0} (stands : H → RefId → Ref → Type 0) (new : RefTable H)
+pub checked_commit-performs : {H : Type 0} (stands : H → RefId → Ref → Type 0) (new : RefTable H)
     (r : Refs) (caller : ℕ) (points : List (Entry ℕ)) (seat point : ℕ) (intent : IntentData)
     (o : Option ℕ) (answer : Option AnswerData) (fit newer : Bool) → o ≡ Some point
-    → fit ≡ (all_there (touched intent) (store_of caller points r) && fits intent)
-    → newer ≡ any_newer point (guarded intent) (store_of caller points r)
-    → Performs stands new r answer (checked seat intent (store_of caller points r) fit newer)
+    → fit ≡ (all_there (touched_refs intent) (store_of caller points r) && intent_fits intent)
+    → newer ≡ any_newer point (guarded_refs intent) (store_of caller points r)
+    → Performs stands new r answer (checked_commit seat intent (store_of caller points r) fit newer)
     → Performs stands new r answer (commit_by seat intent (store_of caller points r) o)
-checked-performs stands new r caller points seat point intent o answer fit newer runs is late did =
+checked_commit-performs stands new r caller points seat point intent o answer fit newer runs is late did =
     let s = store_of caller points r in
     subst (Performs stands new r answer)
-    (sym (ap (commit_by seat intent s) runs ∙ sym (ap₂ (checked seat intent s) is late))) did
+    (sym (ap (commit_by seat intent s) runs ∙ sym (ap₂ (checked_commit seat intent s) is late))) did
 
 -- where a commit changes nothing
 pub unchanged-performs : {H : Type 0} (stands : H → RefId → Ref → Type 0) (t : RefTable H)
@@ -185,21 +186,21 @@ pub faulted-performs : {H : Type 0} (stands : H → RefId → Ref → Type 0) (t
     (r : Refs) (caller : ℕ) (points : List (Entry ℕ)) (seat : ℕ) (sets : List ChangeData)
     (f : Failure) (folds : Result (List ChangeData) Failure) → folds ≡ Err f → Stands stands t r
     → Performs stands t r (Some (verdict (faulted f)))
-    (concluded seat sets (store_of caller points r) folds)
+    (concluded_commit seat sets (store_of caller points r) folds)
 faulted-performs stands t r caller points seat sets f folds is s =
     subst (λ folds. Performs stands t r (Some (verdict (faulted f)))
-    (concluded seat sets (store_of caller points r) folds)) (sym is)
+    (concluded_commit seat sets (store_of caller points r) folds)) (sym is)
     (unchanged-performs stands t r caller points seat (verdict (faulted f)) s)
 
 pub committed-performs : {H : Type 0} (stands : H → RefId → Ref → Type 0) (new : RefTable H)
     (r : Refs) (caller : ℕ) (points : List (Entry ℕ)) (seat : ℕ) (sets changes : List ChangeData)
     (folds : Result (List ChangeData) Failure) → folds ≡ Ok changes
-    → Stands stands new (after (with_all (sets ++ changes) (store_of caller points r)) r)
+    → Stands stands new (refs_after (with_all (sets ++ changes) (store_of caller points r)) r)
     → Performs stands new r (Some (verdict committed))
-    (concluded seat sets (store_of caller points r) folds)
+    (concluded_commit seat sets (store_of caller points r) folds)
 committed-performs stands new r caller points seat sets changes folds is left =
     subst (λ folds. Performs stands new r (Some (verdict committed))
-    (concluded seat sets (store_of caller points r) folds)) (sym is)
+    (concluded_commit seat sets (store_of caller points r) folds)) (sym is)
     (record { told = refl; left = left })
 
 -- The places of what changes
@@ -222,10 +223,10 @@ failed-first (Ok x) f e is = cc
 -- where refs that are there change, there are places
 pub no-places : (d : Directory) (caller : ℕ) (cs : List ChangeData)
     → all_named d caller (map (λ c. c.name) cs) ≡ true → [] ≡ places_of d caller cs → cs ≡ []
-no-places d caller [] named none = refl
-no-places d caller (c ∷ cs) named none =
+no-places d caller [] ref_named none = refl
+no-places d caller (c ∷ cs) ref_named none =
     absurd (by (id_named d caller c.name)
-    (both_true (is_some (id_named d caller c.name)) _ named).0 none) where
+    (both_true (is_some (id_named d caller c.name)) _ ref_named).0 none) where
       by : (o : Option RefId) → is_some o ≡ true
           → [] ≡ with_place o c.now (places_of d caller cs) → ⊥
       by None there none = cc
@@ -233,14 +234,14 @@ no-places d caller (c ∷ cs) named none =
 
 -- the counter rises where a ref changes
 pub with_all-some : (cs : List ChangeData) (s : Store) → (cs ≡ [] → ⊥)
-    → with_all cs s ≡ with_changes (s.around.counter + 1) cs (raised s)
+    → with_all cs s ≡ with_changes (s.around.counter + 1) cs (with_raised_counter s)
 with_all-some [] s some = absurd (some refl)
 with_all-some (c ∷ cs) s some = refl
 
 -- those of the refs that are set and of those that are commuted
 pub changed-names : (value : RefNameData → Option Datum) (intent : IntentData)
     (changes : List ChangeData) → all_folded value intent.commuted ≡ Ok changes
-    → map (λ c. c.name) (intent.sets ++ changes) ≡ changing intent
+    → map (λ c. c.name) (intent.sets ++ changes) ≡ changing_refs intent
 changed-names value intent changes e =
     map-append (λ c. c.name) intent.sets changes
     ∙ ap (λ names. map (λ c. c.name) intent.sets ++ names)

@@ -1,6 +1,6 @@
 -- What is commuted, made again one after the other.
-use Rattle.std.proofs.Common.{◌≡◌, ℕ, ◌+◌, ◌<◌, List, [], ◌∷◌, ◌++◌, length, drop, get_or}
-use Rattle.std.proofs.Common.{true, Option, map, refl, sym, ap, ◌∙◌, subst, append_assoc}
+use Rattle.std.proofs.Common.{◌≡◌, ℕ, ◌+◌, ◌<◌, List, [], ◌∷◌, ◌++◌, length, drop, get_or, true}
+use Rattle.std.proofs.Common.{Option, map, refl, sym, ap, ◌∙◌, subst, append_assoc}
 use Rattle.std.specs.Prelude.{Result, Ok, Err}
 use Rattle.std.specs.List.{list_all}
 use Rattle.std.specs.Result.{IsErrAnd}
@@ -13,10 +13,10 @@ use Rattle.repl_faults.specs.View.{Fails, Gives}
 use Rattle.repl_faults.specs.declared.error.ApplyError.{ApplyError}
 use Rattle.repl_faults.specs.declared.error.ApplyError.TheVariants as errors
 use Rattle.core_texts.specs.declared.function.PrintFunction.{PrintFunction}
-use Rattle.core_functions.specs.Outcome.{Outcome, bounded}
+use Rattle.core_functions.specs.ApplyOutcome.{ApplyOutcome, bounded_outcome}
 use Rattle.core_functions.specs.Meaning.{meaning}
 use Rattle.core_functions.specs.View.{FailsIn}
-use Rattle.core_functions.proofs.Outcomes.{bounded-settled}
+use Rattle.core_functions.proofs.Outcomes.{bounded_outcome-apply_outcome}
 use Rattle.function_names.specs.declared.function.CoreFunction.{CoreFunction}
 use Rattle.repl_asks.specs.Transactions.{RefNameData, ChangeData, CommutedData}
 use Rattle.repl_asks.specs.View.{name_view, change_view, commuted_view}
@@ -30,22 +30,22 @@ use Rattle.ref_table.proofs.Once.{both_true}
 -- a function that does not print prints nothing
 unprinted : (f : CoreFunction) (args : List Datum)
     → ((p : PrintFunction) → f ≡ CoreFunction.Print p → ⊥)
-    → bounded (meaning f args) ≡ meaning f args
-unprinted (CoreFunction.Integer f) args none = bounded-settled _
-unprinted (CoreFunction.Predicate f) args none = bounded-settled _
-unprinted (CoreFunction.Text f) args none = bounded-settled _
-unprinted (CoreFunction.Sequence f) args none = bounded-settled _
-unprinted (CoreFunction.Map f) args none = bounded-settled _
+    → bounded_outcome (meaning f args) ≡ meaning f args
+unprinted (CoreFunction.Integer f) args none = bounded_outcome-apply_outcome _
+unprinted (CoreFunction.Predicate f) args none = bounded_outcome-apply_outcome _
+unprinted (CoreFunction.Text f) args none = bounded_outcome-apply_outcome _
+unprinted (CoreFunction.Sequence f) args none = bounded_outcome-apply_outcome _
+unprinted (CoreFunction.Map f) args none = bounded_outcome-apply_outcome _
 unprinted (CoreFunction.Print f) args none = absurd (none f refl)
 
-fails-so : (o : Outcome) (e : ApplyError) → FailsIn o e → Fails e (result_of o)
+fails-so : (o : ApplyOutcome) (e : ApplyError) → FailsIn o e → Fails e (result_of o)
 fails-so o errors.NoMemory h = tt
 fails-so o (errors.Fault f) h = ap result_of h
 
 -- the fault of a function is that of its commute
 pub applied-fails : (f : CoreFunction) (args : List Datum) (e : ApplyError)
     → ((p : PrintFunction) → f ≡ CoreFunction.Print p → ⊥)
-    → FailsIn (bounded (meaning f args)) e → Fails e (result_of (meaning f args))
+    → FailsIn (bounded_outcome (meaning f args)) e → Fails e (result_of (meaning f args))
 applied-fails f args e none h =
     fails-so (meaning f args) e (subst (λ o. FailsIn o e) (unprinted f args none) h)
 

@@ -1,15 +1,15 @@
 -- Refs that are kept under different ids have different names.
-use Rattle.std.proofs.Common.{◌≡◌, ℕ, List, [], ◌∷◌, ◌++◌, Bool, true, false, not, ◌&&◌, ◌||◌}
-use Rattle.std.proofs.Common.{◌==◌, is_some, Option, Some, None, map, refl, sym, ap, ap₂, ◌∙◌}
-use Rattle.std.proofs.Common.{subst}
+use Rattle.std.proofs.Common.{◌≡◌, ℕ, List, [], ◌∷◌, ◌++◌, Bool, true, false, not, ◌&&◌, ◌||◌, ◌==◌}
+use Rattle.std.proofs.Common.{is_some, Option, Some, None, map, refl, sym, ap, ap₂, ◌∙◌, subst}
 use Rattle.std.specs.List.{list_any}
 use Rattle.std.specs.Cmp.{unsigned_tied}
 use Rattle.std.proofs.lemmas.Bool.{eqb-true, eq-eqb}
 use Rattle.value_data.specs.Datum.{Datum, OwnerData, shared, tenant}
-use Rattle.repl_asks.specs.Transactions.{RefNameData, ChangeData}
+use Rattle.repl_asks.specs.Transactions.{RefNameData, ChangeData, same_name}
 use Rattle.repl_asks.specs.View.{change_view}
 use Rattle.repl_asks.specs.declared.intent.Change.{Change}
-use Rattle.server_rules.specs.Commit.{same_owner, same_name, are_distinct}
+use Rattle.server_rules.specs.Commit.{are_distinct}
+use Rattle.value_data.specs.Same.{same_owner}
 use Rattle.ref_history.specs.declared.ref_id.RefId.{RefId}
 use Rattle.ref_table.specs.Directory.{ids_of, id_named, all_named, with_id, ids_named}
 use Rattle.ref_table.specs.Placing.{placed_view, with_place, places_of, all_distinct}

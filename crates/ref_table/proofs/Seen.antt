@@ -1,6 +1,6 @@
 -- What a tenant sees of the refs, and how it changes.
-use Rattle.std.proofs.Common.{◌≡◌, ◌≢◌, ℕ, List, Bool, true, false, Option, Some, None}
-use Rattle.std.proofs.Common.{refl, sym, ap, ◌∙◌, ◌==◌, inl, inr, slice_get, if◌then◌else◌}
+use Rattle.std.proofs.Common.{◌≡◌, ◌≢◌, ℕ, List, Bool, true, false, Option, Some, None, refl, sym}
+use Rattle.std.proofs.Common.{ap, ◌∙◌, ◌==◌, inl, inr, slice_get, if◌then◌else◌}
 use Rattle.std.proofs.lemmas.Bool.{cases_Bool, eqb-true, ne_eqb}
 use Rattle.value_data.specs.Datum.{OwnerData, shared, tenant}
 use Rattle.server_rules.specs.Numbered.{changed_at}
@@ -8,7 +8,7 @@ use Rattle.server_rules.specs.Versions.{Ref}
 use Rattle.server_rules.specs.Store.{Store, ref_of, changed_of}
 use Rattle.ref_history.specs.Changes.{Standing}
 use Rattle.ref_history.specs.declared.ref_id.RefId.{RefId}
-use Rattle.ref_table.specs.Refs.{Refs, owned_with, after}
+use Rattle.ref_table.specs.Refs.{Refs, owned_with, refs_after}
 use Rattle.ref_table.specs.Directory.{ids_of, id_within}
 use Rattle.ref_table.specs.Standing.{Matches, StandFor}
 use Rattle.ref_table.specs.declared.directory.Directory.{Directory}
@@ -26,7 +26,7 @@ owned-seen caller owned (tenant t) = elim (cases_Bool (t == caller)) [
 
 -- the id under which a tenant finds a ref stands for what it sees of it
 pub stands-within : (standing : Standing) (d : Directory) (s : Store) (r : Refs) (w : OwnerData)
-    (n : ℕ) → StandFor standing (ids_of d) (after s r).owned
+    (n : ℕ) → StandFor standing (ids_of d) (refs_after s r).owned
     → Matches standing (id_within d s.tenant w n) (ref_of w n s)
 stands-within standing d s r shared n h = h shared n
 stands-within standing d s r (tenant t) n h =
@@ -57,7 +57,7 @@ id-there d caller (tenant t) m id e =
 -- a ref that the tenant reaches changes among its owner's
 pub changed-here : (d : Directory) (s : Store) (r : Refs) (w : OwnerData) (m : ℕ) (f : Ref → Ref)
     (id : RefId) → id_within d s.tenant w m ≡ Some id
-    → (after (changed_of w m f s) r).owned w ≡ changed_at m f ((after s r).owned w)
+    → (refs_after (changed_of w m f s) r).owned w ≡ changed_at m f ((refs_after s r).owned w)
 changed-here d s r shared m f id e = refl
 changed-here d s r (tenant t) m f id e =
     both (t == s.tenant) (found_if (t == s.tenant) (slice_get (ids_of d (tenant t)) m) id e).0 where
@@ -70,7 +70,7 @@ changed-here d s r (tenant t) m f id e =
 -- and nobody else's
 pub changed-elsewhere : (d : Directory) (s : Store) (r : Refs) (w : OwnerData) (m : ℕ)
     (f : Ref → Ref) (id : RefId) → id_within d s.tenant w m ≡ Some id
-    → (o : OwnerData) → o ≢ w → (after (changed_of w m f s) r).owned o ≡ (after s r).owned o
+    → (o : OwnerData) → o ≢ w → (refs_after (changed_of w m f s) r).owned o ≡ (refs_after s r).owned o
 changed-elsewhere d s r shared m f id e shared differs = absurd (differs refl)
 changed-elsewhere d s r shared m f id e (tenant u) differs = refl
 changed-elsewhere d s r (tenant t) m f id e shared differs = refl
@@ -89,7 +89,7 @@ changed-elsewhere d s r (tenant t) m f id e (tenant u) differs =
 -- a change of a ref that is not seen changes nothing
 pub changed-nowhere : (s : Store) (r : Refs) (w : OwnerData) (m : ℕ) (f : Ref → Ref)
     → ref_of w m s ≡ None
-    → (o : OwnerData) → (after (changed_of w m f s) r).owned o ≡ (after s r).owned o
+    → (o : OwnerData) → (refs_after (changed_of w m f s) r).owned o ≡ (refs_after s r).owned o
 changed-nowhere s r shared m f none shared = changed_at-absent m f s.around.refs none
 changed-nowhere s r shared m f none (tenant u) = refl
 changed-nowhere s r (tenant t) m f none shared = refl

@@ -9,11 +9,12 @@ use Rattle.value_data.specs.Datum.{OwnerData, shared, tenant}
 use Rattle.repl_asks.specs.Transactions.{RefNameData}
 use Rattle.server_rules.specs.Numbered.{Entry}
 use Rattle.server_rules.specs.Versions.{Ref}
-use Rattle.server_rules.specs.Store.{Store, named, changed}
-use Rattle.server_rules.specs.Commit.{same_owner, all_there}
+use Rattle.server_rules.specs.Store.{Store, ref_named, with_changed_ref}
+use Rattle.server_rules.specs.Commit.{all_there}
+use Rattle.value_data.specs.Same.{same_owner}
 use Rattle.ref_history.specs.Changes.{Standing, IsAbsent, SameRefs, SameBut, Changed}
 use Rattle.ref_history.specs.declared.ref_id.RefId.{RefId}
-use Rattle.ref_table.specs.Refs.{Refs, store_of, after, with_ref, without_refs}
+use Rattle.ref_table.specs.Refs.{Refs, store_of, refs_after, with_ref, without_refs}
 use Rattle.ref_table.specs.Directory.{ids_of, id_named, all_named}
 use Rattle.ref_table.specs.Standing.{Matches, StandFor, AreApart, KeepsNoMore, Stands}
 use Rattle.ref_table.specs.declared.directory.Directory.{Directory}
@@ -27,11 +28,11 @@ use Rattle.ref_table.proofs.Seen.{changed-here, changed-elsewhere, changed-nowhe
 -- what a tenant sees adds nothing
 pub seen-stands : {H : Type 0} (stands : H → RefId → Ref → Type 0) (t : RefTable H) (caller : ℕ)
     (points : List (Entry ℕ)) (r : Refs)
-    → Stands stands t r → Stands stands t (after (store_of caller points r) r)
+    → Stands stands t r → Stands stands t (refs_after (store_of caller points r) r)
 seen-stands stands t caller points r s = record {
   counter = s.counter;
   refs = stand-equal (stands t.history) (ids_of t.directory) r.owned
-      (after (store_of caller points r) r).owned (owned-seen caller r.owned) s.refs;
+      (refs_after (store_of caller points r) r).owned (owned-seen caller r.owned) s.refs;
   apart = s.apart;
   no_more = s.no_more;
 }
@@ -48,16 +49,16 @@ same-stands stands t h r same s = record {
 }
 
 -- a ref that the tenant sees changes
-pub changed-stands : {H : Type 0} (stands : H → RefId → Ref → Type 0) (t : RefTable H) (h : H)
+pub with_changed_ref-stands : {H : Type 0} (stands : H → RefId → Ref → Type 0) (t : RefTable H) (h : H)
     (s : Store) (r : Refs) (name : RefNameData) (id : RefId) (f : Ref → Ref)
     → id_named t.directory s.tenant name ≡ Some id
     → Changed id f (stands t.history) (stands h)
-    → Stands stands t (after s r)
-    → Stands stands (record t { history = h }) (after (changed name f s) r)
-changed-stands stands t h s r name id f e change now = record {
+    → Stands stands t (refs_after s r)
+    → Stands stands (record t { history = h }) (refs_after (with_changed_ref name f s) r)
+with_changed_ref-stands stands t h s r name id f e change now = record {
   counter = now.counter ∙ sym (changed_of-counter name.owner name.number f s);
-  refs = stand-changed (stands t.history) (stands h) (ids_of t.directory) (after s r).owned
-      (after (changed name f s) r).owned name.owner name.number id f
+  refs = stand-changed (stands t.history) (stands h) (ids_of t.directory) (refs_after s r).owned
+      (refs_after (with_changed_ref name f s) r).owned name.owner name.number id f
       (id-there t.directory s.tenant name.owner name.number id e) now.apart change
       (changed-here t.directory s r name.owner name.number f id e)
       (changed-elsewhere t.directory s r name.owner name.number f id e) now.refs;
@@ -71,13 +72,13 @@ changed-stands stands t h s r name id f e change now = record {
 pub unseen-stands : {H : Type 0} (stands : H → RefId → Ref → Type 0) (t : RefTable H)
     (s : Store) (r : Refs) (name : RefNameData) (f : Ref → Ref)
     → id_named t.directory s.tenant name ≡ None
-    → Stands stands t (after s r) → Stands stands t (after (changed name f s) r)
+    → Stands stands t (refs_after s r) → Stands stands t (refs_after (with_changed_ref name f s) r)
 unseen-stands stands t s r name f e now = record {
   counter = now.counter ∙ sym (changed_of-counter name.owner name.number f s);
-  refs = stand-equal (stands t.history) (ids_of t.directory) (after s r).owned
-      (after (changed name f s) r).owned
+  refs = stand-equal (stands t.history) (ids_of t.directory) (refs_after s r).owned
+      (refs_after (with_changed_ref name f s) r).owned
       (changed-nowhere s r name.owner name.number f
-      (absent (stands t.history) (id_named t.directory s.tenant name) (named name s)
+      (absent (stands t.history) (id_named t.directory s.tenant name) (ref_named name s)
       (stands-within (stands t.history) t.directory s r name.owner name.number now.refs) e))
       now.refs;
   apart = now.apart;
@@ -87,10 +88,10 @@ unseen-stands stands t s r name f e now = record {
 -- the ref that an id stands for is the one that is seen
 pub seen-there : {H : Type 0} (stands : H → RefId → Ref → Type 0) (t : RefTable H) (s : Store)
     (r : Refs) (name : RefNameData) (id : RefId)
-    → id_named t.directory s.tenant name ≡ Some id → Stands stands t (after s r)
-    → (ref : Ref) × (named name s ≡ Some ref) × stands t.history id ref
+    → id_named t.directory s.tenant name ≡ Some id → Stands stands t (refs_after s r)
+    → (ref : Ref) × (ref_named name s ≡ Some ref) × stands t.history id ref
 seen-there stands t s r name id e now =
-    there (stands t.history) (id_named t.directory s.tenant name) (named name s) id
+    there (stands t.history) (id_named t.directory s.tenant name) (ref_named name s) id
     (stands-within (stands t.history) t.directory s r name.owner name.number now.refs) e
 
 same_owner-refl : (o : OwnerData) → same_owner o o ≡ true
@@ -166,11 +167,11 @@ released-stands stands t d h r o gone rest dropped keeps s = record {
 
 -- all that a tenant names is there
 pub all-named : {H : Type 0} (stands : H → RefId → Ref → Type 0) (t : RefTable H) (s : Store)
-    (r : Refs) (names : List RefNameData) → Stands stands t (after s r)
+    (r : Refs) (names : List RefNameData) → Stands stands t (refs_after s r)
     → all_named t.directory s.tenant names ≡ all_there names s
 all-named stands t s r [] now = refl
 all-named stands t s r (name ∷ names) now =
-    ap₂ ◌&&◌ (both (stands t.history) (id_named t.directory s.tenant name) (named name s)
+    ap₂ ◌&&◌ (both (stands t.history) (id_named t.directory s.tenant name) (ref_named name s)
     (stands-within (stands t.history) t.directory s r name.owner name.number now.refs))
     (all-named stands t s r names now) where
       both : (standing : Standing) (o : Option RefId) (x : Option Ref) → Matches standing o x

@@ -1,19 +1,19 @@
 -- Calls do what the rules say of them.
 use Rattle.std.proofs.Common.{◌≡◌, ℕ, List, Option, Some, None, Result, Ok, Err, OnErr, refl, sym}
-use Rattle.std.proofs.Common.{ap}
-use Rattle.std.proofs.Common.{subst, length, [], ◌∷◌, ◌++◌, Bool, true, false, ◌==◌, if◌then◌else◌}
+use Rattle.std.proofs.Common.{ap, subst, length, [], ◌∷◌, ◌++◌, Bool, true, false, ◌==◌}
+use Rattle.std.proofs.Common.{if◌then◌else◌}
 use Rattle.std.proofs.lemmas.Bool.{eqb-true}
 use Rattle.value_data.specs.Datum as datum
 use Rattle.value_data.specs.Datum.{Datum, OwnerData, shared, tenant}
 use Rattle.repl_asks.specs.Transactions.{RefNameData}
 use Rattle.repl_asks.specs.Exchange.{value, reading, found, retry}
 use Rattle.server_rules.specs.Numbered.{Entry}
-use Rattle.server_rules.specs.Versions.{Ref, new_ref, faulted}
-use Rattle.server_rules.specs.Store.{named}
-use Rattle.server_rules.specs.Calls.{read_at, bound_set, made}
+use Rattle.server_rules.specs.Versions.{Ref, new_ref, with_failed_read}
+use Rattle.server_rules.specs.Store.{ref_named}
+use Rattle.server_rules.specs.Calls.{read_at, bound_set, performed_make}
 use Rattle.ref_history.specs.Changes.{SameRefs, Changed}
 use Rattle.ref_history.specs.declared.ref_id.RefId.{RefId}
-use Rattle.ref_table.specs.Refs.{Refs, store_of, after, with_ref}
+use Rattle.ref_table.specs.Refs.{Refs, store_of, refs_after, with_ref}
 use Rattle.ref_table.specs.Directory.{ids_of, id_named, id_within, own_id, own_id_within}
 use Rattle.ref_table.specs.Standing.{Stands}
 use Rattle.ref_table.specs.Told.{Performs}
@@ -21,7 +21,7 @@ use Rattle.ref_table.specs.declared.directory.Directory.{Directory}
 use Rattle.ref_table.specs.declared.table.RefTable.{RefTable}
 use Rattle.ref_table.proofs.Owners.{none-some}
 use Rattle.ref_table.proofs.Standing.{stand-equal}
-use Rattle.ref_table.proofs.Tables.{seen-stands, same-stands, changed-stands, seen-there}
+use Rattle.ref_table.proofs.Tables.{seen-stands, same-stands, with_changed_ref-stands, seen-there}
 
 pub on_err : {T E P : Type 0} (r : Result T E) → P → OnErr r P
 on_err (Ok x) p = tt
@@ -47,7 +47,7 @@ found-performs stands t h r caller points seat name o d is same s =
 pub retry-performs : {H : Type 0} (stands : H → RefId → Ref → Type 0) (t : RefTable H) (h : H)
     (r : Refs) (caller : ℕ) (points : List (Entry ℕ)) (seat : ℕ) (name : RefNameData) (id : RefId)
     (o : Option Datum) → id_named t.directory caller name ≡ Some id
-    → Changed id faulted (stands t.history) (stands h) → o ≡ None → Stands stands t r
+    → Changed id with_failed_read (stands t.history) (stands h) → o ≡ None → Stands stands t r
     → Performs stands (record t { history = h }) r (Some (reading retry))
     (read_at seat name (store_of caller points r) o)
 retry-performs stands t h r caller points seat name id o e change none s =
@@ -55,7 +55,7 @@ retry-performs stands t h r caller points seat name id o e change none s =
     (read_at seat name (store_of caller points r) o)) (sym none)
     (record {
       told = refl;
-      left = changed-stands stands t h (store_of caller points r) r name id faulted e change
+      left = with_changed_ref-stands stands t h (store_of caller points r) r name id with_failed_read e change
           (seen-stands stands t caller points r s);
     })
 
@@ -73,7 +73,7 @@ pub bound-performs : {H : Type 0} (stands : H → RefId → Ref → Type 0) (t :
     → Performs stands (record t { history = h }) r
     (Some (value (datum.ref name.owner name.number)))
     (bound_set name name.owner f (store_of caller points r)
-    (named name (store_of caller points r)))
+    (ref_named name (store_of caller points r)))
 bound-performs stands t h r caller points name id f e change s =
     let own = owned t.directory caller name.owner name.number id e in
     let seen = seen-stands stands t caller points r s in
@@ -86,22 +86,22 @@ bound-performs stands t h r caller points name id f e change s =
     (bound_set name o f (store_of caller points r) (Some found.0))) (sym own.1)
     (record {
       told = ap (λ o. Some (value (datum.ref o name.number))) own.1;
-      left = changed-stands stands t h (store_of caller points r) r name id f own.2 change seen;
+      left = with_changed_ref-stands stands t h (store_of caller points r) r name id f own.2 change seen;
     }))
 
 -- a tenant has one ref more
-pub made-performs : {H : Type 0} (stands : H → RefId → Ref → Type 0) (t : RefTable H) (r : Refs)
+pub performed_make-performs : {H : Type 0} (stands : H → RefId → Ref → Type 0) (t : RefTable H) (r : Refs)
     (caller : ℕ) (points : List (Entry ℕ)) (d : Datum) (least most n : ℕ)
     → n ≡ length (r.owned (tenant caller))
     → Stands stands t (with_ref (tenant caller) (new_ref (record { stamp = 0; content = d }) least most) r)
     → Performs stands t r (Some (value (datum.ref (tenant caller) n)))
-    (made (store_of caller points r) d least most)
-made-performs stands t r caller points d least most n number s = record {
+    (performed_make (store_of caller points r) d least most)
+performed_make-performs stands t r caller points d least most n number s = record {
   told = ap (λ n. Some (value (datum.ref (tenant caller) n))) number;
   left = record {
     counter = s.counter;
     refs = stand-equal (stands t.history) (ids_of t.directory) (with_ref (tenant caller) ref r).owned
-        (after (made (store_of caller points r) d least most).store r).owned same s.refs;
+        (refs_after (performed_make (store_of caller points r) d least most).store r).owned same s.refs;
     apart = s.apart;
     no_more = s.no_more;
   };
@@ -109,7 +109,7 @@ made-performs stands t r caller points d least most n number s = record {
   ref : Ref
   ref = new_ref (record { stamp = 0; content = d }) least most
 
-  same : (o : OwnerData) → (after (made (store_of caller points r) d least most).store r).owned o
+  same : (o : OwnerData) → (refs_after (performed_make (store_of caller points r) d least most).store r).owned o
       ≡ (with_ref (tenant caller) ref r).owned o
   same shared = refl
   same (tenant u) = by (u == caller) (λ e. eqb-true u caller e) where

@@ -1,8 +1,8 @@
 -- What a commit means to those who read refs.
 use Rattle.std.proofs.Common.{◌≡◌, ◌≢◌, ℕ, zero, suc, ◌+◌, ◌<◌, List, [], ◌∷◌, length, Bool, true}
 use Rattle.std.proofs.Common.{false, ◌++◌, not, ◌&&◌, ◌||◌, ◌==◌, is_some, Option, Some, None}
-use Rattle.std.proofs.Common.{slice_get, slice_index_or, map}
-use Rattle.std.proofs.Common.{refl, sym, ap, ap₂, ◌∙◌, subst, if◌then◌else◌, arith, inl, inr}
+use Rattle.std.proofs.Common.{slice_get, slice_index_or, map, refl, sym, ap, ap₂, ◌∙◌, subst}
+use Rattle.std.proofs.Common.{if◌then◌else◌, arith, inl, inr}
 use Rattle.std.specs.Prelude.{option_map, Contains, Result, Ok, Err}
 use Rattle.std.specs.List.{list_any}
 use Rattle.std.proofs.lemmas.Bool.{cases_Bool, eqb-true, eq-eqb}
@@ -10,14 +10,17 @@ use Rattle.std.proofs.lemmas.List.Elements.{Contains-append_left, Contains-appen
 use Rattle.value_data.specs.Datum.{Datum, OwnerData, shared, tenant}
 use Rattle.repl_faults.specs.Failure.{Failure, ◌>>=◌}
 use Rattle.repl_asks.specs.Transactions.{RefNameData, ChangeData, CommutedData, IntentData}
+use Rattle.repl_asks.specs.Transactions.{same_name}
 use Rattle.repl_asks.specs.Exchange.{verdict, committed}
 use Rattle.server_rules.specs.Versions.{Version, Ref, with_version}
-use Rattle.server_rules.specs.Store.{Store, ref_of, named, value_in, value_of, changed_of, changed}
-use Rattle.server_rules.specs.Store.{left_attempt}
-use Rattle.server_rules.specs.Commit.{guarded, touched, changing, all_there, all_fit, all_take}
-use Rattle.server_rules.specs.Commit.{are_distinct, fits, same_owner, same_name, is_newer_ref}
-use Rattle.server_rules.specs.Commit.{any_newer, folded_from, all_folded, with_changes, raised}
-use Rattle.server_rules.specs.Commit.{with_all, concluded, checked, commit_by}
+use Rattle.server_rules.specs.Store.{Store, ref_of, ref_named, newest_in_ref, newest_value}
+use Rattle.server_rules.specs.Store.{changed_of, with_changed_ref, left_attempt}
+use Rattle.server_rules.specs.Commit.{guarded_refs, touched_refs, changing_refs, all_there, all_fit}
+use Rattle.server_rules.specs.Commit.{all_take, are_distinct, intent_fits, is_newer_ref}
+use Rattle.value_data.specs.Same.{same_owner}
+use Rattle.server_rules.specs.Commit.{any_newer, folded_from, all_folded, with_changes}
+use Rattle.server_rules.specs.Commit.{with_raised_counter, with_all, concluded_commit}
+use Rattle.server_rules.specs.Commit.{checked_commit, commit_by}
 use Rattle.server_rules.specs.Numbered.{changed_at}
 use Rattle.ref_table.proofs.Owners.{slice_get-changed, slice_get-changed_other}
 use Rattle.ref_table.proofs.Once.{both_true, same_owner-true, same_owner-refl}
@@ -25,16 +28,16 @@ use Rattle.ref_table.proofs.Committing.{changed-names}
 
 -- Changes of one ref, as they are seen
 
-left-named : (seat : ℕ) (name : RefNameData) (s : Store)
-    → named name (left_attempt seat s) ≡ named name s
-left-named seat name s = by name.owner where
+left-ref_named : (seat : ℕ) (name : RefNameData) (s : Store)
+    → ref_named name (left_attempt seat s) ≡ ref_named name s
+left-ref_named seat name s = by name.owner where
   by : (o : OwnerData) → ref_of o name.number (left_attempt seat s) ≡ ref_of o name.number s
   by shared = refl
   by (tenant t) = refl
 
-raised-named : (name : RefNameData) (s : Store) → named name (raised s) ≡ named name s
-raised-named name s = by name.owner where
-  by : (o : OwnerData) → ref_of o name.number (raised s) ≡ ref_of o name.number s
+with_raised_counter-ref_named : (name : RefNameData) (s : Store) → ref_named name (with_raised_counter s) ≡ ref_named name s
+with_raised_counter-ref_named name s = by name.owner where
+  by : (o : OwnerData) → ref_of o name.number (with_raised_counter s) ≡ ref_of o name.number s
   by shared = refl
   by (tenant t) = refl
 
@@ -83,54 +86,54 @@ same-data a b e =
 clash : (x : Bool) → x ≡ false → x ≡ true → ⊥
 clash x e g = cc
 
-other-named : (a b : RefNameData) (f : Ref → Ref) (s : Store) → same_name b a ≡ false
-    → named b (changed a f s) ≡ named b s
-other-named a b f s differs = changed_of-there a.owner b.owner a.number b.number f s
+other-ref_named : (a b : RefNameData) (f : Ref → Ref) (s : Store) → same_name b a ≡ false
+    → ref_named b (with_changed_ref a f s) ≡ ref_named b s
+other-ref_named a b f s differs = changed_of-there a.owner b.owner a.number b.number f s
     (λ e. clash (same_name b a) differs (same_name-here b a e))
 
 -- a ref is there after a change of another, and after its own
 still-there : (a b : RefNameData) (f : Ref → Ref) (s : Store)
-    → is_some (named b (changed a f s)) ≡ is_some (named b s)
+    → is_some (ref_named b (with_changed_ref a f s)) ≡ is_some (ref_named b s)
 still-there a b f s = elim (cases_Bool (same_name b a)) [
   | inl same ↦
-      subst (λ b. is_some (named b (changed a f s)) ≡ is_some (named b s))
+      subst (λ b. is_some (ref_named b (with_changed_ref a f s)) ≡ is_some (ref_named b s))
       (sym (same-data b a (same_name-true b a same)))
-      (ap is_some (changed_of-here a.owner a.number f s) ∙ mapped (named a s))
-  | inr differs ↦ ap is_some (other-named a b f s differs)
+      (ap is_some (changed_of-here a.owner a.number f s) ∙ mapped (ref_named a s))
+  | inr differs ↦ ap is_some (other-ref_named a b f s differs)
 ] where
   mapped : (o : Option Ref) → is_some (option_map f o) ≡ is_some o
   mapped None = refl
   mapped (Some r) = refl
 
 all-still_there : (a : RefNameData) (f : Ref → Ref) (names : List RefNameData) (s : Store)
-    → all_there names (changed a f s) ≡ all_there names s
+    → all_there names (with_changed_ref a f s) ≡ all_there names s
 all-still_there a f [] s = refl
 all-still_there a f (b ∷ names) s =
     ap₂ ◌&&◌ (still-there a b f s) (all-still_there a f names s)
 
-raised-there : (names : List RefNameData) (s : Store)
-    → all_there names (raised s) ≡ all_there names s
-raised-there [] s = refl
-raised-there (b ∷ names) s = ap₂ ◌&&◌ (ap is_some (raised-named b s)) (raised-there names s)
+with_raised_counter-there : (names : List RefNameData) (s : Store)
+    → all_there names (with_raised_counter s) ≡ all_there names s
+with_raised_counter-there [] s = refl
+with_raised_counter-there (b ∷ names) s = ap₂ ◌&&◌ (ap is_some (with_raised_counter-ref_named b s)) (with_raised_counter-there names s)
 
 there-append : (xs ys : List RefNameData) (s : Store)
     → all_there (xs ++ ys) s ≡ (all_there xs s && all_there ys s)
 there-append [] ys s = refl
 there-append (x ∷ xs) ys s =
-    ap (λ b. is_some (named x s) && b) (there-append xs ys s)
-    ∙ groups (is_some (named x s)) (all_there xs s) (all_there ys s) where
+    ap (λ b. is_some (ref_named x s) && b) (there-append xs ys s)
+    ∙ groups (is_some (ref_named x s)) (all_there xs s) (all_there ys s) where
       groups : (a b c : Bool) → (a && (b && c)) ≡ ((a && b) && c)
       groups true b c = refl
       groups false b c = refl
 
 -- the refs that change are there where all that are named are
-changing-there : (intent : IntentData) (s : Store) → all_there (touched intent) s ≡ true
-    → all_there (changing intent) s ≡ true
-changing-there intent s e =
+changing_refs-there : (intent : IntentData) (s : Store) → all_there (touched_refs intent) s ≡ true
+    → all_there (changing_refs intent) s ≡ true
+changing_refs-there intent s e =
     let sets = map (λ c. c.name) intent.sets in
     let commuted = map (λ c. c.name) intent.commuted in
-    let all = both_true (all_there (guarded intent) s) (all_there commuted s)
-    (sym (there-append (guarded intent) commuted s) ∙ e) in
+    let all = both_true (all_there (guarded_refs intent) s) (all_there commuted s)
+    (sym (there-append (guarded_refs intent) commuted s) ∙ e) in
     let first = both_true (all_there sets s) (all_there intent.ensured s)
     (sym (there-append sets intent.ensured s) ∙ all.0) in
     there-append sets commuted s ∙ ap₂ ◌&&◌ first.0 all.1
@@ -143,26 +146,26 @@ neither false b e = (refl, e)
 
 none-other : (name : RefNameData) (stamp : ℕ) (cs : List ChangeData) (s : Store)
     → list_any (same_name name) (map (λ c. c.name) cs) ≡ false
-    → named name (with_changes stamp cs s) ≡ named name s
+    → ref_named name (with_changes stamp cs s) ≡ ref_named name s
 none-other name stamp [] s none = refl
 none-other name stamp (c ∷ cs) s none =
     let both = neither (same_name name c.name) (list_any (same_name name) (map (λ c. c.name) cs))
     none in
     none-other name stamp cs
-    (changed c.name (with_version (record { stamp = stamp; content = c.now })) s) both.1
-    ∙ other-named c.name name (with_version (record { stamp = stamp; content = c.now })) s both.0
+    (with_changed_ref c.name (with_version (record { stamp = stamp; content = c.now })) s) both.1
+    ∙ other-ref_named c.name name (with_version (record { stamp = stamp; content = c.now })) s both.0
 
 -- a change that is among these is read
 set-value : (stamp : ℕ) (cs : List ChangeData) (c : ChangeData) (s : Store)
     → are_distinct (map (λ c. c.name) cs) ≡ true → all_there (map (λ c. c.name) cs) s ≡ true
     → (k : ℕ) → k < length cs → slice_index_or cs k c ≡ c
-    → value_of c.name (with_changes stamp cs s) ≡ Some c.now
+    → newest_value c.name (with_changes stamp cs s) ≡ Some c.now
 set-value stamp [] c s once there k below here = absurd (omega arith)
 set-value stamp (d ∷ cs) c s once there zero below here =
-    subst (λ c. value_of c.name (with_changes stamp (d ∷ cs) s) ≡ Some c.now) here
-    (ap value_in (none-other d.name stamp cs (changed d.name (with_version v) s) (alone _ _ once)
+    subst (λ c. newest_value c.name (with_changes stamp (d ∷ cs) s) ≡ Some c.now) here
+    (ap newest_in_ref (none-other d.name stamp cs (with_changed_ref d.name (with_version v) s) (alone _ _ once)
     ∙ changed_of-here d.name.owner d.name.number (with_version v) s)
-    ∙ newest_of (named d.name s) (both_true _ _ there).0) where
+    ∙ newest_of (ref_named d.name s) (both_true _ _ there).0) where
       v : Version
       v = record { stamp = stamp; content = d.now }
 
@@ -171,11 +174,11 @@ set-value stamp (d ∷ cs) c s once there zero below here =
       alone false b e = refl
 
       newest_of : (o : Option Ref) → is_some o ≡ true
-          → value_in (option_map (with_version v) o) ≡ Some d.now
+          → newest_in_ref (option_map (with_version v) o) ≡ Some d.now
       newest_of None e = cc
       newest_of (Some r) e = refl
 set-value stamp (d ∷ cs) c s once there (suc k) below here =
-    set-value stamp cs c (changed d.name (with_version (record { stamp = stamp; content = d.now })) s)
+    set-value stamp cs c (with_changed_ref d.name (with_version (record { stamp = stamp; content = d.now })) s)
     (both_true _ _ once).1
     (all-still_there d.name (with_version (record { stamp = stamp; content = d.now }))
     (map (λ c. c.name) cs) s ∙ (both_true _ _ there).1)
@@ -242,86 +245,86 @@ pub record IsCommitted (intent : IntentData) (s : Store) (fit newer : Bool) : Ty
   pub is_fit : fit ≡ true
   pub is_older : newer ≡ false
   pub changes : List ChangeData
-  pub folded : all_folded (λ name. value_of name s) intent.commuted ≡ Ok changes
+  pub folded : all_folded (λ name. newest_value name s) intent.commuted ≡ Ok changes
 
 parted : (seat : ℕ) (intent : IntentData) (s : Store) (b n : Bool)
-    → (checked seat intent s b n).told ≡ Some (verdict committed) → IsCommitted intent s b n
+    → (checked_commit seat intent s b n).told ≡ Some (verdict committed) → IsCommitted intent s b n
 parted seat intent s false n e = cc
 parted seat intent s true true e = cc
 parted seat intent s true false e =
-    let given = by (all_folded (λ name. value_of name s) intent.commuted) e in
+    let given = by (all_folded (λ name. newest_value name s) intent.commuted) e in
     record { is_fit = refl; is_older = refl; changes = given.0; folded = given.1 } where
       by : (folds : Result (List ChangeData) Failure)
-          → (concluded seat intent.sets s folds).told ≡ Some (verdict committed)
+          → (concluded_commit seat intent.sets s folds).told ≡ Some (verdict committed)
           → (changes : List ChangeData) × (folds ≡ Ok changes)
       by (Err f) e = cc
       by (Ok changes) e = (changes, refl)
 
 none-newer : (point : ℕ) (names : List RefNameData) (s : Store) (name : RefNameData)
     → any_newer point names s ≡ false → (k : ℕ) → k < length names
-    → slice_index_or names k name ≡ name → is_newer_ref point (named name s) ≡ false
+    → slice_index_or names k name ≡ name → is_newer_ref point (ref_named name s) ≡ false
 none-newer point [] s name none k below here = absurd (omega arith)
 none-newer point (b ∷ names) s name none zero below here =
-    subst (λ b. is_newer_ref point (named b s) ≡ false) here
-    (neither (is_newer_ref point (named b s)) (any_newer point names s) none).0
+    subst (λ b. is_newer_ref point (ref_named b s) ≡ false) here
+    (neither (is_newer_ref point (ref_named b s)) (any_newer point names s) none).0
 none-newer point (b ∷ names) s name none (suc k) below here =
     none-newer point names s name
-    (neither (is_newer_ref point (named b s)) (any_newer point names s) none).1 k (omega arith) here
+    (neither (is_newer_ref point (ref_named b s)) (any_newer point names s) none).1 k (omega arith) here
 
 pub met-none_newer : (s : Store) (seat point : ℕ) (intent : IntentData) (name : RefNameData)
     → (commit_by seat intent s (Some point)).told ≡ Some (verdict committed)
-    → Contains (guarded intent) name → is_newer_ref point (named name s) ≡ false
+    → Contains (guarded_refs intent) name → is_newer_ref point (ref_named name s) ≡ false
 met-none_newer s seat point intent name told has =
-    none-newer point (guarded intent) s name
-    (parted seat intent s (all_there (touched intent) s && fits intent)
-    (any_newer point (guarded intent) s) told).is_older has.0 has.1 has.2
+    none-newer point (guarded_refs intent) s name
+    (parted seat intent s (all_there (touched_refs intent) s && intent_fits intent)
+    (any_newer point (guarded_refs intent) s) told).is_older has.0 has.1 has.2
 
 all-value : (cs : List ChangeData) (c : ChangeData) (s : Store)
     → are_distinct (map (λ c. c.name) cs) ≡ true → all_there (map (λ c. c.name) cs) s ≡ true
-    → Contains cs c → value_of c.name (with_all cs s) ≡ Some c.now
+    → Contains cs c → newest_value c.name (with_all cs s) ≡ Some c.now
 all-value [] c s once there has = absurd (omega (arith, has.1))
 all-value (d ∷ cs) c s once there has =
-    set-value (s.around.counter + 1) (d ∷ cs) c (raised s) once
-    (raised-there (map (λ c. c.name) (d ∷ cs)) s ∙ there) has.0 has.1 has.2
+    set-value (s.around.counter + 1) (d ∷ cs) c (with_raised_counter s) once
+    (with_raised_counter-there (map (λ c. c.name) (d ∷ cs)) s ∙ there) has.0 has.1 has.2
 
 -- a change of what was committed is read
 change-is_read : (s : Store) (seat point : ℕ) (intent : IntentData) (c : ChangeData)
-    (did : IsCommitted intent s (all_there (touched intent) s && fits intent)
-    (any_newer point (guarded intent) s)) → Contains (intent.sets ++ did.changes) c
-    → value_of c.name (commit_by seat intent s (Some point)).store ≡ Some c.now
+    (did : IsCommitted intent s (all_there (touched_refs intent) s && intent_fits intent)
+    (any_newer point (guarded_refs intent) s)) → Contains (intent.sets ++ did.changes) c
+    → newest_value c.name (commit_by seat intent s (Some point)).store ≡ Some c.now
 change-is_read s seat point intent c did has =
-    let there = all_there (touched intent) s in
-    let fit = both_true there (fits intent) did.is_fit in
-    let once = both_true (all_fit intent.sets) (are_distinct (changing intent))
-    (both_true (all_fit intent.sets && are_distinct (changing intent)) (all_take intent.commuted)
+    let there = all_there (touched_refs intent) s in
+    let fit = both_true there (intent_fits intent) did.is_fit in
+    let once = both_true (all_fit intent.sets) (are_distinct (changing_refs intent))
+    (both_true (all_fit intent.sets && are_distinct (changing_refs intent)) (all_take intent.commuted)
     fit.1).0 in
     let all = intent.sets ++ did.changes in
-    let names = changed-names (λ name. value_of name s) intent did.changes did.folded in
-    ap₂ (λ b n. value_of c.name (checked seat intent s b n).store) did.is_fit did.is_older
-    ∙ ap (λ folds. value_of c.name (concluded seat intent.sets s folds).store) did.folded
-    ∙ ap value_in (left-named seat c.name (with_all all s))
+    let names = changed-names (λ name. newest_value name s) intent did.changes did.folded in
+    ap₂ (λ b n. newest_value c.name (checked_commit seat intent s b n).store) did.is_fit did.is_older
+    ∙ ap (λ folds. newest_value c.name (concluded_commit seat intent.sets s folds).store) did.folded
+    ∙ ap newest_in_ref (left-ref_named seat c.name (with_all all s))
     ∙ all-value all c s (ap are_distinct names ∙ once.1)
-    (ap (λ names. all_there names s) names ∙ changing-there intent s fit.0) has
+    (ap (λ names. all_there names s) names ∙ changing_refs-there intent s fit.0) has
 
 pub set-is_read : (s : Store) (seat point : ℕ) (intent : IntentData) (c : ChangeData)
     → (commit_by seat intent s (Some point)).told ≡ Some (verdict committed)
     → Contains intent.sets c
-    → value_of c.name (commit_by seat intent s (Some point)).store ≡ Some c.now
+    → newest_value c.name (commit_by seat intent s (Some point)).store ≡ Some c.now
 set-is_read s seat point intent c told has =
-    let did = parted seat intent s (all_there (touched intent) s && fits intent)
-    (any_newer point (guarded intent) s) told in
+    let did = parted seat intent s (all_there (touched_refs intent) s && intent_fits intent)
+    (any_newer point (guarded_refs intent) s) told in
     change-is_read s seat point intent c did
     (Contains-append_left intent.sets did.changes c has)
 
 pub commuted-is_folded : (s : Store) (seat point : ℕ) (intent : IntentData) (c : CommutedData)
     → (commit_by seat intent s (Some point)).told ≡ Some (verdict committed)
     → Contains intent.commuted c
-    → (now : Datum) × (folded_from c (value_of c.name s) ≡ Ok now)
-    × (value_of c.name (commit_by seat intent s (Some point)).store ≡ Some now)
+    → (now : Datum) × (folded_from c (newest_value c.name s) ≡ Ok now)
+    × (newest_value c.name (commit_by seat intent s (Some point)).store ≡ Some now)
 commuted-is_folded s seat point intent c told has =
-    let did = parted seat intent s (all_there (touched intent) s && fits intent)
-    (any_newer point (guarded intent) s) told in
-    let among = folded-among (λ name. value_of name s) intent.commuted did.changes c did.folded
+    let did = parted seat intent s (all_there (touched_refs intent) s && intent_fits intent)
+    (any_newer point (guarded_refs intent) s) told in
+    let among = folded-among (λ name. newest_value name s) intent.commuted did.changes c did.folded
     has.0 has.1 has.2 in
     let change : ChangeData = record { name = c.name; now = among.0 } in (
       among.0,
@@ -344,29 +347,29 @@ not_among name (b ∷ names) none = elim (cases_Bool (same_name name b)) [
 
 all-others : (name : RefNameData) (cs : List ChangeData) (s : Store)
     → list_any (same_name name) (map (λ c. c.name) cs) ≡ false
-    → named name (with_all cs s) ≡ named name s
+    → ref_named name (with_all cs s) ≡ ref_named name s
 all-others name [] s none = refl
 all-others name (c ∷ cs) s none =
-    none-other name (s.around.counter + 1) (c ∷ cs) (raised s) none ∙ raised-named name s
+    none-other name (s.around.counter + 1) (c ∷ cs) (with_raised_counter s) none ∙ with_raised_counter-ref_named name s
 
-pub others-named : (s : Store) (seat point : ℕ) (intent : IntentData) (name : RefNameData)
-    → ((other : RefNameData) → Contains (changing intent) other → other ≢ name)
-    → named name (commit_by seat intent s (Some point)).store ≡ named name s
-others-named s seat point intent name none =
-    by (all_there (touched intent) s && fits intent) (any_newer point (guarded intent) s) where
+pub others-ref_named : (s : Store) (seat point : ℕ) (intent : IntentData) (name : RefNameData)
+    → ((other : RefNameData) → Contains (changing_refs intent) other → other ≢ name)
+    → ref_named name (commit_by seat intent s (Some point)).store ≡ ref_named name s
+others-ref_named s seat point intent name none =
+    by (all_there (touched_refs intent) s && intent_fits intent) (any_newer point (guarded_refs intent) s) where
       concluded-so : (folds : Result (List ChangeData) Failure)
-          → all_folded (λ name. value_of name s) intent.commuted ≡ folds
-          → named name (concluded seat intent.sets s folds).store ≡ named name s
-      concluded-so (Err f) is = left-named seat name s
+          → all_folded (λ name. newest_value name s) intent.commuted ≡ folds
+          → ref_named name (concluded_commit seat intent.sets s folds).store ≡ ref_named name s
+      concluded-so (Err f) is = left-ref_named seat name s
       concluded-so (Ok changes) is =
-          left-named seat name (with_all (intent.sets ++ changes) s)
+          left-ref_named seat name (with_all (intent.sets ++ changes) s)
           ∙ all-others name (intent.sets ++ changes) s
           (ap (list_any (same_name name))
-          (changed-names (λ name. value_of name s) intent changes is)
-          ∙ not_among name (changing intent) none)
+          (changed-names (λ name. newest_value name s) intent changes is)
+          ∙ not_among name (changing_refs intent) none)
 
-      by : (b n : Bool) → named name (checked seat intent s b n).store ≡ named name s
+      by : (b n : Bool) → ref_named name (checked_commit seat intent s b n).store ≡ ref_named name s
       by false n = refl
-      by true true = left-named seat name s
+      by true true = left-ref_named seat name s
       by true false =
-          concluded-so (all_folded (λ name. value_of name s) intent.commuted) refl
+          concluded-so (all_folded (λ name. newest_value name s) intent.commuted) refl

@@ -4,7 +4,7 @@ use Rattle.value_data.specs.Datum.{OwnerData, shared, tenant}
 use Rattle.server_rules.specs.Numbered.{Entry}
 use Rattle.server_rules.specs.Versions.{Ref}
 use Rattle.server_rules.specs.Store.{Store}
-use Rattle.server_rules.specs.Commit.{same_owner}
+use Rattle.value_data.specs.Same.{same_owner}
 
 pub record Refs : Type 0 where
   -- how many commits there were that changed a ref
@@ -29,8 +29,8 @@ owned_with common caller own owned shared = common
 owned_with common caller own owned (tenant t) = if t == caller then own else owned (tenant t)
 
 -- all refs, once a tenant sees this
-abbrev pub after : Store → Refs → Refs
-after s r = record {
+abbrev pub refs_after : Store → Refs → Refs
+refs_after s r = record {
   counter = s.around.counter;
   owned = owned_with s.around.refs s.tenant s.mine.refs r.owned;
 }

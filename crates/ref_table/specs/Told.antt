@@ -12,16 +12,16 @@ use Rattle.server_rules.specs.Versions.{Ref}
 use Rattle.server_rules.specs.Store.{Store}
 use Rattle.server_rules.specs.Performed.{Performed}
 use Rattle.ref_history.specs.declared.ref_id.RefId.{RefId}
-use Rattle.ref_table.specs.Refs.{Refs, after}
+use Rattle.ref_table.specs.Refs.{Refs, refs_after}
 use Rattle.ref_table.specs.Standing.{Stands}
 use Rattle.ref_table.specs.declared.table.RefTable.{RefTable}
-use Rattle.ref_table.specs.declared.outcome.Outcome.{Outcome}
+use Rattle.ref_table.specs.declared.outcome.CommitOutcome.{CommitOutcome}
 
 -- what the rules tell is told, and the table stands for the refs as they leave them
 pub record Performs {H : Type 0} (stands : H → RefId → Ref → Type 0) (t : RefTable H) (r : Refs)
     (answer : Option AnswerData) (p : Performed Store) : Type 0 where
   pub told : answer ≡ p.told
-  pub left : Stands stands t (after p.store r)
+  pub left : Stands stands t (refs_after p.store r)
 
 -- what is told of a read
 abbrev pub reading_told : Option Reading → Option AnswerData
@@ -32,14 +32,14 @@ abbrev pub setting_told : RefName → Bool → Option AnswerData
 setting_told name true = Some (value (datum.ref (owner_view name.owner) name.number))
 setting_told name false = None
 
-abbrev pub outcome_told : Outcome → Option AnswerData
-outcome_told Outcome.Committed = Some (verdict committed)
-outcome_told Outcome.Conflict = Some (verdict conflict)
-outcome_told (Outcome.Faulted f) = Some (verdict (faulted (failure_of f)))
-outcome_told Outcome.Refused = None
+abbrev pub outcome_told : CommitOutcome → Option AnswerData
+outcome_told CommitOutcome.Committed = Some (verdict committed)
+outcome_told CommitOutcome.Conflict = Some (verdict conflict)
+outcome_told (CommitOutcome.Faulted f) = Some (verdict (faulted (failure_of f)))
+outcome_told CommitOutcome.Refused = None
 
-abbrev pub is_committed : Outcome → Bool
-is_committed Outcome.Committed = true
-is_committed Outcome.Conflict = false
-is_committed (Outcome.Faulted f) = false
-is_committed Outcome.Refused = false
+abbrev pub is_committed : CommitOutcome → Bool
+is_committed CommitOutcome.Committed = true
+is_committed CommitOutcome.Conflict = false
+is_committed (CommitOutcome.Faulted f) = false
+is_committed CommitOutcome.Refused = false

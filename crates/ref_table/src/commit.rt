@@ -5,12 +5,13 @@ ghost use Rattle.std.specs.Ordering.{eq_by_cmp};
 ghost use Rattle.repl_faults.specs.View.{Gives};
 ghost use Rattle.repl_asks.specs.Transactions.{ChangeData};
 ghost use Rattle.repl_asks.specs.View.{name_view, intent_view};
-ghost use Rattle.server_rules.specs.Numbered.{Entry, found};
-ghost use Rattle.server_rules.specs.Store.{named, value_of};
+ghost use Rattle.server_rules.specs.Numbered.{Entry, part_under};
+ghost use Rattle.server_rules.specs.Store.{ref_named, newest_value};
 ghost use Rattle.server_rules.specs.Calls.{performed, commits};
-ghost use Rattle.server_rules.specs.Commit.{guarded, touched, changing, all_there, all_fit};
-ghost use Rattle.server_rules.specs.Commit.{all_take, fits, is_newer_ref, any_newer, all_folded, with_all};
-ghost use Rattle.ref_table.specs.Refs.{Refs, store_of, after};
+ghost use Rattle.server_rules.specs.Commit.{guarded_refs, touched_refs, changing_refs, all_there};
+ghost use Rattle.server_rules.specs.Commit.{all_fit, all_take, intent_fits, is_newer_ref};
+ghost use Rattle.server_rules.specs.Commit.{any_newer, all_folded, with_all};
+ghost use Rattle.ref_table.specs.Refs.{Refs, store_of, refs_after};
 ghost use Rattle.ref_table.specs.Directory.{all_named, ids_named};
 ghost use Rattle.ref_table.specs.Standing.{Stands, counter_of};
 ghost use Rattle.ref_table.specs.Placing.{placed_view, places_of, all_placed, all_distinct};
@@ -18,7 +19,7 @@ ghost use Rattle.ref_table.specs.Accepting.{may_commit, is_acceptable};
 ghost use Rattle.ref_table.specs.Told.{Performs, outcome_told, is_committed};
 
 use crate::fitting::{all_fit, all_take};
-use crate::outcome::{Outcome, Point};
+use crate::outcome::{CommitOutcome, Point};
 use crate::placing::{Placed, add_all, are_distinct, reserve_all};
 use crate::table::RefTable;
 use ref_history::{History, RefId};
@@ -40,10 +41,10 @@ impl<H: History> RefTable<H> {
         caller: u64,
         intent: &Intent,
         point: Point,
-    ) -> Result<Outcome, AllocError>
+    ) -> Result<CommitOutcome, AllocError>
         requires { counter_of self.old < u128.MAX }
         ensures committed { (r : Refs) (points : List (Entry ℕ)) (seat : ℕ)
-            → Stands H.stands self.old r → found seat points ≡ Some point.stamp
+            → Stands H.stands self.old r → part_under seat points ≡ Some point.stamp
             → IfOk result (λ outcome. Performs H.stands self.new r (outcome_told outcome)
             (performed (store_of caller points r) (commits seat (intent_view intent.now)))) }
         ensures as_it_was { (r : Refs) → Stands H.stands self.old r
@@ -54,17 +55,17 @@ impl<H: History> RefTable<H> {
         ensures failed { OnErr result (counter_of self.new ≡ counter_of self.old) }
     {
         if !self.fits(alloc, caller, intent)? {
-            return Ok(Outcome::Refused);
+            return Ok(CommitOutcome::Refused);
         }
         if self.is_any_guarded_newer(caller, intent, point) {
-            return Ok(Outcome::Conflict);
+            return Ok(CommitOutcome::Conflict);
         }
         match self.new_values(alloc, caller, intent) {
             Ok(placed) => {
                 self.put_all(placed)?;
-                Ok(Outcome::Committed)
+                Ok(CommitOutcome::Committed)
             }
-            Err(ApplyError::Fault(fault)) => Ok(Outcome::Faulted(fault)),
+            Err(ApplyError::Fault(fault)) => Ok(CommitOutcome::Faulted(fault)),
             Err(ApplyError::NoMemory) => Err(AllocError),
         }
     }
@@ -75,7 +76,8 @@ impl<H: History> RefTable<H> {
     pub fn accepts(&self, alloc: Global, caller: u64, intent: &Intent) -> Result<bool, AllocError>
         ensures { (r : Refs) (points : List (Entry ℕ)) → Stands H.stands self.now r
             → let s = store_of caller points r in IfOk result (λ fit. fit
-            ≡ (all_there (touched (intent_view intent.now)) s && fits (intent_view intent.now))) }
+            ≡ (all_there (touched_refs (intent_view intent.now)) s
+            && intent_fits (intent_view intent.now))) }
     {
         self.fits(alloc, caller, intent)
     }
@@ -116,11 +118,11 @@ impl<H: History> RefTable<H> {
             → let i = intent_view intent.now in
             Gives (λ placed. map placed_view placed.items) result
             (all_placed self.now.directory caller i.sets
-            (all_folded (λ name. value_of name (store_of caller points r)) i.commuted)) }
+            (all_folded (λ name. newest_value name (store_of caller points r)) i.commuted)) }
         ensures ids { IfOk result (λ placed. map (λ p. p.id) placed.items
-            ≡ ids_named self.now.directory caller (changing (intent_view intent.now))) }
+            ≡ ids_named self.now.directory caller (changing_refs (intent_view intent.now))) }
     {
-        let folded = self.all_folded(alloc, caller, &intent.commuted)?;
+        let folded = self.fold_all(alloc, caller, &intent.commuted)?;
         Ok(self.directory.places(alloc, caller, &intent.sets, &folded)?)
     }
 
@@ -128,7 +130,8 @@ impl<H: History> RefTable<H> {
     #[tactic(auto, using(crate::proofs::Committing::either_newer))]
     fn is_any_guarded_newer(&self, caller: u64, intent: &Intent, point: Point) -> bool
         ensures { (r : Refs) (points : List (Entry ℕ)) → Stands H.stands self.now r → result
-            ≡ any_newer point.stamp (guarded (intent_view intent.now)) (store_of caller points r) }
+            ≡ any_newer point.stamp (guarded_refs (intent_view intent.now))
+            (store_of caller points r) }
     {
         self.is_any_set_newer(caller, &intent.sets, point)
             || self.is_any_newer(caller, &intent.ensured, point)
@@ -136,7 +139,7 @@ impl<H: History> RefTable<H> {
 
     fn is_newer(&self, caller: u64, name: RefName, point: Point) -> bool
         ensures { (r : Refs) (points : List (Entry ℕ)) → Stands H.stands self.now r → result
-            ≡ is_newer_ref point.stamp (named (name_view name) (store_of caller points r)) }
+            ≡ is_newer_ref point.stamp (ref_named (name_view name) (store_of caller points r)) }
     {
         match self.directory.id_of(caller, name) {
             Some(id) => self.history.is_newer(id, point.stamp),
@@ -179,7 +182,7 @@ impl<H: History> RefTable<H> {
             → all_named self.old.directory caller (map (λ c. c.name) changes) ≡ true
             → map placed_view placed.items ≡ places_of self.old.directory caller changes
             → OnOk result (Stands H.stands self.new
-            (after (with_all changes (store_of caller points r)) r)) }
+            (refs_after (with_all changes (store_of caller points r)) r)) }
         ensures as_it_was { (r : Refs) → Stands H.stands self.old r
             → OnErr result (Stands H.stands self.new r) }
         ensures counter { counter_of self.new ≤ counter_of self.old + 1 }

@@ -6,8 +6,8 @@ ghost use Rattle.repl_faults.specs.View.{Gives};
 ghost use Rattle.core_functions.specs.Meaning.{meaning};
 ghost use Rattle.repl_asks.specs.View.{name_view, change_view, commute_view, commuted_view};
 ghost use Rattle.server_rules.specs.Numbered.{Entry};
-ghost use Rattle.server_rules.specs.Store.{value_of};
-ghost use Rattle.server_rules.specs.Commit.{takes_its_arguments, all_take, result_of, folded};
+ghost use Rattle.server_rules.specs.Store.{newest_value};
+ghost use Rattle.server_rules.specs.Commit.{takes_its_arguments, all_take, result_of, folded_value};
 ghost use Rattle.server_rules.specs.Commit.{folded_from, all_folded};
 ghost use Rattle.ref_table.specs.Refs.{Refs, store_of};
 ghost use Rattle.ref_table.specs.Standing.{Stands};
@@ -18,14 +18,14 @@ use core_functions::apply;
 use function_names::CoreFunction;
 use ref_history::History;
 use repl_asks::{Change, Commute, Commuted};
-use repl_faults::{ApplyError, Rule, broken};
+use repl_faults::{ApplyError, Rule, broken_rule};
 use repl_values::{RefName, Value, copy};
 use std::alloc::{AllocError, Global};
 
 impl<H: History> RefTable<H> {
     // What the refs that were commuted get, one after the other, up to the first fault. It changes
     // nothing, and takes a step for each commute beside those of its function.
-    pub(crate) fn all_folded(
+    pub(crate) fn fold_all(
         &self,
         alloc: Global,
         caller: u64,
@@ -34,14 +34,14 @@ impl<H: History> RefTable<H> {
         requires { all_take (map commuted_view commuted.now) ≡ true }
         ensures folded { (r : Refs) (points : List (Entry ℕ)) → Stands H.stands self.now r
             → Gives (λ changes. map change_view changes.items) result
-            (all_folded (λ name. value_of name (store_of caller points r))
+            (all_folded (λ name. newest_value name (store_of caller points r))
             (map commuted_view commuted.now)) }
         ensures names { IfOk result (λ changes. map (λ c. name_view c.name) changes.items
             ≡ map (λ c. name_view c.name) commuted.now) }
     {
         let mut changes = Vec::with_capacity(alloc, commuted.len())?;
         for one in commuted {
-            let now = self.value_folded(alloc, caller, one)?;
+            let now = self.fold_newest(alloc, caller, one)?;
             changes.push(Change {
                 name: one.name,
                 now,
@@ -51,7 +51,7 @@ impl<H: History> RefTable<H> {
     }
 
     // What one of them gets.
-    fn value_folded(
+    fn fold_newest(
         &self,
         alloc: Global,
         caller: u64,
@@ -60,10 +60,10 @@ impl<H: History> RefTable<H> {
         requires { list_all takes_its_arguments (commuted_view commuted.now).commutes ≡ true }
         ensures { (r : Refs) (points : List (Entry ℕ)) → Stands H.stands self.now r
             → Gives view result (folded_from (commuted_view commuted.now)
-            (value_of (name_view commuted.now.name) (store_of caller points r))) }
+            (newest_value (name_view commuted.now.name) (store_of caller points r))) }
     {
         match self.newest(caller, commuted.name) {
-            Some(value) => ref_folded(alloc, commuted, copy(value)?),
+            Some(value) => fold_ref(alloc, commuted, copy(value)?),
             None => Ok(Value::Nil),
         }
     }
@@ -71,39 +71,39 @@ impl<H: History> RefTable<H> {
     fn newest(&self, caller: u64, name: RefName) -> Option<&Value>
         ensures { (r : Refs) (points : List (Entry ℕ)) → Stands H.stands self.now r
             → option_map (λ v. view v.now) result
-            ≡ value_of (name_view name) (store_of caller points r) }
+            ≡ newest_value (name_view name) (store_of caller points r) }
     {
         self.history.newest(self.directory.id_of(caller, name)?)
     }
 }
 
 // What a ref with this value gets, if it may hold that.
-fn ref_folded(alloc: Global, commuted: &Commuted, value: Value) -> Result<Value, ApplyError>
+fn fold_ref(alloc: Global, commuted: &Commuted, value: Value) -> Result<Value, ApplyError>
     requires { list_all takes_its_arguments (commuted_view commuted.now).commutes ≡ true }
     ensures { Gives view result (folded_from (commuted_view commuted.now) (Some (view value))) }
 {
-    let now = folded(alloc, &commuted.commutes, value)?;
+    let now = fold_commutes(alloc, &commuted.commutes, value)?;
     if may_hold(commuted.name.owner, &now) {
         Ok(now)
     } else {
-        Err(ApplyError::Fault(broken(alloc, Rule::SharedRefsArePlain)?))
+        Err(ApplyError::Fault(broken_rule(alloc, Rule::SharedRefsArePlain)?))
     }
 }
 
 // Each is applied to what the one before it gave.
-fn folded(alloc: Global, commutes: &[Commute], value: Value) -> Result<Value, ApplyError>
+fn fold_commutes(alloc: Global, commutes: &[Commute], value: Value) -> Result<Value, ApplyError>
     requires { list_all takes_its_arguments (map commute_view commutes.now) ≡ true }
-    ensures { Gives view result (folded (map commute_view commutes.now) (view value)) }
+    ensures { Gives view result (folded_value (map commute_view commutes.now) (view value)) }
 {
     let mut now = value;
     for commute in commutes {
-        now = applied(alloc, commute, now)?;
+        now = apply_commute(alloc, commute, now)?;
     }
     Ok(now)
 }
 
 // What a function prints is dropped, so it is not even put together: its value is nil.
-fn applied(alloc: Global, commute: &Commute, value: Value) -> Result<Value, ApplyError>
+fn apply_commute(alloc: Global, commute: &Commute, value: Value) -> Result<Value, ApplyError>
     requires { takes_its_arguments (commute_view commute.now) ≡ true }
     ensures { let c = commute_view commute.now in
         Gives view result (result_of (meaning c.function (view value ∷ c.arguments))) }

@@ -1,5 +1,5 @@
-//! The refs of all tenants and those that all share: how they are made, read at a point, and changed
-//! by commits.
+//! The refs of all tenants and those that all share: how they are made, read at a point, and
+//! changed by commits.
 #![tactic(auto)]
 
 mod commit;
@@ -12,5 +12,5 @@ mod placing;
 mod reading;
 mod table;
 
-pub use outcome::{Outcome, Point};
+pub use outcome::{CommitOutcome, Point};
 pub use table::RefTable;

@@ -9,7 +9,7 @@ pub struct Point {
 
 /// What a commit comes to.
 #[derive(Debug, Drop)]
-pub enum Outcome {
+pub enum CommitOutcome {
     /// All that was set is set, and what was commuted is made again.
     Committed,
     /// A ref that was set or ensured has a version from after the point. Nothing has changed.

@@ -2,7 +2,7 @@
 ghost use Rattle.std.specs.Prelude.{◌≡◌, [], ◌++◌, map, All, IfOk, OnOk};
 ghost use Rattle.std.specs.Ordering.{eq_by_cmp};
 ghost use Rattle.repl_asks.specs.View.{name_view, change_view, intent_view};
-ghost use Rattle.server_rules.specs.Commit.{changing};
+ghost use Rattle.server_rules.specs.Commit.{changing_refs};
 ghost use Rattle.ref_history.specs.Changes.{SameRefs};
 ghost use Rattle.ref_table.specs.Directory.{id_named, with_id, ids_named};
 ghost use Rattle.ref_table.specs.Placing.{placed_view, places_of, all_distinct, HaveRoom, AddsAll};
@@ -67,7 +67,7 @@ impl Directory {
         intent: &Intent,
     ) -> Result<Vec<RefId>, AllocError>
         ensures { IfOk result (λ ids. ids.items
-            ≡ ids_named self.now caller (changing (intent_view intent.now))) }
+            ≡ ids_named self.now caller (changing_refs (intent_view intent.now))) }
     {
         let mut ids = Vec::new(alloc);
         for change in &intent.sets {

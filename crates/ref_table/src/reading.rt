@@ -3,9 +3,9 @@ ghost use Rattle.std.specs.Prelude.{◌≡◌, ℕ, List, Some, option_map, IfOk
 ghost use Rattle.repl_asks.specs.Transactions.{RefNameData};
 ghost use Rattle.repl_asks.specs.Exchange.{reading, found};
 ghost use Rattle.repl_asks.specs.View.{name_view, reading_view};
-ghost use Rattle.server_rules.specs.Numbered.{Entry, found as point_found};
+ghost use Rattle.server_rules.specs.Numbered.{Entry, part_under as point_found};
 ghost use Rattle.server_rules.specs.Versions.{Ref, readable, newest};
-ghost use Rattle.server_rules.specs.Store.{named};
+ghost use Rattle.server_rules.specs.Store.{ref_named};
 ghost use Rattle.server_rules.specs.Calls.{performed, read_at, reads, sets_least, sets_most};
 ghost use Rattle.ref_history.specs.Effects.{bounds_of};
 ghost use Rattle.ref_table.specs.Refs.{Refs, store_of};
@@ -23,9 +23,9 @@ use std::alloc::AllocError;
 impl<H: History> RefTable<H> {
     /// Reads a ref: in an attempt as it was at the read point, and outside of one as it is. Where
     /// what it was then is kept no more, the attempt is to be made again; that is noted, and the
-    /// ref's next version is kept beside the older ones, if its bounds allow it. It takes a step for
-    /// each version that is kept of the ref, and no memory. It fails only where 2^63 owners share
-    /// the value, and then all stays as it was.
+    /// ref's next version is kept beside the older ones, if its bounds allow it. It takes a step
+    /// for each version that is kept of the ref, and no memory. It fails only where 2^63 owners
+    /// share the value, and then all stays as it was.
     pub fn read(
         &mut self,
         caller: u64,
@@ -54,7 +54,7 @@ impl<H: History> RefTable<H> {
         ensures read { (r : Refs) (caller : ℕ) (points : List (Entry ℕ)) (seat : ℕ)
             (name : RefNameData) (ref : Ref) → Stands H.stands self.old r
             → id_named self.old.directory caller name ≡ Some id
-            → named name (store_of caller points r) ≡ Some ref
+            → ref_named name (store_of caller points r) ≡ Some ref
             → IfOk result (λ it. Performs H.stands self.new r (Some (reading (reading_view it)))
             (read_at seat name (store_of caller points r) (readable point.stamp ref))) }
         ensures as_it_was { (r : Refs) → Stands H.stands self.old r
@@ -81,7 +81,7 @@ impl<H: History> RefTable<H> {
     pub fn history_count(&self, caller: u64, name: RefName) -> Option<u64>
         ensures { (r : Refs) (points : List (Entry ℕ)) → Stands H.stands self.now r
             → result ≡ option_map (λ ref. ref.kept)
-            (named (name_view name) (store_of caller points r)) }
+            (ref_named (name_view name) (store_of caller points r)) }
     {
         self.history.count(self.directory.id_of(caller, name)?)
     }
@@ -89,7 +89,8 @@ impl<H: History> RefTable<H> {
     /// How many versions a ref keeps behind its newest, at the least and at the most.
     pub fn bounds(&self, caller: u64, name: RefName) -> Option<Bounds>
         ensures { (r : Refs) (points : List (Entry ℕ)) → Stands H.stands self.now r
-            → result ≡ option_map bounds_of (named (name_view name) (store_of caller points r)) }
+            → result ≡ option_map bounds_of
+            (ref_named (name_view name) (store_of caller points r)) }
     {
         self.history.bounds(self.directory.id_of(caller, name)?)
     }

@@ -4,7 +4,7 @@ ghost use Rattle.std.specs.Prelude.{OnErr, None, ◌∷◌};
 ghost use Rattle.value_data.specs.Datum.{ref, tenant as tenant_owner};
 ghost use Rattle.value_data.specs.View.{view, owner_view};
 ghost use Rattle.repl_asks.specs.Exchange.{done, value as value_told};
-ghost use Rattle.server_rules.specs.Numbered.{Entry, entry, found};
+ghost use Rattle.server_rules.specs.Numbered.{Entry, entry, part_under};
 ghost use Rattle.server_rules.specs.Versions.{Ref};
 ghost use Rattle.server_rules.specs.Calls.{performed, makes, begins};
 ghost use Rattle.ref_history.specs.Changes.{IsAbsent};
@@ -20,8 +20,8 @@ use std::alloc::{AllocError, Global};
 /// The refs of all tenants, and those that all share.
 ///
 /// A call is made for a tenant, the caller, who reaches its own refs and the shared ones. Of a ref
-/// that it does not reach, as of one that is not there, nothing is told and nothing changes. To look
-/// a ref up takes about the logarithm of the number of tenants.
+/// that it does not reach, as of one that is not there, nothing is told and nothing changes. To
+/// look a ref up takes about the logarithm of the number of tenants.
 #[derive(Drop)]
 pub struct RefTable<H> {
     // How many commits there were that changed a ref.
@@ -87,11 +87,11 @@ impl<H: History> RefTable<H> {
     pub fn begin(&self) -> Point
         ensures point { result.stamp ≡ counter_of self.now }
         ensures begun { (r : Refs) (points : List (Entry ℕ)) (caller seat : ℕ)
-            → Stands H.stands self.now r → found seat points ≡ None
+            → Stands H.stands self.now r → part_under seat points ≡ None
             → Performs H.stands self.now r (Some done)
             (performed (store_of caller points r) (begins seat)) }
         ensures noted { (r : Refs) (points : List (Entry ℕ)) (caller seat : ℕ)
-            → Stands H.stands self.now r → found seat points ≡ None
+            → Stands H.stands self.now r → part_under seat points ≡ None
             → (performed (store_of caller points r) (begins seat)).store.mine.points
             ≡ entry seat result.stamp ∷ points }
     {
@@ -100,8 +100,8 @@ impl<H: History> RefTable<H> {
         }
     }
 
-    /// Drops the refs of a tenant. What the shared refs hold stays. It takes a step for each version
-    /// that is kept of the tenant's refs, and no memory.
+    /// Drops the refs of a tenant. What the shared refs hold stays. It takes a step for each
+    /// version that is kept of the tenant's refs, and no memory.
     pub fn release(&mut self, tenant: u64)
         ensures { (r : Refs) → Stands H.stands self.old r
             → Stands H.stands self.new (without_refs (tenant_owner tenant) r) }

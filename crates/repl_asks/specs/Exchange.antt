@@ -34,7 +34,8 @@ pub data AskData : Type 0 where
   -- what the attempt changed is to stand for all
   commit : IntentData → AskData
 
--- a function that has a name: one of the language, which needs no store or asks it, or one of the program
+-- a function that has a name: one of the language, which needs no store or asks it, or one of the
+-- program
 pub data NamedFunctionData : Type 0 where
   core_function : CoreFunction → NamedFunctionData
   store_function : StoreFunction → NamedFunctionData
@@ -100,7 +101,8 @@ kind_of (verdict v) = AnswerKind.Verdict
 abbrev pub Fits : AskData → AnswerData → Type 0
 Fits ask answer = kind_of answer ≡ kind_wanted ask
 
--- What the answer says of a symbol. To one that fits its ask it is what the symbol names; any other answer counts as nil.
+-- What the answer says of a symbol. To one that fits its ask it is what the symbol names; any other
+-- answer counts as nil.
 abbrev pub resolution_in : AnswerData → ResolutionData
 resolution_in (resolution r) = r
 resolution_in done = names_value nil
@@ -108,8 +110,8 @@ resolution_in (value d) = names_value nil
 resolution_in (reading r) = names_value nil
 resolution_in (verdict v) = names_value nil
 
--- What the answer says of a value, of the value of a ref in an attempt, and of a commit, each to an ask that it fits. Any
--- other answer counts as nil, and as committed.
+-- What the answer says of a value, of the value of a ref in an attempt, and of a commit, each to an
+-- ask that it fits. Any other answer counts as nil, and as committed.
 abbrev pub value_in : AnswerData → Datum
 value_in (value d) = d
 value_in answer = nil

@@ -11,8 +11,8 @@ heard_by r = record { trace = trace_view r.trace.items; stopped = r.has_stopped 
 abbrev pub answers_left : Replay → List AnswerData
 answers_left r = map answer_view r.left.items
 
--- what a replay may say of an ask that it does not answer: there is no answer only where it has stopped before, none
--- is left, or the next is of another kind
+-- what a replay may say of an ask that it does not answer: there is no answer only where it has
+-- stopped before, none is left, or the next is of another kind
 abbrev pub MaySay : StopReason → Replay → AskData → Type 0
 MaySay StopReason.NoAnswer r ask = ((heard_by r).stopped ≡ true) ⊎ NoneFits ask (answers_left r)
 MaySay StopReason.Interrupted r ask = ⊥

@@ -1,12 +1,22 @@
 -- What transactions ask for (the Clojure reference, Refs and Transactions).
-use Rattle.std.specs.Prelude.{ℕ, List}
-use Rattle.value_data.specs.Datum.{Datum, OwnerData}
+use Rattle.std.specs.Prelude.{ℕ, List, Bool, true, ◌&&◌, ◌==◌}
+use Rattle.value_data.specs.Datum.{Datum, OwnerData, shared, tenant}
+use Rattle.value_data.specs.Measures.{is_plain}
+use Rattle.value_data.specs.Same.{same_owner}
 use Rattle.function_names.specs.declared.function.CoreFunction.{CoreFunction}
 
 -- a ref, by who made it and its number among those
 pub record RefNameData : Type 0 where
   pub owner : OwnerData
   pub number : ℕ
+
+abbrev pub same_name : RefNameData → RefNameData → Bool
+same_name a b = same_owner a.owner b.owner && a.number == b.number
+
+-- what goes into a shared ref is plain
+abbrev pub may_hold : OwnerData → Datum → Bool
+may_hold shared d = is_plain d
+may_hold (tenant t) d = true
 
 -- a ref, and the value that it gets
 pub record ChangeData : Type 0 where

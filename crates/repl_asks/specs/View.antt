@@ -7,15 +7,13 @@ use Rattle.repl_faults.specs.View.{failure_of}
 use Rattle.special_forms.specs.Seen.{function_view, views}
 use Rattle.repl_asks.specs.Transactions.{RefNameData, ChangeData, CommuteData, CommutedData}
 use Rattle.repl_asks.specs.Transactions.{IntentData}
-use Rattle.repl_asks.specs.Exchange.{BindingData, bound_value, bound_function}
-use Rattle.repl_asks.specs.Exchange.{AskData, resolve, define, enter, new_ref, begin, read}
-use Rattle.repl_asks.specs.Exchange.{history, min_history, max_history, commit}
-use Rattle.repl_asks.specs.Exchange.{NamedFunctionData, core_function, store_function, program_function}
-use Rattle.repl_asks.specs.Exchange.{ResolutionData, names_value, names_function, names_nothing}
-use Rattle.repl_asks.specs.Exchange.{ReadingData, found, retry}
-use Rattle.repl_asks.specs.Exchange.{VerdictData, committed, conflict, faulted}
-use Rattle.repl_asks.specs.Exchange.{AnswerData, resolution, done, value, reading, verdict}
-use Rattle.repl_asks.specs.Exchange.{Exchanged}
+use Rattle.repl_asks.specs.Exchange.{BindingData, bound_value, bound_function, AskData, resolve}
+use Rattle.repl_asks.specs.Exchange.{define, enter, new_ref, begin, read, history, min_history}
+use Rattle.repl_asks.specs.Exchange.{max_history, commit, NamedFunctionData, core_function}
+use Rattle.repl_asks.specs.Exchange.{store_function, program_function, ResolutionData, names_value}
+use Rattle.repl_asks.specs.Exchange.{names_function, names_nothing, ReadingData, found, retry}
+use Rattle.repl_asks.specs.Exchange.{VerdictData, committed, conflict, faulted, AnswerData}
+use Rattle.repl_asks.specs.Exchange.{resolution, done, value, reading, verdict, Exchanged}
 use Rattle.repl_asks.specs.declared.intent.Change.{Change}
 use Rattle.repl_asks.specs.declared.intent.Commute.{Commute}
 use Rattle.repl_asks.specs.declared.intent.Commuted.{Commuted}
@@ -54,7 +52,8 @@ intent_view i = record {
 
 abbrev pub ask_view : Ask → AskData
 ask_view (Ask.Resolve namespace symbol) = resolve (arc_str_bytes namespace) (arc_str_bytes symbol)
-ask_view (Ask.Define namespace name b) = define (arc_str_bytes namespace) (arc_str_bytes name) (binding_view b)
+ask_view (Ask.Define namespace name b) =
+    define (arc_str_bytes namespace) (arc_str_bytes name) (binding_view b)
 ask_view (Ask.Enter name) = enter (arc_str_bytes name)
 ask_view (Ask.NewRef v least most) = new_ref (view v) least most
 ask_view Ask.Begin = begin

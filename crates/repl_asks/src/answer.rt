@@ -1,9 +1,10 @@
 // The answers, by their kinds.
 ghost use Rattle.std.specs.Prelude.{◌≡◌, IfOk};
-ghost use Rattle.repl_asks.specs.Exchange.{kind_of, resolution_in, value_in, reading_in, verdict_in};
+ghost use Rattle.repl_asks.specs.Exchange.{kind_of, resolution_in, value_in, reading_in};
+ghost use Rattle.repl_asks.specs.Exchange.{verdict_in};
 ghost use Rattle.value_data.specs.View.{view};
-ghost use Rattle.repl_asks.specs.View.{answer_view, named_view, resolution_view};
-ghost use Rattle.repl_asks.specs.View.{reading_view, verdict_view};
+ghost use Rattle.repl_asks.specs.View.{answer_view, named_view, resolution_view, reading_view};
+ghost use Rattle.repl_asks.specs.View.{verdict_view};
 
 use crate::ask::AnswerKind;
 use function_names::{CoreFunction, StoreFunction};
@@ -60,7 +61,8 @@ pub enum Answer {
 }
 
 impl NamedFunction {
-    /// The same function once more. It takes one step, and fails only where 2^63 owners share a part of it.
+    /// The same function once more. It takes one step, and fails only where 2^63 owners share a
+    /// part of it.
     pub fn copy(&self) -> Result<NamedFunction, AllocError>
         ensures { IfOk result (λ copied. named_view copied ≡ named_view self.now) }
     {
@@ -175,7 +177,8 @@ impl Answer {
         }
     }
 
-    /// The same answer once more. It takes one step, and fails only where 2^63 owners share a part of it.
+    /// The same answer once more. It takes one step, and fails only where 2^63 owners share a part
+    /// of it.
     pub fn copy(&self) -> Result<Answer, AllocError>
         ensures { IfOk result (λ copied. answer_view copied ≡ answer_view self.now) }
     {

@@ -37,8 +37,8 @@ pub enum Ask {
     Read(RefName),
     /// How many versions a ref has behind its newest. Answered by a value.
     History(RefName),
-    /// The least count of a ref's history, which is set first where a number is given. Answered by a
-    /// value: the count, or where it is set the ref.
+    /// The least count of a ref's history, which is set first where a number is given. Answered by
+    /// a value: the count, or where it is set the ref.
     MinHistory {
         name: RefName,
         set: Option<u64>,
@@ -87,7 +87,8 @@ impl Ask {
         }
     }
 
-    /// The same ask once more. It takes one step, and fails only where 2^63 owners share a part of it.
+    /// The same ask once more. It takes one step, and fails only where 2^63 owners share a part of
+    /// it.
     pub fn copy(&self) -> Result<Ask, AllocError>
         ensures { IfOk result (λ copied. ask_view copied ≡ ask_view self.now) }
     {
@@ -132,7 +133,8 @@ impl Ask {
 }
 
 impl Binding {
-    /// The same binding once more. It takes one step, and fails only where 2^63 owners share a part of it.
+    /// The same binding once more. It takes one step, and fails only where 2^63 owners share a part
+    /// of it.
     pub fn copy(&self) -> Result<Binding, AllocError>
         ensures { IfOk result (λ copied. binding_view copied ≡ binding_view self.now) }
     {

@@ -29,7 +29,8 @@ impl Exchange {
         })
     }
 
-    /// The same exchange once more. It takes one step, and fails only where 2^63 owners share a part of it.
+    /// The same exchange once more. It takes one step, and fails only where 2^63 owners share a
+    /// part of it.
     pub fn copy(&self) -> Result<Exchange, AllocError>
         ensures { IfOk result (λ copied. exchange_view copied ≡ exchange_view self.now) }
     {

@@ -1,7 +1,7 @@
 //! What an evaluation asks of the store, and what it is answered.
 //!
-//! Evaluation itself has no store. Where a form needs one, the walker asks a `Refs` and goes on with
-//! its answer; so what a form comes to is a function of the form and of the answers alone. The
+//! Evaluation itself has no store. Where a form needs one, the walker asks a `Refs` and goes on
+//! with its answer; so what a form comes to is a function of the form and of the answers alone. The
 //! exchanges in a row are its trace.
 #![tactic(auto)]
 

@@ -31,7 +31,8 @@ pub trait Refs {
 
     fn ask(&mut self, alloc: Global, ask: Ask) -> Result<Answer, Stop>
         ensures grows { IfOk result (λ answer. (heard self.new).trace
-            ≡ (heard self.old).trace ++ record { ask = ask_view ask; answer = answer_view answer } ∷ []) }
+            ≡ (heard self.old).trace ++ record { ask = ask_view ask; answer = answer_view answer }
+            ∷ []) }
         ensures fits { IfOk result (λ answer. Fits (ask_view ask) (answer_view answer)) }
         ensures goes_on { IfOk result (λ _. (heard self.new).stopped ≡ (heard self.old).stopped) }
         ensures stays { IfErr result (λ _. (heard self.new).trace ≡ (heard self.old).trace) }

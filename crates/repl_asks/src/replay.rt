@@ -1,5 +1,6 @@
 // Answers that are known beforehand.
-ghost use Rattle.std.specs.Prelude.{◌≡◌, ◌++◌, ◌↔◌, [], ◌∷◌, true, false, map, IsTrue, IsErr, IfOk, IfErr, OnErr};
+ghost use Rattle.std.specs.Prelude.{◌≡◌, ◌++◌, ◌↔◌, [], ◌∷◌, true, false, map, IsTrue, IsErr, IfOk};
+ghost use Rattle.std.specs.Prelude.{IfErr, OnErr};
 ghost use Rattle.repl_asks.specs.Exchange.{Fits};
 ghost use Rattle.repl_asks.specs.View.{ask_view, answer_view};
 
@@ -50,10 +51,16 @@ impl Refs for Replay {
     /// The next answer, recorded beside its ask.
     fn ask(&mut self, alloc: Global, ask: Ask) -> Result<Answer, Stop>
         ensures grows { IfOk result (λ answer. (heard_by self.new).trace
-            ≡ (heard_by self.old).trace ++ record { ask = ask_view ask; answer = answer_view answer } ∷ []) }
+            ≡ (heard_by self.old).trace ++ record {
+              ask = ask_view ask;
+              answer =
+                  answer_view answer;
+            } ∷ []) }
         ensures fits { IfOk result (λ answer. Fits (ask_view ask) (answer_view answer)) }
-        ensures left { IfOk result (λ answer. answers_left self.old ≡ answer_view answer ∷ answers_left self.new) }
-        ensures goes_on { IfOk result (λ _. (heard_by self.new).stopped ≡ (heard_by self.old).stopped) }
+        ensures left { IfOk result (λ answer. answers_left self.old
+            ≡ answer_view answer ∷ answers_left self.new) }
+        ensures goes_on { IfOk result (λ _. (heard_by self.new).stopped
+            ≡ (heard_by self.old).stopped) }
         ensures stays { IfErr result (λ _. (heard_by self.new).trace ≡ (heard_by self.old).trace) }
         ensures kept { IfErr result (λ _. answers_left self.new ≡ answers_left self.old) }
         ensures stops { IfErr result (λ _. (heard_by self.new).stopped ≡ true) }
@@ -76,9 +83,14 @@ impl Replay {
 
     fn next_for(&mut self, ask: &Ask) -> Result<Answer, StopReason>
         ensures grows { IfOk result (λ answer. (heard_by self.new).trace
-            ≡ (heard_by self.old).trace ++ record { ask = ask_view ask.now; answer = answer_view answer } ∷ []) }
+            ≡ (heard_by self.old).trace ++ record {
+              ask = ask_view ask.now;
+              answer =
+                  answer_view answer;
+            } ∷ []) }
         ensures fits { IfOk result (λ answer. Fits (ask_view ask.now) (answer_view answer)) }
-        ensures left { IfOk result (λ answer. answers_left self.old ≡ answer_view answer ∷ answers_left self.new) }
+        ensures left { IfOk result (λ answer. answers_left self.old
+            ≡ answer_view answer ∷ answers_left self.new) }
         ensures stopped { (heard_by self.new).stopped ≡ (heard_by self.old).stopped }
         ensures stays { OnErr result ((heard_by self.new).trace ≡ (heard_by self.old).trace) }
         ensures kept { OnErr result (answers_left self.new ≡ answers_left self.old) }

@@ -1,6 +1,6 @@
 -- A machine behind the deeds of a tenant.
-use Rattle.std.proofs.Common.{◌≡◌, ◌≢◌, ℕ, Some, None}
-use Rattle.std.proofs.Common.{Result, Ok, Err, IfOk, IfErr, refl, sym, ap, subst, ◌∙◌}
+use Rattle.std.proofs.Common.{◌≡◌, ◌≢◌, ℕ, Some, None, Result, Ok, Err, IfOk, IfErr, refl, sym, ap}
+use Rattle.std.proofs.Common.{subst, ◌∙◌}
 use Rattle.value_data.specs.Datum.{tenant}
 use Rattle.server_rules.specs.Deeds.{plan}
 use Rattle.server_rules.specs.Ground.{Ground}
@@ -10,20 +10,22 @@ use Rattle.server_rules.specs.Tenant.{Quiet}
 use Rattle.server_rules.specs.World.{TenantData, World, does, ended_as, with_tenant}
 use Rattle.server_rules.specs.declared.actor.Actor.{Actor}
 use Rattle.server_rules.specs.declared.refusal.Refusal.{Refusal}
-use Rattle.ref_table.specs.Refs.{after as refs_after}
-use Rattle.tenant_refs.specs.Serving.{Table, Serves}
+use Rattle.ref_table.specs.Refs.{refs_after}
+use Rattle.tenant_refs.specs.Serving.{ListRefTable, TableServes}
 use Rattle.tenant_refs.proofs.Calls.{performed-tenant}
-use Rattle.tenant_turns.specs.Deeded.{Deeded, deeded}
+use Rattle.tenant_turns.specs.DeedResult.{DeedResult, deed_result}
 use Rattle.tenant_world.specs.Standing as world
 use Rattle.tenant_world.specs.declared.tenant.Tenant.{Tenant}
 use Rattle.repl_core.specs.TenantAt.{tenant_at}
 use Rattle.repl_core.specs.Standing.{open_in, store_in, PlaceStands, Stands}
-use Rattle.repl_core.specs.Steps.{Does, Refuses}
+use Rattle.repl_core.specs.Steps.{AcceptsStep, RefusesStep}
 use Rattle.repl_core.specs.declared.machine.Machine.{Machine}
 use Rattle.repl_core.specs.declared.tenants.Tenants.{Tenants}
-use Rattle.repl_core.proofs.Worlds.{deed_of, found-open, used-replaced, count-replaced, step-deed, step-none}
-use Rattle.repl_core.proofs.Places.{tenant-stands, serves-in, place-of, place-moved, kept-at, none-at}
-use Rattle.repl_core.proofs.Places.{all-places, open-others, open-mine, owned-others, owned-mine}
+use Rattle.repl_core.proofs.Worlds.{deed_of, found-open, used-with_part, count-with_part, step-deed}
+use Rattle.repl_core.proofs.Worlds.{step-none}
+use Rattle.repl_core.proofs.Places.{tenant-stands, serves-in, place-of, place-moved, kept-at}
+use Rattle.repl_core.proofs.Places.{none-at, all-places, open-others, open-mine, owned-others}
+use Rattle.repl_core.proofs.Places.{owned-mine}
 
 -- Results
 
@@ -40,7 +42,7 @@ err-map P Q (Err e) f p = f e p
 -- The same tenants
 
 -- the machine with these tenants and this table
-abbrev pub machine_with : Machine → Tenants → Table → Machine
+abbrev pub machine_with : Machine → Tenants → ListRefTable → Machine
 machine_with m ts table = record m { tenants = ts; refs = table }
 
 pub stands-with : (g : Ground) (old : Machine) (w : World) (ts : Tenants) → Stands g old w
@@ -65,7 +67,7 @@ stands-with g old w ts s same = record {
 pub refuses-none : (g : Ground) (w : World) (t : ℕ) (d : Deed) (old : Machine) (ts : Tenants)
     → Stands g old w → tenant_at old.tenants t ≡ None → tenant_at ts t ≡ None
     → ((u : ℕ) → u ≢ t → tenant_at ts u ≡ tenant_at old.tenants u)
-    → Refuses g w (does t d) (machine_with old ts old.refs) Refusal.NoSuchTenant
+    → RefusesStep g w (does t d) (machine_with old ts old.refs) Refusal.NoSuchTenant
 refuses-none g w t d old ts s none gone others = record {
   refused = λ ne. step-none g w t d
       (none-at g s.refs t (tenant_at old.tenants t) (open_in t w) (s.tenants t) none);
@@ -76,10 +78,10 @@ refuses-none g w t d old ts s none gone others = record {
 
 -- A deed that is accepted
 
-pub deeded-tenant : (g : Ground) (s : Store) (q : Quiet) (d : Deed)
-    → (deeded g s q d).store.tenant ≡ s.tenant
-unfolding deeded
-deeded-tenant g s q d = performed-tenant s (plan g s.tenant q d).call
+pub deed_result-tenant : (g : Ground) (s : Store) (q : Quiet) (d : Deed)
+    → (deed_result g s q d).store.tenant ≡ s.tenant
+unfolding deed_result
+deed_result-tenant g s q d = performed-tenant s (plan g s.tenant q d).call
 
 -- the server behind a deed
 abbrev pub world_behind : Ground → World → ℕ → TenantData → Deed → Quiet → World
@@ -88,17 +90,17 @@ world_behind g w t kept d q =
     with_tenant t (Some (record { quiet = q; mine = e.store.mine })) e.store.around w
 
 pub stands-one : (g : Ground) (w : World) (t : ℕ) (d : Deed) (old : Machine) (ts : Tenants)
-    (table : Table) (code : Tenant) (kept : TenantData) (q : Quiet) (s : Stands g old w)
+    (table : ListRefTable) (code : Tenant) (kept : TenantData) (q : Quiet) (s : Stands g old w)
     → open_in t w ≡ Some kept
     → world.Stands g code q (deed_of g w t kept d).store
-    → Serves table (deed_of g w t kept d).store (refs_after (deed_of g w t kept d).store s.refs)
+    → TableServes table (deed_of g w t kept d).store (refs_after (deed_of g w t kept d).store s.refs)
     → tenant_at ts t ≡ Some code
     → ((u : ℕ) → u ≢ t → tenant_at ts u ≡ tenant_at old.tenants u)
     → Stands g (machine_with old ts table) (world_behind g w t kept d q)
 stands-one g w t d old ts table code kept q s there stands serves put others =
     let e = deed_of g w t kept d in
     let same : e.store.tenant ≡ t =
-    deeded-tenant g (store_in w.around t kept.mine) kept.quiet d in
+    deed_result-tenant g (store_in w.around t kept.mine) kept.quiet d in
     let part : TenantData = record { quiet = q; mine = e.store.mine } in
     let behind : World = world_behind g w t kept d q in
     let refs = refs_after e.store s.refs in
@@ -121,19 +123,19 @@ stands-one g w t d old ts table code kept q s there stands serves put others =
           (open_in u w) (open_in u behind) (others u apart)
           (open-others w e.store.around t u (Some part) kept there apart)
           (owned-others e.store s.refs t u same is) (s.tenants u));
-      newest = λ u. used-replaced u t (Some part) w.tenants ∙ s.newest u;
-      places_taken = count-replaced t part kept w.tenants (found-open _ kept there)
+      newest = λ u. used-with_part u t (Some part) w.tenants ∙ s.newest u;
+      places_taken = count-with_part t part kept w.tenants (found-open _ kept there)
           ∙ s.places_taken;
     }
 
 does-one : (g : Ground) (w : World) (t : ℕ) (d : Deed) (old : Machine) (ts : Tenants)
-    (table : Table) (code : Tenant) (answer : StepAnswer) (kept : TenantData) (s : Stands g old w)
+    (table : ListRefTable) (code : Tenant) (answer : StepAnswer) (kept : TenantData) (s : Stands g old w)
     → open_in t w ≡ Some kept
-    → world.Does g (deed_of g w t kept d) code answer
-    → Serves table (deed_of g w t kept d).store (refs_after (deed_of g w t kept d).store s.refs)
+    → world.AcceptsDeed g (deed_of g w t kept d) code answer
+    → TableServes table (deed_of g w t kept d).store (refs_after (deed_of g w t kept d).store s.refs)
     → tenant_at ts t ≡ Some code
     → ((u : ℕ) → u ≢ t → tenant_at ts u ≡ tenant_at old.tenants u)
-    → Does g w (does t d) (machine_with old ts table) answer
+    → AcceptsStep g w (does t d) (machine_with old ts table) answer
 does-one g w t d old ts table code answer kept s there did serves put others = record {
   after = world_behind g w t kept d did.after;
   accepted = step-deed g w t d kept there
@@ -143,15 +145,15 @@ does-one g w t d old ts table code answer kept s there did serves put others = r
 }
 
 pub does-so : {X : Type 0} (g : Ground) (w : World) (t : ℕ) (d : Deed) (old : Machine)
-    (ts : Tenants) (table : Table) (was code : Tenant) (answer : X → StepAnswer)
+    (ts : Tenants) (table : ListRefTable) (was code : Tenant) (answer : X → StepAnswer)
     (res : Result X Refusal) (s : Stands g old w) → tenant_at old.tenants t ≡ Some was
     → ((kept : TenantData) → world.Stands g was kept.quiet (store_in w.around t kept.mine)
-    → Serves old.refs (store_in w.around t kept.mine) s.refs
-    → let e = deed_of g w t kept d in IfOk res (λ x. world.Does g e code (answer x)
-    × Serves table e.store (refs_after e.store s.refs)))
+    → TableServes old.refs (store_in w.around t kept.mine) s.refs
+    → let e = deed_of g w t kept d in IfOk res (λ x. world.AcceptsDeed g e code (answer x)
+    × TableServes table e.store (refs_after e.store s.refs)))
     → tenant_at ts t ≡ Some code
     → ((u : ℕ) → u ≢ t → tenant_at ts u ≡ tenant_at old.tenants u)
-    → IfOk res (λ x. Does g w (does t d) (machine_with old ts table) (answer x))
+    → IfOk res (λ x. AcceptsStep g w (does t d) (machine_with old ts table) (answer x))
 does-so g w t d old ts table was code answer res s there did put others =
     let found = kept-at g s.refs t was (tenant_at old.tenants t) (open_in t w) (s.tenants t) there in
     let kept = found.0 in
@@ -162,11 +164,11 @@ does-so g w t d old ts table was code answer res s there did put others =
 
 -- A deed that is refused
 
-pub stays-one : (g : Ground) (w : World) (t : ℕ) (old : Machine) (ts : Tenants) (table : Table)
+pub stays-one : (g : Ground) (w : World) (t : ℕ) (old : Machine) (ts : Tenants) (table : ListRefTable)
     (code : Tenant) (kept : TenantData) (s : Stands g old w)
     → open_in t w ≡ Some kept → kept.mine.refs ≡ s.refs.owned (tenant t)
     → world.Stands g code kept.quiet (store_in w.around t kept.mine)
-    → Serves table (store_in w.around t kept.mine) s.refs
+    → TableServes table (store_in w.around t kept.mine) s.refs
     → tenant_at ts t ≡ Some code
     → ((u : ℕ) → u ≢ t → tenant_at ts u ≡ tenant_at old.tenants u)
     → Stands g (machine_with old ts table) w
@@ -191,13 +193,13 @@ stays-one g w t old ts table code kept s there refs stands serves put others = r
 }
 
 refuses-one : (g : Ground) (w : World) (t : ℕ) (d : Deed) (old : Machine) (ts : Tenants)
-    (table : Table) (code : Tenant) (why : Refusal) (kept : TenantData) (s : Stands g old w)
+    (table : ListRefTable) (code : Tenant) (why : Refusal) (kept : TenantData) (s : Stands g old w)
     → open_in t w ≡ Some kept → kept.mine.refs ≡ s.refs.owned (tenant t)
-    → world.Refuses g kept.quiet (store_in w.around t kept.mine) (deed_of g w t kept d) code why
-    → Serves table (store_in w.around t kept.mine) s.refs
+    → world.RefusesDeed g kept.quiet (store_in w.around t kept.mine) (deed_of g w t kept d) code why
+    → TableServes table (store_in w.around t kept.mine) s.refs
     → tenant_at ts t ≡ Some code
     → ((u : ℕ) → u ≢ t → tenant_at ts u ≡ tenant_at old.tenants u)
-    → Refuses g w (does t d) (machine_with old ts table) why
+    → RefusesStep g w (does t d) (machine_with old ts table) why
 refuses-one g w t d old ts table code why kept s there refs told serves put others = record {
   refused = λ ne. step-deed g w t d kept there
       ∙ ap (ended_as w t (deed_of g w t kept d).store) (told.refused ne);
@@ -205,15 +207,15 @@ refuses-one g w t d old ts table code why kept s there refs told serves put othe
 }
 
 pub refuses-so : {X : Type 0} (g : Ground) (w : World) (t : ℕ) (d : Deed) (old : Machine)
-    (ts : Tenants) (table : Table) (was code : Tenant) (res : Result X Refusal)
+    (ts : Tenants) (table : ListRefTable) (was code : Tenant) (res : Result X Refusal)
     (s : Stands g old w) → tenant_at old.tenants t ≡ Some was
     → ((kept : TenantData) → world.Stands g was kept.quiet (store_in w.around t kept.mine)
-    → Serves old.refs (store_in w.around t kept.mine) s.refs
-    → IfErr res (λ why. world.Refuses g kept.quiet (store_in w.around t kept.mine)
-    (deed_of g w t kept d) code why × Serves table (store_in w.around t kept.mine) s.refs))
+    → TableServes old.refs (store_in w.around t kept.mine) s.refs
+    → IfErr res (λ why. world.RefusesDeed g kept.quiet (store_in w.around t kept.mine)
+    (deed_of g w t kept d) code why × TableServes table (store_in w.around t kept.mine) s.refs))
     → tenant_at ts t ≡ Some code
     → ((u : ℕ) → u ≢ t → tenant_at ts u ≡ tenant_at old.tenants u)
-    → IfErr res (Refuses g w (does t d) (machine_with old ts table))
+    → IfErr res (RefusesStep g w (does t d) (machine_with old ts table))
 refuses-so g w t d old ts table was code res s there told put others =
     let found = kept-at g s.refs t was (tenant_at old.tenants t) (open_in t w) (s.tenants t) there in
     let kept = found.0 in
@@ -223,10 +225,10 @@ refuses-so g w t d old ts table was code res s there told put others =
     (told kept (it.stands w.around) (serves-in g old w t was kept s it))
 
 -- the deed of an actor
-pub of-actor : {X : Type 0} (g : Ground) (a : Actor) (q : Quiet) (e : Deeded) (code : Tenant)
+pub of-actor : {X : Type 0} (g : Ground) (a : Actor) (q : Quiet) (e : DeedResult) (code : Tenant)
     (answer : X → StepAnswer) (S : Type 0) (res : Result X Refusal)
-    → IfOk res (λ x. world.DoesBy g a q e code (answer x)) → S
-    → IfOk res (λ x. world.Does g e code (answer x) × S)
+    → IfOk res (λ x. world.AcceptsDeedBy g a q e code (answer x)) → S
+    → IfOk res (λ x. world.AcceptsDeed g e code (answer x) × S)
 of-actor g a q e code answer S res did s = ok-map _ _ res (λ x it. (
   record {
     after = it.after;

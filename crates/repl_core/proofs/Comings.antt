@@ -1,14 +1,14 @@
 -- A machine where a tenant comes or goes.
 use Rattle.std.proofs.Common.{◌≡◌, ◌≢◌, ℕ, ◌+◌, ◌-◌, ◌==◌, [], ◌∷◌, Bool, true, false, ◌||◌, nat_le}
-use Rattle.std.proofs.Common.{Some, None, option_and_then, refl, sym, ap, ◌∙◌}
-use Rattle.std.proofs.Common.{if◌then◌else◌, Result, Ok, Err, IfErr, ◌<◌, ◌≤◌, arith}
+use Rattle.std.proofs.Common.{Some, None, option_and_then, refl, sym, ap, ◌∙◌, if◌then◌else◌}
+use Rattle.std.proofs.Common.{Result, Ok, Err, IfErr, ◌<◌, ◌≤◌, arith}
 use Rattle.std.specs.Result.{IsErrAnd}
 use Rattle.std.proofs.lemmas.Bool.{eq-eqb}
 use Rattle.std.proofs.lemmas.Bool.Decides.{nat_tests}
 use Rattle.value_data.specs.Datum.{OwnerData, tenant}
-use Rattle.server_rules.specs.Commit.{same_owner}
+use Rattle.value_data.specs.Same.{same_owner}
 use Rattle.server_rules.specs.Ground.{Ground}
-use Rattle.server_rules.specs.Numbered.{entry, found}
+use Rattle.server_rules.specs.Numbered.{entry, part_under}
 use Rattle.server_rules.specs.Plan.{tenant_opened, tenant_gone}
 use Rattle.server_rules.specs.Store.{Store}
 use Rattle.server_rules.specs.Tenant.{opened_quiet}
@@ -20,17 +20,17 @@ use Rattle.ref_history.specs.Histories.{ListStands}
 use Rattle.ref_table.specs.Refs.{Refs, without_refs}
 use Rattle.ref_table.specs.Standing as refs
 use Rattle.tenant_actors.proofs.EntryLaws.{found_first}
-use Rattle.tenant_refs.specs.Serving.{Table}
+use Rattle.tenant_refs.specs.Serving.{ListRefTable}
 use Rattle.tenant_refs.specs.Sound.{AreSound, IsSound}
 use Rattle.std.specs.List.{AllByRecursion}
 use Rattle.tenant_world.specs.Standing as world
 use Rattle.tenant_world.specs.declared.tenant.Tenant.{Tenant}
 use Rattle.repl_core.specs.TenantAt.{tenant_at}
 use Rattle.repl_core.specs.Standing.{open_in, store_in, is_reached, PlaceStands, Stands}
-use Rattle.repl_core.specs.Steps.{Does, Refuses}
+use Rattle.repl_core.specs.Steps.{AcceptsStep, RefusesStep}
 use Rattle.repl_core.specs.declared.machine.Machine.{Machine}
 use Rattle.repl_core.specs.declared.tenants.Tenants.{Tenants}
-use Rattle.repl_core.proofs.Worlds.{used-none, used-replaced, reached-more, found-open, count-less}
+use Rattle.repl_core.proofs.Worlds.{used-none, used-with_part, reached-more, found-open, count-less}
 use Rattle.repl_core.proofs.Worlds.{close-none, close-some}
 use Rattle.repl_core.proofs.Behind.{machine_with, stands-with}
 use Rattle.repl_core.proofs.Places.{place-of, place-none, place-moved, kept-at, none-at, refs-none}
@@ -57,7 +57,7 @@ open-tested g w t used held is full =
     ∙ ap (open_tested g w t used) full
 
 pub refuses-used : (g : Ground) (w : World) (t : ℕ) (m : Machine) (s : Stands g m w)
-    → is_reached m.newest t ≡ true → Refuses g w (opens t) m Refusal.NumberUsed
+    → is_reached m.newest t ≡ true → RefusesStep g w (opens t) m Refusal.NumberUsed
 refuses-used g w t m s reached = record {
   refused = λ ne. open-tested g w t true (nat_le g.places (open_count w.tenants))
       (s.newest t ∙ reached) refl;
@@ -77,7 +77,7 @@ lt-false n m h = grind (arith, nat_tests)
 
 pub refuses-full : (g : Ground) (w : World) (t : ℕ) (m : Machine) (s : Stands g m w)
     → is_reached m.newest t ≡ false → nat_le m.places m.places_taken ≡ true
-    → Refuses g w (opens t) m Refusal.Full
+    → RefusesStep g w (opens t) m Refusal.Full
 refuses-full g w t m s reached full = record {
   refused = λ ne. open-tested g w t false true (s.newest t ∙ reached)
       (full-so g w m s true full);
@@ -99,16 +99,16 @@ pub does-open : (g : Ground) (w : World) (t : ℕ) (old : Machine) (ts : Tenants
     → world.Stands g code (opened_quiet g) st)
     → tenant_at ts t ≡ Some code
     → ((u : ℕ) → u ≢ t → tenant_at ts u ≡ tenant_at old.tenants u)
-    → Does g w (opens t) (machine_more old ts t) tenant_opened
+    → AcceptsStep g w (opens t) (machine_more old ts t) tenant_opened
 does-open g w t old ts code s reached full stands put others =
     let unused : is_used t w.tenants ≡ false = s.newest t ∙ reached in
     let none : open_in t w ≡ None =
     ap (option_and_then (λ part. part)) (used-none t w.tenants unused) in
     let behind : World = record w { tenants = entry t (Some (opened_tenant g)) ∷ w.tenants } in
     let first : (u : ℕ) (b : Bool) → (u == t) ≡ b → open_in u behind
-    ≡ option_and_then (λ part. part) (found_first b (Some (opened_tenant g)) (found u w.tenants))
+    ≡ option_and_then (λ part. part) (found_first b (Some (opened_tenant g)) (part_under u w.tenants))
     = λ u b is. ap (λ (x : Bool). option_and_then (λ part. part)
-    (found_first x (Some (opened_tenant g)) (found u w.tenants))) is in
+    (found_first x (Some (opened_tenant g)) (part_under u w.tenants))) is in
     record {
       after = behind;
       accepted = open-tested g w t false false unused (full-so g w old s false full);
@@ -149,16 +149,16 @@ sound-without r t sound = λ owner. by owner (same_owner owner (tenant t))
     by owner false = sound owner
 
 -- the machine with one tenant less
-abbrev pub machine_less : Machine → Tenants → Table → ℕ → Machine
+abbrev pub machine_less : Machine → Tenants → ListRefTable → ℕ → Machine
 machine_less m ts table n = record m { tenants = ts; refs = table; places_taken = n }
 
-pub does-close : (g : Ground) (w : World) (t n : ℕ) (old : Machine) (ts : Tenants) (table : Table)
+pub does-close : (g : Ground) (w : World) (t n : ℕ) (old : Machine) (ts : Tenants) (table : ListRefTable)
     (was : Tenant) (s : Stands g old w) → tenant_at old.tenants t ≡ Some was
     → tenant_at ts t ≡ None → ((u : ℕ) → u ≢ t → tenant_at ts u ≡ tenant_at old.tenants u)
     → ((r : Refs) → refs.Stands ListStands old.refs r
     → refs.Stands ListStands table (without_refs (tenant t) r))
     → n ≡ old.places_taken - 1
-    → Does g w (closes t) (machine_less old ts table n) tenant_gone
+    → AcceptsStep g w (closes t) (machine_less old ts table n) tenant_gone
 does-close g w t n old ts table was s there gone others released less =
     let place = kept-at g s.refs t was (tenant_at old.tenants t) (open_in t w) (s.tenants t) there in
     let kept = place.0 in
@@ -188,7 +188,7 @@ does-close g w t n old ts table was s there gone others released less =
             (open_in u w) (open_in u behind) (others u apart)
             (open-others w w.around t u None kept place.1 apart) (owned u false is)
             (s.tenants u));
-        newest = λ u. used-replaced u t None w.tenants ∙ s.newest u;
+        newest = λ u. used-with_part u t None w.tenants ∙ s.newest u;
         places_taken = count-less t kept w.tenants (found-open _ kept place.1)
             ∙ ap (λ k. k - 1) s.places_taken ∙ sym less;
       };
@@ -197,7 +197,7 @@ does-close g w t n old ts table was s there gone others released less =
 pub refuses-close : (g : Ground) (w : World) (t : ℕ) (old : Machine) (ts : Tenants)
     → Stands g old w → tenant_at old.tenants t ≡ None → tenant_at ts t ≡ None
     → ((u : ℕ) → u ≢ t → tenant_at ts u ≡ tenant_at old.tenants u)
-    → Refuses g w (closes t) (machine_with old ts old.refs) Refusal.NoSuchTenant
+    → RefusesStep g w (closes t) (machine_with old ts old.refs) Refusal.NoSuchTenant
 refuses-close g w t old ts s none gone others = record {
   refused = λ ne. close-none g w t
       (none-at g s.refs t (tenant_at old.tenants t) (open_in t w) (s.tenants t) none);
@@ -210,7 +210,7 @@ refuses-close g w t old ts s none gone others = record {
 
 pub refuses-memory : {X : Type 0} (g : Ground) (w : World) (t : ℕ) (m : Machine)
     (res : Result X Refusal) → IsErrAnd res (λ e. e ≡ Refusal.NoMemory) → Stands g m w
-    → IfErr res (Refuses g w (opens t) m)
+    → IfErr res (RefusesStep g w (opens t) m)
 refuses-memory g w t m (Ok x) never s = tt
 refuses-memory g w t m (Err e) is s = record {
   refused = λ ne. absurd (ne is);

@@ -1,31 +1,33 @@
 -- The newest values of refs, through calls of the refs.
 use Rattle.std.proofs.Common.{◌≡◌, ℕ, ◌+◌, ◌==◌, List, [], ◌∷◌, ◌++◌, length, Bool, true, false}
-use Rattle.std.proofs.Common.{◌&&◌, map, Option, Some, None, is_some, slice_get}
-use Rattle.std.proofs.Common.{refl, sym, ap, subst, ◌∙◌, if◌then◌else◌, true≢false}
+use Rattle.std.proofs.Common.{◌&&◌, map, Option, Some, None, is_some, slice_get, refl, sym, ap}
+use Rattle.std.proofs.Common.{subst, ◌∙◌, if◌then◌else◌, true≢false}
 use Rattle.std.specs.Prelude.{option_map, option_and_then, Result, Ok, Err}
 use Rattle.std.proofs.lemmas.Bool.{eqb-true, eqb-false, eq-eqb, ne_eqb, and_parts}
 use Rattle.value_data.specs.Datum.{Datum, OwnerData, shared, tenant}
 use Rattle.repl_faults.specs.Failure.{Failure}
-use Rattle.repl_asks.specs.Transactions.{RefNameData, ChangeData, IntentData}
+use Rattle.repl_asks.specs.Transactions.{RefNameData, ChangeData, IntentData, same_name}
 use Rattle.repl_asks.specs.Exchange as exchange
 use Rattle.repl_asks.specs.Exchange.{AskData, AnswerData, value, verdict, committed, conflict}
 use Rattle.server_rules.specs.Numbered as numbered
 use Rattle.server_rules.specs.Numbered.{Entry, entry, changed_at, without}
-use Rattle.server_rules.specs.Versions.{Ref, new_ref, faulted, with_least, with_most}
+use Rattle.server_rules.specs.Versions.{Ref, new_ref, with_failed_read, with_least, with_most}
 use Rattle.server_rules.specs.Versions.{readable, newest}
-use Rattle.server_rules.specs.Store.{Store, ref_of, named, value_in, value_of, changed_of, changed}
-use Rattle.server_rules.specs.Store.{with_points, left_attempt}
-use Rattle.server_rules.specs.Commit.{guarded, touched, changing, all_there, all_fit, all_take}
-use Rattle.server_rules.specs.Commit.{same_owner, same_name, are_distinct, fits, any_newer}
-use Rattle.server_rules.specs.Commit.{all_folded, with_changes, raised, with_all, concluded}
-use Rattle.server_rules.specs.Commit.{checked, commit_by}
-use Rattle.server_rules.specs.Calls.{made_ref, made, begun, read_at, read_by, bound_set, performed}
+use Rattle.server_rules.specs.Store.{Store, ref_of, ref_named, newest_in_ref, newest_value}
+use Rattle.server_rules.specs.Store.{changed_of, with_changed_ref, with_points, left_attempt}
+use Rattle.server_rules.specs.Commit.{guarded_refs, touched_refs, changing_refs, all_there, all_fit}
+use Rattle.server_rules.specs.Commit.{all_take, are_distinct, intent_fits, any_newer}
+use Rattle.value_data.specs.Same.{same_owner}
+use Rattle.server_rules.specs.Commit.{all_folded, with_changes, with_raised_counter, with_all}
+use Rattle.server_rules.specs.Commit.{concluded_commit, checked_commit, commit_by}
+use Rattle.server_rules.specs.Calls.{made_ref, performed_make, performed_begin, read_at, read_by}
+use Rattle.server_rules.specs.Calls.{bound_set, performed}
 use Rattle.server_rules.specs.Asking.{call_of}
 use Rattle.server_rules.proofs.Sound.{version_with}
 use Rattle.ref_table.proofs.Owners.{some-same, none-some, slice_get-changed, slice_get-added}
 use Rattle.ref_table.proofs.Owners.{slice_get-changed_other, slice_get-added_other}
 use Rattle.ref_table.proofs.Committing.{changed-names}
-use Rattle.repl_core.specs.Commits.{last_set, is_named, given_by}
+use Rattle.repl_core.specs.Commits.{last_set, is_ref_named, given_by}
 use Rattle.repl_core.proofs.CommitFolds.{same_name-true, changes-gave, changed-none}
 
 -- A ref is changed
@@ -48,9 +50,9 @@ none-changed : (b : Bool) (f : Ref → Ref) → None ≡ changed_if b f None
 none-changed true f = refl
 none-changed false f = refl
 
-named-changed : (a b : RefNameData) (f : Ref → Ref) (s : Store)
-    → named a (changed b f s) ≡ changed_if (same_name a b) f (named a s)
-named-changed a b f s = by a.owner b.owner
+ref_named-with_changed_ref : (a b : RefNameData) (f : Ref → Ref) (s : Store)
+    → ref_named a (with_changed_ref b f s) ≡ changed_if (same_name a b) f (ref_named a s)
+ref_named-with_changed_ref a b f s = by a.owner b.owner
   where
     mine : (t u : ℕ) (here there : Bool) → (t == s.tenant) ≡ here → (u == s.tenant) ≡ there
         → (if here
@@ -74,9 +76,9 @@ named-changed a b f s = by a.owner b.owner
     by (tenant t) shared = refl
     by (tenant t) (tenant u) = mine t u (t == s.tenant) (u == s.tenant) refl refl
 
-there-changed : (a b : RefNameData) (f : Ref → Ref) (s : Store)
-    → is_some (named a (changed b f s)) ≡ is_some (named a s)
-there-changed a b f s = ap is_some (named-changed a b f s) ∙ by (same_name a b) (named a s)
+there-with_changed_ref : (a b : RefNameData) (f : Ref → Ref) (s : Store)
+    → is_some (ref_named a (with_changed_ref b f s)) ≡ is_some (ref_named a s)
+there-with_changed_ref a b f s = ap is_some (ref_named-with_changed_ref a b f s) ∙ by (same_name a b) (ref_named a s)
   where
     by : (b : Bool) (o : Option Ref) → is_some (changed_if b f o) ≡ is_some o
     by true None = refl
@@ -84,18 +86,18 @@ there-changed a b f s = ap is_some (named-changed a b f s) ∙ by (same_name a b
     by false o = refl
 
 all_there-as : (names : List RefNameData) (s new : Store)
-    → ((name : RefNameData) → is_some (named name new) ≡ is_some (named name s))
+    → ((name : RefNameData) → is_some (ref_named name new) ≡ is_some (ref_named name s))
     → all_there names new ≡ all_there names s
 all_there-as [] s new same = refl
 all_there-as (name ∷ names) s new same =
     ap (λ b. b && all_there names new) (same name)
-    ∙ ap (λ b. is_some (named name s) && b) (all_there-as names s new same)
+    ∙ ap (λ b. is_some (ref_named name s) && b) (all_there-as names s new same)
 
 pub all_there-parts : (names more : List RefNameData) (s : Store)
     → all_there (names ++ more) s ≡ true → (all_there names s ≡ true) × (all_there more s ≡ true)
 all_there-parts [] more s e = (refl, e)
 all_there-parts (name ∷ names) more s e =
-    let parts = and_parts (is_some (named name s)) (all_there (names ++ more) s) e in
+    let parts = and_parts (is_some (ref_named name s)) (all_there (names ++ more) s) e in
     let behind = all_there-parts names more s parts.1 in
     (ap (λ b. b && all_there names s) parts.0 ∙ behind.0, behind.1)
 
@@ -103,16 +105,16 @@ all_there-both : (names more : List RefNameData) (s : Store) → all_there names
     → all_there more s ≡ true → all_there (names ++ more) s ≡ true
 all_there-both [] more s here there = there
 all_there-both (name ∷ names) more s here there =
-    let parts = and_parts (is_some (named name s)) (all_there names s) here in
+    let parts = and_parts (is_some (ref_named name s)) (all_there names s) here in
     ap (λ b. b && all_there (names ++ more) s) parts.0 ∙ all_there-both names more s parts.1 there
 
 -- the refs that change are there where all that are named are
-changing-there : (intent : IntentData) (s : Store) → all_there (touched intent) s ≡ true
-    → all_there (changing intent) s ≡ true
-changing-there intent s there =
+changing_refs-there : (intent : IntentData) (s : Store) → all_there (touched_refs intent) s ≡ true
+    → all_there (changing_refs intent) s ≡ true
+changing_refs-there intent s there =
     let sets = map (λ c. c.name) intent.sets in
     let commuted = map (λ c. c.name) intent.commuted in
-    let all = all_there-parts (guarded intent) commuted s there in
+    let all = all_there-parts (guarded_refs intent) commuted s there in
     all_there-both sets commuted s (all_there-parts sets intent.ensured s all.0).0 all.1
 
 -- What is newest
@@ -121,14 +123,14 @@ abbrev pub newest_of : Option Ref → Option Datum
 newest_of o = option_and_then (λ r. newest r.versions) o
 
 abbrev pub newest_at : RefNameData → Store → Option Datum
-newest_at name s = newest_of (named name s)
+newest_at name s = newest_of (ref_named name s)
 
 -- a change that adds no version
 kept-newest : (name other : RefNameData) (f : Ref → Ref) (s : Store)
     → ((r : Ref) → newest (f r).versions ≡ newest r.versions)
-    → newest_at name (changed other f s) ≡ newest_at name s
+    → newest_at name (with_changed_ref other f s) ≡ newest_at name s
 kept-newest name other f s keeps =
-    ap newest_of (named-changed name other f s) ∙ by (same_name name other) (named name s)
+    ap newest_of (ref_named-with_changed_ref name other f s) ∙ by (same_name name other) (ref_named name s)
   where
     by : (b : Bool) (o : Option Ref) → newest_of (changed_if b f o) ≡ newest_of o
     by true None = refl
@@ -137,11 +139,11 @@ kept-newest name other f s keeps =
 
 -- a change that adds one
 version-newest : (name : RefNameData) (c : ChangeData) (stamp : ℕ) (s : Store)
-    → is_some (named c.name s) ≡ true
-    → newest_at name (changed c.name (version_with stamp c) s)
+    → is_some (ref_named c.name s) ≡ true
+    → newest_at name (with_changed_ref c.name (version_with stamp c) s)
     ≡ (if same_name name c.name then Some c.now else newest_at name s)
 version-newest name c stamp s there =
-    ap newest_of (named-changed name c.name (version_with stamp c) s)
+    ap newest_of (ref_named-with_changed_ref name c.name (version_with stamp c) s)
     ∙ by (same_name name c.name) refl
   where
     added : (o : Option Ref) → is_some o ≡ true
@@ -150,11 +152,11 @@ version-newest name c stamp s there =
     added (Some r) e = refl
 
     by : (b : Bool) → same_name name c.name ≡ b
-        → newest_of (changed_if b (version_with stamp c) (named name s))
+        → newest_of (changed_if b (version_with stamp c) (ref_named name s))
         ≡ (if b then Some c.now else newest_at name s)
     by true same =
-        added (named name s)
-        (ap (λ other. is_some (named other s)) (same_name-true name c.name same) ∙ there)
+        added (ref_named name s)
+        (ap (λ other. is_some (ref_named other s)) (same_name-true name c.name same) ∙ there)
     by false apart = refl
 
 changes-newest : (name : RefNameData) (stamp : ℕ) (cs : List ChangeData) (s : Store)
@@ -162,17 +164,17 @@ changes-newest : (name : RefNameData) (stamp : ℕ) (cs : List ChangeData) (s : 
     → newest_at name (with_changes stamp cs s) ≡ last_set name cs (newest_at name s)
 changes-newest name stamp [] s there = refl
 changes-newest name stamp (c ∷ cs) s there =
-    let behind : Store = changed c.name (version_with stamp c) s in
-    let parts = and_parts (is_some (named c.name s)) (all_there (map (λ c. c.name) cs) s) there in
+    let behind : Store = with_changed_ref c.name (version_with stamp c) s in
+    let parts = and_parts (is_some (ref_named c.name s)) (all_there (map (λ c. c.name) cs) s) there in
     changes-newest name stamp cs behind
     (all_there-as (map (λ c. c.name) cs) s behind
-    (λ other. there-changed other c.name (version_with stamp c) s) ∙ parts.1)
+    (λ other. there-with_changed_ref other c.name (version_with stamp c) s) ∙ parts.1)
     ∙ ap (last_set name cs) (version-newest name c stamp s parts.0)
 
-raised-named : (name : RefNameData) (s : Store) → named name (raised s) ≡ named name s
-raised-named name s = by name.owner
+with_raised_counter-ref_named : (name : RefNameData) (s : Store) → ref_named name (with_raised_counter s) ≡ ref_named name s
+with_raised_counter-ref_named name s = by name.owner
   where
-    by : (o : OwnerData) → ref_of o name.number (raised s) ≡ ref_of o name.number s
+    by : (o : OwnerData) → ref_of o name.number (with_raised_counter s) ≡ ref_of o name.number s
     by shared = refl
     by (tenant t) = refl
 
@@ -181,10 +183,10 @@ all-newest : (name : RefNameData) (cs : List ChangeData) (s : Store)
     → newest_at name (with_all cs s) ≡ last_set name cs (newest_at name s)
 all-newest name [] s there = refl
 all-newest name (c ∷ cs) s there =
-    changes-newest name (s.around.counter + 1) (c ∷ cs) (raised s)
-    (all_there-as (map (λ c. c.name) (c ∷ cs)) s (raised s)
-    (λ other. ap is_some (raised-named other s)) ∙ there)
-    ∙ ap (λ o. last_set name (c ∷ cs) (newest_of o)) (raised-named name s)
+    changes-newest name (s.around.counter + 1) (c ∷ cs) (with_raised_counter s)
+    (all_there-as (map (λ c. c.name) (c ∷ cs)) s (with_raised_counter s)
+    (λ other. ap is_some (with_raised_counter-ref_named other s)) ∙ there)
+    ∙ ap (λ o. last_set name (c ∷ cs) (newest_of o)) (with_raised_counter-ref_named name s)
 
 -- Each call
 
@@ -201,11 +203,11 @@ pub left-newest : (name : RefNameData) (seat : ℕ) (s : Store)
     → newest_at name (left_attempt seat s) ≡ newest_at name s
 left-newest name seat s = points-newest name (without seat s.mine.points) s
 
-made-newest : (name : RefNameData) (d : Datum) (least most : ℕ) (s : Store)
-    → newest_at name (made s d least most).store
+performed_make-newest : (name : RefNameData) (d : Datum) (least most : ℕ) (s : Store)
+    → newest_at name (performed_make s d least most).store
     ≡ given_by name (exchange.new_ref d least most) (value (made_ref s (length s.mine.refs)))
     (newest_at name s)
-made-newest name d least most s = by name.owner
+performed_make-newest name d least most s = by name.owner
   where
     last : (b : Bool) → (name.number == length s.mine.refs) ≡ b
         → newest_of (slice_get
@@ -227,17 +229,17 @@ made-newest name d least most s = by name.owner
     mine true = last (name.number == length s.mine.refs) refl
     mine false = refl
 
-    by : (o : OwnerData) → newest_of (ref_of o name.number (made s d least most).store)
+    by : (o : OwnerData) → newest_of (ref_of o name.number (performed_make s d least most).store)
         ≡ (if same_owner o (tenant s.tenant) && name.number == length s.mine.refs then Some d
         else newest_of (ref_of o name.number s))
     by shared = refl
     by (tenant t) = mine (t == s.tenant)
 
-begun-newest : (name : RefNameData) (seat : ℕ) (s : Store) (point : Option ℕ)
-    → newest_at name (begun seat s point).store ≡ newest_at name s
-begun-newest name seat s None =
+performed_begin-newest : (name : RefNameData) (seat : ℕ) (s : Store) (point : Option ℕ)
+    → newest_at name (performed_begin seat s point).store ≡ newest_at name s
+performed_begin-newest name seat s None =
     points-newest name (entry seat s.around.counter ∷ s.mine.points) s
-begun-newest name seat s (Some point) = refl
+performed_begin-newest name seat s (Some point) = refl
 
 read-newest : (name other : RefNameData) (seat : ℕ) (s : Store) (point : Option ℕ) (o : Option Ref)
     → newest_at name (read_by seat other s point o).store ≡ newest_at name s
@@ -248,8 +250,8 @@ read-newest name other seat s (Some point) (Some r) = by (readable point r)
     by : (o : Option Datum) → newest_at name (read_at seat other s o).store ≡ newest_at name s
     by (Some d) = refl
     by None =
-        left-newest name seat (changed other faulted s)
-        ∙ kept-newest name other faulted s (λ r. refl)
+        left-newest name seat (with_changed_ref other with_failed_read s)
+        ∙ kept-newest name other with_failed_read s (λ r. refl)
 
 bound-newest : (name other : RefNameData) (owner : OwnerData) (f : Ref → Ref) (s : Store)
     (o : Option Ref) → ((r : Ref) → newest (f r).versions ≡ newest r.versions)
@@ -258,48 +260,48 @@ bound-newest name other owner f s None keeps = refl
 bound-newest name other shared f s (Some r) keeps = refl
 bound-newest name other (tenant t) f s (Some r) keeps = kept-newest name other f s keeps
 
-value-newest : (o : Option Ref) → newest_of o ≡ value_in o
+value-newest : (o : Option Ref) → newest_of o ≡ newest_in_ref o
 value-newest None = refl
 value-newest (Some r) = refl
 
-concluded-newest : (name : RefNameData) (seat : ℕ) (intent : IntentData) (answer : AnswerData)
+concluded_commit-newest : (name : RefNameData) (seat : ℕ) (intent : IntentData) (answer : AnswerData)
     (s : Store) (folds : Result (List ChangeData) Failure)
-    → (all_there (touched intent) s && fits intent) ≡ true
-    → all_folded (λ other. value_of other s) intent.commuted ≡ folds
-    → (concluded seat intent.sets s folds).told ≡ Some answer
-    → newest_at name (concluded seat intent.sets s folds).store
+    → (all_there (touched_refs intent) s && intent_fits intent) ≡ true
+    → all_folded (λ other. newest_value other s) intent.commuted ≡ folds
+    → (concluded_commit seat intent.sets s folds).told ≡ Some answer
+    → newest_at name (concluded_commit seat intent.sets s folds).store
     ≡ given_by name (exchange.commit intent) answer (newest_at name s)
-concluded-newest name seat intent answer s (Err f) fit is told =
+concluded_commit-newest name seat intent answer s (Err f) fit is told =
     left-newest name seat s
     ∙ ap (λ v. given_by name (exchange.commit intent) v (newest_at name s))
     (some-same (verdict (exchange.faulted f)) answer told)
-concluded-newest name seat intent answer s (Ok changes) fit is told =
-    let parts = and_parts (all_there (touched intent) s) (fits intent) fit in
-    let once = and_parts (all_fit intent.sets) (are_distinct (changing intent))
-    (and_parts (all_fit intent.sets && are_distinct (changing intent)) (all_take intent.commuted)
+concluded_commit-newest name seat intent answer s (Ok changes) fit is told =
+    let parts = and_parts (all_there (touched_refs intent) s) (intent_fits intent) fit in
+    let once = and_parts (all_fit intent.sets) (are_distinct (changing_refs intent))
+    (and_parts (all_fit intent.sets && are_distinct (changing_refs intent)) (all_take intent.commuted)
     parts.1).0 in
     left-newest name seat (with_all (intent.sets ++ changes) s)
     ∙ all-newest name (intent.sets ++ changes) s
-    (ap (λ names. all_there names s) (changed-names (λ other. value_of other s) intent changes is)
-    ∙ changing-there intent s parts.0)
-    ∙ changes-gave name (λ other. value_of other s) intent.sets intent.commuted changes
-    (newest_at name s) once.1 is (λ among. value-newest (named name s))
+    (ap (λ names. all_there names s) (changed-names (λ other. newest_value other s) intent changes is)
+    ∙ changing_refs-there intent s parts.0)
+    ∙ changes-gave name (λ other. newest_value other s) intent.sets intent.commuted changes
+    (newest_at name s) once.1 is (λ among. value-newest (ref_named name s))
     ∙ ap (λ v. given_by name (exchange.commit intent) v (newest_at name s))
     (some-same (verdict committed) answer told)
 
-checked-newest : (name : RefNameData) (seat : ℕ) (intent : IntentData) (answer : AnswerData)
-    (s : Store) (fit newer : Bool) → (all_there (touched intent) s && fits intent) ≡ fit
-    → (checked seat intent s fit newer).told ≡ Some answer
-    → newest_at name (checked seat intent s fit newer).store
+checked_commit-newest : (name : RefNameData) (seat : ℕ) (intent : IntentData) (answer : AnswerData)
+    (s : Store) (fit newer : Bool) → (all_there (touched_refs intent) s && intent_fits intent) ≡ fit
+    → (checked_commit seat intent s fit newer).told ≡ Some answer
+    → newest_at name (checked_commit seat intent s fit newer).store
     ≡ given_by name (exchange.commit intent) answer (newest_at name s)
-checked-newest name seat intent answer s false newer is told = absurd (none-some told)
-checked-newest name seat intent answer s true true is told =
+checked_commit-newest name seat intent answer s false newer is told = absurd (none-some told)
+checked_commit-newest name seat intent answer s true true is told =
     left-newest name seat s
     ∙ ap (λ v. given_by name (exchange.commit intent) v (newest_at name s))
     (some-same (verdict conflict) answer told)
-checked-newest name seat intent answer s true false is told =
-    concluded-newest name seat intent answer s
-    (all_folded (λ other. value_of other s) intent.commuted) is refl told
+checked_commit-newest name seat intent answer s true false is told =
+    concluded_commit-newest name seat intent answer s
+    (all_folded (λ other. newest_value other s) intent.commuted) is refl told
 
 commit-newest : (name : RefNameData) (seat : ℕ) (intent : IntentData) (answer : AnswerData)
     (s : Store) (point : Option ℕ) → (commit_by seat intent s point).told ≡ Some answer
@@ -307,8 +309,8 @@ commit-newest : (name : RefNameData) (seat : ℕ) (intent : IntentData) (answer 
     ≡ given_by name (exchange.commit intent) answer (newest_at name s)
 commit-newest name seat intent answer s None told = absurd (none-some told)
 commit-newest name seat intent answer s (Some point) told =
-    checked-newest name seat intent answer s (all_there (touched intent) s && fits intent)
-    (any_newer point (guarded intent) s) refl told
+    checked_commit-newest name seat intent answer s (all_there (touched_refs intent) s && intent_fits intent)
+    (any_newer point (guarded_refs intent) s) refl told
 
 -- what an ask that is answered makes of each ref
 pub asked-newest : (name : RefNameData) (seat : ℕ) (ask : AskData) (answer : AnswerData)
@@ -319,22 +321,22 @@ asked-newest name seat (exchange.resolve namespace symbol) answer s told = refl
 asked-newest name seat (exchange.define namespace defined binding) answer s told = refl
 asked-newest name seat (exchange.enter namespace) answer s told = refl
 asked-newest name seat (exchange.new_ref d least most) answer s told =
-    made-newest name d least most s
+    performed_make-newest name d least most s
     ∙ ap (λ v. given_by name (exchange.new_ref d least most) v (newest_at name s))
     (some-same (value (made_ref s (length s.mine.refs))) answer told)
 asked-newest name seat exchange.begin answer s told =
-    begun-newest name seat s (numbered.found seat s.mine.points)
+    performed_begin-newest name seat s (numbered.part_under seat s.mine.points)
 asked-newest name seat (exchange.read other) answer s told =
-    read-newest name other seat s (numbered.found seat s.mine.points) (named other s)
+    read-newest name other seat s (numbered.part_under seat s.mine.points) (ref_named other s)
 asked-newest name seat (exchange.history other) answer s told = refl
 asked-newest name seat (exchange.min_history other None) answer s told = refl
 asked-newest name seat (exchange.min_history other (Some n)) answer s told =
-    bound-newest name other other.owner (with_least n) s (named other s) (λ r. refl)
+    bound-newest name other other.owner (with_least n) s (ref_named other s) (λ r. refl)
 asked-newest name seat (exchange.max_history other None) answer s told = refl
 asked-newest name seat (exchange.max_history other (Some n)) answer s told =
-    bound-newest name other other.owner (with_most n) s (named other s) (λ r. refl)
+    bound-newest name other other.owner (with_most n) s (ref_named other s) (λ r. refl)
 asked-newest name seat (exchange.commit intent) answer s told =
-    commit-newest name seat intent answer s (numbered.found seat s.mine.points) told
+    commit-newest name seat intent answer s (numbered.part_under seat s.mine.points) told
 
 -- What is given to a ref that has no value
 
@@ -342,7 +344,7 @@ pub given-none : (name : RefNameData) (ask : AskData) (answer : AnswerData) (bef
     → given_by name ask answer None ≡ None → given_by name ask answer before ≡ before
 given-none name (exchange.commit intent) (verdict committed) before e =
     changed-none name intent.sets intent.commuted before e
-given-none name (exchange.new_ref d least most) (value it) before e = by (is_named name it) e
+given-none name (exchange.new_ref d least most) (value it) before e = by (is_ref_named name it) e
   where
     by : (b : Bool) → ◌≡◌ {A = Option Datum} (if b then Some d else None) None
         → (if b then Some d else before) ≡ before

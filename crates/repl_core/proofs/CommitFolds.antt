@@ -1,14 +1,15 @@
 -- What a commit gives a ref, by the changes that it makes.
-use Rattle.std.proofs.Common.{◌≡◌, ℕ, ◌==◌, List, [], ◌∷◌, ◌++◌, Bool, true, false, not, ◌||◌}
-use Rattle.std.proofs.Common.{map, Option, Some, None, refl, sym, ap, ap₂, ◌∙◌}
-use Rattle.std.proofs.Common.{if◌then◌else◌, true≢false}
+use Rattle.std.proofs.Common.{◌≡◌, ℕ, ◌==◌, List, [], ◌∷◌, ◌++◌, Bool, true, false, not, ◌||◌, map}
+use Rattle.std.proofs.Common.{Option, Some, None, refl, sym, ap, ap₂, ◌∙◌, if◌then◌else◌}
+use Rattle.std.proofs.Common.{true≢false}
 use Rattle.std.specs.Prelude.{Result, Ok, Err}
 use Rattle.std.specs.List.{list_any}
 use Rattle.std.proofs.lemmas.Bool.{eqb-true, and_parts}
 use Rattle.value_data.specs.Datum.{Datum, OwnerData, shared, tenant}
 use Rattle.repl_faults.specs.Failure.{Failure, ◌>>=◌}
-use Rattle.repl_asks.specs.Transactions.{RefNameData, ChangeData, CommutedData}
-use Rattle.server_rules.specs.Commit.{same_owner, same_name, are_distinct, folded_from, all_folded}
+use Rattle.repl_asks.specs.Transactions.{RefNameData, ChangeData, CommutedData, same_name}
+use Rattle.server_rules.specs.Commit.{are_distinct, folded_from, all_folded}
+use Rattle.value_data.specs.Same.{same_owner}
 use Rattle.ref_table.proofs.Owners.{none-some}
 use Rattle.repl_core.specs.Commits.{last_set, folded_or, last_commuted}
 

@@ -1,41 +1,40 @@
 -- What a step makes of the newest values of refs.
-use Rattle.std.proofs.Common.{◌≡◌, ℕ, ◌==◌, ◌∷◌, Bool, true, false, nat_le}
-use Rattle.std.proofs.Common.{Option, Some, None, slice_get, refl, sym, ap, subst, ◌∙◌}
-use Rattle.std.proofs.Common.{if◌then◌else◌}
+use Rattle.std.proofs.Common.{◌≡◌, ℕ, ◌==◌, ◌∷◌, Bool, true, false, nat_le, Option, Some, None}
+use Rattle.std.proofs.Common.{slice_get, refl, sym, ap, subst, ◌∙◌, if◌then◌else◌}
 use Rattle.std.specs.Prelude.{option_and_then}
 use Rattle.std.proofs.lemmas.Bool.{eqb-true, eqb-false}
 use Rattle.value_data.specs.Datum.{Datum, OwnerData, shared, tenant}
 use Rattle.repl_asks.specs.Transactions.{RefNameData}
 use Rattle.repl_asks.specs.Exchange as exchange
 use Rattle.repl_asks.specs.Exchange.{AskData, AnswerData}
-use Rattle.server_rules.specs.Numbered.{entry, found}
+use Rattle.server_rules.specs.Numbered.{entry, part_under}
 use Rattle.server_rules.specs.Store.{Store, ref_of, left_attempt}
 use Rattle.server_rules.specs.Calls.{gives_up, given_up, performed}
 use Rattle.server_rules.specs.Ground.{Ground}
 use Rattle.server_rules.specs.Request.{Hand, Run}
 use Rattle.server_rules.specs.Tenant.{ActorData, seat_of, Quiet, is_held, state_of}
-use Rattle.server_rules.specs.Plan.{EndingData, Deed, hears, starts, asks_for, ends, drains}
+use Rattle.server_rules.specs.Plan.{Deed, hears, starts, asks_for, ends, drains}
+use Rattle.repl_jobs.specs.Job.{EndingData}
 use Rattle.server_rules.specs.Plan.{StepAnswer, ask_answered, form_finished, Outcome, refuses}
-use Rattle.server_rules.specs.Plan.{leaves, Plan, quietly, spent}
-use Rattle.server_rules.specs.Hearing.{hearing}
+use Rattle.server_rules.specs.Plan.{leaves, Plan, quietly, with_step_spent}
+use Rattle.server_rules.specs.Hearing.{hearing_plan}
 use Rattle.server_rules.specs.Moves.{form_ended}
-use Rattle.server_rules.specs.Starting.{moved, interrupted_in}
-use Rattle.server_rules.specs.Asking.{call_of, is_allowed, answer_to, answered, when_told}
+use Rattle.server_rules.specs.Starting.{after_move, interrupted_in}
+use Rattle.server_rules.specs.Asking.{call_of, is_allowed, answer_to, answer_outcome, when_told}
 use Rattle.server_rules.specs.Asking.{asked_allowed, asked_running, asked_of}
-use Rattle.server_rules.specs.Ending.{with_left_attempt, end_compared, end_checked}
-use Rattle.server_rules.specs.Ending.{end_running, end_of}
-use Rattle.server_rules.specs.Deeds.{start_of, for_actor, unless_worn, drained, plan}
-use Rattle.server_rules.specs.World.{TenantData, World, Step, opens, does, closes}
-use Rattle.server_rules.specs.World.{Stepped, refused, is_used, open_count, opened_tenant}
-use Rattle.server_rules.specs.World.{open_step, with_tenant, ended_as, planned, deed_step}
-use Rattle.server_rules.specs.World.{close_step, step, world_or}
+use Rattle.server_rules.specs.Ending.{with_left_attempt, end_compared, end_checked, end_running}
+use Rattle.server_rules.specs.Ending.{end_of}
+use Rattle.server_rules.specs.Deeds.{start_of, for_actor, unless_worn, drain_outcome, plan}
+use Rattle.server_rules.specs.World.{TenantData, World, Step, opens, does, closes, Stepped, refused}
+use Rattle.server_rules.specs.World.{is_used, open_count, opened_tenant, open_step, with_tenant}
+use Rattle.server_rules.specs.World.{ended_as, planned_step, deed_step, close_step, step, world_or}
 use Rattle.server_rules.specs.declared.actor.Actor.{Actor}
 use Rattle.server_rules.specs.declared.refusal.Refusal.{Refusal}
 use Rattle.server_rules.proofs.Steps.{room}
 use Rattle.tenant_refs.proofs.Calls.{performed-tenant}
 use Rattle.repl_core.specs.Standing.{open_in, store_in}
-use Rattle.repl_core.specs.Commits.{refs_of, refs_in, newest_in}
-use Rattle.repl_core.specs.Commits.{goes_with, given_by, newest_after, newest_behind}
+use Rattle.repl_core.specs.Commits.{refs_of, refs_in, newest_in, goes_with, given_by, newest_after}
+use Rattle.repl_core.specs.Commits.{newest_behind}
 use Rattle.repl_core.proofs.Worlds.{used-none}
 use Rattle.repl_core.proofs.Places.{open-others, open-mine}
 use Rattle.repl_core.proofs.CommitCalls.{newest_of, newest_at, left-newest, asked-newest}
@@ -67,7 +66,7 @@ closed_plan a h ask q = record {
 abbrev pub open_plan : Ground → Actor → ActorData → Hand → Run → AskData → Quiet → Plan
 open_plan g a actor h form ask q = record {
   call = call_of (seat_of a) ask;
-  next = λ told. when_told told (answered g a actor h form ask q);
+  next = λ told. when_told told (answer_outcome g a actor h form ask q);
 }
 
 module _ (P : Plan → Type 0) (g : Ground) (a : Actor) (ask : AskData) (q : Quiet)
@@ -101,7 +100,7 @@ module _ (P : Plan → Type 0) (g : Ground) (a : Actor) (ask : AskData) (q : Qui
 
   pub asked-by : (t : ℕ) → P (plan g t q (asks_for a ask))
   asked-by t = worn-by P q _ (none Refusal.Worn)
-      (actor-by P (found (seat_of a) q.actors) (λ actor. asked_of g a actor ask q actor.hand)
+      (actor-by P (part_under (seat_of a) q.actors) (λ actor. asked_of g a actor ask q actor.hand)
       (none Refusal.NoSuchActor) (λ actor. hand-by actor actor.hand))
 
 -- What a step gives a ref
@@ -167,7 +166,7 @@ ended-gives name w t d kept s (leaves q answer) there same here =
 module _ (name : RefNameData) (w : World) (t : ℕ) (kept : TenantData)
     (there : open_in t w ≡ Some kept) where
   abbrev Planned : Deed → Plan → Type 0
-  Planned d p = Gives name w (does t d) (planned w t kept p)
+  Planned d p = Gives name w (does t d) (planned_step w t kept p)
 
   -- the deed gives no ref a value
   abbrev Still : Deed → Type 0
@@ -191,7 +190,7 @@ module _ (name : RefNameData) (w : World) (t : ℕ) (kept : TenantData)
   compared-gives d still a actor h e false difference = refl
   compared-gives d still a actor h e true (Some place) = refl
   compared-gives d still a actor h e true None = left-gives d still a
-      (leaves (spent (moved a actor (form_ended h e.end (state_of a kept.quiet)) kept.quiet))
+      (leaves (with_step_spent (after_move a actor (form_ended h e.end (state_of a kept.quiet)) kept.quiet))
       form_finished)
 
   checked-gives : (g : Ground) (d : Deed) → Still d → (a : Actor) (actor : ActorData) (h : Hand)
@@ -253,7 +252,7 @@ module _ (name : RefNameData) (w : World) (t : ℕ) (kept : TenantData)
       by : (o : Option AnswerData) → (performed s (call_of (seat_of a) ask)).told ≡ o
           → Gives name w (does t (asks_for a ask))
           (ended_as w t (performed s (call_of (seat_of a) ask)).store
-          (when_told o (answered g a actor h form ask kept.quiet)))
+          (when_told o (answer_outcome g a actor h form ask kept.quiet)))
       by None told = refl
       by (Some v) told = put-newest name w t kept _ (performed s (call_of (seat_of a) ask)).store
           (given_by name ask (answer_to g a kept.quiet ask v)) there
@@ -264,21 +263,21 @@ module _ (name : RefNameData) (w : World) (t : ℕ) (kept : TenantData)
 
   plan-gives : (g : Ground) (d : Deed) → Planned d (plan g t kept.quiet d)
   plan-gives g (hears piece) =
-      quiet-gives (hears piece) (λ answer before. refl) ((hearing g t piece kept.quiet).next None)
+      quiet-gives (hears piece) (λ answer before. refl) ((hearing_plan g t piece kept.quiet).next None)
   plan-gives g (starts a) = worn-by (Planned (starts a)) kept.quiet _ refl
-      (actor-by (Planned (starts a)) (found (seat_of a) kept.quiet.actors) _ refl
+      (actor-by (Planned (starts a)) (part_under (seat_of a) kept.quiet.actors) _ refl
       (λ actor. quiet-gives (starts a) (λ answer before. refl)
       (start_of g a actor kept.quiet actor.hand)))
   plan-gives g (asks_for a ask) = asked-by (Planned (asks_for a ask)) g a ask kept.quiet
       (λ why. refl) (closed-gives a ask) (open-gives g a ask) t
   plan-gives g (ends a e) = worn-by (Planned (ends a e)) kept.quiet _ refl
-      (actor-by (Planned (ends a e)) (found (seat_of a) kept.quiet.actors) _ refl
+      (actor-by (Planned (ends a e)) (part_under (seat_of a) kept.quiet.actors) _ refl
       (λ actor. end-gives g (ends a e) (λ answer before. refl) a actor e actor.hand))
   plan-gives g drains = quiet-gives drains (λ answer before. refl)
-      (drained kept.quiet kept.quiet.replies)
+      (drain_outcome kept.quiet kept.quiet.replies)
 
 deed-gives : (name : RefNameData) (g : Ground) (w : World) (t : ℕ) (d : Deed)
-    (o : Option (Option TenantData)) → found t w.tenants ≡ o
+    (o : Option (Option TenantData)) → part_under t w.tenants ≡ o
     → Gives name w (does t d) (deed_step g w t d o)
 deed-gives name g w t d None is = refl
 deed-gives name g w t d (Some None) is = refl
@@ -293,10 +292,10 @@ come-gives name g w t = by (is_used t w.tenants) refl
     shown o = newest_of (slice_get (refs_of (option_and_then (λ part. part) o)) name.number)
 
     at : is_used t w.tenants ≡ false → (u : ℕ) (b : Bool) → (u == t) ≡ b
-        → shown (if b then Some (Some (opened_tenant g)) else found u w.tenants)
-        ≡ shown (found u w.tenants)
+        → shown (if b then Some (Some (opened_tenant g)) else part_under u w.tenants)
+        ≡ shown (part_under u w.tenants)
     at unused u true same = sym (ap shown
-        (ap (λ k. found k w.tenants) (eqb-true u t same) ∙ used-none t w.tenants unused))
+        (ap (λ k. part_under k w.tenants) (eqb-true u t same) ∙ used-none t w.tenants unused))
     at unused u false apart = refl
 
     added : is_used t w.tenants ≡ false → (o : OwnerData)
@@ -317,7 +316,7 @@ come-gives name g w t = by (is_used t w.tenants) refl
     by false unused = full unused (nat_le g.places (open_count w.tenants))
 
 close-gives : (name : RefNameData) (w : World) (t : ℕ) (o : Option (Option TenantData))
-    → found t w.tenants ≡ o → Gives name w (closes t) (close_step w t o)
+    → part_under t w.tenants ≡ o → Gives name w (closes t) (close_step w t o)
 close-gives name w t None is = refl
 close-gives name w t (Some None) is = refl
 close-gives name w t (Some (Some kept)) is = by name.owner
@@ -347,5 +346,5 @@ pub step-gives : (name : RefNameData) (g : Ground) (w : World) (s : Step)
     → Gives name w s (step g w s)
 unfolding step
 step-gives name g w (opens t) = come-gives name g w t
-step-gives name g w (does t d) = deed-gives name g w t d (found t w.tenants) refl
-step-gives name g w (closes t) = close-gives name w t (found t w.tenants) refl
+step-gives name g w (does t d) = deed-gives name g w t d (part_under t w.tenants) refl
+step-gives name g w (closes t) = close-gives name w t (part_under t w.tenants) refl

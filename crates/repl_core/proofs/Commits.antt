@@ -1,6 +1,6 @@
 -- What commits make of refs, over the steps of a server.
-use Rattle.std.proofs.Common.{◌≡◌, ℕ, ◌==◌, List, [], ◌∷◌, Bool, true, false, ◌&&◌, ◌||◌}
-use Rattle.std.proofs.Common.{map, Option, Some, None, is_some, slice_get, refl, sym, ap, ◌∙◌}
+use Rattle.std.proofs.Common.{◌≡◌, ℕ, ◌==◌, List, [], ◌∷◌, Bool, true, false, ◌&&◌, ◌||◌, map}
+use Rattle.std.proofs.Common.{Option, Some, None, is_some, slice_get, refl, sym, ap, ◌∙◌}
 use Rattle.std.proofs.Common.{if◌then◌else◌, true≢false}
 use Rattle.std.specs.List.{list_any}
 use Rattle.std.specs.Prelude.{option_and_then, Result, Ok, Err}
@@ -9,10 +9,11 @@ use Rattle.value_data.specs.Datum.{OwnerData, shared, tenant}
 use Rattle.repl_faults.specs.Failure.{Failure}
 use Rattle.repl_asks.specs.Transactions.{RefNameData, ChangeData, IntentData}
 use Rattle.repl_asks.specs.Exchange.{AnswerData, commit, verdict, committed}
-use Rattle.server_rules.specs.Numbered.{found}
-use Rattle.server_rules.specs.Store.{Store, ref_of, named, value_of}
-use Rattle.server_rules.specs.Commit.{guarded, touched, all_there, fits, is_newer_ref, any_newer}
-use Rattle.server_rules.specs.Commit.{all_folded, concluded, checked, commit_by}
+use Rattle.server_rules.specs.Numbered.{part_under}
+use Rattle.server_rules.specs.Store.{Store, ref_of, ref_named, newest_value}
+use Rattle.server_rules.specs.Commit.{guarded_refs, touched_refs, all_there, intent_fits}
+use Rattle.server_rules.specs.Commit.{is_newer_ref, any_newer, all_folded, concluded_commit}
+use Rattle.server_rules.specs.Commit.{checked_commit, commit_by}
 use Rattle.server_rules.specs.Performed.{Performed}
 use Rattle.server_rules.specs.Calls.{commits, given_up, performed}
 use Rattle.server_rules.specs.Ground.{Ground}
@@ -20,14 +21,14 @@ use Rattle.server_rules.specs.Request.{Hand, Run}
 use Rattle.server_rules.specs.Tenant.{ActorData, seat_of}
 use Rattle.server_rules.specs.Plan.{asks_for, StepAnswer, ask_answered, Plan}
 use Rattle.server_rules.specs.Starting.{interrupted_in}
-use Rattle.server_rules.specs.Asking.{answered, when_told}
+use Rattle.server_rules.specs.Asking.{answer_outcome, when_told}
 use Rattle.server_rules.specs.Deeds.{plan}
-use Rattle.server_rules.specs.World.{TenantData, World, Step, does, accepted, refused}
-use Rattle.server_rules.specs.World.{ended_as, planned, deed_step, step, world_or, run}
+use Rattle.server_rules.specs.World.{TenantData, World, Step, does, accepted, refused, ended_as}
+use Rattle.server_rules.specs.World.{planned_step, deed_step, step, world_or, run}
 use Rattle.server_rules.specs.declared.actor.Actor.{Actor}
 use Rattle.server_rules.specs.declared.refusal.Refusal.{Refusal}
 use Rattle.repl_core.specs.Standing.{open_in, store_in}
-use Rattle.repl_core.specs.Commits.{refs_of, refs_in, ref_in, newest_in, MetNoNewer}
+use Rattle.repl_core.specs.Commits.{refs_of, refs_in, ref_in_world, newest_in, MetNoNewer}
 use Rattle.repl_core.specs.Commits.{newest_through}
 use Rattle.repl_core.proofs.CommitCalls.{all_there-parts}
 use Rattle.repl_core.proofs.CommitSteps.{closed_plan, open_plan, asked-by, step-gives}
@@ -42,8 +43,8 @@ same-answer : (v w : World) (x y : StepAnswer) → accepted v x ≡ accepted w y
 same-answer v w x y e = cc
 
 ref-near : (name : RefNameData) (w : World) (t : ℕ) (kept : TenantData) → open_in t w ≡ Some kept
-    → is_some (named name (store_in w.around t kept.mine)) ≡ true
-    → ref_in name w ≡ named name (store_in w.around t kept.mine)
+    → is_some (ref_named name (store_in w.around t kept.mine)) ≡ true
+    → ref_in_world name w ≡ ref_named name (store_in w.around t kept.mine)
 ref-near name w t kept there = by name.owner
   where
     at : (u : ℕ) (b : Bool) → (u == t) ≡ b
@@ -63,20 +64,20 @@ ref-near name w t kept there = by name.owner
 none-newer : (names : List RefNameData) (point : ℕ) (w : World) (t : ℕ) (kept : TenantData)
     → open_in t w ≡ Some kept → all_there names (store_in w.around t kept.mine) ≡ true
     → any_newer point names (store_in w.around t kept.mine) ≡ false
-    → list_any (λ name. is_newer_ref point (ref_in name w)) names ≡ false
+    → list_any (λ name. is_newer_ref point (ref_in_world name w)) names ≡ false
 none-newer [] point w t kept there reached none = refl
 none-newer (name ∷ names) point w t kept there reached none =
     let s : Store = store_in w.around t kept.mine in
-    let here = and_parts (is_some (named name s)) (all_there names s) reached in
-    let old = or_parts (is_newer_ref point (named name s)) (any_newer point names s) none in
-    ap (λ b. b || list_any (λ other. is_newer_ref point (ref_in other w)) names)
+    let here = and_parts (is_some (ref_named name s)) (all_there names s) reached in
+    let old = or_parts (is_newer_ref point (ref_named name s)) (any_newer point names s) none in
+    ap (λ b. b || list_any (λ other. is_newer_ref point (ref_in_world other w)) names)
     (ap (is_newer_ref point) (ref-near name w t kept there here.0) ∙ old.0)
     ∙ none-newer names point w t kept there here.1 old.1
 
 module _ (g : Ground) (w after : World) (t : ℕ) (a : Actor) (intent : IntentData)
     (kept : TenantData) (there : open_in t w ≡ Some kept) where
   abbrev Met : Plan → Type 0
-  Met p = planned w t kept p ≡ accepted after (ask_answered (verdict committed))
+  Met p = planned_step w t kept p ≡ accepted after (ask_answered (verdict committed))
       → MetNoNewer w t a intent
 
   met-closed : (h : Hand) → Met (closed_plan a h (commit intent) kept.quiet)
@@ -92,40 +93,40 @@ module _ (g : Ground) (w after : World) (t : ℕ) (a : Actor) (intent : IntentDa
 
   met-open : (actor : ActorData) (h : Hand) (form : Run)
       → Met (open_plan g a actor h form (commit intent) kept.quiet)
-  met-open actor h form = by (found (seat_of a) kept.mine.points) refl
+  met-open actor h form = by (part_under (seat_of a) kept.mine.points) refl
     where
       s : Store
       s = store_in w.around t kept.mine
 
       Comes : Performed Store → Type 0
       Comes called = ended_as w t called.store
-          (when_told called.told (answered g a actor h form (commit intent) kept.quiet))
+          (when_told called.told (answer_outcome g a actor h form (commit intent) kept.quiet))
           ≡ accepted after (ask_answered (verdict committed)) → MetNoNewer w t a intent
 
       concludes : MetNoNewer w t a intent → (folds : Result (List ChangeData) Failure)
-          → Comes (concluded (seat_of a) intent.sets s folds)
+          → Comes (concluded_commit (seat_of a) intent.sets s folds)
       concludes none (Err f) e = let same = same-answer _ _ _ _ e in absurd (cc)
       concludes none (Ok changes) e = none
 
-      at : (point : ℕ) → found (seat_of a) kept.mine.points ≡ Some point → (fit newer : Bool)
-          → (all_there (touched intent) s && fits intent) ≡ fit
-          → any_newer point (guarded intent) s ≡ newer
-          → Comes (checked (seat_of a) intent s fit newer)
+      at : (point : ℕ) → part_under (seat_of a) kept.mine.points ≡ Some point → (fit newer : Bool)
+          → (all_there (touched_refs intent) s && intent_fits intent) ≡ fit
+          → any_newer point (guarded_refs intent) s ≡ newer
+          → Comes (checked_commit (seat_of a) intent s fit newer)
       at point began false newer fit met e = absurd (never-refused _ _ _ e)
       at point began true true fit met e = let same = same-answer _ _ _ _ e in absurd (cc)
       at point began true false fit met e = concludes (record {
         point = point;
-        began = ap (option_and_then (λ part. found (seat_of a) part.mine.points)) there ∙ began;
-        none_newer = none-newer (guarded intent) point w t kept there
-            (all_there-parts (guarded intent) (map (λ c. c.name) intent.commuted) s
-            (and_parts (all_there (touched intent) s) (fits intent) fit).0).0 met;
-      }) (all_folded (λ name. value_of name s) intent.commuted) e
+        began = ap (option_and_then (λ part. part_under (seat_of a) part.mine.points)) there ∙ began;
+        none_newer = none-newer (guarded_refs intent) point w t kept there
+            (all_there-parts (guarded_refs intent) (map (λ c. c.name) intent.commuted) s
+            (and_parts (all_there (touched_refs intent) s) (intent_fits intent) fit).0).0 met;
+      }) (all_folded (λ name. newest_value name s) intent.commuted) e
 
-      by : (o : Option ℕ) → found (seat_of a) kept.mine.points ≡ o
+      by : (o : Option ℕ) → part_under (seat_of a) kept.mine.points ≡ o
           → Comes (commit_by (seat_of a) intent s o)
       by None began = λ e. absurd (never-refused _ _ _ e)
-      by (Some point) began = at point began (all_there (touched intent) s && fits intent)
-          (any_newer point (guarded intent) s) refl refl
+      by (Some point) began = at point began (all_there (touched_refs intent) s && intent_fits intent)
+          (any_newer point (guarded_refs intent) s) refl refl
 
   met-planned : Met (plan g t kept.quiet (asks_for a (commit intent)))
   met-planned = asked-by Met g a (commit intent) kept.quiet
@@ -135,9 +136,9 @@ pub met-none_newer : (g : Ground) (w after : World) (t : ℕ) (a : Actor) (inten
     → step g w (does t (asks_for a (commit intent)))
     ≡ accepted after (ask_answered (verdict committed)) → MetNoNewer w t a intent
 unfolding step
-met-none_newer g w after t a intent = by (found t w.tenants) refl
+met-none_newer g w after t a intent = by (part_under t w.tenants) refl
   where
-    by : (o : Option (Option TenantData)) → found t w.tenants ≡ o
+    by : (o : Option (Option TenantData)) → part_under t w.tenants ≡ o
         → deed_step g w t (asks_for a (commit intent)) o
         ≡ accepted after (ask_answered (verdict committed)) → MetNoNewer w t a intent
     by None is e = absurd (never-refused _ _ _ e)

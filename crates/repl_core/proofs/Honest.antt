@@ -1,13 +1,13 @@
 -- A machine behind the turn of an actor.
-use Rattle.std.proofs.Common.{◌≡◌, ◌≢◌, ℕ, Some, None, option_map}
-use Rattle.std.proofs.Common.{Result, Ok, Err, IfErr, OnOk, sym, ap, subst, ◌∙◌}
+use Rattle.std.proofs.Common.{◌≡◌, ◌≢◌, ℕ, Some, None, option_map, Result, Ok, Err, IfErr, OnOk}
+use Rattle.std.proofs.Common.{sym, ap, subst, ◌∙◌}
 use Rattle.server_rules.specs.Ground.{Ground}
-use Rattle.server_rules.specs.Numbered.{found}
-use Rattle.server_rules.specs.Turns.{goes, stepped, honest, quiet_of}
+use Rattle.server_rules.specs.Numbered.{part_under}
+use Rattle.server_rules.specs.Turns.{goes, turn_step, honest_deed, quiet_of}
 use Rattle.server_rules.specs.World.{TenantData, World, step, does, ended_as}
 use Rattle.server_rules.specs.declared.actor.Actor.{Actor}
 use Rattle.server_rules.specs.declared.refusal.Refusal.{Refusal}
-use Rattle.tenant_refs.specs.Serving.{Table}
+use Rattle.tenant_refs.specs.Serving.{ListRefTable}
 use Rattle.tenant_turns.specs.Grounds.{IsRight}
 use Rattle.tenant_turns.specs.Turns.{Lone}
 use Rattle.tenant_walks.specs.Grounds.{Evaluates}
@@ -17,7 +17,7 @@ use Rattle.tenant_walks.specs.declared.walks.Walks.{Walks}
 use Rattle.tenant_world.specs.declared.tenant.Tenant.{Tenant}
 use Rattle.repl_core.specs.TenantAt.{tenant_at}
 use Rattle.repl_core.specs.Standing.{open_in, store_in, TenantStands, Stands}
-use Rattle.repl_core.specs.Going.{AreWalkedIn, Goes, Halts}
+use Rattle.repl_core.specs.Going.{AreWalkedIn, AcceptsTurn, RefusesTurn}
 use Rattle.repl_core.specs.declared.machine.Machine.{Machine}
 use Rattle.repl_core.specs.declared.tenants.Tenants.{Tenants}
 use Rattle.repl_core.proofs.Worlds.{deed_of, found-open, step-deed, step-none}
@@ -25,12 +25,12 @@ use Rattle.repl_core.proofs.Places.{serves-in, kept-at, none-at, open-mine, all-
 use Rattle.repl_core.proofs.Behind.{machine_with, stands-with, stands-one, stays-one, world_behind}
 
 -- the turn is the honest deed
-pub honest-turn : (g : Ground) (w : World) (t : ℕ) (a : Actor) (kept : TenantData)
+pub honest_deed-turn : (g : Ground) (w : World) (t : ℕ) (a : Actor) (kept : TenantData)
     → open_in t w ≡ Some kept
-    → stepped g w (goes t a) ≡ step g w (does t (honest g a (Some (Some kept.quiet))))
-honest-turn g w t a kept there =
-    ap (λ o. step g w (does t (honest g a (option_map quiet_of o))))
-    (found-open (found t w.tenants) kept there)
+    → turn_step g w (goes t a) ≡ step g w (does t (honest_deed g a (Some (Some kept.quiet))))
+honest_deed-turn g w t a kept there =
+    ap (λ o. step g w (does t (honest_deed g a (option_map quiet_of o))))
+    (found-open (part_under t w.tenants) kept there)
 
 -- the tenant that goes on
 abbrev lone_in : World → ℕ → TenantData → Lone
@@ -54,28 +54,28 @@ lone-stands g w t old was walks kept s right ground there is walked =
     }
 
 pub goes-so : {X : Type 0} (g : Ground) (w : World) (t : ℕ) (a : Actor) (old : Machine)
-    (ts : Tenants) (table : Table) (was code : Tenant) (before walks : Walks)
+    (ts : Tenants) (table : ListRefTable) (was code : Tenant) (before walks : Walks)
     (res : Result X Refusal) (s : Stands g old w) → IsRight g → Evaluates g
     → tenant_at old.tenants t ≡ Some was → AreWalkedIn before (open_in t w)
     → ((l : Lone) → walked.Stands g (parts was old.refs before) l s.refs
-    → OnOk res (walked.Does g l s.refs (honest g a (Some (Some l.quiet))) (parts code table walks)))
+    → OnOk res (walked.AcceptsDeed g l s.refs (honest_deed g a (Some (Some l.quiet))) (parts code table walks)))
     → tenant_at ts t ≡ Some code
     → ((u : ℕ) → u ≢ t → tenant_at ts u ≡ tenant_at old.tenants u)
-    → OnOk res (Goes g w t a (machine_with old ts table) walks)
+    → OnOk res (AcceptsTurn g w t a (machine_with old ts table) walks)
 goes-so g w t a old ts table was code before walks (Err why) s right ground there walked did put
     others = tt
 goes-so g w t a old ts table was code before walks (Ok x) s right ground there walked did put
     others =
     let at = kept-at g s.refs t was (tenant_at old.tenants t) (open_in t w) (s.tenants t) there in
     let kept = at.0 in
-    let d = honest g a (Some (Some kept.quiet)) in
+    let d = honest_deed g a (Some (Some kept.quiet)) in
     let it = did (lone_in w t kept)
     (lone-stands g w t old was before kept s right ground there at.1 walked) in
     let behind = world_behind g w t kept d it.after in
     record {
       after = behind;
       answer = it.answer;
-      accepted = honest-turn g w t a kept at.1 ∙ step-deed g w t d kept at.1
+      accepted = honest_deed-turn g w t a kept at.1 ∙ step-deed g w t d kept at.1
           ∙ ap (ended_as w t (deed_of g w t kept d).store) it.accepted;
       stands = stands-one g w t d old ts table code kept it.after s at.1 it.stands.tenant
           it.stands.serves put others;
@@ -86,26 +86,26 @@ goes-so g w t a old ts table was code before walks (Ok x) s right ground there w
     }
 
 pub halts-so : {X : Type 0} (g : Ground) (w : World) (t : ℕ) (a : Actor) (old : Machine)
-    (ts : Tenants) (table : Table) (was code : Tenant) (before walks : Walks)
+    (ts : Tenants) (table : ListRefTable) (was code : Tenant) (before walks : Walks)
     (res : Result X Refusal) (s : Stands g old w) → IsRight g → Evaluates g
     → tenant_at old.tenants t ≡ Some was → AreWalkedIn before (open_in t w)
     → ((l : Lone) → walked.Stands g (parts was old.refs before) l s.refs
-    → IfErr res (walked.Refuses g l s.refs (honest g a (Some (Some l.quiet)))
+    → IfErr res (walked.RefusesDeed g l s.refs (honest_deed g a (Some (Some l.quiet)))
     (parts code table walks)))
     → tenant_at ts t ≡ Some code
     → ((u : ℕ) → u ≢ t → tenant_at ts u ≡ tenant_at old.tenants u)
-    → IfErr res (Halts g w t a (machine_with old ts table) walks)
+    → IfErr res (RefusesTurn g w t a (machine_with old ts table) walks)
 halts-so g w t a old ts table was code before walks (Ok x) s right ground there walked told put
     others = tt
 halts-so g w t a old ts table was code before walks (Err why) s right ground there walked told put
     others =
     let at = kept-at g s.refs t was (tenant_at old.tenants t) (open_in t w) (s.tenants t) there in
     let kept = at.0 in
-    let d = honest g a (Some (Some kept.quiet)) in
+    let d = honest_deed g a (Some (Some kept.quiet)) in
     let it = told (lone_in w t kept)
     (lone-stands g w t old was before kept s right ground there at.1 walked) in
     record {
-      refused = λ ne. honest-turn g w t a kept at.1 ∙ step-deed g w t d kept at.1
+      refused = λ ne. honest_deed-turn g w t a kept at.1 ∙ step-deed g w t d kept at.1
           ∙ ap (ended_as w t (deed_of g w t kept d).store) (it.refused ne);
       stands = stays-one g w t old ts table code kept s at.1 at.2.refs it.stands.tenant
           it.stands.serves put others;
@@ -117,9 +117,9 @@ pub halts-none : (g : Ground) (w : World) (t : ℕ) (a : Actor) (old : Machine) 
     (walks : Walks) → Stands g old w → AreWalkedIn walks (open_in t w)
     → tenant_at old.tenants t ≡ None → tenant_at ts t ≡ None
     → ((u : ℕ) → u ≢ t → tenant_at ts u ≡ tenant_at old.tenants u)
-    → Halts g w t a (machine_with old ts old.refs) walks Refusal.NoSuchTenant
+    → RefusesTurn g w t a (machine_with old ts old.refs) walks Refusal.NoSuchTenant
 halts-none g w t a old ts walks s walked none gone others = record {
-  refused = λ ne. step-none g w t (honest g a (option_map quiet_of (found t w.tenants)))
+  refused = λ ne. step-none g w t (honest_deed g a (option_map quiet_of (part_under t w.tenants)))
       (none-at g s.refs t (tenant_at old.tenants t) (open_in t w) (s.tenants t) none);
   stands = stands-with g old w ts s (all-places
       (λ u. tenant_at ts u ≡ tenant_at old.tenants u) t (gone ∙ sym none)

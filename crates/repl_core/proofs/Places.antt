@@ -4,19 +4,20 @@ use Rattle.std.proofs.Common.{option_and_then, refl, sym, ap, subst, ◌∙◌, 
 use Rattle.std.proofs.lemmas.Bool.{eqb-true, eqb-false, eq-eqb}
 use Rattle.value_data.specs.Datum.{tenant}
 use Rattle.server_rules.specs.Ground.{Ground}
-use Rattle.server_rules.specs.Numbered.{found, replaced}
+use Rattle.server_rules.specs.Numbered.{part_under, with_part}
 use Rattle.server_rules.specs.Store.{Around, Store}
 use Rattle.server_rules.specs.Tenant.{Quiet}
 use Rattle.server_rules.specs.World.{TenantData, World}
-use Rattle.ref_table.specs.Refs.{Refs, after as refs_after}
+use Rattle.ref_table.specs.Refs.{Refs, refs_after}
 use Rattle.tenant_refs.specs.Attempts.{ArePoints}
-use Rattle.tenant_refs.specs.Serving.{Serves}
-use Rattle.tenant_walks.proofs.Runs.{found-put}
+use Rattle.tenant_refs.specs.Serving.{TableServes}
+use Rattle.tenant_walks.proofs.Runs.{part_under-put}
 use Rattle.tenant_world.specs.Memories.{Remembers}
 use Rattle.tenant_world.specs.Standing as world
 use Rattle.tenant_world.specs.declared.tenant.Tenant.{Tenant}
 use Rattle.repl_core.specs.TenantAt.{tenant_at}
-use Rattle.repl_core.specs.Standing.{open_in, store_in, around_in, TenantStands, PlaceStands, Stands}
+use Rattle.repl_core.specs.Standing.{open_in, store_in, around_in, TenantStands, PlaceStands}
+use Rattle.repl_core.specs.Standing.{Stands}
 use Rattle.repl_core.specs.declared.machine.Machine.{Machine}
 use Rattle.repl_core.proofs.Worlds.{found-open}
 
@@ -49,7 +50,7 @@ tenant-stands g r t code q s same refs st = record {
 -- the table serves a tenant that is open
 pub serves-in : (g : Ground) (m : Machine) (w : World) (t : ℕ) (code : Tenant) (kept : TenantData)
     (s : Stands g m w) → TenantStands g s.refs t code kept
-    → Serves m.refs (store_in w.around t kept.mine) s.refs
+    → TableServes m.refs (store_in w.around t kept.mine) s.refs
 serves-in g m w t code kept s it = record {
   stands = s.table;
   sound = s.sound;
@@ -136,17 +137,17 @@ all-places P t mine others = λ u. by u (u == t) refl
 -- what is found of another tenant
 pub open-others : (w : World) (around : Around) (t u : ℕ) (x : Option TenantData) (y : TenantData)
     → open_in t w ≡ Some y → u ≢ t
-    → open_in u (record { around = around; tenants = replaced t x w.tenants }) ≡ open_in u w
+    → open_in u (record { around = around; tenants = with_part t x w.tenants }) ≡ open_in u w
 open-others w around t u x y there apart =
     ap (option_and_then (λ part. part))
-    ((found-put u t x (Some y) w.tenants (found-open (found t w.tenants) y there)).1 apart)
+    ((part_under-put u t x (Some y) w.tenants (found-open (part_under t w.tenants) y there)).1 apart)
 
 pub open-mine : (w : World) (around : Around) (t : ℕ) (x : Option TenantData) (y : TenantData)
     → open_in t w ≡ Some y
-    → open_in t (record { around = around; tenants = replaced t x w.tenants }) ≡ x
+    → open_in t (record { around = around; tenants = with_part t x w.tenants }) ≡ x
 open-mine w around t x y there =
     ap (option_and_then (λ part. part))
-    ((found-put t t x (Some y) w.tenants (found-open (found t w.tenants) y there)).0 refl)
+    ((part_under-put t t x (Some y) w.tenants (found-open (part_under t w.tenants) y there)).0 refl)
 
 -- the refs of each, once a tenant sees this
 pub owned-others : (s : Store) (r : Refs) (t u : ℕ) → s.tenant ≡ t → (u == t) ≡ false

@@ -1,6 +1,5 @@
 -- The evaluations of a tenant's forms, through deeds by which none goes on.
-use Rattle.std.proofs.Common.{◌≡◌, ℕ, Option, Some, None}
-use Rattle.std.proofs.Common.{refl, sym, ap, subst, ◌∙◌}
+use Rattle.std.proofs.Common.{◌≡◌, ℕ, Option, Some, None, refl, sym, ap, subst, ◌∙◌}
 use Rattle.server_rules.specs.Ground.{Ground}
 use Rattle.server_rules.specs.Plan as deeds
 use Rattle.server_rules.specs.Plan.{Deed, StepAnswer, Outcome, refuses, leaves}
@@ -10,13 +9,13 @@ use Rattle.server_rules.specs.World.{TenantData, World, Stepped, accepted, refus
 use Rattle.server_rules.specs.World.{ended_as}
 use Rattle.server_rules.specs.declared.actor.Actor.{Actor}
 use Rattle.server_rules.specs.declared.refusal.Refusal.{Refusal}
-use Rattle.tenant_turns.specs.Deeded.{deeded}
+use Rattle.tenant_turns.specs.DeedResult.{deed_result}
 use Rattle.tenant_walks.specs.WalkAt.{walk_at}
 use Rattle.tenant_walks.specs.Walked.{AreWalked}
 use Rattle.tenant_walks.specs.declared.walks.Walks.{Walks}
 use Rattle.tenant_walks.proofs.Outcomes.{heard-after}
 use Rattle.tenant_walks.proofs.Runs.{heard-runs}
-use Rattle.tenant_walks.proofs.Steps.{drained-runs, drains-by}
+use Rattle.tenant_walks.proofs.Steps.{drain_outcome-runs, drains-by}
 use Rattle.tenant_world.specs.Running.{running_in}
 use Rattle.repl_core.specs.Going.{AreWalkedIn, KeepsForms}
 use Rattle.repl_core.specs.Standing.{open_in, store_in}
@@ -36,13 +35,13 @@ runs-on : (walks : Walks) (q after : Quiet) → ((a : Actor) → running_in a af
 runs-on walks q after same walked = λ a run p runs at. walked a run p (sym (same a) ∙ runs) at
 
 deed-runs : (g : Ground) (q after : Quiet) (s : Store) (d : Deed) (answer : StepAnswer)
-    → KeepsForms d → (deeded g s q d).outcome ≡ leaves after answer
+    → KeepsForms d → (deed_result g s q d).outcome ≡ leaves after answer
     → (a : Actor) → running_in a after ≡ running_in a q
 deed-runs g q after s (deeds.hears piece) answer keeps is a =
     ap (running_in a) (heard-after g q s piece after answer is)
     ∙ heard-runs g s.tenant piece q a
 deed-runs g q after s deeds.drains answer keeps is a =
-    drained-runs q after answer a q.replies
+    drain_outcome-runs q after answer a q.replies
     (sym (drains-by g (record { quiet = q; store = s })) ∙ is)
 deed-runs g q after s (deeds.starts b) answer keeps is a = absurd (keeps)
 deed-runs g q after s (deeds.asks_for b ask) answer keeps is a = absurd (keeps)

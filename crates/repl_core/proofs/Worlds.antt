@@ -1,31 +1,32 @@
 -- The tenants of a server, through its steps.
-use Rattle.std.proofs.Common.{◌≡◌, ℕ, ◌+◌, ◌-◌, ◌==◌, List, [], ◌∷◌, Bool, true, false, ◌||◌, nat_le}
-use Rattle.std.proofs.Common.{Option, Some, None, option_and_then, refl, sym, ap, ◌∙◌, true≢false, arith}
+use Rattle.std.proofs.Common.{◌≡◌, ℕ, ◌+◌, ◌-◌, ◌==◌, List, [], ◌∷◌, Bool, true, false, ◌||◌}
+use Rattle.std.proofs.Common.{nat_le, Option, Some, None, option_and_then, refl, sym, ap, ◌∙◌}
+use Rattle.std.proofs.Common.{true≢false, arith}
 use Rattle.std.proofs.lemmas.Bool.{eqb-true}
 use Rattle.std.proofs.lemmas.Bool.Decides.{nat_tests}
 use Rattle.server_rules.specs.Ground.{Ground}
-use Rattle.server_rules.specs.Numbered.{Entry, entry, found, replaced}
+use Rattle.server_rules.specs.Numbered.{Entry, entry, part_under, with_part}
 use Rattle.server_rules.specs.Plan.{Deed}
 use Rattle.server_rules.specs.Deeds.{plan}
 use Rattle.server_rules.specs.Store.{Store}
 use Rattle.server_rules.specs.Tenant.{Quiet}
-use Rattle.server_rules.specs.World.{TenantData, World, is_used, open_count}
-use Rattle.server_rules.specs.World.{accepted, refused, step, does, closes}
-use Rattle.server_rules.specs.World.{deed_step, close_step, ended_as, with_tenant}
+use Rattle.server_rules.specs.World.{TenantData, World, is_used, open_count, accepted, refused}
+use Rattle.server_rules.specs.World.{step, does, closes, deed_step, close_step, ended_as}
+use Rattle.server_rules.specs.World.{with_tenant}
 use Rattle.server_rules.specs.Plan.{tenant_gone}
 use Rattle.server_rules.specs.declared.refusal.Refusal.{Refusal}
 use Rattle.tenant_actors.proofs.EntryLaws.{found_first, replaced_first}
-use Rattle.tenant_turns.specs.Deeded.{Deeded, carried_out, deeded}
+use Rattle.tenant_turns.specs.DeedResult.{DeedResult, carried_out, deed_result}
 use Rattle.repl_core.specs.Standing.{open_in, store_in, is_reached}
 
 -- Numbers that were used
 
-pub used-replaced : (u t : ℕ) (x : Option TenantData) (es : List (Entry (Option TenantData)))
-    → is_used u (replaced t x es) ≡ is_used u es
-used-replaced u t x [] = refl
-used-replaced u t x (e ∷ es) = by (used-replaced u t x es) (t == e.number) refl
+pub used-with_part : (u t : ℕ) (x : Option TenantData) (es : List (Entry (Option TenantData)))
+    → is_used u (with_part t x es) ≡ is_used u es
+used-with_part u t x [] = refl
+used-with_part u t x (e ∷ es) = by (used-with_part u t x es) (t == e.number) refl
   where
-    by : is_used u (replaced t x es) ≡ is_used u es → (b : Bool) → (t == e.number) ≡ b
+    by : is_used u (with_part t x es) ≡ is_used u es → (b : Bool) → (t == e.number) ≡ b
         → is_used u (replaced_first b t x e es) ≡ (nat_le u e.number || is_used u es)
     by behind true same = ap (λ k. nat_le u k || is_used u es) (eqb-true t e.number same)
     by behind false apart = ap (λ (b : Bool). nat_le u e.number || b) behind
@@ -38,15 +39,15 @@ le-same : (n m : ℕ) → n ≡ m → nat_le n m ≡ true
 le-same n m e = grind (arith, nat_tests)
 
 pub used-none : (t : ℕ) (es : List (Entry (Option TenantData))) → is_used t es ≡ false
-    → found t es ≡ None
+    → part_under t es ≡ None
 used-none t [] unused = refl
 used-none t (e ∷ es) unused = by (λ h. used-none t es h) (t == e.number) refl
   where
     parts : (nat_le t e.number ≡ false) × (is_used t es ≡ false)
     parts = or-false (nat_le t e.number) (is_used t es) unused
 
-    by : (is_used t es ≡ false → found t es ≡ None) → (b : Bool) → (t == e.number) ≡ b
-        → found_first b e.part (found t es) ≡ None
+    by : (is_used t es ≡ false → part_under t es ≡ None) → (b : Bool) → (t == e.number) ≡ b
+        → found_first b e.part (part_under t es) ≡ None
     by behind true same = absurd (true≢false
         (sym (le-same t e.number (eqb-true t e.number same)) ∙ parts.0))
     by behind false apart = behind parts.1
@@ -67,14 +68,14 @@ reached-more newest t u above = by newest above (nat_le u t) refl
 
 -- Places that are taken
 
-pub count-replaced : (t : ℕ) (x y : TenantData) (es : List (Entry (Option TenantData)))
-    → found t es ≡ Some (Some y) → open_count (replaced t (Some x) es) ≡ open_count es
-count-replaced t x y [] never = absurd (cc)
-count-replaced t x y (e ∷ es) there =
-    by (λ h. count-replaced t x y es h) (t == e.number) e.part there
+pub count-with_part : (t : ℕ) (x y : TenantData) (es : List (Entry (Option TenantData)))
+    → part_under t es ≡ Some (Some y) → open_count (with_part t (Some x) es) ≡ open_count es
+count-with_part t x y [] never = absurd (cc)
+count-with_part t x y (e ∷ es) there =
+    by (λ h. count-with_part t x y es h) (t == e.number) e.part there
   where
-    by : (found t es ≡ Some (Some y) → open_count (replaced t (Some x) es) ≡ open_count es)
-        → (b : Bool) (part : Option TenantData) → found_first b part (found t es) ≡ Some (Some y)
+    by : (part_under t es ≡ Some (Some y) → open_count (with_part t (Some x) es) ≡ open_count es)
+        → (b : Bool) (part : Option TenantData) → found_first b part (part_under t es) ≡ Some (Some y)
         → open_count (replaced_first b t (Some x) (entry e.number part) es)
         ≡ open_count (entry e.number part ∷ es)
     by behind true None never = absurd (cc)
@@ -83,12 +84,12 @@ count-replaced t x y (e ∷ es) there =
     by behind false (Some z) h = ap (λ n. n + 1) (behind h)
 
 count-gone : (t : ℕ) (y : TenantData) (es : List (Entry (Option TenantData)))
-    → found t es ≡ Some (Some y) → open_count (replaced t None es) + 1 ≡ open_count es
+    → part_under t es ≡ Some (Some y) → open_count (with_part t None es) + 1 ≡ open_count es
 count-gone t y [] never = absurd (cc)
 count-gone t y (e ∷ es) there = by (λ h. count-gone t y es h) (t == e.number) e.part there
   where
-    by : (found t es ≡ Some (Some y) → open_count (replaced t None es) + 1 ≡ open_count es)
-        → (b : Bool) (part : Option TenantData) → found_first b part (found t es) ≡ Some (Some y)
+    by : (part_under t es ≡ Some (Some y) → open_count (with_part t None es) + 1 ≡ open_count es)
+        → (b : Bool) (part : Option TenantData) → found_first b part (part_under t es) ≡ Some (Some y)
         → open_count (replaced_first b t None (entry e.number part) es) + 1
         ≡ open_count (entry e.number part ∷ es)
     by behind true None never = absurd (cc)
@@ -100,7 +101,7 @@ less-one : (a b : ℕ) → a + 1 ≡ b → a ≡ b - 1
 less-one a b h = omega arith
 
 pub count-less : (t : ℕ) (y : TenantData) (es : List (Entry (Option TenantData)))
-    → found t es ≡ Some (Some y) → open_count (replaced t None es) ≡ open_count es - 1
+    → part_under t es ≡ Some (Some y) → open_count (with_part t None es) ≡ open_count es - 1
 count-less t y es there = less-one _ _ (count-gone t y es there)
 
 -- Steps
@@ -112,16 +113,16 @@ found-open (Some None) y never = absurd (cc)
 found-open (Some (Some x)) y same = ap (λ it. Some it) same
 
 -- what a deed of a tenant comes to
-abbrev pub deed_of : Ground → World → ℕ → TenantData → Deed → Deeded
-deed_of g w t kept d = deeded g (store_in w.around t kept.mine) kept.quiet d
+abbrev pub deed_of : Ground → World → ℕ → TenantData → Deed → DeedResult
+deed_of g w t kept d = deed_result g (store_in w.around t kept.mine) kept.quiet d
 
-deeded-by : (g : Ground) (s : Store) (q : Quiet) (d : Deed)
-    → deeded g s q d ≡ carried_out s (plan g s.tenant q d)
-unfolding deeded
-deeded-by g s q d = refl
+deed_result-by : (g : Ground) (s : Store) (q : Quiet) (d : Deed)
+    → deed_result g s q d ≡ carried_out s (plan g s.tenant q d)
+unfolding deed_result
+deed_result-by g s q d = refl
 
 step-by : (g : Ground) (w : World) (t : ℕ) (d : Deed) → step g w (does t d)
-    ≡ deed_step g w t d (found t w.tenants)
+    ≡ deed_step g w t d (part_under t w.tenants)
 unfolding step
 step-by g w t d = refl
 
@@ -130,13 +131,13 @@ pub step-deed : (g : Ground) (w : World) (t : ℕ) (d : Deed) (kept : TenantData
     ≡ ended_as w t (deed_of g w t kept d).store (deed_of g w t kept d).outcome
 step-deed g w t d kept there =
     step-by g w t d
-    ∙ ap (deed_step g w t d) (found-open (found t w.tenants) kept there)
-    ∙ ap (λ (e : Deeded). ended_as w t e.store e.outcome)
-    (sym (deeded-by g (store_in w.around t kept.mine) kept.quiet d))
+    ∙ ap (deed_step g w t d) (found-open (part_under t w.tenants) kept there)
+    ∙ ap (λ (e : DeedResult). ended_as w t e.store e.outcome)
+    (sym (deed_result-by g (store_in w.around t kept.mine) kept.quiet d))
 
 pub step-none : (g : Ground) (w : World) (t : ℕ) (d : Deed) → open_in t w ≡ None
     → step g w (does t d) ≡ refused Refusal.NoSuchTenant
-step-none g w t d none = step-by g w t d ∙ by (found t w.tenants) none
+step-none g w t d none = step-by g w t d ∙ by (part_under t w.tenants) none
   where
     by : (o : Option (Option TenantData)) → option_and_then (λ part. part) o ≡ None
         → deed_step g w t d o ≡ refused Refusal.NoSuchTenant
@@ -145,13 +146,13 @@ step-none g w t d none = step-by g w t d ∙ by (found t w.tenants) none
     by (Some (Some x)) e = absurd (cc)
 
 close-by : (g : Ground) (w : World) (t : ℕ) → step g w (closes t)
-    ≡ close_step w t (found t w.tenants)
+    ≡ close_step w t (part_under t w.tenants)
 unfolding step
 close-by g w t = refl
 
 pub close-none : (g : Ground) (w : World) (t : ℕ) → open_in t w ≡ None
     → step g w (closes t) ≡ refused Refusal.NoSuchTenant
-close-none g w t none = close-by g w t ∙ by (found t w.tenants) none
+close-none g w t none = close-by g w t ∙ by (part_under t w.tenants) none
   where
     by : (o : Option (Option TenantData)) → option_and_then (λ part. part) o ≡ None
         → close_step w t o ≡ refused Refusal.NoSuchTenant
@@ -162,4 +163,4 @@ close-none g w t none = close-by g w t ∙ by (found t w.tenants) none
 pub close-some : (g : Ground) (w : World) (t : ℕ) (kept : TenantData) → open_in t w ≡ Some kept
     → step g w (closes t) ≡ accepted (with_tenant t None w.around w) tenant_gone
 close-some g w t kept there =
-    close-by g w t ∙ ap (close_step w t) (found-open (found t w.tenants) kept there)
+    close-by g w t ∙ ap (close_step w t) (found-open (part_under t w.tenants) kept there)

@@ -1,23 +1,23 @@
 -- What commits make of refs, over the steps of a server (the Clojure reference, Refs and
 -- Transactions): each ref's newest value is the fold of the changes that were committed, in order.
-use Rattle.std.specs.Prelude.{◌≡◌, ℕ, ◌==◌, List, [], ◌∷◌, Bool, false}
-use Rattle.std.specs.Prelude.{Option, None, Some, option_and_then, slice_get, if◌then◌else◌}
-use Rattle.std.specs.Prelude.{Result, Ok, Err}
+use Rattle.std.specs.Prelude.{◌≡◌, ℕ, ◌==◌, List, [], ◌∷◌, Bool, false, Option, None, Some}
+use Rattle.std.specs.Prelude.{option_and_then, slice_get, if◌then◌else◌, Result, Ok, Err}
 use Rattle.std.specs.List.{list_any}
 use Rattle.value_data.specs.Datum as datum
 use Rattle.value_data.specs.Datum.{Datum, OwnerData, shared, tenant}
 use Rattle.repl_faults.specs.Failure.{Failure}
 use Rattle.repl_asks.specs.Transactions.{RefNameData, ChangeData, CommutedData, IntentData}
+use Rattle.repl_asks.specs.Transactions.{same_name}
 use Rattle.repl_asks.specs.Exchange.{AskData, AnswerData, new_ref, commit, value, verdict}
 use Rattle.repl_asks.specs.Exchange.{committed}
 use Rattle.server_rules.specs.Numbered as numbered
 use Rattle.server_rules.specs.Versions.{Ref, newest}
-use Rattle.server_rules.specs.Commit.{guarded, same_name, is_newer_ref, folded_from}
+use Rattle.server_rules.specs.Commit.{guarded_refs, is_newer_ref, folded_from}
 use Rattle.server_rules.specs.Ground.{Ground}
 use Rattle.server_rules.specs.Tenant.{seat_of}
 use Rattle.server_rules.specs.Plan.{StepAnswer, asks_for, ask_answered}
-use Rattle.server_rules.specs.World.{TenantData, World, Step, does, closes}
-use Rattle.server_rules.specs.World.{Stepped, accepted, refused, step, world_or, run}
+use Rattle.server_rules.specs.World.{TenantData, World, Step, does, closes, Stepped, accepted}
+use Rattle.server_rules.specs.World.{refused, step, world_or, run}
 use Rattle.server_rules.specs.declared.actor.Actor.{Actor}
 use Rattle.repl_core.specs.Standing.{open_in}
 
@@ -31,23 +31,24 @@ abbrev pub refs_in : OwnerData → World → List Ref
 refs_in shared w = w.around.refs
 refs_in (tenant t) w = refs_of (open_in t w)
 
-abbrev pub ref_in : RefNameData → World → Option Ref
-ref_in name w = slice_get (refs_in name.owner w) name.number
+abbrev pub ref_in_world : RefNameData → World → Option Ref
+ref_in_world name w = slice_get (refs_in name.owner w) name.number
 
 abbrev pub newest_in : RefNameData → World → Option Datum
-newest_in name w = option_and_then (λ r. newest r.versions) (ref_in name w)
+newest_in name w = option_and_then (λ r. newest r.versions) (ref_in_world name w)
 
 -- A commit that was answered so met no version that is newer than its read point, of a ref that it
 -- set or ensured
 
 abbrev pub point_in : ℕ → Actor → World → Option ℕ
 point_in t a w =
-    option_and_then (λ kept. numbered.found (seat_of a) kept.mine.points) (open_in t w)
+    option_and_then (λ kept. numbered.part_under (seat_of a) kept.mine.points) (open_in t w)
 
 pub record MetNoNewer (w : World) (t : ℕ) (a : Actor) (intent : IntentData) : Type 0 where
   pub point : ℕ
   pub began : point_in t a w ≡ Some point
-  pub none_newer : list_any (λ name. is_newer_ref point (ref_in name w)) (guarded intent) ≡ false
+  pub none_newer : list_any (λ name. is_newer_ref point (ref_in_world name w))
+      (guarded_refs intent) ≡ false
 
 abbrev pub CommittedMetNoNewer : Type 0
 CommittedMetNoNewer =
@@ -75,15 +76,15 @@ last_commuted name (c ∷ cs) before = last_commuted name cs
     (if same_name name c.name then folded_or before (folded_from c before) else before)
 
 -- whether the value is the ref of this name
-abbrev pub is_named : RefNameData → Datum → Bool
-is_named name (datum.ref owner n) = same_name name (record { owner = owner; number = n })
-is_named name _ = false
+abbrev pub is_ref_named : RefNameData → Datum → Bool
+is_ref_named name (datum.ref owner n) = same_name name (record { owner = owner; number = n })
+is_ref_named name _ = false
 
 abbrev pub given_by : RefNameData → AskData → AnswerData → Option Datum → Option Datum
 given_by name (commit intent) (verdict committed) before =
     last_commuted name intent.commuted (last_set name intent.sets before)
 given_by name (new_ref d least most) (value made) before =
-    if is_named name made then Some d else before
+    if is_ref_named name made then Some d else before
 given_by name _ _ before = before
 
 -- whether the tenant's refs go with it

@@ -1,14 +1,14 @@
 -- What a list of turns comes to.
 use Rattle.std.specs.Prelude.{ℕ, ◌+◌, List, [], ◌∷◌}
 use Rattle.server_rules.specs.Ground.{Ground}
-use Rattle.server_rules.specs.Turns.{Turn, stepped, next}
+use Rattle.server_rules.specs.Turns.{Turn, turn_step, world_after}
 use Rattle.server_rules.specs.World.{World, Stepped, accepted, refused}
 use Rattle.server_rules.specs.declared.refusal.Refusal.{Refusal}
 
 -- the server behind a list of turns
-abbrev pub behind : Ground → World → List Turn → World
-behind g w [] = w
-behind g w (turn ∷ turns) = behind g (next g w turn) turns
+abbrev pub world_after_all : Ground → World → List Turn → World
+world_after_all g w [] = w
+world_after_all g w (turn ∷ turns) = world_after_all g (world_after g w turn) turns
 
 -- a turn that was refused: its place in the list, and why
 pub record RefusedData : Type 0 where
@@ -23,4 +23,4 @@ with_refusal place (refused why) rest = record { place = place; why = why } ∷ 
 abbrev pub refusals : Ground → World → ℕ → List Turn → List RefusedData
 refusals g w place [] = []
 refusals g w place (turn ∷ turns) =
-    with_refusal place (stepped g w turn) (refusals g (next g w turn) (place + 1) turns)
+    with_refusal place (turn_step g w turn) (refusals g (world_after g w turn) (place + 1) turns)

@@ -2,7 +2,7 @@
 use Rattle.std.specs.Prelude.{◌≡◌, ◌≢◌, ℕ, Option, None, Some, ⊤}
 use Rattle.server_rules.specs.Ground.{Ground}
 use Rattle.server_rules.specs.Plan.{Deed, StepAnswer, hears, starts, asks_for, ends, drains}
-use Rattle.server_rules.specs.Turns.{goes, stepped}
+use Rattle.server_rules.specs.Turns.{goes, turn_step}
 use Rattle.server_rules.specs.World as worlds
 use Rattle.server_rules.specs.World.{TenantData, World, opens, does, closes, accepted, refused}
 use Rattle.server_rules.specs.declared.actor.Actor.{Actor}
@@ -32,17 +32,17 @@ StepKeepsForms (does t d) = KeepsForms d
 StepKeepsForms (closes t) = ⊤
 
 -- the turn is accepted
-pub record Goes (g : Ground) (w : World) (t : ℕ) (a : Actor) (m : Machine) (walks : Walks)
+pub record AcceptsTurn (g : Ground) (w : World) (t : ℕ) (a : Actor) (m : Machine) (walks : Walks)
     : Type 0 where
   pub after : World
   pub answer : StepAnswer
-  pub accepted : stepped g w (goes t a) ≡ accepted after answer
+  pub accepted : turn_step g w (goes t a) ≡ accepted after answer
   pub stands : Stands g m after
   pub walked : AreWalkedIn walks (open_in t after)
 
 -- the turn is refused so, unless for want of memory, and all is as it was
-pub record Halts (g : Ground) (w : World) (t : ℕ) (a : Actor) (m : Machine) (walks : Walks)
+pub record RefusesTurn (g : Ground) (w : World) (t : ℕ) (a : Actor) (m : Machine) (walks : Walks)
     (why : Refusal) : Type 0 where
-  pub refused : why ≢ Refusal.NoMemory → stepped g w (goes t a) ≡ refused why
+  pub refused : why ≢ Refusal.NoMemory → turn_step g w (goes t a) ≡ refused why
   pub stands : Stands g m w
   pub walked : AreWalkedIn walks (open_in t w)

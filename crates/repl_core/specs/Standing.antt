@@ -2,7 +2,7 @@
 use Rattle.std.specs.Prelude.{◌≡◌, ℕ, [], Bool, false, nat_le, Option, None, Some, option_and_then}
 use Rattle.value_data.specs.Datum.{shared, tenant}
 use Rattle.server_rules.specs.Ground.{Ground}
-use Rattle.server_rules.specs.Numbered.{found}
+use Rattle.server_rules.specs.Numbered.{part_under}
 use Rattle.server_rules.specs.Store.{Around, Own, Store}
 use Rattle.server_rules.specs.World.{TenantData, World, is_used, open_count}
 use Rattle.ref_history.specs.Histories.{ListStands}
@@ -17,7 +17,7 @@ use Rattle.repl_core.specs.declared.machine.Machine.{Machine}
 
 -- a tenant that is open
 abbrev pub open_in : ℕ → World → Option TenantData
-open_in t w = option_and_then (λ part. part) (found t w.tenants)
+open_in t w = option_and_then (λ part. part) (part_under t w.tenants)
 
 -- what a tenant reaches of the refs
 abbrev pub store_in : Around → ℕ → Own → Store

@@ -5,12 +5,12 @@ use Rattle.repl_jobs.specs.View.{job_view}
 use Rattle.server_rules.specs.Ground.{Ground}
 use Rattle.server_rules.specs.Plan as rules
 use Rattle.server_rules.specs.Plan.{tenant_opened, messages_heard, form_begun, request_answered}
-use Rattle.server_rules.specs.Plan.{ask_answered, form_finished, request_interrupted}
-use Rattle.server_rules.specs.Plan.{reply_given, tenant_gone}
+use Rattle.server_rules.specs.Plan.{ask_answered, form_finished, request_interrupted, reply_given}
+use Rattle.server_rules.specs.Plan.{tenant_gone}
 use Rattle.server_rules.specs.World as worlds
 use Rattle.server_rules.specs.World.{World, opens, does, closes, accepted, refused, step}
 use Rattle.server_rules.specs.declared.refusal.Refusal.{Refusal}
-use Rattle.tenant_walks.specs.Ended.{ended}
+use Rattle.repl_walker.specs.Ends.{ending_view}
 use Rattle.repl_core.specs.Standing.{Stands}
 use Rattle.repl_core.specs.declared.machine.Machine.{Machine}
 use Rattle.repl_core.specs.declared.step.Step.{Step}
@@ -21,7 +21,7 @@ step_view (Step.Open t) = opens t
 step_view (Step.Hear t piece) = does t (rules.hears piece)
 step_view (Step.Start t actor) = does t (rules.starts actor)
 step_view (Step.Asked t actor ask) = does t (rules.asks_for actor (ask_view ask))
-step_view (Step.Ended t actor ending) = does t (rules.ends actor (ended ending))
+step_view (Step.Ended t actor ending) = does t (rules.ends actor (ending_view ending))
 step_view (Step.Drain t) = does t rules.drains
 step_view (Step.Bye t) = closes t
 
@@ -37,14 +37,16 @@ step_answer_view (StepAnswer.Bytes bytes) = reply_given bytes.items
 step_answer_view StepAnswer.Gone = tenant_gone
 
 -- the step is accepted with this answer, and the machine stands for the server behind it
-pub record Does (g : Ground) (w : World) (s : worlds.Step) (m : Machine) (answer : rules.StepAnswer)
+pub record AcceptsStep (g : Ground) (w : World) (s : worlds.Step) (m : Machine)
+    (answer : rules.StepAnswer)
     : Type 0 where
   pub after : World
   pub accepted : step g w s ≡ accepted after answer
   pub stands : Stands g m after
 
--- the step is refused so, unless for want of memory, and the machine stands for the server as it was
-pub record Refuses (g : Ground) (w : World) (s : worlds.Step) (m : Machine) (why : Refusal)
+-- the step is refused so, unless for want of memory, and the machine stands for the server as it
+-- was
+pub record RefusesStep (g : Ground) (w : World) (s : worlds.Step) (m : Machine) (why : Refusal)
     : Type 0 where
   pub refused : why ≢ Refusal.NoMemory → step g w s ≡ refused why
   pub stands : Stands g m w

@@ -1,6 +1,6 @@
 // What tenants do.
-ghost use Rattle.std.specs.Prelude.{◌≡◌, ◌≢◌, ◌+◌, ◌<◌, ◌∷◌, [], true, Err};
-ghost use Rattle.std.specs.Prelude.{IfOk, IfErr, OnOk, OnErr};
+ghost use Rattle.std.specs.Prelude.{◌≡◌, ◌≢◌, ◌+◌, ◌<◌, ◌∷◌, [], true, Err, IfOk, IfErr, OnOk};
+ghost use Rattle.std.specs.Prelude.{OnErr};
 ghost use Rattle.repl_asks.specs.View.{ask_view};
 ghost use Rattle.server_rules.specs.Ground.{Ground};
 ghost use Rattle.server_rules.specs.Plan as deeds;
@@ -8,8 +8,8 @@ ghost use Rattle.server_rules.specs.Plan.{messages_heard, reply_given};
 ghost use Rattle.server_rules.specs.World.{World, does};
 ghost use Rattle.ref_table.specs.Standing.{counter_of};
 ghost use Rattle.tenant_turns.specs.Grounds.{IsRight};
-ghost use Rattle.tenant_walks.specs.Ended as endings;
-ghost use Rattle.tenant_world.specs.Answers.{started_view, asked_view, ended_view};
+ghost use Rattle.repl_walker.specs.Ends as endings;
+ghost use Rattle.tenant_world.specs.Answers.{start_answer_view, ask_answer_view, end_answer_view};
 
 use crate::machine::Machine;
 use bytes::Bytes;
@@ -19,20 +19,20 @@ use repl_asks::Ask;
 use repl_walker::Ending;
 use server_rules::{Actor, Refusal};
 use tenant_world as world;
-use tenant_world::{Asked, Ended, Started};
+use tenant_world::{AskAnswer, EndAnswer, StartAnswer};
 
 impl Machine {
     ghost use Rattle.repl_core.specs.Left.{left_at};
     ghost use Rattle.repl_core.specs.Standing.{Stands};
-    ghost use Rattle.repl_core.specs.Steps.{Does, Refuses};
+    ghost use Rattle.repl_core.specs.Steps.{AcceptsStep, RefusesStep};
 
     /// A tenant hears a piece of its stream.
     pub fn hear(&mut self, number: u64, piece: &Bytes) -> Result<usize, Refusal>
         ensures done { (g : Ground) (w : World) → IsRight g → Stands g self.old w
-            → IfOk result (λ x. Does g w (does number (deeds.hears piece.now)) self.new
+            → IfOk result (λ x. AcceptsStep g w (does number (deeds.hears piece.now)) self.new
             (messages_heard x)) }
         ensures refused { (g : Ground) (w : World) → IsRight g → Stands g self.old w
-            → IfErr result (Refuses g w (does number (deeds.hears piece.now)) self.new) }
+            → IfErr result (RefusesStep g w (does number (deeds.hears piece.now)) self.new) }
         ensures steps { OnOk result
             ((left_at number self.old).steps ≡ (left_at number self.new).steps + 1) }
         ensures kept { OnErr result
@@ -47,12 +47,12 @@ impl Machine {
     }
 
     /// An actor begins its next form, or takes up its next request.
-    pub(crate) fn start(&mut self, number: u64, actor: Actor) -> Result<Started, Refusal>
+    pub(crate) fn start(&mut self, number: u64, actor: Actor) -> Result<StartAnswer, Refusal>
         ensures done { (g : Ground) (w : World) → IsRight g → Stands g self.old w
-            → IfOk result (λ x. Does g w (does number (deeds.starts actor)) self.new
-            (started_view x)) }
+            → IfOk result (λ x. AcceptsStep g w (does number (deeds.starts actor)) self.new
+            (start_answer_view x)) }
         ensures refused { (g : Ground) (w : World) → IsRight g → Stands g self.old w
-            → IfErr result (Refuses g w (does number (deeds.starts actor)) self.new) }
+            → IfErr result (RefusesStep g w (does number (deeds.starts actor)) self.new) }
     {
         let Some(mut tenant) = self.tenants.take(number) else {
             return Err(Refusal::NoSuchTenant);
@@ -63,12 +63,19 @@ impl Machine {
     }
 
     /// The form of an actor that runs asks this.
-    pub(crate) fn asked(&mut self, number: u64, actor: Actor, ask: &Ask) -> Result<Asked, Refusal>
+    pub(crate) fn answer_ask(
+        &mut self,
+        number: u64,
+        actor: Actor,
+        ask: &Ask,
+    ) -> Result<AskAnswer, Refusal>
         ensures done { (g : Ground) (w : World) → IsRight g → Stands g self.old w
-            → IfOk result (λ x. Does g w (does number (deeds.asks_for actor (ask_view ask.now))) self.new
-            (asked_view x)) }
+            → IfOk result (λ x. AcceptsStep g w
+            (does number (deeds.asks_for actor (ask_view ask.now))) self.new
+            (ask_answer_view x)) }
         ensures refused { (g : Ground) (w : World) → IsRight g → Stands g self.old w
-            → IfErr result (Refuses g w (does number (deeds.asks_for actor (ask_view ask.now))) self.new) }
+            → IfErr result (RefusesStep g w
+            (does number (deeds.asks_for actor (ask_view ask.now))) self.new) }
     {
         if !has_stamps(&self.refs) {
             return Err(Refusal::NoMemory);
@@ -82,17 +89,19 @@ impl Machine {
     }
 
     /// The form of an actor that runs has ended so.
-    pub(crate) fn ended(
+    pub(crate) fn end_form(
         &mut self,
         number: u64,
         actor: Actor,
         ending: &Ending,
-    ) -> Result<Ended, Refusal>
+    ) -> Result<EndAnswer, Refusal>
         ensures done { (g : Ground) (w : World) → IsRight g → Stands g self.old w
-            → IfOk result (λ x. Does g w (does number (deeds.ends actor (endings.ended ending.now))) self.new
-            (ended_view x)) }
+            → IfOk result (λ x. AcceptsStep g w
+            (does number (deeds.ends actor (endings.ending_view ending.now))) self.new
+            (end_answer_view x)) }
         ensures refused { (g : Ground) (w : World) → IsRight g → Stands g self.old w
-            → IfErr result (Refuses g w (does number (deeds.ends actor (endings.ended ending.now))) self.new) }
+            → IfErr result (RefusesStep g w
+            (does number (deeds.ends actor (endings.ending_view ending.now))) self.new) }
     {
         let Some(mut tenant) = self.tenants.take(number) else {
             return Err(Refusal::NoSuchTenant);
@@ -110,10 +119,10 @@ impl Machine {
     /// A tenant's oldest reply is taken out. It takes no memory.
     pub fn drain(&mut self, number: u64) -> Result<Vec<u8>, Refusal>
         ensures done { (g : Ground) (w : World) → IsRight g → Stands g self.old w
-            → IfOk result (λ x. Does g w (does number deeds.drains) self.new
+            → IfOk result (λ x. AcceptsStep g w (does number deeds.drains) self.new
             (reply_given x.items)) }
         ensures refused { (g : Ground) (w : World) → IsRight g → Stands g self.old w
-            → IfErr result (Refuses g w (does number deeds.drains) self.new) }
+            → IfErr result (RefusesStep g w (does number deeds.drains) self.new) }
         ensures steps { (left_at number self.new).steps ≡ (left_at number self.old).steps }
         ensures oldest { IfOk result (λ reply. (left_at number self.old).outbox
             ≡ reply.items ∷ (left_at number self.new).outbox) }

@@ -2,7 +2,7 @@
 ghost use Rattle.std.specs.Prelude.{◌≡◌, [], option_and_then, option_map};
 ghost use Rattle.server_rules.specs.Ground.{Ground};
 ghost use Rattle.server_rules.specs.Ready.{ready};
-ghost use Rattle.server_rules.specs.World.{World, opening};
+ghost use Rattle.server_rules.specs.World.{World, new_world};
 ghost use Rattle.tenant_world.specs.Asking.{SharesNoNames};
 ghost use Rattle.repl_core.specs.Standing.{open_in};
 ghost use Rattle.repl_core.specs.TenantAt.{tenant_at};
@@ -63,7 +63,7 @@ impl Machine {
     /// A server to which nobody came. It takes no memory.
     pub fn new(alloc: Global, config: Config) -> Machine
         ensures { (g : Ground) → SharesNoNames g → g.seed ≡ config.seed → g.steps ≡ config.steps
-            → g.retries ≡ config.retries → g.places ≡ 1 → Stands g result (opening []) }
+            → g.retries ≡ config.retries → g.places ≡ 1 → Stands g result (new_world []) }
     {
         Machine {
             alloc,

@@ -12,14 +12,14 @@ use tenant_world::Tenant;
 
 impl Machine {
     ghost use Rattle.repl_core.specs.Standing.{Stands};
-    ghost use Rattle.repl_core.specs.Steps.{Does, Refuses};
+    ghost use Rattle.repl_core.specs.Steps.{AcceptsStep, RefusesStep};
 
     /// A tenant comes.
     pub fn open(&mut self, number: u64) -> Result<(), Refusal>
         ensures done { (g : Ground) (w : World) → IsRight g → Stands g self.old w
-            → OnOk result (Does g w (opens number) self.new tenant_opened) }
+            → OnOk result (AcceptsStep g w (opens number) self.new tenant_opened) }
         ensures refused { (g : Ground) (w : World) → IsRight g → Stands g self.old w
-            → IfErr result (Refuses g w (opens number) self.new) }
+            → IfErr result (RefusesStep g w (opens number) self.new) }
     {
         if self.is_reached(number) {
             return Err(Refusal::NumberUsed);
@@ -53,9 +53,9 @@ impl Machine {
     /// A tenant goes, and its refs with it. It takes no memory.
     pub fn close(&mut self, number: u64) -> Result<(), Refusal>
         ensures done { (g : Ground) (w : World) → Stands g self.old w
-            → OnOk result (Does g w (closes number) self.new tenant_gone) }
+            → OnOk result (AcceptsStep g w (closes number) self.new tenant_gone) }
         ensures refused { (g : Ground) (w : World) → Stands g self.old w
-            → IfErr result (Refuses g w (closes number) self.new) }
+            → IfErr result (RefusesStep g w (closes number) self.new) }
         ensures free { result ≢ Err Refusal.NoMemory }
     {
         let Some(tenant) = self.tenants.remove(number) else {

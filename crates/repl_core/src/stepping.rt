@@ -3,24 +3,24 @@ ghost use Rattle.std.specs.Prelude.{◌≡◌, IfOk, IfErr};
 ghost use Rattle.server_rules.specs.Ground.{Ground};
 ghost use Rattle.server_rules.specs.World.{World};
 ghost use Rattle.tenant_turns.specs.Grounds.{IsRight};
-ghost use Rattle.tenant_world.specs.Answers.{started_view, asked_view, ended_view};
+ghost use Rattle.tenant_world.specs.Answers.{start_answer_view, ask_answer_view, end_answer_view};
 ghost use Rattle.repl_core.specs.Steps.{step_view, step_answer_view};
 
 use crate::machine::Machine;
 use crate::step::{Refused, Step, StepAnswer};
 use server_rules::Refusal;
-use tenant_world::{Asked, Ended, Started};
+use tenant_world::{AskAnswer, EndAnswer, StartAnswer};
 
 impl Machine {
     ghost use Rattle.repl_core.specs.Standing.{Stands};
-    ghost use Rattle.repl_core.specs.Steps.{Does, Refuses};
+    ghost use Rattle.repl_core.specs.Steps.{AcceptsStep, RefusesStep};
 
     /// Makes a step. A step that is refused changes nothing, and is given back.
     pub fn step(&mut self, step: Step) -> Result<StepAnswer, Refused>
         ensures done { (g : Ground) (w : World) → IsRight g → Stands g self.old w
-            → IfOk result (λ x. Does g w (step_view step) self.new (step_answer_view x)) }
+            → IfOk result (λ x. AcceptsStep g w (step_view step) self.new (step_answer_view x)) }
         ensures refused { (g : Ground) (w : World) → IsRight g → Stands g self.old w
-            → IfErr result (λ it. Refuses g w (step_view step) self.new it.why) }
+            → IfErr result (λ it. RefusesStep g w (step_view step) self.new it.why) }
         ensures handed_back { IfErr result (λ it. it.step ≡ step) }
     {
         match self.make(&step) {
@@ -31,9 +31,10 @@ impl Machine {
 
     fn make(&mut self, step: &Step) -> Result<StepAnswer, Refusal>
         ensures done { (g : Ground) (w : World) → IsRight g → Stands g self.old w
-            → IfOk result (λ x. Does g w (step_view step.now) self.new (step_answer_view x)) }
+            → IfOk result (λ x. AcceptsStep g w (step_view step.now) self.new
+            (step_answer_view x)) }
         ensures refused { (g : Ground) (w : World) → IsRight g → Stands g self.old w
-            → IfErr result (Refuses g w (step_view step.now) self.new) }
+            → IfErr result (RefusesStep g w (step_view step.now) self.new) }
     {
         match step {
             Step::Open(number) => {
@@ -42,9 +43,9 @@ impl Machine {
             }
             Step::Hear(number, piece) => Ok(StepAnswer::Heard(self.hear(*number, piece)?)),
             Step::Start(number, actor) => Ok(of_started(self.start(*number, *actor)?)),
-            Step::Asked(number, actor, ask) => Ok(of_asked(self.asked(*number, *actor, ask)?)),
+            Step::Asked(number, actor, ask) => Ok(of_asked(self.answer_ask(*number, *actor, ask)?)),
             Step::Ended(number, actor, ending) => {
-                Ok(of_ended(self.ended(*number, *actor, ending)?))
+                Ok(of_ended(self.end_form(*number, *actor, ending)?))
             }
             Step::Drain(number) => Ok(StepAnswer::Bytes(self.drain(*number)?)),
             Step::Bye(number) => {
@@ -55,30 +56,30 @@ impl Machine {
     }
 }
 
-fn of_started(started: Started) -> StepAnswer
-    ensures { step_answer_view result ≡ started_view started }
+fn of_started(started: StartAnswer) -> StepAnswer
+    ensures { step_answer_view result ≡ start_answer_view started }
 {
     match started {
-        Started::Begun(job) => StepAnswer::Begun(job),
-        Started::Answered => StepAnswer::Answered,
-        Started::Interrupted => StepAnswer::Interrupted,
+        StartAnswer::Begun(job) => StepAnswer::Begun(job),
+        StartAnswer::Answered => StepAnswer::Answered,
+        StartAnswer::Interrupted => StepAnswer::Interrupted,
     }
 }
 
-fn of_asked(asked: Asked) -> StepAnswer
-    ensures { step_answer_view result ≡ asked_view asked }
+fn of_asked(asked: AskAnswer) -> StepAnswer
+    ensures { step_answer_view result ≡ ask_answer_view asked }
 {
     match asked {
-        Asked::Answer(answer) => StepAnswer::Answer(answer),
-        Asked::Interrupted => StepAnswer::Interrupted,
+        AskAnswer::Answer(answer) => StepAnswer::Answer(answer),
+        AskAnswer::Interrupted => StepAnswer::Interrupted,
     }
 }
 
-fn of_ended(ended: Ended) -> StepAnswer
-    ensures { step_answer_view result ≡ ended_view ended }
+fn of_ended(ended: EndAnswer) -> StepAnswer
+    ensures { step_answer_view result ≡ end_answer_view ended }
 {
     match ended {
-        Ended::Finished => StepAnswer::Finished,
-        Ended::Interrupted => StepAnswer::Interrupted,
+        EndAnswer::Finished => StepAnswer::Finished,
+        EndAnswer::Interrupted => StepAnswer::Interrupted,
     }
 }

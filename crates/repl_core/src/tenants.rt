@@ -1,5 +1,6 @@
 // The tenants that are open, by their numbers.
-ghost use Rattle.std.specs.Prelude.{◌≡◌, ◌≢◌, ℕ, None, Some, true, is_some, option_map, OnOk, OnErr};
+ghost use Rattle.std.specs.Prelude.{◌≡◌, ◌≢◌, ℕ, None, Some, true, is_some, option_map, OnOk};
+ghost use Rattle.std.specs.Prelude.{OnErr};
 ghost use Rattle.repl_core.specs.TenantAt.{tenant_at, has_place};
 
 use std::alloc::{AllocError, Global};

@@ -14,8 +14,8 @@ abbrev pub ◌>>=◌ : {A B : Type 0} → Result A Failure → (A → Result B F
 (Ok x) >>= f = f x
 (Err e) >>= f = Err e
 
-abbrev pub arithmetic : List ℕ → Failure
-arithmetic text = record { class = codes "java.lang.ArithmeticException"; text = text }
+abbrev pub arithmetic_failure : List ℕ → Failure
+arithmetic_failure text = record { class = codes "java.lang.ArithmeticException"; text = text }
 
 abbrev pub class_cast : List ℕ → Failure
 class_cast text = record { class = codes "java.lang.ClassCastException"; text = text }
@@ -30,14 +30,15 @@ abbrev pub runtime : List ℕ → Failure
 runtime text = record { class = codes "java.lang.RuntimeException"; text = text }
 
 abbrev pub integer_overflow : Failure
-integer_overflow = arithmetic (codes "integer overflow")
+integer_overflow = arithmetic_failure (codes "integer overflow")
 
 abbrev pub divide_by_zero : Failure
-divide_by_zero = arithmetic (codes "Divide by zero")
+divide_by_zero = arithmetic_failure (codes "Divide by zero")
 
 -- an argument of a kind that the function does not take
 abbrev pub wrong_argument : List ℕ → Datum → Failure
-wrong_argument function argument = class_cast (codes "Wrong argument to " ++ function ++ codes ": " ++ print argument)
+wrong_argument function argument =
+    class_cast (codes "Wrong argument to " ++ function ++ codes ": " ++ print argument)
 
 -- what stands where a function has to
 abbrev pub not_a_function : Datum → Failure
@@ -51,7 +52,11 @@ wrong_arity function arguments = record {
 }
 
 abbrev pub out_of_bounds : Failure
-out_of_bounds = record { class = codes "java.lang.IndexOutOfBoundsException"; text = codes "Index out of bounds" }
+out_of_bounds = record {
+  class = codes "java.lang.IndexOutOfBoundsException";
+  text =
+      codes "Index out of bounds";
+}
 
 abbrev pub too_large : Failure
 too_large = illegal_argument (codes "Value too large")
@@ -70,8 +75,9 @@ no_value_supplied key = illegal_argument (codes "No value supplied for key: " ++
 abbrev pub bad_form : List ℕ → Failure
 bad_form name = illegal_argument (codes "Bad form: " ++ name)
 
-abbrev pub unresolved : List ℕ → Failure
-unresolved symbol = runtime (codes "Unable to resolve symbol: " ++ symbol ++ codes " in this context")
+abbrev pub unresolved_symbol : List ℕ → Failure
+unresolved_symbol symbol = runtime
+    (codes "Unable to resolve symbol: " ++ symbol ++ codes " in this context")
 
 abbrev pub no_such_namespace : List ℕ → Failure
 no_such_namespace name = runtime (codes "No such namespace: " ++ name)
@@ -91,28 +97,32 @@ abbrev pub too_many_calls : Failure
 too_many_calls = runtime (codes "Budget of 10000 calls is passed")
 
 abbrev pub too_deep : Failure
-too_deep = record { class = codes "java.lang.StackOverflowError"; text = codes "Depth of 200 is passed" }
+too_deep = record {
+  class = codes "java.lang.StackOverflowError";
+  text =
+      codes "Depth of 200 is passed";
+}
 
 -- what a program threw that is no fault, by its text
-abbrev pub thrown : List ℕ → Failure
-thrown text = record { class = codes "clojure.lang.ExceptionInfo"; text = text }
+abbrev pub thrown_text : List ℕ → Failure
+thrown_text text = record { class = codes "clojure.lang.ExceptionInfo"; text = text }
 
 -- a rule of references, transactions or the shared namespace that was not kept
-abbrev pub broken : Rule → Failure
-broken Rule.ATransactionRuns = illegal_state (codes "No transaction running")
-broken Rule.NoSetAfterCommute = illegal_state (codes "Can't set after commute")
-broken Rule.NoIoInTransaction = illegal_state (codes "I/O in transaction")
-broken Rule.NoAwaitInTransaction = illegal_state (codes "await in transaction")
-broken Rule.NoAwaitInAction = illegal_state (codes "Can't await in agent action")
-broken Rule.SharedBoundsStay = illegal_state (codes "Shared history can't be set")
-broken Rule.SharedHistoryIsHidden =
+abbrev pub broken_rule : Rule → Failure
+broken_rule Rule.ATransactionRuns = illegal_state (codes "No transaction running")
+broken_rule Rule.NoSetAfterCommute = illegal_state (codes "Can't set after commute")
+broken_rule Rule.NoIoInTransaction = illegal_state (codes "I/O in transaction")
+broken_rule Rule.NoAwaitInTransaction = illegal_state (codes "await in transaction")
+broken_rule Rule.NoAwaitInAction = illegal_state (codes "Can't await in agent action")
+broken_rule Rule.SharedBoundsStay = illegal_state (codes "Shared history can't be set")
+broken_rule Rule.SharedHistoryIsHidden =
     illegal_state (codes "Shared history can't be read in a transaction")
-broken Rule.SharedTextDefinesAlone =
+broken_rule Rule.SharedTextDefinesAlone =
     illegal_state (codes "Not allowed in the shared namespace")
-broken Rule.SharedRefsArePlain =
+broken_rule Rule.SharedRefsArePlain =
     illegal_argument (codes "Only plain data goes into a shared ref")
-broken Rule.CommutesAreOfCore = illegal_argument (codes "commute takes a core function")
-broken Rule.AttemptsAreLimited =
+broken_rule Rule.CommutesAreOfCore = illegal_argument (codes "commute takes a core function")
+broken_rule Rule.AttemptsAreLimited =
     runtime (codes "Transaction failed after reaching retry limit")
-broken Rule.AgentHasNotFailed = runtime (codes "Agent is failed, needs restart")
-broken Rule.AgentHasFailed = runtime (codes "Agent does not need a restart")
+broken_rule Rule.AgentHasNotFailed = runtime (codes "Agent is failed, needs restart")
+broken_rule Rule.AgentHasFailed = runtime (codes "Agent does not need a restart")

@@ -1,4 +1,5 @@
--- What the code returns, beside what is meant. Memory may run out at any call, and then nothing is said.
+-- What the code returns, beside what is meant. Memory may run out at any call, and then nothing is
+-- said.
 use Rattle.std.specs.Prelude.{◌≡◌, Result, Ok, Err}
 use Rattle.std.specs.Arc.{arc_str_bytes}
 use Rattle.repl_values.specs.declared.fault.Fault.{Fault}

@@ -30,8 +30,9 @@ fn fault(alloc: Global, class: &str, text: &str) -> Result<Fault, AllocError>
 }
 
 // The text is put together already.
-fn told(alloc: Global, class: &str, text: String) -> Result<Fault, AllocError>
-    ensures { IfOk result (λ f. failure_of f ≡ record { class = class.now; text = string_bytes text }) }
+fn fault_with_text(alloc: Global, class: &str, text: String) -> Result<Fault, AllocError>
+    ensures { IfOk result (λ f. failure_of f
+        ≡ record { class = class.now; text = string_bytes text }) }
 {
     let class = ArcStr::from_str(alloc, class)?;
     let text = ArcStr::from_string(text)?;
@@ -39,21 +40,28 @@ fn told(alloc: Global, class: &str, text: String) -> Result<Fault, AllocError>
 }
 
 // The text is what stands in front, and a name behind it.
-fn named(alloc: Global, class: &str, front: &str, name: &str) -> Result<Fault, AllocError>
-    ensures { IfOk result (λ f. failure_of f ≡ record { class = class.now; text = front.now ++ name.now }) }
+fn fault_with_name(alloc: Global, class: &str, front: &str, name: &str) -> Result<Fault, AllocError>
+    ensures { IfOk result (λ f. failure_of f
+        ≡ record { class = class.now; text = front.now ++ name.now }) }
 {
     let mut text = String::from_str(alloc, front)?;
     text.push_str(name)?;
-    told(alloc, class, text)
+    fault_with_text(alloc, class, text)
 }
 
 // The text is what stands in front, and a value's print behind it.
-fn printed(alloc: Global, class: &str, front: &str, value: &Value) -> Result<Fault, AllocError>
-    ensures { IfOk result (λ f. failure_of f ≡ record { class = class.now; text = front.now ++ print (view value.now) }) }
+fn fault_with_print(
+    alloc: Global,
+    class: &str,
+    front: &str,
+    value: &Value,
+) -> Result<Fault, AllocError>
+    ensures { IfOk result (λ f. failure_of f
+        ≡ record { class = class.now; text = front.now ++ print (view value.now) }) }
 {
     let mut text = String::from_str(alloc, front)?;
     print_into(alloc, value, &mut text)?;
-    told(alloc, class, text)
+    fault_with_text(alloc, class, text)
 }
 
 /// A result outside 64 signed bits.
@@ -72,20 +80,21 @@ pub fn divide_by_zero(alloc: Global) -> Result<Fault, AllocError>
 
 /// `argument` is of a kind that the function of this name does not take.
 pub fn wrong_argument(alloc: Global, function: &str, argument: &Value) -> Result<Fault, AllocError>
-    ensures { IfOk result (λ f. failure_of f ≡ meant.wrong_argument function.now (view argument.now)) }
+    ensures { IfOk result (λ f. failure_of f
+        ≡ meant.wrong_argument function.now (view argument.now)) }
 {
     let mut text = String::from_str(alloc, "Wrong argument to ")?;
     text.push_str(function)?;
     text.push_str(": ")?;
     print_into(alloc, argument, &mut text)?;
-    told(alloc, CLASS_CAST, text)
+    fault_with_text(alloc, CLASS_CAST, text)
 }
 
 /// This value, or form, stands where a function has to.
 pub fn not_a_function(alloc: Global, value: &Value) -> Result<Fault, AllocError>
     ensures { IfOk result (λ f. failure_of f ≡ meant.not_a_function (view value.now)) }
 {
-    printed(alloc, CLASS_CAST, "Not a function: ", value)
+    fault_with_print(alloc, CLASS_CAST, "Not a function: ", value)
 }
 
 /// A function, as it is called, with a number of arguments that it does not take.
@@ -97,7 +106,7 @@ pub fn wrong_arity(alloc: Global, function: &str, arguments: usize) -> Result<Fa
     text.push_str(digits.format(arguments))?;
     text.push_str(") passed to: ")?;
     text.push_str(function)?;
-    told(alloc, "clojure.lang.ArityException", text)
+    fault_with_text(alloc, "clojure.lang.ArityException", text)
 }
 
 /// An index outside a list or a vector.
@@ -129,59 +138,59 @@ pub fn output_too_long(alloc: Global) -> Result<Fault, AllocError>
 pub fn duplicate_key(alloc: Global, key: &Value) -> Result<Fault, AllocError>
     ensures { IfOk result (λ f. failure_of f ≡ meant.duplicate_key (view key.now)) }
 {
-    printed(alloc, ILLEGAL_ARGUMENT, "Duplicate key: ", key)
+    fault_with_print(alloc, ILLEGAL_ARGUMENT, "Duplicate key: ", key)
 }
 
 /// The last of an odd number of keys and values.
 pub fn no_value_supplied(alloc: Global, key: &Value) -> Result<Fault, AllocError>
     ensures { IfOk result (λ f. failure_of f ≡ meant.no_value_supplied (view key.now)) }
 {
-    printed(alloc, ILLEGAL_ARGUMENT, "No value supplied for key: ", key)
+    fault_with_print(alloc, ILLEGAL_ARGUMENT, "No value supplied for key: ", key)
 }
 
 /// Another shape of the special form of this name.
 pub fn bad_form(alloc: Global, name: &str) -> Result<Fault, AllocError>
     ensures { IfOk result (λ f. failure_of f ≡ meant.bad_form name.now) }
 {
-    named(alloc, ILLEGAL_ARGUMENT, "Bad form: ", name)
+    fault_with_name(alloc, ILLEGAL_ARGUMENT, "Bad form: ", name)
 }
 
 /// A symbol that names nothing.
-pub fn unresolved(alloc: Global, symbol: &str) -> Result<Fault, AllocError>
-    ensures { IfOk result (λ f. failure_of f ≡ meant.unresolved symbol.now) }
+pub fn unresolved_symbol(alloc: Global, symbol: &str) -> Result<Fault, AllocError>
+    ensures { IfOk result (λ f. failure_of f ≡ meant.unresolved_symbol symbol.now) }
 {
     let mut text = String::from_str(alloc, "Unable to resolve symbol: ")?;
     text.push_str(symbol)?;
     text.push_str(" in this context")?;
-    told(alloc, RUNTIME, text)
+    fault_with_text(alloc, RUNTIME, text)
 }
 
 /// The namespace of a symbol is not there.
 pub fn no_such_namespace(alloc: Global, name: &str) -> Result<Fault, AllocError>
     ensures { IfOk result (λ f. failure_of f ≡ meant.no_such_namespace name.now) }
 {
-    named(alloc, RUNTIME, "No such namespace: ", name)
+    fault_with_name(alloc, RUNTIME, "No such namespace: ", name)
 }
 
 /// A symbol with a namespace that does not bind its name.
 pub fn no_such_var(alloc: Global, symbol: &str) -> Result<Fault, AllocError>
     ensures { IfOk result (λ f. failure_of f ≡ meant.no_such_var symbol.now) }
 {
-    named(alloc, RUNTIME, "No such var: ", symbol)
+    fault_with_name(alloc, RUNTIME, "No such var: ", symbol)
 }
 
 /// A namespace that is the same for all, and that nobody enters or defines in.
 pub fn namespace_is_fixed(alloc: Global, name: &str) -> Result<Fault, AllocError>
     ensures { IfOk result (λ f. failure_of f ≡ meant.namespace_is_fixed name.now) }
 {
-    named(alloc, ILLEGAL_STATE, "Namespace is fixed: ", name)
+    fault_with_name(alloc, ILLEGAL_STATE, "Namespace is fixed: ", name)
 }
 
 /// A symbol that names a function, in a value's place.
 pub fn not_a_value(alloc: Global, symbol: &str) -> Result<Fault, AllocError>
     ensures { IfOk result (λ f. failure_of f ≡ meant.not_a_value symbol.now) }
 {
-    named(alloc, RUNTIME, "A function isn't a value: ", symbol)
+    fault_with_name(alloc, RUNTIME, "A function isn't a value: ", symbol)
 }
 
 /// A form called more functions than its budget has calls.
@@ -203,15 +212,15 @@ pub fn too_deep(alloc: Global) -> Result<Fault, AllocError>
 }
 
 /// A value that a program threw and that is no fault, by its text.
-pub fn thrown(alloc: Global, text: String) -> Result<Fault, AllocError>
-    ensures { IfOk result (λ f. failure_of f ≡ meant.thrown (string_bytes text)) }
+pub fn thrown_text(alloc: Global, text: String) -> Result<Fault, AllocError>
+    ensures { IfOk result (λ f. failure_of f ≡ meant.thrown_text (string_bytes text)) }
 {
-    told(alloc, "clojure.lang.ExceptionInfo", text)
+    fault_with_text(alloc, "clojure.lang.ExceptionInfo", text)
 }
 
 /// The fault of a form that breaks this rule.
-pub fn broken(alloc: Global, rule: Rule) -> Result<Fault, AllocError>
-    ensures { IfOk result (λ f. failure_of f ≡ meant.broken rule) }
+pub fn broken_rule(alloc: Global, rule: Rule) -> Result<Fault, AllocError>
+    ensures { IfOk result (λ f. failure_of f ≡ meant.broken_rule rule) }
 {
     match rule {
         Rule::ATransactionRuns => fault(alloc, ILLEGAL_STATE, "No transaction running"),

@@ -1,7 +1,7 @@
 // The rules that a form may break.
 
 /// A rule of references, transactions, agents or the shared namespace. A form that breaks it ends
-/// in the fault that `broken` makes.
+/// in the fault that `broken_rule` makes.
 #[derive(Clone, Copy, Debug, PartialEq, Eq)]
 pub enum Rule {
     /// What sets, commutes or ensures a ref stands inside a transaction.

@@ -2,6 +2,7 @@
 use Rattle.std.specs.Prelude.{ℕ, List, Result}
 use Rattle.value_data.specs.Datum.{Datum}
 use Rattle.repl_faults.specs.Failure.{Failure}
+use Rattle.repl_asks.specs.Exchange.{Exchanged}
 
 -- what there is to evaluate: a form; actions of agents and forms of the shared text come later
 pub data WorkData : Type 0 where
@@ -18,3 +19,10 @@ pub record EndData : Type 0 where
   pub result : Result Datum Failure
   pub text : List ℕ
   pub namespace : List ℕ
+
+-- an evaluation that comes back at its end: its job, what it asked and was answered, and how it
+-- ended
+pub record EndingData : Type 0 where
+  pub job : JobData
+  pub trace : List Exchanged
+  pub end : EndData

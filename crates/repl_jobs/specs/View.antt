@@ -16,11 +16,21 @@ abbrev pub work_view : Work → WorkData
 work_view (Work.Form form) = jobs.form (view form)
 
 abbrev pub job_view : Job → JobData
-job_view job = record { work = work_view job.work; namespace = arc_str_bytes job.namespace; retries = job.retries }
+job_view job = record {
+  work = work_view job.work;
+  namespace =
+      arc_str_bytes job.namespace;
+  retries = job.retries;
+}
 
 abbrev pub end_view : End → Result Datum Failure
 end_view (End.Value v) = Ok (view v)
 end_view (End.Fault f) = Err (failure_of f)
 
 abbrev pub finished_view : Finished → EndData
-finished_view f = record { result = end_view f.end; text = string_bytes f.text; namespace = arc_str_bytes f.namespace }
+finished_view f = record {
+  result = end_view f.end;
+  text = string_bytes f.text;
+  namespace =
+      arc_str_bytes f.namespace;
+}

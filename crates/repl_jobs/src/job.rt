@@ -47,7 +47,8 @@ impl Work {
         form
     }
 
-    /// The same work once more. It takes one step, and fails only where 2^63 owners share a part of it.
+    /// The same work once more. It takes one step, and fails only where 2^63 owners share a part of
+    /// it.
     pub fn copy(&self) -> Result<Work, AllocError>
         ensures { IfOk result (λ copied. work_view copied ≡ work_view self.now) }
     {
@@ -56,7 +57,8 @@ impl Work {
 }
 
 impl Job {
-    /// The same job once more. It takes one step, and fails only where 2^63 owners share a part of it.
+    /// The same job once more. It takes one step, and fails only where 2^63 owners share a part of
+    /// it.
     pub fn copy(&self) -> Result<Job, AllocError>
         ensures { IfOk result (λ copied. job_view copied ≡ job_view self.now) }
     {
@@ -69,7 +71,8 @@ impl Job {
 }
 
 impl End {
-    /// The same end once more. It takes one step, and fails only where 2^63 owners share a part of it.
+    /// The same end once more. It takes one step, and fails only where 2^63 owners share a part of
+    /// it.
     pub fn copy(&self) -> Result<End, AllocError>
         ensures { IfOk result (λ copied. end_view copied ≡ end_view self.now) }
     {

@@ -1,19 +1,22 @@
 -- A string is read by runs of plain characters.
-use Rattle.std.proofs.Common.{◌≡◌, ℕ, ◌+◌, ◌<◌, Bool, true, false, cond, not, List, [], ◌∷◌, ◌++◌, length, get_or, drop, take, refl, sym, ap, ◌∙◌, arith, append-nil, append_assoc, one-add, length-drop}
+use Rattle.std.proofs.Common.{◌≡◌, ℕ, ◌+◌, ◌<◌, Bool, true, false, cond, not, List, [], ◌∷◌, ◌++◌}
+use Rattle.std.proofs.Common.{length, get_or, drop, take, refl, sym, ap, ◌∙◌, arith, append-nil}
+use Rattle.std.proofs.Common.{append_assoc, one-add, length-drop}
 use Rattle.std.specs.List.{position_or_len}
 use Rattle.std.proofs.lemmas.Bool.Decides.{nat_tests}
 use Rattle.std.proofs.lemmas.List.Sums.{passes_at_first}
 use Rattle.repl_reader.proofs.Bytes.{drop_at}
 use Rattle.repl_reader.specs.Text.{ends_plain}
-use Rattle.repl_reader.specs.Reading.{Contents, closed, refused, behind, contents, string_of, breaks, is_escape, bad_escape}
+use Rattle.repl_reader.specs.Reading.{Contents, closed, refused, with_leading_byte, contents}
+use Rattle.repl_reader.specs.Reading.{string_of, breaks, is_escape, bad_escape}
 use Rattle.repl_reader.specs.Quoted.{onto, string_from, escape_from}
 
-behind_onto : (s : List ℕ) (b : ℕ) (c : Contents) → onto s (behind b c) ≡ onto (s ++ b ∷ []) c
+behind_onto : (s : List ℕ) (b : ℕ) (c : Contents) → onto s (with_leading_byte b c) ≡ onto (s ++ b ∷ []) c
 behind_onto s b (closed t rest) = ap (λ x. closed x rest) (sym (append_assoc s (b ∷ []) t))
 behind_onto s b (refused f) = refl
 
 -- a plain byte stands for itself
-plain_contents : (b : ℕ) (bs : List ℕ) → ends_plain b ≡ false → contents (b ∷ bs) ≡ behind b (contents bs)
+plain_contents : (b : ℕ) (bs : List ℕ) → ends_plain b ≡ false → contents (b ∷ bs) ≡ with_leading_byte b (contents bs)
 plain_contents b bs e = grind (arith, nat_tests)
 
 plain_byte : (s bs : List ℕ) (b : ℕ) → ends_plain b ≡ false → string_from s (b ∷ bs) ≡ string_from (s ++ b ∷ []) bs

@@ -1,7 +1,10 @@
 -- What a text can be refused for, and what is reported then.
 use Rattle.std.specs.Prelude.{ℕ, List, ◌++◌, codes}
 use Rattle.repl_reader.specs.declared.fault.FaultKind.{FaultKind}
-use Rattle.repl_reader.specs.declared.fault.FaultKind.TheVariants.{Eof, Unmatched, BadNumber, BadToken, BadEscape, BadDispatch, BadChar, OddMap, SameKey, TooDeep}
+use Rattle.repl_reader.specs.declared.fault.FaultKind.TheVariants.{Eof, Unmatched, BadNumber}
+use Rattle.repl_reader.specs.declared.fault.FaultKind.TheVariants.{BadToken, BadEscape, BadDispatch}
+use Rattle.repl_reader.specs.declared.fault.FaultKind.TheVariants.{BadChar, OddMap, SameKey}
+use Rattle.repl_reader.specs.declared.fault.FaultKind.TheVariants.{TooDeep}
 
 abbrev pub class_of : FaultKind → List ℕ
 class_of Eof = codes "java.lang.RuntimeException"
@@ -16,17 +19,17 @@ class_of SameKey = codes "java.lang.IllegalArgumentException"
 class_of TooDeep = codes "java.lang.RuntimeException"
 
 -- what the message of a kind begins with
-abbrev pub message : FaultKind → List ℕ
-message Eof = codes "EOF while reading"
-message Unmatched = codes "Unmatched delimiter: "
-message BadNumber = codes "Invalid number: "
-message BadToken = codes "Invalid token: "
-message BadEscape = codes "Unsupported escape character: \\"
-message BadDispatch = codes "No dispatch macro for: "
-message BadChar = codes "Unsupported reader character: "
-message OddMap = codes "Map literal must contain an even number of forms"
-message SameKey = codes "Duplicate key: "
-message TooDeep = codes "Nested too deep"
+abbrev pub fault_message : FaultKind → List ℕ
+fault_message Eof = codes "EOF while reading"
+fault_message Unmatched = codes "Unmatched delimiter: "
+fault_message BadNumber = codes "Invalid number: "
+fault_message BadToken = codes "Invalid token: "
+fault_message BadEscape = codes "Unsupported escape character: \\"
+fault_message BadDispatch = codes "No dispatch macro for: "
+fault_message BadChar = codes "Unsupported reader character: "
+fault_message OddMap = codes "Map literal must contain an even number of forms"
+fault_message SameKey = codes "Duplicate key: "
+fault_message TooDeep = codes "Nested too deep"
 
 -- a fault of a text: which rule, the byte offset, and the message
 pub record FaultData : Type 0 where
@@ -42,4 +45,4 @@ pub record BreakData : Type 0 where
 
 -- a fault whose message ends in what was found
 unfoldable pub break_of : FaultKind → ℕ → List ℕ → BreakData
-break_of kind left found = record { kind = kind; left = left; text = message kind ++ found }
+break_of kind left found = record { kind = kind; left = left; text = fault_message kind ++ found }

@@ -1,17 +1,19 @@
--- What a text reads as. `Reads depth text r`: inside `depth` openings the text begins with r, once what `#_` drops is gone.
-use Rattle.std.specs.Prelude.{◌≡◌, ℕ, zero, suc, ◌+◌, ◌-◌, ◌<◌, ◌≤◌, List, [], Bool, true, false, Option, None, Some, if◌then◌else◌, codes, length}
+-- What a text reads as. `Reads depth text r`: inside `depth` openings the text begins with r, once
+-- what `#_` drops is gone.
+use Rattle.std.specs.Prelude.{◌≡◌, ℕ, ◌+◌, ◌-◌, ◌<◌, ◌≤◌, List, [], Bool, true, false, Option, None}
+use Rattle.std.specs.Prelude.{Some, if◌then◌else◌, codes, length}
 use Rattle.value_data.specs.Datum as datum
-use Rattle.value_data.specs.Datum.{Datum, Items, no_items, item, Pairs, no_pairs, pair}
-use Rattle.value_data.specs.Keyed.{keys_of}
-use Rattle.repl_values.specs.Print.{print}
-use Rattle.value_data.specs.Repeats.{first_repeat}
-use Rattle.repl_reader.specs.declared.fault.FaultKind.TheVariants.{Unmatched, OddMap, SameKey, TooDeep}
+use Rattle.value_data.specs.Datum.{Datum, Items, no_items, item}
+use Rattle.repl_reader.specs.declared.fault.FaultKind.TheVariants.{Unmatched, TooDeep}
 use Rattle.repl_reader.specs.Fault.{BreakData, FaultData, break_of}
-use Rattle.repl_reader.specs.Reading.{Bracket, round, square, curly, Reading, begins, closes, ends, breaks, eof, settled, opens, marks, drops, next}
+use Rattle.repl_reader.specs.Reading.{Bracket, round, square, curly, FormReading, begins, closes}
+use Rattle.repl_reader.specs.Reading.{ends, breaks, eof, settled, opens, marks, drops, next_in}
+use Rattle.repl_reader.specs.declared.nest.TheConstants.{MOST_NESTED}
+use Rattle.repl_reader.specs.Maps.{map_of, paired}
 
 -- how deep openings may be nested
 abbrev pub most_nested : ℕ
-most_nested = 64
+most_nested = MOST_NESTED
 
 abbrev pub closing : Bracket → List ℕ
 closing round = codes ")"
@@ -30,108 +32,86 @@ same_bracket curly square = false
 same_bracket curly curly = true
 
 -- a closing character before this text, where it closes nothing
-abbrev pub unmatched : Bracket → List ℕ → Reading
+abbrev pub unmatched : Bracket → List ℕ → FormReading
 unmatched b rest = breaks (break_of Unmatched (length rest + 1) (closing b))
 
 -- the character before this text opens one nesting too many
-abbrev pub too_deep : List ℕ → Reading
+abbrev pub too_deep : List ℕ → FormReading
 too_deep rest = breaks (break_of TooDeep (length rest + 1) [])
 
-abbrev pub IsForm : Reading → Type 0
+abbrev pub IsForm : FormReading → Type 0
 IsForm (begins d rest) = Unit {0}
 IsForm (closes b rest) = ⊥
 IsForm ends = ⊥
 IsForm (breaks f) = ⊥
 
 -- where a form has to stand, a closing character and the end are faults
-abbrev pub wanted : Reading → Reading
-wanted (begins d rest) = begins d rest
-wanted (closes b rest) = unmatched b rest
-wanted ends = eof
-wanted (breaks f) = breaks f
+abbrev pub form_or_fault : FormReading → FormReading
+form_or_fault (begins d rest) = begins d rest
+form_or_fault (closes b rest) = unmatched b rest
+form_or_fault ends = eof
+form_or_fault (breaks f) = breaks f
 
 -- a form in a list, behind a symbol
-abbrev pub wrapped : List ℕ → Reading → Reading
-wrapped name (begins d rest) = begins (datum.list (item (datum.symbol name) (item d no_items))) rest
-wrapped name (closes b rest) = unmatched b rest
-wrapped name ends = eof
-wrapped name (breaks f) = breaks f
-
--- the forms of a map by twos, if their number is even
-abbrev pub with_pair : Datum → Datum → Option Pairs → Option Pairs
-with_pair k v None = None
-with_pair k v (Some ps) = Some (pair k v ps)
-
-abbrev mutual
-  pub paired : Items → Option Pairs
-  paired no_items = Some no_pairs
-  paired (item k ds) = paired_with k ds
-
-  pub paired_with : Datum → Items → Option Pairs
-  paired_with k no_items = None
-  paired_with k (item v ds) = with_pair k v (paired ds)
-
--- the print of the value at this place
-abbrev pub print_at : ℕ → Items → List ℕ
-print_at n no_items = []
-print_at zero (item d ds) = print d
-print_at (suc n) (item d ds) = print_at n ds
-
--- the pairs make a map before this text, unless a key is equal to one before it
-abbrev pub keyed : Option ℕ → Pairs → List ℕ → Reading
-keyed None ps rest = begins (datum.map ps) rest
-keyed (Some place) ps rest = breaks (break_of SameKey (length rest + 1) (print_at place (keys_of ps)))
-
-unfoldable pub map_of : Option Pairs → List ℕ → Reading
-map_of None rest = breaks (break_of OddMap (length rest + 1) [])
-map_of (Some ps) rest = keyed (first_repeat (keys_of ps)) ps rest
+abbrev pub wrapped_reading : List ℕ → FormReading → FormReading
+wrapped_reading name (begins d rest) =
+    begins (datum.list (item (datum.symbol name) (item d no_items))) rest
+wrapped_reading name (closes b rest) = unmatched b rest
+wrapped_reading name ends = eof
+wrapped_reading name (breaks f) = breaks f
 
 -- what the forms between two brackets make
-abbrev pub collected : Bracket → Items → List ℕ → Reading
-collected round ds rest = begins (datum.list ds) rest
-collected square ds rest = begins (datum.vector ds) rest
-collected curly ds rest = map_of (paired ds) rest
+abbrev pub collection_reading : Bracket → Items → List ℕ → FormReading
+collection_reading round ds rest = begins (datum.list ds) rest
+collection_reading square ds rest = begins (datum.vector ds) rest
+collection_reading curly ds rest = map_of (paired ds) rest
 
 -- what forms behind an opening bracket make, by what stands after them
-abbrev pub enclosed : Bracket → Items → Reading → Reading
-enclosed b ds (begins d rest) = begins d rest
-enclosed b ds (closes c rest) = if same_bracket c b then collected b ds rest else unmatched c rest
-enclosed b ds ends = eof
-enclosed b ds (breaks f) = breaks f
+abbrev pub enclosed_reading : Bracket → Items → FormReading → FormReading
+enclosed_reading b ds (begins d rest) = begins d rest
+enclosed_reading b ds (closes c rest) = if same_bracket c b then collection_reading b ds rest
+    else unmatched c rest
+enclosed_reading b ds ends = eof
+enclosed_reading b ds (breaks f) = breaks f
 
 mutual
-  pub data Reads : ℕ → List ℕ → Reading → Type 0 where
-    plain : (depth : ℕ) (text : List ℕ) (r : Reading)
-        → next text ≡ settled r → Reads depth text r
+  pub data Reads : ℕ → List ℕ → FormReading → Type 0 where
+    plain : (depth : ℕ) (text : List ℕ) (r : FormReading)
+        → next_in text ≡ settled r → Reads depth text r
     -- a form is put behind a symbol: that is an opening
-    marked : (depth : ℕ) (text name more : List ℕ) (r : Reading)
-        → next text ≡ marks name more → depth < most_nested → Reads (depth + 1) more r → Reads depth text (wrapped name r)
+    marked : (depth : ℕ) (text name more : List ℕ) (r : FormReading)
+        → next_in text ≡ marks name more → depth < most_nested → Reads (depth + 1) more r
+        → Reads depth text (wrapped_reading name r)
     marked_deep : (depth : ℕ) (text name more : List ℕ)
-        → next text ≡ marks name more → most_nested ≤ depth → Reads depth text (too_deep more)
+        → next_in text ≡ marks name more → most_nested ≤ depth → Reads depth text (too_deep more)
     -- forms up to a closing bracket
-    opened : (depth : ℕ) (text more : List ℕ) (b : Bracket) (ds : Items) (r : Reading)
-        → next text ≡ opens b more → depth < most_nested → Row (depth + 1) more ds r → Reads depth text (enclosed b ds r)
+    opened : (depth : ℕ) (text more : List ℕ) (b : Bracket) (ds : Items) (r : FormReading)
+        → next_in text ≡ opens b more → depth < most_nested → Row (depth + 1) more ds r
+        → Reads depth text (enclosed_reading b ds r)
     opened_deep : (depth : ℕ) (text more : List ℕ) (b : Bracket)
-        → next text ≡ opens b more → most_nested ≤ depth → Reads depth text (too_deep more)
+        → next_in text ≡ opens b more → most_nested ≤ depth → Reads depth text (too_deep more)
     -- the form after `#_` is dropped, and what follows it counts
-    dropped : (depth : ℕ) (text more rest : List ℕ) (d : Datum) (r : Reading)
-        → next text ≡ drops more → Reads depth more (begins d rest) → Reads depth rest r → Reads depth text r
+    dropped : (depth : ℕ) (text more rest : List ℕ) (d : Datum) (r : FormReading)
+        → next_in text ≡ drops more → Reads depth more (begins d rest) → Reads depth rest r
+        → Reads depth text r
     -- no form stands after `#_`
-    undropped : (depth : ℕ) (text more : List ℕ) (r : Reading)
-        → next text ≡ drops more → Reads depth more r → (IsForm r → ⊥) → Reads depth text (wanted r)
+    undropped : (depth : ℕ) (text more : List ℕ) (r : FormReading)
+        → next_in text ≡ drops more → Reads depth more r → (IsForm r → ⊥)
+        → Reads depth text (form_or_fault r)
 
   -- these forms in a row, and then this, which is no form
-  pub data Row : ℕ → List ℕ → Items → Reading → Type 0 where
-    last : (depth : ℕ) (text : List ℕ) (r : Reading)
+  pub data Row : ℕ → List ℕ → Items → FormReading → Type 0 where
+    last : (depth : ℕ) (text : List ℕ) (r : FormReading)
         → Reads depth text r → (IsForm r → ⊥) → Row depth text no_items r
-    more : (depth : ℕ) (text rest : List ℕ) (d : Datum) (ds : Items) (r : Reading)
+    more : (depth : ℕ) (text rest : List ℕ) (d : Datum) (ds : Items) (r : FormReading)
         → Reads depth text (begins d rest) → Row depth rest ds r → Row depth text (item d ds) r
 
--- the fault of a text of this length, by what stands after its last form: nothing closes outside of brackets
-abbrev pub placed : ℕ → BreakData → FaultData
-placed len f = record { kind = f.kind; at = len - f.left; text = f.text }
+-- the fault of a text of this length, by what stands after its last form: nothing closes outside of
+-- brackets
+abbrev pub placed_fault : ℕ → BreakData → FaultData
+placed_fault len f = record { kind = f.kind; at = len - f.left; text = f.text }
 
-abbrev pub last_break : Reading → Option BreakData
+abbrev pub last_break : FormReading → Option BreakData
 last_break (begins d rest) = None
 last_break (closes b rest) = Some (break_of Unmatched (length rest + 1) (closing b))
 last_break ends = None
@@ -139,10 +119,10 @@ last_break (breaks f) = Some f
 
 abbrev pub placed_option : ℕ → Option BreakData → Option FaultData
 placed_option len None = None
-placed_option len (Some f) = Some (placed len f)
+placed_option len (Some f) = Some (placed_fault len f)
 
 -- the forms of a whole text before its first fault, and that fault
 pub record IsReading (text : List ℕ) (ds : Items) (fault : Option FaultData) : Type 0 where
-  pub after : Reading
+  pub after : FormReading
   pub row : Row 0 text ds after
   pub found : fault ≡ placed_option (length text) (last_break after)

@@ -3,6 +3,7 @@ pub mod Text
 pub mod Token
 pub mod Reading
 pub mod Quoted
+pub mod Maps
 pub mod Grammar
 pub mod View
 pub mod Laws

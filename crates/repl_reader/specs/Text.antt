@@ -10,7 +10,8 @@ is_white b = b == 32 || b == 9 || b == 10 || b == 12 || b == 13 || b == 44
 -- ( ) [ ] { } " ; @ ^ ~ \ and the back quote
 unfoldable pub is_delimiter : ℕ → Bool
 is_delimiter b =
-    b == 40 || b == 41 || b == 91 || b == 93 || b == 123 || b == 125 || b == 34 || b == 59 || b == 64 || b == 94 || b == 126 || b == 92 || b == 96
+    b == 40 || b == 41 || b == 91 || b == 93 || b == 123 || b == 125 || b == 34 || b == 59
+    || b == 64 || b == 94 || b == 126 || b == 92 || b == 96
 
 unfoldable pub ends_token : ℕ → Bool
 ends_token b = is_white b || is_delimiter b

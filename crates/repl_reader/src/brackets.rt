@@ -1,7 +1,7 @@
 // What brackets and marks are written as.
 ghost use Rattle.std.specs.Prelude.{◌≡◌};
 ghost use Rattle.repl_reader.specs.Grammar.{closing, same_bracket};
-ghost use Rattle.repl_reader.specs.View.{bracket_view, symbol_of};
+ghost use Rattle.repl_reader.specs.View.{bracket_view, mark_symbol};
 
 use crate::reading::{Bracket, Mark};
 
@@ -30,7 +30,7 @@ impl Bracket {
 
 impl Mark {
     pub(crate) fn symbol(self) -> &'static str
-        ensures { result.now ≡ symbol_of self }
+        ensures { result.now ≡ mark_symbol self }
     {
         match self {
             Mark::Quote => "quote",

@@ -1,6 +1,6 @@
 // What a text can be refused for.
 ghost use Rattle.std.specs.Prelude.{◌≡◌, IfOk};
-ghost use Rattle.repl_reader.specs.Fault.{class_of, message, break_of};
+ghost use Rattle.repl_reader.specs.Fault.{class_of, fault_message, break_of};
 ghost use Rattle.repl_reader.specs.View.{break_view};
 
 use std::alloc::{AllocError, Global};
@@ -66,14 +66,14 @@ pub(crate) fn break_with(
 ) -> Result<Break, AllocError>
     ensures { IfOk result (λ b. break_view b ≡ break_of kind left found.now) }
 {
-    let mut text = String::from_str(alloc, message(kind))?;
+    let mut text = String::from_str(alloc, fault_message(kind))?;
     text.push_str(found)?;
     Ok(Break { kind, left, text })
 }
 
 // What the message of a kind begins with.
-fn message(kind: FaultKind) -> &'static str
-    ensures { result.now ≡ message kind }
+fn fault_message(kind: FaultKind) -> &'static str
+    ensures { result.now ≡ fault_message kind }
 {
     match kind {
         FaultKind::Eof => "EOF while reading",

@@ -19,4 +19,4 @@ mod text;
 mod tokens;
 
 pub use fault::{FaultKind, ReaderFault};
-pub use forms::{Forms, read_all};
+pub use forms::{ProgramForms, read_all};

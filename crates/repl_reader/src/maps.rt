@@ -2,30 +2,31 @@
 ghost use Rattle.std.specs.Prelude.{◌≡◌, Some, IfOk, string_bytes};
 ghost use Rattle.value_data.specs.View.{items_view, pairs_view};
 ghost use Rattle.value_data.specs.Keyed.{keys_of};
-ghost use Rattle.repl_reader.specs.Grammar.{paired, map_of, print_at};
-ghost use Rattle.repl_reader.specs.View.{reading_view, AreEntries};
+ghost use Rattle.repl_reader.specs.Maps.{print_at, map_of, paired};
+ghost use Rattle.repl_reader.specs.View.{form_reading_view, AreEntries};
 
 use crate::entries::Entries;
 use crate::fault::{FaultKind, break_with};
-use crate::reading::Reading;
+use crate::reading::FormReading;
 use repl_values::{Built, Table, Value, copy, print_into};
 use std::alloc::{AllocError, Global};
 
 /// The map of these forms, before this rest of the text.
-#[tactic(auto, unfolding(crate::specs::Grammar::map_of))]
+#[tactic(auto, unfolding(crate::specs::Maps::map_of))]
 pub(crate) fn read_map<'a>(
     alloc: Global,
     forms: Vec<Value>,
     rest: &'a str,
-) -> Result<Reading<'a>, AllocError>
-    ensures { IfOk result (λ r. reading_view r ≡ map_of (paired (items_view forms.items)) rest.now) }
+) -> Result<FormReading<'a>, AllocError>
+    ensures { IfOk result (λ r. form_reading_view r
+        ≡ map_of (paired (items_view forms.items)) rest.now) }
 {
     match split_forms(alloc, forms)? {
         None => {
             let left = rest.len() + 1;
-            Ok(Reading::Broken(break_with(alloc, FaultKind::OddMap, left, "")?))
+            Ok(FormReading::Broken(break_with(alloc, FaultKind::OddMap, left, "")?))
         }
-        Some(entries) => keyed(alloc, entries, rest),
+        Some(entries) => map_or_fault(alloc, entries, rest),
     }
 }
 
@@ -54,19 +55,24 @@ fn split_forms(alloc: Global, forms: Vec<Value>) -> Result<Option<Entries>, Allo
 }
 
 // The map, unless a key is equal to one before it.
-#[tactic(auto, unfolding(crate::specs::Grammar::map_of))]
-fn keyed<'a>(alloc: Global, entries: Entries, rest: &'a str) -> Result<Reading<'a>, AllocError>
+#[tactic(auto, unfolding(crate::specs::Maps::map_of))]
+fn map_or_fault<'a>(
+    alloc: Global,
+    entries: Entries,
+    rest: &'a str,
+) -> Result<FormReading<'a>, AllocError>
     requires { keys_of (pairs_view entries.pairs.items) ≡ items_view entries.keys.items }
-    ensures { IfOk result (λ r. reading_view r ≡ map_of (Some (pairs_view entries.pairs.items)) rest.now) }
+    ensures { IfOk result (λ r. form_reading_view r
+        ≡ map_of (Some (pairs_view entries.pairs.items)) rest.now) }
 {
     let Entries { keys, pairs } = entries;
     match Table::from_pairs(alloc, pairs)? {
-        Built::Made(pairs) => Ok(Reading::Form(Value::Map(pairs), rest)),
+        Built::Made(pairs) => Ok(FormReading::Form(Value::Map(pairs), rest)),
         Built::Repeats(place) => {
             let key = print_of(alloc, keys.as_slice(), place)?;
             let left = rest.len() + 1;
             let fault = break_with(alloc, FaultKind::SameKey, left, key.as_str())?;
-            Ok(Reading::Broken(fault))
+            Ok(FormReading::Broken(fault))
         }
     }
 }

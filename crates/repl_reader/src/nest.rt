@@ -3,13 +3,15 @@ ghost use Rattle.std.specs.Prelude.{◌≡◌, IfOk, MatchResult};
 ghost use Rattle.value_data.specs.Datum.{Datum, list, symbol, item, no_items};
 ghost use Rattle.value_data.specs.View.{view, items_view};
 ghost use Rattle.repl_reader.specs.Reading.{begins};
-ghost use Rattle.repl_reader.specs.Grammar.{Reads, IsForm, unmatched, too_deep, wanted, wrapped, collected, enclosed};
-ghost use Rattle.repl_reader.specs.View.{bracket_view, symbol_of, reading_view, IsPiece, IsRow, IsMarked, IsOpened};
+ghost use Rattle.repl_reader.specs.Grammar.{Reads, IsForm, unmatched, too_deep, form_or_fault};
+ghost use Rattle.repl_reader.specs.Grammar.{wrapped_reading, collection_reading, enclosed_reading};
+ghost use Rattle.repl_reader.specs.View.{bracket_view, mark_symbol, form_reading_view, IsFrontOf};
+ghost use Rattle.repl_reader.specs.View.{IsRow, IsMarked, IsOpened};
 
 use crate::fault::{FaultKind, break_with};
 use crate::maps::read_map;
 use crate::next::{Next, read_next};
-use crate::reading::{Bracket, Mark, Reading};
+use crate::reading::{Bracket, FormReading, Mark};
 use repl_values::{Sequence, Value};
 use std::alloc::{AllocError, Global};
 use std::sync::ArcStr;
@@ -21,13 +23,13 @@ pub(crate) const MOST_NESTED: usize = 64;
 #[derive(Drop)]
 pub(crate) struct Row<'a> {
     pub forms: Vec<Value>,
-    pub after: Reading<'a>,
+    pub after: FormReading<'a>,
 }
 
 /// What a text begins with, dropped forms apart.
-enum Piece<'a> {
+enum Front<'a> {
     Dropping(&'a str),
-    Read(Reading<'a>),
+    Read(FormReading<'a>),
 }
 
 /// The forms that a text begins with, inside `depth` openings.
@@ -39,7 +41,7 @@ pub(crate) fn read_row(alloc: Global, text: &str, depth: usize) -> Result<Row<'_
     let mut text = text;
     loop {
         match read_form(alloc, text, depth)? {
-            Reading::Form(form, rest) => {
+            FormReading::Form(form, rest) => {
                 forms.push(form)?;
                 text = rest;
             }
@@ -50,52 +52,54 @@ pub(crate) fn read_row(alloc: Global, text: &str, depth: usize) -> Result<Row<'_
 
 /// The form that a text begins with once the forms after each `#_` are dropped.
 #[cycle(nest)]
-fn read_form(alloc: Global, text: &str, depth: usize) -> Result<Reading<'_>, AllocError>
-    ensures { IfOk result (λ r. Reads depth text.now (reading_view r)) }
+fn read_form(alloc: Global, text: &str, depth: usize) -> Result<FormReading<'_>, AllocError>
+    ensures { IfOk result (λ r. Reads depth text.now (form_reading_view r)) }
 {
     let mut to_drop: usize = 0;
     let mut text = text;
     loop {
-        let reading = match read_piece(alloc, text, depth)? {
-            Piece::Dropping(rest) => {
+        let reading = match read_front(alloc, text, depth)? {
+            Front::Dropping(rest) => {
                 to_drop += 1;
                 text = rest;
                 continue;
             }
-            Piece::Read(reading) => reading,
+            Front::Read(reading) => reading,
         };
         if to_drop == 0 {
             return Ok(reading);
         }
         match behind_form(reading) {
             Ok(rest) => text = rest,
-            Err(other) => return wanted(alloc, other),
+            Err(other) => return form_or_fault(alloc, other),
         }
         to_drop -= 1;
     }
 }
 
 // What follows a form that is dropped, or what is no form.
-fn behind_form<'a>(reading: Reading<'a>) -> Result<&'a str, Reading<'a>>
-    ensures { MatchResult result (λ rest. (d : Datum) × (reading_view reading.entry ≡ begins d rest.now))
-        (λ other. (reading_view other ≡ reading_view reading.entry) × (IsForm (reading_view other) → ⊥)) }
+fn behind_form<'a>(reading: FormReading<'a>) -> Result<&'a str, FormReading<'a>>
+    ensures { MatchResult result (λ rest. (d : Datum)
+        × (form_reading_view reading.entry ≡ begins d rest.now))
+        (λ other. (form_reading_view other ≡ form_reading_view reading.entry)
+        × (IsForm (form_reading_view other) → ⊥)) }
 {
     match reading {
-        Reading::Form(_, rest) => Ok(rest),
+        FormReading::Form(_, rest) => Ok(rest),
         other => Err(other),
     }
 }
 
 #[cycle(nest)]
-fn read_piece(alloc: Global, text: &str, depth: usize) -> Result<Piece<'_>, AllocError>
-    ensures { IfOk result (λ p. IsPiece depth text.now p) }
+fn read_front(alloc: Global, text: &str, depth: usize) -> Result<Front<'_>, AllocError>
+    ensures { IfOk result (λ p. IsFrontOf depth text.now p) }
 {
     match read_next(alloc, text)? {
-        Next::Settled(reading) => Ok(Piece::Read(reading)),
-        Next::Dropping(rest) => Ok(Piece::Dropping(rest)),
-        Next::Marking(mark, rest) => Ok(Piece::Read(read_marked(alloc, mark, rest, depth)?)),
+        Next::Settled(reading) => Ok(Front::Read(reading)),
+        Next::Dropping(rest) => Ok(Front::Dropping(rest)),
+        Next::Marking(mark, rest) => Ok(Front::Read(read_marked(alloc, mark, rest, depth)?)),
         Next::Opening(bracket, rest) => {
-            Ok(Piece::Read(read_enclosed(alloc, bracket, rest, depth)?))
+            Ok(Front::Read(read_enclosed(alloc, bracket, rest, depth)?))
         }
     }
 }
@@ -106,14 +110,14 @@ fn read_marked<'a>(
     mark: Mark,
     text: &'a str,
     depth: usize,
-) -> Result<Reading<'a>, AllocError>
-    ensures { IfOk result (λ r. IsMarked depth (symbol_of mark) text.now (reading_view r)) }
+) -> Result<FormReading<'a>, AllocError>
+    ensures { IfOk result (λ r. IsMarked depth (mark_symbol mark) text.now (form_reading_view r)) }
 {
     if depth >= MOST_NESTED {
         return too_deep(alloc, text);
     }
     let reading = read_form(alloc, text, depth + 1)?;
-    wrapped(alloc, mark, reading)
+    wrapped_reading(alloc, mark, reading)
 }
 
 #[cycle(nest)]
@@ -122,38 +126,44 @@ fn read_enclosed<'a>(
     bracket: Bracket,
     text: &'a str,
     depth: usize,
-) -> Result<Reading<'a>, AllocError>
-    ensures { IfOk result (λ r. IsOpened depth (bracket_view bracket) text.now (reading_view r)) }
+) -> Result<FormReading<'a>, AllocError>
+    ensures { IfOk result (λ r. IsOpened depth (bracket_view bracket) text.now
+        (form_reading_view r)) }
 {
     if depth >= MOST_NESTED {
         return too_deep(alloc, text);
     }
     let row = read_row(alloc, text, depth + 1)?;
-    enclosed(alloc, bracket, row)
+    enclosed_reading(alloc, bracket, row)
 }
 
 // The character before the text opens one nesting too many.
-fn too_deep(alloc: Global, text: &str) -> Result<Reading<'static>, AllocError>
-    ensures { IfOk result (λ r. reading_view r ≡ too_deep text.now) }
+fn too_deep(alloc: Global, text: &str) -> Result<FormReading<'static>, AllocError>
+    ensures { IfOk result (λ r. form_reading_view r ≡ too_deep text.now) }
 {
     let left = text.len() + 1;
-    Ok(Reading::Broken(break_with(alloc, FaultKind::TooDeep, left, "")?))
+    Ok(FormReading::Broken(break_with(alloc, FaultKind::TooDeep, left, "")?))
 }
 
 // A form is owed: a closing character or the end of the text is a fault in its place.
-fn wanted<'a>(alloc: Global, reading: Reading<'a>) -> Result<Reading<'a>, AllocError>
-    ensures { IfOk result (λ r. reading_view r ≡ wanted (reading_view reading.entry)) }
+fn form_or_fault<'a>(alloc: Global, reading: FormReading<'a>) -> Result<FormReading<'a>, AllocError>
+    ensures { IfOk result (λ r. form_reading_view r
+        ≡ form_or_fault (form_reading_view reading.entry)) }
 {
     match reading {
-        Reading::Closing(bracket, rest) => unmatched(alloc, bracket, rest),
-        Reading::End => Ok(Reading::Broken(break_with(alloc, FaultKind::Eof, 0, "")?)),
-        Reading::Form(form, rest) => Ok(Reading::Form(form, rest)),
-        Reading::Broken(fault) => Ok(Reading::Broken(fault)),
+        FormReading::Closing(bracket, rest) => unmatched(alloc, bracket, rest),
+        FormReading::End => Ok(FormReading::Broken(break_with(alloc, FaultKind::Eof, 0, "")?)),
+        FormReading::Form(form, rest) => Ok(FormReading::Form(form, rest)),
+        FormReading::Broken(fault) => Ok(FormReading::Broken(fault)),
     }
 }
 
-fn unmatched(alloc: Global, bracket: Bracket, rest: &str) -> Result<Reading<'static>, AllocError>
-    ensures { IfOk result (λ r. reading_view r ≡ unmatched (bracket_view bracket) rest.now) }
+fn unmatched(
+    alloc: Global,
+    bracket: Bracket,
+    rest: &str,
+) -> Result<FormReading<'static>, AllocError>
+    ensures { IfOk result (λ r. form_reading_view r ≡ unmatched (bracket_view bracket) rest.now) }
 {
     let fault = break_with(
         alloc,
@@ -161,22 +171,31 @@ fn unmatched(alloc: Global, bracket: Bracket, rest: &str) -> Result<Reading<'sta
         rest.len() + 1,
         bracket.closing(),
     )?;
-    Ok(Reading::Broken(fault))
+    Ok(FormReading::Broken(fault))
 }
 
-fn wrapped<'a>(alloc: Global, mark: Mark, reading: Reading<'a>) -> Result<Reading<'a>, AllocError>
-    ensures { IfOk result (λ r. reading_view r ≡ wrapped (symbol_of mark) (reading_view reading.entry)) }
+fn wrapped_reading<'a>(
+    alloc: Global,
+    mark: Mark,
+    reading: FormReading<'a>,
+) -> Result<FormReading<'a>, AllocError>
+    ensures { IfOk result (λ r. form_reading_view r
+        ≡ wrapped_reading (mark_symbol mark) (form_reading_view reading.entry)) }
 {
     match reading {
-        Reading::Form(form, rest) => Ok(Reading::Form(listed(alloc, mark, form)?, rest)),
-        Reading::Closing(bracket, rest) => unmatched(alloc, bracket, rest),
-        Reading::End => Ok(Reading::Broken(break_with(alloc, FaultKind::Eof, 0, "")?)),
-        Reading::Broken(fault) => Ok(Reading::Broken(fault)),
+        FormReading::Form(form, rest) => Ok(FormReading::Form(
+            marked_list(alloc, mark, form)?,
+            rest,
+        )),
+        FormReading::Closing(bracket, rest) => unmatched(alloc, bracket, rest),
+        FormReading::End => Ok(FormReading::Broken(break_with(alloc, FaultKind::Eof, 0, "")?)),
+        FormReading::Broken(fault) => Ok(FormReading::Broken(fault)),
     }
 }
 
-fn listed(alloc: Global, mark: Mark, form: Value) -> Result<Value, AllocError>
-    ensures { IfOk result (λ v. view v ≡ list (item (symbol (symbol_of mark)) (item (view form) no_items))) }
+fn marked_list(alloc: Global, mark: Mark, form: Value) -> Result<Value, AllocError>
+    ensures { IfOk result (λ v. view v
+        ≡ list (item (symbol (mark_symbol mark)) (item (view form) no_items))) }
 {
     let mut forms = Vec::with_capacity(alloc, 2)?;
     forms.push(Value::Symbol(ArcStr::from_str(alloc, mark.symbol())?))?;
@@ -184,42 +203,47 @@ fn listed(alloc: Global, mark: Mark, form: Value) -> Result<Value, AllocError>
     Ok(Value::List(Sequence::from_vec(alloc, forms)?))
 }
 
-fn enclosed<'a>(alloc: Global, bracket: Bracket, row: Row<'a>) -> Result<Reading<'a>, AllocError>
-    ensures { IfOk result (λ r. reading_view r
-        ≡ enclosed (bracket_view bracket) (items_view row.entry.forms.items) (reading_view row.entry.after)) }
+fn enclosed_reading<'a>(
+    alloc: Global,
+    bracket: Bracket,
+    row: Row<'a>,
+) -> Result<FormReading<'a>, AllocError>
+    ensures { IfOk result (λ r. form_reading_view r
+        ≡ enclosed_reading (bracket_view bracket) (items_view row.entry.forms.items)
+        (form_reading_view row.entry.after)) }
 {
     let Row { forms, after } = row;
     match after {
-        Reading::Closing(found, rest) => {
+        FormReading::Closing(found, rest) => {
             if found.is(bracket) {
-                collected(alloc, bracket, forms, rest)
+                collection_reading(alloc, bracket, forms, rest)
             } else {
                 unmatched(alloc, found, rest)
             }
         }
-        Reading::End => Ok(Reading::Broken(break_with(alloc, FaultKind::Eof, 0, "")?)),
-        Reading::Form(form, rest) => Ok(Reading::Form(form, rest)),
-        Reading::Broken(fault) => Ok(Reading::Broken(fault)),
+        FormReading::End => Ok(FormReading::Broken(break_with(alloc, FaultKind::Eof, 0, "")?)),
+        FormReading::Form(form, rest) => Ok(FormReading::Form(form, rest)),
+        FormReading::Broken(fault) => Ok(FormReading::Broken(fault)),
     }
 }
 
-fn collected<'a>(
+fn collection_reading<'a>(
     alloc: Global,
     bracket: Bracket,
     forms: Vec<Value>,
     rest: &'a str,
-) -> Result<Reading<'a>, AllocError>
-    ensures { IfOk result (λ r. reading_view r
-        ≡ collected (bracket_view bracket) (items_view forms.items) rest.now) }
+) -> Result<FormReading<'a>, AllocError>
+    ensures { IfOk result (λ r. form_reading_view r
+        ≡ collection_reading (bracket_view bracket) (items_view forms.items) rest.now) }
 {
     match bracket {
         Bracket::Round => {
             let items = Sequence::from_vec(alloc, forms)?;
-            Ok(Reading::Form(Value::List(items), rest))
+            Ok(FormReading::Form(Value::List(items), rest))
         }
         Bracket::Square => {
             let items = Sequence::from_vec(alloc, forms)?;
-            Ok(Reading::Form(Value::Vector(items), rest))
+            Ok(FormReading::Form(Value::Vector(items), rest))
         }
         Bracket::Curly => read_map(alloc, forms, rest),
     }

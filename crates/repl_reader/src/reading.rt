@@ -19,7 +19,7 @@ pub(crate) enum Mark {
 
 /// What a text begins with, and the text after it.
 #[derive(Drop)]
-pub(crate) enum Reading<'a> {
+pub(crate) enum FormReading<'a> {
     Form(Value, &'a str),
     Closing(Bracket, &'a str),
     End,

@@ -1,21 +1,23 @@
 // Strings, from the quote on.
-ghost use Rattle.std.specs.Prelude.{◌≡◌, ℕ, ◌<◌, ◌≤◌, List, [], ◌∷◌, ◌++◌, true, false, MatchOption, IfOk, IfSome, length, slice_index};
+ghost use Rattle.std.specs.Prelude.{◌≡◌, ℕ, ◌<◌, ◌≤◌, List, [], ◌∷◌, ◌++◌, true, false};
+ghost use Rattle.std.specs.Prelude.{MatchOption, IfOk, IfSome, length, slice_index};
 ghost use Rattle.std.specs.List.{position_or_len};
-ghost use Rattle.repl_reader.specs.Reading.{is_escape, escape, contents, string_of, breaks, bad_escape};
+ghost use Rattle.repl_reader.specs.Reading.{is_escape, escape, contents, string_of, breaks};
+ghost use Rattle.repl_reader.specs.Reading.{bad_escape};
 ghost use Rattle.repl_reader.specs.Quoted.{string_from, escape_from};
-ghost use Rattle.repl_reader.specs.View.{reading_view};
+ghost use Rattle.repl_reader.specs.View.{form_reading_view};
 ghost use Rattle.repl_reader.specs.Text.{ends_plain};
 
 use crate::fault::{FaultKind, break_with};
-use crate::reading::Reading;
+use crate::reading::FormReading;
 use crate::text::{first_character, tail};
 use repl_values::Value;
 use std::alloc::{AllocError, Global};
 use std::sync::ArcStr;
 
 /// Reads what follows an opening quote, up to the closing one.
-pub(crate) fn read_string(alloc: Global, text: &str) -> Result<Reading<'_>, AllocError>
-    ensures { IfOk result (λ r. reading_view r ≡ string_of (contents text.now)) }
+pub(crate) fn read_string(alloc: Global, text: &str) -> Result<FormReading<'_>, AllocError>
+    ensures { IfOk result (λ r. form_reading_view r ≡ string_of (contents text.now)) }
 {
     let mut contents = String::new(alloc);
     let mut text = text;
@@ -23,10 +25,10 @@ pub(crate) fn read_string(alloc: Global, text: &str) -> Result<Reading<'_>, Allo
         let (plain, rest) = split_plain(text);
         contents.push_str(plain)?;
         match rest.as_bytes() {
-            [] => return Ok(Reading::Broken(break_with(alloc, FaultKind::Eof, 0, "")?)),
+            [] => return Ok(FormReading::Broken(break_with(alloc, FaultKind::Eof, 0, "")?)),
             [b'"', ..] => {
                 let contents = ArcStr::from_string(contents)?;
-                return Ok(Reading::Form(Value::Str(contents), tail(rest)));
+                return Ok(FormReading::Form(Value::Str(contents), tail(rest)));
             }
             _ => {}
         }
@@ -41,7 +43,8 @@ pub(crate) fn read_string(alloc: Global, text: &str) -> Result<Reading<'_>, Allo
 
 /// The characters before the first quote or backslash, and the rest.
 fn split_plain(text: &str) -> (&str, &str)
-    ensures same { (s : List ℕ) → string_from (s ++ result.0.now) result.1.now ≡ string_from s text.now }
+    ensures same { (s : List ℕ) → string_from (s ++ result.0.now) result.1.now
+        ≡ string_from s text.now }
     ensures stops { 0 < length result.1.now → ends_plain (slice_index result.1.now 0) ≡ true }
     ensures shorter { length result.1.now ≤ length text.now }
 {
@@ -50,14 +53,15 @@ fn split_plain(text: &str) -> (&str, &str)
 
 /// What an escape stands for, by the text behind its backslash, and the rest.
 fn split_escape(text: &str) -> Option<(&'static str, &str)>
-    ensures same { MatchOption result ((s : List ℕ) → escape_from s text.now ≡ breaks (bad_escape text.now))
+    ensures same { MatchOption result ((s : List ℕ)
+        → escape_from s text.now ≡ breaks (bad_escape text.now))
         (λ p. (s : List ℕ) → string_from (s ++ p.0.now) p.1.now ≡ escape_from s text.now) }
     ensures shorter { IfSome result (λ p. length p.1.now < length text.now) }
 {
     let [first, ..] = text.as_bytes() else {
         return None;
     };
-    match escaped(*first) {
+    match escape_character(*first) {
         Some(character) => Some((character, tail(text))),
         None => None,
     }
@@ -65,14 +69,14 @@ fn split_escape(text: &str) -> Option<(&'static str, &str)>
 
 /// The fault of a text behind a backslash.
 #[tactic(auto, unfolding(crate::specs::Reading::bad_escape))]
-fn refuse_escape(alloc: Global, text: &str) -> Result<Reading<'static>, AllocError>
-    ensures { IfOk result (λ r. reading_view r ≡ breaks (bad_escape text.now)) }
+fn refuse_escape(alloc: Global, text: &str) -> Result<FormReading<'static>, AllocError>
+    ensures { IfOk result (λ r. form_reading_view r ≡ breaks (bad_escape text.now)) }
 {
     if text.is_empty() {
-        return Ok(Reading::Broken(break_with(alloc, FaultKind::Eof, 0, "")?));
+        return Ok(FormReading::Broken(break_with(alloc, FaultKind::Eof, 0, "")?));
     }
     let found = first_character(text);
-    Ok(Reading::Broken(break_with(alloc, FaultKind::BadEscape, text.len() + 1, found)?))
+    Ok(FormReading::Broken(break_with(alloc, FaultKind::BadEscape, text.len() + 1, found)?))
 }
 
 /// How many bytes stand before the first quote or backslash.
@@ -89,7 +93,7 @@ fn plain_len(text: &str) -> usize
 }
 
 /// What an escape stands for, by the character after its backslash.
-fn escaped(byte: u8) -> Option<&'static str>
+fn escape_character(byte: u8) -> Option<&'static str>
     ensures { MatchOption result (is_escape byte ≡ false)
         (λ s. (is_escape byte ≡ true) × (s.now ≡ escape byte ∷ [])) }
 {

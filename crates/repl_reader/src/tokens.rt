@@ -3,14 +3,16 @@ ghost use Rattle.std.specs.Prelude.{◌≡◌, IfOk};
 ghost use Rattle.std.specs.List.{position_or_len};
 ghost use Rattle.value_data.specs.View.{view};
 ghost use Rattle.repl_reader.specs.Text.{ends_token, token, after_token};
-ghost use Rattle.repl_reader.specs.Token.{begins_number, without_sign, has_leading_zero, integer_of, keyword_of, slashes, touches_slash, is_symbol, symbol_of, word_of, name_of};
+ghost use Rattle.repl_reader.specs.Token.{begins_number, without_sign, has_leading_zero};
+ghost use Rattle.repl_reader.specs.Token.{integer_of, keyword_of, slashes, touches_slash};
+ghost use Rattle.repl_reader.specs.Token.{is_symbol_text, symbol_of, word_of, named_datum};
 ghost use Rattle.repl_reader.specs.Reading.{token_at, breaks};
 ghost use Rattle.repl_reader.specs.Fault.{break_of};
-ghost use Rattle.repl_reader.specs.View.{reading_view, IsValue};
+ghost use Rattle.repl_reader.specs.View.{form_reading_view, IsValue};
 
 use crate::blank::ends_token;
 use crate::fault::{FaultKind, break_with};
-use crate::reading::Reading;
+use crate::reading::FormReading;
 use crate::text::tail;
 use repl_values::Value;
 use std::alloc::{AllocError, Global};
@@ -39,18 +41,18 @@ fn split_token(text: &str) -> (&str, &str)
 
 /// Reads the token at the front.
 #[tactic(auto, unfolding(crate::specs::Reading::token_at))]
-pub(crate) fn read_token(alloc: Global, text: &str) -> Result<Reading<'_>, AllocError>
-    ensures { IfOk result (λ r. reading_view r ≡ token_at text.now) }
+pub(crate) fn read_token(alloc: Global, text: &str) -> Result<FormReading<'_>, AllocError>
+    ensures { IfOk result (λ r. form_reading_view r ≡ token_at text.now) }
 {
     let (token, rest) = split_token(text);
     if begins_number(token) {
         return match integer_of(token) {
-            Some(number) => Ok(Reading::Form(Value::Int(number), rest)),
+            Some(number) => Ok(FormReading::Form(Value::Int(number), rest)),
             None => refuse(alloc, FaultKind::BadNumber, text.len(), token),
         };
     }
-    match name_of(alloc, token)? {
-        Some(value) => Ok(Reading::Form(value, rest)),
+    match named_value(alloc, token)? {
+        Some(value) => Ok(FormReading::Form(value, rest)),
         None => refuse(alloc, FaultKind::BadToken, text.len(), token),
     }
 }
@@ -60,10 +62,10 @@ fn refuse(
     kind: FaultKind,
     left: usize,
     token: &str,
-) -> Result<Reading<'static>, AllocError>
-    ensures { IfOk result (λ r. reading_view r ≡ breaks (break_of kind left token.now)) }
+) -> Result<FormReading<'static>, AllocError>
+    ensures { IfOk result (λ r. form_reading_view r ≡ breaks (break_of kind left token.now)) }
 {
-    Ok(Reading::Broken(break_with(alloc, kind, left, token)?))
+    Ok(FormReading::Broken(break_with(alloc, kind, left, token)?))
 }
 
 /// Whether the token begins with a digit, or with a sign and a digit.
@@ -106,9 +108,9 @@ fn integer_of(token: &str) -> Option<i64>
 }
 
 /// The value of a token that is no number, if it has one.
-#[tactic(auto, unfolding(crate::specs::Token::name_of))]
-fn name_of(alloc: Global, token: &str) -> Result<Option<Value>, AllocError>
-    ensures { IfOk result (λ v. IsValue v (name_of token.now)) }
+#[tactic(auto, unfolding(crate::specs::Token::named_datum))]
+fn named_value(alloc: Global, token: &str) -> Result<Option<Value>, AllocError>
+    ensures { IfOk result (λ v. IsValue v (named_datum token.now)) }
 {
     if token == "nil" {
         Ok(Some(Value::Nil))
@@ -145,7 +147,7 @@ fn keyword_of(alloc: Global, name: &str) -> Result<Option<Value>, AllocError>
 fn symbol_of(alloc: Global, token: &str) -> Result<Option<Value>, AllocError>
     ensures { IfOk result (λ v. IsValue v (symbol_of token.now)) }
 {
-    if is_symbol(token.as_bytes()) {
+    if is_symbol_text(token.as_bytes()) {
         Ok(Some(Value::Symbol(ArcStr::from_str(alloc, token)?)))
     } else {
         Ok(None)
@@ -153,9 +155,9 @@ fn symbol_of(alloc: Global, token: &str) -> Result<Option<Value>, AllocError>
 }
 
 /// Whether the token is a slash, or has none, or has one with something on both sides.
-#[tactic(auto, unfolding(crate::specs::Token::is_symbol))]
-fn is_symbol(token: &[u8]) -> bool
-    ensures { result ≡ is_symbol token.now }
+#[tactic(auto, unfolding(crate::specs::Token::is_symbol_text))]
+fn is_symbol_text(token: &[u8]) -> bool
+    ensures { result ≡ is_symbol_text token.now }
 {
     match count_slashes(token) {
         0 => true,

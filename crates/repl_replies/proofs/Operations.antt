@@ -1,7 +1,8 @@
 -- What an operation needs is read of the fields that are still there.
 use Rattle.std.proofs.Common.{◌≡◌, ℕ, Option, Some, None, Result, Ok, Err, codes, refl}
 use Rattle.bencode_wire.specs.Tree.{Tree, Pairs, field}
-use Rattle.repl_replies.specs.Operations.{Numbers, operation_in, session_in, wanted, served, of_origin, asked}
+use Rattle.repl_replies.specs.Operations.{Numbers, operation_in, session_in, operation_of_op}
+use Rattle.repl_replies.specs.Operations.{served_operation, of_origin, operation_or_reply}
 use Rattle.repl_replies.specs.Replies.{BodyData}
 use Rattle.repl_replies.specs.declared.names.OperationName.{OperationName}
 
@@ -18,11 +19,11 @@ operation_in-needs ps qs OperationName.Eval session same = rw (same.ns, same.cod
 operation_in-needs ps qs OperationName.LoadFile session same = rw same.file refl
 operation_in-needs ps qs OperationName.ListSessions session same = refl
 
-served-needs : (ps qs : Pairs) (op : Option Tree) (operation : Option OperationName) (session : Result (Option ℕ) BodyData) → SameNeeds ps qs
-    → served ps op operation session ≡ served qs op operation session
-served-needs ps qs op None session same = refl
-served-needs ps qs op (Some operation) (Ok number) same = operation_in-needs ps qs operation number same
-served-needs ps qs op (Some operation) (Err refusal) same = refl
+served_operation-needs : (ps qs : Pairs) (op : Option Tree) (operation : Option OperationName) (session : Result (Option ℕ) BodyData) → SameNeeds ps qs
+    → served_operation ps op operation session ≡ served_operation qs op operation session
+served_operation-needs ps qs op None session same = refl
+served_operation-needs ps qs op (Some operation) (Ok number) same = operation_in-needs ps qs operation number same
+served_operation-needs ps qs op (Some operation) (Err refusal) same = refl
 
 -- the fields that are left, and those that were taken out, are the message's
 pub record Taken (id session op : Option Tree) (left all : Pairs) : Type 0 where
@@ -31,8 +32,8 @@ pub record Taken (id session op : Option Tree) (left all : Pairs) : Type 0 where
   pub op_is : op ≡ field (codes "op") all
   pub needs : SameNeeds left all
 
-pub asked-taken : (number_of : Numbers) (id session op : Option Tree) (left all : Pairs) → Taken id session op left all
-    → of_origin (record { id = id; session = session }) (served left op (wanted op) (session_in number_of session)) ≡ asked number_of all
-unfolding asked
-asked-taken number_of id session op left all taken =
-    rw (served-needs left all op (wanted op) (session_in number_of session) taken.needs, taken.id_is, taken.session_is, taken.op_is) refl
+pub operation_or_reply-taken : (number_of : Numbers) (id session op : Option Tree) (left all : Pairs) → Taken id session op left all
+    → of_origin (record { id = id; session = session }) (served_operation left op (operation_of_op op) (session_in number_of session)) ≡ operation_or_reply number_of all
+unfolding operation_or_reply
+operation_or_reply-taken number_of id session op left all taken =
+    rw (served_operation-needs left all op (operation_of_op op) (session_in number_of session) taken.needs, taken.id_is, taken.session_is, taken.op_is) refl

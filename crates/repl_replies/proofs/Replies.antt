@@ -1,5 +1,6 @@
 -- A reply's fields, put in one by one, are spelled as the message that they make.
-use Rattle.std.proofs.Common.{◌≡◌, ℕ, List, [], ◌∷◌, Option, Some, None, Ordering, Less, Equal, Greater, nat_cmp, map, refl, sym, ap, ◌∙◌, codes, rules}
+use Rattle.std.proofs.Common.{◌≡◌, ℕ, List, [], ◌∷◌, Option, Some, None, Ordering, Less, Equal}
+use Rattle.std.proofs.Common.{Greater, nat_cmp, map, refl, sym, ap, ◌∙◌, codes, rules}
 use Rattle.std.specs.BTreeMap.{BTreeMap}
 use Rattle.std.specs.Cmp.Lexicographic.{slice_cmp}
 use Rattle.std.specs.Ordering.{match_ordering}
@@ -10,7 +11,8 @@ use Rattle.bencode_wire.specs.declared.ben.Ben.{Ben, Dictionary, the_lemmas}
 use Rattle.bencode_wire.proofs.Views.{Key, each_sorted}
 use Rattle.bencode_wire.proofs.Written.{sorted_twice}
 use Rattle.repl_replies.specs.Building.{puts}
-use Rattle.repl_replies.specs.Replies.{ReplyData, given, status, status_value, strings, body_fields, message, bytes_of}
+use Rattle.repl_replies.specs.Replies.{ReplyData, with_field, status, status_value, strings}
+use Rattle.repl_replies.specs.Replies.{body_fields, message, bytes_of}
 
 -- each text as a string
 pub trees_of-strings : {X : Type 0} (text : X → List ℕ) (xs : List X) → trees_of (map (λ x. string (text x)) xs) ≡ strings (map text xs)
@@ -45,26 +47,26 @@ canonical-puts ps =
     ap (λ all. text (dictionary all)) (sym (put_pairs-each_sorted no_pairs (puts no_pairs ps)) ∙ ap (put_pairs no_pairs) (each_sorted-puts no_pairs ps))
     ∙ ap text (sorted_twice (dictionary ps))
 
-puts-given : (done : Pairs) (key : List ℕ) (value : Option Tree) (more : Pairs) → puts (puts done (given key value no_pairs)) more ≡ puts done (given key value more)
-puts-given done key None more = refl
-puts-given done key (Some t) more = refl
+puts-with_field : (done : Pairs) (key : List ℕ) (value : Option Tree) (more : Pairs) → puts (puts done (with_field key value no_pairs)) more ≡ puts done (with_field key value more)
+puts-with_field done key None more = refl
+puts-with_field done key (Some t) more = refl
 
 -- a reply's fields, in the order in which they are put in
 abbrev pub reply_fields : ReplyData → Pairs
 reply_fields reply =
-    puts (puts (puts (puts no_pairs (given (codes "id") reply.origin.id no_pairs)) (given (codes "session") reply.origin.session no_pairs))
-    (given (codes "status") (status_value (status reply.body)) no_pairs))
+    puts (puts (puts (puts no_pairs (with_field (codes "id") reply.origin.id no_pairs)) (with_field (codes "session") reply.origin.session no_pairs))
+    (with_field (codes "status") (status_value (status reply.body)) no_pairs))
     (body_fields reply.body)
 
 pub reply_spelled : (reply : ReplyData) → canonical (dictionary (reply_fields reply)) ≡ bytes_of reply
 unfolding message bytes_of
 reply_spelled reply =
     let body = body_fields reply.body in
-    let third = given (codes "status") (status_value (status reply.body)) body in
-    let second = given (codes "session") reply.origin.session third in
-    let first = given (codes "id") reply.origin.id second in
-    let begun = puts no_pairs (given (codes "id") reply.origin.id no_pairs) in
+    let third = with_field (codes "status") (status_value (status reply.body)) body in
+    let second = with_field (codes "session") reply.origin.session third in
+    let first = with_field (codes "id") reply.origin.id second in
+    let begun = puts no_pairs (with_field (codes "id") reply.origin.id no_pairs) in
     ap (λ all. canonical (dictionary all))
-    (puts-given (puts begun (given (codes "session") reply.origin.session no_pairs)) (codes "status") (status_value (status reply.body)) body
-    ∙ puts-given begun (codes "session") reply.origin.session third ∙ puts-given no_pairs (codes "id") reply.origin.id second)
+    (puts-with_field (puts begun (with_field (codes "session") reply.origin.session no_pairs)) (codes "status") (status_value (status reply.body)) body
+    ∙ puts-with_field begun (codes "session") reply.origin.session third ∙ puts-with_field no_pairs (codes "id") reply.origin.id second)
     ∙ canonical-puts first

@@ -7,7 +7,10 @@ use Rattle.bencode_wire.specs.Tree.{Tree, Pairs}
 use Rattle.repl_replies.specs.Named.{session_of, IsNamed}
 use Rattle.repl_replies.specs.Fields.{as_string}
 use Rattle.repl_replies.specs.Operations as operations
-use Rattle.repl_replies.specs.Operations.{OperationData, AskedData, Numbers, open_session, session_in, operation_in, closing, evaluating, loading, in_session, served, of_origin, wanted, asked}
+use Rattle.repl_replies.specs.Operations.{OperationData, AskedData, Numbers, open_session}
+use Rattle.repl_replies.specs.Operations.{session_in, operation_in, close_operation, eval_operation}
+use Rattle.repl_replies.specs.Operations.{load_operation, in_session, served_operation, of_origin}
+use Rattle.repl_replies.specs.Operations.{operation_of_op, operation_or_reply}
 use Rattle.repl_replies.specs.Replies.{OriginData, BodyData}
 use Rattle.repl_replies.specs.View.{asked_view, operation_view, reply_view}
 use Rattle.repl_replies.specs.declared.names.OperationName.TheVariants as names
@@ -40,27 +43,27 @@ session-names number_of (Some id) session n e names = by (as_string id) e
     by None h = absurd (not-ok _ _ h)
     by (Some text) h = opened-names number_of text (number_of text) session n refl h names
 
-closing-names : (session : Option ℕ) (op : OperationData) → closing session ≡ Ok op → session_of op ≡ session
-closing-names None op e = absurd (not-ok _ _ e)
-closing-names (Some n) op e = sym (ap session_of (ok-same (operations.close n) op e))
+close_operation-names : (session : Option ℕ) (op : OperationData) → close_operation session ≡ Ok op → session_of op ≡ session
+close_operation-names None op e = absurd (not-ok _ _ e)
+close_operation-names (Some n) op e = sym (ap session_of (ok-same (operations.close n) op e))
 
-evaluating-names : (session : Option ℕ) (ns : Option Tree) (o : Option (List ℕ)) (op : OperationData)
-    → evaluating session ns o ≡ Ok op → session_of op ≡ session
-evaluating-names session ns None op e = absurd (not-ok _ _ e)
-evaluating-names session ns (Some text) op e = sym (ap session_of (ok-same (operations.eval session text ns) op e))
+eval_operation-names : (session : Option ℕ) (ns : Option Tree) (o : Option (List ℕ)) (op : OperationData)
+    → eval_operation session ns o ≡ Ok op → session_of op ≡ session
+eval_operation-names session ns None op e = absurd (not-ok _ _ e)
+eval_operation-names session ns (Some text) op e = sym (ap session_of (ok-same (operations.eval session text ns) op e))
 
-loading-names : (session : Option ℕ) (o : Option (List ℕ)) (op : OperationData)
-    → loading session o ≡ Ok op → session_of op ≡ session
-loading-names session None op e = absurd (not-ok _ _ e)
-loading-names session (Some text) op e = sym (ap session_of (ok-same (operations.load_file session text) op e))
+load_operation-names : (session : Option ℕ) (o : Option (List ℕ)) (op : OperationData)
+    → load_operation session o ≡ Ok op → session_of op ≡ session
+load_operation-names session None op e = absurd (not-ok _ _ e)
+load_operation-names session (Some text) op e = sym (ap session_of (ok-same (operations.load_file session text) op e))
 
 operation-names : (fields : Pairs) (name : OperationName) (session : Option ℕ) (op : OperationData)
     → operation_in fields name session ≡ Ok op → session_of op ≡ session
 operation-names fields names.Clone session op e = sym (ap session_of (ok-same (operations.clone session) op e))
-operation-names fields names.Close session op e = closing-names session op e
+operation-names fields names.Close session op e = close_operation-names session op e
 operation-names fields names.Describe session op e = sym (ap session_of (ok-same (operations.describe session) op e))
-operation-names fields names.Eval session op e = evaluating-names session _ _ op e
-operation-names fields names.LoadFile session op e = loading-names session _ op e
+operation-names fields names.Eval session op e = eval_operation-names session _ _ op e
+operation-names fields names.LoadFile session op e = load_operation-names session _ op e
 operation-names fields names.ListSessions session op e = sym (ap session_of (ok-same (operations.list_sessions session) op e))
 
 in-session-names : (number_of : Numbers) (fields : Pairs) (name : OperationName) (id : Option Tree) (r : Result (Option ℕ) BodyData) (op : OperationData) (n : ℕ)
@@ -69,10 +72,10 @@ in-session-names number_of fields name id (Err refusal) op n is e names = absurd
 in-session-names number_of fields name id (Ok session) op n is e names =
     session-names number_of id session n is (sym (operation-names fields name session op e) ∙ names)
 
-served-names : (number_of : Numbers) (fields : Pairs) (op : Option Tree) (name : Option OperationName) (id : Option Tree) (it : OperationData) (n : ℕ)
-    → served fields op name (session_in number_of id) ≡ Ok it → session_of it ≡ Some n → IsNamed number_of n
-served-names number_of fields op None id it n e names = absurd (not-ok _ _ e)
-served-names number_of fields op (Some name) id it n e names =
+served_operation-names : (number_of : Numbers) (fields : Pairs) (op : Option Tree) (name : Option OperationName) (id : Option Tree) (it : OperationData) (n : ℕ)
+    → served_operation fields op name (session_in number_of id) ≡ Ok it → session_of it ≡ Some n → IsNamed number_of n
+served_operation-names number_of fields op None id it n e names = absurd (not-ok _ _ e)
+served_operation-names number_of fields op (Some name) id it n e names =
     in-session-names number_of fields name id (session_in number_of id) it n refl e names
 
 of-origin-names : (number_of : Numbers) (origin : OriginData) (r : Result OperationData BodyData) (a : AskedData) (n : ℕ)
@@ -82,14 +85,14 @@ of-origin-names number_of origin (Err refusal) a n by e names = absurd (not-ok _
 of-origin-names number_of origin (Ok it) a n by e names =
     by it refl (ap (λ (x : AskedData). session_of x.operation) (ok-same _ a e) ∙ names)
 
-asked-names : (number_of : Numbers) (fields : Pairs) (a : AskedData) (n : ℕ)
-    → asked number_of fields ≡ Ok a → session_of a.operation ≡ Some n → IsNamed number_of n
-unfolding asked
-asked-names number_of fields a n e names =
-    of-origin-names number_of _ _ a n (λ it is so. served-names number_of fields _ _ _ it n is so) e names
+operation_or_reply-names : (number_of : Numbers) (fields : Pairs) (a : AskedData) (n : ℕ)
+    → operation_or_reply number_of fields ≡ Ok a → session_of a.operation ≡ Some n → IsNamed number_of n
+unfolding operation_or_reply
+operation_or_reply-names number_of fields a n e names =
+    of-origin-names number_of _ _ a n (λ it is so. served_operation-names number_of fields _ _ _ it n is so) e names
 
-pub asked-view-names : (number_of : Numbers) (fields : Pairs) (r : Result Asked Reply)
-    → result_map_both asked_view reply_view r ≡ asked number_of fields
+pub operation_or_reply-view-names : (number_of : Numbers) (fields : Pairs) (r : Result Asked Reply)
+    → result_map_both asked_view reply_view r ≡ operation_or_reply number_of fields
     → IfOk r (λ a. ForSome (session_of (operation_view a.operation)) (IsNamed number_of))
-asked-view-names number_of fields (Err reply) is = tt
-asked-view-names number_of fields (Ok a) is = λ n names. asked-names number_of fields (asked_view a) n (sym is) names
+operation_or_reply-view-names number_of fields (Err reply) is = tt
+operation_or_reply-view-names number_of fields (Ok a) is = λ n names. operation_or_reply-names number_of fields (asked_view a) n (sym is) names

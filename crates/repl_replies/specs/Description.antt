@@ -10,14 +10,14 @@ ops [] = no_pairs
 ops (operation ∷ more) = pair (name_of operation) (dictionary no_pairs) (ops more)
 
 -- the server is of version 1.0
-abbrev pub version : Tree
-version =
+abbrev pub server_version : Tree
+server_version =
     dictionary
     (pair (codes "major") (integer (pos 1))
     (pair (codes "minor") (integer (pos 0)) no_pairs))
 
 abbrev pub versions : Tree
-versions = dictionary (pair (codes "server") version no_pairs)
+versions = dictionary (pair (codes "server") server_version no_pairs)
 
 abbrev pub description : Pairs
 description =

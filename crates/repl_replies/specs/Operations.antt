@@ -4,8 +4,8 @@ use Rattle.std.specs.Prelude.{ℕ, List, Option, Some, None, Result, Ok, Err, op
 use Rattle.bencode_wire.specs.Tree.{Tree, Pairs, field}
 use Rattle.repl_replies.specs.Fields.{as_string, text_of}
 use Rattle.repl_replies.specs.OperationNames.{operation_named}
-use Rattle.repl_replies.specs.Replies.{OriginData, BodyData, ReplyData}
-use Rattle.repl_replies.specs.Replies.{unknown_op, unknown_session, no_code, no_file}
+use Rattle.repl_replies.specs.Replies.{OriginData, BodyData, ReplyData, unknown_op, unknown_session}
+use Rattle.repl_replies.specs.Replies.{no_code, no_file}
 use Rattle.repl_replies.specs.declared.names.OperationName.{OperationName}
 
 -- an operation, with the number of the open session that it names
@@ -37,27 +37,27 @@ session_in number_of None = Ok None
 session_in number_of (Some id) = open_session (option_and_then number_of (as_string id))
 
 -- a session that is to be closed has to be named
-abbrev pub closing : Option ℕ → Result OperationData BodyData
-closing None = Err unknown_session
-closing (Some number) = Ok (close number)
+abbrev pub close_operation : Option ℕ → Result OperationData BodyData
+close_operation None = Err unknown_session
+close_operation (Some number) = Ok (close number)
 
-abbrev pub evaluating : Option ℕ → Option Tree → Option (List ℕ) → Result OperationData BodyData
-evaluating session ns None = Err no_code
-evaluating session ns (Some code) = Ok (eval session code ns)
+abbrev pub eval_operation : Option ℕ → Option Tree → Option (List ℕ) → Result OperationData BodyData
+eval_operation session ns None = Err no_code
+eval_operation session ns (Some code) = Ok (eval session code ns)
 
-abbrev pub loading : Option ℕ → Option (List ℕ) → Result OperationData BodyData
-loading session None = Err no_file
-loading session (Some text) = Ok (load_file session text)
+abbrev pub load_operation : Option ℕ → Option (List ℕ) → Result OperationData BodyData
+load_operation session None = Err no_file
+load_operation session (Some text) = Ok (load_file session text)
 
 -- what each operation needs
 abbrev pub operation_in : Pairs → OperationName → Option ℕ → Result OperationData BodyData
 operation_in fields OperationName.Clone session = Ok (clone session)
-operation_in fields OperationName.Close session = closing session
+operation_in fields OperationName.Close session = close_operation session
 operation_in fields OperationName.Describe session = Ok (describe session)
 operation_in fields OperationName.Eval session =
-    evaluating session (field (codes "ns") fields) (text_of (field (codes "code") fields))
+    eval_operation session (field (codes "ns") fields) (text_of (field (codes "code") fields))
 operation_in fields OperationName.LoadFile session =
-    loading session (text_of (field (codes "file") fields))
+    load_operation session (text_of (field (codes "file") fields))
 operation_in fields OperationName.ListSessions session = Ok (list_sessions session)
 
 -- the session is looked at before what the operation needs
@@ -67,11 +67,11 @@ in_session fields operation (Err refusal) = Err refusal
 in_session fields operation (Ok session) = operation_in fields operation session
 
 -- the operation is looked at before the session
-abbrev pub served
+abbrev pub served_operation
     : Pairs → Option Tree → Option OperationName → Result (Option ℕ) BodyData
     → Result OperationData BodyData
-served fields op None session = Err (unknown_op op)
-served fields op (Some operation) session = in_session fields operation session
+served_operation fields op None session = Err (unknown_op op)
+served_operation fields op (Some operation) session = in_session fields operation session
 
 -- who asked is who is answered
 abbrev pub of_origin : OriginData → Result OperationData BodyData → Result AskedData ReplyData
@@ -79,14 +79,15 @@ of_origin origin (Ok operation) = Ok (record { origin = origin; operation = oper
 of_origin origin (Err refusal) = Err (record { origin = origin; body = refusal })
 
 -- the operation that `op` names, if it is served
-abbrev pub wanted : Option Tree → Option OperationName
-wanted op = option_and_then operation_named (option_and_then as_string op)
+abbrev pub operation_of_op : Option Tree → Option OperationName
+operation_of_op op = option_and_then operation_named (option_and_then as_string op)
 
 -- what a message asks for, or the reply to it: the operation is looked at first, then the session,
 -- then what the operation needs
-unfoldable pub asked : Numbers → Pairs → Result AskedData ReplyData
-asked number_of fields =
+unfoldable pub operation_or_reply : Numbers → Pairs → Result AskedData ReplyData
+operation_or_reply number_of fields =
     let op = field (codes "op") fields in
     let session = field (codes "session") fields in
     let origin : OriginData = record { id = field (codes "id") fields; session = session } in
-    of_origin origin (served fields op (wanted op) (session_in number_of session))
+    of_origin origin (served_operation fields op (operation_of_op op)
+    (session_in number_of session))

@@ -1,8 +1,8 @@
 -- The replies (the nREPL manual, "Supported nREPL operations" and "Transports"): what each says,
 -- and its bytes.
 use Rattle.std.specs.Prelude.{ℕ, List, [], ◌∷◌, ◌++◌, Option, Some, None, codes}
-use Rattle.bencode_wire.specs.Tree.{Tree, string, list, dictionary}
-use Rattle.bencode_wire.specs.Tree.{Pairs, no_pairs, pair, Trees, no_trees, tree}
+use Rattle.bencode_wire.specs.Tree.{Tree, string, list, dictionary, Pairs, no_pairs, pair, Trees}
+use Rattle.bencode_wire.specs.Tree.{no_trees, tree}
 use Rattle.bencode_wire.specs.Spelling.{canonical}
 use Rattle.repl_replies.specs.Description.{description}
 
@@ -64,9 +64,9 @@ status closed = codes "done" ∷ codes "session-closed" ∷ []
 status interrupted = codes "done" ∷ codes "interrupted" ∷ []
 
 -- a field before others, if it has a value
-abbrev pub given : List ℕ → Option Tree → Pairs → Pairs
-given key None more = more
-given key (Some t) more = pair key t more
+abbrev pub with_field : List ℕ → Option Tree → Pairs → Pairs
+with_field key None more = more
+with_field key (Some t) more = pair key t more
 
 abbrev pub strings : List (List ℕ) → Trees
 strings [] = no_trees
@@ -89,7 +89,7 @@ body_fields (exception class) =
     pair (codes "ex") (class_text class) (pair (codes "root-ex") (class_text class) no_pairs)
 body_fields (error_text line) = pair (codes "err") (string line) no_pairs
 body_fields done = no_pairs
-body_fields (unknown_op op) = given (codes "op") op no_pairs
+body_fields (unknown_op op) = with_field (codes "op") op no_pairs
 body_fields unknown_session = no_pairs
 body_fields no_code = no_pairs
 body_fields no_file = no_pairs
@@ -104,8 +104,9 @@ body_fields interrupted = no_pairs
 -- the reply as a message
 unfoldable pub message : ReplyData → Tree
 message reply =
-    dictionary (given (codes "id") reply.origin.id (given (codes "session") reply.origin.session
-    (given (codes "status") (status_value (status reply.body)) (body_fields reply.body))))
+    dictionary (with_field (codes "id") reply.origin.id
+    (with_field (codes "session") reply.origin.session
+    (with_field (codes "status") (status_value (status reply.body)) (body_fields reply.body))))
 
 -- its bytes are the canonical spelling, whose keys are sorted
 unfoldable pub bytes_of : ReplyData → List ℕ

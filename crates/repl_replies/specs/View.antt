@@ -3,12 +3,11 @@ use Rattle.std.specs.Prelude.{Option, Some, None, map, string_bytes}
 use Rattle.bencode_wire.specs.Tree.{Tree}
 use Rattle.bencode_wire.specs.View.{view}
 use Rattle.bencode_wire.specs.declared.ben.Ben.{Ben}
-use Rattle.repl_replies.specs.Replies.{OriginData, BodyData, ReplyData}
-use Rattle.repl_replies.specs.Replies.{value, output, exception, error_text, done}
-use Rattle.repl_replies.specs.Replies.{unknown_op, unknown_session, no_code, no_file}
-use Rattle.repl_replies.specs.Replies.{namespace_not_found, malformed, new_session, sessions}
-use Rattle.repl_replies.specs.Replies.{described, closed, interrupted}
-use Rattle.repl_replies.specs.Requests.{RequestData, HeardData, waits, answered}
+use Rattle.repl_replies.specs.Replies.{OriginData, BodyData, ReplyData, value, output, exception}
+use Rattle.repl_replies.specs.Replies.{error_text, done, unknown_op, unknown_session, no_code}
+use Rattle.repl_replies.specs.Replies.{no_file, namespace_not_found, malformed, new_session}
+use Rattle.repl_replies.specs.Replies.{sessions, described, closed, interrupted}
+use Rattle.repl_replies.specs.Requests.{RequestData, RequestOrReplyData, waits, answered}
 use Rattle.repl_replies.specs.Operations as meant
 use Rattle.repl_replies.specs.Operations.{OperationData, AskedData}
 use Rattle.repl_replies.specs.declared.operation.Operation.{Operation}
@@ -17,7 +16,7 @@ use Rattle.repl_replies.specs.declared.reply.Origin.{Origin}
 use Rattle.repl_replies.specs.declared.reply.Body.{Body}
 use Rattle.repl_replies.specs.declared.reply.Reply.{Reply}
 use Rattle.repl_replies.specs.declared.request.Request.{Request}
-use Rattle.repl_replies.specs.declared.request.Heard.{Heard}
+use Rattle.repl_replies.specs.declared.request.RequestOrReply.{RequestOrReply}
 
 -- the value of a field that a request may have
 abbrev pub field_view : Option Ben → Option Tree
@@ -52,9 +51,9 @@ abbrev pub request_view : Request → RequestData
 request_view r =
     record { origin = origin_view r.origin; code = string_bytes r.code; ns = field_view r.ns }
 
-abbrev pub heard_view : Heard → HeardData
-heard_view (Heard.Waits request) = waits (request_view request)
-heard_view (Heard.Answered reply) = answered (reply_view reply)
+abbrev pub request_or_reply_view : RequestOrReply → RequestOrReplyData
+request_or_reply_view (RequestOrReply.Waits request) = waits (request_view request)
+request_or_reply_view (RequestOrReply.Answered reply) = answered (reply_view reply)
 
 abbrev pub operation_view : Operation → OperationData
 operation_view (Operation.Clone session) = meant.clone session

@@ -12,5 +12,5 @@ mod spelling;
 pub use open_sessions::OpenSessions;
 pub use operation::{Asked, Operation, operation_of};
 pub use reply::{Body, Origin, Reply, describe_reply};
-pub use request::{Heard, Request, request_of};
+pub use request::{Request, RequestOrReply, request_of};
 pub use spelling::reply_bytes;

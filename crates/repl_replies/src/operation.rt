@@ -55,7 +55,7 @@ pub struct Asked {
 /// memory.
 pub fn operation_of<S: OpenSessions>(mut message: Dictionary, sessions: &S) -> Result<Asked, Reply>
     ensures asked { result_map_both asked_view reply_view result
-        ≡ meant.asked (S.number sessions.now) (pairs_view message.entries) }
+        ≡ meant.operation_or_reply (S.number sessions.now) (pairs_view message.entries) }
     // The session of an operation is one that the request names.
     ensures named { IfOk result (λ asked.
         ForSome (session_of (operation_view asked.operation)) (IsNamed (S.number sessions.now))) }
@@ -64,7 +64,7 @@ pub fn operation_of<S: OpenSessions>(mut message: Dictionary, sessions: &S) -> R
     let session = take_field(&mut message, b"session");
     let op = take_field(&mut message, b"op");
     let origin = Origin { id, session };
-    let operation = served(message, op, &origin.session, sessions);
+    let operation = served_operation(message, op, &origin.session, sessions);
     of_origin(origin, operation)
 }
 
@@ -78,7 +78,7 @@ fn of_origin(origin: Origin, served: Result<Operation, Body>) -> Result<Asked, R
     }
 }
 
-fn served<S: OpenSessions>(
+fn served_operation<S: OpenSessions>(
     message: Dictionary,
     op: Option<Ben>,
     session: &Option<Ben>,
@@ -86,17 +86,17 @@ fn served<S: OpenSessions>(
 ) -> Result<Operation, Body>
     ensures { result_map_both operation_view body_view result
         ≡ (let name = field_view op in
-        meant.served (pairs_view message.entries) name (meant.wanted name)
+        meant.served_operation (pairs_view message.entries) name (meant.operation_of_op name)
         (meant.session_in (S.number sessions.now) (field_view session.now))) }
 {
-    match named(&op) {
-        Some(operation) => asked_in(message, operation, session_in(session, sessions)?),
+    match operation_of_op(&op) {
+        Some(operation) => operation_in(message, operation, session_in(session, sessions)?),
         None => Err(Body::UnknownOp(op)),
     }
 }
 
-fn named(op: &Option<Ben>) -> Option<OperationName>
-    ensures { result ≡ meant.wanted (field_view op.now) }
+fn operation_of_op(op: &Option<Ben>) -> Option<OperationName>
+    ensures { result ≡ meant.operation_of_op (field_view op.now) }
 {
     match op {
         Some(Ben::String(name)) => OperationName::named(name),
@@ -116,7 +116,7 @@ fn session_in<S: OpenSessions>(session: &Option<Ben>, sessions: &S) -> Result<Op
     }
 }
 
-fn asked_in(
+fn operation_in(
     mut message: Dictionary,
     operation: OperationName,
     session: Option<u64>,

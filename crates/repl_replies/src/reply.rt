@@ -45,7 +45,7 @@ pub enum Body {
     Described,
     /// The session that the request names was closed.
     Closed,
-    /// The request waited in a session that was closed.
+    /// The session was closed while the request waited or was evaluated.
     Interrupted,
 }
 

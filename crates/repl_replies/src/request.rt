@@ -2,8 +2,10 @@
 ghost use Rattle.std.specs.Prelude.{◌≡◌, if◌then◌else◌, codes};
 ghost use Rattle.bencode_wire.specs.View.{pairs_view};
 ghost use Rattle.repl_replies.specs.Replies.{unknown_op};
-ghost use Rattle.repl_replies.specs.Requests.{heard, is_string, in_session, refused};
-ghost use Rattle.repl_replies.specs.View.{field_view, origin_view, body_view, heard_view};
+ghost use Rattle.repl_replies.specs.Requests.{request_or_reply, is_this_string, in_session};
+ghost use Rattle.repl_replies.specs.Requests.{refused};
+ghost use Rattle.repl_replies.specs.View.{field_view, origin_view, body_view};
+ghost use Rattle.repl_replies.specs.View.{request_or_reply_view};
 
 use crate::fields::text_of;
 use crate::reply::{Body, Origin, Reply};
@@ -20,49 +22,54 @@ pub struct Request {
 
 /// A message is a request that waits, or is answered at once.
 #[derive(Drop)]
-pub enum Heard {
+pub enum RequestOrReply {
     Waits(Request),
     Answered(Reply),
 }
 
 /// Reads a message. The operation is looked at first, then the session, then the code. Keys that
 /// are not known are ignored.
-pub fn request_of(mut message: Dictionary) -> Heard
-    ensures { heard_view result ≡ heard (pairs_view message.entries) }
+pub fn request_of(mut message: Dictionary) -> RequestOrReply
+    ensures { request_or_reply_view result ≡ request_or_reply (pairs_view message.entries) }
 {
     let op = take_field(&mut message, b"op");
     let code = take_field(&mut message, b"code");
     let ns = take_field(&mut message, b"ns");
     let id = take_field(&mut message, b"id");
     let session = take_field(&mut message, b"session");
-    judged(op, code, ns, Origin { id, session })
+    request_of_fields(op, code, ns, Origin { id, session })
 }
 
-fn judged(op: Option<Ben>, code: Option<Ben>, ns: Option<Ben>, origin: Origin) -> Heard
-    ensures { heard_view result ≡ (if is_string (codes "eval") (field_view op)
+fn request_of_fields(
+    op: Option<Ben>,
+    code: Option<Ben>,
+    ns: Option<Ben>,
+    origin: Origin,
+) -> RequestOrReply
+    ensures { request_or_reply_view result ≡ (if is_this_string (codes "eval") (field_view op)
         then in_session (origin_view origin) (field_view code) (field_view ns) (field_view origin.session)
         else refused (origin_view origin) (unknown_op (field_view op))) }
 {
     if !is_eval(&op) {
-        return answered(origin, Body::UnknownOp(op));
+        return answer_at_once(origin, Body::UnknownOp(op));
     }
     if origin.session.is_some() {
-        return answered(origin, Body::UnknownSession);
+        return answer_at_once(origin, Body::UnknownSession);
     }
     match text_of(code) {
-        Some(code) => Heard::Waits(Request { origin, code, ns }),
-        None => answered(origin, Body::NoCode),
+        Some(code) => RequestOrReply::Waits(Request { origin, code, ns }),
+        None => answer_at_once(origin, Body::NoCode),
     }
 }
 
-fn answered(origin: Origin, body: Body) -> Heard
-    ensures { heard_view result ≡ refused (origin_view origin) (body_view body) }
+fn answer_at_once(origin: Origin, body: Body) -> RequestOrReply
+    ensures { request_or_reply_view result ≡ refused (origin_view origin) (body_view body) }
 {
-    Heard::Answered(Reply { origin, body })
+    RequestOrReply::Answered(Reply { origin, body })
 }
 
 fn is_eval(op: &Option<Ben>) -> bool
-    ensures { result ≡ is_string (codes "eval") (field_view op.now) }
+    ensures { result ≡ is_this_string (codes "eval") (field_view op.now) }
 {
     match op {
         Some(Ben::String(name)) => name.as_slice() == b"eval".as_slice(),

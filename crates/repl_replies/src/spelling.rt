@@ -6,13 +6,13 @@ ghost use Rattle.bencode_wire.specs.View.{view, trees_view, pairs_view};
 ghost use Rattle.repl_replies.specs.Building.{puts};
 ghost use Rattle.repl_replies.specs.Description as told;
 ghost use Rattle.repl_replies.specs.OperationNames.{operations};
-ghost use Rattle.repl_replies.specs.Replies.{given, status, status_value, strings};
+ghost use Rattle.repl_replies.specs.Replies.{with_field, status, status_value, strings};
 ghost use Rattle.repl_replies.specs.Replies.{body_fields, bytes_of};
 ghost use Rattle.repl_replies.specs.View.{field_view, origin_view, body_view, reply_view};
 
 use crate::names::OperationName;
 use crate::reply::{Body, Origin, Reply};
-use bencode_wire::{Ben, Dictionary, put_field, spelled};
+use bencode_wire::{Ben, Dictionary, canonical_bytes, put_field};
 use std::alloc::{AllocError, Global};
 
 /// The reply as a message of the stream: a dictionary with its keys sorted. It fails only for want
@@ -34,7 +34,7 @@ impl Origin {
         put_given(alloc, &mut fields, "session", &self.session)?;
         put_statuses(alloc, &mut fields, body)?;
         put_body(alloc, &mut fields, body)?;
-        let bytes = spelled(alloc, &Ben::Dictionary(fields))?;
+        let bytes = canonical_bytes(alloc, &Ben::Dictionary(fields))?;
         Ok(bytes)
     }
 }
@@ -54,7 +54,8 @@ fn put_given(
     value: &Option<Ben>,
 ) -> Result<(), AllocError>
     ensures { OnOk result (pairs_view fields.new.entries
-        ≡ puts (pairs_view fields.old.entries) (given key.now (field_view value.now) no_pairs)) }
+        ≡ puts (pairs_view fields.old.entries)
+        (with_field key.now (field_view value.now) no_pairs)) }
 {
     match value {
         Some(value) => put(alloc, fields, key, value.copy(alloc)?),
@@ -162,7 +163,7 @@ fn statuses(body: &Body) -> &'static [&'static str]
 fn put_statuses(alloc: Global, fields: &mut Dictionary, body: &Body) -> Result<(), AllocError>
     ensures { OnOk result (pairs_view fields.new.entries
         ≡ (let words = status_value (status (body_view body.now)) in
-        puts (pairs_view fields.old.entries) (given (codes "status") words no_pairs))) }
+        puts (pairs_view fields.old.entries) (with_field (codes "status") words no_pairs))) }
 {
     let words = statuses(body);
     if words.is_empty() {

@@ -1,5 +1,7 @@
 -- Sessions by their numbers: the entries of the map, seen as data.
-use Rattle.std.proofs.Common.{◌≡◌, ℕ, ◌<◌, Bool, true, false, cond, eqb, not, List, [], ◌∷◌, ◌++◌, map, filter, find, Option, Some, None, option_map, is_some, refl, sym, ap, ◌∙◌, ap₂, append-nil, arith}
+use Rattle.std.proofs.Common.{◌≡◌, ℕ, ◌<◌, Bool, true, false, cond, eqb, not, List, [], ◌∷◌, ◌++◌}
+use Rattle.std.proofs.Common.{map, filter, find, Option, Some, None, option_map, is_some, refl, sym}
+use Rattle.std.proofs.Common.{ap, ◌∙◌, ap₂, append-nil, arith}
 use denote.Ref.{Bor}
 use Rattle.std.specs.Option.{option_copied}
 use Rattle.std.specs.Ordering.{nat_cmp, match_ordering}
@@ -17,7 +19,7 @@ use Rattle.std.proofs.lemmas.List.Elements.{filter-append}
 use Rattle.std.proofs.lemmas.Map.Keys.{sorted_head, sorted_tail}
 use Rattle.repl_sessions.specs.State.{StateData}
 use Rattle.repl_sessions.specs.StateView.{state_view}
-use Rattle.repl_sessions.specs.Sessions.{SessionData, is_numbered, changed}
+use Rattle.repl_sessions.specs.Sessions.{SessionData, is_numbered, with_changed_state}
 use Rattle.repl_sessions.specs.View.{session_view, live_view}
 use Rattle.repl_sessions.specs.declared.state.SessionState.{SessionState}
 
@@ -144,42 +146,42 @@ opened-out es n v h =
     ap (filter (λ x. not (is_numbered n x))) (opened-view es n v h) ∙ newest-out (live_view es) n v (kept-below es n h)
 
 -- the state of one number changes
-unchanged-above : (f : StateData → StateData) (es : Entries) (n : ℕ) → AllAbove n es → map (changed f n) (live_view es) ≡ live_view es
+unchanged-above : (f : StateData → StateData) (es : Entries) (n : ℕ) → AllAbove n es → map (with_changed_state f n) (live_view es) ≡ live_view es
 unchanged-above f [] n h = refl
 unchanged-above f (e ∷ es) n h =
-    ap (λ (b : Bool). cond b (record (session_view e) { state = f (state_view e.1) }) (session_view e) ∷ map (changed f n) (live_view es))
+    ap (λ (b : Bool). cond b (record (session_view e) { state = f (state_view e.1) }) (session_view e) ∷ map (with_changed_state f n) (live_view es))
     (ne_eqb n e.0 (λ same. omega (arith, h.0)))
     ∙ ap (λ (l : List SessionData). session_view e ∷ l) (unchanged-above f es n h.1)
 
-pub changed-view : (f : StateData → StateData) (es : Entries) (n : ℕ) (v w : SessionState) → Rise es → lookup (at n) es ≡ Some v
-    → state_view w ≡ f (state_view v) → live_view (set_value (at n) es w) ≡ map (changed f n) (live_view es)
-changed-view f [] n v w h is step = absurd (cc)
-changed-view f (e ∷ es) n v w h is step =
+pub with_changed_state-view : (f : StateData → StateData) (es : Entries) (n : ℕ) (v w : SessionState) → Rise es → lookup (at n) es ≡ Some v
+    → state_view w ≡ f (state_view v) → live_view (set_value (at n) es w) ≡ map (with_changed_state f n) (live_view es)
+with_changed_state-view f [] n v w h is step = absurd (cc)
+with_changed_state-view f (e ∷ es) n v w h is step =
     ap (λ (b : Bool). live_view (cond b ((e.0, w) ∷ es) (e ∷ set_value (at n) es w))) (unsigned_tied n e.0)
     ∙ by (eqb n e.0) (λ same. eqb-true n e.0 same) (ap (λ (b : Bool). cond b (Some e.1) (lookup (at n) es)) (sym (unsigned_tied n e.0)) ∙ is)
-    (λ it. changed-view f es n v w h.1 it step)
+    (λ it. with_changed_state-view f es n v w h.1 it step)
   where
     by : (b : Bool) → (b ≡ true → n ≡ e.0) → cond b (Some e.1) (lookup (at n) es) ≡ Some v
-        → (lookup (at n) es ≡ Some v → live_view (set_value (at n) es w) ≡ map (changed f n) (live_view es))
+        → (lookup (at n) es ≡ Some v → live_view (set_value (at n) es w) ≡ map (with_changed_state f n) (live_view es))
         → live_view (cond b ((e.0, w) ∷ es) (e ∷ set_value (at n) es w))
-        ≡ cond b (record (session_view e) { state = f (state_view e.1) }) (session_view e) ∷ map (changed f n) (live_view es)
+        ≡ cond b (record (session_view e) { state = f (state_view e.1) }) (session_view e) ∷ map (with_changed_state f n) (live_view es)
     by true same found ih =
         let first : e.1 ≡ v = cc in
         let new : state_view w ≡ f (state_view e.1) = step ∙ ap (λ (x : SessionState). f (state_view x)) (sym first) in
-        let rest : map (changed f n) (live_view es) ≡ live_view es =
-        ap (λ (k : ℕ). map (changed f k) (live_view es)) (same refl) ∙ unchanged-above f es e.0 h.0 in
+        let rest : map (with_changed_state f n) (live_view es) ≡ live_view es =
+        ap (λ (k : ℕ). map (with_changed_state f k) (live_view es)) (same refl) ∙ unchanged-above f es e.0 h.0 in
         ap (λ (s : StateData). record (session_view e) { state = s } ∷ live_view es) new
         ∙ ap (λ (l : List SessionData). record (session_view e) { state = f (state_view e.1) } ∷ l) (sym rest)
     by false same found ih = ap (λ (l : List SessionData). session_view e ∷ l) (ih found)
 
-pub unchanged-view : (f : StateData → StateData) (es : Entries) (n : ℕ) → lookup (at n) es ≡ None → map (changed f n) (live_view es) ≡ live_view es
+pub unchanged-view : (f : StateData → StateData) (es : Entries) (n : ℕ) → lookup (at n) es ≡ None → map (with_changed_state f n) (live_view es) ≡ live_view es
 unchanged-view f [] n is = refl
 unchanged-view f (e ∷ es) n is =
     by (eqb n e.0) (ap (λ (b : Bool). cond b (Some e.1) (lookup (at n) es)) (sym (unsigned_tied n e.0)) ∙ is) (λ it. unchanged-view f es n it)
   where
     by : (b : Bool) → cond b (Some e.1) (lookup (at n) es) ≡ None
-        → (lookup (at n) es ≡ None → map (changed f n) (live_view es) ≡ live_view es)
-        → cond b (record (session_view e) { state = f (state_view e.1) }) (session_view e) ∷ map (changed f n) (live_view es) ≡ session_view e ∷ live_view es
+        → (lookup (at n) es ≡ None → map (with_changed_state f n) (live_view es) ≡ live_view es)
+        → cond b (record (session_view e) { state = f (state_view e.1) }) (session_view e) ∷ map (with_changed_state f n) (live_view es) ≡ session_view e ∷ live_view es
     by true found ih = absurd (cc)
     by false found ih = ap (λ (l : List SessionData). session_view e ∷ l) (ih found)
 

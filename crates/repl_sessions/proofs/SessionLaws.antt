@@ -1,8 +1,10 @@
 -- Sessions by their numbers, through each change of the list.
-use Rattle.std.proofs.Common.{◌≡◌, ◌≢◌, ℕ, Bool, true, false, cond, not, eqb, List, [], ◌∷◌, ◌++◌, map, filter, find, Option, Some, None, option_map, is_some, refl, sym, ap, ◌∙◌}
+use Rattle.std.proofs.Common.{◌≡◌, ◌≢◌, ℕ, Bool, true, false, cond, not, eqb, List, [], ◌∷◌, ◌++◌}
+use Rattle.std.proofs.Common.{map, filter, find, Option, Some, None, option_map, is_some, refl, sym}
+use Rattle.std.proofs.Common.{ap, ◌∙◌}
 use Rattle.std.proofs.lemmas.Bool.{eqb-true, ne_eqb}
 use Rattle.repl_sessions.specs.State.{StateData}
-use Rattle.repl_sessions.specs.Sessions.{SessionData, is_numbered, changed}
+use Rattle.repl_sessions.specs.Sessions.{SessionData, is_numbered, with_changed_state}
 
 -- the state of the session of this number in a list
 abbrev pub state_in : List SessionData → ℕ → Option StateData
@@ -19,33 +21,33 @@ state-behind x xs m = by (eqb m x.number)
     by true = refl
     by false = refl
 
-pub change-kept : (f : StateData → StateData) (xs : List SessionData) (n : ℕ) → state_in (map (changed f n) xs) n ≡ option_map f (state_in xs n)
+pub change-kept : (f : StateData → StateData) (xs : List SessionData) (n : ℕ) → state_in (map (with_changed_state f n) xs) n ≡ option_map f (state_in xs n)
 change-kept f [] n = refl
 change-kept f (x ∷ xs) n = by (eqb n x.number) refl (change-kept f xs n)
   where
-    by : (b : Bool) → eqb n x.number ≡ b → state_in (map (changed f n) xs) n ≡ option_map f (state_in xs n)
-        → state_in (cond b (record x { state = f x.state }) x ∷ map (changed f n) xs) n ≡ option_map f (option_map (λ y. y.state) (cond b (Some x) (find (is_numbered n) xs)))
+    by : (b : Bool) → eqb n x.number ≡ b → state_in (map (with_changed_state f n) xs) n ≡ option_map f (state_in xs n)
+        → state_in (cond b (record x { state = f x.state }) x ∷ map (with_changed_state f n) xs) n ≡ option_map f (option_map (λ y. y.state) (cond b (Some x) (find (is_numbered n) xs)))
     by true e ih =
-        state-behind (record x { state = f x.state }) (map (changed f n) xs) n
-        ∙ ap (λ (b : Bool). behind b (f x.state) (state_in (map (changed f n) xs) n)) e
+        state-behind (record x { state = f x.state }) (map (with_changed_state f n) xs) n
+        ∙ ap (λ (b : Bool). behind b (f x.state) (state_in (map (with_changed_state f n) xs) n)) e
     by false e ih =
-        state-behind x (map (changed f n) xs) n ∙ ap (λ (b : Bool). behind b x.state (state_in (map (changed f n) xs) n)) e ∙ ih
+        state-behind x (map (with_changed_state f n) xs) n ∙ ap (λ (b : Bool). behind b x.state (state_in (map (with_changed_state f n) xs) n)) e ∙ ih
 
-pub change-elsewhere : (f : StateData → StateData) (xs : List SessionData) (n m : ℕ) → n ≢ m → state_in (map (changed f n) xs) m ≡ state_in xs m
+pub change-elsewhere : (f : StateData → StateData) (xs : List SessionData) (n m : ℕ) → n ≢ m → state_in (map (with_changed_state f n) xs) m ≡ state_in xs m
 change-elsewhere f [] n m ne = refl
 change-elsewhere f (x ∷ xs) n m ne =
     by (eqb n x.number) refl (change-elsewhere f xs n m ne) ∙ sym (state-behind x xs m)
   where
-    by : (b : Bool) → eqb n x.number ≡ b → state_in (map (changed f n) xs) m ≡ state_in xs m
-        → state_in (cond b (record x { state = f x.state }) x ∷ map (changed f n) xs) m ≡ behind (eqb m x.number) x.state (state_in xs m)
+    by : (b : Bool) → eqb n x.number ≡ b → state_in (map (with_changed_state f n) xs) m ≡ state_in xs m
+        → state_in (cond b (record x { state = f x.state }) x ∷ map (with_changed_state f n) xs) m ≡ behind (eqb m x.number) x.state (state_in xs m)
     by true e ih =
         let here : n ≡ x.number = eqb-true n x.number e in
         let apart : eqb m x.number ≡ false = ne_eqb m x.number (λ same. ne (here ∙ sym same)) in
-        state-behind (record x { state = f x.state }) (map (changed f n) xs) m
-        ∙ ap (λ (b : Bool). behind b (f x.state) (state_in (map (changed f n) xs) m)) apart ∙ ih
+        state-behind (record x { state = f x.state }) (map (with_changed_state f n) xs) m
+        ∙ ap (λ (b : Bool). behind b (f x.state) (state_in (map (with_changed_state f n) xs) m)) apart ∙ ih
         ∙ sym (ap (λ (b : Bool). behind b x.state (state_in xs m)) apart)
     by false e ih =
-        state-behind x (map (changed f n) xs) m ∙ ap (λ (o : Option StateData). behind (eqb m x.number) x.state o) ih
+        state-behind x (map (with_changed_state f n) xs) m ∙ ap (λ (o : Option StateData). behind (eqb m x.number) x.state o) ih
 
 pub closed-gone : (xs : List SessionData) (n : ℕ) → is_some (state_in (filter (λ x. not (is_numbered n x)) xs) n) ≡ false
 closed-gone [] n = refl

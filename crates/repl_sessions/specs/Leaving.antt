@@ -8,12 +8,12 @@ abbrev pub is_leaving : List ℕ → ℕ → Bool
 is_leaving leaving number = list_any (λ n. number == n) leaving
 
 -- the sessions that are not leaving
-abbrev pub remaining : List ℕ → SessionsData → SessionsData
-remaining leaving s =
+abbrev pub remaining_sessions : List ℕ → SessionsData → SessionsData
+remaining_sessions leaving s =
     record s { live = filter (λ x. not (is_leaving leaving x.number)) s.live }
 
 abbrev pub remaining_named : List ℕ → NamedSessions → NamedSessions
-remaining_named leaving s = record s { sessions = remaining leaving s.sessions }
+remaining_named leaving s = record s { sessions = remaining_sessions leaving s.sessions }
 
 -- the numbers of those that are not leaving
 abbrev pub without_leaving : List ℕ → List ℕ → List ℕ

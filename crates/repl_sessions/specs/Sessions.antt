@@ -1,7 +1,6 @@
 -- The sessions of a tenant, in the order in which they were made.
-use Rattle.std.specs.Prelude.{ℕ, ◌+◌, ◌==◌, List, [], ◌∷◌, ◌++◌, find, filter, map}
-use Rattle.std.specs.Prelude.{Bool, not, if◌then◌else◌}
-use Rattle.std.specs.Prelude.{Option, Some, None, option_map, unwrap_or, is_some}
+use Rattle.std.specs.Prelude.{ℕ, ◌+◌, ◌==◌, List, [], ◌∷◌, ◌++◌, find, filter, map, Bool, not}
+use Rattle.std.specs.Prelude.{if◌then◌else◌, Option, Some, None, option_map, unwrap_or, is_some}
 use Rattle.repl_sessions.specs.State.{StateData, fresh}
 
 pub record SessionData : Type 0 where
@@ -35,19 +34,19 @@ opened_with s state = record {
 }
 
 -- what a clone begins with: the state of an open session, or a fresh one
-abbrev pub first_state : SessionsData → Option ℕ → StateData
-first_state s None = fresh
-first_state s (Some number) = unwrap_or (state_of s number) fresh
+abbrev pub cloned_state : SessionsData → Option ℕ → StateData
+cloned_state s None = fresh
+cloned_state s (Some number) = unwrap_or (state_of s number) fresh
 
-abbrev pub cloned : SessionsData → Option ℕ → SessionsData
-cloned s original = opened_with s (first_state s original)
+abbrev pub with_clone_of : SessionsData → Option ℕ → SessionsData
+with_clone_of s original = opened_with s (cloned_state s original)
 
-abbrev pub closed : SessionsData → ℕ → SessionsData
-closed s number = record s { live = filter (λ x. not (is_numbered number x)) s.live }
+abbrev pub without_session : SessionsData → ℕ → SessionsData
+without_session s number = record s { live = filter (λ x. not (is_numbered number x)) s.live }
 
-abbrev pub changed : (StateData → StateData) → ℕ → SessionData → SessionData
-changed f number x = if is_numbered number x then record x { state = f x.state } else x
+abbrev pub with_changed_state : (StateData → StateData) → ℕ → SessionData → SessionData
+with_changed_state f number x = if is_numbered number x then record x { state = f x.state } else x
 
 -- the state of the session of this number changes, and no other
 abbrev pub with_change : SessionsData → ℕ → (StateData → StateData) → SessionsData
-with_change s number f = record s { live = map (changed f number) s.live }
+with_change s number f = record s { live = map (with_changed_state f number) s.live }

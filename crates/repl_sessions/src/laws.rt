@@ -2,8 +2,8 @@
 //! nothing.
 ghost use Rattle.std.specs.Prelude.{◌≡◌, ◌≢◌, ℕ, false, Option, option_map};
 ghost use Rattle.repl_sessions.specs.State.{StateData};
-ghost use Rattle.repl_sessions.specs.Sessions.{SessionsData, state_of, is_open};
-ghost use Rattle.repl_sessions.specs.Sessions.{cloned, closed, with_change};
+ghost use Rattle.repl_sessions.specs.Sessions.{SessionsData, state_of, is_open, with_clone_of};
+ghost use Rattle.repl_sessions.specs.Sessions.{without_session, with_change};
 
 /// The session that is changed has the changed state, if it is open.
 pub fn change_is_kept()
@@ -19,16 +19,17 @@ pub fn change_leaves_the_others()
 
 /// A session that is closed is not open.
 pub fn closed_session_is_gone()
-    ensures { (s : SessionsData) (n : ℕ) → is_open (closed s n) n ≡ false }
+    ensures { (s : SessionsData) (n : ℕ) → is_open (without_session s n) n ≡ false }
 {}
 
 /// The others stay open with their states.
 pub fn close_leaves_the_others()
-    ensures { (s : SessionsData) (n m : ℕ) → n ≢ m → state_of (closed s n) m ≡ state_of s m }
+    ensures { (s : SessionsData) (n m : ℕ) → n ≢ m
+        → state_of (without_session s n) m ≡ state_of s m }
 {}
 
 /// A new session changes no other.
 pub fn clone_leaves_the_others()
     ensures { (s : SessionsData) (original : Option ℕ) (m : ℕ) → m ≢ s.opened
-        → state_of (cloned s original) m ≡ state_of s m }
+        → state_of (with_clone_of s original) m ≡ state_of s m }
 {}

@@ -5,7 +5,7 @@ ghost use Rattle.std.specs.BTreeMap.{keys};
 ghost use Rattle.repl_sessions.specs.Ids.{id_text};
 ghost use Rattle.repl_sessions.specs.Sessions.{is_open};
 ghost use Rattle.repl_sessions.specs.Named.{number_named, ids_of};
-ghost use Rattle.repl_sessions.specs.Leaving.{remaining, remaining_named, without_leaving};
+ghost use Rattle.repl_sessions.specs.Leaving.{remaining_sessions, remaining_named, without_leaving};
 
 use crate::ids::IdStream;
 use crate::lookup::as_text;
@@ -22,7 +22,7 @@ impl Sessions {
         ensures found { result
             ≡ number_named (remaining_named (numbers leaving.now) self.now) text.now }
         ensures open { IfSome result (λ number.
-            IsTrue (is_open (remaining (numbers leaving.now) self.now.sessions) number)) }
+            IsTrue (is_open (remaining_sessions (numbers leaving.now) self.now.sessions) number)) }
     {
         let text = as_text(text)?;
         let (_, number) = self

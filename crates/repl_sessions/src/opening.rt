@@ -1,9 +1,9 @@
 // Sessions are opened, cloned and closed.
 ghost use Rattle.std.specs.Prelude.{◌≡◌, false, Some, IsTrue, IfOk, OnOk, OnErr};
 ghost use Rattle.std.specs.Option.{ForSome};
-ghost use Rattle.repl_sessions.specs.Sessions.{none_open, is_open, state_of};
-ghost use Rattle.repl_sessions.specs.Sessions.{opened_with, first_state, cloned, closed};
-ghost use Rattle.repl_sessions.specs.Retracted.{retracted};
+ghost use Rattle.repl_sessions.specs.Sessions.{none_open, is_open, state_of, opened_with};
+ghost use Rattle.repl_sessions.specs.Sessions.{cloned_state, with_clone_of, without_session};
+ghost use Rattle.repl_sessions.specs.Retracted.{without_newest_session};
 ghost use Rattle.repl_sessions.specs.StateView.{state_view};
 
 use crate::ids::IdStream;
@@ -33,20 +33,22 @@ impl Sessions {
         ensures number { IfOk result (λ number. number ≡ self.old.sessions.opened) }
         ensures unused { IfOk result (λ number. is_open self.old.sessions number ≡ false) }
         ensures begins { IfOk result (λ number. state_of self.new.sessions number
-            ≡ Some (first_state self.old.sessions original)) }
+            ≡ Some (cloned_state self.old.sessions original)) }
         ensures cloned { OnOk result (self.new
-            ≡ record self.old { sessions = cloned self.old.sessions original }) }
+            ≡ record self.old { sessions = with_clone_of self.old.sessions original }) }
         // `retract` undoes it
-        ensures undone { OnOk result (retracted self.new.sessions ≡ self.old.sessions) }
+        ensures undone { OnOk result (without_newest_session self.new.sessions
+            ≡ self.old.sessions) }
         ensures stays { OnErr result (self.new ≡ self.old) }
     {
-        let state = self.first_state(alloc, original)?;
+        let state = self.cloned_state(alloc, original)?;
         self.open(state)
     }
 
-    fn first_state(&self, alloc: Global, original: Option<u64>) -> Result<SessionState, AllocError>
+    fn cloned_state(&self, alloc: Global, original: Option<u64>) -> Result<SessionState, AllocError>
         requires { ForSome original (λ number. IsTrue (is_open self.now.sessions number)) }
-        ensures { IfOk result (λ state. state_view state ≡ first_state self.now.sessions original) }
+        ensures { IfOk result (λ state. state_view state
+            ≡ cloned_state self.now.sessions original) }
     {
         match original {
             Some(number) => self.live[&number].copy(),
@@ -61,7 +63,8 @@ impl Sessions {
             ≡ Some (state_view state)) }
         ensures opened { OnOk result (self.new
             ≡ record self.old { sessions = opened_with self.old.sessions (state_view state) }) }
-        ensures undone { OnOk result (retracted self.new.sessions ≡ self.old.sessions) }
+        ensures undone { OnOk result (without_newest_session self.new.sessions
+            ≡ self.old.sessions) }
         ensures stays { OnErr result (self.new ≡ self.old) }
     {
         let number = self.opened;
@@ -82,7 +85,10 @@ impl Sessions {
     /// Closes the session of this number, if it is open. It takes about the logarithm of the number
     /// of sessions.
     pub fn close(&mut self, number: u64)
-        ensures { self.new ≡ record self.old { sessions = closed self.old.sessions number } }
+        ensures { self.new ≡ record self.old {
+          sessions =
+              without_session self.old.sessions number;
+        } }
     {
         drop(self.live.remove(&number));
         self.index.remove(&(self.ids.text(number), number));

@@ -6,7 +6,8 @@ use std::marker::Model;
 
 /// The sessions of one tenant. Those that are open are kept in the order in which they were made.
 ///
-/// A session is named by its number, from 0 in that order. A number is never used again.
+/// A session is named by its number, from 0 in that order. The number of a
+/// session that was closed is never used again; `retract` alone gives that of the newest back.
 #[derive(Drop)]
 pub struct Sessions {
     pub(crate) ids: IdStream,

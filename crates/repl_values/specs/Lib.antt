@@ -1,3 +1,4 @@
 pub mod Parts
 pub mod Print
 pub mod Style
+pub mod Slash

@@ -1,6 +1,7 @@
 -- The values that stand directly in another: items, keys and a map's values.
 use Rattle.std.specs.Prelude.{◌≡◌, ◌⊎◌}
-use Rattle.value_data.specs.Datum.{Datum, list, vector, map, Items, no_items, item, Pairs, no_pairs, pair}
+use Rattle.value_data.specs.Datum.{Datum, list, vector, map, Items, no_items, item, Pairs, no_pairs}
+use Rattle.value_data.specs.Datum.{pair}
 
 abbrev pub IsItemOf : Datum → Items → Type 0
 IsItemOf d no_items = ⊥

@@ -1,7 +1,10 @@
--- How a value is spelled. `print` is what a reply carries; `display` is the same with each string as its bare text.
+-- How a value is spelled. `print` is what a reply carries; `display` is the same with each string
+-- as its bare text.
 use Rattle.std.specs.Prelude.{ℕ, List, [], ◌∷◌, ◌++◌, if◌then◌else◌, ◌==◌, codes, decimal, flat_map}
 use Rattle.std.specs.Fmt.{signed_decimal}
-use Rattle.value_data.specs.Datum.{OwnerData, shared, tenant, Datum, nil, boolean, integer, string, keyword, symbol, list, vector, map, ref, atom, agent, var, fault, Items, no_items, item, Pairs, no_pairs, pair}
+use Rattle.value_data.specs.Datum.{OwnerData, shared, tenant, Datum, nil, boolean, integer, string}
+use Rattle.value_data.specs.Datum.{keyword, symbol, list, vector, map, ref, atom, agent, var, fault}
+use Rattle.value_data.specs.Datum.{Items, no_items, item, Pairs, no_pairs, pair}
 
 -- what stands for a byte of a string between its quotes: seven characters have an escape
 unfoldable pub escaped_byte : ℕ → List ℕ
@@ -21,12 +24,12 @@ abbrev pub quoted : List ℕ → List ℕ
 quoted s = codes "\"" ++ escaped s ++ codes "\""
 
 -- the texts, with the gap between each two
-abbrev pub behind : List ℕ → List (List ℕ) → List ℕ
-behind gap = flat_map (λ text. gap ++ text)
+abbrev pub each_behind : List ℕ → List (List ℕ) → List ℕ
+each_behind gap = flat_map (λ text. gap ++ text)
 
-abbrev pub joined : List ℕ → List (List ℕ) → List ℕ
-joined gap [] = []
-joined gap (text ∷ texts) = text ++ behind gap texts
+abbrev pub joined_by : List ℕ → List (List ℕ) → List ℕ
+joined_by gap [] = []
+joined_by gap (text ∷ texts) = text ++ each_behind gap texts
 
 abbrev pub ref_text : OwnerData → ℕ → List ℕ
 ref_text shared number = codes "#ref[shared/" ++ decimal number ++ codes "]"
@@ -41,9 +44,9 @@ abbrev mutual
   spelled spell (string s) = spell s
   spelled spell (keyword s) = codes ":" ++ s
   spelled spell (symbol s) = s
-  spelled spell (list ds) = codes "(" ++ joined (codes " ") (texts spell ds) ++ codes ")"
-  spelled spell (vector ds) = codes "[" ++ joined (codes " ") (texts spell ds) ++ codes "]"
-  spelled spell (map ps) = codes "{" ++ joined (codes ", ") (pair_texts spell ps) ++ codes "}"
+  spelled spell (list ds) = codes "(" ++ joined_by (codes " ") (texts spell ds) ++ codes ")"
+  spelled spell (vector ds) = codes "[" ++ joined_by (codes " ") (texts spell ds) ++ codes "]"
+  spelled spell (map ps) = codes "{" ++ joined_by (codes ", ") (pair_texts spell ps) ++ codes "}"
   spelled spell (ref owner number) = ref_text owner number
   spelled spell (atom number) = codes "#atom[" ++ decimal number ++ codes "]"
   spelled spell (agent number) = codes "#agent[" ++ decimal number ++ codes "]"
@@ -56,7 +59,8 @@ abbrev mutual
 
   pub pair_texts : (List ℕ → List ℕ) → Pairs → List (List ℕ)
   pair_texts spell no_pairs = []
-  pair_texts spell (pair k v ps) = (spelled spell k ++ codes " " ++ spelled spell v) ∷ pair_texts spell ps
+  pair_texts spell (pair k v ps) = (spelled spell k ++ codes " " ++ spelled spell v)
+      ∷ pair_texts spell ps
 
 abbrev pub print : Datum → List ℕ
 print = spelled quoted

@@ -28,8 +28,10 @@ impl Fault {
     /// The same fault. It takes one step and no memory, and fails only where 2^63 owners share a
     /// text.
     pub fn copy(&self) -> Result<Fault, AllocError>
-        ensures class { IfOk result (λ copied. arc_str_bytes copied.class ≡ arc_str_bytes self.now.class) }
-        ensures text { IfOk result (λ copied. arc_str_bytes copied.text ≡ arc_str_bytes self.now.text) }
+        ensures class { IfOk result (λ copied. arc_str_bytes copied.class
+            ≡ arc_str_bytes self.now.class) }
+        ensures text { IfOk result (λ copied. arc_str_bytes copied.text
+            ≡ arc_str_bytes self.now.text) }
     {
         Ok(Fault {
             class: copy_text(&self.class)?,

@@ -47,12 +47,15 @@ pub fn only_equal_values_tie()
 
 /// One value comes before another exactly where that one comes behind it.
 pub fn order_is_antisymmetric()
-    ensures { (d e : Datum) → order (sort_key d) (sort_key e) ≡ ordering_reverse (order (sort_key e) (sort_key d)) }
+    ensures { (d e : Datum) → order (sort_key d) (sort_key e)
+        ≡ ordering_reverse (order (sort_key e) (sort_key d)) }
 {}
 
 /// What comes before a value that comes before another comes before that one.
 pub fn order_is_transitive()
-    ensures { (d e f : Datum) → order (sort_key d) (sort_key e) ≡ Ordering.Less → order (sort_key e) (sort_key f) ≡ Ordering.Less → order (sort_key d) (sort_key f) ≡ Ordering.Less }
+    ensures { (d e f : Datum) → order (sort_key d) (sort_key e) ≡ Ordering.Less
+        → order (sort_key e) (sort_key f) ≡ Ordering.Less
+        → order (sort_key d) (sort_key f) ≡ Ordering.Less }
 {}
 
 /// A copy, which has the view of what it was made from, is equal to it and prints as it does.

@@ -6,11 +6,13 @@
 
 mod fault;
 pub mod laws;
+mod limits;
 mod plain;
 mod print;
 mod repeats;
 
 pub use fault::Fault;
+pub use limits::{MOST_NESTING, MOST_TEXT, MOST_WEIGHT};
 pub use plain::is_plain;
 pub use print::{display_into, print_into};
 pub use repeats::first_repeated;

@@ -1,9 +1,11 @@
 // The spelling of values, into a text.
 #![tactic(auto, using(value_data::proofs::Nodes::node_steps))]
 
-ghost use Rattle.std.specs.Prelude.{◌≡◌, ◌++◌, OnOk, OnErr, string_bytes, codes, decimal, encode_utf8};
+ghost use Rattle.std.specs.Prelude.{◌≡◌, ◌++◌, OnOk, OnErr, string_bytes, codes, decimal};
+ghost use Rattle.std.specs.Prelude.{encode_utf8};
 ghost use Rattle.value_data.specs.View.{view, items_view, pairs_view, owner_view};
-ghost use Rattle.repl_values.specs.Print.{print, display, spelled, texts, pair_texts, joined, escaped, ref_text};
+ghost use Rattle.repl_values.specs.Print.{print, display, spelled, texts, pair_texts, joined_by};
+ghost use Rattle.repl_values.specs.Print.{escaped, ref_text};
 ghost use Rattle.std.specs.Fmt.{signed_decimal};
 ghost use Rattle.repl_values.specs.Style.{spelling_of};
 
@@ -20,7 +22,8 @@ enum Strings {
 
 /// Appends the value as a reply shows it. After want of memory `out` is as it was.
 pub fn print_into(alloc: Global, value: &Value, out: &mut String) -> Result<(), AllocError>
-    ensures ok { OnOk result (string_bytes out.new ≡ string_bytes out.old ++ print (view value.now)) }
+    ensures ok { OnOk result (string_bytes out.new
+        ≡ string_bytes out.old ++ print (view value.now)) }
     ensures err { OnErr result (string_bytes out.new ≡ string_bytes out.old) }
 {
     let mut text = String::new(alloc);
@@ -31,7 +34,8 @@ pub fn print_into(alloc: Global, value: &Value, out: &mut String) -> Result<(), 
 /// Appends the value with each string as its bare characters, at every depth. After want of memory
 /// `out` is as it was.
 pub fn display_into(alloc: Global, value: &Value, out: &mut String) -> Result<(), AllocError>
-    ensures ok { OnOk result (string_bytes out.new ≡ string_bytes out.old ++ display (view value.now)) }
+    ensures ok { OnOk result (string_bytes out.new
+        ≡ string_bytes out.old ++ display (view value.now)) }
     ensures err { OnErr result (string_bytes out.new ≡ string_bytes out.old) }
 {
     let mut text = String::new(alloc);
@@ -85,7 +89,7 @@ fn spell(value: &Value, strings: Strings, out: &mut String) -> Result<(), AllocE
 #[cycle(spell)]
 fn spell_items(items: &[Value], strings: Strings, out: &mut String) -> Result<(), AllocError>
     ensures { OnOk result (string_bytes out.new ≡ string_bytes out.old
-        ++ joined (codes " ") (texts (spelling_of strings) (items_view items.now))) }
+        ++ joined_by (codes " ") (texts (spelling_of strings) (items_view items.now))) }
 {
     let Some((first, rest)) = items.split_first() else {
         return Ok(());
@@ -105,7 +109,7 @@ fn spell_pairs(
     out: &mut String,
 ) -> Result<(), AllocError>
     ensures { OnOk result (string_bytes out.new ≡ string_bytes out.old
-        ++ joined (codes ", ") (pair_texts (spelling_of strings) (pairs_view pairs.now))) }
+        ++ joined_by (codes ", ") (pair_texts (spelling_of strings) (pairs_view pairs.now))) }
 {
     let Some(((key, value), rest)) = pairs.split_first() else {
         return Ok(());
@@ -123,7 +127,8 @@ fn spell_pairs(
 }
 
 fn push_two(before: &str, text: &str, out: &mut String) -> Result<(), AllocError>
-    ensures { OnOk result (string_bytes out.new ≡ string_bytes out.old ++ (before.now ++ text.now)) }
+    ensures { OnOk result (string_bytes out.new
+        ≡ string_bytes out.old ++ (before.now ++ text.now)) }
 {
     out.push_str(before)?;
     out.push_str(text)
@@ -148,7 +153,8 @@ fn push_number(opening: &str, number: u64, out: &mut String) -> Result<(), Alloc
 }
 
 fn push_ref(name: RefName, out: &mut String) -> Result<(), AllocError>
-    ensures { OnOk result (string_bytes out.new ≡ string_bytes out.old ++ ref_text (owner_view name.owner) name.number) }
+    ensures { OnOk result (string_bytes out.new
+        ≡ string_bytes out.old ++ ref_text (owner_view name.owner) name.number) }
 {
     match name.owner {
         Owner::Shared => push_number("#ref[shared/", name.number, out),
@@ -157,7 +163,8 @@ fn push_ref(name: RefName, out: &mut String) -> Result<(), AllocError>
 }
 
 fn push_string(text: &str, strings: Strings, out: &mut String) -> Result<(), AllocError>
-    ensures { OnOk result (string_bytes out.new ≡ string_bytes out.old ++ spelling_of strings text.now) }
+    ensures { OnOk result (string_bytes out.new
+        ≡ string_bytes out.old ++ spelling_of strings text.now) }
 {
     match strings {
         Strings::Bare => out.push_str(text),

@@ -18,10 +18,10 @@ pub fn first_repeated(alloc: Global, keys: &[Value]) -> Result<Option<usize>, Al
     for key in keys {
         pairs.push((copy(key)?, Value::Nil))?;
     }
-    Ok(repeated(Table::from_pairs(alloc, pairs)?))
+    Ok(repeated_place(Table::from_pairs(alloc, pairs)?))
 }
 
-fn repeated(built: Built) -> Option<usize>
+fn repeated_place(built: Built) -> Option<usize>
     ensures { (ps : Pairs) → IsBuilt built ps → result ≡ first_repeat (keys_of ps) }
 {
     match built {

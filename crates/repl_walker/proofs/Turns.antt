@@ -1,7 +1,9 @@
 -- Answers in a row, for the proof that a walk ends.
-use Rattle.std.proofs.Common.{◌≡◌, ℕ, ◌+◌, ◌*◌, ◌<◌, ◌≤◌, ◌^◌, ◌⊎◌, Bool, true, false, refl, sym, subst, inl, inr, arith}
-use Rattle.walker_state.specs.Size.{Position, IsLess, IsLater, LaterIn, outer_calls, outer_size}
-use Rattle.repl_walker.specs.Positions.{rank, IsOuter, OuterIn, walk_position, calls_left, IsLaterProgress, IsOuterProgress, HasFewerCalls}
+use Rattle.std.proofs.Common.{◌≡◌, ℕ, ◌+◌, ◌*◌, ◌<◌, ◌≤◌, ◌^◌, ◌⊎◌, Bool, true, false, refl, sym}
+use Rattle.std.proofs.Common.{subst, inl, inr, arith}
+use Rattle.walker_state.specs.Position.{Position, outer_calls, outer_size, IsLess, LaterIn, IsLater}
+use Rattle.repl_walker.specs.Positions.{rank, IsOuter, OuterIn, walk_position, calls_left}
+use Rattle.repl_walker.specs.Positions.{IsLaterProgress, IsOuterProgress, HasFewerCalls}
 use Rattle.repl_walker.specs.declared.waiting.Walk.{Walk}
 use Rattle.repl_walker.specs.declared.waiting.Progress.{Progress}
 

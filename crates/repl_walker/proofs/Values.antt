@@ -1,34 +1,34 @@
 -- What an attempt did stays, whatever more it is answered.
-use Rattle.std.proofs.Common.{◌≡◌, ◌≤◌, ℕ, ◌+◌, List, [], ◌∷◌, ◌++◌, length, map, nat_lt}
-use Rattle.std.proofs.Common.{Bool, true, false, if◌then◌else◌}
-use Rattle.std.proofs.Common.{refl, sym, ap, ◌∙◌, append_assoc, append-nil, arith}
+use Rattle.std.proofs.Common.{◌≡◌, ◌≤◌, ℕ, ◌+◌, List, [], ◌∷◌, ◌++◌, length, map, nat_lt, Bool}
+use Rattle.std.proofs.Common.{true, false, if◌then◌else◌, refl, sym, ap, ◌∙◌, append_assoc}
+use Rattle.std.proofs.Common.{append-nil, arith}
 use Rattle.std.proofs.lemmas.Bool.Decides.{nat_tests}
 use Rattle.std.proofs.lemmas.List.{map-append}
 use Rattle.core_texts.specs.Limits.{most_text}
 use Rattle.repl_asks.specs.Transactions.{ChangeData}
 use Rattle.repl_asks.specs.Exchange.{AnswerData}
-use Rattle.tx_attempt.specs.Operations.{OperationData, named_in, value_in}
+use Rattle.tx_attempt.specs.Accesses.{AccessData, named_in, value_in}
 use Rattle.evaluation_rules.specs.Doing.{Doing, left, asking, printing, looking, noting}
-use Rattle.repl_walker.specs.Values.{operations_after, values_after}
+use Rattle.repl_walker.specs.Values.{accesses_after, values_after}
 
 -- the one list begins as the other
-abbrev Begins : List OperationData → List OperationData → Type 0
-Begins xs ys = (rest : List OperationData) × (xs ≡ ys ++ rest)
+abbrev Begins : List AccessData → List AccessData → Type 0
+Begins xs ys = (rest : List AccessData) × (xs ≡ ys ++ rest)
 
-same : (xs : List OperationData) → Begins xs xs
+same : (xs : List AccessData) → Begins xs xs
 same xs = ([], sym (append-nil xs))
 
--- the operations so far are the first
-grows : (before : ℕ) (ops : List OperationData) (d : Doing) (answers : List AnswerData)
-    → Begins (operations_after before ops d answers) ops
+-- the accesses so far are the first
+grows : (before : ℕ) (ops : List AccessData) (d : Doing) (answers : List AnswerData)
+    → Begins (accesses_after before ops d answers) ops
 grows before ops (left exit kept) answers = same ops
 grows before ops (asking ask behind) [] = same ops
 grows before ops (asking ask behind) (answer ∷ answers) = grows before ops (behind answer) answers
 grows before ops (printing text kept d) answers =
     at (nat_lt most_text (before + length text)) (grows (before + length text) ops d answers)
   where
-    further : List OperationData
-    further = operations_after (before + length text) ops d answers
+    further : List AccessData
+    further = accesses_after (before + length text) ops d answers
 
     at : (b : Bool) → Begins further ops → Begins (if b then ops else further) ops
     at true on = same ops
@@ -39,9 +39,9 @@ grows before ops (noting op d) answers =
     (op ∷ more.0, more.1 ∙ append_assoc ops (op ∷ []) more.0)
 
 stays
-    : (less before : ℕ) (ops : List OperationData) (d : Doing) (answers more : List AnswerData)
+    : (less before : ℕ) (ops : List AccessData) (d : Doing) (answers more : List AnswerData)
     → less ≤ before
-    → Begins (operations_after less ops d (answers ++ more)) (operations_after before ops d answers)
+    → Begins (accesses_after less ops d (answers ++ more)) (accesses_after before ops d answers)
 stays less before ops (left exit kept) answers more few = same ops
 stays less before ops (asking ask behind) [] more few = grows less ops (asking ask behind) more
 stays less before ops (asking ask behind) (answer ∷ answers) more few =
@@ -50,14 +50,14 @@ stays less before ops (printing text kept d) answers more few =
     at (nat_lt most_text (before + length text)) refl
     (stays (less + length text) (before + length text) ops d answers more (omega (arith, few)))
   where
-    all : List OperationData
-    all = operations_after less ops (printing text kept d) (answers ++ more)
+    all : List AccessData
+    all = accesses_after less ops (printing text kept d) (answers ++ more)
 
-    further : List OperationData
-    further = operations_after (less + length text) ops d (answers ++ more)
+    further : List AccessData
+    further = accesses_after (less + length text) ops d (answers ++ more)
 
-    fewer : List OperationData
-    fewer = operations_after (before + length text) ops d answers
+    fewer : List AccessData
+    fewer = accesses_after (before + length text) ops d answers
 
     at : (b : Bool) → nat_lt most_text (before + length text) ≡ b → Begins further fewer
         → Begins all (if b then ops else fewer)
@@ -71,7 +71,7 @@ stays less before ops (looking behind) answers more few =
 stays less before ops (noting op d) answers more few =
     stays less before (ops ++ op ∷ []) d answers more few
 
-abbrev change_in : OperationData → ChangeData
+abbrev change_in : AccessData → ChangeData
 change_in op = record { name = named_in op; now = value_in op }
 
 pub values-stay
@@ -80,5 +80,5 @@ pub values-stay
     × (values_after less body (answers ++ more) ≡ values_after before body answers ++ rest)
 values-stay body before less answers more few =
     let it = stays less before [] body answers more few in
-    let first = operations_after before [] body answers in
+    let first = accesses_after before [] body answers in
     (map change_in it.0, ap (map change_in) it.1 ∙ map-append change_in first it.0)

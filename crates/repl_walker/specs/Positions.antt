@@ -1,6 +1,7 @@
--- Where an evaluation stands, for the proof that it ends. No promise speaks of it but that each answer leads on.
+-- Where an evaluation stands, for the proof that it ends. No promise speaks of it but that each
+-- answer leads on.
 use Rattle.std.specs.Prelude.{◌≡◌, ℕ, ◌+◌, ◌*◌, ◌<◌, ◌≤◌, ◌⊎◌, Bool, true, false, if◌then◌else◌, ⊤}
-use Rattle.walker_state.specs.Size.{Position, outer_calls, outer_size, IsLater}
+use Rattle.walker_state.specs.Position.{Position, outer_calls, outer_size, IsLater}
 use Rattle.walker_machine.specs.Waits.{position_of}
 use Rattle.repl_walker.specs.declared.waiting.Walk.{Walk}
 use Rattle.repl_walker.specs.declared.waiting.Progress.{Progress}
@@ -37,7 +38,8 @@ IsOuterProgress (Progress.Ends e) old = ⊤
 
 -- within a transaction, at a later attempt or with fewer calls
 abbrev pub IsTurned : Progress → Position → Type 0
-IsTurned (Progress.Asks w) old = (walk_position w).transaction.runs ≡ true → rank (walk_position w) < rank old
+IsTurned (Progress.Asks w) old = (walk_position w).transaction.runs ≡ true
+    → rank (walk_position w) < rank old
 IsTurned (Progress.Ends e) old = ⊤
 
 -- outside of transactions
@@ -51,7 +53,8 @@ HasFewerCalls (Progress.Ends e) old = ⊤
 
 -- what falls with each attempt that is left, and with each call
 abbrev pub rank_left : Progress → ℕ
-rank_left (Progress.Asks w) = if (walk_position w).transaction.runs then 1 + rank (walk_position w) else 0
+rank_left (Progress.Asks w) = if (walk_position w).transaction.runs then 1 + rank (walk_position w)
+    else 0
 rank_left (Progress.Ends e) = 0
 
 abbrev pub calls_left : Progress → ℕ

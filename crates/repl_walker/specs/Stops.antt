@@ -2,7 +2,7 @@
 use Rattle.std.specs.Prelude.{◌≡◌, true, false, List}
 use Rattle.repl_asks.specs.Exchange.{AnswerData, Exchanged, Heard}
 use Rattle.repl_asks.specs.View.{ask_view}
-use Rattle.repl_jobs.specs.Tree.{Tree, asks}
+use Rattle.repl_jobs.specs.InteractionTree.{InteractionTree, asks}
 use Rattle.repl_walker.specs.Led.{Led}
 use Rattle.repl_walker.specs.declared.run.WalkError.{WalkError}
 
@@ -12,6 +12,7 @@ IsStoppedBy WalkError.NoMemory heard = heard.stopped ≡ false
 IsStoppedBy (WalkError.Stopped ask) heard = heard.stopped ≡ true
 
 -- an evaluation was left at an ask that has no answer, or somewhere on its way for want of memory
-abbrev pub LeftAt : Tree → List Exchanged → List Exchanged → WalkError → Type 0
-LeftAt start old new WalkError.NoMemory = (rest : Tree) × Led start old new rest
-LeftAt start old new (WalkError.Stopped ask) = (behind : AnswerData → Tree) × Led start old new (asks (ask_view ask) behind)
+abbrev pub LeftAt : InteractionTree → List Exchanged → List Exchanged → WalkError → Type 0
+LeftAt start old new WalkError.NoMemory = (rest : InteractionTree) × Led start old new rest
+LeftAt start old new (WalkError.Stopped ask) = (behind : AnswerData → InteractionTree)
+    × Led start old new (asks (ask_view ask) behind)

@@ -4,19 +4,19 @@ use Rattle.repl_asks.specs.Exchange.{AskData, AnswerData, Exchanged}
 use Rattle.repl_asks.specs.View.{ask_view, trace_view}
 use Rattle.repl_jobs.specs.Job.{JobData}
 use Rattle.repl_jobs.specs.View.{job_view, finished_view}
-use Rattle.repl_jobs.specs.Tree.{Tree, finished, asks}
+use Rattle.repl_jobs.specs.InteractionTree.{InteractionTree, finished, asks}
 use Rattle.walker_machine.specs.Waits as machine
 use Rattle.repl_walker.specs.declared.waiting.Walk.{Walk}
 use Rattle.repl_walker.specs.declared.waiting.Progress.{Progress}
 use Rattle.repl_walker.specs.Led.{Recorded}
 
-abbrev pub behind : Walk → AnswerData → Tree
-behind w = machine.behind w.waiting
+abbrev pub tree_behind : Walk → AnswerData → InteractionTree
+tree_behind w = machine.tree_behind w.waiting
 
-abbrev pub walk_tree : Walk → Tree
-walk_tree w = asks (ask_view w.ask) (behind w)
+abbrev pub walk_tree : Walk → InteractionTree
+walk_tree w = asks (ask_view w.ask) (tree_behind w)
 
-abbrev pub progress_tree : Progress → Tree
+abbrev pub progress_tree : Progress → InteractionTree
 progress_tree (Progress.Asks w) = walk_tree w
 progress_tree (Progress.Ends e) = finished (finished_view e.finished)
 
@@ -30,7 +30,8 @@ progress_trace (Progress.Ends e) = trace_view e.trace.items
 
 -- the trace with one more answer, to what a walk asks
 abbrev pub trace_with : Walk → AnswerData → List Exchanged
-trace_with w answer = trace_view w.trace.items ++ record { ask = ask_view w.ask; answer = answer } ∷ []
+trace_with w answer = trace_view w.trace.items ++ record { ask = ask_view w.ask; answer = answer }
+    ∷ []
 
 -- A walk went on to here by exchanges that were heard, and written down.
 abbrev pub WentOn : Walk → List Exchanged → List Exchanged → Progress → Type 0

@@ -2,15 +2,15 @@
 ghost use Rattle.std.specs.Prelude.{◌≡◌, IfOk};
 ghost use Rattle.repl_asks.specs.View.{trace_view};
 ghost use Rattle.repl_jobs.specs.View.{job_view, finished_view};
-ghost use Rattle.repl_jobs.specs.Tree as tree;
+ghost use Rattle.repl_jobs.specs.InteractionTree as tree;
 ghost use Rattle.repl_walker.specs.Led.{LedTo};
 
 use repl_asks::{Exchange, Trace, copy_trace};
 use repl_jobs::{Finished, Job};
 use std::alloc::{AllocError, Global};
 
-/// An evaluation that ended: its job, what was asked and answered, and how it ended. Only the walker
-/// makes one.
+/// An evaluation that ended: its job, what was asked and answered, and how it ended. Only the
+/// walker makes one.
 #[derive(Debug, Drop)]
 pub struct Ending {
     job: Job,
@@ -24,7 +24,8 @@ impl Ending {
     ghost use Rattle.repl_walker.specs.Ends.{ending_view};
 
     pub(crate) fn new(job: Job, trace: Trace, finished: Finished) -> Ending
-        requires { LedTo (job_view job) (trace_view trace.items) (tree.finished (finished_view finished)) }
+        requires { LedTo (job_view job) (trace_view trace.items)
+            (tree.finished (finished_view finished)) }
         ensures job { result.job ≡ job }
         ensures trace { result.trace ≡ trace }
         ensures finished { result.finished ≡ finished }
@@ -57,8 +58,8 @@ impl Ending {
         &self.finished
     }
 
-    /// Its trace led its job to its end. The function does nothing: whoever is lent an ending can use
-    /// what it ensures.
+    /// Its trace led its job to its end. The function does nothing: whoever is lent an ending can
+    /// use what it ensures.
     pub fn comes_from_its_job(&self)
         ensures { LedTo (job_view self.now.job) (trace_view self.now.trace.items)
             (tree.finished (finished_view self.now.finished)) }

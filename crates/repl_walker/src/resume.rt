@@ -4,9 +4,10 @@ ghost use Rattle.repl_asks.specs.View.{answer_view, trace_view};
 ghost use Rattle.repl_jobs.specs.View.{job_view};
 ghost use Rattle.evaluation_rules.specs.Evaluation.{evaluation};
 ghost use Rattle.walker_machine.specs.Waits.{reached_tree, most_calls_of, IsLaterReached};
-ghost use Rattle.walker_state.specs.Size.{Position};
+ghost use Rattle.walker_state.specs.Position.{Position};
 ghost use Rattle.repl_walker.specs.Led.{LedTo};
-ghost use Rattle.repl_walker.specs.Waits.{behind, progress_tree, progress_job, progress_trace, trace_with};
+ghost use Rattle.repl_walker.specs.Waits.{tree_behind, progress_tree, progress_job, progress_trace};
+ghost use Rattle.repl_walker.specs.Waits.{trace_with};
 ghost use Rattle.repl_walker.specs.Positions.{walk_position, most_calls, IsLaterProgress};
 
 use crate::ending::Ending;
@@ -18,7 +19,8 @@ use walker_machine::{Reached, begin};
 
 /// Begins the job, up to its first ask or its end. It fails only for want of memory.
 pub fn start(alloc: Global, job: &Job) -> Result<Progress, AllocError>
-    ensures meaning { IfOk result (λ progress. progress_tree progress ≡ evaluation (job_view job.now)) }
+    ensures meaning { IfOk result (λ progress. progress_tree progress
+        ≡ evaluation (job_view job.now)) }
     ensures job { IfOk result (λ progress. progress_job progress ≡ job_view job.now) }
     ensures trace { IfOk result (λ progress. progress_trace progress ≡ []) }
     ensures calls { IfOk result (λ progress. most_calls progress ≤ 10_000) }
@@ -31,9 +33,11 @@ pub fn start(alloc: Global, job: &Job) -> Result<Progress, AllocError>
 impl Walk {
     /// Goes on with this answer, up to the next ask or the end. It fails only for want of memory.
     pub fn resume(self, alloc: Global, answer: Answer) -> Result<Progress, AllocError>
-        ensures meaning { IfOk result (λ later. progress_tree later ≡ behind self (answer_view answer)) }
+        ensures meaning { IfOk result (λ later. progress_tree later
+            ≡ tree_behind self (answer_view answer)) }
         ensures job { IfOk result (λ later. progress_job later ≡ job_view self.job) }
-        ensures trace { IfOk result (λ later. progress_trace later ≡ trace_with self (answer_view answer)) }
+        ensures trace { IfOk result (λ later. progress_trace later
+            ≡ trace_with self (answer_view answer)) }
         ensures later { IfOk result (λ later. IsLaterProgress later (walk_position self)) }
     {
         let Walk {

@@ -5,7 +5,8 @@ ghost use Rattle.repl_jobs.specs.View.{job_view};
 ghost use Rattle.evaluation_rules.specs.Evaluation.{evaluation};
 ghost use Rattle.repl_walker.specs.Ends.{ending_view, IsEndOf};
 ghost use Rattle.repl_walker.specs.Waits.{walk_tree, WentOn};
-ghost use Rattle.repl_walker.specs.Positions.{walk_position, IsLaterProgress, IsOuterProgress, IsTurned, IsSettled, HasFewerCalls};
+ghost use Rattle.repl_walker.specs.Positions.{walk_position, IsLaterProgress, IsOuterProgress};
+ghost use Rattle.repl_walker.specs.Positions.{IsTurned, IsSettled, HasFewerCalls};
 ghost use Rattle.repl_walker.specs.Stops.{IsStoppedBy, LeftAt};
 
 use crate::ending::Ending;
@@ -25,8 +26,8 @@ pub enum WalkError {
     Stopped(Ask),
 }
 
-/// Evaluates the job, each ask answered by `refs`, which must not have stopped before. `Stopped` comes
-/// only where the ask left `refs` stopped; after `NoMemory` it has not stopped.
+/// Evaluates the job, each ask answered by `refs`, which must not have stopped before. `Stopped`
+/// comes only where the ask left `refs` stopped; after `NoMemory` it has not stopped.
 pub fn walk<R: Refs>(alloc: Global, job: &Job, refs: &mut R) -> Result<Ending, WalkError>
     requires { (R.heard refs.old).stopped ≡ false }
     ensures ok { OnOk result ((R.heard refs.new).stopped ≡ false) }
@@ -56,7 +57,8 @@ fn until_a_call<R: Refs>(alloc: Global, walk: Walk, refs: &mut R) -> Result<Prog
     requires { (R.heard refs.old).stopped ≡ false }
     ensures ok { OnOk result ((R.heard refs.new).stopped ≡ false) }
     ensures stopped { IfErr result (λ error. IsStoppedBy error (R.heard refs.new)) }
-    ensures meaning { IfOk result (λ later. WentOn walk (R.heard refs.old).trace (R.heard refs.new).trace later) }
+    ensures meaning { IfOk result (λ later.
+        WentOn walk (R.heard refs.old).trace (R.heard refs.new).trace later) }
     ensures left_at { IfErr result (λ error. LeftAt (walk_tree walk)
         (R.heard refs.old).trace (R.heard refs.new).trace error) }
     ensures fewer { IfOk result (λ later. HasFewerCalls later (walk_position walk)) }
@@ -89,7 +91,8 @@ fn out_of_transaction<R: Refs>(
     requires { (R.heard refs.old).stopped ≡ false }
     ensures ok { OnOk result ((R.heard refs.new).stopped ≡ false) }
     ensures stopped { IfErr result (λ error. IsStoppedBy error (R.heard refs.new)) }
-    ensures meaning { IfOk result (λ later. WentOn walk (R.heard refs.old).trace (R.heard refs.new).trace later) }
+    ensures meaning { IfOk result (λ later.
+        WentOn walk (R.heard refs.old).trace (R.heard refs.new).trace later) }
     ensures left_at { IfErr result (λ error. LeftAt (walk_tree walk)
         (R.heard refs.old).trace (R.heard refs.new).trace error) }
     ensures outer { IfOk result (λ later. IsOuterProgress later (walk_position walk)) }
@@ -118,7 +121,8 @@ fn until_a_turn<R: Refs>(alloc: Global, walk: Walk, refs: &mut R) -> Result<Prog
     requires inside { (walk_position walk).transaction.runs ≡ true }
     ensures ok { OnOk result ((R.heard refs.new).stopped ≡ false) }
     ensures stopped { IfErr result (λ error. IsStoppedBy error (R.heard refs.new)) }
-    ensures meaning { IfOk result (λ later. WentOn walk (R.heard refs.old).trace (R.heard refs.new).trace later) }
+    ensures meaning { IfOk result (λ later.
+        WentOn walk (R.heard refs.old).trace (R.heard refs.new).trace later) }
     ensures left_at { IfErr result (λ error. LeftAt (walk_tree walk)
         (R.heard refs.old).trace (R.heard refs.new).trace error) }
     ensures outer { IfOk result (λ later. IsOuterProgress later (walk_position walk)) }
@@ -156,7 +160,8 @@ fn one_further<R: Refs>(alloc: Global, walk: Walk, refs: &mut R) -> Result<Progr
     requires { (R.heard refs.old).stopped ≡ false }
     ensures ok { OnOk result ((R.heard refs.new).stopped ≡ false) }
     ensures stopped { IfErr result (λ error. IsStoppedBy error (R.heard refs.new)) }
-    ensures meaning { IfOk result (λ later. WentOn walk (R.heard refs.old).trace (R.heard refs.new).trace later) }
+    ensures meaning { IfOk result (λ later.
+        WentOn walk (R.heard refs.old).trace (R.heard refs.new).trace later) }
     ensures left_at { IfErr result (λ error. LeftAt (walk_tree walk)
         (R.heard refs.old).trace (R.heard refs.new).trace error) }
     ensures later { IfOk result (λ later. IsLaterProgress later (walk_position walk)) }
@@ -174,7 +179,11 @@ fn answer_to<R: Refs>(alloc: Global, walk: &Walk, refs: &mut R) -> Result<Answer
     ensures ok { OnOk result ((R.heard refs.new).stopped ≡ false) }
     ensures stopped { IfErr result (λ error. IsStoppedBy error (R.heard refs.new)) }
     ensures grows { IfOk result (λ answer. (R.heard refs.new).trace
-        ≡ (R.heard refs.old).trace ++ record { ask = ask_view walk.now.ask; answer = answer_view answer } ∷ []) }
+        ≡ (R.heard refs.old).trace ++ record {
+          ask = ask_view walk.now.ask;
+          answer =
+              answer_view answer;
+        } ∷ []) }
     ensures left_at { IfErr result (λ error. LeftAt (walk_tree walk.now)
         (R.heard refs.old).trace (R.heard refs.new).trace error) }
 {

@@ -2,24 +2,25 @@
 ghost use Rattle.std.specs.Prelude.{◌≡◌};
 ghost use Rattle.repl_asks.specs.View.{ask_view, trace_view};
 ghost use Rattle.repl_jobs.specs.View.{job_view};
-ghost use Rattle.repl_jobs.specs.Tree.{asks};
-ghost use Rattle.walker_machine.specs.Waits.{behind};
+ghost use Rattle.repl_jobs.specs.InteractionTree.{asks};
+ghost use Rattle.walker_machine.specs.Waits.{tree_behind};
 ghost use Rattle.repl_walker.specs.Led.{LedTo};
 
 use crate::ending::Ending;
 use repl_asks::{Ask, Exchange, Trace};
 use repl_jobs::Job;
-use walker_machine::Waiting;
+use walker_machine::WaitingEvaluation;
 
-/// An evaluation that waits for the answer to its ask: its job, and what was asked and answered before.
+/// An evaluation that waits for the answer to its ask: its job, and what was asked and answered
+/// before.
 #[derive(Drop)]
 pub struct Walk {
     pub(crate) job: Job,
     pub(crate) trace: Trace,
     pub(crate) ask: Ask,
-    pub(crate) waiting: Waiting,
+    pub(crate) waiting: WaitingEvaluation,
     // Its trace led its job to this ask.
-    ghost led: { LedTo (job_view job) (trace_view trace.items) (asks (ask_view ask) (behind waiting)) },
+    ghost led: { LedTo (job_view job) (trace_view trace.items) (asks (ask_view ask) (tree_behind waiting)) },
 }
 
 /// How far an evaluation came: to its next ask, or to its end.
@@ -51,10 +52,10 @@ impl Walk {
         &self.ask
     }
 
-    /// Its trace led its job to its ask. The function does nothing: whoever is lent a walk can use what
-    /// it ensures.
+    /// Its trace led its job to its ask. The function does nothing: whoever is lent a walk can use
+    /// what it ensures.
     pub fn comes_from_its_job(&self)
         ensures { LedTo (job_view self.now.job) (trace_view self.now.trace.items)
-            (asks (ask_view self.now.ask) (behind self.now.waiting)) }
+            (asks (ask_view self.now.ask) (tree_behind self.now.waiting)) }
     {}
 }

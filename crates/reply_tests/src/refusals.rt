@@ -1,6 +1,6 @@
 // Messages that are answered at once.
 use crate::table::{ADA_AND_BOB, fields_of};
-use repl_replies::{Heard, operation_of, reply_bytes, request_of};
+use repl_replies::{RequestOrReply, operation_of, reply_bytes, request_of};
 use std::test::Fail;
 
 // A message, and the reply to it.
@@ -151,8 +151,8 @@ fn messages_without_sessions(rt: HostRuntime) -> Result<(), Fail> {
     ];
     for (message, expected) in rows {
         match request_of(fields_of(&rt, alloc, message)?) {
-            Heard::Waits(request) => assert_eq!(rt; request.code.as_bytes(), expected),
-            Heard::Answered(reply) => {
+            RequestOrReply::Waits(request) => assert_eq!(rt; request.code.as_bytes(), expected),
+            RequestOrReply::Answered(reply) => {
                 assert_eq!(rt; reply_bytes(alloc, &reply)?.as_slice(), expected);
             }
         }

@@ -2,6 +2,7 @@
 use bencode_wire::Ben;
 use repl_replies::{Body, Origin, Reply, reply_bytes};
 use std::alloc::{AllocError, Global};
+use std::process::Abort;
 use std::test::Fail;
 
 fn text(alloc: Global, text: &str) -> Result<String, AllocError> {
@@ -12,8 +13,11 @@ fn string(alloc: Global, bytes: &[u8]) -> Result<Ben, AllocError> {
     Ok(Ben::String(Vec::from_slice(alloc, bytes)?))
 }
 
-// What replies say, each with the reply's bytes where the request had the id `1`.
-fn told(alloc: Global) -> Result<[(Body, &'static [u8]); 12], AllocError> {
+// What a reply says, and its bytes where the request had the id `1`.
+type Told = (Body, &'static [u8]);
+
+// Of a form that is evaluated.
+fn told_of_forms(alloc: Global) -> Result<[Told; 5], AllocError> {
     Ok([
         (
             Body::Value {
@@ -34,6 +38,12 @@ fn told(alloc: Global) -> Result<[(Body, &'static [u8]); 12], AllocError> {
             b"d3:err11:arity: two\n2:id1:1e",
         ),
         (Body::Done, b"d2:id1:16:statusl4:doneee"),
+    ])
+}
+
+// Of sessions, and of requests that are not evaluated.
+fn told_of_requests(alloc: Global) -> Result<[Told; 7], AllocError> {
+    Ok([
         (
             Body::NamespaceNotFound,
             b"d2:id1:16:statusl5:error19:namespace-not-found4:doneee",
@@ -59,18 +69,27 @@ fn told(alloc: Global) -> Result<[(Body, &'static [u8]); 12], AllocError> {
     ])
 }
 
+fn expect_spelled(rt: &impl Abort, alloc: Global, told: Told) -> Result<(), Fail> {
+    let (body, bytes) = told;
+    let origin = Origin {
+        id: Some(string(alloc, b"1")?),
+        session: None,
+    };
+    let reply = Reply { origin, body };
+    assert_eq!(rt; reply_bytes(alloc, &reply)?.as_slice(), bytes);
+    // A reply is not used up by its bytes.
+    assert_eq!(rt; reply_bytes(alloc, &reply)?.as_slice(), bytes);
+    Ok(())
+}
+
 #[test]
 fn replies_are_spelled(rt: HostRuntime) -> Result<(), Fail> {
     let alloc = rt.alloc();
-    for (body, bytes) in told(alloc)? {
-        let origin = Origin {
-            id: Some(string(alloc, b"1")?),
-            session: None,
-        };
-        let reply = Reply { origin, body };
-        assert_eq!(rt; reply_bytes(alloc, &reply)?.as_slice(), bytes);
-        // A reply is not used up by its bytes.
-        assert_eq!(rt; reply_bytes(alloc, &reply)?.as_slice(), bytes);
+    for told in told_of_forms(alloc)? {
+        expect_spelled(&rt, alloc, told)?;
+    }
+    for told in told_of_requests(alloc)? {
+        expect_spelled(&rt, alloc, told)?;
     }
     Ok(())
 }

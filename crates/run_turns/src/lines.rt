@@ -61,11 +61,11 @@ fn read_turn(alloc: Global, word: &str, rest: &str) -> Result<Turn, LineError> {
     match word {
         "open" => Ok(Turn::Open(read_number(rest)?)),
         "bytes" => {
-            let (number, digits) = parted(rest)?;
+            let (number, digits) = split_number(rest)?;
             Ok(Turn::Bytes(number, read_piece(alloc, digits)?))
         }
         "go" => {
-            let (number, name) = parted(rest)?;
+            let (number, name) = split_number(rest)?;
             Ok(Turn::Go(number, read_actor(name)?))
         }
         "drain" => Ok(Turn::Drain(read_number(rest)?)),
@@ -75,7 +75,7 @@ fn read_turn(alloc: Global, word: &str, rest: &str) -> Result<Turn, LineError> {
 }
 
 // The number of a tenant, and what stands behind it.
-fn parted(text: &str) -> Result<(u64, &str), LineError> {
+fn split_number(text: &str) -> Result<(u64, &str), LineError> {
     match text.split_once(' ') {
         Some((number, rest)) => Ok((read_number(number)?, rest)),
         None => Err(LineError::Malformed),

@@ -1,5 +1,5 @@
-//! Replays an interleaving: reads a list of turns by lines from standard input, makes them on a server
-//! to which nobody came, and writes what each tenant took out and which turns were refused.
+//! Replays an interleaving: reads a list of turns by lines from standard input, makes them on a
+//! server to which nobody came, and writes what each tenant took out and which turns were refused.
 #![tactic(auto)]
 
 mod lines;

@@ -7,13 +7,14 @@ use Rattle.rand_chacha.specs.Block.{quarter_round, column_round, diagonal_round,
 use Rattle.rand_chacha.specs.Block.{block_word}
 use Rattle.uuid.specs.Text.{by_index}
 use Rattle.repl_sessions.specs.Ids.{session_id, id_text}
-use Rattle.core_integers.specs.Arithmetic.{held, arithmetic}
+use Rattle.core_integers.specs.Arithmetic.{or_overflow, arithmetic}
 use Rattle.core_integers.specs.Meaning as integers
-use Rattle.core_functions.specs.Outcome.{limited, settled}
-use Rattle.name_spaces.specs.Namespaces.{is_there, at_start, entered, defined}
+use Rattle.core_functions.specs.ApplyOutcome.{limited_outcome, apply_outcome}
+use Rattle.name_spaces.specs.Namespaces.{is_there, at_start, with_entered_namespace}
+use Rattle.name_spaces.specs.Namespaces.{with_definition}
 use Rattle.name_spaces.specs.Resolving.{resolved}
 use Rattle.repl_asks.specs.Namespaces.{is_fixed}
-use Rattle.repl_replies.specs.Operations.{asked}
+use Rattle.repl_replies.specs.Operations.{operation_or_reply}
 use Rattle.server_rules.specs.Operating.{with_message}
 use Rattle.server_rules.specs.Hearing.{taken_in}
 use Rattle.server_rules.specs.Moves.{form_ended}
@@ -23,33 +24,33 @@ use Rattle.server_examples.specs.Examples.{OtherTraceIsRefused, PlaceIsFreed, No
 use Rattle.server_examples.specs.Examples.{IdleCostsNothing, BothCommute}
 
 pub read-is-retried : ReadIsRetried
-unfolding step form_ended taken_in with_message asked is_fixed is_there at_start entered defined resolved is_utf8 chars encode_utf8 id_text session_id by_index u32_at quarter_round column_round diagonal_round double_rounds block_word
+unfolding step form_ended taken_in with_message operation_or_reply is_fixed is_there at_start with_entered_namespace with_definition resolved is_utf8 chars encode_utf8 id_text session_id by_index u32_at quarter_round column_round diagonal_round double_rounds block_word
 read-is-retried = refl
 
 pub two-are-apart : TwoAreApart
-unfolding step form_ended taken_in with_message asked is_fixed is_there at_start entered defined resolved is_utf8 chars encode_utf8 id_text session_id by_index u32_at quarter_round column_round diagonal_round double_rounds block_word
+unfolding step form_ended taken_in with_message operation_or_reply is_fixed is_there at_start with_entered_namespace with_definition resolved is_utf8 chars encode_utf8 id_text session_id by_index u32_at quarter_round column_round diagonal_round double_rounds block_word
 two-are-apart = (refl, refl)
 
 pub both-commute : BothCommute
-unfolding step form_ended taken_in with_message asked is_fixed is_there at_start entered defined resolved is_utf8 chars encode_utf8 id_text session_id by_index u32_at quarter_round column_round diagonal_round double_rounds block_word settled limited integers.value_of arithmetic held
+unfolding step form_ended taken_in with_message operation_or_reply is_fixed is_there at_start with_entered_namespace with_definition resolved is_utf8 chars encode_utf8 id_text session_id by_index u32_at quarter_round column_round diagonal_round double_rounds block_word apply_outcome limited_outcome integers.value_of arithmetic or_overflow
 both-commute = refl
 
 pub close-interrupts : CloseInterrupts
-unfolding step form_ended taken_in with_message asked is_fixed is_there at_start entered defined resolved is_utf8 chars encode_utf8 id_text session_id by_index u32_at quarter_round column_round diagonal_round double_rounds block_word
+unfolding step form_ended taken_in with_message operation_or_reply is_fixed is_there at_start with_entered_namespace with_definition resolved is_utf8 chars encode_utf8 id_text session_id by_index u32_at quarter_round column_round diagonal_round double_rounds block_word
 close-interrupts = refl
 
 pub other-trace-is-refused : OtherTraceIsRefused
-unfolding step form_ended taken_in with_message asked is_fixed is_there at_start entered defined resolved is_utf8 chars encode_utf8 id_text session_id by_index u32_at quarter_round column_round diagonal_round double_rounds block_word
+unfolding step form_ended taken_in with_message operation_or_reply is_fixed is_there at_start with_entered_namespace with_definition resolved is_utf8 chars encode_utf8 id_text session_id by_index u32_at quarter_round column_round diagonal_round double_rounds block_word
 other-trace-is-refused = refl
 
 pub place-is-freed : PlaceIsFreed
-unfolding step form_ended taken_in with_message asked is_fixed is_there at_start entered defined resolved is_utf8 chars encode_utf8 id_text session_id by_index u32_at quarter_round column_round diagonal_round double_rounds block_word
+unfolding step form_ended taken_in with_message operation_or_reply is_fixed is_there at_start with_entered_namespace with_definition resolved is_utf8 chars encode_utf8 id_text session_id by_index u32_at quarter_round column_round diagonal_round double_rounds block_word
 place-is-freed = (refl, refl)
 
 pub nothing-is-left : NothingIsLeft
-unfolding step form_ended taken_in with_message asked is_fixed is_there at_start entered defined resolved is_utf8 chars encode_utf8 id_text session_id by_index u32_at quarter_round column_round diagonal_round double_rounds block_word
+unfolding step form_ended taken_in with_message operation_or_reply is_fixed is_there at_start with_entered_namespace with_definition resolved is_utf8 chars encode_utf8 id_text session_id by_index u32_at quarter_round column_round diagonal_round double_rounds block_word
 nothing-is-left = (refl, refl)
 
 pub idle-costs-nothing : IdleCostsNothing
-unfolding step form_ended taken_in with_message asked is_fixed is_there at_start entered defined resolved is_utf8 chars encode_utf8 id_text session_id by_index u32_at quarter_round column_round diagonal_round double_rounds block_word
+unfolding step form_ended taken_in with_message operation_or_reply is_fixed is_there at_start with_entered_namespace with_definition resolved is_utf8 chars encode_utf8 id_text session_id by_index u32_at quarter_round column_round diagonal_round double_rounds block_word
 idle-costs-nothing = refl

@@ -2,18 +2,20 @@
 use Rattle.std.specs.Prelude.{◌≡◌, ℕ, List, [], ◌∷◌, ◌++◌, Option, Some, None, Ok, Err, codes}
 use Rattle.value_data.specs.Datum.{nil}
 use Rattle.repl_jobs.specs.Job as jobs
-use Rattle.repl_jobs.specs.Job.{JobData}
+use Rattle.repl_jobs.specs.Job.{JobData, EndingData}
 use Rattle.repl_replies.specs.Replies as replies
-use Rattle.server_rules.specs.Numbered.{found}
-use Rattle.server_rules.specs.Plan.{EndingData, ends, tenant_opened}
+use Rattle.server_rules.specs.Numbered.{part_under}
+use Rattle.server_rules.specs.Plan.{ends, tenant_opened}
 use Rattle.server_rules.specs.World.{opens, closes, does, step}
-use Rattle.server_rules.specs.Turns.{Turn, given, only}
+use Rattle.server_rules.specs.Turns.{Turn, given, turns_of_tenant}
 use Rattle.server_rules.specs.Laws.{answer_in}
 use Rattle.server_rules.specs.declared.actor.Actor.{Actor}
 use Rattle.server_rules.specs.declared.refusal.Refusal.{Refusal}
 use Rattle.server_examples.specs.Tables.{number, ground}
-use Rattle.server_examples.specs.Runs.{heard, drained, turns_of, begun, by_turns, after_all}
-use Rattle.server_examples.specs.Runs.{given_to, first_reply, second_reply, value_of, joined}
+use Rattle.server_examples.specs.Runs.{message_turn, drain_turns, turns_of, opening_turns}
+use Rattle.server_examples.specs.Runs.{interleaving, after_all, given_to, first_reply, second_reply}
+use Rattle.server_examples.specs.Runs.{value_body}
+use Rattle.bencode_wire.specs.Spelling.{joined}
 use Rattle.server_examples.specs.Runs.{begun_replies, steps_of}
 
 -- One session begins to read `r` in a transaction, then the other sets it, and commits. The read
@@ -21,17 +23,18 @@ use Rattle.server_examples.specs.Runs.{begun_replies, steps_of}
 -- one version more is kept from the next commit on.
 abbrev pub retried_run : ℕ → List Turn
 retried_run t =
-    given (opens t) ∷ begun t ++ heard t 2 ∷ heard t 3 ∷ turns_of t 0 2 ++ turns_of t 1 6
-    ++ turns_of t 0 2 ++ turns_of t 0 5 ++ heard t 4 ∷ turns_of t 0 5
-    ++ heard t 5 ∷ turns_of t 1 6 ++ heard t 4 ∷ turns_of t 0 5 ++ drained t 14
+    given (opens t) ∷ opening_turns t ++ message_turn t 2 ∷ message_turn t 3 ∷ turns_of t 0 2
+    ++ turns_of t 1 6
+    ++ turns_of t 0 2 ++ turns_of t 0 5 ++ message_turn t 4 ∷ turns_of t 0 5
+    ++ message_turn t 5 ∷ turns_of t 1 6 ++ message_turn t 4 ∷ turns_of t 0 5 ++ drain_turns t 14
 
 abbrev pub retried_replies : ℕ → List ℕ
 retried_replies t = joined (begun_replies t
-    ++ second_reply t (codes "3") (value_of (number 5)) ∷ second_reply t (codes "3") replies.done
-    ∷ first_reply t (codes "2") (value_of (number 5)) ∷ first_reply t (codes "2") replies.done
-    ∷ first_reply t (codes "4") (value_of (number 0)) ∷ first_reply t (codes "4") replies.done
-    ∷ second_reply t (codes "5") (value_of (number 6)) ∷ second_reply t (codes "5") replies.done
-    ∷ first_reply t (codes "4") (value_of (number 1)) ∷ first_reply t (codes "4") replies.done
+    ++ second_reply t (codes "3") (value_body (number 5)) ∷ second_reply t (codes "3") replies.done
+    ∷ first_reply t (codes "2") (value_body (number 5)) ∷ first_reply t (codes "2") replies.done
+    ∷ first_reply t (codes "4") (value_body (number 0)) ∷ first_reply t (codes "4") replies.done
+    ∷ second_reply t (codes "5") (value_body (number 6)) ∷ second_reply t (codes "5") replies.done
+    ∷ first_reply t (codes "4") (value_body (number 1)) ∷ first_reply t (codes "4") replies.done
     ∷ [])
 
 abbrev pub ReadIsRetried : Type 0
@@ -40,26 +43,29 @@ ReadIsRetried = given_to 0 (retried_run 0) ≡ retried_replies 0
 -- The same by two tenants, turn by turn: each is answered as if it were alone.
 abbrev pub TwoAreApart : Type 0
 TwoAreApart =
-    let both = by_turns (retried_run 0) (retried_run 1) in
+    let both = interleaving (retried_run 0) (retried_run 1) in
     (given_to 0 both ≡ retried_replies 0) × (given_to 1 both ≡ retried_replies 1)
 
 -- Two sessions commute one ref, and the second commits first: the first meets no conflict, and its
 -- commute is made again of what the second left.
 abbrev pub BothCommute : Type 0
 BothCommute =
-    given_to 0 (given (opens 0) ∷ begun 0 ++ heard 0 7 ∷ heard 0 8 ∷ turns_of 0 0 6 ++ turns_of 0 1 8
-    ++ turns_of 0 0 2 ++ heard 0 2 ∷ turns_of 0 0 6 ++ drained 0 10)
+    given_to 0 (given (opens 0) ∷ opening_turns 0 ++ message_turn 0 7 ∷ message_turn 0 8
+    ∷ turns_of 0 0 6 ++ turns_of 0 1 8
+    ++ turns_of 0 0 2 ++ message_turn 0 2 ∷ turns_of 0 0 6 ++ drain_turns 0 10)
     ≡ joined (begun_replies 0
-    ++ second_reply 0 (codes "9") (value_of nil) ∷ second_reply 0 (codes "9") replies.done
-    ∷ first_reply 0 (codes "8") (value_of nil) ∷ first_reply 0 (codes "8") replies.done
-    ∷ first_reply 0 (codes "2") (value_of (number 2)) ∷ first_reply 0 (codes "2") replies.done ∷ [])
+    ++ second_reply 0 (codes "9") (value_body nil) ∷ second_reply 0 (codes "9") replies.done
+    ∷ first_reply 0 (codes "8") (value_body nil) ∷ first_reply 0 (codes "8") replies.done
+    ∷ first_reply 0 (codes "2") (value_body (number 2)) ∷ first_reply 0 (codes "2") replies.done
+    ∷ [])
 
--- A session is closed while one request is in hand and another waits. The one that waits is answered
--- first, then the close, and at its next turn the one in hand; then the actor is gone.
+-- A session is closed while one request is in hand and another waits. The one that waits is
+-- answered first, then the close, and at its next turn the one in hand; then the actor is gone.
 abbrev pub CloseInterrupts : Type 0
 CloseInterrupts =
-    given_to 0 (given (opens 0) ∷ begun 0 ++ heard 0 2 ∷ turns_of 0 0 2 ++ heard 0 4 ∷ heard 0 6
-    ∷ turns_of 0 0 2 ++ drained 0 8)
+    given_to 0 (given (opens 0) ∷ opening_turns 0 ++ message_turn 0 2 ∷ turns_of 0 0 2
+    ++ message_turn 0 4 ∷ message_turn 0 6
+    ∷ turns_of 0 0 2 ++ drain_turns 0 8)
     ≡ joined (begun_replies 0 ++ first_reply 0 (codes "4") replies.interrupted
     ∷ first_reply 0 (codes "7") replies.closed
     ∷ first_reply 0 (codes "2") replies.interrupted ∷ [])
@@ -74,25 +80,26 @@ defining_ended = record {
 
 abbrev pub OtherTraceIsRefused : Type 0
 OtherTraceIsRefused =
-    let w = after_all (given (opens 0) ∷ heard 0 0 ∷ heard 0 1 ∷ turns_of 0 0 3) in
+    let w = after_all (given (opens 0) ∷ message_turn 0 0 ∷ message_turn 0 1 ∷ turns_of 0 0 3) in
     answer_in (step ground w (does 0 (ends (Actor.Session 0) defining_ended)))
     ≡ Err (Refusal.TraceMismatch 0)
 
 -- A tenant that goes leaves its place to another, and nothing of its refs.
 abbrev pub PlaceIsFreed : Type 0
 PlaceIsFreed =
-    let full = given (opens 0) ∷ given (opens 1) ∷ begun 0 in
+    let full = given (opens 0) ∷ given (opens 1) ∷ opening_turns 0 in
     (answer_in (step ground (after_all full) (opens 2)) ≡ Err Refusal.Full)
     × (answer_in (step ground (after_all (full ++ given (closes 0) ∷ [])) (opens 2))
     ≡ Ok tenant_opened)
 
 abbrev pub NothingIsLeft : Type 0
 NothingIsLeft =
-    let w = after_all (given (opens 0) ∷ begun 0 ++ given (closes 0) ∷ []) in
-    (found 0 w.tenants ≡ Some None) × (w.around.refs ≡ [])
+    let w = after_all (given (opens 0) ∷ opening_turns 0 ++ given (closes 0) ∷ []) in
+    (part_under 0 w.tenants ≡ Some None) × (w.around.refs ≡ [])
 
 -- A turn for which there is nothing to do is refused, and costs no step: here three pieces and the
 -- five turns of a form are counted, and neither the idle turns nor what is taken out.
 abbrev pub IdleCostsNothing : Type 0
 IdleCostsNothing =
-    steps_of 0 (after_all (given (opens 0) ∷ begun 0 ++ turns_of 0 0 3 ++ drained 0 9)) ≡ Some 992
+    steps_of 0 (after_all (given (opens 0) ∷ opening_turns 0 ++ turns_of 0 0 3 ++ drain_turns 0 9))
+    ≡ Some 992

@@ -1,11 +1,8 @@
 -- A server for runs that the prover computes. What is evaluated is given as tables: each byte of a
 -- stream stands for a message, and each byte of a text for a form, of which a table says what it
 -- asks.
-use Rattle.std.specs.Prelude.{ℕ, zero, suc, ◌+◌, ◌*◌, ◌==◌, List, [], ◌∷◌, ◌++◌, Bool, true, false}
-use Rattle.std.specs.Prelude.{Option, Some, None, map, length, codes, replicate, slice_get}
-use Rattle.std.specs.Prelude.{unwrap_or, if◌then◌else◌, pos, Ok}
-use Rattle.bencode_wire.specs.Tree as wire
-use Rattle.bencode_wire.specs.Tree.{no_pairs, pair}
+use Rattle.std.specs.Prelude.{ℕ, zero, suc, ◌+◌, ◌==◌, List, [], ◌∷◌, true, Some, None, map, length}
+use Rattle.std.specs.Prelude.{codes, replicate, if◌then◌else◌, pos, Ok}
 use Rattle.bencode_wire.specs.Stream as streams
 use Rattle.value_data.specs.Datum as datum
 use Rattle.value_data.specs.Datum.{Datum, tenant}
@@ -17,63 +14,17 @@ use Rattle.repl_asks.specs.Transactions.{RefNameData, ChangeData, CommutedData}
 use Rattle.repl_asks.specs.Exchange as exchange
 use Rattle.repl_asks.specs.Exchange.{AskData, AnswerData, bound_value}
 use Rattle.repl_jobs.specs.Job as jobs
-use Rattle.repl_jobs.specs.Job.{WorkData, JobData}
-use Rattle.repl_jobs.specs.Tree.{Tree, finished, asks}
-use Rattle.server_rules.specs.Readings.{Readings, StreamData, ProgramData}
-use Rattle.server_rules.specs.Comparisons.{Comparisons}
+use Rattle.repl_jobs.specs.Job.{WorkData}
+use Rattle.repl_jobs.specs.InteractionTree.{InteractionTree, finished, asks}
 use Rattle.server_rules.specs.Ground.{Ground}
-
--- Messages
-
--- the first two ids of the tenants 0 and 1 where the seed is zero
-abbrev pub first_id : ℕ → List ℕ
-first_id zero = codes "76b8e0ad-a0f1-4d90-805d-6ae55386bd28"
-first_id (suc t) = codes "ef3fdfd6-c615-48fb-b5cf-35bd3dd33b80"
-
-abbrev pub second_id : ℕ → List ℕ
-second_id zero = codes "bdd219b8-a08d-4d1a-a836-efcc8b770dc7"
-second_id (suc t) = codes "09631634-d21e-42ac-b396-0bd138e50d32"
-
-abbrev pub text : List ℕ → wire.Tree
-text bytes = wire.string bytes
-
--- with an id, in a session
-abbrev pub eval_of : List ℕ → List ℕ → List ℕ → wire.Tree
-eval_of id session code = wire.dictionary (pair (codes "op") (text (codes "eval"))
-    (pair (codes "id") (text id) (pair (codes "session") (text session)
-    (pair (codes "code") (text code) no_pairs))))
-
-abbrev pub cloning : wire.Tree
-cloning = wire.dictionary (pair (codes "op") (text (codes "clone")) no_pairs)
-
-abbrev pub closing_of : List ℕ → List ℕ → wire.Tree
-closing_of id session = wire.dictionary (pair (codes "op") (text (codes "close"))
-    (pair (codes "id") (text id) (pair (codes "session") (text session) no_pairs)))
-
--- what a tenant sends: a clone, evals of the forms `d`, `r`, `s`, `h` and `t` in one of its sessions,
--- a close, and evals of the form `c` in both
-abbrev pub messages : ℕ → List wire.Tree
-messages t =
-    cloning
-    ∷ eval_of (codes "1") (first_id t) (codes "d")
-    ∷ eval_of (codes "2") (first_id t) (codes "r")
-    ∷ eval_of (codes "3") (second_id t) (codes "s")
-    ∷ eval_of (codes "4") (first_id t) (codes "h")
-    ∷ eval_of (codes "5") (second_id t) (codes "t")
-    ∷ closing_of (codes "7") (first_id t)
-    ∷ eval_of (codes "8") (first_id t) (codes "c")
-    ∷ eval_of (codes "9") (second_id t) (codes "c") ∷ []
-
--- the message at this place among those of the tenants 0 and 1
-abbrev pub message_of : ℕ → wire.Tree
-message_of n = unwrap_or (slice_get (messages 0 ++ messages 1) n) cloning
+use Rattle.server_examples.specs.Messages.{messages, message_of}
 
 -- Forms
 
 abbrev pub number : ℕ → Datum
 number n = datum.integer (pos n)
 
-abbrev pub ends_with : Datum → Tree
+abbrev pub ends_with : Datum → InteractionTree
 ends_with d = finished (record { result = Ok d; text = []; namespace = codes "user" })
 
 abbrev pub value_told : AnswerData → Datum
@@ -81,78 +32,79 @@ value_told (exchange.value d) = d
 value_told _ = datum.nil
 
 -- what a symbol names, where that is a ref
-abbrev pub ref_in : AnswerData → RefNameData
-ref_in (exchange.resolution (exchange.names_value (datum.ref owner n))) =
+abbrev pub ref_answered : AnswerData → RefNameData
+ref_answered (exchange.resolution (exchange.names_value (datum.ref owner n))) =
     record { owner = owner; number = n }
-ref_in _ = record { owner = tenant 9; number = 0 }
+ref_answered _ = record { owner = tenant 9; number = 0 }
 
 abbrev pub symbol : List ℕ → AskData
 symbol name = exchange.resolve (codes "user") name
 
 -- what is done with a ref's value, or again where it is kept no longer
-abbrev pub when_found : AnswerData → (Datum → Tree) → Tree → Tree
+abbrev pub when_found : AnswerData → (Datum → InteractionTree) → InteractionTree → InteractionTree
 when_found (exchange.reading (exchange.found d)) behind again = behind d
 when_found _ behind again = again
 
-abbrev pub when_committed : AnswerData → Tree → Tree → Tree
+abbrev pub when_committed : AnswerData → InteractionTree → InteractionTree → InteractionTree
 when_committed (exchange.verdict exchange.committed) behind again = behind
 when_committed _ behind again = again
 
-abbrev pub committing : List ChangeData → List CommutedData → Tree → Tree → Tree
+abbrev pub committing : List ChangeData → List CommutedData → InteractionTree → InteractionTree
+    → InteractionTree
 committing sets commuted behind again =
     asks (exchange.commit (record { sets = sets; ensured = []; commuted = commuted }))
     (λ a. when_committed a behind again)
 
 -- `(dosync @r)`, with so many attempts
-abbrev pub reading : ℕ → Tree
-reading zero = ends_with datum.nil
-reading (suc n) = asks exchange.begin (λ b. asks (symbol (codes "r"))
-    (λ r. asks (exchange.read (ref_in r)) (λ a.
-    when_found a (λ d. committing [] [] (ends_with d) (reading n)) (reading n))))
+abbrev pub reading_tree : ℕ → InteractionTree
+reading_tree zero = ends_with datum.nil
+reading_tree (suc n) = asks exchange.begin (λ b. asks (symbol (codes "r"))
+    (λ r. asks (exchange.read (ref_answered r)) (λ a.
+    when_found a (λ d. committing [] [] (ends_with d) (reading_tree n)) (reading_tree n))))
 
 -- `(dosync (ref-set r n))`
-abbrev pub setting : ℕ → ℕ → Tree
-setting n zero = ends_with datum.nil
-setting n (suc k) = asks exchange.begin (λ b. asks (symbol (codes "ref-set"))
+abbrev pub setting_tree : ℕ → ℕ → InteractionTree
+setting_tree n zero = ends_with datum.nil
+setting_tree n (suc k) = asks exchange.begin (λ b. asks (symbol (codes "ref-set"))
     (λ f. asks (symbol (codes "r")) (λ r.
-    committing (record { name = ref_in r; now = number n } ∷ []) [] (ends_with (number n))
-    (setting n k))))
+    committing (record { name = ref_answered r; now = number n } ∷ []) [] (ends_with (number n))
+    (setting_tree n k))))
 
 abbrev pub adding : CoreFunction
 adding = CoreFunction.Integer (IntegerFunction.Arithmetic ArithmeticFunction.Add)
 
 -- `(dosync (commute r + 1) nil)`
-abbrev pub commuting : ℕ → Tree
-commuting zero = ends_with datum.nil
-commuting (suc n) = asks exchange.begin (λ b. asks (symbol (codes "commute"))
+abbrev pub commuting_tree : ℕ → InteractionTree
+commuting_tree zero = ends_with datum.nil
+commuting_tree (suc n) = asks exchange.begin (λ b. asks (symbol (codes "commute"))
     (λ f. asks (symbol (codes "r")) (λ r. asks (symbol (codes "+"))
-    (λ g. asks (exchange.read (ref_in r)) (λ a. when_found a (λ d. committing []
+    (λ g. asks (exchange.read (ref_answered r)) (λ a. when_found a (λ d. committing []
     (record {
-      name = ref_in r;
+      name = ref_answered r;
       commutes = record { function = adding; arguments = number 1 ∷ [] } ∷ [];
-    } ∷ []) (ends_with datum.nil) (commuting n)) (commuting n))))))
+    } ∷ []) (ends_with datum.nil) (commuting_tree n)) (commuting_tree n))))))
 
 -- `(def r (ref 0))`
-abbrev pub defining : Tree
-defining = asks (symbol (codes "ref")) (λ f. asks (exchange.new_ref (number 0) 0 10) (λ a.
+abbrev pub defining_tree : InteractionTree
+defining_tree = asks (symbol (codes "ref")) (λ f. asks (exchange.new_ref (number 0) 0 10) (λ a.
     asks (exchange.define (codes "user") (codes "r") (bound_value (value_told a)))
     (λ b. ends_with (value_told a))))
 
 -- `(ref-history-count r)`
-abbrev pub counting : Tree
-counting = asks (symbol (codes "ref-history-count")) (λ f. asks (symbol (codes "r")) (λ r.
-    asks (exchange.history (ref_in r)) (λ a. ends_with (value_told a))))
+abbrev pub counting_tree : InteractionTree
+counting_tree = asks (symbol (codes "ref-history-count")) (λ f. asks (symbol (codes "r")) (λ r.
+    asks (exchange.history (ref_answered r)) (λ a. ends_with (value_told a))))
 
 -- the forms `d`, `r`, `s`, `h`, `c` and `t`
-abbrev pub form_named : ℕ → Tree
+abbrev pub form_named : ℕ → InteractionTree
 form_named n =
-    if n == 100 then defining else (
-    if n == 114 then reading 3 else (
-    if n == 115 then setting 5 3 else (
-    if n == 104 then counting else (
-    if n == 99 then commuting 3 else setting 6 3))))
+    if n == 100 then defining_tree else (
+    if n == 114 then reading_tree 3 else (
+    if n == 115 then setting_tree 5 3 else (
+    if n == 104 then counting_tree else (
+    if n == 99 then commuting_tree 3 else setting_tree 6 3))))
 
-abbrev pub work_tree : WorkData → Tree
+abbrev pub work_tree : WorkData → InteractionTree
 work_tree (jobs.form (datum.integer (pos n))) = form_named n
 work_tree w = ends_with datum.nil
 

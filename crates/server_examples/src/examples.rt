@@ -14,7 +14,7 @@ pub fn two_are_apart()
     ensures { TwoAreApart }
 {}
 
-/// Two sessions commute one ref, and both commits stand, whichever came first.
+/// Two sessions commute one ref, and both commits stand.
 pub fn both_commute()
     ensures { BothCommute }
 {}

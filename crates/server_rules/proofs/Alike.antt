@@ -5,12 +5,12 @@ use Rattle.server_rules.specs.Ground.{Ground}
 use Rattle.server_rules.specs.Plan.{StepAnswer}
 use Rattle.server_rules.specs.World.{World, Step, Stepped, accepted, refused, step}
 use Rattle.server_rules.specs.Turns.{whose_step}
-use Rattle.server_rules.specs.View.{View, view}
+use Rattle.server_rules.specs.View.{View, view_for}
 use Rattle.server_rules.specs.Privacy.{IsPrivateFor}
 use Rattle.server_rules.specs.Laws.{answer_in, SameStep}
 use Rattle.server_rules.specs.declared.refusal.Refusal.{Refusal}
 use Rattle.server_rules.proofs.Steps.{SeenStepped, not_done, done_so, seen_step, SoundWorld}
-use Rattle.server_rules.proofs.Alone.{own-step, view_after, view-after}
+use Rattle.server_rules.proofs.Alone.{own-step, view_after, view_for-after}
 
 answer_seen : SeenStepped → Result StepAnswer Refusal
 answer_seen (not_done why) = Err why
@@ -23,14 +23,14 @@ answer-seen t (accepted w answer) = refl
 
 pub alike
     : (g : Ground) (s : Step) (v : Option View) (w x : World) → SoundWorld w → SoundWorld x
-    → IsPrivateFor (whose_step s) s → view (whose_step s) w ≡ Some v
-    → view (whose_step s) x ≡ Some v → SameStep g (whose_step s) s w x
+    → IsPrivateFor (whose_step s) s → view_for (whose_step s) w ≡ Some v
+    → view_for (whose_step s) x ≡ Some v → SameStep g (whose_step s) s w x
 alike g s v w x sound_w sound_x private in_w in_x =
     let t = whose_step s in
     let steps : seen_step t (step g w s) ≡ seen_step t (step g x s) =
     own-step g w s v sound_w in_w private ∙ sym (own-step g x s v sound_x in_x private) in
     record {
       answer = answer-seen t (step g w s) ∙ ap answer_seen steps ∙ sym (answer-seen t (step g x s));
-      view = view-after t w (step g w s) ∙ ap₂ view_after (in_w ∙ sym in_x) steps
-          ∙ sym (view-after t x (step g x s));
+      view = view_for-after t w (step g w s) ∙ ap₂ view_after (in_w ∙ sym in_x) steps
+          ∙ sym (view_for-after t x (step g x s));
     }

@@ -1,9 +1,11 @@
 -- Lists as finite maps.
-use Rattle.std.proofs.Common.{◌≡◌, ◌≢◌, ℕ, zero, suc, List, [], ◌∷◌, Bool, true, false, if◌then◌else◌}
-use Rattle.std.proofs.Common.{Option, Some, None, refl, sym, ap, ◌∙◌, map, ◌==◌, slice_get}
+use Rattle.std.proofs.Common.{◌≡◌, ◌≢◌, ℕ, zero, suc, List, [], ◌∷◌, Bool, true, false}
+use Rattle.std.proofs.Common.{if◌then◌else◌, Option, Some, None, refl, sym, ap, ◌∙◌, map, ◌==◌}
+use Rattle.std.proofs.Common.{slice_get}
 use Rattle.std.specs.Prelude.{option_map}
 use Rattle.std.proofs.lemmas.Bool.{eqb-true, ne_eqb, eq-eqb}
-use Rattle.server_rules.specs.Numbered.{changed_at, Entry, entry, found, replaced, without, map_entry}
+use Rattle.server_rules.specs.Numbered.{changed_at, Entry, entry, part_under, with_part, without}
+use Rattle.server_rules.specs.Numbered.{map_entry}
 
 pub none-some : {A : Type 0} {x : A} → ◌≡◌ {A = Option A} None (Some x) → ⊥
 none-some e = cc
@@ -44,12 +46,12 @@ changed_at-unseen f g same zero (x ∷ xs) = ap (λ y. y ∷ map f xs) (same x)
 changed_at-unseen f g same (suc n) (x ∷ xs) =
     ap (λ ys. f x ∷ ys) (changed_at-unseen f g same n xs)
 
-pub found-map : {A B : Type 0} (f : A → B) (n : ℕ) (es : List (Entry A))
-    → found n (map (map_entry f) es) ≡ option_map f (found n es)
-found-map f n [] = refl
-found-map f n (e ∷ es) =
-    ap (λ rest. if n == e.number then Some (f e.part) else rest) (found-map f n es)
-    ∙ sym (option_map-if f (n == e.number) (Some e.part) (found n es))
+pub part_under-map : {A B : Type 0} (f : A → B) (n : ℕ) (es : List (Entry A))
+    → part_under n (map (map_entry f) es) ≡ option_map f (part_under n es)
+part_under-map f n [] = refl
+part_under-map f n (e ∷ es) =
+    ap (λ rest. if n == e.number then Some (f e.part) else rest) (part_under-map f n es)
+    ∙ sym (option_map-if f (n == e.number) (Some e.part) (part_under n es))
 
 pub without-map : {A B : Type 0} (f : A → B) (n : ℕ) (es : List (Entry A))
     → without n (map (map_entry f) es) ≡ map (map_entry f) (without n es)
@@ -60,33 +62,33 @@ without-map f n (e ∷ es) =
 
 -- what is found after a change
 
-pub found-other : {A : Type 0} (n m : ℕ) (part : A) (es : List (Entry A))
-    → n ≢ m → found n (replaced m part es) ≡ found n es
-found-other n m part [] other = refl
-found-other n m part (e ∷ es) other =
-    by (found-other n m part es other) (m == e.number) refl where
+pub part_under-other : {A : Type 0} (n m : ℕ) (part : A) (es : List (Entry A))
+    → n ≢ m → part_under n (with_part m part es) ≡ part_under n es
+part_under-other n m part [] other = refl
+part_under-other n m part (e ∷ es) other =
+    by (part_under-other n m part es other) (m == e.number) refl where
       After : Bool → Type 0
       After b =
-          found n (if b then entry m part ∷ es else e ∷ replaced m part es) ≡ found n (e ∷ es)
+          part_under n (if b then entry m part ∷ es else e ∷ with_part m part es) ≡ part_under n (e ∷ es)
 
       apart : (m == e.number) ≡ true → n ≢ e.number
       apart same q = other (q ∙ sym (eqb-true m e.number same))
 
-      by : found n (replaced m part es) ≡ found n es → (b : Bool) → (m == e.number) ≡ b → After b
+      by : part_under n (with_part m part es) ≡ part_under n es → (b : Bool) → (m == e.number) ≡ b → After b
       by behind true same =
-          ap (λ b. if b then Some part else found n es) (ne_eqb n m other)
-          ∙ sym (ap (λ b. if b then Some e.part else found n es) (ne_eqb n e.number (apart same)))
+          ap (λ b. if b then Some part else part_under n es) (ne_eqb n m other)
+          ∙ sym (ap (λ b. if b then Some e.part else part_under n es) (ne_eqb n e.number (apart same)))
       by behind false differs = ap (λ rest. if n == e.number then Some e.part else rest) behind
 
-pub found-new : {A : Type 0} (n : ℕ) (part old : A) (es : List (Entry A))
-    → found n es ≡ Some old → found n (replaced n part es) ≡ Some part
-found-new n part old [] here = absurd (none-some here)
-found-new n part old (e ∷ es) here =
-    by (λ h. found-new n part old es h) (n == e.number) refl here where
-      by : (found n es ≡ Some old → found n (replaced n part es) ≡ Some part)
+pub part_under-new : {A : Type 0} (n : ℕ) (part old : A) (es : List (Entry A))
+    → part_under n es ≡ Some old → part_under n (with_part n part es) ≡ Some part
+part_under-new n part old [] here = absurd (none-some here)
+part_under-new n part old (e ∷ es) here =
+    by (λ h. part_under-new n part old es h) (n == e.number) refl here where
+      by : (part_under n es ≡ Some old → part_under n (with_part n part es) ≡ Some part)
           → (b : Bool) → (n == e.number) ≡ b
-          → (if b then Some e.part else found n es) ≡ Some old
-          → found n (if b then entry n part ∷ es else e ∷ replaced n part es) ≡ Some part
-      by behind true same h = ap (λ b. if b then Some part else found n es) (eq-eqb n n refl)
+          → (if b then Some e.part else part_under n es) ≡ Some old
+          → part_under n (if b then entry n part ∷ es else e ∷ with_part n part es) ≡ Some part
+      by behind true same h = ap (λ b. if b then Some part else part_under n es) (eq-eqb n n refl)
       by behind false apart h =
-          ap (λ b. if b then Some e.part else found n (replaced n part es)) apart ∙ behind h
+          ap (λ b. if b then Some e.part else part_under n (with_part n part es)) apart ∙ behind h

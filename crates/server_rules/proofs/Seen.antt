@@ -8,13 +8,14 @@ use Rattle.value_data.specs.Datum.{Datum, OwnerData, shared, tenant}
 use Rattle.repl_faults.specs.Failure.{Failure}
 use Rattle.repl_asks.specs.Transactions.{RefNameData, ChangeData, IntentData}
 use Rattle.repl_asks.specs.Exchange as exchange
-use Rattle.repl_asks.specs.Exchange.{AnswerData, done, value, reading, found, retry}
-use Rattle.repl_asks.specs.Exchange.{verdict, committed, conflict}
+use Rattle.repl_asks.specs.Exchange.{AnswerData, done, value, reading, found, retry, verdict}
+use Rattle.repl_asks.specs.Exchange.{committed, conflict}
 use Rattle.server_rules.specs.Numbered as numbered
 use Rattle.server_rules.specs.Numbered.{changed_at, Entry, entry, without, map_entry}
-use Rattle.server_rules.specs.Versions.{RefOf, new_ref, with_version, faulted, with_least, with_most}
+use Rattle.server_rules.specs.Versions.{RefOf, new_ref, with_version, with_failed_read, with_least}
+use Rattle.server_rules.specs.Versions.{with_most}
 use Rattle.server_rules.specs.Performed.{Performed, as_was, tells}
-use Rattle.server_rules.specs.Commit.{guarded, touched, fits, all_folded}
+use Rattle.server_rules.specs.Commit.{guarded_refs, touched_refs, intent_fits, all_folded}
 use Rattle.server_rules.specs.Calls.{Call, nothing, makes, begins, leaves_attempt, reads, counts}
 use Rattle.server_rules.specs.Calls.{tells_least, tells_most, sets_least, sets_most, commits}
 use Rattle.server_rules.specs.Calls.{gives_up, number_told}
@@ -65,7 +66,7 @@ made_seen t s d least most = tells (value (datum.ref (tenant t) (length s.refs))
 abbrev pub read_at_seen : ℕ → ℕ → RefNameData → Seen → Option Datum → Performed Seen
 read_at_seen t seat name s (Some d) = tells (reading (found d)) s
 read_at_seen t seat name s None =
-    tells (reading retry) (left_seen seat (changed_seen t name faulted s))
+    tells (reading retry) (left_seen seat (changed_seen t name with_failed_read s))
 
 abbrev pub read_in_seen : ℕ → ℕ → RefNameData → Seen → RefOf Datum → Option ℕ → Performed Seen
 read_in_seen t seat name s r None = as_was s None
@@ -128,8 +129,8 @@ checked_seen t seat intent s true false =
 abbrev pub commit_seen : ℕ → ℕ → IntentData → Seen → Option (List ℕ) → Performed Seen
 commit_seen t seat intent s None = as_was s None
 commit_seen t seat intent s (Some ns) = checked_seen t seat intent s
-    (all_there_seen t (touched intent) s && fits intent)
-    (any_newer_seen t ns (guarded intent) s)
+    (all_there_seen t (touched_refs intent) s && intent_fits intent)
+    (any_newer_seen t ns (guarded_refs intent) s)
 
 abbrev pub given_up_seen : ℕ → Seen → Option AnswerData → Performed Seen
 given_up_seen seat s None = as_was s None
@@ -138,10 +139,10 @@ given_up_seen seat s (Some answer) = tells done (left_seen seat s)
 abbrev pub performed_seen : ℕ → Seen → Call → Performed Seen
 performed_seen t s nothing = tells done s
 performed_seen t s (makes d least most) = made_seen t s d least most
-performed_seen t s (begins seat) = begun_seen seat s (numbered.found seat s.attempts)
+performed_seen t s (begins seat) = begun_seen seat s (numbered.part_under seat s.attempts)
 performed_seen t s (leaves_attempt seat) = tells done (left_seen seat s)
 performed_seen t s (reads seat name) =
-    read_by_seen t seat name s (numbered.found seat s.attempts) (named_seen t name s)
+    read_by_seen t seat name s (numbered.part_under seat s.attempts) (named_seen t name s)
 performed_seen t s (counts seat name) =
     as_was s (option_map (λ r. number_told r.kept) (named_seen t name s))
 performed_seen t s (tells_least name) =
@@ -153,7 +154,7 @@ performed_seen t s (sets_least name n) =
 performed_seen t s (sets_most name n) =
     bound_seen t name name.owner (with_most n) s (named_seen t name s)
 performed_seen t s (commits seat intent) =
-    commit_seen t seat intent s (numbered.found seat s.attempts)
+    commit_seen t seat intent s (numbered.part_under seat s.attempts)
 performed_seen t s (gives_up seat call) = given_up_seen seat s (performed_seen t s call).told
 
 -- the call names no shared ref
@@ -164,7 +165,7 @@ IsPrivateCall (tells_least name) = IsOwned name.owner
 IsPrivateCall (tells_most name) = IsOwned name.owner
 IsPrivateCall (sets_least name n) = IsOwned name.owner
 IsPrivateCall (sets_most name n) = IsOwned name.owner
-IsPrivateCall (commits seat intent) = AreOwned (touched intent)
+IsPrivateCall (commits seat intent) = AreOwned (touched_refs intent)
 IsPrivateCall (gives_up seat call) = IsPrivateCall call
 IsPrivateCall nothing = ⊤
 IsPrivateCall (makes d least most) = ⊤

@@ -5,15 +5,18 @@ use Rattle.std.specs.Prelude.{Result, Ok, Err}
 use Rattle.value_data.specs.Datum.{Datum, OwnerData, shared, tenant}
 use Rattle.repl_faults.specs.Failure.{Failure}
 use Rattle.repl_asks.specs.Transactions.{RefNameData, ChangeData, IntentData}
-use Rattle.server_rules.specs.Numbered.{changed_at, Entry, found, without}
-use Rattle.server_rules.specs.Versions.{Ref, new_ref, with_version, faulted, with_least, with_most}
-use Rattle.server_rules.specs.Versions.{readable}
-use Rattle.server_rules.specs.Store.{Own, Store, named, value_of, changed, changed_of, left_attempt}
-use Rattle.server_rules.specs.Commit.{guarded, touched, all_there, fits, any_newer, all_folded}
-use Rattle.server_rules.specs.Commit.{with_changes, raised, with_all, concluded, checked, commit_by}
+use Rattle.server_rules.specs.Numbered.{changed_at, Entry, part_under, without}
+use Rattle.server_rules.specs.Versions.{Ref, new_ref, with_version, with_failed_read, with_least}
+use Rattle.server_rules.specs.Versions.{with_most, readable}
+use Rattle.server_rules.specs.Store.{Own, Store, ref_named, newest_value, with_changed_ref}
+use Rattle.server_rules.specs.Store.{changed_of, left_attempt}
+use Rattle.server_rules.specs.Commit.{guarded_refs, touched_refs, all_there, intent_fits, any_newer}
+use Rattle.server_rules.specs.Commit.{all_folded, with_changes, with_raised_counter, with_all}
+use Rattle.server_rules.specs.Commit.{concluded_commit, checked_commit, commit_by}
 use Rattle.server_rules.specs.Calls.{Call, nothing, makes, begins, leaves_attempt, reads, counts}
 use Rattle.server_rules.specs.Calls.{tells_least, tells_most, sets_least, sets_most, commits}
-use Rattle.server_rules.specs.Calls.{gives_up, begun, read_at, read_by, bound_set, given_up, performed}
+use Rattle.server_rules.specs.Calls.{gives_up, performed_begin, read_at, read_by, bound_set}
+use Rattle.server_rules.specs.Calls.{given_up, performed}
 use Rattle.repl_asks.specs.Exchange.{AnswerData}
 use Rattle.server_rules.proofs.Counting.{Fall, Fall-higher}
 
@@ -101,9 +104,9 @@ changed_of-rises counter n (tenant t) f s keeps h = record {
   };
 }
 
-changed-rises : (counter : ℕ) (name : RefNameData) (f : Ref → Ref) (s : Store)
-    → KeepsFalling s.around.counter f → Rises counter s → Rises counter (changed name f s)
-changed-rises counter name f s keeps h =
+with_changed_ref-rises : (counter : ℕ) (name : RefNameData) (f : Ref → Ref) (s : Store)
+    → KeepsFalling s.around.counter f → Rises counter s → Rises counter (with_changed_ref name f s)
+with_changed_ref-rises counter name f s keeps h =
     changed_of-rises counter name.number name.owner f s keeps h
 
 pub counter-kept : (owner : OwnerData) (n : ℕ) (f : Ref → Ref) (s : Store)
@@ -118,9 +121,9 @@ changes-rise : (counter stamp : ℕ) (cs : List ChangeData) (s : Store)
     → stamp ≡ s.around.counter → Rises counter s → Rises counter (with_changes stamp cs s)
 changes-rise counter stamp [] s now h = h
 changes-rise counter stamp (c ∷ cs) s now h =
-    changes-rise counter stamp cs (changed c.name (version_with stamp c) s)
+    changes-rise counter stamp cs (with_changed_ref c.name (version_with stamp c) s)
     (now ∙ sym (counter-kept c.name.owner c.name.number (version_with stamp c) s))
-    (changed-rises counter c.name (version_with stamp c) s
+    (with_changed_ref-rises counter c.name (version_with stamp c) s
     (λ r fall. (
       omega (arith, now),
       Fall-higher s.around.counter stamp r.versions (omega (arith, now)) fall,
@@ -130,15 +133,15 @@ all-rise : (counter : ℕ) (cs : List ChangeData) (s : Store) → Rises counter 
     → Rises counter (with_all cs s)
 all-rise counter [] s h = h
 all-rise counter (c ∷ cs) s h =
-    changes-rise counter (s.around.counter + 1) (c ∷ cs) (raised s) refl (record {
+    changes-rise counter (s.around.counter + 1) (c ∷ cs) (with_raised_counter s) refl (record {
       rises = omega (arith, h.rises);
       sound = Sound-higher s.around.counter (s.around.counter + 1) s.mine (omega arith) h.sound;
     })
 
-begun-rises : (counter seat : ℕ) (s : Store) (point : Option ℕ) → Rises counter s
-    → Rises counter (begun seat s point).store
-begun-rises counter seat s (Some p) h = h
-begun-rises counter seat s None h = record {
+performed_begin-rises : (counter seat : ℕ) (s : Store) (point : Option ℕ) → Rises counter s
+    → Rises counter (performed_begin seat s point).store
+performed_begin-rises counter seat s (Some p) h = h
+performed_begin-rises counter seat s None h = record {
   rises = h.rises;
   sound = record { stamps = h.sound.stamps; points = (omega arith, h.sound.points) };
 }
@@ -147,8 +150,8 @@ read_at-rises : (counter seat : ℕ) (name : RefNameData) (s : Store) (d : Optio
     → Rises counter s → Rises counter (read_at seat name s d).store
 read_at-rises counter seat name s (Some d) h = h
 read_at-rises counter seat name s None h =
-    left-rises counter seat (changed name faulted s)
-    (changed-rises counter name faulted s (λ r fall. fall) h)
+    left-rises counter seat (with_changed_ref name with_failed_read s)
+    (with_changed_ref-rises counter name with_failed_read s (λ r fall. fall) h)
 
 read_by-rises
     : (counter seat : ℕ) (name : RefNameData) (s : Store) (point : Option ℕ) (r : Option Ref)
@@ -165,33 +168,33 @@ bound-rises
     → Rises counter (bound_set name owner f s r).store
 bound-rises counter name owner f s None keeps h = h
 bound-rises counter name shared f s (Some r) keeps h = h
-bound-rises counter name (tenant t) f s (Some r) keeps h = changed-rises counter name f s keeps h
+bound-rises counter name (tenant t) f s (Some r) keeps h = with_changed_ref-rises counter name f s keeps h
 
-concluded-rises
+concluded_commit-rises
     : (counter seat : ℕ) (sets : List ChangeData) (s : Store)
     (folds : Result (List ChangeData) Failure) → Rises counter s
-    → Rises counter (concluded seat sets s folds).store
-concluded-rises counter seat sets s (Err f) h = left-rises counter seat s h
-concluded-rises counter seat sets s (Ok changes) h =
+    → Rises counter (concluded_commit seat sets s folds).store
+concluded_commit-rises counter seat sets s (Err f) h = left-rises counter seat s h
+concluded_commit-rises counter seat sets s (Ok changes) h =
     left-rises counter seat (with_all (sets ++ changes) s)
     (all-rise counter (sets ++ changes) s h)
 
-checked-rises
-    : (counter seat : ℕ) (intent : IntentData) (s : Store) (fits newer : Bool) → Rises counter s
-    → Rises counter (checked seat intent s fits newer).store
-checked-rises counter seat intent s false newer h = h
-checked-rises counter seat intent s true true h = left-rises counter seat s h
-checked-rises counter seat intent s true false h =
-    concluded-rises counter seat intent.sets s
-    (all_folded (λ name. value_of name s) intent.commuted) h
+checked_commit-rises
+    : (counter seat : ℕ) (intent : IntentData) (s : Store) (intent_fits newer : Bool) → Rises counter s
+    → Rises counter (checked_commit seat intent s intent_fits newer).store
+checked_commit-rises counter seat intent s false newer h = h
+checked_commit-rises counter seat intent s true true h = left-rises counter seat s h
+checked_commit-rises counter seat intent s true false h =
+    concluded_commit-rises counter seat intent.sets s
+    (all_folded (λ name. newest_value name s) intent.commuted) h
 
 commit-rises
     : (counter seat : ℕ) (intent : IntentData) (s : Store) (point : Option ℕ) → Rises counter s
     → Rises counter (commit_by seat intent s point).store
 commit-rises counter seat intent s None h = h
 commit-rises counter seat intent s (Some p) h =
-    checked-rises counter seat intent s
-    (all_there (touched intent) s && fits intent) (any_newer p (guarded intent) s) h
+    checked_commit-rises counter seat intent s
+    (all_there (touched_refs intent) s && intent_fits intent) (any_newer p (guarded_refs intent) s) h
 
 given_up-rises : (counter seat : ℕ) (s : Store) (told : Option AnswerData) → Rises counter s
     → Rises counter (given_up seat s told).store
@@ -210,18 +213,18 @@ performed-rises counter s (makes d least most) h = record {
   };
 }
 performed-rises counter s (begins seat) h =
-    begun-rises counter seat s (found seat s.mine.points) h
+    performed_begin-rises counter seat s (part_under seat s.mine.points) h
 performed-rises counter s (leaves_attempt seat) h = left-rises counter seat s h
 performed-rises counter s (reads seat name) h =
-    read_by-rises counter seat name s (found seat s.mine.points) (named name s) h
+    read_by-rises counter seat name s (part_under seat s.mine.points) (ref_named name s) h
 performed-rises counter s (counts seat name) h = h
 performed-rises counter s (tells_least name) h = h
 performed-rises counter s (tells_most name) h = h
 performed-rises counter s (sets_least name n) h =
-    bound-rises counter name name.owner (with_least n) s (named name s) (λ r fall. fall) h
+    bound-rises counter name name.owner (with_least n) s (ref_named name s) (λ r fall. fall) h
 performed-rises counter s (sets_most name n) h =
-    bound-rises counter name name.owner (with_most n) s (named name s) (λ r fall. fall) h
+    bound-rises counter name name.owner (with_most n) s (ref_named name s) (λ r fall. fall) h
 performed-rises counter s (commits seat intent) h =
-    commit-rises counter seat intent s (found seat s.mine.points) h
+    commit-rises counter seat intent s (part_under seat s.mine.points) h
 performed-rises counter s (gives_up seat call) h =
     given_up-rises counter seat s (performed s call).told h

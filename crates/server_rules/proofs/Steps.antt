@@ -8,33 +8,36 @@ use Rattle.bencode_wire.specs.declared.fault.WireFault.{WireFault}
 use Rattle.repl_asks.specs.Exchange as exchange
 use Rattle.repl_asks.specs.Exchange.{AskData, AnswerData}
 use Rattle.repl_replies.specs.Replies.{ReplyData}
-use Rattle.server_rules.specs.Numbered.{Entry, entry, found, replaced}
+use Rattle.server_rules.specs.Numbered.{Entry, entry, part_under, with_part}
 use Rattle.server_rules.specs.Store.{Store}
 use Rattle.server_rules.specs.Performed.{Performed}
 use Rattle.server_rules.specs.Calls.{gives_up, performed}
 use Rattle.server_rules.specs.Ground.{Ground}
 use Rattle.server_rules.specs.Request.{Hand, Run}
 use Rattle.server_rules.specs.Tenant.{ActorData, seat_of, Quiet, is_held}
-use Rattle.server_rules.specs.Plan.{EndingData, Deed, hears, starts, asks_for, ends, drains}
-use Rattle.server_rules.specs.Plan.{StepAnswer, tenant_opened, Outcome, refuses, leaves, Plan, quietly}
+use Rattle.server_rules.specs.Plan.{Deed, hears, starts, asks_for, ends, drains}
+use Rattle.repl_jobs.specs.Job.{EndingData}
+use Rattle.server_rules.specs.Plan.{StepAnswer, tenant_opened, Outcome, refuses, leaves, Plan}
+use Rattle.server_rules.specs.Plan.{quietly}
 use Rattle.server_rules.specs.Starting.{interrupted_in}
 use Rattle.server_rules.specs.Asking.{call_of, is_allowed, asked_allowed, asked_running, asked_of}
-use Rattle.server_rules.specs.Asking.{when_told, answered}
-use Rattle.server_rules.specs.Ending.{with_left_attempt, end_compared, end_checked, end_running, end_of}
-use Rattle.server_rules.specs.Deeds.{for_actor, unless_worn, drained, plan}
-use Rattle.server_rules.specs.World.{TenantData, World, Step, opens, does, closes}
-use Rattle.server_rules.specs.World.{Stepped, accepted, refused, is_used, open_count, opened_tenant}
-use Rattle.server_rules.specs.World.{open_step, ended_as, done_by, planned, deed_step, close_step}
-use Rattle.server_rules.specs.World.{with_tenant, step, world_or}
+use Rattle.server_rules.specs.Asking.{when_told, answer_outcome}
+use Rattle.server_rules.specs.Ending.{with_left_attempt, end_compared, end_checked, end_running}
+use Rattle.server_rules.specs.Ending.{end_of}
+use Rattle.server_rules.specs.Deeds.{for_actor, unless_worn, drain_outcome, plan}
+use Rattle.server_rules.specs.World.{TenantData, World, Step, opens, does, closes, Stepped}
+use Rattle.server_rules.specs.World.{accepted, refused, is_used, open_count, opened_tenant}
+use Rattle.server_rules.specs.World.{open_step, ended_as, done_by, planned_step, deed_step}
+use Rattle.server_rules.specs.World.{close_step, with_tenant, step, world_or}
 use Rattle.server_rules.specs.Turns.{whose_step}
-use Rattle.server_rules.specs.View.{Seen, seen, View, tenant_view, part_view, view}
+use Rattle.server_rules.specs.View.{Seen, seen_of, View, tenant_view, part_view, view_for}
 use Rattle.server_rules.specs.Privacy.{IsPrivate, NamesNoShared}
 use Rattle.server_rules.specs.declared.actor.Actor.{Actor}
 use Rattle.server_rules.specs.declared.refusal.Refusal.{Refusal}
-use Rattle.server_rules.proofs.Numbered.{found-other, found-new}
+use Rattle.server_rules.proofs.Numbered.{part_under-other, part_under-new}
 use Rattle.server_rules.proofs.Seen.{performed_seen, IsPrivateCall}
 use Rattle.server_rules.proofs.Sound.{Sound, Sound-higher, Rises, performed-rises}
-use Rattle.server_rules.proofs.Calls.{performed-seen}
+use Rattle.server_rules.proofs.Calls.{performed-seen_of}
 
 -- The step on views
 
@@ -57,7 +60,7 @@ step_seen g t (Some (Some v)) d =
 
 abbrev pub seen_step : ℕ → Stepped → SeenStepped
 seen_step t (refused why) = not_done why
-seen_step t (accepted w answer) = done_so (view t w) answer
+seen_step t (accepted w answer) = done_so (view_for t w) answer
 
 -- A deed that names no shared ref calls none
 
@@ -100,7 +103,7 @@ allowed-private g a actor h run ask q private = by actor.is_closed where
       }
       else record {
         call = call_of (seat_of a) ask;
-        next = λ told. when_told told (answered g a actor h run ask q);
+        next = λ told. when_told told (answer_outcome g a actor h run ask q);
       }) in p).call
   by true = call-private (seat_of a) ask private
   by false = call-private (seat_of a) ask private
@@ -166,23 +169,23 @@ plan-private : (g : Ground) (t : ℕ) (q : Quiet) (d : Deed) → NamesNoShared d
     → IsPrivateCall (plan g t q d).call
 plan-private g t q (hears piece) h = tt
 plan-private g t q (starts a) h =
-    worn-private q _ (actor-private (found (seat_of a) q.actors) _ (λ actor. tt))
+    worn-private q _ (actor-private (part_under (seat_of a) q.actors) _ (λ actor. tt))
 plan-private g t q (asks_for a ask) h =
-    worn-private q _ (actor-private (found (seat_of a) q.actors) _
+    worn-private q _ (actor-private (part_under (seat_of a) q.actors) _
     (λ actor. asked-private g a actor ask q actor.hand h))
 plan-private g t q (ends a e) h =
-    worn-private q _ (actor-private (found (seat_of a) q.actors) _
+    worn-private q _ (actor-private (part_under (seat_of a) q.actors) _
     (λ actor. end_of-private g a actor e q actor.hand))
 plan-private g t q drains h = tt
 
 -- What is seen of a deed is the deed over what is seen
 
-ended-seen : (w : World) (t : ℕ) (old : Option TenantData) → found t w.tenants ≡ Some old
-    → (s : Store) (o : Outcome) → seen_step t (ended_as w t s o) ≡ ended_seen (seen s.mine) o
-ended-seen w t old here s (refuses why) = refl
-ended-seen w t old here s (leaves q answer) =
+ended-seen_of : (w : World) (t : ℕ) (old : Option TenantData) → part_under t w.tenants ≡ Some old
+    → (s : Store) (o : Outcome) → seen_step t (ended_as w t s o) ≡ ended_seen (seen_of s.mine) o
+ended-seen_of w t old here s (refuses why) = refl
+ended-seen_of w t old here s (leaves q answer) =
     ap (λ part. done_so (option_map part_view part) answer)
-    (found-new t (Some (record { quiet = q; mine = s.mine })) old w.tenants here)
+    (part_under-new t (Some (record { quiet = q; mine = s.mine })) old w.tenants here)
 
 abbrev pub SoundPart : ℕ → Option (Option TenantData) → Type 0
 SoundPart counter None = ⊤
@@ -190,29 +193,29 @@ SoundPart counter (Some None) = ⊤
 SoundPart counter (Some (Some tenant)) = Sound counter tenant.mine
 
 abbrev pub SoundWorld : World → Type 0
-SoundWorld w = (t : ℕ) → SoundPart w.around.counter (found t w.tenants)
+SoundWorld w = (t : ℕ) → SoundPart w.around.counter (part_under t w.tenants)
 
 abbrev store_of : World → ℕ → TenantData → Store
 store_of w t tenant = record { around = w.around; tenant = t; mine = tenant.mine }
 
 deed-seen
     : (g : Ground) (w : World) (t : ℕ) (d : Deed) (part : Option (Option TenantData))
-    → SoundPart w.around.counter part → NamesNoShared d → found t w.tenants ≡ part
+    → SoundPart w.around.counter part → NamesNoShared d → part_under t w.tenants ≡ part
     → seen_step t (deed_step g w t d part) ≡ step_seen g t (option_map part_view part) d
 deed-seen g w t d None sound private here = refl
 deed-seen g w t d (Some None) sound private here = refl
 deed-seen g w t d (Some (Some tenant)) sound private here =
     let p : Plan = plan g t tenant.quiet d in
     let called = performed (store_of w t tenant) p.call in
-    ended-seen w t (Some tenant) here called.store (p.next called.told)
-    ∙ ap (done_seen p) (sym (performed-seen (store_of w t tenant) p.call sound
+    ended-seen_of w t (Some tenant) here called.store (p.next called.told)
+    ∙ ap (done_seen p) (sym (performed-seen_of (store_of w t tenant) p.call sound
     (plan-private g t tenant.quiet d private)))
 
 pub step-seen
     : (g : Ground) (w : World) (t : ℕ) (d : Deed) → SoundWorld w → NamesNoShared d
-    → seen_step t (step g w (does t d)) ≡ step_seen g t (view t w) d
+    → seen_step t (step g w (does t d)) ≡ step_seen g t (view_for t w) d
 unfolding step
-step-seen g w t d sound private = deed-seen g w t d (found t w.tenants) (sound t) private refl
+step-seen g w t d sound private = deed-seen g w t d (part_under t w.tenants) (sound t) private refl
 
 -- Another tenant's step
 
@@ -222,29 +225,29 @@ room g w u b =
     else accepted (record w { tenants = entry u (Some (opened_tenant g)) ∷ w.tenants }) tenant_opened
 
 open-other : (g : Ground) (w : World) (t u : ℕ) → t ≢ u
-    → found t (world_or w (open_step g w u)).tenants ≡ found t w.tenants
+    → part_under t (world_or w (open_step g w u)).tenants ≡ part_under t w.tenants
 open-other g w t u other =
     elim (is_used u w.tenants)
-    as (λ b. found t (world_or w (if b then refused Refusal.NumberUsed
-    else room g w u (nat_le g.places (open_count w.tenants)))).tenants ≡ found t w.tenants) [
+    as (λ b. part_under t (world_or w (if b then refused Refusal.NumberUsed
+    else room g w u (nat_le g.places (open_count w.tenants)))).tenants ≡ part_under t w.tenants) [
       | true ↦ refl
       | false ↦ elim (nat_le g.places (open_count w.tenants))
-          as (λ b. found t (world_or w (room g w u b)).tenants ≡ found t w.tenants) [
+          as (λ b. part_under t (world_or w (room g w u b)).tenants ≡ part_under t w.tenants) [
             | true ↦ refl
-            | false ↦ ap (λ b. if b then Some (Some (opened_tenant g)) else found t w.tenants)
+            | false ↦ ap (λ b. if b then Some (Some (opened_tenant g)) else part_under t w.tenants)
                 (ne_eqb t u other)
           ]
     ]
 
 ended-other : (w : World) (t u : ℕ) (s : Store) (o : Outcome) → t ≢ u
-    → found t (world_or w (ended_as w u s o)).tenants ≡ found t w.tenants
+    → part_under t (world_or w (ended_as w u s o)).tenants ≡ part_under t w.tenants
 ended-other w t u s (refuses why) other = refl
 ended-other w t u s (leaves q answer) other =
-    found-other t u (Some (record { quiet = q; mine = s.mine })) w.tenants other
+    part_under-other t u (Some (record { quiet = q; mine = s.mine })) w.tenants other
 
 deed-other
     : (g : Ground) (w : World) (t u : ℕ) (d : Deed) (part : Option (Option TenantData)) → t ≢ u
-    → found t (world_or w (deed_step g w u d part)).tenants ≡ found t w.tenants
+    → part_under t (world_or w (deed_step g w u d part)).tenants ≡ part_under t w.tenants
 deed-other g w t u d None other = refl
 deed-other g w t u d (Some None) other = refl
 deed-other g w t u d (Some (Some tenant)) other =
@@ -253,28 +256,28 @@ deed-other g w t u d (Some (Some tenant)) other =
     ended-other w t u called.store (p.next called.told) other
 
 close-other : (w : World) (t u : ℕ) (part : Option (Option TenantData)) → t ≢ u
-    → found t (world_or w (close_step w u part)).tenants ≡ found t w.tenants
+    → part_under t (world_or w (close_step w u part)).tenants ≡ part_under t w.tenants
 close-other w t u None other = refl
 close-other w t u (Some None) other = refl
-close-other w t u (Some (Some tenant)) other = found-other t u None w.tenants other
+close-other w t u (Some (Some tenant)) other = part_under-other t u None w.tenants other
 
 pub step-other : (g : Ground) (w : World) (s : Step) (t : ℕ) → t ≢ whose_step s
-    → found t (world_or w (step g w s)).tenants ≡ found t w.tenants
+    → part_under t (world_or w (step g w s)).tenants ≡ part_under t w.tenants
 unfolding step
 step-other g w (opens u) t other = open-other g w t u other
-step-other g w (does u d) t other = deed-other g w t u d (found u w.tenants) other
-step-other g w (closes u) t other = close-other w t u (found u w.tenants) other
+step-other g w (does u d) t other = deed-other g w t u d (part_under u w.tenants) other
+step-other g w (closes u) t other = close-other w t u (part_under u w.tenants) other
 
 -- Soundness
 
 part-new
     : (counter t u : ℕ) (part old : Option TenantData) (es : List (Entry (Option TenantData)))
-    → found u es ≡ Some old → SoundPart counter (Some part) → SoundPart counter (found t es)
-    → SoundPart counter (found t (replaced u part es))
+    → part_under u es ≡ Some old → SoundPart counter (Some part) → SoundPart counter (part_under t es)
+    → SoundPart counter (part_under t (with_part u part es))
 part-new counter t u part old es here new kept = elim (cases_eq t u) [
-  | inl same ↦ subst (λ n. SoundPart counter (found n (replaced u part es))) (sym same)
-      (subst (SoundPart counter) (sym (found-new u part old es here)) new)
-  | inr other ↦ subst (SoundPart counter) (sym (found-other t u part es other)) kept
+  | inl same ↦ subst (λ n. SoundPart counter (part_under n (with_part u part es))) (sym same)
+      (subst (SoundPart counter) (sym (part_under-new u part old es here)) new)
+  | inr other ↦ subst (SoundPart counter) (sym (part_under-other t u part es other)) kept
 ]
 
 part-higher : (a b : ℕ) (part : Option (Option TenantData)) → a ≤ b → SoundPart a part
@@ -284,18 +287,18 @@ part-higher a b (Some None) above h = tt
 part-higher a b (Some (Some tenant)) above h = Sound-higher a b tenant.mine above h
 
 ended-sound
-    : (w : World) (t : ℕ) (old : Option TenantData) → found t w.tenants ≡ Some old
+    : (w : World) (t : ℕ) (old : Option TenantData) → part_under t w.tenants ≡ Some old
     → SoundWorld w → (s : Store) (o : Outcome) → Rises w.around.counter s
     → SoundWorld (world_or w (ended_as w t s o))
 ended-sound w t old here sound s (refuses why) rises = sound
 ended-sound w t old here sound s (leaves q answer) rises = λ n.
     part-new s.around.counter n t (Some (record { quiet = q; mine = s.mine })) old w.tenants here
     rises.sound
-    (part-higher w.around.counter s.around.counter (found n w.tenants) rises.rises (sound n))
+    (part-higher w.around.counter s.around.counter (part_under n w.tenants) rises.rises (sound n))
 
 deed-sound
     : (g : Ground) (w : World) (t : ℕ) (d : Deed) (part : Option (Option TenantData))
-    → SoundWorld w → SoundPart w.around.counter part → found t w.tenants ≡ part
+    → SoundWorld w → SoundPart w.around.counter part → part_under t w.tenants ≡ part
     → SoundWorld (world_or w (deed_step g w t d part))
 deed-sound g w t d None sound mine here = sound
 deed-sound g w t d (Some None) sound mine here = sound
@@ -308,7 +311,7 @@ deed-sound g w t d (Some (Some tenant)) sound mine here =
 
 close-sound
     : (w : World) (t : ℕ) (part : Option (Option TenantData)) → SoundWorld w
-    → found t w.tenants ≡ part → SoundWorld (world_or w (close_step w t part))
+    → part_under t w.tenants ≡ part → SoundWorld (world_or w (close_step w t part))
 close-sound w t None sound here = sound
 close-sound w t (Some None) sound here = sound
 close-sound w t (Some (Some tenant)) sound here = λ n.
@@ -326,7 +329,7 @@ open-sound g w u sound =
             | true ↦ sound
             | false ↦ λ t. elim (t == u)
                 as (λ b. SoundPart w.around.counter
-                (if b then Some (Some (opened_tenant g)) else found t w.tenants)) [
+                (if b then Some (Some (opened_tenant g)) else part_under t w.tenants)) [
                   | true ↦ record { stamps = tt; points = tt }
                   | false ↦ sound t
                 ]
@@ -337,5 +340,5 @@ pub step-sound : (g : Ground) (w : World) (s : Step) → SoundWorld w
     → SoundWorld (world_or w (step g w s))
 unfolding step
 step-sound g w (opens u) sound = open-sound g w u sound
-step-sound g w (does u d) sound = deed-sound g w u d (found u w.tenants) sound (sound u) refl
-step-sound g w (closes u) sound = close-sound w u (found u w.tenants) sound refl
+step-sound g w (does u d) sound = deed-sound g w u d (part_under u w.tenants) sound (sound u) refl
+step-sound g w (closes u) sound = close-sound w u (part_under u w.tenants) sound refl

@@ -1,23 +1,23 @@
 -- Asking: the ask of a form that runs is answered, and the pair recorded.
-use Rattle.std.specs.Prelude.{ℕ, List, [], ◌∷◌, ◌++◌, Bool, true, not, Option, None, Some}
-use Rattle.std.specs.Prelude.{◌&&◌, ◌^◌, nat_lt, if◌then◌else◌}
+use Rattle.std.specs.Prelude.{ℕ, List, [], ◌∷◌, ◌++◌, Bool, true, not, Option, None, Some, ◌&&◌}
+use Rattle.std.specs.Prelude.{◌^◌, nat_lt, if◌then◌else◌}
 use Rattle.value_data.specs.Datum.{Datum}
 use Rattle.repl_asks.specs.Namespaces.{is_fixed}
 use Rattle.repl_asks.specs.Exchange as exchange
 use Rattle.repl_asks.specs.Exchange.{AskData, AnswerData, ResolutionData, names_value}
 use Rattle.repl_sessions.specs.State.{StateData}
-use Rattle.name_spaces.specs.Namespaces.{Namespaces, entered, defined}
+use Rattle.name_spaces.specs.Namespaces.{Namespaces, with_entered_namespace, with_definition}
 use Rattle.name_spaces.specs.Resolving as names
 use Rattle.name_spaces.specs.Resolving.{FoundData, found_resolution, found_latest}
 use Rattle.name_spaces.specs.declared.latest.Latest.{Latest}
-use Rattle.server_rules.specs.Calls.{Call, nothing, makes, begins, reads, counts}
-use Rattle.server_rules.specs.Calls.{tells_least, tells_most, sets_least, sets_most}
-use Rattle.server_rules.specs.Calls.{commits, gives_up}
+use Rattle.server_rules.specs.Calls.{Call, nothing, makes, begins, reads, counts, tells_least}
+use Rattle.server_rules.specs.Calls.{tells_most, sets_least, sets_most, commits, gives_up}
 use Rattle.server_rules.specs.Ground.{Ground}
 use Rattle.server_rules.specs.Request.{Hand, Run}
 use Rattle.server_rules.specs.Tenant.{ActorData, seat_of, Quiet, with_actor, state_of}
 use Rattle.server_rules.specs.Starting.{interrupted_in}
-use Rattle.server_rules.specs.Plan.{Outcome, refuses, leaves, ask_answered, Plan, quietly, spent}
+use Rattle.server_rules.specs.Plan.{Outcome, refuses, leaves, ask_answered, Plan, quietly}
+use Rattle.server_rules.specs.Plan.{with_step_spent}
 use Rattle.server_rules.specs.declared.actor.Actor.{Actor}
 use Rattle.server_rules.specs.declared.refusal.Refusal.{Refusal}
 
@@ -63,32 +63,37 @@ abbrev pub resolution_of : StateData → FoundData → ResolutionData
 resolution_of state (found_resolution r) = r
 resolution_of state (found_latest latest) = names_value (latest_of latest state)
 
-abbrev pub resolved : Ground → Actor → Quiet → List ℕ → List ℕ → ResolutionData
-resolved g a q namespace symbol =
+abbrev pub symbol_resolution : Ground → Actor → Quiet → List ℕ → List ℕ → ResolutionData
+symbol_resolution g a q namespace symbol =
     resolution_of (state_of a q) (names.resolved g.shared_names q.spaces namespace symbol)
 
--- the answer is what the refs told, but for symbols; to a definition and to an entered namespace they
--- told `done`
+-- the answer is what the refs told, but for symbols; to a definition and to an entered namespace
+-- they told `done`
 abbrev pub answer_to : Ground → Actor → Quiet → AskData → AnswerData → AnswerData
 answer_to g a q (exchange.resolve namespace symbol) told =
-    exchange.resolution (resolved g a q namespace symbol)
+    exchange.resolution (symbol_resolution g a q namespace symbol)
 answer_to g a q _ told = told
 
 abbrev pub spaces_after : AskData → Namespaces → Namespaces
 spaces_after (exchange.define namespace name binding) spaces =
-    defined spaces namespace name binding
-spaces_after (exchange.enter name) spaces = entered spaces name
+    with_definition spaces namespace name binding
+spaces_after (exchange.enter name) spaces = with_entered_namespace spaces name
 spaces_after _ spaces = spaces
 
-abbrev pub recorded : Actor → ActorData → Hand → Run → AskData → AnswerData → Quiet → Quiet
-recorded a actor h run ask answer q =
-    let more : Run = record run { trace = run.trace ++ record { ask = ask; answer = answer } ∷ [] } in
+abbrev pub with_recorded_answer : Actor → ActorData → Hand → Run → AskData → AnswerData → Quiet
+    → Quiet
+with_recorded_answer a actor h run ask answer q =
+    let more : Run = record run {
+      trace =
+          run.trace ++ record { ask = ask; answer = answer } ∷ [];
+    } in
     with_actor a (record actor { hand = Some (record h { running = Some more }) }) q
 
-abbrev pub answered : Ground → Actor → ActorData → Hand → Run → AskData → Quiet → AnswerData → Outcome
-answered g a actor h run ask q told =
+abbrev pub answer_outcome : Ground → Actor → ActorData → Hand → Run → AskData → Quiet → AnswerData
+    → Outcome
+answer_outcome g a actor h run ask q told =
     let answer = answer_to g a q ask told in
-    leaves (spent (recorded a actor h run ask answer
+    leaves (with_step_spent (with_recorded_answer a actor h run ask answer
     (record q { spaces = spaces_after ask q.spaces }))) (ask_answered answer)
 
 -- an ask that breaks a rule is none of an evaluation's
@@ -105,7 +110,7 @@ asked_allowed g a actor h run ask q =
     }
     else record {
       call = call_of (seat_of a) ask;
-      next = λ told. when_told told (answered g a actor h run ask q);
+      next = λ told. when_told told (answer_outcome g a actor h run ask q);
     }
 
 abbrev pub asked_running : Ground → Actor → ActorData → Hand → AskData → Quiet → Option Run → Plan

@@ -1,15 +1,16 @@
 -- What a step may ask of the refs, and what comes of it.
-use Rattle.std.specs.Prelude.{ℕ, ◌+◌, pos, List, [], ◌∷◌, ◌++◌, length}
-use Rattle.std.specs.Prelude.{Option, None, Some, option_map}
+use Rattle.std.specs.Prelude.{ℕ, ◌+◌, pos, List, [], ◌∷◌, ◌++◌, length, Option, None, Some}
+use Rattle.std.specs.Prelude.{option_map}
 use Rattle.value_data.specs.Datum as datum
 use Rattle.value_data.specs.Datum.{Datum, OwnerData, shared, tenant}
 use Rattle.repl_asks.specs.Transactions.{RefNameData, IntentData}
 use Rattle.repl_asks.specs.Exchange.{AnswerData, done, value, reading, found, retry}
 use Rattle.server_rules.specs.Numbered as numbered
 use Rattle.server_rules.specs.Numbered.{entry}
-use Rattle.server_rules.specs.Versions.{Ref, new_ref, faulted, with_least, with_most}
+use Rattle.server_rules.specs.Versions.{Ref, new_ref, with_failed_read, with_least, with_most}
 use Rattle.server_rules.specs.Versions.{readable, newest}
-use Rattle.server_rules.specs.Store.{Store, named, changed, with_refs, with_points, left_attempt}
+use Rattle.server_rules.specs.Store.{Store, ref_named, with_changed_ref, with_refs, with_points}
+use Rattle.server_rules.specs.Store.{left_attempt}
 use Rattle.server_rules.specs.Performed.{Performed, as_was, tells}
 use Rattle.server_rules.specs.Commit.{commit_by}
 
@@ -35,25 +36,28 @@ pub data Call : Type 0 where
 abbrev pub made_ref : Store → ℕ → Datum
 made_ref s n = datum.ref (tenant s.tenant) n
 
-abbrev pub made : Store → Datum → ℕ → ℕ → Performed Store
-made s d least most = tells (value (made_ref s (length s.mine.refs)))
+abbrev pub performed_make : Store → Datum → ℕ → ℕ → Performed Store
+performed_make s d least most = tells (value (made_ref s (length s.mine.refs)))
     (with_refs (s.mine.refs ++ new_ref (record { stamp = 0; content = d }) least most ∷ []) s)
 
 -- Beginning: the read point is what the counter says
 
-abbrev pub begun : ℕ → Store → Option ℕ → Performed Store
-begun seat s (Some point) = as_was s None
-begun seat s None = tells done (with_points (entry seat s.around.counter ∷ s.mine.points) s)
+abbrev pub performed_begin : ℕ → Store → Option ℕ → Performed Store
+performed_begin seat s (Some point) = as_was s None
+performed_begin seat s None = tells done
+    (with_points (entry seat s.around.counter ∷ s.mine.points) s)
 
 -- Reading: in an attempt as at its read point, and outside of one the newest
 
 abbrev pub read_at : ℕ → RefNameData → Store → Option Datum → Performed Store
 read_at seat name s (Some d) = tells (reading (found d)) s
-read_at seat name s None = tells (reading retry) (left_attempt seat (changed name faulted s))
+read_at seat name s None = tells (reading retry)
+    (left_attempt seat (with_changed_ref name with_failed_read s))
 
 abbrev pub read_by : ℕ → RefNameData → Store → Option ℕ → Option Ref → Performed Store
 read_by seat name s point None = as_was s None
-read_by seat name s None (Some r) = as_was s (option_map (λ d. reading (found d)) (newest r.versions))
+read_by seat name s None (Some r) =
+    as_was s (option_map (λ d. reading (found d)) (newest r.versions))
 read_by seat name s (Some point) (Some r) = read_at seat name s (readable point r)
 
 -- Histories
@@ -72,7 +76,7 @@ abbrev pub bound_set : RefNameData → OwnerData → (Ref → Ref) → Store →
 bound_set name owner f s None = as_was s None
 bound_set name shared f s (Some r) = as_was s None
 bound_set name (tenant t) f s (Some r) =
-    tells (value (datum.ref (tenant t) name.number)) (changed name f s)
+    tells (value (datum.ref (tenant t) name.number)) (with_changed_ref name f s)
 
 -- Giving up
 
@@ -84,16 +88,16 @@ given_up seat s (Some answer) = tells done (left_attempt seat s)
 -- breaks a rule; then all stays.
 abbrev pub performed : Store → Call → Performed Store
 performed s nothing = tells done s
-performed s (makes d least most) = made s d least most
-performed s (begins seat) = begun seat s (numbered.found seat s.mine.points)
+performed s (makes d least most) = performed_make s d least most
+performed s (begins seat) = performed_begin seat s (numbered.part_under seat s.mine.points)
 performed s (leaves_attempt seat) = tells done (left_attempt seat s)
 performed s (reads seat name) =
-    read_by seat name s (numbered.found seat s.mine.points) (named name s)
+    read_by seat name s (numbered.part_under seat s.mine.points) (ref_named name s)
 performed s (counts seat name) =
-    as_was s (count_told name.owner (numbered.found seat s.mine.points) (named name s))
-performed s (tells_least name) = as_was s (option_map (λ r. number_told r.least) (named name s))
-performed s (tells_most name) = as_was s (option_map (λ r. number_told r.most) (named name s))
-performed s (sets_least name n) = bound_set name name.owner (with_least n) s (named name s)
-performed s (sets_most name n) = bound_set name name.owner (with_most n) s (named name s)
-performed s (commits seat intent) = commit_by seat intent s (numbered.found seat s.mine.points)
+    as_was s (count_told name.owner (numbered.part_under seat s.mine.points) (ref_named name s))
+performed s (tells_least name) = as_was s (option_map (λ r. number_told r.least) (ref_named name s))
+performed s (tells_most name) = as_was s (option_map (λ r. number_told r.most) (ref_named name s))
+performed s (sets_least name n) = bound_set name name.owner (with_least n) s (ref_named name s)
+performed s (sets_most name n) = bound_set name name.owner (with_most n) s (ref_named name s)
+performed s (commits seat intent) = commit_by seat intent s (numbered.part_under seat s.mine.points)
 performed s (gives_up seat call) = given_up seat s (performed s call).told

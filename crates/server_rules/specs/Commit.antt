@@ -1,64 +1,48 @@
 -- The commit of an attempt (the Clojure reference, Refs and Transactions). Where it meets a newer
 -- version of what it set or ensured, it changes no ref. Otherwise what was commuted alone is made
--- again, of the newest values; and each ref that was set or commuted gets one version more, or, at the
--- first fault, none does. The attempt ends in each case.
-use Rattle.std.specs.Prelude.{ℕ, suc, ◌+◌, ◌==◌, List, [], ◌∷◌, ◌++◌, Bool, true, false}
-use Rattle.std.specs.Prelude.{not, ◌&&◌, ◌||◌}
+-- again, of the newest values; and each ref that was set or commuted gets one version more, or, at
+-- the first fault, none does. The attempt ends in each case.
+use Rattle.std.specs.Prelude.{ℕ, suc, ◌+◌, List, [], ◌∷◌, ◌++◌, Bool, true, false, not, ◌&&◌, ◌||◌}
 use Rattle.std.specs.List.{list_any, list_all}
 use Rattle.std.specs.Prelude.{Option, None, Some, is_some, map, Result, Ok, Err, length}
 use Rattle.std.specs.Prelude.{if◌then◌else◌}
-use Rattle.value_data.specs.Datum.{Datum, nil, OwnerData, shared, tenant}
-use Rattle.value_data.specs.Measures.{is_plain}
-use Rattle.repl_faults.specs.Failure.{Failure, ◌>>=◌, broken}
+use Rattle.value_data.specs.Datum.{Datum, nil, OwnerData}
+use Rattle.repl_faults.specs.Failure.{Failure, ◌>>=◌, broken_rule}
 use Rattle.repl_faults.specs.declared.rule.Rule.{Rule}
 use Rattle.function_names.specs.Names as names
-use Rattle.core_functions.specs.Outcome.{Outcome, gives, fails}
+use Rattle.core_functions.specs.ApplyOutcome.{ApplyOutcome, gives, fails}
 use Rattle.core_functions.specs.Meaning.{meaning}
 use Rattle.repl_asks.specs.Transactions.{RefNameData, ChangeData, CommuteData, CommutedData}
-use Rattle.repl_asks.specs.Transactions.{IntentData}
+use Rattle.repl_asks.specs.Transactions.{IntentData, same_name, may_hold}
 use Rattle.repl_asks.specs.Exchange.{verdict, committed, conflict, faulted}
 use Rattle.server_rules.specs.Versions.{Ref, is_newer, with_version}
-use Rattle.server_rules.specs.Store.{Store, named, value_of, changed, left_attempt}
+use Rattle.server_rules.specs.Store.{Store, ref_named, newest_value, with_changed_ref, left_attempt}
 use Rattle.server_rules.specs.Performed.{Performed, as_was, tells}
 
 -- the refs that nobody else may have changed
-abbrev pub guarded : IntentData → List RefNameData
-guarded intent = map (λ c. c.name) intent.sets ++ intent.ensured
+abbrev pub guarded_refs : IntentData → List RefNameData
+guarded_refs intent = map (λ c. c.name) intent.sets ++ intent.ensured
 
 -- the refs that the intent names
-abbrev pub touched : IntentData → List RefNameData
-touched intent = guarded intent ++ map (λ c. c.name) intent.commuted
+abbrev pub touched_refs : IntentData → List RefNameData
+touched_refs intent = guarded_refs intent ++ map (λ c. c.name) intent.commuted
 
 abbrev pub all_there : List RefNameData → Store → Bool
 all_there [] s = true
-all_there (name ∷ names) s = is_some (named name s) && all_there names s
-
--- what goes into a shared ref is plain
-abbrev pub may_hold : OwnerData → Datum → Bool
-may_hold shared d = is_plain d
-may_hold (tenant t) d = true
+all_there (name ∷ names) s = is_some (ref_named name s) && all_there names s
 
 abbrev pub all_fit : List ChangeData → Bool
 all_fit [] = true
 all_fit (c ∷ cs) = may_hold c.name.owner c.now && all_fit cs
 
 -- each ref is set once, to its last value
-abbrev pub same_owner : OwnerData → OwnerData → Bool
-same_owner shared shared = true
-same_owner shared (tenant t) = false
-same_owner (tenant t) shared = false
-same_owner (tenant t) (tenant u) = t == u
-
-abbrev pub same_name : RefNameData → RefNameData → Bool
-same_name a b = same_owner a.owner b.owner && a.number == b.number
-
 abbrev pub are_distinct : List RefNameData → Bool
 are_distinct [] = true
 are_distinct (name ∷ names) = not (list_any (same_name name) names) && are_distinct names
 
 -- the refs that change, each once
-abbrev pub changing : IntentData → List RefNameData
-changing intent = map (λ c. c.name) intent.sets ++ map (λ c. c.name) intent.commuted
+abbrev pub changing_refs : IntentData → List RefNameData
+changing_refs intent = map (λ c. c.name) intent.sets ++ map (λ c. c.name) intent.commuted
 
 -- each function takes the value of the ref and its arguments
 abbrev pub takes_its_arguments : CommuteData → Bool
@@ -67,9 +51,9 @@ takes_its_arguments c = names.fits c.function (suc (length c.arguments))
 abbrev pub all_take : List CommutedData → Bool
 all_take cs = list_all (λ c. list_all takes_its_arguments c.commutes) cs
 
-abbrev pub fits : IntentData → Bool
-fits intent =
-    all_fit intent.sets && are_distinct (changing intent) && all_take intent.commuted
+abbrev pub intent_fits : IntentData → Bool
+intent_fits intent =
+    all_fit intent.sets && are_distinct (changing_refs intent) && all_take intent.commuted
 
 abbrev pub is_newer_ref : ℕ → Option Ref → Bool
 is_newer_ref point None = false
@@ -77,26 +61,26 @@ is_newer_ref point (Some r) = is_newer point r.versions
 
 abbrev pub any_newer : ℕ → List RefNameData → Store → Bool
 any_newer point [] s = false
-any_newer point (name ∷ names) s = is_newer_ref point (named name s) || any_newer point names s
+any_newer point (name ∷ names) s = is_newer_ref point (ref_named name s) || any_newer point names s
 
--- What was commuted is made again: each function is applied to what the one before it gave, the first
--- to the newest value of the ref. What they print is dropped.
+-- What was commuted is made again: each function is applied to what the one before it gave, the
+-- first to the newest value of the ref. What they print is dropped.
 
-abbrev pub result_of : Outcome → Result Datum Failure
+abbrev pub result_of : ApplyOutcome → Result Datum Failure
 result_of (gives d text) = Ok d
 result_of (fails f) = Err f
 
-abbrev pub folded : List CommuteData → Datum → Result Datum Failure
-folded [] d = Ok d
-folded (c ∷ cs) d = result_of (meaning c.function (d ∷ c.arguments)) >>= folded cs
+abbrev pub folded_value : List CommuteData → Datum → Result Datum Failure
+folded_value [] d = Ok d
+folded_value (c ∷ cs) d = result_of (meaning c.function (d ∷ c.arguments)) >>= folded_value cs
 
-abbrev pub held : OwnerData → Datum → Result Datum Failure
-held owner d = if may_hold owner d then Ok d else Err (broken Rule.SharedRefsArePlain)
+abbrev pub if_may_hold : OwnerData → Datum → Result Datum Failure
+if_may_hold owner d = if may_hold owner d then Ok d else Err (broken_rule Rule.SharedRefsArePlain)
 
 -- from what the ref has; one that is there has a value
 abbrev pub folded_from : CommutedData → Option Datum → Result Datum Failure
 folded_from c None = Ok nil
-folded_from c (Some d) = folded c.commutes d >>= held c.name.owner
+folded_from c (Some d) = folded_value c.commutes d >>= if_may_hold c.name.owner
 
 -- one ref after another, up to the first fault, where this is what refs have
 abbrev pub all_folded
@@ -109,31 +93,34 @@ all_folded value (c ∷ cs) = folded_from c (value c.name) >>= λ d.
 abbrev pub with_changes : ℕ → List ChangeData → Store → Store
 with_changes stamp [] s = s
 with_changes stamp (c ∷ cs) s = with_changes stamp cs
-    (changed c.name (with_version (record { stamp = stamp; content = c.now })) s)
+    (with_changed_ref c.name (with_version (record { stamp = stamp; content = c.now })) s)
 
-abbrev pub raised : Store → Store
-raised s = record s { around = record { counter = s.around.counter + 1; refs = s.around.refs } }
+abbrev pub with_raised_counter : Store → Store
+with_raised_counter s = record s {
+  around =
+      record { counter = s.around.counter + 1; refs = s.around.refs };
+}
 
 -- the counter rises where a ref changes
 abbrev pub with_all : List ChangeData → Store → Store
 with_all [] s = s
-with_all (c ∷ cs) s = with_changes (s.around.counter + 1) (c ∷ cs) (raised s)
+with_all (c ∷ cs) s = with_changes (s.around.counter + 1) (c ∷ cs) (with_raised_counter s)
 
-abbrev pub concluded
+abbrev pub concluded_commit
     : ℕ → List ChangeData → Store → Result (List ChangeData) Failure → Performed Store
-concluded seat sets s (Err f) = tells (verdict (faulted f)) (left_attempt seat s)
-concluded seat sets s (Ok changes) =
+concluded_commit seat sets s (Err f) = tells (verdict (faulted f)) (left_attempt seat s)
+concluded_commit seat sets s (Ok changes) =
     tells (verdict committed) (left_attempt seat (with_all (sets ++ changes) s))
 
-abbrev pub checked : ℕ → IntentData → Store → Bool → Bool → Performed Store
-checked seat intent s false newer = as_was s None
-checked seat intent s true true = tells (verdict conflict) (left_attempt seat s)
-checked seat intent s true false =
-    concluded seat intent.sets s (all_folded (λ name. value_of name s) intent.commuted)
+abbrev pub checked_commit : ℕ → IntentData → Store → Bool → Bool → Performed Store
+checked_commit seat intent s false newer = as_was s None
+checked_commit seat intent s true true = tells (verdict conflict) (left_attempt seat s)
+checked_commit seat intent s true false =
+    concluded_commit seat intent.sets s (all_folded (λ name. newest_value name s) intent.commuted)
 
 -- at the read point of the actor's attempt
 abbrev pub commit_by : ℕ → IntentData → Store → Option ℕ → Performed Store
 commit_by seat intent s None = as_was s None
-commit_by seat intent s (Some point) = checked seat intent s
-    (all_there (touched intent) s && fits intent)
-    (any_newer point (guarded intent) s)
+commit_by seat intent s (Some point) = checked_commit seat intent s
+    (all_there (touched_refs intent) s && intent_fits intent)
+    (any_newer point (guarded_refs intent) s)

@@ -1,14 +1,9 @@
--- How jobs and traces are compared, print for print. Each comparison has exactly one answer; here the
--- answers are the values of functions.
-use Rattle.std.specs.Prelude.{◌≡◌, ◌≢◌, ◌↔◌, ℕ, List, Bool, true, Option, None, Some, take, slice_get}
+-- How jobs and traces are compared. Each comparison has exactly one answer; here the answers are
+-- the values of functions.
+use Rattle.std.specs.Prelude.{◌≡◌, ◌↔◌, ℕ, List, Bool, true, Option, None, Some}
 use Rattle.repl_asks.specs.Exchange.{Exchanged}
 use Rattle.repl_jobs.specs.Job.{JobData}
-
--- The exchanges before the place are equal, and what stands at it differs: two exchanges that are
--- not equal, or one exchange and nothing, since the other trace ends there.
-pub record DiffersFirstAt (place : ℕ) (xs ys : List Exchanged) : Type 0 where
-  pub equal_before : take place xs ≡ take place ys
-  pub unequal : slice_get xs place ≢ slice_get ys place
+use Rattle.trace_comparison.specs.Difference.{DiffersFirstAt}
 
 pub record Comparisons : Type 0 where
   pub is_same_job : JobData → JobData → Bool

@@ -1,17 +1,16 @@
 -- The plan of each deed of a tenant, with its refusals in their order.
-use Rattle.std.specs.Prelude.{ℕ, ◌==◌, List, [], ◌∷◌, Option, None, Some, is_some}
-use Rattle.std.specs.Prelude.{if◌then◌else◌}
+use Rattle.std.specs.Prelude.{ℕ, ◌==◌, List, [], ◌∷◌, Option, None, Some, is_some, if◌then◌else◌}
 use Rattle.repl_replies.specs.Replies.{ReplyData, bytes_of}
-use Rattle.server_rules.specs.Numbered.{found}
+use Rattle.server_rules.specs.Numbered.{part_under}
 use Rattle.server_rules.specs.Ground.{Ground}
 use Rattle.server_rules.specs.Request.{Hand}
 use Rattle.server_rules.specs.Tenant.{ActorData, seat_of, Quiet}
-use Rattle.server_rules.specs.Hearing.{hearing}
+use Rattle.server_rules.specs.Hearing.{hearing_plan}
 use Rattle.server_rules.specs.Starting.{start_in_hand, start_waiting}
 use Rattle.server_rules.specs.Asking.{asked_of}
 use Rattle.server_rules.specs.Ending.{end_of}
-use Rattle.server_rules.specs.Plan.{Deed, hears, starts, asks_for, ends, drains}
-use Rattle.server_rules.specs.Plan.{Outcome, refuses, leaves, reply_given, Plan, quietly}
+use Rattle.server_rules.specs.Plan.{Deed, hears, starts, asks_for, ends, drains, Outcome, refuses}
+use Rattle.server_rules.specs.Plan.{leaves, reply_given, Plan, quietly}
 use Rattle.server_rules.specs.declared.actor.Actor.{Actor}
 use Rattle.server_rules.specs.declared.refusal.Refusal.{Refusal}
 
@@ -27,17 +26,18 @@ for_actor (Some actor) plan = plan actor
 abbrev pub unless_worn : Quiet → Plan → Plan
 unless_worn q plan = if q.steps == 0 then quietly (refuses Refusal.Worn) else plan
 
-abbrev pub drained : Quiet → List ReplyData → Outcome
-drained q [] = refuses Refusal.Idle
-drained q (oldest ∷ more) = leaves (record q { replies = more }) (reply_given (bytes_of oldest))
+abbrev pub drain_outcome : Quiet → List ReplyData → Outcome
+drain_outcome q [] = refuses Refusal.Idle
+drain_outcome q (oldest ∷ more) = leaves (record q { replies = more })
+    (reply_given (bytes_of oldest))
 
 -- the plan of the tenant with this number
 abbrev pub plan : Ground → ℕ → Quiet → Deed → Plan
-plan g t q (hears piece) = hearing g t piece q
+plan g t q (hears piece) = hearing_plan g t piece q
 plan g t q (starts a) = unless_worn q
-    (for_actor (found (seat_of a) q.actors) (λ actor. quietly (start_of g a actor q actor.hand)))
+    (for_actor (part_under (seat_of a) q.actors) (λ actor. quietly (start_of g a actor q actor.hand)))
 plan g t q (asks_for a ask) = unless_worn q
-    (for_actor (found (seat_of a) q.actors) (λ actor. asked_of g a actor ask q actor.hand))
+    (for_actor (part_under (seat_of a) q.actors) (λ actor. asked_of g a actor ask q actor.hand))
 plan g t q (ends a e) = unless_worn q
-    (for_actor (found (seat_of a) q.actors) (λ actor. end_of g a actor e q actor.hand))
-plan g t q drains = quietly (drained q q.replies)
+    (for_actor (part_under (seat_of a) q.actors) (λ actor. end_of g a actor e q actor.hand))
+plan g t q drains = quietly (drain_outcome q q.replies)

@@ -1,14 +1,14 @@
 -- Ending: an evaluation comes back at its end, and its form is answered.
-use Rattle.std.specs.Prelude.{ℕ, List, Bool, true, false, Option, None, Some}
-use Rattle.std.specs.Prelude.{if◌then◌else◌}
+use Rattle.std.specs.Prelude.{ℕ, List, Bool, true, false, Option, None, Some, if◌then◌else◌}
 use Rattle.server_rules.specs.Calls.{leaves_attempt}
 use Rattle.server_rules.specs.Ground.{Ground}
 use Rattle.server_rules.specs.Request.{Hand, Run}
 use Rattle.server_rules.specs.Tenant.{ActorData, seat_of, Quiet, is_held, state_of}
 use Rattle.server_rules.specs.Moves.{form_ended}
-use Rattle.server_rules.specs.Starting.{moved, interrupted_in}
-use Rattle.server_rules.specs.Plan.{EndingData, Outcome, refuses, leaves, form_finished}
-use Rattle.server_rules.specs.Plan.{Plan, quietly, spent}
+use Rattle.server_rules.specs.Starting.{after_move, interrupted_in}
+use Rattle.server_rules.specs.Plan.{Outcome, refuses, leaves, form_finished}
+use Rattle.repl_jobs.specs.Job.{EndingData}
+use Rattle.server_rules.specs.Plan.{Plan, quietly, with_step_spent}
 use Rattle.server_rules.specs.declared.actor.Actor.{Actor}
 use Rattle.server_rules.specs.declared.refusal.Refusal.{Refusal}
 
@@ -19,7 +19,8 @@ with_left_attempt a outcome =
 
 abbrev pub end_accepted : Actor → ActorData → Hand → EndingData → Quiet → Plan
 end_accepted a actor h e q = with_left_attempt a
-    (leaves (spent (moved a actor (form_ended h e.end (state_of a q)) q)) form_finished)
+    (leaves (with_step_spent (after_move a actor (form_ended h e.end (state_of a q)) q))
+    form_finished)
 
 abbrev pub end_compared
     : Actor → ActorData → Hand → EndingData → Quiet → Bool → Option ℕ → Plan

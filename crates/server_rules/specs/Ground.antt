@@ -1,7 +1,7 @@
 -- What is the same for all tenants, and stays.
 use Rattle.std.specs.Prelude.{ℕ, List}
 use Rattle.repl_jobs.specs.Job.{JobData}
-use Rattle.repl_jobs.specs.Tree.{Tree}
+use Rattle.repl_jobs.specs.InteractionTree.{InteractionTree}
 use Rattle.name_spaces.specs.Bindings.{Bindings}
 use Rattle.server_rules.specs.Readings.{Readings}
 use Rattle.server_rules.specs.Comparisons.{Comparisons}
@@ -10,7 +10,7 @@ pub record Ground : Type 0 where
   pub readings : Readings
   pub comparisons : Comparisons
   -- what a job asks, and how it ends
-  pub evaluation : JobData → Tree
+  pub evaluation : JobData → InteractionTree
   -- the random seed of session ids, 32 bytes
   pub seed : List ℕ
   -- how many steps a tenant has, and how many attempts a transaction

@@ -1,9 +1,9 @@
 -- Hearing: what a piece of the stream makes of a tenant.
-use Rattle.std.specs.Prelude.{ℕ, ◌==◌, List, [], ◌∷◌, ◌++◌, Option, None, Some}
-use Rattle.std.specs.Prelude.{length, drop, if◌then◌else◌}
+use Rattle.std.specs.Prelude.{ℕ, ◌==◌, List, [], ◌∷◌, ◌++◌, Option, None, Some, length, drop}
+use Rattle.std.specs.Prelude.{if◌then◌else◌}
 use Rattle.bencode_wire.specs.Tree.{Tree}
-use Rattle.bencode_wire.specs.Stream.{Ending, rest, fault}
-use Rattle.bencode_wire.specs.Fault.{counted, fault_at}
+use Rattle.bencode_wire.specs.Stream.{StreamEnding, rest, fault}
+use Rattle.bencode_wire.specs.Fault.{counted_place, fault_at}
 use Rattle.bencode_wire.specs.declared.fault.WireFault.{WireFault}
 use Rattle.repl_replies.specs.Replies.{no_origin, malformed, ReplyData}
 use Rattle.server_rules.specs.Readings.{Readings}
@@ -11,12 +11,13 @@ use Rattle.server_rules.specs.Ground.{Ground}
 use Rattle.server_rules.specs.Tenant.{Quiet, is_held, with_replies}
 use Rattle.server_rules.specs.Replying.{reply}
 use Rattle.server_rules.specs.Operating.{with_message}
-use Rattle.server_rules.specs.Plan.{Outcome, refuses, leaves, messages_heard, Plan, quietly, spent}
+use Rattle.server_rules.specs.Plan.{Outcome, refuses, leaves, messages_heard, Plan, quietly}
+use Rattle.server_rules.specs.Plan.{with_step_spent}
 use Rattle.server_rules.specs.declared.refusal.Refusal.{Refusal}
 
-abbrev pub fault_in : Ending → Option WireFault
+abbrev pub fault_in : StreamEnding → Option WireFault
 fault_in (rest m) = None
-fault_in (fault rule at) = Some (fault_at rule (counted at))
+fault_in (fault rule at) = Some (fault_at rule (counted_place at))
 
 abbrev pub stream_fault : Readings → List ℕ → Option WireFault
 stream_fault r bytes = fault_in (r.stream bytes).ending
@@ -45,10 +46,10 @@ abbrev pub hears_more : Ground → ℕ → List ℕ → Quiet → Option WireFau
 hears_more g t piece q (Some f) = refuses (Refusal.Wire f)
 hears_more g t piece q None =
     if is_held q then refuses Refusal.Held
-    else leaves (spent (taken_in g t piece q))
+    else leaves (with_step_spent (taken_in g t piece q))
     (messages_heard (length (new_messages g.readings q.heard piece)))
 
-abbrev pub hearing : Ground → ℕ → List ℕ → Quiet → Plan
-hearing g t piece q = quietly
+abbrev pub hearing_plan : Ground → ℕ → List ℕ → Quiet → Plan
+hearing_plan g t piece q = quietly
     (if q.steps == 0 then refuses Refusal.Worn
     else hears_more g t piece q (stream_fault g.readings q.heard))

@@ -16,8 +16,8 @@ pub record Move : Type 0 where
   -- what the session then remembers
   pub state : StateData
 
-abbrev pub over : List ReplyData → StateData → Move
-over replies state = record { hand = None; replies = replies; state = state }
+abbrev pub over_move : List ReplyData → StateData → Move
+over_move replies state = record { hand = None; replies = replies; state = state }
 
 abbrev pub in_hand : Hand → StateData → Move
 in_hand h state = record { hand = Some h; replies = []; state = state }
@@ -30,19 +30,20 @@ fault_noted f state = after_fault f.class f.text state
 
 -- a fault is answered, and the request is done
 abbrev pub over_by : OriginData → Failure → StateData → Move
-over_by origin f state = over (fault_replies origin f ++ reply origin done ∷ []) (fault_noted f state)
+over_by origin f state = over_move (fault_replies origin f ++ reply origin done ∷ [])
+    (fault_noted f state)
 
 -- behind the last form: the fault of the text, if it has one, and last that the request is done
-abbrev pub closing : OriginData → Manner → Option Failure → StateData → Move
-closing origin manner (Some f) state = over_by origin f state
-closing origin each_form None state = over (reply origin done ∷ []) state
-closing origin each_form_elsewhere None state = over (reply origin done ∷ []) state
-closing origin (last_form d) None state =
-    over (value_reply origin state.namespace d ∷ reply origin done ∷ []) (after_value d state)
+abbrev pub closing_move : OriginData → Manner → Option Failure → StateData → Move
+closing_move origin manner (Some f) state = over_by origin f state
+closing_move origin each_form None state = over_move (reply origin done ∷ []) state
+closing_move origin each_form_elsewhere None state = over_move (reply origin done ∷ []) state
+closing_move origin (last_form d) None state =
+    over_move (value_reply origin state.namespace d ∷ reply origin done ∷ []) (after_value d state)
 
 -- behind a form that ended: the request waits for its next form, or is done
 abbrev pub going_on : Hand → Items → StateData → Move
-going_on h no_items state = closing h.origin h.manner h.fault state
+going_on h no_items state = closing_move h.origin h.manner h.fault state
 going_on h (item d ds) state = in_hand (record h { running = None; forms = item d ds }) state
 
 abbrev pub result_replies : OriginData → EndData → Result Datum Failure → List ReplyData
@@ -54,8 +55,8 @@ result_noted (Ok d) state = after_value d state
 result_noted (Err f) state = fault_noted f state
 
 -- first what the form printed, and then its value or its fault
-abbrev pub told : OriginData → EndData → List ReplyData
-told origin e = output_replies origin e.text ++ result_replies origin e e.result
+abbrev pub end_replies : OriginData → EndData → List ReplyData
+end_replies origin e = output_replies origin e.text ++ result_replies origin e e.result
 
 -- of a file only the last value is told, and its first fault ends it
 abbrev pub form_loaded : Hand → EndData → Result Datum Failure → StateData → Move
@@ -65,10 +66,10 @@ form_loaded h e (Err f) state =
     preceded_by (output_replies h.origin e.text) (over_by h.origin f state)
 
 abbrev pub form_ended_as : Hand → EndData → StateData → Manner → Move
-form_ended_as h e state each_form = preceded_by (told h.origin e)
+form_ended_as h e state each_form = preceded_by (end_replies h.origin e)
     (going_on (record h { namespace = e.namespace }) h.forms
     (in_namespace e.namespace (result_noted e.result state)))
-form_ended_as h e state each_form_elsewhere = preceded_by (told h.origin e)
+form_ended_as h e state each_form_elsewhere = preceded_by (end_replies h.origin e)
     (going_on (record h { namespace = e.namespace }) h.forms (result_noted e.result state))
 form_ended_as h e state (last_form d) = form_loaded h e e.result state
 

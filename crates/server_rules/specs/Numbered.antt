@@ -1,6 +1,5 @@
 -- Lists as finite maps from numbers.
-use Rattle.std.specs.Prelude.{ℕ, zero, suc, ◌==◌, List, [], ◌∷◌, Option, None, Some}
-use Rattle.std.specs.Prelude.{if◌then◌else◌}
+use Rattle.std.specs.Prelude.{ℕ, zero, suc, ◌==◌, List, [], ◌∷◌, Option, None, Some, if◌then◌else◌}
 
 -- the element at a place is changed; where there is none, nothing is
 abbrev pub changed_at : {A : Type 0} → ℕ → (A → A) → List A → List A
@@ -16,13 +15,13 @@ pub record Entry (A : Type 0) : Type 0 where
 abbrev pub entry : {A : Type 0} → ℕ → A → Entry A
 entry n part = record { number = n; part = part }
 
-abbrev pub found : {A : Type 0} → ℕ → List (Entry A) → Option A
-found n [] = None
-found n (e ∷ es) = if n == e.number then Some e.part else found n es
+abbrev pub part_under : {A : Type 0} → ℕ → List (Entry A) → Option A
+part_under n [] = None
+part_under n (e ∷ es) = if n == e.number then Some e.part else part_under n es
 
-abbrev pub replaced : {A : Type 0} → ℕ → A → List (Entry A) → List (Entry A)
-replaced n part [] = []
-replaced n part (e ∷ es) = if n == e.number then entry n part ∷ es else e ∷ replaced n part es
+abbrev pub with_part : {A : Type 0} → ℕ → A → List (Entry A) → List (Entry A)
+with_part n part [] = []
+with_part n part (e ∷ es) = if n == e.number then entry n part ∷ es else e ∷ with_part n part es
 
 abbrev pub without : {A : Type 0} → ℕ → List (Entry A) → List (Entry A)
 without n [] = []

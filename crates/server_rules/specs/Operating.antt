@@ -1,6 +1,7 @@
 -- What each operation makes of a tenant when it is heard (the nREPL manual, "Supported nREPL
 -- operations").
-use Rattle.std.specs.Prelude.{ℕ, List, [], ◌∷◌, ◌++◌, true, Option, None, Some, Result, Ok, Err, map}
+use Rattle.std.specs.Prelude.{ℕ, List, [], ◌∷◌, ◌++◌, true, Option, None, Some, Result, Ok, Err}
+use Rattle.std.specs.Prelude.{map}
 use Rattle.bencode_wire.specs.Tree as wire
 use Rattle.repl_sessions.specs.Ids.{IdsData, id_text}
 use Rattle.repl_sessions.specs.Sessions as sessions
@@ -9,11 +10,11 @@ use Rattle.repl_replies.specs.Replies as replies
 use Rattle.repl_replies.specs.Replies.{OriginData, ReplyData}
 use Rattle.repl_replies.specs.Operations as operations
 use Rattle.repl_replies.specs.Operations.{AskedData, OperationData}
-use Rattle.server_rules.specs.Numbered.{Entry, entry, found, replaced, without}
+use Rattle.server_rules.specs.Numbered.{Entry, entry, part_under, with_part, without}
 use Rattle.server_rules.specs.Ground.{Ground}
 use Rattle.server_rules.specs.Request.{Waiting, ProgramText, code, file, Hand}
-use Rattle.server_rules.specs.Tenant.{ActorData, unoccupied, seat_of, Quiet}
-use Rattle.server_rules.specs.Tenant.{with_actor, with_replies}
+use Rattle.server_rules.specs.Tenant.{ActorData, unoccupied, seat_of, Quiet, with_actor}
+use Rattle.server_rules.specs.Tenant.{with_replies}
 use Rattle.server_rules.specs.Replying.{reply}
 use Rattle.server_rules.specs.declared.actor.Actor.{Actor}
 
@@ -30,7 +31,7 @@ with_clone g t origin original q =
     let number = q.sessions.opened in
     with_replies (reply origin (replies.new_session (id_text (ids_for g t) number)) ∷ [])
     (record q {
-      sessions = sessions.cloned q.sessions original;
+      sessions = sessions.with_clone_of q.sessions original;
       actors = q.actors ++ entry (seat_of (Actor.Session number)) unoccupied ∷ [];
     })
 
@@ -40,10 +41,10 @@ abbrev pub interruption : Waiting → ReplyData
 interruption w = reply w.origin replies.interrupted
 
 -- the actor is gone, or has a request in hand that is interrupted at its next step
-abbrev pub vacated : ℕ → Option Hand → List (Entry ActorData) → List (Entry ActorData)
-vacated seat None actors = without seat actors
-vacated seat (Some h) actors =
-    replaced seat (record { waiting = []; hand = Some h; is_closed = true }) actors
+abbrev pub with_vacated_seat : ℕ → Option Hand → List (Entry ActorData) → List (Entry ActorData)
+with_vacated_seat seat None actors = without seat actors
+with_vacated_seat seat (Some h) actors =
+    with_part seat (record { waiting = []; hand = Some h; is_closed = true }) actors
 
 -- the requests that wait are answered, in order, and then the close itself
 abbrev pub closed_by : OriginData → ℕ → Quiet → Option ActorData → Quiet
@@ -51,12 +52,12 @@ closed_by origin n q None = q
 closed_by origin n q (Some actor) =
     with_replies (map interruption actor.waiting ++ reply origin replies.closed ∷ [])
     (record q {
-      sessions = sessions.closed q.sessions n;
-      actors = vacated (seat_of (Actor.Session n)) actor.hand q.actors;
+      sessions = sessions.without_session q.sessions n;
+      actors = with_vacated_seat (seat_of (Actor.Session n)) actor.hand q.actors;
     })
 
 abbrev pub with_close : OriginData → ℕ → Quiet → Quiet
-with_close origin n q = closed_by origin n q (found (seat_of (Actor.Session n)) q.actors)
+with_close origin n q = closed_by origin n q (part_under (seat_of (Actor.Session n)) q.actors)
 
 -- Requests
 
@@ -69,32 +70,32 @@ queued_for a w q None = q
 queued_for a w q (Some actor) =
     with_actor a (record actor { waiting = actor.waiting ++ w ∷ [] }) q
 
-abbrev pub queued : Actor → OriginData → ProgramText → Quiet → Quiet
-queued a origin text q =
-    queued_for a (record { origin = origin; text = text }) q (found (seat_of a) q.actors)
+abbrev pub with_queued : Actor → OriginData → ProgramText → Quiet → Quiet
+with_queued a origin text q =
+    queued_for a (record { origin = origin; text = text }) q (part_under (seat_of a) q.actors)
 
 -- Each operation
 
-abbrev pub operated : Ground → ℕ → OriginData → OperationData → Quiet → Quiet
-operated g t origin (operations.clone original) q = with_clone g t origin original q
-operated g t origin (operations.close n) q = with_close origin n q
-operated g t origin (operations.describe session) q =
+abbrev pub after_operation : Ground → ℕ → OriginData → OperationData → Quiet → Quiet
+after_operation g t origin (operations.clone original) q = with_clone g t origin original q
+after_operation g t origin (operations.close n) q = with_close origin n q
+after_operation g t origin (operations.describe session) q =
     with_replies (reply origin replies.described ∷ []) q
-operated g t origin (operations.list_sessions session) q =
+after_operation g t origin (operations.list_sessions session) q =
     with_replies (reply origin (replies.sessions (ids_of (named_sessions g t q))) ∷ []) q
-operated g t origin (operations.eval session text ns) q =
-    queued (asker session) origin (code text ns) q
-operated g t origin (operations.load_file session text) q =
-    queued (asker session) origin (file text) q
+after_operation g t origin (operations.eval session text ns) q =
+    with_queued (asker session) origin (code text ns) q
+after_operation g t origin (operations.load_file session text) q =
+    with_queued (asker session) origin (file text) q
 
 abbrev pub with_asked : Ground → ℕ → Result AskedData ReplyData → Quiet → Quiet
-with_asked g t (Ok asked) q = operated g t asked.origin asked.operation q
+with_asked g t (Ok asked) q = after_operation g t asked.origin asked.operation q
 with_asked g t (Err refusal) q = with_replies (refusal ∷ []) q
 
 -- a message is a dictionary
 unfoldable pub with_message : Ground → ℕ → wire.Tree → Quiet → Quiet
 with_message g t (wire.dictionary fields) q =
-    with_asked g t (operations.asked (number_named (named_sessions g t q)) fields) q
+    with_asked g t (operations.operation_or_reply (number_named (named_sessions g t q)) fields) q
 with_message g t (wire.integer n) q = q
 with_message g t (wire.string bytes) q = q
 with_message g t (wire.list ts) q = q

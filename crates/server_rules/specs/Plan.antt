@@ -1,17 +1,11 @@
 -- A tenant's deeds as plans: each calls the refs at most once, and goes on with what they tell.
 use Rattle.std.specs.Prelude.{ℕ, ◌-◌, List, Option}
-use Rattle.repl_asks.specs.Exchange.{AskData, AnswerData, Exchanged}
-use Rattle.repl_jobs.specs.Job.{JobData, EndData}
+use Rattle.repl_asks.specs.Exchange.{AskData, AnswerData}
+use Rattle.repl_jobs.specs.Job.{JobData, EndingData}
 use Rattle.server_rules.specs.Calls.{Call, nothing}
 use Rattle.server_rules.specs.Tenant.{Quiet}
 use Rattle.server_rules.specs.declared.actor.Actor.{Actor}
 use Rattle.server_rules.specs.declared.refusal.Refusal.{Refusal}
-
--- an evaluation that comes back at its end
-pub record EndingData : Type 0 where
-  pub job : JobData
-  pub trace : List Exchanged
-  pub end : EndData
 
 pub data Deed : Type 0 where
   -- a piece of the stream is heard
@@ -51,5 +45,5 @@ abbrev pub quietly : Outcome → Plan
 quietly outcome = record { call = nothing; next = λ told. outcome }
 
 -- one step is used up
-abbrev pub spent : Quiet → Quiet
-spent q = record q { steps = q.steps - 1 }
+abbrev pub with_step_spent : Quiet → Quiet
+with_step_spent q = record q { steps = q.steps - 1 }

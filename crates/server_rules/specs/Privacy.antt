@@ -4,12 +4,12 @@ use Rattle.value_data.specs.Datum.{OwnerData, shared, tenant}
 use Rattle.repl_asks.specs.Transactions.{RefNameData, IntentData}
 use Rattle.repl_asks.specs.Exchange as exchange
 use Rattle.repl_asks.specs.Exchange.{AskData}
-use Rattle.server_rules.specs.Commit.{touched}
+use Rattle.server_rules.specs.Commit.{touched_refs}
 use Rattle.server_rules.specs.Ground.{Ground}
 use Rattle.server_rules.specs.Plan.{Deed, asks_for}
-use Rattle.server_rules.specs.World.{World, Step, opens, does, closes}
-use Rattle.server_rules.specs.World.{Stepped, accepted, refused, step}
-use Rattle.server_rules.specs.Turns.{Turn, given, goes, step_of, next}
+use Rattle.server_rules.specs.World.{World, Step, opens, does, closes, Stepped, accepted, refused}
+use Rattle.server_rules.specs.World.{step}
+use Rattle.server_rules.specs.Turns.{Turn, given, goes, step_of, world_after}
 
 abbrev pub IsOwned : OwnerData → Type 0
 IsOwned shared = ⊥
@@ -19,14 +19,14 @@ abbrev pub AreOwned : List RefNameData → Type 0
 AreOwned [] = ⊤
 AreOwned (name ∷ names) = IsOwned name.owner × AreOwned names
 
--- An ask names a ref that it reads, of whose history it asks, or that its intent names. A ref that is
--- only a value inside an argument is not named.
+-- An ask names a ref that it reads, of whose history it asks, or that its intent names. A ref that
+-- is only a value inside an argument is not named.
 abbrev pub IsPrivate : AskData → Type 0
 IsPrivate (exchange.read name) = IsOwned name.owner
 IsPrivate (exchange.history name) = IsOwned name.owner
 IsPrivate (exchange.min_history name set) = IsOwned name.owner
 IsPrivate (exchange.max_history name set) = IsOwned name.owner
-IsPrivate (exchange.commit intent) = AreOwned (touched intent)
+IsPrivate (exchange.commit intent) = AreOwned (touched_refs intent)
 IsPrivate _ = ⊤
 
 abbrev pub NamesNoShared : Deed → Type 0
@@ -42,7 +42,7 @@ IsPrivateFor t (closes u) = ⊤
 abbrev pub Private : Ground → World → List Turn → ℕ → Type 0
 Private g w [] t = ⊤
 Private g w (turn ∷ turns) t =
-    IsPrivateFor t (step_of g w turn) × Private g (next g w turn) turns t
+    IsPrivateFor t (step_of g w turn) × Private g (world_after g w turn) turns t
 
 abbrev pub IsAccepted : Stepped → Type 0
 IsAccepted (accepted w answer) = ⊤
@@ -60,4 +60,4 @@ FirstOpenAt g w t Later (goes u a) = Later
 abbrev pub FirstOpen : Ground → World → List Turn → ℕ → Type 0
 FirstOpen g w [] t = ⊤
 FirstOpen g w (turn ∷ turns) t =
-    FirstOpenAt g w t (FirstOpen g (next g w turn) turns t) turn
+    FirstOpenAt g w t (FirstOpen g (world_after g w turn) turns t) turn

@@ -1,17 +1,18 @@
 -- How bytes are read: a stream as its messages (BEP 3), a program's text as its forms (the Clojure
--- reference, The Reader). Each is a relation with exactly one answer for all bytes; here the answers
--- are the values of functions.
+-- reference, The Reader). Each is a relation with exactly one answer for all bytes; here the
+-- answers are the values of functions.
 use Rattle.std.specs.Prelude.{ℕ, List, Option}
 use Rattle.bencode_wire.specs.Tree.{Tree}
-use Rattle.bencode_wire.specs.Stream.{Ending, Streams}
+use Rattle.bencode_wire.specs.Stream.{StreamEnding, Streams}
 use Rattle.value_data.specs.Datum.{Items}
 use Rattle.repl_reader.specs.Fault.{FaultData}
 use Rattle.repl_reader.specs.Grammar.{IsReading}
+use Rattle.server_rules.specs.declared.limits.TheConstants.{MESSAGE_LIMIT}
 
 -- the whole messages of a stream, and how it ends
 pub record StreamData : Type 0 where
   pub messages : List Tree
-  pub ending : Ending
+  pub ending : StreamEnding
 
 -- the forms of a text before its first fault, and that fault
 pub record ProgramData : Type 0 where
@@ -24,7 +25,7 @@ pub record Readings : Type 0 where
 
 -- the greatest length of a message, and of a string in one
 abbrev pub message_limit : ℕ
-message_limit = 1048576
+message_limit = MESSAGE_LIMIT
 
 pub record AreRight (r : Readings) : Type 0 where
   pub stream : (bytes : List ℕ)

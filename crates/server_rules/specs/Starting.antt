@@ -1,6 +1,6 @@
 -- Starting: an actor begins the next form of the request in hand, or takes up its next request.
-use Rattle.std.specs.Prelude.{ℕ, List, [], ◌∷◌, Bool, true, false, Option, None, Some}
-use Rattle.std.specs.Prelude.{option_map, option_and_then, if◌then◌else◌}
+use Rattle.std.specs.Prelude.{ℕ, List, [], ◌∷◌, Bool, true, false, Option, None, Some, option_map}
+use Rattle.std.specs.Prelude.{option_and_then, if◌then◌else◌}
 use Rattle.bencode_wire.specs.Tree.{Tree}
 use Rattle.value_data.specs.Datum.{nil, Items, no_items, item}
 use Rattle.repl_faults.specs.Failure.{Failure}
@@ -14,14 +14,14 @@ use Rattle.repl_replies.specs.Replies.{OriginData, namespace_not_found, interrup
 use Rattle.server_rules.specs.Numbered.{without}
 use Rattle.server_rules.specs.Readings.{ProgramData}
 use Rattle.server_rules.specs.Ground.{Ground}
-use Rattle.server_rules.specs.Request.{Waiting, ProgramText, code, file, Manner, Hand}
-use Rattle.server_rules.specs.Request.{each_form, each_form_elsewhere, last_form}
-use Rattle.server_rules.specs.Tenant.{ActorData, seat_of, Quiet, is_held, with_actor}
-use Rattle.server_rules.specs.Tenant.{with_replies, state_of, with_state}
+use Rattle.server_rules.specs.Request.{Waiting, ProgramText, code, file, Manner, Hand, each_form}
+use Rattle.server_rules.specs.Request.{each_form_elsewhere, last_form}
+use Rattle.server_rules.specs.Tenant.{ActorData, seat_of, Quiet, is_held, with_actor, with_replies}
+use Rattle.server_rules.specs.Tenant.{state_of, with_state}
 use Rattle.server_rules.specs.Replying.{reply}
-use Rattle.server_rules.specs.Moves.{Move, over, in_hand, closing}
+use Rattle.server_rules.specs.Moves.{Move, over_move, in_hand, closing_move}
 use Rattle.server_rules.specs.Plan.{Outcome, refuses, leaves, StepAnswer, form_begun}
-use Rattle.server_rules.specs.Plan.{request_answered, request_interrupted, spent}
+use Rattle.server_rules.specs.Plan.{request_answered, request_interrupted, with_step_spent}
 use Rattle.server_rules.specs.declared.actor.Actor.{Actor}
 use Rattle.server_rules.specs.declared.refusal.Refusal.{Refusal}
 
@@ -36,11 +36,12 @@ form_job g h work = record { work = work; namespace = h.namespace; retries = g.r
 -- the first of the forms begins
 abbrev pub next_begun : Ground → Hand → StateData → Items → Started
 next_begun g h state no_items =
-    record { move = closing h.origin h.manner h.fault state; answer = request_answered }
+    record { move = closing_move h.origin h.manner h.fault state; answer = request_answered }
 next_begun g h state (item d ds) =
     let job = form_job g h (jobs.form d) in
     record {
-      move = in_hand (record h { running = Some (record { job = job; trace = [] }); forms = ds }) state;
+      move = in_hand (record h { running = Some (record { job = job; trace = [] }); forms = ds })
+          state;
       answer = form_begun job;
     }
 
@@ -63,20 +64,26 @@ program_begun g origin manner namespace state p =
     next_begun g (hand_of origin manner namespace p) state p.forms
 
 -- the namespace that a request names, if it is there
-abbrev pub there : Namespaces → List ℕ → Option (List ℕ)
-there spaces name = if is_there spaces name then Some name else None
+abbrev pub namespace_there : Namespaces → List ℕ → Option (List ℕ)
+namespace_there spaces name = if is_there spaces name then Some name else None
 
 abbrev pub elsewhere_begun : Ground → OriginData → List ℕ → StateData → Option (List ℕ) → Started
 elsewhere_begun g origin text state None =
-    record { move = over (reply origin namespace_not_found ∷ []) state; answer = request_answered }
+    record {
+      move = over_move (reply origin namespace_not_found ∷ []) state;
+      answer =
+          request_answered;
+    }
 elsewhere_begun g origin text state (Some name) =
     program_begun g origin each_form_elsewhere name state (g.readings.program text)
 
-abbrev pub code_begun : Ground → Namespaces → OriginData → List ℕ → StateData → Option Tree → Started
+abbrev pub code_begun : Ground → Namespaces → OriginData → List ℕ → StateData → Option Tree
+    → Started
 code_begun g spaces origin text state None =
     program_begun g origin each_form state.namespace state (g.readings.program text)
 code_begun g spaces origin text state (Some ns) =
-    elsewhere_begun g origin text state (option_and_then (there spaces) (text_of (Some ns)))
+    elsewhere_begun g origin text state
+    (option_and_then (namespace_there spaces) (text_of (Some ns)))
 
 abbrev pub text_begun : Ground → Namespaces → OriginData → StateData → ProgramText → Started
 text_begun g spaces origin state (code text ns) = code_begun g spaces origin text state ns
@@ -89,17 +96,17 @@ first_state Actor.Bare q = fresh
 first_state (Actor.Session n) q = state_of (Actor.Session n) q
 
 -- the actor goes on with what is still to do
-abbrev pub moved : Actor → ActorData → Move → Quiet → Quiet
-moved a actor m q = with_replies m.replies
+abbrev pub after_move : Actor → ActorData → Move → Quiet → Quiet
+after_move a actor m q = with_replies m.replies
     (with_state a m.state (with_actor a (record actor { hand = m.hand }) q))
 
-abbrev pub started : Actor → ActorData → Started → Quiet → Outcome
-started a actor s q = leaves (spent (moved a actor s.move q)) s.answer
+abbrev pub start_outcome : Actor → ActorData → Started → Quiet → Outcome
+start_outcome a actor s q = leaves (with_step_spent (after_move a actor s.move q)) s.answer
 
 -- Interrupting: the request is answered so, and the actor of the closed session is gone
 abbrev pub interrupted_in : Actor → Hand → Quiet → Outcome
 interrupted_in a h q = leaves
-    (spent (with_replies (reply h.origin interrupted ∷ [])
+    (with_step_spent (with_replies (reply h.origin interrupted ∷ [])
     (record q { actors = without (seat_of a) q.actors })))
     request_interrupted
 
@@ -107,17 +114,17 @@ abbrev pub held_or : Quiet → Outcome → Outcome
 held_or q outcome = if is_held q then refuses Refusal.Held else outcome
 
 -- a form of the request in hand
-abbrev pub next_of : Ground → Actor → ActorData → Hand → Quiet → Outcome
-next_of g a actor h q =
+abbrev pub next_form_of : Ground → Actor → ActorData → Hand → Quiet → Outcome
+next_form_of g a actor h q =
     if actor.is_closed then interrupted_in a h q
-    else held_or q (started a actor (next_begun g h (state_of a q) h.forms) q)
+    else held_or q (start_outcome a actor (next_begun g h (state_of a q) h.forms) q)
 
 abbrev pub start_in_hand : Ground → Actor → ActorData → Hand → Quiet → Bool → Outcome
 start_in_hand g a actor h q true = refuses Refusal.Idle
-start_in_hand g a actor h q false = next_of g a actor h q
+start_in_hand g a actor h q false = next_form_of g a actor h q
 
 abbrev pub start_waiting : Ground → Actor → ActorData → Quiet → List Waiting → Outcome
 start_waiting g a actor q [] = refuses Refusal.Idle
 start_waiting g a actor q (w ∷ ws) = held_or q
-    (started a (record actor { waiting = ws })
+    (start_outcome a (record actor { waiting = ws })
     (text_begun g q.spaces w.origin (first_state a q) w.text) q)

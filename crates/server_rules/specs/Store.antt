@@ -30,16 +30,16 @@ abbrev pub ref_of : OwnerData → ℕ → Store → Option Ref
 ref_of shared n s = slice_get s.around.refs n
 ref_of (tenant t) n s = if t == s.tenant then slice_get s.mine.refs n else None
 
-abbrev pub named : RefNameData → Store → Option Ref
-named name s = ref_of name.owner name.number s
+abbrev pub ref_named : RefNameData → Store → Option Ref
+ref_named name s = ref_of name.owner name.number s
 
-abbrev pub value_in : Option Ref → Option Datum
-value_in None = None
-value_in (Some r) = newest r.versions
+abbrev pub newest_in_ref : Option Ref → Option Datum
+newest_in_ref None = None
+newest_in_ref (Some r) = newest r.versions
 
 -- the value of a ref for those who are in no transaction
-abbrev pub value_of : RefNameData → Store → Option Datum
-value_of name s = value_in (named name s)
+abbrev pub newest_value : RefNameData → Store → Option Datum
+newest_value name s = newest_in_ref (ref_named name s)
 
 abbrev pub with_mine : Own → Store → Store
 with_mine mine s = record s { mine = mine }
@@ -57,8 +57,8 @@ changed_of (tenant t) n f s =
     with_refs (if t == s.tenant then changed_at n f s.mine.refs else s.mine.refs) s
 
 -- one ref is changed, where it is there
-abbrev pub changed : RefNameData → (Ref → Ref) → Store → Store
-changed name f s = changed_of name.owner name.number f s
+abbrev pub with_changed_ref : RefNameData → (Ref → Ref) → Store → Store
+with_changed_ref name f s = changed_of name.owner name.number f s
 
 abbrev pub left_attempt : ℕ → Store → Store
 left_attempt seat s = with_points (without seat s.mine.points) s

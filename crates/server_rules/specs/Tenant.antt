@@ -1,15 +1,16 @@
 -- A tenant, without its refs and read points.
-use Rattle.std.specs.Prelude.{ℕ, suc, List, [], ◌∷◌, ◌++◌, Bool, false, Option, None, nat_le, length}
-use Rattle.std.specs.Prelude.{unwrap_or}
+use Rattle.std.specs.Prelude.{ℕ, suc, List, [], ◌∷◌, ◌++◌, Bool, false, Option, None, nat_le}
+use Rattle.std.specs.Prelude.{length, unwrap_or}
 use Rattle.repl_sessions.specs.State.{StateData, fresh}
 use Rattle.repl_sessions.specs.Sessions as sessions
 use Rattle.repl_sessions.specs.Sessions.{SessionsData, none_open, with_change}
 use Rattle.name_spaces.specs.Namespaces.{Namespaces, at_start}
 use Rattle.repl_replies.specs.Replies.{ReplyData}
-use Rattle.server_rules.specs.Numbered.{Entry, entry, replaced}
+use Rattle.server_rules.specs.Numbered.{Entry, entry, with_part}
 use Rattle.server_rules.specs.Request.{Waiting, Hand}
 use Rattle.server_rules.specs.Ground.{Ground}
 use Rattle.server_rules.specs.declared.actor.Actor.{Actor}
+use Rattle.server_rules.specs.declared.limits.TheConstants.{MOST_REPLIES}
 
 -- an actor runs the forms of its requests, one after another
 pub record ActorData : Type 0 where
@@ -54,10 +55,10 @@ opened_quiet g = record {
 
 -- so many waiting replies hold back whatever may add more
 abbrev pub is_held : Quiet → Bool
-is_held q = nat_le 1024 (length q.replies)
+is_held q = nat_le MOST_REPLIES (length q.replies)
 
 abbrev pub with_actor : Actor → ActorData → Quiet → Quiet
-with_actor a actor q = record q { actors = replaced (seat_of a) actor q.actors }
+with_actor a actor q = record q { actors = with_part (seat_of a) actor q.actors }
 
 abbrev pub with_replies : List ReplyData → Quiet → Quiet
 with_replies more q = record q { replies = q.replies ++ more }

@@ -1,18 +1,17 @@
 -- Turns: lists of them are every interleaving of the tenants' steps, and what they serve each.
-use Rattle.std.specs.Prelude.{ℕ, ◌==◌, List, [], ◌∷◌, ◌++◌, Option, None, Some}
-use Rattle.std.specs.Prelude.{option_map, if◌then◌else◌}
-use Rattle.repl_jobs.specs.Tree.{Tree, finished, asks}
-use Rattle.repl_jobs.specs.Leading.{after}
-use Rattle.server_rules.specs.Numbered.{found}
+use Rattle.std.specs.Prelude.{ℕ, ◌==◌, List, [], ◌∷◌, ◌++◌, Option, None, Some, option_map}
+use Rattle.std.specs.Prelude.{if◌then◌else◌}
+use Rattle.repl_jobs.specs.InteractionTree.{InteractionTree, finished, asks}
+use Rattle.repl_jobs.specs.Leading.{tree_after}
+use Rattle.server_rules.specs.Numbered.{part_under}
 use Rattle.server_rules.specs.Ground.{Ground}
 use Rattle.server_rules.specs.Request.{Hand, Run}
 use Rattle.server_rules.specs.Tenant.{ActorData, seat_of, Quiet}
-use Rattle.server_rules.specs.Plan.{Deed, starts, asks_for, ends}
-use Rattle.server_rules.specs.Plan.{StepAnswer, tenant_opened, messages_heard, form_begun}
-use Rattle.server_rules.specs.Plan.{request_answered, ask_answered, form_finished}
-use Rattle.server_rules.specs.Plan.{request_interrupted, reply_given, tenant_gone}
-use Rattle.server_rules.specs.World.{TenantData, World, Step, opens, does, closes}
-use Rattle.server_rules.specs.World.{Stepped, accepted, refused, step, world_or}
+use Rattle.server_rules.specs.Plan.{Deed, starts, asks_for, ends, StepAnswer, tenant_opened}
+use Rattle.server_rules.specs.Plan.{messages_heard, form_begun, request_answered, ask_answered}
+use Rattle.server_rules.specs.Plan.{form_finished, request_interrupted, reply_given, tenant_gone}
+use Rattle.server_rules.specs.World.{TenantData, World, Step, opens, does, closes, Stepped}
+use Rattle.server_rules.specs.World.{accepted, refused, step, world_or}
 use Rattle.server_rules.specs.declared.actor.Actor.{Actor}
 
 -- a step as it is given, or an actor goes on as its evaluation says
@@ -32,13 +31,13 @@ whose (goes t a) = t
 -- The honest step of an actor
 
 -- its form asks what its evaluation asks next, or ends as that ends
-abbrev pub honest_at : Actor → Run → Tree → Deed
+abbrev pub honest_at : Actor → Run → InteractionTree → Deed
 honest_at a run (asks ask behind) = asks_for a ask
 honest_at a run (finished e) = ends a (record { job = run.job; trace = run.trace; end = e })
 
 abbrev pub honest_of : Ground → Actor → Option Run → Deed
 honest_of g a None = starts a
-honest_of g a (Some run) = honest_at a run (after (g.evaluation run.job) run.trace)
+honest_of g a (Some run) = honest_at a run (tree_after (g.evaluation run.job) run.trace)
 
 abbrev pub honest_in : Ground → Actor → Option Hand → Deed
 honest_in g a None = starts a
@@ -48,10 +47,10 @@ abbrev pub honest_by : Ground → Actor → Option ActorData → Deed
 honest_by g a None = starts a
 honest_by g a (Some actor) = honest_in g a actor.hand
 
-abbrev pub honest : Ground → Actor → Option (Option Quiet) → Deed
-honest g a None = starts a
-honest g a (Some None) = starts a
-honest g a (Some (Some q)) = honest_by g a (found (seat_of a) q.actors)
+abbrev pub honest_deed : Ground → Actor → Option (Option Quiet) → Deed
+honest_deed g a None = starts a
+honest_deed g a (Some None) = starts a
+honest_deed g a (Some (Some q)) = honest_by g a (part_under (seat_of a) q.actors)
 
 abbrev pub quiet_of : Option TenantData → Option Quiet
 quiet_of = option_map (λ tenant. tenant.quiet)
@@ -60,13 +59,13 @@ quiet_of = option_map (λ tenant. tenant.quiet)
 
 abbrev pub step_of : Ground → World → Turn → Step
 step_of g w (given s) = s
-step_of g w (goes t a) = does t (honest g a (option_map quiet_of (found t w.tenants)))
+step_of g w (goes t a) = does t (honest_deed g a (option_map quiet_of (part_under t w.tenants)))
 
-abbrev pub stepped : Ground → World → Turn → Stepped
-stepped g w turn = step g w (step_of g w turn)
+abbrev pub turn_step : Ground → World → Turn → Stepped
+turn_step g w turn = step g w (step_of g w turn)
 
-abbrev pub next : Ground → World → Turn → World
-next g w turn = world_or w (stepped g w turn)
+abbrev pub world_after : Ground → World → Turn → World
+world_after g w turn = world_or w (turn_step g w turn)
 
 -- the bytes that an answer gives
 abbrev pub bytes_in : StepAnswer → List ℕ
@@ -81,10 +80,11 @@ bytes_given (refused why) = []
 abbrev pub serve : Ground → World → List Turn → ℕ → List ℕ
 serve g w [] t = []
 serve g w (turn ∷ turns) t =
-    (if t == whose turn then bytes_given (stepped g w turn) else [])
-    ++ serve g (next g w turn) turns t
+    (if t == whose turn then bytes_given (turn_step g w turn) else [])
+    ++ serve g (world_after g w turn) turns t
 
 -- the turns of one tenant, in order
-abbrev pub only : ℕ → List Turn → List Turn
-only t [] = []
-only t (turn ∷ turns) = if t == whose turn then turn ∷ only t turns else only t turns
+abbrev pub turns_of_tenant : ℕ → List Turn → List Turn
+turns_of_tenant t [] = []
+turns_of_tenant t (turn ∷ turns) = if t == whose turn then turn ∷ turns_of_tenant t turns
+    else turns_of_tenant t turns

@@ -36,8 +36,8 @@ with_version v r = record r {
   faults = if grows r then 0 else r.faults;
 }
 
-abbrev pub faulted : {V : Type 0} → RefOf V → RefOf V
-faulted r = record r { faults = r.faults + 1 }
+abbrev pub with_failed_read : {V : Type 0} → RefOf V → RefOf V
+with_failed_read r = record r { faults = r.faults + 1 }
 
 -- a bound that is below what is kept takes nothing away
 abbrev pub with_least : {V : Type 0} → ℕ → RefOf V → RefOf V

@@ -1,9 +1,8 @@
--- What a tenant can see of the server: its own part, without the stamps of its refs' versions, which
--- the commits of others move.
-use Rattle.std.specs.Prelude.{ℕ, ◌+◌, List, [], ◌∷◌, nat_le, map, Option, option_map}
-use Rattle.std.specs.Prelude.{if◌then◌else◌}
+-- What a tenant can see of the server: its own part, without the stamps of its refs' versions,
+-- which the commits of others move.
+use Rattle.std.specs.Prelude.{ℕ, ◌+◌, List, [], ◌∷◌, nat_le, map, Option, option_map, if◌then◌else◌}
 use Rattle.value_data.specs.Datum.{Datum}
-use Rattle.server_rules.specs.Numbered.{Entry, found, map_entry}
+use Rattle.server_rules.specs.Numbered.{Entry, part_under, map_entry}
 use Rattle.server_rules.specs.Versions.{RefOf, Version, Ref}
 use Rattle.server_rules.specs.Store.{Own}
 use Rattle.server_rules.specs.Tenant.{Quiet}
@@ -38,8 +37,8 @@ pub record Seen : Type 0 where
   -- when it began
   pub attempts : List (Entry (List ℕ))
 
-abbrev pub seen : Own → Seen
-seen o = record {
+abbrev pub seen_of : Own → Seen
+seen_of o = record {
   refs = map (map_ref content_of) o.refs;
   attempts = map (map_entry (counts_at o.refs)) o.points;
 }
@@ -49,11 +48,11 @@ pub record View : Type 0 where
   pub mine : Seen
 
 abbrev pub tenant_view : TenantData → View
-tenant_view tenant = record { quiet = tenant.quiet; mine = seen tenant.mine }
+tenant_view tenant = record { quiet = tenant.quiet; mine = seen_of tenant.mine }
 
 abbrev pub part_view : Option TenantData → Option View
 part_view = option_map tenant_view
 
 -- nothing where the tenant was never opened, and then its part, if it is not gone
-abbrev pub view : ℕ → World → Option (Option View)
-view t w = option_map part_view (found t w.tenants)
+abbrev pub view_for : ℕ → World → Option (Option View)
+view_for t w = option_map part_view (part_under t w.tenants)

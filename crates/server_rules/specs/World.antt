@@ -1,16 +1,16 @@
 -- The whole server, and its step.
-use Rattle.std.specs.Prelude.{ℕ, ◌+◌, List, [], ◌∷◌, Bool, true, false, ◌||◌, nat_le}
-use Rattle.std.specs.Prelude.{Option, None, Some, if◌then◌else◌}
+use Rattle.std.specs.Prelude.{ℕ, ◌+◌, List, [], ◌∷◌, Bool, true, false, ◌||◌, nat_le, Option, None}
+use Rattle.std.specs.Prelude.{Some, if◌then◌else◌}
 use Rattle.repl_asks.specs.Exchange.{AnswerData}
-use Rattle.server_rules.specs.Numbered.{Entry, entry, found, replaced}
+use Rattle.server_rules.specs.Numbered.{Entry, entry, part_under, with_part}
 use Rattle.server_rules.specs.Versions.{Ref}
 use Rattle.server_rules.specs.Store.{Around, Own, Store}
 use Rattle.server_rules.specs.Performed.{Performed}
 use Rattle.server_rules.specs.Calls.{performed}
 use Rattle.server_rules.specs.Ground.{Ground}
 use Rattle.server_rules.specs.Tenant.{Quiet, opened_quiet}
-use Rattle.server_rules.specs.Plan.{Deed, StepAnswer, tenant_opened, tenant_gone}
-use Rattle.server_rules.specs.Plan.{Outcome, refuses, leaves, Plan}
+use Rattle.server_rules.specs.Plan.{Deed, StepAnswer, tenant_opened, tenant_gone, Outcome, refuses}
+use Rattle.server_rules.specs.Plan.{leaves, Plan}
 use Rattle.server_rules.specs.Deeds.{plan}
 use Rattle.server_rules.specs.declared.refusal.Refusal.{Refusal}
 
@@ -34,8 +34,8 @@ pub data Stepped : Type 0 where
   refused : Refusal → Stepped
 
 -- a server with these shared refs, to which nobody came
-abbrev pub opening : List Ref → World
-opening shared_refs = record {
+abbrev pub new_world : List Ref → World
+new_world shared_refs = record {
   around = record { counter = 0; refs = shared_refs };
   tenants = [];
 }
@@ -60,12 +60,13 @@ abbrev pub open_step : Ground → World → ℕ → Stepped
 open_step g w t =
     if is_used t w.tenants then refused Refusal.NumberUsed
     else if nat_le g.places (open_count w.tenants) then refused Refusal.Full
-    else accepted (record w { tenants = entry t (Some (opened_tenant g)) ∷ w.tenants }) tenant_opened
+    else accepted (record w { tenants = entry t (Some (opened_tenant g)) ∷ w.tenants })
+    tenant_opened
 
 -- A tenant's deed
 
 abbrev pub with_tenant : ℕ → Option TenantData → Around → World → World
-with_tenant t part around w = record { around = around; tenants = replaced t part w.tenants }
+with_tenant t part around w = record { around = around; tenants = with_part t part w.tenants }
 
 abbrev pub ended_as : World → ℕ → Store → Outcome → Stepped
 ended_as w t s (refuses why) = refused why
@@ -75,14 +76,14 @@ ended_as w t s (leaves q answer) =
 abbrev pub done_by : World → ℕ → Plan → Performed Store → Stepped
 done_by w t p called = ended_as w t called.store (p.next called.told)
 
-abbrev pub planned : World → ℕ → TenantData → Plan → Stepped
-planned w t tenant p =
+abbrev pub planned_step : World → ℕ → TenantData → Plan → Stepped
+planned_step w t tenant p =
     done_by w t p (performed (record { around = w.around; tenant = t; mine = tenant.mine }) p.call)
 
 abbrev pub deed_step : Ground → World → ℕ → Deed → Option (Option TenantData) → Stepped
 deed_step g w t d None = refused Refusal.NoSuchTenant
 deed_step g w t d (Some None) = refused Refusal.NoSuchTenant
-deed_step g w t d (Some (Some tenant)) = planned w t tenant (plan g t tenant.quiet d)
+deed_step g w t d (Some (Some tenant)) = planned_step w t tenant (plan g t tenant.quiet d)
 
 -- Going: the shared refs stay as they are
 
@@ -93,8 +94,8 @@ close_step w t (Some (Some tenant)) = accepted (with_tenant t None w.around w) t
 
 unfoldable pub step : Ground → World → Step → Stepped
 step g w (opens t) = open_step g w t
-step g w (does t d) = deed_step g w t d (found t w.tenants)
-step g w (closes t) = close_step w t (found t w.tenants)
+step g w (does t d) = deed_step g w t d (part_under t w.tenants)
+step g w (closes t) = close_step w t (part_under t w.tenants)
 
 -- a refused step changes nothing
 abbrev pub world_or : World → Stepped → World

@@ -6,13 +6,14 @@ pub fn others_leave_it()
     ensures { OthersLeaveIt }
 {}
 
-/// Where two servers look alike to a tenant that was opened, a step of it that names no shared ref is
-/// answered alike, and leaves them looking alike.
+/// Where two servers look alike to a tenant that was opened, a step of it that names no shared ref
+/// is answered alike, and leaves them looking alike.
 pub fn alike_stays_alike()
     ensures { AlikeStaysAlike }
 {}
 
-/// A tenant that names no shared ref is served, byte for byte, as if its turns were alone.
+/// A tenant whose first turn opens it, and which names no shared ref, is served, byte for byte, as if
+/// its turns were alone.
 pub fn served_alone()
     ensures { ServedAlone }
 {}

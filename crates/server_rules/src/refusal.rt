@@ -14,14 +14,14 @@ pub enum Refusal {
     /// As many tenants are open as may be at once.
     Full,
     NoSuchActor,
-    /// There is nothing for this step to do.
+    /// There is nothing for this step to do: no request waits, no form runs, or no form may ask this.
     Idle,
     /// Too many replies wait.
     Held,
     /// All steps are used up.
     Worn,
-    /// The trace of an ending differs first at this place from the recorded one; at 0 also where the
-    /// ending is of another job.
+    /// The trace of an ending differs first at this place from the recorded one; at 0 also where
+    /// the ending is of another job.
     TraceMismatch(u64),
 }
 

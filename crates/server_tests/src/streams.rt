@@ -1,14 +1,10 @@
 // Whole streams. The expected bytes are those of the protocol.
-use crate::cases::{Case, SUM, SUM_REPLIES, expect_replies, fresh_runner};
-use crate::function_programs::FUNCTION_PROGRAMS;
-use crate::namespaces::NAMESPACES;
-use crate::programs::PROGRAMS;
-use nrepl_pipe::pipe_command;
+use crate::cases::{Case, SUM, SUM_REPLIES, expect_replies};
 use std::test::Fail;
 
 const MALFORMED: &[u8] = b"d6:statusl5:error9:malformed4:doneee";
 
-const CASES: [Case; 15] = [
+const CASES: [Case; 16] = [
     Case {
         input: SUM,
         output: SUM_REPLIES,
@@ -65,19 +61,26 @@ const CASES: [Case; 15] = [
     },
     Case {
         input: b"d4:code12:(quot 1 0) 52:id1:82:op4:evale",
-        output: b"d2:ex35:class java.lang.ArithmeticException2:id1:87:root-ex35:class java.lang.ArithmeticException6:statusl10:eval-erroreed3:err46:java.lang.ArithmeticException: Divide by zero\n2:id1:8ed2:id1:82:ns4:user5:value1:5ed2:id1:86:statusl4:doneee",
+        output: b"d2:ex35:class java.lang.ArithmeticException2:id1:8\
+7:root-ex35:class java.lang.ArithmeticException6:statusl10:eval-erroree\
+d3:err46:java.lang.ArithmeticException: Divide by zero\n2:id1:8e\
+d2:id1:82:ns4:user5:value1:5ed2:id1:86:statusl4:doneee",
         status: 0,
         line: "",
     },
     Case {
         input: b"d4:code25:(+ 9223372036854775807 1)2:id1:92:op4:evale",
-        output: b"d2:ex35:class java.lang.ArithmeticException2:id1:97:root-ex35:class java.lang.ArithmeticException6:statusl10:eval-erroreed3:err48:java.lang.ArithmeticException: integer overflow\n2:id1:9ed2:id1:96:statusl4:doneee",
+        output: b"d2:ex35:class java.lang.ArithmeticException2:id1:9\
+7:root-ex35:class java.lang.ArithmeticException6:statusl10:eval-erroree\
+d3:err48:java.lang.ArithmeticException: integer overflow\n2:id1:9ed2:id1:96:statusl4:doneee",
         status: 0,
         line: "",
     },
     Case {
         input: b"d4:code3:1 (2:id1:12:op4:evale",
-        output: b"d2:id1:12:ns4:user5:value1:1ed2:ex32:class java.lang.RuntimeException2:id1:17:root-ex32:class java.lang.RuntimeException6:statusl10:eval-erroreed3:err46:java.lang.RuntimeException: EOF while reading\n2:id1:1ed2:id1:16:statusl4:doneee",
+        output: b"d2:id1:12:ns4:user5:value1:1ed2:ex32:class java.lang.RuntimeException2:id1:1\
+7:root-ex32:class java.lang.RuntimeException6:statusl10:eval-erroree\
+d3:err46:java.lang.RuntimeException: EOF while reading\n2:id1:1ed2:id1:16:statusl4:doneee",
         status: 0,
         line: "",
     },
@@ -94,9 +97,19 @@ const CASES: [Case; 15] = [
         status: 0,
         line: "",
     },
+    // A namespace that is a number.
+    Case {
+        input: b"d4:code1:12:id1:12:nsi5e2:op4:evale",
+        output: b"d2:id1:16:statusl5:error19:namespace-not-found4:doneee",
+        status: 0,
+        line: "",
+    },
     Case {
         input: b"d4:code21:(def x 40) (+ x 2) xz2:op4:evale",
-        output: b"d2:ns4:user5:value8:#'user/xed2:ns4:user5:value2:42ed2:ex32:class java.lang.RuntimeException7:root-ex32:class java.lang.RuntimeException6:statusl10:eval-erroreed3:err73:java.lang.RuntimeException: Unable to resolve symbol: xz in this context\ned6:statusl4:doneee",
+        output: b"d2:ns4:user5:value8:#'user/xed2:ns4:user5:value2:42e\
+d2:ex32:class java.lang.RuntimeException7:root-ex32:class java.lang.RuntimeException\
+6:statusl10:eval-erroreed3:err73:java.lang.RuntimeException: \
+Unable to resolve symbol: xz in this context\ned6:statusl4:doneee",
         status: 0,
         line: "",
     },
@@ -105,64 +118,4 @@ const CASES: [Case; 15] = [
 #[test]
 fn streams(rt: HostRuntime) -> Result<(), Fail> {
     expect_replies(&rt, rt.alloc(), &CASES)
-}
-
-#[test]
-fn programs(rt: HostRuntime) -> Result<(), Fail> {
-    expect_replies(&rt, rt.alloc(), &PROGRAMS)
-}
-
-#[test]
-fn function_programs(rt: HostRuntime) -> Result<(), Fail> {
-    expect_replies(&rt, rt.alloc(), &FUNCTION_PROGRAMS)
-}
-
-#[test]
-fn namespaces(rt: HostRuntime) -> Result<(), Fail> {
-    expect_replies(&rt, rt.alloc(), &NAMESPACES)
-}
-
-// Prints 1,048,575 letters, and then what stands in `more`.
-const LONG_OUTPUT: &str =
-    "(let [a \"aaaaaaaaaaaaaaaa\" b (str a a a a a a a a a a a a a a a a) c (str b b b b b b b b b b b b b b b b) d (str c c c c c c c c c c c c c c c c)] (print (str d d d d d d d d d d d d d d d c c c c c c c c c c c c c c c b b b b b b b b b b b b b b b a a a a a a a a a a a a a a a \"aaaaaaaaaaaaaaa\")) ";
-
-const TOO_LONG_REPLIES: &[u8] =
-    b"d2:ex40:class java.lang.IllegalArgumentException2:id1:17:root-ex40:class java.lang.IllegalArgumentException6:statusl10:eval-erroreed3:err52:java.lang.IllegalArgumentException: Output too long\n2:id1:1ed2:id1:16:statusl4:doneee";
-
-// A form may print 1,048,576 bytes. What it printed before it passed them is written.
-#[test]
-fn output_at_its_limit(rt: HostRuntime) -> Result<(), Fail> {
-    let value = b"d2:id1:12:ns4:user5:value3:niled2:id1:16:statusl4:doneee".as_slice();
-    for (more, replies) in [
-        ("(print \"b\"))", value),
-        ("(print \"b\") (print \"\"))", value),
-        ("(print \"b\") (print \"c\"))", TOO_LONG_REPLIES),
-    ] {
-        let length = LONG_OUTPUT.len() + more.len();
-        let request = format!(in rt.alloc();
-            "d4:code{length}:{LONG_OUTPUT}{more}2:id1:12:op4:evale"
-        )?;
-        let mut expected = Vec::new(rt.alloc());
-        expected.extend_from_slice(b"d2:id1:13:out1048576:")?;
-        for _ in 0..1_048_575usize {
-            expected.push(b'a')?;
-        }
-        expected.extend_from_slice(b"be")?;
-        expected.extend_from_slice(replies)?;
-        let mut reader = request.as_bytes();
-        let mut output = Vec::new(rt.alloc());
-        let mut errors = Vec::new(rt.alloc());
-        let mut runner = fresh_runner(rt.alloc())?;
-        let status = pipe_command(
-            rt.alloc(),
-            &mut runner,
-            &mut reader,
-            &mut output,
-            &mut errors,
-        );
-        assert!(rt; output == expected, "{more}");
-        assert_eq!(rt; errors.len(), 0, "{more}");
-        assert_eq!(rt; status, 0, "{more}");
-    }
-    Ok(())
 }

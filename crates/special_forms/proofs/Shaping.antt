@@ -3,21 +3,26 @@ use denote.Ref.{Bor}
 use Rattle.std.specs.declared.alloc.Global.{Global}
 use Rattle.std.specs.declared.sync.ArcStr.{ArcStr}
 use Rattle.std.specs.Option.{is_some}
-use Rattle.std.proofs.Common.{◌≡◌, ℕ, ◌<◌, ◌≤◌, ◌+◌, ◌-◌, zero, suc, nat_eq, subst, Bool, true, false, if◌then◌else◌, List, [], ◌∷◌, ◌++◌, Option, Some, None, get_or, drop, length, refl, sym, ap, ◌∙◌, append_assoc, append-nil, option_map, arith}
+use Rattle.std.proofs.Common.{◌≡◌, ℕ, ◌<◌, ◌≤◌, ◌+◌, ◌-◌, zero, suc, nat_eq, subst, Bool, true}
+use Rattle.std.proofs.Common.{false, if◌then◌else◌, List, [], ◌∷◌, ◌++◌, Option, Some, None, get_or}
+use Rattle.std.proofs.Common.{drop, length, refl, sym, ap, ◌∙◌, append_assoc, append-nil}
+use Rattle.std.proofs.Common.{option_map, arith}
 use Rattle.std.proofs.Math.Dec.{eqb-suc-suc}
 use Rattle.std.specs.Arc.{arc_str_bytes}
 use Rattle.std.specs.List.{list_any}
 use Rattle.value_data.specs.Datum as datum
-use Rattle.value_data.specs.Datum.{Datum, Items, nil, boolean, integer, string, keyword, symbol, list, vector, ref, atom, agent, var, fault}
+use Rattle.value_data.specs.Datum.{Datum, Items, nil, boolean, integer, string, keyword, symbol}
+use Rattle.value_data.specs.Datum.{list, vector, ref, atom, agent, var, fault}
 use Rattle.value_data.specs.Listed.{listed}
 use Rattle.value_data.specs.View.{view, items_view}
 use Rattle.value_data.specs.declared.value.Value.{Value}
 use Rattle.value_data.proofs.Views.{value_views}
 use Rattle.value_data.proofs.Lists.{listed-of, lists}
 use Rattle.special_forms.specs.Rows.{BoundForm}
-use Rattle.special_forms.specs.Bindings.{bindings_in, name_in}
+use Rattle.special_forms.specs.Bindings.{bindings_in, bound_name}
 use Rattle.special_forms.specs.Seen.{views}
-use Rattle.special_forms.specs.Kinds.{is_slash, symbol_name, simple_name}
+use Rattle.special_forms.specs.Kinds.{symbol_name, simple_name}
+use Rattle.repl_values.specs.Slash.{is_slash}
 use Rattle.special_forms.specs.Parameters.{parameter_name, parameter_names}
 use Rattle.special_forms.specs.Shapes.{bound_forms}
 
@@ -52,27 +57,27 @@ chosen_name true s r h = cc
 chosen_name false s r h = cc
 
 -- what has a simple name is a symbol of that name
-pub simple_name-name_in : (d : Datum) (s : List ℕ) → simple_name d ≡ Some s → name_in d ≡ s
+pub simple_name-bound_name : (d : Datum) (s : List ℕ) → simple_name d ≡ Some s → bound_name d ≡ s
 unfolding simple_name symbol_name
-simple_name-name_in nil s h = cc
-simple_name-name_in (boolean b) s h = cc
-simple_name-name_in (integer n) s h = cc
-simple_name-name_in (string t) s h = cc
-simple_name-name_in (keyword t) s h = cc
-simple_name-name_in (symbol t) s h = chosen_name (list_any is_slash t) t s h
-simple_name-name_in (list ds) s h = cc
-simple_name-name_in (vector ds) s h = cc
-simple_name-name_in (datum.map ps) s h = cc
-simple_name-name_in (ref owner n) s h = cc
-simple_name-name_in (atom n) s h = cc
-simple_name-name_in (agent n) s h = cc
-simple_name-name_in (var space name) s h = cc
-simple_name-name_in (fault class text) s h = cc
+simple_name-bound_name nil s h = cc
+simple_name-bound_name (boolean b) s h = cc
+simple_name-bound_name (integer n) s h = cc
+simple_name-bound_name (string t) s h = cc
+simple_name-bound_name (keyword t) s h = cc
+simple_name-bound_name (symbol t) s h = chosen_name (list_any is_slash t) t s h
+simple_name-bound_name (list ds) s h = cc
+simple_name-bound_name (vector ds) s h = cc
+simple_name-bound_name (datum.map ps) s h = cc
+simple_name-bound_name (ref owner n) s h = cc
+simple_name-bound_name (atom n) s h = cc
+simple_name-bound_name (agent n) s h = cc
+simple_name-bound_name (var space name) s h = cc
+simple_name-bound_name (fault class text) s h = cc
 
 -- a name and a form more
 pub bound-step : (t : Bool) (d e : Datum) (ds : List Datum) (s : List ℕ) → simple_name d ≡ Some s → bound_forms ds ≡ bound_if t ds
     → bound_forms (d ∷ e ∷ ds) ≡ bound_if t (d ∷ e ∷ ds)
-bound-step true d e ds s named rest = rw (named, rest, simple_name-name_in d s named) refl
+bound-step true d e ds s named rest = rw (named, rest, simple_name-bound_name d s named) refl
 bound-step false d e ds s named rest = rw (named, rest) refl
 
 pub bound-fails : (d e : Datum) (ds : List Datum) → simple_name d ≡ None → bound_forms (d ∷ e ∷ ds) ≡ None

@@ -1,17 +1,23 @@
 -- A form is at least one node, and a list, a vector or a map more than what is in it. The parts of a special form are
 -- no larger than the forms behind its name.
-use Rattle.std.proofs.Common.{◌≡◌, ℕ, ◌+◌, ◌*◌, ◌≤◌, List, [], ◌∷◌, Option, Some, None, option_map, Result, Ok, Err, IfOk, subst, sym, arith}
+use Rattle.std.proofs.Common.{◌≡◌, ℕ, ◌+◌, ◌*◌, ◌≤◌, List, [], ◌∷◌, Option, Some, None, option_map}
+use Rattle.std.proofs.Common.{Result, Ok, Err, IfOk, subst, sym, arith}
 use Rattle.std.specs.Option.{option_and_then}
 use Rattle.std.specs.Prelude.{IfSome}
 use Rattle.std.proofs.lemmas.List.Sums.{sum_by-cons}
-use Rattle.value_data.specs.Datum.{Datum, nil, boolean, integer, string, keyword, symbol, list, vector, map, ref, atom, agent, var, fault, Items, no_items, item, Pairs, no_pairs, pair}
+use Rattle.value_data.specs.Datum.{Datum, nil, boolean, integer, string, keyword, symbol, list}
+use Rattle.value_data.specs.Datum.{vector, map, ref, atom, agent, var, fault, Items, no_items, item}
+use Rattle.value_data.specs.Datum.{Pairs, no_pairs, pair}
 use Rattle.value_data.specs.Listed.{listed}
 use Rattle.special_forms.specs.Rows.{BoundForm, in_a_row}
-use Rattle.special_forms.specs.Size.{nodes, items_nodes, pairs_nodes, datum_size, forms_size, bindings_size, shape_size}
+use Rattle.special_forms.specs.Size.{nodes, items_nodes, pairs_nodes, datum_size, forms_size}
+use Rattle.special_forms.specs.Size.{bindings_size, shape_size}
 use Rattle.special_forms.specs.Kinds.{symbol_name, simple_name, in_vector}
 use Rattle.special_forms.specs.Parameters.{parameters}
-use Rattle.special_forms.specs.Shapes.{ShapeData, quoted, bindings, definition, function_definition, thrown, entry, computed_entry}
-use Rattle.special_forms.specs.Shapes.{only, if_shape, when_shape, ns_shape, bound_forms, let_shape, def_shape, function_shape, behind_name, defn_shape, shape_of}
+use Rattle.special_forms.specs.Shapes.{ShapeData, quoted, bindings, definition, function_definition}
+use Rattle.special_forms.specs.Shapes.{thrown, entry, computed_entry, sole_form, if_shape}
+use Rattle.special_forms.specs.Shapes.{when_shape, ns_shape, bound_forms, let_shape, def_shape}
+use Rattle.special_forms.specs.Shapes.{function_shape, behind_name, defn_shape, shape_of}
 use Rattle.special_forms.specs.Seen.{shape_view}
 use Rattle.special_forms.specs.declared.shapes.Shape.{Shape}
 use Rattle.special_forms.specs.declared.special.SpecialForm.{SpecialForm}
@@ -88,20 +94,20 @@ bound-size (d ∷ e ∷ ds) =
 abbrev pub Sized : Option ShapeData → List Datum → Type 0
 Sized o ds = IfSome o (λ s. shape_size s ≤ forms_size ds)
 
-only-quoted : (ds : List Datum) → Sized (option_map quoted (only ds)) ds
-only-quoted [] = tt
-only-quoted (d ∷ []) = omega arith
-only-quoted (d ∷ e ∷ ds) = tt
+sole_form-quoted : (ds : List Datum) → Sized (option_map quoted (sole_form ds)) ds
+sole_form-quoted [] = tt
+sole_form-quoted (d ∷ []) = omega arith
+sole_form-quoted (d ∷ e ∷ ds) = tt
 
-only-thrown : (ds : List Datum) → Sized (option_map thrown (only ds)) ds
-only-thrown [] = tt
-only-thrown (d ∷ []) = omega (arith, forms_size-cons d [])
-only-thrown (d ∷ e ∷ ds) = tt
+sole_form-thrown : (ds : List Datum) → Sized (option_map thrown (sole_form ds)) ds
+sole_form-thrown [] = tt
+sole_form-thrown (d ∷ []) = omega (arith, forms_size-cons d [])
+sole_form-thrown (d ∷ e ∷ ds) = tt
 
-only-computed : (ds : List Datum) → Sized (option_map computed_entry (only ds)) ds
-only-computed [] = tt
-only-computed (d ∷ []) = omega (arith, forms_size-cons d [])
-only-computed (d ∷ e ∷ ds) = tt
+sole_form-computed : (ds : List Datum) → Sized (option_map computed_entry (sole_form ds)) ds
+sole_form-computed [] = tt
+sole_form-computed (d ∷ []) = omega (arith, forms_size-cons d [])
+sole_form-computed (d ∷ e ∷ ds) = tt
 
 entry-with : (o : Option (List ℕ)) (ds : List Datum) → 1 ≤ forms_size ds → Sized (option_map entry o) ds
 entry-with None ds h = tt
@@ -146,7 +152,7 @@ let-sized (agent n ∷ ds) = tt
 let-sized (var space name ∷ ds) = tt
 let-sized (fault class text ∷ ds) = tt
 
-def-with : (o : Option (List ℕ)) (d : Datum) (ds : List Datum) → Sized (option_and_then (λ s. option_map (λ e. definition s e) (only ds)) o) (d ∷ ds)
+def-with : (o : Option (List ℕ)) (d : Datum) (ds : List Datum) → Sized (option_and_then (λ s. option_map (λ e. definition s e) (sole_form ds)) o) (d ∷ ds)
 def-with None d ds = tt
 def-with (Some s) d [] = tt
 def-with (Some s) d (e ∷ []) = omega (arith, forms_size-cons d (e ∷ []), forms_size-cons e [])
@@ -179,9 +185,9 @@ shape-sized SpecialForm.Or ds = omega arith
 shape-sized SpecialForm.Do ds = omega arith
 shape-sized SpecialForm.Dosync ds = omega arith
 shape-sized SpecialForm.Io ds = omega arith
-shape-sized SpecialForm.Quote ds = only-quoted ds
-shape-sized SpecialForm.Throw ds = only-thrown ds
-shape-sized SpecialForm.InNs ds = only-computed ds
+shape-sized SpecialForm.Quote ds = sole_form-quoted ds
+shape-sized SpecialForm.Throw ds = sole_form-thrown ds
+shape-sized SpecialForm.InNs ds = sole_form-computed ds
 shape-sized SpecialForm.Ns ds = ns-sized ds
 shape-sized SpecialForm.If ds = if-sized ds
 shape-sized SpecialForm.When ds = when-sized ds

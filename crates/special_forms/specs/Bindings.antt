@@ -8,12 +8,12 @@ first_of [] = None
 first_of (d ∷ ds) = Some d
 
 -- the name that a symbol is; what is none has no characters
-abbrev pub name_in : Datum → List ℕ
-name_in (symbol s) = s
-name_in _ = []
+abbrev pub bound_name : Datum → List ℕ
+bound_name (symbol s) = s
+bound_name _ = []
 
 -- names and forms by turns, where they are known to be such
 abbrev pub bindings_in : List Datum → List BoundForm
 bindings_in [] = []
 bindings_in (d ∷ []) = []
-bindings_in (d ∷ e ∷ ds) = record { name = name_in d; form = e } ∷ bindings_in ds
+bindings_in (d ∷ e ∷ ds) = record { name = bound_name d; form = e } ∷ bindings_in ds

@@ -1,4 +1,5 @@
--- The names of the special forms, as they stand at the head of a list (the Clojure reference, Special Forms).
+-- The names of the special forms, as they stand at the head of a list (the Clojure reference,
+-- Special Forms).
 use Rattle.std.specs.Prelude.{ℕ, List, Option, Some, None, if◌then◌else◌, codes}
 use Rattle.std.specs.Str.{bytes_eq}
 use Rattle.special_forms.specs.declared.special.SpecialForm.{SpecialForm}

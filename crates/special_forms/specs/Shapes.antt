@@ -1,6 +1,7 @@
--- The shapes of special forms (the Clojure reference, Special Forms; `ns` and `in-ns` of clojure.core). A form of
--- another shape has none.
-use Rattle.std.specs.Prelude.{ℕ, List, [], ◌∷◌, Bool, false, Option, Some, None, option_map, drop, if◌then◌else◌}
+-- The shapes of special forms (the Clojure reference, Special Forms; `ns` and `in-ns` of
+-- clojure.core). A form of another shape has none.
+use Rattle.std.specs.Prelude.{ℕ, List, [], ◌∷◌, Bool, false, Option, Some, None, option_map, drop}
+use Rattle.std.specs.Prelude.{if◌then◌else◌}
 use Rattle.std.specs.Option.{option_and_then}
 use Rattle.value_data.specs.Datum.{Datum}
 use Rattle.special_forms.specs.Rows.{BoundForm}
@@ -31,10 +32,10 @@ pub data ShapeData : Type 0 where
   computed_entry : Datum → ShapeData
 
 -- `(quote form)`, `(throw form)` and `(in-ns form)`
-abbrev pub only : List Datum → Option Datum
-only [] = None
-only (d ∷ []) = Some d
-only (d ∷ e ∷ ds) = None
+abbrev pub sole_form : List Datum → Option Datum
+sole_form [] = None
+sole_form (d ∷ []) = Some d
+sole_form (d ∷ e ∷ ds) = None
 
 -- `(if condition form)` and `(if condition form form)`
 abbrev pub if_shape : List Datum → Option ShapeData
@@ -51,14 +52,15 @@ when_shape (c ∷ ds) = Some (choice c ds [])
 
 -- `(ns name)`, where the name may have a slash
 abbrev pub ns_shape : List Datum → Option ShapeData
-ns_shape ds = option_map entry (option_and_then symbol_name (only ds))
+ns_shape ds = option_map entry (option_and_then symbol_name (sole_form ds))
 
 -- names and forms by turns
 abbrev pub bound_forms : List Datum → Option (List BoundForm)
 bound_forms [] = Some []
 bound_forms (d ∷ []) = None
 bound_forms (d ∷ e ∷ ds) =
-    option_and_then (λ s. option_map (λ bs. record { name = s; form = e } ∷ bs) (bound_forms ds)) (simple_name d)
+    option_and_then (λ s. option_map (λ bs. record { name = s; form = e } ∷ bs) (bound_forms ds))
+    (simple_name d)
 
 -- `(let [name form ..] form ..)`
 abbrev pub let_shape : List Datum → Option ShapeData
@@ -68,7 +70,8 @@ let_shape (d ∷ ds) = option_map (λ bs. bindings bs ds) (option_and_then bound
 -- `(def name form)`
 abbrev pub def_shape : List Datum → Option ShapeData
 def_shape [] = None
-def_shape (d ∷ ds) = option_and_then (λ s. option_map (λ e. definition s e) (only ds)) (simple_name d)
+def_shape (d ∷ ds) = option_and_then (λ s. option_map (λ e. definition s e) (sole_form ds))
+    (simple_name d)
 
 abbrev pub begins_with_text : List Datum → Bool
 begins_with_text [] = false
@@ -77,7 +80,8 @@ begins_with_text (d ∷ ds) = is_text d
 -- `[name ..] form ..`
 abbrev pub function_shape : List ℕ → List Datum → Option ShapeData
 function_shape name [] = None
-function_shape name (d ∷ ds) = option_map (λ names. function_definition name names ds) (option_and_then parameters (in_vector d))
+function_shape name (d ∷ ds) = option_map (λ names. function_definition name names ds)
+    (option_and_then parameters (in_vector d))
 
 -- what stands behind a name, but for a string
 abbrev pub behind_name : List Datum → List Datum
@@ -94,9 +98,9 @@ shape_of SpecialForm.Or ds = Some (logic Logic.Or ds)
 shape_of SpecialForm.Do ds = Some (body ds)
 shape_of SpecialForm.Dosync ds = Some (transaction ds)
 shape_of SpecialForm.Io ds = Some (effects ds)
-shape_of SpecialForm.Quote ds = option_map quoted (only ds)
-shape_of SpecialForm.Throw ds = option_map thrown (only ds)
-shape_of SpecialForm.InNs ds = option_map computed_entry (only ds)
+shape_of SpecialForm.Quote ds = option_map quoted (sole_form ds)
+shape_of SpecialForm.Throw ds = option_map thrown (sole_form ds)
+shape_of SpecialForm.InNs ds = option_map computed_entry (sole_form ds)
 shape_of SpecialForm.Ns ds = ns_shape ds
 shape_of SpecialForm.If ds = if_shape ds
 shape_of SpecialForm.When ds = when_shape ds

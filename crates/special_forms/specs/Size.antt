@@ -1,8 +1,12 @@
 -- How much there is in a form, for the proof that an evaluation ends.
 use Rattle.std.specs.Prelude.{ℕ, ◌+◌, ◌*◌, List, sum_by}
-use Rattle.value_data.specs.Datum.{Datum, nil, boolean, integer, string, keyword, symbol, list, vector, map, ref, atom, agent, var, fault, Items, no_items, item, Pairs, no_pairs, pair}
+use Rattle.value_data.specs.Datum.{Datum, nil, boolean, integer, string, keyword, symbol, list}
+use Rattle.value_data.specs.Datum.{vector, map, ref, atom, agent, var, fault, Items, no_items, item}
+use Rattle.value_data.specs.Datum.{Pairs, no_pairs, pair}
 use Rattle.special_forms.specs.Rows.{BoundForm}
-use Rattle.special_forms.specs.Shapes.{ShapeData, quoted, body, transaction, effects, choice, bindings, logic, definition, function_definition, thrown, entry, computed_entry}
+use Rattle.special_forms.specs.Shapes.{ShapeData, quoted, body, transaction, effects, choice}
+use Rattle.special_forms.specs.Shapes.{bindings, logic, definition, function_definition, thrown}
+use Rattle.special_forms.specs.Shapes.{entry, computed_entry}
 
 -- the forms in a form
 abbrev mutual
@@ -44,7 +48,8 @@ shape_size (quoted form) = 0
 shape_size (body forms) = forms_size forms
 shape_size (transaction forms) = forms_size forms
 shape_size (effects forms) = forms_size forms
-shape_size (choice condition consequent alternative) = 3 * datum_size condition + 1 + (forms_size consequent + forms_size alternative)
+shape_size (choice condition consequent alternative) =
+    3 * datum_size condition + 1 + (forms_size consequent + forms_size alternative)
 shape_size (bindings bs forms) = bindings_size bs + forms_size forms
 shape_size (logic which forms) = forms_size forms
 shape_size (definition name form) = 3 * datum_size form + 1

@@ -1,13 +1,14 @@
 // Forms in a row, by index in what holds them.
 #![tactic(auto, using(crate::proofs::Rows::row_steps))]
 
-ghost use Rattle.std.specs.Prelude.{◌≡◌, ◌==◌, nat_le, [], ◌∷◌, drop, take, option_map, slice_get, length, IfOk, MatchOption};
+ghost use Rattle.std.specs.Prelude.{◌≡◌, ◌==◌, nat_le, [], ◌∷◌, drop, take, option_map, slice_get};
+ghost use Rattle.std.specs.Prelude.{length, IfOk, MatchOption};
 ghost use Rattle.std.specs.Arc.{arc_str_bytes};
 ghost use Rattle.value_data.specs.Listed.{listed};
 ghost use Rattle.value_data.specs.View.{view};
 ghost use Rattle.special_forms.specs.Rows.{in_a_row};
-ghost use Rattle.special_forms.specs.Bindings.{first_of, name_in, bindings_in};
-ghost use Rattle.special_forms.specs.Seen.{source_view, forms_view, binding_view};
+ghost use Rattle.special_forms.specs.Bindings.{first_of, bound_name, bindings_in};
+ghost use Rattle.special_forms.specs.Seen.{source_view, forms_view, let_binding_view};
 
 use repl_values::{Sequence, Table, Value, copy, copy_text};
 use std::alloc::{AllocError, Global};
@@ -15,23 +16,23 @@ use std::sync::ArcStr;
 
 // What holds the forms: the items of a list or a vector, or the keys and values of a map, by turns.
 #[derive(Debug, Drop)]
-pub(crate) enum Source {
+pub(crate) enum FormsHolder {
     Items(Sequence),
     Pairs(Table),
 }
 
-/// Forms in a row, from one place to another of what holds them. That is shared: the forms are looked
-/// at one after another where they stand.
+/// Forms in a row, from one place to another of what holds them. That is shared: the forms are
+/// looked at one after another where they stand.
 #[derive(Debug, Drop)]
 pub struct Forms {
-    source: Source,
+    source: FormsHolder,
     start: usize,
     end: usize,
 }
 
 /// A name that `let` binds, and the form of its value.
 #[derive(Drop)]
-pub struct Binding {
+pub struct LetBinding {
     pub name: ArcStr,
     pub form: Value,
 }
@@ -43,7 +44,7 @@ impl Forms {
     {
         let end = items.len();
         Forms {
-            source: Source::Items(items),
+            source: FormsHolder::Items(items),
             start: 0,
             end,
         }
@@ -55,7 +56,7 @@ impl Forms {
     {
         let end = pairs.as_slice().len() * 2;
         Forms {
-            source: Source::Pairs(pairs),
+            source: FormsHolder::Pairs(pairs),
             start: 0,
             end,
         }
@@ -120,7 +121,8 @@ impl Forms {
 
     /// Takes the first form out. It fails only where 2^63 owners share it.
     pub fn take_first(&mut self) -> Result<Option<Value>, AllocError>
-        ensures { IfOk result (λ taken. MatchOption taken ((forms_view self.old ≡ []) × (forms_view self.new ≡ []))
+        ensures { IfOk result (λ taken. MatchOption taken ((forms_view self.old ≡ [])
+            × (forms_view self.new ≡ []))
             (λ form. forms_view self.old ≡ view form ∷ forms_view self.new)) }
     {
         if self.start >= self.end {
@@ -136,9 +138,10 @@ impl Forms {
 
     /// Takes the first two forms out, a name and the form of its value. It fails only for want of
     /// memory.
-    pub fn take_binding(&mut self, alloc: Global) -> Result<Option<Binding>, AllocError>
+    pub fn take_binding(&mut self, alloc: Global) -> Result<Option<LetBinding>, AllocError>
         ensures { IfOk result (λ taken. MatchOption taken (bindings_in (forms_view self.old) ≡ [])
-            (λ bound. bindings_in (forms_view self.old) ≡ binding_view bound ∷ bindings_in (forms_view self.new))) }
+            (λ bound. bindings_in (forms_view self.old)
+            ≡ let_binding_view bound ∷ bindings_in (forms_view self.new))) }
     {
         let Some(symbol) = self.take_first()? else {
             return Ok(None);
@@ -146,8 +149,8 @@ impl Forms {
         let Some(form) = self.take_first()? else {
             return Ok(None);
         };
-        let name = name_in(alloc, &symbol)?;
-        Ok(Some(Binding { name, form }))
+        let name = bound_name(alloc, &symbol)?;
+        Ok(Some(LetBinding { name, form }))
     }
 
     // The first form alone.
@@ -180,7 +183,7 @@ impl Forms {
         ensures { IfOk result (λ none. forms_view none ≡ []) }
     {
         Ok(Forms {
-            source: shared(&self.source)?,
+            source: share(&self.source)?,
             start: self.start,
             end: self.start,
         })
@@ -192,7 +195,7 @@ impl Forms {
         ensures { IfOk result (λ copied. forms_view copied ≡ forms_view self.now) }
     {
         Ok(Forms {
-            source: shared(&self.source)?,
+            source: share(&self.source)?,
             start: self.start,
             end: self.end,
         })
@@ -200,22 +203,22 @@ impl Forms {
 }
 
 // How many forms there are in all.
-fn places(source: &Source) -> usize
+fn places(source: &FormsHolder) -> usize
     ensures { result ≡ length (source_view source.now) }
 {
     match source {
-        Source::Items(items) => items.len(),
-        Source::Pairs(pairs) => pairs.as_slice().len() * 2,
+        FormsHolder::Items(items) => items.len(),
+        FormsHolder::Pairs(pairs) => pairs.as_slice().len() * 2,
     }
 }
 
 // The form at a place.
-fn at(source: &Source, place: usize) -> Option<&Value>
+fn at(source: &FormsHolder, place: usize) -> Option<&Value>
     ensures { option_map (λ v. view v.now) result ≡ slice_get (source_view source.now) place }
 {
     match source {
-        Source::Items(items) => item_at(items, place),
-        Source::Pairs(pairs) => part_at(pairs, place),
+        FormsHolder::Items(items) => item_at(items, place),
+        FormsHolder::Pairs(pairs) => part_at(pairs, place),
     }
 }
 
@@ -237,18 +240,18 @@ fn part_at(pairs: &Table, place: usize) -> Option<&Value>
     }
 }
 
-fn shared(source: &Source) -> Result<Source, AllocError>
+fn share(source: &FormsHolder) -> Result<FormsHolder, AllocError>
     ensures { IfOk result (λ shared. source_view shared ≡ source_view source.now) }
 {
     match source {
-        Source::Items(items) => Ok(Source::Items(items.copy()?)),
-        Source::Pairs(pairs) => Ok(Source::Pairs(pairs.copy()?)),
+        FormsHolder::Items(items) => Ok(FormsHolder::Items(items.copy()?)),
+        FormsHolder::Pairs(pairs) => Ok(FormsHolder::Pairs(pairs.copy()?)),
     }
 }
 
 // The name that a symbol is; what is none has no characters.
-fn name_in(alloc: Global, symbol: &Value) -> Result<ArcStr, AllocError>
-    ensures { IfOk result (λ name. arc_str_bytes name ≡ name_in (view symbol.now)) }
+fn bound_name(alloc: Global, symbol: &Value) -> Result<ArcStr, AllocError>
+    ensures { IfOk result (λ name. arc_str_bytes name ≡ bound_name (view symbol.now)) }
 {
     match symbol {
         Value::Symbol(name) => copy_text(name),

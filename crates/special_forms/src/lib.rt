@@ -1,4 +1,5 @@
-//! The special forms of the language, the shapes that they have, and what a program defines by them.
+//! The special forms of the language, the shapes that they have, and what a program defines by
+//! them.
 #![tactic(auto)]
 
 mod forms;
@@ -8,8 +9,8 @@ mod shapes;
 mod special;
 mod truth;
 
-pub use forms::{Binding, Forms};
+pub use forms::{Forms, LetBinding};
 pub use function::Function;
 pub use shapes::{Logic, Shape, shape_of};
 pub use special::SpecialForm;
-pub use truth::{chosen, is_true};
+pub use truth::{chosen_body, is_truthy};

@@ -16,7 +16,8 @@ pub(crate) fn parameters_in(
     alloc: Global,
     items: &Sequence,
 ) -> Result<Option<Vec<ArcStr>>, AllocError>
-    ensures { IfOk result (λ found. option_map (λ names. map arc_str_bytes names.items) found ≡ meant.parameters (listed items.now.items)) }
+    ensures { IfOk result (λ found. option_map (λ names. map arc_str_bytes names.items) found
+        ≡ meant.parameters (listed items.now.items)) }
 {
     parameters_of(alloc, items.as_slice())
 }
@@ -24,7 +25,8 @@ pub(crate) fn parameters_in(
 // The names of parameters, which are distinct.
 #[tactic(auto, unfolding(crate::specs::Parameters::parameters))]
 fn parameters_of(alloc: Global, items: &[Value]) -> Result<Option<Vec<ArcStr>>, AllocError>
-    ensures { IfOk result (λ found. option_map (λ names. map arc_str_bytes names.items) found ≡ meant.parameters (views items.now)) }
+    ensures { IfOk result (λ found. option_map (λ names. map arc_str_bytes names.items) found
+        ≡ meant.parameters (views items.now)) }
 {
     if first_repeated(alloc, items)?.is_some() {
         return Ok(None);
@@ -33,7 +35,8 @@ fn parameters_of(alloc: Global, items: &[Value]) -> Result<Option<Vec<ArcStr>>, 
 }
 
 fn parameter_names(alloc: Global, items: &[Value]) -> Result<Option<Vec<ArcStr>>, AllocError>
-    ensures { IfOk result (λ found. option_map (λ names. map arc_str_bytes names.items) found ≡ meant.parameter_names (views items.now)) }
+    ensures { IfOk result (λ found. option_map (λ names. map arc_str_bytes names.items) found
+        ≡ meant.parameter_names (views items.now)) }
 {
     let mut names = Vec::new(alloc);
     for item in items {
@@ -47,7 +50,8 @@ fn parameter_names(alloc: Global, items: &[Value]) -> Result<Option<Vec<ArcStr>>
 
 // A symbol without a slash, other than `&`.
 fn parameter_name(item: &Value) -> Option<&ArcStr>
-    ensures { option_map (λ name. arc_str_bytes name.now) result ≡ meant.parameter_name (view item.now) }
+    ensures { option_map (λ name. arc_str_bytes name.now) result
+        ≡ meant.parameter_name (view item.now) }
 {
     let name = simple_symbol(item)?;
     if name.as_str() == "&" {
@@ -59,7 +63,8 @@ fn parameter_name(item: &Value) -> Option<&ArcStr>
 // The name that a form is, if it is a symbol without a slash.
 #[tactic(auto, unfolding(crate::specs::Kinds::simple_name))]
 pub(crate) fn simple_symbol(form: &Value) -> Option<&ArcStr>
-    ensures { option_map (λ name. arc_str_bytes name.now) result ≡ kinds.simple_name (view form.now) }
+    ensures { option_map (λ name. arc_str_bytes name.now) result
+        ≡ kinds.simple_name (view form.now) }
 {
     without_slash(symbol(form)?)
 }
@@ -67,7 +72,8 @@ pub(crate) fn simple_symbol(form: &Value) -> Option<&ArcStr>
 // The name that a form is, if it is a symbol.
 #[tactic(auto, using(crate::proofs::Shaping::seen), unfolding(crate::specs::Kinds::symbol_name))]
 pub(crate) fn symbol(form: &Value) -> Option<&ArcStr>
-    ensures { option_map (λ name. arc_str_bytes name.now) result ≡ kinds.symbol_name (view form.now) }
+    ensures { option_map (λ name. arc_str_bytes name.now) result
+        ≡ kinds.symbol_name (view form.now) }
 {
     match form {
         Value::Symbol(name) => Some(name),
@@ -76,7 +82,8 @@ pub(crate) fn symbol(form: &Value) -> Option<&ArcStr>
 }
 
 fn without_slash(name: &ArcStr) -> Option<&ArcStr>
-    ensures { option_map (λ found. arc_str_bytes found.now) result ≡ kinds.without_slash (arc_str_bytes name.now) }
+    ensures { option_map (λ found. arc_str_bytes found.now) result
+        ≡ kinds.without_slash (arc_str_bytes name.now) }
 {
     if name.as_str().as_bytes().contains(&b'/') {
         return None;

@@ -1,6 +1,7 @@
 // The shapes that special forms have. A form of another shape is a fault before anything in it is
 // evaluated.
-ghost use Rattle.std.specs.Prelude.{◌≡◌, ◌≤◌, Some, None, if◌then◌else◌, IfOk, IfSome, option_map, map};
+ghost use Rattle.std.specs.Prelude.{◌≡◌, ◌≤◌, Some, None, if◌then◌else◌, IfOk, IfSome, option_map};
+ghost use Rattle.std.specs.Prelude.{map};
 ghost use Rattle.std.specs.Arc.{arc_str_bytes};
 ghost use Rattle.value_data.specs.Listed.{listed};
 ghost use Rattle.value_data.specs.View.{view};
@@ -60,21 +61,24 @@ pub enum Shape {
     EnterComputed(Value),
 }
 
-/// The parts of the special form with these forms behind its name; none where it has another shape. It
-/// fails only for want of memory.
+/// The parts of the special form with these forms behind its name; none where it has another shape.
+/// It fails only for want of memory.
 pub fn shape_of(
     alloc: Global,
     special: SpecialForm,
     forms: Forms,
 ) -> Result<Option<Shape>, AllocError>
-    ensures size { IfOk result (λ shape. IfSome shape (λ s. shape_size (shape_view s) ≤ forms_size (forms_view forms))) }
-    ensures exact { IfOk result (λ shape. option_map shape_view shape ≡ meant.shape_of special (forms_view forms)) }
+    ensures size { IfOk result (λ shape.
+        IfSome shape (λ s. shape_size (shape_view s) ≤ forms_size (forms_view forms))) }
+    ensures exact { IfOk result (λ shape. option_map shape_view shape
+        ≡ meant.shape_of special (forms_view forms)) }
 {
     parts_of(alloc, special, forms)
 }
 
 fn parts_of(alloc: Global, special: SpecialForm, forms: Forms) -> Result<Option<Shape>, AllocError>
-    ensures { IfOk result (λ shape. option_map shape_view shape ≡ meant.shape_of special (forms_view forms)) }
+    ensures { IfOk result (λ shape. option_map shape_view shape
+        ≡ meant.shape_of special (forms_view forms)) }
 {
     match special {
         SpecialForm::And => Ok(Some(Shape::Logic(Logic::And, forms))),
@@ -95,26 +99,28 @@ fn parts_of(alloc: Global, special: SpecialForm, forms: Forms) -> Result<Option<
 }
 
 // The form that stands alone.
-fn only(mut forms: Forms) -> Result<Option<Value>, AllocError>
-    ensures { IfOk result (λ form. option_map view form ≡ meant.only (forms_view forms)) }
+fn sole_form(mut forms: Forms) -> Result<Option<Value>, AllocError>
+    ensures { IfOk result (λ form. option_map view form ≡ meant.sole_form (forms_view forms)) }
 {
     let form = forms.take_first()?;
     if forms.is_empty() { Ok(form) } else { Ok(None) }
 }
 
 fn quote(forms: Forms) -> Result<Option<Shape>, AllocError>
-    ensures { IfOk result (λ shape. option_map shape_view shape ≡ option_map meant.quoted (meant.only (forms_view forms))) }
+    ensures { IfOk result (λ shape. option_map shape_view shape
+        ≡ option_map meant.quoted (meant.sole_form (forms_view forms))) }
 {
-    match only(forms)? {
+    match sole_form(forms)? {
         Some(form) => Ok(Some(Shape::Quote(form))),
         None => Ok(None),
     }
 }
 
 fn throw(forms: Forms) -> Result<Option<Shape>, AllocError>
-    ensures { IfOk result (λ shape. option_map shape_view shape ≡ option_map meant.thrown (meant.only (forms_view forms))) }
+    ensures { IfOk result (λ shape. option_map shape_view shape
+        ≡ option_map meant.thrown (meant.sole_form (forms_view forms))) }
 {
-    match only(forms)? {
+    match sole_form(forms)? {
         Some(form) => Ok(Some(Shape::Throw(form))),
         None => Ok(None),
     }
@@ -122,9 +128,10 @@ fn throw(forms: Forms) -> Result<Option<Shape>, AllocError>
 
 // `(ns name)`.
 fn namespace(forms: Forms) -> Result<Option<Shape>, AllocError>
-    ensures { IfOk result (λ shape. option_map shape_view shape ≡ meant.ns_shape (forms_view forms)) }
+    ensures { IfOk result (λ shape. option_map shape_view shape
+        ≡ meant.ns_shape (forms_view forms)) }
 {
-    let Some(form) = only(forms)? else {
+    let Some(form) = sole_form(forms)? else {
         return Ok(None);
     };
     match symbol(&form) {
@@ -135,9 +142,10 @@ fn namespace(forms: Forms) -> Result<Option<Shape>, AllocError>
 
 // `(in-ns form)`.
 fn computed_namespace(forms: Forms) -> Result<Option<Shape>, AllocError>
-    ensures { IfOk result (λ shape. option_map shape_view shape ≡ option_map meant.computed_entry (meant.only (forms_view forms))) }
+    ensures { IfOk result (λ shape. option_map shape_view shape
+        ≡ option_map meant.computed_entry (meant.sole_form (forms_view forms))) }
 {
-    match only(forms)? {
+    match sole_form(forms)? {
         Some(form) => Ok(Some(Shape::EnterComputed(form))),
         None => Ok(None),
     }
@@ -145,7 +153,8 @@ fn computed_namespace(forms: Forms) -> Result<Option<Shape>, AllocError>
 
 // `(if condition form)` or `(if condition form form)`.
 fn choice(mut forms: Forms) -> Result<Option<Shape>, AllocError>
-    ensures { IfOk result (λ shape. option_map shape_view shape ≡ meant.if_shape (forms_view forms)) }
+    ensures { IfOk result (λ shape. option_map shape_view shape
+        ≡ meant.if_shape (forms_view forms)) }
 {
     let Some(condition) = forms.take_first()? else {
         return Ok(None);
@@ -166,7 +175,8 @@ fn choice(mut forms: Forms) -> Result<Option<Shape>, AllocError>
 
 // `(when condition form ..)`.
 fn when(mut forms: Forms) -> Result<Option<Shape>, AllocError>
-    ensures { IfOk result (λ shape. option_map shape_view shape ≡ meant.when_shape (forms_view forms)) }
+    ensures { IfOk result (λ shape. option_map shape_view shape
+        ≡ meant.when_shape (forms_view forms)) }
 {
     let Some(condition) = forms.take_first()? else {
         return Ok(None);
@@ -181,7 +191,8 @@ fn when(mut forms: Forms) -> Result<Option<Shape>, AllocError>
 
 // `(let [name form ..] form ..)`.
 fn binding_form(mut forms: Forms) -> Result<Option<Shape>, AllocError>
-    ensures { IfOk result (λ shape. option_map shape_view shape ≡ meant.let_shape (forms_view forms)) }
+    ensures { IfOk result (λ shape. option_map shape_view shape
+        ≡ meant.let_shape (forms_view forms)) }
 {
     let Some(form) = forms.take_first()? else {
         return Ok(None);
@@ -211,13 +222,15 @@ fn vector_items(form: Value) -> Option<Sequence>
 
 // Whether these are names and forms by turns.
 fn are_bindings(items: &Sequence) -> bool
-    ensures { meant.bound_forms (listed items.now.items) ≡ (if result then Some (bindings_in (listed items.now.items)) else None) }
+    ensures { meant.bound_forms (listed items.now.items)
+        ≡ (if result then Some (bindings_in (listed items.now.items)) else None) }
 {
     by_turns(items.as_slice())
 }
 
 fn by_turns(items: &[Value]) -> bool
-    ensures { meant.bound_forms (views items.now) ≡ (if result then Some (bindings_in (views items.now)) else None) }
+    ensures { meant.bound_forms (views items.now)
+        ≡ (if result then Some (bindings_in (views items.now)) else None) }
 {
     let mut place = 0;
     while items.len() - place >= 2 {
@@ -231,7 +244,8 @@ fn by_turns(items: &[Value]) -> bool
 
 // `(def name form)`.
 fn definition(mut forms: Forms) -> Result<Option<Shape>, AllocError>
-    ensures { IfOk result (λ shape. option_map shape_view shape ≡ meant.def_shape (forms_view forms)) }
+    ensures { IfOk result (λ shape. option_map shape_view shape
+        ≡ meant.def_shape (forms_view forms)) }
 {
     let Some(first) = forms.take_first()? else {
         return Ok(None);
@@ -240,7 +254,7 @@ fn definition(mut forms: Forms) -> Result<Option<Shape>, AllocError>
         return Ok(None);
     };
     let name = copy_text(name)?;
-    match only(forms)? {
+    match sole_form(forms)? {
         Some(form) => Ok(Some(Shape::Define { name, form })),
         None => Ok(None),
     }
@@ -248,7 +262,8 @@ fn definition(mut forms: Forms) -> Result<Option<Shape>, AllocError>
 
 // `(defn name [name ..] form ..)`, where a string may stand behind the first name.
 fn function_definition(alloc: Global, mut forms: Forms) -> Result<Option<Shape>, AllocError>
-    ensures { IfOk result (λ shape. option_map shape_view shape ≡ meant.defn_shape (forms_view forms)) }
+    ensures { IfOk result (λ shape. option_map shape_view shape
+        ≡ meant.defn_shape (forms_view forms)) }
 {
     let Some(first) = forms.take_first()? else {
         return Ok(None);
@@ -265,7 +280,8 @@ fn function_behind(
     name: ArcStr,
     mut forms: Forms,
 ) -> Result<Option<Shape>, AllocError>
-    ensures { IfOk result (λ shape. option_map shape_view shape ≡ meant.function_shape (arc_str_bytes name) (forms_view forms)) }
+    ensures { IfOk result (λ shape. option_map shape_view shape
+        ≡ meant.function_shape (arc_str_bytes name) (forms_view forms)) }
 {
     let Some(form) = forms.take_first()? else {
         return Ok(None);

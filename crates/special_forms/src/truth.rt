@@ -8,8 +8,8 @@ use crate::shapes::Logic;
 use repl_values::Value;
 
 /// Only nil and false are false.
-pub fn is_true(value: &Value) -> bool
-    ensures { result ≡ meant.is_true (view value.now) }
+pub fn is_truthy(value: &Value) -> bool
+    ensures { result ≡ meant.is_truthy (view value.now) }
 {
     match value {
         Value::Nil => false,
@@ -19,10 +19,10 @@ pub fn is_true(value: &Value) -> bool
 }
 
 /// The body that a condition with this value chooses.
-pub fn chosen(condition: Value, consequent: Forms, alternative: Forms) -> Forms
-    ensures { result ≡ (if meant.is_true (view condition) then consequent else alternative) }
+pub fn chosen_body(condition: Value, consequent: Forms, alternative: Forms) -> Forms
+    ensures { result ≡ (if meant.is_truthy (view condition) then consequent else alternative) }
 {
-    if is_true(&condition) {
+    if is_truthy(&condition) {
         consequent
     } else {
         alternative
@@ -35,8 +35,8 @@ impl Logic {
         ensures { result ≡ meant.decides self (view value.now) }
     {
         match self {
-            Logic::And => !is_true(value),
-            Logic::Or => is_true(value),
+            Logic::And => !is_truthy(value),
+            Logic::Or => is_truthy(value),
         }
     }
 

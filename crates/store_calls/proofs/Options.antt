@@ -1,12 +1,12 @@
 -- Options with their counts, two values at a time.
-use Rattle.std.proofs.Common.{◌≡◌, ◌<◌, ◌≤◌, List, [], ◌∷◌, get_or, take, drop, length, ◌-◌}
-use Rattle.std.proofs.Common.{Result, Ok, refl, ap, sym, ◌∙◌, arith}
+use Rattle.std.proofs.Common.{◌≡◌, ◌<◌, ◌≤◌, List, [], ◌∷◌, get_or, take, drop, length, ◌-◌, Result}
+use Rattle.std.proofs.Common.{Ok, refl, ap, sym, ◌∙◌, arith}
 use Rattle.std.proofs.lemmas.List.{take_all}
 use Rattle.value_data.specs.View.{view}
 use Rattle.value_data.specs.declared.value.Value.{Value}
 use Rattle.special_forms.specs.Seen.{views}
 use Rattle.repl_faults.specs.Failure.{Failure, ◌>>=◌}
-use Rattle.store_calls.specs.Calling.{BoundsData, bounds_in, with_option}
+use Rattle.store_calls.specs.Arguments.{BoundsData, with_option, bounds_in}
 
 pub bounds-step : (bounds : BoundsData) (xs : List Value) (x y : Value)
     → 2 ≤ length xs → x ≡ get_or xs 0 x → y ≡ get_or xs 1 y

@@ -1,27 +1,27 @@
 -- Values of a call, by their places.
-use Rattle.std.proofs.Common.{◌≡◌, List, [], ◌∷◌, ◌++◌, get_or, take, drop, length}
-use Rattle.std.proofs.Common.{Bool, true, option_map, slice_get, arith}
+use Rattle.std.proofs.Common.{◌≡◌, List, [], ◌∷◌, ◌++◌, get_or, take, drop, length, Bool, true}
+use Rattle.std.proofs.Common.{option_map, slice_get, arith}
 use Rattle.std.proofs.lemmas.Bool.Decides.{nat_tests}
 use Rattle.value_data.specs.View.{view}
 use Rattle.value_data.specs.declared.value.Value.{Value}
 use Rattle.special_forms.specs.Seen.{views}
 use Rattle.function_names.specs.StoreNames.{store_fits}
 use Rattle.function_names.specs.declared.store.StoreFunction.{StoreFunction}
-use Rattle.store_calls.specs.Calling.{call_with, ref_made, dereferenced, ref_set, ref_ensured, history_counted}
-use Rattle.store_calls.specs.Calling.{alter_by_value}
-use Rattle.store_calls.specs.Parts.{bound_called}
+use Rattle.store_calls.specs.Calling.{call_with, ref_call, deref_call, ref_set_call, ensure_call}
+use Rattle.store_calls.specs.Calling.{history_count_call, alter_by_value}
+use Rattle.store_calls.specs.Parts.{bound_call}
 use Rattle.store_calls.specs.declared.altering.Alteration.{Alteration}
 use Rattle.store_calls.specs.declared.bounds.HistoryBound.{HistoryBound}
 
 pub ref-called : (running : Bool) (xs : List Value) (x : Value)
     → store_fits StoreFunction.Ref (length xs) ≡ true → x ≡ get_or xs 0 x
-    → call_with StoreFunction.Ref running (views xs) ≡ ref_made (view x ∷ views (drop 1 xs))
+    → call_with StoreFunction.Ref running (views xs) ≡ ref_call (view x ∷ views (drop 1 xs))
 ref-called running [] x fits is = absurd (grind (arith, nat_tests))
 ref-called running (y ∷ xs) x fits is = let same : x ≡ y = is in cc
 
 pub deref-called : (running : Bool) (xs : List Value) (x : Value)
     → store_fits StoreFunction.Deref (length xs) ≡ true → x ≡ get_or xs 0 x
-    → call_with StoreFunction.Deref running (views xs) ≡ dereferenced (view x)
+    → call_with StoreFunction.Deref running (views xs) ≡ deref_call (view x)
 deref-called running [] x fits is = absurd (grind (arith, nat_tests))
 deref-called running (y ∷ []) x fits is = let same : x ≡ y = is in cc
 deref-called running (y ∷ z ∷ xs) x fits is = absurd (grind (arith, nat_tests))
@@ -29,7 +29,7 @@ deref-called running (y ∷ z ∷ xs) x fits is = absurd (grind (arith, nat_test
 pub set-called : (running : Bool) (xs ys : List Value) (x y : Value)
     → store_fits StoreFunction.RefSet (length xs) ≡ true → y ≡ get_or xs 1 y
     → ys ≡ take 1 xs ++ drop 2 xs → x ≡ get_or ys 0 x
-    → call_with StoreFunction.RefSet running (views xs) ≡ ref_set running (view x) (view y)
+    → call_with StoreFunction.RefSet running (views xs) ≡ ref_set_call running (view x) (view y)
 set-called running [] ys x y fits is left first = absurd (grind (arith, nat_tests))
 set-called running (u ∷ []) ys x y fits is left first = absurd (grind (arith, nat_tests))
 set-called running (u ∷ v ∷ []) ys x y fits is left first =
@@ -56,14 +56,14 @@ commute-called running (u ∷ v ∷ xs) x y fits first is =
 
 pub ensure-called : (running : Bool) (xs : List Value) (x : Value)
     → store_fits StoreFunction.Ensure (length xs) ≡ true → x ≡ get_or xs 0 x
-    → call_with StoreFunction.Ensure running (views xs) ≡ ref_ensured running (view x)
+    → call_with StoreFunction.Ensure running (views xs) ≡ ensure_call running (view x)
 ensure-called running [] x fits is = absurd (grind (arith, nat_tests))
 ensure-called running (y ∷ []) x fits is = let same : x ≡ y = is in cc
 ensure-called running (y ∷ z ∷ xs) x fits is = absurd (grind (arith, nat_tests))
 
 pub count-called : (running : Bool) (xs : List Value) (x : Value)
     → store_fits StoreFunction.HistoryCount (length xs) ≡ true → x ≡ get_or xs 0 x
-    → call_with StoreFunction.HistoryCount running (views xs) ≡ history_counted running (view x)
+    → call_with StoreFunction.HistoryCount running (views xs) ≡ history_count_call running (view x)
 count-called running [] x fits is = absurd (grind (arith, nat_tests))
 count-called running (y ∷ []) x fits is = let same : x ≡ y = is in cc
 count-called running (y ∷ z ∷ xs) x fits is = absurd (grind (arith, nat_tests))
@@ -71,7 +71,7 @@ count-called running (y ∷ z ∷ xs) x fits is = absurd (grind (arith, nat_test
 pub least-called : (running : Bool) (xs : List Value) (x : Value)
     → store_fits StoreFunction.MinHistory (length xs) ≡ true → x ≡ get_or xs 0 x
     → call_with StoreFunction.MinHistory running (views xs)
-    ≡ bound_called HistoryBound.Least (view x) (option_map view (slice_get xs 1))
+    ≡ bound_call HistoryBound.Least (view x) (option_map view (slice_get xs 1))
 least-called running [] x fits is = absurd (grind (arith, nat_tests))
 least-called running (y ∷ []) x fits is = let same : x ≡ y = is in cc
 least-called running (y ∷ z ∷ []) x fits is = let same : x ≡ y = is in cc
@@ -80,7 +80,7 @@ least-called running (y ∷ z ∷ w ∷ xs) x fits is = absurd (grind (arith, na
 pub greatest-called : (running : Bool) (xs : List Value) (x : Value)
     → store_fits StoreFunction.MaxHistory (length xs) ≡ true → x ≡ get_or xs 0 x
     → call_with StoreFunction.MaxHistory running (views xs)
-    ≡ bound_called HistoryBound.Greatest (view x) (option_map view (slice_get xs 1))
+    ≡ bound_call HistoryBound.Greatest (view x) (option_map view (slice_get xs 1))
 greatest-called running [] x fits is = absurd (grind (arith, nat_tests))
 greatest-called running (y ∷ []) x fits is = let same : x ≡ y = is in cc
 greatest-called running (y ∷ z ∷ []) x fits is = let same : x ≡ y = is in cc

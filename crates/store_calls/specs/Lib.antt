@@ -1,3 +1,4 @@
+pub mod Arguments
 pub mod Calling
 pub mod Parts
 pub mod View

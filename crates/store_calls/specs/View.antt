@@ -6,7 +6,7 @@ use Rattle.repl_faults.specs.View.{failure_of}
 use Rattle.repl_asks.specs.Transactions.{RefNameData}
 use Rattle.repl_asks.specs.View.{name_view, ask_view}
 use Rattle.store_calls.specs.Calling.{CallData, refused, reads, puts, ensures, asks_value}
-use Rattle.store_calls.specs.Calling.{BoundsData}
+use Rattle.store_calls.specs.Arguments.{BoundsData}
 use Rattle.store_calls.specs.declared.bounds.Bounds.{Bounds}
 use Rattle.store_calls.specs.declared.outcome.Altered.{Altered}
 use Rattle.store_calls.specs.declared.outcome.Call.{Call}

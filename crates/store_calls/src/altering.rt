@@ -38,7 +38,7 @@ impl Alteration {
 /// The ref that `(alter ref function argument ..)` alters, or `commute` likewise, whose first
 /// argument is this value, while a transaction runs or none does. What is no ref is refused first,
 /// then what stands in no transaction. It fails only for want of memory.
-pub fn altered(
+pub fn ref_to_alter(
     alloc: Global,
     by: Alteration,
     in_transaction: bool,

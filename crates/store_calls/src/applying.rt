@@ -5,7 +5,7 @@ ghost use Rattle.special_forms.specs.Seen.{views};
 ghost use Rattle.function_names.specs.StoreNames.{store_fits};
 ghost use Rattle.repl_faults.specs.View.{Gives};
 ghost use Rattle.store_calls.specs.Calling as meant;
-ghost use Rattle.store_calls.specs.Parts.{bound_called};
+ghost use Rattle.store_calls.specs.Parts.{bound_call};
 ghost use Rattle.store_calls.specs.View.{call_view};
 
 use crate::altering::Alteration;
@@ -23,7 +23,7 @@ use std::alloc::{AllocError, Global};
 /// The number of values is checked first, then the kinds of all of them from the left, then the
 /// rules of transactions, then those of shared refs. The values are taken and not copied; where a
 /// shared ref is set, the new value is walked once. It fails only for want of memory.
-#[tactic(auto, unfolding(crate::specs::Calling::call_of))]
+#[tactic(auto, unfolding(crate::specs::Calling::call_data_of))]
 pub fn call(
     alloc: Global,
     function: StoreFunction,
@@ -31,7 +31,7 @@ pub fn call(
     values: Vec<Value>,
 ) -> Result<Call, AllocError>
     ensures { IfOk result (λ call. call_view call
-        ≡ meant.call_of function in_transaction (views values.items)) }
+        ≡ meant.call_data_of function in_transaction (views values.items)) }
 {
     if !function.takes(values.len()) {
         let fault = wrong_arity(alloc, function.name(), values.len())?;
@@ -58,31 +58,31 @@ fn call_with(
     match function {
         StoreFunction::Ref => {
             let value = values.remove(0);
-            ref_made(alloc, value, values.as_slice())
+            ref_call(alloc, value, values.as_slice())
         }
-        StoreFunction::Deref => dereferenced(alloc, &values[0]),
+        StoreFunction::Deref => deref_call(alloc, &values[0]),
         StoreFunction::RefSet => {
             let value = values.remove(1);
-            ref_set(alloc, in_transaction, &values[0], value)
+            ref_set_call(alloc, in_transaction, &values[0], value)
         }
         StoreFunction::Alter => { alter_by_value(alloc, Alteration::Alter, &values[0], &values[1]) }
         StoreFunction::Commute => {
             alter_by_value(alloc, Alteration::Commute, &values[0], &values[1])
         }
-        StoreFunction::Ensure => ref_ensured(alloc, in_transaction, &values[0]),
-        StoreFunction::HistoryCount => history_counted(alloc, in_transaction, &values[0]),
+        StoreFunction::Ensure => ensure_call(alloc, in_transaction, &values[0]),
+        StoreFunction::HistoryCount => history_count_call(alloc, in_transaction, &values[0]),
         StoreFunction::MinHistory => {
-            bound_called(alloc, HistoryBound::Least, &values[0], values.get(1))
+            bound_call(alloc, HistoryBound::Least, &values[0], values.get(1))
         }
         StoreFunction::MaxHistory => {
-            bound_called(alloc, HistoryBound::Greatest, &values[0], values.get(1))
+            bound_call(alloc, HistoryBound::Greatest, &values[0], values.get(1))
         }
     }
 }
 
 // `(ref value option count ..)`
-fn ref_made(alloc: Global, value: Value, options: &[Value]) -> Result<Call, ApplyError>
-    ensures { Gives call_view result (meant.ref_made (view value ∷ views options.now)) }
+fn ref_call(alloc: Global, value: Value, options: &[Value]) -> Result<Call, ApplyError>
+    ensures { Gives call_view result (meant.ref_call (view value ∷ views options.now)) }
 {
     let bounds = bounds_in(alloc, options)?;
     Ok(Call::AsksValue(Ask::NewRef {
@@ -93,22 +93,22 @@ fn ref_made(alloc: Global, value: Value, options: &[Value]) -> Result<Call, Appl
 }
 
 // `(deref ref)`
-fn dereferenced(alloc: Global, target: &Value) -> Result<Call, ApplyError>
-    ensures { Gives call_view result (meant.dereferenced (view target.now)) }
+fn deref_call(alloc: Global, target: &Value) -> Result<Call, ApplyError>
+    ensures { Gives call_view result (meant.deref_call (view target.now)) }
 {
     let name = ref_of(alloc, StoreFunction::Deref, target)?;
     Ok(Call::Reads(name))
 }
 
 // `(ref-set ref value)`
-fn ref_set(
+fn ref_set_call(
     alloc: Global,
     in_transaction: bool,
     target: &Value,
     value: Value,
 ) -> Result<Call, ApplyError>
     ensures { Gives call_view result
-        (meant.ref_set in_transaction (view target.now) (view value)) }
+        (meant.ref_set_call in_transaction (view target.now) (view value)) }
 {
     let name = ref_of(alloc, StoreFunction::RefSet, target)?;
     keep_to(alloc, Rule::ATransactionRuns, in_transaction)?;
@@ -117,8 +117,8 @@ fn ref_set(
 }
 
 // `(ensure ref)`
-fn ref_ensured(alloc: Global, in_transaction: bool, target: &Value) -> Result<Call, ApplyError>
-    ensures { Gives call_view result (meant.ref_ensured in_transaction (view target.now)) }
+fn ensure_call(alloc: Global, in_transaction: bool, target: &Value) -> Result<Call, ApplyError>
+    ensures { Gives call_view result (meant.ensure_call in_transaction (view target.now)) }
 {
     let name = ref_of(alloc, StoreFunction::Ensure, target)?;
     keep_to(alloc, Rule::ATransactionRuns, in_transaction)?;
@@ -142,8 +142,12 @@ fn alter_by_value(
 }
 
 // `(ref-history-count ref)`
-fn history_counted(alloc: Global, in_transaction: bool, target: &Value) -> Result<Call, ApplyError>
-    ensures { Gives call_view result (meant.history_counted in_transaction (view target.now)) }
+fn history_count_call(
+    alloc: Global,
+    in_transaction: bool,
+    target: &Value,
+) -> Result<Call, ApplyError>
+    ensures { Gives call_view result (meant.history_count_call in_transaction (view target.now)) }
 {
     let name = ref_of(alloc, StoreFunction::HistoryCount, target)?;
     let is_told = !in_transaction || !is_shared(name);
@@ -152,36 +156,36 @@ fn history_counted(alloc: Global, in_transaction: bool, target: &Value) -> Resul
 }
 
 // `(ref-min-history ref)` or `(ref-max-history ref)`, and where there is a count it is set.
-fn bound_called(
+fn bound_call(
     alloc: Global,
     bound: HistoryBound,
     target: &Value,
     count: Option<&Value>,
 ) -> Result<Call, ApplyError>
     ensures { Gives call_view result
-        (bound_called bound (view target.now) (option_map (λ v. view v.now) count.entry)) }
+        (bound_call bound (view target.now) (option_map (λ v. view v.now) count.entry)) }
 {
     match count {
-        None => bound_told(alloc, bound, target),
-        Some(count) => bound_set(alloc, bound, target, count),
+        None => tell_bound_call(alloc, bound, target),
+        Some(count) => set_bound_call(alloc, bound, target, count),
     }
 }
 
-fn bound_told(alloc: Global, bound: HistoryBound, target: &Value) -> Result<Call, ApplyError>
-    ensures { Gives call_view result (meant.bound_told bound (view target.now)) }
+fn tell_bound_call(alloc: Global, bound: HistoryBound, target: &Value) -> Result<Call, ApplyError>
+    ensures { Gives call_view result (meant.tell_bound_call bound (view target.now)) }
 {
     let name = ref_of(alloc, bound.function(), target)?;
     Ok(Call::AsksValue(bound.ask(name, None)))
 }
 
-fn bound_set(
+fn set_bound_call(
     alloc: Global,
     bound: HistoryBound,
     target: &Value,
     count: &Value,
 ) -> Result<Call, ApplyError>
     ensures { Gives call_view result
-        (meant.bound_set bound (view target.now) (view count.now)) }
+        (meant.set_bound_call bound (view target.now) (view count.now)) }
 {
     let name = ref_of(alloc, bound.function(), target)?;
     let count = count_of(alloc, bound.function(), count)?;

@@ -5,7 +5,7 @@ ghost use Rattle.std.specs.Prelude.{◌≡◌};
 ghost use Rattle.value_data.specs.View.{view};
 ghost use Rattle.repl_asks.specs.View.{name_view};
 ghost use Rattle.repl_faults.specs.View.{Gives};
-ghost use Rattle.store_calls.specs.Calling as meant;
+ghost use Rattle.store_calls.specs.Arguments as meant;
 
 use function_names::StoreFunction;
 use repl_faults::{ApplyError, wrong_argument};

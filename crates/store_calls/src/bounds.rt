@@ -5,7 +5,7 @@ ghost use Rattle.value_data.specs.View.{view};
 ghost use Rattle.special_forms.specs.Seen.{views};
 ghost use Rattle.repl_asks.specs.View.{name_view, ask_view};
 ghost use Rattle.repl_faults.specs.View.{Gives};
-ghost use Rattle.store_calls.specs.Calling as meant;
+ghost use Rattle.store_calls.specs.Arguments as meant;
 ghost use Rattle.store_calls.specs.View.{bounds_view};
 
 use crate::arguments::count_of;
@@ -118,7 +118,7 @@ fn option(argument: &Value) -> Option<HistoryBound>
     }
 }
 
-#[tactic(auto, unfolding(crate::specs::Calling::option_named))]
+#[tactic(auto, unfolding(crate::specs::Arguments::option_named))]
 fn option_named(name: &str) -> Option<HistoryBound>
     ensures { result ≡ meant.option_named name.now }
 {

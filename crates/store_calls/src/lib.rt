@@ -1,5 +1,5 @@
-//! What calls of the functions that ask the store come to, before anybody is asked: a fault, a read
-//! or a set in the attempt, or an ask whose answer is the value.
+//! What calls of the functions that ask the store come to, before anybody is asked: a fault, a read,
+//! a set or an ensure in the attempt, or an ask whose answer is the value.
 //!
 //! The kinds of all arguments are looked at first, from the left; then whether a transaction runs;
 //! then what a shared ref forbids.
@@ -12,7 +12,7 @@ mod bounds;
 mod outcome;
 mod rules;
 
-pub use altering::{Alteration, altered};
+pub use altering::{Alteration, ref_to_alter};
 pub use applying::call;
 pub use outcome::{Altered, Call};
 pub use rules::may_hold;

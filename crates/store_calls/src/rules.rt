@@ -2,16 +2,17 @@
 ghost use Rattle.std.specs.Prelude.{◌≡◌, true};
 ghost use Rattle.value_data.specs.View.{view, owner_view};
 ghost use Rattle.repl_faults.specs.View.{Gives};
-ghost use Rattle.store_calls.specs.Calling as meant;
+ghost use Rattle.repl_asks.specs.Transactions.{may_hold};
+ghost use Rattle.store_calls.specs.Arguments as meant;
 
-use repl_faults::{ApplyError, Rule, broken};
+use repl_faults::{ApplyError, Rule, broken_rule};
 use repl_values::{Owner, RefName, Value, is_plain};
 use std::alloc::Global;
 
 /// Whether a ref may get this value: a ref that all tenants share holds plain data only. For such a
 /// ref it takes about a step for each value inside; it takes no memory.
 pub fn may_hold(name: RefName, value: &Value) -> bool
-    ensures { result ≡ meant.may_hold (owner_view name.owner) (view value.now) }
+    ensures { result ≡ may_hold (owner_view name.owner) (view value.now) }
 {
     match name.owner {
         Owner::Shared => is_plain(value),
@@ -35,5 +36,5 @@ pub(crate) fn keep_to(alloc: Global, rule: Rule, holds: bool) -> Result<(), Appl
     if holds {
         return Ok(());
     }
-    Err(ApplyError::Fault(broken(alloc, rule)?))
+    Err(ApplyError::Fault(broken_rule(alloc, rule)?))
 }

@@ -1,7 +1,7 @@
 // What was commuted is made again when it is committed.
 use crate::intents::{commute, nothing, number, one, set};
 use crate::told::{Came, Table, Told, commit, commit_intent, make, new_table, outcome_of, read};
-use ref_table::{Outcome, Point};
+use ref_table::{CommitOutcome, Point};
 use repl_asks::Intent;
 use repl_values::{Owner, RefName, Value};
 use std::alloc::{AllocError, Global};
@@ -68,9 +68,10 @@ fn ensured_ref_holds_back_what_was_commuted(rt: HostRuntime) -> Result<(), Fail>
 }
 
 // Whether the outcome is this fault.
-fn is_fault(outcome: Outcome, class: &str, text: &str) -> bool {
+fn is_fault(outcome: CommitOutcome, class: &str, text: &str) -> bool {
     match outcome {
-        Outcome::Faulted(fault) => fault.class.as_str() == class && fault.text.as_str() == text,
+        CommitOutcome::Faulted(fault) => fault.class.as_str() == class
+            && fault.text.as_str() == text,
         _ => false,
     }
 }

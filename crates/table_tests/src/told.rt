@@ -1,6 +1,6 @@
 // A table whose refs hold integers, which tests compare.
 use ref_history::{Bounds, ListHistory};
-use ref_table::{Outcome, Point, RefTable};
+use ref_table::{CommitOutcome, Point, RefTable};
 use repl_asks::{Change, Intent, Reading};
 use repl_values::{Owner, RefName, Value};
 use std::alloc::{AllocError, Global};
@@ -23,12 +23,12 @@ pub(crate) enum Came {
     Refused,
 }
 
-pub(crate) fn outcome_of(outcome: Outcome) -> Came {
+pub(crate) fn outcome_of(outcome: CommitOutcome) -> Came {
     match outcome {
-        Outcome::Committed => Came::Committed,
-        Outcome::Conflict => Came::Conflict,
-        Outcome::Faulted(_) => Came::Faulted,
-        Outcome::Refused => Came::Refused,
+        CommitOutcome::Committed => Came::Committed,
+        CommitOutcome::Conflict => Came::Conflict,
+        CommitOutcome::Faulted(_) => Came::Faulted,
+        CommitOutcome::Refused => Came::Refused,
     }
 }
 
@@ -97,9 +97,9 @@ pub(crate) fn commit_intent(
     caller: u64,
     intent: &Intent,
     point: Point,
-) -> Result<Outcome, AllocError> {
+) -> Result<CommitOutcome, AllocError> {
     if table.begin().stamp == u128::MAX {
-        return Ok(Outcome::Refused);
+        return Ok(CommitOutcome::Refused);
     }
     table.commit(alloc, caller, intent, point)
 }

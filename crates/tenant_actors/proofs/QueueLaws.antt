@@ -1,12 +1,13 @@
 -- A request is queued and taken back, and a seat is vacated: the entries of the map, seen as data.
-use Rattle.std.proofs.Common.{◌≡◌, ℕ, ◌-◌, ◌==◌, Bool, true, false, List, [], ◌∷◌, ◌++◌, map, take, length}
-use Rattle.std.proofs.Common.{Option, Some, None, is_some, option_map, refl, sym, ap, ◌∙◌, arith, length-append}
+use Rattle.std.proofs.Common.{◌≡◌, ℕ, ◌-◌, ◌==◌, Bool, true, false, List, [], ◌∷◌, ◌++◌, map, take}
+use Rattle.std.proofs.Common.{length, Option, Some, None, is_some, option_map, refl, sym, ap, ◌∙◌}
+use Rattle.std.proofs.Common.{arith, length-append}
 use Rattle.std.specs.Map.{keys_of, lookup, set_value}
 use Rattle.std.proofs.lemmas.Bool.{eqb-true}
 use Rattle.std.proofs.lemmas.List.{take_at}
 use Rattle.std.proofs.lemmas.Map.Steps.{set_value_same}
-use Rattle.server_rules.specs.Numbered.{Entry, entry, found, replaced}
-use Rattle.server_rules.specs.Operating.{vacated}
+use Rattle.server_rules.specs.Numbered.{Entry, entry, part_under, with_part}
+use Rattle.server_rules.specs.Operating.{with_vacated_seat}
 use Rattle.server_rules.specs.Ready.{actor_at}
 use Rattle.server_rules.specs.Request.{Waiting, Hand}
 use Rattle.server_rules.specs.Tenant.{ActorData, seat_of}
@@ -16,44 +17,45 @@ use Rattle.tenant_actors.specs.Queues.{vacated_found, vacated_at}
 use Rattle.tenant_actors.specs.View.{hand_view, actor_view}
 use Rattle.tenant_actors.specs.declared.request.Hand as code
 use Rattle.tenant_actors.specs.declared.actor.ActorState.{ActorState}
-use Rattle.tenant_actors.proofs.EntryLaws.{found_first, replaced_first, found-replaced, replaced-twice}
-use Rattle.tenant_actors.proofs.Seats.{Entries, seen, at, found-seen, absent-seen, seat-back}
-use Rattle.tenant_actors.proofs.Seats.{replaced-seen}
+use Rattle.tenant_actors.proofs.EntryLaws.{found_first, replaced_first, part_under-with_part}
+use Rattle.tenant_actors.proofs.EntryLaws.{with_part-twice}
+use Rattle.tenant_actors.proofs.Seats.{Entries, seen, at, part_under-seen, absent-seen, seat-back}
+use Rattle.tenant_actors.proofs.Seats.{with_part-seen}
 
 -- what is put back changes nothing
-pub replaced-same : {A : Type 0} (n : ℕ) (x : A) (es : List (Entry A))
-    → found n es ≡ Some x → replaced n x es ≡ es
-replaced-same n x [] h = refl
-replaced-same {A} n x (e ∷ es) h =
-    by (n == e.number) (λ is. eqb-true n e.number is) h (λ g. replaced-same n x es g)
+pub with_part-same : {A : Type 0} (n : ℕ) (x : A) (es : List (Entry A))
+    → part_under n es ≡ Some x → with_part n x es ≡ es
+with_part-same n x [] h = refl
+with_part-same {A} n x (e ∷ es) h =
+    by (n == e.number) (λ is. eqb-true n e.number is) h (λ g. with_part-same n x es g)
   where
-    by : (b : Bool) → (b ≡ true → n ≡ e.number) → found_first b e.part (found n es) ≡ Some x
-        → (found n es ≡ Some x → replaced n x es ≡ es) → replaced_first b n x e es ≡ e ∷ es
+    by : (b : Bool) → (b ≡ true → n ≡ e.number) → found_first b e.part (part_under n es) ≡ Some x
+        → (part_under n es ≡ Some x → with_part n x es ≡ es) → replaced_first b n x e es ≡ e ∷ es
     by true same g ih =
         let part : e.part ≡ x = cc in
         ap (λ (k : ℕ). entry k x ∷ es) (same refl) ∙ ap (λ (y : A). entry e.number y ∷ es) (sym part)
     by false same g ih = ap (λ (l : List (Entry A)). e ∷ l) (ih g)
 
-state-found : (a : Actor) (v : ActorState) (es : Entries)
-    → lookup (at a) es ≡ Some v → found (seat_of a) (seen es) ≡ Some (actor_view v)
-state-found a v es is = sym (found-seen a es) ∙ ap (option_map actor_view) is
+state-part_under : (a : Actor) (v : ActorState) (es : Entries)
+    → lookup (at a) es ≡ Some v → part_under (seat_of a) (seen es) ≡ Some (actor_view v)
+state-part_under a v es is = sym (part_under-seen a es) ∙ ap (option_map actor_view) is
 
 -- a change of the actor of a name, and none where it is not there
 pub changed-seen : (a : Actor) (f : ActorData → ActorData) (v w : ActorState) (es : Entries)
     → lookup (at a) es ≡ Some v → actor_view w ≡ f (actor_view v)
     → seen (set_value (at a) es w) ≡ changed_at (seat_of a) f (seen es)
 changed-seen a f v w es is step =
-    replaced-seen a w es
-    ∙ ap (λ (x : ActorData). replaced (seat_of a) x (seen es)) step
-    ∙ sym (ap (changed_found (seat_of a) f (seen es)) (state-found a v es is))
+    with_part-seen a w es
+    ∙ ap (λ (x : ActorData). with_part (seat_of a) x (seen es)) step
+    ∙ sym (ap (changed_found (seat_of a) f (seen es)) (state-part_under a v es is))
 
 pub kept-seen : (a : Actor) (v w : ActorState) (es : Entries)
     → lookup (at a) es ≡ Some v → actor_view w ≡ actor_view v
     → seen (set_value (at a) es w) ≡ seen es
 kept-seen a v w es is same =
-    replaced-seen a w es
-    ∙ replaced-same (seat_of a) (actor_view w) (seen es)
-    (state-found a v es is ∙ ap (λ (x : ActorData). Some x) (sym same))
+    with_part-seen a w es
+    ∙ with_part-same (seat_of a) (actor_view w) (seen es)
+    (state-part_under a v es is ∙ ap (λ (x : ActorData). Some x) (sym same))
 
 pub absent-changed : (a : Actor) (f : ActorData → ActorData) (es : Entries)
     → lookup (at a) es ≡ None → seen es ≡ changed_at (seat_of a) f (seen es)
@@ -71,19 +73,19 @@ newest-back w actor =
 
 pub queued-back : (n : ℕ) (w : Waiting) (es : List (Entry ActorData))
     → changed_at n without_newest (changed_at n (with_request w) es) ≡ es
-queued-back n w es = by (found n es) refl
+queued-back n w es = by (part_under n es) refl
   where
-    by : (o : Option ActorData) → found n es ≡ o
+    by : (o : Option ActorData) → part_under n es ≡ o
         → changed_at n without_newest (changed_found n (with_request w) es o) ≡ es
     by None is = ap (changed_found n without_newest es) is
     by (Some actor) is =
         let more = with_request w actor in
-        let now : found n (replaced n more es) ≡ Some more =
-        found-replaced n more es ∙ ap (option_map (λ _. more)) is in
-        ap (changed_found n without_newest (replaced n more es)) now
-        ∙ replaced-twice n (without_newest more) more es
-        ∙ ap (λ (x : ActorData). replaced n x es) (newest-back w actor)
-        ∙ replaced-same n actor es is
+        let now : part_under n (with_part n more es) ≡ Some more =
+        part_under-with_part n more es ∙ ap (option_map (λ _. more)) is in
+        ap (changed_found n without_newest (with_part n more es)) now
+        ∙ with_part-twice n (without_newest more) more es
+        ∙ ap (λ (x : ActorData). with_part n x es) (newest-back w actor)
+        ∙ with_part-same n actor es is
 
 -- a seat is vacated
 pub absent-vacated : (a : Actor) (es : Entries)
@@ -91,18 +93,18 @@ pub absent-vacated : (a : Actor) (es : Entries)
 absent-vacated a es absent =
     sym (ap (vacated_found (seat_of a) (seen es)) (absent-seen a es absent))
 
-pub vacated-seen : (a : Actor) (v : ActorState) (es : Entries) → lookup (at a) es ≡ Some v
-    → vacated_at (seat_of a) (seen es) ≡ vacated (seat_of a) (actor_view v).hand (seen es)
-vacated-seen a v es is = ap (vacated_found (seat_of a) (seen es)) (state-found a v es is)
+pub with_vacated_seat-seen : (a : Actor) (v : ActorState) (es : Entries) → lookup (at a) es ≡ Some v
+    → vacated_at (seat_of a) (seen es) ≡ with_vacated_seat (seat_of a) (actor_view v).hand (seen es)
+with_vacated_seat-seen a v es is = ap (vacated_found (seat_of a) (seen es)) (state-part_under a v es is)
 
-pub vacated-closed : (n : ℕ) (o : Option Hand) (es : List (Entry ActorData)) → is_some o ≡ true
-    → vacated n o es ≡ replaced n (record { waiting = []; hand = o; is_closed = true }) es
-vacated-closed n (Some h) es is = refl
-vacated-closed n None es is = absurd (cc)
+pub with_vacated_seat-closed : (n : ℕ) (o : Option Hand) (es : List (Entry ActorData)) → is_some o ≡ true
+    → with_vacated_seat n o es ≡ with_part n (record { waiting = []; hand = o; is_closed = true }) es
+with_vacated_seat-closed n (Some h) es is = refl
+with_vacated_seat-closed n None es is = absurd (cc)
 
-pub vacated-gone : (n : ℕ) (o : Option Hand) (es : List (Entry ActorData)) → o ≡ None
-    → vacated n o es ≡ vacated n None es
-vacated-gone n o es none = ap (λ o. vacated n o es) none
+pub with_vacated_seat-gone : (n : ℕ) (o : Option Hand) (es : List (Entry ActorData)) → o ≡ None
+    → with_vacated_seat n o es ≡ with_vacated_seat n None es
+with_vacated_seat-gone n o es none = ap (λ o. with_vacated_seat n o es) none
 
 pub still-some : (o : Option code.Hand) → is_some o ≡ true → is_some (option_map hand_view o) ≡ true
 still-some (Some h) is = refl
@@ -115,7 +117,7 @@ still-none None is = refl
 -- what is read through a reference and not written stays
 pub unwritten : (a : Actor) (v : ActorState) (es : Entries) {fs : Entries} → fs ≡ set_value (at a) es v
     → lookup (at a) es ≡ Some v → fs ≡ es
-unwritten a v es is found = is ∙ set_value_same (at a) es v found
+unwritten a v es is part_under = is ∙ set_value_same (at a) es v part_under
 
 -- the names, in order
 pub names-seen : (es : Entries) → keys_of es ≡ map (λ e. actor_at e.number) (seen es)

@@ -12,21 +12,21 @@ use Rattle.std.specs.Map.{lookup, remove_entry, set_value}
 use Rattle.std.proofs.lemmas.Bool.{eqb-true}
 use Rattle.std.proofs.lemmas.Cmp.{ranked}
 use Rattle.std.proofs.lemmas.List.{map-append}
-use Rattle.server_rules.specs.Numbered.{Entry, entry, found, replaced, without}
+use Rattle.server_rules.specs.Numbered.{Entry, entry, part_under, with_part, without}
 use Rattle.server_rules.specs.Tenant.{ActorData, seat_of}
 use Rattle.server_rules.specs.Ready.{has_work, actor_at}
 use Rattle.server_rules.specs.declared.actor.Actor.{Actor}
 use Rattle.server_rules.specs.contracts.actor.ActorOrd.TheImpl as ord
-use Rattle.tenant_actors.specs.View.{actor_view, named_view, AreBelow}
+use Rattle.tenant_actors.specs.View.{actor_view, actor_entry_view, AreBelow}
 use Rattle.tenant_actors.specs.declared.actor.ActorState.{ActorState}
 use Rattle.tenant_actors.proofs.EntryLaws.{found_first, replaced_first, without_first}
-use Rattle.tenant_actors.proofs.EntryLaws.{replaced-nothing, without-nothing}
+use Rattle.tenant_actors.proofs.EntryLaws.{with_part-nothing, without-nothing}
 
 abbrev pub Entries : Type 0
 Entries = List (Actor × ActorState)
 
 abbrev pub seen : Entries → List (Entry ActorData)
-seen es = map named_view es
+seen es = map actor_entry_view es
 
 -- the derived order of names
 abbrev pub by_name : Actor → Actor → Ordering
@@ -57,22 +57,22 @@ pub seat-back : (a : Actor) → actor_at (seat_of a) ≡ a
 seat-back Actor.Bare = refl
 seat-back (Actor.Session n) = refl
 
-pub found-seen : (a : Actor) (es : Entries)
-    → option_map actor_view (lookup (at a) es) ≡ found (seat_of a) (seen es)
-found-seen a [] = refl
-found-seen a (e ∷ es) =
+pub part_under-seen : (a : Actor) (es : Entries)
+    → option_map actor_view (lookup (at a) es) ≡ part_under (seat_of a) (seen es)
+part_under-seen a [] = refl
+part_under-seen a (e ∷ es) =
     ap (λ (b : Bool). option_map actor_view (cond b (Some e.1) (lookup (at a) es))) (at-seats a e.0)
-    ∙ by (found-seen a es) (seat_of a == seat_of e.0)
+    ∙ by (part_under-seen a es) (seat_of a == seat_of e.0)
   where
-    by : option_map actor_view (lookup (at a) es) ≡ found (seat_of a) (seen es) → (b : Bool)
+    by : option_map actor_view (lookup (at a) es) ≡ part_under (seat_of a) (seen es) → (b : Bool)
         → option_map actor_view (cond b (Some e.1) (lookup (at a) es))
-        ≡ found_first b (actor_view e.1) (found (seat_of a) (seen es))
+        ≡ found_first b (actor_view e.1) (part_under (seat_of a) (seen es))
     by behind true = refl
     by behind false = behind
 
 pub absent-seen : (a : Actor) (es : Entries)
-    → lookup (at a) es ≡ None → found (seat_of a) (seen es) ≡ None
-absent-seen a es absent = sym (found-seen a es) ∙ ap (option_map actor_view) absent
+    → lookup (at a) es ≡ None → part_under (seat_of a) (seen es) ≡ None
+absent-seen a es absent = sym (part_under-seen a es) ∙ ap (option_map actor_view) absent
 
 -- an actor behind a reference
 pub behind-reference : (o : Option (Bor ActorState))
@@ -80,27 +80,27 @@ pub behind-reference : (o : Option (Bor ActorState))
 behind-reference (Some x) = refl
 behind-reference None = refl
 
-pub replaced-seen : (a : Actor) (w : ActorState) (es : Entries)
-    → seen (set_value (at a) es w) ≡ replaced (seat_of a) (actor_view w) (seen es)
-replaced-seen a w [] = refl
-replaced-seen a w (e ∷ es) =
+pub with_part-seen : (a : Actor) (w : ActorState) (es : Entries)
+    → seen (set_value (at a) es w) ≡ with_part (seat_of a) (actor_view w) (seen es)
+with_part-seen a w [] = refl
+with_part-seen a w (e ∷ es) =
     ap (λ (b : Bool). seen (put_first b)) (at-seats a e.0)
-    ∙ by (replaced-seen a w es) (seat_of a == seat_of e.0)
+    ∙ by (with_part-seen a w es) (seat_of a == seat_of e.0)
     (λ is. eqb-true (seat_of a) (seat_of e.0) is)
   where
     put_first : Bool → Entries
     put_first b = cond b ((e.0, w) ∷ es) (e ∷ set_value (at a) es w)
 
-    by : seen (set_value (at a) es w) ≡ replaced (seat_of a) (actor_view w) (seen es)
+    by : seen (set_value (at a) es w) ≡ with_part (seat_of a) (actor_view w) (seen es)
         → (b : Bool) → (b ≡ true → seat_of a ≡ seat_of e.0)
-        → seen (put_first b) ≡ replaced_first b (seat_of a) (actor_view w) (named_view e) (seen es)
+        → seen (put_first b) ≡ replaced_first b (seat_of a) (actor_view w) (actor_entry_view e) (seen es)
     by behind true same = ap (λ (n : ℕ). entry n (actor_view w) ∷ seen es) (sym (same refl))
-    by behind false same = ap (λ (l : List (Entry ActorData)). named_view e ∷ l) behind
+    by behind false same = ap (λ (l : List (Entry ActorData)). actor_entry_view e ∷ l) behind
 
 pub stays-seen : (a : Actor) (w : ActorState) (es : Entries) → lookup (at a) es ≡ None
-    → seen es ≡ replaced (seat_of a) (actor_view w) (seen es)
+    → seen es ≡ with_part (seat_of a) (actor_view w) (seen es)
 stays-seen a w es absent =
-    sym (replaced-nothing (seat_of a) (actor_view w) (seen es) (absent-seen a es absent))
+    sym (with_part-nothing (seat_of a) (actor_view w) (seen es) (absent-seen a es absent))
 
 taken-seen : (a : Actor) (es : Entries)
     → without (seat_of a) (seen (remove_entry (at a) es)) ≡ without (seat_of a) (seen es)
@@ -115,12 +115,12 @@ taken-seen a (e ∷ es) =
     by : without (seat_of a) (seen (remove_entry (at a) es)) ≡ without (seat_of a) (seen es)
         → (b : Bool) → (seat_of a == seat_of e.0) ≡ b
         → without (seat_of a) (seen (left_first b))
-        ≡ without_first b (named_view e) (without (seat_of a) (seen es))
+        ≡ without_first b (actor_entry_view e) (without (seat_of a) (seen es))
     by behind true is = refl
     by behind false is =
         let left = without (seat_of a) (seen (remove_entry (at a) es)) in
-        ap (λ (b : Bool). without_first b (named_view e) left) is
-        ∙ ap (λ (l : List (Entry ActorData)). named_view e ∷ l) behind
+        ap (λ (b : Bool). without_first b (actor_entry_view e) left) is
+        ∙ ap (λ (l : List (Entry ActorData)). actor_entry_view e ∷ l) behind
 
 -- the first entry of a name is taken out, and there is no further one
 pub removed-seen : (a : Actor) (es fs : Entries) → fs ≡ remove_entry (at a) es
@@ -140,12 +140,12 @@ put-behind a v (e ∷ es) below =
     ∙ ap (λ (l : Entries). e ∷ l) (put-behind a v es below.1)
 
 pub added-seen : (a : Actor) (v : ActorState) (es : Entries) → AreBelow (seat_of a) (seen es)
-    → seen (insert_entry by_name es a v) ≡ seen es ++ named_view (a, v) ∷ []
+    → seen (insert_entry by_name es a v) ≡ seen es ++ actor_entry_view (a, v) ∷ []
 added-seen a v es below =
-    ap seen (put-behind a v es below) ∙ map-append named_view es ((a, v) ∷ [])
+    ap seen (put-behind a v es below) ∙ map-append actor_entry_view es ((a, v) ∷ [])
 
 abbrev pub works : Actor × ActorState → Bool
-works e = has_work (named_view e)
+works e = has_work (actor_entry_view e)
 
 -- the name of the first that has work
 pub ready-seen : (es : Entries) → option_map (λ e. e.0) (find works es)
@@ -157,6 +157,6 @@ ready-seen (e ∷ es) = by (ready-seen es) (works e)
         ≡ option_map (λ f. actor_at f.number) (find has_work (seen es)) → (b : Bool)
         → option_map (λ f. f.0) (cond b (Some e) (find works es))
         ≡ option_map (λ f. actor_at f.number)
-        (cond b (Some (named_view e)) (find has_work (seen es)))
+        (cond b (Some (actor_entry_view e)) (find has_work (seen es)))
     by behind true = ap (λ (a : Actor). Some a) (sym (seat-back e.0))
     by behind false = behind

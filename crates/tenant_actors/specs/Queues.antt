@@ -1,7 +1,7 @@
 -- A request is put behind those that wait for an actor, or taken back, and an actor is vacated.
 use Rattle.std.specs.Prelude.{ℕ, ◌-◌, List, [], ◌∷◌, ◌++◌, take, length, Option, None, Some}
-use Rattle.server_rules.specs.Numbered.{Entry, found, replaced}
-use Rattle.server_rules.specs.Operating.{vacated}
+use Rattle.server_rules.specs.Numbered.{Entry, part_under, with_part}
+use Rattle.server_rules.specs.Operating.{with_vacated_seat}
 use Rattle.server_rules.specs.Request.{Waiting}
 use Rattle.server_rules.specs.Tenant.{ActorData}
 
@@ -10,11 +10,11 @@ abbrev pub changed_found
     : ℕ → (ActorData → ActorData) → List (Entry ActorData) → Option ActorData
     → List (Entry ActorData)
 changed_found seat f es None = es
-changed_found seat f es (Some actor) = replaced seat (f actor) es
+changed_found seat f es (Some actor) = with_part seat (f actor) es
 
 abbrev pub changed_at
     : ℕ → (ActorData → ActorData) → List (Entry ActorData) → List (Entry ActorData)
-changed_at seat f es = changed_found seat f es (found seat es)
+changed_at seat f es = changed_found seat f es (part_under seat es)
 
 -- a request waits behind the others
 abbrev pub with_request : Waiting → ActorData → ActorData
@@ -28,7 +28,7 @@ without_newest actor =
 -- the actor that is found at a seat leaves; where there is none, nothing changes
 abbrev pub vacated_found : ℕ → List (Entry ActorData) → Option ActorData → List (Entry ActorData)
 vacated_found seat es None = es
-vacated_found seat es (Some actor) = vacated seat actor.hand es
+vacated_found seat es (Some actor) = with_vacated_seat seat actor.hand es
 
 abbrev pub vacated_at : ℕ → List (Entry ActorData) → List (Entry ActorData)
-vacated_at seat es = vacated_found seat es (found seat es)
+vacated_at seat es = vacated_found seat es (part_under seat es)

@@ -50,11 +50,11 @@ actor_view a = record {
   is_closed = a.is_closed;
 }
 
-abbrev pub named_view : Actor × ActorState → Entry ActorData
-named_view e = entry (seat_of e.0) (actor_view e.1)
+abbrev pub actor_entry_view : Actor × ActorState → Entry ActorData
+actor_entry_view e = entry (seat_of e.0) (actor_view e.1)
 
 abbrev pub actors_view : Actors → List (Entry ActorData)
-actors_view a = map named_view a.live.entries
+actors_view a = map actor_entry_view a.live.entries
 
 -- all have lower seats than this
 abbrev pub AreBelow : ℕ → List (Entry ActorData) → Type 0

@@ -1,6 +1,6 @@
 // The actors by their names.
 ghost use Rattle.std.specs.Prelude.{◌≡◌, [], ◌∷◌, ◌++◌, find, map, option_map, IfOk, OnOk, OnErr};
-ghost use Rattle.server_rules.specs.Numbered.{entry, found, replaced, without};
+ghost use Rattle.server_rules.specs.Numbered.{entry, part_under, with_part, without};
 ghost use Rattle.server_rules.specs.Ready.{has_work, actor_at};
 ghost use Rattle.server_rules.specs.Tenant.{seat_of, unoccupied};
 ghost use Rattle.tenant_actors.specs.View.{actor_view, actors_view, AreBelow};
@@ -19,7 +19,7 @@ pub struct Actors {
     pub(crate) live: BTreeMap<Actor, ActorState>,
 }
 
-// Each takes about the logarithm of the number of actors.
+// Each takes about the logarithm of the number of actors, but `ready`, which may pass all of them.
 impl Actors {
     /// The actor of the requests without a session, alone. It fails only for want of memory.
     pub fn new(alloc: Global) -> Result<Actors, AllocError>
@@ -34,7 +34,7 @@ impl Actors {
     /// The actor of this name, if it is there.
     pub fn get(&self, actor: Actor) -> Option<&ActorState>
         ensures { option_map (λ it. actor_view it.now) result
-            ≡ found (seat_of actor) (actors_view self.now) }
+            ≡ part_under (seat_of actor) (actors_view self.now) }
     {
         self.live.get(&actor)
     }
@@ -42,9 +42,9 @@ impl Actors {
     /// Puts this one in the place of the actor of this name, if it is there, and gives that one
     /// back.
     pub fn replace(&mut self, actor: Actor, state: ActorState) -> Option<ActorState>
-        ensures was { option_map actor_view result ≡ found (seat_of actor) (actors_view self.old) }
+        ensures was { option_map actor_view result ≡ part_under (seat_of actor) (actors_view self.old) }
         ensures put { actors_view self.new
-            ≡ replaced (seat_of actor) (actor_view state) (actors_view self.old) }
+            ≡ with_part (seat_of actor) (actor_view state) (actors_view self.old) }
     {
         let Some(place) = self.live.get_mut(&actor) else {
             return None;

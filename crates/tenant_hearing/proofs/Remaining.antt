@@ -1,6 +1,7 @@
 -- The sessions that remain, as more leave or are made.
-use Rattle.std.proofs.Common.{◌≡◌, ℕ, ◌+◌, ◌==◌, Bool, true, false, not, ◌||◌, ◌&&◌, cond, List, [], ◌∷◌, ◌++◌}
-use Rattle.std.proofs.Common.{filter, find, Option, Some, None, option_map, is_some, refl, sym, ap, ◌∙◌, ◌<◌, length, unwrap_or, true≢false, arith}
+use Rattle.std.proofs.Common.{◌≡◌, ℕ, ◌+◌, ◌==◌, Bool, true, false, not, ◌||◌, ◌&&◌, cond, List, []}
+use Rattle.std.proofs.Common.{◌∷◌, ◌++◌, filter, find, Option, Some, None, option_map, is_some}
+use Rattle.std.proofs.Common.{refl, sym, ap, ◌∙◌, ◌<◌, length, unwrap_or, true≢false, arith}
 use Rattle.std.specs.BTreeSet.{insert_key}
 use Rattle.std.specs.Ordering.{nat_cmp, match_ordering, MatchOrdering}
 use Rattle.std.specs.declared.cmp.Ordering.{Ordering}
@@ -9,8 +10,9 @@ use Rattle.std.proofs.lemmas.Bool.{eqb-true, eq-eqb}
 use Rattle.std.proofs.lemmas.Cmp.{ranked}
 use Rattle.std.proofs.lemmas.List.Elements.{filter-append}
 use Rattle.repl_sessions.specs.State.{StateData, fresh}
-use Rattle.repl_sessions.specs.Sessions.{SessionData, SessionsData, is_numbered, state_of, is_open, first_state, opened_with, closed}
-use Rattle.repl_sessions.specs.Leaving.{is_leaving, remaining, remaining_named}
+use Rattle.repl_sessions.specs.Sessions.{SessionData, SessionsData, is_numbered, state_of, is_open}
+use Rattle.repl_sessions.specs.Sessions.{cloned_state, opened_with, without_session}
+use Rattle.repl_sessions.specs.Leaving.{is_leaving, remaining_sessions, remaining_named}
 use Rattle.repl_sessions.specs.Named.{NamedSessions}
 
 same-test : (n m : ℕ) → (n == m) ≡ (m == n)
@@ -68,15 +70,15 @@ not-or-first : (a b : Bool) → not (a || b) ≡ (not a && not b)
 not-or-first true b = refl
 not-or-first false b = refl
 
-pub remaining-inserted : (n : ℕ) (ks : List ℕ) (s : SessionsData) → remaining (insert_key nat_cmp ks n) s ≡ closed (remaining ks s) n
-remaining-inserted n ks s =
+pub remaining_sessions-inserted : (n : ℕ) (ks : List ℕ) (s : SessionsData) → remaining_sessions (insert_key nat_cmp ks n) s ≡ without_session (remaining_sessions ks s) n
+remaining_sessions-inserted n ks s =
     ap (λ (l : List SessionData). record s { live = l })
     (sym (filter-filter (λ x. not (is_numbered n x)) (λ x. not (is_leaving ks x.number)) (λ x. not (is_leaving (insert_key nat_cmp ks n) x.number)) s.live
     (λ x. ap not (leaving-inserted n ks x.number ∙ ap (λ (b : Bool). b || is_leaving ks x.number) (same-test x.number n))
     ∙ not-or (n == x.number) (is_leaving ks x.number))))
 
-pub remaining-first : (k : ℕ) (ks : List ℕ) (s : SessionsData) → remaining (k ∷ ks) s ≡ remaining ks (closed s k)
-remaining-first k ks s =
+pub remaining_sessions-first : (k : ℕ) (ks : List ℕ) (s : SessionsData) → remaining_sessions (k ∷ ks) s ≡ remaining_sessions ks (without_session s k)
+remaining_sessions-first k ks s =
     ap (λ (l : List SessionData). record s { live = l })
     (sym (filter-filter (λ x. not (is_leaving ks x.number)) (λ x. not (is_numbered k x)) (λ x. not (is_leaving (k ∷ ks) x.number)) s.live
     (λ x. ap (λ (b : Bool). not (b || is_leaving ks x.number)) (same-test x.number k) ∙ not-or-first (k == x.number) (is_leaving ks x.number))))
@@ -86,8 +88,8 @@ filter-all p [] h = refl
 filter-all {X} p (x ∷ xs) h =
     ap (λ (b : Bool). cond b (x ∷ filter p xs) (filter p xs)) (h x) ∙ ap (λ (l : List X). x ∷ l) (filter-all p xs h)
 
-pub remaining-none : (s : SessionsData) → remaining [] s ≡ s
-remaining-none s = ap (λ (l : List SessionData). record s { live = l }) (filter-all (λ x. not (is_leaving [] x.number)) s.live (λ x. refl))
+pub remaining_sessions-none : (s : SessionsData) → remaining_sessions [] s ≡ s
+remaining_sessions-none s = ap (λ (l : List SessionData). record s { live = l }) (filter-all (λ x. not (is_leaving [] x.number)) s.live (λ x. refl))
 
 -- one session among those that remain
 find-remaining : (ks : List ℕ) (n : ℕ) (xs : List SessionData) → is_leaving ks n ≡ false
@@ -107,8 +109,8 @@ find-remaining ks n (x ∷ xs) absent =
     by true false i j ih = ih
     by false c i j ih = ap (λ (b : Bool). cond b (Some x) (find (is_numbered n) rest)) j ∙ ap (cond c (Some x)) ih
 
-pub state-remaining : (ks : List ℕ) (n : ℕ) (s : SessionsData) → is_leaving ks n ≡ false → state_of (remaining ks s) n ≡ state_of s n
-state-remaining ks n s absent = ap (option_map (λ x. x.state)) (find-remaining ks n s.live absent)
+pub state-remaining_sessions : (ks : List ℕ) (n : ℕ) (s : SessionsData) → is_leaving ks n ≡ false → state_of (remaining_sessions ks s) n ≡ state_of s n
+state-remaining_sessions ks n s absent = ap (option_map (λ x. x.state)) (find-remaining ks n s.live absent)
 
 find-leaving : (ks : List ℕ) (n : ℕ) (xs : List SessionData) → is_leaving ks n ≡ true
     → find (is_numbered n) (filter (λ x. not (is_leaving ks x.number)) xs) ≡ None
@@ -127,22 +129,22 @@ find-leaving ks n (x ∷ xs) is =
         absurd (true≢false (sym is ∙ ap (is_leaving ks) same ∙ i))
     by false false i j ih = ap (λ (b : Bool). cond b (Some x) (find (is_numbered n) rest)) j ∙ ih
 
-pub open-remaining : (ks : List ℕ) (n : ℕ) (s : SessionsData) → is_open (remaining ks s) n ≡ true → is_leaving ks n ≡ false
-open-remaining ks n s is = by (is_leaving ks n) refl
+pub open-remaining_sessions : (ks : List ℕ) (n : ℕ) (s : SessionsData) → is_open (remaining_sessions ks s) n ≡ true → is_leaving ks n ≡ false
+open-remaining_sessions ks n s is = by (is_leaving ks n) refl
   where
     by : (b : Bool) → is_leaving ks n ≡ b → is_leaving ks n ≡ false
     by true i =
-        let none : is_open (remaining ks s) n ≡ false = ap (λ (o : Option SessionData). is_some (option_map (λ x. x.state) o)) (find-leaving ks n s.live i) in
+        let none : is_open (remaining_sessions ks s) n ≡ false = ap (λ (o : Option SessionData). is_some (option_map (λ x. x.state) o)) (find-leaving ks n s.live i) in
         absurd (true≢false (sym is ∙ none))
     by false i = i
 
-pub open-still : (ks : List ℕ) (n : ℕ) (s : SessionsData) → is_open (remaining ks s) n ≡ true → is_open s n ≡ true
-open-still ks n s is = sym (ap is_some (state-remaining ks n s (open-remaining ks n s is))) ∙ is
+pub open-still : (ks : List ℕ) (n : ℕ) (s : SessionsData) → is_open (remaining_sessions ks s) n ≡ true → is_open s n ≡ true
+open-still ks n s is = sym (ap is_some (state-remaining_sessions ks n s (open-remaining_sessions ks n s is))) ∙ is
 
 -- a session more, which is not leaving
-pub remaining-opened : (ks : List ℕ) (s : SessionsData) (state : StateData) → is_leaving ks s.opened ≡ false
-    → remaining ks (opened_with s state) ≡ opened_with (remaining ks s) state
-remaining-opened ks s state absent =
+pub remaining_sessions-opened : (ks : List ℕ) (s : SessionsData) (state : StateData) → is_leaving ks s.opened ≡ false
+    → remaining_sessions ks (opened_with s state) ≡ opened_with (remaining_sessions ks s) state
+remaining_sessions-opened ks s state absent =
     ap (λ (l : List SessionData). record { opened = s.opened + 1; live = l })
     (filter-append (λ x. not (is_leaving ks x.number)) s.live (new ∷ [])
     ∙ ap (λ (b : Bool). filter (λ x. not (is_leaving ks x.number)) s.live ++ cond (not b) (new ∷ []) []) absent)
@@ -150,9 +152,9 @@ remaining-opened ks s state absent =
     new : SessionData
     new = record { number = s.opened; state = state }
 
-pub first-remaining : (ks : List ℕ) (s : SessionsData) (n : ℕ) → is_leaving ks n ≡ false → first_state (remaining ks s) (Some n) ≡ first_state s (Some n)
-first-remaining ks s n absent = ap (λ (o : Option StateData). unwrap_or o fresh) (state-remaining ks n s absent)
+pub first-remaining_sessions : (ks : List ℕ) (s : SessionsData) (n : ℕ) → is_leaving ks n ≡ false → cloned_state (remaining_sessions ks s) (Some n) ≡ cloned_state s (Some n)
+first-remaining_sessions ks s n absent = ap (λ (o : Option StateData). unwrap_or o fresh) (state-remaining_sessions ks n s absent)
 
 pub remaining-all : (s : NamedSessions) (ks : List ℕ) → (0 < length ks → ⊥) → s ≡ remaining_named ks s
-remaining-all s [] none = ap (λ x. record s { sessions = x }) (sym (remaining-none s.sessions))
+remaining-all s [] none = ap (λ x. record s { sessions = x }) (sym (remaining_sessions-none s.sessions))
 remaining-all s (k ∷ ks) none = absurd (none (omega arith))

@@ -1,6 +1,6 @@
 -- Seats that are vacated, among other changes.
-use Rattle.std.proofs.Common.{◌≡◌, ℕ, suc, ◌==◌, Bool, true, false, List, [], ◌∷◌, ◌++◌}
-use Rattle.std.proofs.Common.{Option, Some, None, refl, sym, ap, ◌∙◌, ◌||◌, ◌<◌, true≢false, arith}
+use Rattle.std.proofs.Common.{◌≡◌, ℕ, suc, ◌==◌, Bool, true, false, List, [], ◌∷◌, ◌++◌, Option}
+use Rattle.std.proofs.Common.{Some, None, refl, sym, ap, ◌∙◌, ◌||◌, ◌<◌, true≢false, arith}
 use Rattle.std.specs.BTreeSet.{insert_key}
 use Rattle.std.specs.Ordering.{nat_cmp, match_ordering, MatchOrdering}
 use Rattle.std.specs.declared.cmp.Ordering.{Ordering}
@@ -8,92 +8,94 @@ use Rattle.std.specs.declared.cmp.Ordering.TheVariants.{Less, Equal, Greater}
 use Rattle.std.proofs.lemmas.Bool.{eq-eqb}
 use Rattle.std.proofs.lemmas.Cmp.{ranked}
 use Rattle.repl_sessions.specs.Leaving.{is_leaving}
-use Rattle.server_rules.specs.Numbered.{Entry, entry, found, replaced, without}
-use Rattle.server_rules.specs.Operating.{vacated}
+use Rattle.server_rules.specs.Numbered.{Entry, entry, part_under, with_part, without}
+use Rattle.server_rules.specs.Operating.{with_vacated_seat}
 use Rattle.server_rules.specs.Request.{Hand}
 use Rattle.server_rules.specs.Tenant.{ActorData}
 use Rattle.tenant_actors.specs.Queues.{changed_found, changed_at, vacated_found, vacated_at}
 use Rattle.tenant_actors.specs.View.{AreBelow}
 use Rattle.tenant_hearing.specs.Scene.{all_vacated}
-use Rattle.tenant_hearing.proofs.Apart.{found-replaced-apart, found-without-apart, replaced-replaced-apart, replaced-without-apart, without-without}
-use Rattle.tenant_hearing.proofs.Apart.{found-added, replaced-added, without-added, below-replaced, below-without}
+use Rattle.tenant_hearing.proofs.Apart.{part_under-with_part-apart, part_under-without-apart}
+use Rattle.tenant_hearing.proofs.Apart.{with_part-with_part-apart, with_part-without-apart}
+use Rattle.tenant_hearing.proofs.Apart.{without-without, part_under-added, with_part-added}
+use Rattle.tenant_hearing.proofs.Apart.{without-added, below-with_part, below-without}
 
 abbrev pub Actors : Type 0
 Actors = List (Entry ActorData)
 
 -- one seat
-found-vacated : (n m : ℕ) (h : Option Hand) (es : Actors) → (n ≡ m → ⊥) → found n (vacated m h es) ≡ found n es
-found-vacated n m None es apart = found-without-apart n m es apart
-found-vacated n m (Some h) es apart = found-replaced-apart n m _ es apart
+part_under-with_vacated_seat : (n m : ℕ) (h : Option Hand) (es : Actors) → (n ≡ m → ⊥) → part_under n (with_vacated_seat m h es) ≡ part_under n es
+part_under-with_vacated_seat n m None es apart = part_under-without-apart n m es apart
+part_under-with_vacated_seat n m (Some h) es apart = part_under-with_part-apart n m _ es apart
 
-replaced-vacated : (n m : ℕ) (x : ActorData) (h : Option Hand) (es : Actors) → (n ≡ m → ⊥)
-    → replaced n x (vacated m h es) ≡ vacated m h (replaced n x es)
-replaced-vacated n m x None es apart = replaced-without-apart n m x es apart
-replaced-vacated n m x (Some h) es apart = replaced-replaced-apart n m x _ es apart
+with_part-with_vacated_seat : (n m : ℕ) (x : ActorData) (h : Option Hand) (es : Actors) → (n ≡ m → ⊥)
+    → with_part n x (with_vacated_seat m h es) ≡ with_vacated_seat m h (with_part n x es)
+with_part-with_vacated_seat n m x None es apart = with_part-without-apart n m x es apart
+with_part-with_vacated_seat n m x (Some h) es apart = with_part-with_part-apart n m x _ es apart
 
-without-vacated : (n m : ℕ) (h : Option Hand) (es : Actors) → (n ≡ m → ⊥)
-    → without n (vacated m h es) ≡ vacated m h (without n es)
-without-vacated n m None es apart = without-without n m es
-without-vacated n m (Some h) es apart = sym (replaced-without-apart m n _ es (λ same. apart (sym same)))
+without-with_vacated_seat : (n m : ℕ) (h : Option Hand) (es : Actors) → (n ≡ m → ⊥)
+    → without n (with_vacated_seat m h es) ≡ with_vacated_seat m h (without n es)
+without-with_vacated_seat n m None es apart = without-without n m es
+without-with_vacated_seat n m (Some h) es apart = sym (with_part-without-apart m n _ es (λ same. apart (sym same)))
 
-vacated-vacated : (n m : ℕ) (h k : Option Hand) (es : Actors) → (n ≡ m → ⊥)
-    → vacated n h (vacated m k es) ≡ vacated m k (vacated n h es)
-vacated-vacated n m None k es apart = without-vacated n m k es apart
-vacated-vacated n m (Some h) k es apart = replaced-vacated n m _ k es apart
+with_vacated_seat-with_vacated_seat : (n m : ℕ) (h k : Option Hand) (es : Actors) → (n ≡ m → ⊥)
+    → with_vacated_seat n h (with_vacated_seat m k es) ≡ with_vacated_seat m k (with_vacated_seat n h es)
+with_vacated_seat-with_vacated_seat n m None k es apart = without-with_vacated_seat n m k es apart
+with_vacated_seat-with_vacated_seat n m (Some h) k es apart = with_part-with_vacated_seat n m _ k es apart
 
-vacated-added : (n m : ℕ) (x : ActorData) (h : Option Hand) (es : Actors) → (n ≡ m → ⊥)
-    → vacated n h (es ++ entry m x ∷ []) ≡ vacated n h es ++ entry m x ∷ []
-vacated-added n m x None es apart = without-added n m x es apart
-vacated-added n m x (Some h) es apart = replaced-added n m x _ es apart
+with_vacated_seat-added : (n m : ℕ) (x : ActorData) (h : Option Hand) (es : Actors) → (n ≡ m → ⊥)
+    → with_vacated_seat n h (es ++ entry m x ∷ []) ≡ with_vacated_seat n h es ++ entry m x ∷ []
+with_vacated_seat-added n m x None es apart = without-added n m x es apart
+with_vacated_seat-added n m x (Some h) es apart = with_part-added n m x _ es apart
 
 -- the seat where an actor is found
-found-left : (n m : ℕ) (o : Option ActorData) (es : Actors) → (n ≡ m → ⊥) → found n (vacated_found m es o) ≡ found n es
-found-left n m None es apart = refl
-found-left n m (Some x) es apart = found-vacated n m x.hand es apart
+part_under-left : (n m : ℕ) (o : Option ActorData) (es : Actors) → (n ≡ m → ⊥) → part_under n (vacated_found m es o) ≡ part_under n es
+part_under-left n m None es apart = refl
+part_under-left n m (Some x) es apart = part_under-with_vacated_seat n m x.hand es apart
 
-pub found-one : (n m : ℕ) (es : Actors) → (n ≡ m → ⊥) → found n (vacated_at m es) ≡ found n es
-found-one n m es apart = found-left n m (found m es) es apart
+pub part_under-one : (n m : ℕ) (es : Actors) → (n ≡ m → ⊥) → part_under n (vacated_at m es) ≡ part_under n es
+part_under-one n m es apart = part_under-left n m (part_under m es) es apart
 
 left-left : (n m : ℕ) (o p : Option ActorData) (es : Actors) → (n ≡ m → ⊥)
     → vacated_found n (vacated_found m es p) o ≡ vacated_found m (vacated_found n es o) p
 left-left n m None p es apart = refl
 left-left n m (Some x) None es apart = refl
-left-left n m (Some x) (Some y) es apart = vacated-vacated n m x.hand y.hand es apart
+left-left n m (Some x) (Some y) es apart = with_vacated_seat-with_vacated_seat n m x.hand y.hand es apart
 
 pub vacated-one : (n m : ℕ) (es : Actors) → (n ≡ m → ⊥) → vacated_at n (vacated_at m es) ≡ vacated_at m (vacated_at n es)
 vacated-one n m es apart =
-    ap (vacated_found n (vacated_at m es)) (found-one n m es apart)
-    ∙ left-left n m (found n es) (found m es) es apart
-    ∙ sym (ap (vacated_found m (vacated_at n es)) (found-one m n es (λ same. apart (sym same))))
+    ap (vacated_found n (vacated_at m es)) (part_under-one n m es apart)
+    ∙ left-left n m (part_under n es) (part_under m es) es apart
+    ∙ sym (ap (vacated_found m (vacated_at n es)) (part_under-one m n es (λ same. apart (sym same))))
 
-found-changed : (n m : ℕ) (f : ActorData → ActorData) (o : Option ActorData) (es : Actors) → (n ≡ m → ⊥)
-    → found n (changed_found m f es o) ≡ found n es
-found-changed n m f None es apart = refl
-found-changed n m f (Some x) es apart = found-replaced-apart n m (f x) es apart
+part_under-changed : (n m : ℕ) (f : ActorData → ActorData) (o : Option ActorData) (es : Actors) → (n ≡ m → ⊥)
+    → part_under n (changed_found m f es o) ≡ part_under n es
+part_under-changed n m f None es apart = refl
+part_under-changed n m f (Some x) es apart = part_under-with_part-apart n m (f x) es apart
 
 changed-left : (n m : ℕ) (f : ActorData → ActorData) (o p : Option ActorData) (es : Actors) → (n ≡ m → ⊥)
     → changed_found n f (vacated_found m es p) o ≡ vacated_found m (changed_found n f es o) p
 changed-left n m f None p es apart = refl
 changed-left n m f (Some x) None es apart = refl
-changed-left n m f (Some x) (Some y) es apart = replaced-vacated n m (f x) y.hand es apart
+changed-left n m f (Some x) (Some y) es apart = with_part-with_vacated_seat n m (f x) y.hand es apart
 
 pub changed-one : (n m : ℕ) (f : ActorData → ActorData) (es : Actors) → (n ≡ m → ⊥)
     → changed_at n f (vacated_at m es) ≡ vacated_at m (changed_at n f es)
 changed-one n m f es apart =
-    ap (changed_found n f (vacated_at m es)) (found-one n m es apart)
-    ∙ changed-left n m f (found n es) (found m es) es apart
-    ∙ sym (ap (vacated_found m (changed_at n f es)) (found-changed m n f (found n es) es (λ same. apart (sym same))))
+    ap (changed_found n f (vacated_at m es)) (part_under-one n m es apart)
+    ∙ changed-left n m f (part_under n es) (part_under m es) es apart
+    ∙ sym (ap (vacated_found m (changed_at n f es)) (part_under-changed m n f (part_under n es) es (λ same. apart (sym same))))
 
 added-left : (n m : ℕ) (x : ActorData) (o : Option ActorData) (es : Actors) → (n ≡ m → ⊥)
     → vacated_found n (es ++ entry m x ∷ []) o ≡ vacated_found n es o ++ entry m x ∷ []
 added-left n m x None es apart = refl
-added-left n m x (Some y) es apart = vacated-added n m x y.hand es apart
+added-left n m x (Some y) es apart = with_vacated_seat-added n m x y.hand es apart
 
 pub added-one : (n m : ℕ) (x : ActorData) (es : Actors) → (n ≡ m → ⊥)
     → vacated_at n (es ++ entry m x ∷ []) ≡ vacated_at n es ++ entry m x ∷ []
 added-one n m x es apart =
-    ap (vacated_found n (es ++ entry m x ∷ [])) (found-added n m x es apart)
-    ∙ added-left n m x (found n es) es apart
+    ap (vacated_found n (es ++ entry m x ∷ [])) (part_under-added n m x es apart)
+    ∙ added-left n m x (part_under n es) es apart
 
 -- a seat is none of these sessions'
 abbrev pub IsApart : ℕ → List ℕ → Type 0
@@ -115,9 +117,9 @@ staying-apart n (k ∷ ks) absent = by (n == k) refl absent (λ later. staying-a
         apart : (n == k) ≡ false → n ≡ k → ⊥
         apart i same = let yes : (n == k) ≡ true = eq-eqb n k same in true≢false (sym yes ∙ i)
 
-pub all-found : (seat : ℕ) (ks : List ℕ) (es : Actors) → IsApart seat ks → found seat (all_vacated ks es) ≡ found seat es
-all-found seat [] es apart = refl
-all-found seat (k ∷ ks) es apart = all-found seat ks (vacated_at (suc k) es) apart.1 ∙ found-one seat (suc k) es apart.0
+pub all-part_under : (seat : ℕ) (ks : List ℕ) (es : Actors) → IsApart seat ks → part_under seat (all_vacated ks es) ≡ part_under seat es
+all-part_under seat [] es apart = refl
+all-part_under seat (k ∷ ks) es apart = all-part_under seat ks (vacated_at (suc k) es) apart.1 ∙ part_under-one seat (suc k) es apart.0
 
 pub all-changed : (seat : ℕ) (f : ActorData → ActorData) (ks : List ℕ) (es : Actors) → IsApart seat ks
     → changed_at seat f (all_vacated ks es) ≡ all_vacated ks (changed_at seat f es)
@@ -159,17 +161,17 @@ below-left : (m n : ℕ) (o : Option ActorData) (es : Actors) → AreBelow m es 
 below-left m n None es below = below
 below-left m n (Some x) es below = by x.hand
   where
-    by : (h : Option Hand) → AreBelow m (vacated n h es)
+    by : (h : Option Hand) → AreBelow m (with_vacated_seat n h es)
     by None = below-without m n es below
-    by (Some h) = below-replaced m n _ es below
+    by (Some h) = below-with_part m n _ es below
 
 pub below-all : (m : ℕ) (ks : List ℕ) (es : Actors) → AreBelow m es → AreBelow m (all_vacated ks es)
 below-all m [] es below = below
-below-all m (k ∷ ks) es below = below-all m ks (vacated_at (suc k) es) (below-left m (suc k) (found (suc k) es) es below)
+below-all m (k ∷ ks) es below = below-all m ks (vacated_at (suc k) es) (below-left m (suc k) (part_under (suc k) es) es below)
 
 pub below-changed : (m n : ℕ) (f : ActorData → ActorData) (es : Actors) → AreBelow m es → AreBelow m (changed_at n f es)
-below-changed m n f es below = by (found n es)
+below-changed m n f es below = by (part_under n es)
   where
     by : (o : Option ActorData) → AreBelow m (changed_found n f es o)
     by None = below
-    by (Some x) = below-replaced m n (f x) es below
+    by (Some x) = below-with_part m n (f x) es below

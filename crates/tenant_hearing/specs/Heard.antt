@@ -6,12 +6,12 @@ use Rattle.server_rules.specs.Ground.{Ground}
 use Rattle.server_rules.specs.Hearing.{new_messages, taken_in}
 use Rattle.server_rules.specs.Numbered.{Entry}
 use Rattle.server_rules.specs.Tenant.{ActorData, Quiet}
-use Rattle.tenant_hearing.specs.Holds.{Holds}
-use Rattle.tenant_hearing.specs.Reads.{Reads}
+use Rattle.tenant_hearing.specs.Holds.{PartsStandFor}
+use Rattle.tenant_hearing.specs.HasReadAll.{HasReadAll}
 
 pub record IsHeard (g : Ground) (t : ℕ) (q : Quiet) (piece : List ℕ) (count : ℕ)
     (d : Decoder) (s : NamedSessions) (es : List (Entry ActorData)) (waiting : List (List ℕ))
     : Type 0 where
   pub messages : count ≡ length (new_messages g.readings q.heard piece)
-  pub reads : Reads g (taken_in g t piece q).heard d
-  pub holds : Holds g t (taken_in g t piece q) s es waiting
+  pub reads : HasReadAll g (taken_in g t piece q).heard d
+  pub holds : PartsStandFor g t (taken_in g t piece q) s es waiting

@@ -9,7 +9,7 @@ use Rattle.server_rules.specs.Tenant.{ActorData, Quiet}
 use Rattle.tenant_actors.specs.View.{AreBelow}
 
 -- sessions, actors and the bytes of the replies that wait are those of the tenant
-pub record Holds (g : Ground) (t : ℕ) (q : Quiet)
+pub record PartsStandFor (g : Ground) (t : ℕ) (q : Quiet)
     (s : NamedSessions) (es : List (Entry ActorData)) (waiting : List (List ℕ)) : Type 0 where
   pub sessions : s ≡ named_sessions g t q
   pub actors : es ≡ q.actors

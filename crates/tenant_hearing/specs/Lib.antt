@@ -3,6 +3,6 @@ pub mod Undone
 pub mod Scene
 pub mod Served
 pub mod Requested
-pub mod Taken
-pub mod Reads
+pub mod Handled
+pub mod HasReadAll
 pub mod Heard

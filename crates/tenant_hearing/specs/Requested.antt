@@ -1,10 +1,10 @@
 -- A request that waits.
-use Rattle.server_rules.specs.Numbered.{found}
+use Rattle.server_rules.specs.Numbered.{part_under}
 use Rattle.server_rules.specs.Operating.{queued_for}
 use Rattle.server_rules.specs.Request.{Waiting}
 use Rattle.server_rules.specs.Tenant.{Quiet, seat_of}
 use Rattle.server_rules.specs.declared.actor.Actor.{Actor}
 
 -- a request waits behind the others of its actor
-abbrev pub requested : Actor → Waiting → Quiet → Quiet
-requested a w q = queued_for a w q (found (seat_of a) q.actors)
+abbrev pub with_queued_request : Actor → Waiting → Quiet → Quiet
+with_queued_request a w q = queued_for a w q (part_under (seat_of a) q.actors)

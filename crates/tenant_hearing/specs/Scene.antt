@@ -3,7 +3,7 @@
 use Rattle.std.specs.Prelude.{◌≡◌, ℕ, ◌<◌, List, [], ◌∷◌, ◌++◌, map, true}
 use Rattle.std.specs.BTreeSet.{keys}
 use Rattle.repl_sessions.specs.Named.{NamedSessions}
-use Rattle.repl_sessions.specs.Leaving.{is_leaving, remaining}
+use Rattle.repl_sessions.specs.Leaving.{is_leaving, remaining_sessions}
 use Rattle.repl_replies.specs.Replies.{bytes_of}
 use Rattle.server_rules.specs.Ground.{Ground}
 use Rattle.server_rules.specs.Numbered.{Entry}
@@ -14,16 +14,16 @@ use Rattle.tenant_actors.specs.Queues.{vacated_at}
 use Rattle.tenant_actors.specs.View.{actors_view}
 use Rattle.tenant_actors.specs.declared.actors.Actors.{Actors}
 use Rattle.tenant_replies.specs.View.{made_bytes}
-use Rattle.tenant_hearing.specs.Undone.{parts, all_undone}
+use Rattle.tenant_hearing.specs.Undone.{sessions_and_actors, all_undone}
 use Rattle.tenant_hearing.specs.Holds.{AreSeated}
 use Rattle.tenant_hearing.specs.declared.draft.Draft.{Draft}
-use Rattle.tenant_hearing.specs.declared.changes.Change.{Change}
+use Rattle.tenant_hearing.specs.declared.changes.LoggedChange.{LoggedChange}
 
 pub record Scene : Type 0 where
   pub sessions : NamedSessions
   pub actors : List (Entry ActorData)
   -- what was changed, oldest first
-  pub log : List Change
+  pub log : List LoggedChange
   -- the sessions that leave at the end, and the bytes of the replies that were made
   pub leaving : List ℕ
   pub made : List (List ℕ)
@@ -47,18 +47,18 @@ all_vacated (n ∷ ns) es = all_vacated ns (vacated_at (seat_of (Actor.Session n
 pub record Drafts (g : Ground) (t : ℕ) (q : Quiet) (waiting : List (List ℕ)) (x : Scene)
     : Type 0 where
   pub ids : x.sessions.ids ≡ ids_for g t
-  pub sessions : q.sessions ≡ remaining x.leaving x.sessions.sessions
+  pub sessions : q.sessions ≡ remaining_sessions x.leaving x.sessions.sessions
   pub actors : q.actors ≡ all_vacated x.leaving x.actors
   pub replies : map bytes_of q.replies ≡ waiting ++ x.made
   pub given : (n : ℕ) → is_leaving x.leaving n ≡ true → n < x.sessions.sessions.opened
 
 -- what was so by the rules comes to what this makes of it
-abbrev pub Comes : (Ground → ℕ → Quiet → Quiet) → Scene → Scene → Type 0
-Comes step old new = (g : Ground) (t : ℕ) (q : Quiet) (waiting : List (List ℕ))
+abbrev pub FollowsRules : (Ground → ℕ → Quiet → Quiet) → Scene → Scene → Type 0
+FollowsRules step old new = (g : Ground) (t : ℕ) (q : Quiet) (waiting : List (List ℕ))
     → Drafts g t q waiting old → Drafts g t (step g t q) waiting new
 
 -- what was changed can be undone, and the next session finds its seat free
 pub record IsKept (old new : Scene) : Type 0 where
-  pub undone : all_undone new.log (parts new.sessions new.actors)
-      ≡ all_undone old.log (parts old.sessions old.actors)
+  pub undone : all_undone new.log (sessions_and_actors new.sessions new.actors)
+      ≡ all_undone old.log (sessions_and_actors old.sessions old.actors)
   pub seated : AreSeated new.sessions new.actors

@@ -1,33 +1,33 @@
 -- What messages changed is undone, the newest change first.
 use Rattle.std.specs.Prelude.{List, [], ◌∷◌}
 use Rattle.repl_sessions.specs.Named.{NamedSessions}
-use Rattle.repl_sessions.specs.Retracted.{retracted}
+use Rattle.repl_sessions.specs.Retracted.{without_newest_session}
 use Rattle.server_rules.specs.Numbered.{Entry, without}
 use Rattle.server_rules.specs.Tenant.{ActorData, seat_of}
 use Rattle.server_rules.specs.declared.actor.Actor.{Actor}
 use Rattle.tenant_actors.specs.Queues.{changed_at, without_newest}
-use Rattle.tenant_hearing.specs.declared.changes.Change.{Change}
+use Rattle.tenant_hearing.specs.declared.changes.LoggedChange.{LoggedChange}
 
 -- what messages change, but for the replies
-pub record Parts : Type 0 where
+pub record SessionsAndActors : Type 0 where
   pub sessions : NamedSessions
   pub actors : List (Entry ActorData)
 
-abbrev pub parts : NamedSessions → List (Entry ActorData) → Parts
-parts sessions actors = record { sessions = sessions; actors = actors }
+abbrev pub sessions_and_actors : NamedSessions → List (Entry ActorData) → SessionsAndActors
+sessions_and_actors sessions actors = record { sessions = sessions; actors = actors }
 
 abbrev pub retracted_named : NamedSessions → NamedSessions
-retracted_named s = record s { sessions = retracted s.sessions }
+retracted_named s = record s { sessions = without_newest_session s.sessions }
 
-abbrev pub undone : Change → Parts → Parts
-undone (Change.Cloned number) p = record {
+abbrev pub undone : LoggedChange → SessionsAndActors → SessionsAndActors
+undone (LoggedChange.Cloned number) p = record {
   sessions = retracted_named p.sessions;
   actors = without (seat_of (Actor.Session number)) p.actors;
 }
-undone (Change.Queued actor) p =
+undone (LoggedChange.Queued actor) p =
     record p { actors = changed_at (seat_of actor) without_newest p.actors }
 
 -- the last change is the newest
-abbrev pub all_undone : List Change → Parts → Parts
+abbrev pub all_undone : List LoggedChange → SessionsAndActors → SessionsAndActors
 all_undone [] p = p
 all_undone (change ∷ changes) p = undone change (all_undone changes p)

@@ -7,11 +7,11 @@ ghost use Rattle.server_rules.specs.Operating.{with_message};
 ghost use Rattle.tenant_actors.specs.View.{actors_view};
 ghost use Rattle.tenant_replies.specs.View.{made_bytes};
 ghost use Rattle.tenant_hearing.specs.Holds.{AreSeated};
-ghost use Rattle.tenant_hearing.specs.Scene.{scene, Comes, IsKept};
-ghost use Rattle.tenant_hearing.specs.Taken.{with_all};
+ghost use Rattle.tenant_hearing.specs.Scene.{scene, FollowsRules, IsKept};
+ghost use Rattle.tenant_hearing.specs.Handled.{with_piece};
 
-use crate::changes::Change;
-use crate::staying::asked_of;
+use crate::changes::LoggedChange;
+use crate::staying::read_message;
 use bencode_wire::{Ben, Dictionary};
 use repl_replies::{Asked, Body, Origin, Reply};
 use repl_sessions::Sessions;
@@ -24,7 +24,7 @@ use tenant_replies::Batch;
 pub(crate) struct Draft {
     pub(crate) alloc: Global,
     // What was changed, oldest first.
-    pub(crate) log: Vec<Change>,
+    pub(crate) log: Vec<LoggedChange>,
     // The sessions that are closed at the end.
     pub(crate) leaving: BTreeSet<u64>,
     pub(crate) batch: Batch,
@@ -55,7 +55,8 @@ impl Draft {
         actors: &mut Actors,
     ) -> Result<(), AllocError>
         requires { AreSeated sessions.old (actors_view actors.old) }
-        ensures heard { OnOk result (Comes (λ g t. with_all g t (map view messages.items) is_broken)
+        ensures heard { OnOk result (FollowsRules
+            (λ g t. with_piece g t (map view messages.items) is_broken)
             (scene self.old sessions.old actors.old) (scene self.new sessions.new actors.new)) }
         ensures kept { IsKept (scene self.old sessions.old actors.old)
             (scene self.new sessions.new actors.new) }
@@ -77,7 +78,7 @@ impl Draft {
         actors: &mut Actors,
     ) -> Result<(), AllocError>
         requires { AreSeated sessions.old (actors_view actors.old) }
-        ensures heard { OnOk result (Comes (λ g t. with_message g t (view message))
+        ensures heard { OnOk result (FollowsRules (λ g t. with_message g t (view message))
             (scene self.old sessions.old actors.old) (scene self.new sessions.new actors.new)) }
         ensures kept { IsKept (scene self.old sessions.old actors.old)
             (scene self.new sessions.new actors.new) }
@@ -97,13 +98,13 @@ impl Draft {
         actors: &mut Actors,
     ) -> Result<(), AllocError>
         requires { AreSeated sessions.old (actors_view actors.old) }
-        ensures heard { OnOk result (Comes
+        ensures heard { OnOk result (FollowsRules
             (λ g t. with_message g t (dictionary (pairs_view fields.entries)))
             (scene self.old sessions.old actors.old) (scene self.new sessions.new actors.new)) }
         ensures kept { IsKept (scene self.old sessions.old actors.old)
             (scene self.new sessions.new actors.new) }
     {
-        match asked_of(fields, sessions, &self.leaving) {
+        match read_message(fields, sessions, &self.leaving) {
             Ok(Asked { origin, operation }) => self.operate(origin, operation, sessions, actors),
             Err(Reply { origin, body }) => self.batch.add(&origin, body),
         }

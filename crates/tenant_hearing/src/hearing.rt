@@ -1,6 +1,6 @@
 // A tenant hears a piece of its stream.
-ghost use Rattle.std.specs.Prelude.{◌≡◌, ◌≢◌, ℕ, List, [], ◌++◌, true, false, None, is_some};
-ghost use Rattle.std.specs.Prelude.{IfOk, OnOk, OnErr};
+ghost use Rattle.std.specs.Prelude.{◌≡◌, ◌≢◌, ℕ, List, [], ◌++◌, true, false, None, is_some, IfOk};
+ghost use Rattle.std.specs.Prelude.{OnOk, OnErr};
 ghost use Rattle.bencode_wire.specs.Tree.{Tree};
 ghost use Rattle.bencode_wire.specs.Decoder.{ready_of, fault_of, Stands, IsUnchanged};
 ghost use Rattle.bencode_wire.specs.Return.{CanReturn};
@@ -10,10 +10,10 @@ ghost use Rattle.server_rules.specs.Tenant.{Quiet};
 ghost use Rattle.tenant_actors.specs.View.{actors_view};
 ghost use Rattle.tenant_replies.specs.View.{waiting_bytes};
 ghost use Rattle.tenant_hearing.specs.Heard.{IsHeard};
-ghost use Rattle.tenant_hearing.specs.Holds.{Holds, AreSeated};
-ghost use Rattle.tenant_hearing.specs.Reads.{Reads};
+ghost use Rattle.tenant_hearing.specs.Holds.{PartsStandFor, AreSeated};
+ghost use Rattle.tenant_hearing.specs.HasReadAll.{HasReadAll};
 
-use crate::taking::take_in;
+use crate::handling::handle_messages;
 use bencode_wire::{Decoder, WireFault};
 use bytes::Bytes;
 use repl_sessions::Sessions;
@@ -36,22 +36,22 @@ pub fn hear(
     requires sound { fault_of decoder.old ≡ None }
     requires seated { AreSeated sessions.old (actors_view actors.old) }
     ensures heard { (g : Ground) (t : ℕ) (q : Quiet) → AreRight g.readings
-        → Reads g q.heard decoder.old
-        → Holds g t q sessions.old (actors_view actors.old) (waiting_bytes outbox.old)
+        → HasReadAll g q.heard decoder.old
+        → PartsStandFor g t q sessions.old (actors_view actors.old) (waiting_bytes outbox.old)
         → IfOk result (λ count. IsHeard g t q piece.now count
         decoder.new sessions.new (actors_view actors.new) (waiting_bytes outbox.new)) }
     ensures ready { ready_of decoder.new ≡ [] }
     ensures seated { AreSeated sessions.new (actors_view actors.new) }
-    ensures stream_stays { (g : Ground) (bytes : List ℕ) → Reads g bytes decoder.old
-        → OnErr result (Reads g bytes decoder.new) }
+    ensures stream_stays { (g : Ground) (bytes : List ℕ) → HasReadAll g bytes decoder.old
+        → OnErr result (HasReadAll g bytes decoder.new) }
     ensures sessions_stay { OnErr result (sessions.new ≡ sessions.old) }
     ensures actors_stay { OnErr result (actors_view actors.new ≡ actors_view actors.old) }
     ensures replies_stay { OnErr result (waiting_bytes outbox.new ≡ waiting_bytes outbox.old) }
 {
-    let is_broken = fed(decoder, piece)?;
+    let is_broken = feed_piece(decoder, piece)?;
     let messages = decoder.take_ready();
     let count = messages.len();
-    match take_in(alloc, messages, is_broken, sessions, actors, outbox) {
+    match handle_messages(alloc, messages, is_broken, sessions, actors, outbox) {
         Ok(()) => {
             decoder.settle();
             Ok(count)
@@ -64,7 +64,7 @@ pub fn hear(
 }
 
 // Feeds a piece. Answers whether the stream met a fault in it.
-fn fed(decoder: &mut Decoder, piece: &Bytes) -> Result<bool, AllocError>
+fn feed_piece(decoder: &mut Decoder, piece: &Bytes) -> Result<bool, AllocError>
     requires { fault_of decoder.old ≡ None }
     ensures broken { IfOk result (λ broken. broken ≡ is_some (fault_of decoder.new)) }
     ensures stands { (limit : ℕ) (all : List ℕ) (taken : List Tree)

@@ -8,11 +8,11 @@
 
 mod changes;
 mod draft;
+mod handling;
 mod hearing;
 mod operations;
 mod staying;
-mod taking;
 mod telling;
 
+pub use handling::handle_messages;
 pub use hearing::hear;
-pub use taking::take_in;

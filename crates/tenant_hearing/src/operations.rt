@@ -3,15 +3,15 @@ ghost use Rattle.std.specs.Prelude.{◌≡◌, OnOk, Some};
 ghost use Rattle.std.specs.BTreeSet.{keys};
 ghost use Rattle.repl_sessions.specs.Named.{NamedSessions};
 ghost use Rattle.repl_replies.specs.View.{origin_view, operation_view};
-ghost use Rattle.server_rules.specs.Operating.{operated, with_clone, with_close, asker};
+ghost use Rattle.server_rules.specs.Operating.{after_operation, with_clone, with_close, asker};
 ghost use Rattle.tenant_actors.specs.View.{waiting_view, actors_view};
 ghost use Rattle.tenant_hearing.specs.Holds.{AreSeated};
-ghost use Rattle.tenant_hearing.specs.Scene.{scene, Comes, IsKept};
+ghost use Rattle.tenant_hearing.specs.Scene.{scene, FollowsRules, IsKept};
 ghost use Rattle.repl_replies.specs.Named.{session_of};
 ghost use Rattle.tenant_hearing.specs.Served.{IsServed};
-ghost use Rattle.tenant_hearing.specs.Requested.{requested};
+ghost use Rattle.tenant_hearing.specs.Requested.{with_queued_request};
 
-use crate::changes::{Change, note};
+use crate::changes::{LoggedChange, note};
 use crate::draft::Draft;
 use crate::telling::{add_interruptions, add_list};
 use repl_replies::{Body, Operation, Origin};
@@ -31,8 +31,8 @@ impl Draft {
         requires seated { AreSeated sessions.old (actors_view actors.old) }
         requires served { IsServed (session_of (operation_view operation)) (keys self.old.leaving)
             sessions.old.sessions }
-        ensures heard { OnOk result (Comes
-            (λ g t. operated g t (origin_view origin) (operation_view operation))
+        ensures heard { OnOk result (FollowsRules
+            (λ g t. after_operation g t (origin_view origin) (operation_view operation))
             (scene self.old sessions.old actors.old) (scene self.new sessions.new actors.new)) }
         ensures kept { IsKept (scene self.old sessions.old actors.old)
             (scene self.new sessions.new actors.new) }
@@ -71,7 +71,8 @@ impl Draft {
     ) -> Result<(), AllocError>
         requires seated { AreSeated sessions.old (actors_view actors.old) }
         requires served { IsServed original (keys self.old.leaving) sessions.old.sessions }
-        ensures heard { OnOk result (Comes (λ g t. with_clone g t (origin_view origin.now) original)
+        ensures heard { OnOk result (FollowsRules
+            (λ g t. with_clone g t (origin_view origin.now) original)
             (scene self.old sessions.old actors.old) (scene self.new sessions.new actors.new)) }
         ensures kept { IsKept (scene self.old sessions.old actors.old)
             (scene self.new sessions.new actors.new) }
@@ -82,7 +83,7 @@ impl Draft {
             sessions.retract();
             return Err(refused);
         }
-        note(&mut self.log, Change::Cloned(number));
+        note(&mut self.log, LoggedChange::Cloned(number));
         let id = sessions.id_string(self.alloc, number)?;
         self.batch.add(origin, Body::NewSession(id))
     }
@@ -91,7 +92,7 @@ impl Draft {
     fn close(&mut self, origin: &Origin, number: u64, actors: &Actors) -> Result<(), AllocError>
         ensures heard { (s : NamedSessions) → AreSeated s (actors_view actors.now)
             → IsServed (Some number) (keys self.old.leaving) s.sessions
-            → OnOk result (Comes (λ g t. with_close (origin_view origin.now) number)
+            → OnOk result (FollowsRules (λ g t. with_close (origin_view origin.now) number)
             (scene self.old s actors.now) (scene self.new s actors.now)) }
         ensures log { self.new.log.items ≡ self.old.log.items }
     {
@@ -113,7 +114,8 @@ impl Draft {
     ) -> Result<(), AllocError>
         ensures heard { (s : NamedSessions) → AreSeated s (actors_view actors.old)
             → IsServed session (keys self.old.leaving) s.sessions
-            → OnOk result (Comes (λ g t. requested (asker session) (waiting_view request))
+            → OnOk result (FollowsRules (λ g t.
+            with_queued_request (asker session) (waiting_view request))
             (scene self.old s actors.old) (scene self.new s actors.new)) }
         ensures kept { (s : NamedSessions) → AreSeated s (actors_view actors.old)
             → IsKept (scene self.old s actors.old) (scene self.new s actors.new) }
@@ -121,7 +123,7 @@ impl Draft {
         self.log.reserve(1)?;
         let actor = asker(session);
         actors.queue(actor, request)?;
-        note(&mut self.log, Change::Queued(actor));
+        note(&mut self.log, LoggedChange::Queued(actor));
         Ok(())
     }
 }

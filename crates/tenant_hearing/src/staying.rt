@@ -30,13 +30,13 @@ impl OpenSessions for Staying<'_> {
 }
 
 // Reads a message: what it asks for, or else the reply to it. It takes no memory.
-pub(crate) fn asked_of(
+pub(crate) fn read_message(
     fields: Dictionary,
     sessions: &Sessions,
     leaving: &BTreeSet<u64>,
 ) -> Result<Asked, Reply>
     ensures asked { result_map_both asked_view reply_view result
-        ≡ meant.asked (number_named (remaining_named (keys leaving.now) sessions.now))
+        ≡ meant.operation_or_reply (number_named (remaining_named (keys leaving.now) sessions.now))
         (pairs_view fields.entries) }
     ensures served { IfOk result (λ asked.
         IsServed (session_of (operation_view asked.operation)) (keys leaving.now)

@@ -7,7 +7,7 @@ use Rattle.name_spaces.specs.Namespaces.{Namespaces}
 use Rattle.server_rules.specs.Ground.{Ground}
 use Rattle.server_rules.specs.Request.{Hand, ProgramText, code, file}
 use Rattle.server_rules.specs.Starting.{Started, next_begun, text_begun, elsewhere_begun}
-use Rattle.tenant_moves.specs.Opening.{opened, named_namespace, opened_elsewhere}
+use Rattle.tenant_moves.specs.Opening.{opened_hand, named_namespace, opened_elsewhere}
 use Rattle.tenant_moves.specs.Starts.{first_of, form_begun_with, request_over, not_found}
 
 -- what an opened request begins with
@@ -22,14 +22,14 @@ elsewhere-so : (g : Ground) (origin : OriginData) (text : List ℕ) (state : Sta
 elsewhere-so g origin text state None = refl
 elsewhere-so g origin text state (Some name) = refl
 
-pub opened-begins : (g : Ground) (spaces : Namespaces) (origin : OriginData) (state : StateData)
+pub opened_hand-begins : (g : Ground) (spaces : Namespaces) (origin : OriginData) (state : StateData)
     (text : ProgramText)
-    → start_opened g origin state (opened g.readings spaces origin state text)
+    → start_opened g origin state (opened_hand g.readings spaces origin state text)
     ≡ text_begun g spaces origin state text
-opened-begins g spaces origin state (code text None) = refl
-opened-begins g spaces origin state (code text (Some ns)) =
+opened_hand-begins g spaces origin state (code text None) = refl
+opened_hand-begins g spaces origin state (code text (Some ns)) =
     elsewhere-so g origin text state (named_namespace spaces ns)
-opened-begins g spaces origin state (file text) = refl
+opened_hand-begins g spaces origin state (file text) = refl
 
 -- the first of the forms begins
 pub first-begins : (g : Ground) (h : Hand) (state : StateData) (forms : Items) (d : Datum)

@@ -25,11 +25,11 @@ hand_after h (After.Next namespace last) =
     Some (last_kept last (record h { running = None; namespace = arc_str_bytes namespace }))
 
 -- a form of this request ended by this move
-pub record Ends (m : Move) (h : rules.Hand) (made : News × After) : Type 0 where
+pub record EndsForm (m : Move) (h : rules.Hand) (made : News × After) : Type 0 where
   pub told : Tells m made.0
   pub hand : hand_after h made.1 ≡ m.hand
 
 -- the same, where something was told before
-pub record EndsBy (m : Move) (h : rules.Hand) (old new : News) (after : After) : Type 0 where
+pub record EndsFormBy (m : Move) (h : rules.Hand) (old new : News) (after : After) : Type 0 where
   pub told : Adds m old new
   pub hand : hand_after h after ≡ m.hand

@@ -1,6 +1,7 @@
 -- What of a request is begun.
 use Rattle.std.specs.Prelude.{◌≡◌, [], ◌∷◌, Option, None, Some, option_map}
 use Rattle.value_data.specs.Datum.{Datum, Items, no_items, item}
+use Rattle.value_data.specs.Ends.{behind_first}
 use Rattle.repl_jobs.specs.Job.{JobData, form}
 use Rattle.repl_jobs.specs.View.{job_view}
 use Rattle.repl_jobs.specs.declared.job.Job.{Job}
@@ -8,20 +9,15 @@ use Rattle.repl_replies.specs.Replies.{OriginData, namespace_not_found}
 use Rattle.repl_sessions.specs.State.{StateData}
 use Rattle.server_rules.specs.Ground.{Ground}
 use Rattle.server_rules.specs.Replying.{reply}
-use Rattle.server_rules.specs.Moves.{over, in_hand, closing}
+use Rattle.server_rules.specs.Moves.{over_move, in_hand, closing_move}
 use Rattle.server_rules.specs.Request as rules
 use Rattle.server_rules.specs.Plan.{StepAnswer, form_begun, request_answered}
 use Rattle.server_rules.specs.Starting.{Started, form_job}
 use Rattle.tenant_actors.specs.View.{hand_view}
 use Rattle.tenant_moves.specs.declared.starting.Begun.{Begun}
 use Rattle.tenant_moves.specs.declared.starting.NextForm.{NextForm}
-use Rattle.tenant_moves.specs.declared.starting.TakenUp.{TakenUp}
+use Rattle.tenant_moves.specs.declared.starting.BegunRequest.{BegunRequest}
 use Rattle.tenant_moves.specs.Told.{Tells}
-
--- the forms behind the first
-abbrev pub behind : Items → Items
-behind no_items = no_items
-behind (item d ds) = ds
 
 abbrev pub first_of : Items → Option Datum
 first_of no_items = None
@@ -31,7 +27,7 @@ first_of (item d ds) = Some d
 abbrev pub with_run : rules.Hand → JobData → rules.Hand
 with_run h job = record h {
   running = Some (record { job = job; trace = [] });
-  forms = behind h.forms;
+  forms = behind_first h.forms;
 }
 
 abbrev pub hand_begun : rules.Hand → Option Begun → Option rules.Hand
@@ -43,8 +39,8 @@ abbrev pub answer_given : Option Job → StepAnswer
 answer_given None = request_answered
 answer_given (Some job) = form_begun (job_view job)
 
-abbrev pub given_by : Option Begun → Option Job
-given_by = option_map (λ b. b.given)
+abbrev pub given_job : Option Begun → Option Job
+given_job = option_map (λ b. b.given)
 
 -- the first of its forms, which is this, begins
 abbrev pub form_begun_with : Ground → rules.Hand → StateData → Datum → Started
@@ -55,21 +51,25 @@ form_begun_with g h state d =
 -- no form of it is left
 abbrev pub request_over : rules.Hand → StateData → Started
 request_over h state =
-    record { move = closing h.origin h.manner h.fault state; answer = request_answered }
+    record { move = closing_move h.origin h.manner h.fault state; answer = request_answered }
 
 -- the namespace that the request names is not there
 abbrev pub not_found : OriginData → StateData → Started
 not_found origin state =
-    record { move = over (reply origin namespace_not_found ∷ []) state; answer = request_answered }
+    record {
+      move = over_move (reply origin namespace_not_found ∷ []) state;
+      answer =
+          request_answered;
+    }
 
 -- the request in hand goes on by this start
 pub record GoesOn (s : Started) (h : rules.Hand) (next : NextForm) : Type 0 where
   pub told : Tells s.move next.news
   pub hand : hand_begun h next.begun ≡ s.move.hand
-  pub answer : answer_given (given_by next.begun) ≡ s.answer
+  pub answer : answer_given (given_job next.begun) ≡ s.answer
 
 -- a request is taken up by this start
-pub record TakesUp (s : Started) (made : TakenUp) : Type 0 where
+pub record BeginsRequest (s : Started) (made : BegunRequest) : Type 0 where
   pub told : Tells s.move made.news
   pub hand : option_map hand_view made.hand ≡ s.move.hand
   pub answer : answer_given made.given ≡ s.answer

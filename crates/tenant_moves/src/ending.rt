@@ -5,11 +5,10 @@ ghost use Rattle.value_data.specs.View.{view};
 ghost use Rattle.repl_jobs.specs.View.{finished_view};
 ghost use Rattle.repl_sessions.specs.StateView.{state_view};
 ghost use Rattle.server_rules.specs.Request.{each_form, each_form_elsewhere};
-ghost use Rattle.server_rules.specs.Moves.{form_ended, form_ended_as, form_loaded};
-ghost use Rattle.server_rules.specs.Moves.{going_on};
+ghost use Rattle.server_rules.specs.Moves.{form_ended, form_ended_as, form_loaded, going_on};
 ghost use Rattle.tenant_actors.specs.View.{hand_view};
 ghost use Rattle.tenant_moves.specs.Told.{told_state};
-ghost use Rattle.tenant_moves.specs.Endings.{are_none, last_kept, hand_after, Ends, EndsBy};
+ghost use Rattle.tenant_moves.specs.Endings.{are_none, last_kept, hand_after, EndsForm, EndsFormBy};
 
 use crate::news::News;
 use repl_jobs::{End, Finished};
@@ -33,13 +32,13 @@ pub enum After {
 /// What becomes of the request in hand, whose session has this state, where its form ended so. It
 /// fails only for want of memory.
 #[tactic(auto, unfolding(server_rules::specs::Moves::form_ended))]
-pub fn form_ended(
+pub fn form_end(
     alloc: Global,
     hand: &Hand,
     finished: &Finished,
     state: SessionState,
 ) -> Result<(News, After), AllocError>
-    ensures { IfOk result (Ends
+    ensures { IfOk result (EndsForm
         (form_ended (hand_view hand.now) (finished_view finished.now) (state_view state))
         (hand_view hand.now)) }
 {
@@ -49,7 +48,7 @@ pub fn form_ended(
 }
 
 fn end_form(news: &mut News, hand: &Hand, finished: &Finished) -> Result<After, AllocError>
-    ensures { IfOk result (EndsBy
+    ensures { IfOk result (EndsFormBy
         (form_ended_as (hand_view hand.now) (finished_view finished.now) (told_state news.old)
         (hand_view hand.now).manner) (hand_view hand.now) news.old news.new) }
 {
@@ -64,7 +63,7 @@ fn end_form(news: &mut News, hand: &Hand, finished: &Finished) -> Result<After, 
 }
 
 fn end_here(news: &mut News, hand: &Hand, finished: &Finished) -> Result<After, AllocError>
-    ensures { IfOk result (λ after. EndsBy
+    ensures { IfOk result (λ after. EndsFormBy
         (form_ended_as (hand_view hand.now) (finished_view finished.now) (told_state news.old)
         each_form) (hand_view hand.now) news.old news.new after) }
 {
@@ -75,7 +74,7 @@ fn end_here(news: &mut News, hand: &Hand, finished: &Finished) -> Result<After, 
 }
 
 fn end_elsewhere(news: &mut News, hand: &Hand, finished: &Finished) -> Result<After, AllocError>
-    ensures { IfOk result (λ after. EndsBy
+    ensures { IfOk result (λ after. EndsFormBy
         (form_ended_as (hand_view hand.now) (finished_view finished.now) (told_state news.old)
         each_form_elsewhere) (hand_view hand.now) news.old news.new after) }
 {
@@ -90,7 +89,7 @@ fn end_with_value(
     finished: &Finished,
     value: &Value,
 ) -> Result<After, AllocError>
-    ensures { IfOk result (λ after. EndsBy
+    ensures { IfOk result (λ after. EndsFormBy
         (form_loaded (hand_view hand.now) (finished_view finished.now) (Ok (view value.now))
         (told_state news.old)) (hand_view hand.now) news.old news.new after) }
 {
@@ -113,7 +112,7 @@ fn end_with_fault(
     finished: &Finished,
     fault: &Fault,
 ) -> Result<After, AllocError>
-    ensures { IfOk result (λ after. EndsBy
+    ensures { IfOk result (λ after. EndsFormBy
         (form_loaded (hand_view hand.now) (finished_view finished.now) (Err (failure_of fault.now))
         (told_state news.old)) (hand_view hand.now) news.old news.new after) }
 {
@@ -124,9 +123,13 @@ fn end_with_fault(
 
 // Behind a form whose end was told: the next form comes, or the request is done.
 fn go_on_behind(news: &mut News, hand: &Hand, finished: &Finished) -> Result<After, AllocError>
-    ensures { IfOk result (λ after. EndsBy
-        (going_on (record (hand_view hand.now) { namespace = (finished_view finished.now).namespace })
-        (hand_view hand.now).forms (told_state news.old)) (hand_view hand.now) news.old news.new after) }
+    ensures { IfOk result (λ after. EndsFormBy
+        (going_on (record (hand_view hand.now) {
+          namespace =
+              (finished_view finished.now).namespace;
+        })
+        (hand_view hand.now).forms (told_state news.old))
+        (hand_view hand.now) news.old news.new after) }
 {
     if is_last(hand) {
         news.end_request(&hand.origin, &hand.manner, &hand.fault)?;
@@ -151,11 +154,11 @@ pub fn go_on(hand: Hand, after: After) -> Option<Hand>
 {
     match after {
         After::Over => None,
-        After::Next { namespace, last } => Some(between(hand, namespace, last)),
+        After::Next { namespace, last } => Some(hand_between_forms(hand, namespace, last)),
     }
 }
 
-fn between(mut hand: Hand, namespace: ArcStr, last: Option<Value>) -> Hand
+fn hand_between_forms(mut hand: Hand, namespace: ArcStr, last: Option<Value>) -> Hand
     ensures { Some (hand_view result) ≡ hand_after (hand_view hand) (After.Next namespace last) }
 {
     hand.running = None;

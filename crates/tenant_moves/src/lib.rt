@@ -1,5 +1,5 @@
-//! What becomes of a request where it begins, and where a form of it begins or ends: its replies, what
-//! its session then remembers and what is still to do. All is made before anything changes.
+//! What becomes of a request where it begins, and where a form of it begins or ends: its replies,
+//! what its session then remembers and what is still to do. All is made before anything changes.
 #![tactic(auto)]
 
 mod ending;
@@ -7,7 +7,7 @@ mod news;
 mod request;
 mod starting;
 
-pub use ending::{After, form_ended, go_on};
+pub use ending::{After, form_end, go_on};
 pub use news::News;
 pub use request::{Opened, open_request};
-pub use starting::{Begun, NextForm, TakenUp, begin, next_form, take_up};
+pub use starting::{Begun, BegunRequest, NextForm, begin, begin_request, next_form};

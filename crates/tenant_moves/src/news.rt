@@ -4,7 +4,7 @@ ghost use Rattle.repl_faults.specs.View.{failure_of};
 ghost use Rattle.repl_jobs.specs.View.{end_view};
 ghost use Rattle.repl_replies.specs.View.{origin_view};
 ghost use Rattle.repl_sessions.specs.StateView.{state_view};
-ghost use Rattle.server_rules.specs.Moves.{over_by, closing, result_noted};
+ghost use Rattle.server_rules.specs.Moves.{over_by, closing_move, result_noted};
 ghost use Rattle.tenant_actors.specs.View.{manner_view};
 ghost use Rattle.tenant_moves.specs.Told.{told_bytes, told_state, Adds};
 
@@ -55,7 +55,7 @@ impl News {
         manner: &Manner,
         fault: &Option<Fault>,
     ) -> Result<(), AllocError>
-        ensures { OnOk result (Adds (closing (origin_view origin.now) (manner_view manner.now)
+        ensures { OnOk result (Adds (closing_move (origin_view origin.now) (manner_view manner.now)
             (option_map failure_of fault.now) (told_state self.old)) self.old self.new) }
     {
         match fault {
@@ -65,7 +65,7 @@ impl News {
     }
 
     fn end_well(&mut self, origin: &Origin, manner: &Manner) -> Result<(), AllocError>
-        ensures { OnOk result (Adds (closing (origin_view origin.now) (manner_view manner.now)
+        ensures { OnOk result (Adds (closing_move (origin_view origin.now) (manner_view manner.now)
             None (told_state self.old)) self.old self.new) }
     {
         match manner {

@@ -8,15 +8,15 @@ ghost use Rattle.repl_replies.specs.View.{origin_view, field_view};
 ghost use Rattle.repl_sessions.specs.StateView.{state_view};
 ghost use Rattle.name_spaces.specs.Seen.{namespaces_of};
 ghost use Rattle.server_rules.specs.Readings.{Readings, AreRight};
-ghost use Rattle.server_rules.specs.Starting.{hand_of, there, text_failure};
+ghost use Rattle.server_rules.specs.Starting.{hand_of, namespace_there, text_failure};
 ghost use Rattle.tenant_actors.specs.View.{manner_view, waiting_view};
-ghost use Rattle.tenant_moves.specs.Opening.{opened, opened_code, opened_elsewhere, opened_view};
-ghost use Rattle.tenant_moves.specs.Opening.{named_namespace, text_in};
+ghost use Rattle.tenant_moves.specs.Opening.{opened_hand, opened_code, opened_elsewhere};
+ghost use Rattle.tenant_moves.specs.Opening.{opened_view, named_namespace, text_in};
 
 use bencode_wire::Ben;
 use name_spaces::Spaces;
 use repl_reader::laws::readings_are_unique;
-use repl_reader::{Forms, ReaderFault, read_all};
+use repl_reader::{ProgramForms, ReaderFault, read_all};
 use repl_replies::Origin;
 use repl_sessions::SessionState;
 use repl_values::{Fault, Value, copy_text};
@@ -41,7 +41,7 @@ pub fn open_request(
     state: &SessionState,
 ) -> Result<Opened, AllocError>
     ensures { (r : Readings) → AreRight r → IfOk result (λ made. opened_view made
-        ≡ opened r (namespaces_of spaces.now) (waiting_view waiting.now).origin
+        ≡ opened_hand r (namespaces_of spaces.now) (waiting_view waiting.now).origin
         (state_view state.now) (waiting_view waiting.now).text) }
 {
     match &waiting.text {
@@ -104,7 +104,7 @@ fn open_in(
         (r.program (string_bytes text.now)))) }
 {
     readings_are_unique();
-    let Forms { forms, fault } = read_all(alloc, text.as_str())?;
+    let ProgramForms { forms, fault } = read_all(alloc, text.as_str())?;
     let fault = text_fault(alloc, fault)?;
     Ok(Opened::Hand(Hand {
         origin: origin.copy(alloc)?,
@@ -142,7 +142,7 @@ fn namespace_named(alloc: Global, spaces: &Spaces, ns: &Ben) -> Result<Option<Ar
 
 fn namespace_of(alloc: Global, spaces: &Spaces, name: &[u8]) -> Result<Option<ArcStr>, AllocError>
     ensures { IfOk result (λ found. option_map (λ name. arc_str_bytes name) found
-        ≡ option_and_then (there (namespaces_of spaces.now)) (text_in name.now)) }
+        ≡ option_and_then (namespace_there (namespaces_of spaces.now)) (text_in name.now)) }
 {
     match str::from_utf8(name) {
         Ok(name) => namespace_there(alloc, spaces, name),
@@ -152,7 +152,7 @@ fn namespace_of(alloc: Global, spaces: &Spaces, name: &[u8]) -> Result<Option<Ar
 
 fn namespace_there(alloc: Global, spaces: &Spaces, name: &str) -> Result<Option<ArcStr>, AllocError>
     ensures { IfOk result (λ found. option_map (λ name. arc_str_bytes name) found
-        ≡ there (namespaces_of spaces.now) name.now) }
+        ≡ namespace_there (namespaces_of spaces.now) name.now) }
 {
     if spaces.is_there(name.as_bytes()) {
         return Ok(Some(ArcStr::from_str(alloc, name)?));

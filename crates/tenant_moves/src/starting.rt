@@ -10,8 +10,8 @@ ghost use Rattle.repl_jobs.specs.Job as jobs;
 ghost use Rattle.value_data.specs.View.{view};
 ghost use Rattle.repl_replies.specs.View.{origin_view};
 ghost use Rattle.tenant_actors.specs.View.{hand_view, waiting_view};
-ghost use Rattle.tenant_moves.specs.Starts.{first_of, form_begun_with, request_over, with_run, not_found};
-ghost use Rattle.tenant_moves.specs.Starts.{GoesOn, TakesUp};
+ghost use Rattle.tenant_moves.specs.Starts.{first_of, form_begun_with, request_over, with_run};
+ghost use Rattle.tenant_moves.specs.Starts.{not_found, GoesOn, BeginsRequest};
 
 use crate::news::News;
 use crate::request::{Opened, open_request};
@@ -40,7 +40,7 @@ pub struct NextForm {
 /// What a request comes to that is taken up: what of it is in hand, and the job of its first form,
 /// to be given out.
 #[derive(Drop)]
-pub struct TakenUp {
+pub struct BegunRequest {
     pub news: News,
     pub hand: Option<Hand>,
     pub given: Option<Job>,
@@ -121,42 +121,42 @@ pub fn begin(alloc: Global, mut hand: Hand, job: Job) -> Hand
     hand
 }
 
-/// Takes up a request, whose session has this state: its text is read, and its first form begins. It
-/// fails only for want of memory.
-pub fn take_up(
+/// Takes up a request, whose session has this state: its text is read, and its first form begins.
+/// It fails only for want of memory.
+pub fn begin_request(
     alloc: Global,
     retries: u32,
     spaces: &Spaces,
     waiting: &Waiting,
     state: SessionState,
-) -> Result<TakenUp, AllocError>
-    ensures { (g : Ground) → AreRight g.readings → retries ≡ g.retries → IfOk result (TakesUp
+) -> Result<BegunRequest, AllocError>
+    ensures { (g : Ground) → AreRight g.readings → retries ≡ g.retries → IfOk result (BeginsRequest
         (text_begun g (namespaces_of spaces.now) (waiting_view waiting.now).origin
         (state_view state) (waiting_view waiting.now).text)) }
 {
     match open_request(alloc, spaces, waiting, &state)? {
-        Opened::Hand(hand) => take_up_hand(alloc, retries, hand, state),
+        Opened::Hand(hand) => begin_hand(alloc, retries, hand, state),
         Opened::NamespaceNotFound => refuse(alloc, &waiting.origin, state),
     }
 }
 
-fn take_up_hand(
+fn begin_hand(
     alloc: Global,
     retries: u32,
     hand: Hand,
     state: SessionState,
-) -> Result<TakenUp, AllocError>
-    ensures { (g : Ground) → retries ≡ g.retries → IfOk result (TakesUp
+) -> Result<BegunRequest, AllocError>
+    ensures { (g : Ground) → retries ≡ g.retries → IfOk result (BeginsRequest
         (next_begun g (hand_view hand) (state_view state) (hand_view hand).forms)) }
 {
     let NextForm { news, begun } = next_form(alloc, retries, &hand, state)?;
     Ok(match begun {
-        Some(Begun { job, given }) => TakenUp {
+        Some(Begun { job, given }) => BegunRequest {
             news,
             hand: Some(begin(alloc, hand, job)),
             given: Some(given),
         },
-        None => TakenUp {
+        None => BegunRequest {
             news,
             hand: None,
             given: None,
@@ -164,12 +164,12 @@ fn take_up_hand(
     })
 }
 
-fn refuse(alloc: Global, origin: &Origin, state: SessionState) -> Result<TakenUp, AllocError>
-    ensures { IfOk result (TakesUp (not_found (origin_view origin.now) (state_view state))) }
+fn refuse(alloc: Global, origin: &Origin, state: SessionState) -> Result<BegunRequest, AllocError>
+    ensures { IfOk result (BeginsRequest (not_found (origin_view origin.now) (state_view state))) }
 {
     let mut news = News::new(alloc, state);
     news.batch.add(origin, Body::NamespaceNotFound)?;
-    Ok(TakenUp {
+    Ok(BegunRequest {
         news,
         hand: None,
         given: None,

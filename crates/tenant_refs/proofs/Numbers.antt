@@ -4,34 +4,34 @@ use Rattle.std.specs.Prelude.{option_map}
 use Rattle.repl_asks.specs.Transactions.{RefNameData}
 use Rattle.repl_asks.specs.Exchange.{AnswerData}
 use Rattle.server_rules.specs.Versions.{Ref}
-use Rattle.server_rules.specs.Store.{Store, named}
+use Rattle.server_rules.specs.Store.{Store, ref_named}
 use Rattle.server_rules.specs.Performed.{as_was}
 use Rattle.server_rules.specs.Calls.{performed, number_told}
 use Rattle.ref_history.specs.Effects.{bounds_of}
 use Rattle.ref_history.specs.declared.ref_id.Bounds.{Bounds}
 use Rattle.ref_table.specs.Refs.{Refs, store_of}
 use Rattle.tenant_refs.specs.Bounds.{least_call, most_call}
-use Rattle.tenant_refs.specs.Serving.{Table, Holds, Comes}
+use Rattle.tenant_refs.specs.Serving.{ListRefTable, ServesWithAttempts, PerformsCall}
 use Rattle.tenant_refs.specs.declared.attempts.Attempts.{Attempts}
 use Rattle.tenant_refs.proofs.Calls.{none-some}
 use Rattle.tenant_refs.proofs.Serving.{seen-so, comes-told}
-use Rattle.tenant_refs.proofs.Soundness.{reaches-sound, named-sound}
+use Rattle.tenant_refs.proofs.Soundness.{reaches-sound, ref_named-sound}
 
 -- one number of a ref that is there
 module _ (part : Ref → ℕ) (of : Bounds → ℕ) (is : (r : Ref) → of (bounds_of r) ≡ part r) where
-  number-comes : (table : Table) (attempts : Attempts) (s : Store) (r : Refs) (name : RefNameData)
-      (b : Bounds) (given : AnswerData) → Holds table attempts s r
-      → ((ref : Ref) → named name s ≡ Some ref → part ref < 2 ^ 63)
-      → Some b ≡ option_map bounds_of (named name s)
+  number-comes : (table : ListRefTable) (attempts : Attempts) (s : Store) (r : Refs) (name : RefNameData)
+      (b : Bounds) (given : AnswerData) → ServesWithAttempts table attempts s r
+      → ((ref : Ref) → ref_named name s ≡ Some ref → part ref < 2 ^ 63)
+      → Some b ≡ option_map bounds_of (ref_named name s)
       → (of b < 2 ^ 63 → given ≡ number_told (of b))
-      → Comes table attempts r (Some given)
-      (as_was s (option_map (λ ref. number_told (part ref)) (named name s)))
+      → PerformsCall table attempts r (Some given)
+      (as_was s (option_map (λ ref. number_told (part ref)) (ref_named name s)))
   number-comes table attempts s r name b given holds below some told =
-      by (named name s) refl some
+      by (ref_named name s) refl some
     where
-      by : (o : Option Ref) → named name s ≡ o → Some b ≡ option_map bounds_of o
-          → Comes table attempts r (Some given)
-          (as_was s (option_map (λ ref. number_told (part ref)) (named name s)))
+      by : (o : Option Ref) → ref_named name s ≡ o → Some b ≡ option_map bounds_of o
+          → PerformsCall table attempts r (Some given)
+          (as_was s (option_map (λ ref. number_told (part ref)) (ref_named name s)))
       by None there never = absurd (none-some (sym never))
       by (Some ref) there same =
           let equal : b ≡ bounds_of ref = cc in
@@ -42,26 +42,26 @@ module _ (part : Ref → ℕ) (of : Bounds → ℕ) (is : (r : Ref) → of (boun
           (ap (λ o. as_was s (option_map (λ ref. number_told (part ref)) o)) there
           ∙ ap (λ x. as_was s (Some x)) (sym answer))
 
-pub least-comes : (table : Table) (attempts : Attempts) (s : Store) (r : Refs) (name : RefNameData)
-    (set : Option ℕ) (b : Bounds) (given : AnswerData) → Holds table attempts s r → set ≡ None
-    → Some b ≡ option_map bounds_of (named name (store_of attempts.tenant s.mine.points r))
+pub least-comes : (table : ListRefTable) (attempts : Attempts) (s : Store) (r : Refs) (name : RefNameData)
+    (set : Option ℕ) (b : Bounds) (given : AnswerData) → ServesWithAttempts table attempts s r → set ≡ None
+    → Some b ≡ option_map bounds_of (ref_named name (store_of attempts.tenant s.mine.points r))
     → (b.least < 2 ^ 63 → given ≡ number_told b.least)
-    → Comes table attempts r (Some given) (performed s (least_call name set))
+    → PerformsCall table attempts r (Some given) (performed s (least_call name set))
 least-comes table attempts s r name set b given holds none some told =
     let sound = reaches-sound s.tenant s r holds.serves.reached holds.serves.sound in
-    subst (λ o. Comes table attempts r (Some given) (performed s (least_call name o))) (sym none)
+    subst (λ o. PerformsCall table attempts r (Some given) (performed s (least_call name o))) (sym none)
     (number-comes (λ ref. ref.least) (λ x. x.least) (λ ref. refl) table attempts s r name b given
-    holds (λ ref there. (named-sound s name ref sound there).least)
-    (some ∙ ap (λ x. option_map bounds_of (named name x)) (seen-so table attempts s r holds)) told)
+    holds (λ ref there. (ref_named-sound s name ref sound there).least)
+    (some ∙ ap (λ x. option_map bounds_of (ref_named name x)) (seen-so table attempts s r holds)) told)
 
-pub most-comes : (table : Table) (attempts : Attempts) (s : Store) (r : Refs) (name : RefNameData)
-    (set : Option ℕ) (b : Bounds) (given : AnswerData) → Holds table attempts s r → set ≡ None
-    → Some b ≡ option_map bounds_of (named name (store_of attempts.tenant s.mine.points r))
+pub most-comes : (table : ListRefTable) (attempts : Attempts) (s : Store) (r : Refs) (name : RefNameData)
+    (set : Option ℕ) (b : Bounds) (given : AnswerData) → ServesWithAttempts table attempts s r → set ≡ None
+    → Some b ≡ option_map bounds_of (ref_named name (store_of attempts.tenant s.mine.points r))
     → (b.most < 2 ^ 63 → given ≡ number_told b.most)
-    → Comes table attempts r (Some given) (performed s (most_call name set))
+    → PerformsCall table attempts r (Some given) (performed s (most_call name set))
 most-comes table attempts s r name set b given holds none some told =
     let sound = reaches-sound s.tenant s r holds.serves.reached holds.serves.sound in
-    subst (λ o. Comes table attempts r (Some given) (performed s (most_call name o))) (sym none)
+    subst (λ o. PerformsCall table attempts r (Some given) (performed s (most_call name o))) (sym none)
     (number-comes (λ ref. ref.most) (λ x. x.most) (λ ref. refl) table attempts s r name b given
-    holds (λ ref there. (named-sound s name ref sound there).most)
-    (some ∙ ap (λ x. option_map bounds_of (named name x)) (seen-so table attempts s r holds)) told)
+    holds (λ ref there. (ref_named-sound s name ref sound there).most)
+    (some ∙ ap (λ x. option_map bounds_of (ref_named name x)) (seen-so table attempts s r holds)) told)

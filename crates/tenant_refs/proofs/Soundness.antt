@@ -1,7 +1,7 @@
 -- Refs of which all can be told, through the calls of the refs.
-use Rattle.std.proofs.Common.{◌≡◌, ◌<◌, ◌+◌, ◌==◌, ◌^◌, ℕ, zero, suc, List, [], ◌∷◌, ◌++◌}
-use Rattle.std.proofs.Common.{Bool, true, false, ◌&&◌, ◌||◌, nat_lt, refl, sym, subst}
-use Rattle.std.proofs.Common.{Option, None, Some, slice_get, if◌then◌else◌, arith}
+use Rattle.std.proofs.Common.{◌≡◌, ◌<◌, ◌+◌, ◌==◌, ◌^◌, ℕ, zero, suc, List, [], ◌∷◌, ◌++◌, Bool}
+use Rattle.std.proofs.Common.{true, false, ◌&&◌, ◌||◌, nat_lt, refl, sym, subst, Option, None, Some}
+use Rattle.std.proofs.Common.{slice_get, if◌then◌else◌, arith}
 use Rattle.std.specs.Prelude.{⊤, Result, Ok, Err}
 use Rattle.std.specs.List.{AllByRecursion}
 use Rattle.std.proofs.lemmas.Bool.{ltb-true}
@@ -11,15 +11,18 @@ use Rattle.repl_asks.specs.Transactions.{RefNameData, ChangeData, IntentData}
 use Rattle.repl_asks.specs.Exchange.{AnswerData}
 use Rattle.server_rules.specs.Numbered as numbered
 use Rattle.server_rules.specs.Numbered.{changed_at}
-use Rattle.server_rules.specs.Versions.{Version, Ref, new_ref, grows, faulted, with_least, with_most}
-use Rattle.server_rules.specs.Versions.{with_version, readable}
-use Rattle.server_rules.specs.Store.{Store, ref_of, named, value_of, changed_of, changed}
-use Rattle.server_rules.specs.Commit.{guarded, touched, all_there, fits, any_newer, all_folded}
-use Rattle.server_rules.specs.Commit.{with_changes, raised, with_all, concluded, checked, commit_by}
+use Rattle.server_rules.specs.Versions.{Version, Ref, new_ref, grows, with_failed_read, with_least}
+use Rattle.server_rules.specs.Versions.{with_most, with_version, readable}
+use Rattle.server_rules.specs.Store.{Store, ref_of, ref_named, newest_value, changed_of}
+use Rattle.server_rules.specs.Store.{with_changed_ref}
+use Rattle.server_rules.specs.Commit.{guarded_refs, touched_refs, all_there, intent_fits, any_newer}
+use Rattle.server_rules.specs.Commit.{all_folded, with_changes, with_raised_counter, with_all}
+use Rattle.server_rules.specs.Commit.{concluded_commit, checked_commit, commit_by}
 use Rattle.server_rules.specs.Calls.{Call, nothing, makes, begins, leaves_attempt, reads, counts}
-use Rattle.server_rules.specs.Calls.{tells_least, tells_most, sets_least, sets_most, commits, gives_up}
-use Rattle.server_rules.specs.Calls.{begun, read_at, read_by, bound_set, given_up, performed}
-use Rattle.ref_table.specs.Refs.{Refs, store_of, after}
+use Rattle.server_rules.specs.Calls.{tells_least, tells_most, sets_least, sets_most, commits}
+use Rattle.server_rules.specs.Calls.{gives_up, performed_begin, read_at, read_by, bound_set}
+use Rattle.server_rules.specs.Calls.{given_up, performed}
+use Rattle.ref_table.specs.Refs.{Refs, store_of, refs_after}
 use Rattle.tenant_refs.specs.Sound.{IsSound, AreSound, ReachesSound}
 
 abbrev All : List Ref → Type 0
@@ -30,14 +33,14 @@ All = AllByRecursion IsSound
 abbrev pub Keeps : (Ref → Ref) → Type 0
 Keeps f = (r : Ref) → IsSound r → IsSound (f r)
 
-faulted-keeps : Keeps faulted
-faulted-keeps r s = record { kept = s.kept; least = s.least; most = s.most; value = s.value }
+with_failed_read-keeps : Keeps with_failed_read
+with_failed_read-keeps r s = record { kept = s.kept; least = s.least; most = s.most; value = s.value }
 
 least-keeps : (n : ℕ) → n < 2 ^ 63 → Keeps (with_least n)
-least-keeps n fits r s = record { kept = s.kept; least = fits; most = s.most; value = s.value }
+least-keeps n intent_fits r s = record { kept = s.kept; least = intent_fits; most = s.most; value = s.value }
 
 most-keeps : (n : ℕ) → n < 2 ^ 63 → Keeps (with_most n)
-most-keeps n fits r s = record { kept = s.kept; least = s.least; most = fits; value = s.value }
+most-keeps n intent_fits r s = record { kept = s.kept; least = s.least; most = intent_fits; value = s.value }
 
 next-below : (k n m : ℕ) → nat_lt k n ≡ true → n < m → k + 1 < m
 next-below k n m less below = let first = ltb-true k n less in omega (arith, first, below)
@@ -79,9 +82,9 @@ got-sound (x ∷ rs) zero r all e =
 got-sound (x ∷ rs) (suc n) r all e = got-sound rs n r all.1 e
 
 -- what a tenant names
-pub named-sound : (s : Store) (name : RefNameData) (r : Ref) → ReachesSound s
-    → named name s ≡ Some r → IsSound r
-named-sound s name r sound e = by name.owner e where
+pub ref_named-sound : (s : Store) (name : RefNameData) (r : Ref) → ReachesSound s
+    → ref_named name s ≡ Some r → IsSound r
+ref_named-sound s name r sound e = by name.owner e where
   mine : (b : Bool) → (if b then slice_get s.mine.refs name.number else None) ≡ Some r → IsSound r
   mine true e = got-sound s.mine.refs name.number r sound.1 e
   mine false e = absurd (cc)
@@ -100,26 +103,26 @@ changed_of-sound (tenant t) n f s keeps sound = (sound.0, mine (t == s.tenant)) 
   mine true = changed-all f keeps n s.mine.refs sound.1
   mine false = sound.1
 
-changed-sound : (name : RefNameData) (f : Ref → Ref) (s : Store) → Keeps f → ReachesSound s
-    → ReachesSound (changed name f s)
-changed-sound name f s keeps sound = changed_of-sound name.owner name.number f s keeps sound
+with_changed_ref-sound : (name : RefNameData) (f : Ref → Ref) (s : Store) → Keeps f → ReachesSound s
+    → ReachesSound (with_changed_ref name f s)
+with_changed_ref-sound name f s keeps sound = changed_of-sound name.owner name.number f s keeps sound
 
 changes-sound : (stamp : ℕ) (cs : List ChangeData) (s : Store) → ReachesSound s
     → ReachesSound (with_changes stamp cs s)
 changes-sound stamp [] s sound = sound
 changes-sound stamp (c ∷ cs) s sound =
     let v : Version = record { stamp = stamp; content = c.now } in
-    changes-sound stamp cs (changed c.name (with_version v) s)
-    (changed-sound c.name (with_version v) s (version-keeps v) sound)
+    changes-sound stamp cs (with_changed_ref c.name (with_version v) s)
+    (with_changed_ref-sound c.name (with_version v) s (version-keeps v) sound)
 
 with_all-sound : (cs : List ChangeData) (s : Store) → ReachesSound s → ReachesSound (with_all cs s)
 with_all-sound [] s sound = sound
-with_all-sound (c ∷ cs) s sound = changes-sound (s.around.counter + 1) (c ∷ cs) (raised s) sound
+with_all-sound (c ∷ cs) s sound = changes-sound (s.around.counter + 1) (c ∷ cs) (with_raised_counter s) sound
 
-begun-sound : (seat : ℕ) (s : Store) (o : Option ℕ) → ReachesSound s
-    → ReachesSound (begun seat s o).store
-begun-sound seat s None sound = sound
-begun-sound seat s (Some point) sound = sound
+performed_begin-sound : (seat : ℕ) (s : Store) (o : Option ℕ) → ReachesSound s
+    → ReachesSound (performed_begin seat s o).store
+performed_begin-sound seat s None sound = sound
+performed_begin-sound seat s (Some point) sound = sound
 
 read-sound : (seat : ℕ) (name : RefNameData) (s : Store) (point : Option ℕ) (o : Option Ref)
     → ReachesSound s → ReachesSound (read_by seat name s point o).store
@@ -128,33 +131,33 @@ read-sound seat name s None (Some r) sound = sound
 read-sound seat name s (Some point) (Some r) sound = by (readable point r) where
   by : (o : Option Datum) → ReachesSound (read_at seat name s o).store
   by (Some d) = sound
-  by None = let there = changed-sound name faulted s faulted-keeps sound in (there.0, there.1)
+  by None = let there = with_changed_ref-sound name with_failed_read s with_failed_read-keeps sound in (there.0, there.1)
 
 bound-sound : (name : RefNameData) (owner : OwnerData) (f : Ref → Ref) (s : Store) (o : Option Ref)
     → Keeps f → ReachesSound s → ReachesSound (bound_set name owner f s o).store
 bound-sound name owner f s None keeps sound = sound
 bound-sound name shared f s (Some r) keeps sound = sound
-bound-sound name (tenant t) f s (Some r) keeps sound = changed-sound name f s keeps sound
+bound-sound name (tenant t) f s (Some r) keeps sound = with_changed_ref-sound name f s keeps sound
 
-concluded-sound : (seat : ℕ) (sets : List ChangeData) (s : Store)
+concluded_commit-sound : (seat : ℕ) (sets : List ChangeData) (s : Store)
     (folds : Result (List ChangeData) Failure) → ReachesSound s
-    → ReachesSound (concluded seat sets s folds).store
-concluded-sound seat sets s (Err f) sound = sound
-concluded-sound seat sets s (Ok changes) sound =
+    → ReachesSound (concluded_commit seat sets s folds).store
+concluded_commit-sound seat sets s (Err f) sound = sound
+concluded_commit-sound seat sets s (Ok changes) sound =
     let there = with_all-sound (sets ++ changes) s sound in (there.0, there.1)
 
-checked-sound : (seat : ℕ) (intent : IntentData) (s : Store) (fit newer : Bool) → ReachesSound s
-    → ReachesSound (checked seat intent s fit newer).store
-checked-sound seat intent s false newer sound = sound
-checked-sound seat intent s true true sound = sound
-checked-sound seat intent s true false sound =
-    concluded-sound seat intent.sets s (all_folded (λ name. value_of name s) intent.commuted) sound
+checked_commit-sound : (seat : ℕ) (intent : IntentData) (s : Store) (fit newer : Bool) → ReachesSound s
+    → ReachesSound (checked_commit seat intent s fit newer).store
+checked_commit-sound seat intent s false newer sound = sound
+checked_commit-sound seat intent s true true sound = sound
+checked_commit-sound seat intent s true false sound =
+    concluded_commit-sound seat intent.sets s (all_folded (λ name. newest_value name s) intent.commuted) sound
 
 commit-sound : (seat : ℕ) (intent : IntentData) (s : Store) (o : Option ℕ) → ReachesSound s
     → ReachesSound (commit_by seat intent s o).store
 commit-sound seat intent s None sound = sound
-commit-sound seat intent s (Some point) sound = checked-sound seat intent s
-    (all_there (touched intent) s && fits intent) (any_newer point (guarded intent) s) sound
+commit-sound seat intent s (Some point) sound = checked_commit-sound seat intent s
+    (all_there (touched_refs intent) s && intent_fits intent) (any_newer point (guarded_refs intent) s) sound
 
 given-sound : (seat : ℕ) (s : Store) (o : Option AnswerData) → ReachesSound s
     → ReachesSound (given_up seat s o).store
@@ -177,19 +180,19 @@ performed-sound s (makes d least most) may sound = (
       (record { kept = (omega arith); least = may.0; most = may.1; value = refl }),
 )
 performed-sound s (begins seat) may sound =
-    begun-sound seat s (numbered.found seat s.mine.points) sound
+    performed_begin-sound seat s (numbered.part_under seat s.mine.points) sound
 performed-sound s (leaves_attempt seat) may sound = sound
 performed-sound s (reads seat name) may sound =
-    read-sound seat name s (numbered.found seat s.mine.points) (named name s) sound
+    read-sound seat name s (numbered.part_under seat s.mine.points) (ref_named name s) sound
 performed-sound s (counts seat name) may sound = sound
 performed-sound s (tells_least name) may sound = sound
 performed-sound s (tells_most name) may sound = sound
 performed-sound s (sets_least name n) may sound =
-    bound-sound name name.owner (with_least n) s (named name s) (least-keeps n may) sound
+    bound-sound name name.owner (with_least n) s (ref_named name s) (least-keeps n may) sound
 performed-sound s (sets_most name n) may sound =
-    bound-sound name name.owner (with_most n) s (named name s) (most-keeps n may) sound
+    bound-sound name name.owner (with_most n) s (ref_named name s) (most-keeps n may) sound
 performed-sound s (commits seat intent) may sound =
-    commit-sound seat intent s (numbered.found seat s.mine.points) sound
+    commit-sound seat intent s (numbered.part_under seat s.mine.points) sound
 performed-sound s (gives_up seat call) may sound = given-sound seat s (performed s call).told sound
 
 -- The refs of all
@@ -199,9 +202,9 @@ pub reaches-sound : (caller : ℕ) (s : Store) (r : Refs) → s ≡ store_of cal
 reaches-sound caller s r is sound =
     subst ReachesSound (sym is) (sound shared, sound (tenant caller))
 
-pub after-sound : (s : Store) (r : Refs) → ReachesSound s → AreSound r → AreSound (after s r)
-after-sound s r mine sound shared = mine.0
-after-sound s r mine sound (tenant t) = by (t == s.tenant) where
+pub refs_after-sound : (s : Store) (r : Refs) → ReachesSound s → AreSound r → AreSound (refs_after s r)
+refs_after-sound s r mine sound shared = mine.0
+refs_after-sound s r mine sound (tenant t) = by (t == s.tenant) where
   by : (b : Bool) → All (if b then s.mine.refs else r.owned (tenant t))
   by true = mine.1
   by false = sound (tenant t)

@@ -1,7 +1,7 @@
 -- The attempts of a tenant's transactions, as the rules have them.
 use Rattle.std.specs.Prelude.{◌≡◌, ℕ, List, Option, option_map}
 use Rattle.std.specs.BTreeMap.{get}
-use Rattle.server_rules.specs.Numbered.{Entry, found}
+use Rattle.server_rules.specs.Numbered.{Entry, part_under}
 use Rattle.server_rules.specs.Store.{Store}
 use Rattle.server_rules.specs.Tenant.{seat_of}
 use Rattle.server_rules.specs.contracts.actor.ActorOrd.TheImpl as order
@@ -15,7 +15,7 @@ point_at attempts a = get (order.ghosts).cmp attempts.points a
 
 abbrev pub ArePoints : Attempts → List (Entry ℕ) → Type 0
 ArePoints attempts points = (a : Actor)
-    → option_map (λ p. p.stamp) (point_at attempts a) ≡ found (seat_of a) points
+    → option_map (λ p. p.stamp) (point_at attempts a) ≡ part_under (seat_of a) points
 
 -- they are those of the tenant whose store this is
 pub record Reaches (attempts : Attempts) (s : Store) : Type 0 where

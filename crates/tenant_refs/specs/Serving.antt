@@ -13,22 +13,24 @@ use Rattle.tenant_refs.specs.Attempts.{Reaches}
 use Rattle.tenant_refs.specs.Sound.{AreSound}
 use Rattle.tenant_refs.specs.declared.attempts.Attempts.{Attempts}
 
-abbrev pub Table : Type 0
-Table = RefTable ListHistory
+abbrev pub ListRefTable : Type 0
+ListRefTable = RefTable ListHistory
 
 -- the table stands for the refs of all, of which the tenant reaches this
-pub record Serves (table : Table) (s : Store) (r : Refs) : Type 0 where
+pub record TableServes (table : ListRefTable) (s : Store) (r : Refs) : Type 0 where
   pub stands : refs.Stands ListStands table r
   pub sound : AreSound r
   pub reached : s ≡ store_of s.tenant s.mine.points r
 
 -- and the attempts are those of the tenant
-pub record Holds (table : Table) (attempts : Attempts) (s : Store) (r : Refs) : Type 0 where
-  pub serves : Serves table s r
+pub record ServesWithAttempts (table : ListRefTable) (attempts : Attempts) (s : Store)
+    (r : Refs) : Type 0 where
+  pub serves : TableServes table s r
   pub reaches : Reaches attempts s
 
 -- a call came to what the rules tell, and all is as they leave it
-pub record Comes (table : Table) (attempts : Attempts) (r : Refs) (answer : Option AnswerData)
+pub record PerformsCall (table : ListRefTable) (attempts : Attempts) (r : Refs)
+    (answer : Option AnswerData)
     (p : Performed Store) : Type 0 where
   pub called : refs_told.Performs ListStands table r answer p
   pub reaches : Reaches attempts p.store

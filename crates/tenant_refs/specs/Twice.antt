@@ -16,5 +16,5 @@ AreTwice None = ⊤
 AreTwice (Some it) = IsTwice it
 
 -- what is told, if anything is
-abbrev pub told : Option Twice → Option AnswerData
-told = option_map twice_view
+abbrev pub told_answer : Option Twice → Option AnswerData
+told_answer = option_map twice_view

@@ -1,6 +1,6 @@
 // The attempts of a tenant's transactions.
 ghost use Rattle.std.specs.Prelude.{◌≡◌, ℕ, List, [], ◌∷◌, option_map, OnOk, OnErr};
-ghost use Rattle.server_rules.specs.Numbered.{Entry, entry, found, without};
+ghost use Rattle.server_rules.specs.Numbered.{Entry, entry, part_under, without};
 ghost use Rattle.server_rules.specs.Tenant.{seat_of};
 
 use ref_table::Point;
@@ -34,7 +34,7 @@ impl Attempts {
     /// Where the attempt of an actor reads, if one runs.
     pub fn point(&self, actor: Actor) -> Option<Point>
         ensures { (points : List (Entry ℕ)) → ArePoints self.now points
-            → found (seat_of actor) points ≡ option_map (λ p. p.stamp) result }
+            → part_under (seat_of actor) points ≡ option_map (λ p. p.stamp) result }
     {
         self.points.get(&actor).copied()
     }

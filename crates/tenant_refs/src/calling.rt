@@ -10,13 +10,13 @@ ghost use Rattle.ref_table.specs.Refs.{Refs};
 ghost use Rattle.ref_table.specs.Standing.{counter_of};
 ghost use Rattle.ref_table.specs.Told.{setting_told};
 ghost use Rattle.tenant_refs.specs.Bounds.{least_call, most_call};
-ghost use Rattle.tenant_refs.specs.Serving.{Serves, Holds, Comes};
-ghost use Rattle.tenant_refs.specs.Twice.{told, AreTwice};
+ghost use Rattle.tenant_refs.specs.Serving.{TableServes, ServesWithAttempts, PerformsCall};
+ghost use Rattle.tenant_refs.specs.Twice.{told_answer, AreTwice};
 
 use crate::attempts::Attempts;
 use crate::twice::Twice;
 use ref_history::{Bounds, ListHistory};
-use ref_table::{Outcome, RefTable};
+use ref_table::{CommitOutcome, RefTable};
 use repl_asks::{Ask, Intent, Reading};
 use repl_values::{Owner, RefName, Value, copy};
 use server_rules::Actor;
@@ -33,12 +33,12 @@ pub fn call(
     ask: &Ask,
 ) -> Result<Option<Twice>, AllocError>
     requires { counter_of refs.old < u128.MAX }
-    ensures called { (s : Store) (r : Refs) → Holds refs.old attempts.old s r
+    ensures called { (s : Store) (r : Refs) → ServesWithAttempts refs.old attempts.old s r
         → is_allowed (ask_view ask.now) ≡ true
-        → IfOk result (λ it. Comes refs.new attempts.new r (told it)
+        → IfOk result (λ it. PerformsCall refs.new attempts.new r (told_answer it)
         (performed s (call_of (seat_of actor) (ask_view ask.now)))) }
-    ensures stays { (s : Store) (r : Refs) → Holds refs.old attempts.old s r
-        → OnErr result (Holds refs.new attempts.new s r) }
+    ensures stays { (s : Store) (r : Refs) → ServesWithAttempts refs.old attempts.old s r
+        → OnErr result (ServesWithAttempts refs.new attempts.new s r) }
     ensures counter { counter_of refs.new ≤ counter_of refs.old + 1 }
     ensures untold { IfOk result (λ it. IsNone it → counter_of refs.new ≡ counter_of refs.old) }
     ensures failed { OnErr result (counter_of refs.new ≡ counter_of refs.old) }
@@ -60,8 +60,8 @@ pub fn call(
         Ask::Begin => begin(refs, attempts, actor),
         Ask::Read(name) => read(refs, attempts, actor, *name),
         Ask::History(name) => Ok(count(refs, attempts, actor, *name)),
-        Ask::MinHistory { name, set } => Ok(least(refs, attempts, *name, *set)),
-        Ask::MaxHistory { name, set } => Ok(most(refs, attempts, *name, *set)),
+        Ask::MinHistory { name, set } => Ok(tell_or_set_least(refs, attempts, *name, *set)),
+        Ask::MaxHistory { name, set } => Ok(tell_or_set_most(refs, attempts, *name, *set)),
         Ask::Commit(intent) => commit(alloc, refs, attempts, actor, intent),
     }
 }
@@ -74,11 +74,11 @@ fn make(
     value: &Value,
     bounds: Bounds,
 ) -> Result<Option<Twice>, AllocError>
-    ensures called { (s : Store) (r : Refs) → Holds refs.old attempts.now s r
-        → IfOk result (λ it. Comes refs.new attempts.now r (told it)
+    ensures called { (s : Store) (r : Refs) → ServesWithAttempts refs.old attempts.now s r
+        → IfOk result (λ it. PerformsCall refs.new attempts.now r (told_answer it)
         (performed s (makes (view value.now) bounds.least bounds.most))) }
-    ensures stays { (s : Store) (r : Refs) → Holds refs.old attempts.now s r
-        → OnErr result (Holds refs.new attempts.now s r) }
+    ensures stays { (s : Store) (r : Refs) → ServesWithAttempts refs.old attempts.now s r
+        → OnErr result (ServesWithAttempts refs.new attempts.now s r) }
     ensures counter { counter_of refs.new ≡ counter_of refs.old }
     ensures twice { IfOk result AreTwice }
 {
@@ -93,11 +93,11 @@ fn begin(
     attempts: &mut Attempts,
     actor: Actor,
 ) -> Result<Option<Twice>, AllocError>
-    ensures called { (s : Store) (r : Refs) → Holds refs.now attempts.old s r
-        → IfOk result (λ it. Comes refs.now attempts.new r (told it)
+    ensures called { (s : Store) (r : Refs) → ServesWithAttempts refs.now attempts.old s r
+        → IfOk result (λ it. PerformsCall refs.now attempts.new r (told_answer it)
         (performed s (begins (seat_of actor)))) }
-    ensures stays { (s : Store) (r : Refs) → Holds refs.now attempts.old s r
-        → OnErr result (Holds refs.now attempts.new s r) }
+    ensures stays { (s : Store) (r : Refs) → ServesWithAttempts refs.now attempts.old s r
+        → OnErr result (ServesWithAttempts refs.now attempts.new s r) }
     ensures twice { IfOk result AreTwice }
 {
     if attempts.point(actor).is_some() {
@@ -114,11 +114,11 @@ fn read(
     actor: Actor,
     name: RefName,
 ) -> Result<Option<Twice>, AllocError>
-    ensures called { (s : Store) (r : Refs) → Holds refs.old attempts.old s r
-        → IfOk result (λ it. Comes refs.new attempts.new r (told it)
+    ensures called { (s : Store) (r : Refs) → ServesWithAttempts refs.old attempts.old s r
+        → IfOk result (λ it. PerformsCall refs.new attempts.new r (told_answer it)
         (performed s (reads (seat_of actor) (name_view name)))) }
-    ensures stays { (s : Store) (r : Refs) → Holds refs.old attempts.old s r
-        → OnErr result (Holds refs.new attempts.new s r) }
+    ensures stays { (s : Store) (r : Refs) → ServesWithAttempts refs.old attempts.old s r
+        → OnErr result (ServesWithAttempts refs.new attempts.new s r) }
     ensures counter { counter_of refs.new ≡ counter_of refs.old }
     ensures twice { IfOk result AreTwice }
 {
@@ -140,8 +140,8 @@ fn count(
     actor: Actor,
     name: RefName,
 ) -> Option<Twice>
-    ensures called { (s : Store) (r : Refs) → Holds refs.now attempts.now s r
-        → Comes refs.now attempts.now r (told result)
+    ensures called { (s : Store) (r : Refs) → ServesWithAttempts refs.now attempts.now s r
+        → PerformsCall refs.now attempts.now r (told_answer result)
         (performed s (counts (seat_of actor) (name_view name))) }
     ensures twice { AreTwice result }
 {
@@ -153,45 +153,45 @@ fn count(
 }
 
 // The lower bound of a ref's history, or the ref where it is set.
-fn least(
+fn tell_or_set_least(
     refs: &mut RefTable<ListHistory>,
     attempts: &Attempts,
     name: RefName,
     set: Option<u64>,
 ) -> Option<Twice>
-    ensures called { (s : Store) (r : Refs) → Holds refs.old attempts.now s r
-        → Comes refs.new attempts.now r (told result)
+    ensures called { (s : Store) (r : Refs) → ServesWithAttempts refs.old attempts.now s r
+        → PerformsCall refs.new attempts.now r (told_answer result)
         (performed s (least_call (name_view name) set)) }
     ensures counter { counter_of refs.new ≡ counter_of refs.old }
     ensures twice { AreTwice result }
 {
     match set {
-        Some(least) => named_if(name, refs.set_least(attempts.tenant, name, least)),
+        Some(least) => ref_if_set(name, refs.set_least(attempts.tenant, name, least)),
         None => Some(Twice::of_number(refs.bounds(attempts.tenant, name)?.least)),
     }
 }
 
 // The upper bound, likewise.
-fn most(
+fn tell_or_set_most(
     refs: &mut RefTable<ListHistory>,
     attempts: &Attempts,
     name: RefName,
     set: Option<u64>,
 ) -> Option<Twice>
-    ensures called { (s : Store) (r : Refs) → Holds refs.old attempts.now s r
-        → Comes refs.new attempts.now r (told result)
+    ensures called { (s : Store) (r : Refs) → ServesWithAttempts refs.old attempts.now s r
+        → PerformsCall refs.new attempts.now r (told_answer result)
         (performed s (most_call (name_view name) set)) }
     ensures counter { counter_of refs.new ≡ counter_of refs.old }
     ensures twice { AreTwice result }
 {
     match set {
-        Some(most) => named_if(name, refs.set_most(attempts.tenant, name, most)),
+        Some(most) => ref_if_set(name, refs.set_most(attempts.tenant, name, most)),
         None => Some(Twice::of_number(refs.bounds(attempts.tenant, name)?.most)),
     }
 }
 
-fn named_if(name: RefName, is_set: bool) -> Option<Twice>
-    ensures told { told result ≡ setting_told name is_set }
+fn ref_if_set(name: RefName, is_set: bool) -> Option<Twice>
+    ensures told { told_answer result ≡ setting_told name is_set }
     ensures twice { AreTwice result }
 {
     if is_set {
@@ -210,11 +210,11 @@ fn commit(
     intent: &Intent,
 ) -> Result<Option<Twice>, AllocError>
     requires { counter_of refs.old < u128.MAX }
-    ensures called { (s : Store) (r : Refs) → Holds refs.old attempts.old s r
-        → IfOk result (λ it. Comes refs.new attempts.new r (told it)
+    ensures called { (s : Store) (r : Refs) → ServesWithAttempts refs.old attempts.old s r
+        → IfOk result (λ it. PerformsCall refs.new attempts.new r (told_answer it)
         (performed s (commits (seat_of actor) (intent_view intent.now)))) }
-    ensures stays { (s : Store) (r : Refs) → Holds refs.old attempts.old s r
-        → OnErr result (Holds refs.new attempts.new s r) }
+    ensures stays { (s : Store) (r : Refs) → ServesWithAttempts refs.old attempts.old s r
+        → OnErr result (ServesWithAttempts refs.new attempts.new s r) }
     ensures counter { counter_of refs.new ≤ counter_of refs.old + 1 }
     ensures untold { IfOk result (λ it. IsNone it → counter_of refs.new ≡ counter_of refs.old) }
     ensures failed { OnErr result (counter_of refs.new ≡ counter_of refs.old) }
@@ -224,19 +224,19 @@ fn commit(
         return Ok(None);
     };
     match refs.commit(alloc, attempts.tenant, intent, point)? {
-        Outcome::Committed => {
+        CommitOutcome::Committed => {
             attempts.leave(actor);
             Ok(Some(Twice::committed()))
         }
-        Outcome::Conflict => {
+        CommitOutcome::Conflict => {
             attempts.leave(actor);
             Ok(Some(Twice::conflict()))
         }
-        Outcome::Faulted(fault) => {
+        CommitOutcome::Faulted(fault) => {
             let told = Twice::faulted(fault)?;
             attempts.leave(actor);
             Ok(Some(told))
         }
-        Outcome::Refused => Ok(None),
+        CommitOutcome::Refused => Ok(None),
     }
 }

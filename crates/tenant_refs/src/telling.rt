@@ -3,11 +3,11 @@ ghost use Rattle.std.specs.Prelude.{◌≡◌, is_some, IfOk};
 ghost use Rattle.repl_asks.specs.View.{ask_view, name_view, intent_view};
 ghost use Rattle.server_rules.specs.Asking.{call_of};
 ghost use Rattle.server_rules.specs.Calls.{performed, counts, commits};
-ghost use Rattle.server_rules.specs.Store.{Store, named};
+ghost use Rattle.server_rules.specs.Store.{Store, ref_named};
 ghost use Rattle.server_rules.specs.Tenant.{seat_of};
 ghost use Rattle.ref_table.specs.Refs.{Refs};
 ghost use Rattle.tenant_refs.specs.Bounds.{is_bounded};
-ghost use Rattle.tenant_refs.specs.Serving.{Holds};
+ghost use Rattle.tenant_refs.specs.Serving.{ServesWithAttempts};
 
 use crate::attempts::Attempts;
 use ref_history::ListHistory;
@@ -25,7 +25,8 @@ pub fn is_told(
     actor: Actor,
     ask: &Ask,
 ) -> Result<bool, AllocError>
-    ensures { (s : Store) (r : Refs) → Holds refs.now attempts.now s r → IfOk result (λ it.
+    ensures { (s : Store) (r : Refs) → ServesWithAttempts refs.now attempts.now s r
+        → IfOk result (λ it.
         it ≡ is_some (performed s (call_of (seat_of actor) (ask_view ask.now))).told) }
 {
     match ask {
@@ -42,8 +43,8 @@ pub fn is_told(
 
 // Whether the tenant reaches a ref.
 fn is_there(refs: &RefTable<ListHistory>, attempts: &Attempts, name: RefName) -> bool
-    ensures { (s : Store) (r : Refs) → Holds refs.now attempts.now s r
-        → result ≡ is_some (named (name_view name) s) }
+    ensures { (s : Store) (r : Refs) → ServesWithAttempts refs.now attempts.now s r
+        → result ≡ is_some (ref_named (name_view name) s) }
 {
     refs.bounds(attempts.tenant, name).is_some()
 }
@@ -54,7 +55,7 @@ fn is_counted(
     actor: Actor,
     name: RefName,
 ) -> bool
-    ensures { (s : Store) (r : Refs) → Holds refs.now attempts.now s r → result
+    ensures { (s : Store) (r : Refs) → ServesWithAttempts refs.now attempts.now s r → result
         ≡ is_some (performed s (counts (seat_of actor) (name_view name))).told }
 {
     if matches!(name.owner, Owner::Shared) && attempts.point(actor).is_some() {
@@ -69,8 +70,8 @@ fn is_bounded(
     name: RefName,
     is_set: bool,
 ) -> bool
-    ensures { (s : Store) (r : Refs) → Holds refs.now attempts.now s r → result
-        ≡ is_bounded is_set (name_view name).owner (named (name_view name) s) }
+    ensures { (s : Store) (r : Refs) → ServesWithAttempts refs.now attempts.now s r → result
+        ≡ is_bounded is_set (name_view name).owner (ref_named (name_view name) s) }
 {
     if is_set && matches!(name.owner, Owner::Shared) {
         return false;
@@ -85,7 +86,8 @@ fn is_committed(
     actor: Actor,
     intent: &Intent,
 ) -> Result<bool, AllocError>
-    ensures { (s : Store) (r : Refs) → Holds refs.now attempts.now s r → IfOk result (λ it. it
+    ensures { (s : Store) (r : Refs) → ServesWithAttempts refs.now attempts.now s r
+        → IfOk result (λ it. it
         ≡ is_some (performed s (commits (seat_of actor) (intent_view intent.now))).told) }
 {
     if attempts.point(actor).is_none() {

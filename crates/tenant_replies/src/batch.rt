@@ -5,8 +5,9 @@ ghost use Rattle.repl_faults.specs.View.{failure_of};
 ghost use Rattle.repl_jobs.specs.View.{finished_view};
 ghost use Rattle.repl_replies.specs.Replies.{bytes_of};
 ghost use Rattle.repl_replies.specs.View.{origin_view, body_view};
-ghost use Rattle.server_rules.specs.Replying.{reply, fault_line, fault_replies, output_replies, value_reply};
-ghost use Rattle.server_rules.specs.Moves.{told};
+ghost use Rattle.server_rules.specs.Replying.{reply, fault_line, fault_replies, output_replies};
+ghost use Rattle.server_rules.specs.Replying.{value_reply};
+ghost use Rattle.server_rules.specs.Moves.{end_replies};
 ghost use Rattle.tenant_replies.specs.View.{made_bytes};
 
 use repl_jobs::{End, Finished};
@@ -36,7 +37,8 @@ impl Batch {
     /// Adds one reply.
     pub fn add(&mut self, origin: &Origin, body: Body) -> Result<(), AllocError>
         ensures { OnOk result (made_bytes self.new
-            ≡ made_bytes self.old ++ map bytes_of (reply (origin_view origin.now) (body_view body) ∷ [])) }
+            ≡ made_bytes self.old ++ map bytes_of
+            (reply (origin_view origin.now) (body_view body) ∷ [])) }
     {
         let bytes = origin.reply_bytes(self.alloc, &body)?;
         self.replies.push(bytes)?;
@@ -46,7 +48,8 @@ impl Batch {
     /// Adds what is told of a fault: its class, and the whole as a line of text.
     pub fn add_fault(&mut self, origin: &Origin, fault: &Fault) -> Result<(), AllocError>
         ensures { OnOk result (made_bytes self.new
-            ≡ made_bytes self.old ++ map bytes_of (fault_replies (origin_view origin.now) (failure_of fault.now))) }
+            ≡ made_bytes self.old ++ map bytes_of
+            (fault_replies (origin_view origin.now) (failure_of fault.now))) }
     {
         let Fault { class, text } = fault;
         let line = line_of(self.alloc, class.as_str(), text.as_str())?;
@@ -58,7 +61,8 @@ impl Batch {
     /// Adds what was printed, if that is anything.
     pub fn add_output(&mut self, origin: &Origin, printed: &str) -> Result<(), AllocError>
         ensures { OnOk result (made_bytes self.new
-            ≡ made_bytes self.old ++ map bytes_of (output_replies (origin_view origin.now) printed.now)) }
+            ≡ made_bytes self.old ++ map bytes_of
+            (output_replies (origin_view origin.now) printed.now)) }
     {
         if printed.is_empty() {
             return Ok(());
@@ -75,7 +79,8 @@ impl Batch {
         value: &Value,
     ) -> Result<(), AllocError>
         ensures { OnOk result (made_bytes self.new
-            ≡ made_bytes self.old ++ map bytes_of (value_reply (origin_view origin.now) namespace.now (view value.now) ∷ [])) }
+            ≡ made_bytes self.old ++ map bytes_of
+            (value_reply (origin_view origin.now) namespace.now (view value.now) ∷ [])) }
     {
         let mut text = String::new(self.alloc);
         print_into(self.alloc, value, &mut text)?;
@@ -86,7 +91,8 @@ impl Batch {
     /// Adds how a form ended: first what it printed, and then its value or its fault.
     pub fn add_end(&mut self, origin: &Origin, finished: &Finished) -> Result<(), AllocError>
         ensures { OnOk result (made_bytes self.new
-            ≡ made_bytes self.old ++ map bytes_of (told (origin_view origin.now) (finished_view finished.now))) }
+            ≡ made_bytes self.old ++ map bytes_of
+            (end_replies (origin_view origin.now) (finished_view finished.now))) }
     {
         self.add_output(origin, finished.text())?;
         match finished.end() {
@@ -97,7 +103,8 @@ impl Batch {
 }
 
 fn line_of(alloc: Global, class: &str, text: &str) -> Result<String, AllocError>
-    ensures { IfOk result (λ line. string_bytes line ≡ fault_line (record { class = class.now; text = text.now })) }
+    ensures { IfOk result (λ line. string_bytes line
+        ≡ fault_line (record { class = class.now; text = text.now })) }
 {
     let mut line = String::from_str(alloc, class)?;
     line.push_str(": ")?;

@@ -1,13 +1,12 @@
 // The replies that wait.
-ghost use Rattle.std.specs.Prelude.{◌≡◌, ◌≤◌, ◌↔◌, [], ◌∷◌, ◌++◌, length, IsTrue, OnOk, OnErr, MatchOption};
+ghost use Rattle.std.specs.Prelude.{◌≡◌, ◌≤◌, ◌↔◌, [], ◌∷◌, ◌++◌, length, IsTrue, OnOk, OnErr};
+ghost use Rattle.std.specs.Prelude.{MatchOption};
 ghost use Rattle.tenant_replies.specs.View.{made_bytes, waiting_bytes};
 
 use crate::batch::Batch;
+use server_rules::MOST_REPLIES;
 use std::alloc::{AllocError, Global};
 use std::collections::VecDeque;
-
-// So many waiting replies hold back whatever may add more.
-const LIMIT: usize = 1_024;
 
 /// The replies that wait, oldest first, each as its bytes.
 #[derive(Drop)]
@@ -27,9 +26,9 @@ impl Outbox {
 
     /// Whether so many wait that whatever may add more is held back.
     pub fn is_held(&self) -> bool
-        ensures { IsTrue result ↔ (LIMIT ≤ length (waiting_bytes self.now)) }
+        ensures { IsTrue result ↔ (MOST_REPLIES ≤ length (waiting_bytes self.now)) }
     {
-        self.replies.len() >= LIMIT
+        self.replies.len() >= MOST_REPLIES
     }
 
     /// Takes the oldest reply out. It takes no memory.
@@ -43,7 +42,8 @@ impl Outbox {
     /// Lets the replies of a batch wait, in order. It fails only for want of memory, and then adds
     /// none.
     pub fn post(&mut self, batch: Batch) -> Result<(), AllocError>
-        ensures posted { OnOk result (waiting_bytes self.new ≡ waiting_bytes self.old ++ made_bytes batch) }
+        ensures posted { OnOk result (waiting_bytes self.new
+            ≡ waiting_bytes self.old ++ made_bytes batch) }
         ensures stays { OnErr result (waiting_bytes self.new ≡ waiting_bytes self.old) }
     {
         let mut made = VecDeque::from_vec(batch.replies);

@@ -1,29 +1,29 @@
 -- A runner behind the turns of its tenant.
-use Rattle.std.proofs.Common.{◌≡◌, ◌≢◌, List, [], ◌∷◌, ℕ, false, nat_le, Some, None, Result, Ok, Err}
-use Rattle.std.proofs.Common.{refl, sym, ap, subst, ◌∙◌, IfErr, OnOk}
+use Rattle.std.proofs.Common.{◌≡◌, ◌≢◌, List, [], ◌∷◌, ℕ, false, nat_le, Some, None, Result, Ok}
+use Rattle.std.proofs.Common.{Err, refl, sym, ap, subst, ◌∙◌, IfErr, OnOk}
 use Rattle.repl_replies.specs.Replies.{ReplyData}
-use Rattle.server_rules.specs.Deeds.{drained}
+use Rattle.server_rules.specs.Deeds.{drain_outcome}
 use Rattle.server_rules.specs.Numbered.{entry}
 use Rattle.server_rules.specs.Ground.{Ground}
 use Rattle.server_rules.specs.Plan.{Deed, StepAnswer, Outcome, refuses, leaves, tenant_opened}
 use Rattle.server_rules.specs.Store.{Around, Store}
 use Rattle.server_rules.specs.Tenant.{Quiet}
-use Rattle.server_rules.specs.Turns.{bytes_in, honest}
+use Rattle.server_rules.specs.Turns.{bytes_in, honest_deed}
 use Rattle.server_rules.specs.World as worlds
-use Rattle.server_rules.specs.World.{TenantData, World, opening, opened_tenant, opens, does}
+use Rattle.server_rules.specs.World.{TenantData, World, new_world, opened_tenant, opens, does}
 use Rattle.server_rules.specs.World.{with_tenant}
 use Rattle.server_rules.specs.declared.actor.Actor.{Actor}
 use Rattle.server_rules.specs.declared.refusal.Refusal.{Refusal}
-use Rattle.tenant_turns.specs.Deeded.{Deeded, deeded}
+use Rattle.tenant_turns.specs.DeedResult.{DeedResult, deed_result}
 use Rattle.tenant_turns.specs.Grounds.{IsRight}
-use Rattle.tenant_turns.specs.Turns.{Turn, Lone, goes, drains, accepted, deed_of, step, stepped_as}
-use Rattle.tenant_turns.specs.Turns.{ended_as, opened_lone}
+use Rattle.tenant_turns.specs.Turns.{LoneTurn, Lone, goes, drains, accepted, deed_of, lone_step}
+use Rattle.tenant_turns.specs.Turns.{stepped_as, ended_as, opened_lone}
 use Rattle.tenant_turns.specs.Turned.{Accepted, IsRefused}
 use Rattle.tenant_walks.specs.Grounds.{Evaluates}
 use Rattle.tenant_walks.specs.WalkAt.{walk_at}
 use Rattle.tenant_world.specs.Standing as tenants
 use Rattle.tenant_world.specs.declared.tenant.Tenant.{Tenant}
-use Rattle.repl_core.specs.Going.{AreWalkedIn, KeepsForms, Goes, Halts}
+use Rattle.repl_core.specs.Going.{AreWalkedIn, KeepsForms, AcceptsTurn, RefusesTurn}
 use Rattle.repl_core.specs.Standing as machine
 use Rattle.repl_core.specs.Standing.{open_in, store_in}
 use Rattle.repl_core.specs.Steps as core
@@ -31,25 +31,25 @@ use Rattle.repl_core.specs.TenantAt.{tenant_at}
 use Rattle.repl_core.proofs.Worlds as world
 use Rattle.repl_core.proofs.Worlds.{step-deed}
 use Rattle.repl_core.proofs.Places.{open-mine, kept-at, none-at}
-use Rattle.repl_core.proofs.Behind.{deeded-tenant}
+use Rattle.repl_core.proofs.Behind.{deed_result-tenant}
 use Rattle.repl_core.proofs.Comings.{open-tested}
-use Rattle.repl_core.proofs.Honest.{honest-turn}
+use Rattle.repl_core.proofs.Honest.{honest_deed-turn}
 use Rattle.repl_core.proofs.Walking.{same-world, deed-walked, fresh-walked}
-use Rattle.tenant_runner.specs.Standing.{kept_of, Stands}
+use Rattle.tenant_runner.specs.Standing.{tenant_data_of, Stands}
 use Rattle.tenant_runner.specs.declared.runner.Runner.{Runner}
 
 -- what a deed of the tenant comes to, in its server
-abbrev deeded_in : Ground → World → Lone → Deed → Deeded
-deeded_in g w l d = world.deed_of g w 0 (kept_of l) d
+abbrev deeded_in : Ground → World → Lone → Deed → DeedResult
+deeded_in g w l d = world.deed_of g w 0 (tenant_data_of l) d
 
 -- the turn comes to what the deed does
-turn-so : (g : Ground) (w : World) (l : Lone) (turn : Turn) (d : Deed)
+turn-so : (g : Ground) (w : World) (l : Lone) (turn : LoneTurn) (d : Deed)
     → l.store ≡ store_in w.around 0 l.store.mine → d ≡ deed_of g l turn
-    → step g l turn ≡ ended_as (deeded_in g w l d).store (deeded_in g w l d).outcome
-unfolding step
+    → lone_step g l turn ≡ ended_as (deeded_in g w l d).store (deeded_in g w l d).outcome
+unfolding lone_step
 turn-so g w l turn d seen is =
-    ap (λ x. stepped_as (deeded g l.store l.quiet x)) (sym is)
-    ∙ ap (λ s. stepped_as (deeded g s l.quiet d)) seen
+    ap (λ x. stepped_as (deed_result g l.store l.quiet x)) (sym is)
+    ∙ ap (λ s. stepped_as (deed_result g s l.quiet d)) seen
 
 -- what is seen behind it
 seen-behind : (around : Around) (s : Store) → s.around ≡ around → s.tenant ≡ 0
@@ -59,7 +59,7 @@ seen-behind around s same mine =
     ∙ ap (λ t. record { around = around; tenant = t; mine = s.mine }) mine
 
 stands-behind : (g : Ground) (w after : World) (l : Lone) (d : Deed) (q : Quiet) (new : Runner)
-    → IsRight g → Evaluates g → open_in 0 w ≡ Some (kept_of l)
+    → IsRight g → Evaluates g → open_in 0 w ≡ Some (tenant_data_of l)
     → with_tenant 0 (Some (record { quiet = q; mine = (deeded_in g w l d).store.mine }))
     (deeded_in g w l d).store.around w ≡ after
     → machine.Stands g new.machine after → AreWalkedIn new.walks (open_in 0 after)
@@ -72,23 +72,23 @@ stands-behind g w after l d q new right ground there same stands walked =
       ground = ground;
       world = after;
       machine = stands;
-      there = sym (ap (open_in 0) same) ∙ open-mine w e.store.around 0 (Some part) (kept_of l) there;
+      there = sym (ap (open_in 0) same) ∙ open-mine w e.store.around 0 (Some part) (tenant_data_of l) there;
       store = seen-behind after.around e.store (ap (λ x. x.around) same)
-          (deeded-tenant g (store_in w.around 0 l.store.mine) l.quiet d);
+          (deed_result-tenant g (store_in w.around 0 l.store.mine) l.quiet d);
       walked = walked;
     }
 
 -- the deed is accepted
 accepted-deed : (g : Ground) (w after : World) (l : Lone) (d : Deed) (answer : StepAnswer)
-    (new : Runner) → IsRight g → Evaluates g → open_in 0 w ≡ Some (kept_of l)
+    (new : Runner) → IsRight g → Evaluates g → open_in 0 w ≡ Some (tenant_data_of l)
     → worlds.step g w (does 0 d) ≡ worlds.accepted after answer
     → machine.Stands g new.machine after → AreWalkedIn new.walks (open_in 0 after)
     → (it : Lone) × (ended_as (deeded_in g w l d).store (deeded_in g w l d).outcome
     ≡ accepted it (bytes_in answer)) × Stands g new it
 accepted-deed g w after l d answer new right ground there is stands walked =
-    by e.outcome refl (sym (step-deed g w 0 d (kept_of l) there) ∙ is)
+    by e.outcome refl (sym (step-deed g w 0 d (tenant_data_of l) there) ∙ is)
   where
-    e : Deeded
+    e : DeedResult
     e = deeded_in g w l d
 
     by : (o : Outcome) → e.outcome ≡ o → worlds.ended_as w 0 e.store o ≡ worlds.accepted after answer
@@ -104,26 +104,26 @@ accepted-deed g w after l d answer new right ground there is stands walked =
               stands walked,
         )
 
-pub accepted-turn : (g : Ground) (w after : World) (l : Lone) (turn : Turn) (d : Deed)
+pub accepted-turn : (g : Ground) (w after : World) (l : Lone) (turn : LoneTurn) (d : Deed)
     (answer : StepAnswer) (new : Runner) → IsRight g → Evaluates g
-    → open_in 0 w ≡ Some (kept_of l) → l.store ≡ store_in w.around 0 l.store.mine
+    → open_in 0 w ≡ Some (tenant_data_of l) → l.store ≡ store_in w.around 0 l.store.mine
     → d ≡ deed_of g l turn → worlds.step g w (does 0 d) ≡ worlds.accepted after answer
     → machine.Stands g new.machine after → AreWalkedIn new.walks (open_in 0 after)
-    → (it : Lone) × (step g l turn ≡ accepted it (bytes_in answer)) × Stands g new it
+    → (it : Lone) × (lone_step g l turn ≡ accepted it (bytes_in answer)) × Stands g new it
 accepted-turn g w after l turn d answer new right ground there seen same is stands walked =
     let it = accepted-deed g w after l d answer new right ground there is stands walked in
     (it.0, turn-so g w l turn d seen same ∙ it.1, it.2)
 
 -- the deed is refused
-pub refused-turn : (g : Ground) (w : World) (l : Lone) (turn : Turn) (d : Deed) (why : Refusal)
-    → open_in 0 w ≡ Some (kept_of l) → l.store ≡ store_in w.around 0 l.store.mine
+pub refused-turn : (g : Ground) (w : World) (l : Lone) (turn : LoneTurn) (d : Deed) (why : Refusal)
+    → open_in 0 w ≡ Some (tenant_data_of l) → l.store ≡ store_in w.around 0 l.store.mine
     → d ≡ deed_of g l turn → worlds.step g w (does 0 d) ≡ worlds.refused why
-    → IsRefused why (step g l turn)
+    → IsRefused why (lone_step g l turn)
 refused-turn g w l turn d why there seen same is =
     turn-so g w l turn d seen same
-    ∙ by e.outcome refl (sym (step-deed g w 0 d (kept_of l) there) ∙ is)
+    ∙ by e.outcome refl (sym (step-deed g w 0 d (tenant_data_of l) there) ∙ is)
   where
-    e : Deeded
+    e : DeedResult
     e = deeded_in g w l d
 
     by : (o : Outcome) → e.outcome ≡ o → worlds.ended_as w 0 e.store o ≡ worlds.refused why
@@ -147,66 +147,66 @@ stands-same g l old new s stands walked = record {
 }
 
 -- a deed by which no form goes on
-pub does-turn : (g : Ground) (l : Lone) (turn : Turn) (d : Deed) (old new : Runner)
+pub does-turn : (g : Ground) (l : Lone) (turn : LoneTurn) (d : Deed) (old new : Runner)
     (answer : StepAnswer) (s : Stands g old l) → KeepsForms d → d ≡ deed_of g l turn
-    → new.walks ≡ old.walks → core.Does g s.world (does 0 d) new.machine answer
-    → (it : Lone) × (step g l turn ≡ accepted it (bytes_in answer)) × Stands g new it
+    → new.walks ≡ old.walks → core.AcceptsStep g s.world (does 0 d) new.machine answer
+    → (it : Lone) × (lone_step g l turn ≡ accepted it (bytes_in answer)) × Stands g new it
 does-turn g l turn d old new answer s keeps is same did =
     accepted-turn g s.world did.after l turn d answer new s.right s.ground s.there s.store is
     did.accepted did.stands
     (subst (λ walks. AreWalkedIn walks (open_in 0 did.after)) (sym same)
     (deed-walked g s.world did.after 0 d answer old.walks keeps did.accepted s.walked))
 
-pub refuses-turn : (g : Ground) (l : Lone) (turn : Turn) (d : Deed) (old new : Runner)
+pub refuses-turn : (g : Ground) (l : Lone) (turn : LoneTurn) (d : Deed) (old new : Runner)
     (why : Refusal) (s : Stands g old l) → d ≡ deed_of g l turn → new.walks ≡ old.walks
-    → core.Refuses g s.world (does 0 d) new.machine why → why ≢ Refusal.NoMemory
-    → IsRefused why (step g l turn) × Stands g new l
+    → core.RefusesStep g s.world (does 0 d) new.machine why → why ≢ Refusal.NoMemory
+    → IsRefused why (lone_step g l turn) × Stands g new l
 refuses-turn g l turn d old new why s is same told ne = (
   refused-turn g s.world l turn d why s.there s.store is (told.refused ne),
   stands-same g l old new s told.stands
       (subst (λ walks. AreWalkedIn walks (open_in 0 s.world)) (sym same) s.walked),
 )
 
-pub accepted-so : (g : Ground) (l : Lone) (turn : Turn) (new : Runner) (bytes : List ℕ)
-    → ((it : Lone) × (step g l turn ≡ accepted it bytes) × Stands g new it)
-    → Accepted (Stands g new) (step g l turn)
+pub accepted-so : (g : Ground) (l : Lone) (turn : LoneTurn) (new : Runner) (bytes : List ℕ)
+    → ((it : Lone) × (lone_step g l turn ≡ accepted it bytes) × Stands g new it)
+    → Accepted (Stands g new) (lone_step g l turn)
 accepted-so g l turn new bytes it = subst (Accepted (Stands g new)) (sym it.1) it.2
 
 -- an actor goes on
 pub goes-turn : {X : Type 0} (g : Ground) (l : Lone) (a : Actor) (old new : Runner)
     (res : Result X Refusal) (s : Stands g old l)
-    → OnOk res (Goes g s.world 0 a new.machine new.walks)
-    → OnOk res (Accepted (Stands g new) (step g l (goes a)))
+    → OnOk res (AcceptsTurn g s.world 0 a new.machine new.walks)
+    → OnOk res (Accepted (Stands g new) (lone_step g l (goes a)))
 goes-turn g l a old new (Err why) s did = tt
 goes-turn g l a old new (Ok x) s did =
     accepted-so g l (goes a) new _
-    (accepted-turn g s.world did.after l (goes a) (honest g a (Some (Some l.quiet))) did.answer new
+    (accepted-turn g s.world did.after l (goes a) (honest_deed g a (Some (Some l.quiet))) did.answer new
     s.right s.ground s.there s.store refl
-    (sym (honest-turn g s.world 0 a (kept_of l) s.there) ∙ did.accepted) did.stands did.walked)
+    (sym (honest_deed-turn g s.world 0 a (tenant_data_of l) s.there) ∙ did.accepted) did.stands did.walked)
 
 pub halts-turn : {X : Type 0} (g : Ground) (l : Lone) (a : Actor) (old new : Runner)
     (res : Result X Refusal) (s : Stands g old l)
-    → IfErr res (Halts g s.world 0 a new.machine new.walks)
+    → IfErr res (RefusesTurn g s.world 0 a new.machine new.walks)
     → IfErr res (λ why. why ≢ Refusal.NoMemory
-    → IsRefused why (step g l (goes a)) × Stands g new l)
+    → IsRefused why (lone_step g l (goes a)) × Stands g new l)
 halts-turn g l a old new (Ok x) s told = tt
 halts-turn g l a old new (Err why) s told = λ ne. (
-  refused-turn g s.world l (goes a) (honest g a (Some (Some l.quiet))) why s.there s.store refl
-      (sym (honest-turn g s.world 0 a (kept_of l) s.there) ∙ told.refused ne),
+  refused-turn g s.world l (goes a) (honest_deed g a (Some (Some l.quiet))) why s.there s.store refl
+      (sym (honest_deed-turn g s.world 0 a (tenant_data_of l) s.there) ∙ told.refused ne),
   stands-same g l old new s told.stands told.walked,
 )
 
 -- what is refused where no reply waits
-drained-idle : (g : Ground) (q : Quiet) (s : Store) (why : Refusal) (replies : List ReplyData)
-    → IsRefused why (ended_as s (drained q replies))
-    → IsRefused Refusal.Idle (ended_as s (drained q replies))
-drained-idle g q s why [] is = refl
-drained-idle g q s why (oldest ∷ more) never = absurd (cc)
+drain_outcome-idle : (g : Ground) (q : Quiet) (s : Store) (why : Refusal) (replies : List ReplyData)
+    → IsRefused why (ended_as s (drain_outcome q replies))
+    → IsRefused Refusal.Idle (ended_as s (drain_outcome q replies))
+drain_outcome-idle g q s why [] is = refl
+drain_outcome-idle g q s why (oldest ∷ more) never = absurd (cc)
 
-pub drains-idle : (g : Ground) (l : Lone) (why : Refusal) → IsRefused why (step g l drains)
-    → IsRefused Refusal.Idle (step g l drains)
-unfolding step deeded
-drains-idle g l why is = drained-idle g l.quiet l.store why l.quiet.replies is
+pub drains-idle : (g : Ground) (l : Lone) (why : Refusal) → IsRefused why (lone_step g l drains)
+    → IsRefused Refusal.Idle (lone_step g l drains)
+unfolding lone_step deed_result
+drains-idle g l why is = drain_outcome-idle g l.quiet l.store why l.quiet.replies is
 
 -- What is shown
 
@@ -216,7 +216,7 @@ tenant-of g l r code s is =
     let w = s.world in
     let m = s.machine in
     let at = kept-at g m.refs 0 code (tenant_at r.machine.tenants 0) (open_in 0 w) (m.tenants 0) is in
-    let same : at.0 ≡ kept_of l = cc (at.1, s.there) in
+    let same : at.0 ≡ tenant_data_of l = cc (at.1, s.there) in
     subst (tenants.Stands g code l.quiet) (sym s.store)
     (subst (λ k. tenants.Stands g code k.quiet (store_in w.around 0 k.mine)) same
     (at.2.stands w.around))
@@ -227,20 +227,20 @@ tenant-there g l r s gone =
     let none : open_in 0 s.world ≡ None =
     none-at g s.machine.refs 0 (tenant_at r.machine.tenants 0) (open_in 0 s.world)
     (s.machine.tenants 0) gone in
-    let never : None ≡ Some (kept_of l) = sym none ∙ s.there in cc
+    let never : None ≡ Some (tenant_data_of l) = sym none ∙ s.there in cc
 
 -- as it begins
 pub opened-stands : (g : Ground) (made : Runner) → IsRight g → Evaluates g → g.places ≡ 1
     → ((a : Actor) → walk_at made.walks a ≡ None)
-    → core.Does g (opening []) (opens 0) made.machine tenant_opened
+    → core.AcceptsStep g (new_world []) (opens 0) made.machine tenant_opened
     → Stands g made (opened_lone g)
 opened-stands g made right ground places none did =
     let first : World = record {
-      around = (opening []).around;
+      around = (new_world []).around;
       tenants = entry 0 (Some (opened_tenant g)) ∷ [];
     } in
-    let by : worlds.step g (opening []) (opens 0) ≡ worlds.accepted first tenant_opened =
-    open-tested g (opening []) 0 false false refl (ap (λ n. nat_le n 0) places) in
+    let by : worlds.step g (new_world []) (opens 0) ≡ worlds.accepted first tenant_opened =
+    open-tested g (new_world []) 0 false false refl (ap (λ n. nat_le n 0) places) in
     let same : first ≡ did.after =
     same-world first did.after tenant_opened tenant_opened (sym by ∙ did.accepted) in
     record {

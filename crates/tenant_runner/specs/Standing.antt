@@ -12,11 +12,11 @@ use Rattle.repl_core.specs.Standing as machine
 use Rattle.repl_core.specs.Standing.{open_in, store_in}
 use Rattle.tenant_runner.specs.declared.runner.Runner.{Runner}
 
-abbrev pub left_by : Runner → Left
-left_by r = left_at 0 r.machine
+abbrev pub work_left : Runner → Left
+work_left r = left_at 0 r.machine
 
-abbrev pub kept_of : Lone → TenantData
-kept_of l = record { quiet = l.quiet; mine = l.store.mine }
+abbrev pub tenant_data_of : Lone → TenantData
+tenant_data_of l = record { quiet = l.quiet; mine = l.store.mine }
 
 -- it is the first tenant of a server
 pub record Stands (g : Ground) (r : Runner) (l : Lone) : Type 0 where
@@ -24,6 +24,6 @@ pub record Stands (g : Ground) (r : Runner) (l : Lone) : Type 0 where
   pub ground : Evaluates g
   pub world : World
   pub machine : machine.Stands g r.machine world
-  pub there : open_in 0 world ≡ Some (kept_of l)
+  pub there : open_in 0 world ≡ Some (tenant_data_of l)
   pub store : l.store ≡ store_in world.around 0 l.store.mine
   pub walked : AreWalkedIn r.walks (open_in 0 world)

@@ -34,9 +34,9 @@ impl Runner {
 }
 
 impl Core for Runner {
-    ghost use Rattle.tenant_runner.specs.Standing.{left_by, Stands};
+    ghost use Rattle.tenant_runner.specs.Standing.{work_left, Stands};
 
-    ghost left = { left_by };
+    ghost left = { work_left };
 
     ghost stands = { Stands };
 

@@ -6,7 +6,8 @@ use denote.Enum.Declared.{Declared}
 use denote.Enum.Bare.{Bare, sameb, same_true, true_same}
 use mathlib.Core.Logic.{inl, inr}
 use Rattle.value_data.specs.Datum.{Datum, OwnerData}
-use Rattle.value_data.specs.Code.{datum_code, owner_code}
+use Rattle.value_data.specs.Code.{datum_code}
+use Rattle.value_data.specs.CodedNodes.{owner_code}
 use Rattle.repl_faults.specs.Failure.{Failure}
 use Rattle.special_forms.specs.Functions.{FunctionData}
 use Rattle.core_integers.specs.declared.function.ArithmeticFunction.{ArithmeticFunction}
@@ -30,13 +31,15 @@ use Rattle.core_maps.specs.contracts.function.MapFunction.{the_type as map_funct
 use Rattle.core_integers.specs.declared.function.IntegerFunction.{IntegerFunction}
 use Rattle.core_predicates.specs.declared.function.PredicateFunction.{PredicateFunction}
 use Rattle.function_names.specs.declared.function.CoreFunction.{CoreFunction}
-use Rattle.repl_asks.specs.Exchange.{BindingData, bound_value, bound_function, AskData, resolve, define, enter}
-use Rattle.repl_asks.specs.Exchange.{new_ref, begin, read, history, min_history, max_history, commit}
-use Rattle.repl_asks.specs.Exchange.{NamedFunctionData, core_function, store_function, program_function, ResolutionData}
-use Rattle.repl_asks.specs.Exchange.{names_value, names_function, names_nothing, ReadingData, found, retry}
-use Rattle.repl_asks.specs.Exchange.{VerdictData, committed, conflict, faulted, AnswerData, resolution, done}
-use Rattle.repl_asks.specs.Exchange.{value, reading, verdict, Exchanged}
-use Rattle.repl_asks.specs.Transactions.{RefNameData, ChangeData, CommuteData, CommutedData, IntentData}
+use Rattle.repl_asks.specs.Exchange.{BindingData, bound_value, bound_function, AskData, resolve}
+use Rattle.repl_asks.specs.Exchange.{define, enter, new_ref, begin, read, history, min_history}
+use Rattle.repl_asks.specs.Exchange.{max_history, commit, NamedFunctionData, core_function}
+use Rattle.repl_asks.specs.Exchange.{store_function, program_function, ResolutionData, names_value}
+use Rattle.repl_asks.specs.Exchange.{names_function, names_nothing, ReadingData, found, retry}
+use Rattle.repl_asks.specs.Exchange.{VerdictData, committed, conflict, faulted, AnswerData}
+use Rattle.repl_asks.specs.Exchange.{resolution, done, value, reading, verdict, Exchanged}
+use Rattle.repl_asks.specs.Transactions.{RefNameData, ChangeData, CommuteData, CommutedData}
+use Rattle.repl_asks.specs.Transactions.{IntentData}
 use Rattle.repl_jobs.specs.Job.{WorkData, form, JobData}
 use Rattle.tenant_turns.proofs.Telling.{Tells, coded, items, pair, either, by_parts}
 

@@ -1,5 +1,5 @@
--- What a tenant stands on, where it is right: streams and texts are read as they are to be read, and
--- jobs and traces compared print for print.
+-- What a tenant stands on, where it is right: streams and texts are read as they are to be read,
+-- and jobs and traces compared exactly.
 use Rattle.server_rules.specs.Readings.{AreRight}
 use Rattle.server_rules.specs.Comparisons.{AreExact}
 use Rattle.server_rules.specs.Ground.{Ground}

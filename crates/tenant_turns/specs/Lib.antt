@@ -1,4 +1,4 @@
-pub mod Deeded
+pub mod DeedResult
 pub mod Turns
 pub mod Grounds
 pub mod Turned

@@ -1,25 +1,25 @@
 -- The turns of a tenant that is served alone, and what a list of them serves.
 use Rattle.std.specs.Prelude.{ℕ, List, [], ◌∷◌, ◌++◌, Some, map}
-use Rattle.bencode_wire.specs.Stream.{Ending, rest, fault}
-use Rattle.bencode_wire.specs.Fault.{counted, fault_at}
+use Rattle.bencode_wire.specs.Stream.{StreamEnding, rest, fault}
+use Rattle.bencode_wire.specs.Fault.{counted_place, fault_at}
 use Rattle.server_rules.specs.Store.{Store}
 use Rattle.server_rules.specs.Ground.{Ground}
 use Rattle.server_rules.specs.Tenant.{Quiet, opened_quiet}
 use Rattle.server_rules.specs.Ready.{actor_at}
 use Rattle.server_rules.specs.Plan.{Deed, Outcome, refuses, leaves}
 use Rattle.server_rules.specs.Plan as deeds
-use Rattle.server_rules.specs.Turns.{honest, bytes_in}
+use Rattle.server_rules.specs.Turns.{honest_deed, bytes_in}
 use Rattle.server_rules.specs.declared.actor.Actor.{Actor}
 use Rattle.server_rules.specs.declared.refusal.Refusal.{Refusal}
-use Rattle.tenant_turns.specs.Deeded.{Deeded, deeded}
+use Rattle.tenant_turns.specs.DeedResult.{DeedResult, deed_result}
 use Rattle.tenant_turns.specs.declared.turns.Wire.{Wire}
 
 -- A turn: a piece of the stream is heard, an actor goes on as its evaluation says, or the oldest
 -- reply is taken out.
-pub data Turn : Type 0 where
-  hears : List ℕ → Turn
-  goes : Actor → Turn
-  drains : Turn
+pub data LoneTurn : Type 0 where
+  hears : List ℕ → LoneTurn
+  goes : Actor → LoneTurn
+  drains : LoneTurn
 
 -- a tenant that is served alone, and what it reaches of the refs
 pub record Lone : Type 0 where
@@ -38,52 +38,53 @@ opened_lone g = record {
 }
 
 -- what a turn makes of the tenant, with the bytes that it gives; or why it is refused
-pub data Stepped : Type 0 where
-  accepted : Lone → List ℕ → Stepped
-  refused : Refusal → Stepped
+pub data LoneStepped : Type 0 where
+  accepted : Lone → List ℕ → LoneStepped
+  refused : Refusal → LoneStepped
 
-abbrev pub deed_of : Ground → Lone → Turn → Deed
+abbrev pub deed_of : Ground → Lone → LoneTurn → Deed
 deed_of g l (hears piece) = deeds.hears piece
-deed_of g l (goes a) = honest g a (Some (Some l.quiet))
+deed_of g l (goes a) = honest_deed g a (Some (Some l.quiet))
 deed_of g l drains = deeds.drains
 
-abbrev pub ended_as : Store → Outcome → Stepped
+abbrev pub ended_as : Store → Outcome → LoneStepped
 ended_as s (refuses why) = refused why
 ended_as s (leaves q answer) = accepted (record { quiet = q; store = s }) (bytes_in answer)
 
-abbrev pub stepped_as : Deeded → Stepped
+abbrev pub stepped_as : DeedResult → LoneStepped
 stepped_as d = ended_as d.store d.outcome
 
-unfoldable pub step : Ground → Lone → Turn → Stepped
-step g l turn = stepped_as (deeded g l.store l.quiet (deed_of g l turn))
+unfoldable pub lone_step : Ground → Lone → LoneTurn → LoneStepped
+lone_step g l turn = stepped_as (deed_result g l.store l.quiet (deed_of g l turn))
 
 -- a refused turn leaves the tenant as it was, and gives nothing
-abbrev pub lone_or : Lone → Stepped → Lone
+abbrev pub lone_or : Lone → LoneStepped → Lone
 lone_or old (accepted new bytes) = new
 lone_or old (refused why) = old
 
-abbrev pub bytes_given : Stepped → List ℕ
+abbrev pub bytes_given : LoneStepped → List ℕ
 bytes_given (accepted new bytes) = bytes
 bytes_given (refused why) = []
 
-abbrev pub after : Ground → Lone → Turn → Lone
-after g l turn = lone_or l (step g l turn)
+abbrev pub lone_after : Ground → Lone → LoneTurn → Lone
+lone_after g l turn = lone_or l (lone_step g l turn)
 
-abbrev pub run : Ground → Lone → List Turn → Lone
-run g l [] = l
-run g l (turn ∷ turns) = run g (after g l turn) turns
+abbrev pub lone_run : Ground → Lone → List LoneTurn → Lone
+lone_run g l [] = l
+lone_run g l (turn ∷ turns) = lone_run g (lone_after g l turn) turns
 
 -- what a list of turns serves: the bytes that its turns give, joined
-abbrev pub served : Ground → Lone → List Turn → List ℕ
-served g l [] = []
-served g l (turn ∷ turns) = bytes_given (step g l turn) ++ served g (after g l turn) turns
+abbrev pub lone_served : Ground → Lone → List LoneTurn → List ℕ
+lone_served g l [] = []
+lone_served g l (turn ∷ turns) = bytes_given (lone_step g l turn)
+    ++ lone_served g (lone_after g l turn) turns
 
 -- the actors, in the order of their rounds
 abbrev pub actors_of : Lone → List Actor
 actors_of l = map (λ e. actor_at e.number) l.quiet.actors
 
 -- what has come of the stream
-abbrev pub wire_at : Ending → Wire
+abbrev pub wire_at : StreamEnding → Wire
 wire_at (rest []) = Wire.Whole
 wire_at (rest (byte ∷ m)) = Wire.Partial
-wire_at (fault rule at) = Wire.Broken (fault_at rule (counted at))
+wire_at (fault rule at) = Wire.Broken (fault_at rule (counted_place at))

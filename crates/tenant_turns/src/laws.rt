@@ -19,7 +19,7 @@ pub fn there_is_one_right_reading()
     readings_are_unique();
 }
 
-/// Jobs and traces are compared print for print. There are functions that do so.
+/// There are functions that compare jobs and traces exactly.
 pub fn exact_comparisons_exist()
     ensures { (c : Comparisons) × AreExact c }
 {}

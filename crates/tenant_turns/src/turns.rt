@@ -1,10 +1,10 @@
 // What `pipe` drives: a tenant that makes one turn at a time.
-ghost use Rattle.std.specs.Prelude.{◌≡◌, ◌≢◌, ◌+◌, ◌<◌, [], ◌∷◌, length, Err};
-ghost use Rattle.std.specs.Prelude.{OnOk, OnErr, IfOk, IfErr, MatchOption};
+ghost use Rattle.std.specs.Prelude.{◌≡◌, ◌≢◌, ◌+◌, ◌<◌, [], ◌∷◌, length, Err, OnOk, OnErr, IfOk};
+ghost use Rattle.std.specs.Prelude.{IfErr, MatchOption};
 ghost use Rattle.server_rules.specs.Ground.{Ground};
 ghost use Rattle.tenant_turns.specs.Grounds.{IsRight};
-ghost use Rattle.tenant_turns.specs.Turns.{Lone, hears, goes, drains, accepted, step, actors_of};
-ghost use Rattle.tenant_turns.specs.Turns.{wire_at};
+ghost use Rattle.tenant_turns.specs.Turns.{Lone, hears, goes, drains, accepted, lone_step};
+ghost use Rattle.tenant_turns.specs.Turns.{actors_of, wire_at};
 ghost use Rattle.tenant_turns.specs.Turned.{Left, Accepted, IsRefused};
 
 use bencode_wire::WireFault;
@@ -25,9 +25,9 @@ pub enum Wire {
 /// A tenant that is served alone, a turn at a time. A piece, and what an actor does, each use up a
 /// step.
 ///
-/// What each turn does stands in `specs/Turns.antt`. A turn that was accepted leaves the tenant as it
-/// is after the step. A turn that was refused, other than for want of memory, is one that the step
-/// refuses so, and leaves the tenant as it was.
+/// What each turn does stands in `specs/Turns.antt`. A turn that was accepted leaves the tenant as
+/// it is after the step. A turn that was refused, other than for want of memory, is one that the
+/// step refuses so, and leaves the tenant as it was.
 pub trait Core {
     /// How much is left to do: the steps, and the replies that wait.
     ghost left: { Self → Left };
@@ -39,10 +39,10 @@ pub trait Core {
         ensures heard { OnOk result ((left self.old).steps ≡ (left self.new).steps + 1) }
         ensures refused { OnErr result ((left self.new).steps ≡ (left self.old).steps) }
         ensures accepted { (g : Ground) (l : Lone) → IsRight g → stands g self.old l
-            → OnOk result (Accepted (stands g self.new) (step g l (hears piece.now))) }
+            → OnOk result (Accepted (stands g self.new) (lone_step g l (hears piece.now))) }
         ensures as_it_was { (g : Ground) (l : Lone) → IsRight g → stands g self.old l
             → IfErr result (λ why. why ≢ Refusal.NoMemory
-            → IsRefused why (step g l (hears piece.now)) × stands g self.new l) };
+            → IsRefused why (lone_step g l (hears piece.now)) × stands g self.new l) };
 
     /// The actors, in the order of their rounds. It fails only for want of memory.
     fn actors(&self, alloc: Global) -> Result<Vec<Actor>, AllocError>
@@ -55,10 +55,10 @@ pub trait Core {
         ensures refused { OnErr result ((left self.new).steps ≡ (left self.old).steps) }
         ensures held { result ≡ Err Refusal.Held → 0 < length (left self.old).outbox }
         ensures accepted { (g : Ground) (l : Lone) → IsRight g → stands g self.old l
-            → OnOk result (Accepted (stands g self.new) (step g l (goes actor))) }
+            → OnOk result (Accepted (stands g self.new) (lone_step g l (goes actor))) }
         ensures as_it_was { (g : Ground) (l : Lone) → IsRight g → stands g self.old l
             → IfErr result (λ why. why ≢ Refusal.NoMemory
-            → IsRefused why (step g l (goes actor)) × stands g self.new l) };
+            → IsRefused why (lone_step g l (goes actor)) × stands g self.new l) };
 
     /// Takes the oldest reply out. It takes no memory.
     fn drain(&mut self) -> Option<Vec<u8>>
@@ -67,8 +67,8 @@ pub trait Core {
             (((left self.old).outbox ≡ []) × ((left self.new).outbox ≡ []))
             (λ reply. (left self.old).outbox ≡ reply.items ∷ (left self.new).outbox) }
         ensures drained { (g : Ground) (l : Lone) → stands g self.old l → MatchOption result
-            (IsRefused Refusal.Idle (step g l drains) × stands g self.new l)
-            (λ reply. (after : Lone) × (step g l drains ≡ accepted after reply.items)
+            (IsRefused Refusal.Idle (lone_step g l drains) × stands g self.new l)
+            (λ reply. (after : Lone) × (lone_step g l drains ≡ accepted after reply.items)
             × stands g self.new after) };
 
     /// What has come of the stream. It takes no memory.

@@ -1,27 +1,27 @@
 -- The honest deed of an actor, from the form of it that runs and how far its evaluation came.
 use Rattle.std.proofs.Common.{◌≡◌, Option, Some, None, option_and_then, refl, sym, ap, ◌∙◌}
 use Rattle.repl_asks.specs.View.{ask_view}
-use Rattle.repl_jobs.specs.Leading.{after}
+use Rattle.repl_jobs.specs.Leading.{tree_after}
 use Rattle.repl_walker.specs.Waits.{progress_tree}
 use Rattle.repl_walker.specs.declared.waiting.Walk.{Walk}
 use Rattle.repl_walker.specs.declared.waiting.Progress.{Progress}
 use Rattle.repl_walker.specs.declared.ending.Ending.{Ending}
 use Rattle.server_rules.specs.Ground.{Ground}
-use Rattle.server_rules.specs.Numbered.{found}
+use Rattle.server_rules.specs.Numbered.{part_under}
 use Rattle.server_rules.specs.Request.{Hand, Run}
 use Rattle.server_rules.specs.Tenant.{ActorData, Quiet, seat_of}
 use Rattle.server_rules.specs.Plan as deeds
-use Rattle.server_rules.specs.Turns.{honest, honest_at, honest_of, honest_in, honest_by}
+use Rattle.server_rules.specs.Turns.{honest_deed, honest_at, honest_of, honest_in, honest_by}
 use Rattle.server_rules.specs.declared.actor.Actor.{Actor}
 use Rattle.tenant_world.specs.Running.{running_of, running_in}
-use Rattle.tenant_walks.specs.Ended.{ended}
+use Rattle.repl_walker.specs.Ends.{ending_view}
 use Rattle.tenant_walks.specs.Grounds.{Evaluates}
 use Rattle.tenant_walks.specs.Walked.{IsWalkOf}
 
 -- no form of the actor runs
-pub honest-starts : (g : Ground) (a : Actor) (q : Quiet) → running_in a q ≡ None
-    → deeds.starts a ≡ honest g a (Some (Some q))
-honest-starts g a q none = sym (by (found (seat_of a) q.actors) none)
+pub honest_deed-starts : (g : Ground) (a : Actor) (q : Quiet) → running_in a q ≡ None
+    → deeds.starts a ≡ honest_deed g a (Some (Some q))
+honest_deed-starts g a q none = sym (by (part_under (seat_of a) q.actors) none)
   where
     of_run : (r : Option Run) → r ≡ None → honest_of g a r ≡ deeds.starts a
     of_run None e = refl
@@ -36,44 +36,44 @@ honest-starts g a q none = sym (by (found (seat_of a) q.actors) none)
     by None e = refl
     by (Some actor) e = in_hand actor.hand e
 
-honest-runs : (g : Ground) (a : Actor) (q : Quiet) (run : Run) → running_in a q ≡ Some run
-    → honest g a (Some (Some q)) ≡ honest_at a run (after (g.evaluation run.job) run.trace)
-honest-runs g a q run some = by (found (seat_of a) q.actors) some
+honest_deed-runs : (g : Ground) (a : Actor) (q : Quiet) (run : Run) → running_in a q ≡ Some run
+    → honest_deed g a (Some (Some q)) ≡ honest_at a run (tree_after (g.evaluation run.job) run.trace)
+honest_deed-runs g a q run some = by (part_under (seat_of a) q.actors) some
   where
     of_run : (r : Option Run) → r ≡ Some run
-        → honest_of g a r ≡ honest_at a run (after (g.evaluation run.job) run.trace)
+        → honest_of g a r ≡ honest_at a run (tree_after (g.evaluation run.job) run.trace)
     of_run None e = absurd (cc)
     of_run (Some other) e = ap (λ o. honest_of g a o) e
 
     in_hand : (h : Option Hand) → option_and_then (λ h. h.running) h ≡ Some run
-        → honest_in g a h ≡ honest_at a run (after (g.evaluation run.job) run.trace)
+        → honest_in g a h ≡ honest_at a run (tree_after (g.evaluation run.job) run.trace)
     in_hand None e = absurd (cc)
     in_hand (Some h) e = of_run h.running e
 
     by : (o : Option ActorData) → running_of o ≡ Some run
-        → honest_by g a o ≡ honest_at a run (after (g.evaluation run.job) run.trace)
+        → honest_by g a o ≡ honest_at a run (tree_after (g.evaluation run.job) run.trace)
     by None e = absurd (cc)
     by (Some actor) e = in_hand actor.hand e
 
 -- the evaluation came so far
 walked-so : (g : Ground) (a : Actor) (q : Quiet) (run : Run) (p : Progress) → Evaluates g
     → running_in a q ≡ Some run → IsWalkOf run p
-    → honest g a (Some (Some q)) ≡ honest_at a run (progress_tree p)
+    → honest_deed g a (Some (Some q)) ≡ honest_at a run (progress_tree p)
 walked-so g a q run p ground some walk =
-    honest-runs g a q run some
-    ∙ ap (λ t. honest_at a run (after t run.trace)) (ground.evaluation run.job)
+    honest_deed-runs g a q run some
+    ∙ ap (λ t. honest_at a run (tree_after t run.trace)) (ground.evaluation run.job)
     ∙ ap (honest_at a run) (sym walk.tree)
 
-pub honest-asks : (g : Ground) (a : Actor) (q : Quiet) (run : Run) (w : Walk) → Evaluates g
+pub honest_deed-asks : (g : Ground) (a : Actor) (q : Quiet) (run : Run) (w : Walk) → Evaluates g
     → running_in a q ≡ Some run → IsWalkOf run (Progress.Asks w)
-    → deeds.asks_for a (ask_view w.ask) ≡ honest g a (Some (Some q))
-honest-asks g a q run w ground some walk =
+    → deeds.asks_for a (ask_view w.ask) ≡ honest_deed g a (Some (Some q))
+honest_deed-asks g a q run w ground some walk =
     sym (walked-so g a q run (Progress.Asks w) ground some walk)
 
-pub honest-ends : (g : Ground) (a : Actor) (q : Quiet) (run : Run) (e : Ending) → Evaluates g
+pub honest_deed-ends : (g : Ground) (a : Actor) (q : Quiet) (run : Run) (e : Ending) → Evaluates g
     → running_in a q ≡ Some run → IsWalkOf run (Progress.Ends e)
-    → deeds.ends a (ended e) ≡ honest g a (Some (Some q))
-honest-ends g a q run e ground some walk =
-    ap (λ job. deeds.ends a (record (ended e) { job = job })) walk.job
-    ∙ ap (λ trace. deeds.ends a (record (ended e) { job = run.job; trace = trace })) walk.trace
+    → deeds.ends a (ending_view e) ≡ honest_deed g a (Some (Some q))
+honest_deed-ends g a q run e ground some walk =
+    ap (λ job. deeds.ends a (record (ending_view e) { job = job })) walk.job
+    ∙ ap (λ trace. deeds.ends a (record (ending_view e) { job = run.job; trace = trace })) walk.trace
     ∙ sym (walked-so g a q run (Progress.Ends e) ground some walk)

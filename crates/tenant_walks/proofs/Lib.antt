@@ -4,3 +4,4 @@ pub mod Outcomes
 pub mod Walking
 pub mod Stores
 pub mod Steps
+pub mod Ending

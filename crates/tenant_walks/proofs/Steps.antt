@@ -1,7 +1,7 @@
 -- The parts of the code behind the steps of a tenant.
-use Rattle.std.proofs.Common.{◌≡◌, ◌≢◌, ℕ, List, [], ◌∷◌, Option, Some, None, Result, Ok, Err}
-use Rattle.std.proofs.Common.{refl, sym, ap, subst, ◌∙◌, IfErr, OnOk, OnErr, is_some, option_map}
-use Rattle.std.proofs.Common.{Bool, true, false, true≢false, not}
+use Rattle.std.proofs.Common.{◌≡◌, ◌≢◌, ℕ, List, [], ◌∷◌, Option, Some, None, Result, Ok, Err, refl}
+use Rattle.std.proofs.Common.{sym, ap, subst, ◌∙◌, IfErr, OnOk, OnErr, is_some, option_map, Bool}
+use Rattle.std.proofs.Common.{true, false, true≢false, not}
 use Rattle.std.specs.Result.{IsErrAnd}
 use Rattle.repl_replies.specs.Replies.{ReplyData}
 use Rattle.repl_walker.specs.declared.waiting.Progress.{Progress}
@@ -12,23 +12,23 @@ use Rattle.server_rules.specs.Plan as deeds
 use Rattle.server_rules.specs.Plan.{Deed, Outcome, StepAnswer, refuses, leaves, messages_heard}
 use Rattle.server_rules.specs.Plan.{ask_answered}
 use Rattle.repl_asks.specs.Exchange.{AskData, AnswerData}
-use Rattle.server_rules.specs.Deeds.{drained}
+use Rattle.server_rules.specs.Deeds.{drain_outcome}
 use Rattle.server_rules.specs.declared.actor.Actor.{Actor}
 use Rattle.server_rules.specs.declared.refusal.Refusal.{Refusal}
 use Rattle.server_rules.specs.Store.{Store}
-use Rattle.ref_table.specs.Refs.{Refs, after as refs_after}
-use Rattle.tenant_refs.specs.Serving.{Table, Serves}
-use Rattle.tenant_turns.specs.Deeded.{deeded}
+use Rattle.ref_table.specs.Refs.{Refs, refs_after}
+use Rattle.tenant_refs.specs.Serving.{ListRefTable, TableServes}
+use Rattle.tenant_turns.specs.DeedResult.{deed_result}
 use Rattle.tenant_turns.specs.Turns.{Lone}
 use Rattle.tenant_world.specs.declared.tenant.Tenant.{Tenant}
 use Rattle.tenant_world.specs.Running.{running_of, running_in}
 use Rattle.tenant_world.specs.Standing as world
 use Rattle.tenant_walks.specs.WalkAt.{walk_at}
 use Rattle.tenant_walks.specs.Walked.{IsWalkOf, AreWalked, AreWalkedBut}
-use Rattle.tenant_walks.specs.Standing.{Parts, parts, Stands, Does, Refuses, comes_to}
+use Rattle.tenant_walks.specs.Standing.{Parts, parts, Stands, AcceptsDeed, RefusesDeed, comes_to}
 use Rattle.tenant_walks.specs.declared.walks.Walks.{Walks}
 use Rattle.tenant_walks.proofs.Runs.{heard-runs}
-use Rattle.tenant_world.specs.Asking.{exchanged, run_with}
+use Rattle.tenant_world.specs.Asking.{exchange_from, run_with}
 use Rattle.tenant_walks.proofs.Outcomes.{heard-after, answered-after}
 use Rattle.tenant_walks.proofs.Walking.{walked-all, some-same}
 use Rattle.tenant_walks.proofs.Stores.{Reached, serves-all-still, hears-reached, drains-reached}
@@ -36,11 +36,11 @@ use Rattle.tenant_walks.proofs.Stores.{Reached, serves-all-still, hears-reached,
 -- an actor's step, behind which its evaluation is followed
 pub does-followed : (g : Ground) (l : Lone) (r : Refs) (deed : Deed) (a : Actor) (old new : Parts)
     (answer : StepAnswer) → Stands g old l r
-    → world.DoesBy g a l.quiet (comes_to g l deed) new.tenant answer
-    → Serves new.table (comes_to g l deed).store (refs_after (comes_to g l deed).store r)
+    → world.AcceptsDeedBy g a l.quiet (comes_to g l deed) new.tenant answer
+    → TableServes new.table (comes_to g l deed).store (refs_after (comes_to g l deed).store r)
     → ((then : Quiet) (s : Store) → world.Stands g new.tenant then s
     → AreWalkedBut a (walk_at old.walks) then → AreWalked (walk_at new.walks) then)
-    → Does g l r deed new
+    → AcceptsDeed g l r deed new
 does-followed g l r deed a old new answer s does serves follows = record {
   after = does.after;
   answer = answer;
@@ -58,20 +58,20 @@ does-followed g l r deed a old new answer s does serves follows = record {
 -- the table, where the deed leaves the refs
 pub serves-same : (g : Ground) (l : Lone) (r : Refs) (deed : Deed) (old : Parts) (s : Stands g old l r)
     → Reached l.store (comes_to g l deed).store
-    → Serves old.table (comes_to g l deed).store (refs_after (comes_to g l deed).store r)
+    → TableServes old.table (comes_to g l deed).store (refs_after (comes_to g l deed).store r)
 serves-same g l r deed old s reached =
     serves-all-still old.table l.store (comes_to g l deed).store r s.serves reached
 
 -- a refused step
 pub refused-parts : {X : Type 0} (g : Ground) (l : Lone) (r : Refs) (deed : Deed) (old : Parts)
-    (tenant : Tenant) (table : Table) (why : Refusal) (res : Result X Refusal) (s : Stands g old l r)
+    (tenant : Tenant) (table : ListRefTable) (why : Refusal) (res : Result X Refusal) (s : Stands g old l r)
     → IsErrAnd res (λ e. e ≡ why)
-    → world.Refuses g l.quiet l.store (comes_to g l deed) tenant why
-    → Serves table l.store r
-    → IfErr res (Refuses g l r deed (parts tenant table old.walks))
+    → world.RefusesDeed g l.quiet l.store (comes_to g l deed) tenant why
+    → TableServes table l.store r
+    → IfErr res (RefusesDeed g l r deed (parts tenant table old.walks))
 refused-parts g l r deed old tenant table why (Ok x) s never told serves = tt
 refused-parts g l r deed old tenant table why (Err e) s is told serves =
-    subst (Refuses g l r deed (parts tenant table old.walks)) (sym is) (record {
+    subst (RefusesDeed g l r deed (parts tenant table old.walks)) (sym is) (record {
       refused = told.refused;
       stands = record {
         right = s.right;
@@ -85,8 +85,8 @@ refused-parts g l r deed old tenant table why (Err e) s is told serves =
 -- a piece that was heard
 pub does-heard : (g : Ground) (l : Lone) (r : Refs) (piece : List ℕ) (old : Parts) (tenant : Tenant)
     (count : ℕ) → Stands g old l r
-    → world.Does g (comes_to g l (deeds.hears piece)) tenant (messages_heard count)
-    → Does g l r (deeds.hears piece) (parts tenant old.table old.walks)
+    → world.AcceptsDeed g (comes_to g l (deeds.hears piece)) tenant (messages_heard count)
+    → AcceptsDeed g l r (deeds.hears piece) (parts tenant old.table old.walks)
 does-heard g l r piece old tenant count s does =
     let behind = heard-after g l.quiet l.store piece does.after _ does.accepted in
     record {
@@ -106,25 +106,25 @@ does-heard g l r piece old tenant count s does =
     }
 
 -- a reply that was taken out
-pub drained-runs : (q after : Quiet) (answer : StepAnswer) (a : Actor) (replies : List ReplyData)
-    → drained q replies ≡ leaves after answer → running_in a after ≡ running_in a q
-drained-runs q after answer a [] never = absurd (cc)
-drained-runs q after answer a (oldest ∷ more) is = ap (running_in a) (sym (ap left_of is))
+pub drain_outcome-runs : (q after : Quiet) (answer : StepAnswer) (a : Actor) (replies : List ReplyData)
+    → drain_outcome q replies ≡ leaves after answer → running_in a after ≡ running_in a q
+drain_outcome-runs q after answer a [] never = absurd (cc)
+drain_outcome-runs q after answer a (oldest ∷ more) is = ap (running_in a) (sym (ap left_of is))
   where
     left_of : Outcome → Quiet
     left_of (refuses why) = q
     left_of (leaves x y) = x
 
 pub drains-by : (g : Ground) (l : Lone)
-    → (comes_to g l deeds.drains).outcome ≡ drained l.quiet l.quiet.replies
-unfolding deeded
+    → (comes_to g l deeds.drains).outcome ≡ drain_outcome l.quiet l.quiet.replies
+unfolding deed_result
 drains-by g l = refl
 
 -- a reply was taken out
 pub does-drained : (g : Ground) (l : Lone) (r : Refs) (old : Parts) (tenant : Tenant)
     (answer : StepAnswer) → Stands g old l r
-    → world.Does g (comes_to g l deeds.drains) tenant answer
-    → Does g l r deeds.drains (parts tenant old.table old.walks)
+    → world.AcceptsDeed g (comes_to g l deeds.drains) tenant answer
+    → AcceptsDeed g l r deeds.drains (parts tenant old.table old.walks)
 does-drained g l r old tenant answer s does = record {
   after = does.after;
   answer = answer;
@@ -135,7 +135,7 @@ does-drained g l r old tenant answer s does = record {
     tenant = does.stands;
     serves = serves-same g l r deeds.drains old s (drains-reached g l.quiet l.store);
     walked = λ a run p runs at.
-        s.walked a run p (sym (drained-runs l.quiet does.after _ a l.quiet.replies
+        s.walked a run p (sym (drain_outcome-runs l.quiet does.after _ a l.quiet.replies
         (sym (drains-by g l) ∙ does.accepted)) ∙ runs) at;
   };
 }
@@ -172,13 +172,13 @@ some-so f (Some x) b is some = (f x, refl)
 -- an ask that was answered
 pub does-resumed : (g : Ground) (l : Lone) (r : Refs) (a : Actor) (old new : Parts) (ask : AskData)
     (answer : AnswerData) (run : Run) → Stands g old l r → running_in a l.quiet ≡ Some run
-    → world.DoesBy g a l.quiet (comes_to g l (deeds.asks_for a ask)) new.tenant (ask_answered answer)
+    → world.AcceptsDeedBy g a l.quiet (comes_to g l (deeds.asks_for a ask)) new.tenant (ask_answered answer)
     → let d = comes_to g l (deeds.asks_for a ask) in
-    Serves new.table d.store (refs_after d.store r)
+    TableServes new.table d.store (refs_after d.store r)
     → ((p : Progress) → walk_at new.walks a ≡ Some p
-    → IsWalkOf (run_with (exchanged ask answer) run) p)
+    → IsWalkOf (run_with (exchange_from ask answer) run) p)
     → ((b : Actor) → seat_of b ≢ seat_of a → walk_at new.walks b ≡ walk_at old.walks b)
-    → Does g l r (deeds.asks_for a ask) new
+    → AcceptsDeed g l r (deeds.asks_for a ask) new
 does-resumed g l r a old new ask answer run s runs does serves mine others =
     let behind = answered-after g l.quiet l.store a ask does.after answer run does.accepted runs in
     record {
@@ -200,11 +200,11 @@ does-resumed g l r a old new ask answer run s runs does serves mine others =
 
 -- a deed that is the same
 pub does-as : {X : Type 0} (g : Ground) (l : Lone) (r : Refs) (deed honest : Deed) (p : Parts)
-    (res : Result X Refusal) → deed ≡ honest → OnOk res (Does g l r deed p)
-    → OnOk res (Does g l r honest p)
-does-as g l r deed honest p res is does = subst (λ d. OnOk res (Does g l r d p)) is does
+    (res : Result X Refusal) → deed ≡ honest → OnOk res (AcceptsDeed g l r deed p)
+    → OnOk res (AcceptsDeed g l r honest p)
+does-as g l r deed honest p res is does = subst (λ d. OnOk res (AcceptsDeed g l r d p)) is does
 
 pub refuses-as : {X : Type 0} (g : Ground) (l : Lone) (r : Refs) (deed honest : Deed) (p : Parts)
-    (res : Result X Refusal) → deed ≡ honest → IfErr res (Refuses g l r deed p)
-    → IfErr res (Refuses g l r honest p)
-refuses-as g l r deed honest p res is told = subst (λ d. IfErr res (Refuses g l r d p)) is told
+    (res : Result X Refusal) → deed ≡ honest → IfErr res (RefusesDeed g l r deed p)
+    → IfErr res (RefusesDeed g l r honest p)
+refuses-as g l r deed honest p res is told = subst (λ d. IfErr res (RefusesDeed g l r d p)) is told

@@ -1,21 +1,22 @@
 -- Deeds that ask nothing of the refs leave them as they are.
-use Rattle.std.proofs.Common.{◌≡◌, ◌==◌, ℕ, List, Bool, true, false, Option, None, Some}
-use Rattle.std.proofs.Common.{refl, sym, ap, subst, ◌∙◌}
+use Rattle.std.proofs.Common.{◌≡◌, ◌==◌, ℕ, List, Bool, true, false, Option, None, Some, refl, sym}
+use Rattle.std.proofs.Common.{ap, subst, ◌∙◌}
 use Rattle.server_rules.specs.Ground.{Ground}
-use Rattle.server_rules.specs.Numbered.{found}
+use Rattle.server_rules.specs.Numbered.{part_under}
 use Rattle.server_rules.specs.Request.{Hand, Run}
 use Rattle.server_rules.specs.Store.{Store}
 use Rattle.server_rules.specs.Tenant.{ActorData, Quiet, seat_of, is_held}
 use Rattle.server_rules.specs.Plan as deeds
-use Rattle.server_rules.specs.Plan.{Plan, EndingData, Outcome, refuses, quietly}
+use Rattle.server_rules.specs.Plan.{Plan, Outcome, refuses, quietly}
+use Rattle.repl_jobs.specs.Job.{EndingData}
 use Rattle.server_rules.specs.Deeds.{for_actor, start_of}
 use Rattle.server_rules.specs.Ending.{end_of, end_running, end_compared, with_left_attempt}
 use Rattle.server_rules.specs.Starting.{interrupted_in}
 use Rattle.server_rules.specs.declared.actor.Actor.{Actor}
-use Rattle.ref_table.specs.Refs.{Refs, store_of, after}
-use Rattle.tenant_refs.specs.Serving.{Table, Serves}
-use Rattle.tenant_refs.proofs.Serving.{after-seen}
-use Rattle.tenant_turns.specs.Deeded.{carried_out, deeded}
+use Rattle.ref_table.specs.Refs.{Refs, store_of, refs_after}
+use Rattle.tenant_refs.specs.Serving.{ListRefTable, TableServes}
+use Rattle.tenant_refs.proofs.Serving.{refs_after-seen}
+use Rattle.tenant_turns.specs.DeedResult.{carried_out, deed_result}
 use Rattle.tenant_world.proofs.Standing.{worn_by, starts-by, ends-by}
 use Rattle.tenant_world.proofs.Ends.{held_by, closed_by}
 
@@ -29,8 +30,8 @@ reached-all : (s : Store) → Reached s s
 reached-all s = record { around = refl; tenant = refl; refs = refl }
 
 -- the table serves it as before
-pub serves-still : (table : Table) (old new : Store) (r : Refs) → Serves table old r
-    → Reached old new → Serves table new r
+pub serves-still : (table : ListRefTable) (old new : Store) (r : Refs) → TableServes table old r
+    → Reached old new → TableServes table new r
 serves-still table old new r serves same =
     let with_points : Store → Store = λ s. record {
       around = s.around;
@@ -58,32 +59,32 @@ serves-still table old new r serves same =
 
 -- and all refs are as they were
 pub refs-still : (old new : Store) (r : Refs) → old ≡ store_of old.tenant old.mine.points r
-    → Reached old new → after new r ≡ r
+    → Reached old new → refs_after new r ≡ r
 refs-still old new r seen same =
-    ap (λ x. after (record new { around = x }) r) same.around
-    ∙ ap (λ x. after (record { around = old.around; tenant = x; mine = new.mine }) r) same.tenant
-    ∙ ap (λ x. after (record {
+    ap (λ x. refs_after (record new { around = x }) r) same.around
+    ∙ ap (λ x. refs_after (record { around = old.around; tenant = x; mine = new.mine }) r) same.tenant
+    ∙ ap (λ x. refs_after (record {
       around = old.around;
       tenant = old.tenant;
       mine = record { refs = x; points = old.mine.points };
     }) r) same.refs
-    ∙ after-seen old r seen
+    ∙ refs_after-seen old r seen
 
 -- the table serves it as before, and stands for the same refs
-pub serves-all-still : (table : Table) (old new : Store) (r : Refs) → Serves table old r
-    → Reached old new → Serves table new (after new r)
+pub serves-all-still : (table : ListRefTable) (old new : Store) (r : Refs) → TableServes table old r
+    → Reached old new → TableServes table new (refs_after new r)
 serves-all-still table old new r serves same =
-    subst (Serves table new) (sym (refs-still old new r serves.reached same))
+    subst (TableServes table new) (sym (refs-still old new r serves.reached same))
     (serves-still table old new r serves same)
 
 pub hears-reached : (g : Ground) (q : Quiet) (s : Store) (piece : List ℕ)
-    → Reached s (deeded g s q (deeds.hears piece)).store
-unfolding deeded
+    → Reached s (deed_result g s q (deeds.hears piece)).store
+unfolding deed_result
 hears-reached g q s piece = reached-all s
 
 pub drains-reached : (g : Ground) (q : Quiet) (s : Store)
-    → Reached s (deeded g s q deeds.drains).store
-unfolding deeded
+    → Reached s (deed_result g s q deeds.drains).store
+unfolding deed_result
 drains-reached g q s = reached-all s
 
 -- the plans of an actor's deeds, where those of the actor leave them
@@ -91,13 +92,13 @@ by-reached : (q : Quiet) (s : Store) (a : Actor) (p : ActorData → Plan)
     → ((actor : ActorData) → Reached s (carried_out s (p actor)).store) → (b : Bool)
     → Reached s (carried_out s (worn_by q a p b)).store
 by-reached q s a p leaves_refs true = reached-all s
-by-reached q s a p leaves_refs false = there (found (seat_of a) q.actors) where
+by-reached q s a p leaves_refs false = there (part_under (seat_of a) q.actors) where
   there : (o : Option ActorData) → Reached s (carried_out s (for_actor o p)).store
   there None = reached-all s
   there (Some actor) = leaves_refs actor
 
 pub starts-reached : (g : Ground) (q : Quiet) (s : Store) (a : Actor)
-    → Reached s (deeded g s q (deeds.starts a)).store
+    → Reached s (deed_result g s q (deeds.starts a)).store
 starts-reached g q s a =
     let p : ActorData → Plan = λ actor. quietly (start_of g a actor q actor.hand) in
     subst (λ d. Reached s d.store) (sym (starts-by g q s a))
@@ -131,7 +132,7 @@ end-reached g q s a actor e (Some h) = runs h.running where
   runs (Some run) = closed run actor.is_closed
 
 pub ends-reached : (g : Ground) (q : Quiet) (s : Store) (a : Actor) (e : EndingData)
-    → Reached s (deeded g s q (deeds.ends a e)).store
+    → Reached s (deed_result g s q (deeds.ends a e)).store
 ends-reached g q s a e =
     let p : ActorData → Plan = λ actor. end_of g a actor e q actor.hand in
     subst (λ d. Reached s d.store) (sym (ends-by g q s a e))

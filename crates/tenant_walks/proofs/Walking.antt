@@ -1,12 +1,13 @@
 -- The evaluations that are kept, through changes.
-use Rattle.std.proofs.Common.{◌≡◌, ◌==◌, List, [], ◌∷◌, ◌++◌, Bool, true, false}
-use Rattle.std.proofs.Common.{Option, Some, option_map, refl, sym, ap, ◌∙◌}
+use Rattle.std.proofs.Common.{◌≡◌, ◌==◌, List, [], ◌∷◌, ◌++◌, Bool, true, false, Option, Some}
+use Rattle.std.proofs.Common.{option_map, refl, sym, ap, ◌∙◌}
 use Rattle.std.proofs.lemmas.Bool.{eqb-true, eqb-false}
 use Rattle.repl_asks.specs.Exchange.{AnswerData, Exchanged}
 use Rattle.repl_asks.specs.View.{ask_view}
-use Rattle.repl_jobs.specs.Tree.{Tree, finished, asks}
-use Rattle.repl_jobs.specs.Leading.{after}
-use Rattle.repl_walker.specs.Waits.{behind, progress_job, progress_trace, progress_tree, trace_with}
+use Rattle.repl_jobs.specs.InteractionTree.{InteractionTree, finished, asks}
+use Rattle.repl_jobs.specs.Leading.{tree_after}
+use Rattle.repl_walker.specs.Waits.{tree_behind, progress_job, progress_trace, progress_tree}
+use Rattle.repl_walker.specs.Waits.{trace_with}
 use Rattle.repl_walker.specs.declared.waiting.Walk.{Walk}
 use Rattle.repl_walker.specs.declared.waiting.Progress.{Progress}
 use Rattle.repl_walker.specs.declared.ending.Ending.{Ending}
@@ -16,7 +17,7 @@ use Rattle.server_rules.specs.Request.{Run}
 use Rattle.server_rules.specs.Tenant.{Quiet, seat_of}
 use Rattle.server_rules.specs.declared.actor.Actor.{Actor}
 use Rattle.evaluation_rules.specs.Evaluation.{evaluation}
-use Rattle.tenant_world.specs.Asking.{exchanged, run_with}
+use Rattle.tenant_world.specs.Asking.{exchange_from, run_with}
 use Rattle.tenant_world.specs.Running.{running_in}
 use Rattle.tenant_walks.specs.Walked.{IsWalkOf, AreWalked, AreWalkedBut}
 
@@ -45,25 +46,25 @@ walked-all a walk q others mine = λ b run p runs at. by b run p runs at (seat_o
 pub some-same : {A : Type 0} (a b : A) → Some a ≡ Some b → a ≡ b
 some-same a b e = cc
 
-after-more : (t : Tree) (xs : List Exchanged) (x : Exchanged)
-    → after t (xs ++ x ∷ []) ≡ after (after t xs) (x ∷ [])
-after-more t [] x = refl
-after-more (finished e) (y ∷ ys) x = refl
-after-more (asks ask k) (y ∷ ys) x = after-more (k y.answer) ys x
+tree_after-more : (t : InteractionTree) (xs : List Exchanged) (x : Exchanged)
+    → tree_after t (xs ++ x ∷ []) ≡ tree_after (tree_after t xs) (x ∷ [])
+tree_after-more t [] x = refl
+tree_after-more (finished e) (y ∷ ys) x = refl
+tree_after-more (asks ask k) (y ∷ ys) x = tree_after-more (k y.answer) ys x
 
 -- an evaluation that goes on with an answer
 pub walk-resumed : (run : Run) (w : Walk) (p : Progress) (answer : AnswerData)
-    → IsWalkOf run (Progress.Asks w) → progress_tree p ≡ behind w answer
+    → IsWalkOf run (Progress.Asks w) → progress_tree p ≡ tree_behind w answer
     → progress_job p ≡ job_view w.job → progress_trace p ≡ trace_with w answer
-    → IsWalkOf (run_with (exchanged (ask_view w.ask) answer) run) p
+    → IsWalkOf (run_with (exchange_from (ask_view w.ask) answer) run) p
 walk-resumed run w p answer walk tree job trace =
-    let x = exchanged (ask_view w.ask) answer in
+    let x = exchange_from (ask_view w.ask) answer in
     record {
       job = job ∙ walk.job;
       trace = trace ∙ ap (λ front. front ++ x ∷ []) walk.trace;
       tree = tree
-          ∙ ap (λ t. after t (x ∷ [])) walk.tree
-          ∙ sym (after-more (evaluation run.job) run.trace x);
+          ∙ ap (λ t. tree_after t (x ∷ [])) walk.tree
+          ∙ sym (tree_after-more (evaluation run.job) run.trace x);
     }
 
 pub asks-same : (v w : Walk) → Progress.Asks v ≡ Progress.Asks w → v ≡ w

@@ -1,5 +1,5 @@
--- What a runner stands on: streams and texts are read right, jobs and traces compared exactly, forms
--- evaluated as the language says, and nothing is bound in the shared namespace.
+-- What evaluations stand on: forms are evaluated as the language says, and nothing is bound in the
+-- shared namespace.
 use Rattle.std.specs.Prelude.{◌≡◌}
 use Rattle.repl_jobs.specs.Job.{JobData}
 use Rattle.name_spaces.specs.Bindings.{nothing_bound}

@@ -4,9 +4,9 @@ use Rattle.server_rules.specs.Ground.{Ground}
 use Rattle.server_rules.specs.Plan.{Deed, StepAnswer, refuses, leaves}
 use Rattle.server_rules.specs.Tenant.{Quiet}
 use Rattle.server_rules.specs.declared.refusal.Refusal.{Refusal}
-use Rattle.ref_table.specs.Refs.{Refs, after as refs_after}
-use Rattle.tenant_refs.specs.Serving.{Table, Serves}
-use Rattle.tenant_turns.specs.Deeded.{Deeded, deeded}
+use Rattle.ref_table.specs.Refs.{Refs, refs_after}
+use Rattle.tenant_refs.specs.Serving.{ListRefTable, TableServes}
+use Rattle.tenant_turns.specs.DeedResult.{DeedResult, deed_result}
 use Rattle.tenant_turns.specs.Grounds.{IsRight}
 use Rattle.tenant_turns.specs.Turns.{Lone}
 use Rattle.tenant_world.specs.Standing as world
@@ -19,10 +19,10 @@ use Rattle.tenant_walks.specs.declared.walks.Walks.{Walks}
 -- a tenant of the code, the table of all refs, and the evaluations of the tenant's forms
 pub record Parts : Type 0 where
   pub tenant : Tenant
-  pub table : Table
+  pub table : ListRefTable
   pub walks : Walks
 
-abbrev pub parts : Tenant → Table → Walks → Parts
+abbrev pub parts : Tenant → ListRefTable → Walks → Parts
 parts tenant table walks = record { tenant = tenant; table = table; walks = walks }
 
 -- the table stands for these refs, which are those of all tenants
@@ -30,26 +30,26 @@ pub record Stands (g : Ground) (p : Parts) (l : Lone) (r : Refs) : Type 0 where
   pub right : IsRight g
   pub ground : Evaluates g
   pub tenant : world.Stands g p.tenant l.quiet l.store
-  pub serves : Serves p.table l.store r
+  pub serves : TableServes p.table l.store r
   pub walked : AreWalked (walk_at p.walks) l.quiet
 
-abbrev pub comes_to : Ground → Lone → Deed → Deeded
-comes_to g l deed = deeded g l.store l.quiet deed
+abbrev pub comes_to : Ground → Lone → Deed → DeedResult
+comes_to g l deed = deed_result g l.store l.quiet deed
 
 -- the tenant behind a deed
-abbrev pub behind : Deeded → Quiet → Lone
-behind d q = record { quiet = q; store = d.store }
+abbrev pub lone_behind : DeedResult → Quiet → Lone
+lone_behind d q = record { quiet = q; store = d.store }
 
 -- the deed is accepted
-pub record Does (g : Ground) (l : Lone) (r : Refs) (deed : Deed) (p : Parts) : Type 0 where
+pub record AcceptsDeed (g : Ground) (l : Lone) (r : Refs) (deed : Deed) (p : Parts) : Type 0 where
   pub after : Quiet
   pub answer : StepAnswer
   pub accepted : (comes_to g l deed).outcome ≡ leaves after answer
-  pub stands : Stands g p (behind (comes_to g l deed) after)
+  pub stands : Stands g p (lone_behind (comes_to g l deed) after)
       (refs_after (comes_to g l deed).store r)
 
 -- the deed is refused so, unless for want of memory
-pub record Refuses (g : Ground) (l : Lone) (r : Refs) (deed : Deed) (p : Parts) (why : Refusal)
+pub record RefusesDeed (g : Ground) (l : Lone) (r : Refs) (deed : Deed) (p : Parts) (why : Refusal)
     : Type 0 where
   pub refused : why ≢ Refusal.NoMemory → (comes_to g l deed).outcome ≡ refuses why
   pub stands : Stands g p l r

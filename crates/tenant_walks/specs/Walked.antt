@@ -1,6 +1,6 @@
 -- How far the evaluations of the forms that run have come.
 use Rattle.std.specs.Prelude.{◌≡◌, ◌≢◌, Option, Some}
-use Rattle.repl_jobs.specs.Leading.{after}
+use Rattle.repl_jobs.specs.Leading.{tree_after}
 use Rattle.repl_walker.specs.Waits.{progress_job, progress_trace, progress_tree}
 use Rattle.repl_walker.specs.declared.waiting.Progress.{Progress}
 use Rattle.server_rules.specs.Request.{Run}
@@ -13,7 +13,7 @@ use Rattle.tenant_world.specs.Running.{running_in}
 pub record IsWalkOf (run : Run) (p : Progress) : Type 0 where
   pub job : progress_job p ≡ run.job
   pub trace : progress_trace p ≡ run.trace
-  pub tree : progress_tree p ≡ after (evaluation run.job) run.trace
+  pub tree : progress_tree p ≡ tree_after (evaluation run.job) run.trace
 
 -- each that is kept of a form that runs is that form's
 abbrev pub AreWalked : (Actor → Option Progress) → Quiet → Type 0

@@ -1,25 +1,24 @@
 // An actor goes on as its evaluation says.
-ghost use Rattle.std.specs.Prelude.{◌≡◌, ◌≢◌, ◌+◌, ◌<◌, ◌≤◌, Some, Err, length};
-ghost use Rattle.std.specs.Prelude.{IfOk, OnOk, IfErr, OnErr};
+ghost use Rattle.std.specs.Prelude.{◌≡◌, ◌≢◌, ◌+◌, ◌<◌, ◌≤◌, Some, Err, IfOk, OnOk, IfErr, OnErr};
 ghost use Rattle.repl_asks.specs.View.{ask_view, answer_view};
 ghost use Rattle.server_rules.specs.Ground.{Ground};
 ghost use Rattle.server_rules.specs.Store.{Store};
 ghost use Rattle.server_rules.specs.Tenant.{Quiet, seat_of};
 ghost use Rattle.server_rules.specs.Plan as deeds;
 ghost use Rattle.server_rules.specs.Request as rules;
-ghost use Rattle.server_rules.specs.Turns.{honest};
+ghost use Rattle.server_rules.specs.Turns.{honest_deed};
 ghost use Rattle.ref_table.specs.Refs.{Refs};
 ghost use Rattle.ref_table.specs.Standing.{counter_of};
 ghost use Rattle.tenant_actors.specs.View.{run_view};
 ghost use Rattle.tenant_turns.specs.Grounds.{IsRight};
 ghost use Rattle.tenant_turns.specs.Turns.{Lone};
-ghost use Rattle.tenant_world.specs.Asking.{exchanged, run_with};
+ghost use Rattle.tenant_world.specs.Asking.{exchange_from, run_with};
 ghost use Rattle.tenant_world.specs.Running.{running_in};
 ghost use Rattle.tenant_world.specs.Standing as world;
-ghost use Rattle.tenant_world.specs.Standing.{replies_of};
+ghost use Rattle.tenant_world.specs.Standing.{CountsStep};
 ghost use Rattle.tenant_walks.specs.Walked.{IsWalkOf, AreWalked, AreWalkedBut};
 ghost use Rattle.tenant_walks.specs.WalkAt.{walk_at};
-ghost use Rattle.tenant_walks.specs.Ended.{ended};
+ghost use Rattle.repl_walker.specs.Ends.{ending_view};
 ghost use Rattle.repl_walker.specs.declared.waiting.Walk.{Walk};
 ghost use Rattle.repl_walker.specs.declared.ending.Ending as endings;
 
@@ -31,13 +30,13 @@ use repl_walker::{Progress, start};
 use server_rules::{Actor, Refusal};
 use std::alloc::{AllocError, Global};
 use tenant_actors::Run;
-use tenant_world::{Asked, Ending, Tenant};
+use tenant_world::{AskAnswer, Tenant};
 
 impl Walks {
-    ghost use Rattle.tenant_walks.specs.Standing.{parts, Stands, Does, Refuses};
+    ghost use Rattle.tenant_walks.specs.Standing.{parts, Stands, AcceptsDeed, RefusesDeed};
 
-    /// Does what is next for an actor of the tenant whose evaluations these are: begins a form, answers
-    /// one ask of it or ends it. What a form asks of refs is asked of this table.
+    /// Does what is next for an actor of the tenant whose evaluations these are: begins a form,
+    /// answers one ask of it or ends it. What a form asks of refs is asked of this table.
     pub fn go(
         &mut self,
         tenant: &mut Tenant,
@@ -47,17 +46,15 @@ impl Walks {
         requires { counter_of refs.old < u128.MAX }
         ensures done { (g : Ground) (l : Lone) (r : Refs) → IsRight g
             → Stands g (parts tenant.old refs.old self.old) l r → OnOk result
-            (Does g l r (honest g actor (Some (Some l.quiet)))
+            (AcceptsDeed g l r (honest_deed g actor (Some (Some l.quiet)))
             (parts tenant.new refs.new self.new)) }
         ensures refused { (g : Ground) (l : Lone) (r : Refs) → IsRight g
             → Stands g (parts tenant.old refs.old self.old) l r → IfErr result
-            (Refuses g l r (honest g actor (Some (Some l.quiet)))
+            (RefusesDeed g l r (honest_deed g actor (Some (Some l.quiet)))
             (parts tenant.new refs.new self.new)) }
-        ensures steps { OnOk result (tenant.old.steps ≡ tenant.new.steps + 1) }
-        ensures kept { OnErr result (tenant.new.steps ≡ tenant.old.steps) }
+        ensures counted { CountsStep tenant.old tenant.new result }
         ensures counter { counter_of refs.new ≤ counter_of refs.old + 1 }
         ensures failed { OnErr result (counter_of refs.new ≡ counter_of refs.old) }
-        ensures held { result ≡ Err Refusal.Held → 0 < length (replies_of tenant.old) }
     {
         if tenant.running(actor).is_none() {
             return self.begin(tenant, refs, actor);
@@ -78,13 +75,11 @@ impl Walks {
     ) -> Result<(), Refusal>
         ensures done { (g : Ground) (l : Lone) (r : Refs) → IsRight g
             → Stands g (parts tenant.old refs.now self.old) l r → OnOk result
-            (Does g l r (deeds.starts actor) (parts tenant.new refs.now self.new)) }
+            (AcceptsDeed g l r (deeds.starts actor) (parts tenant.new refs.now self.new)) }
         ensures refused { (g : Ground) (l : Lone) (r : Refs) → IsRight g
             → Stands g (parts tenant.old refs.now self.old) l r → IfErr result
-            (Refuses g l r (deeds.starts actor) (parts tenant.new refs.now self.new)) }
-        ensures steps { OnOk result (tenant.old.steps ≡ tenant.new.steps + 1) }
-        ensures kept { OnErr result (tenant.new.steps ≡ tenant.old.steps) }
-        ensures held { result ≡ Err Refusal.Held → 0 < length (replies_of tenant.old) }
+            (RefusesDeed g l r (deeds.starts actor) (parts tenant.new refs.now self.new)) }
+        ensures counted { CountsStep tenant.old tenant.new result }
     {
         tenant.start(actor)?;
         self.follow(tenant, actor);
@@ -103,25 +98,23 @@ impl Walks {
             → Stands g (parts tenant.old refs.old self.old) l r
             → running_in actor l.quiet ≡ Some run
             → walk_at self.old actor ≡ Some (Progress.Asks w)
-            → OnOk result (Does g l r (deeds.asks_for actor (ask_view w.ask))
+            → OnOk result (AcceptsDeed g l r (deeds.asks_for actor (ask_view w.ask))
             (parts tenant.new refs.new self.new)) }
         ensures refused { (g : Ground) (l : Lone) (r : Refs) (w : Walk) → IsRight g
             → Stands g (parts tenant.old refs.old self.old) l r
             → walk_at self.old actor ≡ Some (Progress.Asks w)
-            → IfErr result (Refuses g l r (deeds.asks_for actor (ask_view w.ask))
+            → IfErr result (RefusesDeed g l r (deeds.asks_for actor (ask_view w.ask))
             (parts tenant.new refs.new self.new)) }
-        ensures steps { OnOk result (tenant.old.steps ≡ tenant.new.steps + 1) }
-        ensures kept { OnErr result (tenant.new.steps ≡ tenant.old.steps) }
+        ensures counted { CountsStep tenant.old tenant.new result }
         ensures counter { counter_of refs.new ≤ counter_of refs.old + 1 }
         ensures failed { OnErr result (counter_of refs.new ≡ counter_of refs.old) }
-        ensures held { result ≡ Err Refusal.Held → 0 < length (replies_of tenant.old) }
     {
         let Some(Progress::Asks(walk)) = self.get(actor) else {
             return Err(Refusal::NoMemory);
         };
         match tenant.answer(refs, actor, walk.ask())? {
-            Asked::Answer(answer) => self.resume(actor, answer),
-            Asked::Interrupted => self.follow(tenant, actor),
+            AskAnswer::Answer(answer) => self.resume(actor, answer),
+            AskAnswer::Interrupted => self.follow(tenant, actor),
         }
         Ok(())
     }
@@ -136,24 +129,19 @@ impl Walks {
         ensures done { (g : Ground) (l : Lone) (r : Refs) (e : endings.Ending) → IsRight g
             → Stands g (parts tenant.old refs.now self.old) l r
             → walk_at self.old actor ≡ Some (Progress.Ends e) → OnOk result
-            (Does g l r (deeds.ends actor (ended e)) (parts tenant.new refs.now self.new)) }
+            (AcceptsDeed g l r (deeds.ends actor (ending_view e))
+            (parts tenant.new refs.now self.new)) }
         ensures refused { (g : Ground) (l : Lone) (r : Refs) (e : endings.Ending) → IsRight g
             → Stands g (parts tenant.old refs.now self.old) l r
             → walk_at self.old actor ≡ Some (Progress.Ends e) → IfErr result
-            (Refuses g l r (deeds.ends actor (ended e)) (parts tenant.new refs.now self.new)) }
-        ensures steps { OnOk result (tenant.old.steps ≡ tenant.new.steps + 1) }
-        ensures kept { OnErr result (tenant.new.steps ≡ tenant.old.steps) }
-        ensures held { result ≡ Err Refusal.Held → 0 < length (replies_of tenant.old) }
+            (RefusesDeed g l r (deeds.ends actor (ending_view e))
+            (parts tenant.new refs.now self.new)) }
+        ensures counted { CountsStep tenant.old tenant.new result }
     {
         let Some(Progress::Ends(ending)) = self.get(actor) else {
             return Err(Refusal::NoMemory);
         };
-        let ended = Ending {
-            job: ending.job(),
-            trace: ending.trace(),
-            finished: ending.end(),
-        };
-        tenant.end_form(actor, &ended)?;
+        tenant.finish(actor, ending.end())?;
         self.follow(tenant, actor);
         Ok(())
     }
@@ -163,7 +151,7 @@ impl Walks {
         ensures resumed { (run : rules.Run) (w : Walk) (p : Progress)
             → walk_at self.old actor ≡ Some (Progress.Asks w)
             → IsWalkOf run (Progress.Asks w) → walk_at self.new actor ≡ Some p
-            → IsWalkOf (run_with (exchanged (ask_view w.ask) (answer_view answer)) run) p }
+            → IsWalkOf (run_with (exchange_from (ask_view w.ask) (answer_view answer)) run) p }
         ensures others { (b : Actor) → seat_of b ≢ seat_of actor
             → walk_at self.new b ≡ walk_at self.old b }
     {
@@ -186,7 +174,7 @@ impl Walks {
             self.remove(actor);
             return;
         };
-        let Ok(progress) = begun(self.alloc, run) else {
+        let Ok(progress) = begin_evaluation(self.alloc, run) else {
             return;
         };
         drop(self.put(actor, progress));
@@ -194,7 +182,7 @@ impl Walks {
 }
 
 // The evaluation of a form that was just begun.
-fn begun(alloc: Global, run: &Run) -> Result<Progress, AllocError>
+fn begin_evaluation(alloc: Global, run: &Run) -> Result<Progress, AllocError>
     ensures { IfOk result (IsWalkOf (run_view run.now)) }
 {
     if !run.trace.is_empty() {

@@ -9,24 +9,24 @@ use Rattle.server_rules.specs.Tenant.{Quiet, seat_of}
 use Rattle.server_rules.specs.Asking.{answer_to, spaces_after, call_of, is_allowed}
 use Rattle.server_rules.specs.declared.actor.Actor.{Actor}
 use Rattle.ref_history.specs.Histories.{ListStands}
-use Rattle.ref_table.specs.Refs.{Refs, after}
+use Rattle.ref_table.specs.Refs.{Refs, refs_after}
 use Rattle.ref_table.specs.Standing as refs
 use Rattle.tenant_refs.specs.Attempts.{Reaches}
 use Rattle.tenant_world.specs.Asking.{is_of_names, Answers}
 use Rattle.tenant_world.specs.Memories.{Remembers}
-use Rattle.tenant_refs.specs.Serving.{Table, Holds, Comes}
-use Rattle.tenant_refs.specs.Twice.{twice_view, told}
+use Rattle.tenant_refs.specs.Serving.{ListRefTable, ServesWithAttempts, PerformsCall}
+use Rattle.tenant_refs.specs.Twice.{twice_view, told_answer}
 use Rattle.tenant_refs.specs.declared.attempts.Attempts.{Attempts}
 use Rattle.tenant_world.specs.declared.memory.Memory.{Memory}
 use Rattle.tenant_refs.specs.declared.twice.Twice.{Twice}
 use Rattle.tenant_world.proofs.Answering.{names-nothing, refs-told, allowed-may}
 use Rattle.tenant_refs.proofs.Calls.{untold-stays}
-use Rattle.tenant_refs.proofs.Serving.{after-seen, holds-after}
+use Rattle.tenant_refs.proofs.Serving.{refs_after-seen, holds-refs_after}
 
 -- an ask of names needs none of them
 pub names-answered : (g : Ground) (t : ℕ) (a : Actor) (q : Quiet) (ask : AskData) (s : Store)
-    (r : Refs) (m : Memory) (table : Table) (attempts : Attempts) (answer : AnswerData)
-    → Holds table attempts s r → is_of_names ask ≡ true → answer ≡ answer_to g a q ask done
+    (r : Refs) (m : Memory) (table : ListRefTable) (attempts : Attempts) (answer : AnswerData)
+    → ServesWithAttempts table attempts s r → is_of_names ask ≡ true → answer ≡ answer_to g a q ask done
     → Remembers g t m (record q { spaces = spaces_after ask q.spaces })
     → Answers g t a q ask (performed s (call_of (seat_of a) ask)) m table attempts r answer
 names-answered g t a q ask s r m table attempts answer holds names is remembers =
@@ -37,18 +37,18 @@ names-answered g t a q ask s r m table attempts answer holds names is remembers 
       is_told = refl;
       is = is;
       remembers = remembers;
-      holds = subst (Holds table attempts s) (sym (after-seen s r holds.serves.reached)) holds;
+      holds = subst (ServesWithAttempts table attempts s) (sym (refs_after-seen s r holds.serves.reached)) holds;
     })
 
 -- nothing was told
-holds-untold : (new old : Table) (attempts later : Attempts) (s : Store) (r : Refs) (call : Call)
-    → Holds old attempts s r → Comes new later r None (performed s call) → Holds new later s r
+holds-untold : (new old : ListRefTable) (attempts later : Attempts) (s : Store) (r : Refs) (call : Call)
+    → ServesWithAttempts old attempts s r → PerformsCall new later r None (performed s call) → ServesWithAttempts new later s r
 holds-untold new old attempts later s r call holds comes =
     let same = untold-stays s call comes.called.told in
     record {
       serves = record {
         stands = subst (refs.Stands ListStands new)
-            (ap (λ x. after x r) same ∙ after-seen s r holds.serves.reached) comes.called.left;
+            (ap (λ x. refs_after x r) same ∙ refs_after-seen s r holds.serves.reached) comes.called.left;
         sound = holds.serves.sound;
         reached = holds.serves.reached;
       };
@@ -56,12 +56,12 @@ holds-untold new old attempts later s r call holds comes =
     }
 
 pub refs-answered : {E : Type 0} (g : Ground) (t : ℕ) (a : Actor) (q : Quiet) (ask : AskData)
-    (s : Store) (r : Refs) (m : Memory) (new old : Table) (attempts later : Attempts)
-    (result : Result (Option Twice) E) → Holds old attempts s r → is_of_names ask ≡ false
+    (s : Store) (r : Refs) (m : Memory) (new old : ListRefTable) (attempts later : Attempts)
+    (result : Result (Option Twice) E) → ServesWithAttempts old attempts s r → is_of_names ask ≡ false
     → is_allowed ask ≡ true → Remembers g t m q
-    → IfOk result (λ it. Comes new later r (told it) (performed s (call_of (seat_of a) ask)))
+    → IfOk result (λ it. PerformsCall new later r (told_answer it) (performed s (call_of (seat_of a) ask)))
     → IfOk result (λ it. MatchOption it
-    (((performed s (call_of (seat_of a) ask)).told ≡ None) × Remembers g t m q × Holds new later s r)
+    (((performed s (call_of (seat_of a) ask)).told ≡ None) × Remembers g t m q × ServesWithAttempts new later s r)
     (λ answer. Answers g t a q ask (performed s (call_of (seat_of a) ask)) m new later r
     (twice_view answer)))
 refs-answered g t a q ask s r m new old attempts later (Err e) holds refs allowed remembers comes = tt
@@ -82,6 +82,6 @@ refs-answered g t a q ask s r m new old attempts later (Ok (Some it)) holds refs
         spaces = remembers.spaces ∙ still.1;
         replies = remembers.replies;
       };
-      holds = holds-after new old attempts later s r (Some (twice_view it))
+      holds = holds-refs_after new old attempts later s r (Some (twice_view it))
           (call_of (seat_of a) ask) holds (allowed-may (seat_of a) ask allowed) comes;
     }

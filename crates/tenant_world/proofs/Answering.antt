@@ -1,7 +1,7 @@
 -- What a form asks, beside the rules' step.
-use Rattle.std.proofs.Common.{◌≡◌, ◌^◌, ℕ, Bool, true, false, Option, None, Some}
-use Rattle.std.proofs.Common.{refl, sym, ap, ◌∙◌, option_map, true≢false, if◌then◌else◌}
-use Rattle.std.proofs.Common.{is_some, nat_lt, ◌≢◌, Result, Ok, Err, IfErr}
+use Rattle.std.proofs.Common.{◌≡◌, ◌^◌, ℕ, Bool, true, false, Option, None, Some, refl, sym, ap}
+use Rattle.std.proofs.Common.{◌∙◌, option_map, true≢false, if◌then◌else◌, is_some, nat_lt, ◌≢◌}
+use Rattle.std.proofs.Common.{Result, Ok, Err, IfErr}
 use Rattle.std.specs.Result.{IsErrAnd}
 use Rattle.std.proofs.lemmas.Bool.{and_parts, ltb-true}
 use Rattle.repl_asks.specs.Exchange as exchange
@@ -11,19 +11,20 @@ use Rattle.server_rules.specs.Ground.{Ground}
 use Rattle.server_rules.specs.Request.{Hand, Run}
 use Rattle.server_rules.specs.Store.{Store, left_attempt}
 use Rattle.server_rules.specs.Tenant.{ActorData, Quiet, seat_of}
-use Rattle.server_rules.specs.Numbered.{replaced}
-use Rattle.server_rules.specs.Asking.{asked_of, asked_running, asked_allowed, answered, answer_to}
-use Rattle.server_rules.specs.Asking.{spaces_after, recorded, call_of, is_allowed, when_told}
+use Rattle.server_rules.specs.Numbered.{with_part}
+use Rattle.server_rules.specs.Asking.{asked_of, asked_running, asked_allowed, answer_outcome}
+use Rattle.server_rules.specs.Asking.{answer_to, spaces_after, with_recorded_answer, call_of}
+use Rattle.server_rules.specs.Asking.{is_allowed, when_told}
 use Rattle.server_rules.specs.Starting.{interrupted_in}
-use Rattle.server_rules.specs.Plan.{Plan, refuses, leaves, spent, ask_answered, quietly}
+use Rattle.server_rules.specs.Plan.{Plan, refuses, leaves, with_step_spent, ask_answered, quietly}
 use Rattle.server_rules.specs.declared.actor.Actor.{Actor}
 use Rattle.server_rules.specs.declared.refusal.Refusal.{Refusal}
-use Rattle.tenant_turns.specs.Deeded.{carried_out}
+use Rattle.tenant_turns.specs.DeedResult.{carried_out}
 use Rattle.tenant_world.specs.declared.memory.Memory.{Memory}
 use Rattle.tenant_world.specs.Memories.{Remembers}
-use Rattle.tenant_world.specs.Acting.{Acted, Declined}
-use Rattle.tenant_world.specs.Asking.{is_of_names, answered_plan, exchanged, run_with, hand_with}
-use Rattle.tenant_world.specs.Asking.{with_exchange}
+use Rattle.tenant_world.specs.Acting.{AcceptsOutcome, RefusesOutcome}
+use Rattle.tenant_world.specs.Asking.{is_of_names, answered_plan, exchange_from, run_with}
+use Rattle.tenant_world.specs.Asking.{hand_with, with_exchange}
 use Rattle.tenant_refs.proofs.Soundness.{MayBe}
 
 -- Asks of names and asks of refs
@@ -74,30 +75,30 @@ allowed-may seat (exchange.commit intent) allowed = tt
 
 -- An answer that is kept
 
-pub acted-answered : (g : Ground) (t : ℕ) (m : Memory) (a : Actor) (actor new : ActorData) (h : Hand)
+pub acted-answer_outcome : (g : Ground) (t : ℕ) (m : Memory) (a : Actor) (actor new : ActorData) (h : Hand)
     (run : Run) (ask : AskData) (q : Quiet) (told kept given : AnswerData)
     → actor.hand ≡ Some h → h.running ≡ Some run
-    → new ≡ with_exchange (exchanged ask kept) actor → kept ≡ answer_to g a q ask told
+    → new ≡ with_exchange (exchange_from ask kept) actor → kept ≡ answer_to g a q ask told
     → given ≡ kept → Remembers g t m (record q { spaces = spaces_after ask q.spaces })
-    → Acted g t a q (answered g a actor h run ask q told) m new (ask_answered given)
-acted-answered g t m a actor new h run ask q told kept given hand running put is same r =
+    → AcceptsOutcome g t a q (answer_outcome g a actor h run ask q told) m new (ask_answered given)
+acted-answer_outcome g t m a actor new h run ask q told kept given hand running put is same r =
     let answer = answer_to g a q ask told in
-    let after = recorded a actor h run ask answer (record q { spaces = spaces_after ask q.spaces }) in
+    let after = with_recorded_answer a actor h run ask answer (record q { spaces = spaces_after ask q.spaces }) in
     record {
       after = after;
-      accepted = ap (λ x. leaves (spent after) (ask_answered x)) (sym (same ∙ is));
+      accepted = ap (λ x. leaves (with_step_spent after) (ask_answered x)) (sym (same ∙ is));
       remembers = record {
         sessions = r.sessions;
         bare = r.bare;
         spaces = r.spaces;
         replies = r.replies;
       };
-      actors = ap (λ x. replaced (seat_of a) x q.actors) (sym (put
-          ∙ ap (λ x. with_exchange (exchanged ask x) actor) is
-          ∙ ap (λ x. record actor { hand = option_map (hand_with (exchanged ask answer)) x }) hand
+      actors = ap (λ x. with_part (seat_of a) x q.actors) (sym (put
+          ∙ ap (λ x. with_exchange (exchange_from ask x) actor) is
+          ∙ ap (λ x. record actor { hand = option_map (hand_with (exchange_from ask answer)) x }) hand
           ∙ ap (λ x. record actor {
             hand =
-                Some (record h { running = option_map (run_with (exchanged ask answer)) x });
+                Some (record h { running = option_map (run_with (exchange_from ask answer)) x });
           }) running));
       steps = refl;
       heard = refl;
@@ -174,19 +175,19 @@ given-untold s a h ask q none =
     ap (λ o. when_told (given_up (seat_of a) s o).told (λ _. interrupted_in a h q)) none
 
 -- what an answer that was told comes to
-pub answered-told : (g : Ground) (s : Store) (a : Actor) (actor : ActorData) (h : Hand) (run : Run)
+pub answer_outcome-told : (g : Ground) (s : Store) (a : Actor) (actor : ActorData) (h : Hand) (run : Run)
     (ask : AskData) (q : Quiet) (told : AnswerData)
     → (performed s (call_of (seat_of a) ask)).told ≡ Some told
-    → answered g a actor h run ask q told
+    → answer_outcome g a actor h run ask q told
     ≡ (carried_out s (answered_plan g a actor h run ask q)).outcome
-answered-told g s a actor h run ask q told is =
-    sym (ap (λ o. when_told o (answered g a actor h run ask q)) is)
+answer_outcome-told g s a actor h run ask q told is =
+    sym (ap (λ o. when_told o (answer_outcome g a actor h run ask q)) is)
 
 pub answered-untold : (g : Ground) (s : Store) (a : Actor) (actor : ActorData) (h : Hand) (run : Run)
     (ask : AskData) (q : Quiet) → (performed s (call_of (seat_of a) ask)).told ≡ None
     → (carried_out s (answered_plan g a actor h run ask q)).outcome ≡ refuses Refusal.Idle
 answered-untold g s a actor h run ask q none =
-    ap (λ o. when_told o (answered g a actor h run ask q)) none
+    ap (λ o. when_told o (answer_outcome g a actor h run ask q)) none
 
 -- for want of memory nothing is said of the rules
 pub stays-memory : {A : Type 0} (r : Result A Refusal) (T : Refusal → Type 0) (M H : Type 0)
@@ -202,7 +203,7 @@ pub given-declined : {X : Type 0} (g : Ground) (t : ℕ) (s : Store) (a : Actor)
     → (why ≢ Refusal.NoMemory → (why ≡ Refusal.Idle)
     × ((performed s (call_of (seat_of a) ask)).told ≡ None))
     → Remembers g t m q → H
-    → IfErr r (λ e. Declined g t q (carried_out s p).outcome m e × H)
+    → IfErr r (λ e. RefusesOutcome g t q (carried_out s p).outcome m e × H)
 given-declined g t s a h ask q p m why H (Ok x) plan never told remembers holds = tt
 given-declined g t s a h ask q p m why H (Err e) plan is told remembers holds = (
   record {

@@ -1,21 +1,22 @@
 -- A form that begins, and a request that is taken up, beside the rules' steps.
-use Rattle.std.proofs.Common.{◌≡◌, ℕ, List, [], ◌∷◌, Bool, true, false, Option, None, Some}
-use Rattle.std.proofs.Common.{refl, sym, ap, subst, ◌∙◌, if◌then◌else◌, is_some, option_map, true≢false}
+use Rattle.std.proofs.Common.{◌≡◌, ℕ, List, [], ◌∷◌, Bool, true, false, Option, None, Some, refl}
+use Rattle.std.proofs.Common.{sym, ap, subst, ◌∙◌, if◌then◌else◌, is_some, option_map, true≢false}
 use Rattle.repl_jobs.specs.declared.job.Job.{Job}
 use Rattle.server_rules.specs.Ground.{Ground}
 use Rattle.server_rules.specs.Request.{Hand, Waiting}
 use Rattle.server_rules.specs.Tenant.{ActorData, Quiet, is_held, state_of, with_replies, with_state}
-use Rattle.server_rules.specs.Starting.{Started, started, held_or, next_begun, first_state}
-use Rattle.server_rules.specs.Starting.{text_begun, start_waiting, start_in_hand, interrupted_in, moved}
+use Rattle.server_rules.specs.Starting.{Started, start_outcome, held_or, next_begun, first_state}
+use Rattle.server_rules.specs.Starting.{text_begun, start_waiting, start_in_hand, interrupted_in}
+use Rattle.server_rules.specs.Starting.{after_move}
 use Rattle.server_rules.specs.Deeds.{start_of}
-use Rattle.server_rules.specs.Plan.{Outcome, refuses, leaves, spent}
+use Rattle.server_rules.specs.Plan.{Outcome, refuses, leaves, with_step_spent}
 use Rattle.server_rules.specs.declared.actor.Actor.{Actor}
 use Rattle.server_rules.specs.declared.refusal.Refusal.{Refusal}
 use Rattle.tenant_moves.specs.Starts.{answer_given}
 use Rattle.tenant_world.specs.declared.memory.Memory.{Memory}
 use Rattle.tenant_world.specs.Memories.{Remembers}
-use Rattle.tenant_world.specs.Acting.{Acted, is_interruption, oldest, younger}
-use Rattle.tenant_world.proofs.Remembering.{acted-moved, some-same}
+use Rattle.tenant_world.specs.Acting.{AcceptsOutcome, is_interruption, oldest, younger}
+use Rattle.tenant_world.proofs.Remembering.{acted-after_move, some-same}
 
 -- what is given out is no interruption
 pub given-stays : (given : Option Job) → is_interruption (answer_given given) ≡ false
@@ -28,27 +29,27 @@ not-held q outcome free = ap (λ (b : Bool). held_by b) free where
   held_by b = if b then refuses Refusal.Held else outcome
 
 -- a start that is accepted
-pub acted-started : (g : Ground) (t : ℕ) (m : Memory) (a : Actor) (actor new : ActorData) (s : Started)
+pub acted-start_outcome : (g : Ground) (t : ℕ) (m : Memory) (a : Actor) (actor new : ActorData) (s : Started)
     (q : Quiet) (given : Option Job)
     → is_held q ≡ false
     → Remembers g t m (with_replies s.move.replies (with_state a s.move.state q))
     → new ≡ record actor { hand = s.move.hand } → answer_given given ≡ s.answer
-    → Acted g t a q (held_or q (started a actor s q)) m new (answer_given given)
-acted-started g t m a actor new s q given free r same told =
-    subst (λ outcome. Acted g t a q outcome m new (answer_given given))
-    (ap (leaves (spent (moved a actor s.move q))) told
-    ∙ sym (not-held q (started a actor s q) free))
-    (acted-moved g t m a actor new s.move (answer_given given) q r same (given-stays given))
+    → AcceptsOutcome g t a q (held_or q (start_outcome a actor s q)) m new (answer_given given)
+acted-start_outcome g t m a actor new s q given free r same told =
+    subst (λ outcome. AcceptsOutcome g t a q outcome m new (answer_given given))
+    (ap (leaves (with_step_spent (after_move a actor s.move q))) told
+    ∙ sym (not-held q (start_outcome a actor s q) free))
+    (acted-after_move g t m a actor new s.move (answer_given given) q r same (given-stays given))
 
 -- the request that waits longest is taken up
 pub waiting-taken : (g : Ground) (a : Actor) (actor : ActorData) (q : Quiet) (w : Waiting)
     (waiting : List Waiting) → oldest waiting ≡ Some w
-    → held_or q (started a (record actor { waiting = younger waiting })
+    → held_or q (start_outcome a (record actor { waiting = younger waiting })
     (text_begun g q.spaces w.origin (first_state a q) w.text) q)
     ≡ start_waiting g a actor q waiting
 waiting-taken g a actor q w [] none = absurd (cc)
 waiting-taken g a actor q w (v ∷ vs) some =
-    ap (λ it. held_or q (started a (record actor { waiting = vs })
+    ap (λ it. held_or q (start_outcome a (record actor { waiting = vs })
     (text_begun g q.spaces it.origin (first_state a q) it.text) q)) (sym (some-same v w some))
 
 pub none-mapped : {A B : Type 0} (f : A → B) (r : Option A) → is_some r ≡ false
@@ -67,4 +68,4 @@ interrupted-start g a actor q h k is between closed = sym (
   where
     closed_by : Bool → Outcome
     closed_by b = if b then interrupted_in a k q
-        else held_or q (started a actor (next_begun g k (state_of a q) k.forms) q)
+        else held_or q (start_outcome a actor (next_begun g k (state_of a q) k.forms) q)

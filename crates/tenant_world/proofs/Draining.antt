@@ -1,6 +1,6 @@
 -- The oldest reply is taken out.
-use Rattle.std.proofs.Common.{◌≡◌, ℕ, List, [], ◌∷◌, Option, None, Some, MatchOption}
-use Rattle.std.proofs.Common.{refl, sym, ap, subst, ◌∙◌, map}
+use Rattle.std.proofs.Common.{◌≡◌, ℕ, List, [], ◌∷◌, Option, None, Some, MatchOption, refl, sym, ap}
+use Rattle.std.proofs.Common.{subst, ◌∙◌, map}
 use Rattle.bencode_wire.specs.Decoder as decoder
 use Rattle.bencode_wire.specs.declared.decoder.Decoder.{Decoder}
 use Rattle.name_spaces.specs.Seen.{namespaces_of}
@@ -13,22 +13,22 @@ use Rattle.server_rules.specs.Store.{Store}
 use Rattle.server_rules.specs.Tenant.{Quiet}
 use Rattle.server_rules.specs.Plan as deeds
 use Rattle.server_rules.specs.Plan.{Outcome, leaves, refuses, reply_given}
-use Rattle.server_rules.specs.Deeds.{drained}
+use Rattle.server_rules.specs.Deeds.{drain_outcome}
 use Rattle.server_rules.specs.declared.refusal.Refusal.{Refusal}
 use Rattle.tenant_replies.specs.View.{waiting_bytes}
-use Rattle.tenant_turns.specs.Deeded.{deeded}
+use Rattle.tenant_turns.specs.DeedResult.{deed_result}
 use Rattle.tenant_world.specs.declared.tenant.Tenant.{Tenant}
 use Rattle.tenant_refs.specs.declared.attempts.Attempts.{Attempts}
 use Rattle.tenant_refs.specs.Attempts.{Reaches}
-use Rattle.tenant_world.specs.Standing.{Stands, Does, Refuses}
+use Rattle.tenant_world.specs.Standing.{Stands, AcceptsDeed, RefusesDeed}
 
 drains-by : (g : Ground) (q : Quiet) (s : Store)
-    → (deeded g s q deeds.drains).outcome ≡ drained q q.replies
-unfolding deeded
+    → (deed_result g s q deeds.drains).outcome ≡ drain_outcome q q.replies
+unfolding deed_result
 drains-by g q s = refl
 
-drains-none : (g : Ground) (q : Quiet) (s : Store) → (deeded g s q deeds.drains).store ≡ s
-unfolding deeded
+drains-none : (g : Ground) (q : Quiet) (s : Store) → (deed_result g s q deeds.drains).store ≡ s
+unfolding deed_result
 drains-none g q s = refl
 
 -- only the replies that wait are others
@@ -70,8 +70,8 @@ pub drains : {X : Type 0} (items : X → List ℕ) (g : Ground) (q : Quiet) (s :
     → MatchOption r ((waiting_bytes code.memory.outbox ≡ []) × (waiting_bytes new.memory.outbox ≡ []))
     (λ v. waiting_bytes code.memory.outbox ≡ items v ∷ waiting_bytes new.memory.outbox)
     → MatchOption r
-    (Refuses g q s (deeded g s q deeds.drains) new Refusal.Idle)
-    (λ v. Does g (deeded g s q deeds.drains) new (reply_given (items v)))
+    (RefusesDeed g q s (deed_result g s q deeds.drains) new Refusal.Idle)
+    (λ v. AcceptsDeed g (deed_result g s q deeds.drains) new (reply_given (items v)))
 drains {X = X} items g q s code new r same st told = by q.replies refl r st.remembers.replies told
   where
     by : (replies : List ReplyData) → q.replies ≡ replies → (r : Option X)
@@ -79,11 +79,11 @@ drains {X = X} items g q s code new r same st told = by q.replies refl r st.reme
         → MatchOption r ((waiting_bytes code.memory.outbox ≡ []) × (waiting_bytes new.memory.outbox ≡ []))
         (λ v. waiting_bytes code.memory.outbox ≡ items v ∷ waiting_bytes new.memory.outbox)
         → MatchOption r
-        (Refuses g q s (deeded g s q deeds.drains) new Refusal.Idle)
-        (λ v. Does g (deeded g s q deeds.drains) new
+        (RefusesDeed g q s (deed_result g s q deeds.drains) new Refusal.Idle)
+        (λ v. AcceptsDeed g (deed_result g s q deeds.drains) new
         (reply_given (items v)))
     by [] is None waits none = record {
-      refused = λ ne. drains-by g q s ∙ ap (drained q) is;
+      refused = λ ne. drains-by g q s ∙ ap (drain_outcome q) is;
       stands = subst (λ rs. Stands g new (record q { replies = rs }) s) (sym is)
           (stands-with g q s code new [] same st none.1);
     }
@@ -102,7 +102,7 @@ drains {X = X} items g q s code new r same st told = by q.replies refl r st.reme
         let rest : map bytes_of more ≡ waiting_bytes new.memory.outbox = cc in
         record {
           after = record q { replies = more };
-          accepted = drains-by g q s ∙ ap (drained q) is
+          accepted = drains-by g q s ∙ ap (drain_outcome q) is
               ∙ ap (λ bytes. leaves (record q { replies = more }) (reply_given bytes)) first;
           stands = subst (Stands g new (record q { replies = more })) (sym (drains-none g q s))
               (stands-with g q s code new more same st (sym rest));

@@ -11,12 +11,13 @@ use Rattle.repl_replies.specs.Replies.{OriginData, ReplyData}
 use Rattle.repl_sessions.specs.StateView.{state_view}
 use Rattle.name_spaces.specs.Seen.{namespaces_of}
 use Rattle.server_rules.specs.Ground.{Ground}
-use Rattle.server_rules.specs.Hearing.{stream_fault, with_messages, new_messages, taken_in, hears_more}
-use Rattle.server_rules.specs.Numbered.{found}
-use Rattle.server_rules.specs.Operating.{named_sessions, closed_by, asker, queued_for, operated}
-use Rattle.server_rules.specs.Operating.{with_asked, with_message}
+use Rattle.server_rules.specs.Hearing.{stream_fault, with_messages, new_messages, taken_in}
+use Rattle.server_rules.specs.Hearing.{hears_more}
+use Rattle.server_rules.specs.Numbered.{part_under}
+use Rattle.server_rules.specs.Operating.{named_sessions, closed_by, asker, queued_for}
+use Rattle.server_rules.specs.Operating.{after_operation, with_asked, with_message}
 use Rattle.server_rules.specs.Plan as deeds
-use Rattle.server_rules.specs.Plan.{Outcome, refuses, leaves, messages_heard, spent}
+use Rattle.server_rules.specs.Plan.{Outcome, refuses, leaves, messages_heard, with_step_spent}
 use Rattle.server_rules.specs.Request.{Waiting}
 use Rattle.server_rules.specs.Store.{Store}
 use Rattle.server_rules.specs.Tenant.{ActorData, seat_of, Quiet, is_held}
@@ -25,11 +26,11 @@ use Rattle.server_rules.specs.declared.refusal.Refusal.{Refusal}
 use Rattle.tenant_actors.specs.View.{actors_view}
 use Rattle.tenant_replies.specs.View.{waiting_bytes}
 use Rattle.tenant_hearing.specs.Heard.{IsHeard}
-use Rattle.tenant_turns.specs.Deeded.{deeded}
+use Rattle.tenant_turns.specs.DeedResult.{deed_result}
 use Rattle.tenant_world.specs.declared.tenant.Tenant.{Tenant}
 use Rattle.tenant_refs.specs.declared.attempts.Attempts.{Attempts}
 use Rattle.tenant_refs.specs.Attempts.{Reaches}
-use Rattle.tenant_world.specs.Standing.{Stands, Does}
+use Rattle.tenant_world.specs.Standing.{Stands, AcceptsDeed}
 
 -- what messages leave as it was
 record Keeps (old new : Quiet) : Type 0 where
@@ -50,30 +51,30 @@ queued-keeps : (a : Actor) (w : Waiting) (q : Quiet) (o : Option ActorData)
 queued-keeps a w q None = keeps-all q
 queued-keeps a w q (Some actor) = record { steps = refl; bare = refl; spaces = refl }
 
-operated-keeps : (g : Ground) (t : ℕ) (o : OriginData) (op : OperationData) (q : Quiet)
-    → Keeps q (operated g t o op q)
-operated-keeps g t o (operations.clone original) q =
+after_operation-keeps : (g : Ground) (t : ℕ) (o : OriginData) (op : OperationData) (q : Quiet)
+    → Keeps q (after_operation g t o op q)
+after_operation-keeps g t o (operations.clone original) q =
     record { steps = refl; bare = refl; spaces = refl }
-operated-keeps g t o (operations.close n) q =
-    closed-keeps o n q (found (seat_of (Actor.Session n)) q.actors)
-operated-keeps g t o (operations.describe session) q =
+after_operation-keeps g t o (operations.close n) q =
+    closed-keeps o n q (part_under (seat_of (Actor.Session n)) q.actors)
+after_operation-keeps g t o (operations.describe session) q =
     record { steps = refl; bare = refl; spaces = refl }
-operated-keeps g t o (operations.list_sessions session) q =
+after_operation-keeps g t o (operations.list_sessions session) q =
     record { steps = refl; bare = refl; spaces = refl }
-operated-keeps g t o (operations.eval session text ns) q =
-    queued-keeps (asker session) _ q (found (seat_of (asker session)) q.actors)
-operated-keeps g t o (operations.load_file session text) q =
-    queued-keeps (asker session) _ q (found (seat_of (asker session)) q.actors)
+after_operation-keeps g t o (operations.eval session text ns) q =
+    queued-keeps (asker session) _ q (part_under (seat_of (asker session)) q.actors)
+after_operation-keeps g t o (operations.load_file session text) q =
+    queued-keeps (asker session) _ q (part_under (seat_of (asker session)) q.actors)
 
 asked-keeps : (g : Ground) (t : ℕ) (r : Result AskedData ReplyData) (q : Quiet)
     → Keeps q (with_asked g t r q)
-asked-keeps g t (Ok a) q = operated-keeps g t a.origin a.operation q
+asked-keeps g t (Ok a) q = after_operation-keeps g t a.origin a.operation q
 asked-keeps g t (Err refusal) q = record { steps = refl; bare = refl; spaces = refl }
 
 message-keeps : (g : Ground) (t : ℕ) (m : Tree) (q : Quiet) → Keeps q (with_message g t m q)
 unfolding with_message
 message-keeps g t (dictionary fields) q =
-    asked-keeps g t (operations.asked (number_named (named_sessions g t q)) fields) q
+    asked-keeps g t (operations.operation_or_reply (number_named (named_sessions g t q)) fields) q
 message-keeps g t (integer n) q = keeps-all q
 message-keeps g t (string bytes) q = keeps-all q
 message-keeps g t (list ts) q = keeps-all q
@@ -104,20 +105,20 @@ heard_by g t piece q none fault =
     if none then refuses Refusal.Worn else hears_more g t piece q fault
 
 pub hears-by : (g : Ground) (q : Quiet) (s : Store) (piece : List ℕ)
-    → (deeded g s q (deeds.hears piece)).outcome
+    → (deed_result g s q (deeds.hears piece)).outcome
     ≡ heard_by g s.tenant piece q (q.steps == 0) (stream_fault g.readings q.heard)
-unfolding deeded
+unfolding deed_result
 hears-by g q s piece = refl
 
 hears-none : (g : Ground) (q : Quiet) (s : Store) (piece : List ℕ)
-    → (deeded g s q (deeds.hears piece)).store ≡ s
-unfolding deeded
+    → (deed_result g s q (deeds.hears piece)).store ≡ s
+unfolding deed_result
 hears-none g q s piece = refl
 
 -- a piece is heard where steps are left, the stream has no fault and not too many replies wait
 pub hears-so : (g : Ground) (q : Quiet) (s : Store) (piece : List ℕ) → (q.steps == 0) ≡ false
     → None ≡ stream_fault g.readings q.heard → is_held q ≡ false
-    → (deeded g s q (deeds.hears piece)).outcome ≡ leaves (spent (taken_in g s.tenant piece q))
+    → (deed_result g s q (deeds.hears piece)).outcome ≡ leaves (with_step_spent (taken_in g s.tenant piece q))
     (messages_heard (length (new_messages g.readings q.heard piece)))
 hears-so g q s piece some sound free =
     hears-by g q s piece
@@ -127,7 +128,7 @@ hears-so g q s piece some sound free =
   where
     held_by : Bool → Outcome
     held_by b = if b then refuses Refusal.Held
-        else leaves (spent (taken_in g s.tenant piece q))
+        else leaves (with_step_spent (taken_in g s.tenant piece q))
         (messages_heard (length (new_messages g.readings q.heard piece)))
 
 -- nothing has an empty length but the empty row
@@ -144,12 +145,12 @@ pub does-hear : (g : Ground) (q : Quiet) (s : Store) (old new : Tenant) (piece :
     → new.attempts ≡ old.attempts
     → IsHeard g s.tenant q piece count new.decoder new.memory.sessions (actors_view new.actors)
     (waiting_bytes new.memory.outbox)
-    → Does g (deeded g s q (deeds.hears piece)) new (messages_heard count)
+    → AcceptsDeed g (deed_result g s q (deeds.hears piece)) new (messages_heard count)
 does-hear g q s old new piece count st some sound free tries less bare spaces tried heard =
     let after = taken_in g s.tenant piece q in
     let kept = taken-keeps g s.tenant piece q in
     let A : Attempts → Type 0 = λ x. Reaches x s in
-    let stands : Stands g new (spent after) s = record {
+    let stands : Stands g new (with_step_spent after) s = record {
       retries = tries ∙ st.retries;
       names = st.names;
       steps = less ∙ ap (λ n. n - 1) (st.steps ∙ sym kept.steps);
@@ -164,10 +165,10 @@ does-hear g q s old new piece count st some sound free tries less bare spaces tr
       attempts = subst A (sym tried) st.attempts;
     } in
     record {
-      after = spent after;
+      after = with_step_spent after;
       accepted = hears-so g q s piece some sound free
-          ∙ ap (λ n. leaves (spent after) (messages_heard n)) (sym heard.messages);
-      stands = subst (Stands g new (spent after)) (sym (hears-none g q s piece)) stands;
+          ∙ ap (λ n. leaves (with_step_spent after) (messages_heard n)) (sym heard.messages);
+      stands = subst (Stands g new (with_step_spent after)) (sym (hears-none g q s piece)) stands;
     }
 
 pub held-back : (g : Ground) (t : ℕ) (piece : List ℕ) (q : Quiet) → is_held q ≡ true
@@ -175,5 +176,5 @@ pub held-back : (g : Ground) (t : ℕ) (piece : List ℕ) (q : Quiet) → is_hel
 held-back g t piece q held = ap (λ (b : Bool). held_by b) held where
   held_by : Bool → Outcome
   held_by b = if b then refuses Refusal.Held
-      else leaves (spent (taken_in g t piece q))
+      else leaves (with_step_spent (taken_in g t piece q))
       (messages_heard (length (new_messages g.readings q.heard piece)))

@@ -1,27 +1,27 @@
 -- What the memory stands for, through changes of the tenant.
-use Rattle.std.proofs.Common.{◌≡◌, ◌≤◌, ◌↔◌, ℕ, List, [], ◌∷◌, Bool, true, false, nat_le}
-use Rattle.std.proofs.Common.{refl, sym, ap, subst, ◌∙◌, length, IsTrue, true≢false}
-use Rattle.std.proofs.Common.{Some, unwrap_or, Result, Ok, Err, IfErr}
+use Rattle.std.proofs.Common.{◌≡◌, ◌≤◌, ◌↔◌, ℕ, List, [], ◌∷◌, Bool, true, false, nat_le, refl, sym}
+use Rattle.std.proofs.Common.{ap, subst, ◌∙◌, length, IsTrue, true≢false, Some, unwrap_or, Result}
+use Rattle.std.proofs.Common.{Ok, Err, IfErr}
 use Rattle.std.specs.Result.{IsErrAnd}
 use Rattle.std.proofs.lemmas.Bool.{le-leb, leb-true}
 use Rattle.std.proofs.lemmas.List.{length-map}
 use Rattle.repl_replies.specs.Replies.{ReplyData, bytes_of, interrupted}
 use Rattle.repl_sessions.specs.State.{StateData}
-use Rattle.server_rules.specs.Numbered.{Entry, replaced, without}
+use Rattle.server_rules.specs.Numbered.{Entry, with_part, without}
 use Rattle.server_rules.specs.Ground.{Ground}
 use Rattle.server_rules.specs.Request.{Hand}
-use Rattle.server_rules.specs.Tenant.{ActorData, Quiet, seat_of, is_held}
-use Rattle.server_rules.specs.Tenant.{with_replies, with_state}
+use Rattle.server_rules.specs.Tenant.{ActorData, Quiet, seat_of, is_held, with_replies, with_state}
 use Rattle.server_rules.specs.Moves.{Move}
-use Rattle.server_rules.specs.Starting.{moved, interrupted_in}
+use Rattle.server_rules.specs.Starting.{after_move, interrupted_in}
 use Rattle.server_rules.specs.Replying.{reply}
-use Rattle.server_rules.specs.Plan.{StepAnswer, Outcome, leaves, spent, request_interrupted}
+use Rattle.server_rules.specs.Plan.{StepAnswer, Outcome, leaves, with_step_spent}
+use Rattle.server_rules.specs.Plan.{request_interrupted}
 use Rattle.server_rules.specs.declared.actor.Actor.{Actor}
 use Rattle.server_rules.specs.declared.refusal.Refusal.{Refusal}
 use Rattle.tenant_replies.specs.View.{waiting_bytes}
 use Rattle.tenant_world.specs.declared.memory.Memory.{Memory}
 use Rattle.tenant_world.specs.Memories.{Remembers}
-use Rattle.tenant_world.specs.Acting.{Acted, Declined, left_by, is_interruption}
+use Rattle.tenant_world.specs.Acting.{AcceptsOutcome, RefusesOutcome, actors_after, is_interruption}
 
 -- the actors are no part of it
 pub with-actors : (g : Ground) (t : ℕ) (m : Memory) (q : Quiet) (es : List (Entry ActorData))
@@ -34,53 +34,53 @@ with-actors g t m q es r = record {
 }
 
 -- what a move makes of the memory
-pub remembers-moved : (g : Ground) (t : ℕ) (m : Memory) (a : Actor) (actor : ActorData) (move : Move)
+pub remembers-after_move : (g : Ground) (t : ℕ) (m : Memory) (a : Actor) (actor : ActorData) (move : Move)
     (q : Quiet) → Remembers g t m (with_replies move.replies (with_state a move.state q))
-    → Remembers g t m (moved a actor move q)
-remembers-moved g t m Actor.Bare actor move q r = record {
+    → Remembers g t m (after_move a actor move q)
+remembers-after_move g t m Actor.Bare actor move q r = record {
   sessions = r.sessions;
   bare = r.bare;
   spaces = r.spaces;
   replies = r.replies;
 }
-remembers-moved g t m (Actor.Session n) actor move q r = record {
+remembers-after_move g t m (Actor.Session n) actor move q r = record {
   sessions = r.sessions;
   bare = r.bare;
   spaces = r.spaces;
   replies = r.replies;
 }
 
-moved-actors : (a : Actor) (actor : ActorData) (move : Move) (q : Quiet)
-    → (moved a actor move q).actors
-    ≡ replaced (seat_of a) (record actor { hand = move.hand }) q.actors
-moved-actors Actor.Bare actor move q = refl
-moved-actors (Actor.Session n) actor move q = refl
+after_move-actors : (a : Actor) (actor : ActorData) (move : Move) (q : Quiet)
+    → (after_move a actor move q).actors
+    ≡ with_part (seat_of a) (record actor { hand = move.hand }) q.actors
+after_move-actors Actor.Bare actor move q = refl
+after_move-actors (Actor.Session n) actor move q = refl
 
-moved-steps : (a : Actor) (actor : ActorData) (move : Move) (q : Quiet)
-    → (moved a actor move q).steps ≡ q.steps
-moved-steps Actor.Bare actor move q = refl
-moved-steps (Actor.Session n) actor move q = refl
+after_move-steps : (a : Actor) (actor : ActorData) (move : Move) (q : Quiet)
+    → (after_move a actor move q).steps ≡ q.steps
+after_move-steps Actor.Bare actor move q = refl
+after_move-steps (Actor.Session n) actor move q = refl
 
-moved-heard : (a : Actor) (actor : ActorData) (move : Move) (q : Quiet)
-    → (moved a actor move q).heard ≡ q.heard
-moved-heard Actor.Bare actor move q = refl
-moved-heard (Actor.Session n) actor move q = refl
+after_move-heard : (a : Actor) (actor : ActorData) (move : Move) (q : Quiet)
+    → (after_move a actor move q).heard ≡ q.heard
+after_move-heard Actor.Bare actor move q = refl
+after_move-heard (Actor.Session n) actor move q = refl
 
 -- a step that is a move
-pub acted-moved : (g : Ground) (t : ℕ) (m : Memory) (a : Actor) (actor new : ActorData)
+pub acted-after_move : (g : Ground) (t : ℕ) (m : Memory) (a : Actor) (actor new : ActorData)
     (move : Move) (answer : StepAnswer) (q : Quiet)
     → Remembers g t m (with_replies move.replies (with_state a move.state q))
     → new ≡ record actor { hand = move.hand } → is_interruption answer ≡ false
-    → Acted g t a q (leaves (spent (moved a actor move q)) answer) m new answer
-acted-moved g t m a actor new move answer q r same stays = record {
-  after = moved a actor move q;
+    → AcceptsOutcome g t a q (leaves (with_step_spent (after_move a actor move q)) answer) m new answer
+acted-after_move g t m a actor new move answer q r same stays = record {
+  after = after_move a actor move q;
   accepted = refl;
-  remembers = remembers-moved g t m a actor move q r;
-  actors = moved-actors a actor move q
-      ∙ ap (λ it. replaced (seat_of a) it q.actors) (sym same)
-      ∙ ap (λ b. left_by b a new q.actors) (sym stays);
-  steps = moved-steps a actor move q;
-  heard = moved-heard a actor move q;
+  remembers = remembers-after_move g t m a actor move q r;
+  actors = after_move-actors a actor move q
+      ∙ ap (λ it. with_part (seat_of a) it q.actors) (sym same)
+      ∙ ap (λ b. actors_after b a new q.actors) (sym stays);
+  steps = after_move-steps a actor move q;
+  heard = after_move-heard a actor move q;
 }
 
 pub replies-behind-state : (a : Actor) (s : StateData) (r : List ReplyData) (q : Quiet)
@@ -91,7 +91,7 @@ replies-behind-state (Actor.Session n) s r q = refl
 -- the request of an actor is interrupted
 pub acted-interrupted : (g : Ground) (t : ℕ) (m : Memory) (a : Actor) (new : ActorData) (h : Hand)
     (q : Quiet) → Remembers g t m (with_replies (reply h.origin interrupted ∷ []) q)
-    → Acted g t a q (interrupted_in a h q) m new request_interrupted
+    → AcceptsOutcome g t a q (interrupted_in a h q) m new request_interrupted
 acted-interrupted g t m a new h q r = record {
   after = with_replies (reply h.origin interrupted ∷ [])
       (record q { actors = without (seat_of a) q.actors });
@@ -129,14 +129,14 @@ some-same a b e = ap (λ o. unwrap_or o a) e
 -- for want of memory nothing is said of the rules
 pub declined-memory : {A : Type 0} (g : Ground) (t : ℕ) (q : Quiet) (outcome : Outcome) (m : Memory)
     (r : Result A Refusal) → IsErrAnd r (λ e. e ≡ Refusal.NoMemory) → Remembers g t m q
-    → IfErr r (Declined g t q outcome m)
+    → IfErr r (RefusesOutcome g t q outcome m)
 declined-memory g t q outcome m (Ok x) never remembers = tt
 declined-memory g t q outcome m (Err e) is remembers =
     record { refused = λ ne. absurd (ne is); remembers = remembers }
 
 pub declined-memory-with : {A : Type 0} (g : Ground) (t : ℕ) (q : Quiet) (outcome : Outcome)
     (m : Memory) (r : Result A Refusal) (P : Type 0) → IsErrAnd r (λ e. e ≡ Refusal.NoMemory)
-    → Remembers g t m q → P → IfErr r (λ why. Declined g t q outcome m why × P)
+    → Remembers g t m q → P → IfErr r (λ why. RefusesOutcome g t q outcome m why × P)
 declined-memory-with g t q outcome m (Ok x) P never remembers p = tt
 declined-memory-with g t q outcome m (Err e) P is remembers p =
     (record { refused = λ ne. absurd (ne is); remembers = remembers }, p)

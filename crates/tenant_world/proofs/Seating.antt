@@ -2,12 +2,12 @@
 use Rattle.std.proofs.Common.{◌≡◌, ◌<◌, ◌==◌, ℕ, List, [], ◌∷◌, Bool, true, false, nat_lt, ◌&&◌}
 use Rattle.std.proofs.Common.{refl, sym, ap, ◌∙◌, true≢false}
 use Rattle.std.proofs.lemmas.Bool.{eqb-true, ltb-true, lt-ltb}
-use Rattle.server_rules.specs.Numbered.{Entry, replaced, without}
+use Rattle.server_rules.specs.Numbered.{Entry, with_part, without}
 use Rattle.server_rules.specs.Tenant.{ActorData, seat_of}
 use Rattle.server_rules.specs.declared.actor.Actor.{Actor}
 use Rattle.tenant_actors.specs.View.{AreBelow}
 use Rattle.tenant_actors.proofs.EntryLaws.{replaced_first, without_first}
-use Rattle.tenant_world.specs.Acting.{left_by}
+use Rattle.tenant_world.specs.Acting.{actors_after}
 use Rattle.tenant_world.specs.Seats.{are_below}
 
 first-true : (b c : Bool) → (b && c) ≡ true → b ≡ true
@@ -22,20 +22,20 @@ both-true : (b c : Bool) → b ≡ true → c ≡ true → (b && c) ≡ true
 both-true true c e f = f
 both-true false c e f = absurd (true≢false (sym e))
 
-pub below-replaced : (s n : ℕ) (x : ActorData) (es : List (Entry ActorData)) → are_below s es ≡ true
-    → are_below s (replaced n x es) ≡ true
-below-replaced s n x [] below = refl
-below-replaced s n x (e ∷ es) below =
+pub below-with_part : (s n : ℕ) (x : ActorData) (es : List (Entry ActorData)) → are_below s es ≡ true
+    → are_below s (with_part n x es) ≡ true
+below-with_part s n x [] below = refl
+below-with_part s n x (e ∷ es) below =
     let first = first-true (nat_lt e.number s) (are_below s es) below in
     let more = second-true (nat_lt e.number s) (are_below s es) below in
-    by first more (below-replaced s n x es more) (n == e.number) refl
+    by first more (below-with_part s n x es more) (n == e.number) refl
   where
-    by : nat_lt e.number s ≡ true → are_below s es ≡ true → are_below s (replaced n x es) ≡ true
+    by : nat_lt e.number s ≡ true → are_below s es ≡ true → are_below s (with_part n x es) ≡ true
         → (b : Bool) → (n == e.number) ≡ b → are_below s (replaced_first b n x e es) ≡ true
     by first more behind true same = both-true (nat_lt n s) (are_below s es)
         (ap (λ k. nat_lt k s) (eqb-true n e.number same) ∙ first) more
     by first more behind false apart =
-        both-true (nat_lt e.number s) (are_below s (replaced n x es)) first behind
+        both-true (nat_lt e.number s) (are_below s (with_part n x es)) first behind
 
 pub below-without : (s n : ℕ) (es : List (Entry ActorData)) → are_below s es ≡ true
     → are_below s (without n es) ≡ true
@@ -52,9 +52,9 @@ below-without s n (e ∷ es) below =
         both-true (nat_lt e.number s) (are_below s (without n es)) first behind
 
 pub below-left : (s : ℕ) (b : Bool) (a : Actor) (x : ActorData) (es : List (Entry ActorData))
-    → are_below s es ≡ true → are_below s (left_by b a x es) ≡ true
+    → are_below s es ≡ true → are_below s (actors_after b a x es) ≡ true
 below-left s true a x es below = below-without s (seat_of a) es below
-below-left s false a x es below = below-replaced s (seat_of a) x es below
+below-left s false a x es below = below-with_part s (seat_of a) x es below
 
 -- the same, as it is asked for where an actor is added
 pub seated-below : (s : ℕ) (es : List (Entry ActorData)) → are_below s es ≡ true → AreBelow s es

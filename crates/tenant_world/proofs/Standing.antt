@@ -1,14 +1,14 @@
 -- The steps of an actor, beside the deeds of the tenant.
 use Rattle.std.proofs.Common.{◌≡◌, ◌<◌, ◌-◌, ◌==◌, ℕ, zero, suc, List, [], ◌∷◌, Bool, true, false}
-use Rattle.std.proofs.Common.{None, Some, refl, sym, ap, subst, ◌∙◌, if◌then◌else◌, arith}
-use Rattle.std.proofs.Common.{◌≢◌, Result, Ok, Err, IfErr, Option, not, is_some, true≢false}
+use Rattle.std.proofs.Common.{None, Some, refl, sym, ap, subst, ◌∙◌, if◌then◌else◌, arith, ◌≢◌}
+use Rattle.std.proofs.Common.{Result, Ok, Err, IfErr, Option, not, is_some, true≢false}
 use Rattle.std.specs.Result.{IsErrAnd}
 use Rattle.std.proofs.Math.Dec.{eqb-suc-zero}
 use Rattle.std.proofs.lemmas.Bool.{eqb-true, ne_eqb}
 use Rattle.bencode_wire.specs.Decoder as decoder
 use Rattle.bencode_wire.specs.declared.decoder.Decoder.{Decoder}
 use Rattle.repl_asks.specs.Exchange.{AskData}
-use Rattle.server_rules.specs.Numbered.{Entry, entry, found, replaced}
+use Rattle.server_rules.specs.Numbered.{Entry, entry, part_under, with_part}
 use Rattle.server_rules.specs.Ground.{Ground}
 use Rattle.server_rules.specs.Readings.{message_limit}
 use Rattle.server_rules.specs.Ready.{has_waiting, may_begin}
@@ -17,48 +17,49 @@ use Rattle.server_rules.specs.Starting.{start_waiting, start_in_hand}
 use Rattle.server_rules.specs.Store.{Store}
 use Rattle.server_rules.specs.Tenant.{ActorData, Quiet, seat_of}
 use Rattle.server_rules.specs.Plan as deeds
-use Rattle.server_rules.specs.Plan.{StepAnswer, Outcome, refuses, leaves, Plan, quietly, spent}
-use Rattle.server_rules.specs.Plan.{EndingData}
+use Rattle.server_rules.specs.Plan.{StepAnswer, Outcome, refuses, leaves, Plan, quietly}
+use Rattle.server_rules.specs.Plan.{with_step_spent}
+use Rattle.repl_jobs.specs.Job.{EndingData}
 use Rattle.server_rules.specs.Deeds.{for_actor, unless_worn, start_of}
 use Rattle.server_rules.specs.Asking.{asked_of}
 use Rattle.server_rules.specs.Ending.{end_of}
 use Rattle.server_rules.specs.declared.actor.Actor.{Actor}
 use Rattle.server_rules.specs.declared.refusal.Refusal.{Refusal}
 use Rattle.tenant_actors.specs.View.{actors_view}
-use Rattle.tenant_actors.proofs.EntryLaws.{found_first, replaced_first, replaced-twice}
-use Rattle.tenant_actors.proofs.EntryLaws.{without-replaced}
-use Rattle.tenant_turns.specs.Deeded.{Deeded, carried_out, deeded}
+use Rattle.tenant_actors.proofs.EntryLaws.{found_first, replaced_first, with_part-twice}
+use Rattle.tenant_actors.proofs.EntryLaws.{without-with_part}
+use Rattle.tenant_turns.specs.DeedResult.{DeedResult, carried_out, deed_result}
 use Rattle.tenant_refs.specs.Attempts.{Reaches}
 use Rattle.tenant_refs.specs.declared.attempts.Attempts.{Attempts}
 use Rattle.tenant_refs.proofs.Calls.{performed-tenant}
-use Rattle.tenant_refs.proofs.Points.{found-without}
+use Rattle.tenant_refs.proofs.Points.{part_under-without}
 use Rattle.tenant_world.specs.declared.memory.Memory.{Memory}
 use Rattle.tenant_world.specs.declared.tenant.Tenant.{Tenant}
 use Rattle.tenant_world.specs.Memories.{Remembers}
-use Rattle.tenant_world.specs.Acting.{Acted, Declined, left_by, is_interruption}
-use Rattle.tenant_world.specs.Standing.{Stands, Lends, DoesBy, Refuses}
+use Rattle.tenant_world.specs.Acting.{AcceptsOutcome, RefusesOutcome, actors_after, is_interruption}
+use Rattle.tenant_world.specs.Standing.{Stands, Lends, AcceptsDeedBy, RefusesDeed}
 
 -- Deeds of an actor
 
 -- what the plans of an actor's deeds come to
-abbrev pub by_actor : Store → Quiet → Actor → (ActorData → Plan) → Deeded
-by_actor s q a p = carried_out s (unless_worn q (for_actor (found (seat_of a) q.actors) p))
+abbrev pub by_actor : Store → Quiet → Actor → (ActorData → Plan) → DeedResult
+by_actor s q a p = carried_out s (unless_worn q (for_actor (part_under (seat_of a) q.actors) p))
 
-pub starts-by : (g : Ground) (q : Quiet) (s : Store) (a : Actor) → deeded g s q (deeds.starts a)
+pub starts-by : (g : Ground) (q : Quiet) (s : Store) (a : Actor) → deed_result g s q (deeds.starts a)
     ≡ by_actor s q a (λ actor. quietly (start_of g a actor q actor.hand))
-unfolding deeded
+unfolding deed_result
 starts-by g q s a = refl
 
 pub asks-by : (g : Ground) (q : Quiet) (s : Store) (a : Actor) (ask : AskData)
-    → deeded g s q (deeds.asks_for a ask)
+    → deed_result g s q (deeds.asks_for a ask)
     ≡ by_actor s q a (λ actor. asked_of g a actor ask q actor.hand)
-unfolding deeded
+unfolding deed_result
 asks-by g q s a ask = refl
 
 pub ends-by : (g : Ground) (q : Quiet) (s : Store) (a : Actor) (e : EndingData)
-    → deeded g s q (deeds.ends a e)
+    → deed_result g s q (deeds.ends a e)
     ≡ by_actor s q a (λ actor. end_of g a actor e q actor.hand)
-unfolding deeded
+unfolding deed_result
 ends-by g q s a e = refl
 
 pub not-zero : (n : ℕ) → (n ≡ 0 → ⊥) → (n == 0) ≡ false
@@ -67,11 +68,11 @@ not-zero (suc n) none = eqb-suc-zero n
 
 abbrev pub worn_by : Quiet → Actor → (ActorData → Plan) → Bool → Plan
 worn_by q a p b = if b then quietly (refuses Refusal.Worn)
-    else for_actor (found (seat_of a) q.actors) p
+    else for_actor (part_under (seat_of a) q.actors) p
 
 -- steps are left, and the actor is there
 pub done-by : (q : Quiet) (s : Store) (a : Actor) (p : ActorData → Plan) (actor : ActorData)
-    → 0 < q.steps → found (seat_of a) q.actors ≡ Some actor
+    → 0 < q.steps → part_under (seat_of a) q.actors ≡ Some actor
     → by_actor s q a p ≡ carried_out s (p actor)
 done-by q s a p actor some there =
     ap (λ (b : Bool). carried_out s (worn_by q a p b)) (not-zero q.steps (left q.steps some))
@@ -87,7 +88,7 @@ worn-by q s a p none = ap (λ (b : Bool). (carried_out s (worn_by q a p b)).outc
 
 -- the actor is not there
 pub missing-by : (q : Quiet) (s : Store) (a : Actor) (p : ActorData → Plan)
-    → (q.steps == 0) ≡ false → found (seat_of a) q.actors ≡ None
+    → (q.steps == 0) ≡ false → part_under (seat_of a) q.actors ≡ None
     → (by_actor s q a p).outcome ≡ refuses Refusal.NoSuchActor
 missing-by q s a p some absent =
     ap (λ (b : Bool). (carried_out s (worn_by q a p b)).outcome) some
@@ -115,8 +116,8 @@ none-begins g a actor q (Some h) idle =
 
 -- it is refused so
 pub idle-by : (g : Ground) (q : Quiet) (s : Store) (a : Actor) (actor : ActorData) → 0 < q.steps
-    → found (seat_of a) q.actors ≡ Some actor → may_begin actor.waiting actor.hand ≡ false
-    → (deeded g s q (deeds.starts a)).outcome ≡ refuses Refusal.Idle
+    → part_under (seat_of a) q.actors ≡ Some actor → may_begin actor.waiting actor.hand ≡ false
+    → (deed_result g s q (deeds.starts a)).outcome ≡ refuses Refusal.Idle
 idle-by g q s a actor some there idle =
     let p : ActorData → Plan = λ it. quietly (start_of g a it q it.hand) in
     ap (λ d. d.outcome) (starts-by g q s a ∙ done-by q s a p actor some there)
@@ -124,13 +125,13 @@ idle-by g q s a actor some there idle =
 
 -- Entries
 
-pub replaced-same : {A : Type 0} (n : ℕ) (x : A) (es : List (Entry A)) → found n es ≡ Some x
-    → replaced n x es ≡ es
-replaced-same n x [] there = refl
-replaced-same {A} n x (e ∷ es) there = by (λ h. replaced-same n x es h) (n == e.number) refl there
+pub with_part-same : {A : Type 0} (n : ℕ) (x : A) (es : List (Entry A)) → part_under n es ≡ Some x
+    → with_part n x es ≡ es
+with_part-same n x [] there = refl
+with_part-same {A} n x (e ∷ es) there = by (λ h. with_part-same n x es h) (n == e.number) refl there
   where
-    by : (found n es ≡ Some x → replaced n x es ≡ es) → (b : Bool) → (n == e.number) ≡ b
-        → found_first b e.part (found n es) ≡ Some x → replaced_first b n x e es ≡ e ∷ es
+    by : (part_under n es ≡ Some x → with_part n x es ≡ es) → (b : Bool) → (n == e.number) ≡ b
+        → found_first b e.part (part_under n es) ≡ Some x → replaced_first b n x e es ≡ e ∷ es
     by behind true same h =
         let here : e.part ≡ x = cc in
         ap (λ k. entry k x ∷ es) (eqb-true n e.number same)
@@ -138,34 +139,34 @@ replaced-same {A} n x (e ∷ es) there = by (λ h. replaced-same n x es h) (n ==
     by behind false apart h = ap (λ (l : List (Entry A)). e ∷ l) (behind h)
 
 -- another number finds what it found
-found-apart : {A : Type 0} (m n : ℕ) (x : A) (es : List (Entry A)) → m ≢ n
-    → found m (replaced n x es) ≡ found m es
-found-apart m n x [] apart = refl
-found-apart {A} m n x (e ∷ es) apart = by (found-apart m n x es apart) (n == e.number) refl
+part_under-apart : {A : Type 0} (m n : ℕ) (x : A) (es : List (Entry A)) → m ≢ n
+    → part_under m (with_part n x es) ≡ part_under m es
+part_under-apart m n x [] apart = refl
+part_under-apart {A} m n x (e ∷ es) apart = by (part_under-apart m n x es apart) (n == e.number) refl
   where
-    by : found m (replaced n x es) ≡ found m es → (b : Bool) → (n == e.number) ≡ b
-        → found m (replaced_first b n x e es) ≡ found_first (m == e.number) e.part (found m es)
+    by : part_under m (with_part n x es) ≡ part_under m es → (b : Bool) → (n == e.number) ≡ b
+        → part_under m (replaced_first b n x e es) ≡ found_first (m == e.number) e.part (part_under m es)
     by behind true same =
-        ap (λ (b : Bool). found_first b x (found m es)) (ne_eqb m n apart)
-        ∙ sym (ap (λ (b : Bool). found_first b e.part (found m es))
+        ap (λ (b : Bool). found_first b x (part_under m es)) (ne_eqb m n apart)
+        ∙ sym (ap (λ (b : Bool). found_first b e.part (part_under m es))
         (ap (λ k. m == k) (sym (eqb-true n e.number same)) ∙ ne_eqb m n apart))
     by behind false other = ap (λ it. found_first (m == e.number) e.part it) behind
 
-found-left : (gone : Bool) (a b : Actor) (x : ActorData) (es : List (Entry ActorData))
-    → seat_of b ≢ seat_of a → found (seat_of b) (left_by gone a x es) ≡ found (seat_of b) es
-found-left true a b x es apart = found-without (seat_of b) (seat_of a) es apart
-found-left false a b x es apart = found-apart (seat_of b) (seat_of a) x es apart
+part_under-left : (gone : Bool) (a b : Actor) (x : ActorData) (es : List (Entry ActorData))
+    → seat_of b ≢ seat_of a → part_under (seat_of b) (actors_after gone a x es) ≡ part_under (seat_of b) es
+part_under-left true a b x es apart = part_under-without (seat_of b) (seat_of a) es apart
+part_under-left false a b x es apart = part_under-apart (seat_of b) (seat_of a) x es apart
 
 -- The code
 
 pub settled : (g : Ground) (a : Actor) (old new : Tenant) (q after : Quiet) (s : Store) (b : Bool)
     (actor : ActorData) → Lends g a old q → Remembers g s.tenant old.memory after
-    → Reaches old.attempts s → after.actors ≡ left_by b a actor q.actors
+    → Reaches old.attempts s → after.actors ≡ actors_after b a actor q.actors
     → after.steps ≡ q.steps → after.heard ≡ q.heard
     → new.retries ≡ old.retries → new.steps ≡ old.steps - 1 → new.decoder ≡ old.decoder
     → new.memory ≡ old.memory → new.attempts ≡ old.attempts
-    → actors_view new.actors ≡ left_by b a actor (actors_view old.actors)
-    → Stands g new (spent after) s
+    → actors_view new.actors ≡ actors_after b a actor (actors_view old.actors)
+    → Stands g new (with_step_spent after) s
 settled g a old new q after s b actor lends r reaches actors steps heard tries less same kept tried put =
     let D : List ℕ → Type 0 = λ all.
     decoder.Stands message_limit old.decoder all (g.readings.stream all).messages in
@@ -179,7 +180,7 @@ settled g a old new q after s b actor lends r reaches actors steps heard tries l
       names = lends.names;
       steps = less ∙ ap (λ n. n - 1) (lends.steps ∙ sym steps);
       stream = subst E (sym same) (subst D (sym heard) lends.stream);
-      actors = put ∙ ap (left_by b a actor) lends.actors ∙ left-again b ∙ sym actors;
+      actors = put ∙ ap (actors_after b a actor) lends.actors ∙ left-again b ∙ sym actors;
       remembers = record {
         sessions = there.sessions;
         bare = there.bare;
@@ -189,17 +190,17 @@ settled g a old new q after s b actor lends r reaches actors steps heard tries l
       attempts = subst A (sym tried) reaches;
     }
   where
-    left-again : (b : Bool) → left_by b a actor (replaced (seat_of a) lends.place q.actors)
-        ≡ left_by b a actor q.actors
-    left-again true = without-replaced (seat_of a) lends.place q.actors
-    left-again false = replaced-twice (seat_of a) actor lends.place q.actors
+    left-again : (b : Bool) → actors_after b a actor (with_part (seat_of a) lends.place q.actors)
+        ≡ actors_after b a actor q.actors
+    left-again true = without-with_part (seat_of a) lends.place q.actors
+    left-again false = with_part-twice (seat_of a) actor lends.place q.actors
 
 pub restored : (g : Ground) (a : Actor) (old new : Tenant) (q : Quiet) (s : Store)
     (actor : ActorData) → Lends g a old q → Remembers g s.tenant old.memory q
-    → Reaches old.attempts s → found (seat_of a) q.actors ≡ Some actor
+    → Reaches old.attempts s → part_under (seat_of a) q.actors ≡ Some actor
     → new.retries ≡ old.retries → new.steps ≡ old.steps → new.decoder ≡ old.decoder
     → new.memory ≡ old.memory → new.attempts ≡ old.attempts
-    → actors_view new.actors ≡ replaced (seat_of a) actor (actors_view old.actors)
+    → actors_view new.actors ≡ with_part (seat_of a) actor (actors_view old.actors)
     → Stands g new q s
 restored g a old new q s actor lends r reaches there tries less same kept tried put =
     let E : Decoder → Type 0 = λ d.
@@ -210,41 +211,41 @@ restored g a old new q s actor lends r reaches there tries less same kept tried 
       names = lends.names;
       steps = less ∙ lends.steps;
       stream = subst E (sym same) lends.stream;
-      actors = put ∙ ap (replaced (seat_of a) actor) lends.actors
-          ∙ replaced-twice (seat_of a) actor lends.place q.actors
-          ∙ replaced-same (seat_of a) actor q.actors there;
+      actors = put ∙ ap (with_part (seat_of a) actor) lends.actors
+          ∙ with_part-twice (seat_of a) actor lends.place q.actors
+          ∙ with_part-same (seat_of a) actor q.actors there;
       remembers = subst (λ m. Remembers g s.tenant m q) (sym kept) r;
       attempts = subst A (sym tried) reaches;
     }
 
 -- an actor's step that was accepted is the tenant's deed
 pub does-acted : (g : Ground) (t : ℕ) (a : Actor) (q : Quiet) (s : Store) (p : ActorData → Plan)
-    (deed : Deeded) (old_actor : ActorData) (m : Memory) (actor : ActorData) (answer : StepAnswer)
+    (deed : DeedResult) (old_actor : ActorData) (m : Memory) (actor : ActorData) (answer : StepAnswer)
     (new : Tenant)
-    → deed ≡ by_actor s q a p → 0 < q.steps → found (seat_of a) q.actors ≡ Some old_actor
-    → Acted g t a q (carried_out s (p old_actor)).outcome m actor answer
+    → deed ≡ by_actor s q a p → 0 < q.steps → part_under (seat_of a) q.actors ≡ Some old_actor
+    → AcceptsOutcome g t a q (carried_out s (p old_actor)).outcome m actor answer
     → ((after : Quiet) → Remembers g t m after
-    → after.actors ≡ left_by (is_interruption answer) a actor q.actors
+    → after.actors ≡ actors_after (is_interruption answer) a actor q.actors
     → after.steps ≡ q.steps → after.heard ≡ q.heard
-    → Stands g new (spent after) (carried_out s (p old_actor)).store)
-    → DoesBy g a q deed new answer
+    → Stands g new (with_step_spent after) (carried_out s (p old_actor)).store)
+    → AcceptsDeedBy g a q deed new answer
 does-acted g t a q s p deed old_actor m actor answer new is some there acted settles =
     let same : deed ≡ carried_out s (p old_actor) = is ∙ done-by q s a p old_actor some there in
     record {
-      after = spent acted.after;
+      after = with_step_spent acted.after;
       accepted = ap (λ d. d.outcome) same ∙ acted.accepted;
-      stands = subst (λ d. Stands g new (spent acted.after) d.store) (sym same)
+      stands = subst (λ d. Stands g new (with_step_spent acted.after) d.store) (sym same)
           (settles acted.after acted.remembers acted.actors acted.steps acted.heard);
-      others = λ b apart. ap (found (seat_of b)) acted.actors
-          ∙ found-left (is_interruption answer) a b actor q.actors apart;
+      others = λ b apart. ap (part_under (seat_of b)) acted.actors
+          ∙ part_under-left (is_interruption answer) a b actor q.actors apart;
     }
 
 pub refuses-declined : (g : Ground) (t : ℕ) (a : Actor) (q : Quiet) (s : Store)
-    (p : ActorData → Plan) (deed : Deeded) (old_actor : ActorData) (m : Memory) (why : Refusal)
+    (p : ActorData → Plan) (deed : DeedResult) (old_actor : ActorData) (m : Memory) (why : Refusal)
     (new : Tenant)
-    → deed ≡ by_actor s q a p → 0 < q.steps → found (seat_of a) q.actors ≡ Some old_actor
-    → Declined g t q (carried_out s (p old_actor)).outcome m why
-    → (Remembers g t m q → Stands g new q s) → Refuses g q s deed new why
+    → deed ≡ by_actor s q a p → 0 < q.steps → part_under (seat_of a) q.actors ≡ Some old_actor
+    → RefusesOutcome g t q (carried_out s (p old_actor)).outcome m why
+    → (Remembers g t m q → Stands g new q s) → RefusesDeed g q s deed new why
 refuses-declined g t a q s p deed old_actor m why new is some there declined stands = record {
   refused = λ ne. ap (λ d. d.outcome) (is ∙ done-by q s a p old_actor some there)
       ∙ declined.refused ne;
@@ -267,12 +268,12 @@ lends-memory g a code new q tries steps same put lends =
       actors = ap actors_view put ∙ lends.actors;
     }
 
-pub refuses-so : {X : Type 0} (g : Ground) (q : Quiet) (s : Store) (deed : Deeded) (new : Tenant)
+pub refuses-so : {X : Type 0} (g : Ground) (q : Quiet) (s : Store) (deed : DeedResult) (new : Tenant)
     (why : Refusal) (r : Result X Refusal) → IsErrAnd r (λ e. e ≡ why)
-    → Refuses g q s deed new why → IfErr r (Refuses g q s deed new)
+    → RefusesDeed g q s deed new why → IfErr r (RefusesDeed g q s deed new)
 refuses-so g q s deed new why (Ok x) never told = tt
 refuses-so g q s deed new why (Err e) is told =
-    subst (Refuses g q s deed new) (sym is) told
+    subst (RefusesDeed g q s deed new) (sym is) told
 
 pub stands-same : (g : Ground) (q : Quiet) (s : Store) (old new : Tenant)
     → new.retries ≡ old.retries → new.steps ≡ old.steps → new.decoder ≡ old.decoder
@@ -293,9 +294,9 @@ stands-same g q s old new tries steps same put kept tried st =
     }
 
 -- and something else holds
-pub refuses-with : {X : Type 0} (g : Ground) (q : Quiet) (s : Store) (deed : Deeded) (new : Tenant)
+pub refuses-with : {X : Type 0} (g : Ground) (q : Quiet) (s : Store) (deed : DeedResult) (new : Tenant)
     (why : Refusal) (P : Type 0) (r : Result X Refusal) → IsErrAnd r (λ e. e ≡ why)
-    → Refuses g q s deed new why → P → IfErr r (λ e. Refuses g q s deed new e × P)
+    → RefusesDeed g q s deed new why → P → IfErr r (λ e. RefusesDeed g q s deed new e × P)
 refuses-with g q s deed new why P (Ok x) never told p = tt
 refuses-with g q s deed new why P (Err e) is told p =
-    (subst (Refuses g q s deed new) (sym is) told, p)
+    (subst (RefusesDeed g q s deed new) (sym is) told, p)

@@ -2,7 +2,7 @@
 use Rattle.std.proofs.Common.{◌≡◌, ℕ, List, [], ◌∷◌, ◌++◌, Bool, true, false, Option, None, Some}
 use Rattle.std.proofs.Common.{refl, sym, ap, subst, ◌∙◌, true≢false}
 use Rattle.bencode_wire.specs.Tree.{Tree}
-use Rattle.bencode_wire.specs.Stream.{Ending, rest, fault, Streams}
+use Rattle.bencode_wire.specs.Stream.{StreamEnding, rest, fault, Streams}
 use Rattle.bencode_wire.specs.Decoder as decoder
 use Rattle.bencode_wire.specs.Decoder.{fault_of, rest_of, ready_of, Shows}
 use Rattle.bencode_wire.specs.declared.decoder.Decoder.{Decoder}
@@ -14,7 +14,7 @@ use Rattle.tenant_turns.specs.declared.turns.Wire.{Wire}
 
 -- A stream has one reading; the law is given as an argument.
 abbrev pub IsUnique : Type 0
-IsUnique = (limit : ℕ) (bytes : List ℕ) (ms ns : List Tree) (e f : Ending)
+IsUnique = (limit : ℕ) (bytes : List ℕ) (ms ns : List Tree) (e f : StreamEnding)
     → Streams limit 0 bytes ms e → Streams limit 0 bytes ns f → (ms ≡ ns) × (e ≡ f)
 
 pub read-messages : IsUnique → (r : Readings) (d : Decoder) (all : List ℕ) (taken : List Tree)
@@ -29,7 +29,7 @@ read-ending unique r d all taken right h =
     subst (λ end. Shows d all end)
     (unique message_limit all _ _ _ _ h.streams (right.stream all)).1 h.shows
 
-shown-fault : (d : Decoder) (all : List ℕ) (end : Ending) → Shows d all end
+shown-fault : (d : Decoder) (all : List ℕ) (end : StreamEnding) → Shows d all end
     → fault_of d ≡ fault_in end
 shown-fault d all (rest m) h = h.0
 shown-fault d all (fault rule at) h = h
@@ -47,7 +47,7 @@ abbrev is_none : List ℕ → Bool
 is_none [] = true
 is_none (byte ∷ bytes) = false
 
-pub wire-broken : (end : Ending) (f : WireFault) → Some f ≡ fault_in end
+pub wire-broken : (end : StreamEnding) (f : WireFault) → Some f ≡ fault_in end
     → Wire.Broken f ≡ wire_at end
 wire-broken (rest m) f never = absurd (true≢false (ap is_fault never))
 wire-broken (fault rule at) f e = ap broken e where
@@ -55,13 +55,13 @@ wire-broken (fault rule at) f e = ap broken e where
   broken None = Wire.Whole
   broken (Some f) = Wire.Broken f
 
-pub wire-whole : (d : Decoder) (all : List ℕ) (end : Ending) → Shows d all end
+pub wire-whole : (d : Decoder) (all : List ℕ) (end : StreamEnding) → Shows d all end
     → fault_of d ≡ None → rest_of d ≡ [] → Wire.Whole ≡ wire_at end
 wire-whole d all (rest []) h none e = refl
 wire-whole d all (rest (byte ∷ m)) h none e = absurd (true≢false (ap is_none (sym e ∙ h.1)))
 wire-whole d all (fault rule at) h none e = absurd (true≢false (ap is_fault (sym h ∙ none)))
 
-pub wire-partial : (d : Decoder) (all : List ℕ) (end : Ending) → Shows d all end
+pub wire-partial : (d : Decoder) (all : List ℕ) (end : StreamEnding) → Shows d all end
     → fault_of d ≡ None → (rest_of d ≡ [] → ⊥) → Wire.Partial ≡ wire_at end
 wire-partial d all (rest []) h none ne = absurd (ne h.1)
 wire-partial d all (rest (byte ∷ m)) h none ne = refl

@@ -2,24 +2,25 @@
 use Rattle.repl_asks.specs.View.{answer_view, trace_view}
 use Rattle.repl_jobs.specs.View.{job_view, finished_view}
 use Rattle.server_rules.specs.Plan.{StepAnswer, form_begun, request_answered, ask_answered}
-use Rattle.server_rules.specs.Plan.{form_finished, request_interrupted, EndingData}
-use Rattle.tenant_world.specs.declared.answers.Started.{Started}
-use Rattle.tenant_world.specs.declared.answers.Asked.{Asked}
-use Rattle.tenant_world.specs.declared.answers.Ended.{Ended}
+use Rattle.server_rules.specs.Plan.{form_finished, request_interrupted}
+use Rattle.repl_jobs.specs.Job.{EndingData}
+use Rattle.tenant_world.specs.declared.answers.StartAnswer.{StartAnswer}
+use Rattle.tenant_world.specs.declared.answers.AskAnswer.{AskAnswer}
+use Rattle.tenant_world.specs.declared.answers.EndAnswer.{EndAnswer}
 use Rattle.tenant_world.specs.declared.answers.Ending.{Ending}
 
-abbrev pub started_view : Started → StepAnswer
-started_view (Started.Begun job) = form_begun (job_view job)
-started_view Started.Answered = request_answered
-started_view Started.Interrupted = request_interrupted
+abbrev pub start_answer_view : StartAnswer → StepAnswer
+start_answer_view (StartAnswer.Begun job) = form_begun (job_view job)
+start_answer_view StartAnswer.Answered = request_answered
+start_answer_view StartAnswer.Interrupted = request_interrupted
 
-abbrev pub asked_view : Asked → StepAnswer
-asked_view (Asked.Answer answer) = ask_answered (answer_view answer)
-asked_view Asked.Interrupted = request_interrupted
+abbrev pub ask_answer_view : AskAnswer → StepAnswer
+ask_answer_view (AskAnswer.Answer answer) = ask_answered (answer_view answer)
+ask_answer_view AskAnswer.Interrupted = request_interrupted
 
-abbrev pub ended_view : Ended → StepAnswer
-ended_view Ended.Finished = form_finished
-ended_view Ended.Interrupted = request_interrupted
+abbrev pub end_answer_view : EndAnswer → StepAnswer
+end_answer_view EndAnswer.Finished = form_finished
+end_answer_view EndAnswer.Interrupted = request_interrupted
 
 abbrev pub ending_view : Ending → EndingData
 ending_view e = record {

@@ -8,12 +8,12 @@ use Rattle.server_rules.specs.Store.{Store}
 use Rattle.server_rules.specs.Ground.{Ground}
 use Rattle.server_rules.specs.Request.{Hand, Run}
 use Rattle.server_rules.specs.Tenant.{ActorData, Quiet, seat_of}
-use Rattle.server_rules.specs.Asking.{answer_to, spaces_after, answered, call_of, when_told}
+use Rattle.server_rules.specs.Asking.{answer_to, spaces_after, answer_outcome, call_of, when_told}
 use Rattle.server_rules.specs.Plan.{Plan}
 use Rattle.server_rules.specs.declared.actor.Actor.{Actor}
-use Rattle.ref_table.specs.Refs.{Refs, after}
+use Rattle.ref_table.specs.Refs.{Refs, refs_after}
 use Rattle.tenant_world.specs.Memories.{Remembers}
-use Rattle.tenant_refs.specs.Serving.{Table, Holds}
+use Rattle.tenant_refs.specs.Serving.{ListRefTable, ServesWithAttempts}
 use Rattle.tenant_refs.specs.declared.attempts.Attempts.{Attempts}
 use Rattle.tenant_world.specs.declared.memory.Memory.{Memory}
 
@@ -32,21 +32,21 @@ is_of_names _ = false
 abbrev pub answered_plan : Ground → Actor → ActorData → Hand → Run → AskData → Quiet → Plan
 answered_plan g a actor h run ask q = record {
   call = call_of (seat_of a) ask;
-  next = λ told. when_told told (answered g a actor h run ask q);
+  next = λ told. when_told told (answer_outcome g a actor h run ask q);
 }
 
 -- the refs told something, of which this answer is made, and all is as the rules leave it
 pub record Answers (g : Ground) (t : ℕ) (a : Actor) (q : Quiet) (ask : AskData)
-    (p : Performed Store) (m : Memory) (table : Table) (attempts : Attempts) (r : Refs)
+    (p : Performed Store) (m : Memory) (table : ListRefTable) (attempts : Attempts) (r : Refs)
     (answer : AnswerData) : Type 0 where
   pub told : AnswerData
   pub is_told : p.told ≡ Some told
   pub is : answer ≡ answer_to g a q ask told
   pub remembers : Remembers g t m (record q { spaces = spaces_after ask q.spaces })
-  pub holds : Holds table attempts p.store (after p.store r)
+  pub holds : ServesWithAttempts table attempts p.store (refs_after p.store r)
 
-abbrev pub exchanged : AskData → AnswerData → Exchanged
-exchanged ask answer = record { ask = ask; answer = answer }
+abbrev pub exchange_from : AskData → AnswerData → Exchanged
+exchange_from ask answer = record { ask = ask; answer = answer }
 
 abbrev pub run_with : Exchanged → Run → Run
 run_with x run = record run { trace = run.trace ++ x ∷ [] }

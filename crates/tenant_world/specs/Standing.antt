@@ -1,9 +1,9 @@
 -- The code stands for a tenant.
-use Rattle.std.specs.Prelude.{◌≡◌, ◌≢◌, ℕ, List}
+use Rattle.std.specs.Prelude.{◌≡◌, ◌≢◌, ℕ, List, ◌+◌, ◌<◌, length, Result, Err, OnOk, OnErr}
 use Rattle.bencode_wire.specs.Decoder as decoder
 use Rattle.server_rules.specs.Ground.{Ground}
 use Rattle.server_rules.specs.Readings.{message_limit}
-use Rattle.server_rules.specs.Numbered.{found, replaced}
+use Rattle.server_rules.specs.Numbered.{part_under, with_part}
 use Rattle.server_rules.specs.Tenant.{ActorData, Quiet, seat_of}
 use Rattle.server_rules.specs.Plan.{StepAnswer, refuses, leaves}
 use Rattle.server_rules.specs.Store.{Store}
@@ -11,7 +11,7 @@ use Rattle.server_rules.specs.declared.actor.Actor.{Actor}
 use Rattle.server_rules.specs.declared.refusal.Refusal.{Refusal}
 use Rattle.tenant_actors.specs.View.{actors_view}
 use Rattle.tenant_replies.specs.View.{waiting_bytes}
-use Rattle.tenant_turns.specs.Deeded.{Deeded}
+use Rattle.tenant_turns.specs.DeedResult.{DeedResult}
 use Rattle.tenant_world.specs.Asking.{SharesNoNames}
 use Rattle.tenant_refs.specs.Attempts.{Reaches}
 use Rattle.tenant_world.specs.Memories.{Remembers}
@@ -23,7 +23,8 @@ pub record Stands (g : Ground) (code : Tenant) (q : Quiet) (s : Store) : Type 0 
   pub names : SharesNoNames g
   pub steps : code.steps ≡ q.steps
   -- the decoder has read all that was heard, and its messages were taken
-  pub stream : decoder.Stands message_limit code.decoder q.heard (g.readings.stream q.heard).messages
+  pub stream : decoder.Stands message_limit code.decoder q.heard
+      (g.readings.stream q.heard).messages
   pub actors : actors_view code.actors ≡ q.actors
   pub remembers : Remembers g s.tenant code.memory q
   pub attempts : Reaches code.attempts s
@@ -33,27 +34,29 @@ pub record Lends (g : Ground) (a : Actor) (code : Tenant) (q : Quiet) : Type 0 w
   pub retries : code.retries ≡ g.retries
   pub names : SharesNoNames g
   pub steps : code.steps ≡ q.steps
-  pub stream : decoder.Stands message_limit code.decoder q.heard (g.readings.stream q.heard).messages
+  pub stream : decoder.Stands message_limit code.decoder q.heard
+      (g.readings.stream q.heard).messages
   pub place : ActorData
-  pub actors : actors_view code.actors ≡ replaced (seat_of a) place q.actors
+  pub actors : actors_view code.actors ≡ with_part (seat_of a) place q.actors
 
 -- the deed is accepted with this answer, and the code stands for the tenant behind it
-pub record Does (g : Ground) (d : Deeded) (code : Tenant) (answer : StepAnswer) : Type 0 where
+pub record AcceptsDeed (g : Ground) (d : DeedResult) (code : Tenant)
+    (answer : StepAnswer) : Type 0 where
   pub after : Quiet
   pub accepted : d.outcome ≡ leaves after answer
   pub stands : Stands g code after d.store
 
 -- the deed of an actor, which leaves every other actor as it was
-pub record DoesBy (g : Ground) (a : Actor) (q : Quiet) (d : Deeded) (code : Tenant)
+pub record AcceptsDeedBy (g : Ground) (a : Actor) (q : Quiet) (d : DeedResult) (code : Tenant)
     (answer : StepAnswer) : Type 0 where
   pub after : Quiet
   pub accepted : d.outcome ≡ leaves after answer
   pub stands : Stands g code after d.store
   pub others : (b : Actor) → seat_of b ≢ seat_of a
-      → found (seat_of b) after.actors ≡ found (seat_of b) q.actors
+      → part_under (seat_of b) after.actors ≡ part_under (seat_of b) q.actors
 
 -- the deed is refused so, unless for want of memory, and the code stands for the tenant as it was
-pub record Refuses (g : Ground) (q : Quiet) (s : Store) (d : Deeded) (code : Tenant)
+pub record RefusesDeed (g : Ground) (q : Quiet) (s : Store) (d : DeedResult) (code : Tenant)
     (why : Refusal) : Type 0 where
   pub refused : why ≢ Refusal.NoMemory → d.outcome ≡ refuses why
   pub stands : Stands g code q s
@@ -61,3 +64,10 @@ pub record Refuses (g : Ground) (q : Quiet) (s : Store) (d : Deeded) (code : Ten
 -- the replies that wait, oldest first, each as its bytes
 abbrev pub replies_of : Tenant → List (List ℕ)
 replies_of code = waiting_bytes code.memory.outbox
+
+-- An accepted step is used up, and a refused one is not. For replies that wait it is refused only
+-- where there are some.
+pub record CountsStep {A : Type 0} (old new : Tenant) (result : Result A Refusal) : Type 0 where
+  pub steps : OnOk result (old.steps ≡ new.steps + 1)
+  pub kept : OnErr result (new.steps ≡ old.steps)
+  pub held : result ≡ Err Refusal.Held → 0 < length (replies_of old)

@@ -1,14 +1,14 @@
 // What the steps of an actor are given and answered.
 ghost use Rattle.std.specs.Prelude.{◌≡◌};
 ghost use Rattle.tenant_world.specs.Acting.{is_interruption};
-ghost use Rattle.tenant_world.specs.Answers.{started_view, asked_view, ended_view};
+ghost use Rattle.tenant_world.specs.Answers.{start_answer_view, ask_answer_view, end_answer_view};
 
 use repl_asks::{Answer, Exchange};
 use repl_jobs::{Finished, Job};
 
 /// What comes of a start.
 #[derive(Drop)]
-pub enum Started {
+pub enum StartAnswer {
     /// A form is to be evaluated.
     Begun(Job),
     /// The request was done at once.
@@ -19,7 +19,7 @@ pub enum Started {
 
 /// What comes of an ask.
 #[derive(Drop)]
-pub enum Asked {
+pub enum AskAnswer {
     Answer(Answer),
     /// The session was closed meanwhile, and the request is answered so.
     Interrupted,
@@ -36,32 +36,32 @@ pub struct Ending<'a> {
 
 /// What comes of an ending.
 #[derive(Clone, Copy, Debug, PartialEq, Eq)]
-pub enum Ended {
+pub enum EndAnswer {
     Finished,
     /// The session was closed meanwhile, and the request is answered so.
     Interrupted,
 }
 
-impl Started {
+impl StartAnswer {
     pub(crate) fn is_interrupted(&self) -> bool
-        ensures { result ≡ is_interruption (started_view self.now) }
+        ensures { result ≡ is_interruption (start_answer_view self.now) }
     {
-        matches!(self, Started::Interrupted)
+        matches!(self, StartAnswer::Interrupted)
     }
 }
 
-impl Asked {
+impl AskAnswer {
     pub(crate) fn is_interrupted(&self) -> bool
-        ensures { result ≡ is_interruption (asked_view self.now) }
+        ensures { result ≡ is_interruption (ask_answer_view self.now) }
     {
-        matches!(self, Asked::Interrupted)
+        matches!(self, AskAnswer::Interrupted)
     }
 }
 
-impl Ended {
+impl EndAnswer {
     pub(crate) fn is_interrupted(self) -> bool
-        ensures { result ≡ is_interruption (ended_view self) }
+        ensures { result ≡ is_interruption (end_answer_view self) }
     {
-        matches!(self, Ended::Interrupted)
+        matches!(self, EndAnswer::Interrupted)
     }
 }

@@ -1,6 +1,6 @@
 // A form asks.
-ghost use Rattle.std.specs.Prelude.{◌≡◌, ◌≢◌, ◌<◌, ◌≤◌, ◌+◌, ◌∷◌, [], true, None, Some, Err};
-ghost use Rattle.std.specs.Prelude.{IfOk, OnOk, IfErr, OnErr, MatchOption, length, is_some, ℕ, IsNone};
+ghost use Rattle.std.specs.Prelude.{◌≡◌, ◌≢◌, ◌<◌, ◌≤◌, ◌+◌, ◌∷◌, [], true, None, Some, Err, IfOk};
+ghost use Rattle.std.specs.Prelude.{OnOk, IfErr, OnErr, MatchOption, is_some, IsNone};
 ghost use Rattle.repl_asks.specs.View.{ask_view, answer_view};
 ghost use Rattle.repl_replies.specs.Replies.{interrupted};
 ghost use Rattle.repl_replies.specs.View.{origin_view};
@@ -13,20 +13,19 @@ ghost use Rattle.server_rules.specs.Calls.{performed};
 ghost use Rattle.server_rules.specs.Store.{Store, left_attempt};
 ghost use Rattle.server_rules.specs.Asking.{asked_of, call_of};
 ghost use Rattle.server_rules.specs.Asking as meant;
-ghost use Rattle.ref_table.specs.Refs.{Refs, after};
+ghost use Rattle.ref_table.specs.Refs.{Refs, refs_after};
 ghost use Rattle.ref_table.specs.Standing.{counter_of};
 ghost use Rattle.tenant_actors.specs.View.{actor_view};
-ghost use Rattle.tenant_replies.specs.View.{waiting_bytes};
-ghost use Rattle.tenant_turns.specs.Deeded.{carried_out};
+ghost use Rattle.tenant_turns.specs.DeedResult.{carried_out};
 ghost use Rattle.tenant_world.specs.Memories.{Remembers, opened_by};
-ghost use Rattle.tenant_world.specs.Answers.{asked_view};
-ghost use Rattle.tenant_world.specs.Acting.{Acted, Declined};
+ghost use Rattle.tenant_world.specs.Answers.{ask_answer_view};
+ghost use Rattle.tenant_world.specs.Acting.{AcceptsOutcome, RefusesOutcome, IsActorStep};
 ghost use Rattle.tenant_world.specs.Asking.{SharesNoNames, Answers, answered_plan, is_of_names};
-ghost use Rattle.tenant_refs.specs.Serving.{Holds};
+ghost use Rattle.tenant_refs.specs.Serving.{ServesWithAttempts};
 ghost use Rattle.tenant_refs.specs.Twice.{twice_view, AreTwice};
 
 use crate::acting::interrupt;
-use crate::answers::Asked;
+use crate::answers::AskAnswer;
 use crate::keeping::{keep, make_room};
 use crate::memory::Memory;
 use crate::naming::name;
@@ -51,24 +50,24 @@ pub(crate) fn ask(
     actor: Actor,
     state: &mut ActorState,
     ask: &Ask,
-) -> Result<Asked, Refusal>
+) -> Result<AskAnswer, Refusal>
     requires { counter_of refs.old < u128.MAX }
     ensures acted { (g : Ground) (q : Quiet) (s : Store) (r : Refs) → SharesNoNames g
-        → Remembers g s.tenant memory.old q → Holds refs.old attempts.old s r
+        → Remembers g s.tenant memory.old q → ServesWithAttempts refs.old attempts.old s r
         → let d = carried_out s (asked_of g actor (actor_view state.old) (ask_view ask.now) q
         (actor_view state.old).hand) in IfOk result (λ x.
-        Acted g s.tenant actor q d.outcome memory.new (actor_view state.new) (asked_view x)
-        × Holds refs.new attempts.new d.store (after d.store r)) }
+        AcceptsOutcome g s.tenant actor q d.outcome memory.new (actor_view state.new) (ask_answer_view x)
+        × ServesWithAttempts refs.new attempts.new d.store (refs_after d.store r)) }
     ensures declined { (g : Ground) (q : Quiet) (s : Store) (r : Refs) → SharesNoNames g
-        → Remembers g s.tenant memory.old q → Holds refs.old attempts.old s r
+        → Remembers g s.tenant memory.old q → ServesWithAttempts refs.old attempts.old s r
         → let d = carried_out s (asked_of g actor (actor_view state.old) (ask_view ask.now) q
         (actor_view state.old).hand) in IfErr result (λ why.
-        Declined g s.tenant q d.outcome memory.new why × Holds refs.new attempts.new s r) }
-    ensures stays { OnErr result (actor_view state.new ≡ actor_view state.old) }
-    ensures opened { opened_by memory.new ≡ opened_by memory.old }
+        RefusesOutcome g s.tenant q d.outcome memory.new why
+        × ServesWithAttempts refs.new attempts.new s r) }
+    ensures step { IsActorStep memory.old memory.new (actor_view state.old) (actor_view state.new)
+        result }
     ensures counter { counter_of refs.new ≤ counter_of refs.old + 1 }
     ensures failed { OnErr result (counter_of refs.new ≡ counter_of refs.old) }
-    ensures held { result ≡ Err Refusal.Held → 0 < length (waiting_bytes memory.old.outbox) }
 {
     let Some(hand) = &state.hand else {
         return Err(Refusal::Idle);
@@ -81,10 +80,10 @@ pub(crate) fn ask(
     }
     if state.is_closed {
         give_up(alloc, memory, refs, attempts, actor, &hand.origin, ask)?;
-        return Ok(Asked::Interrupted);
+        return Ok(AskAnswer::Interrupted);
     }
     let answer = answer(alloc, memory, refs, attempts, actor, state, ask)?;
-    Ok(Asked::Answer(answer))
+    Ok(AskAnswer::Answer(answer))
 }
 
 // Whether the ask breaks no rule of its own: nothing is defined in a namespace that is fixed, nor
@@ -127,18 +126,18 @@ fn give_up(
     ask: &Ask,
 ) -> Result<(), Refusal>
     ensures gone { (g : Ground) (q : Quiet) (s : Store) (r : Refs)
-        → Remembers g s.tenant memory.old q → Holds refs.now attempts.old s r
+        → Remembers g s.tenant memory.old q → ServesWithAttempts refs.now attempts.old s r
         → OnOk result
         ((is_some (performed s (call_of (seat_of actor) (ask_view ask.now))).told ≡ true)
         × Remembers g s.tenant memory.new
         (with_replies (reply (origin_view origin.now) interrupted ∷ []) q)
-        × Holds refs.now attempts.new (left_attempt (seat_of actor) s)
-        (after (left_attempt (seat_of actor) s) r)) }
+        × ServesWithAttempts refs.now attempts.new (left_attempt (seat_of actor) s)
+        (refs_after (left_attempt (seat_of actor) s) r)) }
     ensures stays { (g : Ground) (q : Quiet) (s : Store) (r : Refs)
-        → Remembers g s.tenant memory.old q → Holds refs.now attempts.old s r
+        → Remembers g s.tenant memory.old q → ServesWithAttempts refs.now attempts.old s r
         → IfErr result (λ why. (why ≢ Refusal.NoMemory → (why ≡ Refusal.Idle)
         × ((performed s (call_of (seat_of actor) (ask_view ask.now))).told ≡ None))
-        × Remembers g s.tenant memory.new q × Holds refs.now attempts.new s r) }
+        × Remembers g s.tenant memory.new q × ServesWithAttempts refs.now attempts.new s r) }
     ensures opened { opened_by memory.new ≡ opened_by memory.old }
     ensures free { result ≢ Err Refusal.Held }
 {
@@ -163,18 +162,20 @@ fn answer(
     requires { counter_of refs.old < u128.MAX }
     ensures acted { (g : Ground) (q : Quiet) (s : Store) (r : Refs) (h : rules.Hand)
         (run : rules.Run) → SharesNoNames g → Remembers g s.tenant memory.old q
-        → Holds refs.old attempts.old s r → meant.is_allowed (ask_view ask.now) ≡ true
+        → ServesWithAttempts refs.old attempts.old s r → meant.is_allowed (ask_view ask.now) ≡ true
         → (actor_view state.old).hand ≡ Some h → h.running ≡ Some run
         → let d = carried_out s (answered_plan g actor (actor_view state.old) h run
-        (ask_view ask.now) q) in IfOk result (λ x. Acted g s.tenant actor q d.outcome memory.new
+        (ask_view ask.now) q) in IfOk result
+        (λ x. AcceptsOutcome g s.tenant actor q d.outcome memory.new
         (actor_view state.new) (ask_answered (answer_view x))
-        × Holds refs.new attempts.new d.store (after d.store r)) }
+        × ServesWithAttempts refs.new attempts.new d.store (refs_after d.store r)) }
     ensures declined { (g : Ground) (q : Quiet) (s : Store) (r : Refs) (h : rules.Hand)
         (run : rules.Run) → SharesNoNames g → Remembers g s.tenant memory.old q
-        → Holds refs.old attempts.old s r → meant.is_allowed (ask_view ask.now) ≡ true
+        → ServesWithAttempts refs.old attempts.old s r → meant.is_allowed (ask_view ask.now) ≡ true
         → let d = carried_out s (answered_plan g actor (actor_view state.old) h run
         (ask_view ask.now) q) in IfErr result (λ why.
-        Declined g s.tenant q d.outcome memory.new why × Holds refs.new attempts.new s r) }
+        RefusesOutcome g s.tenant q d.outcome memory.new why
+        × ServesWithAttempts refs.new attempts.new s r) }
     ensures stays { OnErr result (actor_view state.new ≡ actor_view state.old) }
     ensures opened { opened_by memory.new ≡ opened_by memory.old }
     ensures counter { counter_of refs.new ≤ counter_of refs.old + 1 }
@@ -183,7 +184,7 @@ fn answer(
 {
     let asked = ask.copy()?;
     make_room(state)?;
-    let Some(answer) = told(alloc, memory, refs, attempts, actor, ask)? else {
+    let Some(answer) = perform_ask(alloc, memory, refs, attempts, actor, ask)? else {
         return Err(Refusal::Idle);
     };
     let Twice { kept, given } = answer;
@@ -199,7 +200,7 @@ fn answer(
 
 // What the answer is, if anything is told, and whatever is asked is done. It fails only for want of
 // memory; then, and where nothing is told, nothing has changed.
-fn told(
+fn perform_ask(
     alloc: Global,
     memory: &mut Memory,
     refs: &mut RefTable<ListHistory>,
@@ -209,16 +210,18 @@ fn told(
 ) -> Result<Option<Twice>, AllocError>
     requires { counter_of refs.old < u128.MAX }
     ensures answered { (g : Ground) (q : Quiet) (s : Store) (r : Refs) → SharesNoNames g
-        → Remembers g s.tenant memory.old q → Holds refs.old attempts.old s r
+        → Remembers g s.tenant memory.old q → ServesWithAttempts refs.old attempts.old s r
         → meant.is_allowed (ask_view ask.now) ≡ true
         → let p = performed s (call_of (seat_of actor) (ask_view ask.now)) in
         IfOk result (λ it. MatchOption it
-        ((p.told ≡ None) × Remembers g s.tenant memory.new q × Holds refs.new attempts.new s r)
+        ((p.told ≡ None) × Remembers g s.tenant memory.new q
+        × ServesWithAttempts refs.new attempts.new s r)
         (λ answer. Answers g s.tenant actor q (ask_view ask.now) p memory.new refs.new attempts.new
         r (twice_view answer))) }
     ensures stays { (g : Ground) (q : Quiet) (s : Store) (r : Refs)
-        → Remembers g s.tenant memory.old q → Holds refs.old attempts.old s r
-        → OnErr result (Remembers g s.tenant memory.new q × Holds refs.new attempts.new s r) }
+        → Remembers g s.tenant memory.old q → ServesWithAttempts refs.old attempts.old s r
+        → OnErr result (Remembers g s.tenant memory.new q
+        × ServesWithAttempts refs.new attempts.new s r) }
     ensures opened { opened_by memory.new ≡ opened_by memory.old }
     ensures counter { counter_of refs.new ≤ counter_of refs.old + 1 }
     ensures untold { IfOk result (λ it. IsNone it → counter_of refs.new ≡ counter_of refs.old) }

@@ -1,6 +1,7 @@
 // An evaluation comes back at its end.
-ghost use Rattle.std.specs.Prelude.{◌≡◌, ◌≢◌, ℕ, Some, IfOk, OnOk, IfErr, OnErr, ◌<◌, length};
-ghost use Rattle.std.specs.Prelude.{Err};
+ghost use Rattle.std.specs.Prelude.{◌≡◌, ◌≢◌, ℕ, Some, IfOk, OnOk, IfErr, OnErr, ◌<◌, Err};
+ghost use Rattle.std.specs.Prelude.{option_map};
+ghost use Rattle.repl_jobs.specs.View.{finished_view};
 ghost use Rattle.server_rules.specs.Ground.{Ground};
 ghost use Rattle.server_rules.specs.Request as rules;
 ghost use Rattle.server_rules.specs.Store.{Store};
@@ -8,23 +9,25 @@ ghost use Rattle.server_rules.specs.Tenant.{Quiet};
 ghost use Rattle.server_rules.specs.Ending.{end_of, end_accepted};
 ghost use Rattle.tenant_actors.specs.View.{actor_view, run_view};
 ghost use Rattle.tenant_turns.specs.Grounds.{IsRight};
-ghost use Rattle.tenant_turns.specs.Deeded.{carried_out};
-ghost use Rattle.tenant_replies.specs.View.{waiting_bytes};
+ghost use Rattle.tenant_turns.specs.DeedResult.{carried_out};
 ghost use Rattle.tenant_world.specs.Memories.{Remembers, opened_by};
-ghost use Rattle.tenant_world.specs.Answers.{ended_view, ending_view};
+ghost use Rattle.tenant_world.specs.Answers.{end_answer_view, ending_view};
 ghost use Rattle.tenant_refs.specs.Attempts.{Reaches};
-ghost use Rattle.tenant_world.specs.Acting.{Acted, Declined};
-ghost use Rattle.tenant_world.specs.Comparing.{difference, refusal_in};
+ghost use Rattle.tenant_world.specs.Acting.{AcceptsOutcome, RefusesOutcome, IsActorStep};
+ghost use Rattle.tenant_world.specs.Comparing.{ending_refusal, refusal_in, compared_run};
+ghost use Rattle.tenant_world.specs.Comparing.{PassesComparison, FailsComparison};
 ghost use Rattle.server_rules.specs.Plan.{form_finished};
+ghost use Rattle.repl_jobs.specs.Job.{EndingData};
 ghost use Rattle.tenant_moves.specs.Endings.{hand_after};
 
 use crate::acting::interrupt;
-use crate::answers::{Ended, Ending};
+use crate::answers::{EndAnswer, Ending};
 use crate::memory::Memory;
+use repl_jobs::Finished;
 use server_rules::{Actor, Refusal};
 use std::alloc::{AllocError, Global};
 use tenant_actors::{ActorState, Run};
-use tenant_moves::{After, form_ended, go_on};
+use tenant_moves::{After, form_end, go_on};
 use tenant_refs::Attempts;
 use trace_comparison::laws::{equal_traces_differ_nowhere, first_difference_is_unique};
 use trace_comparison::{first_difference, same_job};
@@ -37,40 +40,93 @@ pub(crate) fn end(
     actor: Actor,
     state: &mut ActorState,
     ending: &Ending<'_>,
-) -> Result<Ended, Refusal>
+) -> Result<EndAnswer, Refusal>
     ensures acted { (g : Ground) (q : Quiet) (s : Store) → IsRight g
         → Remembers g s.tenant memory.old q → Reaches attempts.old s
         → let d = carried_out s (end_of g actor (actor_view state.old) (ending_view ending.now) q
         (actor_view state.old).hand) in IfOk result (λ x.
-        Acted g s.tenant actor q d.outcome memory.new (actor_view state.new) (ended_view x)
+        AcceptsOutcome g s.tenant actor q d.outcome memory.new (actor_view state.new) (end_answer_view x)
         × Reaches attempts.new d.store) }
     ensures declined { (g : Ground) (q : Quiet) (s : Store) → IsRight g
         → Remembers g s.tenant memory.old q → Reaches attempts.old s
         → let d = carried_out s (end_of g actor (actor_view state.old) (ending_view ending.now) q
         (actor_view state.old).hand) in IfErr result (λ why.
-        Declined g s.tenant q d.outcome memory.new why × Reaches attempts.new s) }
-    ensures stays { OnErr result (actor_view state.new ≡ actor_view state.old) }
-    ensures opened { opened_by memory.new ≡ opened_by memory.old }
-    ensures held { result ≡ Err Refusal.Held → 0 < length (waiting_bytes memory.old.outbox) }
+        RefusesOutcome g s.tenant q d.outcome memory.new why × Reaches attempts.new s) }
+    ensures step { IsActorStep memory.old memory.new (actor_view state.old) (actor_view state.new)
+        result }
+{
+    compare_if_due(memory, state, ending)?;
+    finish(alloc, memory, attempts, actor, state, ending.finished)
+}
+
+/// The form of the actor that runs has ended so, by the job and the trace that are kept of it;
+/// nothing is compared. Where it is refused nothing has changed.
+pub(crate) fn finish(
+    alloc: Global,
+    memory: &mut Memory,
+    attempts: &mut Attempts,
+    actor: Actor,
+    state: &mut ActorState,
+    finished: &Finished,
+) -> Result<EndAnswer, Refusal>
+    ensures acted { (g : Ground) (q : Quiet) (s : Store) (e : EndingData)
+        → e.end ≡ finished_view finished.now → PassesComparison g (actor_view state.old) q e
+        → Remembers g s.tenant memory.old q → Reaches attempts.old s
+        → let d = carried_out s (end_of g actor (actor_view state.old) e q
+        (actor_view state.old).hand) in IfOk result (λ x.
+        AcceptsOutcome g s.tenant actor q d.outcome memory.new (actor_view state.new) (end_answer_view x)
+        × Reaches attempts.new d.store) }
+    ensures declined { (g : Ground) (q : Quiet) (s : Store) (e : EndingData)
+        → Remembers g s.tenant memory.old q → Reaches attempts.old s
+        → let d = carried_out s (end_of g actor (actor_view state.old) e q
+        (actor_view state.old).hand) in IfErr result (λ why.
+        RefusesOutcome g s.tenant q d.outcome memory.new why × Reaches attempts.new s) }
+    ensures step { IsActorStep memory.old memory.new (actor_view state.old) (actor_view state.new)
+        result }
 {
     let Some(hand) = &state.hand else {
         return Err(Refusal::Idle);
     };
-    let Some(run) = &hand.running else {
+    let Some(_run) = &hand.running else {
         return Err(Refusal::Idle);
     };
     if state.is_closed {
         interrupt(alloc, memory, &hand.origin)?;
         attempts.leave(actor);
-        return Ok(Ended::Interrupted);
+        return Ok(EndAnswer::Interrupted);
     }
     if memory.outbox.is_held() {
         return Err(Refusal::Held);
     }
-    compare(run, ending)?;
-    accept(alloc, memory, actor, state, ending)?;
+    accept(alloc, memory, actor, state, finished)?;
     attempts.leave(actor);
-    Ok(Ended::Finished)
+    Ok(EndAnswer::Finished)
+}
+
+// Whether the ending may be that of the form that runs. Where the form's end is interrupted or held
+// back whatever it is, nothing is compared.
+fn compare_if_due(memory: &Memory, state: &ActorState, ending: &Ending<'_>) -> Result<(), Refusal>
+    ensures free { IfErr result (λ why. why ≢ Refusal.Held) }
+    ensures passed { (g : Ground) (t : ℕ) (q : Quiet) → IsRight g → Remembers g t memory.now q
+        → OnOk result (PassesComparison g (actor_view state.now) q (ending_view ending.now)) }
+    ensures failed { (g : Ground) (t : ℕ) (q : Quiet) → IsRight g → Remembers g t memory.now q
+        → IfErr result (FailsComparison g (actor_view state.now) q (ending_view ending.now)) }
+{
+    match run_to_compare(memory, state) {
+        Some(run) => compare(run, ending),
+        None => Ok(()),
+    }
+}
+
+// The form that runs, unless its end is interrupted or held back whatever it is.
+fn run_to_compare<'a>(memory: &Memory, state: &'a ActorState) -> Option<&'a Run>
+    ensures { (g : Ground) (t : ℕ) (q : Quiet) → Remembers g t memory.now q
+        → option_map (λ run. run_view run.now) result ≡ compared_run (actor_view state.now) q }
+{
+    if state.is_closed || memory.outbox.is_held() {
+        return None;
+    }
+    state.hand.as_ref()?.running.as_ref()
 }
 
 // Whether the ending is of the form that runs: its job is that job, and its trace the one that was
@@ -78,7 +134,7 @@ pub(crate) fn end(
 fn compare(run: &Run, ending: &Ending<'_>) -> Result<(), Refusal>
     ensures free { IfErr result (λ why. why ≢ Refusal.Held) }
     ensures told { (g : Ground) → IsRight g
-        → refusal_in result ≡ difference g (run_view run.now) (ending_view ending.now) }
+        → refusal_in result ≡ ending_refusal g (run_view run.now) (ending_view ending.now) }
 {
     first_difference_is_unique();
     equal_traces_differ_nowhere();
@@ -97,12 +153,13 @@ fn accept(
     memory: &mut Memory,
     actor: Actor,
     state: &mut ActorState,
-    ending: &Ending<'_>,
+    finished: &Finished,
 ) -> Result<(), AllocError>
-    ensures acted { (g : Ground) (q : Quiet) (s : Store) (h : rules.Hand)
+    ensures acted { (g : Ground) (q : Quiet) (s : Store) (h : rules.Hand) (e : EndingData)
+        → e.end ≡ finished_view finished.now
         → Remembers g s.tenant memory.old q → (actor_view state.old).hand ≡ Some h
-        → OnOk result (Acted g s.tenant actor q (carried_out s (end_accepted actor
-        (actor_view state.old) h (ending_view ending.now) q)).outcome memory.new
+        → OnOk result (AcceptsOutcome g s.tenant actor q (carried_out s (end_accepted actor
+        (actor_view state.old) h e q)).outcome memory.new
         (actor_view state.new) form_finished) }
     ensures stays { (g : Ground) (t : ℕ) (q : Quiet) → Remembers g t memory.old q
         → OnErr result (Remembers g t memory.new q) }
@@ -113,8 +170,8 @@ fn accept(
     let Some(hand) = &state.hand else {
         return Ok(());
     };
-    let (news, after) = form_ended(alloc, hand, ending.finished, session)?;
-    memory.take_news(actor, news)?;
+    let (news, after) = form_end(alloc, hand, finished, session)?;
+    memory.post_news(actor, news)?;
     put_after(state, after);
     Ok(())
 }

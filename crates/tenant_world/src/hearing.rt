@@ -6,7 +6,7 @@ ghost use Rattle.server_rules.specs.Plan as deeds;
 ghost use Rattle.server_rules.specs.Store.{Store};
 ghost use Rattle.server_rules.specs.Plan.{messages_heard};
 ghost use Rattle.tenant_turns.specs.Grounds.{IsRight};
-ghost use Rattle.tenant_turns.specs.Deeded.{deeded};
+ghost use Rattle.tenant_turns.specs.DeedResult.{deed_result};
 
 use crate::tenant::Tenant;
 use bencode_wire::laws::a_stream_has_one_reading;
@@ -15,16 +15,18 @@ use server_rules::Refusal;
 use tenant_hearing::hear;
 
 impl Tenant {
-    ghost use Rattle.tenant_world.specs.Standing.{Stands, Does, Refuses};
+    ghost use Rattle.tenant_world.specs.Standing.{Stands, AcceptsDeed, RefusesDeed};
 
     /// Hears the next piece of the stream, and answers how many messages became whole with it.
     /// Sessions are made, closed, listed and described at once; requests to evaluate wait.
     pub fn hear(&mut self, piece: &Bytes) -> Result<usize, Refusal>
         ensures done { (g : Ground) (q : Quiet) (s : Store) → IsRight g → Stands g self.old q s
-            → IfOk result (λ count. Does g (deeded g s q (deeds.hears piece.now)) self.new
+            → IfOk result (λ count. AcceptsDeed g
+            (deed_result g s q (deeds.hears piece.now)) self.new
             (messages_heard count)) }
         ensures refused { (g : Ground) (q : Quiet) (s : Store) → IsRight g → Stands g self.old q s
-            → IfErr result (Refuses g q s (deeded g s q (deeds.hears piece.now)) self.new) }
+            → IfErr result (RefusesDeed g q s
+            (deed_result g s q (deeds.hears piece.now)) self.new) }
         ensures steps { OnOk result (self.old.steps ≡ self.new.steps + 1) }
         ensures kept { OnErr result (self.new.steps ≡ self.old.steps) }
     {

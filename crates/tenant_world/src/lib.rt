@@ -14,5 +14,5 @@ mod starting;
 mod steps;
 mod tenant;
 
-pub use answers::{Asked, Ended, Ending, Started};
+pub use answers::{AskAnswer, EndAnswer, Ending, StartAnswer};
 pub use tenant::Tenant;

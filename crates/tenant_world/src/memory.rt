@@ -80,9 +80,9 @@ impl Memory {
         self.outbox.post(batch)
     }
 
-    /// Lets the replies to a request wait, and puts the state in that its session then has. It fails
-    /// only for want of memory, and then changes nothing.
-    pub(crate) fn take_news(&mut self, actor: Actor, news: News) -> Result<(), AllocError>
+    /// Lets the replies to a request wait, and puts the state in that its session then has. It
+    /// fails only for want of memory, and then changes nothing.
+    pub(crate) fn post_news(&mut self, actor: Actor, news: News) -> Result<(), AllocError>
         ensures taken { (g : Ground) (t : ℕ) (q : Quiet) (m : Move) → Remembers g t self.old q
             → Tells m news → OnOk result (Remembers g t self.new
             (with_replies m.replies (with_state actor m.state q))) }

@@ -8,7 +8,7 @@ ghost use Rattle.server_rules.specs.Plan.{reply_given};
 ghost use Rattle.tenant_actors.specs.View.{run_view};
 ghost use Rattle.tenant_turns.specs.Grounds.{IsRight};
 ghost use Rattle.server_rules.specs.Store.{Store};
-ghost use Rattle.tenant_turns.specs.Deeded.{deeded};
+ghost use Rattle.tenant_turns.specs.DeedResult.{deed_result};
 ghost use Rattle.tenant_turns.specs.Turns.{Lone, actors_of, wire_at};
 ghost use Rattle.tenant_world.specs.Asking.{SharesNoNames};
 ghost use Rattle.tenant_world.specs.Running.{running_in};
@@ -19,18 +19,15 @@ use bencode_wire::Decoder;
 use bencode_wire::laws::a_stream_has_one_reading;
 use name_spaces::Spaces;
 use repl_sessions::{IdStream, SessionState, Sessions};
-use server_rules::{Actor, Refusal};
+use server_rules::{Actor, MESSAGE_LIMIT, Refusal};
 use std::alloc::{AllocError, Global};
 use tenant_actors::{Actors, Run};
 use tenant_refs::Attempts;
 use tenant_replies::Outbox;
 use tenant_turns::Wire;
 
-// The greatest length of a message, and of a string in one.
-const MESSAGE_LIMIT: usize = 1_048_576;
-
 impl Tenant {
-    ghost use Rattle.tenant_world.specs.Standing.{Stands, Does, Refuses, replies_of};
+    ghost use Rattle.tenant_world.specs.Standing.{Stands, AcceptsDeed, RefusesDeed, replies_of};
 
     /// A tenant that has heard nothing. Its number chooses the ids of its sessions, under the
     /// server's seed. It fails only for want of memory.
@@ -71,8 +68,9 @@ impl Tenant {
             (λ reply. replies_of self.old ≡ reply.items ∷ replies_of self.new) }
         ensures drained { (g : Ground) (q : Quiet) (s : Store) → Stands g self.old q s
             → MatchOption result
-            (Refuses g q s (deeded g s q deeds.drains) self.new Refusal.Idle)
-            (λ reply. Does g (deeded g s q deeds.drains) self.new (reply_given reply.items)) }
+            (RefusesDeed g q s (deed_result g s q deeds.drains) self.new Refusal.Idle)
+            (λ reply. AcceptsDeed g (deed_result g s q deeds.drains) self.new
+            (reply_given reply.items)) }
     {
         self.memory.outbox.take()
     }

@@ -1,50 +1,53 @@
 // The steps of a tenant's actors.
-ghost use Rattle.std.specs.Prelude.{◌≡◌, ◌≢◌, ◌+◌, ◌<◌, ◌≤◌, true, Some, Err, length};
-ghost use Rattle.std.specs.Prelude.{IfOk, OnOk, IfErr, OnErr};
+ghost use Rattle.std.specs.Prelude.{◌≡◌, ◌≢◌, ◌+◌, ◌<◌, ◌≤◌, true, Some, Err, IfOk, IfErr, OnErr};
 ghost use Rattle.repl_asks.specs.View.{ask_view};
+ghost use Rattle.repl_jobs.specs.View.{finished_view};
 ghost use Rattle.server_rules.specs.Ground.{Ground};
 ghost use Rattle.server_rules.specs.Store.{Store};
 ghost use Rattle.server_rules.specs.Tenant.{ActorData, Quiet, seat_of};
 ghost use Rattle.server_rules.specs.Plan as deeds;
-ghost use Rattle.server_rules.specs.Plan.{Plan, spent};
+ghost use Rattle.server_rules.specs.Plan.{Plan, with_step_spent};
+ghost use Rattle.repl_jobs.specs.Job.{EndingData};
 ghost use Rattle.server_rules.specs.Deeds.{for_actor, unless_worn};
-ghost use Rattle.server_rules.specs.Numbered.{found};
-ghost use Rattle.ref_table.specs.Refs.{Refs, after as refs_after};
+ghost use Rattle.server_rules.specs.Numbered.{part_under};
+ghost use Rattle.ref_table.specs.Refs.{Refs, refs_after};
 ghost use Rattle.ref_table.specs.Standing.{counter_of};
 ghost use Rattle.tenant_actors.specs.View.{actor_view, actors_view};
-ghost use Rattle.tenant_turns.specs.Deeded.{carried_out, deeded};
+ghost use Rattle.tenant_turns.specs.DeedResult.{carried_out, deed_result};
 ghost use Rattle.tenant_turns.specs.Grounds.{IsRight};
-ghost use Rattle.tenant_world.specs.Answers.{started_view, asked_view, ended_view, ending_view};
-ghost use Rattle.tenant_world.specs.Acting.{left_by};
+ghost use Rattle.tenant_world.specs.Answers.{start_answer_view, ask_answer_view, end_answer_view};
+ghost use Rattle.tenant_world.specs.Answers.{ending_view};
+ghost use Rattle.tenant_world.specs.Acting.{actors_after};
 ghost use Rattle.tenant_refs.specs.Attempts.{Reaches};
 ghost use Rattle.tenant_world.specs.Memories.{Remembers};
-ghost use Rattle.tenant_refs.specs.Serving.{Serves};
+ghost use Rattle.tenant_world.specs.Running.{IsEndOfForm, running_in};
+ghost use Rattle.tenant_refs.specs.Serving.{TableServes};
 
-use crate::answers::{Asked, Ended, Ending, Started};
+use crate::answers::{AskAnswer, EndAnswer, Ending, StartAnswer};
 use crate::asking::ask;
-use crate::ending::end;
+use crate::ending::{end, finish};
 use crate::starting::start;
 use crate::tenant::Tenant;
 use ref_history::ListHistory;
 use ref_table::RefTable;
 use repl_asks::Ask;
+use repl_jobs::Finished;
 use server_rules::{Actor, Refusal};
 use tenant_actors::{ActorState, Actors};
 
 impl Tenant {
-    ghost use Rattle.tenant_world.specs.Standing.{Stands, Lends, Refuses, replies_of};
-    ghost use Rattle.tenant_world.specs.Standing.{DoesBy};
+    ghost use Rattle.tenant_world.specs.Standing.{Stands, Lends, RefusesDeed, replies_of};
+    ghost use Rattle.tenant_world.specs.Standing.{CountsStep, AcceptsDeedBy};
 
     /// The actor begins its next form, or takes up its next request.
-    pub fn start(&mut self, actor: Actor) -> Result<Started, Refusal>
+    pub fn start(&mut self, actor: Actor) -> Result<StartAnswer, Refusal>
         ensures done { (g : Ground) (q : Quiet) (s : Store) → IsRight g → Stands g self.old q s
-            → IfOk result (λ x. DoesBy g actor q (deeded g s q (deeds.starts actor)) self.new
-            (started_view x)) }
+            → IfOk result (λ x. AcceptsDeedBy g actor q
+            (deed_result g s q (deeds.starts actor)) self.new
+            (start_answer_view x)) }
         ensures refused { (g : Ground) (q : Quiet) (s : Store) → IsRight g → Stands g self.old q s
-            → IfErr result (Refuses g q s (deeded g s q (deeds.starts actor)) self.new) }
-        ensures steps { OnOk result (self.old.steps ≡ self.new.steps + 1) }
-        ensures kept { OnErr result (self.new.steps ≡ self.old.steps) }
-        ensures held { result ≡ Err Refusal.Held → 0 < length (replies_of self.old) }
+            → IfErr result (RefusesDeed g q s (deed_result g s q (deeds.starts actor)) self.new) }
+        ensures counted { CountsStep self.old self.new result }
     {
         if self.is_idle(actor) {
             return Err(Refusal::Idle);
@@ -75,22 +78,20 @@ impl Tenant {
         refs: &mut RefTable<ListHistory>,
         actor: Actor,
         asked: &Ask,
-    ) -> Result<Asked, Refusal>
+    ) -> Result<AskAnswer, Refusal>
         requires { counter_of refs.old < u128.MAX }
         ensures done { (g : Ground) (q : Quiet) (s : Store) (r : Refs) → IsRight g
-            → Stands g self.old q s → Serves refs.old s r
-            → let d = deeded g s q (deeds.asks_for actor (ask_view asked.now)) in
-            IfOk result (λ x. DoesBy g actor q d self.new (asked_view x)
-            × Serves refs.new d.store (refs_after d.store r)) }
+            → Stands g self.old q s → TableServes refs.old s r
+            → let d = deed_result g s q (deeds.asks_for actor (ask_view asked.now)) in
+            IfOk result (λ x. AcceptsDeedBy g actor q d self.new (ask_answer_view x)
+            × TableServes refs.new d.store (refs_after d.store r)) }
         ensures refused { (g : Ground) (q : Quiet) (s : Store) (r : Refs) → IsRight g
-            → Stands g self.old q s → Serves refs.old s r
-            → let d = deeded g s q (deeds.asks_for actor (ask_view asked.now)) in
-            IfErr result (λ why. Refuses g q s d self.new why × Serves refs.new s r) }
-        ensures steps { OnOk result (self.old.steps ≡ self.new.steps + 1) }
-        ensures kept { OnErr result (self.new.steps ≡ self.old.steps) }
+            → Stands g self.old q s → TableServes refs.old s r
+            → let d = deed_result g s q (deeds.asks_for actor (ask_view asked.now)) in
+            IfErr result (λ why. RefusesDeed g q s d self.new why × TableServes refs.new s r) }
+        ensures counted { CountsStep self.old self.new result }
         ensures counter { counter_of refs.new ≤ counter_of refs.old + 1 }
         ensures failed { OnErr result (counter_of refs.new ≡ counter_of refs.old) }
-        ensures held { result ≡ Err Refusal.Held → 0 < length (replies_of self.old) }
     {
         let mut state = self.lend(actor)?;
         match ask(
@@ -114,16 +115,16 @@ impl Tenant {
     }
 
     /// The form of the actor that runs has ended so.
-    pub fn end_form(&mut self, actor: Actor, ending: &Ending<'_>) -> Result<Ended, Refusal>
+    pub fn end_form(&mut self, actor: Actor, ending: &Ending<'_>) -> Result<EndAnswer, Refusal>
         ensures done { (g : Ground) (q : Quiet) (s : Store) → IsRight g → Stands g self.old q s
-            → IfOk result (λ x. DoesBy g actor q
-            (deeded g s q (deeds.ends actor (ending_view ending.now))) self.new (ended_view x)) }
+            → IfOk result (λ x. AcceptsDeedBy g actor q
+            (deed_result g s q (deeds.ends actor (ending_view ending.now))) self.new
+            (end_answer_view x)) }
         ensures refused { (g : Ground) (q : Quiet) (s : Store) → IsRight g → Stands g self.old q s
-            → IfErr result (Refuses g q s (deeded g s q (deeds.ends actor (ending_view ending.now)))
+            → IfErr result (RefusesDeed g q s
+            (deed_result g s q (deeds.ends actor (ending_view ending.now)))
             self.new) }
-        ensures steps { OnOk result (self.old.steps ≡ self.new.steps + 1) }
-        ensures kept { OnErr result (self.new.steps ≡ self.old.steps) }
-        ensures held { result ≡ Err Refusal.Held → 0 < length (replies_of self.old) }
+        ensures counted { CountsStep self.old self.new result }
     {
         let mut state = self.lend(actor)?;
         match end(
@@ -145,11 +146,45 @@ impl Tenant {
         }
     }
 
-    // Whether the actor is there with nothing to begin, and steps are left. Its start is refused then,
-    // as most are that go round the actors; so it is found out before the state is taken out.
+    /// The form of the actor that runs is finished so, by the job and the trace that are kept of
+    /// it. Nothing is compared: it takes as long for a long trace as for a short one.
+    pub fn finish(&mut self, actor: Actor, finished: &Finished) -> Result<EndAnswer, Refusal>
+        ensures done { (g : Ground) (q : Quiet) (s : Store) (e : EndingData) → IsRight g
+            → Stands g self.old q s → IsEndOfForm (running_in actor q)
+            (finished_view finished.now) e
+            → IfOk result (λ x. AcceptsDeedBy g actor q (deed_result g s q (deeds.ends actor e))
+            self.new (end_answer_view x)) }
+        ensures refused { (g : Ground) (q : Quiet) (s : Store) (e : EndingData) → IsRight g
+            → Stands g self.old q s → IsEndOfForm (running_in actor q)
+            (finished_view finished.now) e
+            → IfErr result (RefusesDeed g q s (deed_result g s q (deeds.ends actor e)) self.new) }
+        ensures counted { CountsStep self.old self.new result }
+    {
+        let mut state = self.lend(actor)?;
+        match finish(
+            self.alloc,
+            &mut self.memory,
+            &mut self.attempts,
+            actor,
+            &mut state,
+            finished,
+        ) {
+            Ok(ended) => {
+                self.settle(actor, state, ended.is_interrupted());
+                Ok(ended)
+            }
+            Err(why) => {
+                self.restore(actor, state);
+                Err(why)
+            }
+        }
+    }
+
+    // Whether the actor is there with nothing to begin, and steps are left. Its start is refused
+    // then, as most are that go round the actors; so it is found out before the state is taken out.
     fn is_idle(&self, actor: Actor) -> bool
         ensures { result ≡ true → (g : Ground) (q : Quiet) (s : Store) → Stands g self.now q s
-            → (deeded g s q (deeds.starts actor)).outcome ≡ deeds.refuses Refusal.Idle }
+            → (deed_result g s q (deeds.starts actor)).outcome ≡ deeds.refuses Refusal.Idle }
     {
         match self.actors.get(actor) {
             Some(state) => self.steps > 0 && !state.has_work(),
@@ -163,11 +198,11 @@ impl Tenant {
         ensures some { IfOk result (λ _. 0 < self.old.steps) }
         ensures lent { (g : Ground) (q : Quiet) (s : Store) → Stands g self.old q s
             → IfOk result (λ state. Lends g actor self.new q
-            × (found (seat_of actor) q.actors ≡ Some (actor_view state))
+            × (part_under (seat_of actor) q.actors ≡ Some (actor_view state))
             × Remembers g s.tenant self.new.memory q × Reaches self.new.attempts s) }
         ensures refused { (g : Ground) (q : Quiet) (s : Store) (p : ActorData → Plan)
-            → Stands g self.old q s → IfErr result (λ why. Refuses g q s
-            (carried_out s (unless_worn q (for_actor (found (seat_of actor) q.actors) p)))
+            → Stands g self.old q s → IfErr result (λ why. RefusesDeed g q s
+            (carried_out s (unless_worn q (for_actor (part_under (seat_of actor) q.actors) p)))
             self.new why) }
         ensures held { result ≢ Err Refusal.Held }
         ensures replies { replies_of self.new ≡ replies_of self.old }
@@ -188,8 +223,9 @@ impl Tenant {
         ensures steps { self.old.steps ≡ self.new.steps + 1 }
         ensures stands { (g : Ground) (q after : Quiet) (s : Store) → Lends g actor self.old q
             → Remembers g s.tenant self.old.memory after → Reaches self.old.attempts s
-            → after.actors ≡ left_by is_interrupted actor (actor_view state) q.actors
-            → after.steps ≡ q.steps → after.heard ≡ q.heard → Stands g self.new (spent after) s }
+            → after.actors ≡ actors_after is_interrupted actor (actor_view state) q.actors
+            → after.steps ≡ q.steps → after.heard ≡ q.heard
+            → Stands g self.new (with_step_spent after) s }
     {
         put_back(&mut self.actors, actor, state, is_interrupted);
         self.steps -= 1;
@@ -200,7 +236,7 @@ impl Tenant {
         ensures steps { self.new.steps ≡ self.old.steps }
         ensures stands { (g : Ground) (q : Quiet) (s : Store) → Lends g actor self.old q
             → Remembers g s.tenant self.old.memory q → Reaches self.old.attempts s
-            → found (seat_of actor) q.actors ≡ Some (actor_view state)
+            → part_under (seat_of actor) q.actors ≡ Some (actor_view state)
             → Stands g self.new q s }
     {
         drop(self.actors.replace(actor, state));
@@ -210,7 +246,7 @@ impl Tenant {
 // The actor is as its step left it, or gone.
 fn put_back(actors: &mut Actors, actor: Actor, state: ActorState, is_gone: bool)
     ensures { actors_view actors.new
-        ≡ left_by is_gone actor (actor_view state) (actors_view actors.old) }
+        ≡ actors_after is_gone actor (actor_view state) (actors_view actors.old) }
 {
     if is_gone {
         actors.remove(actor);

@@ -1,4 +1,5 @@
-//! Whether two values, jobs or traces are the same, print for print.
+//! Whether two values, jobs or traces are exactly the same: of one kind at each place, with one
+//! content, and maps in one order.
 //!
 //! Equality of the language does not tell: there a list equals a vector, and maps forget their
 //! order. Here two things are the same where the data that they stand for is equal. Whoever hands

@@ -74,7 +74,9 @@ const WAITING_IN_FIRST: &[u8] =
 const CLOSE_FIRST: &[u8] = b"d2:id1:52:op5:close7:session36:76b8e0ad-a0f1-4d90-805d-6ae55386bd28e";
 
 const CLOSED_REPLIES: &[u8] =
-    b"d2:id1:47:session36:76b8e0ad-a0f1-4d90-805d-6ae55386bd286:statusl4:done11:interruptedeed2:id1:57:session36:76b8e0ad-a0f1-4d90-805d-6ae55386bd286:statusl4:done14:session-closedeed2:id1:37:session36:76b8e0ad-a0f1-4d90-805d-6ae55386bd286:statusl4:done11:interruptedee";
+    b"d2:id1:47:session36:76b8e0ad-a0f1-4d90-805d-6ae55386bd286:statusl4:done11:interruptedee\
+d2:id1:57:session36:76b8e0ad-a0f1-4d90-805d-6ae55386bd286:statusl4:done14:session-closedee\
+d2:id1:37:session36:76b8e0ad-a0f1-4d90-805d-6ae55386bd286:statusl4:done11:interruptedee";
 
 // A request that waits is answered at the close, and the one in hand at its next turn. Then its actor
 // is gone.

@@ -1,17 +1,18 @@
 -- Commutes in their groups, as they are added and taken out.
 use Rattle.std.proofs.Common.{◌≡◌, List, [], ◌∷◌, ◌++◌, length, map, Vec, Bool, true, false, ◌||◌}
-use Rattle.std.proofs.Common.{Option, Some, None, cond, refl, sym, ap, ap₂, ◌∙◌, append_assoc, arith}
+use Rattle.std.proofs.Common.{Option, Some, None, cond, refl, sym, ap, ap₂, ◌∙◌, append_assoc}
+use Rattle.std.proofs.Common.{arith}
 use Rattle.std.specs.Prelude.{◌==◌}
 use Rattle.std.specs.declared.alloc.Global.{Global}
 use Rattle.std.specs.List.{cons_option}
 use Rattle.std.proofs.lemmas.Bool.Decides.{nat_tests}
 use Rattle.std.proofs.lemmas.List.{map_push, append-nil}
 use Rattle.value_data.specs.declared.value.RefName.{RefName}
-use Rattle.repl_asks.specs.Transactions.{RefNameData, CommuteData, CommutedData}
+use Rattle.repl_asks.specs.Transactions.{RefNameData, CommuteData, CommutedData, same_name}
 use Rattle.repl_asks.specs.View.{name_view, commute_view, commuted_view}
 use Rattle.repl_asks.specs.declared.intent.Commute.{Commute}
 use Rattle.repl_asks.specs.declared.intent.Commuted.{Commuted}
-use Rattle.tx_attempt.specs.Operations.{same_name, is_among}
+use Rattle.tx_attempt.specs.Accesses.{is_among}
 use Rattle.tx_attempt.specs.Groups.{but_of, group_of, in_order}
 use Rattle.tx_attempt.proofs.Names.{same_name-sym}
 

@@ -1,24 +1,25 @@
 -- The last place at which a test passes.
-use Rattle.std.proofs.Common.{◌≡◌, ℕ, zero, suc, ◌<◌, List, [], ◌∷◌, ◌++◌, length, get_or, reverse, Bool, true, false}
-use Rattle.std.proofs.Common.{Option, Some, None, cond, refl, sym, ap, ◌∙◌, arith}
+use Rattle.std.proofs.Common.{◌≡◌, ℕ, zero, suc, ◌<◌, List, [], ◌∷◌, ◌++◌, length, get_or, reverse}
+use Rattle.std.proofs.Common.{Bool, true, false, Option, Some, None, cond, refl, sym, ap, ◌∙◌}
+use Rattle.std.proofs.Common.{arith}
 use Rattle.std.specs.List.{find}
 use Rattle.std.specs.Option.{option_or}
 use Rattle.std.proofs.lemmas.List.{reverse-append}
 use Rattle.std.proofs.lemmas.List.Folds.{find-append}
-use Rattle.tx_attempt.specs.Places.{last_of, last_place}
+use Rattle.tx_attempt.specs.Places.{later_or_first, last_place}
 
 pub last_place-push : {A : Type 0} (test : A → Bool) (xs : List A) (y : A)
     → last_place test (xs ++ y ∷ []) ≡ cond (test y) (Some (length xs)) (last_place test xs)
 last_place-push test [] y = at (test y)
   where
-    at : (b : Bool) → last_of None b ≡ cond b (Some zero) None
+    at : (b : Bool) → later_or_first None b ≡ cond b (Some zero) None
     at true = refl
     at false = refl
 last_place-push test (x ∷ xs) y =
-    ap (λ o. last_of o (test x)) (last_place-push test xs y) ∙ at (test y)
+    ap (λ o. later_or_first o (test x)) (last_place-push test xs y) ∙ at (test y)
   where
-    at : (b : Bool) → last_of (cond b (Some (length xs)) (last_place test xs)) (test x)
-        ≡ cond b (Some (suc (length xs))) (last_of (last_place test xs) (test x))
+    at : (b : Bool) → later_or_first (cond b (Some (length xs)) (last_place test xs)) (test x)
+        ≡ cond b (Some (suc (length xs))) (later_or_first (last_place test xs) (test x))
     at true = refl
     at false = refl
 
@@ -28,7 +29,7 @@ last_place-below test [] n e = absurd (cc)
 last_place-below test (x ∷ xs) n e = at (last_place test xs) (test x) (λ m. last_place-below test xs m) e
   where
     at : (o : Option ℕ) (b : Bool) → ((m : ℕ) → o ≡ Some m → m < length xs)
-        → last_of o b ≡ Some n → n < suc (length xs)
+        → later_or_first o b ≡ Some n → n < suc (length xs)
     at (Some m) b below h = let is : suc m ≡ n = cc in omega (arith, below m refl)
     at None true below h = let is : zero ≡ n = cc in omega arith
     at None false below h = absurd (cc)
@@ -44,7 +45,7 @@ find-nowhere test [] e = refl
 find-nowhere test (x ∷ xs) e = find-later test x xs ∙ at (last_place test xs) (test x) (find-nowhere test xs) e
   where
     at : (o : Option ℕ) (b : Bool) → (o ≡ None → find test (reverse xs) ≡ None)
-        → last_of o b ≡ None → option_or (find test (reverse xs)) (cond b (Some x) None) ≡ None
+        → later_or_first o b ≡ None → option_or (find test (reverse xs)) (cond b (Some x) None) ≡ None
     at (Some m) b ih h = absurd (cc)
     at None true ih h = absurd (cc)
     at None false ih h = ap (λ o. option_or o None) (ih refl)
@@ -60,7 +61,7 @@ find-last {A} test (x ∷ xs) n y e is =
     at : (o : Option ℕ) (b : Bool) (n : ℕ)
         → ((m : ℕ) → o ≡ Some m → y ≡ get_or xs m y → find test (reverse xs) ≡ Some y)
         → (o ≡ None → find test (reverse xs) ≡ None)
-        → last_of o b ≡ Some n → y ≡ get_or (x ∷ xs) n y
+        → later_or_first o b ≡ Some n → y ≡ get_or (x ∷ xs) n y
         → option_or (find test (reverse xs)) (cond b (Some x) None) ≡ Some y
     at (Some m) b zero ih none h is = absurd (cc)
     at (Some m) b (suc k) ih none h is =

@@ -7,10 +7,9 @@ use Rattle.std.proofs.lemmas.Bool.{eqb-true, eq-eqb}
 use Rattle.std.proofs.lemmas.Cmp.{nat_eq_equiv}
 use Rattle.value_data.specs.Datum.{OwnerData, shared, tenant}
 use Rattle.value_data.specs.Same.{same_owner}
-use Rattle.repl_asks.specs.Transactions.{RefNameData}
+use Rattle.repl_asks.specs.Transactions.{RefNameData, same_name}
 use Rattle.tx_attempt.specs.contracts.key.KeyOrd.TheImpl as order
 use Rattle.tx_attempt.specs.Keys.{key_of, tenant_of}
-use Rattle.tx_attempt.specs.Operations.{same_name}
 
 -- names are the same where their keys are
 pub keys-tied : (a b : RefNameData)

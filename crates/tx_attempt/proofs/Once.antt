@@ -1,16 +1,17 @@
 -- Names, each of them once.
-use Rattle.std.proofs.Common.{◌≡◌, List, [], ◌∷◌, ◌++◌, Bool, true, false, ◌&&◌, not, map, cond, refl, sym, ap, ap₂, ◌∙◌, append_assoc}
+use Rattle.std.proofs.Common.{◌≡◌, List, [], ◌∷◌, ◌++◌, Bool, true, false, ◌&&◌, not, map, cond}
+use Rattle.std.proofs.Common.{refl, sym, ap, ap₂, ◌∙◌, append_assoc}
 use Rattle.std.specs.List.{filter, list_any}
 use Rattle.std.specs.Ordering.{is_eq}
 use Rattle.std.proofs.lemmas.List.{map_push}
 use Rattle.std.specs.BTreeMap.{is_at}
 use Rattle.std.specs.BTreeSet as set
 use Rattle.std.specs.BTreeSet.{BTreeSet}
-use Rattle.repl_asks.specs.Transactions.{RefNameData}
+use Rattle.repl_asks.specs.Transactions.{RefNameData, same_name}
 use Rattle.tx_attempt.specs.contracts.key.KeyOrd.TheImpl as order
 use Rattle.tx_attempt.specs.declared.key.Key.{Key}
 use Rattle.tx_attempt.specs.Keys.{key_of}
-use Rattle.tx_attempt.specs.Operations.{same_name, each_once}
+use Rattle.tx_attempt.specs.Accesses.{each_once}
 use Rattle.tx_attempt.proofs.Names.{keys-tied}
 
 -- not among the keys

@@ -2,9 +2,9 @@
 use Rattle.std.proofs.Common.{◌≡◌, List, [], ◌∷◌, map, filter_map, Bool, true, false, not, ◌&&◌}
 use Rattle.std.proofs.Common.{Option, Some, None, cond, refl, ap, ap₂, ◌∙◌}
 use Rattle.std.specs.List.{filter, list_all, cons_option}
-use Rattle.repl_asks.specs.Transactions.{RefNameData, CommuteData}
-use Rattle.tx_attempt.specs.Operations.{OperationData, got, put, commuted, ensured, same_name, is_among, each_once}
-use Rattle.tx_attempt.specs.Operations.{ref_put, ref_commuted, commute_of, commutes_of, commuted_refs}
+use Rattle.repl_asks.specs.Transactions.{RefNameData, CommuteData, same_name}
+use Rattle.tx_attempt.specs.Accesses.{AccessData, got, put, commuted, ensured, is_among, each_once}
+use Rattle.tx_attempt.specs.Accesses.{ref_put, ref_commuted, commute_of, commutes_of, commuted_refs}
 use Rattle.tx_attempt.specs.Groups.{but_of, group_of, in_order}
 use Rattle.tx_attempt.proofs.Names.{same_name-refl}
 
@@ -65,10 +65,10 @@ all-once p (n ∷ ns) e =
     ap₂ (λ a b. a && b) both.0 (all-filter p (λ m. not (same_name n m)) (each_once ns) (all-once p ns both.1))
 
 -- whether a ref was commuted
-abbrev has : List OperationData → RefNameData → Bool
+abbrev has : List AccessData → RefNameData → Bool
 has ops n = is_filled (filter_map (commute_of n) ops)
 
-still-has : (op : OperationData) (ops : List OperationData) (n : RefNameData)
+still-has : (op : AccessData) (ops : List AccessData) (n : RefNameData)
     → has ops n ≡ true → has (op ∷ ops) n ≡ true
 still-has op ops n e = at (commute_of n op)
   where
@@ -76,13 +76,13 @@ still-has op ops n e = at (commute_of n op)
     at None = e
     at (Some c) = refl
 
-all-still : (op : OperationData) (ops : List OperationData)
+all-still : (op : AccessData) (ops : List AccessData)
     → list_all (has ops) (filter_map ref_commuted ops) ≡ true
     → list_all (has (op ∷ ops)) (filter_map ref_commuted ops) ≡ true
 all-still op ops e = all-more (has ops) (has (op ∷ ops)) (filter_map ref_commuted ops) (still-has op ops) e
 
 -- the refs of the commutes have commutes
-all-have : (ops : List OperationData) → list_all (has ops) (filter_map ref_commuted ops) ≡ true
+all-have : (ops : List AccessData) → list_all (has ops) (filter_map ref_commuted ops) ≡ true
 all-have [] = refl
 all-have (got n d ∷ ops) = all-still (got n d) ops (all-have ops)
 all-have (put n d ∷ ops) = all-still (put n d) ops (all-have ops)
@@ -98,7 +98,7 @@ group-there n [] e = absurd (cc)
 group-there n (c ∷ cs) e = refl
 
 -- the groups of refs that were commuted, without those of refs that were set
-grouped : (f : RefNameData → List CommuteData) (ops : List OperationData) (names : List RefNameData)
+grouped : (f : RefNameData → List CommuteData) (ops : List AccessData) (names : List RefNameData)
     → ((n : RefNameData) → f n ≡ cond (is_among n (filter_map ref_put ops)) [] (filter_map (commute_of n) ops))
     → list_all (has ops) names ≡ true
     → filter_map (λ n. group_of n (f n)) names
@@ -116,7 +116,7 @@ grouped f ops (n ∷ ns) is e =
     at false here left =
         ap (λ o. cons_option o (map (commutes_of ops) left)) (group-there n (filter_map (commute_of n) ops) here)
 
-pub ordered : (f : RefNameData → List CommuteData) (ops : List OperationData)
+pub ordered : (f : RefNameData → List CommuteData) (ops : List AccessData)
     → ((n : RefNameData) → f n ≡ cond (is_among n (filter_map ref_put ops)) [] (filter_map (commute_of n) ops))
     → in_order f (filter_map ref_commuted ops) ≡ map (commutes_of ops) (commuted_refs ops)
 unfolding commuted_refs

@@ -4,9 +4,8 @@ use Rattle.std.specs.List.{cons_option}
 use Rattle.std.specs.Option.{option_map_or}
 use Rattle.std.specs.declared.cmp.Ordering.{Ordering}
 use Rattle.std.specs.BTreeMap.{get}
-use Rattle.repl_asks.specs.Transactions.{RefNameData, CommuteData, CommutedData}
+use Rattle.repl_asks.specs.Transactions.{RefNameData, CommuteData, CommutedData, same_name}
 use Rattle.repl_asks.specs.View.{commute_view}
-use Rattle.tx_attempt.specs.Operations.{same_name}
 use Rattle.tx_attempt.specs.Keys.{key_of}
 use Rattle.tx_attempt.specs.declared.grouping.Groups.{Groups}
 use Rattle.tx_attempt.specs.declared.key.Key.{Key}

@@ -1,4 +1,4 @@
-pub mod Operations
+pub mod Accesses
 pub mod Keys
 pub mod View
 pub mod Parts

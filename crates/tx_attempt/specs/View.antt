@@ -1,13 +1,17 @@
--- An operation, seen as data.
+-- An access, seen as data.
 use Rattle.std.specs.Prelude.{map}
 use Rattle.value_data.specs.View.{view}
 use Rattle.repl_asks.specs.View.{name_view}
-use Rattle.tx_attempt.specs.Operations.{OperationData, got, put, commuted, ensured}
-use Rattle.tx_attempt.specs.declared.operation.Operation.{Operation}
+use Rattle.tx_attempt.specs.Accesses.{AccessData, got, put, commuted, ensured}
+use Rattle.tx_attempt.specs.declared.access.Access.{Access}
 
-abbrev pub operation_view : Operation → OperationData
-operation_view (Operation.Got name value) = got (name_view name) (view value)
-operation_view (Operation.Set name value) = put (name_view name) (view value)
-operation_view (Operation.Commuted name function arguments value) =
-    commuted (name_view name) (record { function = function; arguments = map view arguments.items }) (view value)
-operation_view (Operation.Ensured name value) = ensured (name_view name) (view value)
+abbrev pub access_view : Access → AccessData
+access_view (Access.Got name value) = got (name_view name) (view value)
+access_view (Access.Set name value) = put (name_view name) (view value)
+access_view (Access.Commuted name function arguments value) =
+    commuted (name_view name) (record {
+      function = function;
+      arguments =
+          map view arguments.items;
+    }) (view value)
+access_view (Access.Ensured name value) = ensured (name_view name) (view value)

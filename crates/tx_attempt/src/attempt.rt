@@ -1,10 +1,10 @@
 // What an attempt read, set, commuted and ensured.
 ghost use Rattle.tx_attempt.specs.Places.{KeepsPlaces, KeepsMarks};
 
+use crate::access::Access;
 use crate::error::SetError;
 use crate::key::Key;
-use crate::latest::Latest;
-use crate::operation::Operation;
+use crate::latest::LatestAccess;
 use repl_asks::Commute;
 use repl_values::{RefName, Value};
 use std::alloc::{AllocError, Global};
@@ -14,68 +14,68 @@ use std::collections::BTreeMap;
 #[derive(Drop)]
 pub struct Attempt {
     pub(crate) alloc: Global,
-    pub(crate) operations: Vec<Operation>,
-    pub(crate) latest: BTreeMap<Key, Latest>,
-    ghost places: { KeepsPlaces ⟦<Key as Ord>⟧.cmp latest operations.items },
-    ghost marks: { KeepsMarks ⟦<Key as Ord>⟧.cmp latest operations.items },
+    pub(crate) accesses: Vec<Access>,
+    pub(crate) latest: BTreeMap<Key, LatestAccess>,
+    ghost places: { KeepsPlaces ⟦<Key as Ord>⟧.cmp latest accesses.items },
+    ghost marks: { KeepsMarks ⟦<Key as Ord>⟧.cmp latest accesses.items },
 }
 
 impl Attempt {
     ghost use Rattle.std.specs.Prelude.{◌≡◌, [], ◌∷◌, ◌++◌, option_map, OnOk, OnErr};
     ghost use Rattle.value_data.specs.View.{view};
     ghost use Rattle.repl_asks.specs.View.{name_view, commute_view};
-    ghost use Rattle.tx_attempt.specs.Operations.{got, put, commuted, ensured};
-    ghost use Rattle.tx_attempt.specs.Operations.{named_in, value_of, is_commuted};
+    ghost use Rattle.tx_attempt.specs.Accesses.{got, put, commuted, ensured, named_in};
+    ghost use Rattle.tx_attempt.specs.Accesses.{attempt_value, is_commuted};
     ghost use Rattle.tx_attempt.specs.Parts.{is_refused};
-    ghost use Rattle.tx_attempt.specs.View.{operation_view};
-    ghost use Rattle.tx_attempt.specs.Seen.{operations_of};
+    ghost use Rattle.tx_attempt.specs.View.{access_view};
+    ghost use Rattle.tx_attempt.specs.Seen.{accesses_of};
 
     /// An attempt that begins. It takes no memory.
-    #[tactic(auto, unfolding(crate::specs::Seen::operations_of, crate::specs::Operations::is_commuted))]
+    #[tactic(auto, unfolding(crate::specs::Seen::accesses_of, crate::specs::Accesses::is_commuted))]
     pub fn new(alloc: Global) -> Attempt
-        ensures { operations_of result ≡ [] }
+        ensures { accesses_of result ≡ [] }
     {
         Attempt {
             alloc,
-            operations: Vec::new(alloc),
+            accesses: Vec::new(alloc),
             latest: BTreeMap::new(alloc),
         }
     }
 
-    /// The value of a ref in this attempt, if an operation named it: that of the last one. It takes
+    /// The value of a ref in this attempt, if an access named it: that of the last one. It takes
     /// about the logarithm of the number of refs that were named, and no memory.
-    #[tactic(auto, unfolding(crate::specs::Seen::operations_of))]
+    #[tactic(auto, unfolding(crate::specs::Seen::accesses_of))]
     pub fn value_of(&self, name: RefName) -> Option<&Value>
         ensures { option_map (λ v. view v.now) result
-            ≡ value_of (name_view name) (operations_of self.now) }
+            ≡ attempt_value (name_view name) (accesses_of self.now) }
     {
         let latest = self.latest.get(&Key::of(name))?;
-        Some(self.operations[latest.place].value())
+        Some(self.accesses[latest.place].value())
     }
 
     /// Notes that a ref was read, and its value. It fails only for want of memory; then all stays
     /// as it was.
     pub fn note_read(&mut self, name: RefName, value: Value) -> Result<(), AllocError>
-        ensures noted { OnOk result (operations_of self.new
-            ≡ operations_of self.old ++ got (name_view name) (view value) ∷ []) }
-        ensures stays { OnErr result (operations_of self.new ≡ operations_of self.old) }
+        ensures noted { OnOk result (accesses_of self.new
+            ≡ accesses_of self.old ++ got (name_view name) (view value) ∷ []) }
+        ensures stays { OnErr result (accesses_of self.new ≡ accesses_of self.old) }
     {
-        self.note(Operation::Got { name, value })
+        self.note(Access::Got { name, value })
     }
 
     /// Sets a ref, in this attempt alone. One that was commuted is not set: that is looked at
     /// first, and takes no memory. After either error all stays as it was.
     pub fn set(&mut self, name: RefName, value: Value) -> Result<(), SetError>
-        ensures set { OnOk result (operations_of self.new
-            ≡ operations_of self.old ++ put (name_view name) (view value) ∷ []) }
+        ensures set { OnOk result (accesses_of self.new
+            ≡ accesses_of self.old ++ put (name_view name) (view value) ∷ []) }
         ensures commuted { is_refused result
-            ≡ is_commuted (name_view name) (operations_of self.old) }
-        ensures stays { OnErr result (operations_of self.new ≡ operations_of self.old) }
+            ≡ is_commuted (name_view name) (accesses_of self.old) }
+        ensures stays { OnErr result (accesses_of self.new ≡ accesses_of self.old) }
     {
         if self.is_commuted(name) {
             return Err(SetError::Commuted);
         }
-        self.note(Operation::Set { name, value })?;
+        self.note(Access::Set { name, value })?;
         Ok(())
     }
 
@@ -87,12 +87,12 @@ impl Attempt {
         commute: Commute,
         value: Value,
     ) -> Result<(), AllocError>
-        ensures noted { OnOk result (operations_of self.new
-            ≡ operations_of self.old
+        ensures noted { OnOk result (accesses_of self.new
+            ≡ accesses_of self.old
             ++ commuted (name_view name) (commute_view commute) (view value) ∷ []) }
-        ensures stays { OnErr result (operations_of self.new ≡ operations_of self.old) }
+        ensures stays { OnErr result (accesses_of self.new ≡ accesses_of self.old) }
     {
-        self.note(Operation::Commuted {
+        self.note(Access::Commuted {
             name,
             function: commute.function,
             arguments: commute.arguments,
@@ -103,16 +103,16 @@ impl Attempt {
     /// Notes that nobody else is to change a ref, and its value. It fails only for want of memory;
     /// then all stays as it was.
     pub fn ensure(&mut self, name: RefName, value: Value) -> Result<(), AllocError>
-        ensures noted { OnOk result (operations_of self.new
-            ≡ operations_of self.old ++ ensured (name_view name) (view value) ∷ []) }
-        ensures stays { OnErr result (operations_of self.new ≡ operations_of self.old) }
+        ensures noted { OnOk result (accesses_of self.new
+            ≡ accesses_of self.old ++ ensured (name_view name) (view value) ∷ []) }
+        ensures stays { OnErr result (accesses_of self.new ≡ accesses_of self.old) }
     {
-        self.note(Operation::Ensured { name, value })
+        self.note(Access::Ensured { name, value })
     }
 
-    #[tactic(auto, unfolding(crate::specs::Seen::operations_of))]
+    #[tactic(auto, unfolding(crate::specs::Seen::accesses_of))]
     fn is_commuted(&self, name: RefName) -> bool
-        ensures { result ≡ is_commuted (name_view name) (operations_of self.now) }
+        ensures { result ≡ is_commuted (name_view name) (accesses_of self.now) }
     {
         match self.latest.get(&Key::of(name)) {
             Some(latest) => latest.is_commuted,
@@ -120,28 +120,28 @@ impl Attempt {
         }
     }
 
-    // Whether the ref of this operation is commuted once that is noted.
-    fn is_commuted_with(&self, operation: &Operation) -> bool
-        ensures { result ≡ is_commuted (named_in (operation_view operation.now))
-            (operations_of self.now ++ operation_view operation.now ∷ []) }
+    // Whether the ref of this access is commuted once that is noted.
+    fn is_commuted_with(&self, access: &Access) -> bool
+        ensures { result ≡ is_commuted (named_in (access_view access.now))
+            (accesses_of self.now ++ access_view access.now ∷ []) }
     {
-        operation.is_commute() || self.is_commuted(operation.name())
+        access.is_commute() || self.is_commuted(access.name())
     }
 
     // Each takes about the logarithm of the number of refs.
-    #[tactic(auto, unfolding(crate::specs::Seen::operations_of))]
-    fn note(&mut self, operation: Operation) -> Result<(), AllocError>
-        ensures noted { OnOk result (operations_of self.new
-            ≡ operations_of self.old ++ operation_view operation ∷ []) }
-        ensures stays { OnErr result (operations_of self.new ≡ operations_of self.old) }
+    #[tactic(auto, unfolding(crate::specs::Seen::accesses_of))]
+    fn note(&mut self, access: Access) -> Result<(), AllocError>
+        ensures noted { OnOk result (accesses_of self.new
+            ≡ accesses_of self.old ++ access_view access ∷ []) }
+        ensures stays { OnErr result (accesses_of self.new ≡ accesses_of self.old) }
     {
-        self.operations.reserve(1)?;
-        let latest = Latest {
-            place: self.operations.len(),
-            is_commuted: self.is_commuted_with(&operation),
+        self.accesses.reserve(1)?;
+        let latest = LatestAccess {
+            place: self.accesses.len(),
+            is_commuted: self.is_commuted_with(&access),
         };
-        self.latest.insert(Key::of(operation.name()), latest)?;
-        self.operations.push_reserved(operation);
+        self.latest.insert(Key::of(access.name()), latest)?;
+        self.accesses.push_reserved(access);
         Ok(())
     }
 }

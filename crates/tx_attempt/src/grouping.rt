@@ -1,15 +1,14 @@
 // What was applied to refs, grouped by them.
 ghost use Rattle.std.specs.Prelude.{◌≡◌, [], ◌∷◌, ◌++◌, map, filter_map, if◌then◌else◌, IfOk};
-ghost use Rattle.repl_asks.specs.Transactions.{RefNameData};
+ghost use Rattle.repl_asks.specs.Transactions.{RefNameData, same_name};
 ghost use Rattle.repl_asks.specs.View.{name_view, commute_view, commuted_view};
-ghost use Rattle.tx_attempt.specs.Operations.{same_name, is_among, commute_of, commutes_of};
-ghost use Rattle.tx_attempt.specs.Operations.{commuted_refs};
+ghost use Rattle.tx_attempt.specs.Accesses.{is_among, commute_of, commutes_of, commuted_refs};
 ghost use Rattle.tx_attempt.specs.Groups.{commutes_in, in_order};
-ghost use Rattle.tx_attempt.specs.Seen.{operations_of};
+ghost use Rattle.tx_attempt.specs.Seen.{accesses_of};
 
+use crate::access::{Access, AccessKind};
 use crate::attempt::Attempt;
 use crate::key::Key;
-use crate::operation::{Deed, Operation};
 use repl_asks::{Commute, Commuted};
 use repl_values::{RefName, copy_items};
 use std::alloc::{AllocError, Global};
@@ -93,30 +92,30 @@ impl Groups {
 
 impl Attempt {
     // What was applied to each ref that was commuted and not set.
-    pub(crate) fn commuted(&self) -> Result<Vec<Commuted>, AllocError>
+    pub(crate) fn commutes_by_ref(&self) -> Result<Vec<Commuted>, AllocError>
         ensures { IfOk result (λ all. map commuted_view all.items
-            ≡ map (commutes_of (operations_of self.now)) (commuted_refs (operations_of self.now))) }
+            ≡ map (commutes_of (accesses_of self.now)) (commuted_refs (accesses_of self.now))) }
     {
-        let put = self.refs(Deed::Set)?;
+        let put = self.refs(AccessKind::Set)?;
         let groups = self.groups()?.without(&put);
-        let names = self.refs(Deed::Commute)?;
+        let names = self.refs(AccessKind::Commute)?;
         groups.in_order(&names)
     }
 
     // What was applied to each ref.
-    #[tactic(auto, unfolding(crate::specs::Seen::operations_of))]
+    #[tactic(auto, unfolding(crate::specs::Seen::accesses_of))]
     fn groups(&self) -> Result<Groups, AllocError>
         ensures { IfOk result (λ groups. (n : RefNameData) → commutes_in ⟦<Key as Ord>⟧.cmp groups n
-            ≡ filter_map (commute_of n) (operations_of self.now)) }
+            ≡ filter_map (commute_of n) (accesses_of self.now)) }
     {
         let mut groups = Groups::new(self.alloc);
-        for operation in &self.operations {
-            if let Operation::Commuted {
+        for access in &self.accesses {
+            if let Access::Commuted {
                 name,
                 function,
                 arguments,
                 ..
-            } = operation
+            } = access
             {
                 let commute = Commute {
                     function: *function,

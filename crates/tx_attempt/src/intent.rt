@@ -1,13 +1,13 @@
 // What an attempt wants committed.
 ghost use Rattle.std.specs.Prelude.{◌≡◌, map, filter_map, IfOk, IfErr};
 ghost use Rattle.repl_asks.specs.View.{name_view, change_view, intent_view};
-ghost use Rattle.tx_attempt.specs.Operations.{each_once, change_of, intent_of};
-ghost use Rattle.tx_attempt.specs.Parts.{ref_of};
-ghost use Rattle.tx_attempt.specs.Seen.{operations_of};
+ghost use Rattle.tx_attempt.specs.Accesses.{each_once, change_of, intent_of};
+ghost use Rattle.tx_attempt.specs.Parts.{ref_accessed};
+ghost use Rattle.tx_attempt.specs.Seen.{accesses_of};
 
+use crate::access::AccessKind;
 use crate::attempt::Attempt;
 use crate::key::Key;
-use crate::operation::Deed;
 use repl_asks::{Change, Intent};
 use repl_values::{RefName, copy};
 use std::alloc::{AllocError, Global};
@@ -29,11 +29,11 @@ impl Attempt {
     /// What is to be committed: each ref that was set, with its last value; each that was ensured;
     /// and each that was commuted and not set, with its commutes. Each list has its refs once, in
     /// the order in which that was first done to them. It takes about n log n steps for n
-    /// operations and their arguments, and fails only for want of memory.
+    /// accesses and their arguments, and fails only for want of memory.
     pub fn into_intent(self) -> Result<Intent, Unmade>
-        ensures made { IfOk result (λ intent. intent_view intent ≡ intent_of (operations_of self)) }
+        ensures made { IfOk result (λ intent. intent_view intent ≡ intent_of (accesses_of self)) }
         ensures handed_back { IfErr result
-            (λ unmade. operations_of unmade.attempt ≡ operations_of self) }
+            (λ unmade. accesses_of unmade.attempt ≡ accesses_of self) }
     {
         match self.intent() {
             Ok(intent) => Ok(intent),
@@ -41,15 +41,15 @@ impl Attempt {
         }
     }
 
-    #[tactic(auto, unfolding(crate::specs::Operations::intent_of, crate::specs::Operations::set_refs))]
+    #[tactic(auto, unfolding(crate::specs::Accesses::intent_of, crate::specs::Accesses::set_refs))]
     fn intent(&self) -> Result<Intent, AllocError>
-        ensures { IfOk result (λ intent. intent_view intent ≡ intent_of (operations_of self.now)) }
+        ensures { IfOk result (λ intent. intent_view intent ≡ intent_of (accesses_of self.now)) }
     {
-        let put = self.refs(Deed::Set)?;
+        let put = self.refs(AccessKind::Set)?;
         let names = each_once(self.alloc, &put)?;
         let sets = self.changes(&names)?;
-        let ensured = each_once(self.alloc, &self.refs(Deed::Ensure)?)?;
-        let commuted = self.commuted()?;
+        let ensured = each_once(self.alloc, &self.refs(AccessKind::Ensure)?)?;
+        let commuted = self.commutes_by_ref()?;
         Ok(Intent {
             sets,
             ensured,
@@ -57,15 +57,15 @@ impl Attempt {
         })
     }
 
-    // The ref of each operation that does this to one, in order.
-    #[tactic(auto, unfolding(crate::specs::Seen::operations_of))]
-    pub(crate) fn refs(&self, deed: Deed) -> Result<Vec<RefName>, AllocError>
+    // The ref of each access that does this to one, in order.
+    #[tactic(auto, unfolding(crate::specs::Seen::accesses_of))]
+    pub(crate) fn refs(&self, kind: AccessKind) -> Result<Vec<RefName>, AllocError>
         ensures { IfOk result (λ names.
-            map name_view names.items ≡ filter_map (ref_of deed) (operations_of self.now)) }
+            map name_view names.items ≡ filter_map (ref_accessed kind) (accesses_of self.now)) }
     {
         let mut names = Vec::new(self.alloc);
-        for operation in &self.operations {
-            if let Some(name) = operation.ref_of(deed) {
+        for access in &self.accesses {
+            if let Some(name) = access.ref_accessed(kind) {
                 names.push(name)?;
             }
         }
@@ -75,7 +75,7 @@ impl Attempt {
     // These refs with their values.
     fn changes(&self, names: &[RefName]) -> Result<Vec<Change>, AllocError>
         ensures { IfOk result (λ changes. map change_view changes.items
-            ≡ filter_map (change_of (operations_of self.now)) (map name_view names.now)) }
+            ≡ filter_map (change_of (accesses_of self.now)) (map name_view names.now)) }
     {
         let mut changes = Vec::with_capacity(self.alloc, names.len())?;
         for name in names {

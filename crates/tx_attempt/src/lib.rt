@@ -2,19 +2,19 @@
 //! committed.
 //!
 //! A ref is read, set, commuted or ensured. It has one value in an attempt, whatever others commit
-//! meanwhile: that of the last operation that named it. A commute applies a function of the
+//! meanwhile: that of the last access that named it. A commute applies a function of the
 //! language to that value, and the store applies it once more at the commit, to the value that the
 //! ref has then; so a ref that was commuted is set no more. A ref that was ensured is changed by
 //! nobody else until the commit. What the store is asked to commit is an `Intent`.
 #![tactic(auto)]
 
+mod access;
 mod attempt;
 mod error;
 mod grouping;
 mod intent;
 mod key;
 mod latest;
-mod operation;
 
 pub use attempt::Attempt;
 pub use error::SetError;

@@ -3,7 +3,7 @@ use Rattle.std.proofs.Common.{◌≡◌, ◌⊎◌, inl, inr, List, [], ◌∷�
 use Rattle.std.specs.declared.cmp.Ordering.{Ordering}
 use Rattle.std.specs.declared.cmp.Ordering.TheVariants.{Less, Equal, Greater}
 use Rattle.std.specs.Ordering.{ordering_reverse, match_ordering}
-use Rattle.value_data.specs.Order.{SortKey, order, put, sorted, chain}
+use Rattle.value_data.specs.Order.{SortKey, order, with_sort_key, sorted, chain}
 use Rattle.value_data.proofs.Ordered.{order-reverse, order-exact, order-self, order-Less}
 
 abbrev pub IsIn : SortKey → List SortKey → Type 0
@@ -25,12 +25,12 @@ pub order-Greater : (x y : SortKey) → order x y ≡ Greater → order y x ≡ 
 order-Greater x y h = flipped (order x y) (order y x) h (order-reverse x y)
 
 -- what is put in stands there, and so does what stood there
-put-in : (x : SortKey) (ys : List SortKey) (z : SortKey) → (z ≡ x) ⊎ IsIn z ys → IsIn z (put x ys)
-put-in x [] z h = h
-put-in x (y ∷ ys) z h = at (put-in x ys z) (order x y) refl h
+with_sort_key-in : (x : SortKey) (ys : List SortKey) (z : SortKey) → (z ≡ x) ⊎ IsIn z ys → IsIn z (with_sort_key x ys)
+with_sort_key-in x [] z h = h
+with_sort_key-in x (y ∷ ys) z h = at (with_sort_key-in x ys z) (order x y) refl h
   where
-    at : ((z ≡ x) ⊎ IsIn z ys → IsIn z (put x ys)) → (o : Ordering) → order x y ≡ o → (z ≡ x) ⊎ IsIn z (y ∷ ys)
-        → IsIn z (match_ordering o (x ∷ y ∷ ys) (y ∷ ys) (y ∷ put x ys))
+    at : ((z ≡ x) ⊎ IsIn z ys → IsIn z (with_sort_key x ys)) → (o : Ordering) → order x y ≡ o → (z ≡ x) ⊎ IsIn z (y ∷ ys)
+        → IsIn z (match_ordering o (x ∷ y ∷ ys) (y ∷ ys) (y ∷ with_sort_key x ys))
     at more Less e i = i
     at more Equal e (inl p) = inl (p ∙ order-exact x y e)
     at more Equal e (inr p) = p
@@ -39,15 +39,15 @@ put-in x (y ∷ ys) z h = at (put-in x ys z) (order x y) refl h
     at more Greater e (inr (inr p)) = inr (more (inr p))
 
 -- and nothing else
-in-put : (x : SortKey) (ys : List SortKey) (z : SortKey) → IsIn z (put x ys) → (z ≡ x) ⊎ IsIn z ys
-in-put x [] z h = h
-in-put x (y ∷ ys) z h = at (in-put x ys z) (order x y) h
+in-with_sort_key : (x : SortKey) (ys : List SortKey) (z : SortKey) → IsIn z (with_sort_key x ys) → (z ≡ x) ⊎ IsIn z ys
+in-with_sort_key x [] z h = h
+in-with_sort_key x (y ∷ ys) z h = at (in-with_sort_key x ys z) (order x y) h
   where
     later : (z ≡ x) ⊎ IsIn z ys → (z ≡ x) ⊎ IsIn z (y ∷ ys)
     later (inl p) = inl p
     later (inr p) = inr (inr p)
 
-    at : (IsIn z (put x ys) → (z ≡ x) ⊎ IsIn z ys) → (o : Ordering) → IsIn z (match_ordering o (x ∷ y ∷ ys) (y ∷ ys) (y ∷ put x ys))
+    at : (IsIn z (with_sort_key x ys) → (z ≡ x) ⊎ IsIn z ys) → (o : Ordering) → IsIn z (match_ordering o (x ∷ y ∷ ys) (y ∷ ys) (y ∷ with_sort_key x ys))
         → (z ≡ x) ⊎ IsIn z (y ∷ ys)
     at more Less i = i
     at more Equal i = inr i
@@ -56,20 +56,20 @@ in-put x (y ∷ ys) z h = at (in-put x ys z) (order x y) h
 
 pub sorted-in : (xs : List SortKey) (z : SortKey) → IsIn z xs → IsIn z (sorted xs)
 sorted-in [] z h = h
-sorted-in (x ∷ xs) z (inl p) = put-in x (sorted xs) z (inl p)
-sorted-in (x ∷ xs) z (inr p) = put-in x (sorted xs) z (inr (sorted-in xs z p))
+sorted-in (x ∷ xs) z (inl p) = with_sort_key-in x (sorted xs) z (inl p)
+sorted-in (x ∷ xs) z (inr p) = with_sort_key-in x (sorted xs) z (inr (sorted-in xs z p))
 
 pub in-sorted : (xs : List SortKey) (z : SortKey) → IsIn z (sorted xs) → IsIn z xs
 in-sorted [] z h = h
-in-sorted (x ∷ xs) z h = at (in-sorted xs z) (in-put x (sorted xs) z h)
+in-sorted (x ∷ xs) z h = at (in-sorted xs z) (in-with_sort_key x (sorted xs) z h)
   where
     at : (IsIn z (sorted xs) → IsIn z xs) → (z ≡ x) ⊎ IsIn z (sorted xs) → (z ≡ x) ⊎ IsIn z xs
     at rest (inl p) = inl p
     at rest (inr p) = inr (rest p)
 
-put-ascends : (x : SortKey) (ys : List SortKey) → Ascends ys → Ascends (put x ys)
-put-ascends x [] h = (λ z i. absurd i, tt)
-put-ascends x (y ∷ ys) h = at (put-ascends x ys h.1) (order x y) refl
+with_sort_key-ascends : (x : SortKey) (ys : List SortKey) → Ascends ys → Ascends (with_sort_key x ys)
+with_sort_key-ascends x [] h = (λ z i. absurd i, tt)
+with_sort_key-ascends x (y ∷ ys) h = at (with_sort_key-ascends x ys h.1) (order x y) refl
   where
     behind : order x y ≡ Less → (z : SortKey) → IsIn z (y ∷ ys) → order x z ≡ Less
     behind e z (inl p) = ap (order x) p ∙ e
@@ -79,14 +79,14 @@ put-ascends x (y ∷ ys) h = at (put-ascends x ys h.1) (order x y) refl
     after e z (inl p) = ap (order y) p ∙ e
     after e z (inr p) = h.0 z p
 
-    at : Ascends (put x ys) → (o : Ordering) → order x y ≡ o → Ascends (match_ordering o (x ∷ y ∷ ys) (y ∷ ys) (y ∷ put x ys))
+    at : Ascends (with_sort_key x ys) → (o : Ordering) → order x y ≡ o → Ascends (match_ordering o (x ∷ y ∷ ys) (y ∷ ys) (y ∷ with_sort_key x ys))
     at more Less e = (behind e, h)
     at more Equal e = h
-    at more Greater e = (λ z i. after (order-Greater x y e) z (in-put x ys z i), more)
+    at more Greater e = (λ z i. after (order-Greater x y e) z (in-with_sort_key x ys z i), more)
 
 pub sorted-ascends : (xs : List SortKey) → Ascends (sorted xs)
 sorted-ascends [] = tt
-sorted-ascends (x ∷ xs) = put-ascends x (sorted xs) (sorted-ascends xs)
+sorted-ascends (x ∷ xs) = with_sort_key-ascends x (sorted xs) (sorted-ascends xs)
 
 not-before : (x : SortKey) → order x x ≡ Less → ⊥
 not-before x h = let e : Equal ≡ Less = sym (order-self x) ∙ h in cc

@@ -1,23 +1,25 @@
 -- Pairs found by their keys, and one more pair.
-use Rattle.std.proofs.Common.{◌≡◌, ℕ, zero, suc, ◌+◌, ◌<◌, ◌≤◌, Bool, true, false, not, ◌||◌, List, [], ◌∷◌, ◌++◌, length, get_or, Option, Some, None, option_map, take, add-one, refl, sym, ap, ◌∙◌, arith}
+use Rattle.std.proofs.Common.{◌≡◌, ℕ, zero, suc, ◌+◌, ◌<◌, ◌≤◌, Bool, true, false, not, ◌||◌, List}
+use Rattle.std.proofs.Common.{[], ◌∷◌, ◌++◌, length, get_or, Option, Some, None, option_map, take}
+use Rattle.std.proofs.Common.{add-one, refl, sym, ap, ◌∙◌, arith}
 use Rattle.std.specs.Prelude.{if◌then◌else◌}
 use Rattle.value_data.specs.Datum.{Datum, Pairs, no_pairs, pair}
 use Rattle.value_data.specs.View.{view, pairs_view}
 use Rattle.value_data.specs.Listed.{pairs_of}
 use Rattle.value_data.specs.declared.value.Value.{Value}
 use Rattle.value_data.specs.Same.{same, size}
-use Rattle.value_data.specs.Keyed.{value_at, has_key, value_in, value_of, behind_all}
+use Rattle.value_data.specs.Keyed.{value_under, has_key, nth_value, value_at_place, behind_all}
 use Rattle.value_data.specs.Placed.{first_place, are_distinct}
 use Rattle.value_data.proofs.Equivalence.{same-sym, and-left, and-right, and-both}
 use Rattle.value_data.proofs.Transitive.{same-trans}
 
 -- the value at the first place is the key's value
-pub value-first : (ps : Pairs) (d : Datum) → value_of ps (first_place ps d) ≡ value_at d ps
+pub value-first : (ps : Pairs) (d : Datum) → value_at_place ps (first_place ps d) ≡ value_under d ps
 value-first no_pairs d = refl
 value-first (pair k v ps) d = chosen (same k d) (first_place ps d) (value-first ps d)
   where
-    chosen : (t : Bool) (o : Option ℕ) → value_of ps o ≡ value_at d ps
-        → value_of (pair k v ps) (if t then Some 0 else option_map (λ n. suc n) o) ≡ (if t then Some v else value_at d ps)
+    chosen : (t : Bool) (o : Option ℕ) → value_at_place ps o ≡ value_under d ps
+        → value_at_place (pair k v ps) (if t then Some 0 else option_map (λ n. suc n) o) ≡ (if t then Some v else value_under d ps)
     chosen true o e = refl
     chosen false (Some n) e = e
     chosen false None e = e
@@ -96,12 +98,12 @@ has_key-along (pair m x qs) k l e h =
 
 -- ---- steps of the functions
 
-pub value-found : (xs : List (Value × Value)) (n : ℕ) (p : Value × Value) → p ≡ get_or xs n p → n < length xs → value_in (pairs_view xs) n ≡ Some (view p.1)
+pub value-found : (xs : List (Value × Value)) (n : ℕ) (p : Value × Value) → p ≡ get_or xs n p → n < length xs → nth_value (pairs_view xs) n ≡ Some (view p.1)
 value-found [] n p e h = absurd (omega (arith, h))
 value-found (x ∷ xs) zero p e h = ap (λ (q : Value × Value). Some (view q.1)) (sym e)
 value-found (x ∷ xs) (suc n) p e h = value-found xs n p e (omega (arith, h))
 
-pub value-past : (xs : List (Value × Value)) (n : ℕ) → length xs ≤ n → value_in (pairs_view xs) n ≡ None
+pub value-past : (xs : List (Value × Value)) (n : ℕ) → length xs ≤ n → nth_value (pairs_view xs) n ≡ None
 value-past [] n h = refl
 value-past (x ∷ xs) zero h = absurd (omega (arith, h))
 value-past (x ∷ xs) (suc n) h = value-past xs n (omega (arith, h))

@@ -1,7 +1,8 @@
 -- A measure that was taken of items or of pairs.
 use Rattle.std.specs.Prelude.{◌≡◌}
 use Rattle.value_data.specs.Datum.{Items, Pairs}
-use Rattle.value_data.specs.Measures.{capped, items_weight, items_nesting, pairs_weight, pairs_nesting}
+use Rattle.value_data.specs.Measures.{capped, items_weight, items_nesting, pairs_weight}
+use Rattle.value_data.specs.Measures.{pairs_nesting}
 use Rattle.value_data.specs.Hash.{items_hash, peak}
 use Rattle.value_data.specs.declared.node_measures.ItemsMeasure.{ItemsMeasure}
 use Rattle.value_data.specs.declared.node_measures.PairsMeasure.{PairsMeasure}

@@ -1,6 +1,9 @@
 -- A number of 64 bits for each value, equal for equal values.
-use Rattle.std.specs.Prelude.{ℕ, ◌+◌, ◌*◌, ◌%◌, ◌^◌, max, List, [], ◌∷◌, if◌then◌else◌, unsigned_abs}
-use Rattle.value_data.specs.Datum.{OwnerData, shared, tenant, Datum, nil, boolean, integer, string, keyword, symbol, list, vector, map, ref, atom, agent, var, fault, Items, no_items, item, Pairs, no_pairs, pair}
+use Rattle.std.specs.Prelude.{ℕ, ◌+◌, ◌*◌, ◌%◌, ◌^◌, max, List, [], ◌∷◌, if◌then◌else◌}
+use Rattle.std.specs.Prelude.{unsigned_abs}
+use Rattle.value_data.specs.Datum.{OwnerData, shared, tenant, Datum, nil, boolean, integer, string}
+use Rattle.value_data.specs.Datum.{keyword, symbol, list, vector, map, ref, atom, agent, var, fault}
+use Rattle.value_data.specs.Datum.{Items, no_items, item, Pairs, no_pairs, pair}
 use Rattle.value_data.specs.Same.{size}
 
 -- a hash that goes on with one more word
@@ -34,7 +37,8 @@ abbrev mutual
   hash (list ds) = items_hash 7 ds
   hash (vector ds) = items_hash 7 ds
   hash (map ps) =
-      mixed (mixed (mixed (mixed (mixed 8 (size ps)) (peak 0xD6E8FEB86659FD93 ps)) (peak 0x2917014799A6026D ps))
+      mixed (mixed (mixed (mixed (mixed 8 (size ps)) (peak 0xD6E8FEB86659FD93 ps))
+      (peak 0x2917014799A6026D ps))
       (peak 0xBF58476D1CE4E5B9 ps)) (peak 0x40A7B892E31B1A47 ps)
   hash (ref owner number) = mixed (owner_hash owner) number
   hash (atom number) = mixed 12 number

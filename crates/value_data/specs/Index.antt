@@ -1,5 +1,6 @@
 -- What a map's index tells: the places of its pairs in the order of their keys.
-use Rattle.std.specs.Prelude.{◌≡◌, ℕ, zero, suc, ◌<◌, ◌≤◌, List, length, slice_index_or, map as each, None}
+use Rattle.std.specs.Prelude.{◌≡◌, ℕ, zero, suc, ◌<◌, ◌≤◌, List, length, slice_index_or}
+use Rattle.std.specs.Prelude.{map as each, None}
 use Rattle.std.specs.List.{All, Contains}
 use Rattle.std.specs.declared.cmp.Ordering.TheVariants.{Less}
 use Rattle.value_data.specs.Datum.{Datum, Pairs, no_pairs, pair}
@@ -23,14 +24,17 @@ pub record Indexes (places : List ℕ) (ps : Pairs) : Type 0 where
   pub counted : length places ≡ size ps
   pub within : All (λ n. n < size ps) places
   pub complete : (n : ℕ) → n < size ps → Contains places n
-  pub ascending : (i j : ℕ) → i < j → j < length places → order (key_at ps (slice_index_or places i 0)) (key_at ps (slice_index_or places j 0)) ≡ Less
+  pub ascending : (i j : ℕ) → i < j → j < length places
+      → order (key_at ps (slice_index_or places i 0)) (key_at ps (slice_index_or places j 0)) ≡ Less
 
 -- No key is equal, and the place of this key belongs at the rank.
 pub record Belongs (rank : ℕ) (places : List ℕ) (ps : Pairs) (d : Datum) : Type 0 where
   pub absent : first_place ps d ≡ None
   pub in_range : rank ≤ length places
-  pub before : (i : ℕ) → i < rank → order (key_at ps (slice_index_or places i 0)) (sort_key d) ≡ Less
-  pub behind : (i : ℕ) → rank ≤ i → i < length places → order (sort_key d) (key_at ps (slice_index_or places i 0)) ≡ Less
+  pub before : (i : ℕ) → i < rank → order (key_at ps (slice_index_or places i 0)) (sort_key d)
+      ≡ Less
+  pub behind : (i : ℕ) → rank ≤ i → i < length places
+      → order (sort_key d) (key_at ps (slice_index_or places i 0)) ≡ Less
 
 -- what the pair at a place is compared by
 abbrev pub row_at : Pairs → ℕ → SortKey

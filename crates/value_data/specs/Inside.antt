@@ -11,25 +11,30 @@ use Rattle.value_data.specs.declared.value.ItemsNode.{ItemsNode}
 use Rattle.value_data.specs.declared.value.PairsNode.{PairsNode}
 
 -- how many values stand in a value, with those that its nodes hold and do not show
-abbrev pub held : Value → ℕ
-held (Value.List s) = 1 + s.held
-held (Value.Vector s) = 1 + s.held
-held (Value.Map t) = 1 + t.held
-held _ = 1
+abbrev pub held_count : Value → ℕ
+held_count (Value.List s) = 1 + s.held
+held_count (Value.Vector s) = 1 + s.held
+held_count (Value.Map t) = 1 + t.held
+held_count _ = 1
 
 abbrev pub items_held : List Value → ℕ
 items_held [] = 0
-items_held (v ∷ vs) = held v + items_held vs
+items_held (v ∷ vs) = held_count v + items_held vs
 
 abbrev pub pairs_held : List (Value × Value) → ℕ
 pairs_held [] = 0
-pairs_held (p ∷ ps) = held p.0 + held p.1 + pairs_held ps
+pairs_held (p ∷ ps) = held_count p.0 + held_count p.1 + pairs_held ps
 
 -- the items from a place on
 abbrev pub seen_from : ItemsNode → ℕ → SequenceData
-seen_from n start = record { items = items_view (drop start n.items.items); held = items_held n.items.items }
+seen_from n start = record {
+  items = items_view (drop start n.items.items);
+  held =
+      items_held n.items.items;
+}
 
--- What is kept of the items, and, where there are tails, of what stands from each place on: the last k items at k.
+-- What is kept of the items, and, where there are tails, of what stands from each place on: the
+-- last k items at k.
 pub record KeepsItems (n : ItemsNode) (start : ℕ) : Type 0 where
   pub whole : FitsItems n.whole (items_view n.items.items)
   pub tails : AreTails n.tails.items n.items.items

@@ -1,12 +1,14 @@
--- Pairs by their keys. A key that stands comes first in each comparison with one that is looked for.
-use Rattle.std.specs.Prelude.{ℕ, zero, suc, Bool, true, false, ◌||◌, Option, Some, None, if◌then◌else◌}
+-- Pairs by their keys. A key that stands comes first in each comparison with one that is looked
+-- for.
+use Rattle.std.specs.Prelude.{ℕ, zero, suc, Bool, true, false, ◌||◌, Option, Some, None}
+use Rattle.std.specs.Prelude.{if◌then◌else◌}
 use Rattle.value_data.specs.Datum.{Datum, Items, no_items, item, Pairs, no_pairs, pair}
 use Rattle.value_data.specs.Same.{same}
 
 -- the value of the first key that is equal
-abbrev pub value_at : Datum → Pairs → Option Datum
-value_at d no_pairs = None
-value_at d (pair k v ps) = if same k d then Some v else value_at d ps
+abbrev pub value_under : Datum → Pairs → Option Datum
+value_under d no_pairs = None
+value_under d (pair k v ps) = if same k d then Some v else value_under d ps
 
 -- whether a key is equal
 abbrev pub has_key : Pairs → Datum → Bool
@@ -18,14 +20,14 @@ keys_of no_pairs = no_items
 keys_of (pair k v ps) = item k (keys_of ps)
 
 -- the value at a place
-abbrev pub value_in : Pairs → ℕ → Option Datum
-value_in no_pairs n = None
-value_in (pair k v ps) zero = Some v
-value_in (pair k v ps) (suc n) = value_in ps n
+abbrev pub nth_value : Pairs → ℕ → Option Datum
+nth_value no_pairs n = None
+nth_value (pair k v ps) zero = Some v
+nth_value (pair k v ps) (suc n) = nth_value ps n
 
-abbrev pub value_of : Pairs → Option ℕ → Option Datum
-value_of ps None = None
-value_of ps (Some n) = value_in ps n
+abbrev pub value_at_place : Pairs → Option ℕ → Option Datum
+value_at_place ps None = None
+value_at_place ps (Some n) = nth_value ps n
 
 -- the pairs and one more
 abbrev pub behind_all : Pairs → Datum → Datum → Pairs

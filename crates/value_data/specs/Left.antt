@@ -1,5 +1,6 @@
 -- The places of the pairs that are left once some are taken out.
-use Rattle.std.specs.Prelude.{ℕ, ◌+◌, List, [], ◌∷◌, Bool, true, false, not, map, filter, slice_index_or}
+use Rattle.std.specs.Prelude.{ℕ, ◌+◌, List, [], ◌∷◌, Bool, true, false, not, map, filter}
+use Rattle.std.specs.Prelude.{slice_index_or}
 
 -- for each mark how many before it are not set, from n
 abbrev pub numbers_from : ℕ → List Bool → List ℕ
@@ -12,4 +13,5 @@ is_left ms place = not (slice_index_or ms place true)
 
 -- the places that are not marked, each less by the marked ones before it
 abbrev pub places_left : List Bool → List ℕ → List ℕ
-places_left ms places = map (λ place. slice_index_or (numbers_from 0 ms) place 0) (filter (is_left ms) places)
+places_left ms places = map (λ place. slice_index_or (numbers_from 0 ms) place 0)
+    (filter (is_left ms) places)

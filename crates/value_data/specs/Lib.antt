@@ -1,4 +1,5 @@
 pub mod Datum
+pub mod CodedNodes
 pub mod Code
 pub mod Held
 pub mod Measures

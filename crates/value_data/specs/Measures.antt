@@ -1,6 +1,7 @@
 -- How large and how deep a value is, and whether it is plain.
 use Rattle.std.specs.Prelude.{ℕ, ◌+◌, ◌-◌, ◌^◌, min, max, Bool, true, false, ◌&&◌, length}
-use Rattle.value_data.specs.Datum.{Datum, string, keyword, symbol, list, vector, map, ref, atom, agent, var, fault, Items, no_items, item, Pairs, no_pairs, pair}
+use Rattle.value_data.specs.Datum.{Datum, string, keyword, symbol, list, vector, map, ref, atom}
+use Rattle.value_data.specs.Datum.{agent, var, fault, Items, no_items, item, Pairs, no_pairs, pair}
 
 -- what 64 bits hold of a number
 abbrev pub capped : ℕ → ℕ

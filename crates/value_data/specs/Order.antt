@@ -1,10 +1,13 @@
--- A total order of values that ties equal values and no others. The places of a map's pairs are kept in the order of their keys.
+-- A total order of values that ties equal values and no others. The places of a map's pairs are
+-- kept in the order of their keys.
 use Rattle.std.specs.Prelude.{ℕ, ℤ, List, [], ◌∷◌, if◌then◌else◌}
 use Rattle.std.specs.declared.cmp.Ordering.{Ordering}
 use Rattle.std.specs.declared.cmp.Ordering.TheVariants.{Less, Greater}
 use Rattle.std.specs.Ordering.{nat_cmp, int_cmp, ordering_then, match_ordering}
 use Rattle.std.specs.Cmp.Lexicographic.{slice_cmp}
-use Rattle.value_data.specs.Datum.{OwnerData, shared, tenant, Datum, nil, boolean, integer, string, keyword, symbol, list, vector, map, ref, atom, agent, var, fault, Items, no_items, item, Pairs, no_pairs, pair}
+use Rattle.value_data.specs.Datum.{OwnerData, shared, tenant, Datum, nil, boolean, integer, string}
+use Rattle.value_data.specs.Datum.{keyword, symbol, list, vector, map, ref, atom, agent, var, fault}
+use Rattle.value_data.specs.Datum.{Items, no_items, item, Pairs, no_pairs, pair}
 use Rattle.value_data.specs.Same.{size}
 use Rattle.value_data.specs.Hash.{hash, items_hash}
 
@@ -15,8 +18,9 @@ pub data SortKey : Type 0 where
   text : List ℕ → SortKey
   both : SortKey → SortKey → SortKey
 
--- Of two parts the first decides, and then the second. Parts of different kinds meet only where one list ends before another,
--- and where the owners of refs are compared, since what all share has another kind than a tenant.
+-- Of two parts the first decides, and then the second. Parts of different kinds meet only where one
+-- list ends before another, and where the owners of refs are compared, since what all share has
+-- another kind than a tenant.
 abbrev pub order : SortKey → SortKey → Ordering
 order (number m) (number n) = nat_cmp m n
 order (number m) b = Less
@@ -30,13 +34,13 @@ order (both a b) (both c d) = ordering_then (order a c) (order b d)
 order (both a b) c = Greater
 
 -- puts one among others that ascend, unless it is there
-abbrev pub put : SortKey → List SortKey → List SortKey
-put x [] = x ∷ []
-put x (y ∷ ys) = match_ordering (order x y) (x ∷ y ∷ ys) (y ∷ ys) (y ∷ put x ys)
+abbrev pub with_sort_key : SortKey → List SortKey → List SortKey
+with_sort_key x [] = x ∷ []
+with_sort_key x (y ∷ ys) = match_ordering (order x y) (x ∷ y ∷ ys) (y ∷ ys) (y ∷ with_sort_key x ys)
 
 abbrev pub sorted : List SortKey → List SortKey
 sorted [] = []
-sorted (x ∷ xs) = put x (sorted xs)
+sorted (x ∷ xs) = with_sort_key x (sorted xs)
 
 abbrev pub chain : List SortKey → SortKey
 chain [] = number 0
@@ -63,8 +67,8 @@ kind (agent n) = 10
 kind (var space name) = 11
 kind (fault class told) = 12
 
--- Values go by their kinds, and those of one kind by what stands in them. Items and pairs go by their hash first, which is
--- kept, and then items in turn, and pairs in the order of their keys.
+-- Values go by their kinds, and those of one kind by what stands in them. Items and pairs go by
+-- their hash first, which is kept, and then items in turn, and pairs in the order of their keys.
 abbrev mutual
   pub content : Datum → SortKey
   content nil = number 0
@@ -75,7 +79,8 @@ abbrev mutual
   content (symbol s) = text s
   content (list ds) = both (number (items_hash 7 ds)) (items_sort_key ds)
   content (vector ds) = both (number (items_hash 7 ds)) (items_sort_key ds)
-  content (map ps) = both (number (hash (map ps))) (both (number (size ps)) (chain (sorted (rows ps))))
+  content (map ps) = both (number (hash (map ps)))
+      (both (number (size ps)) (chain (sorted (rows ps))))
   content (ref owner n) = both (owner_sort_key owner) (number n)
   content (atom n) = number n
   content (agent n) = number n
@@ -88,7 +93,8 @@ abbrev mutual
 
   pub rows : Pairs → List SortKey
   rows no_pairs = []
-  rows (pair k v ps) = both (both (number (kind k)) (content k)) (both (number (kind v)) (content v)) ∷ rows ps
+  rows (pair k v ps) = both (both (number (kind k)) (content k))
+      (both (number (kind v)) (content v)) ∷ rows ps
 
 abbrev pub sort_key : Datum → SortKey
 sort_key d = both (number (kind d)) (content d)

@@ -1,5 +1,6 @@
 -- Pairs by the places of their keys. Contracts of private functions speak of it.
-use Rattle.std.specs.Prelude.{◌≡◌, ℕ, zero, suc, Bool, true, not, ◌&&◌, Option, Some, None, option_map, if◌then◌else◌}
+use Rattle.std.specs.Prelude.{◌≡◌, ℕ, zero, suc, Bool, true, not, ◌&&◌, Option, Some, None}
+use Rattle.std.specs.Prelude.{option_map, if◌then◌else◌}
 use Rattle.value_data.specs.Datum.{Datum, Pairs, no_pairs, pair}
 use Rattle.value_data.specs.Same.{same}
 use Rattle.value_data.specs.Keyed.{has_key}
@@ -7,7 +8,8 @@ use Rattle.value_data.specs.Keyed.{has_key}
 -- the place of the first key that is equal
 abbrev pub first_place : Pairs → Datum → Option ℕ
 first_place no_pairs d = None
-first_place (pair k v ps) d = if same k d then Some 0 else option_map (λ n. suc n) (first_place ps d)
+first_place (pair k v ps) d = if same k d then Some 0
+    else option_map (λ n. suc n) (first_place ps d)
 
 -- no key is equal to a later one
 abbrev pub are_distinct : Pairs → Bool

@@ -8,7 +8,8 @@ use Rattle.value_data.specs.Same.{same}
 -- a key there keeps its place and takes the value; another stands behind all
 abbrev pub put_pair : Datum → Datum → Pairs → Pairs
 put_pair key value no_pairs = pair key value no_pairs
-put_pair key value (pair k v ps) = if same k key then pair k value ps else pair k v (put_pair key value ps)
+put_pair key value (pair k v ps) = if same k key then pair k value ps
+    else pair k v (put_pair key value ps)
 
 -- one after another
 abbrev pub put_pairs : Pairs → List (Datum × Datum) → Pairs

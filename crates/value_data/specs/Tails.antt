@@ -9,7 +9,8 @@ use Rattle.value_data.specs.declared.value.Value.{Value}
 
 -- at k the measure of the last k values
 abbrev pub AreTails : List ItemsMeasure → List Value → Type 0
-AreTails ms vs = (i k : ℕ) (m : ItemsMeasure) → i + k ≡ length vs → k < length ms → FitsItems (slice_index_or ms k m) (items_view (drop i vs))
+AreTails ms vs = (i k : ℕ) (m : ItemsMeasure) → i + k ≡ length vs → k < length ms
+    → FitsItems (slice_index_or ms k m) (items_view (drop i vs))
 
 -- what a number that stands before the items is multiplied by in their hash
 unfoldable pub factor : Items → ℕ

@@ -1,7 +1,9 @@
 -- The data that a `Value` stands for. A list's, a vector's and a map's stand in it already.
 use Rattle.std.specs.Prelude.{List, map as each}
 use Rattle.std.specs.Arc.{arc_str_bytes}
-use Rattle.value_data.specs.Datum.{OwnerData, shared, tenant, Datum, nil, boolean, integer, string, keyword, symbol, list, vector, map, ref, atom, agent, var, fault, Items, Pairs}
+use Rattle.value_data.specs.Datum.{OwnerData, shared, tenant, Datum, nil, boolean, integer, string}
+use Rattle.value_data.specs.Datum.{keyword, symbol, list, vector, map, ref, atom, agent, var, fault}
+use Rattle.value_data.specs.Datum.{Items, Pairs}
 use Rattle.value_data.specs.Listed.{items_of, pairs_of}
 use Rattle.value_data.specs.declared.value.Owner.{Owner}
 use Rattle.value_data.specs.declared.value.Value.{Value}

@@ -28,7 +28,7 @@ impl Table {
     {
         let pairs = Vec::new(alloc);
         let index = ChunkedList::new(alloc);
-        sealed(alloc, pairs, index, PairsMeasure::of_none())
+        sealed_table(alloc, pairs, index, PairsMeasure::of_none())
     }
 
     /// The pairs of the vector, measured and indexed once. It fails only for want of memory, and
@@ -46,12 +46,12 @@ impl Table {
             }
             measure = measure.with_pair(&pair.0, &pair.1);
         }
-        Ok(Built::Made(sealed(alloc, pairs, index, measure)?))
+        Ok(Built::Made(sealed_table(alloc, pairs, index, measure)?))
     }
 }
 
 // The pairs with their index and their measure.
-pub(crate) fn sealed(
+pub(crate) fn sealed_table(
     alloc: Global,
     pairs: Vec<(Value, Value)>,
     index: ChunkedList,

@@ -12,7 +12,7 @@ ghost use Rattle.value_data.specs.Fits.{FitsPairs};
 ghost use Rattle.value_data.specs.Inside.{KeepsPairs};
 ghost use Rattle.value_data.specs.Seen.{entry_view, MayFit};
 
-use crate::building::sealed;
+use crate::building::sealed_table;
 use crate::copies::{copy, copy_pairs};
 use crate::node_measures::PairsMeasure;
 use crate::places::search;
@@ -29,13 +29,14 @@ impl Table {
     /// first. They are measured anew only where a replaced value was the deepest of all, or decided
     /// the hash of the map.
     pub fn with_pairs(self, alloc: Global, more: &[(&Value, &Value)]) -> Result<Table, AllocError>
-        ensures { IfOk result (λ made. made.pairs ≡ put_pairs self.pairs (map entry_view more.now)) }
+        ensures { IfOk result (λ made. made.pairs
+            ≡ put_pairs self.pairs (map entry_view more.now)) }
     {
         let PairsNode {
             mut pairs,
             mut index,
             measure,
-        } = opened(alloc, self)?;
+        } = owned_node(alloc, self)?;
         let mut measure = Some(measure);
         for (key, value) in more {
             measure = put(alloc, &mut pairs, &mut index, measure, key, value)?;
@@ -44,25 +45,26 @@ impl Table {
             Some(measure) => measure,
             None => measure_of(&pairs),
         };
-        sealed(alloc, pairs, index, measure)
+        sealed_table(alloc, pairs, index, measure)
     }
 }
 
 // What the node of the pairs holds, or copies of it where somebody else holds it too.
-fn opened(alloc: Global, table: Table) -> Result<PairsNode, AllocError>
+fn owned_node(alloc: Global, table: Table) -> Result<PairsNode, AllocError>
     ensures pairs { IfOk result (λ node. pairs_view node.pairs.items ≡ table.pairs) }
     ensures keeps { IfOk result (λ node. KeepsPairs node) }
 {
     let Table { node } = table;
     match Arc::try_unwrap(node) {
         Ok(node) => Ok(node),
-        Err(shared) => copied(alloc, &shared),
+        Err(shared) => copy_node(alloc, &shared),
     }
 }
 
-fn copied(alloc: Global, node: &PairsNode) -> Result<PairsNode, AllocError>
+fn copy_node(alloc: Global, node: &PairsNode) -> Result<PairsNode, AllocError>
     requires { KeepsPairs node.now }
-    ensures pairs { IfOk result (λ copied. pairs_view copied.pairs.items ≡ pairs_view node.now.pairs.items) }
+    ensures pairs { IfOk result (λ copied. pairs_view copied.pairs.items
+        ≡ pairs_view node.now.pairs.items) }
     ensures keeps { IfOk result (λ copied. KeepsPairs copied) }
 {
     let pairs = copy_pairs(alloc, &node.pairs)?;
@@ -95,14 +97,15 @@ fn put(
     requires distinct { are_distinct (pairs_view pairs.old.items) ≡ true }
     requires indexed { Indexes index.old (pairs_view pairs.old.items) }
     requires measured { MayFit measure (pairs_view pairs.old.items) }
-    ensures put { IfOk result (λ measure. pairs_view pairs.new.items ≡ put_pair (view key.now) (view value.now) (pairs_view pairs.old.items)) }
+    ensures put { IfOk result (λ measure. pairs_view pairs.new.items
+        ≡ put_pair (view key.now) (view value.now) (pairs_view pairs.old.items)) }
     ensures distinct { IfOk result (λ measure. are_distinct (pairs_view pairs.new.items) ≡ true) }
     ensures indexed { IfOk result (λ measure. Indexes index.new (pairs_view pairs.new.items)) }
     ensures measured { IfOk result (λ measure. MayFit measure (pairs_view pairs.new.items)) }
 {
     match search(key, pairs.as_slice(), index) {
         Ok(place) => {
-            let measure = replaced(measure, &pairs[place], value);
+            let measure = measure_with_value(measure, &pairs[place], value);
             set_value(pairs, place, copy(value)?);
             Ok(measure)
         }
@@ -115,17 +118,20 @@ fn put(
 }
 
 fn with_pair(measure: Option<PairsMeasure>, key: &Value, value: &Value) -> Option<PairsMeasure>
-    ensures { (ps : Pairs) → MayFit measure ps → MayFit result (behind_all ps (view key.now) (view value.now)) }
+    ensures { (ps : Pairs) → MayFit measure ps
+        → MayFit result (behind_all ps (view key.now) (view value.now)) }
 {
     Some(measure?.with_pair(key, value))
 }
 
-fn replaced(
+fn measure_with_value(
     measure: Option<PairsMeasure>,
     pair: &(Value, Value),
     value: &Value,
 ) -> Option<PairsMeasure>
-    ensures { (ps : Pairs) (n : ℕ) → MayFit measure ps → StandsAt ps n (view pair.now.0) (view pair.now.1) → MayFit result (with_value n (view value.now) ps) }
+    ensures { (ps : Pairs) (n : ℕ) → MayFit measure ps
+        → StandsAt ps n (view pair.now.0) (view pair.now.1)
+        → MayFit result (with_value n (view value.now) ps) }
 {
     measure?.with_value(&pair.0, &pair.1, value)
 }

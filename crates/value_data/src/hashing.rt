@@ -63,7 +63,8 @@ fn mix_text(seed: u64, text: &ArcStr) -> u64
 }
 
 fn mix_two_texts(seed: u64, first: &ArcStr, second: &ArcStr) -> u64
-    ensures { result ≡ mixed_text (mixed (mixed_text seed (arc_str_bytes first.now)) 255) (arc_str_bytes second.now) }
+    ensures { result ≡ mixed_text (mixed (mixed_text seed (arc_str_bytes first.now)) 255)
+        (arc_str_bytes second.now) }
 {
     mix_text(mix(mix_text(seed, first), 255), second)
 }

@@ -38,7 +38,8 @@ fn text_weight(text: &ArcStr) -> u64
 }
 
 fn two_texts_weight(first: &ArcStr, second: &ArcStr) -> u64
-    ensures { result ≡ capped (1 + length (arc_str_bytes first.now) + length (arc_str_bytes second.now)) }
+    ensures { result ≡ capped (1 + length (arc_str_bytes first.now) + length
+        (arc_str_bytes second.now)) }
 {
     text_weight(first).saturating_add(second.len() as u64)
 }

@@ -47,7 +47,8 @@ impl ItemsMeasure {
 
     // Of the items with one more behind them.
     pub(crate) fn with_last(self, last: &Value) -> ItemsMeasure
-        ensures { (ds : Items) → FitsItems self ds → FitsItems result (with_last ds (view last.now)) }
+        ensures { (ds : Items) → FitsItems self ds
+            → FitsItems result (with_last ds (view last.now)) }
     {
         ItemsMeasure {
             weight: self.weight.saturating_add(weight(last)),
@@ -74,7 +75,8 @@ impl PairsMeasure {
 
     // Of the pairs with one more behind them.
     pub(crate) fn with_pair(self, key: &Value, value: &Value) -> PairsMeasure
-        ensures { (ps : Pairs) → FitsPairs self ps → FitsPairs result (behind_all ps (view key.now) (view value.now)) }
+        ensures { (ps : Pairs) → FitsPairs self ps
+            → FitsPairs result (behind_all ps (view key.now) (view value.now)) }
     {
         let word = mix(mix(9, hash_of(key)), hash_of(value));
         PairsMeasure {
@@ -92,7 +94,9 @@ impl PairsMeasure {
 
     // Of the pairs with another value under a key, where that can be told without the others.
     pub(crate) fn with_value(self, key: &Value, old: &Value, new: &Value) -> Option<PairsMeasure>
-        ensures { (ps : Pairs) (n : ℕ) → FitsPairs self ps → StandsAt ps n (view key.now) (view old.now) → MayFit result (with_value n (view new.now) ps) }
+        ensures { (ps : Pairs) (n : ℕ) → FitsPairs self ps
+            → StandsAt ps n (view key.now) (view old.now)
+            → MayFit result (with_value n (view new.now) ps) }
     {
         if self.weight == u64::MAX {
             return None;
@@ -128,7 +132,8 @@ impl PairsMeasure {
 // The greatest of some numbers of which one was `old` and is `new`, where that can be told without
 // the others: it cannot where the old one was the greatest and the new one is less.
 fn greatest(top: u64, old: u64, new: u64) -> Option<u64>
-    ensures { IfSome result (λ found. (others : ℕ) → top ≡ max others old → found ≡ max others new) }
+    ensures { IfSome result (λ found. (others : ℕ) → top ≡ max others old
+        → found ≡ max others new) }
 {
     if old < top || old <= new {
         Some(top.max(new))
@@ -139,7 +144,8 @@ fn greatest(top: u64, old: u64, new: u64) -> Option<u64>
 
 // The same of numbers that were multiplied by a salt.
 fn peak(top: u64, by: u64, old: u64, new: u64) -> Option<u64>
-    ensures { IfSome result (λ found. (others : ℕ) → top ≡ max others (salted by old) → found ≡ max others (salted by new)) }
+    ensures { IfSome result (λ found. (others : ℕ) → top ≡ max others (salted by old)
+        → found ≡ max others (salted by new)) }
 {
     greatest(top, salt(by, old), salt(by, new))
 }

@@ -6,7 +6,8 @@ ghost use Rattle.std.specs.Arc.{arc_str_bytes};
 ghost use Rattle.value_data.specs.Datum.{list, map};
 ghost use Rattle.value_data.specs.View.{view, items_view, pairs_view, owner_view};
 ghost use Rattle.value_data.specs.Same.{size};
-ghost use Rattle.value_data.specs.Order.{text, both, number, order, sort_key, content, kind, items_sort_key, owner_sort_key, chain, sorted, rows};
+ghost use Rattle.value_data.specs.Order.{text, both, number, order, sort_key, content, kind};
+ghost use Rattle.value_data.specs.Order.{items_sort_key, owner_sort_key, chain, sorted, rows};
 ghost use Rattle.value_data.specs.Index.{rows_at, ArePlaces};
 
 use crate::value::{Owner, RefName, Sequence, Table, Value};
@@ -82,13 +83,15 @@ fn compare_texts(left: &ArcStr, right: &ArcStr) -> Ordering
 }
 
 fn compare_refs(left: RefName, right: RefName) -> Ordering
-    ensures { result ≡ order (both (owner_sort_key (owner_view left.owner)) (number left.number)) (both (owner_sort_key (owner_view right.owner)) (number right.number)) }
+    ensures { result ≡ order (both (owner_sort_key (owner_view left.owner)) (number left.number))
+        (both (owner_sort_key (owner_view right.owner)) (number right.number)) }
 {
     compare_owners(left.owner, right.owner).then(left.number.cmp(&right.number))
 }
 
 fn compare_owners(left: Owner, right: Owner) -> Ordering
-    ensures { result ≡ order (owner_sort_key (owner_view left)) (owner_sort_key (owner_view right)) }
+    ensures { result ≡ order (owner_sort_key (owner_view left))
+        (owner_sort_key (owner_view right)) }
 {
     match (left, right) {
         (Owner::Shared, Owner::Shared) => Ordering::Equal,
@@ -111,7 +114,8 @@ fn compare_sequences(left: &Sequence, right: &Sequence) -> Ordering
 // The first items that differ decide, and else the number of items.
 #[cycle(compare)]
 fn compare_items(left: &[Value], right: &[Value]) -> Ordering
-    ensures { result ≡ order (items_sort_key (items_view left.now)) (items_sort_key (items_view right.now)) }
+    ensures { result ≡ order (items_sort_key (items_view left.now))
+        (items_sort_key (items_view right.now)) }
 {
     for (place, item) in left.iter().enumerate() {
         let Some(other) = right.get(place) else {
@@ -155,7 +159,8 @@ fn compare_rows(
     requires left { ArePlaces left_index.now (length left.now) }
     requires right { ArePlaces right_index.now (length right.now) }
     requires equal { length left.now ≡ length right.now }
-    ensures { result ≡ order (rows_at (pairs_view left.now) left_index.now) (rows_at (pairs_view right.now) right_index.now) }
+    ensures { result ≡ order (rows_at (pairs_view left.now) left_index.now)
+        (rows_at (pairs_view right.now) right_index.now) }
 {
     for rank in 0..left.len() {
         let compared = compare_pairs(&left[left_index.at(rank)], &right[right_index.at(rank)]);
@@ -169,7 +174,8 @@ fn compare_rows(
 // The keys decide, and then the values.
 #[cycle(compare)]
 fn compare_pairs(left: &(Value, Value), right: &(Value, Value)) -> Ordering
-    ensures { result ≡ order (both (sort_key (view left.now.0)) (sort_key (view left.now.1))) (both (sort_key (view right.now.0)) (sort_key (view right.now.1))) }
+    ensures { result ≡ order (both (sort_key (view left.now.0)) (sort_key (view left.now.1)))
+        (both (sort_key (view right.now.0)) (sort_key (view right.now.1))) }
 {
     let compared = compare(&left.0, &right.0);
     if compared.is_ne() {

@@ -3,7 +3,7 @@
 
 ghost use Rattle.std.specs.Prelude.{◌≡◌, Some, IfOk, IfErr, option_map};
 ghost use Rattle.value_data.specs.View.{view, pairs_view};
-ghost use Rattle.value_data.specs.Keyed.{value_of};
+ghost use Rattle.value_data.specs.Keyed.{value_at_place};
 ghost use Rattle.value_data.specs.Placed.{first_place};
 ghost use Rattle.value_data.specs.Index.{Indexes, Belongs};
 
@@ -20,8 +20,10 @@ pub(crate) fn search(
     index: &ChunkedList,
 ) -> Result<usize, usize>
     requires { Indexes index.now (pairs_view pairs.now) }
-    ensures found { IfOk result (λ place. first_place (pairs_view pairs.now) (view key.now) ≡ Some place) }
-    ensures new { IfErr result (λ rank. Belongs rank index.now (pairs_view pairs.now) (view key.now)) }
+    ensures found { IfOk result (λ place. first_place (pairs_view pairs.now) (view key.now)
+        ≡ Some place) }
+    ensures new { IfErr result (λ rank.
+        Belongs rank index.now (pairs_view pairs.now) (view key.now)) }
 {
     let mut low = 0;
     let mut high = pairs.len();
@@ -49,7 +51,7 @@ pub(crate) fn place_of(key: &Value, pairs: &[(Value, Value)], index: &ChunkedLis
 }
 
 pub(crate) fn value_at_place(pairs: &[(Value, Value)], place: Option<usize>) -> Option<&Value>
-    ensures { option_map (λ v. view v.now) result ≡ value_of (pairs_view pairs.now) place }
+    ensures { option_map (λ v. view v.now) result ≡ value_at_place (pairs_view pairs.now) place }
 {
     match pairs.get(place?) {
         Some(pair) => Some(&pair.1),

@@ -9,7 +9,7 @@ ghost use Rattle.value_data.specs.Put.{without_keys as without};
 ghost use Rattle.value_data.specs.Listed.{vector_of_two};
 ghost use Rattle.value_data.specs.Marked.{unmarked, with_mark};
 
-use crate::building::sealed;
+use crate::building::sealed_table;
 use crate::copies::copy;
 use crate::edits::measure_of;
 use crate::places::place_of;
@@ -25,10 +25,10 @@ impl Table {
     {
         let pairs = self.node.pairs.as_slice();
         let marks = marks_of(alloc, keys, pairs, &self.node.index)?;
-        let left = left_over(alloc, pairs, &marks)?;
-        let index = renumbered(alloc, &self.node.index, &marks)?;
+        let left = unmarked_pairs(alloc, pairs, &marks)?;
+        let index = renumbered_places(alloc, &self.node.index, &marks)?;
         let measure = measure_of(&left);
-        sealed(alloc, left, index, measure)
+        sealed_table(alloc, left, index, measure)
     }
 }
 
@@ -41,7 +41,8 @@ fn marks_of(
 ) -> Result<Vec<bool>, AllocError>
     requires distinct { are_distinct (pairs_view pairs.now) ≡ true }
     requires indexed { Indexes index.now (pairs_view pairs.now) }
-    ensures { IfOk result (λ marks. marks.items ≡ map (λ p. is_one_of (items_view keys.now) (view p.0)) pairs.now) }
+    ensures { IfOk result (λ marks. marks.items
+        ≡ map (λ p. is_one_of (items_view keys.now) (view p.0)) pairs.now) }
 {
     let mut marks = Vec::new(alloc);
     marks.resize(pairs.len(), false)?;
@@ -61,13 +62,14 @@ fn mark(marks: &mut Vec<bool>, place: Option<usize>)
 }
 
 // Copies of the pairs that are not marked.
-fn left_over(
+fn unmarked_pairs(
     alloc: Global,
     pairs: &[(Value, Value)],
     marks: &[bool],
 ) -> Result<Vec<(Value, Value)>, AllocError>
     requires { length marks.now ≡ length pairs.now }
-    ensures { IfOk result (λ rest. map pair_view rest.items ≡ unmarked marks.now (map pair_view pairs.now)) }
+    ensures { IfOk result (λ rest. map pair_view rest.items
+        ≡ unmarked marks.now (map pair_view pairs.now)) }
 {
     let mut rest = Vec::new(alloc);
     for (place, (key, value)) in pairs.iter().enumerate() {
@@ -79,7 +81,11 @@ fn left_over(
 }
 
 // The places that are not marked, each less by the marked ones before it.
-fn renumbered(alloc: Global, index: &ChunkedList, marks: &[bool]) -> Result<ChunkedList, AllocError>
+fn renumbered_places(
+    alloc: Global,
+    index: &ChunkedList,
+    marks: &[bool],
+) -> Result<ChunkedList, AllocError>
     requires { ArePlaces index.now (length marks.now) }
     ensures { IfOk result (λ left. left ≡ places_left marks.now index.now) }
 {

@@ -76,7 +76,7 @@ impl Sequence {
             return with_last_of(alloc, &node.items[start..], measure, last);
         }
         match Arc::try_unwrap(node) {
-            Ok(node) => pushed(alloc, node.items, measure, last),
+            Ok(node) => sequence_with_last(alloc, node.items, measure, last),
             Err(shared) => with_last_of(alloc, &shared.items, measure, last),
         }
     }
@@ -96,8 +96,8 @@ impl Sequence {
     /// The items behind the first, or none where there is none.
     ///
     /// It takes one step for each item. Each further rest of what it gave takes one step in all, as
-    /// long as it weighs half of that. A lighter one is copied, so that no rest holds in memory more
-    /// than twice what it weighs. It fails only for want of memory.
+    /// long as it weighs half of that. A lighter one is copied, so that no rest holds in memory
+    /// more than twice what it weighs. It fails only for want of memory.
     pub fn rest(&self, alloc: Global) -> Result<Sequence, AllocError>
         ensures { IfOk result (λ made. made.items ≡ behind_first self.now.items) }
     {
@@ -157,7 +157,7 @@ fn measure_of(items: &[Value]) -> ItemsMeasure
 }
 
 // One more item in a vector that was measured.
-fn pushed(
+fn sequence_with_last(
     alloc: Global,
     mut items: Vec<Value>,
     measure: ItemsMeasure,
@@ -187,7 +187,7 @@ fn with_last_of(
     requires { FitsItems measure (items_view items.now) }
     ensures { IfOk result (λ made. made.items ≡ with_last (items_view items.now) (view last)) }
 {
-    pushed(alloc, copies_with_room(alloc, items, 1)?, measure, last)
+    sequence_with_last(alloc, copies_with_room(alloc, items, 1)?, measure, last)
 }
 
 // The items with the measures of their rests.

@@ -7,7 +7,7 @@ ghost use Rattle.value_data.specs.View.{view, pairs_view};
 ghost use Rattle.value_data.specs.Same.{size};
 ghost use Rattle.value_data.specs.Measures.{capped, pairs_weight, pairs_nesting};
 ghost use Rattle.value_data.specs.Hash.{hash};
-ghost use Rattle.value_data.specs.Keyed.{value_at};
+ghost use Rattle.value_data.specs.Keyed.{value_under};
 ghost use Rattle.value_data.specs.Placed.{are_distinct};
 
 use crate::places::{place_of, value_at_place};
@@ -50,7 +50,7 @@ impl Table {
     /// The value under an equal key. It takes as many comparisons as the number of pairs
     /// has binary digits.
     pub fn get(&self, key: &Value) -> Option<&Value>
-        ensures { option_map (λ v. view v.now) result ≡ value_at (view key.now) self.now.pairs }
+        ensures { option_map (λ v. view v.now) result ≡ value_under (view key.now) self.now.pairs }
     {
         let pairs = self.node.pairs.as_slice();
         value_at_place(pairs, place_of(key, pairs, &self.node.index))
@@ -58,7 +58,7 @@ impl Table {
 
     /// Whether a key is equal, found as `get` finds it.
     pub fn contains(&self, key: &Value) -> bool
-        ensures { result ≡ is_some (value_at (view key.now) self.now.pairs) }
+        ensures { result ≡ is_some (value_under (view key.now) self.now.pairs) }
     {
         self.get(key).is_some()
     }

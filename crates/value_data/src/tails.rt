@@ -14,17 +14,17 @@ use std::alloc::{AllocError, Global};
 
 // The measure of some items, and the two numbers by which one more before them changes their hash.
 #[derive(Clone, Copy)]
-pub(crate) struct Tail {
+pub(crate) struct TailMeasure {
     pub(crate) measure: ItemsMeasure,
     pub(crate) factor: u64,
     pub(crate) addend: u64,
 }
 
-impl Tail {
-    fn of_none() -> Tail
+impl TailMeasure {
+    fn of_none() -> TailMeasure
         ensures { FitsTail result no_items }
     {
-        Tail {
+        TailMeasure {
             measure: ItemsMeasure::of_none(),
             factor: 1,
             addend: 0,
@@ -32,7 +32,7 @@ impl Tail {
     }
 
     // With one more item before them.
-    fn with_first(self, first: &Value) -> Tail
+    fn with_first(self, first: &Value) -> TailMeasure
         ensures { (ds : Items) → FitsTail self ds → FitsTail result (item (view first.now) ds) }
     {
         let factor = self.factor.wrapping_mul(0x9E3779B97F4A7C15);
@@ -44,7 +44,7 @@ impl Tail {
             nesting: self.measure.nesting.max(nesting(first)),
             hash: factor.wrapping_mul(7).wrapping_add(addend),
         };
-        Tail {
+        TailMeasure {
             measure,
             factor,
             addend,
@@ -58,7 +58,7 @@ pub(crate) fn tails_of(alloc: Global, items: &[Value]) -> Result<Vec<ItemsMeasur
     ensures each { IfOk result (λ tails. AreTails tails.items items.now) }
 {
     let mut tails = Vec::with_capacity(alloc, items.len().saturating_add(1))?;
-    let mut tail = Tail::of_none();
+    let mut tail = TailMeasure::of_none();
     tails.push(tail.measure)?;
     let mut place = items.len();
     while place > 0 {

@@ -168,9 +168,10 @@ fn equal_maps_are_one_key(rt: HostRuntime) -> Result<(), Fail> {
         let left = value_of(a, left)?;
         let right = value_of(a, right)?;
         assert_eq!(rt; same(&left, &right), equal);
-        if let Value::Map(table) = map_of(a, left, Value::Nil)? {
-            assert_eq!(rt; table.contains(&right), equal);
-        }
+        let Value::Map(table) = map_of(a, left, Value::Nil)? else {
+            panic!(rt; "no map");
+        };
+        assert_eq!(rt; table.contains(&right), equal);
     }
     Ok(())
 }

@@ -1,4 +1,4 @@
-//! Tests of `repl_values` and of `bencode_wire`, by their public calls alone.
+//! Tests of values, of special forms and of the wire, by public calls alone.
 #![tactic(auto)]
 
 #[cfg(test)]

@@ -1,5 +1,5 @@
 // A stream whose last piece is taken back, or settled.
-use crate::wire::{LIMIT, Row, feed, rows, write};
+use crate::wire::{LIMIT, Row, STREAMS, feed, row_of, write};
 use bencode_wire::Decoder;
 use std::alloc::{AllocError, Global};
 
@@ -44,7 +44,8 @@ fn is_read_again_at_every_cut(alloc: Global, row: Row, stream: &[u8]) -> Result<
 
 #[test]
 fn a_piece_taken_back_is_read_again_at_every_cut(rt: HostRuntime) -> Result<(), AllocError> {
-    for row in rows() {
+    for stream in STREAMS {
+        let row = row_of(stream);
         assert!(rt; is_read_again_at_every_cut(rt.alloc(), row, row.stream)?);
     }
     Ok(())

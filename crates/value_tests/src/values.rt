@@ -22,38 +22,40 @@ const TABLE: [Part; 7] = [
     Map(2),
 ];
 
+// The parts of a value, its print and its display.
+const SPELLED: [(&[Part], &str, &str); 22] = [
+    (&[Nil], "nil", "nil"),
+    (&[Bool(true)], "true", "true"),
+    (&[Bool(false)], "false", "false"),
+    (&[Int(-12)], "-12", "-12"),
+    (&[Keyword("name")], ":name", ":name"),
+    (&[Symbol("s/n")], "s/n", "s/n"),
+    (&[Str("é→")], "\"é→\"", "é→"),
+    (&[Str("\"\\")], r#""\"\\""#, "\"\\"),
+    (&[Str("\n\t\r")], r#""\n\t\r""#, "\n\t\r"),
+    (&[Str("\u{c}\u{8}")], r#""\f\b""#, "\u{c}\u{8}"),
+    (&[List(0)], "()", "()"),
+    (&[Vector(0)], "[]", "[]"),
+    (&[Map(0)], "{}", "{}"),
+    (&[Int(1), Int(2), List(2)], "(1 2)", "(1 2)"),
+    (&[Int(1), Str("x"), Vector(2)], "[1 \"x\"]", "[1 x]"),
+    (&TABLE, "{:a 1, \"b\" (nil \"c\")}", "{:a 1, b (nil c)}"),
+    (&[Ref(OWN, 3)], "#ref[3]", "#ref[3]"),
+    (&[Ref(Owner::Shared, 0)], "#ref[shared/0]", "#ref[shared/0]"),
+    (&[Atom(1)], "#atom[1]", "#atom[1]"),
+    (&[Agent(0)], "#agent[0]", "#agent[0]"),
+    (&[Var("user", "x")], "#'user/x", "#'user/x"),
+    (
+        &[Part::Error("C", "a \"b\"")],
+        "#error{C: a \"b\"}",
+        "#error{C: a \"b\"}",
+    ),
+];
+
 #[test]
 fn values_are_spelled(rt: HostRuntime) -> Result<(), Fail> {
-    let rows: [(&[Part], &str, &str); 22] = [
-        (&[Nil], "nil", "nil"),
-        (&[Bool(true)], "true", "true"),
-        (&[Bool(false)], "false", "false"),
-        (&[Int(-12)], "-12", "-12"),
-        (&[Keyword("name")], ":name", ":name"),
-        (&[Symbol("s/n")], "s/n", "s/n"),
-        (&[Str("é→")], "\"é→\"", "é→"),
-        (&[Str("\"\\")], r#""\"\\""#, "\"\\"),
-        (&[Str("\n\t\r")], r#""\n\t\r""#, "\n\t\r"),
-        (&[Str("\u{c}\u{8}")], r#""\f\b""#, "\u{c}\u{8}"),
-        (&[List(0)], "()", "()"),
-        (&[Vector(0)], "[]", "[]"),
-        (&[Map(0)], "{}", "{}"),
-        (&[Int(1), Int(2), List(2)], "(1 2)", "(1 2)"),
-        (&[Int(1), Str("x"), Vector(2)], "[1 \"x\"]", "[1 x]"),
-        (&TABLE, "{:a 1, \"b\" (nil \"c\")}", "{:a 1, b (nil c)}"),
-        (&[Ref(OWN, 3)], "#ref[3]", "#ref[3]"),
-        (&[Ref(Owner::Shared, 0)], "#ref[shared/0]", "#ref[shared/0]"),
-        (&[Atom(1)], "#atom[1]", "#atom[1]"),
-        (&[Agent(0)], "#agent[0]", "#agent[0]"),
-        (&[Var("user", "x")], "#'user/x", "#'user/x"),
-        (
-            &[Part::Error("C", "a \"b\"")],
-            "#error{C: a \"b\"}",
-            "#error{C: a \"b\"}",
-        ),
-    ];
     let a = rt.alloc();
-    for (parts, print, display) in rows {
+    for (parts, print, display) in SPELLED {
         let value = value_of(a, parts)?;
         let mut printed = String::new(a);
         print_into(a, &value, &mut printed)?;
@@ -208,9 +210,10 @@ fn repeated_keys_are_found(rt: HostRuntime) -> Result<(), Fail> {
         (&[Str("a"), Keyword("a"), Str("a"), List(3)], Some(2)),
     ];
     for (parts, repeated) in rows {
-        if let Value::List(keys) = value_of(rt.alloc(), parts)? {
-            assert_eq!(rt; first_repeated(rt.alloc(), keys.as_slice())?, repeated);
-        }
+        let Value::List(keys) = value_of(rt.alloc(), parts)? else {
+            panic!(rt; "no list of keys");
+        };
+        assert_eq!(rt; first_repeated(rt.alloc(), keys.as_slice())?, repeated);
     }
     Ok(())
 }

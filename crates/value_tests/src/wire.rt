@@ -1,10 +1,103 @@
 // Outside examples, hostile streams, and that each call succeeds with ample memory. What is
 // refused for want of memory is asked for once more: any one refusal changes no answer.
+use Stream::{Limited, Refused, Rest, Sorted, Whole};
+use WireFault::{Malformed, TooDeep, TooLong};
 use bencode_wire::{Ben, Decoder, Dictionary, WireFault, put_field, write_into};
 use bytes::Bytes;
 use std::alloc::{AllocError, Global};
 
 pub(crate) const LIMIT: usize = 1_048_576;
+
+// A stream, and what comes of it.
+#[derive(Clone, Copy)]
+pub(crate) enum Stream {
+    // messages that are written as they were spelled
+    Whole(&'static [u8]),
+    // messages that are written otherwise
+    Sorted(&'static [u8], &'static [u8]),
+    // the beginning of a message
+    Rest(&'static [u8]),
+    // messages as they are written, and then a fault
+    Refused(&'static [u8], &'static [u8], WireFault),
+    // the same, where the decoder has this limit
+    Limited(usize, &'static [u8], &'static [u8], WireFault),
+}
+
+pub(crate) const STREAMS: [Stream; 46] = [
+    // The examples of the format, as values, and the ones that it calls invalid.
+    Whole(b""),
+    Whole(b"d1:v4:spame"),
+    Whole(b"d1:vi3ee"),
+    Whole(b"d1:vi-3ee"),
+    Whole(b"d1:vi0ee"),
+    Whole(b"d1:vl4:spam4:eggsee"),
+    Whole(b"d3:cow3:moo4:spam4:eggsed4:spaml1:a1:bee"),
+    Refused(b"d1:vi-0ee", b"", Malformed(6)),
+    Refused(b"d1:vi03ee", b"", Malformed(6)),
+    // Requests, whole and broken off, and keys that do not ascend.
+    Whole(b"d4:code7:(+ 1 2)2:id1:72:op4:evale"),
+    Rest(b"d4:code7:(+ 1"),
+    Sorted(
+        b"d2:op4:eval4:code7:(+ 1 2)2:id1:7e",
+        b"d4:code7:(+ 1 2)2:id1:72:op4:evale",
+    ),
+    Refused(
+        b"d4:code7:(+ 1 2)2:id1:72:op4:evalex",
+        b"d4:code7:(+ 1 2)2:id1:72:op4:evale",
+        Malformed(34),
+    ),
+    Refused(b"d2:idi-0e2:op4:evale", b"", Malformed(7)),
+    Refused(b"d2:id1:12:id1:2e", b"", Malformed(11)),
+    // Integers at and past the ends of 64 bits.
+    Whole(b"d1:ai9223372036854775807ee"),
+    Whole(b"d1:ai-9223372036854775808ee"),
+    Refused(b"d1:ai9223372036854775808ee", b"", Malformed(23)),
+    Refused(b"d1:ai-9223372036854775809ee", b"", Malformed(24)),
+    // What is no message, no key, no value, no length, no number.
+    Refused(b"x", b"", Malformed(0)),
+    Refused(b"i3e", b"", Malformed(0)),
+    Refused(b"de3:abc", b"de", Malformed(2)),
+    Refused(b"di1ei2ee", b"", Malformed(1)),
+    Refused(b"d1:ae", b"", Malformed(4)),
+    Refused(b"d01:a1:be", b"", Malformed(2)),
+    Refused(b"d1:a00:e", b"", Malformed(5)),
+    Refused(b"d1:ai-e", b"", Malformed(6)),
+    Refused(b"d1:ai-03ee", b"", Malformed(6)),
+    Refused(b"d1:ai3x", b"", Malformed(6)),
+    Refused(b"d1:axde", b"", Malformed(4)),
+    // Empty strings, and a key inside that stood outside.
+    Whole(b"d0:0:e"),
+    Whole(b"d1:ad1:a1:bee"),
+    Refused(b"d0:0:0:", b"", Malformed(6)),
+    // Nesting of 64, and of 65.
+    Whole(
+        b"d1:alllllllllllllllllllllllllllllllllllllllllllllllllllllllllllllll\
+            eeeeeeeeeeeeeeeeeeeeeeeeeeeeeeeeeeeeeeeeeeeeeeeeeeeeeeeeeeeeeeee",
+    ),
+    Rest(b"d1:alllllllllllllllllllllllllllllllllllllllllllllllllllllllllllllll"),
+    Refused(
+        b"d1:allllllllllllllllllllllllllllllllllllllllllllllllllllllllllllllll",
+        b"",
+        TooDeep(67),
+    ),
+    // A string and a message that are too long; the length of a message is tried first.
+    Refused(b"d2:id1048577:", b"", TooLong(11)),
+    Rest(b"d2:id1048576:"),
+    Limited(9, b"d1:a10:0123456789e", b"", TooLong(5)),
+    // A length that passes 64 bits is above each limit, be it a key's or a value's.
+    Limited(usize::MAX, b"d18446744073709551616", b"", TooLong(20)),
+    Limited(usize::MAX, b"d1:a99999999999999999999", b"", TooLong(23)),
+    Limited(
+        10_000_000_000_000_000_000,
+        b"d99999999999999999999",
+        b"",
+        TooLong(20),
+    ),
+    Limited(17, b"d1:a10:0123456789e", b"", TooLong(17)),
+    Limited(2, b"deded1:a", b"dede", TooLong(6)),
+    Limited(4, b"d1:ax", b"", TooLong(4)),
+    Limited(5, b"d1:ax", b"", Malformed(4)),
+];
 
 // A stream, the decoder's limit, and what comes of it: its messages as they are written, whether
 // the rest is empty, and the fault.
@@ -17,123 +110,36 @@ pub(crate) struct Row {
     pub(crate) fault: Option<WireFault>,
 }
 
-// A stream of messages that are written as they were spelled.
-fn whole(stream: &'static [u8]) -> Row {
-    sorted(stream, stream)
-}
-
-fn sorted(stream: &'static [u8], written: &'static [u8]) -> Row {
-    Row {
-        stream,
-        limit: LIMIT,
-        written,
-        rest_is_empty: true,
-        fault: None,
+pub(crate) fn row_of(stream: Stream) -> Row {
+    match stream {
+        Whole(stream) => make_row(LIMIT, stream, stream, true, None),
+        Sorted(stream, written) => make_row(LIMIT, stream, written, true, None),
+        Rest(stream) => make_row(LIMIT, stream, b"", false, None),
+        Refused(stream, written, fault) => make_row(LIMIT, stream, written, false, Some(fault)),
+        Limited(limit, stream, written, fault) => make_row(
+            limit,
+            stream,
+            written,
+            false,
+            Some(fault),
+        ),
     }
 }
 
-// The beginning of a message.
-fn rest(stream: &'static [u8]) -> Row {
-    Row {
-        stream,
-        limit: LIMIT,
-        written: b"",
-        rest_is_empty: false,
-        fault: None,
-    }
-}
-
-// Messages, and then a fault.
-fn refused(stream: &'static [u8], written: &'static [u8], fault: WireFault) -> Row {
-    limited(LIMIT, stream, written, fault)
-}
-
-fn limited(limit: usize, stream: &'static [u8], written: &'static [u8], fault: WireFault) -> Row {
+fn make_row(
+    limit: usize,
+    stream: &'static [u8],
+    written: &'static [u8],
+    rest_is_empty: bool,
+    fault: Option<WireFault>,
+) -> Row {
     Row {
         stream,
         limit,
         written,
-        rest_is_empty: false,
-        fault: Some(fault),
+        rest_is_empty,
+        fault,
     }
-}
-
-pub(crate) fn rows() -> [Row; 46] {
-    use WireFault::{Malformed, TooDeep, TooLong};
-    [
-        // The examples of the format, as values, and the ones that it calls invalid.
-        whole(b""),
-        whole(b"d1:v4:spame"),
-        whole(b"d1:vi3ee"),
-        whole(b"d1:vi-3ee"),
-        whole(b"d1:vi0ee"),
-        whole(b"d1:vl4:spam4:eggsee"),
-        whole(b"d3:cow3:moo4:spam4:eggsed4:spaml1:a1:bee"),
-        refused(b"d1:vi-0ee", b"", Malformed(6)),
-        refused(b"d1:vi03ee", b"", Malformed(6)),
-        // Requests, whole and broken off, and keys that do not ascend.
-        whole(b"d4:code7:(+ 1 2)2:id1:72:op4:evale"),
-        rest(b"d4:code7:(+ 1"),
-        sorted(
-            b"d2:op4:eval4:code7:(+ 1 2)2:id1:7e",
-            b"d4:code7:(+ 1 2)2:id1:72:op4:evale",
-        ),
-        refused(
-            b"d4:code7:(+ 1 2)2:id1:72:op4:evalex",
-            b"d4:code7:(+ 1 2)2:id1:72:op4:evale",
-            Malformed(34),
-        ),
-        refused(b"d2:idi-0e2:op4:evale", b"", Malformed(7)),
-        refused(b"d2:id1:12:id1:2e", b"", Malformed(11)),
-        // Integers at and past the ends of 64 bits.
-        whole(b"d1:ai9223372036854775807ee"),
-        whole(b"d1:ai-9223372036854775808ee"),
-        refused(b"d1:ai9223372036854775808ee", b"", Malformed(23)),
-        refused(b"d1:ai-9223372036854775809ee", b"", Malformed(24)),
-        // What is no message, no key, no value, no length, no number.
-        refused(b"x", b"", Malformed(0)),
-        refused(b"i3e", b"", Malformed(0)),
-        refused(b"de3:abc", b"de", Malformed(2)),
-        refused(b"di1ei2ee", b"", Malformed(1)),
-        refused(b"d1:ae", b"", Malformed(4)),
-        refused(b"d01:a1:be", b"", Malformed(2)),
-        refused(b"d1:a00:e", b"", Malformed(5)),
-        refused(b"d1:ai-e", b"", Malformed(6)),
-        refused(b"d1:ai-03ee", b"", Malformed(6)),
-        refused(b"d1:ai3x", b"", Malformed(6)),
-        refused(b"d1:axde", b"", Malformed(4)),
-        // Empty strings, and a key inside that stood outside.
-        whole(b"d0:0:e"),
-        whole(b"d1:ad1:a1:bee"),
-        refused(b"d0:0:0:", b"", Malformed(6)),
-        // Nesting of 64, and of 65.
-        whole(
-            b"d1:allllllllllllllllllllllllllllllllllllllllllllllllllllllllllllllleeeeeeeeeeeeeeeeeeeeeeeeeeeeeeeeeeeeeeeeeeeeeeeeeeeeeeeeeeeeeeee",
-        ),
-        rest(b"d1:alllllllllllllllllllllllllllllllllllllllllllllllllllllllllllllll"),
-        refused(
-            b"d1:allllllllllllllllllllllllllllllllllllllllllllllllllllllllllllllll",
-            b"",
-            TooDeep(67),
-        ),
-        // A string and a message that are too long; the length of a message is tried first.
-        refused(b"d2:id1048577:", b"", TooLong(11)),
-        rest(b"d2:id1048576:"),
-        limited(9, b"d1:a10:0123456789e", b"", TooLong(5)),
-        // A length that passes 64 bits is above each limit, be it a key's or a value's.
-        limited(usize::MAX, b"d18446744073709551616", b"", TooLong(20)),
-        limited(usize::MAX, b"d1:a99999999999999999999", b"", TooLong(23)),
-        limited(
-            10_000_000_000_000_000_000,
-            b"d99999999999999999999",
-            b"",
-            TooLong(20),
-        ),
-        limited(17, b"d1:a10:0123456789e", b"", TooLong(17)),
-        limited(2, b"deded1:a", b"dede", TooLong(6)),
-        limited(4, b"d1:ax", b"", TooLong(4)),
-        limited(5, b"d1:ax", b"", Malformed(4)),
-    ]
 }
 
 fn piece(alloc: Global, bytes: &[u8]) -> Result<Bytes, AllocError> {
@@ -215,7 +221,8 @@ fn is_read_at_every_cut(alloc: Global, row: Row, stream: &[u8]) -> Result<bool, 
 
 #[test]
 fn reads_at_every_cut(rt: HostRuntime) -> Result<(), AllocError> {
-    for row in rows() {
+    for stream in STREAMS {
+        let row = row_of(stream);
         assert!(rt; is_read_at_every_cut(rt.alloc(), row, row.stream)?);
     }
     Ok(())
@@ -224,7 +231,8 @@ fn reads_at_every_cut(rt: HostRuntime) -> Result<(), AllocError> {
 #[test]
 fn reads_byte_by_byte(rt: HostRuntime) -> Result<(), AllocError> {
     let alloc = rt.alloc();
-    for row in rows() {
+    for stream in STREAMS {
+        let row = row_of(stream);
         let mut decoder = Decoder::new(alloc, row.limit);
         let mut written = Vec::new(alloc);
         let mut fault = None;

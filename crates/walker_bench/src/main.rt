@@ -3,7 +3,7 @@
 //! conflict first.
 #![tactic(auto)]
 
-use repl_asks::{Answer, Ask, NamedFunction, Reading, Resolution, Verdict};
+use repl_asks::{Answer, Ask, Reading, Resolution, Verdict};
 use repl_jobs::{End, Job, Work};
 use repl_reader::read_all;
 use repl_values::{Owner, RefName, Value};

@@ -1,5 +1,6 @@
 -- `alter`, and what stands where a function is named.
-use Rattle.std.proofs.Common.{◌≡◌, ◌∙◌, ap, arith, ℕ, zero, suc, Bool, true, false, length, get_or, drop, Option, Some, None, Result, Ok, Err, List, [], ◌∷◌, refl, sym}
+use Rattle.std.proofs.Common.{◌≡◌, ◌∙◌, ap, arith, ℕ, zero, suc, Bool, true, false, length, get_or}
+use Rattle.std.proofs.Common.{drop, Option, Some, None, Result, Ok, Err, List, [], ◌∷◌, refl, sym}
 use Rattle.std.specs.Prelude.{string_bytes, ◌==◌, is_some, Box}
 use Rattle.std.proofs.lemmas.Bool.Decides.{nat_tests}
 use Rattle.std.proofs.lemmas.List.{length-map}
@@ -7,7 +8,7 @@ use Rattle.std.specs.Global.{Global}
 use Rattle.value_data.specs.Datum.{Datum, symbol}
 use Rattle.value_data.specs.View.{view}
 use Rattle.value_data.specs.declared.value.Value.{Value}
-use Rattle.repl_faults.specs.Failure.{Failure, broken, wrong_arity, not_a_function}
+use Rattle.repl_faults.specs.Failure.{Failure, broken_rule, wrong_arity, not_a_function}
 use Rattle.repl_faults.specs.declared.rule.Rule.{Rule}
 use Rattle.function_names.specs.declared.function.CoreFunction.{CoreFunction}
 use Rattle.function_names.specs.StoreNames.{store_name_of}
@@ -23,13 +24,16 @@ use Rattle.store_calls.specs.View.{altered_view}
 use Rattle.store_calls.specs.declared.outcome.Altered.{Altered}
 use Rattle.evaluation_rules.specs.Doing.{Kept, Doing, fails}
 use Rattle.evaluation_rules.specs.Tree.{ends}
-use Rattle.evaluation_rules.specs.Places.{PlaceData, Walk}
+use Rattle.evaluation_rules.specs.Places.{PlaceData, Evaluator}
 use Rattle.evaluation_rules.specs.Naming.{function_value, symbol_value}
 use Rattle.evaluation_rules.specs.Refs.{held_value, ref_value}
-use Rattle.evaluation_rules.specs.Calls.{named_callee, alter_callee, function_called, call_value, alter_call, named_call}
-use Rattle.evaluation_rules.specs.Calls.{core_call, commute_applied, commute_noted, commuting_value, not_of_core}
+use Rattle.evaluation_rules.specs.Calls.{call_value, alter_call, named_call, commute_applied}
+use Rattle.evaluation_rules.specs.Applying.{core_call, function_called, named_callee, alter_callee}
+use Rattle.evaluation_rules.specs.Calls.{commute_noted, commuting_value, not_of_core}
 use Rattle.evaluation_rules.specs.Evaluation.{value_at}
-use Rattle.walker_state.specs.Machine.{alter_behind, alter_step, alter_with, bottom, call_behind, from_state, is_running, kept_of, next_of, place_of}
+use Rattle.walker_state.specs.Pending.{from_state, kept_of, next_of, place_of}
+use Rattle.walker_state.specs.UnderWay.{is_running}
+use Rattle.walker_state.specs.Frames.{call_behind, alter_with, alter_behind, alter_step, bottom}
 use Rattle.walker_state.specs.declared.frames.State.{State}
 use Rattle.walker_state.specs.declared.frames.Transaction.{Transaction}
 use Rattle.walker_state.proofs.Stepping.{fails-at}
@@ -42,7 +46,7 @@ pub alter-none : (by : Alteration) (room : ℕ) (ds es : List Datum) (s : State)
 unfolding call_behind
 alter-none by room ds es s none nothing = rw (none, nothing) refl
 
-pub named_call-other : (walk : Walk) (p : PlaceData) (ds : List Datum) (f : NamedFunction) → (f ≡ NamedFunction.Store StoreFunction.Alter → ⊥)
+pub named_call-other : (walk : Evaluator) (p : PlaceData) (ds : List Datum) (f : NamedFunction) → (f ≡ NamedFunction.Store StoreFunction.Alter → ⊥)
     → (f ≡ NamedFunction.Store StoreFunction.Commute → ⊥)
     → named_call walk p ds (named_view f) ≡ call_value walk p ds (named_callee (named_view f))
 named_call-other walk p [] f other apart = refl
@@ -74,14 +78,14 @@ alter_with-start by room p f v vs ds next is = rw is refl
 
 -- Its call
 
-pub alter_call-empty : (walk : Walk) (by : Alteration) (f : NamedFunctionData) (vs : List Value) (told : Failure) (s : State) → vs ≡ []
+pub alter_call-empty : (walk : Evaluator) (by : Alteration) (f : NamedFunctionData) (vs : List Value) (told : Failure) (s : State) → vs ≡ []
     → told ≡ wrong_arity (store_name_of (altering by)) 1
     → ends (Err told) (string_bytes s.text) (kept_of s) ≡ from_state (alter_call walk by f (views vs)) s
 unfolding alter_call
 alter_call-empty walk by f vs told s none is =
     rw (none, is) (sym (fails-at (wrong_arity (store_name_of (altering by)) 1) s))
 
-pub alter_call-refused : (walk : Walk) (by : Alteration) (f : NamedFunctionData) (d : Datum) (ds : List Datum) (vs : List Value) (told : Failure) (s : State)
+pub alter_call-refused : (walk : Evaluator) (by : Alteration) (f : NamedFunctionData) (d : Datum) (ds : List Datum) (vs : List Value) (told : Failure) (s : State)
     → views vs ≡ d ∷ ds → altered_in by (is_running s.transaction) d ≡ Err told
     → ends (Err told) (string_bytes s.text) (kept_of s) ≡ from_state (alter_call walk by f (views vs)) s
 unfolding alter_call
@@ -123,9 +127,9 @@ pub ruleset lengths = (length-map)
 
 -- a function that is none of the language
 pub not_of_core-takes : (takes : Bool) (name : List ℕ) (n : ℕ) (told : Failure) (s : State) → takes ≡ true
-    → told ≡ broken Rule.CommutesAreOfCore
+    → told ≡ broken_rule Rule.CommutesAreOfCore
     → ends (Err told) (string_bytes s.text) (kept_of s) ≡ from_state (not_of_core takes name n) s
-not_of_core-takes takes name n told s fits is = rw (fits, is) (sym (fails-at (broken Rule.CommutesAreOfCore) s))
+not_of_core-takes takes name n told s fits is = rw (fits, is) (sym (fails-at (broken_rule Rule.CommutesAreOfCore) s))
 
 pub not_of_core-misfits : (takes : Bool) (name : List ℕ) (n : ℕ) (told : Failure) (s : State) → takes ≡ false
     → told ≡ wrong_arity name n

@@ -1,7 +1,10 @@
 -- Forms in a row, of which some have values already.
 use mathlib.Core.Path.{fun_ext}
 use Rattle.std.specs.Prelude.{string_bytes, codes, ◌==◌}
-use Rattle.std.proofs.Common.{◌≡◌, ◌≢◌, ℕ, ◌-◌, Bool, true, false, if◌then◌else◌, Option, Some, None, MatchOption, subst, Result, Ok, Err, IfOk, List, [], ◌∷◌, ◌++◌, refl, sym, ap, ◌∙◌, append_assoc, append-nil, zero, suc, length, arith}
+use Rattle.std.proofs.Common.{◌≡◌, ◌≢◌, ℕ, ◌-◌, Bool, true, false, if◌then◌else◌, Option, Some}
+use Rattle.std.proofs.Common.{None, MatchOption, subst, Result, Ok, Err, IfOk, List, [], ◌∷◌, ◌++◌}
+use Rattle.std.proofs.Common.{refl, sym, ap, ◌∙◌, append_assoc, append-nil, zero, suc, length}
+use Rattle.std.proofs.Common.{arith}
 use Rattle.std.proofs.lemmas.List.{map-append, length-map}
 use Rattle.std.proofs.lemmas.Bool.Decides.{nat_tests}
 use Rattle.value_data.specs.Datum.{Datum, Items, no_items, item, Pairs, list, vector, map}
@@ -11,21 +14,25 @@ use Rattle.value_data.specs.declared.value.Value as value
 use Rattle.value_data.proofs.Lists.{lists}
 use Rattle.value_data.proofs.Views.{value_views}
 use Rattle.repl_faults.specs.Failure.{Failure, wrong_arity}
-use Rattle.special_forms.proofs.Sizes.{datum_size-pos, datum_size-list, datum_size-vector, datum_size-map}
+use Rattle.special_forms.proofs.Sizes.{datum_size-pos, datum_size-list, datum_size-vector}
+use Rattle.special_forms.proofs.Sizes.{datum_size-map}
 use Rattle.special_forms.specs.Functions.{FunctionData}
 use Rattle.special_forms.specs.Rows.{BoundForm, in_a_row}
-use Rattle.special_forms.specs.Seen.{views, forms_view, binding_view}
-use Rattle.special_forms.specs.declared.forms.Binding.{Binding}
+use Rattle.special_forms.specs.Seen.{views, forms_view, let_binding_view}
+use Rattle.special_forms.specs.declared.forms.LetBinding.{LetBinding}
 use Rattle.special_forms.specs.declared.forms.Forms.{Forms}
 use Rattle.evaluation_rules.specs.Doing.{Kept, Doing, Part}
 use Rattle.walker_state.proofs.Stepping.{fails-at}
-use Rattle.repl_jobs.specs.Tree.{Tree}
+use Rattle.repl_jobs.specs.InteractionTree.{InteractionTree}
 use Rattle.evaluation_rules.specs.Tree.{ends}
-use Rattle.evaluation_rules.specs.Places.{PlaceData, Walk}
-use Rattle.evaluation_rules.specs.Calls.{CalleeData, call_value, called, keyword_call, program_call}
+use Rattle.evaluation_rules.specs.Places.{PlaceData, Evaluator}
+use Rattle.evaluation_rules.specs.Calls.{call_value, counted_call}
+use Rattle.evaluation_rules.specs.Applying.{CalleeData, keyword_call, program_call}
 use Rattle.evaluation_rules.specs.Rows.{row}
 use Rattle.evaluation_rules.specs.Evaluation.{list_value, value_at}
-use Rattle.walker_state.specs.Machine.{kept_of, from_state, call_behind, items_behind, collected, items_value, list_at}
+use Rattle.walker_state.specs.Pending.{kept_of, from_state}
+use Rattle.walker_state.specs.Frames.{collection_value, items_value, list_at, call_behind}
+use Rattle.walker_state.specs.Frames.{items_behind}
 use Rattle.walker_state.specs.declared.frames.Collection.{Collection}
 use Rattle.walker_state.specs.declared.frames.State.{State}
 
@@ -38,22 +45,22 @@ row_step walk then_ values d ds =
 pub call_step : (room : ℕ) (p : PlaceData) (callee : CalleeData) (values : List Datum) (d : Datum) (ds : List Datum) (next : Datum → Kept → Doing)
     → call_behind room p callee values (d ∷ ds) next ≡ value_at room p d (λ v. call_behind room p callee (values ++ v ∷ []) ds next)
 unfolding call_behind
-call_step room p callee values d ds next = row_step (value_at room p) (λ vs. called (value_at room) callee vs next) values d ds
+call_step room p callee values d ds next = row_step (value_at room p) (λ vs. counted_call (value_at room) callee vs next) values d ds
 
 pub items_step : (room : ℕ) (p : PlaceData) (kind : Collection) (values : List Datum) (d : Datum) (ds : List Datum) (next : Datum → Kept → Doing)
     → items_behind room p kind values (d ∷ ds) next ≡ value_at room p d (λ v. items_behind room p kind (values ++ v ∷ []) ds next)
 unfolding items_behind
-items_step room p kind values d ds next = row_step (value_at room p) (λ vs. collected kind vs next) values d ds
+items_step room p kind values d ds next = row_step (value_at room p) (λ vs. collection_value kind vs next) values d ds
 
 pub call_last : (room : ℕ) (p : PlaceData) (callee : CalleeData) (values : List Datum) (next : Datum → Kept → Doing)
-    → call_behind room p callee values [] next ≡ called (value_at room) callee values next
+    → call_behind room p callee values [] next ≡ counted_call (value_at room) callee values next
 unfolding call_behind
-call_last room p callee values next = ap (λ vs. called (value_at room) callee vs next) (append-nil values)
+call_last room p callee values next = ap (λ vs. counted_call (value_at room) callee vs next) (append-nil values)
 
 pub items_last : (room : ℕ) (p : PlaceData) (kind : Collection) (values : List Datum) (next : Datum → Kept → Doing)
-    → items_behind room p kind values [] next ≡ collected kind values next
+    → items_behind room p kind values [] next ≡ collection_value kind values next
 unfolding items_behind
-items_last room p kind values next = ap (λ vs. collected kind vs next) (append-nil values)
+items_last room p kind values next = ap (λ vs. collection_value kind vs next) (append-nil values)
 
 pub views-last : (vs : List value.Value) (v : value.Value) → views (vs ++ v ∷ []) ≡ views vs ++ view v ∷ []
 views-last vs v = map-append view vs (v ∷ [])
@@ -76,7 +83,7 @@ map-at (suc room) p ps = refl
 pub ruleset first_steps = (value_views, list-at, vector-at, map-at, datum_size-pos, datum_size-list, datum_size-vector, datum_size-map)
 
 -- what comes next is the one, and so the other
-pub if_ok-turned : {A E : Type 0} (F : A → Tree) {t u : Tree} (r : Result A E) → t ≡ u → IfOk r (λ a. F a ≡ t) → IfOk r (λ a. F a ≡ u)
+pub if_ok-turned : {A E : Type 0} (F : A → InteractionTree) {t u : InteractionTree} (r : Result A E) → t ≡ u → IfOk r (λ a. F a ≡ t) → IfOk r (λ a. F a ≡ u)
 if_ok-turned F (Ok a) turned h = h ∙ turned
 if_ok-turned F (Err e) turned h = tt
 
@@ -100,12 +107,12 @@ pub none-taken : (X : Type 0) (Y : value.Value → Type 0) (o : Option value.Val
 none-taken X Y o told is = let P : Option value.Value → Type 0 = λ p. MatchOption p X Y in subst P is told
 
 -- and so of a name and a form of `let`
-pub binding-taken : (X : Type 0) (o : Option Binding) (b : Binding) (old new : List BoundForm)
-    → MatchOption o X (λ bound. old ≡ binding_view bound ∷ new) → o ≡ Some b → old ≡ binding_view b ∷ new
+pub binding-taken : (X : Type 0) (o : Option LetBinding) (b : LetBinding) (old new : List BoundForm)
+    → MatchOption o X (λ bound. old ≡ let_binding_view bound ∷ new) → o ≡ Some b → old ≡ let_binding_view b ∷ new
 binding-taken X o b old new told is =
-    let P : Option Binding → Type 0 = λ p. MatchOption p X (λ bound. old ≡ binding_view bound ∷ new) in subst P is told
+    let P : Option LetBinding → Type 0 = λ p. MatchOption p X (λ bound. old ≡ let_binding_view bound ∷ new) in subst P is told
 
-pub program_call-misfits : (walk : Walk) (g : FunctionData) (vs : List value.Value) (told : Failure) (s : State) → length g.params ≢ length vs
+pub program_call-misfits : (walk : Evaluator) (g : FunctionData) (vs : List value.Value) (told : Failure) (s : State) → length g.params ≢ length vs
     → told ≡ wrong_arity (g.space ++ codes "/" ++ g.name) (length vs)
     → ends (Err told) (string_bytes s.text) (kept_of s) ≡ from_state (program_call walk g (views vs)) s
 unfolding program_call

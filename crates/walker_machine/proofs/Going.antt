@@ -1,6 +1,8 @@
 -- An evaluation that went on.
-use Rattle.std.proofs.Common.{◌≡◌, ◌∙◌, ap, arith, false, ℕ, ◌+◌, ◌<◌, ◌≤◌, Result, Ok, Err, IfOk}
-use Rattle.walker_state.specs.Size.{Around, Position, IsOn, IsLater, control_around, control_calls, control_size, control_position, frames_size}
+use Rattle.std.proofs.Common.{◌≡◌, ◌∙◌, ap, arith, false, ℕ, ◌+◌, ◌≤◌, Result, Ok, Err, IfOk}
+use Rattle.walker_state.specs.Size.{frames_size}
+use Rattle.walker_state.specs.Position.{TransactionPosition, around, IsLater}
+use Rattle.walker_state.specs.Position.{IsOn, control_position, Position, LeadsOnWithin}
 use Rattle.walker_state.specs.declared.frames.Control.{Control}
 use Rattle.walker_state.specs.declared.frames.State.{State}
 use Rattle.walker_state.proofs.Laters.{later_on, later_smaller}
@@ -14,22 +16,26 @@ if_later (Ok (Reached.Ends end)) old middle later h = tt
 if_later (Err e) old middle later h = tt
 
 -- an answer that leads on in the same attempt
-pub if_ok-smaller : {E : Type 0} (r : Result Control E) (new : State) (old : Position)
-    → IfOk r (λ c. control_around c new ≡ old.transaction) → IfOk r (λ c. control_calls c new ≤ old.calls)
-    → IfOk r (λ c. control_size c + frames_size new.frames.items < old.size) → IfOk r (λ c. IsLater (control_position c new) old)
-if_ok-smaller (Ok c) new old same fewer smaller = later_smaller _ _ _ _ _ _ same fewer smaller
-if_ok-smaller (Err e) new old same fewer smaller = tt
+pub leads-later : {E : Type 0} (r : Result Control E) (work : ℕ) (before new : State) (old : Position)
+    → around before.transaction ≡ old.transaction → before.calls ≤ old.calls
+    → work + frames_size before.frames.items ≤ old.size
+    → IfOk r (LeadsOnWithin work before new) → IfOk r (λ c. IsLater (control_position c new) old)
+leads-later (Ok c) work before new old same fewer smaller on =
+    later_smaller _ _ _ _ _ _ (on.around ∙ same) (omega arith) (omega arith)
+leads-later (Err e) work before new old same fewer smaller on = tt
 
 -- without an answer, and outside of transactions
 pub begun-calls : {E : Type 0} (r : Result Reached E) (old : Position) → old.transaction.runs ≡ false → IfOk r (λ p. IsOnReached p old)
     → IfOk r (λ p. most_calls_of p ≤ old.calls)
 unfolding IsOn
 begun-calls (Ok (Reached.Asks w ask)) old outside on =
-    let runs : (position_of w).transaction.runs ≡ false = ap (λ (a : Around). a.runs) on.0 ∙ outside in
+    let runs : (position_of w).transaction.runs ≡ false = ap (λ (a : TransactionPosition). a.runs) on.0 ∙ outside in
     rw runs on.1
 begun-calls (Ok (Reached.Ends end)) old outside on = omega arith
 begun-calls (Err e) old outside on = tt
 
-pub if_ok-below : {A E : Type 0} (r : Result A E) (F : A → ℕ) (m n : ℕ) → m ≤ n → IfOk r (λ a. F a < m) → IfOk r (λ a. F a < n)
-if_ok-below (Ok a) F m n more h = omega arith
-if_ok-below (Err e) F m n more h = tt
+pub leads-within : {E : Type 0} (r : Result Control E) (m n : ℕ) (old new : State) → m ≤ n
+    → IfOk r (LeadsOnWithin m old new) → IfOk r (LeadsOnWithin n old new)
+leads-within (Ok control) m n old new more on =
+    record { size = omega arith; calls = on.calls; around = on.around }
+leads-within (Err e) m n old new more on = tt

@@ -2,43 +2,46 @@
 use Rattle.std.specs.Prelude.{◌≡◌, ℕ, ◌+◌, ◌≤◌, ⊤, string_bytes}
 use Rattle.repl_asks.specs.Exchange.{AnswerData}
 use Rattle.repl_asks.specs.View.{ask_view}
-use Rattle.repl_jobs.specs.Tree.{Tree, finished, asks}
+use Rattle.repl_jobs.specs.InteractionTree.{InteractionTree, finished, asks}
 use Rattle.repl_jobs.specs.View.{end_view, finished_view}
 use Rattle.special_forms.specs.Seen.{views, function_view}
 use Rattle.evaluation_rules.specs.Tree.{ends}
-use Rattle.evaluation_rules.specs.Calls.{body_value}
+use Rattle.evaluation_rules.specs.Applying.{body_value}
 use Rattle.evaluation_rules.specs.Evaluation.{value_at}
 use Rattle.walker_state.specs.Leaving.{IsAskedFrom}
-use Rattle.walker_state.specs.Machine.{answered, from_state, kept_of}
-use Rattle.walker_state.specs.Size.{Position, IsOn, IsLater, around, outer_calls, wanted_position}
+use Rattle.walker_state.specs.Pending.{tree_with_answer, from_state, kept_of}
+use Rattle.walker_state.specs.Position.{around, Position, wanted_position, outer_calls, IsLater}
+use Rattle.walker_state.specs.Position.{IsOn}
 use Rattle.walker_state.specs.declared.frames.State.{State}
 use Rattle.walker_machine.specs.declared.steps.Leg.{Leg}
-use Rattle.walker_machine.specs.declared.steps.Waiting.{Waiting}
+use Rattle.walker_machine.specs.declared.steps.WaitingEvaluation.{WaitingEvaluation}
 use Rattle.walker_machine.specs.declared.steps.Reached.{Reached}
 
-abbrev pub leg_tree : Leg → State → Tree
-leg_tree (Leg.Asks ask wanted) s = asks (ask_view ask) (λ answer. answered wanted answer s)
-leg_tree (Leg.Enters f values room) s = from_state (body_value (value_at room) (function_view f) (views values.items)) s
+abbrev pub leg_tree : Leg → State → InteractionTree
+leg_tree (Leg.Asks ask wanted) s = asks (ask_view ask) (λ answer. tree_with_answer wanted answer s)
+leg_tree (Leg.Enters f values room) s =
+    from_state (body_value (value_at room) (function_view f) (views values.items)) s
 leg_tree (Leg.Ends end) s = ends (end_view end) (string_bytes s.text) (kept_of s)
 
 -- what an evaluation does with the answer that it waits for
-abbrev pub behind : Waiting → AnswerData → Tree
-behind w answer = answered w.wanted answer w.state
+abbrev pub tree_behind : WaitingEvaluation → AnswerData → InteractionTree
+tree_behind w answer = tree_with_answer w.wanted answer w.state
 
 -- what an evaluation that came so far has still to do
-abbrev pub reached_tree : Reached → Tree
-reached_tree (Reached.Asks w ask) = asks (ask_view ask) (behind w)
+abbrev pub reached_tree : Reached → InteractionTree
+reached_tree (Reached.Asks w ask) = asks (ask_view ask) (tree_behind w)
 reached_tree (Reached.Ends end) = finished (finished_view end)
 
 -- Where an evaluation stands, for the proof that it ends. No promise speaks of it.
 
-abbrev pub position_of : Waiting → Position
+abbrev pub position_of : WaitingEvaluation → Position
 position_of w = wanted_position w.wanted w.state
 
 -- without the body of another function
 abbrev pub IsOnLeg : Leg → State → Position → Type 0
 IsOnLeg (Leg.Asks ask wanted) s old = IsAskedFrom wanted s old
-IsOnLeg (Leg.Enters f values room) s old = (around s.transaction ≡ old.transaction) × (1 + s.calls ≤ old.calls)
+IsOnLeg (Leg.Enters f values room) s old = (around s.transaction ≡ old.transaction)
+    × (1 + s.calls ≤ old.calls)
 IsOnLeg (Leg.Ends end) s old = ⊤
 
 -- it came on without an answer, or there is no more to do

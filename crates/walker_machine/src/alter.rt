@@ -1,34 +1,36 @@
 // `alter` and `commute`, which call a function in turn.
 #![tactic(auto, using(walker_state::proofs::Stepping::steps))]
 
-ghost use Rattle.std.specs.Prelude.{◌≡◌, ◌+◌, ◌*◌, ◌<◌, ◌≤◌, ◌==◌, drop, length, IfOk};
+ghost use Rattle.std.specs.Prelude.{◌≡◌, ◌+◌, ◌<◌, ◌==◌, length, IfOk};
 ghost use Rattle.value_data.specs.View.{view};
 ghost use Rattle.repl_asks.specs.Exchange.{core_function, store_function};
 ghost use Rattle.repl_asks.specs.View.{name_view, named_view};
 ghost use Rattle.special_forms.specs.Seen.{views, forms_view, function_view};
 ghost use Rattle.special_forms.specs.Size.{forms_size};
 ghost use Rattle.store_calls.specs.Calling.{altering};
-ghost use Rattle.evaluation_rules.specs.Calls as meant;
-ghost use Rattle.evaluation_rules.specs.Calls.{alter_call, commute_applied, commuting_value, named_call, not_of_core};
+ghost use Rattle.evaluation_rules.specs.Applying as meant;
+ghost use Rattle.evaluation_rules.specs.Calls.{alter_call, commute_applied, commuting_value};
+ghost use Rattle.evaluation_rules.specs.Calls.{named_call, not_of_core};
 ghost use Rattle.evaluation_rules.specs.Evaluation.{value_at};
-ghost use Rattle.walker_state.specs.Machine.{alter_behind, alter_step, from_state, place_of, tree};
+ghost use Rattle.walker_state.specs.Pending.{from_state, place_of, tree};
+ghost use Rattle.walker_state.specs.Frames.{alter_behind, alter_step};
 ghost use Rattle.walker_state.specs.declared.frames.State.{State};
-ghost use Rattle.walker_state.specs.Size.{control_size, control_calls, control_around, frames_size, around};
+ghost use Rattle.walker_state.specs.Position.{LeadsOnWithin};
 
 use crate::calls::{call_named, full_name};
 use crate::evaluate::evaluate_symbol;
 use crate::rows::next_argument;
 use function_names::CoreFunction;
 use repl_asks::{Commute, NamedFunction};
-use repl_faults::{Rule, broken, not_a_function, too_many_calls, wrong_arity};
+use repl_faults::{Rule, broken_rule, not_a_function, too_many_calls, wrong_arity};
 use repl_values::{RefName, Value, copy_items};
 use special_forms::{Forms, Function};
 use std::alloc::{AllocError, Global};
-use store_calls::{Alteration, Altered, altered};
+use store_calls::{Alteration, Altered, ref_to_alter};
 use walker_state::{Callee, Control, Frame, State, SymbolUse, call_core, read};
 
-// A list with `alter` or `commute` at its head, and these forms behind it: a function stands between the
-// first argument and those behind it.
+// A list with `alter` or `commute` at its head, and these forms behind it: a function stands
+// between the first argument and those behind it.
 pub(crate) fn begin_alter(
     alloc: Global,
     state: &mut State,
@@ -36,12 +38,11 @@ pub(crate) fn begin_alter(
     forms: Forms,
     room: u32,
 ) -> Result<Control, AllocError>
-    ensures size { IfOk result (λ control. control_size control + frames_size state.new.frames.items
-        < 6 + forms_size (forms_view forms) + frames_size state.old.frames.items) }
-    ensures calls { IfOk result (λ control. control_calls control state.new ≤ state.old.calls) }
-    ensures around { IfOk result (λ control. control_around control state.new ≡ around state.old.transaction) }
+    ensures on { IfOk result
+        (LeadsOnWithin (6 + forms_size (forms_view forms)) state.old state.new) }
     ensures meaning { IfOk result (λ control. tree control state.new
-        ≡ from_state (named_call (value_at room) (place_of state.old) (forms_view forms) (store_function (altering by))) state.old) }
+        ≡ from_state (named_call (value_at room) (place_of state.old) (forms_view forms)
+        (store_function (altering by))) state.old) }
 {
     let callee = Callee::Named(NamedFunction::Store(by.function()));
     let values = Vec::new(alloc);
@@ -73,8 +74,9 @@ pub(crate) fn begin_alter(
     }
 }
 
-// Either of them behind its first argument, which has this value: its function is named by a symbol.
-#[tactic(auto, using(value_data::proofs::Views::value_views, walker_state::proofs::Stepping::steps), unfolding(walker_state::specs::Machine::alter_behind))]
+// Either of them behind its first argument, which has this value: its function is named by a
+// symbol.
+#[tactic(auto, using(value_data::proofs::Views::value_views, walker_state::proofs::Stepping::steps), unfolding(walker_state::specs::Frames::alter_behind))]
 pub(crate) fn name_function(
     alloc: Global,
     state: &mut State,
@@ -84,12 +86,11 @@ pub(crate) fn name_function(
     forms: Forms,
     room: u32,
 ) -> Result<Control, AllocError>
-    ensures size { IfOk result (λ control. control_size control + frames_size state.new.frames.items
-        < 7 + forms_size (forms_view forms) + frames_size state.old.frames.items) }
-    ensures calls { IfOk result (λ control. control_calls control state.new ≤ state.old.calls) }
-    ensures around { IfOk result (λ control. control_around control state.new ≡ around state.old.transaction) }
+    ensures on { IfOk result
+        (LeadsOnWithin (7 + forms_size (forms_view forms)) state.old state.new) }
     ensures meaning { IfOk result (λ control. tree control state.new
-        ≡ from_state (alter_behind room (place_of state.old) by (view target) (view function) (forms_view forms)) state.old) }
+        ≡ from_state (alter_behind room (place_of state.old) by (view target) (view function)
+        (forms_view forms)) state.old) }
 {
     match function {
         Value::Symbol(symbol) => {
@@ -100,8 +101,8 @@ pub(crate) fn name_function(
     }
 }
 
-// A call of `alter` or `commute` with this function: the value of its ref goes to it, with the other
-// arguments.
+// A call of `alter` or `commute` with this function: the value of its ref goes to it, with the
+// other arguments.
 #[tactic(auto, using(walker_state::proofs::Stepping::steps), unfolding(evaluation_rules::specs::Calls::alter_call))]
 pub(crate) fn call_alter(
     alloc: Global,
@@ -111,12 +112,10 @@ pub(crate) fn call_alter(
     values: Vec<Value>,
     room: u32,
 ) -> Result<Control, AllocError>
-    ensures size { IfOk result (λ control. control_size control + frames_size state.new.frames.items
-        < 6 + frames_size state.old.frames.items) }
-    ensures calls { IfOk result (λ control. control_calls control state.new ≤ state.old.calls) }
-    ensures around { IfOk result (λ control. control_around control state.new ≡ around state.old.transaction) }
+    ensures on { IfOk result (LeadsOnWithin 6 state.old state.new) }
     ensures meaning { IfOk result (λ control. tree control state.new
-        ≡ from_state (alter_call (value_at room) by (named_view function) (views values.items)) state.old) }
+        ≡ from_state (alter_call (value_at room) by (named_view function) (views values.items))
+        state.old) }
 {
     let mut values = values;
     if values.is_empty() {
@@ -124,7 +123,7 @@ pub(crate) fn call_alter(
         return Ok(Control::Fault(fault));
     }
     let target = values.remove(0);
-    match altered(alloc, by, state.transaction.is_some(), &target)? {
+    match ref_to_alter(alloc, by, state.transaction.is_some(), &target)? {
         Altered::Refused(fault) => Ok(Control::Fault(fault)),
         Altered::Ref(name) => {
             let frame = Frame::AlterCall {
@@ -141,7 +140,7 @@ pub(crate) fn call_alter(
 }
 
 // The function is called with the value of the ref, and these arguments behind it.
-#[tactic(auto, using(walker_state::proofs::Stepping::steps), unfolding(walker_state::specs::Machine::alter_step))]
+#[tactic(auto, using(walker_state::proofs::Stepping::steps), unfolding(walker_state::specs::Frames::alter_step))]
 pub(crate) fn call_altering(
     alloc: Global,
     state: &mut State,
@@ -152,12 +151,10 @@ pub(crate) fn call_altering(
     value: Value,
     room: u32,
 ) -> Result<Control, AllocError>
-    ensures size { IfOk result (λ control. control_size control + frames_size state.new.frames.items
-        < 4 + frames_size state.old.frames.items) }
-    ensures calls { IfOk result (λ control. control_calls control state.new ≤ state.old.calls) }
-    ensures around { IfOk result (λ control. control_around control state.new ≡ around state.old.transaction) }
+    ensures on { IfOk result (LeadsOnWithin 4 state.old state.new) }
     ensures meaning { IfOk result (λ control. tree control state.new
-        ≡ from_state (alter_step room by (name_view name) (named_view function) (views values.items) (view value)) state.old) }
+        ≡ from_state (alter_step room by (name_view name) (named_view function)
+        (views values.items) (view value)) state.old) }
 {
     match by {
         Alteration::Alter => {
@@ -170,8 +167,8 @@ pub(crate) fn call_altering(
     }
 }
 
-// One call is taken from the budget, and a function of the language is applied to the value of a ref.
-// No other function may be.
+// One call is taken from the budget, and a function of the language is applied to the value of a
+// ref. No other function may be.
 #[tactic(auto, using(walker_state::proofs::Stepping::steps, crate::proofs::Altering::lengths), unfolding(evaluation_rules::specs::Calls::commuting_value))]
 fn call_commuting(
     alloc: Global,
@@ -181,12 +178,10 @@ fn call_commuting(
     values: Vec<Value>,
     value: Value,
 ) -> Result<Control, AllocError>
-    ensures size { IfOk result (λ control. control_size control + frames_size state.new.frames.items
-        < 4 + frames_size state.old.frames.items) }
-    ensures calls { IfOk result (λ control. control_calls control state.new ≤ state.old.calls) }
-    ensures around { IfOk result (λ control. control_around control state.new ≡ around state.old.transaction) }
+    ensures on { IfOk result (LeadsOnWithin 4 state.old state.new) }
     ensures meaning { IfOk result (λ control. tree control state.new
-        ≡ from_state (commuting_value (named_view function) (views values.items) (name_view name) (view value)) state.old) }
+        ≡ from_state (commuting_value (named_view function) (views values.items) (name_view name)
+        (view value)) state.old) }
 {
     if state.calls == 0 {
         return Ok(Control::Fault(too_many_calls(alloc)?));
@@ -214,12 +209,10 @@ fn apply_commuting(
     values: Vec<Value>,
     value: Value,
 ) -> Result<Control, AllocError>
-    ensures size { IfOk result (λ control. control_size control + frames_size state.new.frames.items
-        < 3 + frames_size state.old.frames.items) }
-    ensures calls { IfOk result (λ control. control_calls control state.new ≤ state.old.calls) }
-    ensures around { IfOk result (λ control. control_around control state.new ≡ around state.old.transaction) }
+    ensures on { IfOk result (LeadsOnWithin 3 state.old state.new) }
     ensures meaning { IfOk result (λ control. tree control state.new
-        ≡ from_state (commute_applied (core_function function) (views values.items) (name_view name) (view value)) state.old) }
+        ≡ from_state (commute_applied (core_function function) (views values.items)
+        (name_view name) (view value)) state.old) }
 {
     let mut row = copy_items(alloc, &values)?;
     row.insert(0, value)?;
@@ -238,11 +231,10 @@ fn refuse_program(
     function: &Function,
     arguments: usize,
 ) -> Result<Control, AllocError>
-    ensures size { IfOk result (λ control. control_size control < 2) }
-    ensures calls { IfOk result (λ control. (s : State) → control_calls control s ≤ s.calls) }
-    ensures around { IfOk result (λ control. (s : State) → control_around control s ≡ around s.transaction) }
+    ensures on { IfOk result (λ control. (s : State) → LeadsOnWithin 2 s s control) }
     ensures meaning { IfOk result (λ control. (s : State) → tree control s ≡ from_state (not_of_core
-        (length (function_view function.now).params == arguments) (meant.full_name (function_view function.now)) arguments) s) }
+        (length (function_view function.now).params == arguments)
+        (meant.full_name (function_view function.now)) arguments) s) }
 {
     let takes = function.params.len() == arguments;
     let name = full_name(alloc, function)?;
@@ -256,14 +248,12 @@ fn refuse_commuting(
     name: &str,
     arguments: usize,
 ) -> Result<Control, AllocError>
-    ensures size { IfOk result (λ control. control_size control < 2) }
-    ensures calls { IfOk result (λ control. (s : State) → control_calls control s ≤ s.calls) }
-    ensures around { IfOk result (λ control. (s : State) → control_around control s ≡ around s.transaction) }
+    ensures on { IfOk result (λ control. (s : State) → LeadsOnWithin 2 s s control) }
     ensures meaning { IfOk result (λ control. (s : State) → tree control s
         ≡ from_state (not_of_core takes name.now arguments) s) }
 {
     if takes {
-        return Ok(Control::Fault(broken(alloc, Rule::CommutesAreOfCore)?));
+        return Ok(Control::Fault(broken_rule(alloc, Rule::CommutesAreOfCore)?));
     }
     Ok(Control::Fault(wrong_arity(alloc, name, arguments)?))
 }

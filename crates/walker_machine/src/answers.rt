@@ -1,19 +1,22 @@
 // An answer goes to what it was wanted for.
 #![tactic(auto, using(walker_state::proofs::Stepping::steps))]
 
-ghost use Rattle.std.specs.Prelude.{◌≡◌, ◌+◌, ◌<◌, ◌≤◌, IfOk};
+ghost use Rattle.std.specs.Prelude.{◌≡◌, ◌+◌, ◌<◌, IfOk};
 ghost use Rattle.std.specs.Arc.{arc_str_bytes};
 ghost use Rattle.repl_asks.specs.View.{answer_view, named_view, resolution_view};
 ghost use Rattle.special_forms.specs.Seen.{forms_view};
 ghost use Rattle.special_forms.specs.Size.{forms_size};
 ghost use Rattle.evaluation_rules.specs.Calls.{named_call};
 ghost use Rattle.evaluation_rules.specs.Evaluation.{value_at};
-ghost use Rattle.walker_state.specs.Machine.{answered, used, resolved_call, from_state, place_of, tree};
+ghost use Rattle.walker_state.specs.Pending.{tree_with_answer, value_for_use, resolved_call};
+ghost use Rattle.walker_state.specs.Pending.{from_state, place_of, tree};
 ghost use Rattle.evaluation_rules.specs.Naming.{as_value};
 ghost use Rattle.walker_state.specs.declared.frames.State.{State};
 ghost use Rattle.walker_state.specs.declared.frames.SymbolUse.{SymbolUse};
 ghost use Rattle.walker_state.specs.declared.frames.Wanted.{Wanted};
-ghost use Rattle.walker_state.specs.Size.{use_size, control_size, frames_size, control_calls, control_around, control_position, wanted_position, around, IsLater};
+ghost use Rattle.walker_state.specs.Size.{use_size};
+ghost use Rattle.walker_state.specs.Position.{IsLater, LeadsOnWithin, control_position};
+ghost use Rattle.walker_state.specs.Position.{wanted_position};
 
 use crate::alter::begin_alter;
 use crate::rows::next_argument;
@@ -26,61 +29,64 @@ use std::alloc::{AllocError, Global};
 use std::sync::ArcStr;
 use store_calls::Alteration;
 use walker_state::{
-    Callee, Control, State, SymbolUse, Wanted, begun, go_on_in, settle, take_ensured, take_reading,
+    Callee, Control, State, SymbolUse, Wanted, begin_attempt, ensure_or_retry, go_on_in,
+    note_or_retry, settle,
 };
 
-pub(crate) fn take_answer(
+pub(crate) fn use_answer(
     alloc: Global,
     state: &mut State,
     wanted: Wanted,
     answer: Answer,
 ) -> Result<Control, AllocError>
-    ensures later { IfOk result (λ control. IsLater (control_position control state.new) (wanted_position wanted state.old)) }
-    ensures meaning { IfOk result (λ control. tree control state.new ≡ answered wanted (answer_view answer) state.old) }
+    ensures later { IfOk result (λ control.
+        IsLater (control_position control state.new) (wanted_position wanted state.old)) }
+    ensures meaning { IfOk result (λ control. tree control state.new
+        ≡ tree_with_answer wanted (answer_view answer) state.old) }
 {
     match wanted {
         Wanted::Resolution(purpose) => {
-            take_resolution(alloc, state, purpose, answer.into_resolution())
+            use_resolution(alloc, state, purpose, answer.into_resolution())
         }
         Wanted::Completion(value) => Ok(Control::Return(value)),
         Wanted::Namespace(name) => Ok(go_on_in(state, name)),
         Wanted::Value => Ok(Control::Return(answer.into_value())),
-        Wanted::Reading(name) => take_reading(alloc, state, name, answer.into_reading()),
-        Wanted::Ensuring(name) => take_ensured(alloc, state, name, answer.into_reading()),
-        Wanted::Begin(transaction) => begun(alloc, state, transaction),
+        Wanted::Reading(name) => note_or_retry(alloc, state, name, answer.into_reading()),
+        Wanted::Ensuring(name) => ensure_or_retry(alloc, state, name, answer.into_reading()),
+        Wanted::Begin(transaction) => begin_attempt(alloc, state, transaction),
         Wanted::Verdict(value, transaction) => {
             settle(alloc, state, value, transaction, answer.into_verdict())
         }
     }
 }
 
-pub(crate) fn take_resolution(
+pub(crate) fn use_resolution(
     alloc: Global,
     state: &mut State,
     purpose: SymbolUse,
     resolution: Resolution,
 ) -> Result<Control, AllocError>
-    ensures size { IfOk result (λ control. control_size control + frames_size state.new.frames.items
-        < use_size purpose + frames_size state.old.frames.items) }
-    ensures calls { IfOk result (λ control. control_calls control state.new ≤ state.old.calls) }
-    ensures around { IfOk result (λ control. control_around control state.new ≡ around state.old.transaction) }
+    ensures on { IfOk result (LeadsOnWithin (use_size purpose) state.old state.new) }
     ensures meaning { IfOk result (λ control. tree control state.new
-        ≡ from_state (used (place_of state.old) purpose (resolution_view resolution)) state.old) }
+        ≡ from_state (value_for_use (place_of state.old) purpose (resolution_view resolution))
+        state.old) }
 {
     match purpose {
-        SymbolUse::Value(symbol) => take_value(alloc, symbol, resolution),
-        SymbolUse::Head(forms, room) => take_function(alloc, state, forms, room, resolution),
+        SymbolUse::Value(symbol) => use_as_value(alloc, symbol, resolution),
+        SymbolUse::Head(forms, room) => use_as_head(alloc, state, forms, room, resolution),
         SymbolUse::Alter(by, target, forms, room) => {
-            take_alter(alloc, state, by, target, forms, room, resolution)
+            use_in_alter(alloc, state, by, target, forms, room, resolution)
         }
     }
 }
 
 // The symbol stands in a value's place.
-fn take_value(alloc: Global, symbol: ArcStr, resolution: Resolution) -> Result<Control, AllocError>
-    ensures size { IfOk result (λ control. control_size control < 2) }
-    ensures calls { IfOk result (λ control. (s : State) → control_calls control s ≡ s.calls) }
-    ensures around { IfOk result (λ control. (s : State) → control_around control s ≡ around s.transaction) }
+fn use_as_value(
+    alloc: Global,
+    symbol: ArcStr,
+    resolution: Resolution,
+) -> Result<Control, AllocError>
+    ensures on { IfOk result (λ control. (s : State) → LeadsOnWithin 2 s s control) }
     ensures meaning { IfOk result (λ control. (s : State) → tree control s
         ≡ from_state (as_value (arc_str_bytes symbol) (resolution_view resolution)) s) }
 {
@@ -92,19 +98,18 @@ fn take_value(alloc: Global, symbol: ArcStr, resolution: Resolution) -> Result<C
 }
 
 // The symbol stands at the head of a list, with these forms behind it.
-fn take_function(
+fn use_as_head(
     alloc: Global,
     state: &mut State,
     forms: Forms,
     room: u32,
     resolution: Resolution,
 ) -> Result<Control, AllocError>
-    ensures size { IfOk result (λ control. control_size control + frames_size state.new.frames.items
-        < 6 + forms_size (forms_view forms) + frames_size state.old.frames.items) }
-    ensures calls { IfOk result (λ control. control_calls control state.new ≤ state.old.calls) }
-    ensures around { IfOk result (λ control. control_around control state.new ≡ around state.old.transaction) }
+    ensures on { IfOk result
+        (LeadsOnWithin (6 + forms_size (forms_view forms)) state.old state.new) }
     ensures meaning { IfOk result (λ control. tree control state.new
-        ≡ from_state (resolved_call room (place_of state.old) (forms_view forms) (resolution_view resolution)) state.old) }
+        ≡ from_state (resolved_call room (place_of state.old) (forms_view forms)
+        (resolution_view resolution)) state.old) }
 {
     match resolution {
         Resolution::Function(function) => begin_call(alloc, state, function, forms, room),
@@ -113,9 +118,9 @@ fn take_function(
     }
 }
 
-// The symbol stands in the place of the function of `alter` or `commute`, behind this value and before
-// these forms.
-fn take_alter(
+// The symbol stands in the place of the function of `alter` or `commute`, behind this value and
+// before these forms.
+fn use_in_alter(
     alloc: Global,
     state: &mut State,
     by: Alteration,
@@ -124,12 +129,11 @@ fn take_alter(
     room: u32,
     resolution: Resolution,
 ) -> Result<Control, AllocError>
-    ensures size { IfOk result (λ control. control_size control + frames_size state.new.frames.items
-        < 6 + forms_size (forms_view forms) + frames_size state.old.frames.items) }
-    ensures calls { IfOk result (λ control. control_calls control state.new ≤ state.old.calls) }
-    ensures around { IfOk result (λ control. control_around control state.new ≡ around state.old.transaction) }
+    ensures on { IfOk result
+        (LeadsOnWithin (6 + forms_size (forms_view forms)) state.old state.new) }
     ensures meaning { IfOk result (λ control. tree control state.new
-        ≡ from_state (used (place_of state.old) (SymbolUse.Alter by target forms room) (resolution_view resolution)) state.old) }
+        ≡ from_state (value_for_use (place_of state.old) (SymbolUse.Alter by target forms room)
+        (resolution_view resolution)) state.old) }
 {
     match resolution {
         Resolution::Function(function) => {
@@ -157,12 +161,11 @@ fn begin_call(
     forms: Forms,
     room: u32,
 ) -> Result<Control, AllocError>
-    ensures size { IfOk result (λ control. control_size control + frames_size state.new.frames.items
-        < 6 + forms_size (forms_view forms) + frames_size state.old.frames.items) }
-    ensures calls { IfOk result (λ control. control_calls control state.new ≤ state.old.calls) }
-    ensures around { IfOk result (λ control. control_around control state.new ≡ around state.old.transaction) }
+    ensures on { IfOk result
+        (LeadsOnWithin (6 + forms_size (forms_view forms)) state.old state.new) }
     ensures meaning { IfOk result (λ control. tree control state.new
-        ≡ from_state (named_call (value_at room) (place_of state.old) (forms_view forms) (named_view function)) state.old) }
+        ≡ from_state (named_call (value_at room) (place_of state.old) (forms_view forms)
+        (named_view function)) state.old) }
 {
     match function {
         NamedFunction::Store(StoreFunction::Alter) => {

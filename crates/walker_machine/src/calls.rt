@@ -4,13 +4,17 @@
 
 ghost use Rattle.std.specs.Prelude.{◌≡◌, ◌+◌, ◌<◌, ◌≤◌, [], map, IfOk, string_bytes};
 ghost use Rattle.std.specs.Arc.{arc_str_bytes};
-ghost use Rattle.value_data.specs.View.{view};
-ghost use Rattle.walker_state.specs.Machine.{callee_view, from_state, tree};
+ghost use Rattle.walker_state.specs.Pending.{from_state, tree};
+ghost use Rattle.walker_state.specs.Frames.{callee_view};
 ghost use Rattle.walker_state.specs.declared.frames.State.{State};
 ghost use Rattle.special_forms.specs.Seen.{views, function_view};
-ghost use Rattle.walker_state.specs.Size.{control_size, frames_size, control_calls, control_around, around};
+ghost use Rattle.walker_state.specs.Size.{control_size, frames_size};
+ghost use Rattle.walker_state.specs.Position.{around, control_around, control_calls, LeadsOnWithin};
 ghost use Rattle.repl_asks.specs.View.{named_view};
-ghost use Rattle.evaluation_rules.specs.Calls.{body_value, bound_to, called, full_name, function_applied, function_called, get_arguments, keyword_call, program_call};
+ghost use Rattle.evaluation_rules.specs.Calls.{counted_call};
+ghost use Rattle.evaluation_rules.specs.Applying.{get_arguments, keyword_call, bound_to, full_name};
+ghost use Rattle.evaluation_rules.specs.Applying.{function_called, function_applied, program_call};
+ghost use Rattle.evaluation_rules.specs.Applying.{body_value};
 ghost use Rattle.evaluation_rules.specs.Evaluation.{value_at};
 
 use crate::alter::call_alter;
@@ -28,7 +32,7 @@ use std::sync::ArcStr;
 use walker_state::{Callee, Control, Frame, Place, State, call_core, call_store, next_in_body};
 
 // One call is taken from the budget, and the callee is applied.
-#[tactic(auto, using(walker_state::proofs::Stepping::steps), unfolding(evaluation_rules::specs::Calls::called))]
+#[tactic(auto, using(walker_state::proofs::Stepping::steps), unfolding(evaluation_rules::specs::Calls::counted_call))]
 pub(crate) fn call(
     alloc: Global,
     state: &mut State,
@@ -36,11 +40,10 @@ pub(crate) fn call(
     values: Vec<Value>,
     room: u32,
 ) -> Result<Control, AllocError>
-    ensures size { IfOk result (λ control. control_size control + frames_size state.new.frames.items
-        < 6 + frames_size state.old.frames.items) }
-    ensures calls { IfOk result (λ control. control_calls control state.new ≤ state.old.calls) }
-    ensures around { IfOk result (λ control. control_around control state.new ≡ around state.old.transaction) }
-    ensures meaning { IfOk result (λ control. tree control state.new ≡ from_state (called (value_at room) (callee_view callee) (views values.items)) state.old) }
+    ensures on { IfOk result (LeadsOnWithin 6 state.old state.new) }
+    ensures meaning { IfOk result (λ control. tree control state.new
+        ≡ from_state (counted_call (value_at room) (callee_view callee) (views values.items))
+        state.old) }
 {
     if state.calls == 0 {
         return Ok(Control::Fault(too_many_calls(alloc)?));
@@ -54,7 +57,7 @@ pub(crate) fn call(
 }
 
 // One call is taken from the budget, and the function is applied.
-#[tactic(auto, using(walker_state::proofs::Stepping::steps), unfolding(evaluation_rules::specs::Calls::function_called))]
+#[tactic(auto, using(walker_state::proofs::Stepping::steps), unfolding(evaluation_rules::specs::Applying::function_called))]
 pub(crate) fn call_named(
     alloc: Global,
     state: &mut State,
@@ -62,11 +65,10 @@ pub(crate) fn call_named(
     values: Vec<Value>,
     room: u32,
 ) -> Result<Control, AllocError>
-    ensures size { IfOk result (λ control. control_size control + frames_size state.new.frames.items
-        < 3 + frames_size state.old.frames.items) }
-    ensures calls { IfOk result (λ control. control_calls control state.new ≤ state.old.calls) }
-    ensures around { IfOk result (λ control. control_around control state.new ≡ around state.old.transaction) }
-    ensures meaning { IfOk result (λ control. tree control state.new ≡ from_state (function_called (value_at room) (named_view function) (views values.items)) state.old) }
+    ensures on { IfOk result (LeadsOnWithin 3 state.old state.new) }
+    ensures meaning { IfOk result (λ control. tree control state.new
+        ≡ from_state (function_called (value_at room) (named_view function) (views values.items))
+        state.old) }
 {
     if state.calls == 0 {
         return Ok(Control::Fault(too_many_calls(alloc)?));
@@ -86,8 +88,11 @@ fn apply_named(
     ensures size { IfOk result (λ control. control_size control + frames_size state.new.frames.items
         < 3 + frames_size state.old.frames.items) }
     ensures calls { IfOk result (λ control. control_calls control state.new ≤ 1 + state.old.calls) }
-    ensures around { IfOk result (λ control. control_around control state.new ≡ around state.old.transaction) }
-    ensures meaning { IfOk result (λ control. tree control state.new ≡ from_state (function_applied (value_at room) (named_view function) (views values.items)) state.old) }
+    ensures around { IfOk result (λ control. control_around control state.new
+        ≡ around state.old.transaction) }
+    ensures meaning { IfOk result (λ control. tree control state.new
+        ≡ from_state (function_applied (value_at room) (named_view function) (views values.items))
+        state.old) }
 {
     match function {
         NamedFunction::Core(function) => call_core(alloc, state, function, values.as_slice()),
@@ -97,18 +102,16 @@ fn apply_named(
 }
 
 // `(:name map)` and `(:name map default)` look the keyword up.
-#[tactic(auto, using(walker_state::proofs::Stepping::steps), unfolding(evaluation_rules::specs::Calls::keyword_call))]
+#[tactic(auto, using(walker_state::proofs::Stepping::steps), unfolding(evaluation_rules::specs::Applying::keyword_call))]
 fn call_keyword(
     alloc: Global,
     state: &mut State,
     name: ArcStr,
     values: Vec<Value>,
 ) -> Result<Control, AllocError>
-    ensures size { IfOk result (λ control. control_size control + frames_size state.new.frames.items
-        < 2 + frames_size state.old.frames.items) }
-    ensures calls { IfOk result (λ control. control_calls control state.new ≤ state.old.calls) }
-    ensures around { IfOk result (λ control. control_around control state.new ≡ around state.old.transaction) }
-    ensures meaning { IfOk result (λ control. tree control state.new ≡ from_state (keyword_call (arc_str_bytes name) (views values.items)) state.old) }
+    ensures on { IfOk result (LeadsOnWithin 2 state.old state.new) }
+    ensures meaning { IfOk result (λ control. tree control state.new
+        ≡ from_state (keyword_call (arc_str_bytes name) (views values.items)) state.old) }
 {
     if values.len() == 1 || values.len() == 2 {
         let get = CoreFunction::Map(MapFunction::Get);
@@ -124,7 +127,8 @@ fn call_keyword(
 // The map, the keyword and what comes behind the map.
 #[tactic(auto, using(value_data::proofs::Views::value_views, walker_state::proofs::Stepping::steps))]
 fn get_arguments(name: ArcStr, mut values: Vec<Value>) -> Result<Vec<Value>, AllocError>
-    ensures { IfOk result (λ args. views args.items ≡ get_arguments (arc_str_bytes name) (views values.items)) }
+    ensures { IfOk result (λ args. views args.items
+        ≡ get_arguments (arc_str_bytes name) (views values.items)) }
 {
     if !values.is_empty() {
         values.insert(1, Value::Keyword(name))?;
@@ -132,7 +136,7 @@ fn get_arguments(name: ArcStr, mut values: Vec<Value>) -> Result<Vec<Value>, All
     Ok(values)
 }
 
-#[tactic(auto, using(walker_state::proofs::Stepping::steps), unfolding(evaluation_rules::specs::Calls::program_call))]
+#[tactic(auto, using(walker_state::proofs::Stepping::steps), unfolding(evaluation_rules::specs::Applying::program_call))]
 fn call_function(
     alloc: Global,
     function: Function,
@@ -141,8 +145,11 @@ fn call_function(
 ) -> Result<Control, AllocError>
     ensures size { IfOk result (λ control. control_size control < 2) }
     ensures calls { IfOk result (λ control. (s : State) → control_calls control s ≤ 1 + s.calls) }
-    ensures around { IfOk result (λ control. (s : State) → control_around control s ≡ around s.transaction) }
-    ensures meaning { IfOk result (λ control. (s : State) → tree control s ≡ from_state (program_call (value_at room) (function_view function) (views values.items)) s) }
+    ensures around { IfOk result (λ control. (s : State)
+        → control_around control s ≡ around s.transaction) }
+    ensures meaning { IfOk result (λ control. (s : State)
+        → tree control s ≡ from_state (program_call (value_at room) (function_view function)
+        (views values.items)) s) }
 {
     if function.params.len() == values.len() {
         return Ok(Control::Enter(function, values, room));
@@ -171,8 +178,11 @@ pub(crate) fn enter(
     room: u32,
 ) -> Result<Control, AllocError>
     ensures calls { IfOk result (λ control. control_calls control state.new ≤ state.old.calls) }
-    ensures around { IfOk result (λ control. control_around control state.new ≡ around state.old.transaction) }
-    ensures meaning { IfOk result (λ control. tree control state.new ≡ from_state (body_value (value_at room) (function_view function) (views values.items)) state.old) }
+    ensures around { IfOk result (λ control. control_around control state.new
+        ≡ around state.old.transaction) }
+    ensures meaning { IfOk result (λ control. tree control state.new
+        ≡ from_state (body_value (value_at room) (function_view function) (views values.items))
+        state.old) }
 {
     let Function {
         space,
@@ -180,7 +190,7 @@ pub(crate) fn enter(
         params,
         body,
     } = function;
-    let locals = bound(alloc, &params, values)?;
+    let locals = bind_parameters(alloc, &params, values)?;
     let home = Some(space);
     let place = mem::replace(&mut state.place, Place { locals, home });
     state.frames.push_front(Frame::Leave { place })?;
@@ -188,8 +198,13 @@ pub(crate) fn enter(
 }
 
 // Each parameter with its argument, the last in front.
-fn bound(alloc: Global, params: &[ArcStr], values: Vec<Value>) -> Result<Locals, AllocError>
-    ensures { IfOk result (λ locals. locals ≡ bound_to [] (map arc_str_bytes params.now) (views values.items)) }
+fn bind_parameters(
+    alloc: Global,
+    params: &[ArcStr],
+    values: Vec<Value>,
+) -> Result<Locals, AllocError>
+    ensures { IfOk result (λ locals. locals
+        ≡ bound_to [] (map arc_str_bytes params.now) (views values.items)) }
 {
     let mut values = VecDeque::from_vec(values);
     let mut locals = Locals::none(alloc);

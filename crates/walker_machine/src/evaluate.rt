@@ -1,18 +1,21 @@
 // The first step of a form's evaluation.
 #![tactic(auto, using(walker_state::proofs::Stepping::steps))]
 
-ghost use Rattle.std.specs.Prelude.{◌≡◌, ◌+◌, ◌*◌, ◌<◌, ◌≤◌, IfOk};
+ghost use Rattle.std.specs.Prelude.{◌≡◌, ◌+◌, ◌*◌, ◌<◌, IfOk};
 ghost use Rattle.std.specs.Arc.{arc_str_bytes};
 ghost use Rattle.value_data.specs.Listed.{listed};
 ghost use Rattle.value_data.specs.View.{view};
-ghost use Rattle.walker_state.specs.Machine.{items_value, list_at, place_of, from_state, tree, named};
+ghost use Rattle.walker_state.specs.Pending.{place_of, from_state, tree};
+ghost use Rattle.walker_state.specs.Frames.{items_value, list_at};
+ghost use Rattle.walker_state.specs.Pending.{symbol_for_use};
 ghost use Rattle.special_forms.specs.Seen.{forms_view};
 ghost use Rattle.special_forms.specs.Names.{special_named};
 ghost use Rattle.special_forms.specs.Size.{datum_size, forms_size};
-ghost use Rattle.walker_state.specs.Size.{control_size, frames_size, use_size, control_calls, control_around, around};
+ghost use Rattle.walker_state.specs.Size.{use_size};
+ghost use Rattle.walker_state.specs.Position.{LeadsOnWithin};
 ghost use Rattle.evaluation_rules.specs.Evaluation.{headed_value, list_value, value_at};
 
-use crate::answers::take_resolution;
+use crate::answers::use_resolution;
 use crate::rows::{next_argument, next_item};
 use crate::special::evaluate_special;
 use repl_faults::{not_a_function, too_deep};
@@ -22,8 +25,8 @@ use std::alloc::{AllocError, Global};
 use std::sync::ArcStr;
 use walker_state::{Callee, Collection, Control, State, SymbolUse, Wanted, look_up, resolve};
 
-// The form's value, or what has to be known first. Symbols, lists, vectors and maps apart, a form is
-// its own value. `room` is how many lists, vectors and maps may be under way inside one another.
+// The form's value, or what has to be known first. Symbols, lists, vectors and maps apart, a form
+// is its own value. `room` is how many lists, vectors and maps may be under way inside one another.
 #[tactic(auto, using(crate::proofs::Evaluating::first_steps))]
 pub(crate) fn evaluate(
     alloc: Global,
@@ -31,11 +34,9 @@ pub(crate) fn evaluate(
     form: Value,
     room: u32,
 ) -> Result<Control, AllocError>
-    ensures size { IfOk result (λ control. control_size control + frames_size state.new.frames.items
-        < 3 * datum_size (view form) + frames_size state.old.frames.items) }
-    ensures calls { IfOk result (λ control. control_calls control state.new ≤ state.old.calls) }
-    ensures around { IfOk result (λ control. control_around control state.new ≡ around state.old.transaction) }
-    ensures meaning { IfOk result (λ control. tree control state.new ≡ from_state (value_at room (place_of state.old) (view form)) state.old) }
+    ensures on { IfOk result (LeadsOnWithin (3 * datum_size (view form)) state.old state.new) }
+    ensures meaning { IfOk result (λ control. tree control state.new
+        ≡ from_state (value_at room (place_of state.old) (view form)) state.old) }
 {
     match form {
         Value::Symbol(symbol) => {
@@ -63,15 +64,13 @@ pub(crate) fn evaluate_symbol(
     symbol: ArcStr,
     purpose: SymbolUse,
 ) -> Result<Control, AllocError>
-    ensures size { IfOk result (λ control. control_size control + frames_size state.new.frames.items
-        < 1 + use_size purpose + frames_size state.old.frames.items) }
-    ensures calls { IfOk result (λ control. control_calls control state.new ≤ state.old.calls) }
-    ensures around { IfOk result (λ control. control_around control state.new ≡ around state.old.transaction) }
+    ensures on { IfOk result (LeadsOnWithin (1 + use_size purpose) state.old state.new) }
     ensures meaning { IfOk result (λ control. tree control state.new
-        ≡ from_state (named (place_of state.old) (arc_str_bytes symbol) purpose) state.old) }
+        ≡ from_state (symbol_for_use (place_of state.old) (arc_str_bytes symbol) purpose)
+        state.old) }
 {
     match look_up(alloc, &state.place, &symbol)? {
-        Some(resolution) => take_resolution(alloc, state, purpose, resolution),
+        Some(resolution) => use_resolution(alloc, state, purpose, resolution),
         None => {
             let ask = resolve(state, &symbol)?;
             Ok(Control::Ask(ask, Wanted::Resolution(purpose)))
@@ -79,7 +78,7 @@ pub(crate) fn evaluate_symbol(
     }
 }
 
-#[tactic(auto, using(walker_state::proofs::Stepping::steps), unfolding(walker_state::specs::Machine::items_behind))]
+#[tactic(auto, using(walker_state::proofs::Stepping::steps), unfolding(walker_state::specs::Frames::items_behind))]
 fn evaluate_items(
     alloc: Global,
     state: &mut State,
@@ -87,11 +86,10 @@ fn evaluate_items(
     forms: Forms,
     room: u32,
 ) -> Result<Control, AllocError>
-    ensures size { IfOk result (λ control. control_size control + frames_size state.new.frames.items
-        < 2 + forms_size (forms_view forms) + frames_size state.old.frames.items) }
-    ensures calls { IfOk result (λ control. control_calls control state.new ≤ state.old.calls) }
-    ensures around { IfOk result (λ control. control_around control state.new ≡ around state.old.transaction) }
-    ensures meaning { IfOk result (λ control. tree control state.new ≡ from_state (items_value room (place_of state.old) kind (forms_view forms)) state.old) }
+    ensures on { IfOk result
+        (LeadsOnWithin (2 + forms_size (forms_view forms)) state.old state.new) }
+    ensures meaning { IfOk result (λ control. tree control state.new
+        ≡ from_state (items_value room (place_of state.old) kind (forms_view forms)) state.old) }
 {
     if room == 0 {
         return Ok(Control::Fault(too_deep(alloc)?));
@@ -100,18 +98,17 @@ fn evaluate_items(
 }
 
 // A list's head is looked at first. An empty list is itself.
-#[tactic(auto, using(walker_state::proofs::Stepping::steps, crate::proofs::Evaluating::steps), unfolding(walker_state::specs::Machine::call_behind))]
+#[tactic(auto, using(walker_state::proofs::Stepping::steps, crate::proofs::Evaluating::steps), unfolding(walker_state::specs::Frames::call_behind))]
 fn evaluate_list(
     alloc: Global,
     state: &mut State,
     items: Sequence,
     room: u32,
 ) -> Result<Control, AllocError>
-    ensures size { IfOk result (λ control. control_size control + frames_size state.new.frames.items
-        < 3 + forms_size (listed items.items) + frames_size state.old.frames.items) }
-    ensures calls { IfOk result (λ control. control_calls control state.new ≤ state.old.calls) }
-    ensures around { IfOk result (λ control. control_around control state.new ≡ around state.old.transaction) }
-    ensures meaning { IfOk result (λ control. tree control state.new ≡ from_state (list_at room (place_of state.old) (listed items.items)) state.old) }
+    ensures on { IfOk result
+        (LeadsOnWithin (3 + forms_size (listed items.items)) state.old state.new) }
+    ensures meaning { IfOk result (λ control. tree control state.new
+        ≡ from_state (list_at room (place_of state.old) (listed items.items)) state.old) }
 {
     let mut forms = Forms::of_items(items);
     let Some(head) = forms.take_first()? else {
@@ -125,7 +122,7 @@ fn evaluate_list(
 }
 
 // The list with this head, and these forms behind it.
-#[tactic(auto, using(walker_state::proofs::Stepping::steps, crate::proofs::Evaluating::steps), unfolding(walker_state::specs::Machine::call_behind))]
+#[tactic(auto, using(walker_state::proofs::Stepping::steps, crate::proofs::Evaluating::steps), unfolding(walker_state::specs::Frames::call_behind))]
 fn evaluate_behind(
     alloc: Global,
     state: &mut State,
@@ -133,11 +130,11 @@ fn evaluate_behind(
     forms: Forms,
     room: u32,
 ) -> Result<Control, AllocError>
-    ensures size { IfOk result (λ control. control_size control + frames_size state.new.frames.items
-        < 7 + forms_size (forms_view forms) + frames_size state.old.frames.items) }
-    ensures calls { IfOk result (λ control. control_calls control state.new ≤ state.old.calls) }
-    ensures around { IfOk result (λ control. control_around control state.new ≡ around state.old.transaction) }
-    ensures meaning { IfOk result (λ control. tree control state.new ≡ from_state (list_value (value_at room) (place_of state.old) (view head) (forms_view forms)) state.old) }
+    ensures on { IfOk result
+        (LeadsOnWithin (7 + forms_size (forms_view forms)) state.old state.new) }
+    ensures meaning { IfOk result (λ control. tree control state.new
+        ≡ from_state (list_value (value_at room) (place_of state.old) (view head)
+        (forms_view forms)) state.old) }
 {
     match head {
         Value::Symbol(name) => evaluate_headed(alloc, state, name, forms, room),
@@ -150,7 +147,7 @@ fn evaluate_behind(
 }
 
 // A special form's name at the head always is that form.
-#[tactic(auto, using(walker_state::proofs::Stepping::steps), unfolding(walker_state::specs::Machine::call_behind))]
+#[tactic(auto, using(walker_state::proofs::Stepping::steps), unfolding(walker_state::specs::Frames::call_behind))]
 fn evaluate_headed(
     alloc: Global,
     state: &mut State,
@@ -158,11 +155,11 @@ fn evaluate_headed(
     forms: Forms,
     room: u32,
 ) -> Result<Control, AllocError>
-    ensures size { IfOk result (λ control. control_size control + frames_size state.new.frames.items
-        < 7 + forms_size (forms_view forms) + frames_size state.old.frames.items) }
-    ensures calls { IfOk result (λ control. control_calls control state.new ≤ state.old.calls) }
-    ensures around { IfOk result (λ control. control_around control state.new ≡ around state.old.transaction) }
-    ensures meaning { IfOk result (λ control. tree control state.new ≡ from_state (headed_value (value_at room) (place_of state.old) (arc_str_bytes name) (forms_view forms) (special_named (arc_str_bytes name))) state.old) }
+    ensures on { IfOk result
+        (LeadsOnWithin (7 + forms_size (forms_view forms)) state.old state.new) }
+    ensures meaning { IfOk result (λ control. tree control state.new
+        ≡ from_state (headed_value (value_at room) (place_of state.old) (arc_str_bytes name)
+        (forms_view forms) (special_named (arc_str_bytes name))) state.old) }
 {
     if let Some(special) = SpecialForm::named(name.as_str()) {
         return evaluate_special(alloc, state, special, forms, room);

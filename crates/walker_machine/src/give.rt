@@ -1,17 +1,18 @@
 // The value of the innermost form goes to what waits for it.
 #![tactic(auto, using(walker_state::proofs::Stepping::steps))]
 
-ghost use Rattle.std.specs.Prelude.{◌≡◌, ◌+◌, ◌<◌, ◌≤◌, IfOk};
+ghost use Rattle.std.specs.Prelude.{◌≡◌, ◌+◌, ◌<◌, IfOk};
 ghost use Rattle.value_data.specs.View.{view};
-ghost use Rattle.walker_state.specs.Machine.{given, tree};
-ghost use Rattle.walker_state.specs.Size.{frame_size, control_size, frames_size, control_calls, control_around, around};
+ghost use Rattle.walker_state.specs.Pending.{tree_with_value, tree};
+ghost use Rattle.walker_state.specs.Size.{frame_size};
+ghost use Rattle.walker_state.specs.Position.{LeadsOnWithin};
 
 use crate::alter::{call_altering, name_function};
 use crate::rows::{bind, next_argument, next_binding, next_in_logic, next_item};
 use crate::special::define;
 use repl_asks::Binding;
 use repl_values::Value;
-use special_forms::chosen;
+use special_forms::chosen_body;
 use std::alloc::{AllocError, Global};
 use walker_state::{Control, Frame, State, commute, enter_named, hold, next_in_body, throw};
 
@@ -21,11 +22,9 @@ pub(crate) fn give(
     frame: Frame,
     value: Value,
 ) -> Result<Control, AllocError>
-    ensures size { IfOk result (λ control. control_size control + frames_size state.new.frames.items
-        < 1 + frame_size frame + frames_size state.old.frames.items) }
-    ensures calls { IfOk result (λ control. control_calls control state.new ≤ state.old.calls) }
-    ensures around { IfOk result (λ control. control_around control state.new ≡ around state.old.transaction) }
-    ensures meaning { IfOk result (λ control. tree control state.new ≡ given frame (view value) state.old) }
+    ensures on { IfOk result (LeadsOnWithin (1 + frame_size frame) state.old state.new) }
+    ensures meaning { IfOk result (λ control. tree control state.new
+        ≡ tree_with_value frame (view value) state.old) }
 {
     match frame {
         Frame::Arguments {
@@ -52,7 +51,7 @@ pub(crate) fn give(
             alternative,
             room,
         } => {
-            let body = chosen(value, consequent, alternative);
+            let body = chosen_body(value, consequent, alternative);
             next_in_body(state, Value::Nil, body, room)
         }
         Frame::Logic { logic, forms, room } => next_in_logic(state, logic, value, forms, room),

@@ -1,7 +1,7 @@
 //! The machine of the walker: the frames of an evaluation, and its steps from one ask to the next.
 //!
 //! It has no store and no stack of its own calls. `begin` evaluates a job up to its first ask, and
-//! `Waiting::go_on` goes on with an answer.
+//! `WaitingEvaluation::go_on` goes on with an answer.
 #![tactic(auto)]
 
 mod alter;
@@ -14,4 +14,4 @@ mod rows;
 mod special;
 mod steps;
 
-pub use steps::{Reached, Waiting, begin};
+pub use steps::{Reached, WaitingEvaluation, begin};

@@ -1,13 +1,13 @@
 // Where a waiting evaluation stands: in which attempt, and with how many calls left.
 ghost use Rattle.std.specs.Prelude.{◌≡◌, ◌+◌, ◌<◌, ◌^◌};
-ghost use Rattle.walker_state.specs.Size.{around, outer_calls};
+ghost use Rattle.walker_state.specs.Position.{around, outer_calls};
 ghost use Rattle.walker_machine.specs.Waits.{position_of};
 
-use crate::steps::Waiting;
+use crate::steps::WaitingEvaluation;
 use std::boxed::Box;
 use walker_state::{Transaction, Wanted};
 
-impl Waiting {
+impl WaitingEvaluation {
     /// Whether an attempt was begun at a transaction that is not over.
     pub fn is_inside(&self) -> bool
         ensures { result ≡ (position_of self.now).transaction.runs }
@@ -66,7 +66,12 @@ fn turn_of(transaction: &Option<Box<Transaction>>) -> u64
 }
 
 fn most_calls(transaction: &Option<Box<Transaction>>, calls: u32) -> u32
-    ensures { result ≡ outer_calls (record { transaction = around transaction.now; calls = calls; size = 0 }) }
+    ensures { result ≡ outer_calls (record {
+      transaction = around transaction.now;
+      calls =
+          calls;
+      size = 0;
+    }) }
 {
     match transaction {
         None => calls,

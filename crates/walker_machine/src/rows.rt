@@ -1,24 +1,26 @@
 // Forms in a row: arguments, items, bodies, `and`, `or` and bindings.
 #![tactic(auto, using(walker_state::proofs::Stepping::steps))]
 
-ghost use Rattle.std.specs.Prelude.{◌≡◌, ◌+◌, ◌<◌, ◌≤◌, IfOk};
+ghost use Rattle.std.specs.Prelude.{◌≡◌, ◌+◌, ◌<◌, IfOk};
 ghost use Rattle.std.specs.Arc.{arc_str_bytes};
 ghost use Rattle.value_data.specs.View.{view};
-ghost use Rattle.walker_state.specs.Machine.{bottom, call_behind, items_behind, callee_view, place_of, kept_of, next_of, from_state, tree};
+ghost use Rattle.walker_state.specs.Frames.{callee_view, call_behind, items_behind, bottom};
+ghost use Rattle.walker_state.specs.Pending.{place_of, kept_of, next_of, from_state, tree};
 ghost use Rattle.special_forms.specs.Bindings.{bindings_in};
 ghost use Rattle.special_forms.specs.Seen.{views, forms_view};
 ghost use Rattle.special_forms.specs.Size.{forms_size, bindings_size};
-ghost use Rattle.walker_state.specs.Size.{control_size, frames_size, control_calls, control_around, around};
+ghost use Rattle.walker_state.specs.Size.{frames_size};
+ghost use Rattle.walker_state.specs.Position.{LeadsOnWithin};
 ghost use Rattle.evaluation_rules.specs.Evaluation.{value_at};
 ghost use Rattle.evaluation_rules.specs.Places.{with_local};
 ghost use Rattle.evaluation_rules.specs.SpecialForms.{let_value, logic_value};
 
 use crate::calls::call;
 use repl_values::Value;
-use special_forms::{Binding, Forms, Logic};
+use special_forms::{Forms, LetBinding, Logic};
 use std::alloc::{AllocError, Global};
 use std::sync::ArcStr;
-use walker_state::{Callee, Collection, Control, Frame, State, collected, next_in_body};
+use walker_state::{Callee, Collection, Control, Frame, State, make_collection, next_in_body};
 
 // The next argument is evaluated, or the function is called.
 #[tactic(auto, using(crate::proofs::Evaluating::steps))]
@@ -30,11 +32,11 @@ pub(crate) fn next_argument(
     mut forms: Forms,
     room: u32,
 ) -> Result<Control, AllocError>
-    ensures size { IfOk result (λ control. control_size control + frames_size state.new.frames.items
-        < 6 + forms_size (forms_view forms) + frames_size state.old.frames.items) }
-    ensures calls { IfOk result (λ control. control_calls control state.new ≤ state.old.calls) }
-    ensures around { IfOk result (λ control. control_around control state.new ≡ around state.old.transaction) }
-    ensures meaning { IfOk result (λ control. tree control state.new ≡ from_state (call_behind room (place_of state.old) (callee_view callee) (views values.items) (forms_view forms)) state.old) }
+    ensures on { IfOk result
+        (LeadsOnWithin (6 + forms_size (forms_view forms)) state.old state.new) }
+    ensures meaning { IfOk result (λ control. tree control state.new
+        ≡ from_state (call_behind room (place_of state.old) (callee_view callee)
+        (views values.items) (forms_view forms)) state.old) }
 {
     let Some(form) = forms.take_first()? else {
         return call(alloc, state, callee, values, room);
@@ -59,14 +61,14 @@ pub(crate) fn next_item(
     mut forms: Forms,
     room: u32,
 ) -> Result<Control, AllocError>
-    ensures size { IfOk result (λ control. control_size control + frames_size state.new.frames.items
-        < 2 + forms_size (forms_view forms) + frames_size state.old.frames.items) }
-    ensures calls { IfOk result (λ control. control_calls control state.new ≤ state.old.calls) }
-    ensures around { IfOk result (λ control. control_around control state.new ≡ around state.old.transaction) }
-    ensures meaning { IfOk result (λ control. tree control state.new ≡ from_state (items_behind room (place_of state.old) kind (views values.items) (forms_view forms)) state.old) }
+    ensures on { IfOk result
+        (LeadsOnWithin (2 + forms_size (forms_view forms)) state.old state.new) }
+    ensures meaning { IfOk result (λ control. tree control state.new
+        ≡ from_state (items_behind room (place_of state.old) kind (views values.items)
+        (forms_view forms)) state.old) }
 {
     match forms.take_first()? {
-        None => collected(alloc, kind, values),
+        None => make_collection(alloc, kind, values),
         Some(form) => {
             let frame = Frame::Collection {
                 kind,
@@ -88,11 +90,11 @@ pub(crate) fn next_in_logic(
     mut forms: Forms,
     room: u32,
 ) -> Result<Control, AllocError>
-    ensures size { IfOk result (λ control. control_size control + frames_size state.new.frames.items
-        < 2 + forms_size (forms_view forms) + frames_size state.old.frames.items) }
-    ensures calls { IfOk result (λ control. control_calls control state.new ≤ state.old.calls) }
-    ensures around { IfOk result (λ control. control_around control state.new ≡ around state.old.transaction) }
-    ensures meaning { IfOk result (λ control. tree control state.new ≡ from_state (logic_value (value_at room (place_of state.old)) logic (view last) (forms_view forms)) state.old) }
+    ensures on { IfOk result
+        (LeadsOnWithin (2 + forms_size (forms_view forms)) state.old state.new) }
+    ensures meaning { IfOk result (λ control. tree control state.new
+        ≡ from_state (logic_value (value_at room (place_of state.old)) logic (view last)
+        (forms_view forms)) state.old) }
 {
     match forms.take_first()? {
         None => Ok(Control::Return(last)),
@@ -113,16 +115,16 @@ pub(crate) fn next_binding(
     body: Forms,
     room: u32,
 ) -> Result<Control, AllocError>
-    ensures size { IfOk result (λ control. control_size control + frames_size state.new.frames.items
-        < 2 + bindings_size (bindings_in (forms_view bindings)) + forms_size (forms_view body) + frames_size state.old.frames.items) }
-    ensures calls { IfOk result (λ control. control_calls control state.new ≤ state.old.calls) }
-    ensures around { IfOk result (λ control. control_around control state.new ≡ around state.old.transaction) }
-    ensures meaning { IfOk result (λ control. tree control state.new ≡ from_state (let_value (value_at room) (place_of state.old) (bindings_in (forms_view bindings)) (forms_view body)) state.old) }
+    ensures on { IfOk result
+        (LeadsOnWithin (2 + bindings_size (bindings_in (forms_view bindings)) + forms_size (forms_view body)) state.old state.new) }
+    ensures meaning { IfOk result (λ control. tree control state.new
+        ≡ from_state (let_value (value_at room) (place_of state.old)
+        (bindings_in (forms_view bindings)) (forms_view body)) state.old) }
 {
     match bindings.take_binding(alloc)? {
         None => next_in_body(state, Value::Nil, body, room),
         Some(binding) => {
-            let Binding { name, form } = binding;
+            let LetBinding { name, form } = binding;
             let frame = Frame::Let {
                 name,
                 bindings,
@@ -137,12 +139,15 @@ pub(crate) fn next_binding(
 
 // The name is a local for what follows in its `let`.
 pub(crate) fn bind(state: &mut State, name: ArcStr, value: Value) -> Result<(), AllocError>
-    ensures size { IfOk result (λ _. frames_size state.new.frames.items ≡ 1 + frames_size state.old.frames.items) }
+    ensures size { IfOk result (λ _. frames_size state.new.frames.items
+        ≡ 1 + frames_size state.old.frames.items) }
     ensures calls { state.new.calls ≡ state.old.calls }
     ensures transaction { state.new.transaction ≡ state.old.transaction }
     ensures retries { state.new.retries ≡ state.old.retries }
-    ensures bottom { IfOk result (λ _. bottom state.new.frames.items (place_of state.new) ≡ bottom state.old.frames.items (place_of state.old)) }
-    ensures place { IfOk result (λ _. place_of state.new ≡ with_local (place_of state.old) (arc_str_bytes name) (view value)) }
+    ensures bottom { IfOk result (λ _. bottom state.new.frames.items (place_of state.new)
+        ≡ bottom state.old.frames.items (place_of state.old)) }
+    ensures place { IfOk result (λ _. place_of state.new
+        ≡ with_local (place_of state.old) (arc_str_bytes name) (view value)) }
     ensures next { IfOk result (λ _. next_of state.new ≡ next_of state.old) }
     ensures kept { kept_of state.new ≡ kept_of state.old }
     ensures text { state.new.text ≡ state.old.text }

@@ -6,17 +6,19 @@ ghost use Rattle.repl_asks.specs.View.{answer_view};
 ghost use Rattle.repl_jobs.specs.View.{end_view, job_view};
 ghost use Rattle.evaluation_rules.specs.Tree.{ends};
 ghost use Rattle.evaluation_rules.specs.Evaluation.{evaluation};
-ghost use Rattle.walker_state.specs.Machine.{from_state, tree, kept_of};
+ghost use Rattle.walker_state.specs.Pending.{from_state, tree, kept_of};
 ghost use Rattle.value_data.specs.View.{view};
-ghost use Rattle.evaluation_rules.specs.Doing.{done};
-ghost use Rattle.walker_state.specs.Size.{control_position, Position};
+ghost use Rattle.evaluation_rules.specs.Doing.{pure_part};
+ghost use Rattle.walker_state.specs.Position.{Position, control_position};
 ghost use Rattle.walker_state.specs.declared.frames.Control.{Control};
-ghost use Rattle.walker_machine.specs.Waits.{leg_tree, behind, reached_tree, position_of, most_calls_of, IsOnLeg, IsOnReached, IsLaterReached};
+ghost use Rattle.walker_machine.specs.Waits.{leg_tree, tree_behind, reached_tree, position_of};
+ghost use Rattle.walker_machine.specs.Waits.{most_calls_of, IsOnLeg, IsOnReached, IsLaterReached};
 
-use crate::answers::take_answer;
+use crate::answers::use_answer;
 use crate::calls::enter;
 use crate::evaluate::evaluate;
 use crate::give::give;
+use evaluation_rules::{CALLS, ROOM};
 use local_names::Locals;
 use repl_asks::{Answer, Ask};
 use repl_jobs::{End, Finished, Job};
@@ -24,17 +26,11 @@ use repl_values::{Value, copy, copy_text};
 use special_forms::Function;
 use std::alloc::{AllocError, Global};
 use std::collections::VecDeque;
-use walker_state::{Control, Left, Place, State, Wanted, leave};
-
-// How many calls an evaluation may make.
-const CALLS: u32 = 10_000;
-
-// How many lists, vectors and maps may be under way inside one another.
-const ROOM: u32 = 200;
+use walker_state::{Control, EndOrCommit, Place, State, Wanted, leave};
 
 /// An evaluation that waits for the answer to its last ask.
 #[derive(Drop)]
-pub struct Waiting {
+pub struct WaitingEvaluation {
     pub(crate) state: State,
     pub(crate) wanted: Wanted,
 }
@@ -42,7 +38,7 @@ pub struct Waiting {
 /// How far an evaluation came: to its next ask, or to its end.
 #[derive(Drop)]
 pub enum Reached {
-    Asks(Waiting, Ask),
+    Asks(WaitingEvaluation, Ask),
     Ends(Finished),
 }
 
@@ -56,7 +52,8 @@ enum Leg {
 
 /// Begins the job, up to its first ask or its end. It fails only for want of memory.
 pub fn begin(alloc: Global, job: &Job) -> Result<Reached, AllocError>
-    ensures meaning { IfOk result (λ reached. reached_tree reached ≡ evaluation (job_view job.now)) }
+    ensures meaning { IfOk result (λ reached. reached_tree reached
+        ≡ evaluation (job_view job.now)) }
     ensures calls { IfOk result (λ reached. most_calls_of reached ≤ CALLS) }
 {
     let state = State {
@@ -75,14 +72,15 @@ pub fn begin(alloc: Global, job: &Job) -> Result<Reached, AllocError>
     go_on(alloc, state, Control::Evaluate(form, ROOM))
 }
 
-impl Waiting {
+impl WaitingEvaluation {
     /// Goes on with this answer, up to the next ask or the end. It fails only for want of memory.
     pub fn go_on(self, alloc: Global, answer: Answer) -> Result<Reached, AllocError>
-        ensures meaning { IfOk result (λ reached. reached_tree reached ≡ behind self (answer_view answer)) }
+        ensures meaning { IfOk result (λ reached. reached_tree reached
+            ≡ tree_behind self (answer_view answer)) }
         ensures later { IfOk result (λ reached. IsLaterReached reached (position_of self)) }
     {
-        let Waiting { mut state, wanted } = self;
-        let control = take_answer(alloc, &mut state, wanted, answer)?;
+        let WaitingEvaluation { mut state, wanted } = self;
+        let control = use_answer(alloc, &mut state, wanted, answer)?;
         go_on(alloc, state, control)
     }
 }
@@ -96,8 +94,11 @@ fn go_on(alloc: Global, state: State, control: Control) -> Result<Reached, Alloc
     let mut control = control;
     loop {
         control = match run_leg(alloc, &mut state, control)? {
-            Leg::Ends(end) => return Ok(ended(state, end)),
-            Leg::Asks(ask, wanted) => return Ok(Reached::Asks(Waiting { state, wanted }, ask)),
+            Leg::Ends(end) => return Ok(end_reached(state, end)),
+            Leg::Asks(ask, wanted) => return Ok(Reached::Asks(
+                WaitingEvaluation { state, wanted },
+                ask,
+            )),
             Leg::Enters(function, values, room) => {
                 enter(alloc, &mut state, function, values, room)?
             }
@@ -129,17 +130,20 @@ fn run_leg(alloc: Global, state: &mut State, control: Control) -> Result<Leg, Al
 // No frame waits for the value: the whole ends, or an attempt asks to be committed.
 fn end_or_commit(alloc: Global, state: &mut State, value: Value) -> Result<Leg, AllocError>
     requires { state.old.frames.items ≡ [] }
-    ensures meaning { IfOk result (λ leg. leg_tree leg state.new ≡ from_state (done (view value)) state.old) }
-    ensures on { IfOk result (λ leg. IsOnLeg leg state.new (control_position (Control.Return value) state.old)) }
+    ensures meaning { IfOk result (λ leg. leg_tree leg state.new
+        ≡ from_state (pure_part (view value)) state.old) }
+    ensures on { IfOk result (λ leg. IsOnLeg leg state.new
+        (control_position (Control.Return value) state.old)) }
 {
     match leave(alloc, state, value)? {
-        Left::Ends(value) => Ok(Leg::Ends(End::Value(value))),
-        Left::Asks(ask, wanted) => Ok(Leg::Asks(ask, wanted)),
+        EndOrCommit::Ends(value) => Ok(Leg::Ends(End::Value(value))),
+        EndOrCommit::Asks(ask, wanted) => Ok(Leg::Asks(ask, wanted)),
     }
 }
 
-fn ended(state: State, end: End) -> Reached
-    ensures meaning { reached_tree result ≡ ends (end_view end) (string_bytes state.text) (kept_of state) }
+fn end_reached(state: State, end: End) -> Reached
+    ensures meaning { reached_tree result
+        ≡ ends (end_view end) (string_bytes state.text) (kept_of state) }
     ensures on { (old : Position) → IsOnReached result old }
 {
     let State {

@@ -1,9 +1,11 @@
 -- Vectors and maps of values: their limits, the keys of pairs, and the first that stands twice.
-use Rattle.std.proofs.Common.{◌≡◌, ℕ, zero, suc, ◌<◌, Bool, true, false, if◌then◌else◌, List, [], ◌∷◌, Option, Some, None, Result, Ok, Err, IfOk, option_map, get_or, length, refl, sym, subst, ap, ◌∙◌, arith}
+use Rattle.std.proofs.Common.{◌≡◌, ℕ, zero, suc, ◌<◌, Bool, true, false, if◌then◌else◌, List, []}
+use Rattle.std.proofs.Common.{◌∷◌, Option, Some, None, Result, Ok, Err, IfOk, option_map, get_or}
+use Rattle.std.proofs.Common.{length, refl, sym, subst, ap, ◌∙◌, arith}
 use Rattle.std.specs.Prelude.{string_bytes, zip, ◌&&◌, nat_le}
 use Rattle.value_data.specs.Measures.{weight, nesting}
 use Rattle.core_texts.specs.Limits.{most_weight}
-use Rattle.core_functions.specs.Outcome.{limited, most_nesting}
+use Rattle.core_functions.specs.ApplyOutcome.{limited_outcome, most_nesting}
 use Rattle.value_data.specs.Datum.{Datum, Items, no_items, item, Pairs, map}
 use Rattle.value_data.specs.Keyed.{keys_of}
 use Rattle.value_data.specs.Repeats.{is_one_of, repeat_behind, first_repeat}
@@ -17,9 +19,10 @@ use Rattle.special_forms.specs.Seen.{views}
 use Rattle.repl_faults.specs.Failure.{Failure, duplicate_key, too_large}
 use Rattle.evaluation_rules.specs.Doing.{Part, fails}
 use Rattle.evaluation_rules.specs.Tree.{ends}
-use Rattle.walker_state.specs.Machine.{kept_of, from_state, tree}
+use Rattle.walker_state.specs.Pending.{kept_of, from_state, tree}
 use Rattle.walker_state.specs.declared.frames.Control.{Control}
-use Rattle.evaluation_rules.specs.Collections.{keys_in, values_in, item_at, within_limits, map_value}
+use Rattle.evaluation_rules.specs.Collections.{keys_in, values_in, item_at, within_limits}
+use Rattle.evaluation_rules.specs.Collections.{map_value}
 use Rattle.walker_state.specs.declared.frames.State.{State}
 use Rattle.walker_state.proofs.Stepping.{fails-at}
 
@@ -32,7 +35,7 @@ if_ok-part (Err e) p q same h = tt
 -- values that are too large
 pub within_limits-misfits : (d : Datum) (told : Failure) (s : State) → (nat_le (weight d) most_weight && nat_le (nesting d) most_nesting) ≡ false
     → told ≡ too_large → ends (Err told) (string_bytes s.text) (kept_of s) ≡ from_state (within_limits d) s
-unfolding limited
+unfolding limited_outcome
 within_limits-misfits d told s misfits is = rw (misfits, is) (sym (fails-at too_large s))
 
 -- the keys of keys and values that stand by turns

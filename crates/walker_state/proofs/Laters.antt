@@ -1,58 +1,62 @@
 -- Where an evaluation stands after an answer.
-use Rattle.std.proofs.Common.{◌≡◌, ℕ, ◌+◌, ◌-◌, ◌*◌, ◌<◌, ◌≤◌, ◌⊎◌, Bool, true, false, refl, sym, subst, ap, ◌∙◌, inl, inr, arith, max, Option, Some}
+use Rattle.std.proofs.Common.{◌≡◌, ℕ, ◌+◌, ◌-◌, ◌*◌, ◌<◌, ◌≤◌, ◌⊎◌, Bool, true, false, refl, sym}
+use Rattle.std.proofs.Common.{subst, ap, ◌∙◌, inl, inr, arith, max, Option, Some}
 use Rattle.std.specs.Global.{Global}
 use Rattle.std.specs.Prelude.{Box}
 use Rattle.std.proofs.Common.{Result, Ok, Err, IfOk}
 use Rattle.value_data.specs.declared.value.RefName.{RefName}
 use Rattle.value_data.specs.declared.value.Value.{Value}
 use Rattle.walker_state.specs.declared.frames.Wanted.{Wanted}
-use Rattle.walker_state.specs.Size.{Around, no_attempt, around, begun_around, attempt_around, frames_size}
-use Rattle.walker_state.specs.Size.{control_position, control_around, control_calls, wanted_position}
-use Rattle.walker_state.specs.Size.{Position, IsLess, IsLater, IsOn, IsRetried}
+use Rattle.walker_state.specs.Size.{frames_size}
+use Rattle.walker_state.specs.Position.{TransactionPosition, no_attempt, attempt_around, around}
+use Rattle.walker_state.specs.Position.{IsRetried, IsOn, IsLater, IsLess, control_position}
+use Rattle.walker_state.specs.Position.{wanted_position, Position, LeadsOnWithin, control_calls}
+use Rattle.walker_state.specs.Position.{control_around}
+use Rattle.walker_state.specs.Position.{begun_around}
 use Rattle.walker_state.specs.declared.frames.Transaction.{Transaction}
 use Rattle.walker_state.specs.declared.frames.State.{State}
 use Rattle.walker_state.specs.declared.frames.Control.{Control}
 
-abbrev at : Around → ℕ → ℕ → Position
+abbrev at : TransactionPosition → ℕ → ℕ → Position
 at r calls size = record { transaction = r; calls = calls; size = size }
 
 -- in the same transaction, or outside of any, with less to do
-pub later_smaller : (r r' : Around) (calls size calls' size' : ℕ) → r' ≡ r → calls' ≤ calls → size' < size
+pub later_smaller : (r r' : TransactionPosition) (calls size calls' size' : ℕ) → r' ≡ r → calls' ≤ calls → size' < size
     → IsLater (record { transaction = r'; calls = calls'; size = size' }) (record { transaction = r; calls = calls; size = size })
 unfolding IsLater
 later_smaller r r' calls size calls' size' same fewer smaller =
-    subst (λ (q : Around). IsLater (at q calls' size') (at r calls size)) (sym same) (by_runs r.runs r.calls r.size r.turn)
+    subst (λ (q : TransactionPosition). IsLater (at q calls' size') (at r calls size)) (sym same) (by_runs r.runs r.calls r.size r.turn)
   where
     by_runs : (b : Bool) (c s l : ℕ) → IsLater (at (record { runs = b; calls = c; size = s; turn = l }) calls' size') (at (record { runs = b; calls = c; size = s; turn = l }) calls size)
     by_runs true c s l = (omega arith, (omega arith, λ _. inr (omega arith, inr (fewer, smaller))))
     by_runs false c s l = (fewer, inr smaller)
 
 -- an attempt was begun
-pub later_begun : (first : Bool) (t : Transaction) (r : Around) (calls size size' : ℕ) → r ≡ attempt_around (2 * t.left) t
+pub later_begun : (first : Bool) (t : Transaction) (r : TransactionPosition) (calls size size' : ℕ) → r ≡ attempt_around (2 * t.left) t
     → calls ≤ t.calls → 2 + frames_size t.frames.items ≤ size
     → IsLater (record { transaction = r; calls = calls; size = size' }) (record { transaction = begun_around first t; calls = t.calls; size = size })
 unfolding IsLater
 later_begun first t r calls size size' same fewer room =
-    subst (λ (q : Around). IsLater (at q calls size') (at (begun_around first t) t.calls size)) (sym same) (by_first first)
+    subst (λ (q : TransactionPosition). IsLater (at q calls size') (at (begun_around first t) t.calls size)) (sym same) (by_first first)
   where
     by_first : (b : Bool) → IsLater (at (attempt_around (2 * t.left) t) calls size') (at (begun_around b t) t.calls size)
     by_first true = (omega (arith, fewer), (omega (arith, room), λ h. cc))
     by_first false = (omega (arith, fewer), (omega arith, λ _. inl (omega arith)))
 
 -- the transaction is over
-pub later_over : (r : Around) (t : Transaction) (turn calls size calls' size' : ℕ) → r ≡ no_attempt
+pub later_over : (r : TransactionPosition) (t : Transaction) (turn calls size calls' size' : ℕ) → r ≡ no_attempt
     → calls' ≤ max t.calls calls → size' < 2 + frames_size t.frames.items
     → IsLater (record { transaction = r; calls = calls'; size = size' }) (record { transaction = attempt_around turn t; calls = calls; size = size })
 unfolding IsLater
 later_over r t turn calls size calls' size' over fewer smaller =
-    subst (λ (q : Around). IsLater (at q calls' size') (at (attempt_around turn t) calls size)) (sym over) (fewer, inr smaller)
+    subst (λ (q : TransactionPosition). IsLater (at q calls' size') (at (attempt_around turn t) calls size)) (sym over) (fewer, inr smaller)
 
-later_next : (r : Around) (t : Transaction) (turn turn' calls size calls' size' : ℕ) → r ≡ attempt_around turn' t
+later_next : (r : TransactionPosition) (t : Transaction) (turn turn' calls size calls' size' : ℕ) → r ≡ attempt_around turn' t
     → calls' ≡ t.calls → turn' < turn
     → IsLater (record { transaction = r; calls = calls'; size = size' }) (record { transaction = attempt_around turn t; calls = calls; size = size })
 unfolding IsLater
 later_next r t turn turn' calls size calls' size' next same falls =
-    subst (λ (q : Around). IsLater (at q calls' size') (at (attempt_around turn t) calls size)) (sym next) (omega (arith, same), (omega arith, λ _. inl falls))
+    subst (λ (q : TransactionPosition). IsLater (at q calls' size') (at (attempt_around turn t) calls size)) (sym next) (omega (arith, same), (omega arith, λ _. inl falls))
 
 pub later_retried : (c : Control) (s : State) (t : Transaction) (calls size : ℕ) → IsRetried c s t calls
     → IsLater (control_position c s) (record { transaction = attempt_around (2 * t.left) t; calls = calls; size = size })
@@ -66,7 +70,7 @@ later_retried (Control.Enter f values room) s t calls size h = absurd h
 pub later_on : (a b c : Position) → IsLater b a → IsOn c b → IsLater c a
 unfolding IsLater IsOn
 later_on a b c later on =
-    subst (λ (q : Around). IsLater (at q c.calls c.size) a) (sym on.0) (by_runs b.transaction.runs b.transaction.calls b.transaction.size b.transaction.turn later)
+    subst (λ (q : TransactionPosition). IsLater (at q c.calls c.size) a) (sym on.0) (by_runs b.transaction.runs b.transaction.calls b.transaction.size b.transaction.turn later)
   where
     by_runs : (v : Bool) (n s l : ℕ) → IsLater (at (record { runs = v; calls = n; size = s; turn = l }) b.calls b.size) a
         → IsLater (at (record { runs = v; calls = n; size = s; turn = l }) c.calls c.size) a
@@ -85,7 +89,7 @@ pub on_itself : (p : Position) → IsOn p p
 unfolding IsOn
 on_itself p = (refl, omega arith, inr (omega arith))
 
-pub on_asked : (old middle : Position) (r : Around) (calls size : ℕ) → IsOn middle old → r ≡ middle.transaction → calls ≤ middle.calls → size ≤ middle.size
+pub on_asked : (old middle : Position) (r : TransactionPosition) (calls size : ℕ) → IsOn middle old → r ≡ middle.transaction → calls ≤ middle.calls → size ≤ middle.size
     → IsOn (record { transaction = r; calls = calls; size = size }) old
 unfolding IsOn
 on_asked old middle r calls size on same fewer smaller = (same ∙ on.0, omega (arith, on.1), behind_both _ _ _ _ _ _ fewer smaller on.2)
@@ -99,13 +103,14 @@ pub entered_less : (a b c : ℕ) → a ≤ b → 1 + b ≤ c → a < c
 entered_less a b c h k = omega arith
 
 -- the body of an attempt that was begun
-pub begun-later : {E : Type 0} (r : Result Control E) (new u s : State) (b c : Box Transaction Global) → u.calls ≡ b.value.calls
+pub begun-later : {E : Type 0} (r : Result Control E) (work : ℕ) (new u s : State)
+    (b c : Box Transaction Global) → u.calls ≡ b.value.calls
     → u.transaction ≡ Some c → attempt_around (2 * c.value.left) c.value ≡ attempt_around (2 * b.value.left) b.value
-    → IfOk r (λ k. control_calls k new ≤ u.calls) → IfOk r (λ k. control_around k new ≡ around u.transaction)
+    → IfOk r (LeadsOnWithin work u new)
     → IfOk r (λ k. IsLater (control_position k new) (wanted_position (Wanted.Begin b) s))
-begun-later (Ok k) new u s b c entered runs same calls stays =
-    later_begun b.value.is_first b.value _ _ _ _ (stays ∙ ap around runs ∙ same) (omega (arith, calls, entered)) (omega arith)
-begun-later (Err e) new u s b c entered runs same calls stays = tt
+begun-later (Ok k) work new u s b c entered runs same on = later_begun b.value.is_first b.value _ _ _ _
+    (on.around ∙ ap around runs ∙ same) (omega (arith, on.calls, entered)) (omega arith)
+begun-later (Err e) work new u s b c entered runs same on = tt
 
 -- another attempt after a read, and after a commit
 pub retried-later : {E : Type 0} (r : Result Control E) (new s : State) (t : Box Transaction Global) (calls : ℕ) → s.transaction ≡ Some t → calls ≡ s.calls

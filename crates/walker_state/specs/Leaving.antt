@@ -2,23 +2,26 @@
 use Rattle.std.specs.Prelude.{◌≡◌, ◌+◌, ◌≤◌, Ok, string_bytes, ⊤}
 use Rattle.value_data.specs.View.{view}
 use Rattle.repl_asks.specs.View.{ask_view}
-use Rattle.repl_jobs.specs.Tree.{Tree, asks}
+use Rattle.repl_jobs.specs.InteractionTree.{InteractionTree, asks}
 use Rattle.evaluation_rules.specs.Tree.{ends}
-use Rattle.walker_state.specs.Machine.{answered, kept_of}
-use Rattle.walker_state.specs.Size.{Position, wanted_around, wanted_calls, wanted_size, frames_size}
-use Rattle.walker_state.specs.declared.commits.Left.{Left}
+use Rattle.walker_state.specs.Pending.{tree_with_answer, kept_of}
+use Rattle.walker_state.specs.Size.{wanted_size, frames_size}
+use Rattle.walker_state.specs.Position.{wanted_around, wanted_calls, Position}
+use Rattle.walker_state.specs.declared.commits.EndOrCommit.{EndOrCommit}
 use Rattle.walker_state.specs.declared.frames.State.{State}
 use Rattle.walker_state.specs.declared.frames.Wanted.{Wanted}
 
-abbrev pub left_tree : Left → State → Tree
-left_tree (Left.Ends v) s = ends (Ok (view v)) (string_bytes s.text) (kept_of s)
-left_tree (Left.Asks ask wanted) s = asks (ask_view ask) (λ answer. answered wanted answer s)
+abbrev pub end_or_commit_tree : EndOrCommit → State → InteractionTree
+end_or_commit_tree (EndOrCommit.Ends v) s = ends (Ok (view v)) (string_bytes s.text) (kept_of s)
+end_or_commit_tree (EndOrCommit.Asks ask wanted) s =
+    asks (ask_view ask) (λ answer. tree_with_answer wanted answer s)
 
 -- an ask is reached, without a call and with as much to do or less
 abbrev pub IsAskedFrom : Wanted → State → Position → Type 0
 IsAskedFrom wanted s old =
-    (wanted_around wanted s ≡ old.transaction) × (wanted_calls wanted s ≤ old.calls) × (wanted_size wanted + frames_size s.frames.items ≤ old.size)
+    (wanted_around wanted s ≡ old.transaction) × (wanted_calls wanted s ≤ old.calls)
+    × (wanted_size wanted + frames_size s.frames.items ≤ old.size)
 
-abbrev pub IsLeftBy : Left → State → Position → Type 0
-IsLeftBy (Left.Ends v) s old = ⊤
-IsLeftBy (Left.Asks ask wanted) s old = IsAskedFrom wanted s old
+abbrev pub IsEndOrCommit : EndOrCommit → State → Position → Type 0
+IsEndOrCommit (EndOrCommit.Ends v) s old = ⊤
+IsEndOrCommit (EndOrCommit.Asks ask wanted) s old = IsAskedFrom wanted s old

@@ -1,3 +1,6 @@
-pub mod Machine
+pub mod Frames
+pub mod UnderWay
+pub mod Pending
+pub mod Position
 pub mod Size
 pub mod Leaving

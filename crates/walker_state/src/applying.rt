@@ -1,36 +1,31 @@
-// Functions of the language that need no store: the number of arguments is checked, then the function
-// is applied, and what it prints is printed.
-ghost use Rattle.std.specs.Prelude.{◌≡◌, ◌+◌, ◌<◌, ◌≤◌, IfOk};
-ghost use Rattle.core_functions.specs.Outcome.{Outcome, bounded};
+// Functions of the language that need no store: the number of arguments is checked, then the
+// function is applied, and what it prints is printed.
+ghost use Rattle.std.specs.Prelude.{◌≡◌, ◌<◌, IfOk};
+ghost use Rattle.core_functions.specs.ApplyOutcome.{ApplyOutcome, bounded_outcome};
 ghost use Rattle.core_functions.specs.View.{FailsIn};
 ghost use Rattle.value_data.specs.View.{view};
 ghost use Rattle.special_forms.specs.Seen.{views};
-ghost use Rattle.evaluation_rules.specs.Calls.{core_call, outcome, printed};
-ghost use Rattle.walker_state.specs.Machine.{from_state, tree};
-ghost use Rattle.walker_state.specs.Size.{control_size, frames_size, control_calls, control_around, around};
+ghost use Rattle.evaluation_rules.specs.Applying.{printed_value, outcome, core_call};
+ghost use Rattle.walker_state.specs.Pending.{from_state, tree};
+ghost use Rattle.walker_state.specs.Position.{LeadsOnWithin};
 
 use crate::frames::{Control, State};
 use core_functions::{Applied, CoreFunction, apply};
 use repl_faults::{ApplyError, output_too_long, wrong_arity};
-use repl_values::Value;
+use repl_values::{MOST_TEXT, Value};
 use std::alloc::{AllocError, Global};
 
-// The most that an evaluation may print, in bytes.
-const MOST_TEXT: usize = 1_048_576;
-
 /// A call of a function of the language that needs no store.
-#[tactic(auto, using(crate::proofs::Stepping::steps, crate::proofs::Printing::bounds), unfolding(evaluation_rules::specs::Calls::core_call))]
+#[tactic(auto, using(crate::proofs::Stepping::steps, crate::proofs::Printing::bounds), unfolding(evaluation_rules::specs::Applying::core_call))]
 pub fn call_core(
     alloc: Global,
     state: &mut State,
     function: CoreFunction,
     values: &[Value],
 ) -> Result<Control, AllocError>
-    ensures size { IfOk result (λ control. control_size control + frames_size state.new.frames.items
-        < 2 + frames_size state.old.frames.items) }
-    ensures calls { IfOk result (λ control. control_calls control state.new ≤ state.old.calls) }
-    ensures around { IfOk result (λ control. control_around control state.new ≡ around state.old.transaction) }
-    ensures meaning { IfOk result (λ control. tree control state.new ≡ from_state (core_call function (views values.now)) state.old) }
+    ensures on { IfOk result (LeadsOnWithin 2 state.old state.new) }
+    ensures meaning { IfOk result (λ control. tree control state.new
+        ≡ from_state (core_call function (views values.now)) state.old) }
 {
     if !function.takes(values.len()) {
         let fault = wrong_arity(alloc, function.name(), values.len())?;
@@ -41,16 +36,15 @@ pub fn call_core(
             let Applied { value, text } = applied;
             print(alloc, state, text.as_str(), value)
         }
-        Err(error) => failed(error),
+        Err(error) => fault_control(error),
     }
 }
 
 // The fault of a function ends the evaluation.
-fn failed(error: ApplyError) -> Result<Control, AllocError>
-    ensures size { IfOk result (λ control. control_size control < 2) }
-    ensures calls { IfOk result (λ control. (s : State) → control_calls control s ≡ s.calls) }
-    ensures around { IfOk result (λ control. (s : State) → control_around control s ≡ around s.transaction) }
-    ensures meaning { (o : Outcome) → FailsIn (bounded o) error → IfOk result (λ control. (s : State) → tree control s ≡ from_state (outcome o) s) }
+fn fault_control(error: ApplyError) -> Result<Control, AllocError>
+    ensures on { IfOk result (λ control. (s : State) → LeadsOnWithin 2 s s control) }
+    ensures meaning { (o : ApplyOutcome) → FailsIn (bounded_outcome o) error
+        → IfOk result (λ control. (s : State) → tree control s ≡ from_state (outcome o) s) }
 {
     match error {
         ApplyError::Fault(fault) => Ok(Control::Fault(fault)),
@@ -59,13 +53,11 @@ fn failed(error: ApplyError) -> Result<Control, AllocError>
 }
 
 // The value, with this text printed. Text that would pass the limit is not printed at all.
-#[tactic(auto, using(crate::proofs::Stepping::steps), unfolding(evaluation_rules::specs::Calls::printed))]
+#[tactic(auto, using(crate::proofs::Stepping::steps), unfolding(evaluation_rules::specs::Applying::printed_value))]
 fn print(alloc: Global, state: &mut State, text: &str, value: Value) -> Result<Control, AllocError>
-    ensures size { IfOk result (λ control. control_size control + frames_size state.new.frames.items
-        < 2 + frames_size state.old.frames.items) }
-    ensures calls { IfOk result (λ control. control_calls control state.new ≤ state.old.calls) }
-    ensures around { IfOk result (λ control. control_around control state.new ≡ around state.old.transaction) }
-    ensures meaning { IfOk result (λ control. tree control state.new ≡ from_state (printed text.now (view value)) state.old) }
+    ensures on { IfOk result (LeadsOnWithin 2 state.old state.new) }
+    ensures meaning { IfOk result (λ control. tree control state.new
+        ≡ from_state (printed_value text.now (view value)) state.old) }
 {
     if state.text.len().saturating_add(text.len()) > MOST_TEXT {
         return Ok(Control::Fault(output_too_long(alloc)?));

@@ -1,22 +1,26 @@
 // Attempts at a transaction: how they begin, and how they are made again.
-ghost use Rattle.std.specs.Prelude.{◌≡◌, ◌+◌, ◌<◌, ◌≤◌, [], false, None, IfOk, string_bytes};
+ghost use Rattle.std.specs.Prelude.{◌≡◌, ◌<◌, [], false, None, IfOk, string_bytes};
 ghost use Rattle.evaluation_rules.specs.Doing.{left, retried};
-ghost use Rattle.evaluation_rules.specs.Tree.{written};
+ghost use Rattle.evaluation_rules.specs.Tree.{written_tree};
 ghost use Rattle.evaluation_rules.specs.Rows.{last_of};
 ghost use Rattle.evaluation_rules.specs.Evaluation.{value_at};
-ghost use Rattle.evaluation_rules.specs.Transactions.{transacted};
+ghost use Rattle.evaluation_rules.specs.Transactions.{transacted_value};
 ghost use Rattle.value_data.specs.declared.value.RefName.{RefName};
 ghost use Rattle.value_data.specs.Datum.{nil};
 ghost use Rattle.special_forms.specs.Seen.{forms_view};
-ghost use Rattle.walker_state.specs.Machine as machine;
-ghost use Rattle.walker_state.specs.Machine.{again, begun_tree, behind_frame, bottom, place_view, from_state, kept_of, place_of, tree, whole};
-ghost use Rattle.walker_state.specs.Size.{control_size, control_calls, control_around, control_position, wanted_position, around, frames_size, IsLater, IsRetried};
+ghost use Rattle.walker_state.specs.Pending as machine;
+ghost use Rattle.walker_state.specs.Pending.{begun_tree};
+ghost use Rattle.walker_state.specs.UnderWay.{again};
+ghost use Rattle.walker_state.specs.Frames.{place_view, behind_frame, bottom};
+ghost use Rattle.walker_state.specs.Pending.{from_state, kept_of, place_of, tree, whole};
+ghost use Rattle.walker_state.specs.Position.{IsLater, LeadsOnWithin, IsRetried, control_position};
+ghost use Rattle.walker_state.specs.Position.{wanted_position};
 ghost use Rattle.walker_state.specs.declared.frames.Wanted.{Wanted};
 
 use crate::frames::{Control, Frame, Place, State, Transaction, Wanted};
 use crate::rows::next_in_body;
 use repl_asks::Ask;
-use repl_faults::{Rule, broken};
+use repl_faults::{Rule, broken_rule};
 use repl_values::{Value, copy_text};
 use special_forms::Forms;
 use std::alloc::{AllocError, Global};
@@ -33,15 +37,13 @@ pub fn begin_transaction(
     room: u32,
 ) -> Result<Control, AllocError>
     requires { state.old.transaction ≡ None }
-    ensures size { IfOk result (λ control. control_size control + frames_size state.new.frames.items
-        < 3 + frames_size state.old.frames.items) }
-    ensures calls { IfOk result (λ control. control_calls control state.new ≤ state.old.calls) }
-    ensures around { IfOk result (λ control. control_around control state.new ≡ around state.old.transaction) }
+    ensures on { IfOk result (LeadsOnWithin 3 state.old state.new) }
     ensures meaning { IfOk result (λ control. tree control state.new
-        ≡ from_state (transacted false (last_of (value_at room (place_of state.old)) nil (forms_view body))) state.old) }
+        ≡ from_state (transacted_value false
+        (last_of (value_at room (place_of state.old)) nil (forms_view body))) state.old) }
 {
     if state.retries == 0 {
-        return Ok(Control::Fault(broken(alloc, Rule::AttemptsAreLimited)?));
+        return Ok(Control::Fault(broken_rule(alloc, Rule::AttemptsAreLimited)?));
     }
     let namespace = copy_text(&state.namespace)?;
     let frames = mem::replace(&mut state.frames, VecDeque::new(alloc));
@@ -60,12 +62,13 @@ pub fn begin_transaction(
 }
 
 /// An attempt has begun: its body is evaluated as the first was.
-pub fn begun(
+pub fn begin_attempt(
     alloc: Global,
     state: &mut State,
     transaction: Box<Transaction>,
 ) -> Result<Control, AllocError>
-    ensures meaning { IfOk result (λ control. tree control state.new ≡ begun_tree transaction.value state.old) }
+    ensures meaning { IfOk result (λ control. tree control state.new
+        ≡ begun_tree transaction.value state.old) }
     ensures later { IfOk result (λ control. IsLater (control_position control state.new)
         (wanted_position (Wanted.Begin transaction) state.old)) }
 {
@@ -84,11 +87,12 @@ pub fn begun(
 pub fn retry(alloc: Global, state: &mut State) -> Result<Control, AllocError>
     ensures meaning { IfOk result (λ control. tree control state.new
         ≡ whole state.old (left retried (kept_of state.old))) }
-    ensures later { IfOk result (λ control. (name : RefName) → IsLater (control_position control state.new)
+    ensures later { IfOk result (λ control. (name : RefName)
+        → IsLater (control_position control state.new)
         (wanted_position (Wanted.Reading name) state.old)) }
 {
     match state.transaction.take() {
-        None => Ok(Control::Fault(broken(alloc, Rule::AttemptsAreLimited)?)),
+        None => Ok(Control::Fault(broken_rule(alloc, Rule::AttemptsAreLimited)?)),
         Some(transaction) => {
             unwind(state);
             begin_again(alloc, state, transaction)
@@ -140,14 +144,17 @@ pub fn begin_again(
     state: &mut State,
     transaction: Box<Transaction>,
 ) -> Result<Control, AllocError>
-    ensures meaning { IfOk result (λ control. tree control state.new ≡ written (string_bytes state.old.text)
-        (again state.old.retries transaction.value (place_of state.old) (machine.inside state.old))) }
-    ensures retried { IfOk result (λ control. IsRetried control state.new transaction.value state.old.calls) }
+    ensures meaning { IfOk result (λ control. tree control state.new
+        ≡ written_tree (string_bytes state.old.text)
+        (again state.old.retries transaction.value (place_of state.old)
+        (machine.kept_inside state.old))) }
+    ensures retried { IfOk result (λ control.
+        IsRetried control state.new transaction.value state.old.calls) }
 {
     state.frames = VecDeque::new(alloc);
     state.transaction = None;
     if transaction.left == 0 {
-        return Ok(Control::Fault(broken(alloc, Rule::AttemptsAreLimited)?));
+        return Ok(Control::Fault(broken_rule(alloc, Rule::AttemptsAreLimited)?));
     }
     let mut transaction = transaction;
     transaction.left -= 1;

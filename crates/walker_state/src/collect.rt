@@ -3,29 +3,30 @@
 
 ghost use Rattle.std.specs.Prelude.{◌≡◌, ◌<◌, map, zip, IfOk};
 ghost use Rattle.value_data.specs.View.{view, pair_view};
-ghost use Rattle.walker_state.specs.Machine.{collected, from_state, tree};
+ghost use Rattle.walker_state.specs.Pending.{from_state, tree};
+ghost use Rattle.walker_state.specs.Frames.{collection_value};
 ghost use Rattle.walker_state.specs.declared.frames.State.{State};
 ghost use Rattle.special_forms.specs.Seen.{views};
-ghost use Rattle.walker_state.specs.Size.{control_size, control_calls, control_around, around};
+ghost use Rattle.walker_state.specs.Position.{LeadsOnWithin};
 ghost use Rattle.evaluation_rules.specs.Collections.{keys_in, map_value, values_in, within_limits};
 
 use crate::frames::{Collection, Control};
 use repl_faults::{duplicate_key, too_large};
-use repl_values::{Built, Sequence, Table, Value, copy, nesting, weight};
+use repl_values::{
+    Built, MOST_NESTING, MOST_WEIGHT, Sequence, Table, Value, copy, nesting, weight,
+};
 use std::alloc::{AllocError, Global};
 use std::collections::VecDeque;
 
-// The greatest weight and the deepest nesting of a value that is made.
-const MAX_WEIGHT: u64 = 1_048_576;
-
-const MAX_NESTING: u64 = 128;
-
 /// The collection, or the fault of a key that stands twice or of what is too large.
-pub fn collected(alloc: Global, kind: Collection, values: Vec<Value>) -> Result<Control, AllocError>
-    ensures size { IfOk result (λ control. control_size control < 2) }
-    ensures calls { IfOk result (λ control. (s : State) → control_calls control s ≡ s.calls) }
-    ensures around { IfOk result (λ control. (s : State) → control_around control s ≡ around s.transaction) }
-    ensures meaning { IfOk result (λ control. (s : State) → tree control s ≡ from_state (collected kind (views values.items)) s) }
+pub fn make_collection(
+    alloc: Global,
+    kind: Collection,
+    values: Vec<Value>,
+) -> Result<Control, AllocError>
+    ensures on { IfOk result (λ control. (s : State) → LeadsOnWithin 2 s s control) }
+    ensures meaning { IfOk result (λ control. (s : State)
+        → tree control s ≡ from_state (collection_value kind (views values.items)) s) }
 {
     match kind {
         Collection::Vector => {
@@ -36,14 +37,13 @@ pub fn collected(alloc: Global, kind: Collection, values: Vec<Value>) -> Result<
     }
 }
 
-#[tactic(auto, using(crate::proofs::Stepping::steps), unfolding(core_functions::specs::Outcome::limited))]
+#[tactic(auto, using(crate::proofs::Stepping::steps), unfolding(core_functions::specs::ApplyOutcome::limited_outcome))]
 fn within_limits(alloc: Global, value: Value) -> Result<Control, AllocError>
-    ensures size { IfOk result (λ control. control_size control < 2) }
-    ensures calls { IfOk result (λ control. (s : State) → control_calls control s ≡ s.calls) }
-    ensures around { IfOk result (λ control. (s : State) → control_around control s ≡ around s.transaction) }
-    ensures meaning { IfOk result (λ control. (s : State) → tree control s ≡ from_state (within_limits (view value)) s) }
+    ensures on { IfOk result (λ control. (s : State) → LeadsOnWithin 2 s s control) }
+    ensures meaning { IfOk result (λ control. (s : State)
+        → tree control s ≡ from_state (within_limits (view value)) s) }
 {
-    if weight(&value) > MAX_WEIGHT || nesting(&value) > MAX_NESTING {
+    if weight(&value) > MOST_WEIGHT || nesting(&value) > MOST_NESTING {
         return Ok(Control::Fault(too_large(alloc)?));
     }
     Ok(Control::Return(value))
@@ -51,10 +51,9 @@ fn within_limits(alloc: Global, value: Value) -> Result<Control, AllocError>
 
 // A map of its keys and values, which stand by turns.
 fn map_of(alloc: Global, values: Vec<Value>) -> Result<Control, AllocError>
-    ensures size { IfOk result (λ control. control_size control < 2) }
-    ensures calls { IfOk result (λ control. (s : State) → control_calls control s ≡ s.calls) }
-    ensures around { IfOk result (λ control. (s : State) → control_around control s ≡ around s.transaction) }
-    ensures meaning { IfOk result (λ control. (s : State) → tree control s ≡ from_state (map_value (views values.items)) s) }
+    ensures on { IfOk result (λ control. (s : State) → LeadsOnWithin 2 s s control) }
+    ensures meaning { IfOk result (λ control. (s : State)
+        → tree control s ≡ from_state (map_value (views values.items)) s) }
 {
     let Entries { keys, pairs } = by_turns(alloc, values)?;
     match Table::from_pairs(alloc, pairs)? {
@@ -72,7 +71,8 @@ struct Entries {
 
 fn by_turns(alloc: Global, row: Vec<Value>) -> Result<Entries, AllocError>
     ensures keys { IfOk result (λ entries. views entries.keys.items ≡ keys_in (views row.items)) }
-    ensures pairs { IfOk result (λ entries. map pair_view entries.pairs.items ≡ zip (keys_in (views row.items)) (values_in (views row.items))) }
+    ensures pairs { IfOk result (λ entries. map pair_view entries.pairs.items
+        ≡ zip (keys_in (views row.items)) (values_in (views row.items))) }
 {
     let mut row = VecDeque::from_vec(row);
     let mut keys = Vec::new(alloc);

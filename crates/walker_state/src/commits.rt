@@ -2,10 +2,10 @@
 ghost use Rattle.std.specs.Prelude.{◌≡◌, [], IfOk};
 ghost use Rattle.value_data.specs.View.{view};
 ghost use Rattle.repl_asks.specs.View.{verdict_view};
-ghost use Rattle.evaluation_rules.specs.Doing.{done};
-ghost use Rattle.walker_state.specs.Leaving.{left_tree, IsLeftBy};
-ghost use Rattle.walker_state.specs.Machine.{from_state, settled_tree, tree};
-ghost use Rattle.walker_state.specs.Size.{control_position, wanted_position, IsLater};
+ghost use Rattle.evaluation_rules.specs.Doing.{pure_part};
+ghost use Rattle.walker_state.specs.Leaving.{end_or_commit_tree, IsEndOrCommit};
+ghost use Rattle.walker_state.specs.Pending.{from_state, settled_tree, tree};
+ghost use Rattle.walker_state.specs.Position.{wanted_position, control_position, IsLater};
 ghost use Rattle.walker_state.specs.declared.frames.Control.{Control};
 ghost use Rattle.walker_state.specs.declared.frames.Wanted.{Wanted};
 
@@ -22,29 +22,31 @@ use tx_attempt::Attempt;
 
 /// What is left behind the last frame: the whole ends, or an attempt asks to be committed.
 #[derive(Drop)]
-pub enum Left {
+pub enum EndOrCommit {
     Ends(Value),
     Asks(Ask, Wanted),
 }
 
 /// No frame waits for the value: it is that of the whole, or of the attempt's body.
-pub fn leave(alloc: Global, state: &mut State, value: Value) -> Result<Left, AllocError>
+pub fn leave(alloc: Global, state: &mut State, value: Value) -> Result<EndOrCommit, AllocError>
     requires { state.old.frames.items ≡ [] }
-    ensures meaning { IfOk result (λ left. left_tree left state.new ≡ from_state (done (view value)) state.old) }
-    ensures on { IfOk result (λ left. IsLeftBy left state.new (control_position (Control.Return value) state.old)) }
+    ensures meaning { IfOk result (λ left. end_or_commit_tree left state.new
+        ≡ from_state (pure_part (view value)) state.old) }
+    ensures on { IfOk result (λ left.
+        IsEndOrCommit left state.new (control_position (Control.Return value) state.old)) }
 {
     match state.transaction.take() {
-        None => Ok(Left::Ends(value)),
+        None => Ok(EndOrCommit::Ends(value)),
         Some(mut transaction) => {
             let attempt = mem::replace(&mut transaction.attempt, Attempt::new(alloc));
             let intent = Arc::new(alloc, attempt.into_intent()?)?;
-            Ok(Left::Asks(Ask::Commit(intent), Wanted::Verdict(value, transaction)))
+            Ok(EndOrCommit::Asks(Ask::Commit(intent), Wanted::Verdict(value, transaction)))
         }
     }
 }
 
-/// The verdict on a body with this value: the transaction is over, or another attempt is made, if one
-/// is left.
+/// The verdict on a body with this value: the transaction is over, or another attempt is made, if
+/// one is left.
 pub fn settle(
     alloc: Global,
     state: &mut State,

@@ -27,7 +27,7 @@ pub enum Collection {
 }
 
 /// What waits for the value of the form that is evaluated. Forms that are still to be evaluated have
-// `room` for so many forms inside one another.
+/// `room` for so many forms inside one another.
 #[derive(Drop)]
 pub enum Frame {
     // A call: the values of its first arguments, and the forms of those behind the one that is
@@ -77,8 +77,8 @@ pub enum Frame {
     Throw,
     // The value is the name of the namespace to enter.
     Namespace,
-    // The ref of `alter` or `commute`: the form of its function, and the forms of the arguments behind
-    // that.
+    // The ref of `alter` or `commute`: the form of its function, and the forms of the arguments
+    // behind that.
     AlterRef {
         by: Alteration,
         function: Value,
@@ -111,7 +111,7 @@ pub enum Frame {
 }
 
 /// Where a form stands: the locals, and the namespace in which the function was defined
-// whose body it is in; none outside of functions.
+/// whose body it is in; none outside of functions.
 #[derive(Drop)]
 pub struct Place {
     pub locals: Locals,
@@ -119,8 +119,8 @@ pub struct Place {
 }
 
 /// The frames of an evaluation up to its transaction, innermost first, where it stands, and what it
-// carries from form to form: how many calls it may still make, its namespace, the text that it
-// printed, how many attempts a transaction may make, and the transaction that runs.
+/// carries from form to form: how many calls it may still make, its namespace, the text that it
+/// printed, how many attempts a transaction may make, and the transaction that runs.
 #[derive(Drop)]
 pub struct State {
     pub frames: VecDeque<Frame>,
@@ -133,8 +133,8 @@ pub struct State {
 }
 
 /// A transaction: its body, the calls and the namespace with which each attempt begins, how many
-// attempts are left behind this one, whether this is the first, the frames around the transaction,
-// and what the attempt did so far. Its place is the one that its frames lead back to.
+/// attempts are left behind this one, whether this is the first, the frames around the transaction,
+/// and what the attempt did so far. Its place is the one that its frames lead back to.
 #[derive(Drop)]
 pub struct Transaction {
     pub body: Forms,
@@ -165,8 +165,8 @@ pub enum Wanted {
     Resolution(SymbolUse),
     // That something is done; the form's value is this one.
     Completion(Value),
-    // That the namespace of this name is there. What follows is evaluated in it; the form's value is
-    // nil.
+    // That the namespace of this name is there. What follows is evaluated in it; the form's value
+    // is nil.
     Namespace(ArcStr),
     // The form's value.
     Value,
@@ -176,7 +176,8 @@ pub enum Wanted {
     Ensuring(RefName),
     // That an attempt has begun. The state has no transaction and no frames.
     Begin(Box<Transaction>),
-    // What comes of the commit of a body with this value. The state has no transaction and no frames.
+    // What comes of the commit of a body with this value. The state has no transaction and no
+    // frames.
     Verdict(Value, Box<Transaction>),
 }
 

@@ -1,6 +1,6 @@
-//! The state of an evaluation: what it has still to do, from the inside out, and the transaction that
-//! runs; and its small steps: what a name means before anybody is asked, collections, namespaces,
-//! what is thrown, functions of the language, refs, attempts and commits.
+//! The state of an evaluation: what it has still to do, from the inside out, and the transaction
+//! that runs; and its small steps: what a name means before anybody is asked, collections,
+//! namespaces, what is thrown, functions of the language, refs, attempts and commits.
 #![tactic(auto)]
 
 mod applying;
@@ -16,9 +16,9 @@ mod store;
 mod thrown;
 
 pub use applying::call_core;
-pub use attempts::{begin_again, begin_transaction, begun, retry};
-pub use collect::collected;
-pub use commits::{Left, leave, settle};
+pub use attempts::{begin_again, begin_attempt, begin_transaction, retry};
+pub use collect::make_collection;
+pub use commits::{EndOrCommit, leave, settle};
 pub use frames::{
     Callee, Collection, Control, Frame, Place, State, SymbolUse, Transaction, Wanted,
 };
@@ -26,5 +26,5 @@ pub use names::{look_up, names_function, resolve, space};
 pub use namespaces::{enter_named, enter_namespace, go_on_in};
 pub use refs::read;
 pub use rows::next_in_body;
-pub use store::{call_store, commute, hold, take_ensured, take_reading};
+pub use store::{call_store, commute, ensure_or_retry, hold, note_or_retry};
 pub use thrown::throw;

@@ -8,8 +8,10 @@ ghost use Rattle.function_names.specs.StoreNames.{store_function_named};
 ghost use Rattle.repl_asks.specs.Exchange.{resolve};
 ghost use Rattle.value_data.specs.View.{view};
 ghost use Rattle.repl_asks.specs.View.{ask_view, resolution_view};
-ghost use Rattle.walker_state.specs.Machine.{place_view, place_of, kept_of, known_view};
-ghost use Rattle.evaluation_rules.specs.Naming.{core_name, core_resolution, store_resolution, local_resolution, known};
+ghost use Rattle.walker_state.specs.Pending.{place_of, kept_of};
+ghost use Rattle.walker_state.specs.Frames.{place_view, known_view};
+ghost use Rattle.evaluation_rules.specs.Naming.{core_name, core_resolution, store_resolution};
+ghost use Rattle.evaluation_rules.specs.Naming.{local_resolution, known_resolution};
 ghost use Rattle.evaluation_rules.specs.Places.{space_of};
 
 use crate::frames::{Place, State};
@@ -25,7 +27,8 @@ const CORE: &str = "clojure.core";
 
 /// Whether a function of the language has this name, without its namespace. It takes no memory.
 pub fn names_function(name: &str) -> bool
-    ensures { result ≡ is_some (function_named name.now) || is_some (store_function_named name.now) }
+    ensures { result ≡ is_some (function_named name.now)
+        || is_some (store_function_named name.now) }
 {
     knows(name) || StoreFunction::named(name).is_some()
 }
@@ -36,7 +39,8 @@ pub fn look_up(
     place: &Place,
     symbol: &ArcStr,
 ) -> Result<Option<Resolution>, AllocError>
-    ensures { IfOk result (λ found. known_view found ≡ known (place_view place.now) (arc_str_bytes symbol.now)) }
+    ensures { IfOk result (λ found. known_view found
+        ≡ known_resolution (place_view place.now) (arc_str_bytes symbol.now)) }
 {
     match core_name(symbol.as_str()) {
         Some(name) => Ok(Some(core_resolution(alloc, symbol, name)?)),
@@ -77,7 +81,8 @@ fn store_resolution(alloc: Global, symbol: &ArcStr, name: &str) -> Result<Resolu
 }
 
 fn local_resolution(value: Option<&Value>) -> Result<Option<Resolution>, AllocError>
-    ensures { IfOk result (λ found. known_view found ≡ local_resolution (option_map (λ v. view v.now) value.entry)) }
+    ensures { IfOk result (λ found. known_view found
+        ≡ local_resolution (option_map (λ v. view v.now) value.entry)) }
 {
     match value {
         Some(value) => Ok(Some(Resolution::Value(copy(value)?))),
@@ -88,7 +93,8 @@ fn local_resolution(value: Option<&Value>) -> Result<Option<Resolution>, AllocEr
 /// The namespace in which a symbol is resolved and a name defined: that of the function whose body
 /// the form is in, else the evaluation's own.
 pub fn space(state: &State) -> Result<ArcStr, AllocError>
-    ensures { IfOk result (λ name. arc_str_bytes name ≡ space_of (place_of state.now) (kept_of state.now)) }
+    ensures { IfOk result (λ name. arc_str_bytes name
+        ≡ space_of (place_of state.now) (kept_of state.now)) }
 {
     match &state.place.home {
         Some(home) => copy_text(home),
@@ -96,9 +102,11 @@ pub fn space(state: &State) -> Result<ArcStr, AllocError>
     }
 }
 
-/// What a symbol names is asked for, in the namespace that counts. It fails only for want of memory.
+/// What a symbol names is asked for, in the namespace that counts. It fails only for want of
+/// memory.
 pub fn resolve(state: &State, symbol: &ArcStr) -> Result<Ask, AllocError>
-    ensures { IfOk result (λ ask. ask_view ask ≡ resolve (space_of (place_of state.now) (kept_of state.now)) (arc_str_bytes symbol.now)) }
+    ensures { IfOk result (λ ask. ask_view ask
+        ≡ resolve (space_of (place_of state.now) (kept_of state.now)) (arc_str_bytes symbol.now)) }
 {
     Ok(Ask::Resolve {
         namespace: space(state)?,

@@ -5,9 +5,10 @@ ghost use Rattle.std.specs.Prelude.{◌≡◌, ◌<◌, IfOk};
 ghost use Rattle.std.specs.Arc.{arc_str_bytes};
 ghost use Rattle.value_data.specs.Datum.{nil};
 ghost use Rattle.value_data.specs.View.{view};
-ghost use Rattle.walker_state.specs.Machine.{kept_of, whole, next_of, from_state, tree};
-ghost use Rattle.walker_state.specs.Size.{control_size, control_calls, control_around, around};
-ghost use Rattle.evaluation_rules.specs.SpecialForms.{entered, entered_by};
+ghost use Rattle.walker_state.specs.Pending.{kept_of, whole, next_of, from_state, tree};
+ghost use Rattle.walker_state.specs.Size.{control_size};
+ghost use Rattle.walker_state.specs.Position.{around, control_around, control_calls, LeadsOnWithin};
+ghost use Rattle.evaluation_rules.specs.SpecialForms.{entry_value, computed_entry_value};
 ghost use Rattle.walker_state.specs.declared.frames.State.{State};
 
 use crate::frames::{Control, State, Wanted};
@@ -19,13 +20,11 @@ use std::alloc::{AllocError, Global};
 use std::sync::ArcStr;
 
 /// The namespace is asked for, unless it is the same for all.
-#[tactic(auto, using(crate::proofs::Stepping::steps), unfolding(evaluation_rules::specs::SpecialForms::entered))]
+#[tactic(auto, using(crate::proofs::Stepping::steps), unfolding(evaluation_rules::specs::SpecialForms::entry_value))]
 pub fn enter_namespace(alloc: Global, name: ArcStr) -> Result<Control, AllocError>
-    ensures size { IfOk result (λ control. control_size control < 3) }
-    ensures calls { IfOk result (λ control. (s : State) → control_calls control s ≡ s.calls) }
-    ensures around { IfOk result (λ control. (s : State) → control_around control s ≡ around s.transaction) }
+    ensures on { IfOk result (λ control. (s : State) → LeadsOnWithin 3 s s control) }
     ensures meaning { IfOk result (λ control. (s : State) → tree control s
-        ≡ from_state (entered (arc_str_bytes name)) s) }
+        ≡ from_state (entry_value (arc_str_bytes name)) s) }
 {
     if is_fixed(name.as_str()) {
         let fault = namespace_is_fixed(alloc, name.as_str())?;
@@ -38,11 +37,9 @@ pub fn enter_namespace(alloc: Global, name: ArcStr) -> Result<Control, AllocErro
 /// `in-ns` takes the name that a symbol is.
 #[tactic(auto, using(value_data::proofs::Views::value_views, crate::proofs::Stepping::steps))]
 pub fn enter_named(alloc: Global, value: Value) -> Result<Control, AllocError>
-    ensures size { IfOk result (λ control. control_size control < 3) }
-    ensures calls { IfOk result (λ control. (s : State) → control_calls control s ≡ s.calls) }
-    ensures around { IfOk result (λ control. (s : State) → control_around control s ≡ around s.transaction) }
+    ensures on { IfOk result (λ control. (s : State) → LeadsOnWithin 3 s s control) }
     ensures meaning { IfOk result (λ control. (s : State) → tree control s
-        ≡ from_state (entered_by (view value)) s) }
+        ≡ from_state (computed_entry_value (view value)) s) }
 {
     match value {
         Value::Symbol(name) => enter_namespace(alloc, name),

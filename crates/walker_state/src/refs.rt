@@ -1,13 +1,15 @@
 // Refs in the attempt that runs: what it knows of them, and what it notes.
-ghost use Rattle.std.specs.Prelude.{◌≡◌, ◌+◌, ◌<◌, ◌≤◌, IfOk, option_map};
+ghost use Rattle.std.specs.Prelude.{◌≡◌, ◌<◌, ◌≤◌, IfOk, option_map};
 ghost use Rattle.value_data.specs.View.{view};
 ghost use Rattle.repl_asks.specs.View.{commute_view, name_view};
-ghost use Rattle.tx_attempt.specs.Operations.{got, commuted, ensured, value_of};
+ghost use Rattle.tx_attempt.specs.Accesses.{got, commuted, ensured, attempt_value};
 ghost use Rattle.evaluation_rules.specs.Doing.{Doing, noting};
 ghost use Rattle.evaluation_rules.specs.Refs.{ref_value, ensured_value};
-ghost use Rattle.walker_state.specs.Machine as machine;
-ghost use Rattle.walker_state.specs.Machine.{from_state, so_far, tree};
-ghost use Rattle.walker_state.specs.Size.{control_size, control_calls, control_around, frames_size, around};
+ghost use Rattle.walker_state.specs.Pending as machine;
+ghost use Rattle.walker_state.specs.Pending.{from_state, tree};
+ghost use Rattle.walker_state.specs.UnderWay.{so_far};
+ghost use Rattle.walker_state.specs.Size.{control_size};
+ghost use Rattle.walker_state.specs.Position.{around, control_around, control_calls, LeadsOnWithin};
 
 use crate::frames::{Control, State, Wanted};
 use repl_asks::{Ask, Commute};
@@ -19,8 +21,10 @@ use std::alloc::AllocError;
 pub fn read(state: &State, name: RefName) -> Result<Control, AllocError>
     ensures size { IfOk result (λ control. control_size control < 3) }
     ensures calls { IfOk result (λ control. control_calls control state.now ≤ state.now.calls) }
-    ensures around { IfOk result (λ control. control_around control state.now ≡ around state.now.transaction) }
-    ensures meaning { IfOk result (λ control. tree control state.now ≡ from_state (ref_value (name_view name)) state.now) }
+    ensures around { IfOk result (λ control. control_around control state.now
+        ≡ around state.now.transaction) }
+    ensures meaning { IfOk result (λ control. tree control state.now
+        ≡ from_state (ref_value (name_view name)) state.now) }
 {
     match &state.transaction {
         None => Ok(Control::Ask(Ask::Read(name), Wanted::Reading(name))),
@@ -37,7 +41,8 @@ pub(crate) fn note_read(state: &mut State, name: RefName, value: &Value) -> Resu
     ensures frames { IfOk result (λ _. state.new.frames ≡ state.old.frames) }
     ensures place { IfOk result (λ _. machine.place_of state.new ≡ machine.place_of state.old) }
     ensures calls { IfOk result (λ _. state.new.calls ≡ state.old.calls) }
-    ensures around { IfOk result (λ _. around state.new.transaction ≡ around state.old.transaction) }
+    ensures around { IfOk result (λ _. around state.new.transaction
+        ≡ around state.old.transaction) }
     ensures kept { IfOk result (λ _. machine.kept_of state.new ≡ machine.kept_of state.old) }
     ensures noted { IfOk result (λ _. (d : Doing) → machine.whole state.new d
         ≡ machine.whole state.old (noting (got (name_view name) (view value.now)) d)) }
@@ -52,14 +57,11 @@ pub(crate) fn note_read(state: &mut State, name: RefName, value: &Value) -> Resu
     }
 }
 
-/// The value of a ref that nobody else is to change: the one that the attempt knows, else one that is
-/// asked for.
+/// The value of a ref that nobody else is to change: the one that the attempt knows, else one that
+/// is asked for.
 #[tactic(auto, using(crate::proofs::Stepping::steps), unfolding(evaluation_rules::specs::Refs::ensured_value))]
 pub(crate) fn ensure(state: &mut State, name: RefName) -> Result<Control, AllocError>
-    ensures size { IfOk result (λ control. control_size control + frames_size state.new.frames.items
-        < 3 + frames_size state.old.frames.items) }
-    ensures calls { IfOk result (λ control. control_calls control state.new ≤ state.old.calls) }
-    ensures around { IfOk result (λ control. control_around control state.new ≡ around state.old.transaction) }
+    ensures on { IfOk result (LeadsOnWithin 3 state.old state.new) }
     ensures meaning { IfOk result (λ control. tree control state.new
         ≡ from_state (ensured_value (name_view name)) state.old) }
 {
@@ -73,10 +75,10 @@ pub(crate) fn ensure(state: &mut State, name: RefName) -> Result<Control, AllocE
 }
 
 // The value that the attempt knows, if one runs.
-#[tactic(auto, unfolding(tx_attempt::specs::Operations::value_of))]
+#[tactic(auto, unfolding(tx_attempt::specs::Accesses::attempt_value))]
 fn known(state: &State, name: RefName) -> Result<Option<Value>, AllocError>
     ensures { IfOk result (λ known. option_map view known
-        ≡ value_of (name_view name) (so_far state.now.transaction)) }
+        ≡ attempt_value (name_view name) (so_far state.now.transaction)) }
 {
     match &state.transaction {
         None => Ok(None),
@@ -97,7 +99,8 @@ pub(crate) fn note_ensured(
     ensures frames { IfOk result (λ _. state.new.frames ≡ state.old.frames) }
     ensures place { IfOk result (λ _. machine.place_of state.new ≡ machine.place_of state.old) }
     ensures calls { IfOk result (λ _. state.new.calls ≡ state.old.calls) }
-    ensures around { IfOk result (λ _. around state.new.transaction ≡ around state.old.transaction) }
+    ensures around { IfOk result (λ _. around state.new.transaction
+        ≡ around state.old.transaction) }
     ensures kept { IfOk result (λ _. machine.kept_of state.new ≡ machine.kept_of state.old) }
     ensures noted { IfOk result (λ _. (d : Doing) → machine.whole state.new d
         ≡ machine.whole state.old (noting (ensured (name_view name) (view value.now)) d)) }
@@ -123,10 +126,12 @@ pub(crate) fn note_commuted(
     ensures frames { IfOk result (λ _. state.new.frames ≡ state.old.frames) }
     ensures place { IfOk result (λ _. machine.place_of state.new ≡ machine.place_of state.old) }
     ensures calls { IfOk result (λ _. state.new.calls ≡ state.old.calls) }
-    ensures around { IfOk result (λ _. around state.new.transaction ≡ around state.old.transaction) }
+    ensures around { IfOk result (λ _. around state.new.transaction
+        ≡ around state.old.transaction) }
     ensures kept { IfOk result (λ _. machine.kept_of state.new ≡ machine.kept_of state.old) }
     ensures noted { IfOk result (λ _. (d : Doing) → machine.whole state.new d
-        ≡ machine.whole state.old (noting (commuted (name_view name) (commute_view commute) (view value.now)) d)) }
+        ≡ machine.whole state.old (noting
+        (commuted (name_view name) (commute_view commute) (view value.now)) d)) }
 {
     match state.transaction.take() {
         None => Ok(()),

@@ -1,12 +1,12 @@
 // Bodies: forms in a row, of which the last gives the value.
-ghost use Rattle.std.specs.Prelude.{◌≡◌, ◌+◌, ◌<◌, ◌≤◌, IfOk};
+ghost use Rattle.std.specs.Prelude.{◌≡◌, ◌+◌, ◌<◌, IfOk};
 ghost use Rattle.value_data.specs.View.{view};
 ghost use Rattle.evaluation_rules.specs.Rows.{last_of};
 ghost use Rattle.evaluation_rules.specs.Evaluation.{value_at};
 ghost use Rattle.special_forms.specs.Seen.{forms_view};
 ghost use Rattle.special_forms.specs.Size.{forms_size};
-ghost use Rattle.walker_state.specs.Machine.{place_of, from_state, tree};
-ghost use Rattle.walker_state.specs.Size.{control_size, control_calls, control_around, frames_size, around};
+ghost use Rattle.walker_state.specs.Pending.{place_of, from_state, tree};
+ghost use Rattle.walker_state.specs.Position.{LeadsOnWithin};
 
 use crate::frames::{Control, Frame, State};
 use repl_values::Value;
@@ -20,11 +20,11 @@ pub fn next_in_body(
     mut forms: Forms,
     room: u32,
 ) -> Result<Control, AllocError>
-    ensures size { IfOk result (λ control. control_size control + frames_size state.new.frames.items
-        < 2 + forms_size (forms_view forms) + frames_size state.old.frames.items) }
-    ensures calls { IfOk result (λ control. control_calls control state.new ≤ state.old.calls) }
-    ensures around { IfOk result (λ control. control_around control state.new ≡ around state.old.transaction) }
-    ensures meaning { IfOk result (λ control. tree control state.new ≡ from_state (last_of (value_at room (place_of state.old)) (view last) (forms_view forms)) state.old) }
+    ensures on { IfOk result
+        (LeadsOnWithin (2 + forms_size (forms_view forms)) state.old state.new) }
+    ensures meaning { IfOk result (λ control. tree control state.new
+        ≡ from_state (last_of (value_at room (place_of state.old)) (view last) (forms_view forms))
+        state.old) }
 {
     match forms.take_first()? {
         None => Ok(Control::Return(last)),

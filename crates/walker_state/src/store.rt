@@ -1,15 +1,17 @@
-// Functions that ask the store: what a call of one leaves to be done, and what becomes of what they are
-// answered.
+// Functions that ask the store: what a call of one leaves to be done, and what becomes of what they
+// are answered.
 #![tactic(auto, using(crate::proofs::Stepping::steps))]
 
-ghost use Rattle.std.specs.Prelude.{◌≡◌, ◌+◌, ◌<◌, ◌≤◌, IfOk};
+ghost use Rattle.std.specs.Prelude.{◌≡◌, ◌<◌, IfOk};
 ghost use Rattle.value_data.specs.View.{view};
 ghost use Rattle.repl_asks.specs.View.{commute_view, name_view, reading_view};
 ghost use Rattle.special_forms.specs.Seen.{views};
 ghost use Rattle.evaluation_rules.specs.Calls.{commute_noted};
-ghost use Rattle.evaluation_rules.specs.Refs.{ensured_read, held_value, put_value, read_value, store_call};
-ghost use Rattle.walker_state.specs.Machine.{from_state, tree};
-ghost use Rattle.walker_state.specs.Size.{control_size, control_calls, control_around, control_position, wanted_position, frames_size, around, IsLater};
+ghost use Rattle.evaluation_rules.specs.Refs.{ensured_read, held_value, put_value, read_value};
+ghost use Rattle.evaluation_rules.specs.Refs.{store_call};
+ghost use Rattle.walker_state.specs.Pending.{from_state, tree};
+ghost use Rattle.walker_state.specs.Position.{IsLater, LeadsOnWithin, control_position};
+ghost use Rattle.walker_state.specs.Position.{wanted_position};
 ghost use Rattle.walker_state.specs.declared.frames.Wanted.{Wanted};
 
 use crate::attempts::retry;
@@ -17,7 +19,7 @@ use crate::frames::{Control, State, Wanted};
 use crate::refs::{ensure, note_commuted, note_ensured, note_read, read};
 use function_names::StoreFunction;
 use repl_asks::{Commute, Reading};
-use repl_faults::{Rule, broken};
+use repl_faults::{Rule, broken_rule};
 use repl_values::{RefName, Value, copy};
 use std::alloc::{AllocError, Global};
 use store_calls::{Call, may_hold};
@@ -31,10 +33,7 @@ pub fn call_store(
     function: StoreFunction,
     values: Vec<Value>,
 ) -> Result<Control, AllocError>
-    ensures size { IfOk result (λ control. control_size control + frames_size state.new.frames.items
-        < 3 + frames_size state.old.frames.items) }
-    ensures calls { IfOk result (λ control. control_calls control state.new ≤ state.old.calls) }
-    ensures around { IfOk result (λ control. control_around control state.new ≡ around state.old.transaction) }
+    ensures on { IfOk result (LeadsOnWithin 3 state.old state.new) }
     ensures meaning { IfOk result (λ control. tree control state.new
         ≡ from_state (store_call function (views values.items)) state.old) }
 {
@@ -50,10 +49,7 @@ pub fn call_store(
 
 // A ref is set, if an attempt runs, and the value given. One that was commuted is set no more.
 fn put(alloc: Global, state: &mut State, name: RefName, value: Value) -> Result<Control, AllocError>
-    ensures size { IfOk result (λ control. control_size control + frames_size state.new.frames.items
-        < 2 + frames_size state.old.frames.items) }
-    ensures calls { IfOk result (λ control. control_calls control state.new ≤ state.old.calls) }
-    ensures around { IfOk result (λ control. control_around control state.new ≡ around state.old.transaction) }
+    ensures on { IfOk result (LeadsOnWithin 2 state.old state.new) }
     ensures meaning { IfOk result (λ control. tree control state.new
         ≡ from_state (put_value (name_view name) (view value)) state.old) }
 {
@@ -65,7 +61,7 @@ fn put(alloc: Global, state: &mut State, name: RefName, value: Value) -> Result<
             match outcome {
                 Ok(()) => Ok(Control::Return(value)),
                 Err(SetError::Commuted) => {
-                    Ok(Control::Fault(broken(alloc, Rule::NoSetAfterCommute)?))
+                    Ok(Control::Fault(broken_rule(alloc, Rule::NoSetAfterCommute)?))
                 }
                 Err(SetError::NoMemory) => Err(AllocError),
             }
@@ -81,21 +77,18 @@ pub fn hold(
     name: RefName,
     value: Value,
 ) -> Result<Control, AllocError>
-    ensures size { IfOk result (λ control. control_size control + frames_size state.new.frames.items
-        < 2 + frames_size state.old.frames.items) }
-    ensures calls { IfOk result (λ control. control_calls control state.new ≤ state.old.calls) }
-    ensures around { IfOk result (λ control. control_around control state.new ≡ around state.old.transaction) }
+    ensures on { IfOk result (LeadsOnWithin 2 state.old state.new) }
     ensures meaning { IfOk result (λ control. tree control state.new
         ≡ from_state (held_value (name_view name) (view value)) state.old) }
 {
     if !may_hold(name, &value) {
-        return Ok(Control::Fault(broken(alloc, Rule::SharedRefsArePlain)?));
+        return Ok(Control::Fault(broken_rule(alloc, Rule::SharedRefsArePlain)?));
     }
     put(alloc, state, name, value)
 }
 
-/// What a function gave that was applied to the value of a ref: it is noted, and is to be made again at
-/// the commit, if the ref may hold it.
+/// What a function gave that was applied to the value of a ref: it is noted, and is to be made
+/// again at the commit, if the ref may hold it.
 pub fn commute(
     alloc: Global,
     state: &mut State,
@@ -103,22 +96,20 @@ pub fn commute(
     commute: Commute,
     value: Value,
 ) -> Result<Control, AllocError>
-    ensures size { IfOk result (λ control. control_size control + frames_size state.new.frames.items
-        < 2 + frames_size state.old.frames.items) }
-    ensures calls { IfOk result (λ control. control_calls control state.new ≤ state.old.calls) }
-    ensures around { IfOk result (λ control. control_around control state.new ≡ around state.old.transaction) }
+    ensures on { IfOk result (LeadsOnWithin 2 state.old state.new) }
     ensures meaning { IfOk result (λ control. tree control state.new
-        ≡ from_state (commute_noted (name_view name) (commute_view commute) (view value)) state.old) }
+        ≡ from_state (commute_noted (name_view name) (commute_view commute) (view value))
+        state.old) }
 {
     if !may_hold(name, &value) {
-        return Ok(Control::Fault(broken(alloc, Rule::SharedRefsArePlain)?));
+        return Ok(Control::Fault(broken_rule(alloc, Rule::SharedRefsArePlain)?));
     }
     note_commuted(state, name, commute, &value)?;
     Ok(Control::Return(value))
 }
 
 /// The value of a ref, which the attempt notes. One that is kept no longer ends the attempt.
-pub fn take_reading(
+pub fn note_or_retry(
     alloc: Global,
     state: &mut State,
     name: RefName,
@@ -139,7 +130,7 @@ pub fn take_reading(
 }
 
 /// The same, of a ref that nobody else is to change.
-pub fn take_ensured(
+pub fn ensure_or_retry(
     alloc: Global,
     state: &mut State,
     name: RefName,

@@ -1,15 +1,25 @@
 // What is asked, answered, evaluated and ended is copied, and a replay gives its answers.
-use crate::exchanged::{answer_told, ask_told, exchange_told};
-use crate::told::{FUNCTION, binding_told, fault, form, function, printed, text};
 use core_functions::CoreFunction;
 use repl_asks::{
     Answer, Ask, Binding, Exchange, NamedFunction, Refs, Replay, Resolution, StopReason, copy_trace,
 };
 use repl_jobs::{End, Finished, Job, Work};
 use repl_values::{Owner, RefName, Value, copy};
+use special_forms::Function;
 use std::alloc::{AllocError, Global};
 use std::process::Abort;
 use std::test::Fail;
+use walk_scripts::{
+    answer_told, ask_told, binding_told, end_told, exchange_told, fault, form, printed, text,
+};
+
+// (defn f [a b] 1 (c d))
+fn function(alloc: Global) -> Result<Function, AllocError> {
+    walk_scripts::function(alloc, "user", "f", &["a", "b"], "1 (c d)")
+}
+
+// Its names, its parameters and the forms of its body.
+const FUNCTION: &str = "user/f a b 1 (c d)";
 
 fn resolve(alloc: Global) -> Result<Ask, AllocError> {
     Ok(Ask::Resolve {
@@ -147,11 +157,7 @@ fn jobs_and_ends_are_copied(rt: HostRuntime) -> Result<(), Fail> {
         let printed_text = String::from_str(a, "out")?;
         let finished = Finished::new(end.copy()?, printed_text, text(a, "user")?);
         let copied = finished.copy(a)?;
-        let print = match copied.end() {
-            End::Value(value) => printed(a, value)?,
-            End::Fault(fault) => printed(a, &fault.copy()?.into_value())?,
-        };
-        assert_eq!(rt; print.as_str(), told);
+        assert_eq!(rt; end_told(a, copied.end())?.as_str(), told);
         assert_eq!(rt; copied.text(), "out");
         assert_eq!(rt; copied.namespace().as_str(), "user");
     }

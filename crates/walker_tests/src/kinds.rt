@@ -1,6 +1,4 @@
 // Asks and answers of all kinds: each is copied, and an answer fits the asks of its kind alone.
-use crate::exchanged::{answer_told, ask_told};
-use crate::told::{fault, form, text};
 use function_names::CoreFunction;
 use repl_asks::{
     Answer, AnswerKind, Ask, Binding, Change, Commute, Commuted, Intent, Reading, Refs, Replay,
@@ -10,6 +8,7 @@ use repl_values::{Owner, RefName, Value};
 use std::alloc::{AllocError, Global};
 use std::sync::Arc;
 use std::test::Fail;
+use walk_scripts::{answer_told, ask_told, fault, form, text};
 
 // What is asked, the kind of its answer, and its text.
 type Asked = (Ask, AnswerKind, &'static str);
@@ -99,7 +98,8 @@ fn commuted_ref(alloc: Global) -> Result<Commuted, AllocError> {
 }
 
 const COMMIT: &str =
-    "commit set #ref[1] [10] set #ref[2] \"é\" ensured #ref[3] commuted #ref[4] (+ [5 -6]) (conj [:a])";
+    "commit set #ref[1] [10] set #ref[2] \"é\" ensured #ref[3] commuted #ref[4] (+ [5 -6]) \
+        (conj [:a])";
 
 fn asks_of_transactions(alloc: Global) -> Result<Vec<Asked>, AllocError> {
     let new_ref = Ask::NewRef {

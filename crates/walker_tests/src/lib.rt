@@ -3,23 +3,13 @@
 #![tactic(auto)]
 
 #[cfg(test)]
-mod answered;
-#[cfg(test)]
 mod asks;
-#[cfg(test)]
-mod commuting;
-#[cfg(test)]
-mod exchanged;
 #[cfg(test)]
 mod kinds;
 #[cfg(test)]
 mod namespaces;
 #[cfg(test)]
 mod steps;
-#[cfg(test)]
-mod told;
-#[cfg(test)]
-mod transactions;
 #[cfg(test)]
 mod walked;
 #[cfg(test)]

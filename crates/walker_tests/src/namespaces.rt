@@ -197,7 +197,8 @@ const BODIES: [Row; 2] = [
             Given::Done,
             Given::Done,
         ],
-        "resolve user g: other/g (ns b) (def y 2); enter b: done; define other y 2: done; define b x 1: done; '' in b #'b/x",
+        "resolve user g: other/g (ns b) (def y 2); enter b: done; define other y 2: done; \
+            define b x 1: done; '' in b #'b/x",
     ),
 ];
 
@@ -225,7 +226,8 @@ const FAULTS: [Row; 4] = [
     (
         "(do (ns a) (ns shared))",
         &[Given::Done],
-        "enter a: done; '' in a #error{java.lang.IllegalStateException: Namespace is fixed: shared}",
+        "enter a: done; \
+            '' in a #error{java.lang.IllegalStateException: Namespace is fixed: shared}",
     ),
 ];
 

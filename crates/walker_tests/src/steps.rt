@@ -1,12 +1,11 @@
 // Evaluations that are led by hand from ask to ask: each keeps its job and its trace.
-use crate::exchanged::{ask_told, exchange_told};
-use crate::told::{job, printed};
 use repl_asks::{Answer, Exchange, Resolution};
 use repl_jobs::Finished;
 use repl_values::Value;
 use repl_walker::{End, Progress, start};
 use std::alloc::{AllocError, Global};
 use std::test::Fail;
+use walk_scripts::{ask_told, exchange_told, job, printed};
 
 fn tell_trace(alloc: Global, trace: &[Exchange], told: &mut String) -> Result<(), AllocError> {
     for exchange in trace {
@@ -54,7 +53,7 @@ fn went_on(alloc: Global, progress: Progress, n: i64) -> Result<Progress, AllocE
 }
 
 fn told_after(alloc: Global, code: &str, given: &[i64]) -> Result<String, AllocError> {
-    let mut progress = start(alloc, &job(alloc, code)?)?;
+    let mut progress = start(alloc, &job(alloc, code, 1)?)?;
     for n in given {
         progress = went_on(alloc, progress, *n)?;
     }

@@ -1,15 +1,11 @@
 // A walk over answers that are known beforehand, and the text by which a test compares its end.
-use crate::exchanged::{ask_told, exchange_told};
-use crate::told::{fault, fault_told, job, printed, text};
 use core_functions::CoreFunction;
 use repl_asks::{Answer, NamedFunction, Replay, Resolution};
-use repl_reader::read_all;
-use repl_values::{Sequence, Value};
-use repl_walker::{End, Ending, WalkError, walk};
-use special_forms::{Forms, Function};
+use repl_values::Value;
+use repl_walker::{Ending, WalkError, walk};
 use std::alloc::{AllocError, Global};
 use std::process::Abort;
-use std::sync::Arc;
+use walk_scripts::{ask_told, end_told, exchange_told, fault, job, printed, program};
 
 // An answer, in short.
 #[derive(Clone, Copy)]
@@ -21,21 +17,6 @@ pub(crate) enum Given {
     OfNone(&'static str),
     Done,
     Fault,
-}
-
-pub(crate) fn program(alloc: Global, params: &[&str], body: &str) -> Result<Answer, AllocError> {
-    let mut names = Vec::new(alloc);
-    for name in params {
-        names.push(text(alloc, name)?)?;
-    }
-    let body = read_all(alloc, body)?.forms;
-    let function = Function {
-        space: text(alloc, "other")?,
-        name: text(alloc, "g")?,
-        params: Arc::new(alloc, names)?,
-        body: Forms::of_items(Sequence::from_vec(alloc, body)?),
-    };
-    Ok(Answer::Resolution(Resolution::Function(NamedFunction::Program(function))))
 }
 
 fn answer(rt: &impl Abort, alloc: Global, given: Given) -> Result<Answer, AllocError> {
@@ -78,11 +59,7 @@ pub(crate) fn ending_told(alloc: Global, ending: &Ending) -> Result<String, Allo
     let finished = ending.end();
     let (text, namespace) = (finished.text(), finished.namespace().as_str());
     write!(told, "'{text}' in {namespace} ")?;
-    let end = match finished.end() {
-        End::Value(value) => printed(alloc, value)?,
-        End::Fault(fault) => fault_told(alloc, fault)?,
-    };
-    told.push_str(end.as_str())?;
+    told.push_str(end_told(alloc, finished.end())?.as_str())?;
     Ok(told)
 }
 
@@ -102,7 +79,7 @@ pub(crate) fn walked(
     code: &str,
     given: &[Given],
 ) -> Result<String, AllocError> {
-    let job = job(alloc, code)?;
+    let job = job(alloc, code, 1)?;
     let mut replay = Replay::new(alloc, answers(rt, alloc, given)?);
     match walk(alloc, &job, &mut replay) {
         Ok(ending) => told_twice(rt, alloc, &ending),

@@ -1,9 +1,9 @@
 // Evaluations over answers that are known beforehand: what each asks, prints and comes to.
-use crate::told::job;
 use crate::walked::{Given, answers, ending_told, walked};
 use repl_asks::Replay;
 use repl_walker::walk;
 use std::test::Fail;
+use walk_scripts::job;
 
 // A definition gives the var of its namespace: that of the function in whose body it stands.
 #[test]
@@ -35,7 +35,8 @@ fn definitions_give_their_vars(rt: HostRuntime) -> Result<(), Fail> {
         (
             "(g 7)",
             &[Given::OfOne("(def y a)"), Given::Done],
-            "(g 7) -- resolve user g: other/g a (def y a); define other y 7: done; '' in user #'other/y",
+            "(g 7) -- resolve user g: other/g a (def y a); define other y 7: done; \
+                '' in user #'other/y",
         ),
     ];
     let a = rt.alloc();
@@ -90,10 +91,10 @@ fn forms_ask_in_their_order(rt: HostRuntime) -> Result<(), Fail> {
 fn answers_are_left_for_the_next(rt: HostRuntime) -> Result<(), Fail> {
     let a = rt.alloc();
     let mut replay = Replay::new(a, answers(&rt, a, &[Given::Int(1), Given::Int(2)])?);
-    let Ok(first) = walk(a, &job(a, "x")?, &mut replay) else {
+    let Ok(first) = walk(a, &job(a, "x", 1)?, &mut replay) else {
         panic!(rt; "the first stopped");
     };
-    let Ok(second) = walk(a, &job(a, "y")?, &mut replay) else {
+    let Ok(second) = walk(a, &job(a, "y", 1)?, &mut replay) else {
         panic!(rt; "the second stopped");
     };
     let told = ending_told(a, &first)?;

@@ -1,10 +1,10 @@
 use Rattle.std.proofs.Common.{◌≡◌, map, drop}
 use Rattle.value_data.specs.Seen.{entry_view}
 use Rattle.core_maps.specs.Arguments.{places_in}
-use Rattle.core_maps.specs.View.{place_view}
+use Rattle.core_maps.specs.View.{indexed_view}
 use Rattle.core_maps.proofs.Values.{with_front}
 use Rattle.core_maps.proofs.arguments.places_of.Given as goal
 
 abbrev pub invariant-loop-index : goal.invariant-loop-index
 invariant-loop-index l =
-    with_front (map place_view l.places.items) (places_in l.function (map entry_view (drop l.index-index l.pairs))) ≡ places_in l.function (map entry_view l.pairs)
+    with_front (map indexed_view l.places.items) (places_in l.function (map entry_view (drop l.index-index l.pairs))) ≡ places_in l.function (map entry_view l.pairs)

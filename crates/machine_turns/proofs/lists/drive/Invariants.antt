@@ -1,6 +1,6 @@
 use Rattle.std.proofs.Common.{◌≡◌, take, map, []}
 use Rattle.server_rules.specs.Ground.{Ground}
-use Rattle.server_rules.specs.World.{opening}
+use Rattle.server_rules.specs.World.{new_world}
 use Rattle.machine_turns.specs.Configured.{IsConfigured}
 use Rattle.machine_turns.specs.Driven.{Drives}
 use Rattle.machine_turns.specs.Turns.{turn_view}
@@ -10,5 +10,5 @@ abbrev pub invariant-loop-turn : goal.invariant-loop-turn
 invariant-loop-turn l = record {
   place : l.place ≡ l.turn-index;
   drives : (g : Ground) → IsConfigured g l.fn.config
-      → Drives g (opening []) (map turn_view (take l.turn-index l.turns)) l.driver l.outputs;
+      → Drives g (new_world []) (map turn_view (take l.turn-index l.turns)) l.driver l.outputs;
 }

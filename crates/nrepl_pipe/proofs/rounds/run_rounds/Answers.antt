@@ -1,5 +1,5 @@
 use Rattle.std.proofs.Common.{Bool, ◌||◌, subst, rules}
-use Rattle.tenant_turns.specs.Turns.{run}
+use Rattle.tenant_turns.specs.Turns.{lone_run}
 use Rattle.nrepl_pipe.proofs.Growing.{on_err}
 use Rattle.nrepl_pipe.proofs.Marking.{marks-behind}
 use Rattle.nrepl_pipe.proofs.Rounding.{RoundsOn, rounds-first, rounds-more, rounds-worn}
@@ -34,7 +34,7 @@ loop-is_last-preserved g c = record {
   steps = search rules;
   rounds = λ h q right stands.
       let on = c.loop-is_last.invariant.rounds h q right stands in
-      let now = run h q on.turns in
+      let now = lone_run h q on.turns in
       let made = c.in_ok-round.ensures.ok h now right on.makes.stands in
       let more = rounds-more h _ (g.C.Core.stands h c.run_round-in-loop-is_last.new.core) q _ _
       c.in_ok-round.round _ _ _ on c.loop-is_last-test.true made.0 made.1 in

@@ -1,5 +1,5 @@
 use Rattle.std.proofs.Common.{subst}
-use Rattle.tenant_turns.specs.Turns.{hears, after, run}
+use Rattle.tenant_turns.specs.Turns.{hears, lone_after, lone_run}
 use Rattle.nrepl_pipe.specs.Parts.{MakesRounds}
 use Rattle.nrepl_pipe.specs.declared.rounds.Rounds.{Rounds}
 use Rattle.nrepl_pipe.proofs.Hearing.{takes-in}
@@ -32,19 +32,19 @@ returns-in_default-clause-served g c = λ h q right stands fresh.
       read-up c.end_of.result _ none.1,
     )
 
-pub returns-in_err-take_piece-clause-served : goal.returns-in_err-take_piece-clause-served
-returns-in_err-take_piece-clause-served g c = λ h q right stands fresh.
+pub returns-in_err-hear_piece-clause-served : goal.returns-in_err-hear_piece-clause-served
+returns-in_err-hear_piece-clause-served g c = λ h q right stands fresh.
     let on = c.loop-piece.invariant.serving h q right stands fresh in
     let piece = rw c.in-Some.is at c.in_ok-piece.ensures.ok in
-    outcome-err h q _ _ _ _ c.from_residual-in_err-take_piece.result
-    c.from_residual-in_err-take_piece.ensures.0
+    outcome-err h q _ _ _ _ c.from_residual-in_err-hear_piece.result
+    c.from_residual-in_err-hear_piece.ensures.0
     (begins-unheard h _ q _ _ _ _ _ c.in-Some.piece on piece.0 piece.1)
 
 pub returns-in-Worn-clause-served : goal.returns-in-Worn-clause-served
 returns-in-Worn-clause-served g c = λ h q right stands fresh.
     let on = c.loop-piece.invariant.serving h q right stands fresh in
     let piece = rw c.in-Some.is at c.in_ok-piece.ensures.ok in
-    let told = rw c.in-Worn.is at c.in_ok-take_piece.ensures.heard h (run h q on.turns) right
+    let told = rw c.in-Worn.is at c.in_ok-hear_piece.ensures.heard h (lone_run h q on.turns) right
     on.stands (on.no_fault, on.empty) in
     (serves-worn h _ q _ _ _ _ _ c.in-Some.piece on piece.0 piece.1 told, tt)
 
@@ -52,31 +52,31 @@ pub returns-in_err-run_rounds-clause-served : goal.returns-in_err-run_rounds-cla
 returns-in_err-run_rounds-clause-served g c = λ h q right stands fresh.
     let on = c.loop-piece.invariant.serving h q right stands fresh in
     let piece = rw c.in-Some.is at c.in_ok-piece.ensures.ok in
-    let taken = takes-in h (g.C.Core.stands h c.take_piece.new.core) (run h q on.turns)
+    let taken = takes-in h (g.C.Core.stands h c.hear_piece.new.core) (lone_run h q on.turns)
     c.in-Some.piece
-    (rw c.in_default-2.is at c.in_ok-take_piece.ensures.heard h (run h q on.turns) right on.stands
+    (rw c.in_default-2.is at c.in_ok-hear_piece.ensures.heard h (lone_run h q on.turns) right on.stands
     (on.no_fault, on.empty)) in
     outcome-err h q _ _ _ _ c.from_residual-in_err-run_rounds.result
     c.from_residual-in_err-run_rounds.ensures.0
-    (begins-rounds h _ (g.C.Core.stands h c.take_piece.new.core) q _ _ _ _ _ _ c.in-Some.piece on
+    (begins-rounds h _ (g.C.Core.stands h c.hear_piece.new.core) q _ _ _ _ _ _ c.in-Some.piece on
     piece.0 piece.1 taken (c.in_err-run_rounds.ensures.err h _ right taken.stands))
 
 pub returns-in-Worn-2-clause-served : goal.returns-in-Worn-2-clause-served
 returns-in-Worn-2-clause-served g c = λ h q right stands fresh.
     let on = c.loop-piece.invariant.serving h q right stands fresh in
     let piece = rw c.in-Some.is at c.in_ok-piece.ensures.ok in
-    let taken = takes-in h (g.C.Core.stands h c.take_piece.new.core) (run h q on.turns)
+    let taken = takes-in h (g.C.Core.stands h c.hear_piece.new.core) (lone_run h q on.turns)
     c.in-Some.piece
-    (rw c.in_default-2.is at c.in_ok-take_piece.ensures.heard h (run h q on.turns) right on.stands
+    (rw c.in_default-2.is at c.in_ok-hear_piece.ensures.heard h (lone_run h q on.turns) right on.stands
     (on.no_fault, on.empty)) in
     let made = subst (λ (end : Rounds). MakesRounds h (g.C.Core.stands h c.run_rounds.new.core)
-    (after h (run h q on.turns) (hears c.in-Some.piece)) (g.W.Sink.contents c.loop-piece.writer)
+    (lone_after h (lone_run h q on.turns) (hears c.in-Some.piece)) (g.W.Sink.contents c.loop-piece.writer)
     (g.W.Sink.contents c.run_rounds.new.writer) end) c.in-Worn-2.is
     (c.in_ok-run_rounds.ensures.ok h _ right taken.stands) in (
-      serves-rounds h _ (g.C.Core.stands h c.take_piece.new.core)
+      serves-rounds h _ (g.C.Core.stands h c.hear_piece.new.core)
           (g.C.Core.stands h c.run_rounds.new.core) q _ _ _ _ _ _ c.in-Some.piece Rounds.Worn _ on
           piece.0 piece.1 taken made
-          (ends-worn h (g.C.Core.stands h c.run_rounds.new.core) (run h q on.turns) _ _
+          (ends-worn h (g.C.Core.stands h c.run_rounds.new.core) (lone_run h q on.turns) _ _
           c.in-Some.piece made),
       tt,
     )
@@ -85,19 +85,19 @@ pub returns-in-Broken-clause-served : goal.returns-in-Broken-clause-served
 returns-in-Broken-clause-served g c = λ h q right stands fresh.
     let on = c.loop-piece.invariant.serving h q right stands fresh in
     let piece = rw c.in-Some.is at c.in_ok-piece.ensures.ok in
-    let taken = takes-in h (g.C.Core.stands h c.take_piece.new.core) (run h q on.turns)
+    let taken = takes-in h (g.C.Core.stands h c.hear_piece.new.core) (lone_run h q on.turns)
     c.in-Some.piece
-    (rw c.in_default-2.is at c.in_ok-take_piece.ensures.heard h (run h q on.turns) right on.stands
+    (rw c.in_default-2.is at c.in_ok-hear_piece.ensures.heard h (lone_run h q on.turns) right on.stands
     (on.no_fault, on.empty)) in
     let made = subst (λ (end : Rounds). MakesRounds h (g.C.Core.stands h c.run_rounds.new.core)
-    (after h (run h q on.turns) (hears c.in-Some.piece)) (g.W.Sink.contents c.loop-piece.writer)
+    (lone_after h (lone_run h q on.turns) (hears c.in-Some.piece)) (g.W.Sink.contents c.loop-piece.writer)
     (g.W.Sink.contents c.run_rounds.new.writer) end) c.in_default-3.is
     (c.in_ok-run_rounds.ensures.ok h _ right taken.stands) in (
-      serves-rounds h _ (g.C.Core.stands h c.take_piece.new.core)
+      serves-rounds h _ (g.C.Core.stands h c.hear_piece.new.core)
           (g.C.Core.stands h c.run_rounds.new.core) q _ _ _ _ _ _ c.in-Some.piece Rounds.Idle _ on
           piece.0 piece.1 taken made
-          (ends-broken h (g.C.Core.stands h c.take_piece.new.core)
-          (g.C.Core.stands h c.run_rounds.new.core) (run h q on.turns) _ _ c.in-Some.piece _ taken
+          (ends-broken h (g.C.Core.stands h c.hear_piece.new.core)
+          (g.C.Core.stands h c.run_rounds.new.core) (lone_run h q on.turns) _ _ c.in-Some.piece _ taken
           made (c.end_of-in-Broken.ensures h _ made.2.stands)),
       broken-read_up c.in-Broken.field-0 _ _ _ (c.in-Broken.ensures h _ made.2.stands)
           (c.end_of-in-Broken.ensures h _ made.2.stands),
@@ -108,15 +108,15 @@ loop-piece-preserved-in_default-wire g c = record {
   serving = λ h q right stands fresh.
       let on = c.loop-piece.invariant.serving h q right stands fresh in
       let piece = rw c.in-Some.is at c.in_ok-piece.ensures.ok in
-      let taken = takes-in h (g.C.Core.stands h c.take_piece.new.core) (run h q on.turns)
+      let taken = takes-in h (g.C.Core.stands h c.hear_piece.new.core) (lone_run h q on.turns)
       c.in-Some.piece
-      (rw c.in_default-2.is at c.in_ok-take_piece.ensures.heard h (run h q on.turns) right on.stands
+      (rw c.in_default-2.is at c.in_ok-hear_piece.ensures.heard h (lone_run h q on.turns) right on.stands
       (on.no_fault, on.empty)) in
       let made = subst (λ (end : Rounds). MakesRounds h (g.C.Core.stands h c.run_rounds.new.core)
-      (after h (run h q on.turns) (hears c.in-Some.piece)) (g.W.Sink.contents c.loop-piece.writer)
+      (lone_after h (lone_run h q on.turns) (hears c.in-Some.piece)) (g.W.Sink.contents c.loop-piece.writer)
       (g.W.Sink.contents c.run_rounds.new.writer) end) c.in_default-3.is
       (c.in_ok-run_rounds.ensures.ok h _ right taken.stands) in
-      serving-more h _ (g.C.Core.stands h c.take_piece.new.core)
+      serving-more h _ (g.C.Core.stands h c.hear_piece.new.core)
       (g.C.Core.stands h c.run_rounds.new.core) q _ _ _ _ _ _ c.in-Some.piece on piece.0 piece.1
       taken made
       (wire-clean c.wire.result _ (c.wire.ensures h _ made.2.stands) c.in_default-wire.not-Broken);
@@ -129,15 +129,15 @@ loop-piece-preserved g c = record {
   serving = λ h q right stands fresh.
       let on = c.loop-piece.invariant.serving h q right stands fresh in
       let piece = rw c.in-Some.is at c.in_ok-piece.ensures.ok in
-      let taken = takes-in h (g.C.Core.stands h c.take_piece.new.core) (run h q on.turns)
+      let taken = takes-in h (g.C.Core.stands h c.hear_piece.new.core) (lone_run h q on.turns)
       c.in-Some.piece
-      (rw c.in_default-2.is at c.in_ok-take_piece.ensures.heard h (run h q on.turns) right on.stands
+      (rw c.in_default-2.is at c.in_ok-hear_piece.ensures.heard h (lone_run h q on.turns) right on.stands
       (on.no_fault, on.empty)) in
       let made = subst (λ (end : Rounds). MakesRounds h (g.C.Core.stands h c.run_rounds.new.core)
-      (after h (run h q on.turns) (hears c.in-Some.piece)) (g.W.Sink.contents c.loop-piece.writer)
+      (lone_after h (lone_run h q on.turns) (hears c.in-Some.piece)) (g.W.Sink.contents c.loop-piece.writer)
       (g.W.Sink.contents c.run_rounds.new.writer) end) c.in_default-3.is
       (c.in_ok-run_rounds.ensures.ok h _ right taken.stands) in
-      serving-more h _ (g.C.Core.stands h c.take_piece.new.core)
+      serving-more h _ (g.C.Core.stands h c.hear_piece.new.core)
       (g.C.Core.stands h c.run_rounds.new.core) q _ _ _ _ _ _ c.in-Some.piece on piece.0 piece.1
       taken made
       (wire-clean c.wire.result _ (c.wire.ensures h _ made.2.stands) c.in_default-wire.not-Broken);

@@ -2,7 +2,7 @@ use Rattle.std.proofs.Common.{◌+◌, ◌-◌, ◌*◌, ◌≤◌, length, map}
 use Rattle.std.specs.Str.{IsUtf8}
 use Rattle.value_data.specs.Datum.{Items}
 use Rattle.value_data.specs.View.{view}
-use Rattle.repl_reader.specs.Reading.{Reading}
+use Rattle.repl_reader.specs.Reading.{FormReading}
 use Rattle.repl_reader.specs.Grammar.{Reads, Row}
 use Rattle.repl_reader.proofs.Rows.{onto}
 use Rattle.repl_reader.proofs.Owed.{Owed}
@@ -14,8 +14,8 @@ decreases-read_row l = 5 * (65 - l.depth) + 4
 abbrev pub decreases-read_form : goal.decreases-read_form
 decreases-read_form l = 5 * (65 - l.depth) + 3
 
-abbrev pub decreases-read_piece : goal.decreases-read_piece
-decreases-read_piece l = 5 * (65 - l.depth) + 2
+abbrev pub decreases-read_front : goal.decreases-read_front
+decreases-read_front l = 5 * (65 - l.depth) + 2
 
 abbrev pub decreases-read_marked : goal.decreases-read_marked
 decreases-read_marked l = 5 * (65 - l.depth) + 1
@@ -27,7 +27,7 @@ decreases-read_enclosed l = 5 * (65 - l.depth) + 1
 abbrev pub invariant-read_row-loop-forms : goal.invariant-read_row-loop-forms
 invariant-read_row-loop-forms l = record {
   utf8 : IsUtf8 l.text;
-  rows : (ds : Items) (r : Reading) → Row l.depth l.text ds r → Row l.depth l.fn.text (onto (map view l.forms.items) ds) r;
+  rows : (ds : Items) (r : FormReading) → Row l.depth l.text ds r → Row l.depth l.fn.text (onto (map view l.forms.items) ds) r;
 }
 
 abbrev pub decreases-read_row-loop-forms : goal.decreases-read_row-loop-forms
@@ -38,7 +38,7 @@ abbrev pub invariant-read_form-loop-rest : goal.invariant-read_form-loop-rest
 invariant-read_form-loop-rest l = record {
   utf8 : IsUtf8 l.text;
   bound : l.to_drop + length l.text ≤ length l.fn.text;
-  owed : (r : Reading) → Owed l.depth l.to_drop l.text r → Reads l.depth l.fn.text r;
+  owed : (r : FormReading) → Owed l.depth l.to_drop l.text r → Reads l.depth l.fn.text r;
 }
 
 abbrev pub decreases-read_form-loop-rest : goal.decreases-read_form-loop-rest

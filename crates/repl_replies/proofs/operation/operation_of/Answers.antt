@@ -2,8 +2,8 @@ use Rattle.std.proofs.Common.{◌∙◌, ap, codes}
 use Rattle.bencode_wire.specs.View.{pairs_view}
 use Rattle.repl_replies.specs.Operations.{of_origin}
 use Rattle.repl_replies.specs.View.{field_view}
-use Rattle.repl_replies.proofs.Operations.{Taken, asked-taken}
-use Rattle.repl_replies.proofs.Served.{asked-view-names}
+use Rattle.repl_replies.proofs.Operations.{Taken, operation_or_reply-taken}
+use Rattle.repl_replies.proofs.Served.{operation_or_reply-view-names}
 use Rattle.repl_replies.proofs.Requests.{field_view-option_map}
 use Rattle.repl_replies.proofs.operation.operation_of.Goals as goal
 
@@ -24,12 +24,12 @@ told g c =
         file = op.ensures.others (codes "file") ∙ session.ensures.others (codes "file") ∙ id.ensures.others (codes "file");
       };
     } in
-    c.of_origin.ensures ∙ ap (of_origin (record { id = field_view id.result; session = field_view session.result })) c.served-operation.ensures
-    ∙ asked-taken (g.S.OpenSessions.number c.args.sessions.now) _ _ _ left all taken
+    c.of_origin.ensures ∙ ap (of_origin (record { id = field_view id.result; session = field_view session.result })) c.served_operation-operation.ensures
+    ∙ operation_or_reply-taken (g.S.OpenSessions.number c.args.sessions.now) _ _ _ left all taken
 
 pub returns-clause-asked : goal.returns-clause-asked
 returns-clause-asked g c = told g c
 
 pub returns-clause-named : goal.returns-clause-named
 returns-clause-named g c =
-    asked-view-names (g.S.OpenSessions.number c.args.sessions.now) (pairs_view c.args.message.entries) c.of_origin.result (told g c)
+    operation_or_reply-view-names (g.S.OpenSessions.number c.args.sessions.now) (pairs_view c.args.message.entries) c.of_origin.result (told g c)

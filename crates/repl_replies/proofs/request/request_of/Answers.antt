@@ -1,14 +1,14 @@
 use Rattle.std.proofs.Common.{◌≡◌, ◌∙◌, refl, codes}
 use Rattle.bencode_wire.specs.Tree.{field}
 use Rattle.bencode_wire.specs.View.{pairs_view}
-use Rattle.repl_replies.specs.Requests.{heard}
+use Rattle.repl_replies.specs.Requests.{request_or_reply}
 use Rattle.repl_replies.specs.View.{field_view}
 use Rattle.repl_replies.proofs.Requests.{field_view-option_map}
 use Rattle.repl_replies.proofs.request.request_of.Goals as goal
 
 -- what is taken out leaves the fields that are taken after it
 pub returns : goal.returns
-unfolding heard
+unfolding request_or_reply
 returns c =
     let op = c.take_field-op in
     let code = c.take_field-code in
@@ -25,4 +25,4 @@ returns c =
     let session_is : field_view session.result ≡ field (codes "session") m =
     field_view-option_map session.result ∙ session.ensures.value ∙ id.ensures.others (codes "session") ∙ ns.ensures.others (codes "session")
     ∙ code.ensures.others (codes "session") ∙ op.ensures.others (codes "session") in
-    c.judged.ensures ∙ rw (op_is, code_is, ns_is, id_is, session_is) refl
+    c.request_of_fields.ensures ∙ rw (op_is, code_is, ns_is, id_is, session_is) refl

@@ -1,7 +1,7 @@
 use Rattle.std.proofs.Common.{◌≡◌, ◌+◌, ◌*◌, ◌++◌, codes, drop, string_bytes}
 use Rattle.value_data.proofs.Size.{nodes, items_nodes, pairs_nodes}
 use Rattle.value_data.specs.View.{view, items_view, pairs_view}
-use Rattle.repl_values.specs.Print.{texts, pair_texts, behind}
+use Rattle.repl_values.specs.Print.{texts, pair_texts, each_behind}
 use Rattle.repl_values.specs.Style.{spelling_of}
 use Rattle.repl_values.proofs.print.+spell.Given as goal
 
@@ -16,10 +16,10 @@ decreases-spell_pairs l = 2 * pairs_nodes (pairs_view l.pairs.now) + 1
 
 abbrev pub invariant-spell_items-loop-item : goal.invariant-spell_items-loop-item
 invariant-spell_items-loop-item l =
-    string_bytes l.out ++ behind (codes " ") (texts (spelling_of l.strings) (items_view (drop l.item-index l.rest)))
-    ≡ string_bytes l.initial.out ++ behind (codes " ") (texts (spelling_of l.strings) (items_view l.rest))
+    string_bytes l.out ++ each_behind (codes " ") (texts (spelling_of l.strings) (items_view (drop l.item-index l.rest)))
+    ≡ string_bytes l.initial.out ++ each_behind (codes " ") (texts (spelling_of l.strings) (items_view l.rest))
 
 abbrev pub invariant-spell_pairs-loop-key : goal.invariant-spell_pairs-loop-key
 invariant-spell_pairs-loop-key l =
-    string_bytes l.out ++ behind (codes ", ") (pair_texts (spelling_of l.strings) (pairs_view (drop l.key-index l.rest)))
-    ≡ string_bytes l.initial.out ++ behind (codes ", ") (pair_texts (spelling_of l.strings) (pairs_view l.rest))
+    string_bytes l.out ++ each_behind (codes ", ") (pair_texts (spelling_of l.strings) (pairs_view (drop l.key-index l.rest)))
+    ≡ string_bytes l.initial.out ++ each_behind (codes ", ") (pair_texts (spelling_of l.strings) (pairs_view l.rest))

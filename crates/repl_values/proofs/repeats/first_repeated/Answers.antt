@@ -7,7 +7,7 @@ use Rattle.repl_values.proofs.repeats.first_repeated.Goals as goal
 
 pub returns : goal.returns
 returns c =
-    c.repeated.ensures (pairs_view c.loop-key.pairs.items) c.in_ok-from_pairs.ensures
+    c.repeated_place.ensures (pairs_view c.loop-key.pairs.items) c.in_ok-from_pairs.ensures
     ∙ ap first_repeat
     (keys-view c.loop-key.pairs.items c.args.keys.now
     (c.loop-key.invariant ∙ ap (λ (vs : List Value). map view vs) (take-past c.args.keys.now c.loop-key.key-index (omega (arith, c.loop-key-test.false)))))

@@ -1,14 +1,15 @@
 use Rattle.std.proofs.Common.{refl, sym}
 use Rattle.repl_asks.specs.View.{ask_view, answer_view}
-use Rattle.repl_walker.specs.Waits.{behind}
-use Rattle.repl_walker.proofs.Leading.{led-nowhere, led-answered, recorded-nothing, recorded-answered}
+use Rattle.repl_walker.specs.Waits.{tree_behind}
+use Rattle.repl_walker.proofs.Leading.{led-nowhere, led-answered, recorded-nothing}
+use Rattle.repl_walker.proofs.Leading.{recorded-answered}
 use Rattle.repl_walker.proofs.run.one_further.Goals as goal
 
 pub returns-in-Ok-clause-meaning : goal.returns-in-Ok-clause-meaning
 returns-in-Ok-clause-meaning g c =
     let w = c.args.walk in (
       c.in-Ok.ensures.job,
-      recorded-answered _ _ _ _ _ _ _ _ (ask_view w.ask) (answer_view c.in_ok-answer.answer) (behind w) (recorded-nothing _ _ _)
+      recorded-answered _ _ _ _ _ _ _ _ (ask_view w.ask) (answer_view c.in_ok-answer.answer) (tree_behind w) (recorded-nothing _ _ _)
           c.in_ok-answer.ensures.grows c.in-Ok.ensures.trace (sym c.in-Ok.ensures.meaning),
     )
 
@@ -16,4 +17,4 @@ pub returns-in-Err-clause-left_at : goal.returns-in-Err-clause-left_at
 returns-in-Err-clause-left_at g c =
     let w = c.args.walk in
     let answer = answer_view c.in_ok-answer.answer in
-    (behind w answer, led-answered _ _ _ _ _ (ask_view w.ask) answer (behind w) (led-nowhere _ _) c.in_ok-answer.ensures.grows refl)
+    (tree_behind w answer, led-answered _ _ _ _ _ (ask_view w.ask) answer (tree_behind w) (led-nowhere _ _) c.in_ok-answer.ensures.grows refl)

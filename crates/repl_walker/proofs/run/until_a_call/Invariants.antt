@@ -1,5 +1,5 @@
 use Rattle.std.proofs.Common.{◌≡◌, false}
-use Rattle.walker_state.specs.Size.{outer_calls, outer_size}
+use Rattle.walker_state.specs.Position.{outer_calls, outer_size}
 use Rattle.repl_walker.specs.Waits.{WentOn}
 use Rattle.repl_walker.specs.Positions.{walk_position}
 use Rattle.repl_walker.specs.declared.waiting.Progress.{Progress}

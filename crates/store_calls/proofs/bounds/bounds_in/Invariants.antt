@@ -1,6 +1,6 @@
 use Rattle.std.proofs.Common.{◌≡◌, length}
 use Rattle.special_forms.specs.Seen.{views}
-use Rattle.store_calls.specs.Calling as meant
+use Rattle.store_calls.specs.Arguments as meant
 use Rattle.store_calls.specs.View.{bounds_view}
 use Rattle.store_calls.proofs.bounds.bounds_in.Given as goal
 

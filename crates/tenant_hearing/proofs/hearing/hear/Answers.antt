@@ -7,7 +7,7 @@ use Rattle.bencode_wire.specs.Decoder.{ready_of, fault_of}
 use Rattle.bencode_wire.specs.declared.fault.WireFault.{WireFault}
 use Rattle.server_rules.specs.Readings.{message_limit}
 use Rattle.server_rules.specs.Tenant.{Quiet}
-use Rattle.tenant_hearing.specs.Holds.{Holds}
+use Rattle.tenant_hearing.specs.Holds.{PartsStandFor}
 use Rattle.tenant_hearing.proofs.Hearings.{heard-all, none-ready-back}
 use Rattle.tenant_hearing.proofs.hearing.hear.Goals as goal
 
@@ -21,12 +21,12 @@ returns-in-Ok-clause-heard c = λ g t q right reads held.
     let taken = c.settle.ensures.stands message_limit all (before ++ messages) (c.take_ready-messages.ensures.stands message_limit all before fed) in
     let same = c.settle.ensures.unchanged in
     let none = same.ready ∙ ap ready_of c.take_ready-messages.ensures.taken in
-    let fault : fault_of c.settle.new.self ≡ fault_of c.fed.new.decoder = same.fault ∙ ap fault_of c.take_ready-messages.ensures.taken in
+    let fault : fault_of c.settle.new.self ≡ fault_of c.feed_piece.new.decoder = same.fault ∙ ap fault_of c.take_ready-messages.ensures.taken in
     let broken = c.in_ok-is_broken.ensures.broken ∙ ap (λ (o : Option WireFault). is_some o) (sym fault) in
     let long : length messages ≡ length c.take_ready-messages.result.items = length-map c.take_ready-messages.result.items view in
     let count : c.len-count.result ≡ length messages = grind (arith, common_steps, c.len-count.ensures, long) in
     let start : Quiet = record q { heard = all } in
-    let first : Holds g t start c.args.sessions.now _ _ = record { sessions = held.sessions; actors = held.actors; replies = held.replies } in
+    let first : PartsStandFor g t start c.args.sessions.now _ _ = record { sessions = held.sessions; actors = held.actors; replies = held.replies } in
     heard-all g t q piece messages c.in_ok-is_broken.is_broken c.len-count.result c.settle.new.self _ _ _ right taken none broken count
     (c.in-Ok.ensures.taken g t start first)
 

@@ -5,7 +5,7 @@ use Rattle.value_data.specs.View.{view}
 use Rattle.repl_jobs.specs.View.{finished_view}
 use Rattle.repl_sessions.specs.State.{StateData}
 use Rattle.server_rules.specs.Request.{Hand, last_form}
-use Rattle.server_rules.specs.Moves.{Move, closing, going_on}
+use Rattle.server_rules.specs.Moves.{Move, closing_move, going_on}
 use Rattle.server_rules.specs.Replying.{output_replies}
 use Rattle.tenant_actors.specs.View.{hand_view}
 use Rattle.tenant_moves.specs.declared.news.News.{News}
@@ -21,7 +21,7 @@ returns-then-is_last c =
     let h : Hand = record here { manner = last_form d; namespace = e.namespace } in
     let mid : News = record c.args.news.now { batch = c.add_output.new.self } in
     let s = told_state c.args.news.now in
-    let P : Datum → Type 0 = λ x. Adds (closing h.origin (last_form x) h.fault s)
+    let P : Datum → Type 0 = λ x. Adds (closing_move h.origin (last_form x) h.fault s)
     mid c.end_request.new.self in
     let f : StateData → Move = going_on h h.forms in
     let over = ends-over h here s mid c.end_request.new.self

@@ -1,9 +1,9 @@
 use Rattle.std.proofs.Common.{refl, sym, subst}
 use Rattle.repl_sessions.specs.StateView.{state_view}
-use Rattle.server_rules.specs.Moves.{closing}
+use Rattle.server_rules.specs.Moves.{closing_move}
 use Rattle.tenant_actors.specs.View.{hand_view}
 use Rattle.tenant_moves.specs.Told.{Adds}
-use Rattle.tenant_moves.proofs.Behind.{closing-hand, tells-first}
+use Rattle.tenant_moves.proofs.Behind.{closing_move-hand, tells-first}
 use Rattle.tenant_moves.proofs.starting.end_request.Goals as goal
 
 pub returns : goal.returns
@@ -11,11 +11,11 @@ returns c =
     let h = hand_view c.args.hand.now in
     let s = state_view c.args.state in
     let news = c.new-news.result in
-    let told = subst (λ x. Adds (closing h.origin h.manner h.fault x) news c.end_request.new.self)
+    let told = subst (λ x. Adds (closing_move h.origin h.manner h.fault x) news c.end_request.new.self)
     c.new-news.ensures.state c.in_ok-end_request.ensures in
     record {
-      told = tells-first (closing h.origin h.manner h.fault s) news c.end_request.new.self
+      told = tells-first (closing_move h.origin h.manner h.fault s) news c.end_request.new.self
           c.new-news.ensures.replies told;
-      hand = sym (closing-hand h.origin h.manner h.fault s);
+      hand = sym (closing_move-hand h.origin h.manner h.fault s);
       answer = refl;
     }

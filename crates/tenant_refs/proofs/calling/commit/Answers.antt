@@ -7,9 +7,9 @@ use Rattle.server_rules.specs.Tenant.{seat_of}
 use Rattle.ref_history.specs.Histories.{ListStands}
 use Rattle.ref_table.specs.Refs.{store_of}
 use Rattle.ref_table.specs.Told.{Performs, outcome_told}
-use Rattle.ref_table.specs.declared.outcome.Outcome.{Outcome}
+use Rattle.ref_table.specs.declared.outcome.CommitOutcome.{CommitOutcome}
 use Rattle.ref_table.proofs.Telling.{on_err}
-use Rattle.tenant_refs.specs.Serving.{Comes}
+use Rattle.tenant_refs.specs.Serving.{PerformsCall}
 use Rattle.tenant_refs.proofs.Calls.{commit-told, commit-faulted}
 use Rattle.tenant_refs.proofs.Serving.{comes-left, performs-so, holds-new, holds-unended}
 use Rattle.tenant_refs.proofs.calling.commit.Goals as goal
@@ -28,14 +28,14 @@ returns-in-Committed-clause-called c = λ s r holds.
     let call = commits seat intent in
     let runs = c.point.ensures s.mine.points holds.reaches.points
     ∙ ap (option_map (λ p. p.stamp)) c.in-Some.is in
-    let P : Outcome → Type 0 = λ o. Performs ListStands c.commit.new.self r (outcome_told o)
+    let P : CommitOutcome → Type 0 = λ o. Performs ListStands c.commit.new.self r (outcome_told o)
     (performed (store_of attempts.tenant s.mine.points r) call) in
     let did = subst P c.in-Committed.is
     (c.in_ok-commit.ensures.committed r s.mine.points seat holds.serves.stands runs) in
     let told = (performs-so c.commit.new.self c.args.refs.now attempts s r
     (Some (verdict committed)) call holds did).told in
     let Q : AnswerData → Type 0 = λ v.
-    Comes c.commit.new.self c.leave.new.self r (Some v) (performed s call) in
+    PerformsCall c.commit.new.self c.leave.new.self r (Some v) (performed s call) in
     subst Q (sym c.committed.ensures.view)
     (comes-left c.commit.new.self c.args.refs.now attempts c.leave.new.self seat s r
     (Some (verdict committed)) call holds did (commit-told s seat intent (verdict committed) told)
@@ -50,7 +50,7 @@ returns-in_err-told-in-Faulted-clause-stays c = λ s r holds.
     let f = failure_of c.in-Faulted.fault in
     let runs = c.point.ensures s.mine.points holds.reaches.points
     ∙ ap (option_map (λ p. p.stamp)) c.in-Some.is in
-    let P : Outcome → Type 0 = λ o. Performs ListStands c.commit.new.self r (outcome_told o)
+    let P : CommitOutcome → Type 0 = λ o. Performs ListStands c.commit.new.self r (outcome_told o)
     (performed (store_of attempts.tenant s.mine.points r) call) in
     let did = performs-so c.commit.new.self c.args.refs.now attempts s r
     (Some (verdict (faulted f))) call holds (subst P c.in-Faulted.is

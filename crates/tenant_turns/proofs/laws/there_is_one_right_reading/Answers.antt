@@ -1,12 +1,12 @@
 use Rattle.std.proofs.Common.{List, Option, ap₂}
 use Rattle.bencode_wire.specs.Tree.{Tree}
-use Rattle.bencode_wire.specs.Stream.{Ending}
+use Rattle.bencode_wire.specs.Stream.{StreamEnding}
 use Rattle.value_data.specs.Datum.{Items}
 use Rattle.repl_reader.specs.Fault.{FaultData}
 use Rattle.server_rules.specs.Readings.{Readings, StreamData, ProgramData, message_limit}
 use Rattle.tenant_turns.proofs.laws.there_is_one_right_reading.Goals as goal
 
-read_so : List Tree → Ending → StreamData
+read_so : List Tree → StreamEnding → StreamData
 read_so messages ending = record { messages = messages; ending = ending }
 
 program_of : Items → Option FaultData → ProgramData

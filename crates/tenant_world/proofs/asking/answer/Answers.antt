@@ -2,16 +2,17 @@ use Rattle.std.proofs.Common.{ap, subst, ◌∙◌}
 use Rattle.repl_asks.specs.View.{ask_view, answer_view}
 use Rattle.server_rules.specs.Plan.{Outcome, ask_answered}
 use Rattle.tenant_actors.specs.View.{actor_view}
-use Rattle.tenant_world.specs.Acting.{Acted}
-use Rattle.tenant_world.specs.Asking.{exchanged, with_exchange}
-use Rattle.tenant_world.proofs.Answering.{acted-answered, answered-told, answered-untold}
+use Rattle.tenant_world.specs.Acting.{AcceptsOutcome}
+use Rattle.tenant_world.specs.Asking.{exchange_from, with_exchange}
+use Rattle.tenant_world.proofs.Answering.{acted-answer_outcome, answer_outcome-told}
+use Rattle.tenant_world.proofs.Answering.{answered-untold}
 use Rattle.tenant_world.proofs.Remembering.{declined-memory-with}
 use Rattle.tenant_world.proofs.asking.answer.Goals as goal
 
 pub returns-in_err-answer-clause-declined : goal.returns-in_err-answer-clause-declined
 returns-in_err-answer-clause-declined c = λ g q s r h run shares remembers holds allowed.
     let stay = c.in_err-answer.ensures.stays g q s r remembers holds in
-    declined-memory-with g s.tenant q _ c.told.new.memory c.from_residual-in_err-answer.result _
+    declined-memory-with g s.tenant q _ c.perform_ask.new.memory c.from_residual-in_err-answer.result _
     c.from_residual-in_err-answer.ensures.1 stay.0 stay.1
 
 pub returns-in_default-clause-declined : goal.returns-in_default-clause-declined
@@ -33,18 +34,18 @@ returns-clause-acted c = λ g q s r h run shares remembers holds allowed hand ru
     let ask = ask_view c.args.ask.now in
     let kept = answer_view c.in-Some.answer.kept in
     let given = answer_view c.in-Some.answer.given in
-    let memory = c.told.new.memory in
+    let memory = c.perform_ask.new.memory in
     let new = actor_view c.keep.new.state in
     let answers = rw c.in-Some.is at
     (c.in_ok-answer.ensures.answered g q s r shares remembers holds allowed) in
     let same = rw c.in-Some.is at c.in_ok-answer.ensures.twice in
     let put = c.keep.ensures
-    ∙ ap (λ x. with_exchange (exchanged x kept) (actor_view c.make_room.new.state))
+    ∙ ap (λ x. with_exchange (exchange_from x kept) (actor_view c.make_room.new.state))
     c.in_ok-asked.ensures
-    ∙ ap (with_exchange (exchanged ask kept)) c.make_room.ensures.same in
-    let P : Outcome → Type 0 = λ x. Acted g s.tenant a q x memory new (ask_answered given) in (
-      subst P (answered-told g s a actor h run ask q answers.told answers.is_told)
-          (acted-answered g s.tenant memory a actor new h run ask q answers.told kept given hand running
+    ∙ ap (with_exchange (exchange_from ask kept)) c.make_room.ensures.same in
+    let P : Outcome → Type 0 = λ x. AcceptsOutcome g s.tenant a q x memory new (ask_answered given) in (
+      subst P (answer_outcome-told g s a actor h run ask q answers.told answers.is_told)
+          (acted-answer_outcome g s.tenant memory a actor new h run ask q answers.told kept given hand running
           put answers.is same answers.remembers),
       answers.holds,
     )

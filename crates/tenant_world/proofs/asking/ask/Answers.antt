@@ -2,11 +2,11 @@ use Rattle.std.proofs.Common.{sym, ap, subst, ◌∙◌, option_map}
 use Rattle.repl_asks.specs.View.{ask_view, answer_view}
 use Rattle.server_rules.specs.Plan.{Plan, Outcome, ask_answered, request_interrupted}
 use Rattle.server_rules.specs.Store.{Store}
-use Rattle.ref_table.specs.Refs.{after}
+use Rattle.ref_table.specs.Refs.{refs_after}
 use Rattle.tenant_actors.specs.View.{actor_view, hand_view, run_view}
-use Rattle.tenant_turns.specs.Deeded.{carried_out}
-use Rattle.tenant_world.specs.Acting.{Acted}
-use Rattle.tenant_refs.specs.Serving.{Holds}
+use Rattle.tenant_turns.specs.DeedResult.{carried_out}
+use Rattle.tenant_world.specs.Acting.{AcceptsOutcome}
+use Rattle.tenant_refs.specs.Serving.{ServesWithAttempts}
 use Rattle.tenant_world.proofs.Remembering.{acted-interrupted}
 use Rattle.tenant_world.proofs.Answering.{asked-open, asked-closed, given-told, given-declined}
 use Rattle.tenant_world.proofs.asking.ask.Goals as goal
@@ -41,10 +41,10 @@ returns-then-state-clause-acted c = λ g q s r shares remembers holds.
     let gone = c.in_ok-give_up.ensures.gone g q s r remembers holds in
     let both = given-told s a k ask q gone.0 in
     let P : Plan → Type 0 = λ p.
-    Acted g s.tenant a q (carried_out s p).outcome memory actor request_interrupted
-    × Holds refs attempts (carried_out s p).store (after (carried_out s p).store r) in
-    let Q : Outcome → Type 0 = λ x. Acted g s.tenant a q x memory actor request_interrupted in
-    let R : Store → Type 0 = λ x. Holds refs attempts x (after x r) in
+    AcceptsOutcome g s.tenant a q (carried_out s p).outcome memory actor request_interrupted
+    × ServesWithAttempts refs attempts (carried_out s p).store (refs_after (carried_out s p).store r) in
+    let Q : Outcome → Type 0 = λ x. AcceptsOutcome g s.tenant a q x memory actor request_interrupted in
+    let R : Store → Type 0 = λ x. ServesWithAttempts refs attempts x (refs_after x r) in
     subst P plan (
       subst Q (sym both.0) (acted-interrupted g s.tenant memory a actor k q gone.1),
       subst R (sym both.1) gone.2,
@@ -61,9 +61,9 @@ returns-clause-acted c = λ g q s r shares remembers holds.
     let hand = ap (option_map hand_view) c.in-Some.is in
     let running = ap (option_map run_view) c.in-Some-running.is in
     let P : Plan → Type 0 = λ p.
-    Acted g s.tenant a q (carried_out s p).outcome c.answer.new.memory
+    AcceptsOutcome g s.tenant a q (carried_out s p).outcome c.answer.new.memory
     (actor_view c.answer.new.state) (ask_answered (answer_view c.in_ok-answer.answer))
-    × Holds c.answer.new.refs c.answer.new.attempts (carried_out s p).store
-    (after (carried_out s p).store r) in
+    × ServesWithAttempts c.answer.new.refs c.answer.new.attempts (carried_out s p).store
+    (refs_after (carried_out s p).store r) in
     subst P (asked-open g a actor ask q k run hand running allowed c.if-state.false)
     (c.in_ok-answer.ensures.acted g q s r k run shares remembers holds allowed hand running)

@@ -1,39 +1,16 @@
-use Rattle.std.proofs.Common.{◌∙◌, ap, subst, option_map}
-use Rattle.server_rules.specs.Plan.{Plan, request_interrupted}
-use Rattle.tenant_actors.specs.View.{actor_view, hand_view, run_view}
-use Rattle.tenant_turns.specs.Deeded.{carried_out}
+use Rattle.std.proofs.Common.{refl}
+use Rattle.tenant_actors.specs.View.{actor_view}
 use Rattle.tenant_world.specs.Answers.{ending_view}
-use Rattle.tenant_world.specs.Acting.{Acted}
-use Rattle.tenant_refs.specs.Attempts.{Reaches}
-use Rattle.tenant_world.proofs.Remembering.{acted-interrupted, declined-memory-with}
-use Rattle.tenant_world.proofs.Ends.{ends-interrupted}
+use Rattle.tenant_world.proofs.Ends.{declined-compared}
 use Rattle.tenant_world.proofs.ending.end.Goals as goal
 
-pub returns-in_err-interrupt-clause-declined : goal.returns-in_err-interrupt-clause-declined
-returns-in_err-interrupt-clause-declined c = λ g q s right r reaches.
-    declined-memory-with g s.tenant q _ _ c.from_residual.result _ c.from_residual.ensures.1
-    (c.in_err-interrupt.ensures.stays g s.tenant q r) reaches
+pub returns-in_err-compare_if_due-clause-declined : goal.returns-in_err-compare_if_due-clause-declined
+returns-in_err-compare_if_due-clause-declined c = λ g q s right r reaches.
+    declined-compared g s c.args.actor (actor_view c.args.state.now) (ending_view c.args.ending.now) q
+    c.args.memory.now c.args.attempts.now c.in_err-compare_if_due.field-0.0 c.from_residual.result
+    c.from_residual.ensures.1 (c.in_err-compare_if_due.ensures.failed g s.tenant q right r) r reaches
 
-pub returns-then-state-clause-acted : goal.returns-then-state-clause-acted
-returns-then-state-clause-acted c = λ g q s right r reaches.
-    let a = c.args.actor in
-    let actor = actor_view c.args.state.now in
-    let k = hand_view c.in-Some.hand in
-    let memory = c.interrupt.new.memory in
-    let P : Plan → Type 0 = λ p.
-    Acted g s.tenant a q (carried_out s p).outcome memory actor request_interrupted
-    × Reaches c.leave.new.self (carried_out s p).store in
-    subst P (ends-interrupted g a actor (ending_view c.args.ending.now) q k _
-    (ap (option_map hand_view) c.in-Some.is) (ap (option_map run_view) c.in-Some-running.is)
-    c.if-state.true) (
-      acted-interrupted g s.tenant memory a actor k q (c.in_ok-interrupt.ensures.told g s.tenant q r),
-      record {
-        tenant = c.leave.ensures.tenant ∙ reaches.tenant;
-        points = c.leave.ensures.left s.mine.points reaches.points;
-      },
-    )
-
-pub returns-in_err-accept-clause-declined : goal.returns-in_err-accept-clause-declined
-returns-in_err-accept-clause-declined c = λ g q s right r reaches.
-    declined-memory-with g s.tenant q _ _ c.from_residual-in_err-accept.result _
-    c.from_residual-in_err-accept.ensures.1 (c.in_err-accept.ensures.stays g s.tenant q r) reaches
+pub returns-clause-acted : goal.returns-clause-acted
+returns-clause-acted c = λ g q s right r reaches.
+    c.finish.ensures.acted g q s (ending_view c.args.ending.now) refl
+    (c.in_ok-compare_if_due.ensures.passed g s.tenant q right r) r reaches

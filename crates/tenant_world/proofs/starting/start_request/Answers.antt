@@ -3,27 +3,27 @@ use Rattle.repl_sessions.specs.State.{StateData}
 use Rattle.repl_sessions.specs.StateView.{state_view}
 use Rattle.name_spaces.specs.Namespaces.{Namespaces}
 use Rattle.name_spaces.specs.Seen.{namespaces_of}
-use Rattle.server_rules.specs.Starting.{held_or, started, text_begun, first_state}
+use Rattle.server_rules.specs.Starting.{held_or, start_outcome, text_begun, first_state}
 use Rattle.server_rules.specs.Plan.{StepAnswer, Outcome}
 use Rattle.tenant_actors.specs.View.{actor_view, waiting_view}
 use Rattle.tenant_moves.specs.Starts.{answer_given}
-use Rattle.tenant_world.specs.Answers.{started_view}
-use Rattle.tenant_world.specs.Acting.{Acted, younger, with_taken}
+use Rattle.tenant_world.specs.Answers.{start_answer_view}
+use Rattle.tenant_world.specs.Acting.{AcceptsOutcome, younger, with_next_in_hand}
 use Rattle.tenant_world.proofs.Remembering.{held-so, declined-memory}
-use Rattle.tenant_world.proofs.Begins.{acted-started, waiting-taken}
+use Rattle.tenant_world.proofs.Begins.{acted-start_outcome, waiting-taken}
 use Rattle.tenant_world.proofs.starting.start_request.Goals as goal
 
-pub returns-in_err-take_news-clause-declined : goal.returns-in_err-take_news-clause-declined
-returns-in_err-take_news-clause-declined c = λ g t q right tries r hand.
-    declined-memory g t q _ _ c.from_residual-in_err-take_news.result
-    c.from_residual-in_err-take_news.ensures.1 (c.in_err-take_news.ensures.stays g t q r)
+pub returns-in_err-post_news-clause-declined : goal.returns-in_err-post_news-clause-declined
+returns-in_err-post_news-clause-declined c = λ g t q right tries r hand.
+    declined-memory g t q _ _ c.from_residual-in_err-post_news.result
+    c.from_residual-in_err-post_news.ensures.1 (c.in_err-post_news.ensures.stays g t q r)
 
 pub returns-clause-acted : goal.returns-clause-acted
 returns-clause-acted c = λ g t q right tries r hand.
     let a = c.args.actor in
     let actor = actor_view c.args.state.now in
-    let new = actor_view c.put_taken.new.state in
-    let memory = c.take_news.new.self in
+    let new = actor_view c.put_next_in_hand.new.state in
+    let memory = c.post_news.new.self in
     let w = waiting_view c.in-Some.waiting.now in
     let behind = record actor { waiting = younger actor.waiting } in
     let s = state_view c.in_ok-session.session in
@@ -34,17 +34,17 @@ returns-clause-acted c = λ g t q right tries r hand.
     let start = text_begun g spaces w.origin s w.text in
     let given = c.in_ok-news.field-0.given in
     let takes = c.in_ok-news.ensures g right.readings tries in
-    let taken = c.in_ok-take_news.ensures.taken g t q start.move r takes.told in
-    let put = c.put_taken.ensures
-    ∙ ap (λ x. with_taken x actor) takes.hand in
+    let taken = c.in_ok-post_news.ensures.taken g t q start.move r takes.told in
+    let put = c.put_next_in_hand.ensures
+    ∙ ap (λ x. with_next_in_hand x actor) takes.hand in
     let told = takes.answer in
-    let here = acted-started g t memory a behind new start q given free taken put told in
-    let P : Namespaces → Type 0 = λ x. Acted g t a q (held_or q (started a behind
+    let here = acted-start_outcome g t memory a behind new start q given free taken put told in
+    let P : Namespaces → Type 0 = λ x. AcceptsOutcome g t a q (held_or q (start_outcome a behind
     (text_begun g x w.origin s w.text) q)) memory new (answer_given given) in
-    let Q : StateData → Type 0 = λ x. Acted g t a q (held_or q (started a behind
+    let Q : StateData → Type 0 = λ x. AcceptsOutcome g t a q (held_or q (start_outcome a behind
     (text_begun g q.spaces w.origin x w.text) q)) memory new (answer_given given) in
-    let R : StepAnswer → Type 0 = λ x. Acted g t a q (held_or q (started a behind
+    let R : StepAnswer → Type 0 = λ x. AcceptsOutcome g t a q (held_or q (start_outcome a behind
     (text_begun g q.spaces w.origin (first_state a q) w.text) q)) memory new x in
-    let S : Outcome → Type 0 = λ x. Acted g t a q x memory new (started_view c.answer_of.result) in
+    let S : Outcome → Type 0 = λ x. AcceptsOutcome g t a q x memory new (start_answer_view c.answer_of.result) in
     subst S (waiting-taken g a actor q w actor.waiting first)
     (subst R (sym c.answer_of.ensures) (subst Q same_state (subst P r.spaces here)))

@@ -1,10 +1,11 @@
-use Rattle.std.proofs.Common.{◌≡◌, ◌+◌, suc, [], ◌∷◌, ◌++◌, map, drop, get_or, cond, sym, ap, ◌∙◌, arith}
+use Rattle.std.proofs.Common.{◌≡◌, ◌+◌, suc, [], ◌∷◌, ◌++◌, map, drop, get_or, cond, sym, ap, ◌∙◌}
+use Rattle.std.proofs.Common.{arith}
 use Rattle.std.specs.List.{filter}
 use Rattle.std.proofs.Math.Seq.{drop-cons}
 use Rattle.value_data.specs.declared.value.Owner.{Owner}
 use Rattle.value_data.specs.declared.value.RefName.{RefName}
 use Rattle.repl_asks.specs.View.{name_view}
-use Rattle.tx_attempt.specs.Operations.{each_once}
+use Rattle.tx_attempt.specs.Accesses.{each_once}
 use Rattle.tx_attempt.proofs.Once.{is_new, all-new, once-more, seen-added, seen-same}
 use Rattle.tx_attempt.proofs.intent.each_once.Goals as goal
 use Rattle.tx_attempt.proofs.intent.each_once.Goals.{then-branch+in_ok-push, else-branch}

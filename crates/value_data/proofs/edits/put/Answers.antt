@@ -5,7 +5,8 @@ use Rattle.value_data.specs.Placed.{first_place, with_value}
 use Rattle.value_data.specs.Seen.{MayFit}
 use Rattle.value_data.specs.declared.value.Value.{Value}
 use Rattle.value_data.proofs.Sameness.{size-pairs_view}
-use Rattle.value_data.proofs.Editing.{first_place-within, pushed-is, found-put, found-distinct, new-put, new-distinct}
+use Rattle.value_data.proofs.Editing.{first_place-within, pushed-is, found-put, found-distinct}
+use Rattle.value_data.proofs.Editing.{new-put, new-distinct}
 use Rattle.value_data.proofs.Replacing.{stands-at}
 use Rattle.value_data.proofs.Searching.{found-indexes, noted}
 use Rattle.value_data.specs.Index.{Belongs}
@@ -70,7 +71,7 @@ returns-in_ok-copy-in-Ok-clause-measured c =
     let key = view c.args.key.now in
     let placed : first_place ps key ≡ Some c.in-Ok.place =
     sym (ap (λ (xs : List (Value × Value)). first_place (pairs_view xs) key) c.as_slice.ensures.value) ∙ c.in-Ok.ensures.found in
-    subst (λ (qs : Pairs). MayFit c.replaced-measure.result qs)
+    subst (λ (qs : Pairs). MayFit c.measure_with_value-measure.result qs)
     (sym (c.set_value.ensures ∙ ap (λ (d : Datum). with_value c.in-Ok.place d ps) c.in_ok-copy-in-Ok.ensures))
-    (c.replaced-measure.ensures ps c.in-Ok.place c.requires.measured
+    (c.measure_with_value-measure.ensures ps c.in-Ok.place c.requires.measured
     (stands-at c.args.pairs.now.items c.in-Ok.place c.index.result.now c.index.ensures (first_place-within c.args.pairs.now.items key c.in-Ok.place placed)))

@@ -4,8 +4,9 @@ use Rattle.value_data.specs.declared.value.Value.{Value}
 use Rattle.store_calls.specs.Calling.{altering}
 use Rattle.repl_asks.specs.Exchange.{store_function}
 use Rattle.evaluation_rules.specs.Doing.{Kept, Doing}
-use Rattle.evaluation_rules.specs.Calls.{named_callee}
-use Rattle.walker_state.specs.Machine.{call_behind, next_of, place_of}
+use Rattle.evaluation_rules.specs.Applying.{named_callee}
+use Rattle.walker_state.specs.Pending.{next_of, place_of}
+use Rattle.walker_state.specs.Frames.{call_behind}
 use Rattle.value_data.specs.View.{view}
 use Rattle.special_forms.specs.Seen.{views, forms_view}
 use Rattle.walker_machine.proofs.Evaluating.{if_ok-turned, form-taken, none-taken}

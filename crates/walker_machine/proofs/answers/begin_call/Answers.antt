@@ -3,8 +3,8 @@ use Rattle.value_data.specs.Datum.{Datum}
 use Rattle.evaluation_rules.specs.Evaluation.{value_at}
 use Rattle.evaluation_rules.specs.Doing.{Kept, Doing, Part}
 use Rattle.repl_asks.specs.View.{named_view}
-use Rattle.evaluation_rules.specs.Calls.{named_callee}
-use Rattle.walker_state.specs.Machine.{from_state, whole, place_of, kept_of, next_of}
+use Rattle.evaluation_rules.specs.Applying.{named_callee}
+use Rattle.walker_state.specs.Pending.{from_state, whole, place_of, kept_of, next_of}
 use Rattle.special_forms.specs.Seen.{forms_view}
 use Rattle.walker_machine.proofs.Evaluating.{if_ok-turned, call_start}
 use Rattle.walker_machine.proofs.Altering.{named_call-other}

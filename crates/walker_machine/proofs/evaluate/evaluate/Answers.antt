@@ -2,7 +2,7 @@ use Rattle.std.proofs.Common.{ap, sym, refl, arith, rules}
 use Rattle.value_data.specs.Datum.{Datum}
 use Rattle.value_data.specs.View.{view}
 use Rattle.evaluation_rules.specs.Doing.{Part}
-use Rattle.walker_state.specs.Machine.{place_of, from_state}
+use Rattle.walker_state.specs.Pending.{place_of, from_state}
 use Rattle.value_data.proofs.Views.{value_views}
 use Rattle.std.specs.Arc.{arc_str_bytes}
 use Rattle.walker_machine.proofs.Altering.{symbol-at}
@@ -20,9 +20,11 @@ returns-in-List-clause-meaning c =
 pub returns-in_default : goal.returns-in_default
 returns-in_default c =
     record {
-      size = omega (arith, datum_size-pos (view c.args.form));
-      calls = omega arith;
-      around = refl;
+      on = record {
+        size = omega (arith, datum_size-pos (view c.args.form));
+        calls = omega arith;
+        around = refl;
+      };
       meaning = search (rules, value_views);
     }
 

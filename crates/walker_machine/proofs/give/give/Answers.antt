@@ -3,9 +3,10 @@ use Rattle.value_data.specs.Datum.{Datum, nil}
 use Rattle.value_data.specs.View.{view}
 use Rattle.evaluation_rules.specs.Rows.{last_of}
 use Rattle.evaluation_rules.specs.Evaluation.{value_at}
-use Rattle.walker_state.specs.Machine.{whole, callee_view, place_of, kept_of, next_of, call_behind, items_behind}
+use Rattle.walker_state.specs.Pending.{whole, place_of, kept_of, next_of}
+use Rattle.walker_state.specs.Frames.{callee_view, call_behind, items_behind}
 use Rattle.value_data.proofs.Views.{view-Nil}
-use Rattle.special_forms.specs.Truth.{is_true}
+use Rattle.special_forms.specs.Truth.{is_truthy}
 use Rattle.special_forms.specs.Seen.{forms_view}
 use Rattle.walker_machine.proofs.Evaluating.{if_ok-turned, views-last, forms-chosen}
 use Rattle.walker_machine.proofs.give.give.Goals as goal
@@ -31,7 +32,7 @@ returns-in-Choice-clause-meaning c =
     let s = c.args.state.now in
     let f = c.in-Choice in
     if_ok-turned _ _ (rw (f.is, view-Nil)
-    (ap (λ (ds : List Datum). whole s (last_of (value_at f.room (place_of s)) nil ds (next_of s) (kept_of s))) (forms-chosen (is_true (view c.args.value)) f.consequent f.alternative c.chosen-body.result c.chosen-body.ensures)))
+    (ap (λ (ds : List Datum). whole s (last_of (value_at f.room (place_of s)) nil ds (next_of s) (kept_of s))) (forms-chosen (is_truthy (view c.args.value)) f.consequent f.alternative c.chosen_body-body.result c.chosen_body-body.ensures)))
     c.next_in_body-in-Choice.ensures.meaning
 
 pub returns-in_ok-bind-in-Let-clause-meaning : goal.returns-in_ok-bind-in-Let-clause-meaning

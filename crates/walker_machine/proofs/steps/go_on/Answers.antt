@@ -1,8 +1,8 @@
 use Rattle.std.proofs.Common.{refl, subst, ◌∙◌, ◌≡◌}
 use Rattle.walker_machine.specs.Waits.{leg_tree, IsOnLeg}
 use Rattle.walker_machine.specs.declared.steps.Leg.{Leg}
-use Rattle.walker_state.specs.Machine.{tree}
-use Rattle.walker_state.specs.Size.{control_position}
+use Rattle.walker_state.specs.Pending.{tree}
+use Rattle.walker_state.specs.Position.{control_position}
 use Rattle.walker_state.proofs.Laters.{on_itself, on_asked, on_entered, entered_less}
 use Rattle.walker_machine.proofs.steps.go_on.Goals as goal
 

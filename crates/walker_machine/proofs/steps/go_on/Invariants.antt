@@ -1,6 +1,6 @@
 use Rattle.std.proofs.Common.{◌≡◌}
-use Rattle.walker_state.specs.Size.{control_calls, control_position, IsOn}
-use Rattle.walker_state.specs.Machine.{tree}
+use Rattle.walker_state.specs.Position.{control_calls, control_position, IsOn}
+use Rattle.walker_state.specs.Pending.{tree}
 use Rattle.walker_machine.proofs.steps.go_on.Given as goal
 
 abbrev pub invariant-loop-state : goal.invariant-loop-state

@@ -1,6 +1,7 @@
 use Rattle.std.proofs.Common.{◌≡◌, ◌≤◌, ◌+◌}
-use Rattle.walker_state.specs.Size.{control_size, frames_size, control_around, control_calls}
-use Rattle.walker_state.specs.Machine.{tree}
+use Rattle.walker_state.specs.Size.{control_size, frames_size}
+use Rattle.walker_state.specs.Position.{control_around, control_calls}
+use Rattle.walker_state.specs.Pending.{tree}
 use Rattle.walker_machine.proofs.steps.run_leg.Given as goal
 
 abbrev pub invariant-loop-control : goal.invariant-loop-control

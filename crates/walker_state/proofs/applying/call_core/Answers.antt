@@ -1,6 +1,6 @@
 use Rattle.std.proofs.Common.{ℕ, List, length, sym, ap, ◌∙◌}
 use Rattle.repl_faults.specs.Failure.{wrong_arity}
-use Rattle.evaluation_rules.specs.Calls.{outcome, core_call}
+use Rattle.evaluation_rules.specs.Applying.{outcome, core_call}
 use Rattle.special_forms.specs.Seen.{views}
 use Rattle.core_functions.specs.Meaning.{meaning}
 use Rattle.walker_state.proofs.Printing.{if_ok-here, core_call-fits, core_call-misfits}
@@ -11,7 +11,7 @@ returns-in-Err-clause-meaning c =
     let f = c.args.function in
     let values = c.args.values.now in
     if_ok-here _ (outcome (meaning f (views values))) (core_call f (views values)) c.args.state.now (core_call-fits f values (c.if-not-takes.ensures))
-    (c.failed.ensures.meaning (meaning f (views values)) c.in-Err.ensures)
+    (c.fault_control.ensures.meaning (meaning f (views values)) c.in-Err.ensures)
 
 pub returns-then-not-takes-clause-meaning : goal.returns-then-not-takes-clause-meaning
 returns-then-not-takes-clause-meaning c =

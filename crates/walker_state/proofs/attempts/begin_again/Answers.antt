@@ -5,7 +5,7 @@ use Rattle.walker_state.proofs.attempts.begin_again.Goals as goal
 
 pub returns-then-deref-eq0-clause-meaning : goal.returns-then-deref-eq0-clause-meaning
 returns-then-deref-eq0-clause-meaning c =
-    rw c.in_ok-broken.ensures
+    rw c.in_ok-broken_rule.ensures
     (sym (again-none _ c.args.transaction.value _ _ _ (ap (λ (t : Transaction). t.left) (sym c.deref.ensures) ∙ c.if-deref-eq0.true)))
 
 pub returns-clause-meaning : goal.returns-clause-meaning

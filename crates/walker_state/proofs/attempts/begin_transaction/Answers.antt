@@ -4,7 +4,7 @@ use Rattle.value_data.specs.Datum.{nil}
 use Rattle.special_forms.specs.Seen.{forms_view}
 use Rattle.evaluation_rules.specs.Rows.{last_of}
 use Rattle.evaluation_rules.specs.Evaluation.{value_at}
-use Rattle.walker_state.specs.Machine.{place_of}
+use Rattle.walker_state.specs.Pending.{place_of}
 use Rattle.walker_state.specs.declared.frames.Transaction.{Transaction}
 use Rattle.walker_state.proofs.Stepping.{transaction-none, transaction-begun}
 use Rattle.walker_state.proofs.attempts.begin_transaction.Goals as goal
@@ -12,7 +12,7 @@ use Rattle.walker_state.proofs.attempts.begin_transaction.Goals as goal
 pub returns-then-state-eq0-clause-meaning : goal.returns-then-state-eq0-clause-meaning
 returns-then-state-eq0-clause-meaning c =
     let s = c.args.state.now in
-    rw c.in_ok-broken.ensures
+    rw c.in_ok-broken_rule.ensures
     (transaction-none s (last_of (value_at c.args.room (place_of s)) nil (forms_view c.args.body)) c.requires c.if-state-eq0.true)
 
 pub returns-clause-meaning : goal.returns-clause-meaning

@@ -1,5 +1,6 @@
 use Rattle.std.proofs.Common.{◌≡◌, length}
-use Rattle.walker_state.specs.Machine.{bottom, kept_of, place_of}
+use Rattle.walker_state.specs.Pending.{kept_of, place_of}
+use Rattle.walker_state.specs.Frames.{bottom}
 use Rattle.walker_state.proofs.attempts.unwind.Given as goal
 
 abbrev pub invariant-loop-frame : goal.invariant-loop-frame

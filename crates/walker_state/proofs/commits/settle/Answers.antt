@@ -1,6 +1,7 @@
 use Rattle.std.proofs.Common.{refl, ap, arith, ◌*◌, None}
 use Rattle.value_data.specs.View.{view}
-use Rattle.walker_state.specs.Size.{no_attempt, frames_size}
+use Rattle.walker_state.specs.Size.{frames_size}
+use Rattle.walker_state.specs.Position.{no_attempt}
 use Rattle.walker_state.specs.declared.frames.Transaction.{Transaction}
 use Rattle.walker_state.proofs.Laters.{later_over, conflict-later}
 use Rattle.walker_state.proofs.Stepping.{committed-at}

@@ -1,11 +1,11 @@
 use Rattle.std.proofs.Common.{◌≡◌, Some, map, sym, ◌∙◌, arith}
 use Rattle.std.specs.Arc.{arc_str_bytes}
-use Rattle.local_names.specs.View.{local_view, place_of}
+use Rattle.local_names.specs.View.{local_view, newest_place}
 use Rattle.local_names.proofs.Places.{place-below, length-views}
 use Rattle.local_names.proofs.locals.Locals.value.Goals as goal
 
 pub value_at-requires : goal.value_at-requires
 value_at-requires c =
-    let at : place_of (map local_view c.self.inside.locals.items) (arc_str_bytes c.args.name.now) ≡ Some c.in-Some.place.now =
+    let at : newest_place (map local_view c.self.inside.locals.items) (arc_str_bytes c.args.name.now) ≡ Some c.in-Some.place.now =
     sym (c.self.invariant.1 c.args.name.now) ∙ sym c.in-Some.ensures.value
     in omega (arith, place-below (map local_view c.self.inside.locals.items) (arc_str_bytes c.args.name.now) c.in-Some.place.now at, length-views c.self.inside.locals.items)

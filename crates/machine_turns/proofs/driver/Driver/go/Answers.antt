@@ -1,6 +1,6 @@
 use Rattle.std.proofs.Common.{sym, subst, ◌∙◌}
 use Rattle.repl_core.specs.Standing.{open_in}
-use Rattle.machine_turns.specs.Kept.{walks_at, IsWalkedAt}
+use Rattle.machine_turns.specs.AllWalks.{walks_at, IsWalkedAt}
 use Rattle.machine_turns.proofs.Giving.{goes-give}
 use Rattle.machine_turns.proofs.Walking.{walked-with, walked-still}
 use Rattle.machine_turns.proofs.driver.Driver.go.Goals as goal

@@ -1,7 +1,7 @@
 use Rattle.std.proofs.Common.{subst, sym, []}
-use Rattle.server_rules.specs.World.{opening}
+use Rattle.server_rules.specs.World.{new_world}
 use Rattle.repl_core.specs.Standing.{open_in}
-use Rattle.machine_turns.specs.Kept.{IsWalkedAt}
+use Rattle.machine_turns.specs.AllWalks.{IsWalkedAt}
 use Rattle.machine_turns.proofs.driver.Driver.new.Goals as goal
 
 pub returns : goal.returns
@@ -9,5 +9,5 @@ returns c = λ g it. record {
   right = it.right;
   ground = it.evaluates;
   machine = c.new.ensures g it.evaluates.names it.seed it.steps it.retries it.places;
-  walked = λ t. subst (λ o. IsWalkedAt o (open_in t (opening []))) (sym (c.new-2.ensures t)) tt;
+  walked = λ t. subst (λ o. IsWalkedAt o (open_in t (new_world []))) (sym (c.new-2.ensures t)) tt;
 }

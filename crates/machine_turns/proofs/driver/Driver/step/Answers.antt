@@ -1,6 +1,6 @@
 use Rattle.std.proofs.Common.{sym}
 use Rattle.repl_core.specs.Steps.{step_view, step_answer_view}
-use Rattle.machine_turns.specs.Kept.{walks_at}
+use Rattle.machine_turns.specs.AllWalks.{walks_at}
 use Rattle.machine_turns.proofs.Walking.{all-walked}
 use Rattle.machine_turns.proofs.driver.Driver.step.Goals as goal
 

@@ -5,13 +5,13 @@ use Rattle.std.proofs.lemmas.Map.Text.{text_keys}
 use Rattle.std.proofs.lemmas.Result.{on_ok_weaker, on_err_weaker}
 use Rattle.repl_asks.specs.View.{binding_view}
 use Rattle.name_spaces.specs.Bindings.{rebound}
-use Rattle.name_spaces.specs.Namespaces.{bindings_of, with_namespace, defined}
+use Rattle.name_spaces.specs.Namespaces.{bindings_of, with_namespace, with_definition}
 use Rattle.name_spaces.specs.Seen.{bound_in, namespaces_of}
 use Rattle.name_spaces.proofs.Placing.{Updates, placed, own-placed, put_back}
 use Rattle.name_spaces.proofs.spaces.Spaces.define.Goals as goal
 
 pub returns-in-Some-clause-defined : goal.returns-in-Some-clause-defined
-unfolding namespaces_of defined
+unfolding namespaces_of with_definition
 returns-in-Some-clause-defined c =
     let name = c.args.namespace.now in
     let vars = c.define.new.self in
@@ -45,7 +45,7 @@ returns-in-Some-clause-kept c =
     c.define.ensures.kept
 
 pub returns-in_ok-define-in-None-clause-defined : goal.returns-in_ok-define-in-None-clause-defined
-unfolding namespaces_of defined
+unfolding namespaces_of with_definition
 returns-in_ok-define-in-None-clause-defined c =
     let name = c.args.namespace.now in
     let key = arc_str_bytes c.args.name in

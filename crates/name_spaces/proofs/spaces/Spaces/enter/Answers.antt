@@ -1,8 +1,8 @@
-use Rattle.std.proofs.Common.{◌≡◌, Option, None, Some, false, is_some, option_map}
-use Rattle.std.proofs.Common.{refl, sym, ap, ◌∙◌}
+use Rattle.std.proofs.Common.{◌≡◌, Option, None, Some, false, is_some, option_map, refl, sym, ap}
+use Rattle.std.proofs.Common.{◌∙◌}
 use Rattle.std.proofs.lemmas.Result.{on_ok_weaker}
 use Rattle.name_spaces.specs.Bindings.{nothing_bound}
-use Rattle.name_spaces.specs.Namespaces.{bindings_of, with_namespace, entered}
+use Rattle.name_spaces.specs.Namespaces.{bindings_of, with_namespace, with_entered_namespace}
 use Rattle.name_spaces.specs.Seen.{bound_in, namespaces_of}
 use Rattle.name_spaces.specs.declared.vars.Vars.{Vars}
 use Rattle.name_spaces.proofs.spaces.Spaces.enter.Goals as goal
@@ -13,7 +13,7 @@ absent (Some vars) e = cc
 absent None e = refl
 
 pub returns-clause-entered : goal.returns-clause-entered
-unfolding namespaces_of entered
+unfolding namespaces_of with_entered_namespace
 returns-clause-entered c =
     let before = namespaces_of c.args.self.now in
     let is_new = sym c.contains_key.ensures ∙ c.if-contains_key.false in

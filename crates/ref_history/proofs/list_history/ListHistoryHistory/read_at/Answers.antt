@@ -1,6 +1,6 @@
 use Rattle.std.proofs.Common.{refl, sym, ◌∙◌, subst, IsSome}
 use Rattle.value_data.specs.View.{view}
-use Rattle.server_rules.specs.Versions.{faulted}
+use Rattle.server_rules.specs.Versions.{with_failed_read}
 use Rattle.ref_history.proofs.Placed.{changed-place, stands-kept, not-absent, put-back, on_some}
 use Rattle.ref_history.proofs.list_history.ListHistoryHistory.read_at.Goals as goal
 
@@ -12,7 +12,7 @@ returns-in_default c =
       (
         refl,
         λ _. tt,
-        changed-place was c.args.id kept c.fault.new.self faulted here c.fault.ensures,
+        changed-place was c.args.id kept c.fault.new.self with_failed_read here c.fault.ensures,
       ),
       record {
         noted = tt;

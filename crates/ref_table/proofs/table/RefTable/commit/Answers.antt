@@ -4,23 +4,24 @@ use Rattle.repl_faults.specs.View.{failure_of}
 use Rattle.repl_asks.specs.Transactions.{RefNameData}
 use Rattle.repl_asks.specs.Exchange.{verdict, conflict}
 use Rattle.repl_asks.specs.View.{intent_view}
-use Rattle.server_rules.specs.Numbered.{found}
-use Rattle.server_rules.specs.Store.{value_of}
+use Rattle.server_rules.specs.Numbered.{part_under}
+use Rattle.server_rules.specs.Store.{newest_value}
 use Rattle.server_rules.specs.Commit.{all_folded}
 use Rattle.ref_table.specs.Refs.{store_of}
 use Rattle.ref_table.specs.Directory.{all_named}
 use Rattle.ref_table.specs.Placing.{places_of}
-use Rattle.ref_table.proofs.Committing.{acceptable, accepted, checked-performs, refused-performs}
-use Rattle.ref_table.proofs.Committing.{unchanged-performs, faulted-performs, committed-performs}
-use Rattle.ref_table.proofs.Committing.{given-first, failed-first, changed-names}
+use Rattle.ref_table.proofs.Committing.{acceptable, accepted, checked_commit-performs}
+use Rattle.ref_table.proofs.Committing.{refused-performs, unchanged-performs, faulted-performs}
+use Rattle.ref_table.proofs.Committing.{committed-performs, given-first, failed-first}
+use Rattle.ref_table.proofs.Committing.{changed-names}
 use Rattle.ref_table.proofs.table.RefTable.commit.Goals as goal
 
 pub returns-then-not-branch-clause-committed : goal.returns-then-not-branch-clause-committed
 returns-then-not-branch-clause-committed g c = λ r points seat s runs.
     let stands = g.H.History.stands in
     let intent = intent_view c.args.intent.now in
-    checked-performs stands c.args.self.now r c.args.caller points seat c.args.point.stamp intent
-    (found seat points) _ false _ runs
+    checked_commit-performs stands c.args.self.now r c.args.caller points seat c.args.point.stamp intent
+    (part_under seat points) _ false _ runs
     (sym c.if-not-branch.true ∙ c.in_ok-fits.ensures
     ∙ acceptable stands c.args.self.now r c.args.caller points intent s) refl
     (refused-performs stands c.args.self.now r c.args.caller points s)
@@ -30,8 +31,8 @@ pub returns-then-is_any_guarded_newer-clause-committed
 returns-then-is_any_guarded_newer-clause-committed g c = λ r points seat s runs.
     let stands = g.H.History.stands in
     let intent = intent_view c.args.intent.now in
-    checked-performs stands c.args.self.now r c.args.caller points seat c.args.point.stamp intent
-    (found seat points) _ true true runs
+    checked_commit-performs stands c.args.self.now r c.args.caller points seat c.args.point.stamp intent
+    (part_under seat points) _ true true runs
     (sym c.if-not-branch.false ∙ c.in_ok-fits.ensures
     ∙ acceptable stands c.args.self.now r c.args.caller points intent s)
     (sym c.if-is_any_guarded_newer.true ∙ c.is_any_guarded_newer.ensures r points s)
@@ -44,13 +45,13 @@ returns-in_ok-put_all-in-Ok-clause-committed g c = λ r points seat s runs.
     let intent = intent_view c.args.intent.now in
     let d = c.args.self.now.directory in
     let value : RefNameData → Option Datum =
-    λ name. value_of name (store_of c.args.caller points r) in
+    λ name. newest_value name (store_of c.args.caller points r) in
     let fit = sym c.if-not-branch.false ∙ c.in_ok-fits.ensures in
     let given = given-first (all_folded value intent.commuted)
     (λ changes. places_of d c.args.caller (intent.sets ++ changes)) _
     (c.in-Ok.ensures.placed r points s) in
-    checked-performs stands c.put_all.new.self r c.args.caller points seat c.args.point.stamp
-    intent (found seat points) _ true false runs
+    checked_commit-performs stands c.put_all.new.self r c.args.caller points seat c.args.point.stamp
+    intent (part_under seat points) _ true false runs
     (fit ∙ acceptable stands c.args.self.now r c.args.caller points intent s)
     (sym c.if-is_any_guarded_newer.false ∙ c.is_any_guarded_newer.ensures r points s)
     (committed-performs stands c.put_all.new.self r c.args.caller points seat intent.sets given.0
@@ -65,10 +66,10 @@ returns-in-Err-Fault-clause-committed g c = λ r points seat s runs.
     let stands = g.H.History.stands in
     let intent = intent_view c.args.intent.now in
     let value : RefNameData → Option Datum =
-    λ name. value_of name (store_of c.args.caller points r) in
+    λ name. newest_value name (store_of c.args.caller points r) in
     let told = rw c.in-Err-Fault.field-0-is at c.in-Err-Fault.ensures.placed in
-    checked-performs stands c.args.self.now r c.args.caller points seat c.args.point.stamp intent
-    (found seat points) _ true false runs
+    checked_commit-performs stands c.args.self.now r c.args.caller points seat c.args.point.stamp intent
+    (part_under seat points) _ true false runs
     (sym c.if-not-branch.false ∙ c.in_ok-fits.ensures
     ∙ acceptable stands c.args.self.now r c.args.caller points intent s)
     (sym c.if-is_any_guarded_newer.false ∙ c.is_any_guarded_newer.ensures r points s)

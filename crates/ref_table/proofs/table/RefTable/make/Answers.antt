@@ -3,7 +3,7 @@ use Rattle.value_data.specs.Datum.{tenant, ref}
 use Rattle.value_data.specs.View.{view, owner_view}
 use Rattle.value_data.specs.declared.value.RefName.{RefName}
 use Rattle.repl_asks.specs.Exchange.{value}
-use Rattle.server_rules.specs.Calls.{made}
+use Rattle.server_rules.specs.Calls.{performed_make}
 use Rattle.ref_history.specs.Effects.{first_ref}
 use Rattle.ref_table.specs.Refs.{with_ref, store_of}
 use Rattle.ref_table.specs.Directory.{ids_of}
@@ -11,7 +11,7 @@ use Rattle.ref_table.specs.Standing.{Stands}
 use Rattle.ref_table.specs.Told.{Performs}
 use Rattle.ref_table.proofs.Standing.{lengths, undone}
 use Rattle.ref_table.proofs.Tables.{made-stands, undone-stands}
-use Rattle.ref_table.proofs.Telling.{made-performs}
+use Rattle.ref_table.proofs.Telling.{performed_make-performs}
 use Rattle.ref_table.proofs.table.RefTable.make.Goals as goal
 
 pub returns-in-Ok-clause-name : goal.returns-in-Ok-clause-name
@@ -35,9 +35,9 @@ returns-in-Ok-clause-told g c = λ r points caller s mine.
     let own : o ≡ tenant caller = ap owner_view mine in
     let t = record c.args.self.now { directory = c.add.new.self; history = c.make.new.self } in
     subst (λ o. Performs stands t r (Some (value (ref o c.in-Ok.number)))
-    (made (store_of caller points r) (view c.args.value) c.args.bounds.least c.args.bounds.most))
+    (performed_make (store_of caller points r) (view c.args.value) c.args.bounds.least c.args.bounds.most))
     (sym own)
-    (made-performs stands t r caller points (view c.args.value) c.args.bounds.least
+    (performed_make-performs stands t r caller points (view c.args.value) c.args.bounds.least
     c.args.bounds.most c.in-Ok.number
     (c.in-Ok.ensures.number ∙ lengths (stands c.args.self.now.history)
     (ids_of c.args.self.now.directory o) (r.owned o) (s.refs o)

@@ -5,7 +5,7 @@ use Rattle.value_data.specs.Datum.{Datum}
 use Rattle.repl_faults.specs.View.{Fails}
 use Rattle.repl_asks.specs.Transactions.{RefNameData}
 use Rattle.repl_asks.specs.View.{name_view, change_view, commuted_view, intent_view}
-use Rattle.server_rules.specs.Store.{value_of}
+use Rattle.server_rules.specs.Store.{newest_value}
 use Rattle.server_rules.specs.Commit.{all_folded}
 use Rattle.ref_table.specs.Refs.{store_of}
 use Rattle.ref_table.specs.Directory.{ids_named}
@@ -19,7 +19,7 @@ pub returns-in_err-folded-clause-placed : goal.returns-in_err-folded-clause-plac
 returns-in_err-folded-clause-placed g c = λ r points s.
     let intent = intent_view c.args.intent.now in
     let value : RefNameData → Option Datum =
-    λ name. value_of name (store_of c.args.caller points r) in
+    λ name. newest_value name (store_of c.args.caller points r) in
     let error = c.in_err-folded.field-0.0 in
     let failed = subst (λ cs. Fails error (all_folded value (map commuted_view cs)))
     c.deref.ensures.value (c.in_err-folded.ensures.folded r points s) in
@@ -33,7 +33,7 @@ returns-clause-placed g c = λ r points s.
     let d = c.args.self.now.directory in
     let sets = c.args.intent.now.sets.items in
     let value : RefNameData → Option Datum =
-    λ name. value_of name (store_of c.args.caller points r) in
+    λ name. newest_value name (store_of c.args.caller points r) in
     let places = all_placed d c.args.caller (map change_view sets) in
     ap (λ cs. places (all_folded value (map commuted_view cs))) (sym c.deref.ensures.value)
     ∙ ap places (c.in_ok-folded.ensures.folded r points s)

@@ -37,13 +37,13 @@ returns-in_default-clause-kept c =
 pub returns-clause-steps : goal.returns-clause-steps
 returns-clause-steps c =
     left-less _ _ c.in-Some.tenant c.go-result.new.tenant c.go-result.result (sym c.in-Some.ensures.taken)
-    (c.put_back.ensures.put (c.in-Some.ensures.place refl)) c.go-result.ensures.steps
+    (c.put_back.ensures.put (c.in-Some.ensures.place refl)) c.go-result.ensures.counted.steps
 
 pub returns-clause-kept : goal.returns-clause-kept
 returns-clause-kept c =
     left-kept _ _ c.in-Some.tenant c.go-result.new.tenant c.go-result.result (sym c.in-Some.ensures.taken)
-    (c.put_back.ensures.put (c.in-Some.ensures.place refl)) c.go-result.ensures.kept
+    (c.put_back.ensures.put (c.in-Some.ensures.place refl)) c.go-result.ensures.counted.kept
 
 pub returns-clause-held : goal.returns-clause-held
 returns-clause-held c = λ held.
-    some-waits _ c.in-Some.tenant (sym c.in-Some.ensures.taken) (c.go-result.ensures.held held)
+    some-waits _ c.in-Some.tenant (sym c.in-Some.ensures.taken) (c.go-result.ensures.counted.held held)

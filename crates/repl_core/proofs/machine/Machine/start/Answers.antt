@@ -1,7 +1,7 @@
 use Rattle.std.proofs.Common.{◌∙◌, refl, sym}
 use Rattle.server_rules.specs.Plan as deeds
 use Rattle.tenant_walks.proofs.Stores.{serves-all-still, starts-reached}
-use Rattle.tenant_world.specs.Answers.{started_view}
+use Rattle.tenant_world.specs.Answers.{start_answer_view}
 use Rattle.repl_core.specs.Standing.{store_in}
 use Rattle.repl_core.proofs.Behind.{does-so, refuses-so, refuses-none, of-actor, err-with}
 use Rattle.repl_core.proofs.machine.Machine.start.Goals as goal
@@ -17,10 +17,10 @@ returns-clause-done c = λ g w right s.
     let old = c.args.self.now in
     let d = deeds.starts c.args.actor in
     does-so g w t d old c.put_back.new.self old.refs c.in-Some.tenant c.start-result.new.self
-    started_view c.start-result.result s (sym c.in-Some.ensures.taken)
+    start_answer_view c.start-result.result s (sym c.in-Some.ensures.taken)
     (λ kept st serves.
     let at = store_in w.around t kept.mine in
-    of-actor g c.args.actor kept.quiet _ c.start-result.new.self started_view _ c.start-result.result
+    of-actor g c.args.actor kept.quiet _ c.start-result.new.self start_answer_view _ c.start-result.result
     (c.start-result.ensures.done g kept.quiet at right st)
     (serves-all-still old.refs at _ s.refs serves
     (starts-reached g kept.quiet at c.args.actor)))

@@ -1,6 +1,6 @@
 use Rattle.repl_asks.specs.View.{ask_view, answer_view, trace_view}
 use Rattle.repl_jobs.specs.View.{job_view}
-use Rattle.walker_machine.specs.Waits.{behind}
+use Rattle.walker_machine.specs.Waits.{tree_behind}
 use Rattle.repl_walker.proofs.Leading.{led-to-answered, trace-pushed}
 use Rattle.repl_walker.proofs.waiting.Walk.resume.Goals as goal
 
@@ -9,4 +9,4 @@ progress-requires c =
     let w = c.args.self in
     let grown = trace-pushed w.trace.items c.push.new.self.items _ _ c.in_ok-push.ensures.items c.in_ok-of.ensures in
     led-to-answered (job_view w.job) (trace_view w.trace.items) (trace_view c.push.new.self.items) (ask_view w.ask) (answer_view c.args.answer)
-    (behind w.waiting) _ w.led grown c.in_ok-reached.ensures.meaning
+    (tree_behind w.waiting) _ w.led grown c.in_ok-reached.ensures.meaning

@@ -4,13 +4,13 @@ use Rattle.std.specs.Map.{set_value}
 use Rattle.server_rules.specs.declared.actor.Actor.{Actor}
 use Rattle.tenant_actors.specs.View.{actor_view}
 use Rattle.tenant_actors.specs.declared.actor.ActorState.{ActorState}
-use Rattle.tenant_actors.proofs.Seats.{seen, at, found-seen, replaced-seen, stays-seen}
+use Rattle.tenant_actors.proofs.Seats.{seen, at, part_under-seen, with_part-seen, stays-seen}
 use Rattle.tenant_actors.proofs.actors.Actors.replace.Goals as goal
 
 pub returns-in_default-clause-was : goal.returns-in_default-clause-was
 returns-in_default-clause-was c =
     ap (option_map actor_view) c.in_default.ensures.value
-    ∙ found-seen c.args.actor c.args.self.now.live.entries
+    ∙ part_under-seen c.args.actor c.args.self.now.live.entries
 
 pub returns-in_default-clause-put : goal.returns-in_default-clause-put
 returns-in_default-clause-put c =
@@ -22,11 +22,11 @@ pub returns-clause-was : goal.returns-clause-was
 returns-clause-was c =
     ap (λ (s : ActorState). Some (actor_view s)) c.replace.ensures.value
     ∙ ap (option_map actor_view) c.in-Some.ensures.value
-    ∙ found-seen c.args.actor c.args.self.now.live.entries
+    ∙ part_under-seen c.args.actor c.args.self.now.live.entries
 
 pub returns-clause-put : goal.returns-clause-put
 returns-clause-put c =
     let was = c.args.self.now.live.entries in
     ap seen (c.get_mut.follows.holds c.replace.new.dest).0
     ∙ ap (λ (s : ActorState). seen (set_value (at c.args.actor) was s)) c.replace.ensures.after
-    ∙ replaced-seen c.args.actor c.args.state was
+    ∙ with_part-seen c.args.actor c.args.state was

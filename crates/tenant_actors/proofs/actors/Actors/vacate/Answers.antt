@@ -1,13 +1,15 @@
 use Rattle.std.proofs.Common.{◌≡◌, ◌∙◌, ap, sym, true, None, is_some, option_map}
 use Rattle.std.specs.BTreeMap.{BTreeMap}
 use Rattle.std.specs.Map.{remove_entry}
-use Rattle.server_rules.specs.Numbered.{replaced}
+use Rattle.server_rules.specs.Numbered.{with_part}
 use Rattle.server_rules.specs.Tenant.{ActorData, seat_of}
 use Rattle.server_rules.specs.declared.actor.Actor.{Actor}
 use Rattle.tenant_actors.specs.View.{hand_view}
 use Rattle.tenant_actors.specs.declared.actor.ActorState.{ActorState}
-use Rattle.tenant_actors.proofs.Seats.{Entries, at, seen, replaced-seen, removed-seen}
-use Rattle.tenant_actors.proofs.QueueLaws.{absent-vacated, vacated-seen, vacated-closed, vacated-gone, still-some, still-none, unwritten}
+use Rattle.tenant_actors.proofs.Seats.{Entries, at, seen, with_part-seen, removed-seen}
+use Rattle.tenant_actors.proofs.QueueLaws.{absent-vacated, with_vacated_seat-seen}
+use Rattle.tenant_actors.proofs.QueueLaws.{with_vacated_seat-closed, with_vacated_seat-gone}
+use Rattle.tenant_actors.proofs.QueueLaws.{still-some, still-none, unwritten}
 use Rattle.tenant_actors.proofs.actors.Actors.vacate.Goals as goal
 
 pub returns-in_default : goal.returns-in_default
@@ -24,10 +26,10 @@ returns-then-is_some c =
     let busy : is_some (option_map hand_view v.hand) ≡ true =
     still-some v.hand (sym c.is_some.ensures ∙ c.if-is_some.true) in
     ap seen (c.get_mut.follows.holds c.close.new.self).0
-    ∙ replaced-seen c.args.actor c.close.new.self was
-    ∙ ap (λ (x : ActorData). replaced seat x (seen was)) c.close.ensures
-    ∙ sym (vacated-seen c.args.actor v was (sym c.in-Some.ensures.value)
-    ∙ vacated-closed seat (option_map hand_view v.hand) (seen was) busy)
+    ∙ with_part-seen c.args.actor c.close.new.self was
+    ∙ ap (λ (x : ActorData). with_part seat x (seen was)) c.close.ensures
+    ∙ sym (with_vacated_seat-seen c.args.actor v was (sym c.in-Some.ensures.value)
+    ∙ with_vacated_seat-closed seat (option_map hand_view v.hand) (seen was) busy)
 
 pub returns : goal.returns
 returns c =
@@ -39,4 +41,4 @@ returns c =
     removed-seen c.args.actor was c.remove.new.self.entries
     (c.remove.ensures.entries ∙ ap (λ (es : Entries). remove_entry (at c.args.actor) es) (unwritten c.args.actor v was (c.get_mut.follows.holds v).0 (sym c.in-Some.ensures.value)))
     c.remove.ensures.updates.1
-    ∙ sym (vacated-seen c.args.actor v was (sym c.in-Some.ensures.value) ∙ vacated-gone seat (option_map hand_view v.hand) (seen was) idle)
+    ∙ sym (with_vacated_seat-seen c.args.actor v was (sym c.in-Some.ensures.value) ∙ with_vacated_seat-gone seat (option_map hand_view v.hand) (seen was) idle)

@@ -1,4 +1,5 @@
-use Rattle.std.proofs.Common.{◌≡◌, ◌∙◌, sym, ap, List, [], ◌∷◌, ◌++◌, Bool, map, length, append-nil, arith}
+use Rattle.std.proofs.Common.{◌≡◌, ◌∙◌, sym, ap, List, [], ◌∷◌, ◌++◌, Bool, map, length, append-nil}
+use Rattle.std.proofs.Common.{arith}
 use Rattle.std.proofs.lemmas.Grind.{common_steps}
 use Rattle.std.proofs.lemmas.List.{nil_from_length}
 use Rattle.std.proofs.lemmas.Result.{on_ok_weaker}
@@ -10,7 +11,7 @@ use Rattle.server_rules.specs.Replying.{reply}
 use Rattle.server_rules.specs.Tenant.{with_replies}
 use Rattle.tenant_replies.specs.View.{made_bytes}
 use Rattle.tenant_hearing.specs.Scene.{Scene, scene}
-use Rattle.tenant_hearing.specs.Taken.{told_broken}
+use Rattle.tenant_hearing.specs.Handled.{told_broken}
 use Rattle.tenant_hearing.proofs.Drafting.{comes-replied, drafts-as}
 use Rattle.tenant_hearing.proofs.Undoing.{kept-then}
 use Rattle.tenant_hearing.proofs.draft.Draft.fill.Goals as goal

@@ -3,7 +3,7 @@ use Rattle.bencode_wire.specs.Tree.{Tree, integer, string, list, dictionary}
 use Rattle.bencode_wire.specs.View.{view, trees_view, pairs_view}
 use Rattle.bencode_wire.specs.declared.ben.Ben.{the_lemmas}
 use Rattle.server_rules.specs.Operating.{with_message}
-use Rattle.tenant_hearing.specs.Scene.{scene, Comes}
+use Rattle.tenant_hearing.specs.Scene.{scene, FollowsRules}
 use Rattle.tenant_hearing.proofs.Drafting.{is_integer, is_string, is_list, comes-other}
 use Rattle.tenant_hearing.proofs.draft.Draft.hear.Goals as goal
 
@@ -12,7 +12,7 @@ returns-in-Dictionary-clause-heard c =
     let x = scene c.args.self.now c.args.sessions.now c.args.actors.now in
     let y = scene c.hear_fields.new.self c.hear_fields.new.sessions c.hear_fields.new.actors in
     let seen : view c.args.message ≡ dictionary (pairs_view c.in-Dictionary.fields.entries) = ap view c.in-Dictionary.is ∙ search (rules, the_lemmas) in
-    subst (λ (m : Tree). OnOk c.hear_fields.result (Comes (λ g t. with_message g t m) x y)) (sym seen) c.hear_fields.ensures.heard
+    subst (λ (m : Tree). OnOk c.hear_fields.result (FollowsRules (λ g t. with_message g t m) x y)) (sym seen) c.hear_fields.ensures.heard
 
 pub returns-in-Integer-clause-heard : goal.returns-in-Integer-clause-heard
 returns-in-Integer-clause-heard c =

@@ -11,9 +11,9 @@ use Rattle.server_rules.specs.Replying.{reply}
 use Rattle.tenant_actors.specs.View.{actors_view}
 use Rattle.tenant_hearing.specs.Scene.{scene}
 use Rattle.tenant_hearing.specs.Undone.{retracted_named}
-use Rattle.tenant_hearing.specs.declared.changes.Change.{Change}
-use Rattle.tenant_hearing.specs.declared.changes.Change.TheVariants as change
-use Rattle.tenant_hearing.proofs.Drafting.{comes-cloned}
+use Rattle.tenant_hearing.specs.declared.changes.LoggedChange.{LoggedChange}
+use Rattle.tenant_hearing.specs.declared.changes.LoggedChange.TheVariants as change
+use Rattle.tenant_hearing.proofs.Drafting.{comes-with_clone_of}
 use Rattle.tenant_hearing.proofs.Remaining.{open-still}
 use Rattle.tenant_hearing.proofs.Undoing.{kept-more, cloned-back, cloned-seated}
 use Rattle.tenant_hearing.proofs.draft.Draft.open.Goals as goal
@@ -35,7 +35,7 @@ returns-in_err-id-clause-kept c =
     ap₂ (λ (i : IdsData) (x : SessionsData). record { ids = i; sessions = x }) (ap (λ (x : NamedSessions). x.ids) made) c.in_ok-number.ensures.undone in
     let up : s'.sessions.opened ≡ s.sessions.opened + 1 = ap (λ (x : NamedSessions). x.sessions.opened) made in
     kept-more (scene c.args.self.now s c.args.actors.now) _ (change.Cloned number)
-    (c.note.ensures ∙ ap (λ (l : List Change). l ++ change.Cloned number ∷ []) c.in_ok-reserve.ensures.items)
+    (c.note.ensures ∙ ap (λ (l : List LoggedChange). l ++ change.Cloned number ∷ []) c.in_ok-reserve.ensures.items)
     (cloned-back s s' es es' number c.requires.seated is back c.in_default.ensures.added)
     (cloned-seated s s' es es' number c.requires.seated is up c.in_default.ensures.added)
 
@@ -52,7 +52,7 @@ returns-clause-kept c =
     ap₂ (λ (i : IdsData) (x : SessionsData). record { ids = i; sessions = x }) (ap (λ (x : NamedSessions). x.ids) made) c.in_ok-number.ensures.undone in
     let up : s'.sessions.opened ≡ s.sessions.opened + 1 = ap (λ (x : NamedSessions). x.sessions.opened) made in
     kept-more (scene c.args.self.now s c.args.actors.now) _ (change.Cloned number)
-    (c.note.ensures ∙ ap (λ (l : List Change). l ++ change.Cloned number ∷ []) c.in_ok-reserve.ensures.items)
+    (c.note.ensures ∙ ap (λ (l : List LoggedChange). l ++ change.Cloned number ∷ []) c.in_ok-reserve.ensures.items)
     (cloned-back s s' es es' number c.requires.seated is back c.in_default.ensures.added)
     (cloned-seated s s' es es' number c.requires.seated is up c.in_default.ensures.added)
 
@@ -62,7 +62,7 @@ returns-clause-heard c =
     let x = scene c.args.self.now c.args.sessions.now c.args.actors.now in
     let number = c.in_ok-number.number in
     on_ok_weaker c.add.result (λ added.
-    comes-cloned o c.args.original x _ number c.requires.served c.in_ok-number.ensures.number c.in_ok-number.ensures.cloned
+    comes-with_clone_of o c.args.original x _ number c.requires.served c.in_ok-number.ensures.number c.in_ok-number.ensures.cloned
     c.in_default.ensures.added refl
     (added ∙ ap (λ (i : List ℕ). x.made ++ map bytes_of (reply o (replies.new_session i) ∷ [])) c.in_ok-id.ensures))
     c.add.ensures

@@ -6,10 +6,10 @@ use Rattle.server_rules.specs.declared.actor.Actor.{Actor}
 use Rattle.tenant_actors.specs.Queues.{changed_at, with_request}
 use Rattle.tenant_actors.specs.View.{waiting_view, actors_view, AreBelow}
 use Rattle.tenant_hearing.specs.Scene.{scene}
-use Rattle.tenant_hearing.specs.Undone.{parts}
-use Rattle.tenant_hearing.specs.declared.changes.Change.{Change}
-use Rattle.tenant_hearing.specs.declared.changes.Change.TheVariants as change
-use Rattle.tenant_hearing.proofs.Drafting.{comes-requested}
+use Rattle.tenant_hearing.specs.Undone.{sessions_and_actors}
+use Rattle.tenant_hearing.specs.declared.changes.LoggedChange.{LoggedChange}
+use Rattle.tenant_hearing.specs.declared.changes.LoggedChange.TheVariants as change
+use Rattle.tenant_hearing.proofs.Drafting.{comes-with_queued_request}
 use Rattle.tenant_hearing.proofs.Undoing.{kept-more}
 use Rattle.tenant_hearing.proofs.Vacating.{below-changed}
 use Rattle.tenant_hearing.proofs.draft.Draft.queue.Goals as goal
@@ -19,7 +19,7 @@ returns-clause-heard c = λ s seated served.
     let w = waiting_view c.args.request in
     let queued : actors_view c.queue.new.self ≡ changed_at (seat_of (asker c.args.session)) (with_request w) (actors_view c.args.actors.now) =
     c.in_ok-queue.ensures.queued ∙ ap (λ (a : Actor). changed_at (seat_of a) (with_request w) (actors_view c.args.actors.now)) c.asker-actor.ensures in
-    comes-requested c.args.session w (scene c.args.self.now s c.args.actors.now) _ served refl queued refl refl
+    comes-with_queued_request c.args.session w (scene c.args.self.now s c.args.actors.now) _ served refl queued refl refl
 
 pub returns-clause-kept : goal.returns-clause-kept
 returns-clause-kept c = λ s seated.
@@ -27,7 +27,7 @@ returns-clause-kept c = λ s seated.
     let a = c.asker-actor.result in
     let was = actors_view c.args.actors.now in
     kept-more (scene c.args.self.now s c.args.actors.now) _ (change.Queued a)
-    (c.note.ensures ∙ ap (λ (l : List Change). l ++ change.Queued a ∷ []) c.in_ok-reserve.ensures.items)
-    (ap (parts s) c.in_ok-queue.ensures.undone)
+    (c.note.ensures ∙ ap (λ (l : List LoggedChange). l ++ change.Queued a ∷ []) c.in_ok-reserve.ensures.items)
+    (ap (sessions_and_actors s) c.in_ok-queue.ensures.undone)
     (subst (λ (es : List (Entry ActorData)). AreBelow (suc s.sessions.opened) es) (sym c.in_ok-queue.ensures.queued)
     (below-changed (suc s.sessions.opened) (seat_of a) (with_request w) was seated))

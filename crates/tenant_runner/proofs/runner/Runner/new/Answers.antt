@@ -1,5 +1,5 @@
 use Rattle.std.proofs.Common.{[]}
-use Rattle.server_rules.specs.World.{opening}
+use Rattle.server_rules.specs.World.{new_world}
 use Rattle.tenant_runner.proofs.Behind.{opened-stands}
 use Rattle.tenant_runner.specs.declared.runner.Runner.{Runner}
 use Rattle.tenant_runner.proofs.runner.Runner.new.Goals as goal
@@ -8,5 +8,5 @@ pub returns-in-Ok : goal.returns-in-Ok
 returns-in-Ok c = λ g right ground seed steps retries places.
     let made : Runner = record { machine = c.«open».new.self; walks = c.new.result } in
     opened-stands g made right ground places c.new.ensures
-    (c.in-Ok.ensures.done g (opening []) right
+    (c.in-Ok.ensures.done g (new_world []) right
     (c.new-machine.ensures g ground.names seed steps retries places))

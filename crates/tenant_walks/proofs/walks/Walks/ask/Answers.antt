@@ -3,11 +3,11 @@ use Rattle.repl_asks.specs.Exchange.{AskData}
 use Rattle.repl_asks.specs.View.{ask_view, answer_view}
 use Rattle.repl_walker.specs.declared.waiting.Progress.{Progress}
 use Rattle.server_rules.specs.Plan as deeds
-use Rattle.tenant_world.specs.Answers.{asked_view}
-use Rattle.tenant_world.specs.declared.answers.Asked.{Asked}
+use Rattle.tenant_world.specs.Answers.{ask_answer_view}
+use Rattle.tenant_world.specs.declared.answers.AskAnswer.{AskAnswer}
 use Rattle.tenant_world.specs.Standing as world
-use Rattle.ref_table.specs.Refs.{after}
-use Rattle.tenant_refs.specs.Serving.{Serves}
+use Rattle.ref_table.specs.Refs.{refs_after}
+use Rattle.tenant_refs.specs.Serving.{TableServes}
 use Rattle.tenant_walks.specs.Standing.{parts, comes_to}
 use Rattle.tenant_walks.proofs.Walking.{asks-same, at-so, some-same}
 use Rattle.tenant_walks.proofs.Steps.{does-followed, does-resumed, refused-parts}
@@ -22,9 +22,9 @@ returns-in_err-answer-clause-refused c = λ g l r w right s at.
     c.in-Some-Asks.is c.in-Some-Asks.field-0-is in
     let same = asks-same v w (some-same _ _ (sym kept ∙ at)) in
     let asked = ap ask_view c.ask.ensures ∙ ap (λ x. ask_view x.ask) same in
-    let P : AskData → Type 0 = λ x. world.Refuses g l.quiet l.store
+    let P : AskData → Type 0 = λ x. world.RefusesDeed g l.quiet l.store
     (comes_to g l (deeds.asks_for a x)) c.answer.new.self c.in_err-answer.field-0.0
-    × Serves c.answer.new.refs l.store r in
+    × TableServes c.answer.new.refs l.store r in
     let told = subst P asked
     (c.in_err-answer.ensures.refused g l.quiet l.store r right s.tenant s.serves) in
     refused-parts g l r (deeds.asks_for a (ask_view w.ask)) old c.answer.new.self
@@ -40,14 +40,14 @@ returns-in-Answer-clause-done c = λ g l r run w right s runs at.
     c.in-Some-Asks.is c.in-Some-Asks.field-0-is in
     let same = asks-same v w (some-same _ _ (sym kept ∙ at)) in
     let asked = ap ask_view c.ask.ensures ∙ ap (λ x. ask_view x.ask) same in
-    let P : AskData → Type 0 = λ x. world.DoesBy g a l.quiet
-    (comes_to g l (deeds.asks_for a x)) c.answer.new.self (asked_view c.in_ok-answer.field-0)
-    × Serves c.answer.new.refs (comes_to g l (deeds.asks_for a x)).store
-    (after (comes_to g l (deeds.asks_for a x)).store r) in
+    let P : AskData → Type 0 = λ x. world.AcceptsDeedBy g a l.quiet
+    (comes_to g l (deeds.asks_for a x)) c.answer.new.self (ask_answer_view c.in_ok-answer.field-0)
+    × TableServes c.answer.new.refs (comes_to g l (deeds.asks_for a x)).store
+    (refs_after (comes_to g l (deeds.asks_for a x)).store r) in
     let did = subst P asked
     (c.in_ok-answer.ensures.done g l.quiet l.store r right s.tenant s.serves) in
     let d = comes_to g l (deeds.asks_for a (ask_view w.ask)) in
-    let Q : Asked → Type 0 = λ x. world.DoesBy g a l.quiet d c.answer.new.self (asked_view x) in
+    let Q : AskAnswer → Type 0 = λ x. world.AcceptsDeedBy g a l.quiet d c.answer.new.self (ask_answer_view x) in
     does-resumed g l r a old (parts c.answer.new.self c.answer.new.refs c.resume.new.self)
     (ask_view w.ask) (answer_view c.in-Answer.answer) run s runs (subst Q c.in-Answer.is did.0)
     did.1
@@ -63,10 +63,10 @@ returns-in-Interrupted-clause-done c = λ g l r run w right s runs at.
     c.in-Some-Asks.is c.in-Some-Asks.field-0-is in
     let same = asks-same v w (some-same _ _ (sym kept ∙ at)) in
     let asked = ap ask_view c.ask.ensures ∙ ap (λ x. ask_view x.ask) same in
-    let P : AskData → Type 0 = λ x. world.DoesBy g a l.quiet
-    (comes_to g l (deeds.asks_for a x)) c.answer.new.self (asked_view c.in_ok-answer.field-0)
-    × Serves c.answer.new.refs (comes_to g l (deeds.asks_for a x)).store
-    (after (comes_to g l (deeds.asks_for a x)).store r) in
+    let P : AskData → Type 0 = λ x. world.AcceptsDeedBy g a l.quiet
+    (comes_to g l (deeds.asks_for a x)) c.answer.new.self (ask_answer_view c.in_ok-answer.field-0)
+    × TableServes c.answer.new.refs (comes_to g l (deeds.asks_for a x)).store
+    (refs_after (comes_to g l (deeds.asks_for a x)).store r) in
     let did = subst P asked
     (c.in_ok-answer.ensures.done g l.quiet l.store r right s.tenant s.serves) in
     does-followed g l r (deeds.asks_for a (ask_view w.ask)) a old

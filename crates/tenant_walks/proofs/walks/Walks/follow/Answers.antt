@@ -14,8 +14,8 @@ returns-in_default c = λ g q st s but.
     (λ run p runs at.
     let never : None ≡ Some p = sym c.remove.ensures.gone ∙ at in absurd (cc))
 
-pub returns-in_default-begun : goal.returns-in_default-begun
-returns-in_default-begun c = λ g q st s but.
+pub returns-in_default-begin_evaluation : goal.returns-in_default-begin_evaluation
+returns-in_default-begin_evaluation c = λ g q st s but.
     walked-all c.args.actor (walk_at c.take.new.self) q
     (λ b run p apart runs at. but b run p apart runs (sym (c.take.ensures.others b apart) ∙ at))
     (λ run p runs at.

@@ -1,7 +1,7 @@
 use Rattle.std.proofs.Common.{◌∙◌, sym, subst}
 use Rattle.repl_asks.specs.View.{ask_view, answer_view}
 use Rattle.repl_walker.specs.declared.waiting.Progress.{Progress}
-use Rattle.tenant_world.specs.Asking.{exchanged, run_with}
+use Rattle.tenant_world.specs.Asking.{exchange_from, run_with}
 use Rattle.tenant_walks.specs.Walked.{IsWalkOf}
 use Rattle.tenant_walks.proofs.Walking.{walk-resumed, some-same, asks-same}
 use Rattle.tenant_walks.proofs.Steps.{put-so}
@@ -18,5 +18,5 @@ returns-clause-resumed c = λ run w p at walk there.
     let of_v = subst (λ x. IsWalkOf run (Progress.Asks x)) (sym same) walk in
     let later = walk-resumed run v c.in-Ok.progress answer of_v c.in-Ok.ensures.meaning
     c.in-Ok.ensures.job c.in-Ok.ensures.trace in
-    subst (λ x. IsWalkOf (run_with (exchanged (ask_view x.ask) answer) run) p) same
-    (subst (IsWalkOf (run_with (exchanged (ask_view v.ask) answer) run)) put later)
+    subst (λ x. IsWalkOf (run_with (exchange_from (ask_view x.ask) answer) run) p) same
+    (subst (IsWalkOf (run_with (exchange_from (ask_view v.ask) answer) run)) put later)

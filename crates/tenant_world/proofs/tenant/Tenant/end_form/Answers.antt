@@ -4,13 +4,14 @@ use Rattle.server_rules.specs.Plan.{Plan}
 use Rattle.server_rules.specs.Ending.{end_of}
 use Rattle.server_rules.specs.Tenant.{ActorData}
 use Rattle.tenant_actors.specs.View.{actor_view}
-use Rattle.tenant_turns.specs.Deeded.{carried_out, deeded}
+use Rattle.tenant_turns.specs.DeedResult.{carried_out, deed_result}
 use Rattle.tenant_world.specs.Memories.{Remembers}
 use Rattle.tenant_world.proofs.Standing.{carried-tenant}
-use Rattle.tenant_world.specs.Acting.{left_by}
-use Rattle.tenant_world.specs.Answers.{ended_view, ending_view}
-use Rattle.tenant_world.specs.Standing.{Refuses}
-use Rattle.tenant_world.proofs.Standing.{ends-by, does-acted, refuses-declined, refuses-so, lends-memory}
+use Rattle.tenant_world.specs.Acting.{actors_after}
+use Rattle.tenant_world.specs.Answers.{end_answer_view, ending_view}
+use Rattle.tenant_world.specs.Standing.{RefusesDeed}
+use Rattle.tenant_world.proofs.Standing.{ends-by, does-acted, refuses-declined, refuses-so}
+use Rattle.tenant_world.proofs.Standing.{lends-memory}
 use Rattle.tenant_world.proofs.tenant.Tenant.end_form.Goals as goal
 
 pub returns-in_err-state-clause-refused : goal.returns-in_err-state-clause-refused
@@ -18,9 +19,9 @@ returns-in_err-state-clause-refused c = λ g q s right stands.
     let a = c.args.actor in
     let e = ending_view c.args.ending.now in
     let p : ActorData → Plan = λ actor. end_of g a actor e q actor.hand in
-    refuses-so g q s (deeded g s q (deeds.ends a e)) c.lend.new.self c.in_err-state.field-0.0
+    refuses-so g q s (deed_result g s q (deeds.ends a e)) c.lend.new.self c.in_err-state.field-0.0
     c.from_residual.result c.from_residual.ensures.1
-    (subst (λ x. Refuses g q s x c.lend.new.self c.in_err-state.field-0.0)
+    (subst (λ x. RefusesDeed g q s x c.lend.new.self c.in_err-state.field-0.0)
     (sym (ends-by g q s a e)) (c.in_err-state.ensures.refused g q s p stands))
 
 pub returns-in-Ok-clause-done : goal.returns-in-Ok-clause-done
@@ -33,14 +34,14 @@ returns-in-Ok-clause-done c = λ g q s right stands.
     let acted = c.in-Ok.ensures.acted g q s right lent.2 lent.3 in
     let lends = lends-memory g a c.lend.new.self _ q refl refl refl refl lent.0 in
     let actor = actor_view c.end.new.state in
-    does-acted g s.tenant a q s p (deeded g s q (deeds.ends a e)) (actor_view c.in_ok-state.state)
-    c.end.new.memory actor (ended_view c.in-Ok.ended) c.settle.new.self
+    does-acted g s.tenant a q s p (deed_result g s q (deeds.ends a e)) (actor_view c.in_ok-state.state)
+    c.end.new.memory actor (end_answer_view c.in-Ok.ended) c.settle.new.self
     (ends-by g q s a e) some lent.1 acted.0
     (λ after r actors steps heard. c.settle.ensures.stands g q after
     (carried_out s (p (actor_view c.in_ok-state.state))).store lends
     (subst (λ t. Remembers g t c.end.new.memory after)
     (sym (carried-tenant s (p (actor_view c.in_ok-state.state)))) r) acted.1
-    (actors ∙ ap (λ b. left_by b a actor q.actors) (sym c.is_interrupted.ensures)) steps heard)
+    (actors ∙ ap (λ b. actors_after b a actor q.actors) (sym c.is_interrupted.ensures)) steps heard)
 
 pub returns-in-Err-clause-refused : goal.returns-in-Err-clause-refused
 returns-in-Err-clause-refused c = λ g q s right stands.
@@ -51,7 +52,7 @@ returns-in-Err-clause-refused c = λ g q s right stands.
     let some = subst (λ n. 0 < n) stands.steps c.in_ok-state.ensures.some in
     let declined = c.in-Err.ensures.declined g q s right lent.2 lent.3 in
     let lends = lends-memory g a c.lend.new.self _ q refl refl refl refl lent.0 in
-    refuses-declined g s.tenant a q s p (deeded g s q (deeds.ends a e)) (actor_view c.in_ok-state.state)
+    refuses-declined g s.tenant a q s p (deed_result g s q (deeds.ends a e)) (actor_view c.in_ok-state.state)
     c.end.new.memory c.in-Err.why c.restore.new.self (ends-by g q s a e) some lent.1
     declined.0 (λ r. c.restore.ensures.stands g q s lends r declined.1
-    (lent.1 ∙ ap Some (sym c.in-Err.ensures.stays)))
+    (lent.1 ∙ ap Some (sym c.in-Err.ensures.step.stays)))

@@ -2,8 +2,8 @@ use Rattle.std.proofs.Common.{◌∙◌, length, refl, sym, ap}
 use Rattle.std.proofs.lemmas.Bool.{eq-eqb}
 use Rattle.bencode_wire.specs.Decoder.{ready_of}
 use Rattle.server_rules.specs.Hearing.{stream_fault, hears_more}
-use Rattle.tenant_hearing.specs.Holds.{Holds}
-use Rattle.tenant_hearing.specs.Reads.{Reads}
+use Rattle.tenant_hearing.specs.Holds.{PartsStandFor}
+use Rattle.tenant_hearing.specs.HasReadAll.{HasReadAll}
 use Rattle.tenant_world.proofs.Remembering.{held-so}
 use Rattle.tenant_world.proofs.Standing.{not-zero, stands-same}
 use Rattle.tenant_world.proofs.Seating.{seated-below, below-seated}
@@ -68,12 +68,12 @@ returns-clause-done c = λ g q s right st.
     let sound = sym c.in_default.is ∙ c.fault.ensures ∙ read in
     let free = held-so g s.tenant c.args.self.now.memory q c.is_held.result st.remembers c.is_held.ensures
     ∙ c.if-is_held.false in
-    let reads : Reads g q.heard d = record {
+    let reads : HasReadAll g q.heard d = record {
       stands = st.stream;
       ready = none-long (ready_of d) c.args.self.now.taken;
       fault = read;
     } in
-    let held : Holds g s.tenant q c.args.self.now.memory.sessions _ _ = record {
+    let held : PartsStandFor g s.tenant q c.args.self.now.memory.sessions _ _ = record {
       sessions = st.remembers.sessions;
       actors = st.actors;
       replies = st.remembers.replies;

@@ -4,7 +4,7 @@ use Rattle.tenant_world.proofs.Standing.{restored}
 use Rattle.server_rules.specs.Tenant.{seat_of}
 use Rattle.tenant_world.specs.Memories.{opened_by}
 use Rattle.tenant_world.specs.Seats.{are_below}
-use Rattle.tenant_world.proofs.Seating.{below-replaced}
+use Rattle.tenant_world.proofs.Seating.{below-with_part}
 use Rattle.tenant_world.proofs.tenant.Tenant.restore.Goals as goal
 
 pub returns-clause-stands : goal.returns-clause-stands
@@ -18,5 +18,5 @@ invariant_of-self c =
     record {
       taken = self.taken;
       seated = subst (λ es. are_below (suc (opened_by self.memory)) es ≡ true)
-          (sym c.replace.ensures.put) (below-replaced _ (seat_of c.args.actor) _ _ self.seated);
+          (sym c.replace.ensures.put) (below-with_part _ (seat_of c.args.actor) _ _ self.seated);
     }

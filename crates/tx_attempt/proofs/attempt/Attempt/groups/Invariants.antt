@@ -2,12 +2,12 @@ use Rattle.std.proofs.Common.{◌≡◌, ◌++◌, map, filter_map, drop}
 use Rattle.repl_asks.specs.Transactions.{RefNameData}
 use Rattle.tx_attempt.specs.contracts.key.KeyOrd.TheImpl as order
 use Rattle.tx_attempt.specs.Groups.{commutes_in}
-use Rattle.tx_attempt.specs.Operations.{commute_of}
-use Rattle.tx_attempt.specs.View.{operation_view}
+use Rattle.tx_attempt.specs.Accesses.{commute_of}
+use Rattle.tx_attempt.specs.View.{access_view}
 use Rattle.tx_attempt.proofs.attempt.Attempt.groups.Given as goal
 
 -- of each ref the commutes that were found and those in what is left
-abbrev pub invariant-loop-operation : goal.invariant-loop-operation
-invariant-loop-operation l = (n : RefNameData) → commutes_in (order.ghosts).cmp l.groups n
-    ++ filter_map (commute_of n) (map operation_view (drop l.operation-index l.self.operations.items))
-    ≡ filter_map (commute_of n) (map operation_view l.self.operations.items)
+abbrev pub invariant-loop-access : goal.invariant-loop-access
+invariant-loop-access l = (n : RefNameData) → commutes_in (order.ghosts).cmp l.groups n
+    ++ filter_map (commute_of n) (map access_view (drop l.access-index l.self.accesses.items))
+    ≡ filter_map (commute_of n) (map access_view l.self.accesses.items)

@@ -1,11 +1,11 @@
 use Rattle.std.proofs.Common.{◌≡◌, ◌++◌, map, filter_map, drop}
 use Rattle.repl_asks.specs.View.{name_view}
-use Rattle.tx_attempt.specs.Parts.{ref_of}
-use Rattle.tx_attempt.specs.View.{operation_view}
+use Rattle.tx_attempt.specs.Parts.{ref_accessed}
+use Rattle.tx_attempt.specs.View.{access_view}
 use Rattle.tx_attempt.proofs.attempt.Attempt.refs.Given as goal
 
 -- the refs that were found and those in what is left
-abbrev pub invariant-loop-operation : goal.invariant-loop-operation
-invariant-loop-operation l = map name_view l.names.items
-    ++ filter_map (ref_of l.deed) (map operation_view (drop l.operation-index l.self.operations.items))
-    ≡ filter_map (ref_of l.deed) (map operation_view l.self.operations.items)
+abbrev pub invariant-loop-access : goal.invariant-loop-access
+invariant-loop-access l = map name_view l.names.items
+    ++ filter_map (ref_accessed l.kind) (map access_view (drop l.access-index l.self.accesses.items))
+    ≡ filter_map (ref_accessed l.kind) (map access_view l.self.accesses.items)

@@ -5,7 +5,7 @@ use Rattle.value_data.specs.declared.value.RefName.{RefName}
 use Rattle.repl_asks.specs.View.{name_view}
 use Rattle.tx_attempt.specs.contracts.key.KeyOrd.TheImpl as order
 use Rattle.tx_attempt.specs.Groups.{commutes_in}
-use Rattle.tx_attempt.specs.Operations.{is_among}
+use Rattle.tx_attempt.specs.Accesses.{is_among}
 use Rattle.tx_attempt.proofs.Grouped.{left-out}
 use Rattle.tx_attempt.proofs.grouping.Groups.without.Goals as goal
 

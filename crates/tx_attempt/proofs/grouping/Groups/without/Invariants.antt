@@ -3,7 +3,7 @@ use Rattle.repl_asks.specs.Transactions.{RefNameData}
 use Rattle.repl_asks.specs.View.{name_view}
 use Rattle.tx_attempt.specs.contracts.key.KeyOrd.TheImpl as order
 use Rattle.tx_attempt.specs.Groups.{commutes_in}
-use Rattle.tx_attempt.specs.Operations.{is_among}
+use Rattle.tx_attempt.specs.Accesses.{is_among}
 use Rattle.tx_attempt.proofs.grouping.Groups.without.Given as goal
 
 -- the groups without those of what is left are those that stay in the end

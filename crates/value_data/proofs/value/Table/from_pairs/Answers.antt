@@ -36,4 +36,4 @@ returns-in-Ok c =
     (has_key-placed (pairs_view (take n c.args.pairs.items)) (view p.0) c.in-Ok.field-0 placed)
 
 pub returns : goal.returns
-returns c = (c.in_ok-sealed.ensures, no-repeat c.args.pairs.items c.loop-place.place (omega arith) c.loop-place.invariant.distinct)
+returns c = (c.in_ok-sealed_table.ensures, no-repeat c.args.pairs.items c.loop-place.place (omega arith) c.loop-place.invariant.distinct)

@@ -17,8 +17,8 @@ use Rattle.value_data.proofs.Removing.{left-is, left-distinct}
 use Rattle.value_data.proofs.Leaving.{left-index}
 use Rattle.value_data.proofs.value.Table.without_keys.Goals as goal
 
-pub renumbered-requires : goal.renumbered-requires
-renumbered-requires c =
+pub renumbered_places-requires : goal.renumbered_places-requires
+renumbered_places-requires c =
     let xs = c.as_slice-pairs.result.now in
     let sized : length c.deref-5.result.now ≡ length xs =
     ap (λ (bs : List Bool). length bs) (c.deref-5.ensures.value ∙ c.in_ok-marks.ensures)
@@ -27,8 +27,8 @@ renumbered-requires c =
     (node-within (arc_value c.self.inside.node) xs c.deref-4.result.now.index c.self.invariant
     (c.as_slice-pairs.ensures.value ∙ ap (λ (n : PairsNode). n.pairs.items) c.deref.ensures) (ap (λ (n : PairsNode). n.index) c.deref-4.ensures))
 
-pub sealed-requires : goal.sealed-requires
-sealed-requires c =
+pub sealed_table-requires : goal.sealed_table-requires
+sealed_table-requires c =
     let xs = c.as_slice-pairs.result.now in
     let ms = c.deref-5.result.now in
     let ns = c.deref-4.result.now.index in
@@ -64,4 +64,4 @@ returns c =
     left-is c.args.keys.now xs c.in_ok-left.left.items c.in_ok-marks.marks.items c.in_ok-marks.ensures
     (c.in_ok-left.ensures ∙ ap (λ (bs : List Bool). unmarked bs (map pair_view xs)) c.deref-3.ensures.value)
     ∙ ap (λ (ps : Pairs). without_keys ps (items_view c.args.keys.now)) seen in
-    subst (λ (ps : Pairs). IfOk c.sealed.result (λ made. made.pairs ≡ ps)) left c.sealed.ensures
+    subst (λ (ps : Pairs). IfOk c.sealed_table.result (λ made. made.pairs ≡ ps)) left c.sealed_table.ensures

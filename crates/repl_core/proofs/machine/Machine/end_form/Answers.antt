@@ -1,0 +1,74 @@
+use Rattle.std.proofs.Common.{◌≡◌, ◌∙◌, refl, sym, ap, subst, IfOk, IfErr}
+use Rattle.repl_asks.specs.View.{trace_view}
+use Rattle.repl_jobs.specs.View.{job_view, finished_view}
+use Rattle.server_rules.specs.Plan as deeds
+use Rattle.repl_jobs.specs.Job.{EndingData}
+use Rattle.tenant_turns.specs.DeedResult.{deed_result}
+use Rattle.repl_walker.specs.Ends.{ending_view}
+use Rattle.tenant_walks.proofs.Stores.{serves-all-still, ends-reached}
+use Rattle.tenant_world.specs.Answers.{end_answer_view}
+use Rattle.tenant_world.specs.Standing as world
+use Rattle.repl_core.specs.Standing.{store_in}
+use Rattle.repl_core.proofs.Behind.{does-so, refuses-so, refuses-none, of-actor, err-with}
+use Rattle.repl_core.proofs.machine.Machine.end_form.Goals as goal
+
+pub returns-in_default-clause-refused : goal.returns-in_default-clause-refused
+returns-in_default-clause-refused c = λ g w right s.
+    refuses-none g w c.args.number (deeds.ends c.args.actor (ending_view c.args.ending.now)) c.args.self.now c.take.new.self s
+    (sym c.in_default.ensures.taken) c.in_default.ensures.gone c.in_default.ensures.others
+
+pub returns-clause-done : goal.returns-clause-done
+returns-clause-done c = λ g w right s.
+    let t = c.args.number in
+    let old = c.args.self.now in
+    let e = c.args.ending.now in
+    let first : EndingData = record {
+      job = job_view c.job.result.now;
+      trace = trace_view c.trace.result.now;
+      end = finished_view c.end.result.now;
+    } in
+    let is : first ≡ ending_view e =
+    ap (λ j. record first { job = job_view j }) c.job.ensures
+    ∙ ap (λ x. record first { job = job_view e.job; trace = trace_view x }) c.trace.ensures
+    ∙ ap (λ f. record (ending_view e) { end = finished_view f }) c.end.ensures in
+    let d = deeds.ends c.args.actor (ending_view c.args.ending.now) in
+    does-so g w t d old c.put_back.new.self old.refs c.in-Some.tenant c.end_form-result.new.self
+    end_answer_view c.end_form-result.result s (sym c.in-Some.ensures.taken)
+    (λ kept st serves.
+    let at = store_in w.around t kept.mine in
+    let D : EndingData → Type 0 = λ x. IfOk c.end_form-result.result (λ y.
+    world.AcceptsDeedBy g c.args.actor kept.quiet
+    (deed_result g at kept.quiet (deeds.ends c.args.actor x)) c.end_form-result.new.self (end_answer_view y)) in
+    of-actor g c.args.actor kept.quiet _ c.end_form-result.new.self end_answer_view _ c.end_form-result.result
+    (subst D is (c.end_form-result.ensures.done g kept.quiet at right st))
+    (serves-all-still old.refs at _ s.refs serves
+    (ends-reached g kept.quiet at c.args.actor (ending_view e))))
+    (c.put_back.ensures.put (c.in-Some.ensures.place refl))
+    (λ u apart. c.put_back.ensures.others u apart ∙ c.in-Some.ensures.others u apart)
+
+pub returns-clause-refused : goal.returns-clause-refused
+returns-clause-refused c = λ g w right s.
+    let t = c.args.number in
+    let old = c.args.self.now in
+    let e = c.args.ending.now in
+    let first : EndingData = record {
+      job = job_view c.job.result.now;
+      trace = trace_view c.trace.result.now;
+      end = finished_view c.end.result.now;
+    } in
+    let is : first ≡ ending_view e =
+    ap (λ j. record first { job = job_view j }) c.job.ensures
+    ∙ ap (λ x. record first { job = job_view e.job; trace = trace_view x }) c.trace.ensures
+    ∙ ap (λ f. record (ending_view e) { end = finished_view f }) c.end.ensures in
+    let d = deeds.ends c.args.actor (ending_view c.args.ending.now) in
+    refuses-so g w t d old c.put_back.new.self old.refs c.in-Some.tenant c.end_form-result.new.self
+    c.end_form-result.result s (sym c.in-Some.ensures.taken)
+    (λ kept st serves.
+    let at = store_in w.around t kept.mine in
+    let D : EndingData → Type 0 = λ x. IfErr c.end_form-result.result
+    (world.RefusesDeed g kept.quiet at (deed_result g at kept.quiet (deeds.ends c.args.actor x))
+    c.end_form-result.new.self) in
+    err-with _ _ c.end_form-result.result
+    (subst D is (c.end_form-result.ensures.refused g kept.quiet at right st)) serves)
+    (c.put_back.ensures.put (c.in-Some.ensures.place refl))
+    (λ u apart. c.put_back.ensures.others u apart ∙ c.in-Some.ensures.others u apart)

@@ -1,0 +1,24 @@
+-- What a deed of a tenant comes to, with the refs that it reaches.
+use Rattle.server_rules.specs.Store.{Store}
+use Rattle.server_rules.specs.Performed.{Performed}
+use Rattle.server_rules.specs.Calls.{performed}
+use Rattle.server_rules.specs.Ground.{Ground}
+use Rattle.server_rules.specs.Tenant.{Quiet}
+use Rattle.server_rules.specs.Plan.{Deed, Outcome, Plan}
+use Rattle.server_rules.specs.Deeds.{plan}
+
+pub record DeedResult : Type 0 where
+  pub outcome : Outcome
+  -- what the tenant reaches of the refs behind it; it is left so only where the outcome is accepted
+  pub store : Store
+
+abbrev pub deed_result_as : Plan → Performed Store → DeedResult
+deed_result_as p called = record { outcome = p.next called.told; store = called.store }
+
+-- a plan with its call of the refs
+abbrev pub carried_out : Store → Plan → DeedResult
+carried_out s p = deed_result_as p (performed s p.call)
+
+-- what a deed comes to of the tenant whose store this is
+unfoldable pub deed_result : Ground → Store → Quiet → Deed → DeedResult
+deed_result g s q d = carried_out s (plan g s.tenant q d)

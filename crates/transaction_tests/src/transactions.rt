@@ -1,0 +1,185 @@
+// Transactions of one attempt, with values and with faults.
+use crate::answered::Told::{Committed, Count, Done, Found, Made, Refused};
+use crate::rows::{Row, check};
+use std::test::Fail;
+
+// An attempt knows the last value of a ref that it read or set, and is committed at its body's end.
+const INSIDE: [Row; 15] = [
+    (1, "(dosync)", &[Done, Committed], "begin; commit; nil"),
+    (1, "(dosync 1 2)", &[Done, Committed], "begin; commit; 2"),
+    (
+        1,
+        "(dosync @r)",
+        &[Done, Found(5), Committed],
+        "begin; read #ref[0]; commit; 5",
+    ),
+    (
+        1,
+        "(dosync [@r @q @r])",
+        &[Done, Found(5), Found(6), Committed],
+        "begin; read #ref[0]; read #ref[1]; commit; [5 6 5]",
+    ),
+    (
+        1,
+        "(dosync (ref-set r 1) @r)",
+        &[Done, Committed],
+        "begin; commit set #ref[0] 1; 1",
+    ),
+    (
+        1,
+        "(dosync (ref-set q 1) (ref-set r 2) (ref-set q 3))",
+        &[Done, Committed],
+        "begin; commit set #ref[1] 3 set #ref[0] 2; 3",
+    ),
+    (
+        1,
+        "(dosync (alter r + 10 20) (alter r inc))",
+        &[Done, Found(5), Committed],
+        "begin; read #ref[0]; commit set #ref[0] 36; 36",
+    ),
+    (
+        1,
+        "(dosync (alter r twice) @r)",
+        &[Done, Found(5), Committed],
+        "begin; read #ref[0]; commit set #ref[0] 10; 10",
+    ),
+    (
+        1,
+        "(dosync (dosync (ref-set r 1)) (dosync @r))",
+        &[Done, Committed],
+        "begin; commit set #ref[0] 1; 1",
+    ),
+    (
+        1,
+        "[(dosync @r) (dosync @r)]",
+        &[Done, Found(5), Committed, Done, Found(6), Committed],
+        "begin; read #ref[0]; commit; begin; read #ref[0]; commit; [5 6]",
+    ),
+    (
+        1,
+        "(let [s (dosync (ref 1))] (dosync (ref-set s 2)))",
+        &[Done, Made(0), Committed, Done, Committed],
+        "begin; new-ref 1 0 10; commit; begin; commit set #ref[0] 2; 2",
+    ),
+    (
+        1,
+        "(dosync (ref-history-count r))",
+        &[Done, Count(2), Committed],
+        "begin; history #ref[0]; commit; 2",
+    ),
+    (
+        1,
+        "(do (io! (print 1)) (dosync 2))",
+        &[Done, Committed],
+        "begin; commit; '1' 2",
+    ),
+    (
+        1,
+        "(dosync (ref-set shared [1 2]))",
+        &[Done, Committed],
+        "begin; commit set #ref[shared/0] [1 2]; [1 2]",
+    ),
+    (
+        1,
+        "(let [alter 1] (dosync (clojure.core/alter r inc)))",
+        &[Done, Found(5), Committed],
+        "begin; read #ref[0]; commit set #ref[0] 6; 6",
+    ),
+];
+
+#[test]
+fn attempts_know_what_they_read_and_set(rt: HostRuntime) -> Result<(), Fail> {
+    check(&rt, rt.alloc(), &INSIDE)
+}
+
+// A fault in a transaction ends the form, and nothing is committed.
+const FAULTS: [Row; 15] = [
+    (
+        9,
+        "(dosync (ref-set r 1) (throw 2))",
+        &[Done],
+        "begin; #error{clojure.lang.ExceptionInfo: 2}",
+    ),
+    (
+        9,
+        "(dosync (ref-set r 1) (io! 2))",
+        &[Done],
+        "begin; #error{java.lang.IllegalStateException: I/O in transaction}",
+    ),
+    (
+        9,
+        "(dosync (ref-set shared r))",
+        &[Done],
+        "begin; #error{java.lang.IllegalArgumentException: Only plain data goes into a shared ref}",
+    ),
+    (
+        9,
+        "(dosync (alter shared list r))",
+        &[Done, Found(1)],
+        "begin; read #ref[shared/0]; \
+            #error{java.lang.IllegalArgumentException: Only plain data goes into a shared ref}",
+    ),
+    (
+        9,
+        "(dosync (ref-history-count shared))",
+        &[Done],
+        "begin; \
+            #error{java.lang.IllegalStateException: Shared history can't be read in a transaction}",
+    ),
+    (
+        9,
+        "(dosync (alter 1 inc))",
+        &[Done],
+        "begin; #error{java.lang.ClassCastException: Wrong argument to alter: 1}",
+    ),
+    (
+        9,
+        "(dosync (alter r 5))",
+        &[Done],
+        "begin; #error{java.lang.ClassCastException: Not a function: 5}",
+    ),
+    (
+        9,
+        "(dosync (alter r r))",
+        &[Done],
+        "begin; #error{java.lang.ClassCastException: Not a function: #ref[0]}",
+    ),
+    (
+        9,
+        "(dosync (alter r))",
+        &[Done],
+        "begin; #error{clojure.lang.ArityException: Wrong number of args (1) passed to: alter}",
+    ),
+    (
+        9,
+        "(dosync (alter))",
+        &[Done],
+        "begin; #error{clojure.lang.ArityException: Wrong number of args (0) passed to: alter}",
+    ),
+    (
+        9,
+        "(dosync (alter r inc 1))",
+        &[Done, Found(1)],
+        "begin; read #ref[0]; \
+            #error{clojure.lang.ArityException: Wrong number of args (2) passed to: inc}",
+    ),
+    (
+        9,
+        "(dosync @r)",
+        &[Done, Found(1), Refused],
+        "begin; read #ref[0]; commit; #error{C: t}",
+    ),
+    (
+        9,
+        "(dosync (print 1) (many 11))",
+        &[Done],
+        "begin; '1' #error{java.lang.RuntimeException: Budget of 10000 calls is passed}",
+    ),
+    (9, "(dosync lost)", &[Done], "begin; #error{C: t}"),
+    (9, "(dosync @r)", &[Done], "begin; read #ref[0]; waits"),
+];
+
+#[test]
+fn faults_in_transactions_commit_nothing(rt: HostRuntime) -> Result<(), Fail> {
+    check(&rt, rt.alloc(), &FAULTS)
+}

@@ -1,0 +1,52 @@
+-- A transaction that is under way, in the words of the definition.
+use Rattle.std.specs.Prelude.{ℕ, List, [], Bool, true, false, Option, Some, None, Box}
+use Rattle.std.specs.Global.{Global}
+use Rattle.std.specs.Arc.{arc_str_bytes}
+use Rattle.value_data.specs.Datum.{nil}
+use Rattle.special_forms.specs.Seen.{forms_view}
+use Rattle.tx_attempt.specs.Accesses.{AccessData}
+use Rattle.tx_attempt.specs.Seen.{accesses_of}
+use Rattle.evaluation_rules.specs.Doing.{Kept, Doing, left}
+use Rattle.evaluation_rules.specs.Tree.{with_attempt}
+use Rattle.evaluation_rules.specs.Places.{PlaceData}
+use Rattle.evaluation_rules.specs.Rows.{last_of}
+use Rattle.evaluation_rules.specs.Transactions.{body_of, after_body, attempts}
+use Rattle.evaluation_rules.specs.Evaluation.{value_at}
+use Rattle.walker_state.specs.declared.frames.Transaction.{Transaction}
+use Rattle.walker_state.specs.Frames.{frames_next}
+
+-- Transactions
+
+-- on entering a transaction
+abbrev pub kept_at : ℕ → Transaction → Kept
+kept_at retries t = record {
+  calls = t.calls;
+  namespace = arc_str_bytes t.namespace;
+  running =
+      false;
+  retries = retries;
+}
+
+abbrev pub body_at : ℕ → Transaction → PlaceData → Doing
+body_at retries t p = body_of (last_of (value_at t.room p) nil (forms_view t.body))
+    (kept_at retries t)
+
+-- the attempts that are left
+unfoldable pub again : ℕ → Transaction → PlaceData → Kept → Doing
+again retries t p = attempts t.left (body_at retries t p) (frames_next t.frames.items p)
+
+-- in the attempt, if a transaction runs
+unfoldable pub inside_attempt : ℕ → Option (Box Transaction Global) → PlaceData → Doing → Doing
+inside_attempt retries None p d = d
+inside_attempt retries (Some t) p d =
+    with_attempt (after_body (again retries t.value p) (frames_next t.value.frames.items p))
+    (accesses_of t.value.attempt) d
+
+-- what the attempt that runs did so far
+abbrev pub so_far : Option (Box Transaction Global) → List AccessData
+so_far None = []
+so_far (Some t) = accesses_of t.value.attempt
+
+abbrev pub is_running : Option (Box Transaction Global) → Bool
+is_running None = false
+is_running (Some t) = true
