@@ -20,7 +20,8 @@ pub data Judged : Type 0 where
 
 abbrev pub judged : ByteEffect → Judged
 judged (goes fs token) = reads (cut fs token)
-judged (opens f fs) = cond (nat_lt (length fs) MAX_NESTING) (reads (cut (f ∷ fs) between)) (refuses too_deep)
+judged (opens f fs) =
+    cond (nat_lt (length fs) MAX_NESTING) (reads (cut (f ∷ fs) between)) (refuses too_deep)
 judged (names ps key fs) = cond (has_key key ps) (refuses malformed)
     (reads (cut (at_value ps key ∷ fs) between))
 judged (ends t) = whole t

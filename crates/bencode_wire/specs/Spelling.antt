@@ -110,6 +110,7 @@ canonical t = text (sorted t)
 abbrev pub IsReordered : Tree → Tree → Type 0
 IsReordered t u = IsDistinct t × IsDistinct u × (sorted t ≡ sorted u)
 
--- `bytes` is a spelling of the value: the text of one that differs from it in the order of pairs alone
+-- `bytes` is a spelling of the value: the text of one that differs from it in the order of pairs
+-- alone
 abbrev pub Spells : Tree → List ℕ → Type 0
 Spells t bytes = (u : Tree) × IsSpellable u × IsReordered t u × (bytes ≡ text u)

@@ -19,8 +19,8 @@ use std::marker::Model;
 /// The bytes of the unfinished message are kept beside what they were read as. So a piece costs the
 /// reading of its own bytes, however the stream is cut; only after want of memory are the kept
 /// bytes read once more. Until the next piece those of the messages that became whole are kept too,
-/// so that the last piece can be taken back. Contracts see what it shows, a `DecoderState`, and not how it
-/// is kept.
+/// so that the last piece can be taken back. Contracts see what it shows, a `DecoderState`, and not
+/// how it is kept.
 #[derive(Drop)]
 pub struct Decoder {
     pub(crate) alloc: Global,

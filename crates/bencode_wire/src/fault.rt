@@ -3,7 +3,8 @@ use std::alloc::{AllocError, AllocFailed};
 use thiserror::Error;
 
 /// Why a decoder takes no more of a stream. A place counts the bytes of the stream from 0, up to
-/// `u64::MAX`, and is that of the first byte at which one of the rules applies, tried in this order.
+/// `u64::MAX`, and is that of the first byte at which one of the rules applies, tried in this
+/// order.
 ///
 /// - `TooLong`: the byte would make the unfinished message longer than the decoder's limit.
 /// - `Malformed`: with this byte the message begins no dictionary of the grammar (an integer leaves

@@ -68,7 +68,8 @@ impl Reader {
 }
 
 fn partial(frames: Vec<Frame>, token: Token) -> Result<Progress, Refusal>
-    ensures { Gives (judged (beginnings.goes (frames_view frames.items) (token_view token))) result }
+    ensures { Gives
+        (judged (beginnings.goes (frames_view frames.items) (token_view token))) result }
 {
     Ok(Progress::Partial(Reader { frames, token }))
 }
@@ -140,7 +141,8 @@ fn begin_value(alloc: Global, frames: Vec<Frame>, sign: Sign) -> Result<Progress
 }
 
 fn begin_item(alloc: Global, frames: Vec<Frame>, sign: Sign) -> Result<Progress, Refusal>
-    ensures { Gives (judged (beginnings.begin_item put_pair (frames_view frames.items) sign)) result }
+    ensures { Gives
+        (judged (beginnings.begin_item put_pair (frames_view frames.items) sign)) result }
 {
     match sign {
         Sign::End => close(frames),
@@ -152,7 +154,8 @@ fn begin_item(alloc: Global, frames: Vec<Frame>, sign: Sign) -> Result<Progress,
 }
 
 fn begin_key(frames: Vec<Frame>, sign: Sign) -> Result<Progress, Refusal>
-    ensures { Gives (judged (beginnings.begin_key put_pair (frames_view frames.items) sign)) result }
+    ensures { Gives
+        (judged (beginnings.begin_key put_pair (frames_view frames.items) sign)) result }
 {
     match sign {
         Sign::End => close(frames),
@@ -163,7 +166,8 @@ fn begin_key(frames: Vec<Frame>, sign: Sign) -> Result<Progress, Refusal>
 }
 
 fn open(frames: Vec<Frame>, frame: Frame) -> Result<Progress, Refusal>
-    ensures { Gives (judged (beginnings.opens (frame_view frame) (frames_view frames.items))) result }
+    ensures { Gives
+        (judged (beginnings.opens (frame_view frame) (frames_view frames.items))) result }
 {
     if frames.len() < MAX_NESTING {
         let frames = push(frames, frame)?;
@@ -188,7 +192,8 @@ fn close(frames: Vec<Frame>) -> Result<Progress, Refusal>
 
 // A value that is whole goes into the innermost list or dictionary, or is the message.
 fn put(frames: Vec<Frame>, value: Ben) -> Result<Progress, Refusal>
-    ensures { Gives (judged (beginnings.put put_pair (frames_view frames.items) (view value))) result }
+    ensures { Gives
+        (judged (beginnings.put put_pair (frames_view frames.items) (view value))) result }
 {
     let (outer, innermost) = pop(frames);
     match innermost {

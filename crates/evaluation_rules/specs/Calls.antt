@@ -26,8 +26,8 @@ abbrev pub altering_value : Evaluator → NamedFunctionData → List Datum → R
     → Part Datum
 altering_value walk f args name d = function_called walk f (d ∷ args) >>= held_value name
 
--- `commute` applies a function of the language so, and notes it with what it gave. Another function's call counts, and
--- its number of arguments is looked at.
+-- `commute` applies a function of the language so, and notes it with what it gave. Another
+-- function's call counts, and its number of arguments is looked at.
 abbrev pub commute_noted : RefNameData → CommuteData → Datum → Part Datum
 commute_noted name c d next kept =
     if may_hold name.owner d then noting (commuted name c d) (next d kept)
@@ -74,7 +74,8 @@ counted_call walk callee args next kept =
 abbrev pub call_value : Evaluator → PlaceData → List Datum → CalleeData → Part Datum
 call_value walk p forms callee = row (walk p) forms >>= counted_call walk callee
 
--- `alter` and `commute` take a function by its name, between the first argument and those behind it.
+-- `alter` and `commute` take a function by its name, between the first argument and those behind
+-- it.
 abbrev pub altering_call : Evaluator → PlaceData → Alteration → Datum → Datum → List Datum
     → Part Datum
 altering_call walk p by d e ds =

@@ -1,6 +1,6 @@
 //! Tests of the reader, of maps and of the functions of the language: of `repl_reader`, `Table` of
-//! `repl_values`, `core_sequences`, `core_maps`, `function_names` and `core_functions`, by their public
-//! calls alone.
+//! `repl_values`, `core_sequences`, `core_maps`, `function_names` and `core_functions`, by their
+//! public calls alone.
 #![tactic(auto)]
 
 #[cfg(test)]

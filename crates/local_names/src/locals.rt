@@ -24,5 +24,6 @@ impl Model for Locals {
 
     ghost view = { λ a. map local_view a.locals.items };
 
-    ghost invariant = { λ a. AreLinked a.locals.items × HasNewest a.index (map local_view a.locals.items) };
+    ghost invariant = { λ a. AreLinked a.locals.items
+        × HasNewest a.index (map local_view a.locals.items) };
 }

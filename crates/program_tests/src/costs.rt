@@ -1,6 +1,6 @@
 // Programs over large values, each of which ends at once where values are shared, measured once and
-// found by their hashes. One that copies, measures or compares them anew passes the time that a test
-// has.
+// found by their hashes. One that copies, measures or compares them anew passes the time that a
+// test has.
 use crate::messages::ILLEGAL_ARGUMENT;
 use crate::messages::Reply::{Done, Fault, Value};
 use crate::rows::{expect_replies, push_times};
@@ -85,8 +85,8 @@ fn list_is_walked(rt: HostRuntime) -> Result<(), Fail> {
     expect_value(&rt, a, code.as_str(), "195999")
 }
 
-// (do (def w [0 0 ..]) (def v [w w ..]) (conj v 1) (conj v 1) .. (count (conj v 1))): what stands in
-// the items is neither copied nor measured.
+// (do (def w [0 0 ..]) (def v [w w ..]) (conj v 1) (conj v 1) .. (count (conj v 1))): what stands
+// in the items is neither copied nor measured.
 #[test]
 fn shared_vector_is_joined(rt: HostRuntime) -> Result<(), Fail> {
     let a = rt.alloc();
@@ -112,7 +112,8 @@ fn function_is_defined_again(rt: HostRuntime) -> Result<(), Fail> {
     expect_value(&rt, a, code.as_str(), "#'user/g")
 }
 
-// (do (def v [0 0 ..]) v v .. (count v)): what a symbol was answered is not compared as its form ends.
+// (do (def v [0 0 ..]) v v .. (count v)): what a symbol was answered is not compared as its form
+// ends.
 #[test]
 fn large_value_is_named(rt: HostRuntime) -> Result<(), Fail> {
     let a = rt.alloc();

@@ -69,8 +69,8 @@ pub(crate) fn push_times(text: &mut String, part: &str, times: usize) -> Result<
     Ok(())
 }
 
-// What is written for a stream by a tenant that has heard nothing. The seed is all zeros, and the stream
-// ends without an error.
+// What is written for a stream by a tenant that has heard nothing. The seed is all zeros, and the
+// stream ends without an error.
 pub(crate) fn written_for(
     rt: &impl Abort,
     alloc: Global,

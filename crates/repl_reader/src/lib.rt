@@ -1,7 +1,7 @@
 //! The reader: the text of a program as forms.
 //!
-//! `read_all` gives the forms before the first fault, and that fault. What a text reads as stands in
-//! `specs/Grammar.antt`.
+//! `read_all` gives the forms before the first fault, and that fault. What a text reads as stands
+//! in `specs/Grammar.antt`.
 #![tactic(auto)]
 
 mod blank;

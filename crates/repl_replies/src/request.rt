@@ -47,7 +47,8 @@ fn request_of_fields(
     origin: Origin,
 ) -> RequestOrReply
     ensures { request_or_reply_view result ≡ (if is_this_string (codes "eval") (field_view op)
-        then in_session (origin_view origin) (field_view code) (field_view ns) (field_view origin.session)
+        then in_session (origin_view origin) (field_view code) (field_view ns)
+        (field_view origin.session)
         else refused (origin_view origin) (unknown_op (field_view op))) }
 {
     if !is_eval(&op) {

@@ -1,6 +1,7 @@
 // What the values of the language may come to. The definitions name these constants.
 
-/// The most that a value that is made may weigh: 1 for each value in it, and the bytes of each text.
+/// The most that a value that is made may weigh: 1 for each value in it, and the bytes of each
+/// text.
 pub const MOST_WEIGHT: u64 = 1_048_576;
 
 /// The deepest that a value that is made may nest.

@@ -17,7 +17,8 @@ pub struct Ending {
     trace: Trace,
     finished: Finished,
     // Its trace led its job to this end.
-    ghost led: { LedTo (job_view job) (trace_view trace.items) (tree.finished (finished_view finished)) },
+    ghost led: { LedTo (job_view job) (trace_view trace.items)
+        (tree.finished (finished_view finished)) },
 }
 
 impl Ending {

@@ -20,7 +20,8 @@ pub struct Walk {
     pub(crate) ask: Ask,
     pub(crate) waiting: WaitingEvaluation,
     // Its trace led its job to this ask.
-    ghost led: { LedTo (job_view job) (trace_view trace.items) (asks (ask_view ask) (tree_behind waiting)) },
+    ghost led: { LedTo (job_view job) (trace_view trace.items)
+        (asks (ask_view ask) (tree_behind waiting)) },
 }
 
 /// How far an evaluation came: to its next ask, or to its end.

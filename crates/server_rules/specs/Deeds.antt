@@ -35,7 +35,8 @@ drain_outcome q (oldest ∷ more) = leaves (record q { replies = more })
 abbrev pub plan : Ground → ℕ → Quiet → Deed → Plan
 plan g t q (hears piece) = hearing_plan g t piece q
 plan g t q (starts a) = unless_worn q
-    (for_actor (part_under (seat_of a) q.actors) (λ actor. quietly (start_of g a actor q actor.hand)))
+    (for_actor (part_under (seat_of a) q.actors)
+    (λ actor. quietly (start_of g a actor q actor.hand)))
 plan g t q (asks_for a ask) = unless_worn q
     (for_actor (part_under (seat_of a) q.actors) (λ actor. asked_of g a actor ask q actor.hand))
 plan g t q (ends a e) = unless_worn q

@@ -12,8 +12,8 @@ pub fn alike_stays_alike()
     ensures { AlikeStaysAlike }
 {}
 
-/// A tenant whose first turn opens it, and which names no shared ref, is served, byte for byte, as if
-/// its turns were alone.
+/// A tenant whose first turn opens it, and which names no shared ref, is served, byte for byte, as
+/// if its turns were alone.
 pub fn served_alone()
     ensures { ServedAlone }
 {}

@@ -14,7 +14,8 @@ pub enum Refusal {
     /// As many tenants are open as may be at once.
     Full,
     NoSuchActor,
-    /// There is nothing for this step to do: no request waits, no form runs, or no form may ask this.
+    /// There is nothing for this step to do: no request waits, no form runs, or no form may ask
+    /// this.
     Idle,
     /// Too many replies wait.
     Held,

@@ -44,8 +44,8 @@ fn serve_in_pieces(alloc: Global, mut runner: Runner, input: &[u8], piece: usize
     }
 }
 
-// A piece costs a step, and so does each turn. The first request takes three turns, of which the last
-// writes its replies, and then comes one in which nothing is to be done.
+// A piece costs a step, and so does each turn. The first request takes three turns, of which the
+// last writes its replies, and then comes one in which nothing is to be done.
 #[test]
 fn steps_end_the_stream(rt: HostRuntime) -> Result<(), Fail> {
     let worn = "nrepl: step limit reached\n";
@@ -70,8 +70,8 @@ fn push_bytes(bytes: &mut Vec<u8>, part: &[u8], times: usize) -> Result<(), Allo
     Ok(())
 }
 
-// More replies than may wait, all of one piece: they are written by and by, and the request that comes
-// behind them is answered.
+// More replies than may wait, all of one piece: they are written by and by, and the request that
+// comes behind them is answered.
 #[test]
 fn replies_that_are_held_are_written(rt: HostRuntime) -> Result<(), Fail> {
     let mut input = Vec::new(rt.alloc());

@@ -1,5 +1,5 @@
-//! What calls of the functions that ask the store come to, before anybody is asked: a fault, a read,
-//! a set or an ensure in the attempt, or an ask whose answer is the value.
+//! What calls of the functions that ask the store come to, before anybody is asked: a fault, a
+//! read, a set or an ensure in the attempt, or an ask whose answer is the value.
 //!
 //! The kinds of all arguments are looked at first, from the left; then whether a transaction runs;
 //! then what a shared ref forbids.

@@ -99,8 +99,8 @@ fn first_fault_changes_nothing(rt: HostRuntime) -> Result<(), Fail> {
     Ok(())
 }
 
-// Sets the first ref, and commutes the others: one can be, the next is divided by zero, and the last
-// overflows.
+// Sets the first ref, and commutes the others: one can be, the next is divided by zero, and the
+// last overflows.
 fn faulty(rt: &impl Abort, alloc: Global, names: &[RefName]) -> Result<Intent, AllocError> {
     let mut intent = nothing(alloc);
     for name in names {

@@ -42,7 +42,8 @@ impl Actors {
     /// Puts this one in the place of the actor of this name, if it is there, and gives that one
     /// back.
     pub fn replace(&mut self, actor: Actor, state: ActorState) -> Option<ActorState>
-        ensures was { option_map actor_view result ≡ part_under (seat_of actor) (actors_view self.old) }
+        ensures was { option_map actor_view result
+            ≡ part_under (seat_of actor) (actors_view self.old) }
         ensures put { actors_view self.new
             ≡ with_part (seat_of actor) (actor_view state) (actors_view self.old) }
     {

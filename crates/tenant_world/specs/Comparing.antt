@@ -33,7 +33,8 @@ PassesComparison g actor q e =
     (run : Run) → compared_run actor q ≡ Some run → ending_refusal g run e ≡ None
 
 -- it is compared, and refused so
-pub record FailsComparison (g : Ground) (actor : ActorData) (q : Quiet) (e : EndingData) (why : Refusal)
+pub record FailsComparison (g : Ground) (actor : ActorData) (q : Quiet) (e : EndingData)
+    (why : Refusal)
     : Type 0 where
   pub run : Run
   pub compared : compared_run actor q ≡ Some run

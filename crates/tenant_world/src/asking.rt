@@ -56,7 +56,8 @@ pub(crate) fn ask(
         → Remembers g s.tenant memory.old q → ServesWithAttempts refs.old attempts.old s r
         → let d = carried_out s (asked_of g actor (actor_view state.old) (ask_view ask.now) q
         (actor_view state.old).hand) in IfOk result (λ x.
-        AcceptsOutcome g s.tenant actor q d.outcome memory.new (actor_view state.new) (ask_answer_view x)
+        AcceptsOutcome g s.tenant actor q d.outcome memory.new (actor_view state.new)
+        (ask_answer_view x)
         × ServesWithAttempts refs.new attempts.new d.store (refs_after d.store r)) }
     ensures declined { (g : Ground) (q : Quiet) (s : Store) (r : Refs) → SharesNoNames g
         → Remembers g s.tenant memory.old q → ServesWithAttempts refs.old attempts.old s r

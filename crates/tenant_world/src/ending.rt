@@ -45,7 +45,8 @@ pub(crate) fn end(
         → Remembers g s.tenant memory.old q → Reaches attempts.old s
         → let d = carried_out s (end_of g actor (actor_view state.old) (ending_view ending.now) q
         (actor_view state.old).hand) in IfOk result (λ x.
-        AcceptsOutcome g s.tenant actor q d.outcome memory.new (actor_view state.new) (end_answer_view x)
+        AcceptsOutcome g s.tenant actor q d.outcome memory.new (actor_view state.new)
+        (end_answer_view x)
         × Reaches attempts.new d.store) }
     ensures declined { (g : Ground) (q : Quiet) (s : Store) → IsRight g
         → Remembers g s.tenant memory.old q → Reaches attempts.old s
@@ -74,7 +75,8 @@ pub(crate) fn finish(
         → Remembers g s.tenant memory.old q → Reaches attempts.old s
         → let d = carried_out s (end_of g actor (actor_view state.old) e q
         (actor_view state.old).hand) in IfOk result (λ x.
-        AcceptsOutcome g s.tenant actor q d.outcome memory.new (actor_view state.new) (end_answer_view x)
+        AcceptsOutcome g s.tenant actor q d.outcome memory.new (actor_view state.new)
+        (end_answer_view x)
         × Reaches attempts.new d.store) }
     ensures declined { (g : Ground) (q : Quiet) (s : Store) (e : EndingData)
         → Remembers g s.tenant memory.old q → Reaches attempts.old s

@@ -49,8 +49,8 @@ fn own(number: u64) -> RefName {
 const MANY: &str =
     "(if (clojure.core/= a 0) 0 (do (many (clojure.core/dec a)) (many (clojure.core/dec a))))";
 
-// What a symbol names: `r`, `q` and `shared` are refs, `twice` and `many` functions of a program, and
-// `n` is the namespace in which it is resolved.
+// What a symbol names: `r`, `q` and `shared` are refs, `twice` and `many` functions of a program,
+// and `n` is the namespace in which it is resolved.
 fn named(alloc: Global, namespace: &str, symbol: &str) -> Result<Answer, AllocError> {
     let value = match symbol {
         "r" => Value::Ref(own(0)),

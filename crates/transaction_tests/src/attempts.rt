@@ -3,8 +3,8 @@ use crate::answered::Told::{Committed, Conflict, Done, Found, Retry};
 use crate::rows::{Row, check};
 use std::test::Fail;
 
-// Another attempt begins as the first did: with its locals, its namespace and the rest of its calls.
-// What was printed stays.
+// Another attempt begins as the first did: with its locals, its namespace and the rest of its
+// calls. What was printed stays.
 const AGAIN: [Row; 10] = [
     (
         2,
@@ -129,8 +129,8 @@ fn attempts_are_limited(rt: HostRuntime) -> Result<(), Fail> {
     check(&rt, rt.alloc(), &LIMITS)
 }
 
-// `(many n)` makes 6 * 2^n - 4 calls, so that 9,998 are made before the transaction, or 9,999: `alter`
-// takes a call of its own, and its function another.
+// `(many n)` makes 6 * 2^n - 4 calls, so that 9,998 are made before the transaction, or 9,999:
+// `alter` takes a call of its own, and its function another.
 const CALLS: [Row; 2] = [
     (
         1,

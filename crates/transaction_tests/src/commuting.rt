@@ -67,8 +67,8 @@ fn attempts_note_what_they_ensure_and_commute(rt: HostRuntime) -> Result<(), Fai
     check(&rt, rt.alloc(), &INSIDE)
 }
 
-// A commute reads the ref, then looks at the number of arguments, then whether the function is one of the
-// language that asks nobody.
+// A commute reads the ref, then looks at the number of arguments, then whether the function is one
+// of the language that asks nobody.
 const FAULTS: [Row; 16] = [
     (
         9,

@@ -1,5 +1,5 @@
-//! Tests of refs and transactions by `repl_walker`: what is asked of the store, answer by answer, and what
-//! comes of it.
+//! Tests of refs and transactions by `repl_walker`: what is asked of the store, answer by answer,
+//! and what comes of it.
 #![tactic(auto)]
 
 #[cfg(test)]

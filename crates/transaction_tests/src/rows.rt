@@ -4,7 +4,8 @@ use std::alloc::Global;
 use std::process::Abort;
 use std::test::Fail;
 
-// How many attempts a transaction has, the form, the answers that it is given, and what is told of it.
+// How many attempts a transaction has, the form, the answers that it is given, and what is told of
+// it.
 pub(crate) type Row = (u32, &'static str, &'static [Told], &'static str);
 
 pub(crate) fn check(rt: &impl Abort, alloc: Global, rows: &[Row]) -> Result<(), Fail> {

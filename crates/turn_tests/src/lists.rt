@@ -78,8 +78,8 @@ const CLOSED_REPLIES: &[u8] =
 d2:id1:57:session36:76b8e0ad-a0f1-4d90-805d-6ae55386bd286:statusl4:done14:session-closedee\
 d2:id1:37:session36:76b8e0ad-a0f1-4d90-805d-6ae55386bd286:statusl4:done11:interruptedee";
 
-// A request that waits is answered at the close, and the one in hand at its next turn. Then its actor
-// is gone.
+// A request that waits is answered at the close, and the one in hand at its next turn. Then its
+// actor is gone.
 #[test]
 fn closed_session_interrupts(rt: HostRuntime) -> Result<(), Fail> {
     let mut script = Script::new(rt.alloc());

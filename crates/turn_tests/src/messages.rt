@@ -1,5 +1,5 @@
-// Messages of two sessions and their replies, spelled out. The sessions are the first two of tenant 0
-// under a seed of zeros.
+// Messages of two sessions and their replies, spelled out. The sessions are the first two of tenant
+// 0 under a seed of zeros.
 use std::alloc::{AllocError, Global};
 use std::fmt::Write;
 

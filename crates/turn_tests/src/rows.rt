@@ -21,7 +21,8 @@ pub(crate) enum Part {
     Drain(usize),
 }
 
-// Tenant 0 is opened, two sessions are made and their replies taken out: turns 0 to 4. Then the parts come.
+// Tenant 0 is opened, two sessions are made and their replies taken out: turns 0 to 4. Then the
+// parts come.
 #[derive(Clone, Copy)]
 pub(crate) struct Row {
     pub(crate) config: Config,

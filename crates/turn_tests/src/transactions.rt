@@ -6,7 +6,8 @@ use repl_core::Config;
 use server_rules::Refusal;
 use std::test::Fail;
 
-// A read whose version is kept no longer is made again, and the ref keeps one version more from then on.
+// A read whose version is kept no longer is made again, and the ref keeps one version more from
+// then on.
 const READ_THAT_IS_RETRIED: Row = Row {
     config: CONFIG,
     parts: &[

@@ -7,8 +7,8 @@ use Rattle.value_data.specs.Datum.{agent, var, fault, Items, no_items, item, Pai
 abbrev pub capped : ℕ → ℕ
 capped n = min n (2 ^ 64 - 1)
 
--- 1 for each value, and the bytes of each text in it: a keyword's without its colon, both names of a
--- var, and class and text of a fault
+-- 1 for each value, and the bytes of each text in it: a keyword's without its colon, both names of
+-- a var, and class and text of a fault
 abbrev mutual
   pub weight : Datum → ℕ
   weight (string s) = 1 + length s

@@ -1,10 +1,10 @@
 //! What a value is, as data and as shared nodes: made, copied, compared, hashed and measured.
 //!
 //! The texts, items and pairs of a `Value` are shared nodes that keep what was measured of them,
-//! so that a copy, a weight and a hash of a collection take one step. Contracts see a value as plain data,
-//! `specs/Datum.antt`, by `view` of `specs/View.antt`: two values with one view are the same value
-//! to every caller. `specs/Code.antt` has the codes by which a model holds values. `repl_values`
-//! hands all of this on, with printing, faults and laws.
+//! so that a copy, a weight and a hash of a collection take one step. Contracts see a value as
+//! plain data, `specs/Datum.antt`, by `view` of `specs/View.antt`: two values with one view are the
+//! same value to every caller. `specs/Code.antt` has the codes by which a model holds values.
+//! `repl_values` hands all of this on, with printing, faults and laws.
 #![tactic(auto)]
 
 mod building;

@@ -1,5 +1,5 @@
-//! What evaluations are given and what comes of them, in short: values, functions and answers that are
-//! made of code, and the texts by which tests compare what is asked, answered and ended.
+//! What evaluations are given and what comes of them, in short: values, functions and answers that
+//! are made of code, and the texts by which tests compare what is asked, answered and ended.
 #![tactic(auto)]
 
 mod exchanged;

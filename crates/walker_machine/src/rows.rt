@@ -116,7 +116,9 @@ pub(crate) fn next_binding(
     room: u32,
 ) -> Result<Control, AllocError>
     ensures on { IfOk result
-        (LeadsOnWithin (2 + bindings_size (bindings_in (forms_view bindings)) + forms_size (forms_view body)) state.old state.new) }
+        (LeadsOnWithin
+        (2 + bindings_size (bindings_in (forms_view bindings)) + forms_size (forms_view body))
+        state.old state.new) }
     ensures meaning { IfOk result (λ control. tree control state.new
         ≡ from_state (let_value (value_at room) (place_of state.old)
         (bindings_in (forms_view bindings)) (forms_view body)) state.old) }

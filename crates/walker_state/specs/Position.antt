@@ -132,9 +132,10 @@ IsRetried (Control.Ask ask wanted) s t calls =
     × (wanted_calls wanted s ≡ t.calls) × (0 < t.left)
 IsRetried (Control.Enter f values room) s t calls = ⊥
 
--- A step leaves this control: beside the frames that there were it has less to do than `work`, it may
--- make no more calls than before, and it is in the transaction that was.
+-- A step leaves this control: beside the frames that there were it has less to do than `work`, it
+-- may make no more calls than before, and it is in the transaction that was.
 pub record LeadsOnWithin (work : ℕ) (old new : State) (control : Control) : Type 0 where
-  pub size : control_size control + frames_size new.frames.items < work + frames_size old.frames.items
+  pub size : control_size control + frames_size new.frames.items
+      < work + frames_size old.frames.items
   pub calls : control_calls control new ≤ old.calls
   pub around : control_around control new ≡ around old.transaction

@@ -26,8 +26,8 @@ pub enum Collection {
     Map,
 }
 
-/// What waits for the value of the form that is evaluated. Forms that are still to be evaluated have
-/// `room` for so many forms inside one another.
+/// What waits for the value of the form that is evaluated. Forms that are still to be evaluated
+/// have `room` for so many forms inside one another.
 #[derive(Drop)]
 pub enum Frame {
     // A call: the values of its first arguments, and the forms of those behind the one that is

@@ -1,5 +1,5 @@
-//! Tests of what is asked, answered and evaluated: of `repl_asks`, `repl_jobs` and `repl_walker`, by
-//! their public calls alone.
+//! Tests of what is asked, answered and evaluated: of `repl_asks`, `repl_jobs` and `repl_walker`,
+//! by their public calls alone.
 #![tactic(auto)]
 
 #[cfg(test)]

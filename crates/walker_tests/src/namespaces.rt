@@ -182,7 +182,8 @@ fn what_follows_is_evaluated_in_the_namespace(rt: HostRuntime) -> Result<(), Fai
     check(&rt, rt.alloc(), &FOLLOWING)
 }
 
-// A function's body is evaluated in its own namespace, and changes that of the form around its call.
+// A function's body is evaluated in its own namespace, and changes that of the form around its
+// call.
 const BODIES: [Row; 2] = [
     (
         "(do (ns b) (g))",
