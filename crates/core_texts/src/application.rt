@@ -6,7 +6,7 @@ ghost use Rattle.value_data.specs.Datum.{string};
 ghost use Rattle.value_data.specs.View.{view};
 ghost use Rattle.repl_faults.specs.View.{Gives};
 ghost use Rattle.core_texts.specs.Limits.{if_short, light, within_weight};
-ghost use Rattle.core_texts.specs.Names.{fits};
+ghost use Rattle.core_texts.specs.Names.{fits_text_function};
 ghost use Rattle.core_texts.specs.Meaning as meant;
 
 use crate::function::TextFunction;
@@ -24,7 +24,7 @@ pub fn apply_texts(
     function: TextFunction,
     args: &[Value],
 ) -> Result<Value, ApplyError>
-    requires { fits function (length args.now) ≡ true }
+    requires { fits_text_function function (length args.now) ≡ true }
     ensures { Gives view result (within_weight (meant.value_of function (map view args.now))) }
 {
     match function {
