@@ -36,7 +36,8 @@ abbrev pub integer_row : IntegerFunction → Row
 integer_row (IntegerFunction.Arithmetic f) = arithmetic_row f
 integer_row (IntegerFunction.Comparison f) =
     record { name = comparison_name f; arity = Arity.AtLeast 1 }
-integer_row (IntegerFunction.Test f) = record { name = integer_test_name f; arity = Arity.Exactly 1 }
+integer_row (IntegerFunction.Test f) =
+    record { name = integer_test_name f; arity = Arity.Exactly 1 }
 
 abbrev pub arithmetic_functions : List ArithmeticFunction
 arithmetic_functions =

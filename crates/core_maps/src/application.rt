@@ -2,7 +2,7 @@
 ghost use Rattle.std.specs.Prelude.{◌≡◌, true, length, map};
 ghost use Rattle.value_data.specs.View.{view};
 ghost use Rattle.repl_faults.specs.View.{Gives};
-ghost use Rattle.core_maps.specs.Names.{fits};
+ghost use Rattle.core_maps.specs.Names.{fits_map_function};
 ghost use Rattle.core_maps.specs.Meaning.{value_of};
 
 use crate::arguments::by_turns;
@@ -18,7 +18,7 @@ use std::alloc::Global;
 /// left before anything else.
 #[tactic(auto, using(crate::proofs::Values::seen), unfolding(crate::specs::Meaning::value_of))]
 pub fn apply_maps(alloc: Global, function: MapFunction, args: &[Value]) -> Result<Value, ApplyError>
-    requires { fits function (length args.now) ≡ true }
+    requires { fits_map_function function (length args.now) ≡ true }
     ensures { Gives view result (value_of function (map view args.now)) }
 {
     match function {

@@ -2,7 +2,7 @@
 ghost use Rattle.std.specs.Prelude.{◌≡◌, true, length, map};
 ghost use Rattle.value_data.specs.View.{view};
 ghost use Rattle.repl_faults.specs.View.{Gives};
-ghost use Rattle.core_sequences.specs.Names.{fits};
+ghost use Rattle.core_sequences.specs.Names.{fits_sequence_function};
 ghost use Rattle.core_sequences.specs.Meaning.{value_of};
 
 use crate::ends::{first, last, next, rest, reversed_list};
@@ -22,7 +22,7 @@ pub fn apply_sequences(
     function: SequenceFunction,
     args: &[Value],
 ) -> Result<Value, ApplyError>
-    requires { fits function (length args.now) ≡ true }
+    requires { fits_sequence_function function (length args.now) ≡ true }
     ensures { Gives view result (value_of function (map view args.now)) }
 {
     match function {
