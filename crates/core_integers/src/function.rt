@@ -74,6 +74,7 @@ const INTEGER_FUNCTIONS: [IntegerFunction; 19] = [
 
 impl HasRow for IntegerFunction {
     ghost row_of = { integer_row };
+
     ghost functions = { integer_functions };
 
     fn row(self) -> FunctionRow {

@@ -29,6 +29,7 @@ const MAP_FUNCTIONS: [MapFunction; 7] = [
 
 impl HasRow for MapFunction {
     ghost row_of = { map_row };
+
     ghost functions = { map_functions };
 
     fn row(self) -> FunctionRow {

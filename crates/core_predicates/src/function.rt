@@ -52,6 +52,7 @@ const PREDICATE_FUNCTIONS: [PredicateFunction; 15] = [
 
 impl HasRow for PredicateFunction {
     ghost row_of = { predicate_row };
+
     ghost functions = { predicate_functions };
 
     fn row(self) -> FunctionRow {

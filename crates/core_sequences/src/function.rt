@@ -40,6 +40,7 @@ const SEQUENCE_FUNCTIONS: [SequenceFunction; 12] = [
 
 impl HasRow for SequenceFunction {
     ghost row_of = { sequence_row };
+
     ghost functions = { sequence_functions };
 
     fn row(self) -> FunctionRow {

@@ -24,8 +24,11 @@ pub enum PrintFunction {
     Prn,
 }
 
-const TEXT_FUNCTIONS: [TextFunction; 3] =
-    [TextFunction::Str, TextFunction::PrStr, TextFunction::Name];
+const TEXT_FUNCTIONS: [TextFunction; 3] = [
+    TextFunction::Str,
+    TextFunction::PrStr,
+    TextFunction::Name,
+];
 
 const PRINT_FUNCTIONS: [PrintFunction; 4] = [
     PrintFunction::Print,
@@ -36,6 +39,7 @@ const PRINT_FUNCTIONS: [PrintFunction; 4] = [
 
 impl HasRow for TextFunction {
     ghost row_of = { text_row };
+
     ghost functions = { text_functions };
 
     fn row(self) -> FunctionRow {
@@ -73,6 +77,7 @@ impl TextFunction {
 
 impl HasRow for PrintFunction {
     ghost row_of = { print_row };
+
     ghost functions = { print_functions };
 
     fn row(self) -> FunctionRow {

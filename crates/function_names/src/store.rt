@@ -35,6 +35,7 @@ const STORE_FUNCTIONS: [StoreFunction; 9] = [
 
 impl HasRow for StoreFunction {
     ghost row_of = { store_row };
+
     ghost functions = { store_functions };
 
     fn row(self) -> FunctionRow

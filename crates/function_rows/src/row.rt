@@ -53,6 +53,7 @@ impl FunctionRow {
 pub trait HasRow: Copy {
     // The row of each function, and all functions, as the group's definitions have them.
     ghost row_of: { Self → Row };
+
     ghost functions: { List Self };
 
     /// Its row. The table has no other function of this name.
