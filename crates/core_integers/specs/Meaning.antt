@@ -21,6 +21,6 @@ answer (IntegerFunction.Arithmetic f) ns = arithmetic f ns >>= λ n. Ok (integer
 answer (IntegerFunction.Comparison f) ns = Ok (boolean (is_ordered f ns))
 answer (IntegerFunction.Test f) ns = Ok (boolean (passes_integer_test f (first_integer ns)))
 
-unfoldable pub value_of : IntegerFunction → List Datum → Result Datum Failure
-value_of function args = integers_in (name_of_integer_function function) args
+unfoldable pub integer_meaning : IntegerFunction → List Datum → Result Datum Failure
+integer_meaning function args = integers_in (name_of_integer_function function) args
     >>= λ ns. answer function ns

@@ -3,7 +3,7 @@ ghost use Rattle.std.specs.Prelude.{◌≡◌, true, length, map, IfOk, vec_len}
 ghost use Rattle.value_data.specs.View.{view};
 ghost use Rattle.repl_faults.specs.View.{Gives};
 ghost use Rattle.core_integers.specs.Names.{fits_integer_function};
-ghost use Rattle.core_integers.specs.Meaning.{value_of, integers_in};
+ghost use Rattle.core_integers.specs.Meaning.{integer_meaning, integers_in};
 ghost use Rattle.core_integers.specs.Meaning as meant;
 
 use crate::arithmetic::arithmetic;
@@ -16,14 +16,14 @@ use std::alloc::Global;
 
 /// The function's value at as many arguments as it takes. All arguments' kinds are checked from the
 /// left before anything else.
-#[tactic(auto, using(crate::proofs::Values::seen), unfolding(crate::specs::Meaning::value_of))]
+#[tactic(auto, using(crate::proofs::Values::seen), unfolding(crate::specs::Meaning::integer_meaning))]
 pub fn apply_integers(
     alloc: Global,
     function: IntegerFunction,
     args: &[Value],
 ) -> Result<Value, ApplyError>
     requires { fits_integer_function function (length args.now) ≡ true }
-    ensures { Gives view result (value_of function (map view args.now)) }
+    ensures { Gives view result (integer_meaning function (map view args.now)) }
 {
     let integers = integers_of(alloc, function.name(), args)?;
     answer(alloc, function, integers.as_slice())

@@ -78,11 +78,11 @@ unfoldable pub vals : Datum → Result Datum Failure
 vals d = map_pairs_in (name_of_map_function MapFunction.Vals) d
     >>= λ ps. Ok (list_or_nil (each (λ p. p.1) (pairs_listed ps)))
 
-unfoldable pub value_of : MapFunction → List Datum → Result Datum Failure
-value_of MapFunction.HashMap args = hash_map args
-value_of MapFunction.Get args = get (argument 0 args) (argument 1 args) (slice_get args 2)
-value_of MapFunction.Contains args = contains (argument 0 args) (argument 1 args)
-value_of MapFunction.Assoc args = assoc (argument 0 args) (by_turns (drop 1 args))
-value_of MapFunction.Dissoc args = dissoc (argument 0 args) (drop 1 args)
-value_of MapFunction.Keys args = keys (argument 0 args)
-value_of MapFunction.Vals args = vals (argument 0 args)
+unfoldable pub map_meaning : MapFunction → List Datum → Result Datum Failure
+map_meaning MapFunction.HashMap args = hash_map args
+map_meaning MapFunction.Get args = get (argument 0 args) (argument 1 args) (slice_get args 2)
+map_meaning MapFunction.Contains args = contains (argument 0 args) (argument 1 args)
+map_meaning MapFunction.Assoc args = assoc (argument 0 args) (by_turns (drop 1 args))
+map_meaning MapFunction.Dissoc args = dissoc (argument 0 args) (drop 1 args)
+map_meaning MapFunction.Keys args = keys (argument 0 args)
+map_meaning MapFunction.Vals args = vals (argument 0 args)

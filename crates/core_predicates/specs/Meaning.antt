@@ -11,9 +11,9 @@ use Rattle.core_predicates.specs.declared.function.PredicateFunction.{PredicateF
 unfoldable pub each_equals_the_next : List Datum → Bool
 each_equals_the_next ds = list_all (λ p. same p.0 p.1) (neighbours ds)
 
-unfoldable pub value_of : PredicateFunction → List Datum → Result Datum Failure
-value_of PredicateFunction.Equal args = Ok (boolean (each_equals_the_next args))
-value_of PredicateFunction.NotEqual args = Ok (boolean (not (each_equals_the_next args)))
-value_of PredicateFunction.Identity args = Ok (argument 0 args)
-value_of (PredicateFunction.Test test) args =
+unfoldable pub predicate_meaning : PredicateFunction → List Datum → Result Datum Failure
+predicate_meaning PredicateFunction.Equal args = Ok (boolean (each_equals_the_next args))
+predicate_meaning PredicateFunction.NotEqual args = Ok (boolean (not (each_equals_the_next args)))
+predicate_meaning PredicateFunction.Identity args = Ok (argument 0 args)
+predicate_meaning (PredicateFunction.Test test) args =
     Ok (boolean (passes_value_test test (argument 0 args)))

@@ -15,14 +15,14 @@ use repl_values::{Value, copy, same};
 use std::alloc::Global;
 
 /// The function's value at as many arguments as it takes. It fails only for want of memory.
-#[tactic(auto, using(crate::proofs::Values::seen), unfolding(crate::specs::Meaning::value_of))]
+#[tactic(auto, using(crate::proofs::Values::seen), unfolding(crate::specs::Meaning::predicate_meaning))]
 pub fn apply_predicates(
     alloc: Global,
     function: PredicateFunction,
     args: &[Value],
 ) -> Result<Value, ApplyError>
     requires { fits_predicate_function function (length args.now) ≡ true }
-    ensures { Gives view result (meant.value_of function (map view args.now)) }
+    ensures { Gives view result (meant.predicate_meaning function (map view args.now)) }
 {
     match function {
         PredicateFunction::Equal => Ok(Value::Bool(each_equals_the_next(args))),

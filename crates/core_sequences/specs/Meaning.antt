@@ -76,16 +76,17 @@ nth d i other =
     >>= λ ds. (integer_in (name_of_sequence_function SequenceFunction.Nth) i
     >>= λ n. found_or (at_index n ds) other d)
 
-unfoldable pub value_of : SequenceFunction → List Datum → Result Datum Failure
-value_of SequenceFunction.List args = Ok (list_of args)
-value_of SequenceFunction.Vector args = Ok (vector_of args)
-value_of SequenceFunction.First args = first (argument 0 args)
-value_of SequenceFunction.Last args = last (argument 0 args)
-value_of SequenceFunction.Rest args = rest (argument 0 args)
-value_of SequenceFunction.Next args = next (argument 0 args)
-value_of SequenceFunction.Reverse args = reversed_list (argument 0 args)
-value_of SequenceFunction.Cons args = cons (argument 0 args) (argument 1 args)
-value_of SequenceFunction.Conj args = conj (argument 0 args) (drop 1 args)
-value_of SequenceFunction.Count args = count (argument 0 args)
-value_of SequenceFunction.IsEmpty args = is_empty (argument 0 args)
-value_of SequenceFunction.Nth args = nth (argument 0 args) (argument 1 args) (slice_get args 2)
+unfoldable pub sequence_meaning : SequenceFunction → List Datum → Result Datum Failure
+sequence_meaning SequenceFunction.List args = Ok (list_of args)
+sequence_meaning SequenceFunction.Vector args = Ok (vector_of args)
+sequence_meaning SequenceFunction.First args = first (argument 0 args)
+sequence_meaning SequenceFunction.Last args = last (argument 0 args)
+sequence_meaning SequenceFunction.Rest args = rest (argument 0 args)
+sequence_meaning SequenceFunction.Next args = next (argument 0 args)
+sequence_meaning SequenceFunction.Reverse args = reversed_list (argument 0 args)
+sequence_meaning SequenceFunction.Cons args = cons (argument 0 args) (argument 1 args)
+sequence_meaning SequenceFunction.Conj args = conj (argument 0 args) (drop 1 args)
+sequence_meaning SequenceFunction.Count args = count (argument 0 args)
+sequence_meaning SequenceFunction.IsEmpty args = is_empty (argument 0 args)
+sequence_meaning SequenceFunction.Nth args =
+    nth (argument 0 args) (argument 1 args) (slice_get args 2)

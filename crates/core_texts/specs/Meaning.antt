@@ -33,7 +33,7 @@ name_in d = Err (wrong_argument (codes "name") d)
 unfoldable pub name_value : Datum → Result Datum Failure
 name_value d = name_in d >>= λ s. Ok (string s)
 
-unfoldable pub value_of : TextFunction → List Datum → Result Datum Failure
-value_of TextFunction.Str args = Ok (string (flat_map shown_text args))
-value_of TextFunction.PrStr args = Ok (string (spaced_text print args))
-value_of TextFunction.Name args = name_value (argument 0 args)
+unfoldable pub text_meaning : TextFunction → List Datum → Result Datum Failure
+text_meaning TextFunction.Str args = Ok (string (flat_map shown_text args))
+text_meaning TextFunction.PrStr args = Ok (string (spaced_text print args))
+text_meaning TextFunction.Name args = name_value (argument 0 args)

@@ -18,14 +18,14 @@ use std::sync::ArcStr;
 
 /// The function's value at as many arguments as it takes, or the fault of one that is too heavy. A
 /// text that is too long already is not put together any further.
-#[tactic(auto, using(crate::proofs::Shortness::short_steps), unfolding(crate::specs::Meaning::value_of))]
+#[tactic(auto, using(crate::proofs::Shortness::short_steps), unfolding(crate::specs::Meaning::text_meaning))]
 pub fn apply_texts(
     alloc: Global,
     function: TextFunction,
     args: &[Value],
 ) -> Result<Value, ApplyError>
     requires { fits_text_function function (length args.now) ≡ true }
-    ensures { Gives view result (within_weight (meant.value_of function (map view args.now))) }
+    ensures { Gives view result (within_weight (meant.text_meaning function (map view args.now))) }
 {
     match function {
         TextFunction::Str => value_of_text(alloc, all_shown(alloc, args)?),
