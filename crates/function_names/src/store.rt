@@ -1,6 +1,6 @@
 // Which functions ask the store, and how many arguments each takes.
 ghost use Rattle.std.specs.Prelude.{◌≡◌, Some, None};
-ghost use Rattle.function_rows.specs.Rows.{row_view};
+ghost use Rattle.function_rows.specs.View.{row_view};
 ghost use Rattle.function_names.specs.Names.{function_named};
 ghost use Rattle.function_names.specs.StoreNames.{store_row, store_functions};
 ghost use Rattle.function_names.specs.StoreNames.{store_function_named, store_name_of, store_fits};

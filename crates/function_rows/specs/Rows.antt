@@ -1,7 +1,6 @@
 -- A function's row in the table of its group: its name, and the numbers of arguments that it takes.
 use Rattle.std.specs.Prelude.{ℕ, ◌%◌, List, Bool, true, ◌&&◌, ◌==◌, nat_le, Option, find, bytes_eq}
 use Rattle.function_rows.specs.declared.row.Arity.{Arity}
-use Rattle.function_rows.specs.declared.row.FunctionRow.{FunctionRow}
 
 pub record Row : Type 0 where
   pub name : List ℕ
@@ -19,7 +18,3 @@ takes (Arity.OddUpTo most) n = nat_le n most && n % 2 == 1
 -- the first of the functions whose row has the name
 abbrev pub first_named : {F : Type 0} → (F → Row) → List F → List ℕ → Option F
 first_named row functions name = find (λ f. bytes_eq (row f).name name) functions
-
--- what a row of the code says
-abbrev pub row_view : FunctionRow → Row
-row_view r = record { name = r.name.now; arity = r.arity }

@@ -1,6 +1,7 @@
 // A function's row in the table of its group. Nothing here takes memory.
 ghost use Rattle.std.specs.Prelude.{◌≡◌, List, Some};
-ghost use Rattle.function_rows.specs.Rows.{Row, row_view};
+ghost use Rattle.function_rows.specs.Rows.{Row};
+ghost use Rattle.function_rows.specs.View.{row_view};
 ghost use Rattle.function_rows.specs.Rows as meant;
 
 /// How many arguments a function takes.
