@@ -1,6 +1,7 @@
 -- Comparisons of neighbours, and tests of one integer.
-use Rattle.std.specs.Prelude.{ℤ, pos, int_lt, int_le, int_rem, Bool, not, List, drop}
-use Rattle.std.specs.List.{list_all, zip}
+use Rattle.std.specs.Prelude.{ℤ, pos, int_lt, int_le, int_rem, Bool, not, List}
+use Rattle.std.specs.List.{list_all}
+use Rattle.core_items.specs.Arguments.{neighbours}
 use Rattle.core_integers.specs.Arithmetic.{is_zero}
 use Rattle.core_integers.specs.declared.function.ComparisonFunction.{ComparisonFunction}
 use Rattle.core_integers.specs.declared.function.IntegerTest.{IntegerTest}
@@ -11,10 +12,6 @@ compare ComparisonFunction.Greater m n = int_lt n m
 compare ComparisonFunction.LessOrEqual m n = int_le m n
 compare ComparisonFunction.GreaterOrEqual m n = int_le n m
 
--- each integer beside the next
-abbrev pub neighbours : List ℤ → List (ℤ × ℤ)
-neighbours ns = zip ns (drop 1 ns)
-
 abbrev pub is_ordered : ComparisonFunction → List ℤ → Bool
 is_ordered comparison ns = list_all (λ p. compare comparison p.0 p.1) (neighbours ns)
 
@@ -22,9 +19,9 @@ is_ordered comparison ns = list_all (λ p. compare comparison p.0 p.1) (neighbou
 abbrev pub is_even : ℤ → Bool
 is_even n = is_zero (int_rem n (pos 2))
 
-abbrev pub passes : IntegerTest → ℤ → Bool
-passes IntegerTest.Zero n = is_zero n
-passes IntegerTest.Positive n = int_lt (pos 0) n
-passes IntegerTest.Negative n = int_lt n (pos 0)
-passes IntegerTest.Even n = is_even n
-passes IntegerTest.Odd n = not (is_even n)
+abbrev pub passes_integer_test : IntegerTest → ℤ → Bool
+passes_integer_test IntegerTest.Zero n = is_zero n
+passes_integer_test IntegerTest.Positive n = int_lt (pos 0) n
+passes_integer_test IntegerTest.Negative n = int_lt n (pos 0)
+passes_integer_test IntegerTest.Even n = is_even n
+passes_integer_test IntegerTest.Odd n = not (is_even n)

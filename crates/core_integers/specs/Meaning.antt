@@ -4,9 +4,9 @@ use Rattle.std.specs.Prelude.{ℕ, ℤ, List, [], ◌∷◌, Result, Ok}
 use Rattle.value_data.specs.Datum.{Datum, boolean, integer}
 use Rattle.repl_faults.specs.Failure.{Failure, ◌>>=◌}
 use Rattle.core_items.specs.Arguments.{integer_in}
-use Rattle.core_integers.specs.Names.{name_of}
+use Rattle.core_integers.specs.Names.{name_of_integer_function}
 use Rattle.core_integers.specs.Arithmetic.{arithmetic, first_integer}
-use Rattle.core_integers.specs.Comparison.{is_ordered, passes}
+use Rattle.core_integers.specs.Comparison.{is_ordered, passes_integer_test}
 use Rattle.core_integers.specs.declared.function.IntegerFunction.{IntegerFunction}
 
 -- the arguments of a function that takes integers alone
@@ -19,7 +19,8 @@ integers_in function (d ∷ ds) = integer_in function d
 abbrev pub answer : IntegerFunction → List ℤ → Result Datum Failure
 answer (IntegerFunction.Arithmetic f) ns = arithmetic f ns >>= λ n. Ok (integer n)
 answer (IntegerFunction.Comparison f) ns = Ok (boolean (is_ordered f ns))
-answer (IntegerFunction.Test f) ns = Ok (boolean (passes f (first_integer ns)))
+answer (IntegerFunction.Test f) ns = Ok (boolean (passes_integer_test f (first_integer ns)))
 
-unfoldable pub value_of : IntegerFunction → List Datum → Result Datum Failure
-value_of function args = integers_in (name_of function) args >>= λ ns. answer function ns
+unfoldable pub integer_meaning : IntegerFunction → List Datum → Result Datum Failure
+integer_meaning function args = integers_in (name_of_integer_function function) args
+    >>= λ ns. answer function ns

@@ -1,66 +1,23 @@
--- The names of the functions, and the numbers of arguments that each takes.
-use Rattle.std.specs.Prelude.{ℕ, List, Bool, true, Option, Some, None, if◌then◌else◌, ◌==◌, nat_le}
-use Rattle.std.specs.Prelude.{codes}
-use Rattle.std.specs.Str.{bytes_eq}
+-- The functions, each with its name and the numbers of arguments that it takes.
+use Rattle.std.specs.Prelude.{ℕ, List, [], ◌∷◌, ◌++◌, map, Bool, Option, codes}
+use Rattle.function_rows.specs.Rows.{Row, takes, first_named}
+use Rattle.function_rows.specs.declared.row.Arity.{Arity}
 use Rattle.core_integers.specs.declared.function.ArithmeticFunction.{ArithmeticFunction}
 use Rattle.core_integers.specs.declared.function.ComparisonFunction.{ComparisonFunction}
 use Rattle.core_integers.specs.declared.function.IntegerTest.{IntegerTest}
 use Rattle.core_integers.specs.declared.function.IntegerFunction.{IntegerFunction}
 
-abbrev pub arithmetic_named : List ℕ → Option ArithmeticFunction
-arithmetic_named name =
-    if bytes_eq name (codes "+") then Some ArithmeticFunction.Add else (
-    if bytes_eq name (codes "-") then Some ArithmeticFunction.Subtract else (
-    if bytes_eq name (codes "*") then Some ArithmeticFunction.Multiply else (
-    if bytes_eq name (codes "inc") then Some ArithmeticFunction.Increment else (
-    if bytes_eq name (codes "dec") then Some ArithmeticFunction.Decrement else (
-    if bytes_eq name (codes "quot") then Some ArithmeticFunction.Quotient else (
-    if bytes_eq name (codes "rem") then Some ArithmeticFunction.Remainder else (
-    if bytes_eq name (codes "mod") then Some ArithmeticFunction.Modulo else (
-    if bytes_eq name (codes "max") then Some ArithmeticFunction.Maximum else (
-    if bytes_eq name (codes "min") then Some ArithmeticFunction.Minimum else None)))))))))
-
-abbrev pub comparison_named : List ℕ → Option ComparisonFunction
-comparison_named name =
-    if bytes_eq name (codes "<") then Some ComparisonFunction.Less else (
-    if bytes_eq name (codes ">") then Some ComparisonFunction.Greater else (
-    if bytes_eq name (codes "<=") then Some ComparisonFunction.LessOrEqual else (
-    if bytes_eq name (codes ">=") then Some ComparisonFunction.GreaterOrEqual else None)))
-
-abbrev pub test_named : List ℕ → Option IntegerTest
-test_named name =
-    if bytes_eq name (codes "zero?") then Some IntegerTest.Zero else (
-    if bytes_eq name (codes "pos?") then Some IntegerTest.Positive else (
-    if bytes_eq name (codes "neg?") then Some IntegerTest.Negative else (
-    if bytes_eq name (codes "even?") then Some IntegerTest.Even else (
-    if bytes_eq name (codes "odd?") then Some IntegerTest.Odd else None))))
-
--- the first of two groups that has the name
-abbrev pub or_else : Option IntegerFunction → Option IntegerFunction → Option IntegerFunction
-or_else (Some f) other = Some f
-or_else None other = other
-
-abbrev pub among : {F : Type 0} → (F → IntegerFunction) → Option F → Option IntegerFunction
-among group (Some f) = Some (group f)
-among group None = None
-
-abbrev pub function_named : List ℕ → Option IntegerFunction
-function_named name =
-    or_else (among IntegerFunction.Arithmetic (arithmetic_named name)) (
-    or_else (among IntegerFunction.Comparison (comparison_named name)) (
-    among IntegerFunction.Test (test_named name)))
-
-abbrev pub arithmetic_name : ArithmeticFunction → List ℕ
-arithmetic_name ArithmeticFunction.Add = codes "+"
-arithmetic_name ArithmeticFunction.Subtract = codes "-"
-arithmetic_name ArithmeticFunction.Multiply = codes "*"
-arithmetic_name ArithmeticFunction.Increment = codes "inc"
-arithmetic_name ArithmeticFunction.Decrement = codes "dec"
-arithmetic_name ArithmeticFunction.Quotient = codes "quot"
-arithmetic_name ArithmeticFunction.Remainder = codes "rem"
-arithmetic_name ArithmeticFunction.Modulo = codes "mod"
-arithmetic_name ArithmeticFunction.Maximum = codes "max"
-arithmetic_name ArithmeticFunction.Minimum = codes "min"
+abbrev pub arithmetic_row : ArithmeticFunction → Row
+arithmetic_row ArithmeticFunction.Add = record { name = codes "+"; arity = Arity.AnyNumber }
+arithmetic_row ArithmeticFunction.Subtract = record { name = codes "-"; arity = Arity.AtLeast 1 }
+arithmetic_row ArithmeticFunction.Multiply = record { name = codes "*"; arity = Arity.AnyNumber }
+arithmetic_row ArithmeticFunction.Increment = record { name = codes "inc"; arity = Arity.Exactly 1 }
+arithmetic_row ArithmeticFunction.Decrement = record { name = codes "dec"; arity = Arity.Exactly 1 }
+arithmetic_row ArithmeticFunction.Quotient = record { name = codes "quot"; arity = Arity.Exactly 2 }
+arithmetic_row ArithmeticFunction.Remainder = record { name = codes "rem"; arity = Arity.Exactly 2 }
+arithmetic_row ArithmeticFunction.Modulo = record { name = codes "mod"; arity = Arity.Exactly 2 }
+arithmetic_row ArithmeticFunction.Maximum = record { name = codes "max"; arity = Arity.AtLeast 1 }
+arithmetic_row ArithmeticFunction.Minimum = record { name = codes "min"; arity = Arity.AtLeast 1 }
 
 abbrev pub comparison_name : ComparisonFunction → List ℕ
 comparison_name ComparisonFunction.Less = codes "<"
@@ -68,31 +25,50 @@ comparison_name ComparisonFunction.Greater = codes ">"
 comparison_name ComparisonFunction.LessOrEqual = codes "<="
 comparison_name ComparisonFunction.GreaterOrEqual = codes ">="
 
-abbrev pub test_name : IntegerTest → List ℕ
-test_name IntegerTest.Zero = codes "zero?"
-test_name IntegerTest.Positive = codes "pos?"
-test_name IntegerTest.Negative = codes "neg?"
-test_name IntegerTest.Even = codes "even?"
-test_name IntegerTest.Odd = codes "odd?"
+abbrev pub integer_test_name : IntegerTest → List ℕ
+integer_test_name IntegerTest.Zero = codes "zero?"
+integer_test_name IntegerTest.Positive = codes "pos?"
+integer_test_name IntegerTest.Negative = codes "neg?"
+integer_test_name IntegerTest.Even = codes "even?"
+integer_test_name IntegerTest.Odd = codes "odd?"
 
-abbrev pub name_of : IntegerFunction → List ℕ
-name_of (IntegerFunction.Arithmetic f) = arithmetic_name f
-name_of (IntegerFunction.Comparison f) = comparison_name f
-name_of (IntegerFunction.Test f) = test_name f
+abbrev pub integer_row : IntegerFunction → Row
+integer_row (IntegerFunction.Arithmetic f) = arithmetic_row f
+integer_row (IntegerFunction.Comparison f) =
+    record { name = comparison_name f; arity = Arity.AtLeast 1 }
+integer_row (IntegerFunction.Test f) =
+    record { name = integer_test_name f; arity = Arity.Exactly 1 }
+
+abbrev pub arithmetic_functions : List ArithmeticFunction
+arithmetic_functions =
+    ArithmeticFunction.Add ∷ ArithmeticFunction.Subtract ∷ ArithmeticFunction.Multiply
+    ∷ ArithmeticFunction.Increment ∷ ArithmeticFunction.Decrement ∷ ArithmeticFunction.Quotient
+    ∷ ArithmeticFunction.Remainder ∷ ArithmeticFunction.Modulo ∷ ArithmeticFunction.Maximum
+    ∷ ArithmeticFunction.Minimum ∷ []
+
+abbrev pub comparison_functions : List ComparisonFunction
+comparison_functions =
+    ComparisonFunction.Less ∷ ComparisonFunction.Greater ∷ ComparisonFunction.LessOrEqual
+    ∷ ComparisonFunction.GreaterOrEqual ∷ []
+
+abbrev pub integer_tests : List IntegerTest
+integer_tests =
+    IntegerTest.Zero ∷ IntegerTest.Positive ∷ IntegerTest.Negative ∷ IntegerTest.Even
+    ∷ IntegerTest.Odd ∷ []
+
+abbrev pub integer_functions : List IntegerFunction
+integer_functions = map IntegerFunction.Arithmetic arithmetic_functions
+    ++ map IntegerFunction.Comparison comparison_functions
+    ++ map IntegerFunction.Test integer_tests
+
+abbrev pub integer_function_named : List ℕ → Option IntegerFunction
+integer_function_named name = first_named integer_row integer_functions name
+
+abbrev pub name_of_integer_function : IntegerFunction → List ℕ
+name_of_integer_function f = (integer_row f).name
 
 abbrev pub fits_arithmetic : ArithmeticFunction → ℕ → Bool
-fits_arithmetic ArithmeticFunction.Add n = true
-fits_arithmetic ArithmeticFunction.Subtract n = nat_le 1 n
-fits_arithmetic ArithmeticFunction.Multiply n = true
-fits_arithmetic ArithmeticFunction.Increment n = n == 1
-fits_arithmetic ArithmeticFunction.Decrement n = n == 1
-fits_arithmetic ArithmeticFunction.Quotient n = n == 2
-fits_arithmetic ArithmeticFunction.Remainder n = n == 2
-fits_arithmetic ArithmeticFunction.Modulo n = n == 2
-fits_arithmetic ArithmeticFunction.Maximum n = nat_le 1 n
-fits_arithmetic ArithmeticFunction.Minimum n = nat_le 1 n
+fits_arithmetic f n = takes (arithmetic_row f).arity n
 
-abbrev pub fits : IntegerFunction → ℕ → Bool
-fits (IntegerFunction.Arithmetic f) n = fits_arithmetic f n
-fits (IntegerFunction.Comparison f) n = nat_le 1 n
-fits (IntegerFunction.Test f) n = n == 1
+abbrev pub fits_integer_function : IntegerFunction → ℕ → Bool
+fits_integer_function f n = takes (integer_row f).arity n

@@ -2,12 +2,12 @@
 ghost use Rattle.std.specs.Prelude.{◌≡◌, true, length, map, IfOk, vec_len};
 ghost use Rattle.value_data.specs.View.{view};
 ghost use Rattle.repl_faults.specs.View.{Gives};
-ghost use Rattle.core_integers.specs.Names.{fits};
-ghost use Rattle.core_integers.specs.Meaning.{value_of, integers_in};
+ghost use Rattle.core_integers.specs.Names.{fits_integer_function};
+ghost use Rattle.core_integers.specs.Meaning.{integer_meaning, integers_in};
 ghost use Rattle.core_integers.specs.Meaning as meant;
 
 use crate::arithmetic::arithmetic;
-use crate::comparison::{is_ordered, passes};
+use crate::comparison::{is_ordered, passes_integer_test};
 use crate::function::IntegerFunction;
 use core_items::integer_of;
 use repl_faults::ApplyError;
@@ -16,14 +16,14 @@ use std::alloc::Global;
 
 /// The function's value at as many arguments as it takes. All arguments' kinds are checked from the
 /// left before anything else.
-#[tactic(auto, using(crate::proofs::Values::seen), unfolding(crate::specs::Meaning::value_of))]
+#[tactic(auto, using(crate::proofs::Values::seen), unfolding(crate::specs::Meaning::integer_meaning))]
 pub fn apply_integers(
     alloc: Global,
     function: IntegerFunction,
     args: &[Value],
 ) -> Result<Value, ApplyError>
-    requires { fits function (length args.now) ≡ true }
-    ensures { Gives view result (value_of function (map view args.now)) }
+    requires { fits_integer_function function (length args.now) ≡ true }
+    ensures { Gives view result (integer_meaning function (map view args.now)) }
 {
     let integers = integers_of(alloc, function.name(), args)?;
     answer(alloc, function, integers.as_slice())
@@ -32,7 +32,7 @@ pub fn apply_integers(
 // The function at as many integers as it takes.
 #[tactic(auto, using(crate::proofs::Values::seen))]
 fn answer(alloc: Global, function: IntegerFunction, integers: &[i64]) -> Result<Value, ApplyError>
-    requires { fits function (length integers.now) ≡ true }
+    requires { fits_integer_function function (length integers.now) ≡ true }
     ensures { Gives view result (meant.answer function integers.now) }
 {
     match function {
@@ -42,7 +42,7 @@ fn answer(alloc: Global, function: IntegerFunction, integers: &[i64]) -> Result<
         IntegerFunction::Comparison(comparison) => {
             Ok(Value::Bool(is_ordered(comparison, integers)))
         }
-        IntegerFunction::Test(test) => Ok(Value::Bool(passes(test, integers[0]))),
+        IntegerFunction::Test(test) => Ok(Value::Bool(passes_integer_test(test, integers[0]))),
     }
 }
 

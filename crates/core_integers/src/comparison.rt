@@ -25,8 +25,8 @@ fn compare(comparison: ComparisonFunction, left: i64, right: i64) -> bool
     }
 }
 
-pub(crate) fn passes(test: IntegerTest, n: i64) -> bool
-    ensures { result ≡ meant.passes test n }
+pub(crate) fn passes_integer_test(test: IntegerTest, n: i64) -> bool
+    ensures { result ≡ meant.passes_integer_test test n }
 {
     match test {
         IntegerTest::Zero => n == 0,

@@ -1,8 +1,12 @@
 // Which functions there are, and how many arguments each takes.
 ghost use Rattle.std.specs.Prelude.{◌≡◌, Some};
-ghost use Rattle.core_integers.specs.Names.{function_named, arithmetic_named, comparison_named};
-ghost use Rattle.core_integers.specs.Names.{test_named, name_of, arithmetic_name, comparison_name};
-ghost use Rattle.core_integers.specs.Names.{test_name, fits, fits_arithmetic};
+ghost use Rattle.function_rows.specs.View.{row_view};
+ghost use Rattle.core_integers.specs.Names.{arithmetic_row, comparison_name, integer_test_name};
+ghost use Rattle.core_integers.specs.Names.{integer_row, integer_functions};
+ghost use Rattle.core_integers.specs.Names.{integer_function_named, name_of_integer_function};
+ghost use Rattle.core_integers.specs.Names.{fits_integer_function};
+
+use function_rows::{Arity, FunctionRow, HasRow, first_named};
 
 /// A function whose value is an integer.
 #[derive(Clone, Copy, Debug, PartialEq, Eq)]
@@ -46,112 +50,93 @@ pub enum IntegerFunction {
     Test(IntegerTest),
 }
 
-impl IntegerFunction {
-    /// The function of this name, without a namespace. It takes no memory.
-    pub fn named(name: &str) -> Option<IntegerFunction>
-        ensures { result ≡ function_named name.now }
-    {
-        if let Some(function) = ArithmeticFunction::named(name) {
-            return Some(IntegerFunction::Arithmetic(function));
-        }
-        if let Some(comparison) = ComparisonFunction::named(name) {
-            return Some(IntegerFunction::Comparison(comparison));
-        }
-        let test = IntegerTest::named(name)?;
-        Some(IntegerFunction::Test(test))
-    }
+const INTEGER_FUNCTIONS: [IntegerFunction; 19] = [
+    IntegerFunction::Arithmetic(ArithmeticFunction::Add),
+    IntegerFunction::Arithmetic(ArithmeticFunction::Subtract),
+    IntegerFunction::Arithmetic(ArithmeticFunction::Multiply),
+    IntegerFunction::Arithmetic(ArithmeticFunction::Increment),
+    IntegerFunction::Arithmetic(ArithmeticFunction::Decrement),
+    IntegerFunction::Arithmetic(ArithmeticFunction::Quotient),
+    IntegerFunction::Arithmetic(ArithmeticFunction::Remainder),
+    IntegerFunction::Arithmetic(ArithmeticFunction::Modulo),
+    IntegerFunction::Arithmetic(ArithmeticFunction::Maximum),
+    IntegerFunction::Arithmetic(ArithmeticFunction::Minimum),
+    IntegerFunction::Comparison(ComparisonFunction::Less),
+    IntegerFunction::Comparison(ComparisonFunction::Greater),
+    IntegerFunction::Comparison(ComparisonFunction::LessOrEqual),
+    IntegerFunction::Comparison(ComparisonFunction::GreaterOrEqual),
+    IntegerFunction::Test(IntegerTest::Zero),
+    IntegerFunction::Test(IntegerTest::Positive),
+    IntegerFunction::Test(IntegerTest::Negative),
+    IntegerFunction::Test(IntegerTest::Even),
+    IntegerFunction::Test(IntegerTest::Odd),
+];
 
-    /// Its name in `clojure.core`.
-    pub fn name(self) -> &'static str
-        ensures text { result.now ≡ name_of self }
-        ensures known { function_named result.now ≡ Some self }
-    {
-        match self {
-            IntegerFunction::Arithmetic(function) => function.name(),
-            IntegerFunction::Comparison(comparison) => comparison.name(),
-            IntegerFunction::Test(test) => test.name(),
-        }
-    }
+impl HasRow for IntegerFunction {
+    ghost row_of = { integer_row };
 
-    /// Whether it takes this many arguments. It takes no memory.
-    pub fn takes(self, arguments: usize) -> bool
-        ensures { result ≡ fits self arguments }
-    {
+    ghost functions = { integer_functions };
+
+    fn row(self) -> FunctionRow {
         match self {
-            IntegerFunction::Arithmetic(function) => function.takes(arguments),
-            IntegerFunction::Comparison(_) => arguments >= 1,
-            IntegerFunction::Test(_) => arguments == 1,
+            IntegerFunction::Arithmetic(function) => function.row(),
+            IntegerFunction::Comparison(comparison) => {
+                FunctionRow::new(comparison.name(), Arity::AtLeast(1))
+            }
+            IntegerFunction::Test(test) => FunctionRow::new(test.name(), Arity::Exactly(1)),
         }
     }
 }
 
+impl IntegerFunction {
+    /// The function of this name, without a namespace. It takes no memory.
+    pub fn named(name: &str) -> Option<IntegerFunction>
+        ensures { result ≡ integer_function_named name.now }
+    {
+        first_named(&INTEGER_FUNCTIONS, name)
+    }
+
+    /// Its name in `clojure.core`.
+    pub fn name(self) -> &'static str
+        ensures text { result.now ≡ name_of_integer_function self }
+        ensures known { integer_function_named result.now ≡ Some self }
+    {
+        self.row().name
+    }
+
+    /// Whether it takes this many arguments. It takes no memory.
+    pub fn takes(self, arguments: usize) -> bool
+        ensures { result ≡ fits_integer_function self arguments }
+    {
+        self.row().arity.takes(arguments)
+    }
+}
+
 impl ArithmeticFunction {
-    fn named(name: &str) -> Option<ArithmeticFunction>
-        ensures { result ≡ arithmetic_named name.now }
-    {
-        match name {
-            "+" => Some(ArithmeticFunction::Add),
-            "-" => Some(ArithmeticFunction::Subtract),
-            "*" => Some(ArithmeticFunction::Multiply),
-            "inc" => Some(ArithmeticFunction::Increment),
-            "dec" => Some(ArithmeticFunction::Decrement),
-            "quot" => Some(ArithmeticFunction::Quotient),
-            "rem" => Some(ArithmeticFunction::Remainder),
-            "mod" => Some(ArithmeticFunction::Modulo),
-            "max" => Some(ArithmeticFunction::Maximum),
-            "min" => Some(ArithmeticFunction::Minimum),
-            _ => None,
-        }
-    }
-
-    fn name(self) -> &'static str
-        ensures { result.now ≡ arithmetic_name self }
+    fn row(self) -> FunctionRow
+        ensures meant { row_view result ≡ arithmetic_row self }
+        ensures known { integer_function_named result.name.now
+            ≡ Some (IntegerFunction.Arithmetic self) }
     {
         match self {
-            ArithmeticFunction::Add => "+",
-            ArithmeticFunction::Subtract => "-",
-            ArithmeticFunction::Multiply => "*",
-            ArithmeticFunction::Increment => "inc",
-            ArithmeticFunction::Decrement => "dec",
-            ArithmeticFunction::Quotient => "quot",
-            ArithmeticFunction::Remainder => "rem",
-            ArithmeticFunction::Modulo => "mod",
-            ArithmeticFunction::Maximum => "max",
-            ArithmeticFunction::Minimum => "min",
-        }
-    }
-
-    fn takes(self, arguments: usize) -> bool
-        ensures { result ≡ fits_arithmetic self arguments }
-    {
-        match self {
-            ArithmeticFunction::Add | ArithmeticFunction::Multiply => true,
-            ArithmeticFunction::Subtract
-            | ArithmeticFunction::Maximum
-            | ArithmeticFunction::Minimum => arguments >= 1,
-            ArithmeticFunction::Increment | ArithmeticFunction::Decrement => arguments == 1,
-            ArithmeticFunction::Quotient
-            | ArithmeticFunction::Remainder
-            | ArithmeticFunction::Modulo => arguments == 2,
+            ArithmeticFunction::Add => FunctionRow::new("+", Arity::AnyNumber),
+            ArithmeticFunction::Subtract => FunctionRow::new("-", Arity::AtLeast(1)),
+            ArithmeticFunction::Multiply => FunctionRow::new("*", Arity::AnyNumber),
+            ArithmeticFunction::Increment => FunctionRow::new("inc", Arity::Exactly(1)),
+            ArithmeticFunction::Decrement => FunctionRow::new("dec", Arity::Exactly(1)),
+            ArithmeticFunction::Quotient => FunctionRow::new("quot", Arity::Exactly(2)),
+            ArithmeticFunction::Remainder => FunctionRow::new("rem", Arity::Exactly(2)),
+            ArithmeticFunction::Modulo => FunctionRow::new("mod", Arity::Exactly(2)),
+            ArithmeticFunction::Maximum => FunctionRow::new("max", Arity::AtLeast(1)),
+            ArithmeticFunction::Minimum => FunctionRow::new("min", Arity::AtLeast(1)),
         }
     }
 }
 
 impl ComparisonFunction {
-    fn named(name: &str) -> Option<ComparisonFunction>
-        ensures { result ≡ comparison_named name.now }
-    {
-        match name {
-            "<" => Some(ComparisonFunction::Less),
-            ">" => Some(ComparisonFunction::Greater),
-            "<=" => Some(ComparisonFunction::LessOrEqual),
-            ">=" => Some(ComparisonFunction::GreaterOrEqual),
-            _ => None,
-        }
-    }
-
     fn name(self) -> &'static str
-        ensures { result.now ≡ comparison_name self }
+        ensures text { result.now ≡ comparison_name self }
+        ensures known { integer_function_named result.now ≡ Some (IntegerFunction.Comparison self) }
     {
         match self {
             ComparisonFunction::Less => "<",
@@ -163,21 +148,9 @@ impl ComparisonFunction {
 }
 
 impl IntegerTest {
-    fn named(name: &str) -> Option<IntegerTest>
-        ensures { result ≡ test_named name.now }
-    {
-        match name {
-            "zero?" => Some(IntegerTest::Zero),
-            "pos?" => Some(IntegerTest::Positive),
-            "neg?" => Some(IntegerTest::Negative),
-            "even?" => Some(IntegerTest::Even),
-            "odd?" => Some(IntegerTest::Odd),
-            _ => None,
-        }
-    }
-
     fn name(self) -> &'static str
-        ensures { result.now ≡ test_name self }
+        ensures text { result.now ≡ integer_test_name self }
+        ensures known { integer_function_named result.now ≡ Some (IntegerFunction.Test self) }
     {
         match self {
             IntegerTest::Zero => "zero?",

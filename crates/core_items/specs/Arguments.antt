@@ -1,8 +1,13 @@
--- Arguments by their place and by their kind, and items by their index.
+-- Arguments by their place, by their kind and beside each other, and items by their index.
 use Rattle.std.specs.Prelude.{ℕ, ℤ, pos, negsuc, List, slice_get, slice_index_or, Option, None}
-use Rattle.std.specs.Prelude.{Result, Ok, Err}
+use Rattle.std.specs.Prelude.{drop, Result, Ok, Err}
+use Rattle.std.specs.List.{zip}
 use Rattle.value_data.specs.Datum.{Datum, nil, integer}
 use Rattle.repl_faults.specs.Failure.{Failure, wrong_argument}
+
+-- each beside the next
+abbrev pub neighbours : {A : Type 0} → List A → List (A × A)
+neighbours xs = zip xs (drop 1 xs)
 
 -- an argument by its place
 abbrev pub argument : ℕ → List Datum → Datum

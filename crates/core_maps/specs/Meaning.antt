@@ -11,7 +11,7 @@ use Rattle.repl_faults.specs.Failure.{Failure, ◌>>=◌, wrong_argument, out_of
 use Rattle.repl_faults.specs.Failure.{no_value_supplied}
 use Rattle.core_items.specs.Arguments.{argument, at_index}
 use Rattle.core_items.specs.Making.{list_or_nil}
-use Rattle.core_maps.specs.Names.{name_of}
+use Rattle.core_maps.specs.Names.{name_of_map_function}
 use Rattle.core_maps.specs.Arguments.{by_turns, left_alone, map_pairs_in, places_in}
 use Rattle.core_maps.specs.declared.function.MapFunction.{MapFunction}
 
@@ -41,7 +41,7 @@ unfoldable pub contains : Datum → Datum → Result Datum Failure
 contains nil key = Ok (boolean false)
 contains (map ps) key = Ok (boolean (is_some (value_under key ps)))
 contains (vector ds) key = Ok (boolean (is_some (item_at key ds)))
-contains d key = Err (wrong_argument (name_of MapFunction.Contains) d)
+contains d key = Err (wrong_argument (name_of_map_function MapFunction.Contains) d)
 
 -- a place from 0 to the count
 abbrev pub place_within : ℤ → ℕ → Option ℕ
@@ -60,28 +60,29 @@ with_items (p ∷ ps) ds = put_at (place_within p.0 (length ds)) p.1 ds >>= λ n
 
 -- put one after another: into a map by key, into a vector by index
 unfoldable pub assoc : Datum → List (Datum × Datum) → Result Datum Failure
-assoc (vector ds) more = places_in (name_of MapFunction.Assoc) more
+assoc (vector ds) more = places_in (name_of_map_function MapFunction.Assoc) more
     >>= λ ps. (with_items ps (listed ds) >>= λ es. Ok (vector (items_of es)))
-assoc d more = map_pairs_in (name_of MapFunction.Assoc) d >>= λ ps. Ok (map (put_pairs ps more))
+assoc d more = map_pairs_in (name_of_map_function MapFunction.Assoc) d
+    >>= λ ps. Ok (map (put_pairs ps more))
 
 unfoldable pub dissoc : Datum → List Datum → Result Datum Failure
 dissoc nil keys = Ok nil
 dissoc (map ps) keys = Ok (map (without_keys ps (items_of keys)))
-dissoc d keys = Err (wrong_argument (name_of MapFunction.Dissoc) d)
+dissoc d keys = Err (wrong_argument (name_of_map_function MapFunction.Dissoc) d)
 
 unfoldable pub keys : Datum → Result Datum Failure
-keys d = map_pairs_in (name_of MapFunction.Keys) d
+keys d = map_pairs_in (name_of_map_function MapFunction.Keys) d
     >>= λ ps. Ok (list_or_nil (each (λ p. p.0) (pairs_listed ps)))
 
 unfoldable pub vals : Datum → Result Datum Failure
-vals d = map_pairs_in (name_of MapFunction.Vals) d
+vals d = map_pairs_in (name_of_map_function MapFunction.Vals) d
     >>= λ ps. Ok (list_or_nil (each (λ p. p.1) (pairs_listed ps)))
 
-unfoldable pub value_of : MapFunction → List Datum → Result Datum Failure
-value_of MapFunction.HashMap args = hash_map args
-value_of MapFunction.Get args = get (argument 0 args) (argument 1 args) (slice_get args 2)
-value_of MapFunction.Contains args = contains (argument 0 args) (argument 1 args)
-value_of MapFunction.Assoc args = assoc (argument 0 args) (by_turns (drop 1 args))
-value_of MapFunction.Dissoc args = dissoc (argument 0 args) (drop 1 args)
-value_of MapFunction.Keys args = keys (argument 0 args)
-value_of MapFunction.Vals args = vals (argument 0 args)
+unfoldable pub map_meaning : MapFunction → List Datum → Result Datum Failure
+map_meaning MapFunction.HashMap args = hash_map args
+map_meaning MapFunction.Get args = get (argument 0 args) (argument 1 args) (slice_get args 2)
+map_meaning MapFunction.Contains args = contains (argument 0 args) (argument 1 args)
+map_meaning MapFunction.Assoc args = assoc (argument 0 args) (by_turns (drop 1 args))
+map_meaning MapFunction.Dissoc args = dissoc (argument 0 args) (drop 1 args)
+map_meaning MapFunction.Keys args = keys (argument 0 args)
+map_meaning MapFunction.Vals args = vals (argument 0 args)

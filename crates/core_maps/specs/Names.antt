@@ -1,33 +1,28 @@
--- The names of the functions, and the numbers of arguments that each takes.
-use Rattle.std.specs.Prelude.{ℕ, ◌%◌, List, Bool, true, ◌&&◌, ◌||◌, Option, Some, None}
-use Rattle.std.specs.Prelude.{if◌then◌else◌, ◌==◌, nat_le, codes}
-use Rattle.std.specs.Str.{bytes_eq}
+-- The functions, each with its name and the numbers of arguments that it takes.
+use Rattle.std.specs.Prelude.{ℕ, List, [], ◌∷◌, Bool, Option, codes}
+use Rattle.function_rows.specs.Rows.{Row, takes, first_named}
+use Rattle.function_rows.specs.declared.row.Arity.{Arity}
 use Rattle.core_maps.specs.declared.function.MapFunction.{MapFunction}
 
-abbrev pub function_named : List ℕ → Option MapFunction
-function_named name =
-    if bytes_eq name (codes "hash-map") then Some MapFunction.HashMap else (
-    if bytes_eq name (codes "get") then Some MapFunction.Get else (
-    if bytes_eq name (codes "contains?") then Some MapFunction.Contains else (
-    if bytes_eq name (codes "assoc") then Some MapFunction.Assoc else (
-    if bytes_eq name (codes "dissoc") then Some MapFunction.Dissoc else (
-    if bytes_eq name (codes "keys") then Some MapFunction.Keys else (
-    if bytes_eq name (codes "vals") then Some MapFunction.Vals else None))))))
+abbrev pub map_row : MapFunction → Row
+map_row MapFunction.HashMap = record { name = codes "hash-map"; arity = Arity.AnyNumber }
+map_row MapFunction.Get = record { name = codes "get"; arity = Arity.FromTo 2 3 }
+map_row MapFunction.Contains = record { name = codes "contains?"; arity = Arity.Exactly 2 }
+map_row MapFunction.Assoc = record { name = codes "assoc"; arity = Arity.OddFrom 3 }
+map_row MapFunction.Dissoc = record { name = codes "dissoc"; arity = Arity.AtLeast 1 }
+map_row MapFunction.Keys = record { name = codes "keys"; arity = Arity.Exactly 1 }
+map_row MapFunction.Vals = record { name = codes "vals"; arity = Arity.Exactly 1 }
 
-abbrev pub name_of : MapFunction → List ℕ
-name_of MapFunction.HashMap = codes "hash-map"
-name_of MapFunction.Get = codes "get"
-name_of MapFunction.Contains = codes "contains?"
-name_of MapFunction.Assoc = codes "assoc"
-name_of MapFunction.Dissoc = codes "dissoc"
-name_of MapFunction.Keys = codes "keys"
-name_of MapFunction.Vals = codes "vals"
+abbrev pub map_functions : List MapFunction
+map_functions =
+    MapFunction.HashMap ∷ MapFunction.Get ∷ MapFunction.Contains ∷ MapFunction.Assoc
+    ∷ MapFunction.Dissoc ∷ MapFunction.Keys ∷ MapFunction.Vals ∷ []
 
-abbrev pub fits : MapFunction → ℕ → Bool
-fits MapFunction.HashMap n = true
-fits MapFunction.Get n = n == 2 || n == 3
-fits MapFunction.Contains n = n == 2
-fits MapFunction.Assoc n = nat_le 3 n && n % 2 == 1
-fits MapFunction.Dissoc n = nat_le 1 n
-fits MapFunction.Keys n = n == 1
-fits MapFunction.Vals n = n == 1
+abbrev pub map_function_named : List ℕ → Option MapFunction
+map_function_named name = first_named map_row map_functions name
+
+abbrev pub name_of_map_function : MapFunction → List ℕ
+name_of_map_function f = (map_row f).name
+
+abbrev pub fits_map_function : MapFunction → ℕ → Bool
+fits_map_function f n = takes (map_row f).arity n

@@ -2,8 +2,8 @@
 ghost use Rattle.std.specs.Prelude.{◌≡◌, true, length, map};
 ghost use Rattle.value_data.specs.View.{view};
 ghost use Rattle.repl_faults.specs.View.{Gives};
-ghost use Rattle.core_maps.specs.Names.{fits};
-ghost use Rattle.core_maps.specs.Meaning.{value_of};
+ghost use Rattle.core_maps.specs.Names.{fits_map_function};
+ghost use Rattle.core_maps.specs.Meaning.{map_meaning};
 
 use crate::arguments::by_turns;
 use crate::changes::{assoc, dissoc};
@@ -16,10 +16,10 @@ use std::alloc::Global;
 
 /// The function's value at as many arguments as it takes. All arguments' kinds are checked from the
 /// left before anything else.
-#[tactic(auto, using(crate::proofs::Values::seen), unfolding(crate::specs::Meaning::value_of))]
+#[tactic(auto, using(crate::proofs::Values::seen), unfolding(crate::specs::Meaning::map_meaning))]
 pub fn apply_maps(alloc: Global, function: MapFunction, args: &[Value]) -> Result<Value, ApplyError>
-    requires { fits function (length args.now) ≡ true }
-    ensures { Gives view result (value_of function (map view args.now)) }
+    requires { fits_map_function function (length args.now) ≡ true }
+    ensures { Gives view result (map_meaning function (map view args.now)) }
 {
     match function {
         MapFunction::HashMap => hash_map(alloc, args),

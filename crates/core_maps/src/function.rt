@@ -1,6 +1,9 @@
 // Which functions there are, and how many arguments each takes.
 ghost use Rattle.std.specs.Prelude.{◌≡◌, Some};
-ghost use Rattle.core_maps.specs.Names.{function_named, name_of, fits};
+ghost use Rattle.core_maps.specs.Names.{map_row, map_functions, map_function_named};
+ghost use Rattle.core_maps.specs.Names.{name_of_map_function, fits_map_function};
+
+use function_rows::{Arity, FunctionRow, HasRow, first_named};
 
 /// A function of maps. `Get`, `Contains` and `Assoc` take vectors too.
 #[derive(Clone, Copy, Debug, PartialEq, Eq)]
@@ -14,50 +17,54 @@ pub enum MapFunction {
     Vals,
 }
 
+const MAP_FUNCTIONS: [MapFunction; 7] = [
+    MapFunction::HashMap,
+    MapFunction::Get,
+    MapFunction::Contains,
+    MapFunction::Assoc,
+    MapFunction::Dissoc,
+    MapFunction::Keys,
+    MapFunction::Vals,
+];
+
+impl HasRow for MapFunction {
+    ghost row_of = { map_row };
+
+    ghost functions = { map_functions };
+
+    fn row(self) -> FunctionRow {
+        match self {
+            MapFunction::HashMap => FunctionRow::new("hash-map", Arity::AnyNumber),
+            MapFunction::Get => FunctionRow::new("get", Arity::FromTo(2, 3)),
+            MapFunction::Contains => FunctionRow::new("contains?", Arity::Exactly(2)),
+            MapFunction::Assoc => FunctionRow::new("assoc", Arity::OddFrom(3)),
+            MapFunction::Dissoc => FunctionRow::new("dissoc", Arity::AtLeast(1)),
+            MapFunction::Keys => FunctionRow::new("keys", Arity::Exactly(1)),
+            MapFunction::Vals => FunctionRow::new("vals", Arity::Exactly(1)),
+        }
+    }
+}
+
 impl MapFunction {
     /// The function of this name, without a namespace. It takes no memory.
     pub fn named(name: &str) -> Option<MapFunction>
-        ensures { result ≡ function_named name.now }
+        ensures { result ≡ map_function_named name.now }
     {
-        match name {
-            "hash-map" => Some(MapFunction::HashMap),
-            "get" => Some(MapFunction::Get),
-            "contains?" => Some(MapFunction::Contains),
-            "assoc" => Some(MapFunction::Assoc),
-            "dissoc" => Some(MapFunction::Dissoc),
-            "keys" => Some(MapFunction::Keys),
-            "vals" => Some(MapFunction::Vals),
-            _ => None,
-        }
+        first_named(&MAP_FUNCTIONS, name)
     }
 
     /// Its name in `clojure.core`.
     pub fn name(self) -> &'static str
-        ensures text { result.now ≡ name_of self }
-        ensures known { function_named result.now ≡ Some self }
+        ensures text { result.now ≡ name_of_map_function self }
+        ensures known { map_function_named result.now ≡ Some self }
     {
-        match self {
-            MapFunction::HashMap => "hash-map",
-            MapFunction::Get => "get",
-            MapFunction::Contains => "contains?",
-            MapFunction::Assoc => "assoc",
-            MapFunction::Dissoc => "dissoc",
-            MapFunction::Keys => "keys",
-            MapFunction::Vals => "vals",
-        }
+        self.row().name
     }
 
     /// Whether it takes this many arguments. It takes no memory.
     pub fn takes(self, arguments: usize) -> bool
-        ensures { result ≡ fits self arguments }
+        ensures { result ≡ fits_map_function self arguments }
     {
-        match self {
-            MapFunction::HashMap => true,
-            MapFunction::Get => arguments == 2 || arguments == 3,
-            MapFunction::Contains => arguments == 2,
-            MapFunction::Assoc => arguments >= 3 && arguments % 2 == 1,
-            MapFunction::Dissoc => arguments >= 1,
-            MapFunction::Keys | MapFunction::Vals => arguments == 1,
-        }
+        self.row().arity.takes(arguments)
     }
 }

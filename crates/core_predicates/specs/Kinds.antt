@@ -50,16 +50,16 @@ abbrev pub is_map : Datum → Bool
 is_map (map ps) = true
 is_map _ = false
 
-unfoldable pub passes : ValueTest → Datum → Bool
-passes ValueTest.Not d = is_falsy d
-passes ValueTest.Nil d = is_nil d
-passes ValueTest.Some d = not (is_nil d)
-passes ValueTest.True d = is_true d
-passes ValueTest.False d = is_false d
-passes ValueTest.Int d = is_integer d
-passes ValueTest.String d = is_string d
-passes ValueTest.Keyword d = is_keyword d
-passes ValueTest.Symbol d = is_symbol d
-passes ValueTest.List d = is_list d
-passes ValueTest.Vector d = is_vector d
-passes ValueTest.Map d = is_map d
+unfoldable pub passes_value_test : ValueTest → Datum → Bool
+passes_value_test ValueTest.Not d = is_falsy d
+passes_value_test ValueTest.Nil d = is_nil d
+passes_value_test ValueTest.Some d = not (is_nil d)
+passes_value_test ValueTest.True d = is_true d
+passes_value_test ValueTest.False d = is_false d
+passes_value_test ValueTest.Int d = is_integer d
+passes_value_test ValueTest.String d = is_string d
+passes_value_test ValueTest.Keyword d = is_keyword d
+passes_value_test ValueTest.Symbol d = is_symbol d
+passes_value_test ValueTest.List d = is_list d
+passes_value_test ValueTest.Vector d = is_vector d
+passes_value_test ValueTest.Map d = is_map d

@@ -1,6 +1,10 @@
 // Which functions there are, and how many arguments each takes.
 ghost use Rattle.std.specs.Prelude.{◌≡◌, Some};
-ghost use Rattle.core_predicates.specs.Names.{function_named, test_named, name_of, test_name, fits};
+ghost use Rattle.core_predicates.specs.Names.{value_test_name, predicate_row};
+ghost use Rattle.core_predicates.specs.Names.{predicate_functions, predicate_function_named};
+ghost use Rattle.core_predicates.specs.Names.{name_of_predicate_function, fits_predicate_function};
+
+use function_rows::{Arity, FunctionRow, HasRow, first_named};
 
 /// A test of one value, of any kind.
 #[derive(Clone, Copy, Debug, PartialEq, Eq)]
@@ -28,69 +32,67 @@ pub enum PredicateFunction {
     Test(ValueTest),
 }
 
-impl PredicateFunction {
-    /// The function of this name, without a namespace. It takes no memory.
-    pub fn named(name: &str) -> Option<PredicateFunction>
-        ensures { result ≡ function_named name.now }
-    {
-        match name {
-            "=" => Some(PredicateFunction::Equal),
-            "not=" => Some(PredicateFunction::NotEqual),
-            "identity" => Some(PredicateFunction::Identity),
-            _ => {
-                let test = ValueTest::named(name)?;
-                Some(PredicateFunction::Test(test))
-            }
-        }
-    }
+const PREDICATE_FUNCTIONS: [PredicateFunction; 15] = [
+    PredicateFunction::Equal,
+    PredicateFunction::NotEqual,
+    PredicateFunction::Identity,
+    PredicateFunction::Test(ValueTest::Not),
+    PredicateFunction::Test(ValueTest::Nil),
+    PredicateFunction::Test(ValueTest::Some),
+    PredicateFunction::Test(ValueTest::True),
+    PredicateFunction::Test(ValueTest::False),
+    PredicateFunction::Test(ValueTest::Int),
+    PredicateFunction::Test(ValueTest::String),
+    PredicateFunction::Test(ValueTest::Keyword),
+    PredicateFunction::Test(ValueTest::Symbol),
+    PredicateFunction::Test(ValueTest::List),
+    PredicateFunction::Test(ValueTest::Vector),
+    PredicateFunction::Test(ValueTest::Map),
+];
 
-    /// Its name in `clojure.core`.
-    pub fn name(self) -> &'static str
-        ensures text { result.now ≡ name_of self }
-        ensures known { function_named result.now ≡ Some self }
-    {
-        match self {
-            PredicateFunction::Equal => "=",
-            PredicateFunction::NotEqual => "not=",
-            PredicateFunction::Identity => "identity",
-            PredicateFunction::Test(test) => test.name(),
-        }
-    }
+impl HasRow for PredicateFunction {
+    ghost row_of = { predicate_row };
 
-    /// Whether it takes this many arguments. It takes no memory.
-    pub fn takes(self, arguments: usize) -> bool
-        ensures { result ≡ fits self arguments }
-    {
+    ghost functions = { predicate_functions };
+
+    fn row(self) -> FunctionRow {
         match self {
-            PredicateFunction::Equal | PredicateFunction::NotEqual => arguments >= 1,
-            PredicateFunction::Identity | PredicateFunction::Test(_) => arguments == 1,
+            PredicateFunction::Equal => FunctionRow::new("=", Arity::AtLeast(1)),
+            PredicateFunction::NotEqual => FunctionRow::new("not=", Arity::AtLeast(1)),
+            PredicateFunction::Identity => FunctionRow::new("identity", Arity::Exactly(1)),
+            PredicateFunction::Test(test) => FunctionRow::new(test.name(), Arity::Exactly(1)),
         }
     }
 }
 
-impl ValueTest {
-    fn named(name: &str) -> Option<ValueTest>
-        ensures { result ≡ test_named name.now }
+impl PredicateFunction {
+    /// The function of this name, without a namespace. It takes no memory.
+    pub fn named(name: &str) -> Option<PredicateFunction>
+        ensures { result ≡ predicate_function_named name.now }
     {
-        match name {
-            "not" => Some(ValueTest::Not),
-            "nil?" => Some(ValueTest::Nil),
-            "some?" => Some(ValueTest::Some),
-            "true?" => Some(ValueTest::True),
-            "false?" => Some(ValueTest::False),
-            "int?" => Some(ValueTest::Int),
-            "string?" => Some(ValueTest::String),
-            "keyword?" => Some(ValueTest::Keyword),
-            "symbol?" => Some(ValueTest::Symbol),
-            "list?" => Some(ValueTest::List),
-            "vector?" => Some(ValueTest::Vector),
-            "map?" => Some(ValueTest::Map),
-            _ => None,
-        }
+        first_named(&PREDICATE_FUNCTIONS, name)
     }
 
+    /// Its name in `clojure.core`.
+    pub fn name(self) -> &'static str
+        ensures text { result.now ≡ name_of_predicate_function self }
+        ensures known { predicate_function_named result.now ≡ Some self }
+    {
+        self.row().name
+    }
+
+    /// Whether it takes this many arguments. It takes no memory.
+    pub fn takes(self, arguments: usize) -> bool
+        ensures { result ≡ fits_predicate_function self arguments }
+    {
+        self.row().arity.takes(arguments)
+    }
+}
+
+impl ValueTest {
     fn name(self) -> &'static str
-        ensures { result.now ≡ test_name self }
+        ensures text { result.now ≡ value_test_name self }
+        ensures known { predicate_function_named result.now ≡ Some (PredicateFunction.Test self) }
     {
         match self {
             ValueTest::Not => "not",

@@ -6,9 +6,9 @@ ghost use Rattle.core_predicates.specs.Kinds as meant;
 use crate::function::ValueTest;
 use repl_values::Value;
 
-#[tactic(auto, using(crate::proofs::Values::seen), unfolding(crate::specs::Kinds::passes))]
-pub(crate) fn passes(test: ValueTest, value: &Value) -> bool
-    ensures { result ≡ meant.passes test (view value.now) }
+#[tactic(auto, using(crate::proofs::Values::seen), unfolding(crate::specs::Kinds::passes_value_test))]
+pub(crate) fn passes_value_test(test: ValueTest, value: &Value) -> bool
+    ensures { result ≡ meant.passes_value_test test (view value.now) }
 {
     match test {
         ValueTest::Not => is_falsy(value),

@@ -1,48 +1,35 @@
--- The names of the functions, and the numbers of arguments that each takes.
-use Rattle.std.specs.Prelude.{ℕ, List, Bool, true, ◌||◌, Option, Some, None, if◌then◌else◌, ◌==◌}
-use Rattle.std.specs.Prelude.{nat_le, codes}
-use Rattle.std.specs.Str.{bytes_eq}
+-- The functions, each with its name and the numbers of arguments that it takes.
+use Rattle.std.specs.Prelude.{ℕ, List, [], ◌∷◌, Bool, Option, codes}
+use Rattle.function_rows.specs.Rows.{Row, takes, first_named}
+use Rattle.function_rows.specs.declared.row.Arity.{Arity}
 use Rattle.core_sequences.specs.declared.function.SequenceFunction.{SequenceFunction}
 
-abbrev pub function_named : List ℕ → Option SequenceFunction
-function_named name =
-    if bytes_eq name (codes "list") then Some SequenceFunction.List else (
-    if bytes_eq name (codes "vector") then Some SequenceFunction.Vector else (
-    if bytes_eq name (codes "first") then Some SequenceFunction.First else (
-    if bytes_eq name (codes "last") then Some SequenceFunction.Last else (
-    if bytes_eq name (codes "rest") then Some SequenceFunction.Rest else (
-    if bytes_eq name (codes "next") then Some SequenceFunction.Next else (
-    if bytes_eq name (codes "reverse") then Some SequenceFunction.Reverse else (
-    if bytes_eq name (codes "cons") then Some SequenceFunction.Cons else (
-    if bytes_eq name (codes "conj") then Some SequenceFunction.Conj else (
-    if bytes_eq name (codes "count") then Some SequenceFunction.Count else (
-    if bytes_eq name (codes "empty?") then Some SequenceFunction.IsEmpty else (
-    if bytes_eq name (codes "nth") then Some SequenceFunction.Nth else None)))))))))))
+abbrev pub sequence_row : SequenceFunction → Row
+sequence_row SequenceFunction.List = record { name = codes "list"; arity = Arity.AnyNumber }
+sequence_row SequenceFunction.Vector = record { name = codes "vector"; arity = Arity.AnyNumber }
+sequence_row SequenceFunction.First = record { name = codes "first"; arity = Arity.Exactly 1 }
+sequence_row SequenceFunction.Last = record { name = codes "last"; arity = Arity.Exactly 1 }
+sequence_row SequenceFunction.Rest = record { name = codes "rest"; arity = Arity.Exactly 1 }
+sequence_row SequenceFunction.Next = record { name = codes "next"; arity = Arity.Exactly 1 }
+sequence_row SequenceFunction.Reverse = record { name = codes "reverse"; arity = Arity.Exactly 1 }
+sequence_row SequenceFunction.Cons = record { name = codes "cons"; arity = Arity.Exactly 2 }
+sequence_row SequenceFunction.Conj = record { name = codes "conj"; arity = Arity.AtLeast 1 }
+sequence_row SequenceFunction.Count = record { name = codes "count"; arity = Arity.Exactly 1 }
+sequence_row SequenceFunction.IsEmpty = record { name = codes "empty?"; arity = Arity.Exactly 1 }
+sequence_row SequenceFunction.Nth = record { name = codes "nth"; arity = Arity.FromTo 2 3 }
 
-abbrev pub name_of : SequenceFunction → List ℕ
-name_of SequenceFunction.List = codes "list"
-name_of SequenceFunction.Vector = codes "vector"
-name_of SequenceFunction.First = codes "first"
-name_of SequenceFunction.Last = codes "last"
-name_of SequenceFunction.Rest = codes "rest"
-name_of SequenceFunction.Next = codes "next"
-name_of SequenceFunction.Reverse = codes "reverse"
-name_of SequenceFunction.Cons = codes "cons"
-name_of SequenceFunction.Conj = codes "conj"
-name_of SequenceFunction.Count = codes "count"
-name_of SequenceFunction.IsEmpty = codes "empty?"
-name_of SequenceFunction.Nth = codes "nth"
+abbrev pub sequence_functions : List SequenceFunction
+sequence_functions =
+    SequenceFunction.List ∷ SequenceFunction.Vector ∷ SequenceFunction.First
+    ∷ SequenceFunction.Last ∷ SequenceFunction.Rest ∷ SequenceFunction.Next
+    ∷ SequenceFunction.Reverse ∷ SequenceFunction.Cons ∷ SequenceFunction.Conj
+    ∷ SequenceFunction.Count ∷ SequenceFunction.IsEmpty ∷ SequenceFunction.Nth ∷ []
 
-abbrev pub fits : SequenceFunction → ℕ → Bool
-fits SequenceFunction.List n = true
-fits SequenceFunction.Vector n = true
-fits SequenceFunction.First n = n == 1
-fits SequenceFunction.Last n = n == 1
-fits SequenceFunction.Rest n = n == 1
-fits SequenceFunction.Next n = n == 1
-fits SequenceFunction.Reverse n = n == 1
-fits SequenceFunction.Cons n = n == 2
-fits SequenceFunction.Conj n = nat_le 1 n
-fits SequenceFunction.Count n = n == 1
-fits SequenceFunction.IsEmpty n = n == 1
-fits SequenceFunction.Nth n = n == 2 || n == 3
+abbrev pub sequence_function_named : List ℕ → Option SequenceFunction
+sequence_function_named name = first_named sequence_row sequence_functions name
+
+abbrev pub name_of_sequence_function : SequenceFunction → List ℕ
+name_of_sequence_function f = (sequence_row f).name
+
+abbrev pub fits_sequence_function : SequenceFunction → ℕ → Bool
+fits_sequence_function f n = takes (sequence_row f).arity n

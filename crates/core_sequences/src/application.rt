@@ -2,8 +2,8 @@
 ghost use Rattle.std.specs.Prelude.{◌≡◌, true, length, map};
 ghost use Rattle.value_data.specs.View.{view};
 ghost use Rattle.repl_faults.specs.View.{Gives};
-ghost use Rattle.core_sequences.specs.Names.{fits};
-ghost use Rattle.core_sequences.specs.Meaning.{value_of};
+ghost use Rattle.core_sequences.specs.Names.{fits_sequence_function};
+ghost use Rattle.core_sequences.specs.Meaning.{sequence_meaning};
 
 use crate::ends::{first, last, next, rest, reversed_list};
 use crate::function::SequenceFunction;
@@ -16,14 +16,14 @@ use std::alloc::Global;
 
 /// The function's value at as many arguments as it takes. All arguments' kinds are checked from the
 /// left before anything else.
-#[tactic(auto, using(crate::proofs::Values::seen), unfolding(crate::specs::Meaning::value_of))]
+#[tactic(auto, using(crate::proofs::Values::seen), unfolding(crate::specs::Meaning::sequence_meaning))]
 pub fn apply_sequences(
     alloc: Global,
     function: SequenceFunction,
     args: &[Value],
 ) -> Result<Value, ApplyError>
-    requires { fits function (length args.now) ≡ true }
-    ensures { Gives view result (value_of function (map view args.now)) }
+    requires { fits_sequence_function function (length args.now) ≡ true }
+    ensures { Gives view result (sequence_meaning function (map view args.now)) }
 {
     match function {
         SequenceFunction::List => Ok(list_of(alloc, copy_items(alloc, args)?)?),

@@ -1,6 +1,10 @@
 // Which functions there are, and how many arguments each takes.
 ghost use Rattle.std.specs.Prelude.{◌≡◌, Some};
-ghost use Rattle.core_sequences.specs.Names.{function_named, name_of, fits};
+ghost use Rattle.core_sequences.specs.Names.{sequence_row, sequence_functions};
+ghost use Rattle.core_sequences.specs.Names.{sequence_function_named, name_of_sequence_function};
+ghost use Rattle.core_sequences.specs.Names.{fits_sequence_function};
+
+use function_rows::{Arity, FunctionRow, HasRow, first_named};
 
 /// A function that makes a sequence or goes by the items of one.
 #[derive(Clone, Copy, Debug, PartialEq, Eq)]
@@ -19,65 +23,64 @@ pub enum SequenceFunction {
     Nth,
 }
 
+const SEQUENCE_FUNCTIONS: [SequenceFunction; 12] = [
+    SequenceFunction::List,
+    SequenceFunction::Vector,
+    SequenceFunction::First,
+    SequenceFunction::Last,
+    SequenceFunction::Rest,
+    SequenceFunction::Next,
+    SequenceFunction::Reverse,
+    SequenceFunction::Cons,
+    SequenceFunction::Conj,
+    SequenceFunction::Count,
+    SequenceFunction::IsEmpty,
+    SequenceFunction::Nth,
+];
+
+impl HasRow for SequenceFunction {
+    ghost row_of = { sequence_row };
+
+    ghost functions = { sequence_functions };
+
+    fn row(self) -> FunctionRow {
+        match self {
+            SequenceFunction::List => FunctionRow::new("list", Arity::AnyNumber),
+            SequenceFunction::Vector => FunctionRow::new("vector", Arity::AnyNumber),
+            SequenceFunction::First => FunctionRow::new("first", Arity::Exactly(1)),
+            SequenceFunction::Last => FunctionRow::new("last", Arity::Exactly(1)),
+            SequenceFunction::Rest => FunctionRow::new("rest", Arity::Exactly(1)),
+            SequenceFunction::Next => FunctionRow::new("next", Arity::Exactly(1)),
+            SequenceFunction::Reverse => FunctionRow::new("reverse", Arity::Exactly(1)),
+            SequenceFunction::Cons => FunctionRow::new("cons", Arity::Exactly(2)),
+            SequenceFunction::Conj => FunctionRow::new("conj", Arity::AtLeast(1)),
+            SequenceFunction::Count => FunctionRow::new("count", Arity::Exactly(1)),
+            SequenceFunction::IsEmpty => FunctionRow::new("empty?", Arity::Exactly(1)),
+            SequenceFunction::Nth => FunctionRow::new("nth", Arity::FromTo(2, 3)),
+        }
+    }
+}
+
 impl SequenceFunction {
     /// The function of this name, without a namespace. It takes no memory.
     pub fn named(name: &str) -> Option<SequenceFunction>
-        ensures { result ≡ function_named name.now }
+        ensures { result ≡ sequence_function_named name.now }
     {
-        match name {
-            "list" => Some(SequenceFunction::List),
-            "vector" => Some(SequenceFunction::Vector),
-            "first" => Some(SequenceFunction::First),
-            "last" => Some(SequenceFunction::Last),
-            "rest" => Some(SequenceFunction::Rest),
-            "next" => Some(SequenceFunction::Next),
-            "reverse" => Some(SequenceFunction::Reverse),
-            "cons" => Some(SequenceFunction::Cons),
-            "conj" => Some(SequenceFunction::Conj),
-            "count" => Some(SequenceFunction::Count),
-            "empty?" => Some(SequenceFunction::IsEmpty),
-            "nth" => Some(SequenceFunction::Nth),
-            _ => None,
-        }
+        first_named(&SEQUENCE_FUNCTIONS, name)
     }
 
     /// Its name in `clojure.core`.
     pub fn name(self) -> &'static str
-        ensures text { result.now ≡ name_of self }
-        ensures known { function_named result.now ≡ Some self }
+        ensures text { result.now ≡ name_of_sequence_function self }
+        ensures known { sequence_function_named result.now ≡ Some self }
     {
-        match self {
-            SequenceFunction::List => "list",
-            SequenceFunction::Vector => "vector",
-            SequenceFunction::First => "first",
-            SequenceFunction::Last => "last",
-            SequenceFunction::Rest => "rest",
-            SequenceFunction::Next => "next",
-            SequenceFunction::Reverse => "reverse",
-            SequenceFunction::Cons => "cons",
-            SequenceFunction::Conj => "conj",
-            SequenceFunction::Count => "count",
-            SequenceFunction::IsEmpty => "empty?",
-            SequenceFunction::Nth => "nth",
-        }
+        self.row().name
     }
 
     /// Whether it takes this many arguments. It takes no memory.
     pub fn takes(self, arguments: usize) -> bool
-        ensures { result ≡ fits self arguments }
+        ensures { result ≡ fits_sequence_function self arguments }
     {
-        match self {
-            SequenceFunction::List | SequenceFunction::Vector => true,
-            SequenceFunction::First
-            | SequenceFunction::Last
-            | SequenceFunction::Rest
-            | SequenceFunction::Next
-            | SequenceFunction::Reverse
-            | SequenceFunction::Count
-            | SequenceFunction::IsEmpty => arguments == 1,
-            SequenceFunction::Cons => arguments == 2,
-            SequenceFunction::Conj => arguments >= 1,
-            SequenceFunction::Nth => arguments == 2 || arguments == 3,
-        }
+        self.row().arity.takes(arguments)
     }
 }

@@ -1,5 +1,5 @@
 -- What each function that gives a text is.
-use Rattle.std.specs.Prelude.{ℕ, List, [], ◌∷◌, ◌+◌, drop, if◌then◌else◌, codes, flat_map, Result}
+use Rattle.std.specs.Prelude.{ℕ, List, [], ◌+◌, drop, if◌then◌else◌, codes, flat_map, Result}
 use Rattle.std.specs.Prelude.{Ok, Err}
 use Rattle.std.specs.Str.{bytes_eq}
 use Rattle.std.specs.List.{position}
@@ -8,6 +8,7 @@ use Rattle.value_data.specs.Datum.{Datum, nil, string, keyword, symbol}
 use Rattle.repl_values.specs.Print.{print}
 use Rattle.repl_values.specs.Slash.{is_slash}
 use Rattle.repl_faults.specs.Failure.{Failure, ◌>>=◌, wrong_argument}
+use Rattle.core_items.specs.Arguments.{argument}
 use Rattle.core_texts.specs.Printing.{spaced_text}
 use Rattle.core_texts.specs.declared.function.TextFunction.{TextFunction}
 
@@ -32,12 +33,7 @@ name_in d = Err (wrong_argument (codes "name") d)
 unfoldable pub name_value : Datum → Result Datum Failure
 name_value d = name_in d >>= λ s. Ok (string s)
 
--- the argument of a function that takes one
-abbrev pub only : List Datum → Datum
-only [] = nil
-only (d ∷ ds) = d
-
-unfoldable pub value_of : TextFunction → List Datum → Result Datum Failure
-value_of TextFunction.Str args = Ok (string (flat_map shown_text args))
-value_of TextFunction.PrStr args = Ok (string (spaced_text print args))
-value_of TextFunction.Name args = name_value (only args)
+unfoldable pub text_meaning : TextFunction → List Datum → Result Datum Failure
+text_meaning TextFunction.Str args = Ok (string (flat_map shown_text args))
+text_meaning TextFunction.PrStr args = Ok (string (spaced_text print args))
+text_meaning TextFunction.Name args = name_value (argument 0 args)

@@ -1,26 +1,26 @@
--- The names of the functions, and the numbers of arguments that each takes.
-use Rattle.std.specs.Prelude.{ℕ, List, Bool, true, Option, Some, None, if◌then◌else◌, ◌==◌, codes}
-use Rattle.std.specs.Str.{bytes_eq}
+-- The functions, each with its name and the numbers of arguments that it takes.
+use Rattle.std.specs.Prelude.{ℕ, List, [], ◌∷◌, Bool, Option, codes}
+use Rattle.function_rows.specs.Rows.{Row, takes, first_named}
+use Rattle.function_rows.specs.declared.row.Arity.{Arity}
 use Rattle.core_texts.specs.declared.function.TextFunction.{TextFunction}
 use Rattle.core_texts.specs.declared.function.PrintFunction.{PrintFunction}
 
-abbrev pub text_function_named : List ℕ → Option TextFunction
-text_function_named name =
-    if bytes_eq name (codes "str") then Some TextFunction.Str else (
-    if bytes_eq name (codes "pr-str") then Some TextFunction.PrStr else (
-    if bytes_eq name (codes "name") then Some TextFunction.Name else None))
+abbrev pub text_row : TextFunction → Row
+text_row TextFunction.Str = record { name = codes "str"; arity = Arity.AnyNumber }
+text_row TextFunction.PrStr = record { name = codes "pr-str"; arity = Arity.AnyNumber }
+text_row TextFunction.Name = record { name = codes "name"; arity = Arity.Exactly 1 }
 
-abbrev pub print_function_named : List ℕ → Option PrintFunction
-print_function_named name =
-    if bytes_eq name (codes "print") then Some PrintFunction.Print else (
-    if bytes_eq name (codes "println") then Some PrintFunction.Println else (
-    if bytes_eq name (codes "pr") then Some PrintFunction.Pr else (
-    if bytes_eq name (codes "prn") then Some PrintFunction.Prn else None)))
+abbrev pub text_functions : List TextFunction
+text_functions = TextFunction.Str ∷ TextFunction.PrStr ∷ TextFunction.Name ∷ []
+
+abbrev pub text_function_named : List ℕ → Option TextFunction
+text_function_named name = first_named text_row text_functions name
 
 abbrev pub name_of_text_function : TextFunction → List ℕ
-name_of_text_function TextFunction.Str = codes "str"
-name_of_text_function TextFunction.PrStr = codes "pr-str"
-name_of_text_function TextFunction.Name = codes "name"
+name_of_text_function f = (text_row f).name
+
+abbrev pub fits_text_function : TextFunction → ℕ → Bool
+fits_text_function f n = takes (text_row f).arity n
 
 abbrev pub name_of_print_function : PrintFunction → List ℕ
 name_of_print_function PrintFunction.Print = codes "print"
@@ -28,7 +28,13 @@ name_of_print_function PrintFunction.Println = codes "println"
 name_of_print_function PrintFunction.Pr = codes "pr"
 name_of_print_function PrintFunction.Prn = codes "prn"
 
-abbrev pub fits : TextFunction → ℕ → Bool
-fits TextFunction.Str n = true
-fits TextFunction.PrStr n = true
-fits TextFunction.Name n = n == 1
+-- what prints takes any number
+abbrev pub print_row : PrintFunction → Row
+print_row f = record { name = name_of_print_function f; arity = Arity.AnyNumber }
+
+abbrev pub print_functions : List PrintFunction
+print_functions =
+    PrintFunction.Print ∷ PrintFunction.Println ∷ PrintFunction.Pr ∷ PrintFunction.Prn ∷ []
+
+abbrev pub print_function_named : List ℕ → Option PrintFunction
+print_function_named name = first_named print_row print_functions name

@@ -6,7 +6,7 @@ ghost use Rattle.value_data.specs.Datum.{string};
 ghost use Rattle.value_data.specs.View.{view};
 ghost use Rattle.repl_faults.specs.View.{Gives};
 ghost use Rattle.core_texts.specs.Limits.{if_short, light, within_weight};
-ghost use Rattle.core_texts.specs.Names.{fits};
+ghost use Rattle.core_texts.specs.Names.{fits_text_function};
 ghost use Rattle.core_texts.specs.Meaning as meant;
 
 use crate::function::TextFunction;
@@ -18,14 +18,14 @@ use std::sync::ArcStr;
 
 /// The function's value at as many arguments as it takes, or the fault of one that is too heavy. A
 /// text that is too long already is not put together any further.
-#[tactic(auto, using(crate::proofs::Shortness::short_steps), unfolding(crate::specs::Meaning::value_of))]
+#[tactic(auto, using(crate::proofs::Shortness::short_steps), unfolding(crate::specs::Meaning::text_meaning))]
 pub fn apply_texts(
     alloc: Global,
     function: TextFunction,
     args: &[Value],
 ) -> Result<Value, ApplyError>
-    requires { fits function (length args.now) ≡ true }
-    ensures { Gives view result (within_weight (meant.value_of function (map view args.now))) }
+    requires { fits_text_function function (length args.now) ≡ true }
+    ensures { Gives view result (within_weight (meant.text_meaning function (map view args.now))) }
 {
     match function {
         TextFunction::Str => value_of_text(alloc, all_shown(alloc, args)?),

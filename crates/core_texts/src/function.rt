@@ -1,7 +1,11 @@
 // Which functions there are, and how many arguments each takes.
 ghost use Rattle.std.specs.Prelude.{◌≡◌, Some};
-ghost use Rattle.core_texts.specs.Names.{text_function_named, print_function_named};
-ghost use Rattle.core_texts.specs.Names.{name_of_text_function, name_of_print_function, fits};
+ghost use Rattle.core_texts.specs.Names.{text_row, text_functions, text_function_named};
+ghost use Rattle.core_texts.specs.Names.{name_of_text_function, fits_text_function};
+ghost use Rattle.core_texts.specs.Names.{print_row, print_functions, print_function_named};
+ghost use Rattle.core_texts.specs.Names.{name_of_print_function};
+
+use function_rows::{Arity, FunctionRow, HasRow, first_named};
 
 /// A function that gives a text.
 #[derive(Clone, Copy, Debug, PartialEq, Eq)]
@@ -20,17 +24,39 @@ pub enum PrintFunction {
     Prn,
 }
 
+const TEXT_FUNCTIONS: [TextFunction; 3] = [
+    TextFunction::Str,
+    TextFunction::PrStr,
+    TextFunction::Name,
+];
+
+const PRINT_FUNCTIONS: [PrintFunction; 4] = [
+    PrintFunction::Print,
+    PrintFunction::Println,
+    PrintFunction::Pr,
+    PrintFunction::Prn,
+];
+
+impl HasRow for TextFunction {
+    ghost row_of = { text_row };
+
+    ghost functions = { text_functions };
+
+    fn row(self) -> FunctionRow {
+        match self {
+            TextFunction::Str => FunctionRow::new("str", Arity::AnyNumber),
+            TextFunction::PrStr => FunctionRow::new("pr-str", Arity::AnyNumber),
+            TextFunction::Name => FunctionRow::new("name", Arity::Exactly(1)),
+        }
+    }
+}
+
 impl TextFunction {
     /// The function of this name, without a namespace. It takes no memory.
     pub fn named(name: &str) -> Option<TextFunction>
         ensures { result ≡ text_function_named name.now }
     {
-        match name {
-            "str" => Some(TextFunction::Str),
-            "pr-str" => Some(TextFunction::PrStr),
-            "name" => Some(TextFunction::Name),
-            _ => None,
-        }
+        first_named(&TEXT_FUNCTIONS, name)
     }
 
     /// Its name in `clojure.core`.
@@ -38,21 +64,30 @@ impl TextFunction {
         ensures text { result.now ≡ name_of_text_function self }
         ensures known { text_function_named result.now ≡ Some self }
     {
-        match self {
-            TextFunction::Str => "str",
-            TextFunction::PrStr => "pr-str",
-            TextFunction::Name => "name",
-        }
+        self.row().name
     }
 
     /// Whether it takes this many arguments. It takes no memory.
     pub fn takes(self, arguments: usize) -> bool
-        ensures { result ≡ fits self arguments }
+        ensures { result ≡ fits_text_function self arguments }
     {
-        match self {
-            TextFunction::Str | TextFunction::PrStr => true,
-            TextFunction::Name => arguments == 1,
-        }
+        self.row().arity.takes(arguments)
+    }
+}
+
+impl HasRow for PrintFunction {
+    ghost row_of = { print_row };
+
+    ghost functions = { print_functions };
+
+    fn row(self) -> FunctionRow {
+        let name = match self {
+            PrintFunction::Print => "print",
+            PrintFunction::Println => "println",
+            PrintFunction::Pr => "pr",
+            PrintFunction::Prn => "prn",
+        };
+        FunctionRow::new(name, Arity::AnyNumber)
     }
 }
 
@@ -61,13 +96,7 @@ impl PrintFunction {
     pub fn named(name: &str) -> Option<PrintFunction>
         ensures { result ≡ print_function_named name.now }
     {
-        match name {
-            "print" => Some(PrintFunction::Print),
-            "println" => Some(PrintFunction::Println),
-            "pr" => Some(PrintFunction::Pr),
-            "prn" => Some(PrintFunction::Prn),
-            _ => None,
-        }
+        first_named(&PRINT_FUNCTIONS, name)
     }
 
     /// Its name in `clojure.core`.
@@ -75,11 +104,6 @@ impl PrintFunction {
         ensures text { result.now ≡ name_of_print_function self }
         ensures known { print_function_named result.now ≡ Some self }
     {
-        match self {
-            PrintFunction::Print => "print",
-            PrintFunction::Println => "println",
-            PrintFunction::Pr => "pr",
-            PrintFunction::Prn => "prn",
-        }
+        self.row().name
     }
 }

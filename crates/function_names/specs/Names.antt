@@ -1,11 +1,11 @@
--- The names of the functions that need no store, and the numbers of arguments that each takes,
--- group by group.
-use Rattle.std.specs.Prelude.{ℕ, List, Bool, true, Option, Some, None}
-use Rattle.core_integers.specs.Names as integers
-use Rattle.core_predicates.specs.Names as predicates
-use Rattle.core_texts.specs.Names as texts
-use Rattle.core_sequences.specs.Names as sequences
-use Rattle.core_maps.specs.Names as maps
+-- The functions that need no store, group by group: each has its row in the table of its group.
+use Rattle.std.specs.Prelude.{ℕ, List, Bool, Option, Some, None}
+use Rattle.function_rows.specs.Rows.{Row, takes}
+use Rattle.core_integers.specs.Names.{integer_row, integer_function_named}
+use Rattle.core_predicates.specs.Names.{predicate_row, predicate_function_named}
+use Rattle.core_texts.specs.Names.{text_row, text_function_named, print_row, print_function_named}
+use Rattle.core_sequences.specs.Names.{sequence_row, sequence_function_named}
+use Rattle.core_maps.specs.Names.{map_row, map_function_named}
 use Rattle.function_names.specs.declared.function.CoreFunction.{CoreFunction}
 
 -- the first of two groups that has the name
@@ -19,25 +19,23 @@ among group None = None
 
 abbrev pub function_named : List ℕ → Option CoreFunction
 function_named name =
-    or_else (among CoreFunction.Integer (integers.function_named name)) (
-    or_else (among CoreFunction.Predicate (predicates.function_named name)) (
-    or_else (among CoreFunction.Text (texts.text_function_named name)) (
-    or_else (among CoreFunction.Sequence (sequences.function_named name)) (
-    or_else (among CoreFunction.Map (maps.function_named name)) (
-    among CoreFunction.Print (texts.print_function_named name))))))
+    or_else (among CoreFunction.Integer (integer_function_named name)) (
+    or_else (among CoreFunction.Predicate (predicate_function_named name)) (
+    or_else (among CoreFunction.Text (text_function_named name)) (
+    or_else (among CoreFunction.Sequence (sequence_function_named name)) (
+    or_else (among CoreFunction.Map (map_function_named name)) (
+    among CoreFunction.Print (print_function_named name))))))
+
+abbrev pub core_row : CoreFunction → Row
+core_row (CoreFunction.Integer f) = integer_row f
+core_row (CoreFunction.Predicate f) = predicate_row f
+core_row (CoreFunction.Text f) = text_row f
+core_row (CoreFunction.Sequence f) = sequence_row f
+core_row (CoreFunction.Map f) = map_row f
+core_row (CoreFunction.Print f) = print_row f
 
 abbrev pub name_of : CoreFunction → List ℕ
-name_of (CoreFunction.Integer f) = integers.name_of f
-name_of (CoreFunction.Predicate f) = predicates.name_of f
-name_of (CoreFunction.Text f) = texts.name_of_text_function f
-name_of (CoreFunction.Sequence f) = sequences.name_of f
-name_of (CoreFunction.Map f) = maps.name_of f
-name_of (CoreFunction.Print f) = texts.name_of_print_function f
+name_of f = (core_row f).name
 
 abbrev pub fits : CoreFunction → ℕ → Bool
-fits (CoreFunction.Integer f) n = integers.fits f n
-fits (CoreFunction.Predicate f) n = predicates.fits f n
-fits (CoreFunction.Text f) n = texts.fits f n
-fits (CoreFunction.Sequence f) n = sequences.fits f n
-fits (CoreFunction.Map f) n = maps.fits f n
-fits (CoreFunction.Print f) n = true
+fits f n = takes (core_row f).arity n

@@ -1,41 +1,36 @@
--- The names of the functions that ask the store, and the numbers of arguments that each takes (the
--- Clojure reference, Refs and Transactions).
-use Rattle.std.specs.Prelude.{ℕ, List, Bool, ◌||◌, Option, Some, None, if◌then◌else◌, ◌==◌, nat_le}
-use Rattle.std.specs.Prelude.{codes}
-use Rattle.std.specs.Str.{bytes_eq}
+-- The functions that ask the store, each with its name and the numbers of arguments that it takes
+-- (the Clojure reference, Refs and Transactions).
+use Rattle.std.specs.Prelude.{ℕ, List, [], ◌∷◌, Bool, Option, codes}
+use Rattle.function_rows.specs.Rows.{Row, takes, first_named}
+use Rattle.function_rows.specs.declared.row.Arity.{Arity}
 use Rattle.function_names.specs.declared.store.StoreFunction.{StoreFunction}
 
+-- `ref` takes a value, and behind it one or both bounds of the history, each behind its keyword
+abbrev pub store_row : StoreFunction → Row
+store_row StoreFunction.Ref = record { name = codes "ref"; arity = Arity.OddUpTo 5 }
+store_row StoreFunction.Deref = record { name = codes "deref"; arity = Arity.Exactly 1 }
+store_row StoreFunction.RefSet = record { name = codes "ref-set"; arity = Arity.Exactly 2 }
+store_row StoreFunction.Alter = record { name = codes "alter"; arity = Arity.AtLeast 2 }
+store_row StoreFunction.Commute = record { name = codes "commute"; arity = Arity.AtLeast 2 }
+store_row StoreFunction.Ensure = record { name = codes "ensure"; arity = Arity.Exactly 1 }
+store_row StoreFunction.HistoryCount =
+    record { name = codes "ref-history-count"; arity = Arity.Exactly 1 }
+store_row StoreFunction.MinHistory =
+    record { name = codes "ref-min-history"; arity = Arity.FromTo 1 2 }
+store_row StoreFunction.MaxHistory =
+    record { name = codes "ref-max-history"; arity = Arity.FromTo 1 2 }
+
+abbrev pub store_functions : List StoreFunction
+store_functions =
+    StoreFunction.Ref ∷ StoreFunction.Deref ∷ StoreFunction.RefSet ∷ StoreFunction.Alter
+    ∷ StoreFunction.Commute ∷ StoreFunction.Ensure ∷ StoreFunction.HistoryCount
+    ∷ StoreFunction.MinHistory ∷ StoreFunction.MaxHistory ∷ []
+
 abbrev pub store_function_named : List ℕ → Option StoreFunction
-store_function_named name =
-    if bytes_eq name (codes "ref") then Some StoreFunction.Ref else (
-    if bytes_eq name (codes "deref") then Some StoreFunction.Deref else (
-    if bytes_eq name (codes "ref-set") then Some StoreFunction.RefSet else (
-    if bytes_eq name (codes "alter") then Some StoreFunction.Alter else (
-    if bytes_eq name (codes "commute") then Some StoreFunction.Commute else (
-    if bytes_eq name (codes "ensure") then Some StoreFunction.Ensure else (
-    if bytes_eq name (codes "ref-history-count") then Some StoreFunction.HistoryCount else (
-    if bytes_eq name (codes "ref-min-history") then Some StoreFunction.MinHistory else (
-    if bytes_eq name (codes "ref-max-history") then Some StoreFunction.MaxHistory else None))))))))
+store_function_named name = first_named store_row store_functions name
 
 abbrev pub store_name_of : StoreFunction → List ℕ
-store_name_of StoreFunction.Ref = codes "ref"
-store_name_of StoreFunction.Deref = codes "deref"
-store_name_of StoreFunction.RefSet = codes "ref-set"
-store_name_of StoreFunction.Alter = codes "alter"
-store_name_of StoreFunction.Commute = codes "commute"
-store_name_of StoreFunction.Ensure = codes "ensure"
-store_name_of StoreFunction.HistoryCount = codes "ref-history-count"
-store_name_of StoreFunction.MinHistory = codes "ref-min-history"
-store_name_of StoreFunction.MaxHistory = codes "ref-max-history"
+store_name_of f = (store_row f).name
 
--- `ref` takes a value, and behind it one or both bounds of the history, each behind its keyword
 abbrev pub store_fits : StoreFunction → ℕ → Bool
-store_fits StoreFunction.Ref n = n == 1 || n == 3 || n == 5
-store_fits StoreFunction.Deref n = n == 1
-store_fits StoreFunction.RefSet n = n == 2
-store_fits StoreFunction.Alter n = nat_le 2 n
-store_fits StoreFunction.Commute n = nat_le 2 n
-store_fits StoreFunction.Ensure n = n == 1
-store_fits StoreFunction.HistoryCount n = n == 1
-store_fits StoreFunction.MinHistory n = n == 1 || n == 2
-store_fits StoreFunction.MaxHistory n = n == 1 || n == 2
+store_fits f n = takes (store_row f).arity n

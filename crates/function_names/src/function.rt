@@ -1,13 +1,15 @@
 // Which functions there are, and how many arguments each takes.
 ghost use Rattle.std.specs.Prelude.{◌≡◌, Some, false, is_some};
 ghost use Rattle.std.specs.Option.{option_map_or};
-ghost use Rattle.function_names.specs.Names.{function_named, name_of, fits};
+ghost use Rattle.function_rows.specs.View.{row_view};
+ghost use Rattle.function_names.specs.Names.{function_named, core_row, name_of, fits};
 
 use core_integers::IntegerFunction;
 use core_maps::MapFunction;
 use core_predicates::PredicateFunction;
 use core_sequences::SequenceFunction;
 use core_texts::{PrintFunction, TextFunction};
+use function_rows::{FunctionRow, HasRow};
 
 /// A function of the language that needs no store, by its group.
 #[derive(Clone, Copy, Debug, PartialEq, Eq)]
@@ -51,27 +53,28 @@ impl CoreFunction {
         ensures text { result.now ≡ name_of self }
         ensures known { function_named result.now ≡ Some self }
     {
-        match self {
-            CoreFunction::Integer(function) => function.name(),
-            CoreFunction::Predicate(function) => function.name(),
-            CoreFunction::Text(function) => function.name(),
-            CoreFunction::Sequence(function) => function.name(),
-            CoreFunction::Map(function) => function.name(),
-            CoreFunction::Print(function) => function.name(),
-        }
+        self.row().name
     }
 
     /// Whether it takes this many arguments. It takes no memory.
     pub fn takes(self, arguments: usize) -> bool
         ensures { result ≡ fits self arguments }
     {
+        self.row().arity.takes(arguments)
+    }
+
+    // Its row in the table of its group.
+    fn row(self) -> FunctionRow
+        ensures meant { row_view result ≡ core_row self }
+        ensures known { function_named result.name.now ≡ Some self }
+    {
         match self {
-            CoreFunction::Integer(function) => function.takes(arguments),
-            CoreFunction::Predicate(function) => function.takes(arguments),
-            CoreFunction::Text(function) => function.takes(arguments),
-            CoreFunction::Sequence(function) => function.takes(arguments),
-            CoreFunction::Map(function) => function.takes(arguments),
-            CoreFunction::Print(_) => true,
+            CoreFunction::Integer(function) => function.row(),
+            CoreFunction::Predicate(function) => function.row(),
+            CoreFunction::Text(function) => function.row(),
+            CoreFunction::Sequence(function) => function.row(),
+            CoreFunction::Map(function) => function.row(),
+            CoreFunction::Print(function) => function.row(),
         }
     }
 }

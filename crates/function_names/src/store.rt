@@ -1,7 +1,11 @@
 // Which functions ask the store, and how many arguments each takes.
 ghost use Rattle.std.specs.Prelude.{◌≡◌, Some, None};
+ghost use Rattle.function_rows.specs.View.{row_view};
 ghost use Rattle.function_names.specs.Names.{function_named};
+ghost use Rattle.function_names.specs.StoreNames.{store_row, store_functions};
 ghost use Rattle.function_names.specs.StoreNames.{store_function_named, store_name_of, store_fits};
+
+use function_rows::{Arity, FunctionRow, HasRow, first_named};
 
 /// A function of the language that asks the store.
 #[derive(Clone, Copy, Debug, PartialEq, Eq)]
@@ -17,23 +21,48 @@ pub enum StoreFunction {
     MaxHistory,
 }
 
+const STORE_FUNCTIONS: [StoreFunction; 9] = [
+    StoreFunction::Ref,
+    StoreFunction::Deref,
+    StoreFunction::RefSet,
+    StoreFunction::Alter,
+    StoreFunction::Commute,
+    StoreFunction::Ensure,
+    StoreFunction::HistoryCount,
+    StoreFunction::MinHistory,
+    StoreFunction::MaxHistory,
+];
+
+impl HasRow for StoreFunction {
+    ghost row_of = { store_row };
+
+    ghost functions = { store_functions };
+
+    fn row(self) -> FunctionRow
+        ensures meant { row_view result ≡ store_row self }
+        ensures known { store_function_named result.name.now ≡ Some self }
+        ensures apart { function_named result.name.now ≡ None }
+    {
+        match self {
+            StoreFunction::Ref => FunctionRow::new("ref", Arity::OddUpTo(5)),
+            StoreFunction::Deref => FunctionRow::new("deref", Arity::Exactly(1)),
+            StoreFunction::RefSet => FunctionRow::new("ref-set", Arity::Exactly(2)),
+            StoreFunction::Alter => FunctionRow::new("alter", Arity::AtLeast(2)),
+            StoreFunction::Commute => FunctionRow::new("commute", Arity::AtLeast(2)),
+            StoreFunction::Ensure => FunctionRow::new("ensure", Arity::Exactly(1)),
+            StoreFunction::HistoryCount => FunctionRow::new("ref-history-count", Arity::Exactly(1)),
+            StoreFunction::MinHistory => FunctionRow::new("ref-min-history", Arity::FromTo(1, 2)),
+            StoreFunction::MaxHistory => FunctionRow::new("ref-max-history", Arity::FromTo(1, 2)),
+        }
+    }
+}
+
 impl StoreFunction {
     /// The function of this name, without a namespace. It takes no memory.
     pub fn named(name: &str) -> Option<StoreFunction>
         ensures { result ≡ store_function_named name.now }
     {
-        match name {
-            "ref" => Some(StoreFunction::Ref),
-            "deref" => Some(StoreFunction::Deref),
-            "ref-set" => Some(StoreFunction::RefSet),
-            "alter" => Some(StoreFunction::Alter),
-            "commute" => Some(StoreFunction::Commute),
-            "ensure" => Some(StoreFunction::Ensure),
-            "ref-history-count" => Some(StoreFunction::HistoryCount),
-            "ref-min-history" => Some(StoreFunction::MinHistory),
-            "ref-max-history" => Some(StoreFunction::MaxHistory),
-            _ => None,
-        }
+        first_named(&STORE_FUNCTIONS, name)
     }
 
     /// Its name in `clojure.core`. No function without a store has this name.
@@ -42,33 +71,13 @@ impl StoreFunction {
         ensures known { store_function_named result.now ≡ Some self }
         ensures apart { function_named result.now ≡ None }
     {
-        match self {
-            StoreFunction::Ref => "ref",
-            StoreFunction::Deref => "deref",
-            StoreFunction::RefSet => "ref-set",
-            StoreFunction::Alter => "alter",
-            StoreFunction::Commute => "commute",
-            StoreFunction::Ensure => "ensure",
-            StoreFunction::HistoryCount => "ref-history-count",
-            StoreFunction::MinHistory => "ref-min-history",
-            StoreFunction::MaxHistory => "ref-max-history",
-        }
+        self.row().name
     }
 
     /// Whether it takes this many arguments. It takes no memory.
     pub fn takes(self, arguments: usize) -> bool
         ensures { result ≡ store_fits self arguments }
     {
-        match self {
-            StoreFunction::Ref => arguments == 1 || arguments == 3 || arguments == 5,
-            StoreFunction::Deref => arguments == 1,
-            StoreFunction::RefSet => arguments == 2,
-            StoreFunction::Alter => arguments >= 2,
-            StoreFunction::Commute => arguments >= 2,
-            StoreFunction::Ensure => arguments == 1,
-            StoreFunction::HistoryCount => arguments == 1,
-            StoreFunction::MinHistory => arguments == 1 || arguments == 2,
-            StoreFunction::MaxHistory => arguments == 1 || arguments == 2,
-        }
+        self.row().arity.takes(arguments)
     }
 }

@@ -8,7 +8,7 @@ use Rattle.rand_chacha.specs.Block.{block_word}
 use Rattle.uuid.specs.Text.{by_index}
 use Rattle.repl_sessions.specs.Ids.{session_id, id_text}
 use Rattle.core_integers.specs.Arithmetic.{or_overflow, arithmetic}
-use Rattle.core_integers.specs.Meaning as integers
+use Rattle.core_integers.specs.Meaning.{integer_meaning}
 use Rattle.core_functions.specs.ApplyOutcome.{limited_outcome, apply_outcome}
 use Rattle.name_spaces.specs.Namespaces.{is_there, at_start, with_entered_namespace}
 use Rattle.name_spaces.specs.Namespaces.{with_definition}
@@ -32,7 +32,7 @@ unfolding step form_ended taken_in with_message operation_or_reply is_fixed is_t
 two-are-apart = (refl, refl)
 
 pub both-commute : BothCommute
-unfolding step form_ended taken_in with_message operation_or_reply is_fixed is_there at_start with_entered_namespace with_definition resolved is_utf8 chars encode_utf8 id_text session_id by_index u32_at quarter_round column_round diagonal_round double_rounds block_word apply_outcome limited_outcome integers.value_of arithmetic or_overflow
+unfolding step form_ended taken_in with_message operation_or_reply is_fixed is_there at_start with_entered_namespace with_definition resolved is_utf8 chars encode_utf8 id_text session_id by_index u32_at quarter_round column_round diagonal_round double_rounds block_word apply_outcome limited_outcome integer_meaning arithmetic or_overflow
 both-commute = refl
 
 pub close-interrupts : CloseInterrupts
