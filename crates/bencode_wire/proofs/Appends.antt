@@ -1,9 +1,9 @@
 -- Where bytes are part of a message, reading goes on from what they are read as.
 use Rattle.std.proofs.Common.{◌≡◌, ℕ, suc, ◌+◌, List, [], ◌∷◌, ◌++◌, length, refl, ap, ◌∙◌, arith}
-use Rattle.bencode_wire.specs.Cut.{Cut}
-use Rattle.bencode_wire.specs.ByteSteps.{bite, Judged, reads, whole, refuses, rests, faults}
-use Rattle.bencode_wire.specs.ByteSteps.{ended_reading, onward, stream_reading, start}
-use Rattle.bencode_wire.specs.Beginnings.{Adding}
+use Rattle.bencode_wire.specs.Inside.Cut.{Cut}
+use Rattle.bencode_wire.specs.Inside.ByteSteps.{bite, Judged, reads, whole, refuses, rests, faults}
+use Rattle.bencode_wire.specs.Inside.ByteSteps.{ended_reading, onward, stream_reading, start}
+use Rattle.bencode_wire.specs.Inside.Beginnings.{Adding}
 
 pub same_reads : (limit : ℕ) (add : Adding) (a b : ℕ) (c d : Cut) (i j : ℕ) (bs : List ℕ) → a ≡ b → c ≡ d → i ≡ j → stream_reading limit add a c i bs ≡ stream_reading limit add b d j bs
 same_reads limit add a b c d i j bs e f g =

@@ -2,7 +2,7 @@
 use Rattle.std.proofs.Common.{◌≡◌, ℕ, suc, ◌<◌, ◌≤◌, ◌⊎◌, inl, inr, List, [], ◌∷◌, ◌++◌, length, decimal, codes, refl, sym, ap, ◌∙◌, subst, append_assoc, append-nil, arith}
 use Rattle.bencode_wire.specs.Tree.{Trees, no_trees, Pairs, no_pairs, HasKey}
 use Rattle.bencode_wire.specs.Spelling.{trees_text, pairs_text, string_text, IsLength, ArePairs}
-use Rattle.bencode_wire.specs.Cut.{Frame, in_list, at_key, at_value, between, count, cut, frames_text, cut_text, IfAny, TakesValue, TakesKey, IsCut}
+use Rattle.bencode_wire.specs.Inside.Cut.{Frame, in_list, at_key, at_value, between, count, cut, frames_text, cut_text, IfAny, TakesValue, TakesKey, IsCut}
 use Rattle.bencode_wire.specs.Stream.{AwaitsValue, behind_items, behind_key, AwaitsKey, of_message, of_value, AwaitsString, RepeatsKey, IsLarge, IsDeep}
 
 -- where the frames around a dictionary say what is awaited, so does the dictionary

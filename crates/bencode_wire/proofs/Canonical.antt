@@ -6,7 +6,7 @@ use Rattle.std.specs.Ordering.{match_ordering, ordering_reverse}
 use Rattle.std.specs.Str.{bytes_eq}
 use Rattle.bencode_wire.specs.Tree.{Tree, integer, string, list, dictionary, Trees, no_trees, tree, Pairs, no_pairs, pair, has_key, HasKey}
 use Rattle.bencode_wire.specs.Spelling.{canonical, sorted, sorted_trees, put_pair, put_pairs, IsString, IsSpellable, AreSpellable, ArePairs, IsDistinct, AreDistinct, PairsDistinct, Spells}
-use Rattle.bencode_wire.specs.Nesting.{nesting, trees_nesting, pairs_nesting}
+use Rattle.bencode_wire.specs.Inside.Nesting.{nesting, trees_nesting, pairs_nesting}
 use Rattle.bencode_wire.proofs.Orders.{same_key}
 use Rattle.bencode_wire.proofs.Written.{order, Above, InOrder, put_in_ascending, sorted_twice}
 

@@ -5,7 +5,7 @@ use Rattle.std.proofs.lemmas.Fmt.{decimal_digit}
 use Rattle.std.proofs.Math.ListN.{replicate}
 use Rattle.bencode_wire.specs.Tree.{Tree, integer, string, list, dictionary, no_trees, Pairs, no_pairs, add_tree, add_pair}
 use Rattle.bencode_wire.specs.Spelling.{text, trees_text, pairs_text, string_text, integer_text, IsInteger, IsString, IsSpellable, ArePairs}
-use Rattle.bencode_wire.specs.Cut.{Frame, in_list, at_key, at_value, between, after_i, after_minus, digits, count, part, Cut, cut, frames_text, cut_text, IfAny, TakesValue, TakesKey, IsCut}
+use Rattle.bencode_wire.specs.Inside.Cut.{Frame, in_list, at_key, at_value, between, after_i, after_minus, digits, count, part, Cut, cut, frames_text, cut_text, IfAny, TakesValue, TakesKey, IsCut}
 use Rattle.bencode_wire.proofs.Sound.{pairs_text-add_pair, trees_text-add_tree, ArePairs-add_pair, AreSpellable-add_tree}
 
 -- bytes that are less than a message

@@ -9,15 +9,15 @@ use Rattle.bencode_wire.specs.Tree.{Tree, integer, string, list, dictionary, Tre
 use Rattle.bencode_wire.specs.Tree.{Pairs, no_pairs, pair, add_tree, add_pair}
 use Rattle.bencode_wire.specs.Spelling.{text, trees_text, pairs_text, string_text, integer_text}
 use Rattle.bencode_wire.specs.Spelling.{IsInteger, IsString, IsSpellable, AreSpellable, ArePairs}
-use Rattle.bencode_wire.specs.Cut.{Frame, in_list, at_key, at_value, between, after_i, after_minus}
-use Rattle.bencode_wire.specs.Cut.{digits, count, part, Cut, cut, frames_text, token_text, cut_text}
-use Rattle.bencode_wire.specs.Cut.{IfAny, TakesValue, TakesKey, greatest, IsCut}
-use Rattle.bencode_wire.specs.Sign.{sign_of}
+use Rattle.bencode_wire.specs.Inside.Cut.{Frame, in_list, at_key, at_value, between, after_i, after_minus}
+use Rattle.bencode_wire.specs.Inside.Cut.{digits, count, part, Cut, cut, frames_text, token_text, cut_text}
+use Rattle.bencode_wire.specs.Inside.Cut.{IfAny, TakesValue, TakesKey, greatest, IsCut}
+use Rattle.bencode_wire.specs.Inside.Sign.{sign_of}
 use Rattle.bencode_wire.specs.declared.sign.Sign.TheVariants as signs
-use Rattle.bencode_wire.specs.ByteSteps.{step_run}
-use Rattle.bencode_wire.specs.ByteEffects.{integer_minus, more_digits}
-use Rattle.bencode_wire.specs.Beginnings.{ByteEffect, put, begin, goes, opens, names, ends, stuck}
-use Rattle.bencode_wire.specs.ByteEffects.{length_digits, more_length, integer_digits}
+use Rattle.bencode_wire.specs.Inside.ByteSteps.{step_run}
+use Rattle.bencode_wire.specs.Inside.ByteEffects.{integer_minus, more_digits}
+use Rattle.bencode_wire.specs.Inside.Beginnings.{ByteEffect, put, begin, goes, opens, names, ends, stuck}
+use Rattle.bencode_wire.specs.Inside.ByteEffects.{length_digits, more_length, integer_digits}
 
 -- what a byte makes of what has come
 abbrev pub after : ByteEffect → ℕ → ByteEffect

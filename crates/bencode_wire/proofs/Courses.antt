@@ -4,16 +4,16 @@ use Rattle.std.proofs.Common.{[], ◌∷◌, ◌++◌, length, take, drop, Some,
 use Rattle.std.proofs.Common.{subst, append-nil, append_assoc, length-drop, arith}
 use Rattle.std.proofs.lemmas.List.{map-append}
 use Rattle.bencode_wire.specs.Spelling.{put_pair}
-use Rattle.bencode_wire.specs.Cut.{Frame, Token, Cut, cut}
+use Rattle.bencode_wire.specs.Inside.Cut.{Frame, Token, Cut, cut}
 use Rattle.bencode_wire.specs.Fault.{StreamRule, malformed, too_long, too_deep, counted_place}
 use Rattle.bencode_wire.specs.Fault.{fault_at}
-use Rattle.bencode_wire.specs.ByteSteps.{step_run, Judged, judged, is_large, within_limit, reads}
-use Rattle.bencode_wire.specs.ByteSteps.{whole, refuses, StreamReading, ended_reading, faults}
-use Rattle.bencode_wire.specs.ByteSteps.{onward, stream_reading, start, TakesRun}
-use Rattle.bencode_wire.specs.Gives.{Gives}
-use Rattle.bencode_wire.specs.Refusals.{refusal_at}
-use Rattle.bencode_wire.specs.Course.{fault_of_end, ahead, ready_view, Advances, Faults, Continues}
-use Rattle.bencode_wire.specs.View.{view}
+use Rattle.bencode_wire.specs.Inside.ByteSteps.{step_run, Judged, judged, is_large, within_limit, reads}
+use Rattle.bencode_wire.specs.Inside.ByteSteps.{whole, refuses, StreamReading, ended_reading, faults}
+use Rattle.bencode_wire.specs.Inside.ByteSteps.{onward, stream_reading, start, TakesRun}
+use Rattle.bencode_wire.specs.Inside.Gives.{Gives}
+use Rattle.bencode_wire.specs.Inside.Refusals.{refusal_at}
+use Rattle.bencode_wire.specs.Inside.Course.{fault_of_end, ahead, ready_view, Advances, Faults, Continues}
+use Rattle.bencode_wire.specs.Inside.View.{view}
 use Rattle.bencode_wire.specs.declared.ben.Ben.{Ben}
 use Rattle.bencode_wire.specs.declared.cut.Course.{Course}
 use Rattle.bencode_wire.specs.declared.fault.Refusal.{Refusal}

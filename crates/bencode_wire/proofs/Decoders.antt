@@ -4,15 +4,15 @@ use Rattle.std.proofs.Common.{None, MatchOption, Err, refl, sym, ap, ◌∙◌, 
 use Rattle.std.proofs.lemmas.List.{drop_all}
 use Rattle.bencode_wire.specs.Tree.{Tree}
 use Rattle.bencode_wire.specs.Spelling.{put_pair}
-use Rattle.bencode_wire.specs.Cut.{Cut}
+use Rattle.bencode_wire.specs.Inside.Cut.{Cut}
 use Rattle.bencode_wire.specs.Fault.{StreamRule, counted_place, fault_at}
-use Rattle.bencode_wire.specs.ByteSteps.{StreamReading, rests, ended_reading, stream_reading, start}
-use Rattle.bencode_wire.specs.Reader.{cut_view}
+use Rattle.bencode_wire.specs.Inside.ByteSteps.{StreamReading, rests, ended_reading, stream_reading, start}
+use Rattle.bencode_wire.specs.Inside.Reader.{cut_view}
 use Rattle.bencode_wire.specs.Stream.{StreamEnding, rest, fault, IsRest, Streams}
-use Rattle.bencode_wire.specs.Course.{fault_of_end, ahead, ready_view, Advances, Continues}
-use Rattle.bencode_wire.specs.Decoder.{ready_of, rest_of, rest_place, fault_of, Shows, IsUnchanged}
-use Rattle.bencode_wire.specs.Decoder.{Stands}
-use Rattle.bencode_wire.specs.Held.{Holds}
+use Rattle.bencode_wire.specs.Inside.Course.{fault_of_end, ahead, ready_view, Advances, Continues}
+use Rattle.bencode_wire.specs.Inside.Decoder.{ready_of, rest_of, rest_place, fault_of, Shows, IsUnchanged}
+use Rattle.bencode_wire.specs.Inside.Decoder.{Stands}
+use Rattle.bencode_wire.specs.Inside.Held.{Holds}
 use Rattle.bencode_wire.specs.declared.ben.Ben.{Ben}
 use Rattle.bencode_wire.specs.declared.cut.Course.{Course}
 use Rattle.bencode_wire.specs.declared.cut.Reader.{Reader}

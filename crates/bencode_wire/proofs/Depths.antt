@@ -5,7 +5,7 @@ use Rattle.std.specs.Ordering.{match_ordering}
 use Rattle.std.specs.Str.{bytes_eq}
 use Rattle.bencode_wire.specs.Tree.{Tree, integer, string, list, dictionary, Trees, no_trees, tree, Pairs, no_pairs, pair, has_key, HasKey}
 use Rattle.bencode_wire.specs.Spelling.{sorted, sorted_trees, put_pair, put_pairs, IsDistinct, AreDistinct, PairsDistinct}
-use Rattle.bencode_wire.specs.Nesting.{nesting, trees_nesting, pairs_nesting}
+use Rattle.bencode_wire.specs.Inside.Nesting.{nesting, trees_nesting, pairs_nesting}
 use Rattle.bencode_wire.proofs.Orders.{same_key, has_key-put_pair}
 use Rattle.bencode_wire.proofs.Views.{each_sorted}
 use Rattle.bencode_wire.proofs.Written.{order}

@@ -5,14 +5,14 @@ use Rattle.std.proofs.Common.{arith}
 use Rattle.std.proofs.Math.Seq.{drop-append_seam}
 use Rattle.bencode_wire.specs.Tree.{Tree}
 use Rattle.bencode_wire.specs.Spelling.{put_pair}
-use Rattle.bencode_wire.specs.Cut.{Cut}
+use Rattle.bencode_wire.specs.Inside.Cut.{Cut}
 use Rattle.bencode_wire.specs.Fault.{counted_place, fault_at}
-use Rattle.bencode_wire.specs.ByteSteps.{ReadingEnd, rests, faults, stream_reading}
-use Rattle.bencode_wire.specs.Reader.{cut_view}
+use Rattle.bencode_wire.specs.Inside.ByteSteps.{ReadingEnd, rests, faults, stream_reading}
+use Rattle.bencode_wire.specs.Inside.Reader.{cut_view}
 use Rattle.bencode_wire.specs.Stream.{rest, fault, IsRest, Streams}
-use Rattle.bencode_wire.specs.Course.{fault_of_end, ahead, ready_view, Advances, Faults, Continues}
-use Rattle.bencode_wire.specs.Decoder.{ready_of, rest_of, rest_place, fault_of, Stands}
-use Rattle.bencode_wire.specs.Held.{Holds}
+use Rattle.bencode_wire.specs.Inside.Course.{fault_of_end, ahead, ready_view, Advances, Faults, Continues}
+use Rattle.bencode_wire.specs.Inside.Decoder.{ready_of, rest_of, rest_place, fault_of, Stands}
+use Rattle.bencode_wire.specs.Inside.Held.{Holds}
 use Rattle.bencode_wire.specs.declared.ben.Ben.{Ben}
 use Rattle.bencode_wire.specs.declared.cut.Course.{Course}
 use Rattle.bencode_wire.specs.declared.cut.Reader.{Reader}

@@ -5,11 +5,11 @@ use Rattle.std.proofs.Common.{subst, arith, ◌+◌, ◌∷◌, Bool, true, fals
 use Rattle.std.specs.Bool.{then_some}
 use Rattle.std.proofs.lemmas.List.{take_at}
 use Rattle.bencode_wire.specs.Tree.{Tree}
-use Rattle.bencode_wire.specs.View.{view}
-use Rattle.bencode_wire.specs.State.{Earlier}
+use Rattle.bencode_wire.specs.Inside.View.{view}
+use Rattle.bencode_wire.specs.Inside.State.{Earlier}
 use Rattle.bencode_wire.specs.Stream.{IsRest}
-use Rattle.bencode_wire.specs.Decoder.{ready_of, rest_of, rest_place, fault_of, Stands}
-use Rattle.bencode_wire.specs.Return.{earlier_of, as_it_was, CanReturn}
+use Rattle.bencode_wire.specs.Inside.Decoder.{ready_of, rest_of, rest_place, fault_of, Stands}
+use Rattle.bencode_wire.specs.Inside.Return.{earlier_of, as_it_was, CanReturn}
 use Rattle.bencode_wire.specs.declared.ben.Ben.{Ben}
 use Rattle.bencode_wire.specs.declared.cut.Reader.{Reader}
 use Rattle.bencode_wire.specs.declared.decoder.Decoder.{Decoder}

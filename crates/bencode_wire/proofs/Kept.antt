@@ -6,13 +6,13 @@ use Rattle.std.proofs.lemmas.Bool.Decides.{nat_tests}
 use Rattle.bencode_wire.specs.Tree.{Tree, dictionary, Pairs, no_pairs, pair, no_trees, tree}
 use Rattle.bencode_wire.specs.Tree.{has_key}
 use Rattle.bencode_wire.specs.Spelling.{text, pairs_text, sorted, put_pair}
-use Rattle.bencode_wire.specs.Cut.{Frame, at_value, between, Cut, cut, cut_text, IsCut, sorted_cut}
-use Rattle.bencode_wire.specs.Cut.{in_list, at_key, after_i, after_minus, digits, count, part}
+use Rattle.bencode_wire.specs.Inside.Cut.{Frame, at_value, between, Cut, cut, cut_text, IsCut, sorted_cut}
+use Rattle.bencode_wire.specs.Inside.Cut.{in_list, at_key, after_i, after_minus, digits, count, part}
 use Rattle.bencode_wire.specs.Fault.{StreamRule, malformed, too_long, too_deep}
-use Rattle.bencode_wire.specs.ByteSteps.{Judged, reads, whole, refuses, judged, within_limit}
-use Rattle.bencode_wire.specs.ByteSteps.{is_large_token, start, bite, rests, ended_reading, onward}
-use Rattle.bencode_wire.specs.ByteSteps.{stream_reading}
-use Rattle.bencode_wire.specs.Beginnings.{ByteEffect, goes, opens, names, ends, stuck}
+use Rattle.bencode_wire.specs.Inside.ByteSteps.{Judged, reads, whole, refuses, judged, within_limit}
+use Rattle.bencode_wire.specs.Inside.ByteSteps.{is_large_token, start, bite, rests, ended_reading, onward}
+use Rattle.bencode_wire.specs.Inside.ByteSteps.{stream_reading}
+use Rattle.bencode_wire.specs.Inside.Beginnings.{ByteEffect, goes, opens, names, ends, stuck}
 use Rattle.bencode_wire.specs.Stream.{Meets, IsClean, IsMessage, IsRest}
 use Rattle.bencode_wire.proofs.Sound.{Sound}
 use Rattle.bencode_wire.proofs.Complete.{run, run-append, run-stuck, run-message, next_of, resting}

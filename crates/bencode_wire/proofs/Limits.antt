@@ -2,7 +2,7 @@
 use Rattle.std.proofs.Common.{ℕ, ◌-◌, ◌<◌, ◌≤◌, List, [], ◌∷◌, length, decimal, codes, ◌++◌, length-append, arith}
 use Rattle.bencode_wire.specs.Tree.{Tree, integer, string, list, dictionary, Trees, no_trees, tree, Pairs, no_pairs, pair, HasKey}
 use Rattle.bencode_wire.specs.Spelling.{text, trees_text, pairs_text, string_text, IsDistinct, AreDistinct, PairsDistinct}
-use Rattle.bencode_wire.specs.Nesting.{nesting, trees_nesting, pairs_nesting}
+use Rattle.bencode_wire.specs.Inside.Nesting.{nesting, trees_nesting, pairs_nesting}
 
 -- no key stands twice among these pairs, whatever their values
 abbrev pub KeysDiffer : Pairs → Type 0

@@ -9,7 +9,7 @@ use Rattle.std.specs.Cmp.Lexicographic.{slice_cmp}
 use Rattle.std.specs.Map.{lookup, KeepsOthers}
 use Rattle.std.specs.Ordering.{eq_by_cmp}
 use Rattle.bencode_wire.specs.Tree.{field}
-use Rattle.bencode_wire.specs.View.{view, pairs_view}
+use Rattle.bencode_wire.specs.Inside.View.{view, pairs_view}
 use Rattle.bencode_wire.specs.declared.ben.Ben.{Ben}
 use Rattle.bencode_wire.proofs.Views.{Key, Entry, key_cmp}
 

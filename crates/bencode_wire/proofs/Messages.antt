@@ -4,7 +4,7 @@ use Rattle.std.proofs.Common.{arith}
 use Rattle.bencode_wire.specs.Tree.{Tree, integer, string, list, dictionary, Pairs, no_pairs}
 use Rattle.bencode_wire.specs.Spelling.{text, canonical, ArePairs, IsSpellable, IsDistinct}
 use Rattle.bencode_wire.specs.Spelling.{PairsDistinct, Spells, sorted, put_pairs}
-use Rattle.bencode_wire.specs.Nesting.{nesting}
+use Rattle.bencode_wire.specs.Inside.Nesting.{nesting}
 use Rattle.bencode_wire.specs.Stream.{IsClean, IsMessage, StreamEnding, Streams}
 use Rattle.bencode_wire.proofs.Canonical.{distinct_sorted, spellable_sorted, nesting_sorted}
 use Rattle.bencode_wire.proofs.Depths.{nesting_kept}

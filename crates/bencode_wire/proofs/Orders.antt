@@ -10,19 +10,19 @@ use Rattle.std.specs.Ordering.{match_ordering}
 use Rattle.bencode_wire.specs.Tree.{Tree, integer, string, list, dictionary, Trees, no_trees, tree}
 use Rattle.bencode_wire.specs.Tree.{Pairs, no_pairs, pair, add_tree, add_pair, has_key}
 use Rattle.bencode_wire.specs.Spelling.{put_pair, put_pairs, sorted, sorted_trees}
-use Rattle.bencode_wire.specs.Cut.{Frame, in_list, at_key, at_value, Token, between, after_i}
-use Rattle.bencode_wire.specs.Cut.{after_minus, digits, count, part, cut, greatest, sorted_frame}
-use Rattle.bencode_wire.specs.Cut.{sorted_frames, sorted_cut}
-use Rattle.bencode_wire.specs.Sign.{sign_of}
+use Rattle.bencode_wire.specs.Inside.Cut.{Frame, in_list, at_key, at_value, Token, between, after_i}
+use Rattle.bencode_wire.specs.Inside.Cut.{after_minus, digits, count, part, cut, greatest, sorted_frame}
+use Rattle.bencode_wire.specs.Inside.Cut.{sorted_frames, sorted_cut}
+use Rattle.bencode_wire.specs.Inside.Sign.{sign_of}
 use Rattle.bencode_wire.specs.Fault.{malformed, too_long, too_deep}
 use Rattle.bencode_wire.specs.declared.sign.Sign.{Sign}
 use Rattle.bencode_wire.specs.declared.sign.Sign.TheVariants as signs
-use Rattle.bencode_wire.specs.ByteSteps.{step_run, Judged, reads, whole, refuses, judged}
-use Rattle.bencode_wire.specs.ByteSteps.{within_limit, is_large_token}
-use Rattle.bencode_wire.specs.Beginnings.{ByteEffect, put, begin_message, begin_value, begin_item}
-use Rattle.bencode_wire.specs.Beginnings.{stuck, ends, names, opens, goes, begin, begin_key}
-use Rattle.bencode_wire.specs.ByteEffects.{text_bytes, length_digits, integer_digits}
-use Rattle.bencode_wire.specs.ByteEffects.{integer_with_sign, integer_minus, integer_open}
+use Rattle.bencode_wire.specs.Inside.ByteSteps.{step_run, Judged, reads, whole, refuses, judged}
+use Rattle.bencode_wire.specs.Inside.ByteSteps.{within_limit, is_large_token}
+use Rattle.bencode_wire.specs.Inside.Beginnings.{ByteEffect, put, begin_message, begin_value, begin_item}
+use Rattle.bencode_wire.specs.Inside.Beginnings.{stuck, ends, names, opens, goes, begin, begin_key}
+use Rattle.bencode_wire.specs.Inside.ByteEffects.{text_bytes, length_digits, integer_digits}
+use Rattle.bencode_wire.specs.Inside.ByteEffects.{integer_with_sign, integer_minus, integer_open}
 
 abbrev sorted_next : ByteEffect → ByteEffect
 sorted_next (goes fs token) = goes (sorted_frames fs) token

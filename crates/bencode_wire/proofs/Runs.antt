@@ -3,15 +3,15 @@ use Rattle.std.proofs.Common.{◌≡◌, ℕ, suc, ◌+◌, ◌-◌, ◌<◌, �
 use Rattle.std.proofs.Common.{List, [], ◌∷◌, ◌++◌, length, take, drop, sym, ap, ◌∙◌, append_assoc}
 use Rattle.std.proofs.Common.{take-append-drop, drop-drop, length-take, length-drop, arith}
 use Rattle.std.proofs.lemmas.Bool.Decides.{nat_tests}
-use Rattle.bencode_wire.specs.Cut.{Frame, Token, between, after_i, after_minus, digits, count, part}
-use Rattle.bencode_wire.specs.Cut.{Cut, cut}
+use Rattle.bencode_wire.specs.Inside.Cut.{Frame, Token, between, after_i, after_minus, digits, count, part}
+use Rattle.bencode_wire.specs.Inside.Cut.{Cut, cut}
 use Rattle.bencode_wire.specs.Fault.{too_long}
 use Rattle.bencode_wire.specs.Tree.{string}
-use Rattle.bencode_wire.specs.ByteSteps.{step_run, judged, within_limit, StreamReading}
-use Rattle.bencode_wire.specs.ByteSteps.{ended_reading, faults, onward, stream_reading, start}
-use Rattle.bencode_wire.specs.ByteSteps.{TakesRun}
-use Rattle.bencode_wire.specs.ByteEffects.{text_bytes}
-use Rattle.bencode_wire.specs.Beginnings.{ByteEffect, Adding, put, goes}
+use Rattle.bencode_wire.specs.Inside.ByteSteps.{step_run, judged, within_limit, StreamReading}
+use Rattle.bencode_wire.specs.Inside.ByteSteps.{ended_reading, faults, onward, stream_reading, start}
+use Rattle.bencode_wire.specs.Inside.ByteSteps.{TakesRun}
+use Rattle.bencode_wire.specs.Inside.ByteEffects.{text_bytes}
+use Rattle.bencode_wire.specs.Inside.Beginnings.{ByteEffect, Adding, put, goes}
 
 le_false : (a b : ℕ) → b < a → nat_le a b ≡ false
 le_false a b h = grind (arith, nat_tests)

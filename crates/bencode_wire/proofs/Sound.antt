@@ -9,19 +9,19 @@ use Rattle.bencode_wire.specs.Tree.{Tree, integer, string, list, dictionary, Tre
 use Rattle.bencode_wire.specs.Tree.{Pairs, no_pairs, pair, add_tree, add_pair}
 use Rattle.bencode_wire.specs.Spelling.{text, trees_text, pairs_text, string_text, IsInteger}
 use Rattle.bencode_wire.specs.Spelling.{IsString, IsSpellable, AreSpellable, ArePairs}
-use Rattle.bencode_wire.specs.Cut.{Frame, in_list, at_key, at_value, Token, between, after_i}
-use Rattle.bencode_wire.specs.Cut.{after_minus, digits, count, part, cut, frames_text, token_text}
-use Rattle.bencode_wire.specs.Cut.{cut_text, IfAny, TakesValue, TakesKey, greatest, IsCut}
-use Rattle.bencode_wire.specs.Sign.{sign_of}
+use Rattle.bencode_wire.specs.Inside.Cut.{Frame, in_list, at_key, at_value, Token, between, after_i}
+use Rattle.bencode_wire.specs.Inside.Cut.{after_minus, digits, count, part, cut, frames_text, token_text}
+use Rattle.bencode_wire.specs.Inside.Cut.{cut_text, IfAny, TakesValue, TakesKey, greatest, IsCut}
+use Rattle.bencode_wire.specs.Inside.Sign.{sign_of}
 use Rattle.bencode_wire.specs.declared.sign.Sign.{Sign}
 use Rattle.bencode_wire.specs.declared.sign.Sign.TheVariants as signs
-use Rattle.bencode_wire.specs.ByteSteps.{step_run}
-use Rattle.bencode_wire.specs.Beginnings.{ByteEffect, put_key, put, close, begin_message, begin_key}
-use Rattle.bencode_wire.specs.Beginnings.{stuck, ends, names, opens, goes, begin, begin_item}
-use Rattle.bencode_wire.specs.Beginnings.{begin_value}
-use Rattle.bencode_wire.specs.ByteEffects.{text_bytes, length_digits, open_string, more_length}
-use Rattle.bencode_wire.specs.ByteEffects.{integer_digits, more_digits, integer_with_sign}
-use Rattle.bencode_wire.specs.ByteEffects.{integer_minus, integer_open}
+use Rattle.bencode_wire.specs.Inside.ByteSteps.{step_run}
+use Rattle.bencode_wire.specs.Inside.Beginnings.{ByteEffect, put_key, put, close, begin_message, begin_key}
+use Rattle.bencode_wire.specs.Inside.Beginnings.{stuck, ends, names, opens, goes, begin, begin_item}
+use Rattle.bencode_wire.specs.Inside.Beginnings.{begin_value}
+use Rattle.bencode_wire.specs.Inside.ByteEffects.{text_bytes, length_digits, open_string, more_length}
+use Rattle.bencode_wire.specs.Inside.ByteEffects.{integer_digits, more_digits, integer_with_sign}
+use Rattle.bencode_wire.specs.Inside.ByteEffects.{integer_minus, integer_open}
 
 -- the pairs behind others
 pub pairs_text-add_pair : (ps : Pairs) (key : List ℕ) (t : Tree) → pairs_text (add_pair ps key t) ≡ pairs_text ps ++ string_text key ++ text t

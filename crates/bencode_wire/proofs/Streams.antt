@@ -3,11 +3,11 @@ use Rattle.std.proofs.Common.{◌≡◌, ℕ, ◌+◌, ◌-◌, ◌≤◌, List,
 use Rattle.std.proofs.Common.{◌∙◌, subst, append_assoc, append-nil, length-append, arith}
 use Rattle.bencode_wire.specs.Tree.{Tree}
 use Rattle.bencode_wire.specs.Spelling.{put_pair}
-use Rattle.bencode_wire.specs.Cut.{Cut}
+use Rattle.bencode_wire.specs.Inside.Cut.{Cut}
 use Rattle.bencode_wire.specs.Fault.{StreamRule}
-use Rattle.bencode_wire.specs.ByteSteps.{bite, Judged, reads, whole, refuses, StreamReading}
-use Rattle.bencode_wire.specs.ByteSteps.{ReadingEnd, rests, faults, ended_reading, onward}
-use Rattle.bencode_wire.specs.ByteSteps.{stream_reading, start}
+use Rattle.bencode_wire.specs.Inside.ByteSteps.{bite, Judged, reads, whole, refuses, StreamReading}
+use Rattle.bencode_wire.specs.Inside.ByteSteps.{ReadingEnd, rests, faults, ended_reading, onward}
+use Rattle.bencode_wire.specs.Inside.ByteSteps.{stream_reading, start}
 use Rattle.bencode_wire.proofs.Appends.{same_reads}
 use Rattle.bencode_wire.specs.Stream.{IsMessage, StreamEnding, rest, fault, IsRest, Streams}
 use Rattle.bencode_wire.proofs.Kept.{Kept, kept_none, kept_reads, kept_whole, kept_refuses}

@@ -4,11 +4,11 @@ use Rattle.std.proofs.Common.{◌∙◌, subst, append_assoc, length-append, ari
 use Rattle.std.proofs.Math.Seq.{drop-append_seam}
 use Rattle.bencode_wire.specs.Tree.{Tree}
 use Rattle.bencode_wire.specs.Spelling.{put_pair}
-use Rattle.bencode_wire.specs.Cut.{Cut}
-use Rattle.bencode_wire.specs.ByteSteps.{bite, Judged, reads, whole, refuses, StreamReading}
-use Rattle.bencode_wire.specs.ByteSteps.{ReadingEnd, rests, faults, ended_reading}
-use Rattle.bencode_wire.specs.ByteSteps.{with_message_first, onward, stream_reading, start}
-use Rattle.bencode_wire.specs.Beginnings.{Adding}
+use Rattle.bencode_wire.specs.Inside.Cut.{Cut}
+use Rattle.bencode_wire.specs.Inside.ByteSteps.{bite, Judged, reads, whole, refuses, StreamReading}
+use Rattle.bencode_wire.specs.Inside.ByteSteps.{ReadingEnd, rests, faults, ended_reading}
+use Rattle.bencode_wire.specs.Inside.ByteSteps.{with_message_first, onward, stream_reading, start}
+use Rattle.bencode_wire.specs.Inside.Beginnings.{Adding}
 use Rattle.bencode_wire.specs.Stream.{StreamEnding, rest, fault, Ends, Streams}
 use Rattle.bencode_wire.proofs.Kept.{rest_kept, kept_meets, message_read}
 use Rattle.bencode_wire.proofs.Appends.{stream_reading-append}

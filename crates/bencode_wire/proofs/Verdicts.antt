@@ -5,12 +5,12 @@ use Rattle.std.proofs.Common.{append_assoc, append-nil, length-append, arith}
 use Rattle.std.proofs.lemmas.Bool.Decides.{nat_tests}
 use Rattle.bencode_wire.specs.Tree.{dictionary, Pairs, add_pair, has_key}
 use Rattle.bencode_wire.specs.Spelling.{text, put_pair}
-use Rattle.bencode_wire.specs.Cut.{Frame, at_value, between, after_i, after_minus, digits, count}
-use Rattle.bencode_wire.specs.Cut.{part, Cut, cut, cut_text, IsCut, sorted_frames, sorted_cut}
+use Rattle.bencode_wire.specs.Inside.Cut.{Frame, at_value, between, after_i, after_minus, digits, count}
+use Rattle.bencode_wire.specs.Inside.Cut.{part, Cut, cut, cut_text, IsCut, sorted_frames, sorted_cut}
 use Rattle.bencode_wire.specs.Fault.{StreamRule, malformed, too_long, too_deep}
-use Rattle.bencode_wire.specs.ByteSteps.{step_run, Judged, reads, whole, refuses, judged}
-use Rattle.bencode_wire.specs.ByteSteps.{within_limit, bite}
-use Rattle.bencode_wire.specs.Beginnings.{ByteEffect, goes, opens, names, ends, stuck}
+use Rattle.bencode_wire.specs.Inside.ByteSteps.{step_run, Judged, reads, whole, refuses, judged}
+use Rattle.bencode_wire.specs.Inside.ByteSteps.{within_limit, bite}
+use Rattle.bencode_wire.specs.Inside.Beginnings.{ByteEffect, goes, opens, names, ends, stuck}
 use Rattle.bencode_wire.specs.Stream.{BeginsMessage, IsLarge, IsDeep, IsTooLong, IsMalformed, Meets}
 use Rattle.bencode_wire.proofs.Sound.{Sound, sound_at, step-sound}
 use Rattle.bencode_wire.proofs.Complete.{after, run, run-append, run-stuck, next_of, run-cut}

@@ -11,7 +11,7 @@ use Rattle.std.specs.Ordering.{match_ordering, ordering_reverse}
 use Rattle.std.specs.BTreeMap.{insert_entry, is_at}
 use Rattle.bencode_wire.specs.Tree.{tree, Pairs, no_pairs, pair, add_tree, has_key}
 use Rattle.bencode_wire.specs.Spelling.{put_pair, put_pairs, sorted}
-use Rattle.bencode_wire.specs.View.{view, trees_view, pairs_view}
+use Rattle.bencode_wire.specs.Inside.View.{view, trees_view, pairs_view}
 use Rattle.bencode_wire.specs.declared.ben.Ben.{Ben}
 
 abbrev pub Key : Type 0

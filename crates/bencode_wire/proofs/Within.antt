@@ -8,17 +8,17 @@ use Rattle.std.specs.Str.{bytes_eq}
 use Rattle.bencode_wire.specs.Tree.{Tree, integer, string, list, dictionary, Trees, no_trees, tree}
 use Rattle.bencode_wire.specs.Tree.{Pairs, no_pairs, pair, add_tree, add_pair, has_key, HasKey}
 use Rattle.bencode_wire.specs.Spelling.{text, ArePairs}
-use Rattle.bencode_wire.specs.Cut.{Frame, in_list, at_key, at_value, Token, between, after_i}
-use Rattle.bencode_wire.specs.Cut.{after_minus, digits, count, part, Cut, cut, greatest}
+use Rattle.bencode_wire.specs.Inside.Cut.{Frame, in_list, at_key, at_value, Token, between, after_i}
+use Rattle.bencode_wire.specs.Inside.Cut.{after_minus, digits, count, part, Cut, cut, greatest}
 use Rattle.bencode_wire.specs.Fault.{StreamRule, malformed, too_long, too_deep}
-use Rattle.bencode_wire.specs.Sign.{sign_of}
+use Rattle.bencode_wire.specs.Inside.Sign.{sign_of}
 use Rattle.bencode_wire.specs.declared.sign.Sign.{Sign}
 use Rattle.bencode_wire.specs.declared.sign.Sign.TheVariants as signs
-use Rattle.bencode_wire.specs.ByteSteps.{step_run, reads, whole, refuses, judged, within_limit}
-use Rattle.bencode_wire.specs.Beginnings.{ByteEffect, put, begin_value, begin_item, begin_key, goes}
-use Rattle.bencode_wire.specs.Beginnings.{stuck, ends, names, opens, begin}
-use Rattle.bencode_wire.specs.ByteEffects.{length_digits, more_length, integer_digits, more_digits}
-use Rattle.bencode_wire.specs.ByteEffects.{integer_with_sign, integer_minus, integer_open}
+use Rattle.bencode_wire.specs.Inside.ByteSteps.{step_run, reads, whole, refuses, judged, within_limit}
+use Rattle.bencode_wire.specs.Inside.Beginnings.{ByteEffect, put, begin_value, begin_item, begin_key, goes}
+use Rattle.bencode_wire.specs.Inside.Beginnings.{stuck, ends, names, opens, begin}
+use Rattle.bencode_wire.specs.Inside.ByteEffects.{length_digits, more_length, integer_digits, more_digits}
+use Rattle.bencode_wire.specs.Inside.ByteEffects.{integer_with_sign, integer_minus, integer_open}
 use Rattle.bencode_wire.specs.Stream.{IsClean}
 use Rattle.bencode_wire.proofs.Complete.{after, run, run-append, run-message}
 use Rattle.bencode_wire.proofs.Limits.{KeysDiffer, IsWithin, AreWithin, PairsWithin}

@@ -1,6 +1,6 @@
 // Copies, written out since a derived clone says nothing of a type that holds itself.
 ghost use Rattle.std.specs.Prelude.{◌≡◌, IfOk, map};
-ghost use Rattle.bencode_wire.specs.View.{view, trees_view, pairs_view};
+ghost use Rattle.bencode_wire.specs.Inside.View.{view, trees_view, pairs_view};
 
 use crate::ben::{Ben, Dictionary};
 use std::alloc::{AllocError, Global};

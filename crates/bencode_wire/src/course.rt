@@ -1,13 +1,13 @@
 // Reading bytes on, run by run.
 ghost use Rattle.std.specs.Prelude.{◌≡◌, ◌<◌, ◌≤◌, length, take, IfOk, IfSome, OnOk, MatchOption};
-ghost use Rattle.bencode_wire.specs.Fronts.{BeginsWith};
-ghost use Rattle.bencode_wire.specs.ByteSteps as steps;
+ghost use Rattle.bencode_wire.specs.Inside.Fronts.{BeginsWith};
+ghost use Rattle.bencode_wire.specs.Inside.ByteSteps as steps;
 ghost use Rattle.bencode_wire.specs.Spelling.{put_pair};
-ghost use Rattle.bencode_wire.specs.Reader.{frames_view, token_view, cut_view};
-ghost use Rattle.bencode_wire.specs.Gives.{Gives};
-ghost use Rattle.bencode_wire.specs.Course.{Continues};
-ghost use Rattle.bencode_wire.specs.Cut.{Cut};
-ghost use Rattle.bencode_wire.specs.Held.{Holds};
+ghost use Rattle.bencode_wire.specs.Inside.Reader.{frames_view, token_view, cut_view};
+ghost use Rattle.bencode_wire.specs.Inside.Gives.{Gives};
+ghost use Rattle.bencode_wire.specs.Inside.Course.{Continues};
+ghost use Rattle.bencode_wire.specs.Inside.Cut.{Cut};
+ghost use Rattle.bencode_wire.specs.Inside.Held.{Holds};
 ghost use Rattle.bencode_wire.specs.Stream.{IsRest};
 
 use crate::ben::Ben;

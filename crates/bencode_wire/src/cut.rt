@@ -1,6 +1,6 @@
 // What has come of a message.
 ghost use Rattle.std.specs.Prelude.{◌<◌, ◌≤◌};
-ghost use Rattle.bencode_wire.specs.Cut.{greatest};
+ghost use Rattle.bencode_wire.specs.Inside.Cut.{greatest};
 
 use crate::ben::{Ben, Dictionary};
 

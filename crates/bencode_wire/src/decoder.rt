@@ -36,7 +36,7 @@ pub struct Decoder {
 }
 
 impl Model for Decoder {
-    ghost use Rattle.bencode_wire.specs.State.{DecoderState};
+    ghost use Rattle.bencode_wire.specs.Inside.State.{DecoderState};
     ghost use Rattle.bencode_wire.specs.contracts.ben.Ben as messages;
     ghost use Rattle.std.specs.Coded.{codes};
 
@@ -44,7 +44,7 @@ impl Model for Decoder {
 
     ghost coded = { Prim.hlevel (codes, messages.the_row.coded) };
 
-    ghost use Rattle.bencode_wire.specs.Inside.{shown_state, IsInStep};
+    ghost use Rattle.bencode_wire.specs.Inside.Decoding.{shown_state, IsInStep};
 
     ghost view = { shown_state };
 
@@ -52,9 +52,9 @@ impl Model for Decoder {
 }
 
 impl Decoder {
-    ghost use Rattle.bencode_wire.specs.View.{view};
-    ghost use Rattle.bencode_wire.specs.Decoder.{ready_of, rest_of, fault_of, IsUnchanged, Stands};
-    ghost use Rattle.bencode_wire.specs.Return.{CanReturn};
+    ghost use Rattle.bencode_wire.specs.Inside.View.{view};
+    ghost use Rattle.bencode_wire.specs.Inside.Decoder.{ready_of, rest_of, fault_of, IsUnchanged, Stands};
+    ghost use Rattle.bencode_wire.specs.Inside.Return.{CanReturn};
 
     /// A decoder at the start of a stream. `limit` is the greatest length of a message, and of a
     /// string in one.

@@ -37,7 +37,7 @@ pub(crate) enum Refusal {
 
 impl Refusal {
     ghost use Rattle.std.specs.Prelude.{◌≡◌};
-    ghost use Rattle.bencode_wire.specs.Refusals.{refusal_at};
+    ghost use Rattle.bencode_wire.specs.Inside.Refusals.{refusal_at};
 
     pub(crate) fn at(self, place: u64) -> WireFault
         ensures { result ≡ refusal_at self place }

@@ -3,7 +3,7 @@ ghost use Rattle.std.specs.Prelude.{◌≡◌, ℕ, List, None, OnOk, OnErr, opt
 ghost use Rattle.std.specs.Str.{bytes_eq};
 ghost use Rattle.bencode_wire.specs.Spelling.{put_pair};
 ghost use Rattle.bencode_wire.specs.Tree.{field};
-ghost use Rattle.bencode_wire.specs.View.{view, pairs_view};
+ghost use Rattle.bencode_wire.specs.Inside.View.{view, pairs_view};
 
 use crate::ben::{Ben, Dictionary};
 use std::alloc::AllocError;

@@ -4,7 +4,7 @@ ghost use Rattle.bencode_wire.specs.Tree.{Tree, Pairs, dictionary};
 ghost use Rattle.bencode_wire.specs.Spelling.{text, canonical, sorted, Spells, IsSpellable};
 ghost use Rattle.bencode_wire.specs.Spelling.{IsDistinct};
 ghost use Rattle.bencode_wire.specs.Stream.{StreamEnding, Streams};
-ghost use Rattle.bencode_wire.specs.Nesting.{nesting};
+ghost use Rattle.bencode_wire.specs.Inside.Nesting.{nesting};
 
 /// No spelling of a value is a proper prefix of a spelling of any value: where two begin the same
 /// bytes, they are the same, and so is what follows them.

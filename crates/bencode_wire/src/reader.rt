@@ -3,18 +3,18 @@
 // reader by value and gives the next one.
 ghost use Rattle.std.specs.Prelude.{◌≡◌, ℕ, ◌<◌, ◌≤◌, ◌+◌, ◌*◌, ◌^◌, length, nat_le, if◌then◌else◌};
 ghost use Rattle.std.specs.Prelude.{MatchOption, IfOk, IfErr, Some, None, [], ◌∷◌};
-ghost use Rattle.bencode_wire.specs.Cut as cuts;
-ghost use Rattle.bencode_wire.specs.Beginnings as beginnings;
-ghost use Rattle.bencode_wire.specs.ByteEffects as effects;
-ghost use Rattle.bencode_wire.specs.ByteSteps as steps;
-ghost use Rattle.bencode_wire.specs.ByteSteps.{judged};
+ghost use Rattle.bencode_wire.specs.Inside.Cut as cuts;
+ghost use Rattle.bencode_wire.specs.Inside.Beginnings as beginnings;
+ghost use Rattle.bencode_wire.specs.Inside.ByteEffects as effects;
+ghost use Rattle.bencode_wire.specs.Inside.ByteSteps as steps;
+ghost use Rattle.bencode_wire.specs.Inside.ByteSteps.{judged};
 ghost use Rattle.bencode_wire.specs.Tree as tree;
-ghost use Rattle.bencode_wire.specs.Cut.{in_list, at_key, at_value};
+ghost use Rattle.bencode_wire.specs.Inside.Cut.{in_list, at_key, at_value};
 ghost use Rattle.bencode_wire.specs.Spelling.{put_pair};
-ghost use Rattle.bencode_wire.specs.View.{view, trees_view, pairs_view};
-ghost use Rattle.bencode_wire.specs.Sign.{sign_of};
-ghost use Rattle.bencode_wire.specs.Reader.{frame_view, frames_view, token_view, cut_view};
-ghost use Rattle.bencode_wire.specs.Gives.{Gives};
+ghost use Rattle.bencode_wire.specs.Inside.View.{view, trees_view, pairs_view};
+ghost use Rattle.bencode_wire.specs.Inside.Sign.{sign_of};
+ghost use Rattle.bencode_wire.specs.Inside.Reader.{frame_view, frames_view, token_view, cut_view};
+ghost use Rattle.bencode_wire.specs.Inside.Gives.{Gives};
 
 use crate::ben::{Ben, Dictionary};
 use crate::cut::{Expected, Frame, PartOfInteger, PartOfString, Progress, Reader, Token};

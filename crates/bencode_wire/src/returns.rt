@@ -1,9 +1,9 @@
 // A decoder goes back over its last piece, or lets go of what it would need for that.
 ghost use Rattle.std.specs.Prelude.{◌≡◌, ℕ, List, [], ◌++◌, None};
 ghost use Rattle.bencode_wire.specs.Tree.{Tree};
-ghost use Rattle.bencode_wire.specs.Course.{ready_view};
-ghost use Rattle.bencode_wire.specs.Decoder.{ready_of, fault_of, IsUnchanged, Stands};
-ghost use Rattle.bencode_wire.specs.Return.{earlier_of, before_last_piece, CanReturn};
+ghost use Rattle.bencode_wire.specs.Inside.Course.{ready_view};
+ghost use Rattle.bencode_wire.specs.Inside.Decoder.{ready_of, fault_of, IsUnchanged, Stands};
+ghost use Rattle.bencode_wire.specs.Inside.Return.{earlier_of, before_last_piece, CanReturn};
 
 use crate::ben::Ben;
 use crate::decoder::Decoder;

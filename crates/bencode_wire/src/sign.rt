@@ -14,7 +14,7 @@ pub(crate) enum Sign {
 }
 
 impl Sign {
-    ghost use Rattle.bencode_wire.specs.Sign.{sign_of};
+    ghost use Rattle.bencode_wire.specs.Inside.Sign.{sign_of};
 
     pub(crate) fn of(byte: u8) -> Sign
         ensures { result ≡ sign_of byte }

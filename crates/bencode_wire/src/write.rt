@@ -1,6 +1,6 @@
 // Spelling a value. A dictionary's keys come sorted as raw bytes, which is the order of its map.
 ghost use Rattle.std.specs.Prelude.{◌≡◌, ◌++◌, IfOk, OnOk, OnErr, codes, length};
-ghost use Rattle.bencode_wire.specs.View.{view, trees_view, pairs_view};
+ghost use Rattle.bencode_wire.specs.Inside.View.{view, trees_view, pairs_view};
 ghost use Rattle.bencode_wire.specs.Spelling.{canonical, sorted_trees, put_pairs, trees_text};
 ghost use Rattle.bencode_wire.specs.Spelling.{pairs_text, string_text, integer_text, IsInteger};
 ghost use Rattle.bencode_wire.specs.Spelling.{IsString, IsSpellable, AreSpellable, ArePairs};

@@ -1,3 +1,3 @@
 pub mod ApplyOutcome
 pub mod Meaning
-pub mod View
+pub mod Inside

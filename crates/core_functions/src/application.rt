@@ -1,10 +1,10 @@
 // Applying a function to values.
 ghost use Rattle.std.specs.Prelude.{◌≡◌, true, length, map, option_map, string_bytes};
-ghost use Rattle.value_data.specs.View.{view};
+ghost use Rattle.value_data.specs.Inside.View.{view};
 ghost use Rattle.function_names.specs.Names.{fits};
 ghost use Rattle.core_functions.specs.ApplyOutcome.{limited_outcome, bounded_outcome, printed_nil};
 ghost use Rattle.core_functions.specs.Meaning.{meaning};
-ghost use Rattle.core_functions.specs.View.{GivesOutcome};
+ghost use Rattle.core_functions.specs.Inside.View.{GivesOutcome};
 
 use core_integers::apply_integers;
 use core_maps::apply_maps;

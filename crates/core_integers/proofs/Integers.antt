@@ -9,7 +9,7 @@ use Rattle.std.proofs.lemmas.Int.{to_z-of_z}
 use Rattle.std.proofs.lemmas.Grind.{common_steps}
 use Rattle.std.proofs.lemmas.Bool.Decides.{nat_tests}
 use Rattle.repl_faults.specs.Failure.{Failure, integer_overflow}
-use Rattle.repl_faults.specs.View.{Fails, failure_of}
+use Rattle.repl_faults.specs.Inside.View.{Fails, failure_of}
 use Rattle.repl_faults.specs.declared.error.ApplyError.{ApplyError}
 use Rattle.repl_faults.specs.declared.error.ApplyError.TheVariants as errors
 use Rattle.core_integers.specs.Arithmetic.{fits_64, or_overflow, left_fold}

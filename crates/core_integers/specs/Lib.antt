@@ -2,4 +2,4 @@ pub mod Names
 pub mod Arithmetic
 pub mod Comparison
 pub mod Meaning
-pub mod BinaryOperation
+pub mod Inside

@@ -1,7 +1,7 @@
 // Applying a function of integers to values.
 ghost use Rattle.std.specs.Prelude.{◌≡◌, true, length, map, IfOk, vec_len};
-ghost use Rattle.value_data.specs.View.{view};
-ghost use Rattle.repl_faults.specs.View.{Gives};
+ghost use Rattle.value_data.specs.Inside.View.{view};
+ghost use Rattle.repl_faults.specs.Inside.View.{Gives};
 ghost use Rattle.core_integers.specs.Names.{fits_integer_function};
 ghost use Rattle.core_integers.specs.Meaning.{integer_meaning, integers_in};
 ghost use Rattle.core_integers.specs.Meaning as meant;

@@ -2,9 +2,9 @@
 ghost use Rattle.std.specs.Prelude.{◌≡◌, ℤ, pos, length, true, SomeIff, FitsSigned, int_div, ◌<◌};
 ghost use Rattle.std.specs.Int.{w64, IsNonZero};
 ghost use Rattle.core_integers.specs.Names.{fits_arithmetic};
-ghost use Rattle.repl_faults.specs.View.{Gives};
+ghost use Rattle.repl_faults.specs.Inside.View.{Gives};
 ghost use Rattle.core_integers.specs.Arithmetic as meant;
-ghost use Rattle.core_integers.specs.BinaryOperation.{binary_operation};
+ghost use Rattle.core_integers.specs.Inside.BinaryOperation.{binary_operation};
 
 use crate::function::ArithmeticFunction;
 use repl_faults::{ApplyError, divide_by_zero, integer_overflow};

@@ -1,6 +1,6 @@
 // Which functions there are, and how many arguments each takes.
 ghost use Rattle.std.specs.Prelude.{◌≡◌, Some};
-ghost use Rattle.function_rows.specs.View.{row_view};
+ghost use Rattle.function_rows.specs.Inside.View.{function_row_view};
 ghost use Rattle.core_integers.specs.Names.{arithmetic_row, comparison_name, integer_test_name};
 ghost use Rattle.core_integers.specs.Names.{integer_row, integer_functions};
 ghost use Rattle.core_integers.specs.Names.{integer_function_named, name_of_integer_function};
@@ -114,7 +114,7 @@ impl IntegerFunction {
 
 impl ArithmeticFunction {
     fn row(self) -> FunctionRow
-        ensures meant { row_view result ≡ arithmetic_row self }
+        ensures meant { function_row_view result ≡ arithmetic_row self }
         ensures known { integer_function_named result.name.now
             ≡ Some (IntegerFunction.Arithmetic self) }
     {

@@ -1,12 +1,12 @@
 -- Values as their data.
 use Rattle.std.proofs.Common.{◌≡◌, ℕ, zero, suc, ◌<◌, ◌≤◌, List, [], ◌∷◌, get_or, length, refl, sym, ap, arith}
 use Rattle.value_data.specs.Datum.{nil}
-use Rattle.value_data.specs.View.{view, pair_view}
+use Rattle.value_data.specs.Inside.View.{view, pair_view}
 use Rattle.value_data.specs.declared.value.Value.{Value}
 use Rattle.value_data.specs.Listed.{vector_of_two}
 use Rattle.value_data.proofs.Views.{value_views}
 use Rattle.core_items.proofs.Lists.{lists}
-use Rattle.core_items.specs.View.{pair_vectors}
+use Rattle.core_items.specs.Inside.View.{pair_vectors}
 
 pub pair_vectors-at : (ps : List (Value × Value)) (i : ℕ) (p : Value × Value) → i < length ps → p ≡ get_or ps i p
     → get_or (pair_vectors ps) i nil ≡ vector_of_two (view p.0, view p.1)

@@ -1,4 +1,4 @@
 pub mod Items
 pub mod Making
 pub mod Arguments
-pub mod View
+pub mod Inside

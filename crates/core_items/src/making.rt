@@ -2,7 +2,7 @@
 #![tactic(auto, using(crate::proofs::Values::seen))]
 
 ghost use Rattle.std.specs.Prelude.{◌≡◌, map, IfOk};
-ghost use Rattle.value_data.specs.View.{view};
+ghost use Rattle.value_data.specs.Inside.View.{view};
 ghost use Rattle.core_items.specs.Making as meant;
 
 use repl_values::{Sequence, Value};

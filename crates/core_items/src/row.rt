@@ -2,11 +2,11 @@
 #![tactic(auto, using(crate::proofs::Values::seen))]
 
 ghost use Rattle.std.specs.Prelude.{◌≡◌, ◌<◌, ◌^◌, length, drop, map, IfOk};
-ghost use Rattle.value_data.specs.View.{view};
-ghost use Rattle.repl_faults.specs.View.{Gives};
+ghost use Rattle.value_data.specs.Inside.View.{view};
+ghost use Rattle.repl_faults.specs.Inside.View.{Gives};
 ghost use Rattle.core_items.specs.Items.{items_in};
 ghost use Rattle.core_items.specs.Arguments.{item_or_nil};
-ghost use Rattle.core_items.specs.View.{row_view, pair_vectors};
+ghost use Rattle.core_items.specs.Inside.View.{row_view, pair_vectors};
 
 use repl_faults::{ApplyError, wrong_argument};
 use repl_values::{Value, copy, copy_items, pair_as_vector};

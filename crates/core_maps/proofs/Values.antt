@@ -1,7 +1,7 @@
 -- Values as their data.
 use Rattle.std.proofs.Common.{◌≡◌, ℕ, ℤ, zero, suc, ◌+◌, ◌<◌, ◌≤◌, List, [], ◌∷◌, ◌++◌, get_or, set, take, drop, length, map, option_map, slice_get, add-one, Result, Ok, Err, refl, ap, arith}
 use Rattle.value_data.specs.Datum.{Datum}
-use Rattle.value_data.specs.View.{view}
+use Rattle.value_data.specs.Inside.View.{view}
 use Rattle.value_data.specs.declared.value.Value.{Value}
 use Rattle.value_data.proofs.Views.{value_views}
 use Rattle.repl_faults.specs.Failure.{Failure}

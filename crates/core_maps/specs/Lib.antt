@@ -1,4 +1,4 @@
 pub mod Names
 pub mod Arguments
 pub mod Meaning
-pub mod View
+pub mod Inside

@@ -1,7 +1,7 @@
 // Applying a function of maps to values.
 ghost use Rattle.std.specs.Prelude.{◌≡◌, true, length, map};
-ghost use Rattle.value_data.specs.View.{view};
-ghost use Rattle.repl_faults.specs.View.{Gives};
+ghost use Rattle.value_data.specs.Inside.View.{view};
+ghost use Rattle.repl_faults.specs.Inside.View.{Gives};
 ghost use Rattle.core_maps.specs.Names.{fits_map_function};
 ghost use Rattle.core_maps.specs.Meaning.{map_meaning};
 

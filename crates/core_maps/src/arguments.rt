@@ -2,11 +2,11 @@
 #![tactic(auto, using(crate::proofs::Values::seen))]
 
 ghost use Rattle.std.specs.Prelude.{◌≡◌, map, option_map, IfOk};
-ghost use Rattle.value_data.specs.View.{view};
-ghost use Rattle.repl_faults.specs.View.{Gives};
-ghost use Rattle.value_data.specs.Seen.{entry_view};
+ghost use Rattle.value_data.specs.Inside.View.{view};
+ghost use Rattle.repl_faults.specs.Inside.View.{Gives};
+ghost use Rattle.value_data.specs.Inside.Seen.{entry_view};
 ghost use Rattle.core_maps.specs.Arguments as meant;
-ghost use Rattle.core_maps.specs.View.{indexed_view};
+ghost use Rattle.core_maps.specs.Inside.View.{indexed_view};
 
 use core_items::integer_of;
 use repl_faults::ApplyError;

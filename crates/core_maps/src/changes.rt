@@ -3,10 +3,10 @@
 
 ghost use Rattle.std.specs.Prelude.{◌≡◌, ◌≤◌, ◌+◌, ◌∷◌, ◌++◌, map, take, drop, vec_len, length};
 ghost use Rattle.std.specs.Prelude.{IfOk, IfSome};
-ghost use Rattle.value_data.specs.View.{view};
-ghost use Rattle.repl_faults.specs.View.{Gives};
-ghost use Rattle.value_data.specs.Seen.{entry_view};
-ghost use Rattle.core_maps.specs.View.{indexed_view};
+ghost use Rattle.value_data.specs.Inside.View.{view};
+ghost use Rattle.repl_faults.specs.Inside.View.{Gives};
+ghost use Rattle.value_data.specs.Inside.Seen.{entry_view};
+ghost use Rattle.core_maps.specs.Inside.View.{indexed_view};
 ghost use Rattle.core_maps.specs.Meaning as meant;
 
 use crate::arguments::places_of;

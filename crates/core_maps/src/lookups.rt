@@ -2,8 +2,8 @@
 #![tactic(auto, using(crate::proofs::Values::seen))]
 
 ghost use Rattle.std.specs.Prelude.{◌≡◌, option_map};
-ghost use Rattle.value_data.specs.View.{view, items_view};
-ghost use Rattle.repl_faults.specs.View.{Gives};
+ghost use Rattle.value_data.specs.Inside.View.{view, items_view};
+ghost use Rattle.repl_faults.specs.Inside.View.{Gives};
 ghost use Rattle.core_maps.specs.Meaning as meant;
 
 use crate::function::MapFunction;

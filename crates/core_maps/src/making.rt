@@ -2,8 +2,8 @@
 #![tactic(auto, using(crate::proofs::Values::seen))]
 
 ghost use Rattle.std.specs.Prelude.{◌≡◌, map, IfOk};
-ghost use Rattle.value_data.specs.View.{view, pair_view, pairs_view};
-ghost use Rattle.repl_faults.specs.View.{Gives};
+ghost use Rattle.value_data.specs.Inside.View.{view, pair_view, pairs_view};
+ghost use Rattle.repl_faults.specs.Inside.View.{Gives};
 ghost use Rattle.core_maps.specs.Arguments.{map_pairs_in};
 ghost use Rattle.core_maps.specs.Meaning as meant;
 

@@ -1,7 +1,7 @@
 -- Values, seen as data, alone and beside their neighbours.
 use Rattle.std.proofs.Common.{◌≡◌, List, [], ◌∷◌, drop, map, refl}
 use Rattle.std.specs.List.{list_all, zip, drop-map}
-use Rattle.value_data.specs.View.{view}
+use Rattle.value_data.specs.Inside.View.{view}
 use Rattle.value_data.specs.Same.{same}
 use Rattle.value_data.specs.declared.value.Value.{Value}
 use Rattle.value_data.proofs.Views.{value_views}

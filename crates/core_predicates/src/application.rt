@@ -1,9 +1,9 @@
 // Applying a predicate to values.
 ghost use Rattle.std.specs.Prelude.{◌≡◌, true, length, map};
 ghost use Rattle.std.specs.List.{list_all};
-ghost use Rattle.value_data.specs.View.{view};
+ghost use Rattle.value_data.specs.Inside.View.{view};
 ghost use Rattle.value_data.specs.Same.{same as are_same};
-ghost use Rattle.repl_faults.specs.View.{Gives};
+ghost use Rattle.repl_faults.specs.Inside.View.{Gives};
 ghost use Rattle.core_items.specs.Arguments.{neighbours};
 ghost use Rattle.core_predicates.specs.Names.{fits_predicate_function};
 ghost use Rattle.core_predicates.specs.Meaning as meant;

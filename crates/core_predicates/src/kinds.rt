@@ -1,6 +1,6 @@
 // Tests of one value, of any kind. Nothing here takes memory.
 ghost use Rattle.std.specs.Prelude.{◌≡◌};
-ghost use Rattle.value_data.specs.View.{view};
+ghost use Rattle.value_data.specs.Inside.View.{view};
 ghost use Rattle.core_predicates.specs.Kinds as meant;
 
 use crate::function::ValueTest;

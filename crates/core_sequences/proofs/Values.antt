@@ -2,11 +2,11 @@
 use Rattle.std.proofs.Common.{◌≡◌, ◌≢◌, List, [], ◌∷◌, ◌++◌, get_or, length, map, drop, reverse, Some, None, Result, Ok, Err, refl, sym, ap, ◌∙◌, arith}
 use mathlib.Core.List.{reverse_aux}
 use Rattle.value_data.specs.Datum.{Datum, nil, list, vector, Items, no_items, item}
-use Rattle.value_data.specs.View.{view, items_view}
+use Rattle.value_data.specs.Inside.View.{view, items_view}
 use Rattle.value_data.specs.declared.value.Value.{Value}
 use Rattle.value_data.proofs.Views.{value_views}
 use Rattle.repl_faults.specs.Failure.{Failure}
-use Rattle.value_data.specs.Ends.{with_last, behind_first}
+use Rattle.value_data.specs.Inside.Ends.{with_last, behind_first}
 use Rattle.value_data.specs.Listed.{listed}
 use Rattle.core_items.specs.Making.{vector_of, list_or_nil}
 use Rattle.core_items.proofs.Lists.{lists, of-listed}

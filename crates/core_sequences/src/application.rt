@@ -1,7 +1,7 @@
 // Applying a function of sequences to values.
 ghost use Rattle.std.specs.Prelude.{◌≡◌, true, length, map};
-ghost use Rattle.value_data.specs.View.{view};
-ghost use Rattle.repl_faults.specs.View.{Gives};
+ghost use Rattle.value_data.specs.Inside.View.{view};
+ghost use Rattle.repl_faults.specs.Inside.View.{Gives};
 ghost use Rattle.core_sequences.specs.Names.{fits_sequence_function};
 ghost use Rattle.core_sequences.specs.Meaning.{sequence_meaning};
 

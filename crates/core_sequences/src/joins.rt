@@ -4,9 +4,9 @@
 ghost use Rattle.std.specs.Prelude.{◌≡◌, ◌++◌, ◌∷◌, [], map, option_map, reverse, IfOk};
 ghost use Rattle.value_data.specs.Datum.{vector};
 ghost use Rattle.value_data.specs.Listed.{listed};
-ghost use Rattle.value_data.specs.Seen.{entry_view};
-ghost use Rattle.value_data.specs.View.{view, items_view};
-ghost use Rattle.repl_faults.specs.View.{Gives};
+ghost use Rattle.value_data.specs.Inside.Seen.{entry_view};
+ghost use Rattle.value_data.specs.Inside.View.{view, items_view};
+ghost use Rattle.repl_faults.specs.Inside.View.{Gives};
 ghost use Rattle.core_sequences.specs.Pairs.{as_pair, pair_in, pairs_in};
 ghost use Rattle.core_sequences.specs.Meaning as meant;
 

@@ -1,5 +1,5 @@
 pub mod Names
 pub mod Limits
 pub mod Printing
-pub mod Spelling
 pub mod Meaning
+pub mod Inside

@@ -4,10 +4,10 @@
 #![tactic(auto, using(crate::proofs::Shortness::short_steps))]
 
 ghost use Rattle.std.specs.Prelude.{◌≡◌, ◌++◌, IfOk, OnOk, map, option_map, string_bytes};
-ghost use Rattle.value_data.specs.View.{view};
+ghost use Rattle.value_data.specs.Inside.View.{view};
 ghost use Rattle.core_texts.specs.Limits.{if_short};
 ghost use Rattle.core_texts.specs.Printing as meant;
-ghost use Rattle.core_texts.specs.Spelling.{spelling_of};
+ghost use Rattle.core_texts.specs.Inside.Spelling.{spelling_of};
 
 use crate::function::PrintFunction;
 use repl_values::{MOST_TEXT, Value, display_into, print_into};

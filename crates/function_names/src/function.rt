@@ -1,7 +1,7 @@
 // Which functions there are, and how many arguments each takes.
 ghost use Rattle.std.specs.Prelude.{◌≡◌, Some, false, is_some};
 ghost use Rattle.std.specs.Option.{option_map_or};
-ghost use Rattle.function_rows.specs.View.{row_view};
+ghost use Rattle.function_rows.specs.Inside.View.{function_row_view};
 ghost use Rattle.function_names.specs.Names.{function_named, core_row, name_of, fits};
 
 use core_integers::IntegerFunction;
@@ -65,7 +65,7 @@ impl CoreFunction {
 
     // Its row in the table of its group.
     fn row(self) -> FunctionRow
-        ensures meant { row_view result ≡ core_row self }
+        ensures meant { function_row_view result ≡ core_row self }
         ensures known { function_named result.name.now ≡ Some self }
     {
         match self {

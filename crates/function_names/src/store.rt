@@ -1,6 +1,6 @@
 // Which functions ask the store, and how many arguments each takes.
 ghost use Rattle.std.specs.Prelude.{◌≡◌, Some, None};
-ghost use Rattle.function_rows.specs.View.{row_view};
+ghost use Rattle.function_rows.specs.Inside.View.{function_row_view};
 ghost use Rattle.function_names.specs.Names.{function_named};
 ghost use Rattle.function_names.specs.StoreNames.{store_row, store_functions};
 ghost use Rattle.function_names.specs.StoreNames.{store_function_named, store_name_of, store_fits};
@@ -39,7 +39,7 @@ impl HasRow for StoreFunction {
     ghost functions = { store_functions };
 
     fn row(self) -> FunctionRow
-        ensures meant { row_view result ≡ store_row self }
+        ensures meant { function_row_view result ≡ store_row self }
         ensures known { store_function_named result.name.now ≡ Some self }
         ensures apart { function_named result.name.now ≡ None }
     {

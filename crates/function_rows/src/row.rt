@@ -1,7 +1,7 @@
 // A function's row in the table of its group. Nothing here takes memory.
 ghost use Rattle.std.specs.Prelude.{◌≡◌, List, Some};
 ghost use Rattle.function_rows.specs.Rows.{Row};
-ghost use Rattle.function_rows.specs.View.{row_view};
+ghost use Rattle.function_rows.specs.Inside.View.{function_row_view};
 ghost use Rattle.function_rows.specs.Rows as meant;
 
 /// How many arguments a function takes.
@@ -44,7 +44,7 @@ pub struct FunctionRow {
 impl FunctionRow {
     /// The row of this name.
     pub fn new(name: &'static str, arity: Arity) -> FunctionRow
-        ensures { row_view result ≡ record { name = name.now; arity = arity } }
+        ensures { function_row_view result ≡ record { name = name.now; arity = arity } }
     {
         FunctionRow { name, arity }
     }
@@ -59,7 +59,7 @@ pub trait HasRow: Copy {
 
     /// Its row. The table has no other function of this name.
     fn row(self) -> FunctionRow
-        ensures meant { row_view result ≡ row_of self }
+        ensures meant { function_row_view result ≡ row_of self }
         ensures known { meant.first_named row_of functions result.name.now ≡ Some self };
 }
 

@@ -1,7 +1,7 @@
 // A tenant that hears pieces. What is refused for want of memory is asked for once more: any one
 // refusal changes no answer.
 ghost use Rattle.std.specs.Prelude.{◌≡◌, [], IfOk};
-ghost use Rattle.bencode_wire.specs.Decoder.{ready_of};
+ghost use Rattle.bencode_wire.specs.Inside.Decoder.{ready_of};
 ghost use Rattle.tenant_actors.specs.View.{actors_view};
 ghost use Rattle.tenant_hearing.specs.Holds.{AreSeated};
 

@@ -10,9 +10,9 @@ use Rattle.std.specs.declared.alloc.Global.{Global}
 use Rattle.std.specs.declared.sync.ArcStr.{ArcStr}
 use Rattle.std.proofs.lemmas.Map.Text.{is_eq-slice_cmp}
 use Rattle.std.proofs.lemmas.Slice.Eq.{bytes_eq-Decides}
-use Rattle.value_data.specs.View.{view}
+use Rattle.value_data.specs.Inside.View.{view}
 use Rattle.local_names.specs.Locals.{LocalData, local_value}
-use Rattle.local_names.specs.View.{local_view, newest_place, by_bytes, AreLinked, HasNewest}
+use Rattle.local_names.specs.Inside.View.{local_view, newest_place, by_bytes, AreLinked, HasNewest}
 use Rattle.local_names.specs.declared.local.Local.{Local}
 
 pub place-below : (ls : List LocalData) (s : List ℕ) (p : ℕ) → newest_place ls s ≡ Some p → p < length ls

@@ -1,2 +1,2 @@
 pub mod Locals
-pub mod View
+pub mod Inside

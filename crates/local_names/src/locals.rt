@@ -16,7 +16,7 @@ pub struct Locals {
 impl Model for Locals {
     ghost use Rattle.std.specs.Prelude.{List, map};
     ghost use Rattle.local_names.specs.Locals.{LocalData};
-    ghost use Rattle.local_names.specs.View.{locals_code, local_view, AreLinked, HasNewest};
+    ghost use Rattle.local_names.specs.Inside.View.{locals_code, local_view, AreLinked, HasNewest};
 
     ghost Value = { List LocalData };
 

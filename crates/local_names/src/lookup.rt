@@ -6,9 +6,9 @@ ghost use Rattle.std.specs.Prelude.{is_some, Some, true};
 ghost use Rattle.std.specs.VecDeque.{deque_len};
 ghost use Rattle.std.specs.BTreeMap.{get, Updates};
 ghost use Rattle.std.specs.Arc.{arc_str_bytes};
-ghost use Rattle.value_data.specs.View.{view};
+ghost use Rattle.value_data.specs.Inside.View.{view};
 ghost use Rattle.local_names.specs.Locals.{LocalData, local_value};
-ghost use Rattle.local_names.specs.View.{by_bytes, local_view, newest_place};
+ghost use Rattle.local_names.specs.Inside.View.{by_bytes, local_view, newest_place};
 
 use crate::local::Local;
 use crate::locals::Locals;

@@ -2,4 +2,4 @@ pub mod Bindings
 pub mod Namespaces
 pub mod Latest
 pub mod Resolving
-pub mod Seen
+pub mod Inside

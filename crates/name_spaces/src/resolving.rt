@@ -1,15 +1,15 @@
 // How symbols are resolved in the namespaces of a tenant.
 ghost use Rattle.std.specs.Prelude.{◌≡◌, IfOk, option_map};
-ghost use Rattle.repl_faults.specs.View.{failure_of};
+ghost use Rattle.repl_faults.specs.Inside.View.{failure_of};
 ghost use Rattle.function_names.specs.StoreNames.{store_function_named};
 ghost use Rattle.repl_asks.specs.Exchange.{names_function, names_nothing};
-ghost use Rattle.repl_asks.specs.View.{binding_view, named_view, resolution_view};
+ghost use Rattle.repl_asks.specs.Inside.View.{binding_view, named_view, resolution_view};
 ghost use Rattle.name_spaces.specs.Bindings.{nothing_bound};
 ghost use Rattle.name_spaces.specs.Latest.{latest_named};
 ghost use Rattle.name_spaces.specs.Resolving.{resolved, simple_symbol, qualified_symbol};
 ghost use Rattle.name_spaces.specs.Resolving.{unbound_symbol, resolution_outside_core};
 ghost use Rattle.name_spaces.specs.Resolving.{bound_resolution, found_resolution};
-ghost use Rattle.name_spaces.specs.Seen.{namespaces_of, bindings_named, found_view};
+ghost use Rattle.name_spaces.specs.Inside.Seen.{namespaces_of, bindings_named, found_view};
 
 use crate::found::Found;
 use crate::latest::Latest;
@@ -59,7 +59,7 @@ impl Spaces {
         }
     }
 
-    #[tactic(auto, unfolding(crate::specs::Seen::namespaces_of))]
+    #[tactic(auto, unfolding(crate::specs::Inside::Seen::namespaces_of))]
     fn resolve_qualified(
         &self,
         alloc: Global,

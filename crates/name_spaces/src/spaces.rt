@@ -2,7 +2,7 @@
 ghost use Rattle.std.specs.Prelude.{◌≡◌, ℕ, List, true, false, is_some, IfOk, OnOk, OnErr};
 ghost use Rattle.std.specs.Arc.{arc_str_bytes};
 ghost use Rattle.std.specs.BTreeMap.{get_by_text};
-ghost use Rattle.repl_asks.specs.View.{binding_view};
+ghost use Rattle.repl_asks.specs.Inside.View.{binding_view};
 ghost use Rattle.repl_asks.specs.Namespaces.{is_fixed};
 ghost use Rattle.name_spaces.specs.Namespaces.{is_there, at_start, with_entered_namespace};
 ghost use Rattle.name_spaces.specs.Namespaces.{with_definition, with_namespace};
@@ -29,7 +29,7 @@ pub struct Spaces {
 }
 
 impl Spaces {
-    ghost use Rattle.name_spaces.specs.Seen.{bound_in, namespaces_of};
+    ghost use Rattle.name_spaces.specs.Inside.Seen.{bound_in, namespaces_of};
 
     /// The namespace `user` alone, which binds nothing. It fails only for want of memory.
     #[tactic(auto, unfolding(repl_asks::specs::Namespaces::is_fixed))]
@@ -57,7 +57,7 @@ impl Spaces {
     /// Makes a namespace where it is new, and leaves one that is there as it is. A fixed one is not
     /// made. It takes about the logarithm of the number of namespaces, and fails only for want of
     /// memory; then all stays as it was.
-    #[tactic(auto, unfolding(crate::specs::Namespaces::with_entered_namespace, crate::specs::Seen::namespaces_of))]
+    #[tactic(auto, unfolding(crate::specs::Namespaces::with_entered_namespace, crate::specs::Inside::Seen::namespaces_of))]
     pub fn enter(&mut self, alloc: Global, name: &str) -> Result<(), AllocError>
         ensures entered { OnOk result (namespaces_of self.new
             ≡ with_entered_namespace (namespaces_of self.old) name.now) }
@@ -72,7 +72,7 @@ impl Spaces {
     /// Binds a name in a namespace, in place of what it was bound to. A namespace that is not there
     /// is made. In a fixed one nothing is bound. It takes about the logarithm of the number of
     /// namespaces and of names, and fails only for want of memory; then all stays as it was.
-    #[tactic(auto, unfolding(crate::specs::Namespaces::with_definition, crate::specs::Seen::namespaces_of))]
+    #[tactic(auto, unfolding(crate::specs::Namespaces::with_definition, crate::specs::Inside::Seen::namespaces_of))]
     pub fn define(
         &mut self,
         alloc: Global,
@@ -99,7 +99,7 @@ impl Spaces {
     }
 
     // Puts a namespace in, in place of the one of its name.
-    #[tactic(auto, unfolding(crate::specs::Seen::namespaces_of))]
+    #[tactic(auto, unfolding(crate::specs::Inside::Seen::namespaces_of))]
     fn put(&mut self, alloc: Global, name: &str, vars: Vars) -> Result<(), AllocError>
         requires { is_fixed name.now ≡ false }
         ensures placed { OnOk result (namespaces_of self.new

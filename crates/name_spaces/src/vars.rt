@@ -13,9 +13,9 @@ pub(crate) struct Vars {
 impl Vars {
     ghost use Rattle.std.specs.Prelude.{◌≡◌, OnOk, OnErr, option_map};
     ghost use Rattle.std.specs.Arc.{arc_str_bytes};
-    ghost use Rattle.repl_asks.specs.View.{binding_view};
+    ghost use Rattle.repl_asks.specs.Inside.View.{binding_view};
     ghost use Rattle.name_spaces.specs.Bindings.{nothing_bound, rebound};
-    ghost use Rattle.name_spaces.specs.Seen.{bound_in};
+    ghost use Rattle.name_spaces.specs.Inside.Seen.{bound_in};
 
     /// No name is bound. It takes no memory.
     pub(crate) fn new(alloc: Global) -> Vars

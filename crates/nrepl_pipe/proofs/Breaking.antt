@@ -8,7 +8,7 @@ use Rattle.server_rules.specs.Ground.{Ground}
 use Rattle.tenant_turns.specs.Turns.{Lone, LoneTurn, hears, lone_after, lone_run, lone_served}
 use Rattle.nrepl_pipe.specs.Schedule.{AreRounds}
 use Rattle.nrepl_pipe.specs.Served.{Moves, BeginsToServe}
-use Rattle.nrepl_pipe.specs.Parts.{IsPiece, LosesPiece, Begins, BeginsRounds}
+use Rattle.nrepl_pipe.specs.Inside.Parts.{IsPiece, LosesPiece, Begins, BeginsRounds}
 use Rattle.nrepl_pipe.proofs.Turns.{lone_served-append}
 use Rattle.nrepl_pipe.proofs.Hearing.{TakesIn}
 use Rattle.nrepl_pipe.proofs.Lasting.{rounds-exist}

@@ -12,7 +12,7 @@ use Rattle.tenant_turns.specs.Turns.{Lone, LoneTurn, drains, LoneStepped, accept
 use Rattle.tenant_turns.specs.Turns.{ended_as, lone_step, lone_or, lone_after, lone_run}
 use Rattle.tenant_turns.specs.Turns.{lone_served}
 use Rattle.nrepl_pipe.specs.Schedule.{drain_all, MeetsWorn}
-use Rattle.nrepl_pipe.specs.Parts.{Makes, Begins}
+use Rattle.nrepl_pipe.specs.Inside.Parts.{Makes, Begins}
 use Rattle.nrepl_pipe.proofs.Turns.{lone_served-first, lone_run-first}
 
 -- the tenant with these replies alone

@@ -11,7 +11,7 @@ use Rattle.tenant_turns.specs.Turns.{bytes_given, lone_after, lone_run, lone_ser
 use Rattle.nrepl_pipe.specs.Schedule.{round, AreRounds, last, MeetsWorn, IsSchedule, stream_end}
 use Rattle.nrepl_pipe.specs.Schedule.{IsEnd}
 use Rattle.nrepl_pipe.specs.Served.{Moves, Serves}
-use Rattle.nrepl_pipe.specs.Parts.{IsPiece, MakesRounds}
+use Rattle.nrepl_pipe.specs.Inside.Parts.{IsPiece, MakesRounds}
 use Rattle.nrepl_pipe.specs.declared.rounds.Rounds.{Rounds}
 use Rattle.nrepl_pipe.specs.declared.ends.PipeEnd.{PipeEnd}
 use Rattle.nrepl_pipe.proofs.Turns.{lone_served-append, meets-behind, meets-neither}

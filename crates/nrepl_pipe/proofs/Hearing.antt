@@ -11,10 +11,10 @@ use Rattle.server_rules.specs.Plan.{Outcome, refuses, leaves}
 use Rattle.server_rules.specs.Turns.{bytes_in}
 use Rattle.server_rules.specs.declared.refusal.Refusal.{Refusal}
 use Rattle.tenant_turns.specs.DeedResult.{carried_out, deed_result}
-use Rattle.tenant_turns.specs.Turned.{Accepted}
+use Rattle.tenant_turns.specs.Inside.Turned.{Accepted}
 use Rattle.tenant_turns.specs.Turns.{Lone, hears, LoneStepped, accepted, refused, ended_as}
 use Rattle.tenant_turns.specs.Turns.{stepped_as, lone_step, lone_or, bytes_given, lone_after}
-use Rattle.nrepl_pipe.specs.Fresh.{IsReady}
+use Rattle.nrepl_pipe.specs.Inside.Fresh.{IsReady}
 use Rattle.nrepl_pipe.proofs.Messages.{taken_in-heard}
 
 -- Where the stream has no fault and no reply waits, a piece is refused at the end of the steps

@@ -8,7 +8,7 @@ use Rattle.server_rules.specs.Ground.{Ground}
 use Rattle.tenant_turns.specs.Turns.{Lone, LoneTurn, lone_run, lone_served, actors_of}
 use Rattle.nrepl_pipe.specs.Schedule.{go_each, drain_all, round, IsLast, AreRounds, last, more}
 use Rattle.nrepl_pipe.specs.Schedule.{MeetsWorn}
-use Rattle.nrepl_pipe.specs.Parts.{IsRound, Makes, MakesRounds}
+use Rattle.nrepl_pipe.specs.Inside.Parts.{IsRound, Makes, MakesRounds}
 use Rattle.nrepl_pipe.specs.declared.actors.Round.{Round}
 use Rattle.nrepl_pipe.specs.declared.rounds.Rounds.{Rounds}
 use Rattle.nrepl_pipe.proofs.Turns.{lone_run-append, lone_served-append, meets-front, meets-behind}

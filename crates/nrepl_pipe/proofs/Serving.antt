@@ -11,8 +11,8 @@ use Rattle.tenant_turns.specs.Grounds.{IsRight}
 use Rattle.tenant_turns.specs.Turns.{Lone, LoneTurn, hears, refused, lone_step, bytes_given}
 use Rattle.tenant_turns.specs.Turns.{lone_after, lone_run, lone_served}
 use Rattle.nrepl_pipe.specs.Schedule.{ArePieces, AreRounds, MeetsWorn, IsSchedule}
-use Rattle.nrepl_pipe.specs.Fresh.{IsFresh}
-use Rattle.nrepl_pipe.specs.Parts.{IsPiece, MakesRounds}
+use Rattle.nrepl_pipe.specs.Inside.Fresh.{IsFresh}
+use Rattle.nrepl_pipe.specs.Inside.Parts.{IsPiece, MakesRounds}
 use Rattle.nrepl_pipe.specs.declared.rounds.Rounds.{Rounds}
 use Rattle.nrepl_pipe.proofs.Turns.{lone_run-append, lone_served-append, meets-neither}
 use Rattle.nrepl_pipe.proofs.Hearing.{TakesIn}

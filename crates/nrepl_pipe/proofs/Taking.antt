@@ -6,7 +6,7 @@ use Rattle.server_rules.specs.declared.actor.Actor.{Actor}
 use Rattle.tenant_turns.specs.Turns.{Lone, goes, LoneStepped, accepted, refused, lone_step, lone_or}
 use Rattle.tenant_turns.specs.Turns.{lone_after, lone_run}
 use Rattle.nrepl_pipe.specs.Schedule.{go_each}
-use Rattle.nrepl_pipe.specs.Parts.{TurnsSo, with_turn, IsRound}
+use Rattle.nrepl_pipe.specs.Inside.Parts.{TurnsSo, with_turn, IsRound}
 use Rattle.nrepl_pipe.specs.declared.actors.Round.{Round}
 use Rattle.nrepl_pipe.specs.declared.actors.Turned.{Turned}
 use Rattle.nrepl_pipe.proofs.Turns.{lone_run-append}

@@ -11,7 +11,7 @@ use Rattle.tenant_turns.specs.Turns.{Lone, hears, lone_after, lone_run, wire_at}
 use Rattle.tenant_turns.specs.declared.turns.Wire.{Wire}
 use Rattle.nrepl_pipe.specs.Schedule.{stream_end}
 use Rattle.nrepl_pipe.specs.Served.{IsReadUp}
-use Rattle.nrepl_pipe.specs.Parts.{MakesRounds}
+use Rattle.nrepl_pipe.specs.Inside.Parts.{MakesRounds}
 use Rattle.nrepl_pipe.specs.declared.rounds.Rounds.{Rounds}
 use Rattle.nrepl_pipe.specs.declared.ends.PipeEnd.{PipeEnd}
 use Rattle.nrepl_pipe.proofs.Hearing.{TakesIn}

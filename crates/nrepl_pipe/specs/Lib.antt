@@ -1,6 +1,5 @@
 pub mod Failing
-pub mod Fresh
-pub mod Parts
 pub mod Schedule
 pub mod Served
 pub mod Status
+pub mod Inside

@@ -4,7 +4,7 @@ ghost use Rattle.server_rules.specs.Ground.{Ground};
 ghost use Rattle.tenant_turns.specs.Grounds.{IsRight};
 ghost use Rattle.tenant_turns.specs.Turns.{Lone, goes, actors_of, lone_step, lone_after, lone_run};
 ghost use Rattle.nrepl_pipe.specs.Schedule.{go_each};
-ghost use Rattle.nrepl_pipe.specs.Parts.{TurnsSo, with_turn, IsRound};
+ghost use Rattle.nrepl_pipe.specs.Inside.Parts.{TurnsSo, with_turn, IsRound};
 
 use crate::ends::PipeError;
 use server_rules::{Actor, Refusal};

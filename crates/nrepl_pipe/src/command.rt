@@ -4,7 +4,7 @@ ghost use Rattle.server_rules.specs.Ground.{Ground};
 ghost use Rattle.tenant_turns.specs.Turns.{Lone};
 ghost use Rattle.tenant_turns.specs.Grounds.{IsRight};
 ghost use Rattle.nrepl_pipe.specs.Failing.{TellsFailures};
-ghost use Rattle.nrepl_pipe.specs.Fresh.{IsFresh};
+ghost use Rattle.nrepl_pipe.specs.Inside.Fresh.{IsFresh};
 ghost use Rattle.nrepl_pipe.specs.Served.{IsPipeOutcome};
 ghost use Rattle.nrepl_pipe.specs.Status.{status_of};
 ghost use Rattle.nrepl_pipe.specs.declared.ends.PipeEnd.{PipeEnd};

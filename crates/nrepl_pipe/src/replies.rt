@@ -5,7 +5,7 @@ ghost use Rattle.server_rules.specs.Ground.{Ground};
 ghost use Rattle.tenant_turns.specs.Turns.{Lone};
 ghost use Rattle.nrepl_pipe.specs.Schedule.{drain_all};
 ghost use Rattle.nrepl_pipe.specs.Failing.{Marks, is_read_failed, is_write_failed};
-ghost use Rattle.nrepl_pipe.specs.Parts.{Makes, Begins};
+ghost use Rattle.nrepl_pipe.specs.Inside.Parts.{Makes, Begins};
 
 use crate::ends::PipeError;
 use crate::ports::Sink;

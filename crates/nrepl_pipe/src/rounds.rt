@@ -5,7 +5,7 @@ ghost use Rattle.tenant_turns.specs.Grounds.{IsRight};
 ghost use Rattle.tenant_turns.specs.Turns.{Lone, actors_of};
 ghost use Rattle.nrepl_pipe.specs.Schedule.{go_each, round};
 ghost use Rattle.nrepl_pipe.specs.Failing.{Marks, is_read_failed, is_write_failed};
-ghost use Rattle.nrepl_pipe.specs.Parts.{IsRound, Makes, Begins, MakesRounds, BeginsRounds};
+ghost use Rattle.nrepl_pipe.specs.Inside.Parts.{IsRound, Makes, Begins, MakesRounds, BeginsRounds};
 
 use crate::actors::{Round, go_each};
 use crate::ends::PipeError;

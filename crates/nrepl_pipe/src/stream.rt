@@ -6,9 +6,9 @@ ghost use Rattle.tenant_turns.specs.Grounds.{IsRight};
 ghost use Rattle.tenant_turns.specs.Turns.{Lone, hears, lone_step};
 ghost use Rattle.nrepl_pipe.specs.Schedule.{stream_end};
 ghost use Rattle.nrepl_pipe.specs.Served.{IsPipeOutcome};
-ghost use Rattle.nrepl_pipe.specs.Fresh.{IsFresh, IsReady};
+ghost use Rattle.nrepl_pipe.specs.Inside.Fresh.{IsFresh, IsReady};
 ghost use Rattle.nrepl_pipe.specs.Failing.{Marks, TellsFailures, is_read_failed, is_write_failed};
-ghost use Rattle.nrepl_pipe.specs.Parts.{IsPiece, LosesPiece, HearsSo};
+ghost use Rattle.nrepl_pipe.specs.Inside.Parts.{IsPiece, LosesPiece, HearsSo};
 
 use crate::ends::{PipeEnd, PipeError};
 use crate::ports::{Sink, Source};

@@ -9,7 +9,7 @@ use Rattle.std.specs.List.{position_or_len}
 use Rattle.std.proofs.lemmas.Bool.{lt-leb, ltb-true, ltb-false}
 use Rattle.std.proofs.lemmas.List.Folds.{find_at}
 use Rattle.std.proofs.lemmas.Option.{slice_get_past, slice_get-get_or}
-use Rattle.value_data.specs.View.{view}
+use Rattle.value_data.specs.Inside.View.{view}
 use Rattle.value_data.specs.Datum.{Datum}
 use Rattle.server_rules.specs.Versions.{Ref, at_point, readable, grows, with_version}
 use Rattle.ref_history.specs.Kept.{KeptStands, version_of, content_in}

@@ -3,7 +3,7 @@ use Rattle.std.specs.Prelude.{◌≡◌, ◌+◌, ◌<◌, ◌∷◌, IsTrue, ma
 use Rattle.std.specs.VecDeque.{deque_len, deque_capacity}
 use Rattle.std.specs.Prelude.{ℕ, Option, option_map, slice_get}
 use Rattle.value_data.specs.Datum.{Datum}
-use Rattle.value_data.specs.View.{view}
+use Rattle.value_data.specs.Inside.View.{view}
 use Rattle.server_rules.specs.Versions.{Version, Ref, grows}
 use Rattle.ref_history.specs.Effects.{version, bounds_of}
 use Rattle.ref_history.specs.declared.kept_ref.KeptVersion.{KeptVersion}

@@ -3,7 +3,7 @@ ghost use Rattle.std.specs.Prelude.{◌≡◌, ◌≢◌, false, Some, IsNone, I
 ghost use Rattle.std.specs.Prelude.{MatchOption, option_map};
 ghost use Rattle.std.specs.Borrow.{sem};
 ghost use Rattle.std.specs.Io.BufRead.{Rests};
-ghost use Rattle.value_data.specs.View.{view};
+ghost use Rattle.value_data.specs.Inside.View.{view};
 ghost use Rattle.server_rules.specs.Versions.{Ref, with_version, with_failed_read, with_least};
 ghost use Rattle.server_rules.specs.Versions.{with_most, readable, newest, is_newer};
 ghost use Rattle.ref_history.specs.declared.ref_id.RefId.{RefId};

@@ -8,7 +8,7 @@ use Rattle.value_data.specs.declared.value.RefName.{RefName}
 use Rattle.repl_faults.specs.Failure.{Failure, ◌>>=◌}
 use Rattle.repl_asks.specs.Transactions.{RefNameData, ChangeData, IntentData}
 use Rattle.repl_asks.specs.Exchange.{AnswerData, verdict, committed, faulted}
-use Rattle.repl_asks.specs.View.{name_view, change_view, commuted_view}
+use Rattle.repl_asks.specs.Inside.View.{name_view, change_view, commuted_view}
 use Rattle.repl_asks.specs.declared.intent.Change.{Change}
 use Rattle.repl_asks.specs.declared.intent.Commuted.{Commuted}
 use Rattle.server_rules.specs.Numbered.{Entry}

@@ -6,7 +6,7 @@ use Rattle.std.specs.Cmp.{unsigned_tied}
 use Rattle.std.proofs.lemmas.Bool.{eqb-true, eq-eqb}
 use Rattle.value_data.specs.Datum.{Datum, OwnerData, shared, tenant}
 use Rattle.repl_asks.specs.Transactions.{RefNameData, ChangeData, same_name}
-use Rattle.repl_asks.specs.View.{change_view}
+use Rattle.repl_asks.specs.Inside.View.{change_view}
 use Rattle.repl_asks.specs.declared.intent.Change.{Change}
 use Rattle.server_rules.specs.Commit.{are_distinct}
 use Rattle.value_data.specs.Same.{same_owner}

@@ -1,12 +1,12 @@
 -- That a call of the table does what the rules say of it.
 use Rattle.std.specs.Prelude.{◌≡◌, Bool, true, false, Option, Some, None, option_map}
 use Rattle.value_data.specs.Datum as datum
-use Rattle.value_data.specs.View.{owner_view}
+use Rattle.value_data.specs.Inside.View.{owner_view}
 use Rattle.value_data.specs.declared.value.RefName.{RefName}
-use Rattle.repl_faults.specs.View.{failure_of}
+use Rattle.repl_faults.specs.Inside.View.{failure_of}
 use Rattle.repl_asks.specs.Exchange.{AnswerData, value, reading, verdict, committed, conflict}
 use Rattle.repl_asks.specs.Exchange.{faulted}
-use Rattle.repl_asks.specs.View.{reading_view}
+use Rattle.repl_asks.specs.Inside.View.{reading_view}
 use Rattle.repl_asks.specs.declared.answer.Reading.{Reading}
 use Rattle.server_rules.specs.Versions.{Ref}
 use Rattle.server_rules.specs.Store.{Store}

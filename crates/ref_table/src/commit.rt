@@ -2,9 +2,9 @@
 ghost use Rattle.std.specs.Prelude.{◌≡◌, ℕ, ◌+◌, ◌<◌, ◌≤◌, ◌&&◌, List, Some, true, false, map};
 ghost use Rattle.std.specs.Prelude.{IfOk, OnOk, OnErr};
 ghost use Rattle.std.specs.Ordering.{eq_by_cmp};
-ghost use Rattle.repl_faults.specs.View.{Gives};
+ghost use Rattle.repl_faults.specs.Inside.View.{Gives};
 ghost use Rattle.repl_asks.specs.Transactions.{ChangeData};
-ghost use Rattle.repl_asks.specs.View.{name_view, intent_view};
+ghost use Rattle.repl_asks.specs.Inside.View.{name_view, intent_view};
 ghost use Rattle.server_rules.specs.Numbered.{Entry, part_under};
 ghost use Rattle.server_rules.specs.Store.{ref_named, newest_value};
 ghost use Rattle.server_rules.specs.Calls.{performed, commits};

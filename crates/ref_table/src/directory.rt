@@ -2,8 +2,8 @@
 ghost use Rattle.std.specs.Prelude.{◌≡◌, ◌≢◌, [], ◌∷◌, ◌++◌, length, map, slice_get, IfOk, OnOk};
 ghost use Rattle.std.specs.Prelude.{OnErr};
 ghost use Rattle.value_data.specs.Datum.{OwnerData, tenant as tenant_owner};
-ghost use Rattle.value_data.specs.View.{owner_view};
-ghost use Rattle.repl_asks.specs.View.{name_view};
+ghost use Rattle.value_data.specs.Inside.View.{owner_view};
+ghost use Rattle.repl_asks.specs.Inside.View.{name_view};
 
 use ref_history::RefId;
 use repl_asks::{Change, Commuted};

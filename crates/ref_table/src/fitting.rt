@@ -1,8 +1,8 @@
 // Whether what is to be set may be set, and what was commuted may be made again.
 ghost use Rattle.std.specs.Prelude.{◌≡◌, map};
 ghost use Rattle.std.specs.List.{list_all};
-ghost use Rattle.value_data.specs.View.{view, owner_view};
-ghost use Rattle.repl_asks.specs.View.{change_view, commute_view, commuted_view};
+ghost use Rattle.value_data.specs.Inside.View.{view, owner_view};
+ghost use Rattle.repl_asks.specs.Inside.View.{change_view, commute_view, commuted_view};
 ghost use Rattle.server_rules.specs.Commit.{all_fit, takes_its_arguments, all_take};
 ghost use Rattle.repl_asks.specs.Transactions.{may_hold};
 

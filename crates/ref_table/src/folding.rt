@@ -1,10 +1,10 @@
 // What was commuted is made again, of the values that refs have when it is committed.
 ghost use Rattle.std.specs.Prelude.{◌≡◌, ℕ, List, ◌∷◌, Some, true, map, option_map, IfOk};
 ghost use Rattle.std.specs.List.{list_all};
-ghost use Rattle.value_data.specs.View.{view};
-ghost use Rattle.repl_faults.specs.View.{Gives};
+ghost use Rattle.value_data.specs.Inside.View.{view};
+ghost use Rattle.repl_faults.specs.Inside.View.{Gives};
 ghost use Rattle.core_functions.specs.Meaning.{meaning};
-ghost use Rattle.repl_asks.specs.View.{name_view, change_view, commute_view, commuted_view};
+ghost use Rattle.repl_asks.specs.Inside.View.{name_view, change_view, commute_view, commuted_view};
 ghost use Rattle.server_rules.specs.Numbered.{Entry};
 ghost use Rattle.server_rules.specs.Store.{newest_value};
 ghost use Rattle.server_rules.specs.Commit.{takes_its_arguments, all_take, result_of, folded_value};

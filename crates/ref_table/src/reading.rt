@@ -2,7 +2,7 @@
 ghost use Rattle.std.specs.Prelude.{◌≡◌, ℕ, List, Some, option_map, IfOk, OnErr};
 ghost use Rattle.repl_asks.specs.Transactions.{RefNameData};
 ghost use Rattle.repl_asks.specs.Exchange.{reading, found};
-ghost use Rattle.repl_asks.specs.View.{name_view, reading_view};
+ghost use Rattle.repl_asks.specs.Inside.View.{name_view, reading_view};
 ghost use Rattle.server_rules.specs.Numbered.{Entry, part_under as point_found};
 ghost use Rattle.server_rules.specs.Versions.{Ref, readable, newest};
 ghost use Rattle.server_rules.specs.Store.{ref_named};

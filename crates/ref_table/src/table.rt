@@ -2,7 +2,7 @@
 ghost use Rattle.std.specs.Prelude.{◌≡◌, ◌≢◌, ◌↔◌, ℕ, List, length, slice_get, Some, IfOk, OnOk};
 ghost use Rattle.std.specs.Prelude.{OnErr, None, ◌∷◌};
 ghost use Rattle.value_data.specs.Datum.{ref, tenant as tenant_owner};
-ghost use Rattle.value_data.specs.View.{view, owner_view};
+ghost use Rattle.value_data.specs.Inside.View.{view, owner_view};
 ghost use Rattle.repl_asks.specs.Exchange.{done, value as value_told};
 ghost use Rattle.server_rules.specs.Numbered.{Entry, entry, part_under};
 ghost use Rattle.server_rules.specs.Versions.{Ref};

@@ -1,5 +1,4 @@
 pub mod Namespaces
 pub mod Transactions
 pub mod Exchange
-pub mod View
-pub mod Replay
+pub mod Inside

@@ -2,9 +2,9 @@
 ghost use Rattle.std.specs.Prelude.{◌≡◌, IfOk};
 ghost use Rattle.repl_asks.specs.Exchange.{kind_of, resolution_in, value_in, reading_in};
 ghost use Rattle.repl_asks.specs.Exchange.{verdict_in};
-ghost use Rattle.value_data.specs.View.{view};
-ghost use Rattle.repl_asks.specs.View.{answer_view, named_view, resolution_view, reading_view};
-ghost use Rattle.repl_asks.specs.View.{verdict_view};
+ghost use Rattle.value_data.specs.Inside.View.{view};
+ghost use Rattle.repl_asks.specs.Inside.View.{answer_view, named_view, resolution_view, reading_view};
+ghost use Rattle.repl_asks.specs.Inside.View.{verdict_view};
 
 use crate::ask::AnswerKind;
 use function_names::{CoreFunction, StoreFunction};

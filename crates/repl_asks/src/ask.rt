@@ -1,7 +1,7 @@
 // The asks.
 ghost use Rattle.std.specs.Prelude.{◌≡◌, IfOk};
 ghost use Rattle.repl_asks.specs.Exchange.{kind_wanted};
-ghost use Rattle.repl_asks.specs.View.{ask_view, binding_view};
+ghost use Rattle.repl_asks.specs.Inside.View.{ask_view, binding_view};
 
 use crate::intent::Intent;
 use repl_values::{RefName, Value, copy, copy_text};

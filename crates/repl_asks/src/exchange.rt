@@ -1,6 +1,6 @@
 // Asks with their answers.
 ghost use Rattle.std.specs.Prelude.{◌≡◌, IfOk};
-ghost use Rattle.repl_asks.specs.View.{ask_view, answer_view, exchange_view, trace_view};
+ghost use Rattle.repl_asks.specs.Inside.View.{ask_view, answer_view, exchange_view, trace_view};
 
 use crate::answer::Answer;
 use crate::ask::Ask;

@@ -1,7 +1,7 @@
 // Who answers an evaluation.
 ghost use Rattle.std.specs.Prelude.{◌≡◌, ◌++◌, [], ◌∷◌, true, IfOk, IfErr, IsErr};
 ghost use Rattle.repl_asks.specs.Exchange.{Heard, Fits};
-ghost use Rattle.repl_asks.specs.View.{ask_view, answer_view};
+ghost use Rattle.repl_asks.specs.Inside.View.{ask_view, answer_view};
 
 use crate::answer::Answer;
 use crate::ask::Ask;

@@ -2,7 +2,7 @@
 ghost use Rattle.std.specs.Prelude.{◌≡◌, ◌++◌, ◌↔◌, [], ◌∷◌, true, false, map, IsTrue, IsErr, IfOk};
 ghost use Rattle.std.specs.Prelude.{IfErr, OnErr};
 ghost use Rattle.repl_asks.specs.Exchange.{Fits};
-ghost use Rattle.repl_asks.specs.View.{ask_view, answer_view};
+ghost use Rattle.repl_asks.specs.Inside.View.{ask_view, answer_view};
 
 use crate::answer::Answer;
 use crate::ask::Ask;
@@ -21,7 +21,7 @@ pub struct Replay {
 }
 
 impl Replay {
-    ghost use Rattle.repl_asks.specs.Replay.{heard_by, answers_left};
+    ghost use Rattle.repl_asks.specs.Inside.Replay.{heard_by, answers_left};
 
     /// A replay of these answers, which was asked nothing yet. It takes no memory.
     pub fn new(alloc: Global, answers: Vec<Answer>) -> Replay
@@ -44,7 +44,7 @@ fn fits(ask: &Ask, answer: &Answer) -> bool
 }
 
 impl Refs for Replay {
-    ghost use Rattle.repl_asks.specs.Replay.{heard_by, answers_left, MaySay};
+    ghost use Rattle.repl_asks.specs.Inside.Replay.{heard_by, answers_left, MaySay};
 
     ghost heard = { heard_by };
 
@@ -79,7 +79,7 @@ impl Refs for Replay {
 }
 
 impl Replay {
-    ghost use Rattle.repl_asks.specs.Replay.{heard_by, answers_left, MaySay};
+    ghost use Rattle.repl_asks.specs.Inside.Replay.{heard_by, answers_left, MaySay};
 
     fn next_for(&mut self, ask: &Ask) -> Result<Answer, StopReason>
         ensures grows { IfOk result (λ answer. (heard_by self.new).trace

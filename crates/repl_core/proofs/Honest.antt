@@ -11,8 +11,8 @@ use Rattle.tenant_refs.specs.Serving.{ListRefTable}
 use Rattle.tenant_turns.specs.Grounds.{IsRight}
 use Rattle.tenant_turns.specs.Turns.{Lone}
 use Rattle.tenant_walks.specs.Grounds.{Evaluates}
-use Rattle.tenant_walks.specs.Standing as walked
-use Rattle.tenant_walks.specs.Standing.{parts}
+use Rattle.tenant_walks.specs.Inside.Standing as walked
+use Rattle.tenant_walks.specs.Inside.Standing.{parts}
 use Rattle.tenant_walks.specs.declared.walks.Walks.{Walks}
 use Rattle.tenant_world.specs.declared.tenant.Tenant.{Tenant}
 use Rattle.repl_core.specs.TenantAt.{tenant_at}

@@ -10,8 +10,8 @@ use Rattle.server_rules.specs.World.{ended_as}
 use Rattle.server_rules.specs.declared.actor.Actor.{Actor}
 use Rattle.server_rules.specs.declared.refusal.Refusal.{Refusal}
 use Rattle.tenant_turns.specs.DeedResult.{deed_result}
-use Rattle.tenant_walks.specs.WalkAt.{walk_at}
-use Rattle.tenant_walks.specs.Walked.{AreWalked}
+use Rattle.tenant_walks.specs.Inside.WalkAt.{walk_at}
+use Rattle.tenant_walks.specs.Inside.Walked.{AreWalked}
 use Rattle.tenant_walks.specs.declared.walks.Walks.{Walks}
 use Rattle.tenant_walks.proofs.Outcomes.{heard-after}
 use Rattle.tenant_walks.proofs.Runs.{heard-runs}

@@ -7,8 +7,8 @@ use Rattle.server_rules.specs.World as worlds
 use Rattle.server_rules.specs.World.{TenantData, World, opens, does, closes, accepted, refused}
 use Rattle.server_rules.specs.declared.actor.Actor.{Actor}
 use Rattle.server_rules.specs.declared.refusal.Refusal.{Refusal}
-use Rattle.tenant_walks.specs.WalkAt.{walk_at}
-use Rattle.tenant_walks.specs.Walked.{AreWalked}
+use Rattle.tenant_walks.specs.Inside.WalkAt.{walk_at}
+use Rattle.tenant_walks.specs.Inside.Walked.{AreWalked}
 use Rattle.tenant_walks.specs.declared.walks.Walks.{Walks}
 use Rattle.repl_core.specs.Standing.{open_in, Stands}
 use Rattle.repl_core.specs.declared.machine.Machine.{Machine}

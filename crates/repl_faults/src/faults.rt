@@ -1,9 +1,9 @@
 // The makers of faults. Each fails only for want of memory.
 ghost use Rattle.std.specs.Prelude.{◌≡◌, ◌++◌, IfOk, string_bytes};
 ghost use Rattle.repl_values.specs.Print.{print};
-ghost use Rattle.value_data.specs.View.{view};
+ghost use Rattle.value_data.specs.Inside.View.{view};
 ghost use Rattle.repl_faults.specs.Failure as meant;
-ghost use Rattle.repl_faults.specs.View.{failure_of};
+ghost use Rattle.repl_faults.specs.Inside.View.{failure_of};
 
 use crate::rule::Rule;
 use itoa::Buffer;

@@ -1,4 +1,4 @@
 pub mod Job
-pub mod View
 pub mod InteractionTree
 pub mod Leading
+pub mod Inside

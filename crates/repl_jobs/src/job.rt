@@ -1,8 +1,8 @@
 // What is evaluated, and how it ends.
 ghost use Rattle.std.specs.Prelude.{◌≡◌, string_bytes, IfOk};
-ghost use Rattle.value_data.specs.View.{view};
+ghost use Rattle.value_data.specs.Inside.View.{view};
 ghost use Rattle.repl_jobs.specs.Job as jobs;
-ghost use Rattle.repl_jobs.specs.View.{work_view, job_view, end_view, finished_view};
+ghost use Rattle.repl_jobs.specs.Inside.View.{work_view, job_view, end_view, finished_view};
 
 use repl_values::{Fault, Value, copy, copy_text};
 use std::alloc::{AllocError, Global};

@@ -2,13 +2,13 @@
 use Rattle.std.proofs.Common.{◌≡◌, ℕ, suc, ◌+◌, ◌-◌, ◌++◌, ◌∷◌, [], List, map, refl, sym, arith}
 use Rattle.std.proofs.Common.{subst, inl, inr, add-one, Result, Ok, Err, IfOk}
 use Rattle.value_data.specs.Datum.{Datum, Items, no_items, item}
-use Rattle.value_data.specs.View.{view, items_view}
+use Rattle.value_data.specs.Inside.View.{view, items_view}
 use Rattle.value_data.specs.declared.value.Value.{Value}
 use Rattle.repl_reader.specs.Reading.{Bracket, FormReading, begins, next_in, settled, opens, marks}
 use Rattle.repl_reader.specs.Reading.{drops}
 use Rattle.repl_reader.specs.Grammar.{Reads, plain, marked, marked_deep, opened, opened_deep, Row}
 use Rattle.repl_reader.specs.Grammar.{last, more, form_or_fault, IsForm}
-use Rattle.repl_reader.specs.View.{IsMarked, wraps, wraps_deep, IsOpened, encloses, encloses_deep}
+use Rattle.repl_reader.specs.Inside.View.{IsMarked, wraps, wraps_deep, IsOpened, encloses, encloses_deep}
 use Rattle.repl_reader.proofs.Owed.{Owed, owed_drops}
 use Rattle.repl_reader.proofs.Rows.{onto, onto_push, onto_none, map-push}
 

@@ -9,7 +9,7 @@ use Rattle.repl_reader.proofs.Bytes.{drop_at}
 use Rattle.repl_reader.specs.Text.{ends_plain}
 use Rattle.repl_reader.specs.Reading.{Contents, closed, refused, with_leading_byte, contents}
 use Rattle.repl_reader.specs.Reading.{string_of, breaks, is_escape, bad_escape}
-use Rattle.repl_reader.specs.Quoted.{onto, string_from, escape_from}
+use Rattle.repl_reader.specs.Inside.Quoted.{onto, string_from, escape_from}
 
 behind_onto : (s : List ℕ) (b : ℕ) (c : Contents) → onto s (with_leading_byte b c) ≡ onto (s ++ b ∷ []) c
 behind_onto s b (closed t rest) = ap (λ x. closed x rest) (sym (append_assoc s (b ∷ []) t))

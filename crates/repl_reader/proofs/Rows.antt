@@ -4,7 +4,7 @@ use Rattle.std.proofs.Common.{refl, ap, arith, get_or, suc, zero, ◌<◌, ◌�
 use Rattle.repl_values.specs.Print.{print}
 use Rattle.value_data.specs.Keyed.{keys_of}
 use Rattle.value_data.specs.Datum.{Datum, Items, no_items, item, Pairs, no_pairs}
-use Rattle.value_data.specs.View.{view, items_view}
+use Rattle.value_data.specs.Inside.View.{view, items_view}
 use Rattle.value_data.specs.Listed.{items_of, pairs_of}
 use Rattle.value_data.specs.declared.value.Value.{Value}
 use Rattle.repl_reader.specs.Maps.{with_pair, print_at, paired, paired_with}

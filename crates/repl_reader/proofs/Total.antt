@@ -8,7 +8,7 @@ use Rattle.repl_reader.specs.Reading.{settled, opens, marks, drops, next_in}
 use Rattle.repl_reader.specs.Grammar.{Reads, plain, marked, marked_deep, opened, opened_deep}
 use Rattle.repl_reader.specs.Grammar.{dropped, undropped, Row, last, more, wrapped_reading}
 use Rattle.repl_reader.specs.Grammar.{enclosed_reading, too_deep, most_nested}
-use Rattle.repl_reader.specs.Laws.{EveryTextReads}
+use Rattle.repl_reader.specs.Inside.Laws.{EveryTextReads}
 use Rattle.repl_reader.proofs.Shorter.{NextShorter, next_shorter, reads_shorter}
 
 abbrev Found : ℕ → List ℕ → Type 0

@@ -8,7 +8,7 @@ use Rattle.repl_reader.specs.Grammar.{Reads, plain, marked, marked_deep, opened,
 use Rattle.repl_reader.specs.Grammar.{dropped, undropped, Row, last, more, IsForm, form_or_fault}
 use Rattle.repl_reader.specs.Grammar.{wrapped_reading, enclosed_reading, too_deep, most_nested}
 use Rattle.repl_reader.specs.Grammar.{placed_option, last_break}
-use Rattle.repl_reader.specs.Laws.{ReadingsAreUnique}
+use Rattle.repl_reader.specs.Inside.Laws.{ReadingsAreUnique}
 
 -- what a reading came from, by what comes next in its text
 abbrev After : ℕ → Next → FormReading → Type 0

@@ -2,8 +2,6 @@ pub mod Fault
 pub mod Text
 pub mod Token
 pub mod Reading
-pub mod Quoted
 pub mod Maps
 pub mod Grammar
-pub mod View
-pub mod Laws
+pub mod Inside

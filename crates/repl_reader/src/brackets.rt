@@ -1,7 +1,7 @@
 // What brackets and marks are written as.
 ghost use Rattle.std.specs.Prelude.{◌≡◌};
 ghost use Rattle.repl_reader.specs.Grammar.{closing, same_bracket};
-ghost use Rattle.repl_reader.specs.View.{bracket_view, mark_symbol};
+ghost use Rattle.repl_reader.specs.Inside.View.{bracket_view, mark_symbol};
 
 use crate::reading::{Bracket, Mark};
 

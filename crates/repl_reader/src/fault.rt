@@ -1,7 +1,7 @@
 // What a text can be refused for.
 ghost use Rattle.std.specs.Prelude.{◌≡◌, IfOk};
 ghost use Rattle.repl_reader.specs.Fault.{class_of, fault_message, break_of};
-ghost use Rattle.repl_reader.specs.View.{break_view};
+ghost use Rattle.repl_reader.specs.Inside.View.{break_view};
 
 use std::alloc::{AllocError, Global};
 

@@ -1,9 +1,9 @@
 // All forms of a text.
 ghost use Rattle.std.specs.Prelude.{◌≡◌, IfOk, length};
-ghost use Rattle.value_data.specs.View.{items_view};
+ghost use Rattle.value_data.specs.Inside.View.{items_view};
 ghost use Rattle.repl_reader.specs.Grammar.{IsReading, placed_fault, last_break};
-ghost use Rattle.repl_reader.specs.View.{form_reading_view, break_view, break_option, fault_view};
-ghost use Rattle.repl_reader.specs.View.{fault_option};
+ghost use Rattle.repl_reader.specs.Inside.View.{form_reading_view, break_view, break_option, fault_view};
+ghost use Rattle.repl_reader.specs.Inside.View.{fault_option};
 
 use crate::fault::{Break, FaultKind, ReaderFault, break_with};
 use crate::nest::{Row, read_row};

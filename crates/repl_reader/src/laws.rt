@@ -1,5 +1,5 @@
 //! Laws of the grammar by which `read_all` reads, of all texts.
-ghost use Rattle.repl_reader.specs.Laws.{EveryTextReads, ReadingsAreUnique};
+ghost use Rattle.repl_reader.specs.Inside.Laws.{EveryTextReads, ReadingsAreUnique};
 
 /// Each text reads as some forms, and a fault or none after them.
 pub fn every_text_reads()

@@ -1,9 +1,9 @@
 // A map from the forms between its braces.
 ghost use Rattle.std.specs.Prelude.{◌≡◌, Some, IfOk, string_bytes};
-ghost use Rattle.value_data.specs.View.{items_view, pairs_view};
+ghost use Rattle.value_data.specs.Inside.View.{items_view, pairs_view};
 ghost use Rattle.value_data.specs.Keyed.{keys_of};
 ghost use Rattle.repl_reader.specs.Maps.{print_at, map_of, paired};
-ghost use Rattle.repl_reader.specs.View.{form_reading_view, AreEntries};
+ghost use Rattle.repl_reader.specs.Inside.View.{form_reading_view, AreEntries};
 
 use crate::entries::Entries;
 use crate::fault::{FaultKind, break_with};

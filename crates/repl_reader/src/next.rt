@@ -1,7 +1,7 @@
 // What comes next in a text, as far as its first characters tell.
 ghost use Rattle.std.specs.Prelude.{◌≡◌, IfOk};
 ghost use Rattle.repl_reader.specs.Reading.{next_in, dispatch_at};
-ghost use Rattle.repl_reader.specs.View.{next_view};
+ghost use Rattle.repl_reader.specs.Inside.View.{next_view};
 
 use crate::blank::skip_blank;
 use crate::fault::{FaultKind, break_with};

@@ -4,8 +4,8 @@ ghost use Rattle.std.specs.Prelude.{MatchOption, IfOk, IfSome, length, slice_ind
 ghost use Rattle.std.specs.List.{position_or_len};
 ghost use Rattle.repl_reader.specs.Reading.{is_escape, escape, contents, string_of, breaks};
 ghost use Rattle.repl_reader.specs.Reading.{bad_escape};
-ghost use Rattle.repl_reader.specs.Quoted.{string_from, escape_from};
-ghost use Rattle.repl_reader.specs.View.{form_reading_view};
+ghost use Rattle.repl_reader.specs.Inside.Quoted.{string_from, escape_from};
+ghost use Rattle.repl_reader.specs.Inside.View.{form_reading_view};
 ghost use Rattle.repl_reader.specs.Text.{ends_plain};
 
 use crate::fault::{FaultKind, break_with};

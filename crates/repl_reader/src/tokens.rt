@@ -1,14 +1,14 @@
 // Tokens: the longest runs of characters that are neither white space nor delimiters.
 ghost use Rattle.std.specs.Prelude.{◌≡◌, IfOk};
 ghost use Rattle.std.specs.List.{position_or_len};
-ghost use Rattle.value_data.specs.View.{view};
+ghost use Rattle.value_data.specs.Inside.View.{view};
 ghost use Rattle.repl_reader.specs.Text.{ends_token, token, after_token};
 ghost use Rattle.repl_reader.specs.Token.{begins_number, without_sign, has_leading_zero};
 ghost use Rattle.repl_reader.specs.Token.{integer_of, keyword_of, slashes, touches_slash};
 ghost use Rattle.repl_reader.specs.Token.{is_symbol_text, symbol_of, word_of, named_datum};
 ghost use Rattle.repl_reader.specs.Reading.{token_at, breaks};
 ghost use Rattle.repl_reader.specs.Fault.{break_of};
-ghost use Rattle.repl_reader.specs.View.{form_reading_view, IsValue};
+ghost use Rattle.repl_reader.specs.Inside.View.{form_reading_view, IsValue};
 
 use crate::blank::ends_token;
 use crate::fault::{FaultKind, break_with};

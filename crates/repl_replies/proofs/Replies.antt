@@ -6,11 +6,11 @@ use Rattle.std.specs.Cmp.Lexicographic.{slice_cmp}
 use Rattle.std.specs.Ordering.{match_ordering}
 use Rattle.bencode_wire.specs.Tree.{Tree, string, dictionary, tree, Pairs, no_pairs, pair}
 use Rattle.bencode_wire.specs.Spelling.{text, canonical, put_pair, put_pairs, sorted}
-use Rattle.bencode_wire.specs.View.{view, trees_of, pairs_view}
+use Rattle.bencode_wire.specs.Inside.View.{view, trees_of, pairs_view}
 use Rattle.bencode_wire.specs.declared.ben.Ben.{Ben, Dictionary, the_lemmas}
 use Rattle.bencode_wire.proofs.Views.{Key, each_sorted}
 use Rattle.bencode_wire.proofs.Written.{sorted_twice}
-use Rattle.repl_replies.specs.Building.{puts}
+use Rattle.repl_replies.specs.Inside.Building.{puts}
 use Rattle.repl_replies.specs.Replies.{ReplyData, with_field, status, status_value, strings}
 use Rattle.repl_replies.specs.Replies.{body_fields, message, bytes_of}
 

@@ -4,7 +4,7 @@ use Rattle.std.specs.Option.{option_and_then, ForSome}
 use Rattle.std.specs.Result.{result_map_both}
 use Rattle.std.specs.declared.result.Result.{Result}
 use Rattle.bencode_wire.specs.Tree.{Tree, Pairs}
-use Rattle.repl_replies.specs.Named.{session_of, IsNamed}
+use Rattle.repl_replies.specs.Inside.Named.{session_of, IsNamed}
 use Rattle.repl_replies.specs.Fields.{as_string}
 use Rattle.repl_replies.specs.Operations as operations
 use Rattle.repl_replies.specs.Operations.{OperationData, AskedData, Numbers, open_session}
@@ -12,7 +12,7 @@ use Rattle.repl_replies.specs.Operations.{session_in, operation_in, close_operat
 use Rattle.repl_replies.specs.Operations.{load_operation, in_session, served_operation, of_origin}
 use Rattle.repl_replies.specs.Operations.{operation_of_op, operation_or_reply}
 use Rattle.repl_replies.specs.Replies.{OriginData, BodyData}
-use Rattle.repl_replies.specs.View.{asked_view, operation_view, reply_view}
+use Rattle.repl_replies.specs.Inside.View.{asked_view, operation_view, reply_view}
 use Rattle.repl_replies.specs.declared.names.OperationName.TheVariants as names
 use Rattle.repl_replies.specs.declared.names.OperationName.{OperationName}
 use Rattle.repl_replies.specs.declared.operation.Asked.{Asked}

@@ -1,9 +1,6 @@
-pub mod Building
 pub mod Description
 pub mod Fields
 pub mod OperationNames
 pub mod Operations
-pub mod Named
 pub mod Replies
-pub mod Requests
-pub mod View
+pub mod Inside

@@ -2,7 +2,7 @@
 ghost use Rattle.std.specs.Prelude.{◌≡◌, Some, None, if◌then◌else◌, option_map, string_bytes};
 ghost use Rattle.std.specs.Str.{is_utf8};
 ghost use Rattle.repl_replies.specs.Fields as meant;
-ghost use Rattle.repl_replies.specs.View.{field_view};
+ghost use Rattle.repl_replies.specs.Inside.View.{field_view};
 
 use bencode_wire::Ben;
 

@@ -2,11 +2,11 @@
 ghost use Rattle.std.specs.Prelude.{◌≡◌, IfOk};
 ghost use Rattle.std.specs.Option.{ForSome};
 ghost use Rattle.std.specs.Result.{result_map_both};
-ghost use Rattle.bencode_wire.specs.View.{pairs_view};
+ghost use Rattle.bencode_wire.specs.Inside.View.{pairs_view};
 ghost use Rattle.repl_replies.specs.Operations as meant;
-ghost use Rattle.repl_replies.specs.Named.{session_of, IsNamed};
-ghost use Rattle.repl_replies.specs.View.{field_view, origin_view, body_view, reply_view};
-ghost use Rattle.repl_replies.specs.View.{operation_view, asked_view};
+ghost use Rattle.repl_replies.specs.Inside.Named.{session_of, IsNamed};
+ghost use Rattle.repl_replies.specs.Inside.View.{field_view, origin_view, body_view, reply_view};
+ghost use Rattle.repl_replies.specs.Inside.View.{operation_view, asked_view};
 
 use crate::fields::text_of;
 use crate::names::OperationName;

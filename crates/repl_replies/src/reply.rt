@@ -1,8 +1,8 @@
 // The replies.
 ghost use Rattle.std.specs.Prelude.{◌≡◌, IfOk};
-ghost use Rattle.bencode_wire.specs.View.{view};
+ghost use Rattle.bencode_wire.specs.Inside.View.{view};
 ghost use Rattle.repl_replies.specs.Replies.{no_origin, described};
-ghost use Rattle.repl_replies.specs.View.{field_view, origin_view, reply_view};
+ghost use Rattle.repl_replies.specs.Inside.View.{field_view, origin_view, reply_view};
 
 use bencode_wire::Ben;
 use std::alloc::{AllocError, Global};

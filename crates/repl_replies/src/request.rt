@@ -1,11 +1,11 @@
 // What a message asks for.
 ghost use Rattle.std.specs.Prelude.{◌≡◌, if◌then◌else◌, codes};
-ghost use Rattle.bencode_wire.specs.View.{pairs_view};
+ghost use Rattle.bencode_wire.specs.Inside.View.{pairs_view};
 ghost use Rattle.repl_replies.specs.Replies.{unknown_op};
-ghost use Rattle.repl_replies.specs.Requests.{request_or_reply, is_this_string, in_session};
-ghost use Rattle.repl_replies.specs.Requests.{refused};
-ghost use Rattle.repl_replies.specs.View.{field_view, origin_view, body_view};
-ghost use Rattle.repl_replies.specs.View.{request_or_reply_view};
+ghost use Rattle.repl_replies.specs.Inside.Requests.{request_or_reply, is_this_string, in_session};
+ghost use Rattle.repl_replies.specs.Inside.Requests.{refused};
+ghost use Rattle.repl_replies.specs.Inside.View.{field_view, origin_view, body_view};
+ghost use Rattle.repl_replies.specs.Inside.View.{request_or_reply_view};
 
 use crate::fields::text_of;
 use crate::reply::{Body, Origin, Reply};

@@ -2,13 +2,13 @@
 ghost use Rattle.std.specs.Prelude.{◌≡◌, ◌++◌, IfOk, OnOk, codes, map, string_bytes};
 ghost use Rattle.bencode_wire.specs.Tree.{string, no_pairs};
 ghost use Rattle.bencode_wire.specs.Spelling.{put_pair};
-ghost use Rattle.bencode_wire.specs.View.{view, trees_view, pairs_view};
-ghost use Rattle.repl_replies.specs.Building.{puts};
+ghost use Rattle.bencode_wire.specs.Inside.View.{view, trees_view, pairs_view};
+ghost use Rattle.repl_replies.specs.Inside.Building.{puts};
 ghost use Rattle.repl_replies.specs.Description as told;
 ghost use Rattle.repl_replies.specs.OperationNames.{operations};
 ghost use Rattle.repl_replies.specs.Replies.{with_field, status, status_value, strings};
 ghost use Rattle.repl_replies.specs.Replies.{body_fields, bytes_of};
-ghost use Rattle.repl_replies.specs.View.{field_view, origin_view, body_view, reply_view};
+ghost use Rattle.repl_replies.specs.Inside.View.{field_view, origin_view, body_view, reply_view};
 
 use crate::names::OperationName;
 use crate::reply::{Body, Origin, Reply};

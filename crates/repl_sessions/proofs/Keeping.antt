@@ -16,7 +16,7 @@ use Rattle.std.specs.List.Sorted.{IsStrictlySortedBy}
 use Rattle.std.proofs.lemmas.Bool.{eq-eqb, ne_eqb, cases_eq, false_from_ne_true, and_right}
 use Rattle.std.proofs.lemmas.Map.Text.{is_eq-slice_cmp}
 use Rattle.repl_sessions.specs.Ids.{IdsData, id_text}
-use Rattle.repl_sessions.specs.Keeps.{Live, Index, Keeps, has, by_text}
+use Rattle.repl_sessions.specs.Inside.Keeps.{Live, Index, Keeps, has, by_text}
 use Rattle.repl_sessions.specs.declared.state.SessionState.{SessionState}
 use Rattle.repl_sessions.proofs.Numbers.{among-same}
 

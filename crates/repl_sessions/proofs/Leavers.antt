@@ -23,9 +23,9 @@ use Rattle.std.proofs.lemmas.Slice.Eq.{bytes_eq-Decides}
 use Rattle.repl_sessions.specs.Ids.{IdsData, id_text}
 use Rattle.repl_sessions.specs.Sessions.{SessionData}
 use Rattle.repl_sessions.specs.Named.{is_named}
-use Rattle.repl_sessions.specs.Leaving.{is_leaving, without_leaving}
-use Rattle.repl_sessions.specs.View.{session_view, live_view}
-use Rattle.repl_sessions.specs.Keeps.{Live, Index, Keeps, has, by_text}
+use Rattle.repl_sessions.specs.Inside.Leaving.{is_leaving, without_leaving}
+use Rattle.repl_sessions.specs.Inside.View.{session_view, live_view}
+use Rattle.repl_sessions.specs.Inside.Keeps.{Live, Index, Keeps, has, by_text}
 use Rattle.repl_sessions.proofs.Numbers.{Entries, rise}
 use Rattle.repl_sessions.proofs.Keeping.{tied}
 use Rattle.repl_sessions.proofs.Naming.{has_text, first_numbered, numbered-none, numbered-first, not-above}

@@ -22,8 +22,8 @@ use Rattle.uuid.proofs.TextLemmas.{by_index_length}
 use Rattle.repl_sessions.specs.Ids.{IdsData, id_text}
 use Rattle.repl_sessions.specs.Sessions.{SessionData, is_numbered, is_open}
 use Rattle.repl_sessions.specs.Named.{NamedSessions, is_named, number_named}
-use Rattle.repl_sessions.specs.View.{session_view, live_view}
-use Rattle.repl_sessions.specs.Keeps.{Live, Index, Keeps, has, by_text}
+use Rattle.repl_sessions.specs.Inside.View.{session_view, live_view}
+use Rattle.repl_sessions.specs.Inside.Keeps.{Live, Index, Keeps, has, by_text}
 use Rattle.repl_sessions.specs.declared.state.SessionState.{SessionState}
 use Rattle.repl_sessions.proofs.Numbers.{Entries, at, among, AllAbove, Rise, rise, among-behind, among-first}
 

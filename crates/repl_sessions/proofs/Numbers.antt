@@ -18,9 +18,9 @@ use Rattle.std.proofs.lemmas.List.{map-append}
 use Rattle.std.proofs.lemmas.List.Elements.{filter-append}
 use Rattle.std.proofs.lemmas.Map.Keys.{sorted_head, sorted_tail}
 use Rattle.repl_sessions.specs.State.{StateData}
-use Rattle.repl_sessions.specs.StateView.{state_view}
+use Rattle.repl_sessions.specs.Inside.StateView.{state_view}
 use Rattle.repl_sessions.specs.Sessions.{SessionData, is_numbered, with_changed_state}
-use Rattle.repl_sessions.specs.View.{session_view, live_view}
+use Rattle.repl_sessions.specs.Inside.View.{session_view, live_view}
 use Rattle.repl_sessions.specs.declared.state.SessionState.{SessionState}
 
 abbrev pub Entries : Type 0

@@ -5,12 +5,12 @@ use Rattle.std.specs.BTreeMap.{BTreeMap, IsOrdered, WritesThrough, insert_entry}
 use Rattle.std.specs.Map.{lookup, remove_entry}
 use Rattle.repl_sessions.specs.Ids.{IdsData}
 use Rattle.repl_sessions.specs.State.{StateData}
-use Rattle.repl_sessions.specs.StateView.{state_view}
+use Rattle.repl_sessions.specs.Inside.StateView.{state_view}
 use Rattle.repl_sessions.specs.Sessions.{SessionData, with_change, without_session, opened_with}
 use Rattle.repl_sessions.specs.Sessions.{SessionsData}
-use Rattle.repl_sessions.specs.Retracted.{without_newest_session}
+use Rattle.repl_sessions.specs.Inside.Retracted.{without_newest_session}
 use Rattle.repl_sessions.specs.Named.{NamedSessions}
-use Rattle.repl_sessions.specs.View.{live_view}
+use Rattle.repl_sessions.specs.Inside.View.{live_view}
 use Rattle.repl_sessions.specs.declared.state.SessionState.{SessionState}
 use Rattle.repl_sessions.proofs.Numbers.{Entries, at, among, rise, all-below, opened-view}
 use Rattle.repl_sessions.proofs.Numbers.{opened-out, closed-view, with_changed_state-view}

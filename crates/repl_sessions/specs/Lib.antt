@@ -1,10 +1,5 @@
 pub mod Ids
 pub mod State
-pub mod StateView
 pub mod Sessions
 pub mod Named
-pub mod Leaving
-pub mod Retracted
-pub mod View
-pub mod Keeps
-pub mod Code
+pub mod Inside

@@ -1,10 +1,10 @@
 // What changes in an open session.
 ghost use Rattle.std.specs.Prelude.{◌≡◌};
 ghost use Rattle.std.specs.Arc.{arc_str_bytes};
-ghost use Rattle.value_data.specs.View.{view};
+ghost use Rattle.value_data.specs.Inside.View.{view};
 ghost use Rattle.repl_sessions.specs.State.{after_value, after_fault, in_namespace};
 ghost use Rattle.repl_sessions.specs.Sessions.{with_change};
-ghost use Rattle.repl_sessions.specs.StateView.{state_view};
+ghost use Rattle.repl_sessions.specs.Inside.StateView.{state_view};
 
 use crate::sessions::Sessions;
 use crate::state::SessionState;

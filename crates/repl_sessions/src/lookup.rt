@@ -4,7 +4,7 @@ ghost use Rattle.std.specs.BTreeMap.{keys};
 ghost use Rattle.repl_sessions.specs.Ids.{id_text};
 ghost use Rattle.repl_sessions.specs.Sessions.{is_open, state_of};
 ghost use Rattle.repl_sessions.specs.Named.{number_named, ids_of};
-ghost use Rattle.repl_sessions.specs.StateView.{state_view};
+ghost use Rattle.repl_sessions.specs.Inside.StateView.{state_view};
 
 use crate::ids::{IdStream, IdText};
 use crate::sessions::Sessions;

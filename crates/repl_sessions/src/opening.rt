@@ -3,8 +3,8 @@ ghost use Rattle.std.specs.Prelude.{◌≡◌, false, Some, IsTrue, IfOk, OnOk, 
 ghost use Rattle.std.specs.Option.{ForSome};
 ghost use Rattle.repl_sessions.specs.Sessions.{none_open, is_open, state_of, opened_with};
 ghost use Rattle.repl_sessions.specs.Sessions.{cloned_state, with_clone_of, without_session};
-ghost use Rattle.repl_sessions.specs.Retracted.{without_newest_session};
-ghost use Rattle.repl_sessions.specs.StateView.{state_view};
+ghost use Rattle.repl_sessions.specs.Inside.Retracted.{without_newest_session};
+ghost use Rattle.repl_sessions.specs.Inside.StateView.{state_view};
 
 use crate::ids::IdStream;
 use crate::sessions::Sessions;

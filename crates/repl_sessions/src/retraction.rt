@@ -1,6 +1,6 @@
 // A session that was made is taken back.
 ghost use Rattle.std.specs.Prelude.{◌≡◌};
-ghost use Rattle.repl_sessions.specs.Retracted.{without_newest_session};
+ghost use Rattle.repl_sessions.specs.Inside.Retracted.{without_newest_session};
 
 use crate::sessions::Sessions;
 

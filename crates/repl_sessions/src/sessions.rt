@@ -20,9 +20,9 @@ pub struct Sessions {
 
 impl Model for Sessions {
     ghost use Rattle.repl_sessions.specs.Named.{NamedSessions};
-    ghost use Rattle.repl_sessions.specs.Code.{named_code};
-    ghost use Rattle.repl_sessions.specs.View.{live_view};
-    ghost use Rattle.repl_sessions.specs.Keeps.{Keeps};
+    ghost use Rattle.repl_sessions.specs.Inside.Code.{named_code};
+    ghost use Rattle.repl_sessions.specs.Inside.View.{live_view};
+    ghost use Rattle.repl_sessions.specs.Inside.Keeps.{Keeps};
 
     ghost Value = { NamedSessions };
 

@@ -25,9 +25,9 @@ pub struct SessionState {
 impl SessionState {
     ghost use Rattle.std.specs.Prelude.{◌≡◌, IfOk};
     ghost use Rattle.std.specs.Arc.{arc_str_bytes};
-    ghost use Rattle.value_data.specs.View.{view};
+    ghost use Rattle.value_data.specs.Inside.View.{view};
     ghost use Rattle.repl_sessions.specs.State.{fresh, after_value, after_fault, in_namespace};
-    ghost use Rattle.repl_sessions.specs.StateView.{state_view};
+    ghost use Rattle.repl_sessions.specs.Inside.StateView.{state_view};
 
     /// What a session remembers before its first request. It fails only for want of memory.
     pub fn fresh(alloc: Global) -> Result<SessionState, AllocError>
@@ -91,7 +91,7 @@ impl SessionState {
 // So that a map of states can be copied.
 impl Clone for SessionState {
     ghost use Rattle.std.specs.Prelude.{◌≡◌};
-    ghost use Rattle.repl_sessions.specs.StateView.{state_view};
+    ghost use Rattle.repl_sessions.specs.Inside.StateView.{state_view};
 
     ghost is_clone = { λ x y. state_view y ≡ state_view x };
 

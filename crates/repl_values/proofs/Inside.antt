@@ -2,7 +2,7 @@
 use Rattle.std.proofs.Common.{◌≡◌, ◌<◌, ◌≤◌, ap, ⊎_elim, arith}
 use Rattle.value_data.specs.Datum.{Datum, list, vector, map, Items, no_items, item, Pairs, no_pairs, pair}
 use Rattle.value_data.specs.Measures.{weight, items_weight, pairs_weight, nesting, items_nesting, pairs_nesting}
-use Rattle.repl_values.specs.Parts.{IsItemOf, IsKeyOrValueOf, IsPartOf}
+use Rattle.repl_values.specs.Inside.Parts.{IsItemOf, IsKeyOrValueOf, IsPartOf}
 
 item-weight : (d : Datum) (ds : Items) → IsItemOf d ds → weight d ≤ items_weight ds
 item-weight d no_items h = absurd h

@@ -1,4 +1,3 @@
-pub mod Parts
 pub mod Print
-pub mod Style
 pub mod Slash
+pub mod Inside

@@ -15,7 +15,7 @@ impl Fault {
     ghost use Rattle.std.specs.Prelude.{◌≡◌, IfOk};
     ghost use Rattle.std.specs.Arc.{arc_str_bytes};
     ghost use Rattle.value_data.specs.Datum.{fault};
-    ghost use Rattle.value_data.specs.View.{view};
+    ghost use Rattle.value_data.specs.Inside.View.{view};
 
     /// The fault as a value, which `throw` and `*e` know. It takes no memory.
     pub fn into_value(self) -> Value

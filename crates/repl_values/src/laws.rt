@@ -3,14 +3,14 @@
 
 ghost use Rattle.std.specs.Prelude.{◌≡◌, ◌<◌, true};
 ghost use Rattle.value_data.specs.Datum.{Datum, Items, list, vector};
-ghost use Rattle.value_data.specs.View.{view};
+ghost use Rattle.value_data.specs.Inside.View.{view};
 ghost use Rattle.value_data.specs.Same.{same};
-ghost use Rattle.value_data.specs.Hash.{hash};
-ghost use Rattle.value_data.specs.Order.{order, sort_key};
+ghost use Rattle.value_data.specs.Inside.Hash.{hash};
+ghost use Rattle.value_data.specs.Inside.Order.{order, sort_key};
 ghost use Rattle.std.specs.Ordering.{is_eq, ordering_reverse};
 ghost use Rattle.repl_values.specs.Print.{print};
 ghost use Rattle.value_data.specs.Measures.{weight, nesting};
-ghost use Rattle.repl_values.specs.Parts.{IsPartOf};
+ghost use Rattle.repl_values.specs.Inside.Parts.{IsPartOf};
 
 use std::cmp::Ordering;
 use value_data::Value;

@@ -2,7 +2,7 @@
 #![tactic(auto, using(value_data::proofs::Nodes::node_steps))]
 
 ghost use Rattle.std.specs.Prelude.{◌≡◌};
-ghost use Rattle.value_data.specs.View.{view, items_view, pairs_view};
+ghost use Rattle.value_data.specs.Inside.View.{view, items_view, pairs_view};
 ghost use Rattle.value_data.specs.Measures.{is_plain as plain, are_plain, pairs_are_plain};
 
 use value_data::Value;

@@ -3,11 +3,11 @@
 
 ghost use Rattle.std.specs.Prelude.{◌≡◌, ◌++◌, OnOk, OnErr, string_bytes, codes, decimal};
 ghost use Rattle.std.specs.Prelude.{encode_utf8};
-ghost use Rattle.value_data.specs.View.{view, items_view, pairs_view, owner_view};
+ghost use Rattle.value_data.specs.Inside.View.{view, items_view, pairs_view, owner_view};
 ghost use Rattle.repl_values.specs.Print.{print, display, spelled, texts, pair_texts, joined_by};
 ghost use Rattle.repl_values.specs.Print.{escaped, ref_text};
 ghost use Rattle.std.specs.Fmt.{signed_decimal};
-ghost use Rattle.repl_values.specs.Style.{spelling_of};
+ghost use Rattle.repl_values.specs.Inside.Style.{spelling_of};
 
 use itoa::Buffer;
 use std::alloc::{AllocError, Global};

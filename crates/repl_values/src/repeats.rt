@@ -1,10 +1,10 @@
 // The first repeated key.
 ghost use Rattle.std.specs.Prelude.{◌≡◌, IfOk};
-ghost use Rattle.value_data.specs.View.{items_view};
+ghost use Rattle.value_data.specs.Inside.View.{items_view};
 ghost use Rattle.value_data.specs.Datum.{Pairs};
 ghost use Rattle.value_data.specs.Keyed.{keys_of};
 ghost use Rattle.value_data.specs.Repeats.{first_repeat};
-ghost use Rattle.value_data.specs.BuiltView.{IsBuilt};
+ghost use Rattle.value_data.specs.Inside.BuiltView.{IsBuilt};
 
 use std::alloc::{AllocError, Global};
 use value_data::{Built, Table, Value, copy};

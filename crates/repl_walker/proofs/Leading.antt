@@ -3,7 +3,7 @@ use Rattle.std.proofs.Common.{◌≡◌, ◌↔◌, List, [], ◌∷◌, ◌++�
 use Rattle.std.proofs.Common.{append_assoc, append-nil}
 use Rattle.std.proofs.Math.Logic.{∥∥₁_map}
 use Rattle.repl_asks.specs.Exchange.{AskData, AnswerData, Exchanged}
-use Rattle.repl_asks.specs.View.{ask_view, exchange_view, trace_view}
+use Rattle.repl_asks.specs.Inside.View.{ask_view, exchange_view, trace_view}
 use Rattle.repl_asks.specs.declared.exchange.Exchange.{Exchange}
 use Rattle.std.proofs.lemmas.List.{map-append}
 use Rattle.repl_jobs.specs.Job.{JobData, EndData, EndingData}

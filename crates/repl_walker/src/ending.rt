@@ -1,7 +1,7 @@
 // An evaluation that ended, with its job and its trace.
 ghost use Rattle.std.specs.Prelude.{◌≡◌, IfOk};
-ghost use Rattle.repl_asks.specs.View.{trace_view};
-ghost use Rattle.repl_jobs.specs.View.{job_view, finished_view};
+ghost use Rattle.repl_asks.specs.Inside.View.{trace_view};
+ghost use Rattle.repl_jobs.specs.Inside.View.{job_view, finished_view};
 ghost use Rattle.repl_jobs.specs.InteractionTree as tree;
 ghost use Rattle.repl_walker.specs.Led.{LedTo};
 

@@ -1,7 +1,7 @@
 // An evaluation, from one ask to the next.
 ghost use Rattle.std.specs.Prelude.{◌≡◌, ◌≤◌, [], IfOk};
-ghost use Rattle.repl_asks.specs.View.{answer_view, trace_view};
-ghost use Rattle.repl_jobs.specs.View.{job_view};
+ghost use Rattle.repl_asks.specs.Inside.View.{answer_view, trace_view};
+ghost use Rattle.repl_jobs.specs.Inside.View.{job_view};
 ghost use Rattle.evaluation_rules.specs.Evaluation.{evaluation};
 ghost use Rattle.walker_machine.specs.Waits.{reached_tree, most_calls_of, IsLaterReached};
 ghost use Rattle.walker_state.specs.Position.{Position};

@@ -1,7 +1,7 @@
 // An evaluation over somebody who answers.
 ghost use Rattle.std.specs.Prelude.{◌≡◌, ◌++◌, [], ◌∷◌, true, false, OnOk, IfOk, IfErr};
-ghost use Rattle.repl_asks.specs.View.{ask_view, answer_view};
-ghost use Rattle.repl_jobs.specs.View.{job_view};
+ghost use Rattle.repl_asks.specs.Inside.View.{ask_view, answer_view};
+ghost use Rattle.repl_jobs.specs.Inside.View.{job_view};
 ghost use Rattle.evaluation_rules.specs.Evaluation.{evaluation};
 ghost use Rattle.repl_walker.specs.Ends.{ending_view, IsEndOf};
 ghost use Rattle.repl_walker.specs.Waits.{walk_tree, WentOn};

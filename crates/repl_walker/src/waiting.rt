@@ -1,7 +1,7 @@
 // An evaluation that waits for an answer.
 ghost use Rattle.std.specs.Prelude.{◌≡◌};
-ghost use Rattle.repl_asks.specs.View.{ask_view, trace_view};
-ghost use Rattle.repl_jobs.specs.View.{job_view};
+ghost use Rattle.repl_asks.specs.Inside.View.{ask_view, trace_view};
+ghost use Rattle.repl_jobs.specs.Inside.View.{job_view};
 ghost use Rattle.repl_jobs.specs.InteractionTree.{asks};
 ghost use Rattle.walker_machine.specs.Waits.{tree_behind};
 ghost use Rattle.repl_walker.specs.Led.{LedTo};

@@ -8,7 +8,7 @@ use Rattle.server_rules.specs.Numbered.{part_under}
 use Rattle.server_rules.specs.Plan.{ends, tenant_opened}
 use Rattle.server_rules.specs.World.{opens, closes, does, step}
 use Rattle.server_rules.specs.Turns.{Turn, given, turns_of_tenant}
-use Rattle.server_rules.specs.Laws.{answer_in}
+use Rattle.server_rules.specs.Isolation.Laws.{answer_in}
 use Rattle.server_rules.specs.declared.actor.Actor.{Actor}
 use Rattle.server_rules.specs.declared.refusal.Refusal.{Refusal}
 use Rattle.server_examples.specs.Tables.{number, ground}

@@ -5,9 +5,9 @@ use Rattle.server_rules.specs.Ground.{Ground}
 use Rattle.server_rules.specs.Plan.{StepAnswer}
 use Rattle.server_rules.specs.World.{World, Step, Stepped, accepted, refused, step}
 use Rattle.server_rules.specs.Turns.{whose_step}
-use Rattle.server_rules.specs.View.{View, view_for}
-use Rattle.server_rules.specs.Privacy.{IsPrivateFor}
-use Rattle.server_rules.specs.Laws.{answer_in, SameStep}
+use Rattle.server_rules.specs.Isolation.View.{View, view_for}
+use Rattle.server_rules.specs.Isolation.Privacy.{IsPrivateFor}
+use Rattle.server_rules.specs.Isolation.Laws.{answer_in, SameStep}
 use Rattle.server_rules.specs.declared.refusal.Refusal.{Refusal}
 use Rattle.server_rules.proofs.Steps.{SeenStepped, not_done, done_so, seen_step, SoundWorld}
 use Rattle.server_rules.proofs.Alone.{own-step, view_after, view_for-after}

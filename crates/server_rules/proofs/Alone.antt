@@ -17,8 +17,8 @@ use Rattle.server_rules.specs.World.{open_step, deed_step, close_step, step, wor
 use Rattle.server_rules.specs.Turns.{whose_step, Turn, given, goes, whose, honest_deed, quiet_of}
 use Rattle.server_rules.specs.Turns.{step_of, turn_step, world_after, bytes_in, bytes_given, serve}
 use Rattle.server_rules.specs.Turns.{turns_of_tenant}
-use Rattle.server_rules.specs.View.{Seen, View, tenant_view, part_view, view_for}
-use Rattle.server_rules.specs.Privacy.{NamesNoShared, IsPrivateFor, Private, IsAccepted, FirstOpen}
+use Rattle.server_rules.specs.Isolation.View.{Seen, View, tenant_view, part_view, view_for}
+use Rattle.server_rules.specs.Isolation.Privacy.{NamesNoShared, IsPrivateFor, Private, IsAccepted, FirstOpen}
 use Rattle.server_rules.specs.declared.refusal.Refusal.{Refusal}
 use Rattle.server_rules.proofs.Numbered.{none-some, some-same, part_under-new}
 use Rattle.server_rules.proofs.Steps.{SeenStepped, not_done, done_so, ended_seen, step_seen}

@@ -25,8 +25,8 @@ use Rattle.server_rules.specs.Calls.{Call, nothing, makes, begins, leaves_attemp
 use Rattle.server_rules.specs.Calls.{tells_least, tells_most, sets_least, sets_most, commits}
 use Rattle.server_rules.specs.Calls.{gives_up, performed_begin, read_at, read_by, number_told}
 use Rattle.server_rules.specs.Calls.{count_told, bound_set, given_up, performed}
-use Rattle.server_rules.specs.View.{map_ref, content_of, count_at, counts_at, Seen, seen_of}
-use Rattle.server_rules.specs.Privacy.{IsOwned, AreOwned}
+use Rattle.server_rules.specs.Isolation.View.{map_ref, content_of, count_at, counts_at, Seen, seen_of}
+use Rattle.server_rules.specs.Isolation.Privacy.{IsOwned, AreOwned}
 use Rattle.server_rules.proofs.Numbered.{none-some, some-same, slice_get-map, changed_at-map}
 use Rattle.server_rules.proofs.Numbered.{changed_at-unseen, part_under-map, without-map}
 use Rattle.server_rules.proofs.Seen.{ref_seen, changed_seen_of, left_seen, begun_seen, read_at_seen}

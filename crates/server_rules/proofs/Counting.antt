@@ -8,7 +8,7 @@ use Rattle.std.proofs.lemmas.List.{length-map}
 use Rattle.std.proofs.Math.Seq.{drop-nil}
 use Rattle.value_data.specs.Datum.{Datum}
 use Rattle.server_rules.specs.Versions.{Version, Ref, at_point, newest, is_newer, with_version}
-use Rattle.server_rules.specs.View.{content_of, count_at}
+use Rattle.server_rules.specs.Isolation.View.{content_of, count_at}
 use Rattle.server_rules.proofs.Seen.{first}
 
 -- stamps fall from the newest on, and none is above a point

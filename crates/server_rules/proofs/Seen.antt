@@ -19,8 +19,8 @@ use Rattle.server_rules.specs.Commit.{guarded_refs, touched_refs, intent_fits, a
 use Rattle.server_rules.specs.Calls.{Call, nothing, makes, begins, leaves_attempt, reads, counts}
 use Rattle.server_rules.specs.Calls.{tells_least, tells_most, sets_least, sets_most, commits}
 use Rattle.server_rules.specs.Calls.{gives_up, number_told}
-use Rattle.server_rules.specs.View.{Seen}
-use Rattle.server_rules.specs.Privacy.{IsOwned, AreOwned}
+use Rattle.server_rules.specs.Isolation.View.{Seen}
+use Rattle.server_rules.specs.Isolation.Privacy.{IsOwned, AreOwned}
 
 abbrev pub first : List Datum → Option Datum
 first [] = None

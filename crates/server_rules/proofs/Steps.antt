@@ -30,8 +30,8 @@ use Rattle.server_rules.specs.World.{accepted, refused, is_used, open_count, ope
 use Rattle.server_rules.specs.World.{open_step, ended_as, done_by, planned_step, deed_step}
 use Rattle.server_rules.specs.World.{close_step, with_tenant, step, world_or}
 use Rattle.server_rules.specs.Turns.{whose_step}
-use Rattle.server_rules.specs.View.{Seen, seen_of, View, tenant_view, part_view, view_for}
-use Rattle.server_rules.specs.Privacy.{IsPrivate, NamesNoShared}
+use Rattle.server_rules.specs.Isolation.View.{Seen, seen_of, View, tenant_view, part_view, view_for}
+use Rattle.server_rules.specs.Isolation.Privacy.{IsPrivate, NamesNoShared}
 use Rattle.server_rules.specs.declared.actor.Actor.{Actor}
 use Rattle.server_rules.specs.declared.refusal.Refusal.{Refusal}
 use Rattle.server_rules.proofs.Numbered.{part_under-other, part_under-new}

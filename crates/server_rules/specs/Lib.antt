@@ -21,6 +21,4 @@ pub mod Deeds
 pub mod Ready
 pub mod World
 pub mod Turns
-pub mod View
-pub mod Privacy
-pub mod Laws
+pub mod Isolation

@@ -1,5 +1,5 @@
 //! Laws of the server's definitions. The functions do nothing: what they ensure is proved.
-ghost use Rattle.server_rules.specs.Laws.{OthersLeaveIt, AlikeStaysAlike, ServedAlone};
+ghost use Rattle.server_rules.specs.Isolation.Laws.{OthersLeaveIt, AlikeStaysAlike, ServedAlone};
 
 /// Another tenant's step leaves what a tenant sees.
 pub fn others_leave_it()

@@ -6,7 +6,7 @@ use Rattle.std.specs.List.{HoldsAt}
 use Rattle.std.specs.Prelude.{◌/◌, ◌%◌, IfSome}
 use Rattle.value_data.specs.Datum.{Datum, Items}
 use Rattle.value_data.specs.Listed.{listed}
-use Rattle.value_data.specs.View.{view, items_view, pairs_view}
+use Rattle.value_data.specs.Inside.View.{view, items_view, pairs_view}
 use Rattle.value_data.specs.declared.value.Value.{Value}
 use Rattle.value_data.proofs.Views.{value_views}
 use Rattle.value_data.proofs.Lists.{listed-of, lists}

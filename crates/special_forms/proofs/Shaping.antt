@@ -14,13 +14,13 @@ use Rattle.value_data.specs.Datum as datum
 use Rattle.value_data.specs.Datum.{Datum, Items, nil, boolean, integer, string, keyword, symbol}
 use Rattle.value_data.specs.Datum.{list, vector, ref, atom, agent, var, fault}
 use Rattle.value_data.specs.Listed.{listed}
-use Rattle.value_data.specs.View.{view, items_view}
+use Rattle.value_data.specs.Inside.View.{view, items_view}
 use Rattle.value_data.specs.declared.value.Value.{Value}
 use Rattle.value_data.proofs.Views.{value_views}
 use Rattle.value_data.proofs.Lists.{listed-of, lists}
 use Rattle.special_forms.specs.Rows.{BoundForm}
-use Rattle.special_forms.specs.Bindings.{bindings_in, bound_name}
-use Rattle.special_forms.specs.Seen.{views}
+use Rattle.special_forms.specs.Inside.Bindings.{bindings_in, bound_name}
+use Rattle.special_forms.specs.Inside.Seen.{views}
 use Rattle.special_forms.specs.Kinds.{symbol_name, simple_name}
 use Rattle.repl_values.specs.Slash.{is_slash}
 use Rattle.special_forms.specs.Parameters.{parameter_name, parameter_names}

@@ -10,15 +10,15 @@ use Rattle.value_data.specs.Datum.{vector, map, ref, atom, agent, var, fault, It
 use Rattle.value_data.specs.Datum.{Pairs, no_pairs, pair}
 use Rattle.value_data.specs.Listed.{listed}
 use Rattle.special_forms.specs.Rows.{BoundForm, in_a_row}
-use Rattle.special_forms.specs.Size.{nodes, items_nodes, pairs_nodes, datum_size, forms_size}
-use Rattle.special_forms.specs.Size.{bindings_size, shape_size}
+use Rattle.special_forms.specs.Inside.Size.{nodes, items_nodes, pairs_nodes, datum_size, forms_size}
+use Rattle.special_forms.specs.Inside.Size.{bindings_size, shape_size}
 use Rattle.special_forms.specs.Kinds.{symbol_name, simple_name, in_vector}
 use Rattle.special_forms.specs.Parameters.{parameters}
 use Rattle.special_forms.specs.Shapes.{ShapeData, quoted, bindings, definition, function_definition}
 use Rattle.special_forms.specs.Shapes.{thrown, entry, computed_entry, sole_form, if_shape}
 use Rattle.special_forms.specs.Shapes.{when_shape, ns_shape, bound_forms, let_shape, def_shape}
 use Rattle.special_forms.specs.Shapes.{function_shape, behind_name, defn_shape, shape_of}
-use Rattle.special_forms.specs.Seen.{shape_view}
+use Rattle.special_forms.specs.Inside.Seen.{shape_view}
 use Rattle.special_forms.specs.declared.shapes.Shape.{Shape}
 use Rattle.special_forms.specs.declared.special.SpecialForm.{SpecialForm}
 

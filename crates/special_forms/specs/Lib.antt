@@ -1,10 +1,8 @@
 pub mod Rows
-pub mod Bindings
 pub mod Names
 pub mod Kinds
 pub mod Parameters
 pub mod Shapes
-pub mod Seen
 pub mod Functions
-pub mod Size
 pub mod Truth
+pub mod Inside

@@ -5,10 +5,10 @@ ghost use Rattle.std.specs.Prelude.{◌≡◌, ◌==◌, nat_le, [], ◌∷◌, 
 ghost use Rattle.std.specs.Prelude.{length, IfOk, MatchOption};
 ghost use Rattle.std.specs.Arc.{arc_str_bytes};
 ghost use Rattle.value_data.specs.Listed.{listed};
-ghost use Rattle.value_data.specs.View.{view};
+ghost use Rattle.value_data.specs.Inside.View.{view};
 ghost use Rattle.special_forms.specs.Rows.{in_a_row};
-ghost use Rattle.special_forms.specs.Bindings.{first_of, bound_name, bindings_in};
-ghost use Rattle.special_forms.specs.Seen.{source_view, forms_view, let_binding_view};
+ghost use Rattle.special_forms.specs.Inside.Bindings.{first_of, bound_name, bindings_in};
+ghost use Rattle.special_forms.specs.Inside.Seen.{source_view, forms_view, let_binding_view};
 
 use repl_values::{Sequence, Table, Value, copy, copy_text};
 use std::alloc::{AllocError, Global};

@@ -16,7 +16,7 @@ pub struct Function {
 
 impl Function {
     ghost use Rattle.std.specs.Prelude.{◌≡◌, IfOk};
-    ghost use Rattle.special_forms.specs.Seen.{function_view};
+    ghost use Rattle.special_forms.specs.Inside.Seen.{function_view};
 
     /// A function with the same view. It takes one step and no memory, and fails only where 2^63
     /// owners share a part of it.

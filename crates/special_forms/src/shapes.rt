@@ -4,12 +4,12 @@ ghost use Rattle.std.specs.Prelude.{◌≡◌, ◌≤◌, Some, None, if◌then�
 ghost use Rattle.std.specs.Prelude.{map};
 ghost use Rattle.std.specs.Arc.{arc_str_bytes};
 ghost use Rattle.value_data.specs.Listed.{listed};
-ghost use Rattle.value_data.specs.View.{view};
-ghost use Rattle.special_forms.specs.Bindings.{bindings_in};
+ghost use Rattle.value_data.specs.Inside.View.{view};
+ghost use Rattle.special_forms.specs.Inside.Bindings.{bindings_in};
 ghost use Rattle.special_forms.specs.Kinds as kinds;
 ghost use Rattle.special_forms.specs.Shapes as meant;
-ghost use Rattle.special_forms.specs.Seen.{views, forms_view, shape_view};
-ghost use Rattle.special_forms.specs.Size.{forms_size, shape_size};
+ghost use Rattle.special_forms.specs.Inside.Seen.{views, forms_view, shape_view};
+ghost use Rattle.special_forms.specs.Inside.Size.{forms_size, shape_size};
 
 use crate::forms::Forms;
 use crate::names::{parameters_in, simple_symbol, symbol};

@@ -1,6 +1,6 @@
 // What is true, and what `and`, `or` and a condition make of it.
 ghost use Rattle.std.specs.Prelude.{◌≡◌, if◌then◌else◌};
-ghost use Rattle.value_data.specs.View.{view};
+ghost use Rattle.value_data.specs.Inside.View.{view};
 ghost use Rattle.special_forms.specs.Truth as meant;
 
 use crate::forms::Forms;

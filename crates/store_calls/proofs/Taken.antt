@@ -2,14 +2,14 @@
 use Rattle.std.proofs.Common.{◌≡◌, List, [], ◌∷◌, ◌++◌, get_or, take, drop, length, Bool, true}
 use Rattle.std.proofs.Common.{option_map, slice_get, arith}
 use Rattle.std.proofs.lemmas.Bool.Decides.{nat_tests}
-use Rattle.value_data.specs.View.{view}
+use Rattle.value_data.specs.Inside.View.{view}
 use Rattle.value_data.specs.declared.value.Value.{Value}
-use Rattle.special_forms.specs.Seen.{views}
+use Rattle.special_forms.specs.Inside.Seen.{views}
 use Rattle.function_names.specs.StoreNames.{store_fits}
 use Rattle.function_names.specs.declared.store.StoreFunction.{StoreFunction}
 use Rattle.store_calls.specs.Calling.{call_with, ref_call, deref_call, ref_set_call, ensure_call}
 use Rattle.store_calls.specs.Calling.{history_count_call, alter_by_value}
-use Rattle.store_calls.specs.Parts.{bound_call}
+use Rattle.store_calls.specs.Inside.Parts.{bound_call}
 use Rattle.store_calls.specs.declared.altering.Alteration.{Alteration}
 use Rattle.store_calls.specs.declared.bounds.HistoryBound.{HistoryBound}
 

@@ -1,4 +1,3 @@
 pub mod Arguments
 pub mod Calling
-pub mod Parts
-pub mod View
+pub mod Inside

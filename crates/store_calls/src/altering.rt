@@ -1,10 +1,10 @@
 // The ref that `alter` or `commute` alters, before its function is applied.
 ghost use Rattle.std.specs.Prelude.{◌≡◌, IfOk};
-ghost use Rattle.value_data.specs.View.{view};
-ghost use Rattle.repl_asks.specs.View.{name_view};
-ghost use Rattle.repl_faults.specs.View.{Gives};
+ghost use Rattle.value_data.specs.Inside.View.{view};
+ghost use Rattle.repl_asks.specs.Inside.View.{name_view};
+ghost use Rattle.repl_faults.specs.Inside.View.{Gives};
 ghost use Rattle.store_calls.specs.Calling.{altered_in, altering};
-ghost use Rattle.store_calls.specs.View.{altered_view};
+ghost use Rattle.store_calls.specs.Inside.View.{altered_view};
 
 use crate::arguments::ref_of;
 use crate::outcome::Altered;

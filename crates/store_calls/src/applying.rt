@@ -1,12 +1,12 @@
 // Calls, by the functions that are called.
 ghost use Rattle.std.specs.Prelude.{◌≡◌, ◌∷◌, true, option_map, vec_len, IfOk};
-ghost use Rattle.value_data.specs.View.{view};
-ghost use Rattle.special_forms.specs.Seen.{views};
+ghost use Rattle.value_data.specs.Inside.View.{view};
+ghost use Rattle.special_forms.specs.Inside.Seen.{views};
 ghost use Rattle.function_names.specs.StoreNames.{store_fits};
-ghost use Rattle.repl_faults.specs.View.{Gives};
+ghost use Rattle.repl_faults.specs.Inside.View.{Gives};
 ghost use Rattle.store_calls.specs.Calling as meant;
-ghost use Rattle.store_calls.specs.Parts.{bound_call};
-ghost use Rattle.store_calls.specs.View.{call_view};
+ghost use Rattle.store_calls.specs.Inside.Parts.{bound_call};
+ghost use Rattle.store_calls.specs.Inside.View.{call_view};
 
 use crate::altering::Alteration;
 use crate::arguments::{count_of, ref_of};

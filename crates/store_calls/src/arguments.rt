@@ -2,9 +2,9 @@
 #![tactic(auto, using(value_data::proofs::Views::value_views))]
 
 ghost use Rattle.std.specs.Prelude.{◌≡◌};
-ghost use Rattle.value_data.specs.View.{view};
-ghost use Rattle.repl_asks.specs.View.{name_view};
-ghost use Rattle.repl_faults.specs.View.{Gives};
+ghost use Rattle.value_data.specs.Inside.View.{view};
+ghost use Rattle.repl_asks.specs.Inside.View.{name_view};
+ghost use Rattle.repl_faults.specs.Inside.View.{Gives};
 ghost use Rattle.store_calls.specs.Arguments as meant;
 
 use function_names::StoreFunction;

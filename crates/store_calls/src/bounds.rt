@@ -1,12 +1,12 @@
 // The bounds of a ref's history, and the options that set them.
 ghost use Rattle.std.specs.Prelude.{◌≡◌};
 ghost use Rattle.std.specs.Arc.{arc_str_bytes};
-ghost use Rattle.value_data.specs.View.{view};
-ghost use Rattle.special_forms.specs.Seen.{views};
-ghost use Rattle.repl_asks.specs.View.{name_view, ask_view};
-ghost use Rattle.repl_faults.specs.View.{Gives};
+ghost use Rattle.value_data.specs.Inside.View.{view};
+ghost use Rattle.special_forms.specs.Inside.Seen.{views};
+ghost use Rattle.repl_asks.specs.Inside.View.{name_view, ask_view};
+ghost use Rattle.repl_faults.specs.Inside.View.{Gives};
 ghost use Rattle.store_calls.specs.Arguments as meant;
-ghost use Rattle.store_calls.specs.View.{bounds_view};
+ghost use Rattle.store_calls.specs.Inside.View.{bounds_view};
 
 use crate::arguments::count_of;
 use function_names::StoreFunction;

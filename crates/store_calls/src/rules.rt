@@ -1,7 +1,7 @@
 // The rules of transactions and of shared refs.
 ghost use Rattle.std.specs.Prelude.{◌≡◌, true};
-ghost use Rattle.value_data.specs.View.{view, owner_view};
-ghost use Rattle.repl_faults.specs.View.{Gives};
+ghost use Rattle.value_data.specs.Inside.View.{view, owner_view};
+ghost use Rattle.repl_faults.specs.Inside.View.{Gives};
 ghost use Rattle.repl_asks.specs.Transactions.{may_hold};
 ghost use Rattle.store_calls.specs.Arguments as meant;
 

@@ -1,11 +1,11 @@
 -- What the actors of the code, and their requests, are seen as.
 use Rattle.std.specs.Prelude.{ℕ, ◌<◌, List, [], ◌∷◌, ⊤, map, option_map, string_bytes}
 use Rattle.std.specs.Arc.{arc_str_bytes}
-use Rattle.value_data.specs.View.{view, items_view}
-use Rattle.repl_faults.specs.View.{failure_of}
-use Rattle.repl_asks.specs.View.{trace_view}
-use Rattle.repl_jobs.specs.View.{job_view}
-use Rattle.repl_replies.specs.View.{field_view, origin_view}
+use Rattle.value_data.specs.Inside.View.{view, items_view}
+use Rattle.repl_faults.specs.Inside.View.{failure_of}
+use Rattle.repl_asks.specs.Inside.View.{trace_view}
+use Rattle.repl_jobs.specs.Inside.View.{job_view}
+use Rattle.repl_replies.specs.Inside.View.{field_view, origin_view}
 use Rattle.server_rules.specs.Numbered.{Entry, entry}
 use Rattle.server_rules.specs.Request as rules
 use Rattle.server_rules.specs.Tenant.{ActorData, seat_of}

@@ -11,7 +11,7 @@ use Rattle.repl_sessions.specs.Ids.{id_text}
 use Rattle.repl_sessions.specs.Sessions.{SessionsData, cloned_state, opened_with, with_clone_of}
 use Rattle.repl_sessions.specs.Sessions.{without_session}
 use Rattle.repl_sessions.specs.Named.{NamedSessions, number_named, ids_of}
-use Rattle.repl_sessions.specs.Leaving.{is_leaving, remaining_sessions, remaining_named}
+use Rattle.repl_sessions.specs.Inside.Leaving.{is_leaving, remaining_sessions, remaining_named}
 use Rattle.repl_replies.specs.Operations as operations
 use Rattle.repl_replies.specs.Operations.{AskedData}
 use Rattle.repl_replies.specs.Replies as replies

@@ -5,9 +5,9 @@ use Rattle.std.proofs.Math.Seq.{drop-append_seam}
 use Rattle.bencode_wire.specs.Tree.{Tree, integer, string, list, dictionary}
 use Rattle.bencode_wire.specs.Stream.{StreamEnding, rest, fault, Streams}
 use Rattle.bencode_wire.specs.Fault.{counted_place}
-use Rattle.bencode_wire.specs.Decoder.{ready_of, fault_of, Shows, Stands}
-use Rattle.bencode_wire.specs.Return.{before_last_piece}
-use Rattle.bencode_wire.specs.State.{Earlier}
+use Rattle.bencode_wire.specs.Inside.Decoder.{ready_of, fault_of, Shows, Stands}
+use Rattle.bencode_wire.specs.Inside.Return.{before_last_piece}
+use Rattle.bencode_wire.specs.Inside.State.{Earlier}
 use Rattle.bencode_wire.specs.declared.decoder.Decoder.{Decoder}
 use Rattle.bencode_wire.specs.declared.fault.WireFault.{WireFault}
 use Rattle.bencode_wire.proofs.Unique.{streams_same}

@@ -12,7 +12,7 @@ use Rattle.std.proofs.lemmas.List.Elements.{filter-append}
 use Rattle.repl_sessions.specs.State.{StateData, fresh}
 use Rattle.repl_sessions.specs.Sessions.{SessionData, SessionsData, is_numbered, state_of, is_open}
 use Rattle.repl_sessions.specs.Sessions.{cloned_state, opened_with, without_session}
-use Rattle.repl_sessions.specs.Leaving.{is_leaving, remaining_sessions, remaining_named}
+use Rattle.repl_sessions.specs.Inside.Leaving.{is_leaving, remaining_sessions, remaining_named}
 use Rattle.repl_sessions.specs.Named.{NamedSessions}
 
 same-test : (n m : ℕ) → (n == m) ≡ (m == n)

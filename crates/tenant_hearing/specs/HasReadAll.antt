@@ -1,6 +1,6 @@
 -- A decoder beside the bytes that a tenant has heard.
 use Rattle.std.specs.Prelude.{◌≡◌, ℕ, List, []}
-use Rattle.bencode_wire.specs.Decoder.{ready_of, fault_of, Stands}
+use Rattle.bencode_wire.specs.Inside.Decoder.{ready_of, fault_of, Stands}
 use Rattle.bencode_wire.specs.declared.decoder.Decoder.{Decoder}
 use Rattle.server_rules.specs.Ground.{Ground}
 use Rattle.server_rules.specs.Hearing.{stream_fault}

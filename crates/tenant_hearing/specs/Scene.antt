@@ -3,7 +3,7 @@
 use Rattle.std.specs.Prelude.{◌≡◌, ℕ, ◌<◌, List, [], ◌∷◌, ◌++◌, map, true}
 use Rattle.std.specs.BTreeSet.{keys}
 use Rattle.repl_sessions.specs.Named.{NamedSessions}
-use Rattle.repl_sessions.specs.Leaving.{is_leaving, remaining_sessions}
+use Rattle.repl_sessions.specs.Inside.Leaving.{is_leaving, remaining_sessions}
 use Rattle.repl_replies.specs.Replies.{bytes_of}
 use Rattle.server_rules.specs.Ground.{Ground}
 use Rattle.server_rules.specs.Numbered.{Entry}

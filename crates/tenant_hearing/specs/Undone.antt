@@ -1,7 +1,7 @@
 -- What messages changed is undone, the newest change first.
 use Rattle.std.specs.Prelude.{List, [], ◌∷◌}
 use Rattle.repl_sessions.specs.Named.{NamedSessions}
-use Rattle.repl_sessions.specs.Retracted.{without_newest_session}
+use Rattle.repl_sessions.specs.Inside.Retracted.{without_newest_session}
 use Rattle.server_rules.specs.Numbered.{Entry, without}
 use Rattle.server_rules.specs.Tenant.{ActorData, seat_of}
 use Rattle.server_rules.specs.declared.actor.Actor.{Actor}

@@ -1,7 +1,7 @@
 // What the messages of a piece have come to so far.
 ghost use Rattle.std.specs.Prelude.{◌≡◌, [], map, OnOk};
 ghost use Rattle.std.specs.BTreeSet.{keys};
-ghost use Rattle.bencode_wire.specs.View.{view, pairs_view};
+ghost use Rattle.bencode_wire.specs.Inside.View.{view, pairs_view};
 ghost use Rattle.bencode_wire.specs.Tree.{dictionary};
 ghost use Rattle.server_rules.specs.Operating.{with_message};
 ghost use Rattle.tenant_actors.specs.View.{actors_view};

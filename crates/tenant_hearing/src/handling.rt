@@ -1,7 +1,7 @@
 // A piece's messages are carried out, all or none.
 ghost use Rattle.std.specs.Prelude.{◌≡◌, ◌++◌, ℕ, map, Ok, OnOk, OnErr};
 ghost use Rattle.std.specs.BTreeSet.{keys};
-ghost use Rattle.bencode_wire.specs.View.{view};
+ghost use Rattle.bencode_wire.specs.Inside.View.{view};
 ghost use Rattle.server_rules.specs.Ground.{Ground};
 ghost use Rattle.server_rules.specs.Tenant.{Quiet};
 ghost use Rattle.tenant_actors.specs.View.{actors_view};
@@ -9,7 +9,7 @@ ghost use Rattle.tenant_replies.specs.View.{made_bytes, waiting_bytes};
 ghost use Rattle.tenant_hearing.specs.Holds.{PartsStandFor, AreSeated};
 ghost use Rattle.tenant_hearing.specs.Scene.{all_vacated};
 ghost use Rattle.tenant_hearing.specs.Handled.{with_piece};
-ghost use Rattle.repl_sessions.specs.Leaving.{remaining_named};
+ghost use Rattle.repl_sessions.specs.Inside.Leaving.{remaining_named};
 
 use crate::changes::undo_all;
 use crate::draft::Draft;

@@ -2,8 +2,8 @@
 ghost use Rattle.std.specs.Prelude.{◌≡◌, ◌≢◌, ℕ, List, [], ◌++◌, true, false, None, is_some, IfOk};
 ghost use Rattle.std.specs.Prelude.{OnOk, OnErr};
 ghost use Rattle.bencode_wire.specs.Tree.{Tree};
-ghost use Rattle.bencode_wire.specs.Decoder.{ready_of, fault_of, Stands, IsUnchanged};
-ghost use Rattle.bencode_wire.specs.Return.{CanReturn};
+ghost use Rattle.bencode_wire.specs.Inside.Decoder.{ready_of, fault_of, Stands, IsUnchanged};
+ghost use Rattle.bencode_wire.specs.Inside.Return.{CanReturn};
 ghost use Rattle.server_rules.specs.Ground.{Ground};
 ghost use Rattle.server_rules.specs.Readings.{AreRight};
 ghost use Rattle.server_rules.specs.Tenant.{Quiet};

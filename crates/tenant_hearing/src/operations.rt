@@ -2,12 +2,12 @@
 ghost use Rattle.std.specs.Prelude.{◌≡◌, OnOk, Some};
 ghost use Rattle.std.specs.BTreeSet.{keys};
 ghost use Rattle.repl_sessions.specs.Named.{NamedSessions};
-ghost use Rattle.repl_replies.specs.View.{origin_view, operation_view};
+ghost use Rattle.repl_replies.specs.Inside.View.{origin_view, operation_view};
 ghost use Rattle.server_rules.specs.Operating.{after_operation, with_clone, with_close, asker};
 ghost use Rattle.tenant_actors.specs.View.{waiting_view, actors_view};
 ghost use Rattle.tenant_hearing.specs.Holds.{AreSeated};
 ghost use Rattle.tenant_hearing.specs.Scene.{scene, FollowsRules, IsKept};
-ghost use Rattle.repl_replies.specs.Named.{session_of};
+ghost use Rattle.repl_replies.specs.Inside.Named.{session_of};
 ghost use Rattle.tenant_hearing.specs.Served.{IsServed};
 ghost use Rattle.tenant_hearing.specs.Requested.{with_queued_request};
 

@@ -2,12 +2,12 @@
 ghost use Rattle.std.specs.Prelude.{◌≡◌, IfOk};
 ghost use Rattle.std.specs.BTreeSet.{keys};
 ghost use Rattle.std.specs.Result.{result_map_both};
-ghost use Rattle.bencode_wire.specs.View.{pairs_view};
+ghost use Rattle.bencode_wire.specs.Inside.View.{pairs_view};
 ghost use Rattle.repl_replies.specs.Operations as meant;
-ghost use Rattle.repl_replies.specs.View.{asked_view, operation_view, reply_view};
+ghost use Rattle.repl_replies.specs.Inside.View.{asked_view, operation_view, reply_view};
 ghost use Rattle.repl_sessions.specs.Named.{number_named};
-ghost use Rattle.repl_sessions.specs.Leaving.{remaining_named};
-ghost use Rattle.repl_replies.specs.Named.{session_of};
+ghost use Rattle.repl_sessions.specs.Inside.Leaving.{remaining_named};
+ghost use Rattle.repl_replies.specs.Inside.Named.{session_of};
 ghost use Rattle.tenant_hearing.specs.Served.{IsServed};
 
 use bencode_wire::Dictionary;

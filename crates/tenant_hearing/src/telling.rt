@@ -2,10 +2,10 @@
 ghost use Rattle.std.specs.Prelude.{◌≡◌, [], ◌∷◌, ◌++◌, map, OnOk};
 ghost use Rattle.std.specs.BTreeSet.{keys};
 ghost use Rattle.repl_sessions.specs.Named.{ids_of};
-ghost use Rattle.repl_sessions.specs.Leaving.{remaining_named};
+ghost use Rattle.repl_sessions.specs.Inside.Leaving.{remaining_named};
 ghost use Rattle.repl_replies.specs.Replies as replies;
 ghost use Rattle.repl_replies.specs.Replies.{bytes_of};
-ghost use Rattle.repl_replies.specs.View.{origin_view};
+ghost use Rattle.repl_replies.specs.Inside.View.{origin_view};
 ghost use Rattle.server_rules.specs.Operating.{interruption};
 ghost use Rattle.server_rules.specs.Replying.{reply};
 ghost use Rattle.tenant_actors.specs.View.{waiting_view};

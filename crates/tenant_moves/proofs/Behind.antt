@@ -4,7 +4,7 @@ use Rattle.std.proofs.Common.{ap, subst, ◌∙◌, map, append_assoc, true≢fa
 use Rattle.std.proofs.Math.Dec.{eqb-suc-zero}
 use Rattle.std.proofs.lemmas.List.{map-append}
 use Rattle.value_data.specs.Datum.{Items, no_items, item}
-use Rattle.value_data.specs.View.{items_view}
+use Rattle.value_data.specs.Inside.View.{items_view}
 use Rattle.value_data.specs.declared.value.Value.{Value}
 use Rattle.repl_faults.specs.Failure.{Failure}
 use Rattle.repl_replies.specs.Replies.{OriginData, ReplyData, bytes_of}

@@ -1,9 +1,9 @@
 // A form of the request in hand has ended.
 ghost use Rattle.std.specs.Prelude.{◌≡◌, Some, option_map, Ok, Err, IfOk};
-ghost use Rattle.repl_faults.specs.View.{failure_of};
-ghost use Rattle.value_data.specs.View.{view};
-ghost use Rattle.repl_jobs.specs.View.{finished_view};
-ghost use Rattle.repl_sessions.specs.StateView.{state_view};
+ghost use Rattle.repl_faults.specs.Inside.View.{failure_of};
+ghost use Rattle.value_data.specs.Inside.View.{view};
+ghost use Rattle.repl_jobs.specs.Inside.View.{finished_view};
+ghost use Rattle.repl_sessions.specs.Inside.StateView.{state_view};
 ghost use Rattle.server_rules.specs.Request.{each_form, each_form_elsewhere};
 ghost use Rattle.server_rules.specs.Moves.{form_ended, form_ended_as, form_loaded, going_on};
 ghost use Rattle.tenant_actors.specs.View.{hand_view};

@@ -1,9 +1,9 @@
 // What is told of a request.
 ghost use Rattle.std.specs.Prelude.{◌≡◌, [], None, option_map, OnOk};
-ghost use Rattle.repl_faults.specs.View.{failure_of};
-ghost use Rattle.repl_jobs.specs.View.{end_view};
-ghost use Rattle.repl_replies.specs.View.{origin_view};
-ghost use Rattle.repl_sessions.specs.StateView.{state_view};
+ghost use Rattle.repl_faults.specs.Inside.View.{failure_of};
+ghost use Rattle.repl_jobs.specs.Inside.View.{end_view};
+ghost use Rattle.repl_replies.specs.Inside.View.{origin_view};
+ghost use Rattle.repl_sessions.specs.Inside.StateView.{state_view};
 ghost use Rattle.server_rules.specs.Moves.{over_by, closing_move, result_noted};
 ghost use Rattle.tenant_actors.specs.View.{manner_view};
 ghost use Rattle.tenant_moves.specs.Told.{told_bytes, told_state, Adds};

@@ -1,12 +1,12 @@
 // A request is opened: its text is read.
 ghost use Rattle.std.specs.Prelude.{◌≡◌, option_map, option_and_then, Some, string_bytes, IfOk};
 ghost use Rattle.std.specs.Arc.{arc_str_bytes};
-ghost use Rattle.bencode_wire.specs.View.{view};
-ghost use Rattle.repl_faults.specs.View.{failure_of};
-ghost use Rattle.repl_reader.specs.View.{fault_option};
-ghost use Rattle.repl_replies.specs.View.{origin_view, field_view};
-ghost use Rattle.repl_sessions.specs.StateView.{state_view};
-ghost use Rattle.name_spaces.specs.Seen.{namespaces_of};
+ghost use Rattle.bencode_wire.specs.Inside.View.{view};
+ghost use Rattle.repl_faults.specs.Inside.View.{failure_of};
+ghost use Rattle.repl_reader.specs.Inside.View.{fault_option};
+ghost use Rattle.repl_replies.specs.Inside.View.{origin_view, field_view};
+ghost use Rattle.repl_sessions.specs.Inside.StateView.{state_view};
+ghost use Rattle.name_spaces.specs.Inside.Seen.{namespaces_of};
 ghost use Rattle.server_rules.specs.Readings.{Readings, AreRight};
 ghost use Rattle.server_rules.specs.Starting.{hand_of, namespace_there, text_failure};
 ghost use Rattle.tenant_actors.specs.View.{manner_view, waiting_view};

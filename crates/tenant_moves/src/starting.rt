@@ -1,14 +1,14 @@
 // A form of a request begins.
 ghost use Rattle.std.specs.Prelude.{◌≡◌, option_map, IfOk};
-ghost use Rattle.repl_jobs.specs.View.{job_view};
-ghost use Rattle.repl_sessions.specs.StateView.{state_view};
-ghost use Rattle.name_spaces.specs.Seen.{namespaces_of};
+ghost use Rattle.repl_jobs.specs.Inside.View.{job_view};
+ghost use Rattle.repl_sessions.specs.Inside.StateView.{state_view};
+ghost use Rattle.name_spaces.specs.Inside.Seen.{namespaces_of};
 ghost use Rattle.server_rules.specs.Ground.{Ground};
 ghost use Rattle.server_rules.specs.Readings.{AreRight};
 ghost use Rattle.server_rules.specs.Starting.{form_job, next_begun, text_begun};
 ghost use Rattle.repl_jobs.specs.Job as jobs;
-ghost use Rattle.value_data.specs.View.{view};
-ghost use Rattle.repl_replies.specs.View.{origin_view};
+ghost use Rattle.value_data.specs.Inside.View.{view};
+ghost use Rattle.repl_replies.specs.Inside.View.{origin_view};
 ghost use Rattle.tenant_actors.specs.View.{hand_view, waiting_view};
 ghost use Rattle.tenant_moves.specs.Starts.{first_of, form_begun_with, request_over, with_run};
 ghost use Rattle.tenant_moves.specs.Starts.{not_found, GoesOn, BeginsRequest};

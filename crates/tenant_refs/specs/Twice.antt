@@ -1,7 +1,7 @@
 -- An answer that is there twice, as the rules have it.
 use Rattle.std.specs.Prelude.{◌≡◌, Option, None, Some, option_map, ⊤}
 use Rattle.repl_asks.specs.Exchange.{AnswerData}
-use Rattle.repl_asks.specs.View.{answer_view}
+use Rattle.repl_asks.specs.Inside.View.{answer_view}
 use Rattle.tenant_refs.specs.declared.twice.Twice.{Twice}
 
 abbrev pub twice_view : Twice → AnswerData

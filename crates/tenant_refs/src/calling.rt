@@ -1,7 +1,7 @@
 // What a form asks of the refs.
 ghost use Rattle.std.specs.Prelude.{◌≡◌, ◌<◌, ◌≤◌, ◌+◌, ◌^◌, true, IsNone, IfOk, OnErr};
-ghost use Rattle.repl_asks.specs.View.{ask_view, name_view, intent_view};
-ghost use Rattle.value_data.specs.View.{view};
+ghost use Rattle.repl_asks.specs.Inside.View.{ask_view, name_view, intent_view};
+ghost use Rattle.value_data.specs.Inside.View.{view};
 ghost use Rattle.server_rules.specs.Asking.{call_of, is_allowed, may_be_set};
 ghost use Rattle.server_rules.specs.Calls.{performed, makes, begins, reads, counts, commits};
 ghost use Rattle.server_rules.specs.Store.{Store};

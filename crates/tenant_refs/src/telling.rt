@@ -1,6 +1,6 @@
 // Whether the refs would tell what a form asks.
 ghost use Rattle.std.specs.Prelude.{◌≡◌, is_some, IfOk};
-ghost use Rattle.repl_asks.specs.View.{ask_view, name_view, intent_view};
+ghost use Rattle.repl_asks.specs.Inside.View.{ask_view, name_view, intent_view};
 ghost use Rattle.server_rules.specs.Asking.{call_of};
 ghost use Rattle.server_rules.specs.Calls.{performed, counts, commits};
 ghost use Rattle.server_rules.specs.Store.{Store, ref_named};

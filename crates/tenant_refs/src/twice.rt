@@ -1,11 +1,11 @@
 // An answer, twice.
 ghost use Rattle.std.specs.Prelude.{◌≡◌, ◌<◌, ◌^◌, IfOk};
 ghost use Rattle.value_data.specs.Datum.{ref};
-ghost use Rattle.value_data.specs.View.{view, owner_view};
+ghost use Rattle.value_data.specs.Inside.View.{view, owner_view};
 ghost use Rattle.repl_asks.specs.Exchange.{done, value, reading, found, retry, verdict};
-ghost use Rattle.repl_faults.specs.View.{failure_of};
+ghost use Rattle.repl_faults.specs.Inside.View.{failure_of};
 ghost use Rattle.repl_asks.specs.Exchange.{committed, conflict, faulted};
-ghost use Rattle.repl_asks.specs.View.{answer_view};
+ghost use Rattle.repl_asks.specs.Inside.View.{answer_view};
 ghost use Rattle.server_rules.specs.Calls.{number_told};
 
 use repl_asks::{Answer, Reading, Verdict};

@@ -1,10 +1,10 @@
 // The replies that a step makes.
 ghost use Rattle.std.specs.Prelude.{◌≡◌, [], ◌∷◌, ◌++◌, map, option_map, string_bytes, IfOk, OnOk};
-ghost use Rattle.value_data.specs.View.{view};
-ghost use Rattle.repl_faults.specs.View.{failure_of};
-ghost use Rattle.repl_jobs.specs.View.{finished_view};
+ghost use Rattle.value_data.specs.Inside.View.{view};
+ghost use Rattle.repl_faults.specs.Inside.View.{failure_of};
+ghost use Rattle.repl_jobs.specs.Inside.View.{finished_view};
 ghost use Rattle.repl_replies.specs.Replies.{bytes_of};
-ghost use Rattle.repl_replies.specs.View.{origin_view, body_view};
+ghost use Rattle.repl_replies.specs.Inside.View.{origin_view, body_view};
 ghost use Rattle.server_rules.specs.Replying.{reply, fault_line, fault_replies, output_replies};
 ghost use Rattle.server_rules.specs.Replying.{value_reply};
 ghost use Rattle.server_rules.specs.Moves.{end_replies};

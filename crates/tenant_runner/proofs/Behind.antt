@@ -18,9 +18,9 @@ use Rattle.tenant_turns.specs.DeedResult.{DeedResult, deed_result}
 use Rattle.tenant_turns.specs.Grounds.{IsRight}
 use Rattle.tenant_turns.specs.Turns.{LoneTurn, Lone, goes, drains, accepted, deed_of, lone_step}
 use Rattle.tenant_turns.specs.Turns.{stepped_as, ended_as, opened_lone}
-use Rattle.tenant_turns.specs.Turned.{Accepted, IsRefused}
+use Rattle.tenant_turns.specs.Inside.Turned.{Accepted, IsRefused}
 use Rattle.tenant_walks.specs.Grounds.{Evaluates}
-use Rattle.tenant_walks.specs.WalkAt.{walk_at}
+use Rattle.tenant_walks.specs.Inside.WalkAt.{walk_at}
 use Rattle.tenant_world.specs.Standing as tenants
 use Rattle.tenant_world.specs.declared.tenant.Tenant.{Tenant}
 use Rattle.repl_core.specs.Going.{AreWalkedIn, KeepsForms, AcceptsTurn, RefusesTurn}

@@ -3,7 +3,7 @@ use Rattle.std.specs.Prelude.{◌≡◌, Some}
 use Rattle.server_rules.specs.Ground.{Ground}
 use Rattle.server_rules.specs.World.{TenantData, World}
 use Rattle.tenant_turns.specs.Grounds.{IsRight}
-use Rattle.tenant_turns.specs.Turned.{Left}
+use Rattle.tenant_turns.specs.Inside.Turned.{Left}
 use Rattle.tenant_turns.specs.Turns.{Lone}
 use Rattle.tenant_walks.specs.Grounds.{Evaluates}
 use Rattle.repl_core.specs.Going.{AreWalkedIn}

@@ -6,8 +6,8 @@ use denote.Enum.Declared.{Declared}
 use denote.Enum.Bare.{Bare, sameb, same_true, true_same}
 use mathlib.Core.Logic.{inl, inr}
 use Rattle.value_data.specs.Datum.{Datum, OwnerData}
-use Rattle.value_data.specs.Code.{datum_code}
-use Rattle.value_data.specs.CodedNodes.{owner_code}
+use Rattle.value_data.specs.Inside.Code.{datum_code}
+use Rattle.value_data.specs.Inside.CodedNodes.{owner_code}
 use Rattle.repl_faults.specs.Failure.{Failure}
 use Rattle.special_forms.specs.Functions.{FunctionData}
 use Rattle.core_integers.specs.declared.function.ArithmeticFunction.{ArithmeticFunction}

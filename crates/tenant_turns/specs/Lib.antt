@@ -1,4 +1,4 @@
 pub mod DeedResult
 pub mod Turns
 pub mod Grounds
-pub mod Turned
+pub mod Inside

@@ -7,8 +7,8 @@ use Rattle.server_rules.specs.Tenant.{Quiet}
 use Rattle.server_rules.specs.declared.actor.Actor.{Actor}
 use Rattle.tenant_world.specs.Running.{IsEndOfForm, running_in}
 use Rattle.repl_walker.specs.Ends.{ending_view}
-use Rattle.tenant_walks.specs.WalkAt.{walk_at}
-use Rattle.tenant_walks.specs.Walked.{AreWalked}
+use Rattle.tenant_walks.specs.Inside.WalkAt.{walk_at}
+use Rattle.tenant_walks.specs.Inside.Walked.{AreWalked}
 use Rattle.tenant_walks.specs.declared.walks.Walks.{Walks}
 
 pub end-of-walk : (a : Actor) (walks : Walks) (q : Quiet) (e : Ending) (end : EndData)

@@ -1,6 +1,6 @@
 -- The honest deed of an actor, from the form of it that runs and how far its evaluation came.
 use Rattle.std.proofs.Common.{◌≡◌, Option, Some, None, option_and_then, refl, sym, ap, ◌∙◌}
-use Rattle.repl_asks.specs.View.{ask_view}
+use Rattle.repl_asks.specs.Inside.View.{ask_view}
 use Rattle.repl_jobs.specs.Leading.{tree_after}
 use Rattle.repl_walker.specs.Waits.{progress_tree}
 use Rattle.repl_walker.specs.declared.waiting.Walk.{Walk}
@@ -16,7 +16,7 @@ use Rattle.server_rules.specs.declared.actor.Actor.{Actor}
 use Rattle.tenant_world.specs.Running.{running_of, running_in}
 use Rattle.repl_walker.specs.Ends.{ending_view}
 use Rattle.tenant_walks.specs.Grounds.{Evaluates}
-use Rattle.tenant_walks.specs.Walked.{IsWalkOf}
+use Rattle.tenant_walks.specs.Inside.Walked.{IsWalkOf}
 
 -- no form of the actor runs
 pub honest_deed-starts : (g : Ground) (a : Actor) (q : Quiet) → running_in a q ≡ None

@@ -23,9 +23,9 @@ use Rattle.tenant_turns.specs.Turns.{Lone}
 use Rattle.tenant_world.specs.declared.tenant.Tenant.{Tenant}
 use Rattle.tenant_world.specs.Running.{running_of, running_in}
 use Rattle.tenant_world.specs.Standing as world
-use Rattle.tenant_walks.specs.WalkAt.{walk_at}
-use Rattle.tenant_walks.specs.Walked.{IsWalkOf, AreWalked, AreWalkedBut}
-use Rattle.tenant_walks.specs.Standing.{Parts, parts, Stands, AcceptsDeed, RefusesDeed, comes_to}
+use Rattle.tenant_walks.specs.Inside.WalkAt.{walk_at}
+use Rattle.tenant_walks.specs.Inside.Walked.{IsWalkOf, AreWalked, AreWalkedBut}
+use Rattle.tenant_walks.specs.Inside.Standing.{Parts, parts, Stands, AcceptsDeed, RefusesDeed, comes_to}
 use Rattle.tenant_walks.specs.declared.walks.Walks.{Walks}
 use Rattle.tenant_walks.proofs.Runs.{heard-runs}
 use Rattle.tenant_world.specs.Asking.{exchange_from, run_with}

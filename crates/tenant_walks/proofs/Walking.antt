@@ -3,7 +3,7 @@ use Rattle.std.proofs.Common.{◌≡◌, ◌==◌, List, [], ◌∷◌, ◌++◌
 use Rattle.std.proofs.Common.{option_map, refl, sym, ap, ◌∙◌}
 use Rattle.std.proofs.lemmas.Bool.{eqb-true, eqb-false}
 use Rattle.repl_asks.specs.Exchange.{AnswerData, Exchanged}
-use Rattle.repl_asks.specs.View.{ask_view}
+use Rattle.repl_asks.specs.Inside.View.{ask_view}
 use Rattle.repl_jobs.specs.InteractionTree.{InteractionTree, finished, asks}
 use Rattle.repl_jobs.specs.Leading.{tree_after}
 use Rattle.repl_walker.specs.Waits.{tree_behind, progress_job, progress_trace, progress_tree}
@@ -11,7 +11,7 @@ use Rattle.repl_walker.specs.Waits.{trace_with}
 use Rattle.repl_walker.specs.declared.waiting.Walk.{Walk}
 use Rattle.repl_walker.specs.declared.waiting.Progress.{Progress}
 use Rattle.repl_walker.specs.declared.ending.Ending.{Ending}
-use Rattle.repl_jobs.specs.View.{job_view}
+use Rattle.repl_jobs.specs.Inside.View.{job_view}
 use Rattle.server_rules.specs.Ready.{actor_at}
 use Rattle.server_rules.specs.Request.{Run}
 use Rattle.server_rules.specs.Tenant.{Quiet, seat_of}
@@ -19,7 +19,7 @@ use Rattle.server_rules.specs.declared.actor.Actor.{Actor}
 use Rattle.evaluation_rules.specs.Evaluation.{evaluation}
 use Rattle.tenant_world.specs.Asking.{exchange_from, run_with}
 use Rattle.tenant_world.specs.Running.{running_in}
-use Rattle.tenant_walks.specs.Walked.{IsWalkOf, AreWalked, AreWalkedBut}
+use Rattle.tenant_walks.specs.Inside.Walked.{IsWalkOf, AreWalked, AreWalkedBut}
 
 seat-back : (a : Actor) → actor_at (seat_of a) ≡ a
 seat-back Actor.Bare = refl

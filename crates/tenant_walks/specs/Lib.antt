@@ -1,4 +1,2 @@
 pub mod Grounds
-pub mod WalkAt
-pub mod Walked
-pub mod Standing
+pub mod Inside

@@ -1,6 +1,6 @@
 // An actor goes on as its evaluation says.
 ghost use Rattle.std.specs.Prelude.{◌≡◌, ◌≢◌, ◌+◌, ◌<◌, ◌≤◌, Some, Err, IfOk, OnOk, IfErr, OnErr};
-ghost use Rattle.repl_asks.specs.View.{ask_view, answer_view};
+ghost use Rattle.repl_asks.specs.Inside.View.{ask_view, answer_view};
 ghost use Rattle.server_rules.specs.Ground.{Ground};
 ghost use Rattle.server_rules.specs.Store.{Store};
 ghost use Rattle.server_rules.specs.Tenant.{Quiet, seat_of};
@@ -16,8 +16,8 @@ ghost use Rattle.tenant_world.specs.Asking.{exchange_from, run_with};
 ghost use Rattle.tenant_world.specs.Running.{running_in};
 ghost use Rattle.tenant_world.specs.Standing as world;
 ghost use Rattle.tenant_world.specs.Standing.{CountsStep};
-ghost use Rattle.tenant_walks.specs.Walked.{IsWalkOf, AreWalked, AreWalkedBut};
-ghost use Rattle.tenant_walks.specs.WalkAt.{walk_at};
+ghost use Rattle.tenant_walks.specs.Inside.Walked.{IsWalkOf, AreWalked, AreWalkedBut};
+ghost use Rattle.tenant_walks.specs.Inside.WalkAt.{walk_at};
 ghost use Rattle.repl_walker.specs.Ends.{ending_view};
 ghost use Rattle.repl_walker.specs.declared.waiting.Walk.{Walk};
 ghost use Rattle.repl_walker.specs.declared.ending.Ending as endings;
@@ -33,7 +33,7 @@ use tenant_actors::Run;
 use tenant_world::{AskAnswer, Tenant};
 
 impl Walks {
-    ghost use Rattle.tenant_walks.specs.Standing.{parts, Stands, AcceptsDeed, RefusesDeed};
+    ghost use Rattle.tenant_walks.specs.Inside.Standing.{parts, Stands, AcceptsDeed, RefusesDeed};
 
     /// Does what is next for an actor of the tenant whose evaluations these are: begins a form,
     /// answers one ask of it or ends it. What a form asks of refs is asked of this table.

@@ -1,7 +1,7 @@
 // The evaluations by the names of their actors.
 ghost use Rattle.std.specs.Prelude.{◌≡◌, ◌≢◌, None, Some, OnOk, OnErr, option_map};
 ghost use Rattle.server_rules.specs.Tenant.{seat_of};
-ghost use Rattle.tenant_walks.specs.WalkAt.{walk_at};
+ghost use Rattle.tenant_walks.specs.Inside.WalkAt.{walk_at};
 
 use repl_walker::Progress;
 use server_rules::Actor;

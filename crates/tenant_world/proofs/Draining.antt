@@ -1,10 +1,10 @@
 -- The oldest reply is taken out.
 use Rattle.std.proofs.Common.{◌≡◌, ℕ, List, [], ◌∷◌, Option, None, Some, MatchOption, refl, sym, ap}
 use Rattle.std.proofs.Common.{subst, ◌∙◌, map}
-use Rattle.bencode_wire.specs.Decoder as decoder
+use Rattle.bencode_wire.specs.Inside.Decoder as decoder
 use Rattle.bencode_wire.specs.declared.decoder.Decoder.{Decoder}
-use Rattle.name_spaces.specs.Seen.{namespaces_of}
-use Rattle.repl_sessions.specs.StateView.{state_view}
+use Rattle.name_spaces.specs.Inside.Seen.{namespaces_of}
+use Rattle.repl_sessions.specs.Inside.StateView.{state_view}
 use Rattle.server_rules.specs.Readings.{message_limit}
 use Rattle.tenant_actors.specs.View.{actors_view}
 use Rattle.repl_replies.specs.Replies.{ReplyData, bytes_of}

@@ -8,8 +8,8 @@ use Rattle.repl_sessions.specs.Named.{number_named}
 use Rattle.repl_replies.specs.Operations as operations
 use Rattle.repl_replies.specs.Operations.{AskedData, OperationData}
 use Rattle.repl_replies.specs.Replies.{OriginData, ReplyData}
-use Rattle.repl_sessions.specs.StateView.{state_view}
-use Rattle.name_spaces.specs.Seen.{namespaces_of}
+use Rattle.repl_sessions.specs.Inside.StateView.{state_view}
+use Rattle.name_spaces.specs.Inside.Seen.{namespaces_of}
 use Rattle.server_rules.specs.Ground.{Ground}
 use Rattle.server_rules.specs.Hearing.{stream_fault, with_messages, new_messages, taken_in}
 use Rattle.server_rules.specs.Hearing.{hears_more}

@@ -3,8 +3,8 @@ use Rattle.std.proofs.Common.{◌≡◌, ℕ, List, [], ◌∷◌, ◌++◌, Boo
 use Rattle.std.proofs.Common.{refl, sym, ap, subst, ◌∙◌, true≢false}
 use Rattle.bencode_wire.specs.Tree.{Tree}
 use Rattle.bencode_wire.specs.Stream.{StreamEnding, rest, fault, Streams}
-use Rattle.bencode_wire.specs.Decoder as decoder
-use Rattle.bencode_wire.specs.Decoder.{fault_of, rest_of, ready_of, Shows}
+use Rattle.bencode_wire.specs.Inside.Decoder as decoder
+use Rattle.bencode_wire.specs.Inside.Decoder.{fault_of, rest_of, ready_of, Shows}
 use Rattle.bencode_wire.specs.declared.decoder.Decoder.{Decoder}
 use Rattle.bencode_wire.specs.declared.fault.WireFault.{WireFault}
 use Rattle.server_rules.specs.Readings.{Readings, AreRight, message_limit}

@@ -1,6 +1,6 @@
 -- What the steps of the code are given and answered, as the rules have it.
-use Rattle.repl_asks.specs.View.{answer_view, trace_view}
-use Rattle.repl_jobs.specs.View.{job_view, finished_view}
+use Rattle.repl_asks.specs.Inside.View.{answer_view, trace_view}
+use Rattle.repl_jobs.specs.Inside.View.{job_view, finished_view}
 use Rattle.server_rules.specs.Plan.{StepAnswer, form_begun, request_answered, ask_answered}
 use Rattle.server_rules.specs.Plan.{form_finished, request_interrupted}
 use Rattle.repl_jobs.specs.Job.{EndingData}

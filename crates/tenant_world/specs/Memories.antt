@@ -1,8 +1,8 @@
 -- What of a tenant the steps of its actors change, beside the actors themselves.
 use Rattle.std.specs.Prelude.{◌≡◌, ℕ, map}
 use Rattle.repl_replies.specs.Replies.{bytes_of}
-use Rattle.repl_sessions.specs.StateView.{state_view}
-use Rattle.name_spaces.specs.Seen.{namespaces_of}
+use Rattle.repl_sessions.specs.Inside.StateView.{state_view}
+use Rattle.name_spaces.specs.Inside.Seen.{namespaces_of}
 use Rattle.server_rules.specs.Ground.{Ground}
 use Rattle.server_rules.specs.Tenant.{Quiet}
 use Rattle.server_rules.specs.Operating.{named_sessions}

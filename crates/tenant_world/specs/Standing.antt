@@ -1,6 +1,6 @@
 -- The code stands for a tenant.
 use Rattle.std.specs.Prelude.{◌≡◌, ◌≢◌, ℕ, List, ◌+◌, ◌<◌, length, Result, Err, OnOk, OnErr}
-use Rattle.bencode_wire.specs.Decoder as decoder
+use Rattle.bencode_wire.specs.Inside.Decoder as decoder
 use Rattle.server_rules.specs.Ground.{Ground}
 use Rattle.server_rules.specs.Readings.{message_limit}
 use Rattle.server_rules.specs.Numbered.{part_under, with_part}

@@ -1,7 +1,7 @@
 // What all steps of an actor share.
 ghost use Rattle.std.specs.Prelude.{◌≡◌, ◌∷◌, [], ℕ, OnOk, OnErr};
 ghost use Rattle.repl_replies.specs.Replies.{interrupted};
-ghost use Rattle.repl_replies.specs.View.{origin_view};
+ghost use Rattle.repl_replies.specs.Inside.View.{origin_view};
 ghost use Rattle.server_rules.specs.Ground.{Ground};
 ghost use Rattle.server_rules.specs.Tenant.{Quiet, with_replies};
 ghost use Rattle.server_rules.specs.Replying.{reply};

@@ -1,9 +1,9 @@
 // A form asks.
 ghost use Rattle.std.specs.Prelude.{◌≡◌, ◌≢◌, ◌<◌, ◌≤◌, ◌+◌, ◌∷◌, [], true, None, Some, Err, IfOk};
 ghost use Rattle.std.specs.Prelude.{OnOk, IfErr, OnErr, MatchOption, is_some, IsNone};
-ghost use Rattle.repl_asks.specs.View.{ask_view, answer_view};
+ghost use Rattle.repl_asks.specs.Inside.View.{ask_view, answer_view};
 ghost use Rattle.repl_replies.specs.Replies.{interrupted};
-ghost use Rattle.repl_replies.specs.View.{origin_view};
+ghost use Rattle.repl_replies.specs.Inside.View.{origin_view};
 ghost use Rattle.server_rules.specs.Ground.{Ground};
 ghost use Rattle.server_rules.specs.Request as rules;
 ghost use Rattle.server_rules.specs.Tenant.{Quiet, seat_of, with_replies};

@@ -1,7 +1,7 @@
 // An evaluation comes back at its end.
 ghost use Rattle.std.specs.Prelude.{◌≡◌, ◌≢◌, ℕ, Some, IfOk, OnOk, IfErr, OnErr, ◌<◌, Err};
 ghost use Rattle.std.specs.Prelude.{option_map};
-ghost use Rattle.repl_jobs.specs.View.{finished_view};
+ghost use Rattle.repl_jobs.specs.Inside.View.{finished_view};
 ghost use Rattle.server_rules.specs.Ground.{Ground};
 ghost use Rattle.server_rules.specs.Request as rules;
 ghost use Rattle.server_rules.specs.Store.{Store};

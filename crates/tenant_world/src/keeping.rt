@@ -1,6 +1,6 @@
 // The trace of a form that runs.
 ghost use Rattle.std.specs.Prelude.{◌≡◌, OnOk, OnErr};
-ghost use Rattle.repl_asks.specs.View.{exchange_view};
+ghost use Rattle.repl_asks.specs.Inside.View.{exchange_view};
 ghost use Rattle.tenant_actors.specs.View.{actor_view, hand_view, run_view};
 ghost use Rattle.tenant_world.specs.Asking.{run_with, hand_with, with_exchange};
 ghost use Rattle.tenant_world.specs.Rooms.{RunHasRoom, HandHasRoom, HasRoom};

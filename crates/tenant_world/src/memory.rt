@@ -1,7 +1,7 @@
 // What the requests of a tenant share: its sessions, its namespaces and the replies that wait.
 ghost use Rattle.std.specs.Prelude.{◌≡◌, ℕ, List, map, IfOk, OnOk, OnErr};
 ghost use Rattle.repl_replies.specs.Replies.{ReplyData, bytes_of};
-ghost use Rattle.repl_sessions.specs.StateView.{state_view};
+ghost use Rattle.repl_sessions.specs.Inside.StateView.{state_view};
 ghost use Rattle.server_rules.specs.Ground.{Ground};
 ghost use Rattle.server_rules.specs.Tenant.{Quiet, state_of, with_state, with_replies};
 ghost use Rattle.server_rules.specs.Starting.{first_state};

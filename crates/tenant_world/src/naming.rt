@@ -1,10 +1,10 @@
 // What a form asks of names.
 ghost use Rattle.std.specs.Prelude.{◌≡◌, ℕ, IfOk, OnOk, OnErr};
-ghost use Rattle.value_data.specs.View.{view};
+ghost use Rattle.value_data.specs.Inside.View.{view};
 ghost use Rattle.repl_asks.specs.Exchange.{done};
-ghost use Rattle.repl_asks.specs.View.{ask_view, answer_view, resolution_view};
-ghost use Rattle.repl_sessions.specs.StateView.{state_view};
-ghost use Rattle.name_spaces.specs.Seen.{found_view};
+ghost use Rattle.repl_asks.specs.Inside.View.{ask_view, answer_view, resolution_view};
+ghost use Rattle.repl_sessions.specs.Inside.StateView.{state_view};
+ghost use Rattle.name_spaces.specs.Inside.Seen.{found_view};
 ghost use Rattle.server_rules.specs.Ground.{Ground};
 ghost use Rattle.server_rules.specs.Tenant.{Quiet, state_of};
 ghost use Rattle.server_rules.specs.Asking.{answer_to, spaces_after};

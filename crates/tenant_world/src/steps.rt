@@ -1,7 +1,7 @@
 // The steps of a tenant's actors.
 ghost use Rattle.std.specs.Prelude.{◌≡◌, ◌≢◌, ◌+◌, ◌<◌, ◌≤◌, true, Some, Err, IfOk, IfErr, OnErr};
-ghost use Rattle.repl_asks.specs.View.{ask_view};
-ghost use Rattle.repl_jobs.specs.View.{finished_view};
+ghost use Rattle.repl_asks.specs.Inside.View.{ask_view};
+ghost use Rattle.repl_jobs.specs.Inside.View.{finished_view};
 ghost use Rattle.server_rules.specs.Ground.{Ground};
 ghost use Rattle.server_rules.specs.Store.{Store};
 ghost use Rattle.server_rules.specs.Tenant.{ActorData, Quiet, seat_of};

@@ -1,6 +1,6 @@
 // A tenant: its stream, its actors and what they share.
 ghost use Rattle.std.specs.Prelude.{◌≡◌, suc, true, length};
-ghost use Rattle.bencode_wire.specs.Decoder.{ready_of};
+ghost use Rattle.bencode_wire.specs.Inside.Decoder.{ready_of};
 ghost use Rattle.tenant_actors.specs.View.{actors_view};
 ghost use Rattle.tenant_world.specs.Memories.{opened_by};
 ghost use Rattle.tenant_world.specs.Seats.{are_below};

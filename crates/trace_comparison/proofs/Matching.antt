@@ -4,12 +4,12 @@ use Rattle.std.proofs.lemmas.List.{length-map, get_or_default}
 use Rattle.std.proofs.lemmas.Option.{slice_get-map, slice_get_read}
 use Rattle.value_data.specs.Listed.{listed, pairs_listed}
 use Rattle.value_data.proofs.Lists.{listed-of, pairs_listed-of}
-use Rattle.value_data.specs.View.{owner_view, view, pair_view, items_view, pairs_view}
+use Rattle.value_data.specs.Inside.View.{owner_view, view, pair_view, items_view, pairs_view}
 use Rattle.value_data.specs.declared.value.Owner.{Owner}
 use Rattle.value_data.specs.declared.value.RefName.{RefName}
 use Rattle.value_data.specs.declared.value.Value.{Value}
 use Rattle.repl_asks.specs.Transactions.{RefNameData}
-use Rattle.repl_asks.specs.View.{name_view}
+use Rattle.repl_asks.specs.Inside.View.{name_view}
 
 module _ {A : Type 0} where
   -- one place more

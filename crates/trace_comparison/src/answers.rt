@@ -1,7 +1,7 @@
 // When two answers are the same.
 ghost use Rattle.std.specs.Prelude.{◌≡◌, ◌↔◌, IsTrue};
-ghost use Rattle.repl_asks.specs.View.{answer_view, named_view, resolution_view};
-ghost use Rattle.repl_asks.specs.View.{reading_view, verdict_view};
+ghost use Rattle.repl_asks.specs.Inside.View.{answer_view, named_view, resolution_view};
+ghost use Rattle.repl_asks.specs.Inside.View.{reading_view, verdict_view};
 
 use crate::functions::{same_fault, same_function};
 use crate::values::same_value;

@@ -1,9 +1,9 @@
 // When two asks, or two exchanges, are the same.
 ghost use Rattle.std.specs.Prelude.{◌≡◌, ◌↔◌, IsTrue};
 ghost use Rattle.std.specs.Arc.{arc_str_bytes};
-ghost use Rattle.value_data.specs.View.{view};
+ghost use Rattle.value_data.specs.Inside.View.{view};
 ghost use Rattle.repl_asks.specs.Exchange.{resolve, define, new_ref};
-ghost use Rattle.repl_asks.specs.View.{ask_view, binding_view, exchange_view};
+ghost use Rattle.repl_asks.specs.Inside.View.{ask_view, binding_view, exchange_view};
 
 use crate::answers::same_answer;
 use crate::functions::same_function;

@@ -3,9 +3,9 @@
 
 ghost use Rattle.std.specs.Prelude.{◌≡◌, ◌↔◌, IsTrue, map, option_map};
 ghost use Rattle.std.specs.Arc.{arc_str_bytes};
-ghost use Rattle.value_data.specs.View.{view};
-ghost use Rattle.repl_faults.specs.View.{failure_of};
-ghost use Rattle.special_forms.specs.Seen.{forms_view, function_view};
+ghost use Rattle.value_data.specs.Inside.View.{view};
+ghost use Rattle.repl_faults.specs.Inside.View.{failure_of};
+ghost use Rattle.special_forms.specs.Inside.Seen.{forms_view, function_view};
 
 use crate::values::{same_text, same_value};
 use repl_values::{Fault, Value};

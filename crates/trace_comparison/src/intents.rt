@@ -2,9 +2,9 @@
 #![tactic(auto, using(crate::proofs::Matching::place_steps))]
 
 ghost use Rattle.std.specs.Prelude.{◌≡◌, ◌↔◌, IsTrue, map};
-ghost use Rattle.value_data.specs.View.{view};
-ghost use Rattle.repl_asks.specs.View.{name_view, change_view, intent_view};
-ghost use Rattle.repl_asks.specs.View.{commute_view, commuted_view};
+ghost use Rattle.value_data.specs.Inside.View.{view};
+ghost use Rattle.repl_asks.specs.Inside.View.{name_view, change_view, intent_view};
+ghost use Rattle.repl_asks.specs.Inside.View.{commute_view, commuted_view};
 
 use crate::values::same_value;
 use repl_asks::{Change, Commute, Commuted, Intent};

@@ -1,6 +1,6 @@
 // When two jobs are the same.
 ghost use Rattle.std.specs.Prelude.{◌≡◌, ◌↔◌, IsTrue};
-ghost use Rattle.repl_jobs.specs.View.{work_view, job_view};
+ghost use Rattle.repl_jobs.specs.Inside.View.{work_view, job_view};
 
 use crate::values::{same_text, same_value};
 use repl_jobs::{Job, Work};

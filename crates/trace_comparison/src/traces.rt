@@ -2,7 +2,7 @@
 #![tactic(auto, using(crate::proofs::Matching::place_steps))]
 
 ghost use Rattle.std.specs.Prelude.{◌≡◌, ◌↔◌, IsTrue, MatchOption};
-ghost use Rattle.repl_asks.specs.View.{trace_view};
+ghost use Rattle.repl_asks.specs.Inside.View.{trace_view};
 ghost use Rattle.trace_comparison.specs.Difference.{DiffersFirstAt};
 
 use crate::asks::same_exchange;

@@ -3,7 +3,7 @@
 
 ghost use Rattle.std.specs.Prelude.{◌≡◌, ◌↔◌, IsTrue};
 ghost use Rattle.std.specs.Arc.{arc_str_bytes};
-ghost use Rattle.value_data.specs.View.{view, pair_view, items_view, pairs_view};
+ghost use Rattle.value_data.specs.Inside.View.{view, pair_view, items_view, pairs_view};
 
 use repl_values::{RefName, Sequence, Table, Value};
 use std::sync::ArcStr;

@@ -9,11 +9,11 @@ use Rattle.std.proofs.lemmas.Bool.Decides.{nat_tests}
 use Rattle.std.proofs.lemmas.List.{map_push, append-nil}
 use Rattle.value_data.specs.declared.value.RefName.{RefName}
 use Rattle.repl_asks.specs.Transactions.{RefNameData, CommuteData, CommutedData, same_name}
-use Rattle.repl_asks.specs.View.{name_view, commute_view, commuted_view}
+use Rattle.repl_asks.specs.Inside.View.{name_view, commute_view, commuted_view}
 use Rattle.repl_asks.specs.declared.intent.Commute.{Commute}
 use Rattle.repl_asks.specs.declared.intent.Commuted.{Commuted}
 use Rattle.tx_attempt.specs.Accesses.{is_among}
-use Rattle.tx_attempt.specs.Groups.{but_of, group_of, in_order}
+use Rattle.tx_attempt.specs.Inside.Groups.{but_of, group_of, in_order}
 use Rattle.tx_attempt.proofs.Names.{same_name-sym}
 
 -- the groups that stay where one ref more is left out

@@ -6,7 +6,7 @@ use Rattle.std.specs.List.{find}
 use Rattle.std.specs.Option.{option_or}
 use Rattle.std.proofs.lemmas.List.{reverse-append}
 use Rattle.std.proofs.lemmas.List.Folds.{find-append}
-use Rattle.tx_attempt.specs.Places.{later_or_first, last_place}
+use Rattle.tx_attempt.specs.Inside.Places.{later_or_first, last_place}
 
 pub last_place-push : {A : Type 0} (test : A → Bool) (xs : List A) (y : A)
     → last_place test (xs ++ y ∷ []) ≡ cond (test y) (Some (length xs)) (last_place test xs)

@@ -9,7 +9,7 @@ use Rattle.value_data.specs.Datum.{OwnerData, shared, tenant}
 use Rattle.value_data.specs.Same.{same_owner}
 use Rattle.repl_asks.specs.Transactions.{RefNameData, same_name}
 use Rattle.tx_attempt.specs.contracts.key.KeyOrd.TheImpl as order
-use Rattle.tx_attempt.specs.Keys.{key_of, tenant_of}
+use Rattle.tx_attempt.specs.Inside.Keys.{key_of, tenant_of}
 
 -- names are the same where their keys are
 pub keys-tied : (a b : RefNameData)

@@ -14,11 +14,11 @@ use Rattle.tx_attempt.specs.contracts.key.KeyOrd.TheImpl as order
 use Rattle.tx_attempt.specs.declared.key.Key.{Key}
 use Rattle.tx_attempt.specs.declared.latest.LatestAccess.{LatestAccess}
 use Rattle.tx_attempt.specs.declared.access.Access.{Access}
-use Rattle.tx_attempt.specs.Keys.{key_of}
+use Rattle.tx_attempt.specs.Inside.Keys.{key_of}
 use Rattle.tx_attempt.specs.Accesses.{AccessData, got, put, commuted, ensured, named_in, names_ref}
 use Rattle.tx_attempt.specs.Accesses.{ref_commuted, is_among, is_commuted}
-use Rattle.tx_attempt.specs.Places.{last_place, KeepsPlaces, KeepsMarks}
-use Rattle.tx_attempt.specs.View.{access_view}
+use Rattle.tx_attempt.specs.Inside.Places.{last_place, KeepsPlaces, KeepsMarks}
+use Rattle.tx_attempt.specs.Inside.View.{access_view}
 use Rattle.tx_attempt.proofs.LastPlaces.{last_place-push}
 use Rattle.tx_attempt.proofs.Names.{keys-tied, same_name-sym, same_name-refl, same_name-true}
 

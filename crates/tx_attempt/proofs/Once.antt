@@ -10,7 +10,7 @@ use Rattle.std.specs.BTreeSet.{BTreeSet}
 use Rattle.repl_asks.specs.Transactions.{RefNameData, same_name}
 use Rattle.tx_attempt.specs.contracts.key.KeyOrd.TheImpl as order
 use Rattle.tx_attempt.specs.declared.key.Key.{Key}
-use Rattle.tx_attempt.specs.Keys.{key_of}
+use Rattle.tx_attempt.specs.Inside.Keys.{key_of}
 use Rattle.tx_attempt.specs.Accesses.{each_once}
 use Rattle.tx_attempt.proofs.Names.{keys-tied}
 

@@ -5,7 +5,7 @@ use Rattle.std.specs.List.{filter, list_all, cons_option}
 use Rattle.repl_asks.specs.Transactions.{RefNameData, CommuteData, same_name}
 use Rattle.tx_attempt.specs.Accesses.{AccessData, got, put, commuted, ensured, is_among, each_once}
 use Rattle.tx_attempt.specs.Accesses.{ref_put, ref_commuted, commute_of, commutes_of, commuted_refs}
-use Rattle.tx_attempt.specs.Groups.{but_of, group_of, in_order}
+use Rattle.tx_attempt.specs.Inside.Groups.{but_of, group_of, in_order}
 use Rattle.tx_attempt.proofs.Names.{same_name-refl}
 
 filter_map-filter : {A B : Type 0} (p : A → Bool) (g h : A → Option B) (xs : List A)

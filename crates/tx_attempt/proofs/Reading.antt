@@ -9,10 +9,10 @@ use Rattle.tx_attempt.specs.contracts.key.KeyOrd.TheImpl as order
 use Rattle.tx_attempt.specs.declared.key.Key.{Key}
 use Rattle.tx_attempt.specs.declared.latest.LatestAccess.{LatestAccess}
 use Rattle.tx_attempt.specs.declared.access.Access.{Access}
-use Rattle.tx_attempt.specs.Keys.{key_of}
+use Rattle.tx_attempt.specs.Inside.Keys.{key_of}
 use Rattle.tx_attempt.specs.Accesses.{value_in, names_ref, attempt_value}
-use Rattle.tx_attempt.specs.Places.{last_place, KeepsPlaces}
-use Rattle.tx_attempt.specs.View.{access_view}
+use Rattle.tx_attempt.specs.Inside.Places.{last_place, KeepsPlaces}
+use Rattle.tx_attempt.specs.Inside.View.{access_view}
 use Rattle.tx_attempt.proofs.LastPlaces.{last_place-below, find-nowhere, find-last}
 
 -- a ref that no access names

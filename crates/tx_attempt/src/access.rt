@@ -1,10 +1,10 @@
 // What an attempt does with a ref.
 ghost use Rattle.std.specs.Prelude.{◌≡◌, option_map, is_some};
-ghost use Rattle.value_data.specs.View.{view};
-ghost use Rattle.repl_asks.specs.View.{name_view};
+ghost use Rattle.value_data.specs.Inside.View.{view};
+ghost use Rattle.repl_asks.specs.Inside.View.{name_view};
 ghost use Rattle.tx_attempt.specs.Accesses.{named_in, value_in, ref_put, ref_commuted, ref_ensured};
-ghost use Rattle.tx_attempt.specs.Parts.{ref_accessed};
-ghost use Rattle.tx_attempt.specs.View.{access_view};
+ghost use Rattle.tx_attempt.specs.Inside.Parts.{ref_accessed};
+ghost use Rattle.tx_attempt.specs.Inside.View.{access_view};
 
 use function_names::CoreFunction;
 use repl_values::{RefName, Value};

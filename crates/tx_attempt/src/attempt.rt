@@ -1,5 +1,5 @@
 // What an attempt read, set, commuted and ensured.
-ghost use Rattle.tx_attempt.specs.Places.{KeepsPlaces, KeepsMarks};
+ghost use Rattle.tx_attempt.specs.Inside.Places.{KeepsPlaces, KeepsMarks};
 
 use crate::access::Access;
 use crate::error::SetError;
@@ -22,16 +22,16 @@ pub struct Attempt {
 
 impl Attempt {
     ghost use Rattle.std.specs.Prelude.{◌≡◌, [], ◌∷◌, ◌++◌, option_map, OnOk, OnErr};
-    ghost use Rattle.value_data.specs.View.{view};
-    ghost use Rattle.repl_asks.specs.View.{name_view, commute_view};
+    ghost use Rattle.value_data.specs.Inside.View.{view};
+    ghost use Rattle.repl_asks.specs.Inside.View.{name_view, commute_view};
     ghost use Rattle.tx_attempt.specs.Accesses.{got, put, commuted, ensured, named_in};
     ghost use Rattle.tx_attempt.specs.Accesses.{attempt_value, is_commuted};
-    ghost use Rattle.tx_attempt.specs.Parts.{is_refused};
-    ghost use Rattle.tx_attempt.specs.View.{access_view};
-    ghost use Rattle.tx_attempt.specs.Seen.{accesses_of};
+    ghost use Rattle.tx_attempt.specs.Inside.Parts.{is_refused};
+    ghost use Rattle.tx_attempt.specs.Inside.View.{access_view};
+    ghost use Rattle.tx_attempt.specs.Inside.Seen.{accesses_of};
 
     /// An attempt that begins. It takes no memory.
-    #[tactic(auto, unfolding(crate::specs::Seen::accesses_of, crate::specs::Accesses::is_commuted))]
+    #[tactic(auto, unfolding(crate::specs::Inside::Seen::accesses_of, crate::specs::Accesses::is_commuted))]
     pub fn new(alloc: Global) -> Attempt
         ensures { accesses_of result ≡ [] }
     {
@@ -44,7 +44,7 @@ impl Attempt {
 
     /// The value of a ref in this attempt, if an access named it: that of the last one. It takes
     /// about the logarithm of the number of refs that were named, and no memory.
-    #[tactic(auto, unfolding(crate::specs::Seen::accesses_of))]
+    #[tactic(auto, unfolding(crate::specs::Inside::Seen::accesses_of))]
     pub fn value_of(&self, name: RefName) -> Option<&Value>
         ensures { option_map (λ v. view v.now) result
             ≡ attempt_value (name_view name) (accesses_of self.now) }
@@ -110,7 +110,7 @@ impl Attempt {
         self.note(Access::Ensured { name, value })
     }
 
-    #[tactic(auto, unfolding(crate::specs::Seen::accesses_of))]
+    #[tactic(auto, unfolding(crate::specs::Inside::Seen::accesses_of))]
     fn is_commuted(&self, name: RefName) -> bool
         ensures { result ≡ is_commuted (name_view name) (accesses_of self.now) }
     {
@@ -129,7 +129,7 @@ impl Attempt {
     }
 
     // Each takes about the logarithm of the number of refs.
-    #[tactic(auto, unfolding(crate::specs::Seen::accesses_of))]
+    #[tactic(auto, unfolding(crate::specs::Inside::Seen::accesses_of))]
     fn note(&mut self, access: Access) -> Result<(), AllocError>
         ensures noted { OnOk result (accesses_of self.new
             ≡ accesses_of self.old ++ access_view access ∷ []) }

@@ -1,10 +1,10 @@
 // What was applied to refs, grouped by them.
 ghost use Rattle.std.specs.Prelude.{◌≡◌, [], ◌∷◌, ◌++◌, map, filter_map, if◌then◌else◌, IfOk};
 ghost use Rattle.repl_asks.specs.Transactions.{RefNameData, same_name};
-ghost use Rattle.repl_asks.specs.View.{name_view, commute_view, commuted_view};
+ghost use Rattle.repl_asks.specs.Inside.View.{name_view, commute_view, commuted_view};
 ghost use Rattle.tx_attempt.specs.Accesses.{is_among, commute_of, commutes_of, commuted_refs};
-ghost use Rattle.tx_attempt.specs.Groups.{commutes_in, in_order};
-ghost use Rattle.tx_attempt.specs.Seen.{accesses_of};
+ghost use Rattle.tx_attempt.specs.Inside.Groups.{commutes_in, in_order};
+ghost use Rattle.tx_attempt.specs.Inside.Seen.{accesses_of};
 
 use crate::access::{Access, AccessKind};
 use crate::attempt::Attempt;
@@ -103,7 +103,7 @@ impl Attempt {
     }
 
     // What was applied to each ref.
-    #[tactic(auto, unfolding(crate::specs::Seen::accesses_of))]
+    #[tactic(auto, unfolding(crate::specs::Inside::Seen::accesses_of))]
     fn groups(&self) -> Result<Groups, AllocError>
         ensures { IfOk result (λ groups. (n : RefNameData) → commutes_in ⟦<Key as Ord>⟧.cmp groups n
             ≡ filter_map (commute_of n) (accesses_of self.now)) }

@@ -1,9 +1,9 @@
 // What an attempt wants committed.
 ghost use Rattle.std.specs.Prelude.{◌≡◌, map, filter_map, IfOk, IfErr};
-ghost use Rattle.repl_asks.specs.View.{name_view, change_view, intent_view};
+ghost use Rattle.repl_asks.specs.Inside.View.{name_view, change_view, intent_view};
 ghost use Rattle.tx_attempt.specs.Accesses.{each_once, change_of, intent_of};
-ghost use Rattle.tx_attempt.specs.Parts.{ref_accessed};
-ghost use Rattle.tx_attempt.specs.Seen.{accesses_of};
+ghost use Rattle.tx_attempt.specs.Inside.Parts.{ref_accessed};
+ghost use Rattle.tx_attempt.specs.Inside.Seen.{accesses_of};
 
 use crate::access::AccessKind;
 use crate::attempt::Attempt;
@@ -58,7 +58,7 @@ impl Attempt {
     }
 
     // The ref of each access that does this to one, in order.
-    #[tactic(auto, unfolding(crate::specs::Seen::accesses_of))]
+    #[tactic(auto, unfolding(crate::specs::Inside::Seen::accesses_of))]
     pub(crate) fn refs(&self, kind: AccessKind) -> Result<Vec<RefName>, AllocError>
         ensures { IfOk result (λ names.
             map name_view names.items ≡ filter_map (ref_accessed kind) (accesses_of self.now)) }

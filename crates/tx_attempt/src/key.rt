@@ -1,7 +1,7 @@
 // Names of refs in an order, by which they are found.
 ghost use Rattle.std.specs.Prelude.{◌≡◌};
-ghost use Rattle.repl_asks.specs.View.{name_view};
-ghost use Rattle.tx_attempt.specs.Keys.{key_of};
+ghost use Rattle.repl_asks.specs.Inside.View.{name_view};
+ghost use Rattle.tx_attempt.specs.Inside.Keys.{key_of};
 
 use repl_values::{Owner, RefName};
 

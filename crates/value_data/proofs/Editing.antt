@@ -2,11 +2,11 @@
 use Rattle.std.proofs.Common.{◌≡◌, ℕ, zero, suc, ◌<◌, Bool, true, false, ◌||◌, List, [], ◌∷◌, ◌++◌, length, get_or, set, Option, Some, None, option_map, refl, sym, ap, ◌∙◌, arith}
 use Rattle.std.specs.Prelude.{if◌then◌else◌}
 use Rattle.value_data.specs.Datum.{Datum, Pairs, no_pairs, pair}
-use Rattle.value_data.specs.View.{view, pairs_view}
+use Rattle.value_data.specs.Inside.View.{view, pairs_view}
 use Rattle.value_data.specs.declared.value.Value.{Value}
 use Rattle.value_data.specs.Same.{same}
 use Rattle.value_data.specs.Keyed.{has_key, behind_all}
-use Rattle.value_data.specs.Placed.{first_place, are_distinct, with_value}
+use Rattle.value_data.specs.Inside.Placed.{first_place, are_distinct, with_value}
 use Rattle.value_data.specs.Put.{put_pair}
 use Rattle.value_data.proofs.Tables.{distinct-behind, has_key-first}
 

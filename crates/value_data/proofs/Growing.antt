@@ -2,14 +2,14 @@
 use Rattle.std.proofs.Common.{◌≡◌, ℕ, zero, suc, ◌+◌, ◌<◌, max, List, [], ◌∷◌, ◌++◌, length, get_or, take, drop, add-one, refl, ap, sym, ◌∙◌, subst, ◌≤◌, arith}
 use Rattle.value_data.specs.Datum.{Datum, Items, no_items, item, Pairs, no_pairs, pair}
 use Rattle.value_data.specs.Listed.{listed}
-use Rattle.value_data.specs.Ends.{with_last, behind_first}
+use Rattle.value_data.specs.Inside.Ends.{with_last, behind_first}
 use Rattle.value_data.specs.Keyed.{behind_all}
 use Rattle.value_data.specs.Measures.{items_weight, items_nesting, pairs_weight, pairs_nesting, weight, nesting}
-use Rattle.value_data.specs.Hash.{items_hash, hash, mixed, peak, salted, pair_hash}
-use Rattle.value_data.specs.View.{view, items_view}
-use Rattle.value_data.specs.Held.{SequenceData}
-use Rattle.value_data.specs.Inside.{seen_from}
-use Rattle.value_data.specs.Fits.{FitsItems}
+use Rattle.value_data.specs.Inside.Hash.{items_hash, hash, mixed, peak, salted, pair_hash}
+use Rattle.value_data.specs.Inside.View.{view, items_view}
+use Rattle.value_data.specs.Inside.Held.{SequenceData}
+use Rattle.value_data.specs.Inside.Nodes.{seen_from}
+use Rattle.value_data.specs.Inside.Fits.{FitsItems}
 use Rattle.value_data.specs.declared.node_measures.ItemsMeasure.{ItemsMeasure}
 use Rattle.value_data.specs.declared.value.ItemsNode.{ItemsNode}
 use Rattle.value_data.specs.declared.value.Value.{Value}

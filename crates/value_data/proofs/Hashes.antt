@@ -7,10 +7,10 @@ use Rattle.std.proofs.lemmas.Bool.{eqb-true}
 use Rattle.std.proofs.lemmas.Bool.Decides.{Decides-int_eq}
 use Rattle.std.proofs.lemmas.Slice.Eq.{bytes_eq-Decides}
 use Rattle.value_data.specs.Datum.{OwnerData, shared, tenant, Datum, nil, boolean, integer, string, keyword, symbol, list, vector, map, ref, atom, agent, var, fault, Items, no_items, item, Pairs, no_pairs, pair}
-use Rattle.value_data.specs.View.{pairs_view}
+use Rattle.value_data.specs.Inside.View.{pairs_view}
 use Rattle.value_data.specs.declared.value.Value.{Value}
 use Rattle.value_data.specs.Same.{same, same_owner, same_items, size, within, each_pair, is_among, has_pair}
-use Rattle.value_data.specs.Hash.{hash, items_hash, peak, mixed, salted, mixed_text, owner_hash, pair_hash}
+use Rattle.value_data.specs.Inside.Hash.{hash, items_hash, peak, mixed, salted, mixed_text, owner_hash, pair_hash}
 
 -- after the last pair the greatest so far is the greatest of all
 pub peak-done : (salt top : ℕ) (xs : List (Value × Value)) (i : ℕ) → length xs ≤ i

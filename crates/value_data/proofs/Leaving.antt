@@ -7,13 +7,13 @@ use Rattle.std.proofs.lemmas.Bool.{cases_lt}
 use Rattle.std.proofs.lemmas.List.{append-nil, length-map, get_or-map, map-append, take_more, take_all, drop_all}
 use Rattle.std.proofs.lemmas.List.Elements.{filter-append}
 use Rattle.value_data.specs.Datum.{Datum, Pairs}
-use Rattle.value_data.specs.View.{pair_view, pairs_view}
+use Rattle.value_data.specs.Inside.View.{pair_view, pairs_view}
 use Rattle.value_data.specs.Same.{size}
-use Rattle.value_data.specs.Order.{SortKey, order}
-use Rattle.value_data.specs.Index.{key_at, Indexes}
+use Rattle.value_data.specs.Inside.Order.{SortKey, order}
+use Rattle.value_data.specs.Inside.Index.{key_at, Indexes}
 use Rattle.value_data.specs.Listed.{pairs_of}
-use Rattle.value_data.specs.Marked.{unmarked}
-use Rattle.value_data.specs.Left.{numbers_from, is_left, places_left}
+use Rattle.value_data.specs.Inside.Marked.{unmarked}
+use Rattle.value_data.specs.Inside.Left.{numbers_from, is_left, places_left}
 use Rattle.value_data.specs.declared.value.Value.{Value}
 use Rattle.value_data.proofs.Searching.{not-below, any-default}
 

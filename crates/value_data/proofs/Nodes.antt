@@ -2,7 +2,7 @@
 use Rattle.std.proofs.Common.{◌≡◌, ℕ, zero, suc, ◌+◌, ◌<◌, ◌≤◌, List, [], ◌∷◌, length, get_or, ap, arith}
 use Rattle.value_data.specs.Datum.{Datum, list, vector, map}
 use Rattle.value_data.proofs.Size.{nodes, items_nodes, pairs_nodes}
-use Rattle.value_data.specs.View.{view, items_view, pairs_view}
+use Rattle.value_data.specs.Inside.View.{view, items_view, pairs_view}
 use Rattle.value_data.specs.declared.value.Value.{Value}
 
 nodes-at : (vs : List Value) (i : ℕ) (d : Value) → i < length vs → nodes (view (get_or vs i d)) ≤ items_nodes (items_view vs)

@@ -7,7 +7,7 @@ use Rattle.std.specs.Cmp.{nat_cmp_total, int_cmp_total}
 use Rattle.std.specs.Cmp.Lexicographic.{nat_list_cmp_total}
 use Rattle.std.proofs.lemmas.Map.Lookups.{exact_unsigned, exact_bytes}
 use Rattle.std.proofs.lemmas.Bool.Decides.{Decides-int_eq}
-use Rattle.value_data.specs.Order.{SortKey, number, signed, text, both, order}
+use Rattle.value_data.specs.Inside.Order.{SortKey, number, signed, text, both, order}
 
 then-reverse : (p q r s : Ordering) → p ≡ ordering_reverse r → q ≡ ordering_reverse s → ordering_then p q ≡ ordering_reverse (ordering_then r s)
 then-reverse p q Less s e f = rw e refl

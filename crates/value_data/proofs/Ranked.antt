@@ -8,15 +8,15 @@ use Rattle.std.specs.declared.cmp.Ordering.TheVariants.{Less, Equal, Greater}
 use Rattle.std.specs.Ordering.{nat_cmp, bool_cmp, is_ne, ordering_then}
 use Rattle.std.specs.Cmp.{nat_cmp_is}
 use Rattle.value_data.specs.Datum.{Pairs, no_pairs, pair}
-use Rattle.value_data.specs.View.{view, items_view, pairs_view}
+use Rattle.value_data.specs.Inside.View.{view, items_view, pairs_view}
 use Rattle.value_data.specs.declared.value.Value.{Value}
 use Rattle.value_data.specs.declared.value.PairsNode.{PairsNode}
-use Rattle.value_data.specs.Held.{TableData}
-use Rattle.value_data.specs.Inside.{KeepsPairs, seen_pairs}
+use Rattle.value_data.specs.Inside.Held.{TableData}
+use Rattle.value_data.specs.Inside.Nodes.{KeepsPairs, seen_pairs}
 use Rattle.value_data.proofs.Sameness.{size-pairs_view}
 use Rattle.value_data.specs.Same.{size}
-use Rattle.value_data.specs.Order.{SortKey, number, both, order, chain, sorted, rows, sort_key, items_sort_key}
-use Rattle.value_data.specs.Index.{key_at, row_at, rows_at, ArePlaces, Indexes}
+use Rattle.value_data.specs.Inside.Order.{SortKey, number, both, order, chain, sorted, rows, sort_key, items_sort_key}
+use Rattle.value_data.specs.Inside.Index.{key_at, row_at, rows_at, ArePlaces, Indexes}
 use Rattle.value_data.proofs.Sorted.{IsIn, Ascends, ascending-same, sorted-ascends, sorted-in, in-sorted}
 
 -- ---- two chains, in turn

@@ -2,14 +2,14 @@
 use Rattle.std.proofs.Common.{◌≡◌, ℕ, zero, suc, ◌+◌, ◌<◌, ◌≤◌, Bool, true, false, not, ◌&&◌, ◌||◌, List, [], ◌∷◌, ◌++◌, length, get_or, set, take, map, filter, replicate, IfSome, ◌-◌, Option, Some, None, option_map, add-one, refl, sym, ap, ◌∙◌, arith}
 use Rattle.std.specs.Prelude.{if◌then◌else◌}
 use Rattle.value_data.specs.Datum.{Datum, Items, no_items, item, Pairs, no_pairs, pair}
-use Rattle.value_data.specs.View.{view, pair_view, items_view, pairs_view}
+use Rattle.value_data.specs.Inside.View.{view, pair_view, items_view, pairs_view}
 use Rattle.value_data.specs.declared.value.Value.{Value}
 use Rattle.value_data.specs.Same.{same}
 use Rattle.value_data.specs.Repeats.{is_one_of, repeat_behind, first_repeat}
 use Rattle.value_data.specs.Keyed.{has_key, keys_of}
-use Rattle.value_data.specs.Placed.{first_place, are_distinct}
+use Rattle.value_data.specs.Inside.Placed.{first_place, are_distinct}
 use Rattle.value_data.specs.Listed.{items_of, pairs_of}
-use Rattle.value_data.specs.Marked.{unmarked, with_mark}
+use Rattle.value_data.specs.Inside.Marked.{unmarked, with_mark}
 use Rattle.value_data.specs.Put.{without_keys}
 use Rattle.value_data.proofs.Equivalence.{same-sym, and-left, and-right, and-both}
 use Rattle.value_data.proofs.Lists.{pairs_listed-of}

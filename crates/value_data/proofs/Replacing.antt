@@ -1,10 +1,10 @@
 -- Pairs with another value at one place, and what was measured of them.
 use Rattle.std.proofs.Common.{◌≡◌, ℕ, zero, suc, ◌+◌, ◌≤◌, max, List, [], ◌∷◌, length, get_or, ◌<◌, ap, sym, arith}
 use Rattle.value_data.specs.Datum.{Datum, Pairs, no_pairs, pair}
-use Rattle.value_data.specs.View.{view, pairs_view}
-use Rattle.value_data.specs.Placed.{with_value, StandsAt}
+use Rattle.value_data.specs.Inside.View.{view, pairs_view}
+use Rattle.value_data.specs.Inside.Placed.{with_value, StandsAt}
 use Rattle.value_data.specs.Measures.{weight, nesting, pairs_weight, pairs_nesting}
-use Rattle.value_data.specs.Hash.{hash, peak, salted, pair_hash}
+use Rattle.value_data.specs.Inside.Hash.{hash, peak, salted, pair_hash}
 use Rattle.value_data.specs.declared.value.Value.{Value}
 
 pub stands-at : (xs : List (Value × Value)) (n : ℕ) (p : Value × Value) → p ≡ get_or xs n p → n < length xs → StandsAt (pairs_view xs) n (view p.0) (view p.1)

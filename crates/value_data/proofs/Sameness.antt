@@ -1,6 +1,6 @@
 -- How many pairs there are.
 use Rattle.std.proofs.Common.{◌≡◌, List, [], ◌∷◌, length, refl, arith}
-use Rattle.value_data.specs.View.{pairs_view}
+use Rattle.value_data.specs.Inside.View.{pairs_view}
 use Rattle.value_data.specs.declared.value.Value.{Value}
 use Rattle.value_data.specs.Same.{size}
 

@@ -8,13 +8,13 @@ use Rattle.std.proofs.lemmas.List.Elements.{All-cons, All-weaker}
 use Rattle.std.proofs.lemmas.List.Sorted.{IsPermutation-insert, All-permutation, Contains-permutation}
 use Rattle.std.proofs.lemmas.List.Edits.{length-insert, get_or-insert_below, get_or-insert_at, get_or-insert_above}
 use Rattle.value_data.specs.Datum.{Datum, Pairs, no_pairs, pair}
-use Rattle.value_data.specs.View.{view, pairs_view}
+use Rattle.value_data.specs.Inside.View.{view, pairs_view}
 use Rattle.value_data.specs.declared.value.Value.{Value}
 use Rattle.value_data.specs.Same.{same, size}
 use Rattle.value_data.specs.Keyed.{behind_all}
-use Rattle.value_data.specs.Placed.{first_place, with_value}
-use Rattle.value_data.specs.Order.{SortKey, order, sort_key}
-use Rattle.value_data.specs.Index.{key_at, Indexes, Belongs}
+use Rattle.value_data.specs.Inside.Placed.{first_place, with_value}
+use Rattle.value_data.specs.Inside.Order.{SortKey, order, sort_key}
+use Rattle.value_data.specs.Inside.Index.{key_at, Indexes, Belongs}
 use Rattle.value_data.proofs.Ordered.{order-self, order-Less}
 use Rattle.value_data.proofs.Ties.{same-key, key-same}
 use Rattle.value_data.proofs.Sameness.{size-pairs_view}

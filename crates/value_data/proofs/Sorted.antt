@@ -3,7 +3,7 @@ use Rattle.std.proofs.Common.{◌≡◌, ◌⊎◌, inl, inr, List, [], ◌∷�
 use Rattle.std.specs.declared.cmp.Ordering.{Ordering}
 use Rattle.std.specs.declared.cmp.Ordering.TheVariants.{Less, Equal, Greater}
 use Rattle.std.specs.Ordering.{ordering_reverse, match_ordering}
-use Rattle.value_data.specs.Order.{SortKey, order, with_sort_key, sorted, chain}
+use Rattle.value_data.specs.Inside.Order.{SortKey, order, with_sort_key, sorted, chain}
 use Rattle.value_data.proofs.Ordered.{order-reverse, order-exact, order-self, order-Less}
 
 abbrev pub IsIn : SortKey → List SortKey → Type 0

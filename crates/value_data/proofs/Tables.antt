@@ -4,12 +4,12 @@ use Rattle.std.proofs.Common.{[], ◌∷◌, ◌++◌, length, get_or, Option, S
 use Rattle.std.proofs.Common.{add-one, refl, sym, ap, ◌∙◌, arith}
 use Rattle.std.specs.Prelude.{if◌then◌else◌}
 use Rattle.value_data.specs.Datum.{Datum, Pairs, no_pairs, pair}
-use Rattle.value_data.specs.View.{view, pairs_view}
+use Rattle.value_data.specs.Inside.View.{view, pairs_view}
 use Rattle.value_data.specs.Listed.{pairs_of}
 use Rattle.value_data.specs.declared.value.Value.{Value}
 use Rattle.value_data.specs.Same.{same, size}
 use Rattle.value_data.specs.Keyed.{value_under, has_key, nth_value, value_at_place, behind_all}
-use Rattle.value_data.specs.Placed.{first_place, are_distinct}
+use Rattle.value_data.specs.Inside.Placed.{first_place, are_distinct}
 use Rattle.value_data.proofs.Equivalence.{same-sym, and-left, and-right, and-both}
 use Rattle.value_data.proofs.Transitive.{same-trans}
 

@@ -4,11 +4,11 @@ use Rattle.std.proofs.Math.Nat.{add-mod, mod-mod, mod-eq_of_lt}
 use Rattle.std.proofs.lemmas.Nat.{mul-mod, mod_below}
 use Rattle.std.proofs.lemmas.Bool.{cases_lt}
 use Rattle.value_data.specs.Datum.{Datum, Items, no_items, item}
-use Rattle.value_data.specs.Hash.{hash, mixed, items_hash}
-use Rattle.value_data.specs.View.{view, items_view}
-use Rattle.value_data.specs.Fits.{FitsItems}
-use Rattle.value_data.specs.Tails.{AreTails, factor, addend}
-use Rattle.value_data.specs.Inside.{KeepsItems}
+use Rattle.value_data.specs.Inside.Hash.{hash, mixed, items_hash}
+use Rattle.value_data.specs.Inside.View.{view, items_view}
+use Rattle.value_data.specs.Inside.Fits.{FitsItems}
+use Rattle.value_data.specs.Inside.Tails.{AreTails, factor, addend}
+use Rattle.value_data.specs.Inside.Nodes.{KeepsItems}
 use Rattle.value_data.specs.declared.value.Value.{Value}
 use Rattle.value_data.specs.declared.value.ItemsNode.{ItemsNode}
 use Rattle.value_data.specs.declared.node_measures.ItemsMeasure.{ItemsMeasure}

@@ -12,8 +12,8 @@ use Rattle.std.proofs.lemmas.Bool.Decides.{Decides-int_eq}
 use Rattle.std.proofs.lemmas.Slice.Eq.{bytes_eq-Decides}
 use Rattle.value_data.specs.Datum.{OwnerData, shared, tenant, Datum, nil, boolean, integer, string, keyword, symbol, list, vector, map, ref, atom, agent, var, fault, Items, no_items, item, Pairs, no_pairs, pair}
 use Rattle.value_data.specs.Same.{same, same_owner, same_items, size, within, each_pair, is_among, has_pair}
-use Rattle.value_data.specs.Hash.{hash}
-use Rattle.value_data.specs.Order.{SortKey, number, text, both, order, sorted, chain, sort_key, items_sort_key, owner_sort_key, kind, rows}
+use Rattle.value_data.specs.Inside.Hash.{hash}
+use Rattle.value_data.specs.Inside.Order.{SortKey, number, text, both, order, sorted, chain, sort_key, items_sort_key, owner_sort_key, kind, rows}
 use Rattle.value_data.proofs.Equivalence.{and-left, and-right, and-both, or-right, head-both}
 use Rattle.value_data.proofs.Transitive.{is_leaf, leaf-is}
 use Rattle.value_data.proofs.Hashes.{hash-same, items-hash-same}

@@ -1,8 +1,8 @@
 -- What each kind of value is seen as.
 use Rattle.std.proofs.Common.{◌≡◌, Bool, ℤ, ℕ, refl}
 use Rattle.value_data.specs.Datum as datum
-use Rattle.value_data.specs.Held.{SequenceData, TableData}
-use Rattle.value_data.specs.View.{view, owner_view}
+use Rattle.value_data.specs.Inside.Held.{SequenceData, TableData}
+use Rattle.value_data.specs.Inside.View.{view, owner_view}
 use Rattle.value_data.specs.declared.value.RefName.{RefName}
 use Rattle.value_data.specs.declared.value.Value.TheVariants as is
 

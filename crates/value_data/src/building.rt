@@ -1,11 +1,11 @@
 // Maps made of pairs.
 ghost use Rattle.std.specs.Prelude.{◌≡◌, true, IfOk};
 ghost use Rattle.value_data.specs.Datum.{no_pairs};
-ghost use Rattle.value_data.specs.View.{pairs_view};
-ghost use Rattle.value_data.specs.Placed.{are_distinct};
-ghost use Rattle.value_data.specs.Index.{Indexes};
-ghost use Rattle.value_data.specs.Fits.{FitsPairs};
-ghost use Rattle.value_data.specs.BuiltView.{IsBuilt};
+ghost use Rattle.value_data.specs.Inside.View.{pairs_view};
+ghost use Rattle.value_data.specs.Inside.Placed.{are_distinct};
+ghost use Rattle.value_data.specs.Inside.Index.{Indexes};
+ghost use Rattle.value_data.specs.Inside.Fits.{FitsPairs};
+ghost use Rattle.value_data.specs.Inside.BuiltView.{IsBuilt};
 
 use crate::node_measures::PairsMeasure;
 use crate::places::search;

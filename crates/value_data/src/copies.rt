@@ -1,7 +1,7 @@
 // Copies: one more owner of what a value shares.
 ghost use Rattle.std.specs.Prelude.{◌≡◌, IfOk, map};
 ghost use Rattle.std.specs.Arc.{arc_str_bytes};
-ghost use Rattle.value_data.specs.View.{view, pair_view};
+ghost use Rattle.value_data.specs.Inside.View.{view, pair_view};
 
 use crate::value::Value;
 use std::alloc::{AllocError, Global};

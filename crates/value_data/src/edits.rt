@@ -3,14 +3,14 @@
 
 ghost use Rattle.std.specs.Prelude.{◌≡◌, ◌<◌, ℕ, true, vec_len, map, IfOk, OnOk};
 ghost use Rattle.value_data.specs.Datum.{Pairs};
-ghost use Rattle.value_data.specs.View.{view, pair_view, pairs_view};
+ghost use Rattle.value_data.specs.Inside.View.{view, pair_view, pairs_view};
 ghost use Rattle.value_data.specs.Keyed.{behind_all};
-ghost use Rattle.value_data.specs.Placed.{are_distinct, with_value, StandsAt};
+ghost use Rattle.value_data.specs.Inside.Placed.{are_distinct, with_value, StandsAt};
 ghost use Rattle.value_data.specs.Put.{put_pair, put_pairs};
-ghost use Rattle.value_data.specs.Index.{Indexes};
-ghost use Rattle.value_data.specs.Fits.{FitsPairs};
-ghost use Rattle.value_data.specs.Inside.{KeepsPairs};
-ghost use Rattle.value_data.specs.Seen.{entry_view, MayFit};
+ghost use Rattle.value_data.specs.Inside.Index.{Indexes};
+ghost use Rattle.value_data.specs.Inside.Fits.{FitsPairs};
+ghost use Rattle.value_data.specs.Inside.Nodes.{KeepsPairs};
+ghost use Rattle.value_data.specs.Inside.Seen.{entry_view, MayFit};
 
 use crate::building::sealed_table;
 use crate::copies::{copy, copy_pairs};

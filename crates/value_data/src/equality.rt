@@ -1,6 +1,6 @@
 // When two values are equal.
 ghost use Rattle.std.specs.Prelude.{◌≡◌};
-ghost use Rattle.value_data.specs.View.{view};
+ghost use Rattle.value_data.specs.Inside.View.{view};
 ghost use Rattle.value_data.specs.Same.{same as are_same};
 
 use crate::order::compare;

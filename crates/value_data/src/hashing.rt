@@ -1,8 +1,8 @@
 // A hash that agrees with equality, so that keys are found without comparing all with all.
 ghost use Rattle.std.specs.Prelude.{◌≡◌, max};
 ghost use Rattle.std.specs.Arc.{arc_str_bytes};
-ghost use Rattle.value_data.specs.View.{view, owner_view};
-ghost use Rattle.value_data.specs.Hash.{hash, mixed, salted, mixed_text, owner_hash};
+ghost use Rattle.value_data.specs.Inside.View.{view, owner_view};
+ghost use Rattle.value_data.specs.Inside.Hash.{hash, mixed, salted, mixed_text, owner_hash};
 
 use crate::value::{Owner, Value};
 use std::sync::ArcStr;
@@ -31,21 +31,21 @@ pub fn hash_of(value: &Value) -> u64
     }
 }
 
-#[tactic(auto, unfolding(crate::specs::Hash::mixed))]
+#[tactic(auto, unfolding(crate::specs::Inside::Hash::mixed))]
 pub(crate) fn mix(hash: u64, word: u64) -> u64
     ensures { result ≡ mixed hash word }
 {
     hash.wrapping_mul(0x9E3779B97F4A7C15).wrapping_add(word)
 }
 
-#[tactic(auto, unfolding(crate::specs::Hash::salted))]
+#[tactic(auto, unfolding(crate::specs::Inside::Hash::salted))]
 pub(crate) fn raise(top: u64, salt: u64, word: u64) -> u64
     ensures { result ≡ max top (salted salt word) }
 {
     top.max(word.wrapping_mul(salt))
 }
 
-#[tactic(auto, unfolding(crate::specs::Hash::salted))]
+#[tactic(auto, unfolding(crate::specs::Inside::Hash::salted))]
 pub(crate) fn salt(by: u64, word: u64) -> u64
     ensures { result ≡ salted by word }
 {

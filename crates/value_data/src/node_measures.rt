@@ -1,14 +1,14 @@
 // What is kept of the items of a list or a vector, and of the pairs of a map.
 ghost use Rattle.std.specs.Prelude.{◌≡◌, ℕ, max, IfSome};
 ghost use Rattle.value_data.specs.Datum.{Items, no_items, Pairs, no_pairs, map};
-ghost use Rattle.value_data.specs.View.{view};
+ghost use Rattle.value_data.specs.Inside.View.{view};
 ghost use Rattle.value_data.specs.Same.{size};
-ghost use Rattle.value_data.specs.Hash.{hash, salted};
-ghost use Rattle.value_data.specs.Ends.{with_last};
+ghost use Rattle.value_data.specs.Inside.Hash.{hash, salted};
+ghost use Rattle.value_data.specs.Inside.Ends.{with_last};
 ghost use Rattle.value_data.specs.Keyed.{behind_all};
-ghost use Rattle.value_data.specs.Placed.{with_value, StandsAt};
-ghost use Rattle.value_data.specs.Seen.{MayFit};
-ghost use Rattle.value_data.specs.Fits.{FitsItems, FitsPairs};
+ghost use Rattle.value_data.specs.Inside.Placed.{with_value, StandsAt};
+ghost use Rattle.value_data.specs.Inside.Seen.{MayFit};
+ghost use Rattle.value_data.specs.Inside.Fits.{FitsItems, FitsPairs};
 
 use crate::hashing::{hash_of, mix, raise, salt};
 use crate::measure::{nesting, weight};

@@ -4,11 +4,11 @@
 ghost use Rattle.std.specs.Prelude.{◌≡◌, ◌<◌, length};
 ghost use Rattle.std.specs.Arc.{arc_str_bytes};
 ghost use Rattle.value_data.specs.Datum.{list, map};
-ghost use Rattle.value_data.specs.View.{view, items_view, pairs_view, owner_view};
+ghost use Rattle.value_data.specs.Inside.View.{view, items_view, pairs_view, owner_view};
 ghost use Rattle.value_data.specs.Same.{size};
-ghost use Rattle.value_data.specs.Order.{text, both, number, order, sort_key, content, kind};
-ghost use Rattle.value_data.specs.Order.{items_sort_key, owner_sort_key, chain, sorted, rows};
-ghost use Rattle.value_data.specs.Index.{rows_at, ArePlaces};
+ghost use Rattle.value_data.specs.Inside.Order.{text, both, number, order, sort_key, content, kind};
+ghost use Rattle.value_data.specs.Inside.Order.{items_sort_key, owner_sort_key, chain, sorted, rows};
+ghost use Rattle.value_data.specs.Inside.Index.{rows_at, ArePlaces};
 
 use crate::value::{Owner, RefName, Sequence, Table, Value};
 use chunked_list::ChunkedList;

@@ -2,10 +2,10 @@
 #![tactic(auto, using(crate::proofs::Tables::table_steps))]
 
 ghost use Rattle.std.specs.Prelude.{◌≡◌, Some, IfOk, IfErr, option_map};
-ghost use Rattle.value_data.specs.View.{view, pairs_view};
+ghost use Rattle.value_data.specs.Inside.View.{view, pairs_view};
 ghost use Rattle.value_data.specs.Keyed.{value_at_place};
-ghost use Rattle.value_data.specs.Placed.{first_place};
-ghost use Rattle.value_data.specs.Index.{Indexes, Belongs};
+ghost use Rattle.value_data.specs.Inside.Placed.{first_place};
+ghost use Rattle.value_data.specs.Inside.Index.{Indexes, Belongs};
 
 use crate::order::compare;
 use crate::value::Value;

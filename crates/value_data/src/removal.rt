@@ -1,13 +1,13 @@
 // Pairs without those of some keys, and a pair as a vector.
 ghost use Rattle.std.specs.Prelude.{◌≡◌, ◌<◌, true, map, length, vec_len, IfOk, IfSome};
-ghost use Rattle.value_data.specs.View.{view, pair_view, items_view, pairs_view};
+ghost use Rattle.value_data.specs.Inside.View.{view, pair_view, items_view, pairs_view};
 ghost use Rattle.value_data.specs.Repeats.{is_one_of};
-ghost use Rattle.value_data.specs.Placed.{are_distinct};
-ghost use Rattle.value_data.specs.Index.{Indexes, ArePlaces};
-ghost use Rattle.value_data.specs.Left.{numbers_from, places_left};
+ghost use Rattle.value_data.specs.Inside.Placed.{are_distinct};
+ghost use Rattle.value_data.specs.Inside.Index.{Indexes, ArePlaces};
+ghost use Rattle.value_data.specs.Inside.Left.{numbers_from, places_left};
 ghost use Rattle.value_data.specs.Put.{without_keys as without};
 ghost use Rattle.value_data.specs.Listed.{vector_of_two};
-ghost use Rattle.value_data.specs.Marked.{unmarked, with_mark};
+ghost use Rattle.value_data.specs.Inside.Marked.{unmarked, with_mark};
 
 use crate::building::sealed_table;
 use crate::copies::copy;

@@ -4,11 +4,11 @@
 ghost use Rattle.std.specs.Prelude.{◌≡◌, ◌==◌, IfOk, length, map};
 ghost use Rattle.value_data.specs.Datum.{item};
 ghost use Rattle.value_data.specs.Listed.{listed};
-ghost use Rattle.value_data.specs.View.{view, items_view};
+ghost use Rattle.value_data.specs.Inside.View.{view, items_view};
 ghost use Rattle.value_data.specs.Measures.{capped, items_weight, items_nesting};
-ghost use Rattle.value_data.specs.Hash.{items_hash};
-ghost use Rattle.value_data.specs.Ends.{with_last, behind_first};
-ghost use Rattle.value_data.specs.Fits.{FitsItems};
+ghost use Rattle.value_data.specs.Inside.Hash.{items_hash};
+ghost use Rattle.value_data.specs.Inside.Ends.{with_last, behind_first};
+ghost use Rattle.value_data.specs.Inside.Fits.{FitsItems};
 
 use crate::copies::{copies_with_room, copy, copy_items};
 use crate::node_measures::ItemsMeasure;

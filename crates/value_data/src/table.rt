@@ -3,12 +3,12 @@
 
 ghost use Rattle.std.specs.Prelude.{◌≡◌, true, is_some, option_map, IfOk};
 ghost use Rattle.value_data.specs.Datum.{map};
-ghost use Rattle.value_data.specs.View.{view, pairs_view};
+ghost use Rattle.value_data.specs.Inside.View.{view, pairs_view};
 ghost use Rattle.value_data.specs.Same.{size};
 ghost use Rattle.value_data.specs.Measures.{capped, pairs_weight, pairs_nesting};
-ghost use Rattle.value_data.specs.Hash.{hash};
+ghost use Rattle.value_data.specs.Inside.Hash.{hash};
 ghost use Rattle.value_data.specs.Keyed.{value_under};
-ghost use Rattle.value_data.specs.Placed.{are_distinct};
+ghost use Rattle.value_data.specs.Inside.Placed.{are_distinct};
 
 use crate::places::{place_of, value_at_place};
 use crate::value::{Table, Value};

@@ -1,10 +1,10 @@
 // The rests of a list's items, each measured once.
 ghost use Rattle.std.specs.Prelude.{◌≡◌, ◌+◌, ◌/◌, IfOk, length, vec_len, nat_le};
 ghost use Rattle.value_data.specs.Datum.{Items, no_items, item};
-ghost use Rattle.value_data.specs.View.{view, items_view};
-ghost use Rattle.value_data.specs.Ends.{behind_first};
-ghost use Rattle.value_data.specs.Tails.{AreTails};
-ghost use Rattle.value_data.specs.TailView.{FitsTail};
+ghost use Rattle.value_data.specs.Inside.View.{view, items_view};
+ghost use Rattle.value_data.specs.Inside.Ends.{behind_first};
+ghost use Rattle.value_data.specs.Inside.Tails.{AreTails};
+ghost use Rattle.value_data.specs.Inside.TailView.{FitsTail};
 
 use crate::hashing::hash_of;
 use crate::measure::{nesting, weight};

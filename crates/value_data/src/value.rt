@@ -60,14 +60,14 @@ pub struct Sequence {
 }
 
 impl Model for Sequence {
-    ghost use Rattle.value_data.specs.Held.{SequenceData, sequence_code};
+    ghost use Rattle.value_data.specs.Inside.Held.{SequenceData, sequence_code};
 
     ghost Value = { SequenceData };
 
     ghost coded = { sequence_code };
 
     ghost use Rattle.std.specs.Arc.{arc_value};
-    ghost use Rattle.value_data.specs.Inside.{seen_from, KeepsItems};
+    ghost use Rattle.value_data.specs.Inside.Nodes.{seen_from, KeepsItems};
 
     ghost view = { λ a. seen_from (arc_value a.node) a.start };
 
@@ -75,7 +75,7 @@ impl Model for Sequence {
 
     ghost size = { λ s. s.held };
 
-    ghost use Rattle.value_data.specs.Falls.{items-fall};
+    ghost use Rattle.value_data.specs.Inside.Falls.{items-fall};
 
     ghost size_decreases = { λ a h. items-fall a.node.value.items.items };
 }
@@ -98,14 +98,14 @@ pub struct Table {
 }
 
 impl Model for Table {
-    ghost use Rattle.value_data.specs.Held.{TableData, table_code};
+    ghost use Rattle.value_data.specs.Inside.Held.{TableData, table_code};
 
     ghost Value = { TableData };
 
     ghost coded = { table_code };
 
     ghost use Rattle.std.specs.Arc.{arc_value};
-    ghost use Rattle.value_data.specs.Inside.{seen_pairs, KeepsPairs};
+    ghost use Rattle.value_data.specs.Inside.Nodes.{seen_pairs, KeepsPairs};
 
     ghost view = { λ a. seen_pairs (arc_value a.node) };
 
@@ -113,7 +113,7 @@ impl Model for Table {
 
     ghost size = { λ t. t.held };
 
-    ghost use Rattle.value_data.specs.Falls.{pairs-fall};
+    ghost use Rattle.value_data.specs.Inside.Falls.{pairs-fall};
 
     ghost size_decreases = { λ a h. pairs-fall a.node.value.pairs.items };
 }

@@ -6,7 +6,7 @@ use Rattle.std.proofs.lemmas.Bool.Decides.{nat_tests}
 use Rattle.std.proofs.lemmas.List.{length-map}
 use Rattle.std.specs.Global.{Global}
 use Rattle.value_data.specs.Datum.{Datum, symbol}
-use Rattle.value_data.specs.View.{view}
+use Rattle.value_data.specs.Inside.View.{view}
 use Rattle.value_data.specs.declared.value.Value.{Value}
 use Rattle.repl_faults.specs.Failure.{Failure, broken_rule, wrong_arity, not_a_function}
 use Rattle.repl_faults.specs.declared.rule.Rule.{Rule}
@@ -15,12 +15,12 @@ use Rattle.function_names.specs.StoreNames.{store_name_of}
 use Rattle.function_names.specs.declared.store.StoreFunction.{StoreFunction}
 use Rattle.repl_asks.specs.Transactions.{RefNameData}
 use Rattle.repl_asks.specs.Exchange.{NamedFunctionData, core_function, store_function}
-use Rattle.repl_asks.specs.View.{named_view}
+use Rattle.repl_asks.specs.Inside.View.{named_view}
 use Rattle.repl_asks.specs.declared.answer.NamedFunction.{NamedFunction}
-use Rattle.special_forms.specs.Seen.{views}
+use Rattle.special_forms.specs.Inside.Seen.{views}
 use Rattle.store_calls.specs.Calling.{altered_in, altering}
 use Rattle.store_calls.specs.declared.altering.Alteration.{Alteration}
-use Rattle.store_calls.specs.View.{altered_view}
+use Rattle.store_calls.specs.Inside.View.{altered_view}
 use Rattle.store_calls.specs.declared.outcome.Altered.{Altered}
 use Rattle.evaluation_rules.specs.Doing.{Kept, Doing, fails}
 use Rattle.evaluation_rules.specs.Tree.{ends}

@@ -1,10 +1,10 @@
 -- How far an evaluation came: to its next ask, or to its end; and how much it has still to do.
 use Rattle.std.specs.Prelude.{◌≡◌, ℕ, ◌+◌, ◌≤◌, ⊤, string_bytes}
 use Rattle.repl_asks.specs.Exchange.{AnswerData}
-use Rattle.repl_asks.specs.View.{ask_view}
+use Rattle.repl_asks.specs.Inside.View.{ask_view}
 use Rattle.repl_jobs.specs.InteractionTree.{InteractionTree, finished, asks}
-use Rattle.repl_jobs.specs.View.{end_view, finished_view}
-use Rattle.special_forms.specs.Seen.{views, function_view}
+use Rattle.repl_jobs.specs.Inside.View.{end_view, finished_view}
+use Rattle.special_forms.specs.Inside.Seen.{views, function_view}
 use Rattle.evaluation_rules.specs.Tree.{ends}
 use Rattle.evaluation_rules.specs.Applying.{body_value}
 use Rattle.evaluation_rules.specs.Evaluation.{value_at}

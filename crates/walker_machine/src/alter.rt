@@ -2,11 +2,11 @@
 #![tactic(auto, using(walker_state::proofs::Stepping::steps))]
 
 ghost use Rattle.std.specs.Prelude.{◌≡◌, ◌+◌, ◌<◌, ◌==◌, length, IfOk};
-ghost use Rattle.value_data.specs.View.{view};
+ghost use Rattle.value_data.specs.Inside.View.{view};
 ghost use Rattle.repl_asks.specs.Exchange.{core_function, store_function};
-ghost use Rattle.repl_asks.specs.View.{name_view, named_view};
-ghost use Rattle.special_forms.specs.Seen.{views, forms_view, function_view};
-ghost use Rattle.special_forms.specs.Size.{forms_size};
+ghost use Rattle.repl_asks.specs.Inside.View.{name_view, named_view};
+ghost use Rattle.special_forms.specs.Inside.Seen.{views, forms_view, function_view};
+ghost use Rattle.special_forms.specs.Inside.Size.{forms_size};
 ghost use Rattle.store_calls.specs.Calling.{altering};
 ghost use Rattle.evaluation_rules.specs.Applying as meant;
 ghost use Rattle.evaluation_rules.specs.Calls.{alter_call, commute_applied, commuting_value};

@@ -3,9 +3,9 @@
 
 ghost use Rattle.std.specs.Prelude.{◌≡◌, ◌+◌, ◌<◌, IfOk};
 ghost use Rattle.std.specs.Arc.{arc_str_bytes};
-ghost use Rattle.repl_asks.specs.View.{answer_view, named_view, resolution_view};
-ghost use Rattle.special_forms.specs.Seen.{forms_view};
-ghost use Rattle.special_forms.specs.Size.{forms_size};
+ghost use Rattle.repl_asks.specs.Inside.View.{answer_view, named_view, resolution_view};
+ghost use Rattle.special_forms.specs.Inside.Seen.{forms_view};
+ghost use Rattle.special_forms.specs.Inside.Size.{forms_size};
 ghost use Rattle.evaluation_rules.specs.Calls.{named_call};
 ghost use Rattle.evaluation_rules.specs.Evaluation.{value_at};
 ghost use Rattle.walker_state.specs.Pending.{tree_with_answer, value_for_use, resolved_call};

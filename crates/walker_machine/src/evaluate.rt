@@ -4,13 +4,13 @@
 ghost use Rattle.std.specs.Prelude.{◌≡◌, ◌+◌, ◌*◌, ◌<◌, IfOk};
 ghost use Rattle.std.specs.Arc.{arc_str_bytes};
 ghost use Rattle.value_data.specs.Listed.{listed};
-ghost use Rattle.value_data.specs.View.{view};
+ghost use Rattle.value_data.specs.Inside.View.{view};
 ghost use Rattle.walker_state.specs.Pending.{place_of, from_state, tree};
 ghost use Rattle.walker_state.specs.Frames.{items_value, list_at};
 ghost use Rattle.walker_state.specs.Pending.{symbol_for_use};
-ghost use Rattle.special_forms.specs.Seen.{forms_view};
+ghost use Rattle.special_forms.specs.Inside.Seen.{forms_view};
 ghost use Rattle.special_forms.specs.Names.{special_named};
-ghost use Rattle.special_forms.specs.Size.{datum_size, forms_size};
+ghost use Rattle.special_forms.specs.Inside.Size.{datum_size, forms_size};
 ghost use Rattle.walker_state.specs.Size.{use_size};
 ghost use Rattle.walker_state.specs.Position.{LeadsOnWithin};
 ghost use Rattle.evaluation_rules.specs.Evaluation.{headed_value, list_value, value_at};

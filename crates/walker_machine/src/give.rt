@@ -2,7 +2,7 @@
 #![tactic(auto, using(walker_state::proofs::Stepping::steps))]
 
 ghost use Rattle.std.specs.Prelude.{◌≡◌, ◌+◌, ◌<◌, IfOk};
-ghost use Rattle.value_data.specs.View.{view};
+ghost use Rattle.value_data.specs.Inside.View.{view};
 ghost use Rattle.walker_state.specs.Pending.{tree_with_value, tree};
 ghost use Rattle.walker_state.specs.Size.{frame_size};
 ghost use Rattle.walker_state.specs.Position.{LeadsOnWithin};

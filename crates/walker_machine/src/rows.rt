@@ -3,12 +3,12 @@
 
 ghost use Rattle.std.specs.Prelude.{◌≡◌, ◌+◌, ◌<◌, IfOk};
 ghost use Rattle.std.specs.Arc.{arc_str_bytes};
-ghost use Rattle.value_data.specs.View.{view};
+ghost use Rattle.value_data.specs.Inside.View.{view};
 ghost use Rattle.walker_state.specs.Frames.{callee_view, call_behind, items_behind, bottom};
 ghost use Rattle.walker_state.specs.Pending.{place_of, kept_of, next_of, from_state, tree};
-ghost use Rattle.special_forms.specs.Bindings.{bindings_in};
-ghost use Rattle.special_forms.specs.Seen.{views, forms_view};
-ghost use Rattle.special_forms.specs.Size.{forms_size, bindings_size};
+ghost use Rattle.special_forms.specs.Inside.Bindings.{bindings_in};
+ghost use Rattle.special_forms.specs.Inside.Seen.{views, forms_view};
+ghost use Rattle.special_forms.specs.Inside.Size.{forms_size, bindings_size};
 ghost use Rattle.walker_state.specs.Size.{frames_size};
 ghost use Rattle.walker_state.specs.Position.{LeadsOnWithin};
 ghost use Rattle.evaluation_rules.specs.Evaluation.{value_at};

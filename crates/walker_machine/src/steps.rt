@@ -2,12 +2,12 @@
 #![tactic(auto, using(walker_state::proofs::Stepping::steps))]
 
 ghost use Rattle.std.specs.Prelude.{◌≡◌, ◌≤◌, [], string_bytes, IfOk};
-ghost use Rattle.repl_asks.specs.View.{answer_view};
-ghost use Rattle.repl_jobs.specs.View.{end_view, job_view};
+ghost use Rattle.repl_asks.specs.Inside.View.{answer_view};
+ghost use Rattle.repl_jobs.specs.Inside.View.{end_view, job_view};
 ghost use Rattle.evaluation_rules.specs.Tree.{ends};
 ghost use Rattle.evaluation_rules.specs.Evaluation.{evaluation};
 ghost use Rattle.walker_state.specs.Pending.{from_state, tree, kept_of};
-ghost use Rattle.value_data.specs.View.{view};
+ghost use Rattle.value_data.specs.Inside.View.{view};
 ghost use Rattle.evaluation_rules.specs.Doing.{pure_part};
 ghost use Rattle.walker_state.specs.Position.{Position, control_position};
 ghost use Rattle.walker_state.specs.declared.frames.Control.{Control};

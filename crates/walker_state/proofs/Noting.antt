@@ -8,11 +8,11 @@ use Rattle.repl_faults.specs.Failure.{Failure, broken_rule}
 use Rattle.repl_faults.specs.declared.rule.Rule.{Rule}
 use Rattle.repl_asks.specs.Transactions.{RefNameData}
 use Rattle.repl_asks.specs.Exchange.{read}
-use Rattle.repl_asks.specs.View.{name_view}
+use Rattle.repl_asks.specs.Inside.View.{name_view}
 use Rattle.repl_jobs.specs.InteractionTree.{asks}
 use Rattle.value_data.specs.declared.value.RefName.{RefName}
 use Rattle.tx_attempt.specs.Accesses.{AccessData, put, attempt_value, is_commuted}
-use Rattle.tx_attempt.specs.Seen.{accesses_of}
+use Rattle.tx_attempt.specs.Inside.Seen.{accesses_of}
 use Rattle.tx_attempt.specs.declared.attempt.Attempt.{Attempt}
 use Rattle.evaluation_rules.specs.Doing.{Doing, noting, pure_part}
 use Rattle.evaluation_rules.specs.Tree.{ends}

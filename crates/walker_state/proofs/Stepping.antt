@@ -12,10 +12,10 @@ use Rattle.core_texts.specs.Limits.{most_text}
 use Rattle.repl_asks.specs.Transactions.{IntentData}
 use Rattle.repl_asks.specs.Exchange.{AskData, AnswerData, begin, commit, committed, verdict_in}
 use Rattle.repl_jobs.specs.InteractionTree.{InteractionTree, asks}
-use Rattle.special_forms.specs.Seen.{forms_view}
+use Rattle.special_forms.specs.Inside.Seen.{forms_view}
 use Rattle.special_forms.specs.declared.forms.Forms.{Forms}
 use Rattle.tx_attempt.specs.Accesses.{AccessData, intent_of}
-use Rattle.tx_attempt.specs.Seen.{accesses_of}
+use Rattle.tx_attempt.specs.Inside.Seen.{accesses_of}
 use Rattle.tx_attempt.specs.declared.attempt.Attempt.{Attempt}
 use Rattle.evaluation_rules.specs.Doing.{Kept, Doing, left, failed, retried, asking, printing}
 use Rattle.evaluation_rules.specs.Doing.{looking, Part, pure_part, fails}

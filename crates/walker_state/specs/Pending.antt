@@ -2,14 +2,14 @@
 use Rattle.std.specs.Prelude.{ℕ, List, [], ◌∷◌, true, false, Err, string_bytes}
 use Rattle.std.specs.Arc.{arc_str_bytes}
 use Rattle.value_data.specs.Datum.{Datum, nil}
-use Rattle.value_data.specs.View.{view}
-use Rattle.repl_faults.specs.View.{failure_of}
+use Rattle.value_data.specs.Inside.View.{view}
+use Rattle.repl_faults.specs.Inside.View.{failure_of}
 use Rattle.repl_asks.specs.Exchange.{AnswerData, ResolutionData, resolution_in, value_in}
 use Rattle.repl_asks.specs.Exchange.{reading_in, VerdictData, verdict_in}
-use Rattle.repl_asks.specs.View.{ask_view, name_view}
+use Rattle.repl_asks.specs.Inside.View.{ask_view, name_view}
 use Rattle.repl_asks.specs.declared.answer.Resolution.{Resolution}
 use Rattle.repl_jobs.specs.InteractionTree.{InteractionTree, asks}
-use Rattle.special_forms.specs.Seen.{views, forms_view, function_view}
+use Rattle.special_forms.specs.Inside.Seen.{views, forms_view, function_view}
 use Rattle.evaluation_rules.specs.Doing.{Kept, Doing, Part, ◌>>=◌, pure_part}
 use Rattle.evaluation_rules.specs.Tree.{with_attempt, ends, written_tree}
 use Rattle.evaluation_rules.specs.Places.{PlaceData}

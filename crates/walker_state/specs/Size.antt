@@ -1,9 +1,9 @@
 -- How much an evaluation has still to do, for the proof that it ends.
 use Rattle.std.specs.Prelude.{ℕ, ◌+◌, ◌*◌, List, sum_by}
-use Rattle.value_data.specs.View.{view}
-use Rattle.special_forms.specs.Bindings.{bindings_in}
-use Rattle.special_forms.specs.Seen.{forms_view}
-use Rattle.special_forms.specs.Size.{datum_size, forms_size, bindings_size}
+use Rattle.value_data.specs.Inside.View.{view}
+use Rattle.special_forms.specs.Inside.Bindings.{bindings_in}
+use Rattle.special_forms.specs.Inside.Seen.{forms_view}
+use Rattle.special_forms.specs.Inside.Size.{datum_size, forms_size, bindings_size}
 use Rattle.walker_state.specs.declared.frames.Frame.{Frame}
 use Rattle.walker_state.specs.declared.frames.SymbolUse.{SymbolUse}
 use Rattle.walker_state.specs.declared.frames.Wanted.{Wanted}

@@ -3,9 +3,9 @@ use Rattle.std.specs.Prelude.{ℕ, List, [], Bool, true, false, Option, Some, No
 use Rattle.std.specs.Global.{Global}
 use Rattle.std.specs.Arc.{arc_str_bytes}
 use Rattle.value_data.specs.Datum.{nil}
-use Rattle.special_forms.specs.Seen.{forms_view}
+use Rattle.special_forms.specs.Inside.Seen.{forms_view}
 use Rattle.tx_attempt.specs.Accesses.{AccessData}
-use Rattle.tx_attempt.specs.Seen.{accesses_of}
+use Rattle.tx_attempt.specs.Inside.Seen.{accesses_of}
 use Rattle.evaluation_rules.specs.Doing.{Kept, Doing, left}
 use Rattle.evaluation_rules.specs.Tree.{with_attempt}
 use Rattle.evaluation_rules.specs.Places.{PlaceData}

@@ -2,9 +2,9 @@
 // function is applied, and what it prints is printed.
 ghost use Rattle.std.specs.Prelude.{◌≡◌, ◌<◌, IfOk};
 ghost use Rattle.core_functions.specs.ApplyOutcome.{ApplyOutcome, bounded_outcome};
-ghost use Rattle.core_functions.specs.View.{FailsIn};
-ghost use Rattle.value_data.specs.View.{view};
-ghost use Rattle.special_forms.specs.Seen.{views};
+ghost use Rattle.core_functions.specs.Inside.View.{FailsIn};
+ghost use Rattle.value_data.specs.Inside.View.{view};
+ghost use Rattle.special_forms.specs.Inside.Seen.{views};
 ghost use Rattle.evaluation_rules.specs.Applying.{printed_value, outcome, core_call};
 ghost use Rattle.walker_state.specs.Pending.{from_state, tree};
 ghost use Rattle.walker_state.specs.Position.{LeadsOnWithin};

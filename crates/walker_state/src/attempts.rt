@@ -7,7 +7,7 @@ ghost use Rattle.evaluation_rules.specs.Evaluation.{value_at};
 ghost use Rattle.evaluation_rules.specs.Transactions.{transacted_value};
 ghost use Rattle.value_data.specs.declared.value.RefName.{RefName};
 ghost use Rattle.value_data.specs.Datum.{nil};
-ghost use Rattle.special_forms.specs.Seen.{forms_view};
+ghost use Rattle.special_forms.specs.Inside.Seen.{forms_view};
 ghost use Rattle.walker_state.specs.Pending as machine;
 ghost use Rattle.walker_state.specs.Pending.{begun_tree};
 ghost use Rattle.walker_state.specs.UnderWay.{again};

@@ -1,7 +1,7 @@
 // The end of a transaction's body, and what comes of its commit.
 ghost use Rattle.std.specs.Prelude.{◌≡◌, [], IfOk};
-ghost use Rattle.value_data.specs.View.{view};
-ghost use Rattle.repl_asks.specs.View.{verdict_view};
+ghost use Rattle.value_data.specs.Inside.View.{view};
+ghost use Rattle.repl_asks.specs.Inside.View.{verdict_view};
 ghost use Rattle.evaluation_rules.specs.Doing.{pure_part};
 ghost use Rattle.walker_state.specs.Leaving.{end_or_commit_tree, IsEndOrCommit};
 ghost use Rattle.walker_state.specs.Pending.{from_state, settled_tree, tree};

@@ -4,7 +4,7 @@
 ghost use Rattle.std.specs.Prelude.{◌≡◌, ◌<◌, IfOk};
 ghost use Rattle.std.specs.Arc.{arc_str_bytes};
 ghost use Rattle.value_data.specs.Datum.{nil};
-ghost use Rattle.value_data.specs.View.{view};
+ghost use Rattle.value_data.specs.Inside.View.{view};
 ghost use Rattle.walker_state.specs.Pending.{kept_of, whole, next_of, from_state, tree};
 ghost use Rattle.walker_state.specs.Size.{control_size};
 ghost use Rattle.walker_state.specs.Position.{around, control_around, control_calls, LeadsOnWithin};

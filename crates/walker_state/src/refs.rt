@@ -1,7 +1,7 @@
 // Refs in the attempt that runs: what it knows of them, and what it notes.
 ghost use Rattle.std.specs.Prelude.{◌≡◌, ◌<◌, ◌≤◌, IfOk, option_map};
-ghost use Rattle.value_data.specs.View.{view};
-ghost use Rattle.repl_asks.specs.View.{commute_view, name_view};
+ghost use Rattle.value_data.specs.Inside.View.{view};
+ghost use Rattle.repl_asks.specs.Inside.View.{commute_view, name_view};
 ghost use Rattle.tx_attempt.specs.Accesses.{got, commuted, ensured, attempt_value};
 ghost use Rattle.evaluation_rules.specs.Doing.{Doing, noting};
 ghost use Rattle.evaluation_rules.specs.Refs.{ref_value, ensured_value};

@@ -1,10 +1,10 @@
 // Bodies: forms in a row, of which the last gives the value.
 ghost use Rattle.std.specs.Prelude.{◌≡◌, ◌+◌, ◌<◌, IfOk};
-ghost use Rattle.value_data.specs.View.{view};
+ghost use Rattle.value_data.specs.Inside.View.{view};
 ghost use Rattle.evaluation_rules.specs.Rows.{last_of};
 ghost use Rattle.evaluation_rules.specs.Evaluation.{value_at};
-ghost use Rattle.special_forms.specs.Seen.{forms_view};
-ghost use Rattle.special_forms.specs.Size.{forms_size};
+ghost use Rattle.special_forms.specs.Inside.Seen.{forms_view};
+ghost use Rattle.special_forms.specs.Inside.Size.{forms_size};
 ghost use Rattle.walker_state.specs.Pending.{place_of, from_state, tree};
 ghost use Rattle.walker_state.specs.Position.{LeadsOnWithin};
 

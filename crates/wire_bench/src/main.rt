@@ -3,7 +3,7 @@
 #![tactic(auto)]
 
 ghost use Rattle.std.specs.Prelude.{◌≡◌, ◌+◌, length};
-ghost use Rattle.bencode_wire.specs.Decoder.{ready_of};
+ghost use Rattle.bencode_wire.specs.Inside.Decoder.{ready_of};
 
 use bencode_wire::Decoder;
 use bytes::Bytes;

@@ -1,5 +1,5 @@
 use Rattle.std.proofs.Common.{◌≡◌, ◌+◌, length}
-use Rattle.bencode_wire.specs.Decoder.{ready_of}
+use Rattle.bencode_wire.specs.Inside.Decoder.{ready_of}
 use Rattle.wire_bench.proofs.take_ready.Given as goal
 
 abbrev pub invariant-loop-taken : goal.invariant-loop-taken

@@ -1,7 +1,7 @@
 use Rattle.std.proofs.Common.{◌≡◌, [], ◌∷◌, ◌++◌, sym, ap, ◌∙◌, subst, append_assoc}
 use Rattle.std.specs.List.Sorted.{IsStrictlySortedBy}
 use Rattle.std.specs.Map.{keys_of}
-use Rattle.bencode_wire.specs.View.{pairs_view}
+use Rattle.bencode_wire.specs.Inside.View.{pairs_view}
 use Rattle.bencode_wire.proofs.Views.{Entry, key_cmp, pairs_view-insert_entry, put_last}
 use Rattle.bencode_wire.proofs.copy.+copy.Goals as goal
 

@@ -1,5 +1,5 @@
 use Rattle.std.proofs.Common.{◌≡◌, List, ◌++◌, take, map}
-use Rattle.bencode_wire.specs.View.{view, pairs_view}
+use Rattle.bencode_wire.specs.Inside.View.{view, pairs_view}
 use Rattle.bencode_wire.proofs.Views.{Entry}
 use Rattle.bencode_wire.proofs.copy.+copy.Given as goal
 

@@ -1,5 +1,5 @@
 use Rattle.std.proofs.Common.{◌≡◌, take, map}
-use Rattle.bencode_wire.specs.View.{view}
+use Rattle.bencode_wire.specs.Inside.View.{view}
 use Rattle.bencode_wire.proofs.copy.copy_queue.Given as goal
 
 abbrev pub invariant-loop-at : goal.invariant-loop-at

@@ -1,5 +1,5 @@
 use Rattle.std.proofs.Common.{arith, refl}
-use Rattle.bencode_wire.specs.Reader.{frames_view, token_view, cut_view}
+use Rattle.bencode_wire.specs.Inside.Reader.{frames_view, token_view, cut_view}
 use Rattle.bencode_wire.proofs.Courses.{Runs, advances_in, advances_past, faults_over, faults_in}
 use Rattle.bencode_wire.proofs.course.advance.Goals as goal
 

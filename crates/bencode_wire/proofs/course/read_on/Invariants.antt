@@ -1,6 +1,6 @@
 use Rattle.std.proofs.Common.{◌≤◌, ◌-◌, length}
-use Rattle.bencode_wire.specs.Fronts.{BeginsWith}
-use Rattle.bencode_wire.specs.Course.{Advances, ahead}
+use Rattle.bencode_wire.specs.Inside.Fronts.{BeginsWith}
+use Rattle.bencode_wire.specs.Inside.Course.{Advances, ahead}
 use Rattle.bencode_wire.proofs.course.read_on.Given as goal
 
 abbrev pub invariant-loop-now : goal.invariant-loop-now

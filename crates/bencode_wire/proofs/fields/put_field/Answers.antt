@@ -1,5 +1,5 @@
 use Rattle.std.proofs.Common.{ap, ◌∙◌}
-use Rattle.bencode_wire.specs.View.{pairs_view}
+use Rattle.bencode_wire.specs.Inside.View.{pairs_view}
 use Rattle.bencode_wire.proofs.Views.{pairs_view-insert_entry}
 use Rattle.bencode_wire.proofs.fields.put_field.Goals as goal
 

@@ -1,6 +1,6 @@
 use Rattle.std.proofs.Common.{ap, ◌∙◌}
 use Rattle.std.specs.Prelude.{option_map}
-use Rattle.bencode_wire.specs.View.{view}
+use Rattle.bencode_wire.specs.Inside.View.{view}
 use Rattle.bencode_wire.proofs.Lookups.{field-pairs_view, field-taken}
 use Rattle.bencode_wire.proofs.fields.take_field.Goals as goal
 

@@ -1,5 +1,5 @@
 use Rattle.std.proofs.Common.{◌≡◌, ◌++◌, drop}
-use Rattle.bencode_wire.specs.View.{trees_view, pairs_view}
+use Rattle.bencode_wire.specs.Inside.View.{trees_view, pairs_view}
 use Rattle.bencode_wire.specs.Spelling.{trees_text, pairs_text, sorted_trees, AreSpellable, ArePairs}
 use Rattle.bencode_wire.proofs.Views.{each_sorted}
 use Rattle.bencode_wire.proofs.write.+spell.Given as goal

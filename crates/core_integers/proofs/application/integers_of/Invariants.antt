@@ -1,5 +1,5 @@
 use Rattle.std.proofs.Common.{◌≡◌, map, drop, vec_len}
-use Rattle.value_data.specs.View.{view}
+use Rattle.value_data.specs.Inside.View.{view}
 use Rattle.core_integers.specs.Meaning.{integers_in}
 use Rattle.core_integers.proofs.Values.{with_front}
 use Rattle.core_integers.proofs.application.integers_of.Given as goal

@@ -3,7 +3,7 @@ use Rattle.std.specs.Int.{w64}
 use Rattle.std.proofs.lemmas.Int.{to_z-of_z}
 use Rattle.std.proofs.lemmas.Result.{err_from_is_err_and}
 use Rattle.core_integers.specs.Arithmetic.{left_fold}
-use Rattle.core_integers.specs.BinaryOperation.{binary_operation}
+use Rattle.core_integers.specs.Inside.BinaryOperation.{binary_operation}
 use Rattle.core_integers.proofs.Integers.{fold_next, fold_fails}
 use Rattle.core_integers.proofs.arithmetic.fold.Goals as goal
 

@@ -1,6 +1,6 @@
 use Rattle.std.proofs.Common.{◌≡◌, drop}
 use Rattle.core_integers.specs.Arithmetic.{left_fold}
-use Rattle.core_integers.specs.BinaryOperation.{binary_operation}
+use Rattle.core_integers.specs.Inside.BinaryOperation.{binary_operation}
 use Rattle.core_integers.proofs.arithmetic.fold.Given as goal
 
 abbrev pub invariant-loop-n : goal.invariant-loop-n

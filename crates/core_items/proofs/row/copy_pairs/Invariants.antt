@@ -1,6 +1,6 @@
 use Rattle.std.proofs.Common.{◌≡◌, take, map}
-use Rattle.value_data.specs.View.{view}
-use Rattle.core_items.specs.View.{pair_vectors}
+use Rattle.value_data.specs.Inside.View.{view}
+use Rattle.core_items.specs.Inside.View.{pair_vectors}
 use Rattle.core_items.proofs.row.copy_pairs.Given as goal
 
 abbrev pub invariant-loop-key : goal.invariant-loop-key

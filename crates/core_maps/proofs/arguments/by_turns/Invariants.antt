@@ -1,6 +1,6 @@
 use Rattle.std.proofs.Common.{◌≡◌, ◌++◌, map, length}
-use Rattle.value_data.specs.View.{view}
-use Rattle.value_data.specs.Seen.{entry_view}
+use Rattle.value_data.specs.Inside.View.{view}
+use Rattle.value_data.specs.Inside.Seen.{entry_view}
 use Rattle.core_maps.specs.Arguments as meant
 use Rattle.core_maps.proofs.arguments.by_turns.Given as goal
 

@@ -1,7 +1,7 @@
 use Rattle.std.proofs.Common.{◌≡◌, map, drop}
-use Rattle.value_data.specs.Seen.{entry_view}
+use Rattle.value_data.specs.Inside.Seen.{entry_view}
 use Rattle.core_maps.specs.Arguments.{places_in}
-use Rattle.core_maps.specs.View.{indexed_view}
+use Rattle.core_maps.specs.Inside.View.{indexed_view}
 use Rattle.core_maps.proofs.Values.{with_front}
 use Rattle.core_maps.proofs.arguments.places_of.Given as goal
 

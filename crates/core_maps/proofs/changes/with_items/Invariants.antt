@@ -1,6 +1,6 @@
 use Rattle.std.proofs.Common.{◌≡◌, drop, map}
-use Rattle.value_data.specs.View.{view}
-use Rattle.core_maps.specs.View.{indexed_view}
+use Rattle.value_data.specs.Inside.View.{view}
+use Rattle.core_maps.specs.Inside.View.{indexed_view}
 use Rattle.core_maps.specs.Meaning as meant
 use Rattle.core_maps.proofs.changes.with_items.Given as goal
 

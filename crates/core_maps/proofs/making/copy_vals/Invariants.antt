@@ -1,5 +1,5 @@
 use Rattle.std.proofs.Common.{◌≡◌, take, map}
-use Rattle.value_data.specs.View.{view, pair_view}
+use Rattle.value_data.specs.Inside.View.{view, pair_view}
 use Rattle.core_maps.proofs.making.copy_vals.Given as goal
 
 abbrev pub invariant-loop-key : goal.invariant-loop-key

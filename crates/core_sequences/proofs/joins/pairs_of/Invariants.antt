@@ -1,6 +1,6 @@
 use Rattle.std.proofs.Common.{◌≡◌, map, drop}
-use Rattle.value_data.specs.View.{view}
-use Rattle.value_data.specs.Seen.{entry_view}
+use Rattle.value_data.specs.Inside.View.{view}
+use Rattle.value_data.specs.Inside.Seen.{entry_view}
 use Rattle.core_sequences.specs.Pairs.{pairs_in}
 use Rattle.core_sequences.proofs.Values.{with_front}
 use Rattle.core_sequences.proofs.joins.pairs_of.Given as goal

@@ -1,5 +1,5 @@
 use Rattle.std.proofs.Common.{◌≡◌, ◌++◌, drop, map}
-use Rattle.value_data.specs.View.{view}
+use Rattle.value_data.specs.Inside.View.{view}
 use Rattle.core_sequences.proofs.joins.with_copies.Given as goal
 
 abbrev pub invariant-loop-value : goal.invariant-loop-value

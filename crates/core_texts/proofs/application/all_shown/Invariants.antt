@@ -1,5 +1,5 @@
 use Rattle.std.proofs.Common.{◌≡◌, ◌++◌, drop, map, flat_map, string_bytes}
-use Rattle.value_data.specs.View.{view}
+use Rattle.value_data.specs.Inside.View.{view}
 use Rattle.core_texts.specs.Meaning.{shown_text}
 use Rattle.core_texts.proofs.application.all_shown.Given as goal
 

@@ -1,7 +1,7 @@
 use Rattle.std.proofs.Common.{◌≡◌, ◌++◌, codes, drop, map, string_bytes}
-use Rattle.value_data.specs.View.{view}
+use Rattle.value_data.specs.Inside.View.{view}
 use Rattle.repl_values.specs.Print.{each_behind}
-use Rattle.core_texts.specs.Spelling.{spelling_of}
+use Rattle.core_texts.specs.Inside.Spelling.{spelling_of}
 use Rattle.core_texts.proofs.printing.spaced_text.Given as goal
 
 abbrev pub invariant-loop-value : goal.invariant-loop-value

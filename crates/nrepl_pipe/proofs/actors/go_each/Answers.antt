@@ -1,7 +1,7 @@
 use Rattle.std.proofs.Common.{◌≡◌, ◌+◌, ◌<◌, true, List, sym, subst, take, rules}
 use Rattle.std.proofs.lemmas.List.{take_more}
 use Rattle.server_rules.specs.declared.actor.Actor.{Actor}
-use Rattle.nrepl_pipe.specs.Parts.{with_turn}
+use Rattle.nrepl_pipe.specs.Inside.Parts.{with_turn}
 use Rattle.nrepl_pipe.specs.declared.actors.Round.{Round}
 use Rattle.nrepl_pipe.specs.declared.actors.Turned.{Turned}
 use Rattle.nrepl_pipe.proofs.Taking.{TurnsOn, turns-more, fewer-left}

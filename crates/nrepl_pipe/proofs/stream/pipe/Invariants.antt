@@ -3,7 +3,7 @@ use Rattle.server_rules.specs.Ground.{Ground}
 use Rattle.tenant_turns.specs.Turns.{Lone}
 use Rattle.tenant_turns.specs.Grounds.{IsRight}
 use Rattle.nrepl_pipe.specs.Failing.{Marks}
-use Rattle.nrepl_pipe.specs.Fresh.{IsFresh}
+use Rattle.nrepl_pipe.specs.Inside.Fresh.{IsFresh}
 use Rattle.nrepl_pipe.proofs.Serving.{Serving}
 use Rattle.nrepl_pipe.proofs.stream.pipe.Given as goal
 

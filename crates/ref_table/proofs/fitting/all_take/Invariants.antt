@@ -1,5 +1,5 @@
 use Rattle.std.proofs.Common.{◌≡◌, map, drop}
-use Rattle.repl_asks.specs.View.{commuted_view}
+use Rattle.repl_asks.specs.Inside.View.{commuted_view}
 use Rattle.server_rules.specs.Commit.{all_take}
 use Rattle.ref_table.proofs.fitting.all_take.Given as goal
 

@@ -1,8 +1,8 @@
 use Rattle.std.proofs.Common.{◌∷◌, map, ap, ◌∙◌, subst}
-use Rattle.value_data.specs.View.{view}
+use Rattle.value_data.specs.Inside.View.{view}
 use Rattle.core_functions.specs.ApplyOutcome.{bounded_outcome}
 use Rattle.core_functions.specs.Meaning.{meaning}
-use Rattle.core_functions.specs.View.{FailsIn}
+use Rattle.core_functions.specs.Inside.View.{FailsIn}
 use Rattle.ref_table.proofs.Commuting.{applied-fails, given-err}
 use Rattle.ref_table.proofs.folding.apply_commute.Goals as goal
 

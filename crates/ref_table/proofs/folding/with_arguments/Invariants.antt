@@ -1,5 +1,5 @@
 use Rattle.std.proofs.Common.{◌≡◌, ◌∷◌, ◌++◌, map, drop}
-use Rattle.value_data.specs.View.{view}
+use Rattle.value_data.specs.Inside.View.{view}
 use Rattle.ref_table.proofs.folding.with_arguments.Given as goal
 
 abbrev pub invariant-loop-argument : goal.invariant-loop-argument

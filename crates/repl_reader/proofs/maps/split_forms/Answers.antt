@@ -1,6 +1,6 @@
 use Rattle.std.proofs.Common.{◌∙◌, sym, ap, map, arith}
 use Rattle.std.proofs.lemmas.List.{nil_from_length}
-use Rattle.value_data.specs.View.{pair_view}
+use Rattle.value_data.specs.Inside.View.{pair_view}
 use Rattle.value_data.specs.Listed.{items_of}
 use Rattle.repl_reader.proofs.Rows.{in_front_some, in_front_none, keys_of-pairs}
 use Rattle.repl_reader.proofs.maps.split_forms.Goals as goal

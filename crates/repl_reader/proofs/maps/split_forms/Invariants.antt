@@ -1,6 +1,6 @@
 use Rattle.std.proofs.Common.{◌≡◌, map}
 use Rattle.value_data.specs.Datum.{Datum}
-use Rattle.value_data.specs.View.{view, pair_view, items_view}
+use Rattle.value_data.specs.Inside.View.{view, pair_view, items_view}
 use Rattle.repl_reader.specs.Maps.{paired}
 use Rattle.repl_reader.proofs.Rows.{in_front, behind}
 use Rattle.repl_reader.proofs.maps.split_forms.Given as goal

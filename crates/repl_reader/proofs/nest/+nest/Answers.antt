@@ -1,9 +1,9 @@
 use Rattle.std.proofs.Common.{rules, length, ◌<◌, ◌≡◌, sym, subst, arith}
-use Rattle.value_data.specs.View.{view}
+use Rattle.value_data.specs.Inside.View.{view}
 use Rattle.repl_reader.specs.Reading.{FormReading, next_in, drops, begins}
 use Rattle.repl_reader.specs.Grammar.{Reads}
-use Rattle.repl_reader.specs.View.{IsMarked, wraps, wraps_deep, IsOpened, encloses, encloses_deep}
-use Rattle.repl_reader.specs.View.{bracket_view, mark_symbol, form_reading_view}
+use Rattle.repl_reader.specs.Inside.View.{IsMarked, wraps, wraps_deep, IsOpened, encloses, encloses_deep}
+use Rattle.repl_reader.specs.Inside.View.{bracket_view, mark_symbol, form_reading_view}
 use Rattle.repl_reader.proofs.Nesting.{on_ok, piece_settled, piece_marked, piece_opened, row_push}
 use Rattle.repl_reader.proofs.Nesting.{row_last, owed_more, owed_one, owed_short}
 use Rattle.repl_reader.proofs.Shorter.{next_shorter_is, reads_shorter}

@@ -1,7 +1,7 @@
 use Rattle.std.proofs.Common.{◌+◌, ◌-◌, ◌*◌, ◌≤◌, length, map}
 use Rattle.std.specs.Str.{IsUtf8}
 use Rattle.value_data.specs.Datum.{Items}
-use Rattle.value_data.specs.View.{view}
+use Rattle.value_data.specs.Inside.View.{view}
 use Rattle.repl_reader.specs.Reading.{FormReading}
 use Rattle.repl_reader.specs.Grammar.{Reads, Row}
 use Rattle.repl_reader.proofs.Rows.{onto}

@@ -1,7 +1,7 @@
 use Rattle.std.proofs.Common.{◌≡◌, length, string_bytes}
 use Rattle.std.specs.Str.{IsUtf8}
 use Rattle.repl_reader.specs.Reading.{contents, string_of}
-use Rattle.repl_reader.specs.Quoted.{string_from}
+use Rattle.repl_reader.specs.Inside.Quoted.{string_from}
 use Rattle.repl_reader.proofs.strings.read_string.Given as goal
 
 abbrev pub invariant-loop-contents : goal.invariant-loop-contents

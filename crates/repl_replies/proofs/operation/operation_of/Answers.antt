@@ -1,7 +1,7 @@
 use Rattle.std.proofs.Common.{◌∙◌, ap, codes}
-use Rattle.bencode_wire.specs.View.{pairs_view}
+use Rattle.bencode_wire.specs.Inside.View.{pairs_view}
 use Rattle.repl_replies.specs.Operations.{of_origin}
-use Rattle.repl_replies.specs.View.{field_view}
+use Rattle.repl_replies.specs.Inside.View.{field_view}
 use Rattle.repl_replies.proofs.Operations.{Taken, operation_or_reply-taken}
 use Rattle.repl_replies.proofs.Served.{operation_or_reply-view-names}
 use Rattle.repl_replies.proofs.Requests.{field_view-option_map}

@@ -1,8 +1,8 @@
 use Rattle.std.proofs.Common.{◌≡◌, ◌∙◌, refl, codes}
 use Rattle.bencode_wire.specs.Tree.{field}
-use Rattle.bencode_wire.specs.View.{pairs_view}
-use Rattle.repl_replies.specs.Requests.{request_or_reply}
-use Rattle.repl_replies.specs.View.{field_view}
+use Rattle.bencode_wire.specs.Inside.View.{pairs_view}
+use Rattle.repl_replies.specs.Inside.Requests.{request_or_reply}
+use Rattle.repl_replies.specs.Inside.View.{field_view}
 use Rattle.repl_replies.proofs.Requests.{field_view-option_map}
 use Rattle.repl_replies.proofs.request.request_of.Goals as goal
 

@@ -1,7 +1,7 @@
 use Rattle.std.proofs.Common.{◌≡◌, ap, ◌∙◌, map, take, string_bytes, arith}
 use Rattle.std.proofs.lemmas.List.{take_all}
 use Rattle.bencode_wire.specs.Tree.{string}
-use Rattle.bencode_wire.specs.View.{trees_of}
+use Rattle.bencode_wire.specs.Inside.View.{trees_of}
 use Rattle.repl_replies.proofs.Replies.{trees_of-strings}
 use Rattle.repl_replies.proofs.spelling.id_list.Goals as goal
 

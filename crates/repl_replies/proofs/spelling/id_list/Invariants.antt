@@ -1,6 +1,6 @@
 use Rattle.std.proofs.Common.{◌≡◌, take, map, string_bytes}
 use Rattle.bencode_wire.specs.Tree.{string}
-use Rattle.bencode_wire.specs.View.{view}
+use Rattle.bencode_wire.specs.Inside.View.{view}
 use Rattle.repl_replies.proofs.spelling.id_list.Given as goal
 
 abbrev pub invariant-loop-id : goal.invariant-loop-id

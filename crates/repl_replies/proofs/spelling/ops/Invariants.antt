@@ -1,6 +1,6 @@
 use Rattle.std.proofs.Common.{◌≡◌, drop}
-use Rattle.bencode_wire.specs.View.{pairs_view}
-use Rattle.repl_replies.specs.Building.{puts}
+use Rattle.bencode_wire.specs.Inside.View.{pairs_view}
+use Rattle.repl_replies.specs.Inside.Building.{puts}
 use Rattle.repl_replies.specs.Description as told
 use Rattle.repl_replies.specs.OperationNames.{operations}
 use Rattle.repl_replies.proofs.spelling.ops.Given as goal

@@ -1,6 +1,6 @@
 use Rattle.std.proofs.Common.{◌≡◌, take, map}
 use Rattle.bencode_wire.specs.Tree.{string}
-use Rattle.bencode_wire.specs.View.{view}
+use Rattle.bencode_wire.specs.Inside.View.{view}
 use Rattle.repl_replies.proofs.spelling.word_list.Given as goal
 
 abbrev pub invariant-loop-word : goal.invariant-loop-word

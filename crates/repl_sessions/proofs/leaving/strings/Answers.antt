@@ -3,7 +3,7 @@ use Rattle.std.specs.BTreeSet.{keys}
 use Rattle.std.specs.Map.Iter.{deref}
 use Rattle.std.proofs.lemmas.List.{map-append}
 use Rattle.repl_sessions.specs.Ids.{id_text}
-use Rattle.repl_sessions.specs.Leaving.{is_leaving, without_leaving}
+use Rattle.repl_sessions.specs.Inside.Leaving.{is_leaving, without_leaving}
 use Rattle.repl_sessions.proofs.Leavers.{contains-leaving, one-listed}
 use Rattle.repl_sessions.proofs.leaving.strings.Goals as goal
 

@@ -1,6 +1,6 @@
 use Rattle.std.proofs.Common.{◌≡◌, true, subst, sym, ap}
 use Rattle.value_data.specs.Datum.{Datum}
-use Rattle.value_data.specs.View.{view}
+use Rattle.value_data.specs.Inside.View.{view}
 use Rattle.value_data.specs.Same.{same}
 use Rattle.repl_values.specs.Print.{print}
 use Rattle.value_data.proofs.Equivalence.{same-refl}

@@ -1,4 +1,4 @@
-use Rattle.value_data.specs.Order.{sort_key}
+use Rattle.value_data.specs.Inside.Order.{sort_key}
 use Rattle.value_data.proofs.Ordered.{order-reverse}
 use Rattle.repl_values.proofs.laws.order_is_antisymmetric.Goals as goal
 

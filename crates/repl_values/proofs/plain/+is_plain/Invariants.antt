@@ -1,5 +1,5 @@
 use Rattle.std.proofs.Common.{◌≡◌, ◌+◌, ◌*◌, drop}
-use Rattle.value_data.specs.View.{view, items_view, pairs_view}
+use Rattle.value_data.specs.Inside.View.{view, items_view, pairs_view}
 use Rattle.value_data.proofs.Size.{nodes, items_nodes, pairs_nodes}
 use Rattle.value_data.specs.Measures.{are_plain, pairs_are_plain}
 use Rattle.repl_values.proofs.plain.+is_plain.Given as goal

@@ -1,5 +1,5 @@
 use Rattle.std.proofs.Common.{◌≡◌, ◌∷◌, arith, ap, List}
-use Rattle.value_data.specs.View.{pairs_view}
+use Rattle.value_data.specs.Inside.View.{pairs_view}
 use Rattle.value_data.proofs.Size.{pairs_nodes}
 use Rattle.value_data.specs.declared.value.Value.{Value}
 use Rattle.value_data.proofs.Nodes.{pair_nodes-in}

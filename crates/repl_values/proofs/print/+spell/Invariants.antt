@@ -1,8 +1,8 @@
 use Rattle.std.proofs.Common.{◌≡◌, ◌+◌, ◌*◌, ◌++◌, codes, drop, string_bytes}
 use Rattle.value_data.proofs.Size.{nodes, items_nodes, pairs_nodes}
-use Rattle.value_data.specs.View.{view, items_view, pairs_view}
+use Rattle.value_data.specs.Inside.View.{view, items_view, pairs_view}
 use Rattle.repl_values.specs.Print.{texts, pair_texts, each_behind}
-use Rattle.repl_values.specs.Style.{spelling_of}
+use Rattle.repl_values.specs.Inside.Style.{spelling_of}
 use Rattle.repl_values.proofs.print.+spell.Given as goal
 
 abbrev pub decreases-spell : goal.decreases-spell

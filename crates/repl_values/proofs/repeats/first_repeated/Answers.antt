@@ -1,5 +1,5 @@
 use Rattle.std.proofs.Common.{List, map, ap, ◌∙◌, arith}
-use Rattle.value_data.specs.View.{view, pairs_view}
+use Rattle.value_data.specs.Inside.View.{view, pairs_view}
 use Rattle.value_data.specs.Repeats.{first_repeat}
 use Rattle.value_data.specs.declared.value.Value.{Value}
 use Rattle.value_data.proofs.Removing.{keys-view, take-past}

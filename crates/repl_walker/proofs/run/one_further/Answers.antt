@@ -1,5 +1,5 @@
 use Rattle.std.proofs.Common.{refl, sym}
-use Rattle.repl_asks.specs.View.{ask_view, answer_view}
+use Rattle.repl_asks.specs.Inside.View.{ask_view, answer_view}
 use Rattle.repl_walker.specs.Waits.{tree_behind}
 use Rattle.repl_walker.proofs.Leading.{led-nowhere, led-answered, recorded-nothing}
 use Rattle.repl_walker.proofs.Leading.{recorded-answered}

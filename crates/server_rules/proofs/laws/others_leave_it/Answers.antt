@@ -1,6 +1,6 @@
 use Rattle.std.proofs.Common.{ap}
 use Rattle.std.specs.Prelude.{option_map}
-use Rattle.server_rules.specs.View.{part_view}
+use Rattle.server_rules.specs.Isolation.View.{part_view}
 use Rattle.server_rules.proofs.Steps.{step-other}
 use Rattle.server_rules.proofs.laws.others_leave_it.Goals as goal
 

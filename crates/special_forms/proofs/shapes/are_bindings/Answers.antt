@@ -1,6 +1,6 @@
 use Rattle.std.proofs.Common.{◌≡◌, List, Some, None, if◌then◌else◌, subst}
 use Rattle.value_data.specs.Datum.{Datum}
-use Rattle.special_forms.specs.Bindings.{bindings_in}
+use Rattle.special_forms.specs.Inside.Bindings.{bindings_in}
 use Rattle.special_forms.specs.Shapes.{bound_forms}
 use Rattle.special_forms.proofs.Shaping.{views-listed}
 use Rattle.special_forms.proofs.shapes.are_bindings.Goals as goal

@@ -1,6 +1,6 @@
 use Rattle.std.proofs.Common.{◌≡◌, ◌≤◌, ◌-◌, Bool, length, drop}
 use Rattle.special_forms.specs.Shapes.{bound_forms}
-use Rattle.special_forms.specs.Seen.{views}
+use Rattle.special_forms.specs.Inside.Seen.{views}
 use Rattle.special_forms.proofs.Shaping.{bound_if}
 use Rattle.special_forms.proofs.shapes.by_turns.Given as goal
 

@@ -1,7 +1,7 @@
 use Rattle.std.proofs.Common.{◌≡◌, length}
-use Rattle.special_forms.specs.Seen.{views}
+use Rattle.special_forms.specs.Inside.Seen.{views}
 use Rattle.store_calls.specs.Arguments as meant
-use Rattle.store_calls.specs.View.{bounds_view}
+use Rattle.store_calls.specs.Inside.View.{bounds_view}
 use Rattle.store_calls.proofs.bounds.bounds_in.Given as goal
 
 -- what is left, from the bounds so far, comes to what all options come to

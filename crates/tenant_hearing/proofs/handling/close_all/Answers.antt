@@ -1,6 +1,6 @@
 use Rattle.std.proofs.Common.{◌∙◌, sym, ap, ℕ, List, true≢false}
 use Rattle.std.specs.BTreeSet.{keys}
-use Rattle.repl_sessions.specs.Leaving.{remaining_named}
+use Rattle.repl_sessions.specs.Inside.Leaving.{remaining_named}
 use Rattle.repl_sessions.specs.Named.{NamedSessions}
 use Rattle.repl_sessions.specs.Sessions.{SessionsData}
 use Rattle.server_rules.specs.Numbered.{Entry}

@@ -1,6 +1,6 @@
 use Rattle.std.proofs.Common.{◌≡◌, length}
 use Rattle.std.specs.BTreeSet.{keys}
-use Rattle.repl_sessions.specs.Leaving.{remaining_named}
+use Rattle.repl_sessions.specs.Inside.Leaving.{remaining_named}
 use Rattle.tenant_actors.specs.View.{actors_view}
 use Rattle.tenant_hearing.specs.Scene.{all_vacated}
 use Rattle.tenant_hearing.proofs.handling.close_all.Given as goal

@@ -1,9 +1,9 @@
 use Rattle.std.proofs.Common.{◌≡◌, ◌∙◌, sym, ap, ◌++◌, length, is_some, Option, arith}
 use Rattle.std.proofs.lemmas.Grind.{common_steps}
 use Rattle.std.proofs.lemmas.List.{length-map}
-use Rattle.bencode_wire.specs.View.{view}
-use Rattle.bencode_wire.specs.Course.{ready_view}
-use Rattle.bencode_wire.specs.Decoder.{ready_of, fault_of}
+use Rattle.bencode_wire.specs.Inside.View.{view}
+use Rattle.bencode_wire.specs.Inside.Course.{ready_view}
+use Rattle.bencode_wire.specs.Inside.Decoder.{ready_of, fault_of}
 use Rattle.bencode_wire.specs.declared.fault.WireFault.{WireFault}
 use Rattle.server_rules.specs.Readings.{message_limit}
 use Rattle.server_rules.specs.Tenant.{Quiet}

@@ -2,7 +2,7 @@ use Rattle.std.proofs.Common.{IsTrue, subst, ℕ, Option}
 use Rattle.std.specs.BTreeSet.{keys}
 use Rattle.std.specs.Option.{IfSome}
 use Rattle.std.proofs.lemmas.Result.{IfOk-weaker}
-use Rattle.repl_sessions.specs.Leaving.{remaining_named}
+use Rattle.repl_sessions.specs.Inside.Leaving.{remaining_named}
 use Rattle.repl_sessions.specs.Sessions.{is_open}
 use Rattle.repl_sessions.proofs.Naming.{named-open}
 use Rattle.tenant_hearing.proofs.staying.read_message.Goals as goal

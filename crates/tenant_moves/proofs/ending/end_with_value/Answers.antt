@@ -1,8 +1,8 @@
 use Rattle.std.proofs.Common.{◌≡◌, ◌∙◌, ◌++◌, ℕ, List, map, refl, sym, subst}
 use Rattle.repl_replies.specs.Replies.{bytes_of}
 use Rattle.value_data.specs.Datum.{Datum}
-use Rattle.value_data.specs.View.{view}
-use Rattle.repl_jobs.specs.View.{finished_view}
+use Rattle.value_data.specs.Inside.View.{view}
+use Rattle.repl_jobs.specs.Inside.View.{finished_view}
 use Rattle.repl_sessions.specs.State.{StateData}
 use Rattle.server_rules.specs.Request.{Hand, last_form}
 use Rattle.server_rules.specs.Moves.{Move, closing_move, going_on}

@@ -1,7 +1,7 @@
 use Rattle.std.proofs.Common.{◌≡◌, sym, ap, subst, List, ℕ, Option, IfOk, option_map}
 use Rattle.std.proofs.Common.{option_and_then}
 use Rattle.std.specs.Arc.{arc_str_bytes}
-use Rattle.name_spaces.specs.Seen.{namespaces_of}
+use Rattle.name_spaces.specs.Inside.Seen.{namespaces_of}
 use Rattle.server_rules.specs.Starting.{namespace_there}
 use Rattle.tenant_moves.proofs.Texts.{is-text, no-text}
 use Rattle.tenant_moves.proofs.request.namespace_of.Goals as goal

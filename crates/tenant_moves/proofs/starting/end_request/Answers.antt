@@ -1,5 +1,5 @@
 use Rattle.std.proofs.Common.{refl, sym, subst}
-use Rattle.repl_sessions.specs.StateView.{state_view}
+use Rattle.repl_sessions.specs.Inside.StateView.{state_view}
 use Rattle.server_rules.specs.Moves.{closing_move}
 use Rattle.tenant_actors.specs.View.{hand_view}
 use Rattle.tenant_moves.specs.Told.{Adds}

@@ -1,6 +1,6 @@
 use Rattle.std.proofs.Common.{IfOk, ◌∙◌, ap, sym, subst, option_map}
-use Rattle.value_data.specs.View.{view}
-use Rattle.repl_sessions.specs.StateView.{state_view}
+use Rattle.value_data.specs.Inside.View.{view}
+use Rattle.repl_sessions.specs.Inside.StateView.{state_view}
 use Rattle.tenant_actors.specs.View.{hand_view}
 use Rattle.tenant_moves.specs.Starts.{GoesOn}
 use Rattle.tenant_moves.proofs.Begins.{first-begins}

@@ -1,7 +1,7 @@
 use Rattle.std.proofs.Common.{Some, sym, ap, subst, ◌∙◌, option_map}
-use Rattle.repl_faults.specs.View.{failure_of}
+use Rattle.repl_faults.specs.Inside.View.{failure_of}
 use Rattle.repl_asks.specs.Exchange.{AnswerData, verdict, committed, faulted}
-use Rattle.repl_asks.specs.View.{intent_view}
+use Rattle.repl_asks.specs.Inside.View.{intent_view}
 use Rattle.server_rules.specs.Calls.{performed, commits}
 use Rattle.server_rules.specs.Tenant.{seat_of}
 use Rattle.ref_history.specs.Histories.{ListStands}

@@ -1,6 +1,6 @@
 use Rattle.std.proofs.Common.{Some, refl, sym, ap, ◌∙◌}
-use Rattle.value_data.specs.View.{view}
-use Rattle.repl_asks.specs.View.{name_view}
+use Rattle.value_data.specs.Inside.View.{view}
+use Rattle.repl_asks.specs.Inside.View.{name_view}
 use Rattle.server_rules.specs.Calls.{performed, reads}
 use Rattle.server_rules.specs.Tenant.{seat_of}
 use Rattle.ref_table.specs.Told.{reading_told}

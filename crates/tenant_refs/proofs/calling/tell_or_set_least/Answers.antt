@@ -1,5 +1,5 @@
 use Rattle.std.proofs.Common.{sym, ◌∙◌}
-use Rattle.repl_asks.specs.View.{name_view}
+use Rattle.repl_asks.specs.Inside.View.{name_view}
 use Rattle.tenant_refs.specs.Twice.{twice_view}
 use Rattle.tenant_refs.proofs.Numbers.{least-comes}
 use Rattle.tenant_refs.proofs.calling.tell_or_set_least.Goals as goal

@@ -1,5 +1,5 @@
 use Rattle.std.proofs.Common.{ap, subst, ◌∙◌}
-use Rattle.repl_asks.specs.View.{ask_view, answer_view}
+use Rattle.repl_asks.specs.Inside.View.{ask_view, answer_view}
 use Rattle.server_rules.specs.Plan.{Outcome, ask_answered}
 use Rattle.tenant_actors.specs.View.{actor_view}
 use Rattle.tenant_world.specs.Acting.{AcceptsOutcome}

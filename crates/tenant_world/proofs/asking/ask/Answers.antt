@@ -1,5 +1,5 @@
 use Rattle.std.proofs.Common.{sym, ap, subst, ◌∙◌, option_map}
-use Rattle.repl_asks.specs.View.{ask_view, answer_view}
+use Rattle.repl_asks.specs.Inside.View.{ask_view, answer_view}
 use Rattle.server_rules.specs.Plan.{Plan, Outcome, ask_answered, request_interrupted}
 use Rattle.server_rules.specs.Store.{Store}
 use Rattle.ref_table.specs.Refs.{refs_after}

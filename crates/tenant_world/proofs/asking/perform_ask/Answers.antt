@@ -1,5 +1,5 @@
 use Rattle.std.proofs.Common.{sym, ◌∙◌}
-use Rattle.repl_asks.specs.View.{ask_view}
+use Rattle.repl_asks.specs.Inside.View.{ask_view}
 use Rattle.ref_table.proofs.Telling.{on_err}
 use Rattle.tenant_refs.specs.Twice.{twice_view}
 use Rattle.tenant_world.proofs.Answered.{names-answered, refs-answered}

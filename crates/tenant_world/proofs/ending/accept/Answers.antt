@@ -1,8 +1,8 @@
 use Rattle.std.proofs.Common.{◌≡◌, ◌∙◌, refl, sym, ap, subst, option_map}
 use Rattle.repl_jobs.specs.Job.{EndData}
-use Rattle.repl_jobs.specs.View.{finished_view}
+use Rattle.repl_jobs.specs.Inside.View.{finished_view}
 use Rattle.repl_sessions.specs.State.{StateData}
-use Rattle.repl_sessions.specs.StateView.{state_view}
+use Rattle.repl_sessions.specs.Inside.StateView.{state_view}
 use Rattle.server_rules.specs.Request.{Hand}
 use Rattle.server_rules.specs.Tenant.{state_of}
 use Rattle.server_rules.specs.Moves.{form_ended}

@@ -1,5 +1,5 @@
 use Rattle.std.proofs.Common.{List, subst}
-use Rattle.repl_asks.specs.View.{trace_view}
+use Rattle.repl_asks.specs.Inside.View.{trace_view}
 use Rattle.repl_asks.specs.declared.exchange.Exchange.{Exchange}
 use Rattle.tenant_actors.specs.View.{run_view}
 use Rattle.trace_comparison.specs.Difference.{DiffersFirstAt}

@@ -1,9 +1,9 @@
 use Rattle.std.proofs.Common.{◌∙◌, sym, ap}
 use Rattle.std.specs.Arc.{arc_str_bytes}
 use Rattle.repl_asks.specs.Exchange.{resolution, done}
-use Rattle.repl_asks.specs.View.{ask_view}
+use Rattle.repl_asks.specs.Inside.View.{ask_view}
 use Rattle.name_spaces.specs.Bindings.{nothing_bound}
-use Rattle.name_spaces.specs.Seen.{namespaces_of}
+use Rattle.name_spaces.specs.Inside.Seen.{namespaces_of}
 use Rattle.name_spaces.specs.Resolving as names
 use Rattle.server_rules.specs.Tenant.{state_of}
 use Rattle.server_rules.specs.Asking.{resolution_of, answer_to}

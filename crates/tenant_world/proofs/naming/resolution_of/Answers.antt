@@ -1,6 +1,6 @@
 use Rattle.std.proofs.Common.{◌∙◌, sym, ap}
 use Rattle.repl_asks.specs.Exchange.{names_value}
-use Rattle.name_spaces.specs.Seen.{found_view}
+use Rattle.name_spaces.specs.Inside.Seen.{found_view}
 use Rattle.server_rules.specs.Tenant.{state_of}
 use Rattle.server_rules.specs.Asking.{resolution_of, latest_of}
 use Rattle.tenant_world.proofs.naming.resolution_of.Goals as goal

@@ -1,6 +1,6 @@
 use Rattle.std.proofs.Common.{◌≡◌, ◌∙◌, sym, ap, subst, option_map}
 use Rattle.repl_sessions.specs.State.{StateData}
-use Rattle.repl_sessions.specs.StateView.{state_view}
+use Rattle.repl_sessions.specs.Inside.StateView.{state_view}
 use Rattle.server_rules.specs.Request.{Hand}
 use Rattle.server_rules.specs.Tenant.{state_of}
 use Rattle.server_rules.specs.Starting.{held_or, start_outcome, next_begun}

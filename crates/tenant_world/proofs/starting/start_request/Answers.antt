@@ -1,8 +1,8 @@
 use Rattle.std.proofs.Common.{◌≡◌, ◌∙◌, sym, ap, subst, option_map}
 use Rattle.repl_sessions.specs.State.{StateData}
-use Rattle.repl_sessions.specs.StateView.{state_view}
+use Rattle.repl_sessions.specs.Inside.StateView.{state_view}
 use Rattle.name_spaces.specs.Namespaces.{Namespaces}
-use Rattle.name_spaces.specs.Seen.{namespaces_of}
+use Rattle.name_spaces.specs.Inside.Seen.{namespaces_of}
 use Rattle.server_rules.specs.Starting.{held_or, start_outcome, text_begun, first_state}
 use Rattle.server_rules.specs.Plan.{StepAnswer, Outcome}
 use Rattle.tenant_actors.specs.View.{actor_view, waiting_view}

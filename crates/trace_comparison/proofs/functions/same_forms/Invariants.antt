@@ -1,5 +1,5 @@
 use Rattle.std.proofs.Common.{◌≡◌, take}
-use Rattle.special_forms.specs.Seen.{forms_view}
+use Rattle.special_forms.specs.Inside.Seen.{forms_view}
 use Rattle.trace_comparison.proofs.functions.same_forms.Given as goal
 
 abbrev pub invariant-loop-place : goal.invariant-loop-place

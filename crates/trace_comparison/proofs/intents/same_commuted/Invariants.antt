@@ -1,5 +1,5 @@
 use Rattle.std.proofs.Common.{◌≡◌, take, map}
-use Rattle.repl_asks.specs.View.{commuted_view}
+use Rattle.repl_asks.specs.Inside.View.{commuted_view}
 use Rattle.trace_comparison.proofs.intents.same_commuted.Given as goal
 
 abbrev pub invariant-loop-place : goal.invariant-loop-place

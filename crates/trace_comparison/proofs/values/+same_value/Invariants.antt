@@ -1,5 +1,5 @@
 use Rattle.std.proofs.Common.{◌≡◌, ◌+◌, ◌*◌, take, map as each}
-use Rattle.value_data.specs.View.{view, pair_view, items_view, pairs_view}
+use Rattle.value_data.specs.Inside.View.{view, pair_view, items_view, pairs_view}
 use Rattle.value_data.proofs.Size.{nodes, items_nodes, pairs_nodes}
 use Rattle.trace_comparison.proofs.values.+same_value.Given as goal
 

@@ -4,7 +4,7 @@ use Rattle.std.specs.List.{filter}
 use Rattle.std.proofs.Math.Seq.{drop-cons}
 use Rattle.value_data.specs.declared.value.Owner.{Owner}
 use Rattle.value_data.specs.declared.value.RefName.{RefName}
-use Rattle.repl_asks.specs.View.{name_view}
+use Rattle.repl_asks.specs.Inside.View.{name_view}
 use Rattle.tx_attempt.specs.Accesses.{each_once}
 use Rattle.tx_attempt.proofs.Once.{is_new, all-new, once-more, seen-added, seen-same}
 use Rattle.tx_attempt.proofs.intent.each_once.Goals as goal

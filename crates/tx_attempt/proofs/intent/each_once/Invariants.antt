@@ -1,6 +1,6 @@
 use Rattle.std.proofs.Common.{◌≡◌, ◌++◌, map, drop}
 use Rattle.std.specs.List.{filter}
-use Rattle.repl_asks.specs.View.{name_view}
+use Rattle.repl_asks.specs.Inside.View.{name_view}
 use Rattle.tx_attempt.specs.Accesses.{each_once}
 use Rattle.tx_attempt.proofs.Once.{is_new}
 use Rattle.tx_attempt.proofs.intent.each_once.Given as goal

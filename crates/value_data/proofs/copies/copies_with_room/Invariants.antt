@@ -1,5 +1,5 @@
 use Rattle.std.proofs.Common.{◌≡◌, ◌+◌, ◌≤◌, take, map, length, vec_len, vec_capacity}
-use Rattle.value_data.specs.View.{view}
+use Rattle.value_data.specs.Inside.View.{view}
 use Rattle.value_data.proofs.copies.copies_with_room.Given as goal
 
 abbrev pub invariant-loop-item : goal.invariant-loop-item

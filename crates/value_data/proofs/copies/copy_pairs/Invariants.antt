@@ -1,5 +1,5 @@
 use Rattle.std.proofs.Common.{◌≡◌, ◌+◌, ◌≤◌, take, map, length, vec_len, vec_capacity}
-use Rattle.value_data.specs.View.{pair_view}
+use Rattle.value_data.specs.Inside.View.{pair_view}
 use Rattle.value_data.proofs.copies.copy_pairs.Given as goal
 
 abbrev pub invariant-loop-key : goal.invariant-loop-key

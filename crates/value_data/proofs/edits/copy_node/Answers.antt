@@ -1,11 +1,11 @@
 use Rattle.std.proofs.Common.{◌≡◌, true, ℕ, List, ap, ◌∙◌, subst, sym}
 use Rattle.value_data.specs.Datum.{Pairs}
-use Rattle.value_data.specs.View.{pairs_view}
+use Rattle.value_data.specs.Inside.View.{pairs_view}
 use Rattle.value_data.specs.Listed.{pairs_of}
-use Rattle.value_data.specs.Index.{Indexes}
+use Rattle.value_data.specs.Inside.Index.{Indexes}
 use Rattle.value_data.specs.declared.value.Value.{Value}
-use Rattle.value_data.specs.Placed.{are_distinct}
-use Rattle.value_data.specs.Fits.{FitsPairs}
+use Rattle.value_data.specs.Inside.Placed.{are_distinct}
+use Rattle.value_data.specs.Inside.Fits.{FitsPairs}
 use Rattle.value_data.proofs.edits.copy_node.Goals as goal
 
 pub returns-clause-keeps : goal.returns-clause-keeps

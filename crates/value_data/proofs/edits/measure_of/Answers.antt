@@ -1,6 +1,6 @@
 use Rattle.std.proofs.Common.{subst, sym}
 use Rattle.value_data.specs.Datum.{Pairs}
-use Rattle.value_data.specs.Fits.{FitsPairs}
+use Rattle.value_data.specs.Inside.Fits.{FitsPairs}
 use Rattle.value_data.proofs.Tables.{take-behind}
 use Rattle.value_data.proofs.edits.measure_of.Goals as goal
 

@@ -1,15 +1,15 @@
 use Rattle.std.proofs.Common.{◌≡◌, List, Some, None, length, ap, sym, subst, ◌∙◌}
 use Rattle.value_data.specs.Datum.{Datum, Pairs}
-use Rattle.value_data.specs.View.{view, pairs_view}
-use Rattle.value_data.specs.Placed.{first_place, with_value}
-use Rattle.value_data.specs.Seen.{MayFit}
+use Rattle.value_data.specs.Inside.View.{view, pairs_view}
+use Rattle.value_data.specs.Inside.Placed.{first_place, with_value}
+use Rattle.value_data.specs.Inside.Seen.{MayFit}
 use Rattle.value_data.specs.declared.value.Value.{Value}
 use Rattle.value_data.proofs.Sameness.{size-pairs_view}
 use Rattle.value_data.proofs.Editing.{first_place-within, pushed-is, found-put, found-distinct}
 use Rattle.value_data.proofs.Editing.{new-put, new-distinct}
 use Rattle.value_data.proofs.Replacing.{stands-at}
 use Rattle.value_data.proofs.Searching.{found-indexes, noted}
-use Rattle.value_data.specs.Index.{Belongs}
+use Rattle.value_data.specs.Inside.Index.{Belongs}
 use Rattle.value_data.proofs.edits.put.Goals as goal
 
 pub returns-in_ok-copy-in-Ok-clause-put : goal.returns-in_ok-copy-in-Ok-clause-put

@@ -1,5 +1,5 @@
 use Rattle.std.proofs.Common.{◌≡◌, drop}
-use Rattle.value_data.specs.Hash.{mixed_text}
+use Rattle.value_data.specs.Inside.Hash.{mixed_text}
 use Rattle.value_data.proofs.hashing.mix_text.Given as goal
 
 abbrev pub invariant-loop-byte : goal.invariant-loop-byte

@@ -2,14 +2,14 @@ use Rattle.std.proofs.Common.{◌≡◌, ℕ, suc, false, List, drop, nat_cmp, s
 use Rattle.std.specs.Arc.{arc_value}
 use Rattle.std.specs.Ordering.{is_ne, ordering_then}
 use Rattle.value_data.specs.Datum.{map}
-use Rattle.value_data.specs.Held.{TableData}
+use Rattle.value_data.specs.Inside.Held.{TableData}
 use Rattle.value_data.proofs.Size.{pairs_nodes}
 use Rattle.value_data.proofs.Sameness.{size-pairs_view}
 use Rattle.value_data.specs.Same.{size}
-use Rattle.value_data.specs.Hash.{hash}
-use Rattle.value_data.specs.View.{view, pairs_view}
-use Rattle.value_data.specs.Order.{order, sort_key, chain, sorted, rows}
-use Rattle.value_data.specs.Index.{row_at, rows_at}
+use Rattle.value_data.specs.Inside.Hash.{hash}
+use Rattle.value_data.specs.Inside.View.{view, pairs_view}
+use Rattle.value_data.specs.Inside.Order.{order, sort_key, chain, sorted, rows}
+use Rattle.value_data.specs.Inside.Index.{row_at, rows_at}
 use Rattle.value_data.specs.declared.value.PairsNode.{PairsNode}
 use Rattle.value_data.specs.declared.value.Value.{Value}
 use Rattle.value_data.proofs.Ranked.{chain-end, chain-none, two-equal, equal-numbers, items-order, two-open-at, node-rows, node-within, rows-step, then-decided, then-open}

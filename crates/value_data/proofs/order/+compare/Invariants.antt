@@ -1,7 +1,7 @@
 use Rattle.std.proofs.Common.{◌≡◌, ◌+◌, ◌*◌, ◌≤◌, drop, length, map as each}
-use Rattle.value_data.specs.View.{view, items_view, pairs_view}
-use Rattle.value_data.specs.Order.{order, chain, sort_key, items_sort_key}
-use Rattle.value_data.specs.Index.{rows_at}
+use Rattle.value_data.specs.Inside.View.{view, items_view, pairs_view}
+use Rattle.value_data.specs.Inside.Order.{order, chain, sort_key, items_sort_key}
+use Rattle.value_data.specs.Inside.Index.{rows_at}
 use Rattle.value_data.proofs.Size.{nodes, items_nodes, pairs_nodes}
 use Rattle.value_data.proofs.order.+compare.Given as goal
 

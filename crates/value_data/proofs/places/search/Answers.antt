@@ -1,8 +1,8 @@
 use Rattle.std.proofs.Common.{◌≡◌, ◌+◌, ◌-◌, ◌/◌, ◌<◌, ℕ, length, Some, sym, ap, ◌∙◌, arith}
 use Rattle.std.specs.Prelude.{slice_index_or}
-use Rattle.value_data.specs.View.{view, pairs_view}
-use Rattle.value_data.specs.Order.{SortKey, order, sort_key}
-use Rattle.value_data.specs.Index.{key_at}
+use Rattle.value_data.specs.Inside.View.{view, pairs_view}
+use Rattle.value_data.specs.Inside.Order.{SortKey, order, sort_key}
+use Rattle.value_data.specs.Inside.Index.{key_at}
 use Rattle.value_data.proofs.Ordered.{order-exact}
 use Rattle.value_data.proofs.Sameness.{size-pairs_view}
 use Rattle.value_data.proofs.Sorted.{order-Greater}

@@ -2,9 +2,9 @@ use Rattle.std.proofs.Common.{◌≡◌, ℕ, ◌<◌, ◌≤◌, ◌-◌, lengt
 use Rattle.std.specs.Prelude.{slice_index_or}
 use Rattle.std.specs.List.{All}
 use Rattle.std.specs.declared.cmp.Ordering.TheVariants.{Less}
-use Rattle.value_data.specs.View.{view, pairs_view}
-use Rattle.value_data.specs.Order.{order, sort_key}
-use Rattle.value_data.specs.Index.{key_at}
+use Rattle.value_data.specs.Inside.View.{view, pairs_view}
+use Rattle.value_data.specs.Inside.Order.{order, sort_key}
+use Rattle.value_data.specs.Inside.Index.{key_at}
 use Rattle.value_data.proofs.places.search.Given as goal
 
 abbrev pub decreases-loop-low : goal.decreases-loop-low

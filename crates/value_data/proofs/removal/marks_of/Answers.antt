@@ -1,5 +1,5 @@
 use Rattle.std.proofs.Common.{Bool, List, length, take, ap, ◌∙◌, arith}
-use Rattle.value_data.specs.View.{view, items_view}
+use Rattle.value_data.specs.Inside.View.{view, items_view}
 use Rattle.value_data.specs.Repeats.{is_one_of}
 use Rattle.value_data.specs.declared.value.Value.{Value}
 use Rattle.value_data.proofs.Removing.{marked, length-marked, marks-resized, place-marked, marks-step, take-past}

@@ -1,5 +1,5 @@
 use Rattle.std.proofs.Common.{◌≡◌, take}
-use Rattle.value_data.specs.View.{items_view}
+use Rattle.value_data.specs.Inside.View.{items_view}
 use Rattle.value_data.specs.Repeats.{is_one_of}
 use Rattle.value_data.proofs.Removing.{marked}
 use Rattle.value_data.proofs.removal.marks_of.Given as goal

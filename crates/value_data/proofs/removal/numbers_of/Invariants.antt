@@ -1,5 +1,5 @@
 use Rattle.std.proofs.Common.{◌≡◌, ◌≤◌, ◌++◌, drop}
-use Rattle.value_data.specs.Left.{numbers_from}
+use Rattle.value_data.specs.Inside.Left.{numbers_from}
 use Rattle.value_data.proofs.removal.numbers_of.Given as goal
 
 abbrev pub invariant-loop-mark : goal.invariant-loop-mark

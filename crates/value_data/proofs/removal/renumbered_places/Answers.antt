@@ -1,7 +1,7 @@
 use Rattle.std.proofs.Common.{◌≡◌, ◌<◌, ◌++◌, ℕ, List, [], ◌∷◌, not, true, false, length, get_or}
 use Rattle.std.proofs.Common.{take, ap, sym, ◌∙◌, arith}
 use Rattle.std.proofs.lemmas.List.{get_or_default, length-append}
-use Rattle.value_data.specs.Left.{numbers_from, is_left, places_left}
+use Rattle.value_data.specs.Inside.Left.{numbers_from, is_left, places_left}
 use Rattle.value_data.proofs.Leaving.{length-numbers, left-more, left-same, insert-end, any-mark}
 use Rattle.value_data.proofs.removal.renumbered_places.Goals as goal
 use Rattle.value_data.proofs.removal.renumbered_places.Goals.{then-not-marks-place+in_ok-insert}

@@ -1,5 +1,5 @@
 use Rattle.std.proofs.Common.{◌≡◌, ◌≤◌, length, take}
-use Rattle.value_data.specs.Left.{places_left}
+use Rattle.value_data.specs.Inside.Left.{places_left}
 use Rattle.value_data.proofs.removal.renumbered_places.Given as goal
 
 abbrev pub invariant-loop-rank : goal.invariant-loop-rank

@@ -1,6 +1,6 @@
 use Rattle.std.proofs.Common.{◌≡◌, ◌++◌, drop, map}
-use Rattle.value_data.specs.View.{pair_view}
-use Rattle.value_data.specs.Marked.{unmarked}
+use Rattle.value_data.specs.Inside.View.{pair_view}
+use Rattle.value_data.specs.Inside.Marked.{unmarked}
 use Rattle.value_data.proofs.removal.unmarked_pairs.Given as goal
 
 abbrev pub invariant-loop-place : goal.invariant-loop-place

@@ -1,6 +1,6 @@
 use Rattle.std.proofs.Common.{subst, sym}
 use Rattle.value_data.specs.Datum.{Items}
-use Rattle.value_data.specs.Fits.{FitsItems}
+use Rattle.value_data.specs.Inside.Fits.{FitsItems}
 use Rattle.value_data.proofs.Growing.{items_view-take}
 use Rattle.value_data.proofs.sequence.measure_of.Goals as goal
 

@@ -1,8 +1,8 @@
 use Rattle.std.proofs.Common.{◌≡◌, ◌-◌, List, [], ◌∷◌, ◌++◌, length, ap, ◌∙◌, sym, subst, arith}
 use Rattle.value_data.specs.Datum.{Items}
-use Rattle.value_data.specs.View.{items_view}
-use Rattle.value_data.specs.Tails.{AreTails}
-use Rattle.value_data.specs.TailView.{FitsTail}
+use Rattle.value_data.specs.Inside.View.{items_view}
+use Rattle.value_data.specs.Inside.Tails.{AreTails}
+use Rattle.value_data.specs.Inside.TailView.{FitsTail}
 use Rattle.value_data.specs.declared.value.Value.{Value}
 use Rattle.value_data.specs.declared.node_measures.ItemsMeasure.{ItemsMeasure}
 use Rattle.value_data.proofs.TailSteps.{drop-past, drop-view, length-push, tails-one, tails-more}

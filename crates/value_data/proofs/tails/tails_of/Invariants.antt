@@ -1,7 +1,7 @@
 use Rattle.std.proofs.Common.{◌≡◌, ◌+◌, ◌≤◌, length, drop}
-use Rattle.value_data.specs.View.{items_view}
-use Rattle.value_data.specs.Tails.{AreTails}
-use Rattle.value_data.specs.TailView.{FitsTail}
+use Rattle.value_data.specs.Inside.View.{items_view}
+use Rattle.value_data.specs.Inside.Tails.{AreTails}
+use Rattle.value_data.specs.Inside.TailView.{FitsTail}
 use Rattle.value_data.proofs.tails.tails_of.Given as goal
 
 abbrev pub invariant-loop-place : goal.invariant-loop-place

@@ -1,9 +1,9 @@
 use Rattle.std.proofs.Common.{arith, ap, refl, rules, Ok, Err}
-use Rattle.value_data.specs.View.{view}
-use Rattle.repl_faults.specs.View.{failure_of}
-use Rattle.repl_asks.specs.View.{name_view, named_view}
-use Rattle.special_forms.specs.Seen.{views}
-use Rattle.store_calls.specs.View.{altered_view}
+use Rattle.value_data.specs.Inside.View.{view}
+use Rattle.repl_faults.specs.Inside.View.{failure_of}
+use Rattle.repl_asks.specs.Inside.View.{name_view, named_view}
+use Rattle.special_forms.specs.Inside.Seen.{views}
+use Rattle.store_calls.specs.Inside.View.{altered_view}
 use Rattle.evaluation_rules.specs.Evaluation.{value_at}
 use Rattle.walker_machine.proofs.Evaluating.{if_ok-turned}
 use Rattle.walker_machine.proofs.Altering.{no_items, first-removed, altered-told, alter_call-empty, alter_call-refused, alter_call-reads}

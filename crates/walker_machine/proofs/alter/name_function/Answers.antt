@@ -1,6 +1,6 @@
 use Rattle.std.proofs.Common.{refl, rules, arith}
-use Rattle.value_data.specs.View.{view}
-use Rattle.special_forms.specs.Seen.{forms_view}
+use Rattle.value_data.specs.Inside.View.{view}
+use Rattle.special_forms.specs.Inside.Seen.{forms_view}
 use Rattle.walker_state.specs.Pending.{place_of}
 use Rattle.walker_machine.proofs.Altering.{function_value-of, function_value-other}
 use Rattle.walker_machine.proofs.alter.name_function.Goals as goal

@@ -2,10 +2,10 @@ use Rattle.std.proofs.Common.{ap, sym, ◌∙◌, rules}
 use Rattle.value_data.specs.Datum.{Datum}
 use Rattle.evaluation_rules.specs.Evaluation.{value_at}
 use Rattle.evaluation_rules.specs.Doing.{Kept, Doing, Part}
-use Rattle.repl_asks.specs.View.{named_view}
+use Rattle.repl_asks.specs.Inside.View.{named_view}
 use Rattle.evaluation_rules.specs.Applying.{named_callee}
 use Rattle.walker_state.specs.Pending.{from_state, whole, place_of, kept_of, next_of}
-use Rattle.special_forms.specs.Seen.{forms_view}
+use Rattle.special_forms.specs.Inside.Seen.{forms_view}
 use Rattle.walker_machine.proofs.Evaluating.{if_ok-turned, call_start}
 use Rattle.walker_machine.proofs.Altering.{named_call-other}
 use Rattle.walker_machine.proofs.answers.begin_call.Goals as goal

@@ -1,7 +1,7 @@
 use Rattle.std.proofs.Common.{ap, rules}
 use Rattle.evaluation_rules.specs.Doing.{Kept, Doing}
-use Rattle.repl_asks.specs.View.{named_view}
-use Rattle.special_forms.specs.Seen.{forms_view}
+use Rattle.repl_asks.specs.Inside.View.{named_view}
+use Rattle.special_forms.specs.Inside.Seen.{forms_view}
 use Rattle.walker_state.specs.Pending.{whole, place_of, kept_of, next_of}
 use Rattle.walker_machine.proofs.Evaluating.{if_ok-turned}
 use Rattle.walker_machine.proofs.Altering.{alter_with-start}

@@ -1,7 +1,7 @@
 use Rattle.std.proofs.Common.{rules}
 use Rattle.std.proofs.lemmas.List.{length-map}
 use Rattle.evaluation_rules.specs.Evaluation.{value_at}
-use Rattle.special_forms.specs.Seen.{function_view}
+use Rattle.special_forms.specs.Inside.Seen.{function_view}
 use Rattle.walker_machine.proofs.Evaluating.{program_call-misfits}
 use Rattle.walker_machine.proofs.calls.call_function.Goals as goal
 

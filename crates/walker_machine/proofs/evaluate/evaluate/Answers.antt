@@ -1,6 +1,6 @@
 use Rattle.std.proofs.Common.{ap, sym, refl, arith, rules}
 use Rattle.value_data.specs.Datum.{Datum}
-use Rattle.value_data.specs.View.{view}
+use Rattle.value_data.specs.Inside.View.{view}
 use Rattle.evaluation_rules.specs.Doing.{Part}
 use Rattle.walker_state.specs.Pending.{place_of, from_state}
 use Rattle.value_data.proofs.Views.{value_views}

@@ -3,7 +3,7 @@ use Rattle.std.specs.Arc.{arc_str_bytes}
 use Rattle.evaluation_rules.specs.Doing.{Kept, Doing}
 use Rattle.evaluation_rules.specs.Applying.{keyword_callee}
 use Rattle.walker_state.specs.Pending.{whole, place_of, kept_of, next_of}
-use Rattle.special_forms.specs.Seen.{forms_view}
+use Rattle.special_forms.specs.Inside.Seen.{forms_view}
 use Rattle.walker_machine.proofs.Evaluating.{if_ok-turned, call_start}
 use Rattle.walker_machine.proofs.evaluate.evaluate_behind.Goals as goal
 

@@ -1,9 +1,9 @@
 use Rattle.std.proofs.Common.{◌≡◌, ◌∷◌, ◌∙◌, ap, sym, arith, List}
 use Rattle.value_data.specs.Datum.{Datum}
 use Rattle.value_data.specs.Listed.{listed}
-use Rattle.value_data.specs.View.{view}
+use Rattle.value_data.specs.Inside.View.{view}
 use Rattle.special_forms.proofs.Sizes.{datum_size-pos, forms_size-cons}
-use Rattle.special_forms.specs.Seen.{forms_view}
+use Rattle.special_forms.specs.Inside.Seen.{forms_view}
 use Rattle.evaluation_rules.specs.Doing.{Part}
 use Rattle.walker_state.specs.Pending.{from_state, place_of}
 use Rattle.walker_state.specs.Frames.{list_at}

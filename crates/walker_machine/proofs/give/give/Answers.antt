@@ -1,13 +1,13 @@
 use Rattle.std.proofs.Common.{refl, ap, List}
 use Rattle.value_data.specs.Datum.{Datum, nil}
-use Rattle.value_data.specs.View.{view}
+use Rattle.value_data.specs.Inside.View.{view}
 use Rattle.evaluation_rules.specs.Rows.{last_of}
 use Rattle.evaluation_rules.specs.Evaluation.{value_at}
 use Rattle.walker_state.specs.Pending.{whole, place_of, kept_of, next_of}
 use Rattle.walker_state.specs.Frames.{callee_view, call_behind, items_behind}
 use Rattle.value_data.proofs.Views.{view-Nil}
 use Rattle.special_forms.specs.Truth.{is_truthy}
-use Rattle.special_forms.specs.Seen.{forms_view}
+use Rattle.special_forms.specs.Inside.Seen.{forms_view}
 use Rattle.walker_machine.proofs.Evaluating.{if_ok-turned, views-last, forms-chosen}
 use Rattle.walker_machine.proofs.give.give.Goals as goal
 

@@ -1,5 +1,5 @@
 use Rattle.std.proofs.Common.{◌≡◌, false, refl, rules}
-use Rattle.value_data.specs.View.{view}
+use Rattle.value_data.specs.Inside.View.{view}
 use Rattle.special_forms.specs.Truth.{decides}
 use Rattle.walker_machine.proofs.Evaluating.{form-taken}
 use Rattle.walker_machine.proofs.rows.next_in_logic.Goals as goal

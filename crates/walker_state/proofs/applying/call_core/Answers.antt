@@ -1,7 +1,7 @@
 use Rattle.std.proofs.Common.{ℕ, List, length, sym, ap, ◌∙◌}
 use Rattle.repl_faults.specs.Failure.{wrong_arity}
 use Rattle.evaluation_rules.specs.Applying.{outcome, core_call}
-use Rattle.special_forms.specs.Seen.{views}
+use Rattle.special_forms.specs.Inside.Seen.{views}
 use Rattle.core_functions.specs.Meaning.{meaning}
 use Rattle.walker_state.proofs.Printing.{if_ok-here, core_call-fits, core_call-misfits}
 use Rattle.walker_state.proofs.applying.call_core.Goals as goal

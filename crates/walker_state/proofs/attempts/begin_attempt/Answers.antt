@@ -1,7 +1,7 @@
 use Rattle.std.proofs.Common.{refl, ap, ◌∙◌, ◌*◌, Some}
 use Rattle.std.specs.Arc.{arc_str_bytes}
 use Rattle.value_data.proofs.Views.{view-Nil}
-use Rattle.special_forms.specs.Seen.{forms_view}
+use Rattle.special_forms.specs.Inside.Seen.{forms_view}
 use Rattle.walker_state.specs.Position.{attempt_around}
 use Rattle.walker_state.specs.declared.frames.Transaction.{Transaction}
 use Rattle.walker_state.proofs.Laters.{begun-later}

@@ -1,7 +1,7 @@
 use Rattle.std.proofs.Common.{refl, ap, ◌∙◌}
 use Rattle.std.specs.Arc.{arc_str_bytes}
 use Rattle.value_data.specs.Datum.{nil}
-use Rattle.special_forms.specs.Seen.{forms_view}
+use Rattle.special_forms.specs.Inside.Seen.{forms_view}
 use Rattle.evaluation_rules.specs.Rows.{last_of}
 use Rattle.evaluation_rules.specs.Evaluation.{value_at}
 use Rattle.walker_state.specs.Pending.{place_of}

@@ -1,5 +1,5 @@
 use Rattle.std.proofs.Common.{rules}
-use Rattle.value_data.specs.View.{view}
+use Rattle.value_data.specs.Inside.View.{view}
 use Rattle.walker_state.proofs.Collecting.{within_limits-misfits}
 use Rattle.walker_state.proofs.collect.within_limits.Goals as goal
 

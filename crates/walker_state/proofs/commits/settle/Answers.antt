@@ -1,5 +1,5 @@
 use Rattle.std.proofs.Common.{refl, ap, arith, ◌*◌, None}
-use Rattle.value_data.specs.View.{view}
+use Rattle.value_data.specs.Inside.View.{view}
 use Rattle.walker_state.specs.Size.{frames_size}
 use Rattle.walker_state.specs.Position.{no_attempt}
 use Rattle.walker_state.specs.declared.frames.Transaction.{Transaction}

@@ -1,9 +1,9 @@
 use Rattle.std.proofs.Common.{sym, ap, ◌∙◌, ◌++◌, ◌∷◌, []}
 use Rattle.value_data.specs.Datum.{Datum}
-use Rattle.value_data.specs.View.{view}
-use Rattle.repl_asks.specs.View.{commute_view, name_view}
+use Rattle.value_data.specs.Inside.View.{view}
+use Rattle.repl_asks.specs.Inside.View.{commute_view, name_view}
 use Rattle.tx_attempt.specs.Accesses.{commuted}
-use Rattle.tx_attempt.specs.Seen.{accesses_of}
+use Rattle.tx_attempt.specs.Inside.Seen.{accesses_of}
 use Rattle.walker_state.specs.declared.frames.Transaction.{Transaction}
 use Rattle.walker_state.proofs.Noting.{noted-outside, noted-inside}
 use Rattle.walker_state.proofs.refs.note_commuted.Goals as goal

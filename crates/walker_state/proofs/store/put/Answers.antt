@@ -1,10 +1,10 @@
 use Rattle.std.proofs.Common.{rules, ◌≡◌, true, sym, ap, ◌∙◌, ◌++◌, ◌∷◌, []}
 use Rattle.value_data.specs.Datum.{Datum}
-use Rattle.value_data.specs.View.{view}
-use Rattle.repl_asks.specs.View.{name_view}
+use Rattle.value_data.specs.Inside.View.{view}
+use Rattle.repl_asks.specs.Inside.View.{name_view}
 use Rattle.tx_attempt.specs.Accesses.{put, is_commuted}
-use Rattle.tx_attempt.specs.Parts.{is_refused}
-use Rattle.tx_attempt.specs.Seen.{accesses_of}
+use Rattle.tx_attempt.specs.Inside.Parts.{is_refused}
+use Rattle.tx_attempt.specs.Inside.Seen.{accesses_of}
 use Rattle.walker_state.specs.declared.frames.Transaction.{Transaction}
 use Rattle.walker_state.proofs.Noting.{put-outside, put-inside, put-refused}
 use Rattle.walker_state.proofs.store.put.Goals as goal

@@ -1,5 +1,5 @@
 use Rattle.std.proofs.Common.{sym, ap, ◌∙◌}
-use Rattle.bencode_wire.specs.Decoder.{fault_of}
+use Rattle.bencode_wire.specs.Inside.Decoder.{fault_of}
 use Rattle.bencode_wire.proofs.Decoders.{feed_stays}
 use Rattle.bencode_wire.proofs.decoder.Decoder.feed.Goals as goal
 

@@ -1,12 +1,12 @@
 use Rattle.std.proofs.Common.{◌≡◌, ℕ, ◌+◌, ◌^◌, ◌-◌, min, List, [], ◌++◌, length, drop, take, None}
 use Rattle.std.proofs.Common.{Some, Err, refl, sym, ap, subst, ◌∙◌, arith, rules}
-use Rattle.bencode_wire.specs.Course.{Advances, ahead, Continues}
-use Rattle.bencode_wire.specs.Decoder.{fault_of, ready_of, Stands}
+use Rattle.bencode_wire.specs.Inside.Course.{Advances, ahead, Continues}
+use Rattle.bencode_wire.specs.Inside.Decoder.{fault_of, ready_of, Stands}
 use Rattle.std.proofs.lemmas.Grind.{common_steps}
 use Rattle.std.proofs.lemmas.List.{take_at}
 use Rattle.bencode_wire.specs.Fault.{counted_place}
-use Rattle.bencode_wire.specs.Held.{Holds}
-use Rattle.bencode_wire.specs.Inside.{shown_state}
+use Rattle.bencode_wire.specs.Inside.Held.{Holds}
+use Rattle.bencode_wire.specs.Inside.Decoding.{shown_state}
 use Rattle.bencode_wire.specs.Stream.{IsRest}
 use Rattle.bencode_wire.specs.declared.cut.Course.{Course}
 use Rattle.bencode_wire.specs.declared.decoder.Decoder.{Decoder}

@@ -1,6 +1,6 @@
 use Rattle.std.proofs.Common.{◌≡◌, Some, map, sym, ◌∙◌, arith}
 use Rattle.std.specs.Arc.{arc_str_bytes}
-use Rattle.local_names.specs.View.{local_view, newest_place}
+use Rattle.local_names.specs.Inside.View.{local_view, newest_place}
 use Rattle.local_names.proofs.Places.{place-below, length-views}
 use Rattle.local_names.proofs.locals.Locals.value.Goals as goal
 

@@ -1,6 +1,6 @@
 use Rattle.std.proofs.Common.{rules}
 use Rattle.repl_asks.specs.Namespaces.{is_fixed}
-use Rattle.name_spaces.specs.Seen.{namespaces_of}
+use Rattle.name_spaces.specs.Inside.Seen.{namespaces_of}
 use Rattle.name_spaces.proofs.spaces.Spaces.binding_in.Goals as goal
 
 pub returns : goal.returns

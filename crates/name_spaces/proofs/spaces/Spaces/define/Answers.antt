@@ -3,10 +3,10 @@ use Rattle.std.specs.Arc.{arc_str_bytes}
 use Rattle.std.specs.BTreeMap.{get_by_text}
 use Rattle.std.proofs.lemmas.Map.Text.{text_keys}
 use Rattle.std.proofs.lemmas.Result.{on_ok_weaker, on_err_weaker}
-use Rattle.repl_asks.specs.View.{binding_view}
+use Rattle.repl_asks.specs.Inside.View.{binding_view}
 use Rattle.name_spaces.specs.Bindings.{rebound}
 use Rattle.name_spaces.specs.Namespaces.{bindings_of, with_namespace, with_definition}
-use Rattle.name_spaces.specs.Seen.{bound_in, namespaces_of}
+use Rattle.name_spaces.specs.Inside.Seen.{bound_in, namespaces_of}
 use Rattle.name_spaces.proofs.Placing.{Updates, placed, own-placed, put_back}
 use Rattle.name_spaces.proofs.spaces.Spaces.define.Goals as goal
 

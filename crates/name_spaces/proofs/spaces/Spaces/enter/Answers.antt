@@ -3,7 +3,7 @@ use Rattle.std.proofs.Common.{◌∙◌}
 use Rattle.std.proofs.lemmas.Result.{on_ok_weaker}
 use Rattle.name_spaces.specs.Bindings.{nothing_bound}
 use Rattle.name_spaces.specs.Namespaces.{bindings_of, with_namespace, with_entered_namespace}
-use Rattle.name_spaces.specs.Seen.{bound_in, namespaces_of}
+use Rattle.name_spaces.specs.Inside.Seen.{bound_in, namespaces_of}
 use Rattle.name_spaces.specs.declared.vars.Vars.{Vars}
 use Rattle.name_spaces.proofs.spaces.Spaces.enter.Goals as goal
 

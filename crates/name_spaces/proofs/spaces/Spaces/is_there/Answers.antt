@@ -1,7 +1,7 @@
 use Rattle.std.proofs.Common.{rules, sym, ap, ◌∙◌, is_some, option_map}
 use Rattle.std.specs.BTreeMap.{get_by_text}
 use Rattle.name_spaces.specs.Namespaces.{is_there}
-use Rattle.name_spaces.specs.Seen.{bound_in, namespaces_of}
+use Rattle.name_spaces.specs.Inside.Seen.{bound_in, namespaces_of}
 use Rattle.name_spaces.proofs.Texts.{none-not_text}
 use Rattle.name_spaces.proofs.spaces.Spaces.is_there.Goals as goal
 

@@ -7,7 +7,7 @@ use Rattle.std.proofs.lemmas.Map.Text.{text_keys}
 use mathlib.Core.Path.{fun_ext}
 use Rattle.name_spaces.specs.Bindings.{nothing_bound}
 use Rattle.name_spaces.specs.Namespaces.{at_start}
-use Rattle.name_spaces.specs.Seen.{bound_in, namespaces_of}
+use Rattle.name_spaces.specs.Inside.Seen.{bound_in, namespaces_of}
 use Rattle.name_spaces.specs.declared.vars.Vars.{Vars}
 use Rattle.name_spaces.proofs.Placing.{Updates}
 use Rattle.name_spaces.proofs.spaces.Spaces.new.Goals as goal

@@ -1,7 +1,7 @@
 use Rattle.std.proofs.Common.{arith}
 use Rattle.std.specs.BTreeMap.{get_by_text}
 use Rattle.std.proofs.lemmas.Map.Text.{text_keys}
-use Rattle.name_spaces.specs.Seen.{bound_in, namespaces_of}
+use Rattle.name_spaces.specs.Inside.Seen.{bound_in, namespaces_of}
 use Rattle.name_spaces.proofs.Placing.{Updates, placed, own-placed, whichever}
 use Rattle.name_spaces.proofs.spaces.Spaces.put.Goals as goal
 

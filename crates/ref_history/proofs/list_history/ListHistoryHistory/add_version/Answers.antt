@@ -1,4 +1,4 @@
-use Rattle.value_data.specs.View.{view}
+use Rattle.value_data.specs.Inside.View.{view}
 use Rattle.server_rules.specs.Versions.{with_version}
 use Rattle.ref_history.specs.Effects.{version}
 use Rattle.ref_history.proofs.Placed.{changed-place}

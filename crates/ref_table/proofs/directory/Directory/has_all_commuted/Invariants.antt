@@ -1,5 +1,5 @@
 use Rattle.std.proofs.Common.{◌≡◌, map, drop}
-use Rattle.repl_asks.specs.View.{name_view}
+use Rattle.repl_asks.specs.Inside.View.{name_view}
 use Rattle.ref_table.specs.Directory.{all_named}
 use Rattle.ref_table.proofs.directory.Directory.has_all_commuted.Given as goal
 

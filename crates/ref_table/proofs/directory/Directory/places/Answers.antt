@@ -1,5 +1,5 @@
 use Rattle.std.proofs.Common.{◌++◌, map, sym, ap, ◌∙◌}
-use Rattle.repl_asks.specs.View.{change_view}
+use Rattle.repl_asks.specs.Inside.View.{change_view}
 use Rattle.ref_table.specs.Placing.{placed_view, places_of}
 use Rattle.ref_table.proofs.Once.{places-append}
 use Rattle.ref_table.proofs.directory.Directory.places.Goals as goal

@@ -1,6 +1,6 @@
 use Rattle.std.proofs.Common.{◌≡◌, ◌∙◌, Result, Ok, Err}
 use Rattle.std.specs.Prelude.{Bool, IfOk}
-use Rattle.repl_asks.specs.View.{intent_view}
+use Rattle.repl_asks.specs.Inside.View.{intent_view}
 use Rattle.ref_table.proofs.Committing.{acceptable}
 use Rattle.ref_table.proofs.table.RefTable.accepts.Goals as goal
 

@@ -1,9 +1,9 @@
 use Rattle.std.proofs.Common.{◌++◌, Option, true, false, refl, sym, ap, ◌∙◌}
 use Rattle.value_data.specs.Datum.{Datum}
-use Rattle.repl_faults.specs.View.{failure_of}
+use Rattle.repl_faults.specs.Inside.View.{failure_of}
 use Rattle.repl_asks.specs.Transactions.{RefNameData}
 use Rattle.repl_asks.specs.Exchange.{verdict, conflict}
-use Rattle.repl_asks.specs.View.{intent_view}
+use Rattle.repl_asks.specs.Inside.View.{intent_view}
 use Rattle.server_rules.specs.Numbered.{part_under}
 use Rattle.server_rules.specs.Store.{newest_value}
 use Rattle.server_rules.specs.Commit.{all_folded}

@@ -1,5 +1,5 @@
 use Rattle.std.proofs.Common.{◌≡◌, ℕ, List, map, drop}
-use Rattle.repl_asks.specs.View.{name_view}
+use Rattle.repl_asks.specs.Inside.View.{name_view}
 use Rattle.server_rules.specs.Numbered.{Entry}
 use Rattle.server_rules.specs.Commit.{any_newer}
 use Rattle.ref_table.specs.Refs.{Refs, store_of}

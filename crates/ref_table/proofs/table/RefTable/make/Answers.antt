@@ -1,6 +1,6 @@
 use Rattle.std.proofs.Common.{◌≡◌, ℕ, Some, length, sym, ap, ◌∙◌, subst}
 use Rattle.value_data.specs.Datum.{tenant, ref}
-use Rattle.value_data.specs.View.{view, owner_view}
+use Rattle.value_data.specs.Inside.View.{view, owner_view}
 use Rattle.value_data.specs.declared.value.RefName.{RefName}
 use Rattle.repl_asks.specs.Exchange.{value}
 use Rattle.server_rules.specs.Calls.{performed_make}

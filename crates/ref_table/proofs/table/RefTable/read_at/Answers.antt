@@ -1,5 +1,5 @@
 use Rattle.std.proofs.Common.{Some, sym, ap, ◌∙◌}
-use Rattle.value_data.specs.View.{view}
+use Rattle.value_data.specs.Inside.View.{view}
 use Rattle.server_rules.specs.Versions.{readable}
 use Rattle.ref_table.specs.Refs.{store_of}
 use Rattle.ref_table.proofs.Owners.{some-same}

@@ -1,6 +1,6 @@
 use Rattle.std.proofs.Common.{◌≡◌, ◌∙◌, refl, sym, ap, subst, IfOk, IfErr}
-use Rattle.repl_asks.specs.View.{trace_view}
-use Rattle.repl_jobs.specs.View.{job_view, finished_view}
+use Rattle.repl_asks.specs.Inside.View.{trace_view}
+use Rattle.repl_jobs.specs.Inside.View.{job_view, finished_view}
 use Rattle.server_rules.specs.Plan as deeds
 use Rattle.repl_jobs.specs.Job.{EndingData}
 use Rattle.tenant_turns.specs.DeedResult.{deed_result}

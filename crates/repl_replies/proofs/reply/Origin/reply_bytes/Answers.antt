@@ -1,9 +1,9 @@
 use Rattle.std.proofs.Common.{◌≡◌, refl, ap, ◌∙◌}
 use Rattle.bencode_wire.specs.Spelling.{canonical}
 use Rattle.bencode_wire.specs.Tree.{dictionary}
-use Rattle.bencode_wire.specs.View.{pairs_view}
+use Rattle.bencode_wire.specs.Inside.View.{pairs_view}
 use Rattle.repl_replies.specs.Replies.{ReplyData}
-use Rattle.repl_replies.specs.View.{origin_view, body_view}
+use Rattle.repl_replies.specs.Inside.View.{origin_view, body_view}
 use Rattle.repl_replies.proofs.Replies.{reply_fields, reply_spelled, view-Dictionary}
 use Rattle.repl_replies.proofs.reply.Origin.reply_bytes.Goals as goal
 

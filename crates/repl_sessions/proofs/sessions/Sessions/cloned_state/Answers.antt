@@ -4,7 +4,7 @@ use Rattle.std.specs.BTreeMap.{BTreeMap}
 use Rattle.std.specs.Map.{lookup}
 use Rattle.repl_sessions.specs.Ids.{IdsData}
 use Rattle.repl_sessions.specs.State.{StateData, fresh}
-use Rattle.repl_sessions.specs.StateView.{state_view}
+use Rattle.repl_sessions.specs.Inside.StateView.{state_view}
 use Rattle.repl_sessions.specs.Sessions.{state_of, cloned_state}
 use Rattle.repl_sessions.specs.Named.{NamedSessions}
 use Rattle.repl_sessions.specs.declared.state.SessionState.{SessionState}

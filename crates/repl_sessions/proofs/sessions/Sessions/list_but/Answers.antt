@@ -1,7 +1,7 @@
 use Rattle.std.proofs.Common.{◌≡◌, ◌∙◌, ap, subst, ℕ, List, IfOk, map, string_bytes}
 use Rattle.std.specs.BTreeSet.{keys}
 use Rattle.repl_sessions.specs.Named.{NamedSessions, ids_of}
-use Rattle.repl_sessions.specs.Leaving.{remaining_named}
+use Rattle.repl_sessions.specs.Inside.Leaving.{remaining_named}
 use Rattle.repl_sessions.proofs.Leavers.{texts-remaining}
 use Rattle.repl_sessions.proofs.sessions.Sessions.list_but.Goals as goal
 

@@ -1,5 +1,5 @@
 use Rattle.std.proofs.Common.{ap, ◌∙◌}
-use Rattle.value_data.specs.View.{view}
+use Rattle.value_data.specs.Inside.View.{view}
 use Rattle.repl_sessions.specs.State.{after_value}
 use Rattle.repl_sessions.specs.contracts.sessions.Sessions.{the_view}
 use Rattle.repl_sessions.proofs.SeenSessions.{changed-seen, unchanged-seen}

@@ -7,7 +7,7 @@ use Rattle.std.proofs.lemmas.Iterator.Consumers.{YieldsList-from_rest}
 use Rattle.std.proofs.lemmas.Iterator.Search.{find_from_yields_List}
 use Rattle.repl_sessions.specs.Sessions.{is_open}
 use Rattle.repl_sessions.specs.Named.{NamedSessions, number_named}
-use Rattle.repl_sessions.specs.Leaving.{remaining_named}
+use Rattle.repl_sessions.specs.Inside.Leaving.{remaining_named}
 use Rattle.repl_sessions.proofs.SeenSessions.{seen}
 use Rattle.repl_sessions.proofs.Naming.{from-text, named-open, named-short}
 use Rattle.repl_sessions.proofs.Leavers.{of_text, not_among, staying, found-staying, named-remaining}

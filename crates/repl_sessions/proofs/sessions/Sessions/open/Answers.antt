@@ -1,7 +1,7 @@
 use Rattle.std.proofs.Common.{◌∙◌, ap, sym, option_map, rules}
 use Rattle.repl_sessions.specs.Named.{NamedSessions}
 use Rattle.repl_sessions.specs.Sessions.{is_open}
-use Rattle.repl_sessions.specs.StateView.{state_view}
+use Rattle.repl_sessions.specs.Inside.StateView.{state_view}
 use Rattle.repl_sessions.proofs.Numbers.{is_open-among, state-found}
 use Rattle.repl_sessions.proofs.SeenSessions.{opened-seen, undone-seen}
 use Rattle.repl_sessions.proofs.Keeping.{no-next, opened-keeps, refused-keeps}

@@ -1,5 +1,5 @@
 use Rattle.std.proofs.Common.{ap, ◌∙◌}
-use Rattle.repl_sessions.specs.StateView.{state_view}
+use Rattle.repl_sessions.specs.Inside.StateView.{state_view}
 use Rattle.repl_sessions.specs.State.{StateData}
 use Rattle.repl_sessions.specs.contracts.sessions.Sessions.{the_view}
 use Rattle.repl_sessions.proofs.SeenSessions.{changed-seen, unchanged-seen}

@@ -1,7 +1,7 @@
 use Rattle.std.proofs.Common.{◌∙◌, ap, sym, option_map}
 use Rattle.repl_sessions.specs.Sessions.{state_of}
 use Rattle.repl_sessions.specs.Named.{NamedSessions}
-use Rattle.repl_sessions.specs.StateView.{state_view}
+use Rattle.repl_sessions.specs.Inside.StateView.{state_view}
 use Rattle.repl_sessions.proofs.Numbers.{state-behind, state-found}
 use Rattle.repl_sessions.proofs.sessions.Sessions.state.Goals as goal
 

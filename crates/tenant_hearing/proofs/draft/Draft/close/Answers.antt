@@ -1,7 +1,7 @@
 use Rattle.std.proofs.Common.{◌∙◌, sym, ap, refl, ℕ, List, [], ◌∷◌, ◌++◌, map, append_assoc}
 use Rattle.std.proofs.lemmas.List.{map-append}
 use Rattle.repl_replies.specs.Replies.{bytes_of, closed}
-use Rattle.repl_replies.specs.View.{origin_view}
+use Rattle.repl_replies.specs.Inside.View.{origin_view}
 use Rattle.server_rules.specs.Operating.{interruption}
 use Rattle.server_rules.specs.Replying.{reply}
 use Rattle.tenant_actors.specs.View.{actor_view}

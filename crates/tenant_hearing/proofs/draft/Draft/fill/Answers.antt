@@ -3,7 +3,7 @@ use Rattle.std.proofs.Common.{arith}
 use Rattle.std.proofs.lemmas.Grind.{common_steps}
 use Rattle.std.proofs.lemmas.List.{nil_from_length}
 use Rattle.std.proofs.lemmas.Result.{on_ok_weaker}
-use Rattle.bencode_wire.specs.View.{view}
+use Rattle.bencode_wire.specs.Inside.View.{view}
 use Rattle.bencode_wire.specs.declared.ben.Ben.{Ben}
 use Rattle.repl_replies.specs.Replies.{OriginData, no_origin, malformed, bytes_of}
 use Rattle.server_rules.specs.Hearing.{with_messages}

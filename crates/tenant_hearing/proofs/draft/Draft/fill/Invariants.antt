@@ -1,5 +1,5 @@
 use Rattle.std.proofs.Common.{◌≡◌, ℕ, List, map, deque_len}
-use Rattle.bencode_wire.specs.View.{view}
+use Rattle.bencode_wire.specs.Inside.View.{view}
 use Rattle.server_rules.specs.Ground.{Ground}
 use Rattle.server_rules.specs.Hearing.{with_messages}
 use Rattle.server_rules.specs.Tenant.{Quiet}

@@ -1,6 +1,6 @@
 use Rattle.std.proofs.Common.{◌≡◌, ◌∙◌, sym, ap, subst, OnOk, rules}
 use Rattle.bencode_wire.specs.Tree.{Tree, integer, string, list, dictionary}
-use Rattle.bencode_wire.specs.View.{view, trees_view, pairs_view}
+use Rattle.bencode_wire.specs.Inside.View.{view, trees_view, pairs_view}
 use Rattle.bencode_wire.specs.declared.ben.Ben.{the_lemmas}
 use Rattle.server_rules.specs.Operating.{with_message}
 use Rattle.tenant_hearing.specs.Scene.{scene, FollowsRules}

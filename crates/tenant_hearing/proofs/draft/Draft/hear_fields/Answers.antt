@@ -1,7 +1,7 @@
 use Rattle.std.proofs.Common.{◌∷◌, [], Ok, Err}
 use Rattle.std.proofs.lemmas.Result.{on_ok_weaker}
-use Rattle.bencode_wire.specs.View.{pairs_view}
-use Rattle.repl_replies.specs.View.{asked_view, reply_view}
+use Rattle.bencode_wire.specs.Inside.View.{pairs_view}
+use Rattle.repl_replies.specs.Inside.View.{asked_view, reply_view}
 use Rattle.tenant_hearing.specs.Scene.{scene}
 use Rattle.tenant_hearing.proofs.Drafting.{comes-asked, comes-replied}
 use Rattle.tenant_hearing.proofs.draft.Draft.hear_fields.Goals as goal

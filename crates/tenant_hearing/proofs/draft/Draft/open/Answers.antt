@@ -6,7 +6,7 @@ use Rattle.repl_sessions.specs.Named.{NamedSessions}
 use Rattle.repl_sessions.specs.Sessions.{SessionsData}
 use Rattle.repl_replies.specs.Replies as replies
 use Rattle.repl_replies.specs.Replies.{bytes_of}
-use Rattle.repl_replies.specs.View.{origin_view}
+use Rattle.repl_replies.specs.Inside.View.{origin_view}
 use Rattle.server_rules.specs.Replying.{reply}
 use Rattle.tenant_actors.specs.View.{actors_view}
 use Rattle.tenant_hearing.specs.Scene.{scene}

@@ -1,7 +1,7 @@
 use Rattle.std.proofs.Common.{sym, subst, OnOk}
 use Rattle.std.specs.BTreeSet.{keys}
-use Rattle.repl_replies.specs.Named.{session_of}
-use Rattle.repl_replies.specs.View.{origin_view, operation_view}
+use Rattle.repl_replies.specs.Inside.Named.{session_of}
+use Rattle.repl_replies.specs.Inside.View.{origin_view, operation_view}
 use Rattle.repl_replies.specs.declared.operation.Operation.{Operation}
 use Rattle.server_rules.specs.Operating.{after_operation}
 use Rattle.tenant_hearing.specs.Scene.{scene, FollowsRules}

@@ -1,6 +1,6 @@
 use Rattle.std.proofs.Common.{◌∙◌, sym, ap, subst}
 use Rattle.repl_asks.specs.Exchange.{AskData}
-use Rattle.repl_asks.specs.View.{ask_view, answer_view}
+use Rattle.repl_asks.specs.Inside.View.{ask_view, answer_view}
 use Rattle.repl_walker.specs.declared.waiting.Progress.{Progress}
 use Rattle.server_rules.specs.Plan as deeds
 use Rattle.tenant_world.specs.Answers.{ask_answer_view}
@@ -8,7 +8,7 @@ use Rattle.tenant_world.specs.declared.answers.AskAnswer.{AskAnswer}
 use Rattle.tenant_world.specs.Standing as world
 use Rattle.ref_table.specs.Refs.{refs_after}
 use Rattle.tenant_refs.specs.Serving.{TableServes}
-use Rattle.tenant_walks.specs.Standing.{parts, comes_to}
+use Rattle.tenant_walks.specs.Inside.Standing.{parts, comes_to}
 use Rattle.tenant_walks.proofs.Walking.{asks-same, at-so, some-same}
 use Rattle.tenant_walks.proofs.Steps.{does-followed, does-resumed, refused-parts}
 use Rattle.tenant_walks.proofs.walks.Walks.ask.Goals as goal

@@ -1,5 +1,5 @@
 use Rattle.server_rules.specs.Plan as deeds
-use Rattle.tenant_walks.specs.Standing.{parts}
+use Rattle.tenant_walks.specs.Inside.Standing.{parts}
 use Rattle.tenant_walks.proofs.Steps.{does-followed, refused-parts, serves-same}
 use Rattle.tenant_walks.proofs.Stores.{starts-reached}
 use Rattle.tenant_walks.proofs.walks.Walks.begin.Goals as goal

@@ -1,9 +1,9 @@
 use Rattle.std.proofs.Common.{◌∙◌, sym, ap}
-use Rattle.repl_jobs.specs.View.{finished_view}
+use Rattle.repl_jobs.specs.Inside.View.{finished_view}
 use Rattle.repl_walker.specs.declared.waiting.Progress.{Progress}
 use Rattle.server_rules.specs.Plan as deeds
 use Rattle.repl_walker.specs.Ends.{ending_view}
-use Rattle.tenant_walks.specs.Standing.{parts}
+use Rattle.tenant_walks.specs.Inside.Standing.{parts}
 use Rattle.tenant_walks.proofs.Walking.{ends-same, at-so, some-same}
 use Rattle.tenant_walks.proofs.Ending.{end-of-walk}
 use Rattle.tenant_walks.proofs.Steps.{does-followed, refused-parts, serves-same}

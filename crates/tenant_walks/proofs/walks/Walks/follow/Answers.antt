@@ -1,7 +1,7 @@
 use Rattle.std.proofs.Common.{◌≡◌, ◌∙◌, Some, None, sym, ap, subst, option_map}
 use Rattle.tenant_actors.specs.View.{run_view}
-use Rattle.tenant_walks.specs.Walked.{IsWalkOf}
-use Rattle.tenant_walks.specs.WalkAt.{walk_at}
+use Rattle.tenant_walks.specs.Inside.Walked.{IsWalkOf}
+use Rattle.tenant_walks.specs.Inside.WalkAt.{walk_at}
 use Rattle.tenant_walks.proofs.Walking.{walked-all, some-same}
 use Rattle.tenant_walks.proofs.Steps.{put-so, put-others}
 use Rattle.tenant_walks.proofs.walks.Walks.follow.Goals as goal

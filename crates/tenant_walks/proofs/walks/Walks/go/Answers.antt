@@ -1,11 +1,11 @@
 use Rattle.std.proofs.Common.{◌∙◌, sym, Some}
-use Rattle.repl_asks.specs.View.{ask_view}
+use Rattle.repl_asks.specs.Inside.View.{ask_view}
 use Rattle.repl_walker.specs.declared.waiting.Progress.{Progress}
 use Rattle.server_rules.specs.Plan as deeds
 use Rattle.server_rules.specs.Turns.{honest_deed}
 use Rattle.tenant_actors.specs.View.{run_view}
 use Rattle.repl_walker.specs.Ends.{ending_view}
-use Rattle.tenant_walks.specs.Standing.{parts}
+use Rattle.tenant_walks.specs.Inside.Standing.{parts}
 use Rattle.tenant_walks.proofs.Honest.{honest_deed-starts, honest_deed-asks, honest_deed-ends}
 use Rattle.tenant_walks.proofs.Walking.{at-so}
 use Rattle.tenant_walks.proofs.Steps.{none-so, some-so, does-as, refuses-as}

@@ -1,8 +1,8 @@
 use Rattle.std.proofs.Common.{◌∙◌, sym, subst}
-use Rattle.repl_asks.specs.View.{ask_view, answer_view}
+use Rattle.repl_asks.specs.Inside.View.{ask_view, answer_view}
 use Rattle.repl_walker.specs.declared.waiting.Progress.{Progress}
 use Rattle.tenant_world.specs.Asking.{exchange_from, run_with}
-use Rattle.tenant_walks.specs.Walked.{IsWalkOf}
+use Rattle.tenant_walks.specs.Inside.Walked.{IsWalkOf}
 use Rattle.tenant_walks.proofs.Walking.{walk-resumed, some-same, asks-same}
 use Rattle.tenant_walks.proofs.Steps.{put-so}
 use Rattle.tenant_walks.proofs.walks.Walks.resume.Goals as goal

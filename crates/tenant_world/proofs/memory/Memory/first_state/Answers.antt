@@ -1,5 +1,5 @@
 use Rattle.std.proofs.Common.{◌≡◌, IfOk, sym, subst}
-use Rattle.repl_sessions.specs.StateView.{state_view}
+use Rattle.repl_sessions.specs.Inside.StateView.{state_view}
 use Rattle.server_rules.specs.Tenant.{state_of}
 use Rattle.server_rules.specs.Starting.{first_state}
 use Rattle.server_rules.specs.declared.actor.Actor.{Actor}

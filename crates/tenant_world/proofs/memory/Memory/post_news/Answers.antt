@@ -1,5 +1,5 @@
 use Rattle.std.proofs.Common.{◌∙◌, ap, subst}
-use Rattle.repl_sessions.specs.StateView.{state_view}
+use Rattle.repl_sessions.specs.Inside.StateView.{state_view}
 use Rattle.server_rules.specs.Tenant.{with_state, with_replies}
 use Rattle.tenant_world.specs.Memories.{Remembers}
 use Rattle.tenant_world.proofs.Remembering.{replies-behind-state}

@@ -1,7 +1,7 @@
 use Rattle.std.proofs.Common.{◌<◌, ◌∙◌, refl, Some, sym, ap, subst}
 use Rattle.server_rules.specs.Plan as deeds
 use Rattle.server_rules.specs.Plan.{Plan}
-use Rattle.repl_asks.specs.View.{ask_view}
+use Rattle.repl_asks.specs.Inside.View.{ask_view}
 use Rattle.server_rules.specs.Asking.{asked_of}
 use Rattle.server_rules.specs.Tenant.{ActorData}
 use Rattle.tenant_actors.specs.View.{actor_view}

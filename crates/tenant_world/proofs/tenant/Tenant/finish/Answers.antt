@@ -1,5 +1,5 @@
 use Rattle.std.proofs.Common.{◌<◌, ◌∙◌, refl, Some, sym, ap, subst}
-use Rattle.repl_jobs.specs.View.{finished_view}
+use Rattle.repl_jobs.specs.Inside.View.{finished_view}
 use Rattle.server_rules.specs.Plan as deeds
 use Rattle.server_rules.specs.Plan.{Plan}
 use Rattle.server_rules.specs.Ending.{end_of}

@@ -1,6 +1,6 @@
 use Rattle.std.proofs.Common.{◌∙◌, length, refl, sym, ap}
 use Rattle.std.proofs.lemmas.Bool.{eq-eqb}
-use Rattle.bencode_wire.specs.Decoder.{ready_of}
+use Rattle.bencode_wire.specs.Inside.Decoder.{ready_of}
 use Rattle.server_rules.specs.Hearing.{stream_fault, hears_more}
 use Rattle.tenant_hearing.specs.Holds.{PartsStandFor}
 use Rattle.tenant_hearing.specs.HasReadAll.{HasReadAll}

@@ -1,7 +1,7 @@
 use Rattle.std.proofs.Common.{◌≡◌, ◌++◌, map, filter_map, drop}
-use Rattle.repl_asks.specs.View.{name_view, change_view}
+use Rattle.repl_asks.specs.Inside.View.{name_view, change_view}
 use Rattle.tx_attempt.specs.Accesses.{change_of}
-use Rattle.tx_attempt.specs.Seen.{accesses_of}
+use Rattle.tx_attempt.specs.Inside.Seen.{accesses_of}
 use Rattle.tx_attempt.proofs.attempt.Attempt.changes.Given as goal
 
 -- the changes that were made and those of the names that are left

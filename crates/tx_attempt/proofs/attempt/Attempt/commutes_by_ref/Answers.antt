@@ -1,11 +1,11 @@
 use Rattle.std.proofs.Common.{◌≡◌, List, [], map, filter_map, cond, ap, ap₂, ◌∙◌, subst}
 use Rattle.std.specs.Prelude.{IfOk}
 use Rattle.repl_asks.specs.Transactions.{RefNameData, CommutedData}
-use Rattle.repl_asks.specs.View.{name_view, commuted_view}
+use Rattle.repl_asks.specs.Inside.View.{name_view, commuted_view}
 use Rattle.tx_attempt.specs.contracts.key.KeyOrd.TheImpl as order
-use Rattle.tx_attempt.specs.Groups.{commutes_in, in_order}
+use Rattle.tx_attempt.specs.Inside.Groups.{commutes_in, in_order}
 use Rattle.tx_attempt.specs.Accesses.{ref_put, is_among, commute_of}
-use Rattle.tx_attempt.specs.Seen.{accesses_of}
+use Rattle.tx_attempt.specs.Inside.Seen.{accesses_of}
 use Rattle.tx_attempt.proofs.Ordered.{ordered}
 use Rattle.tx_attempt.proofs.attempt.Attempt.commutes_by_ref.Goals as goal
 

@@ -1,9 +1,9 @@
 use Rattle.std.proofs.Common.{◌≡◌, ◌++◌, map, filter_map, drop}
 use Rattle.repl_asks.specs.Transactions.{RefNameData}
 use Rattle.tx_attempt.specs.contracts.key.KeyOrd.TheImpl as order
-use Rattle.tx_attempt.specs.Groups.{commutes_in}
+use Rattle.tx_attempt.specs.Inside.Groups.{commutes_in}
 use Rattle.tx_attempt.specs.Accesses.{commute_of}
-use Rattle.tx_attempt.specs.View.{access_view}
+use Rattle.tx_attempt.specs.Inside.View.{access_view}
 use Rattle.tx_attempt.proofs.attempt.Attempt.groups.Given as goal
 
 -- of each ref the commutes that were found and those in what is left

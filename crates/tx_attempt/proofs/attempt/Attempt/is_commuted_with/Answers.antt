@@ -1,7 +1,7 @@
 use Rattle.std.proofs.Common.{ap, ◌∙◌, ◌||◌}
 use Rattle.tx_attempt.specs.Accesses.{named_in, is_commuted}
-use Rattle.tx_attempt.specs.Seen.{accesses_of}
-use Rattle.tx_attempt.specs.View.{access_view}
+use Rattle.tx_attempt.specs.Inside.Seen.{accesses_of}
+use Rattle.tx_attempt.specs.Inside.View.{access_view}
 use Rattle.tx_attempt.proofs.Noting.{commuted-with}
 use Rattle.tx_attempt.proofs.attempt.Attempt.is_commuted_with.Goals as goal
 

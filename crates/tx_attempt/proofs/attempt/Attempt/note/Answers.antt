@@ -1,8 +1,8 @@
 use Rattle.std.proofs.Common.{◌≡◌, rules, ap, ◌∙◌, ◌++◌, ◌∷◌, [], map}
-use Rattle.tx_attempt.specs.Keys.{key_of}
+use Rattle.tx_attempt.specs.Inside.Keys.{key_of}
 use Rattle.tx_attempt.specs.Accesses.{named_in, is_commuted}
-use Rattle.tx_attempt.specs.Seen.{accesses_of}
-use Rattle.tx_attempt.specs.View.{access_view}
+use Rattle.tx_attempt.specs.Inside.Seen.{accesses_of}
+use Rattle.tx_attempt.specs.Inside.View.{access_view}
 use Rattle.tx_attempt.specs.declared.latest.LatestAccess.{LatestAccess}
 use Rattle.tx_attempt.proofs.Noting.{noted-places, noted-marks}
 use Rattle.tx_attempt.proofs.attempt.Attempt.note.Goals as goal

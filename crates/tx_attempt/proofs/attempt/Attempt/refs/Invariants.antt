@@ -1,7 +1,7 @@
 use Rattle.std.proofs.Common.{◌≡◌, ◌++◌, map, filter_map, drop}
-use Rattle.repl_asks.specs.View.{name_view}
-use Rattle.tx_attempt.specs.Parts.{ref_accessed}
-use Rattle.tx_attempt.specs.View.{access_view}
+use Rattle.repl_asks.specs.Inside.View.{name_view}
+use Rattle.tx_attempt.specs.Inside.Parts.{ref_accessed}
+use Rattle.tx_attempt.specs.Inside.View.{access_view}
 use Rattle.tx_attempt.proofs.attempt.Attempt.refs.Given as goal
 
 -- the refs that were found and those in what is left

@@ -1,7 +1,7 @@
 use Rattle.std.proofs.Common.{rules, ◌<◌, length, ap, ◌∙◌, option_map, Some}
-use Rattle.value_data.specs.View.{view}
-use Rattle.repl_asks.specs.View.{name_view}
-use Rattle.tx_attempt.specs.Seen.{accesses_of}
+use Rattle.value_data.specs.Inside.View.{view}
+use Rattle.repl_asks.specs.Inside.View.{name_view}
+use Rattle.tx_attempt.specs.Inside.Seen.{accesses_of}
 use Rattle.tx_attempt.proofs.Reading.{value-nowhere, place-below, value-there}
 use Rattle.tx_attempt.proofs.attempt.Attempt.value_of.Goals as goal
 

@@ -3,9 +3,9 @@ use Rattle.std.specs.List.{cons_option}
 use Rattle.std.proofs.Math.Seq.{drop-cons}
 use Rattle.value_data.specs.declared.value.Owner.{Owner}
 use Rattle.value_data.specs.declared.value.RefName.{RefName}
-use Rattle.repl_asks.specs.View.{name_view, commute_view, commuted_view}
+use Rattle.repl_asks.specs.Inside.View.{name_view, commute_view, commuted_view}
 use Rattle.tx_attempt.specs.contracts.key.KeyOrd.TheImpl as order
-use Rattle.tx_attempt.specs.Groups.{commutes_in, group_of, in_order}
+use Rattle.tx_attempt.specs.Inside.Groups.{commutes_in, group_of, in_order}
 use Rattle.tx_attempt.proofs.Grouped.{one-more, filled-pushed, empty-kept}
 use Rattle.tx_attempt.proofs.grouping.Groups.in_order.Goals as goal
 use Rattle.tx_attempt.proofs.grouping.Groups.in_order.Goals.{then-not-is_empty+in_ok-push, else-not-is_empty}

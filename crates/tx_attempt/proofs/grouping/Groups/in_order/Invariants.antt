@@ -1,7 +1,7 @@
 use Rattle.std.proofs.Common.{◌≡◌, ◌++◌, map, drop}
-use Rattle.repl_asks.specs.View.{name_view, commuted_view}
+use Rattle.repl_asks.specs.Inside.View.{name_view, commuted_view}
 use Rattle.tx_attempt.specs.contracts.key.KeyOrd.TheImpl as order
-use Rattle.tx_attempt.specs.Groups.{commutes_in, in_order}
+use Rattle.tx_attempt.specs.Inside.Groups.{commutes_in, in_order}
 use Rattle.tx_attempt.proofs.grouping.Groups.in_order.Given as goal
 
 -- the groups so far, and those of what is left

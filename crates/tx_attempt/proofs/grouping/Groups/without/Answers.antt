@@ -2,9 +2,9 @@ use Rattle.std.proofs.Common.{◌≡◌, ◌+◌, suc, [], ◌∷◌, map, drop,
 use Rattle.std.proofs.Math.Seq.{drop-cons}
 use Rattle.value_data.specs.declared.value.Owner.{Owner}
 use Rattle.value_data.specs.declared.value.RefName.{RefName}
-use Rattle.repl_asks.specs.View.{name_view}
+use Rattle.repl_asks.specs.Inside.View.{name_view}
 use Rattle.tx_attempt.specs.contracts.key.KeyOrd.TheImpl as order
-use Rattle.tx_attempt.specs.Groups.{commutes_in}
+use Rattle.tx_attempt.specs.Inside.Groups.{commutes_in}
 use Rattle.tx_attempt.specs.Accesses.{is_among}
 use Rattle.tx_attempt.proofs.Grouped.{left-out}
 use Rattle.tx_attempt.proofs.grouping.Groups.without.Goals as goal

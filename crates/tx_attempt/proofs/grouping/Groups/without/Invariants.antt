@@ -1,8 +1,8 @@
 use Rattle.std.proofs.Common.{◌≡◌, [], map, drop, cond}
 use Rattle.repl_asks.specs.Transactions.{RefNameData}
-use Rattle.repl_asks.specs.View.{name_view}
+use Rattle.repl_asks.specs.Inside.View.{name_view}
 use Rattle.tx_attempt.specs.contracts.key.KeyOrd.TheImpl as order
-use Rattle.tx_attempt.specs.Groups.{commutes_in}
+use Rattle.tx_attempt.specs.Inside.Groups.{commutes_in}
 use Rattle.tx_attempt.specs.Accesses.{is_among}
 use Rattle.tx_attempt.proofs.grouping.Groups.without.Given as goal
 

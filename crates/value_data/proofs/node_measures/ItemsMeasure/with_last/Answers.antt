@@ -1,6 +1,6 @@
 use Rattle.std.proofs.Common.{ap, sym, ◌∙◌, arith}
-use Rattle.value_data.specs.View.{view}
-use Rattle.value_data.specs.Hash.{mixed, items_hash}
+use Rattle.value_data.specs.Inside.View.{view}
+use Rattle.value_data.specs.Inside.Hash.{mixed, items_hash}
 use Rattle.value_data.proofs.Growing.{items_weight-with_last, items_nesting-with_last, items_hash-with_last}
 use Rattle.value_data.proofs.node_measures.ItemsMeasure.with_last.Goals as goal
 

@@ -1,5 +1,5 @@
 use Rattle.std.proofs.Common.{arith}
-use Rattle.value_data.specs.View.{view}
+use Rattle.value_data.specs.Inside.View.{view}
 use Rattle.value_data.proofs.Growing.{pairs_weight-behind, pairs_nesting-behind, peak-behind}
 use Rattle.value_data.proofs.node_measures.PairsMeasure.with_pair.Goals as goal
 

@@ -1,8 +1,8 @@
 use Rattle.std.proofs.Common.{◌≡◌, ◌∙◌, sym, ap, max, ℕ, arith}
-use Rattle.value_data.specs.View.{view}
-use Rattle.value_data.specs.Placed.{with_value}
+use Rattle.value_data.specs.Inside.View.{view}
+use Rattle.value_data.specs.Inside.Placed.{with_value}
 use Rattle.value_data.specs.Measures.{capped}
-use Rattle.value_data.specs.Hash.{hash, mixed, peak, salted, pair_hash}
+use Rattle.value_data.specs.Inside.Hash.{hash, mixed, peak, salted, pair_hash}
 use Rattle.value_data.proofs.Replacing.{weight-within, weight-with, nesting-with, peak-with}
 use Rattle.value_data.proofs.node_measures.PairsMeasure.with_value.Goals as goal
 

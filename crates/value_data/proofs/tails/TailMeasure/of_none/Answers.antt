@@ -1,5 +1,5 @@
 use Rattle.std.proofs.Common.{rules}
-use Rattle.value_data.specs.Tails.{factor, addend}
+use Rattle.value_data.specs.Inside.Tails.{factor, addend}
 use Rattle.value_data.proofs.tails.TailMeasure.of_none.Goals as goal
 
 pub returns : goal.returns

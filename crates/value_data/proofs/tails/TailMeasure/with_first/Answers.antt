@@ -1,8 +1,8 @@
 use Rattle.std.proofs.Common.{◌≡◌, ℕ, ◌+◌, ◌*◌, ◌%◌, ◌^◌, ap, sym, ◌∙◌, arith}
 use Rattle.value_data.specs.Datum.{item}
-use Rattle.value_data.specs.View.{view}
-use Rattle.value_data.specs.Hash.{hash}
-use Rattle.value_data.specs.Tails.{factor, addend}
+use Rattle.value_data.specs.Inside.View.{view}
+use Rattle.value_data.specs.Inside.Hash.{hash}
+use Rattle.value_data.specs.Inside.Tails.{factor, addend}
 use Rattle.value_data.proofs.TailSteps.{factor-more, addend-more, hash-linear}
 use Rattle.value_data.proofs.tails.TailMeasure.with_first.Goals as goal
 

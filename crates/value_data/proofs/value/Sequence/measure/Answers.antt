@@ -1,8 +1,8 @@
 use Rattle.std.proofs.Common.{ap, ◌∙◌, subst, sym, List, length, drop}
 use Rattle.std.specs.Arc.{arc_value}
-use Rattle.value_data.specs.Held.{SequenceData}
-use Rattle.value_data.specs.View.{items_view}
-use Rattle.value_data.specs.Fits.{FitsItems}
+use Rattle.value_data.specs.Inside.Held.{SequenceData}
+use Rattle.value_data.specs.Inside.View.{items_view}
+use Rattle.value_data.specs.Inside.Fits.{FitsItems}
 use Rattle.value_data.specs.declared.value.ItemsNode.{ItemsNode}
 use Rattle.value_data.specs.declared.value.Value.{Value}
 use Rattle.value_data.proofs.TailSteps.{tail-measure, whole-measure}

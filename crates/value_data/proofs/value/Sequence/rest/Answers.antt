@@ -1,8 +1,8 @@
 use Rattle.std.proofs.Common.{◌+◌, drop, ap, ◌∙◌}
 use Rattle.std.specs.Arc.{arc_value}
-use Rattle.value_data.specs.Held.{SequenceData}
-use Rattle.value_data.specs.View.{items_view}
-use Rattle.value_data.specs.Ends.{behind_first}
+use Rattle.value_data.specs.Inside.Held.{SequenceData}
+use Rattle.value_data.specs.Inside.View.{items_view}
+use Rattle.value_data.specs.Inside.Ends.{behind_first}
 use Rattle.value_data.specs.declared.value.ItemsNode.{ItemsNode}
 use Rattle.value_data.proofs.Growing.{drop-behind}
 use Rattle.value_data.proofs.value.Sequence.rest.Goals as goal

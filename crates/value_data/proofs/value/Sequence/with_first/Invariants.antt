@@ -1,5 +1,5 @@
 use Rattle.std.proofs.Common.{◌≡◌, ◌∷◌, take, map}
-use Rattle.value_data.specs.View.{view}
+use Rattle.value_data.specs.Inside.View.{view}
 use Rattle.value_data.proofs.value.Sequence.with_first.Given as goal
 
 abbrev pub invariant-loop-value : goal.invariant-loop-value

@@ -1,9 +1,9 @@
 use Rattle.std.proofs.Common.{◌≡◌, List, Some, take, subst, sym, ap, ◌∙◌, arith}
 use Rattle.value_data.specs.Datum.{Pairs}
-use Rattle.value_data.specs.View.{view, pairs_view}
-use Rattle.value_data.specs.Placed.{first_place}
-use Rattle.value_data.specs.Index.{Belongs}
-use Rattle.value_data.specs.Fits.{FitsPairs}
+use Rattle.value_data.specs.Inside.View.{view, pairs_view}
+use Rattle.value_data.specs.Inside.Placed.{first_place}
+use Rattle.value_data.specs.Inside.Index.{Belongs}
+use Rattle.value_data.specs.Inside.Fits.{FitsPairs}
 use Rattle.value_data.specs.declared.value.Value.{Value}
 use Rattle.value_data.proofs.Tables.{has_key-placed, distinct-more, size-take, take-behind}
 use Rattle.value_data.proofs.Removing.{first-repeat, no-repeat}

@@ -1,8 +1,8 @@
 use Rattle.std.proofs.Common.{◌≡◌, true, take}
-use Rattle.value_data.specs.View.{pairs_view}
-use Rattle.value_data.specs.Placed.{are_distinct}
-use Rattle.value_data.specs.Index.{Indexes}
-use Rattle.value_data.specs.Fits.{FitsPairs}
+use Rattle.value_data.specs.Inside.View.{pairs_view}
+use Rattle.value_data.specs.Inside.Placed.{are_distinct}
+use Rattle.value_data.specs.Inside.Index.{Indexes}
+use Rattle.value_data.specs.Inside.Fits.{FitsPairs}
 use Rattle.value_data.proofs.value.Table.from_pairs.Given as goal
 
 abbrev pub invariant-loop-place : goal.invariant-loop-place

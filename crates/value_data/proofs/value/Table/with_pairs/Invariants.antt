@@ -1,9 +1,9 @@
 use Rattle.std.proofs.Common.{◌≡◌, true, drop, map}
-use Rattle.value_data.specs.View.{pairs_view}
-use Rattle.value_data.specs.Placed.{are_distinct}
+use Rattle.value_data.specs.Inside.View.{pairs_view}
+use Rattle.value_data.specs.Inside.Placed.{are_distinct}
 use Rattle.value_data.specs.Put.{put_pairs}
-use Rattle.value_data.specs.Index.{Indexes}
-use Rattle.value_data.specs.Seen.{entry_view, MayFit}
+use Rattle.value_data.specs.Inside.Index.{Indexes}
+use Rattle.value_data.specs.Inside.Seen.{entry_view, MayFit}
 use Rattle.value_data.proofs.value.Table.with_pairs.Given as goal
 
 abbrev pub invariant-loop-key : goal.invariant-loop-key

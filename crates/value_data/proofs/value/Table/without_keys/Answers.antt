@@ -2,13 +2,13 @@ use Rattle.std.proofs.Common.{◌≡◌, ℕ, Bool, List, IfOk, length, map, ap,
 use Rattle.std.proofs.lemmas.List.{length-map}
 use Rattle.std.specs.Arc.{arc_value}
 use Rattle.value_data.specs.Datum.{Pairs}
-use Rattle.value_data.specs.Held.{TableData}
-use Rattle.value_data.specs.View.{view, pair_view, pairs_view, items_view}
-use Rattle.value_data.specs.Placed.{are_distinct}
+use Rattle.value_data.specs.Inside.Held.{TableData}
+use Rattle.value_data.specs.Inside.View.{view, pair_view, pairs_view, items_view}
+use Rattle.value_data.specs.Inside.Placed.{are_distinct}
 use Rattle.value_data.specs.Repeats.{is_one_of}
-use Rattle.value_data.specs.Index.{ArePlaces, Indexes}
-use Rattle.value_data.specs.Fits.{FitsPairs}
-use Rattle.value_data.specs.Marked.{unmarked}
+use Rattle.value_data.specs.Inside.Index.{ArePlaces, Indexes}
+use Rattle.value_data.specs.Inside.Fits.{FitsPairs}
+use Rattle.value_data.specs.Inside.Marked.{unmarked}
 use Rattle.value_data.specs.Put.{without_keys}
 use Rattle.value_data.specs.declared.value.PairsNode.{PairsNode}
 use Rattle.value_data.specs.declared.value.Value.{Value}

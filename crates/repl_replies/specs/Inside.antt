@@ -1,0 +1,6 @@
+-- How the code is seen and kept. Nobody has to believe these: they say what contracts say of the
+-- code, and proofs, and none of the rules.
+pub mod Building
+pub mod Named
+pub mod Requests
+pub mod View

@@ -1,0 +1,8 @@
+-- How the code is seen and kept. Nobody has to believe these: they say what contracts say of the
+-- code, and proofs, and none of the rules.
+pub mod StateView
+pub mod Leaving
+pub mod Retracted
+pub mod View
+pub mod Keeps
+pub mod Code

@@ -1,0 +1,27 @@
+-- Calls, seen as data.
+use Rattle.std.specs.Prelude.{Result, Ok, Err}
+use Rattle.value_data.specs.Inside.View.{view}
+use Rattle.repl_faults.specs.Failure.{Failure}
+use Rattle.repl_faults.specs.Inside.View.{failure_of}
+use Rattle.repl_asks.specs.Transactions.{RefNameData}
+use Rattle.repl_asks.specs.Inside.View.{name_view, ask_view}
+use Rattle.store_calls.specs.Calling.{CallData, refused, reads, puts, ensures, asks_value}
+use Rattle.store_calls.specs.Arguments.{BoundsData}
+use Rattle.store_calls.specs.declared.bounds.Bounds.{Bounds}
+use Rattle.store_calls.specs.declared.outcome.Altered.{Altered}
+use Rattle.store_calls.specs.declared.outcome.Call.{Call}
+
+abbrev pub call_view : Call → CallData
+call_view (Call.Refused f) = refused (failure_of f)
+call_view (Call.Reads name) = reads (name_view name)
+call_view (Call.Puts name v) = puts (name_view name) (view v)
+call_view (Call.Ensures name) = ensures (name_view name)
+call_view (Call.AsksValue ask) = asks_value (ask_view ask)
+
+-- the ref that is altered, or why none is
+abbrev pub altered_view : Altered → Result RefNameData Failure
+altered_view (Altered.Ref name) = Ok (name_view name)
+altered_view (Altered.Refused f) = Err (failure_of f)
+
+abbrev pub bounds_view : Bounds → BoundsData
+bounds_view b = record { least = b.least; most = b.most }
