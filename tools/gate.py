@@ -9,13 +9,16 @@
                             does not cover, and writes their lines of the record where each edit was
                             refused. Nothing else writes one
 
-The record is tools/refused_edits.txt: for a crate its name, a fingerprint and the number of its
-edits. The fingerprint is a sum over all that the edits depend on (workspace.py): the edits, the
-sources of the crate and of each crate below it, their lines of crates.txt, HANDLES and the kit. A
-line counts only where fingerprint and number are those of the tree. So after a change of a crate
-its edits are tried again, and those of every crate above it; and a line that was altered, or whose
-edits were, covers nothing. What a record cannot show is that its line was written by
-`.ci/run edits`: `.ci/run whole` shows that."""
+The record is tools/refused_edits.txt: for a crate its name, the kit (`rt version`), a fingerprint
+and the number of its edits. The fingerprint is a sum over all that the edits depend on
+(workspace.py): the edits, the sources of the crate and of each crate below it, their lines of
+crates.txt, HANDLES and the kit. A line counts only where kit, fingerprint and number are those of
+the tree and of the machine. So after a change of a crate its edits are tried again, and those of
+every crate above it; and a line that was altered, or whose edits were, covers nothing. A crate may
+have a line for each of several kits, since not all machines have the same. What a record cannot
+show is that its line was written by `.ci/run edits`: `.ci/run whole` shows that.
+
+`rt ci` runs as quick_rt.py starts it: the kit's own, but each crate's sources are summed once."""
 
 import os
 import shutil
@@ -44,22 +47,28 @@ def record():
 
 
 def recorded():
-    """The lines of the record: each crate's fingerprint and number of edits. A crate with two lines
-    has none."""
+    """The lines of the record: by crate and kit the fingerprint and the number of edits. Where a
+    crate has two lines for one kit, it has none for it."""
     found = {}
     if os.path.isfile(record()):
         for line in workspace.content(record()).decode(errors="replace").splitlines():
             words = line.split()
-            if len(words) == 3 and not line.startswith("#"):
-                found[words[0]] = None if words[0] in found else (words[1], words[2])
+            if len(words) > 3 and not line.startswith("#"):
+                key = words[0], " ".join(words[1:-2])
+                found[key] = None if key in found else (words[-2], words[-1])
     return found
 
 
 def covered():
-    """The crates all of whose edits were seen refused, as they stand now."""
+    """The crates all of whose edits were seen refused, as they stand now, with this kit."""
     lines, now = recorded(), workspace.fingerprints()
-    stands = lambda it: lines.get(it.name) == (now[it.name], str(len(it.edits())))
-    return [it for it in workspace.crates() if it.edits() and stands(it)]
+    return [it for it in workspace.crates() if it.edits() and stands(it, lines, now)]
+
+
+def stands(crate, lines, now, kit=None):
+    """Whether the crate's line for a kit is of the tree with these fingerprints."""
+    line = lines.get((crate.name, kit or workspace.kit()))
+    return line == (now[crate.name], str(len(crate.edits())))
 
 
 def uncovered():
@@ -80,7 +89,10 @@ def run_gate(left_out):
         for it in left_out:
             shutil.rmtree(f"{tree}/crates/{it.name}/must-fail")
         with minutes.measured() as table:
-            ran = subprocess.Popen(["rt", "ci"], cwd=tree, stdout=subprocess.PIPE, errors="replace")
+            # `rt ci`, without the hour in which it sums sources
+            ran = subprocess.Popen(
+                [*workspace.RT, "ci"], cwd=tree, stdout=subprocess.PIPE, errors="replace"
+            )
             last = ""
             for line in ran.stdout:
                 print(last, end="", flush=True)
@@ -118,16 +130,23 @@ def try_edits(names):
 
 
 def note(crates, now):
-    """Writes the lines of these crates, and keeps those of others that are still there."""
-    lines = {it: f"{it} {' '.join(words)}" for it, words in recorded().items() if words}
+    """Writes the lines of these crates for this kit, and keeps all others that still count."""
+    lines, kept = recorded(), {}
+    for kit in sorted({kit for _, kit in lines}):
+        then = workspace.fingerprints(kit)
+        for it in workspace.crates():
+            if stands(it, lines, then, kit):
+                kept[it.name, kit] = lines[it.name, kit]
     for it in crates:
-        lines[it.name] = f"{it.name} {now[it.name]} {len(it.edits())}"
+        kept[it.name, workspace.kit()] = now[it.name], str(len(it.edits()))
+    order = {it.name: place for place, it in enumerate(workspace.crates())}
     with open(record(), "w", encoding="utf-8") as file:
         file.write(
-            "# A crate, the fingerprint for which all its edits were refused, and their number. "
-            "Written by .ci/run edits.\n"
+            "# A crate, the kit, the fingerprint for which all its edits were refused, and their "
+            "number.\n# Written by .ci/run edits.\n"
         )
-        file.writelines(f"{lines[it.name]}\n" for it in workspace.crates() if it.name in lines)
+        for name, kit in sorted(kept, key=lambda key: (order[key[0]], key[1])):
+            file.write(f"{name} {kit} {' '.join(kept[name, kit])}\n")
 
 
 if __name__ == "__main__":

@@ -67,19 +67,37 @@ class Record(unittest.TestCase):
         self.assert_covered("other")
 
     def test_wrong_number_covers_nothing(self):
-        number = workspace.fingerprints()["other"]
-        self.turn_record(f"other {number} 1", f"other {number} 2")
+        self.turn_record(f"{self.line()} 1", f"{self.line()} 2")
         self.assert_covered("low", "middle", "high")
 
     def test_wrong_fingerprint_covers_nothing(self):
         number = workspace.fingerprints()["other"]
-        self.turn_record(f"other {number}", f"other {'0' * len(number)}")
+        self.turn_record(number, "0" * len(number))
         self.assert_covered("low", "middle", "high")
 
     def test_crate_with_two_lines_has_none(self):
-        number = workspace.fingerprints()["other"]
-        self.turn_record(f"other {number} 1", f"other {number} 1\nother {number} 1")
+        self.turn_record(f"{self.line()} 1", f"{self.line()} 1\n{self.line()} 1")
         self.assert_covered("low", "middle", "high")
+
+    def test_line_of_another_kit_covers_nothing(self):
+        self.turn_record(f"other {workspace.kit()}", "other kit-0 logic 0")
+        self.assert_covered("low", "middle", "high")
+
+    def test_lines_of_another_kit_stay_while_they_count(self):
+        other = workspace.fingerprints("kit-0 logic 0")
+        lines = "".join(f"{it} kit-0 logic 0 {other[it]} 1\n" for it in ("low", "other"))
+        self.turn_record(f"{self.line()} 1\n", f"{self.line()} 1\n{lines}")
+        self.assert_covered("low", "middle", "high", "other")
+        self.write("crates/low/src/lib.rt", "// changed\n")
+        gate.note([it for it in workspace.crates() if it.name == "low"], workspace.fingerprints())
+        self.assert_covered("low", "other")
+        text = workspace.content(gate.record()).decode()
+        self.assertIn(f"other kit-0 logic 0 {other['other']} 1\n", text)
+        self.assertNotIn("low kit-0", text)
+        self.assertNotIn("middle", text)
+
+    def line(self):
+        return f"other {workspace.kit()} {workspace.fingerprints()['other']}"
 
 
 if __name__ == "__main__":

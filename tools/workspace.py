@@ -65,16 +65,18 @@ def crates():
 @functools.lru_cache(maxsize=None)
 def kit():
     """The kit's identity, in one line."""
-    return subprocess.check_output(["rt", "version"])
+    return subprocess.check_output(["rt", "version"], text=True).strip()
 
 
-def fingerprints():
+def fingerprints(with_kit=None):
     """For each crate's name a sum over all that its must-fail edits depend on: its edits, its
-    sources and its line of crates.txt, the same two of each crate below it, HANDLES and the kit."""
+    sources and its line of crates.txt, the same two of each crate below it, HANDLES and the kit:
+    this machine's, or the one that is named."""
+    identity = with_kit or kit()
     sums = {}
     for crate in crates():
         below = [sums[it.name] for it in crate.below()]
-        ground = [content(f"{TOP}/HANDLES"), kit(), crate.line, below]
+        ground = [content(f"{TOP}/HANDLES"), identity, crate.line, below]
         sums[crate.name] = digest(ground, crate, *SOURCES)
     return {it.name: digest([sums[it.name]], it, "must-fail") for it in crates()}
 
