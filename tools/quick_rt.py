@@ -2,8 +2,8 @@
 """Runs `rt` with the words given to it, and sums each crate's sources once.
 
 Whether a library is up to date `rt` tells by a sum over its sources and those of all crates below
-it. It sums a crate once for each path through crates.txt that leads there: some 5,000 of them for
-the crates on top, up to a minute before a check begins. Here a question for a sum keeps the sums of
+it. It sums a crate once for each path through crates.txt that leads there: some 260,000 of them for
+the crates on top, ten minutes before a check begins. Here a question for a sum keeps the sums of
 the crates below until it is answered; what is asked is the same."""
 
 import importlib.machinery

@@ -9,7 +9,7 @@ import sys
 
 TOP = os.path.dirname(os.path.dirname(os.path.abspath(__file__)))
 SOURCES = ("src", "specs", "proofs")
-# `rt`, as the scripts start it over kept work; the gate starts the kit's own.
+# `rt`, as the scripts start it: it sums each crate's sources once.
 RT = (sys.executable, f"{TOP}/tools/quick_rt.py")
 
 
@@ -20,6 +20,7 @@ class Crate:
         self.name, self.line, self.uses = name, line, []
         self.folder = f"{TOP}/crates/{name}"
 
+    @functools.cache
     def below(self):
         """The crates that this one stands on, each behind those that it stands on itself."""
         found = []
