@@ -30,7 +30,7 @@ class Believed(unittest.TestCase):
         self.assertEqual(rows, counted)
 
     def test_page_has_the_sums(self):
-        for is_server, what in ((False, "the wire and the language"), (True, "the server")):
+        for is_server, what in ((False, "the wire and the language have"), (True, "the server")):
             counts = [
                 believed.counts(crate, files)
                 for crate, files in self.found.items()
