@@ -102,11 +102,12 @@ def side_by_side(crates, built):
             for place, crate in enumerate(ready):
                 if len(running) >= jobs_at_once():
                     break
-                # The first has the longest chain behind it, and gets all that the others leave.
-                # None waits for the processors that another was given, since much of a check has no
-                # use for a second one.
+                # The one with the longest chain behind it gets all that the others leave, and two
+                # jobs at least, since all wait for that chain in the end. None waits for the
+                # processors that another was given: much of a check has no use for a second one.
+                leads = all(behind[crate] >= behind[it] for it, _ in running.values())
                 idle = jobs_at_once() - sum(jobs for _, jobs in running.values())
-                jobs = max(1, min(4, idle - (len(ready) - place - 1)))
+                jobs = max(2 if leads else 1, min(4, idle - (len(ready) - place - 1)))
                 left.remove(crate)
                 running[pool.submit(build, crate, jobs)] = crate, jobs
             for done in wait(running, return_when=FIRST_COMPLETED).done:
