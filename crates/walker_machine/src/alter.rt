@@ -3,6 +3,7 @@
 
 ghost use Rattle.std.specs.Prelude.{◌≡◌, ◌+◌, ◌<◌, ◌==◌, length, IfOk};
 ghost use Rattle.value_data.specs.Inside.View.{view};
+ghost use Rattle.function_names.specs.StoreNames.{store_fits, store_name_of};
 ghost use Rattle.repl_asks.specs.Exchange.{core_function, store_function};
 ghost use Rattle.repl_asks.specs.Inside.View.{name_view, named_view};
 ghost use Rattle.special_forms.specs.Inside.Seen.{views, forms_view, function_view};
@@ -20,7 +21,7 @@ ghost use Rattle.walker_state.specs.Position.{LeadsOnWithin};
 use crate::calls::{call_named, full_name};
 use crate::evaluate::evaluate_symbol;
 use crate::rows::next_argument;
-use function_names::CoreFunction;
+use function_names::{CoreFunction, StoreFunction};
 use repl_asks::{Commute, NamedFunction};
 use repl_faults::{Rule, broken_rule, not_a_function, too_many_calls, wrong_arity};
 use repl_values::{RefName, Value, copy_items};
@@ -192,10 +193,7 @@ fn call_commuting(
         NamedFunction::Core(function) => {
             apply_commuting(alloc, state, name, function, values, value)
         }
-        NamedFunction::Store(function) => {
-            let takes = function.takes(arguments);
-            refuse_commuting(alloc, takes, function.name(), arguments)
-        }
+        NamedFunction::Store(function) => refuse_store(alloc, function, arguments),
         NamedFunction::Program(function) => refuse_program(alloc, &function, arguments),
     }
 }
@@ -222,6 +220,21 @@ fn apply_commuting(
     };
     state.frames.push_front(Frame::Commuted { name, commute })?;
     call_core(alloc, state, function, row.as_slice())
+}
+
+// A function of the store is none of the language.
+fn refuse_store(
+    alloc: Global,
+    function: StoreFunction,
+    arguments: usize,
+) -> Result<Control, AllocError>
+    ensures on { IfOk result (λ control. (s : State) → LeadsOnWithin 2 s s control) }
+    ensures meaning { IfOk result (λ control. (s : State) → tree control s
+        ≡ from_state (not_of_core (store_fits function arguments) (store_name_of function)
+        arguments) s) }
+{
+    let takes = function.takes(arguments);
+    refuse_commuting(alloc, takes, function.name(), arguments)
 }
 
 // A function of the program.
