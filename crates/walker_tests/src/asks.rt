@@ -1,6 +1,6 @@
-// What is asked, answered, evaluated and ended is copied, and a replay gives its answers.
-use crate::walked::{Given, answer, answers, expect};
-use repl_asks::{Answer, Ask, Binding, Exchange, Refs, Replay, Resolution, StopReason, copy_trace};
+// What is asked, answered, evaluated and ended is copied.
+use crate::walked::{Given, answer, expect};
+use repl_asks::{Answer, Ask, Binding, Exchange, Resolution, copy_trace};
 use repl_jobs::{End, Finished, Job, Work};
 use repl_values::{Owner, RefName, Value, copy};
 use std::alloc::{AllocError, Global};
@@ -12,7 +12,7 @@ use walk_scripts::{
 };
 
 // (defn f [a b] 1 (c d))
-fn function_f(alloc: Global) -> Result<Binding, AllocError> {
+pub(crate) fn function_f(alloc: Global) -> Result<Binding, AllocError> {
     let function = function(alloc, "user", "f", &["a", "b"], "1 (c d)")?;
     Ok(Binding::Function(function))
 }
@@ -20,14 +20,14 @@ fn function_f(alloc: Global) -> Result<Binding, AllocError> {
 // Its names, its parameters and the forms of its body.
 const FUNCTION: &str = "user/f a b 1 (c d)";
 
-fn resolve(alloc: Global) -> Result<Ask, AllocError> {
+pub(crate) fn resolve(alloc: Global) -> Result<Ask, AllocError> {
     Ok(Ask::Resolve {
         namespace: text(alloc, "user")?,
         symbol: text(alloc, "x")?,
     })
 }
 
-fn define(alloc: Global, binding: Binding) -> Result<Ask, AllocError> {
+pub(crate) fn define(alloc: Global, binding: Binding) -> Result<Ask, AllocError> {
     Ok(Ask::Define {
         namespace: text(alloc, "user")?,
         name: text(alloc, "f")?,
@@ -35,12 +35,12 @@ fn define(alloc: Global, binding: Binding) -> Result<Ask, AllocError> {
     })
 }
 
-const RESOLVE: &str = "resolve user x";
+pub(crate) const RESOLVE: &str = "resolve user x";
 
-const DEFINE: &str = "define user f user/f a b 1 (c d)";
+pub(crate) const DEFINE: &str = "define user f user/f a b 1 (c d)";
 
 // Answers to a symbol and to a definition, and the text of each.
-const ANSWERS: &[(Given, &str)] = &[
+pub(crate) const ANSWERS: &[(Given, &str)] = &[
     (Given::Form("[1 \"é\"]"), "[1 \"é\"]"),
     (Given::Core("+"), "+"),
     (Given::OfTwo("1 (c d)"), FUNCTION),
@@ -251,87 +251,5 @@ fn jobs_and_ends_are_copied(rt: HostRuntime) -> Result<(), Fail> {
     );
     let fault = End::Fault(fault(a)?);
     expect(&rt, copied_end_told(a, fault)?, "out in user, #error{C: t}");
-    Ok(())
-}
-
-// The text of the answer, or why there is none; the ask comes back then.
-fn asked(alloc: Global, replay: &mut Replay, ask: Ask, told: &str) -> Result<String, AllocError> {
-    match replay.ask(alloc, ask) {
-        Ok(answer) => answer_told(alloc, &answer),
-        Err(stop) => stop_told(alloc, stop.why == StopReason::NoAnswer, &stop.ask, told),
-    }
-}
-
-fn stop_told(
-    alloc: Global,
-    is_unanswered: bool,
-    ask: &Ask,
-    told: &str,
-) -> Result<String, AllocError> {
-    if is_unanswered && ask_told(alloc, ask)?.as_str() == told {
-        String::from_str(alloc, "no answer")
-    } else {
-        String::from_str(alloc, "another stop")
-    }
-}
-
-fn resolution_asked(alloc: Global, replay: &mut Replay) -> Result<String, AllocError> {
-    asked(alloc, replay, resolve(alloc)?, RESOLVE)
-}
-
-fn definition_asked(alloc: Global, replay: &mut Replay) -> Result<String, AllocError> {
-    asked(alloc, replay, define(alloc, function_f(alloc)?)?, DEFINE)
-}
-
-fn nil_definition_asked(alloc: Global, replay: &mut Replay) -> Result<String, AllocError> {
-    asked(
-        alloc,
-        replay,
-        define(alloc, Binding::Value(Value::Nil))?,
-        "",
-    )
-}
-
-fn replay_of(rt: &impl Abort, alloc: Global, given: &[Given]) -> Result<Replay, AllocError> {
-    Ok(Replay::new(alloc, answers(rt, alloc, given)?))
-}
-
-// All of `ANSWERS`, and one more.
-const GIVEN: &[Given] = &[
-    Given::Form("[1 \"é\"]"),
-    Given::Core("+"),
-    Given::OfTwo("1 (c d)"),
-    Given::Fault,
-    Given::Done,
-    Given::Int(2),
-];
-
-#[test]
-fn a_replay_gives_its_answers_in_order(rt: HostRuntime) -> Result<(), Fail> {
-    let a = rt.alloc();
-    let mut replay = replay_of(&rt, a, GIVEN)?;
-    for (_given, told) in &ANSWERS[..4] {
-        expect(&rt, resolution_asked(a, &mut replay)?, told);
-    }
-    expect(&rt, nil_definition_asked(a, &mut replay)?, "done");
-    for told in ["2", "no answer", "no answer"] {
-        expect(&rt, resolution_asked(a, &mut replay)?, told);
-    }
-    Ok(())
-}
-
-// A definition is answered by `Done` alone, and a symbol by all else. Who stopped answers no more.
-#[test]
-fn an_answer_of_another_kind_counts_as_none(rt: HostRuntime) -> Result<(), Fail> {
-    let a = rt.alloc();
-    for (given, told) in ANSWERS {
-        let mut replay = replay_of(&rt, a, &[*given, Given::Done])?;
-        if *told == "done" {
-            expect(&rt, resolution_asked(a, &mut replay)?, "no answer");
-        }
-        for _ in 0..2 {
-            expect(&rt, definition_asked(a, &mut replay)?, "no answer");
-        }
-    }
     Ok(())
 }
