@@ -2,40 +2,23 @@
 use crate::given::Given::{Int, List, Map, Nil, Text, Vector};
 use crate::given::{Given, OUT_OF_BOUNDS, Row, expect_text, printed_outcome, values_of};
 use core_maps::{MapFunction, apply_maps};
-use std::alloc::{AllocError, Global};
+use std::alloc::Global;
 use std::process::Abort;
 use std::test::Fail;
 
 // The value, or the fault as a value, as a reply prints it.
-fn expect(
-    rt: &impl Abort,
-    alloc: Global,
-    name: &str,
-    given: &[Given],
-    wanted: &str,
-) -> Result<(), AllocError> {
+fn told(rt: &impl Abort, alloc: Global, name: &str, given: &[Given]) -> Result<String, Fail> {
     let Some(function) = MapFunction::named(name) else {
         panic!(rt; "unknown function");
     };
-    let text = told(rt, alloc, function, given)?;
-    expect_text(rt, text.as_str(), wanted, name);
-    Ok(())
-}
-
-fn told(
-    rt: &impl Abort,
-    alloc: Global,
-    function: MapFunction,
-    given: &[Given],
-) -> Result<String, AllocError> {
     let args = values_of(alloc, given)?;
     assert!(rt; function.takes(args.len()), "wrong number of arguments");
-    printed_outcome(alloc, apply_maps(alloc, function, args.as_slice()))
+    Ok(printed_outcome(alloc, apply_maps(alloc, function, args.as_slice()))?)
 }
 
 fn check(rt: &impl Abort, alloc: Global, rows: &[Row]) -> Result<(), Fail> {
     for (name, given, wanted) in rows {
-        expect(rt, alloc, name, given, wanted)?;
+        expect_text(rt, told(rt, alloc, name, given)?.as_str(), wanted, name);
     }
     Ok(())
 }

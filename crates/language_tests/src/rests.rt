@@ -36,12 +36,7 @@ fn are_one(value: &Value, wanted: &Value) -> bool {
 }
 
 // The two are one to every function.
-fn expect_same(
-    rt: &impl Abort,
-    alloc: Global,
-    value: &Value,
-    wanted: &Value,
-) -> Result<(), AllocError> {
+fn expect_same(rt: &impl Abort, alloc: Global, value: &Value, wanted: &Value) -> Result<(), Fail> {
     let text = printed(alloc, wanted)?;
     expect_text(
         rt,
@@ -53,23 +48,13 @@ fn expect_same(
     Ok(())
 }
 
-fn expect_list(
-    rt: &impl Abort,
-    alloc: Global,
-    value: &Value,
-    items: &[i64],
-) -> Result<(), AllocError> {
+fn expect_list(rt: &impl Abort, alloc: Global, value: &Value, items: &[i64]) -> Result<(), Fail> {
     let wanted = list(alloc, integers(alloc, items)?)?;
     expect_same(rt, alloc, value, &wanted)
 }
 
 // With 9 in front.
-fn expect_longer(
-    rt: &impl Abort,
-    alloc: Global,
-    row: &Value,
-    left: &[i64],
-) -> Result<(), AllocError> {
+fn expect_longer(rt: &impl Abort, alloc: Global, row: &Value, left: &[i64]) -> Result<(), Fail> {
     let mut more = integers(alloc, left)?;
     more.insert(0, Value::Int(9))?;
     let wanted = list(alloc, more)?;
@@ -77,12 +62,7 @@ fn expect_longer(
     expect_same(rt, alloc, &longer, &wanted)
 }
 
-fn expect_turned(
-    rt: &impl Abort,
-    alloc: Global,
-    row: &Value,
-    left: &[i64],
-) -> Result<(), AllocError> {
+fn expect_turned(rt: &impl Abort, alloc: Global, row: &Value, left: &[i64]) -> Result<(), Fail> {
     let mut back = integers(alloc, left)?;
     back.reverse();
     let wanted = list(alloc, back)?;
@@ -90,12 +70,7 @@ fn expect_turned(
     expect_same(rt, alloc, &turned, &wanted)
 }
 
-fn expect_last(
-    rt: &impl Abort,
-    alloc: Global,
-    row: &Value,
-    left: &[i64],
-) -> Result<(), AllocError> {
+fn expect_last(rt: &impl Abort, alloc: Global, row: &Value, left: &[i64]) -> Result<(), Fail> {
     let last = value_of(rt, alloc, "last", &[copy(row)?])?;
     let wanted = if left.is_empty() {
         Value::Nil

@@ -4,40 +4,23 @@ use crate::given::{
     Given, OUT_OF_BOUNDS, Row, expect_text, printed_outcome, values_of, wrong_argument,
 };
 use core_sequences::{SequenceFunction, apply_sequences};
-use std::alloc::{AllocError, Global};
+use std::alloc::Global;
 use std::process::Abort;
 use std::test::Fail;
 
 // The value, or the fault as a value, as a reply prints it.
-fn expect(
-    rt: &impl Abort,
-    alloc: Global,
-    name: &str,
-    given: &[Given],
-    wanted: &str,
-) -> Result<(), AllocError> {
+fn told(rt: &impl Abort, alloc: Global, name: &str, given: &[Given]) -> Result<String, Fail> {
     let Some(function) = SequenceFunction::named(name) else {
         panic!(rt; "unknown function");
     };
-    let text = told(rt, alloc, function, given)?;
-    expect_text(rt, text.as_str(), wanted, name);
-    Ok(())
-}
-
-fn told(
-    rt: &impl Abort,
-    alloc: Global,
-    function: SequenceFunction,
-    given: &[Given],
-) -> Result<String, AllocError> {
     let args = values_of(alloc, given)?;
     assert!(rt; function.takes(args.len()), "wrong number of arguments");
-    printed_outcome(alloc, apply_sequences(alloc, function, args.as_slice()))
+    Ok(printed_outcome(alloc, apply_sequences(alloc, function, args.as_slice()))?)
 }
 
 fn check(rt: &impl Abort, alloc: Global, rows: &[Row]) -> Result<(), Fail> {
     for (name, given, wanted) in rows {
-        expect(rt, alloc, name, given, wanted)?;
+        expect_text(rt, told(rt, alloc, name, given)?.as_str(), wanted, name);
     }
     Ok(())
 }
@@ -82,7 +65,8 @@ fn what_has_no_items(rt: HostRuntime) -> Result<(), Fail> {
     let names = ["first", "last", "rest", "next", "reverse"];
     for name in names {
         let wanted = wrong_argument(a, name, "\"ab\"")?;
-        expect(&rt, a, name, &[Text("ab")], wanted.as_str())?;
+        let found = told(&rt, a, name, &[Text("ab")])?;
+        expect_text(&rt, found.as_str(), wanted.as_str(), name);
     }
     Ok(())
 }
