@@ -116,13 +116,9 @@ pub(crate) fn row_of(stream: Stream) -> Row {
         Sorted(stream, written) => make_row(LIMIT, stream, written, true, None),
         Rest(stream) => make_row(LIMIT, stream, b"", false, None),
         Refused(stream, written, fault) => make_row(LIMIT, stream, written, false, Some(fault)),
-        Limited(limit, stream, written, fault) => make_row(
-            limit,
-            stream,
-            written,
-            false,
-            Some(fault),
-        ),
+        Limited(limit, stream, written, fault) => {
+            make_row(limit, stream, written, false, Some(fault))
+        }
     }
 }
 
@@ -215,10 +211,10 @@ fn is_read(alloc: Global, row: Row, pieces: &[&[u8]]) -> Result<bool, AllocError
     Ok(is_as_wanted(row, &decoder, written.as_slice(), fault))
 }
 
-fn is_read_at_every_cut(alloc: Global, row: Row, stream: &[u8]) -> Result<bool, AllocError> {
+fn is_read_at_every_cut(alloc: Global, row: Row) -> Result<bool, AllocError> {
+    let stream = row.stream;
     for cut in 0..stream.len() + 1 {
-        let pieces = [&stream[..cut], &stream[cut..]];
-        if !is_read(alloc, row, &pieces)? {
+        if !is_read(alloc, row, &[&stream[..cut], &stream[cut..]])? {
             return Ok(false);
         }
     }
@@ -228,8 +224,7 @@ fn is_read_at_every_cut(alloc: Global, row: Row, stream: &[u8]) -> Result<bool, 
 #[test]
 fn reads_at_every_cut(rt: HostRuntime) -> Result<(), AllocError> {
     for stream in STREAMS {
-        let row = row_of(*stream);
-        assert!(rt; is_read_at_every_cut(rt.alloc(), row, row.stream)?);
+        assert!(rt; is_read_at_every_cut(rt.alloc(), row_of(*stream))?);
     }
     Ok(())
 }
@@ -281,8 +276,7 @@ fn a_large_piece_is_read_at_once(rt: HostRuntime) -> Result<(), AllocError> {
     let message = large_message(alloc)?;
     assert_eq!(rt; message.len(), 65_536);
     let mut decoder = Decoder::new(alloc, LIMIT);
-    let fault = feed(alloc, &mut decoder, message.as_slice())?;
-    assert!(rt; fault == None);
+    assert!(rt; feed(alloc, &mut decoder, message.as_slice())?.is_none());
     let mut written = Vec::new(alloc);
     write_ready(&mut decoder, &mut written)?;
     assert!(rt; written.as_slice() == message.as_slice());
