@@ -17,11 +17,20 @@ pub(crate) fn expect(
     rows: &[Row],
 ) -> Result<(), AllocError> {
     for (in_transaction, given, wanted) in rows {
-        let values = values_of(alloc, given)?;
-        let told = call_told(alloc, call(alloc, function, *in_transaction, values)?)?;
+        let told = told_of(alloc, function, *in_transaction, given)?;
         assert_eq!(rt; told.as_str(), *wanted);
     }
     Ok(())
+}
+
+fn told_of(
+    alloc: Global,
+    function: StoreFunction,
+    in_transaction: bool,
+    given: &[Given],
+) -> Result<String, AllocError> {
+    let values = values_of(alloc, given)?;
+    call_told(alloc, call(alloc, function, in_transaction, values)?)
 }
 
 /// What a call comes to that is made in a transaction and outside of any.
@@ -58,20 +67,21 @@ pub(crate) fn altered_told(
 fn call_told(alloc: Global, call: Call) -> Result<String, AllocError> {
     match call {
         Call::Refused(fault) => printed(alloc, &fault.into_value()),
-        Call::Reads(name) => {
-            let name = printed_ref(alloc, name)?;
-            format!(in alloc; "reads {name}")
-        }
-        Call::Puts(name, value) => {
-            let (name, value) = (printed_ref(alloc, name)?, printed(alloc, &value)?);
-            format!(in alloc; "{name} gets {value}")
-        }
-        Call::Ensures(name) => {
-            let name = printed_ref(alloc, name)?;
-            format!(in alloc; "ensures {name}")
-        }
+        Call::Reads(name) => ref_told(alloc, "reads", name),
+        Call::Puts(name, value) => put_told(alloc, name, &value),
+        Call::Ensures(name) => ref_told(alloc, "ensures", name),
         Call::AsksValue(ask) => ask_told(alloc, &ask),
     }
+}
+
+fn ref_told(alloc: Global, what: &str, name: RefName) -> Result<String, AllocError> {
+    let name = printed_ref(alloc, name)?;
+    format!(in alloc; "{what} {name}")
+}
+
+fn put_told(alloc: Global, name: RefName, value: &Value) -> Result<String, AllocError> {
+    let (name, value) = (printed_ref(alloc, name)?, printed(alloc, value)?);
+    format!(in alloc; "{name} gets {value}")
 }
 
 fn ask_told(alloc: Global, ask: &Ask) -> Result<String, AllocError> {
@@ -85,10 +95,7 @@ fn ask_told(alloc: Global, ask: &Ask) -> Result<String, AllocError> {
             let (least, most) = (*min_history, *max_history);
             format!(in alloc; "new ref of {value} from {least} to {most}")
         }
-        Ask::History(name) => {
-            let name = printed_ref(alloc, *name)?;
-            format!(in alloc; "history of {name}")
-        }
+        Ask::History(name) => ref_told(alloc, "history of", *name),
         Ask::MinHistory { name, set } => bound_told(alloc, "least", *name, *set),
         Ask::MaxHistory { name, set } => bound_told(alloc, "most", *name, *set),
         _ => String::from_str(alloc, "another ask"),

@@ -1,7 +1,7 @@
 // Answers in pairs, and whether the two are the same.
-use crate::parts::text;
+use crate::steps::fault_of;
 use repl_asks::{Answer, Reading, Resolution, Verdict};
-use repl_values::{Fault, Value};
+use repl_values::Value;
 use std::alloc::{AllocError, Global};
 use std::test::Fail;
 use trace_comparison::{same_answer, same_reading, same_verdict};
@@ -19,11 +19,12 @@ enum Answered {
     Faulted(&'static str, &'static str),
 }
 
-fn fault_of(alloc: Global, class: &str, told: &str) -> Result<Fault, AllocError> {
-    Ok(Fault {
-        class: text(alloc, class)?,
-        text: text(alloc, told)?,
-    })
+fn verdict_of(alloc: Global, answered: Answered) -> Result<Verdict, AllocError> {
+    match answered {
+        Answered::Faulted(class, told) => Ok(Verdict::Faulted(fault_of(alloc, class, told)?)),
+        Answered::Conflict => Ok(Verdict::Conflict),
+        _committed => Ok(Verdict::Committed),
+    }
 }
 
 fn answer_of(alloc: Global, answered: Answered) -> Result<Answer, AllocError> {
@@ -33,56 +34,86 @@ fn answer_of(alloc: Global, answered: Answered) -> Result<Answer, AllocError> {
         Answered::Value(n) => Ok(Answer::Value(Value::Int(n))),
         Answered::Found(n) => Ok(Answer::Reading(Reading::Found(Value::Int(n)))),
         Answered::Retry => Ok(Answer::Reading(Reading::Retry)),
-        Answered::Committed => Ok(Answer::Verdict(Verdict::Committed)),
-        Answered::Conflict => Ok(Answer::Verdict(Verdict::Conflict)),
-        Answered::Faulted(class, told) => {
-            let fault = fault_of(alloc, class, told)?;
-            Ok(Answer::Verdict(Verdict::Faulted(fault)))
-        }
+        verdict => Ok(Answer::Verdict(verdict_of(alloc, verdict)?)),
     }
 }
 
+fn are_same(alloc: Global, one: Answered, other: Answered) -> Result<bool, AllocError> {
+    let one = answer_of(alloc, one)?;
+    Ok(same_answer(&one, &answer_of(alloc, other)?))
+}
+
+const ANSWERS: &[Answered] = &[
+    Answered::Names(1),
+    Answered::Names(2),
+    Answered::Done,
+    Answered::Value(1),
+    Answered::Value(2),
+    Answered::Found(1),
+    Answered::Found(2),
+    Answered::Retry,
+    Answered::Committed,
+    Answered::Conflict,
+    Answered::Faulted("C", "t"),
+    Answered::Faulted("C", "u"),
+    Answered::Faulted("D", "t"),
+    Answered::Faulted("Ct", ""),
+];
+
 #[test]
 fn answers_are_the_same_in_all_parts_alone(rt: HostRuntime) -> Result<(), Fail> {
-    let rows: [Answered; 14] = [
-        Answered::Names(1),
-        Answered::Names(2),
-        Answered::Done,
-        Answered::Value(1),
-        Answered::Value(2),
-        Answered::Found(1),
-        Answered::Found(2),
-        Answered::Retry,
-        Answered::Committed,
-        Answered::Conflict,
-        Answered::Faulted("C", "t"),
-        Answered::Faulted("C", "u"),
-        Answered::Faulted("D", "t"),
-        Answered::Faulted("Ct", ""),
-    ];
-    let a = rt.alloc();
-    for (place, answered) in rows.iter().enumerate() {
-        let answer = answer_of(a, *answered)?;
-        for (other_place, other_answered) in rows.iter().enumerate() {
-            let other = answer_of(a, *other_answered)?;
-            assert_eq!(rt; same_answer(&answer, &other), place == other_place);
+    for (place, one) in ANSWERS.iter().enumerate() {
+        for (other_place, other) in ANSWERS.iter().enumerate() {
+            let same = are_same(rt.alloc(), *one, *other)?;
+            assert_eq!(rt; same, place == other_place, "{place} and {other_place}");
         }
     }
     Ok(())
 }
 
+// What is found, or that the read is made again.
+fn reading_of(found: Option<i64>) -> Reading {
+    match found {
+        Some(n) => Reading::Found(Value::Int(n)),
+        None => Reading::Retry,
+    }
+}
+
+fn readings_are_same(one: Option<i64>, other: Option<i64>) -> bool {
+    let one = reading_of(one);
+    same_reading(&one, &reading_of(other))
+}
+
+fn verdicts_are_same(alloc: Global, one: Answered, other: Answered) -> Result<bool, AllocError> {
+    let one = verdict_of(alloc, one)?;
+    Ok(same_verdict(&one, &verdict_of(alloc, other)?))
+}
+
+const READINGS: &[(Option<i64>, Option<i64>, bool)] = &[
+    (Some(1), Some(1), true),
+    (Some(1), Some(2), false),
+    (Some(1), None, false),
+    (None, None, true),
+];
+
+const VERDICTS: &[(Answered, Answered, bool)] = &[
+    (
+        Answered::Faulted("C", "t"),
+        Answered::Faulted("C", "t"),
+        true,
+    ),
+    (Answered::Faulted("C", "t"), Answered::Committed, false),
+    (Answered::Conflict, Answered::Conflict, true),
+    (Answered::Conflict, Answered::Committed, false),
+];
+
 #[test]
 fn readings_and_verdicts_are_compared(rt: HostRuntime) -> Result<(), Fail> {
-    let found = |n: i64| Reading::Found(Value::Int(n));
-    assert!(rt; same_reading(&found(1), &found(1)));
-    assert!(rt; !same_reading(&found(1), &found(2)));
-    assert!(rt; !same_reading(&found(1), &Reading::Retry));
-    assert!(rt; same_reading(&Reading::Retry, &Reading::Retry));
-    let a = rt.alloc();
-    let faulted = Verdict::Faulted(fault_of(a, "C", "t")?);
-    assert!(rt; same_verdict(&faulted, &Verdict::Faulted(fault_of(a, "C", "t")?)));
-    assert!(rt; !same_verdict(&faulted, &Verdict::Committed));
-    assert!(rt; same_verdict(&Verdict::Conflict, &Verdict::Conflict));
-    assert!(rt; !same_verdict(&Verdict::Conflict, &Verdict::Committed));
+    for (one, other, expected) in READINGS {
+        assert_eq!(rt; readings_are_same(*one, *other), *expected);
+    }
+    for (one, other, expected) in VERDICTS {
+        assert_eq!(rt; verdicts_are_same(rt.alloc(), *one, *other)?, *expected);
+    }
     Ok(())
 }

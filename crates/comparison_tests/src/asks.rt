@@ -1,6 +1,6 @@
 // Asks of namespaces, refs and transactions in pairs, and whether the two are the same.
 use crate::parts::text;
-use core_integers::{ArithmeticFunction, IntegerFunction};
+use crate::steps::{MINUS, PLUS};
 use function_names::CoreFunction;
 use repl_asks::{Ask, Change, Commute, Commuted, Intent};
 use repl_values::{Owner, RefName, Value};
@@ -52,11 +52,18 @@ fn own(number: u64) -> RefName {
 }
 
 fn function_named(name: &str) -> CoreFunction {
-    let arithmetic = match name {
-        "+" => ArithmeticFunction::Add,
-        _ => ArithmeticFunction::Subtract,
-    };
-    CoreFunction::Integer(IntegerFunction::Arithmetic(arithmetic))
+    match name {
+        "+" => PLUS,
+        _ => MINUS,
+    }
+}
+
+fn integers(alloc: Global, numbers: &[i64]) -> Result<Vec<Value>, AllocError> {
+    let mut values = Vec::new(alloc);
+    for number in numbers {
+        values.push(Value::Int(*number))?;
+    }
+    Ok(values)
 }
 
 fn commutes(
@@ -64,17 +71,43 @@ fn commutes(
     functions: &[(&'static str, &'static [i64])],
 ) -> Result<Vec<Commute>, AllocError> {
     let mut commutes = Vec::new(alloc);
-    for (function, integers) in functions {
-        let mut arguments = Vec::new(alloc);
-        for integer in *integers {
-            arguments.push(Value::Int(*integer))?;
-        }
+    for (function, numbers) in functions {
         commutes.push(Commute {
             function: function_named(function),
-            arguments,
+            arguments: integers(alloc, numbers)?,
         })?;
     }
     Ok(commutes)
+}
+
+fn changes(alloc: Global, sets: &[(u64, i64)]) -> Result<Vec<Change>, AllocError> {
+    let mut changes = Vec::new(alloc);
+    for (number, now) in sets {
+        changes.push(Change {
+            name: own(*number),
+            now: Value::Int(*now),
+        })?;
+    }
+    Ok(changes)
+}
+
+fn names(alloc: Global, numbers: &[u64]) -> Result<Vec<RefName>, AllocError> {
+    let mut names = Vec::new(alloc);
+    for number in numbers {
+        names.push(own(*number))?;
+    }
+    Ok(names)
+}
+
+fn commuted(alloc: Global, applied: &[Applied]) -> Result<Vec<Commuted>, AllocError> {
+    let mut commuted = Vec::new(alloc);
+    for (number, functions) in applied {
+        commuted.push(Commuted {
+            name: own(*number),
+            commutes: commutes(alloc, functions)?,
+        })?;
+    }
+    Ok(commuted)
 }
 
 fn intent(
@@ -83,29 +116,16 @@ fn intent(
     ensured: &[u64],
     applied: &[Applied],
 ) -> Result<Intent, AllocError> {
-    let mut changes = Vec::new(alloc);
-    for (number, now) in sets {
-        changes.push(Change {
-            name: own(*number),
-            now: Value::Int(*now),
-        })?;
-    }
-    let mut names = Vec::new(alloc);
-    for number in ensured {
-        names.push(own(*number))?;
-    }
-    let mut commuted = Vec::new(alloc);
-    for (number, functions) in applied {
-        commuted.push(Commuted {
-            name: own(*number),
-            commutes: commutes(alloc, functions)?,
-        })?;
-    }
     Ok(Intent {
-        sets: changes,
-        ensured: names,
-        commuted,
+        sets: changes(alloc, sets)?,
+        ensured: names(alloc, ensured)?,
+        commuted: commuted(alloc, applied)?,
     })
+}
+
+fn commit(alloc: Global, sets: &[(u64, i64)], ensured: &[u64]) -> Result<Ask, AllocError> {
+    let intent = intent(alloc, sets, ensured, &[])?;
+    Ok(Ask::Commit(Arc::new(alloc, intent)?))
 }
 
 fn ask_of(alloc: Global, asked: Asked) -> Result<Ask, AllocError> {
@@ -127,14 +147,16 @@ fn ask_of(alloc: Global, asked: Asked) -> Result<Ask, AllocError> {
             name: RefName { owner, number },
             set,
         }),
-        Asked::Commit(sets, ensured) => {
-            let intent = intent(alloc, sets, ensured, &[])?;
-            Ok(Ask::Commit(Arc::new(alloc, intent)?))
-        }
+        Asked::Commit(sets, ensured) => commit(alloc, sets, ensured),
     }
 }
 
-const ASKS: [Asked; 32] = [
+fn are_same(alloc: Global, one: Asked, other: Asked) -> Result<bool, AllocError> {
+    let one = ask_of(alloc, one)?;
+    Ok(same_ask(&one, &ask_of(alloc, other)?))
+}
+
+const ASKS: &[Asked] = &[
     Asked::Enter("a"),
     Asked::Enter("b"),
     Asked::NewRef(1, 0, 10),
@@ -171,45 +193,59 @@ const ASKS: [Asked; 32] = [
 
 #[test]
 fn asks_are_the_same_in_all_parts_alone(rt: HostRuntime) -> Result<(), Fail> {
-    let a = rt.alloc();
-    for (place, asked) in ASKS.iter().enumerate() {
-        let ask = ask_of(a, *asked)?;
-        for (other_place, other_asked) in ASKS.iter().enumerate() {
-            let other = ask_of(a, *other_asked)?;
-            assert_eq!(rt; same_ask(&ask, &other), place == other_place);
+    for (place, one) in ASKS.iter().enumerate() {
+        for (other_place, other) in ASKS.iter().enumerate() {
+            let same = are_same(rt.alloc(), *one, *other)?;
+            assert_eq!(rt; same, place == other_place, "{place} and {other_place}");
         }
     }
     Ok(())
 }
 
+// Whether an intent is the same as the first row's, and that the same as it.
+fn are_as_the_first(
+    alloc: Global,
+    sets: &[(u64, i64)],
+    ensured: &[u64],
+) -> Result<(bool, bool), AllocError> {
+    let first = intent(alloc, &[(1, 10), (2, 20)], &[3, 4], &[])?;
+    let other = intent(alloc, sets, ensured, &[])?;
+    Ok((same_intent(&first, &other), same_intent(&other, &first)))
+}
+
+const INTENTS: &[(&[(u64, i64)], &[u64], bool)] = &[
+    (&[(1, 10), (2, 20)], &[3, 4], true),
+    (&[(2, 20), (1, 10)], &[3, 4], false),
+    (&[(1, 10)], &[3, 4], false),
+    (&[(1, 10), (2, 21)], &[3, 4], false),
+    (&[(1, 10), (2, 20)], &[4, 3], false),
+    (&[(1, 10), (2, 20)], &[3, 4, 4], false),
+];
+
 #[test]
 fn intents_are_the_same_in_their_order(rt: HostRuntime) -> Result<(), Fail> {
-    let rows: [(&[(u64, i64)], &[u64], bool); 6] = [
-        (&[(1, 10), (2, 20)], &[3, 4], true),
-        (&[(2, 20), (1, 10)], &[3, 4], false),
-        (&[(1, 10)], &[3, 4], false),
-        (&[(1, 10), (2, 21)], &[3, 4], false),
-        (&[(1, 10), (2, 20)], &[4, 3], false),
-        (&[(1, 10), (2, 20)], &[3, 4, 4], false),
-    ];
-    let a = rt.alloc();
-    let first = intent(a, &[(1, 10), (2, 20)], &[3, 4], &[])?;
-    for (sets, ensured, expected) in rows {
-        let other = intent(a, sets, ensured, &[])?;
-        assert_eq!(rt; same_intent(&first, &other), expected);
-        assert_eq!(rt; same_intent(&other, &first), expected);
+    for (sets, ensured, expected) in INTENTS {
+        let same = are_as_the_first(rt.alloc(), sets, ensured)?;
+        assert_eq!(rt; same, (*expected, *expected));
     }
     Ok(())
 }
 
+fn intents_are_same(
+    alloc: Global,
+    applied: &[Applied],
+    others: &[Applied],
+) -> Result<bool, AllocError> {
+    let one = intent(alloc, &[(1, 10)], &[2], applied)?;
+    Ok(same_intent(&one, &intent(alloc, &[(1, 10)], &[2], others)?))
+}
+
 #[test]
 fn commutes_are_the_same_in_all_parts_alone(rt: HostRuntime) -> Result<(), Fail> {
-    let a = rt.alloc();
     for (place, applied) in APPLIED.iter().enumerate() {
-        let one = intent(a, &[(1, 10)], &[2], applied)?;
-        for (other_place, other_applied) in APPLIED.iter().enumerate() {
-            let other = intent(a, &[(1, 10)], &[2], other_applied)?;
-            assert_eq!(rt; same_intent(&one, &other), place == other_place);
+        for (other_place, others) in APPLIED.iter().enumerate() {
+            let same = intents_are_same(rt.alloc(), applied, others)?;
+            assert_eq!(rt; same, place == other_place, "{place} and {other_place}");
         }
     }
     Ok(())

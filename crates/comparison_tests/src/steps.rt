@@ -1,5 +1,6 @@
 // Asks and answers in short.
 use crate::parts::{Part, text, value_of};
+use core_integers::{ArithmeticFunction, IntegerFunction};
 use function_names::{CoreFunction, StoreFunction};
 use repl_asks::{Answer, Ask, Binding, Exchange, NamedFunction, Resolution, Trace};
 use repl_values::{Fault, Sequence, Value};
@@ -29,6 +30,14 @@ pub(crate) enum Step {
     DefinesValue(&'static str, &'static [Part]),
     DefinesProgram(&'static str, Program),
 }
+
+pub(crate) const PLUS: CoreFunction = CoreFunction::Integer(IntegerFunction::Arithmetic(
+    ArithmeticFunction::Add,
+));
+
+pub(crate) const MINUS: CoreFunction = CoreFunction::Integer(IntegerFunction::Arithmetic(
+    ArithmeticFunction::Subtract,
+));
 
 pub(crate) const PROGRAM: Program = Program {
     space: "user",
@@ -83,6 +92,13 @@ fn defined(alloc: Global, name: &str, binding: Binding) -> Result<Exchange, Allo
     })
 }
 
+pub(crate) fn fault_of(alloc: Global, class: &str, told: &str) -> Result<Fault, AllocError> {
+    Ok(Fault {
+        class: text(alloc, class)?,
+        text: text(alloc, told)?,
+    })
+}
+
 pub(crate) fn exchange_of(alloc: Global, step: Step) -> Result<Exchange, AllocError> {
     match step {
         Step::NamesValue(symbol, parts) => {
@@ -101,11 +117,11 @@ pub(crate) fn exchange_of(alloc: Global, step: Step) -> Result<Exchange, AllocEr
             resolved(alloc, symbol, Resolution::Function(function))
         }
         Step::NamesNothing(symbol, class, told) => {
-            let fault = Fault {
-                class: text(alloc, class)?,
-                text: text(alloc, told)?,
-            };
-            resolved(alloc, symbol, Resolution::Nothing(fault))
+            resolved(
+                alloc,
+                symbol,
+                Resolution::Nothing(fault_of(alloc, class, told)?),
+            )
         }
         Step::NamesDone(symbol) => answered(alloc, symbol, Answer::Done),
         Step::DefinesValue(name, parts) => {

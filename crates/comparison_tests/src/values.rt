@@ -2,6 +2,7 @@
 use crate::parts::{Part, job_of, value_of};
 use Part::{Agent, Atom, Bool, Int, Keyword, List, Map, Nil, Ref, Str, Symbol, Var, Vector};
 use repl_values::{Owner, Sequence, Value, same};
+use std::alloc::{AllocError, Global};
 use std::test::Fail;
 use trace_comparison::{same_job, same_value};
 
@@ -15,43 +16,47 @@ const TABLE: [Part; 5] = [Keyword("a"), Int(1), Keyword("b"), Int(2), Map(2)];
 // {:b 2, :a 1}
 const TURNED: [Part; 5] = [Keyword("b"), Int(2), Keyword("a"), Int(1), Map(2)];
 
+fn are_same(alloc: Global, one: &[Part], other: &[Part]) -> Result<bool, AllocError> {
+    let one = value_of(alloc, one)?;
+    Ok(same_value(&one, &value_of(alloc, other)?))
+}
+
+const VALUES: &[&[Part]] = &[
+    &[Nil],
+    &[Bool(true)],
+    &[Bool(false)],
+    &[Int(-12)],
+    &[Str("")],
+    &[Str("é→")],
+    &[Keyword("name")],
+    &[Symbol("s/n")],
+    &[List(0)],
+    &[Vector(0)],
+    &[Map(0)],
+    &[Int(1), Int(2), List(2)],
+    &[Int(1), Str("x"), Vector(2)],
+    &[Nil, List(1), Vector(1), List(1)],
+    &TABLE,
+    &[Ref(OWN, 3)],
+    &[Ref(Owner::Shared, 0)],
+    &[Atom(1)],
+    &[Agent(0)],
+    &[Var("user", "x")],
+    &[Part::Error("C", "t")],
+];
+
 #[test]
 fn same_values_are_the_same(rt: HostRuntime) -> Result<(), Fail> {
-    let rows: [&[Part]; 21] = [
-        &[Nil],
-        &[Bool(true)],
-        &[Bool(false)],
-        &[Int(-12)],
-        &[Str("")],
-        &[Str("é→")],
-        &[Keyword("name")],
-        &[Symbol("s/n")],
-        &[List(0)],
-        &[Vector(0)],
-        &[Map(0)],
-        &[Int(1), Int(2), List(2)],
-        &[Int(1), Str("x"), Vector(2)],
-        &[Nil, List(1), Vector(1), List(1)],
-        &TABLE,
-        &[Ref(OWN, 3)],
-        &[Ref(Owner::Shared, 0)],
-        &[Atom(1)],
-        &[Agent(0)],
-        &[Var("user", "x")],
-        &[Part::Error("C", "t")],
-    ];
-    let a = rt.alloc();
-    for (place, parts) in rows.iter().enumerate() {
-        let value = value_of(a, parts)?;
-        for (other_place, other_parts) in rows.iter().enumerate() {
-            let other = value_of(a, other_parts)?;
-            assert_eq!(rt; same_value(&value, &other), place == other_place);
+    for (place, one) in VALUES.iter().enumerate() {
+        for (other_place, other) in VALUES.iter().enumerate() {
+            let same = are_same(rt.alloc(), one, other)?;
+            assert_eq!(rt; same, place == other_place, "{place} and {other_place}");
         }
     }
     Ok(())
 }
 
-const OTHERS: [(&[Part], &[Part]); 27] = [
+const OTHERS: &[(&[Part], &[Part])] = &[
     (&[Bool(true)], &[Bool(false)]),
     (&[Int(1)], &[Int(-1)]),
     (&[Str("a")], &[Str("a ")]),
@@ -87,65 +92,83 @@ const OTHERS: [(&[Part], &[Part]); 27] = [
 
 #[test]
 fn other_values_are_not_the_same(rt: HostRuntime) -> Result<(), Fail> {
-    let a = rt.alloc();
-    for (parts, others) in OTHERS {
-        let (value, other) = (value_of(a, parts)?, value_of(a, others)?);
-        assert!(rt; !same_value(&value, &other));
-        assert!(rt; !same_value(&other, &value));
+    for (one, other) in OTHERS {
+        assert!(rt; !are_same(rt.alloc(), one, other)?);
+        assert!(rt; !are_same(rt.alloc(), other, one)?);
     }
     Ok(())
 }
 
 // The language takes them for equal, and a comparison of what they print does not.
+fn are_equal(alloc: Global, one: &[Part], other: &[Part]) -> Result<bool, AllocError> {
+    let one = value_of(alloc, one)?;
+    Ok(same(&one, &value_of(alloc, other)?))
+}
+
+const EQUAL: &[(&[Part], &[Part])] = &[
+    (&[Int(1), List(1)], &[Int(1), Vector(1)]),
+    (&TABLE, &TURNED),
+    (&[List(0), Nil, Map(1)], &[Vector(0), Nil, Map(1)]),
+];
+
 #[test]
 fn equal_values_may_differ(rt: HostRuntime) -> Result<(), Fail> {
-    let rows: [(&[Part], &[Part]); 3] = [
-        (&[Int(1), List(1)], &[Int(1), Vector(1)]),
-        (&TABLE, &TURNED),
-        (&[List(0), Nil, Map(1)], &[Vector(0), Nil, Map(1)]),
-    ];
-    let a = rt.alloc();
-    for (parts, others) in rows {
-        let (value, other) = (value_of(a, parts)?, value_of(a, others)?);
-        assert!(rt; same(&value, &other));
-        assert!(rt; !same_value(&value, &other));
+    for (one, other) in EQUAL {
+        assert!(rt; are_equal(rt.alloc(), one, other)?);
+        assert!(rt; !are_same(rt.alloc(), one, other)?);
     }
     Ok(())
+}
+
+// The integers from the first to 3.
+fn up_to_three(alloc: Global, first: i64) -> Result<Sequence, AllocError> {
+    let mut items = Vec::new(alloc);
+    for item in first..4 {
+        items.push(Value::Int(item))?;
+    }
+    Sequence::from_vec(alloc, items)
+}
+
+// Whether what stands behind 1 and 2 is the same as the list from this integer.
+fn rest_is(alloc: Global, first: i64) -> Result<bool, AllocError> {
+    let rest = Value::List(up_to_three(alloc, 1)?.rest(alloc)?.rest(alloc)?);
+    Ok(same_value(&rest, &Value::List(up_to_three(alloc, first)?)))
 }
 
 // The rest of a list stands in the list's node.
 #[test]
 fn a_rest_is_what_is_in_it(rt: HostRuntime) -> Result<(), Fail> {
-    let a = rt.alloc();
-    let items = |first: i64| -> Result<Sequence, Fail> {
-        let mut items = Vec::new(a);
-        for item in first..4 {
-            items.push(Value::Int(item))?;
-        }
-        Ok(Sequence::from_vec(a, items)?)
-    };
-    let rest = Value::List(items(1)?.rest(a)?.rest(a)?);
-    assert!(rt; same_value(&rest, &Value::List(items(3)?)));
-    assert!(rt; !same_value(&rest, &Value::List(items(2)?)));
+    assert!(rt; rest_is(rt.alloc(), 3)?);
+    assert!(rt; !rest_is(rt.alloc(), 2)?);
     Ok(())
 }
 
+// Whether a job is the same as the first row's, and that the same as it.
+fn are_as_the_first(
+    alloc: Global,
+    parts: &[Part],
+    namespace: &str,
+    retries: u32,
+) -> Result<(bool, bool), AllocError> {
+    let job = job_of(alloc, &TABLE, "user", 3)?;
+    let other = job_of(alloc, parts, namespace, retries)?;
+    Ok((same_job(&job, &other), same_job(&other, &job)))
+}
+
+const JOBS: &[(&[Part], &str, u32, bool)] = &[
+    (&TABLE, "user", 3, true),
+    (&TURNED, "user", 3, false),
+    (&TABLE, "use", 3, false),
+    (&TABLE, "users", 3, false),
+    (&TABLE, "user", 2, false),
+    (&[Nil], "user", 3, false),
+];
+
 #[test]
 fn jobs_are_compared_in_all_parts(rt: HostRuntime) -> Result<(), Fail> {
-    let rows: [(&[Part], &str, u32, bool); 6] = [
-        (&TABLE, "user", 3, true),
-        (&TURNED, "user", 3, false),
-        (&TABLE, "use", 3, false),
-        (&TABLE, "users", 3, false),
-        (&TABLE, "user", 2, false),
-        (&[Nil], "user", 3, false),
-    ];
-    let a = rt.alloc();
-    let job = job_of(a, &TABLE, "user", 3)?;
-    for (parts, namespace, retries, expected) in rows {
-        let other = job_of(a, parts, namespace, retries)?;
-        assert_eq!(rt; same_job(&job, &other), expected);
-        assert_eq!(rt; same_job(&other, &job), expected);
+    for (parts, namespace, retries, expected) in JOBS {
+        let same = are_as_the_first(rt.alloc(), parts, namespace, *retries)?;
+        assert_eq!(rt; same, (*expected, *expected));
     }
     Ok(())
 }

@@ -1,6 +1,7 @@
 // Calls of the language's functions by their names.
 use crate::given::{printed, printed_outcome};
-use core_functions::{CoreFunction, apply};
+use core_functions::{Applied, CoreFunction, apply};
+use repl_faults::ApplyError;
 use repl_reader::read_all;
 use repl_values::Value;
 use std::alloc::{AllocError, Global};
@@ -26,7 +27,11 @@ pub(crate) fn apply_named(
     if !function.takes(args.len()) {
         panic!(rt; "wrong number of arguments to {name}");
     }
-    match apply(alloc, function, args) {
+    called_of(alloc, apply(alloc, function, args))
+}
+
+fn called_of(alloc: Global, applied: Result<Applied, ApplyError>) -> Result<Called, AllocError> {
+    match applied {
         Ok(applied) => Ok(Called {
             print: printed(alloc, &applied.value)?,
             text: applied.text,
@@ -38,15 +43,23 @@ pub(crate) fn apply_named(
     }
 }
 
+// The name and the arguments of the first form.
+fn call_of(forms: &[Value]) -> Option<(&str, &[Value])> {
+    match forms.first() {
+        Some(Value::List(call)) => match call.as_slice().split_first() {
+            Some((Value::Symbol(name), args)) => Some((name.as_str(), args)),
+            _ => None,
+        },
+        _ => None,
+    }
+}
+
 // Applies the function at the head of a call. The arguments are not evaluated: a symbol and a list
 // stand for themselves.
 pub(crate) fn apply_code(rt: &impl Abort, alloc: Global, code: &str) -> Result<Called, AllocError> {
     let forms = read_all(alloc, code)?.forms;
-    let Some(Value::List(call)) = forms.first() else {
-        panic!(rt; "no call: {code}");
+    let Some((name, args)) = call_of(forms.as_slice()) else {
+        panic!(rt; "no call of a name: {code}");
     };
-    let Some((Value::Symbol(name), args)) = call.as_slice().split_first() else {
-        panic!(rt; "no name at the head: {code}");
-    };
-    apply_named(rt, alloc, name.as_str(), args)
+    apply_named(rt, alloc, name, args)
 }

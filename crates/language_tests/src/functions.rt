@@ -1,5 +1,5 @@
 // Each function once on its happy path and once on each of its faults, as the language's rules say.
-use crate::calls::apply_code;
+use crate::calls::{Called, apply_code};
 use std::alloc::{AllocError, Global};
 use std::process::Abort;
 use std::test::Fail;
@@ -8,10 +8,14 @@ use std::test::Fail;
 fn expect_values(rt: &impl Abort, alloc: Global, rows: &[(&str, &str)]) -> Result<(), AllocError> {
     for (code, wanted) in rows {
         let called = apply_code(rt, alloc, code)?;
-        assert_eq!(rt; called.print.as_str(), *wanted, "at {code}");
-        assert_eq!(rt; called.text.as_str(), "", "at {code}");
+        expect_called(rt, &called, wanted, "", code);
     }
     Ok(())
+}
+
+fn expect_called(rt: &impl Abort, called: &Called, print: &str, text: &str, code: &str) {
+    assert_eq!(rt; called.print.as_str(), print, "at {code}");
+    assert_eq!(rt; called.text.as_str(), text, "at {code}");
 }
 
 const ARITHMETIC: &[(&str, &str)] = &[
@@ -162,8 +166,7 @@ fn prints_give_nil(rt: HostRuntime) -> Result<(), Fail> {
     let a = rt.alloc();
     for (code, wanted) in PRINTS {
         let called = apply_code(&rt, a, code)?;
-        assert_eq!(&rt; called.text.as_str(), *wanted, "at {code}");
-        assert_eq!(&rt; called.print.as_str(), "nil", "at {code}");
+        expect_called(&rt, &called, "nil", wanted, code);
     }
     Ok(())
 }
@@ -196,13 +199,22 @@ const WRONG_ARGUMENTS: &[(&str, &str)] = &[
 
 #[test]
 fn wrong_arguments_are_named(rt: HostRuntime) -> Result<(), Fail> {
-    let a = rt.alloc();
     for (code, named) in WRONG_ARGUMENTS {
-        let called = apply_code(&rt, a, code)?;
-        let wanted = format!(in a;
-            "#error{{java.lang.ClassCastException: Wrong argument to {named}}}"
-        )?;
-        assert_eq!(&rt; called.print.as_str(), wanted.as_str(), "at {code}");
+        expect_wrong_argument(&rt, rt.alloc(), code, named)?;
     }
+    Ok(())
+}
+
+fn expect_wrong_argument(
+    rt: &impl Abort,
+    alloc: Global,
+    code: &str,
+    named: &str,
+) -> Result<(), AllocError> {
+    let wanted = format!(in alloc;
+        "#error{{java.lang.ClassCastException: Wrong argument to {named}}}"
+    )?;
+    let called = apply_code(rt, alloc, code)?;
+    expect_called(rt, &called, wanted.as_str(), "", code);
     Ok(())
 }

@@ -2,6 +2,7 @@
 use repl_faults::ApplyError;
 use repl_values::{Built, Sequence, Table, Value, print_into};
 use std::alloc::{AllocError, Global};
+use std::process::Abort;
 use std::sync::ArcStr;
 
 // An argument, in short.
@@ -66,6 +67,10 @@ pub(crate) fn values_of(alloc: Global, given: &[Given]) -> Result<Vec<Value>, Al
         values.push(value_of(alloc, one)?)?;
     }
     Ok(values)
+}
+
+pub(crate) fn expect_text(rt: &impl Abort, found: &str, wanted: &str, at: &str) {
+    assert_eq!(rt; found, wanted, "at {at}");
 }
 
 pub(crate) fn printed(alloc: Global, value: &Value) -> Result<String, AllocError> {

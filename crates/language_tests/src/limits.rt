@@ -1,7 +1,9 @@
 // Values that are too heavy or too deep for a function to give.
 use crate::calls::apply_named;
-use crate::given::{list, vector};
+use crate::given::{expect_text, list, vector};
 use repl_values::Value;
+use std::alloc::{AllocError, Global};
+use std::process::Abort;
 use std::sync::ArcStr;
 use std::test::Fail;
 
@@ -9,48 +11,78 @@ const TOO_LARGE: &str = "#error{java.lang.IllegalArgumentException: Value too la
 
 const TOO_LONG: &str = "#error{java.lang.IllegalArgumentException: Output too long}";
 
+fn expect_print(
+    rt: &impl Abort,
+    alloc: Global,
+    name: &str,
+    args: &[Value],
+    wanted: &str,
+) -> Result<(), AllocError> {
+    let called = apply_named(rt, alloc, name, args)?;
+    expect_text(rt, called.print.as_str(), wanted, name);
+    Ok(())
+}
+
+// How long the print of the value is, and the text that the call prints.
+fn lengths(
+    rt: &impl Abort,
+    alloc: Global,
+    name: &str,
+    args: &[Value],
+) -> Result<(usize, usize), AllocError> {
+    let called = apply_named(rt, alloc, name, args)?;
+    Ok((called.print.len(), called.text.len()))
+}
+
 // The most that a value may weigh, with 1 for the string itself.
-#[test]
-fn heavy_values_are_faults(rt: HostRuntime) -> Result<(), Fail> {
-    let a = rt.alloc();
-    let mut text = String::new(a);
+fn heaviest(alloc: Global) -> Result<Value, AllocError> {
+    let mut text = String::new(alloc);
     for _ in 0..1_048_575 {
         text.push('x')?;
     }
-    let mut args = Vec::new(a);
-    args.push(Value::Str(ArcStr::from_string(text)?))?;
-    let heaviest = apply_named(&rt, a, "identity", args.as_slice())?;
-    assert_eq!(&rt; heaviest.print.len(), 1_048_577);
+    Ok(Value::Str(ArcStr::from_string(text)?))
+}
+
+fn one(alloc: Global, value: Value) -> Result<Vec<Value>, AllocError> {
+    let mut args = Vec::new(alloc);
+    args.push(value)?;
+    Ok(args)
+}
+
+#[test]
+fn heavy_values_are_faults(rt: HostRuntime) -> Result<(), Fail> {
+    let a = rt.alloc();
+    let mut args = one(a, heaviest(a)?)?;
+    assert_eq!(&rt;
+        lengths(&rt, a, "identity", args.as_slice())?,
+        (1_048_577, 0)
+    );
+    assert_eq!(&rt;
+        lengths(&rt, a, "println", args.as_slice())?,
+        (3, 1_048_576)
+    );
+    expect_print(&rt, a, "println", args.as_slice(), "nil")?;
+    expect_print(&rt, a, "pr", args.as_slice(), TOO_LONG)?;
     args.push(Value::Int(1))?;
-    let heavier = apply_named(&rt, a, "str", args.as_slice())?;
-    assert_eq!(&rt; heavier.print.as_str(), TOO_LARGE);
-    let too_long = apply_named(&rt, a, "print", args.as_slice())?;
-    assert_eq!(&rt; too_long.print.as_str(), TOO_LONG);
-    args.pop();
-    let longest = apply_named(&rt, a, "println", args.as_slice())?;
-    assert_eq!(&rt; longest.print.as_str(), "nil");
-    assert_eq!(&rt; longest.text.len(), 1_048_576);
-    let quoted = apply_named(&rt, a, "pr", args.as_slice())?;
-    assert_eq!(&rt; quoted.print.as_str(), TOO_LONG);
+    expect_print(&rt, a, "str", args.as_slice(), TOO_LARGE)?;
+    expect_print(&rt, a, "print", args.as_slice(), TOO_LONG)?;
     Ok(())
+}
+
+fn nested(alloc: Global, depth: u32) -> Result<Value, AllocError> {
+    let mut value = Value::Nil;
+    for _ in 0..depth {
+        value = vector(alloc, one(alloc, value)?)?;
+    }
+    Ok(value)
 }
 
 #[test]
 fn deep_values_are_faults(rt: HostRuntime) -> Result<(), Fail> {
     let a = rt.alloc();
-    let mut value = Value::Nil;
-    for _ in 0..128 {
-        let mut items = Vec::new(a);
-        items.push(value)?;
-        value = vector(a, items)?;
-    }
-    let mut args = Vec::new(a);
-    args.push(value)?;
-    let deepest = apply_named(&rt, a, "identity", args.as_slice())?;
-    assert_eq!(&rt; deepest.print.len(), 259);
-    let mut nest = Vec::new(a);
-    nest.push(list(a, args)?)?;
-    let deeper = apply_named(&rt, a, "identity", nest.as_slice())?;
-    assert_eq!(&rt; deeper.print.as_str(), TOO_LARGE);
+    let args = one(a, nested(a, 128)?)?;
+    assert_eq!(&rt; lengths(&rt, a, "identity", args.as_slice())?, (259, 0));
+    let nest = one(a, list(a, args)?)?;
+    expect_print(&rt, a, "identity", nest.as_slice(), TOO_LARGE)?;
     Ok(())
 }

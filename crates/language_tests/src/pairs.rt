@@ -1,8 +1,13 @@
 // Pairs put in and taken out, as the language's rules say of a map.
-use crate::given::{integers, list, printed, table, vector};
+use crate::given::{expect_text, integers, list, printed, table, vector};
 use repl_values::{Table, Value, pair_as_vector};
 use std::alloc::{AllocError, Global};
+use std::process::Abort;
 use std::test::Fail;
+
+fn put_lent(alloc: Global, table: Table, more: &[(&Value, &Value)]) -> Result<String, AllocError> {
+    printed(alloc, &Value::Map(table.with_pairs(alloc, more)?))
+}
 
 // The map of the first pairs with more put in.
 fn put(alloc: Global, first: &[(i64, i64)], more: &[(i64, i64)]) -> Result<String, AllocError> {
@@ -14,8 +19,23 @@ fn put(alloc: Global, first: &[(i64, i64)], more: &[(i64, i64)]) -> Result<Strin
     for (key, value) in &values {
         lent.push((key, value))?;
     }
-    let all = table(alloc, first)?.with_pairs(alloc, lent.as_slice())?;
-    printed(alloc, &Value::Map(all))
+    put_lent(alloc, table(alloc, first)?, lent.as_slice())
+}
+
+fn expect_put(
+    rt: &impl Abort,
+    alloc: Global,
+    first: &[(i64, i64)],
+    more: &[(i64, i64)],
+    wanted: &str,
+) -> Result<(), AllocError> {
+    expect_text(
+        rt,
+        put(alloc, first, more)?.as_str(),
+        wanted,
+        "pairs put in",
+    );
+    Ok(())
 }
 
 fn removed(alloc: Global, first: &[(i64, i64)], keys: &[i64]) -> Result<String, AllocError> {
@@ -24,42 +44,57 @@ fn removed(alloc: Global, first: &[(i64, i64)], keys: &[i64]) -> Result<String, 
     printed(alloc, &Value::Map(rest))
 }
 
+fn expect_removed(
+    rt: &impl Abort,
+    alloc: Global,
+    first: &[(i64, i64)],
+    keys: &[i64],
+    wanted: &str,
+) -> Result<(), AllocError> {
+    expect_text(
+        rt,
+        removed(alloc, first, keys)?.as_str(),
+        wanted,
+        "keys taken out",
+    );
+    Ok(())
+}
+
 #[test]
 fn key_keeps_its_place(rt: HostRuntime) -> Result<(), Fail> {
     let a = rt.alloc();
-    let text = put(a, &[(1, 2), (3, 4)], &[(3, 5), (6, 7), (1, 8), (6, 9)])?;
-    assert_eq!(&rt; text.as_str(), "{1 8, 3 5, 6 9}");
-    let text = put(a, &[], &[(2, 1), (1, 1), (2, 3)])?;
-    assert_eq!(&rt; text.as_str(), "{2 3, 1 1}");
-    let text = put(a, &[(1, 2)], &[])?;
-    assert_eq!(&rt; text.as_str(), "{1 2}");
+    expect_put(
+        &rt,
+        a,
+        &[(1, 2), (3, 4)],
+        &[(3, 5), (6, 7), (1, 8), (6, 9)],
+        "{1 8, 3 5, 6 9}",
+    )?;
+    expect_put(&rt, a, &[], &[(2, 1), (1, 1), (2, 3)], "{2 3, 1 1}")?;
+    expect_put(&rt, a, &[(1, 2)], &[], "{1 2}")?;
     Ok(())
 }
 
 // A list is the same key as a vector with its items; the key that stands stays.
 #[test]
 fn equal_keys_are_one(rt: HostRuntime) -> Result<(), Fail> {
-    let a = rt.alloc();
-    let list = list(a, vec![in a; Value::Int(1)]?)?;
-    let vector = vector(a, vec![in a; Value::Int(1)]?)?;
-    let seven = Value::Int(7);
-    let eight = Value::Int(8);
-    let mut more = Vec::new(a);
-    more.push((&list, &seven))?;
-    more.push((&vector, &eight))?;
-    let all = Table::empty(a)?.with_pairs(a, more.as_slice())?;
-    let text = printed(a, &Value::Map(all))?;
+    let text = put_equal_keys(rt.alloc())?;
     assert_eq!(&rt; text.as_str(), "{(1) 8}");
     Ok(())
+}
+
+fn put_equal_keys(a: Global) -> Result<String, AllocError> {
+    let list = list(a, integers(a, &[1])?)?;
+    let vector = vector(a, integers(a, &[1])?)?;
+    let (seven, eight) = (Value::Int(7), Value::Int(8));
+    put_lent(a, Table::empty(a)?, &[(&list, &seven), (&vector, &eight)])
 }
 
 #[test]
 fn keys_are_taken_out(rt: HostRuntime) -> Result<(), Fail> {
     let a = rt.alloc();
-    let text = removed(a, &[(1, 2), (3, 4), (5, 6)], &[3, 9, 3])?;
-    assert_eq!(&rt; text.as_str(), "{1 2, 5 6}");
-    let text = removed(a, &[(1, 2)], &[])?;
-    assert_eq!(&rt; text.as_str(), "{1 2}");
+    expect_removed(&rt, a, &[(1, 2), (3, 4), (5, 6)], &[3, 9, 3], "{1 2, 5 6}")?;
+    expect_removed(&rt, a, &[(1, 2)], &[], "{1 2}")?;
     Ok(())
 }
 

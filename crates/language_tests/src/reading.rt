@@ -2,14 +2,33 @@
 use FaultKind::{
     BadChar, BadDispatch, BadEscape, BadNumber, BadToken, Eof, OddMap, SameKey, TooDeep, Unmatched,
 };
-use repl_reader::{FaultKind, read_all};
-use repl_values::print_into;
+use repl_reader::{FaultKind, ReaderFault, read_all};
+use repl_values::{Value, print_into};
 use std::alloc::{AllocError, Global};
 use std::process::Abort;
 use std::test::Fail;
 
 // What is told of a fault.
 type Told = (FaultKind, usize, &'static str);
+
+fn is_told(found: &Option<ReaderFault>, fault: Option<Told>) -> bool {
+    match (found, fault) {
+        (None, None) => true,
+        (Some(found), Some((kind, at, text))) => {
+            found.kind == kind && found.at == at && found.text.as_str() == text
+        }
+        _ => false,
+    }
+}
+
+fn are_printed(alloc: Global, forms: &[Value], wanted: &str) -> Result<bool, AllocError> {
+    let mut printed = String::new(alloc);
+    for form in forms {
+        print_into(alloc, form, &mut printed)?;
+        printed.push_str(" ")?;
+    }
+    Ok(printed.as_str() == wanted)
+}
 
 // Whether the forms' prints, each with a space behind it, and the fault are these.
 fn is_read(
@@ -19,58 +38,47 @@ fn is_read(
     fault: Option<Told>,
 ) -> Result<bool, AllocError> {
     let read = read_all(alloc, text)?;
-    let mut printed = String::new(alloc);
-    for form in &read.forms {
-        print_into(alloc, form, &mut printed)?;
-        printed.push_str(" ")?;
-    }
-    let same_fault = match (read.fault, fault) {
-        (None, None) => true,
-        (Some(found), Some((kind, at, text))) => {
-            found.kind == kind && found.at == at && found.text.as_str() == text
-        }
-        _ => false,
-    };
-    Ok(printed.as_str() == forms && same_fault)
+    Ok(is_told(&read.fault, fault) && are_printed(alloc, read.forms.as_slice(), forms)?)
 }
+
+const FORMS: &[(&str, &str)] = &[
+    ("", ""),
+    (" ,\t\r\n\u{c}; (only a comment", ""),
+    ("1;\r(13)2", "1 "),
+    ("1;\n(13)2", "1 (13) 2 "),
+    ("1 ; é→)\n2;", "1 2 "),
+    ("nil true false nilx", "nil true false nilx "),
+    (
+        "-0 +0 +7 -7 9223372036854775807",
+        "0 0 7 -7 9223372036854775807 ",
+    ),
+    (
+        "-9223372036854775808 - + -a +a ...",
+        "-9223372036854775808 - + -a +a ... ",
+    ),
+    (":a :a:b :a/b/c :é", ":a :a:b :a/b/c :é "),
+    ("/ a/b x' a#b é→", "/ a/b x' a#b é→ "),
+    (
+        "\"é\\n\\t\\r\\f\\b\\\\\\\"→\"",
+        "\"é\\n\\t\\r\\f\\b\\\\\\\"→\" ",
+    ),
+    ("\"a\nb\"\"\"", "\"a\\nb\" \"\" "),
+    ("\"; (\"'a", "\"; (\" (quote a) "),
+    ("() [] {} (1[2{3 4}])", "() [] {} (1 [2 {3 4}]) "),
+    (
+        "'x @y ''z",
+        "(quote x) (clojure.core/deref y) (quote (quote z)) ",
+    ),
+    ("#_1 2 #_#_3 4 5 (6 #_ 7)", "2 5 (6) "),
+    ("#_(é 1)→ [#_\"x\"]", "→ [] "),
+    ("' ; é\n #_1 x", "(quote x) "),
+    ("{1 2 \"1\" 3 [1] 4}", "{1 2, \"1\" 3, [1] 4} "),
+    ("{1 #_2 3}", "{1 3} "),
+];
 
 #[test]
 fn forms_are_read(rt: HostRuntime) -> Result<(), Fail> {
-    let rows: [(&str, &str); 20] = [
-        ("", ""),
-        (" ,\t\r\n\u{c}; (only a comment", ""),
-        ("1;\r(13)2", "1 "),
-        ("1;\n(13)2", "1 (13) 2 "),
-        ("1 ; é→)\n2;", "1 2 "),
-        ("nil true false nilx", "nil true false nilx "),
-        (
-            "-0 +0 +7 -7 9223372036854775807",
-            "0 0 7 -7 9223372036854775807 ",
-        ),
-        (
-            "-9223372036854775808 - + -a +a ...",
-            "-9223372036854775808 - + -a +a ... ",
-        ),
-        (":a :a:b :a/b/c :é", ":a :a:b :a/b/c :é "),
-        ("/ a/b x' a#b é→", "/ a/b x' a#b é→ "),
-        (
-            "\"é\\n\\t\\r\\f\\b\\\\\\\"→\"",
-            "\"é\\n\\t\\r\\f\\b\\\\\\\"→\" ",
-        ),
-        ("\"a\nb\"\"\"", "\"a\\nb\" \"\" "),
-        ("\"; (\"'a", "\"; (\" (quote a) "),
-        ("() [] {} (1[2{3 4}])", "() [] {} (1 [2 {3 4}]) "),
-        (
-            "'x @y ''z",
-            "(quote x) (clojure.core/deref y) (quote (quote z)) ",
-        ),
-        ("#_1 2 #_#_3 4 5 (6 #_ 7)", "2 5 (6) "),
-        ("#_(é 1)→ [#_\"x\"]", "→ [] "),
-        ("' ; é\n #_1 x", "(quote x) "),
-        ("{1 2 \"1\" 3 [1] 4}", "{1 2, \"1\" 3, [1] 4} "),
-        ("{1 #_2 3}", "{1 3} "),
-    ];
-    for (text, forms) in rows {
+    for (text, forms) in FORMS {
         assert!(rt; is_read(rt.alloc(), text, forms, None)?, "{text}");
     }
     Ok(())
@@ -79,7 +87,7 @@ fn forms_are_read(rt: HostRuntime) -> Result<(), Fail> {
 // A text, its forms before its fault, and the kind, place and message of the fault.
 type Faulty = (&'static str, &'static str, FaultKind, usize, &'static str);
 
-const FAULTS: [Faulty; 30] = [
+const FAULTS: &[Faulty] = &[
     ("1 (", "1 ", Eof, 3, "EOF while reading"),
     ("\"é\\", "", Eof, 4, "EOF while reading"),
     ("'#_", "", Eof, 3, "EOF while reading"),
@@ -152,7 +160,7 @@ const FAULTS: [Faulty; 30] = [
 fn faults_end_a_text(rt: HostRuntime) -> Result<(), Fail> {
     for (text, forms, kind, at, told) in FAULTS {
         assert!(rt;
-            is_read(rt.alloc(), text, forms, Some((kind, at, told)))?,
+            is_read(rt.alloc(), text, forms, Some((*kind, *at, *told)))?,
             "{text}"
         );
     }
@@ -167,24 +175,31 @@ fn repeated(alloc: Global, opening: &str, times: usize) -> Result<String, AllocE
     Ok(text)
 }
 
+// Whether what is written so often has no forms, and this fault.
+fn is_nested(
+    alloc: Global,
+    opening: &str,
+    times: usize,
+    fault: Option<Told>,
+) -> Result<bool, AllocError> {
+    is_read(alloc, repeated(alloc, opening, times)?.as_str(), "", fault)
+}
+
+// What is written how often, and the fault.
+const NESTED: &[(&str, usize, FaultKind, usize, &'static str)] = &[
+    ("[", 64, Eof, 64, "EOF while reading"),
+    ("[", 65, TooDeep, 64, "Nested too deep"),
+    ("({ é ", 33, TooDeep, 192, "Nested too deep"),
+    ("'@", 33, TooDeep, 64, "Nested too deep"),
+    ("'", 64, Eof, 64, "EOF while reading"),
+    ("#_", 100_000, Eof, 200_000, "EOF while reading"),
+];
+
 #[test]
 fn nesting_has_a_limit(rt: HostRuntime) -> Result<(), Fail> {
-    // What is written how often, and the fault.
-    let rows: [(&str, usize, FaultKind, usize, &'static str); 6] = [
-        ("[", 64, Eof, 64, "EOF while reading"),
-        ("[", 65, TooDeep, 64, "Nested too deep"),
-        ("({ é ", 33, TooDeep, 192, "Nested too deep"),
-        ("'@", 33, TooDeep, 64, "Nested too deep"),
-        ("'", 64, Eof, 64, "EOF while reading"),
-        ("#_", 100_000, Eof, 200_000, "EOF while reading"),
-    ];
-    let a = rt.alloc();
-    for (opening, times, kind, at, told) in rows {
-        let text = repeated(a, opening, times)?;
-        assert!(rt;
-            is_read(a, text.as_str(), "", Some((kind, at, told)))?,
-            "{opening}"
-        );
+    for (opening, times, kind, at, told) in NESTED {
+        let fault = Some((*kind, *at, *told));
+        assert!(rt; is_nested(rt.alloc(), opening, *times, fault)?, "{opening}");
     }
     Ok(())
 }

@@ -1,5 +1,5 @@
 // What stands behind the first item, again and again: as a list of its own to every function.
-use crate::given::{integers, list, printed};
+use crate::given::{expect_text, integers, list, printed};
 use core_functions::{CoreFunction, apply};
 use repl_faults::ApplyError;
 use repl_values::{Value, copy, hash_of, nesting, same, weight};
@@ -27,20 +27,57 @@ fn value_of(
     }
 }
 
+fn are_one(value: &Value, wanted: &Value) -> bool {
+    same(value, wanted)
+        && same(wanted, value)
+        && hash_of(value) == hash_of(wanted)
+        && weight(value) == weight(wanted)
+        && nesting(value) == nesting(wanted)
+}
+
 // The two are one to every function.
-fn expect_same(
-    rt: &impl Abort,
-    alloc: Global,
-    value: &Value,
-    wanted: &Value,
-) -> Result<(), AllocError> {
-    let text = printed(alloc, value)?;
-    assert_eq!(rt; text.as_str(), printed(alloc, wanted)?.as_str());
-    assert!(rt; same(value, wanted));
-    assert!(rt; same(wanted, value));
-    assert_eq!(rt; hash_of(value), hash_of(wanted));
-    assert_eq!(rt; weight(value), weight(wanted));
-    assert_eq!(rt; nesting(value), nesting(wanted));
+fn expect_same(rt: &impl Abort, alloc: Global, value: &Value, wanted: &Value) -> Result<(), Fail> {
+    let text = printed(alloc, wanted)?;
+    expect_text(
+        rt,
+        printed(alloc, value)?.as_str(),
+        text.as_str(),
+        "a print",
+    );
+    assert!(rt; are_one(value, wanted));
+    Ok(())
+}
+
+fn expect_list(rt: &impl Abort, alloc: Global, value: &Value, items: &[i64]) -> Result<(), Fail> {
+    let wanted = list(alloc, integers(alloc, items)?)?;
+    expect_same(rt, alloc, value, &wanted)
+}
+
+// With 9 in front.
+fn expect_longer(rt: &impl Abort, alloc: Global, row: &Value, left: &[i64]) -> Result<(), Fail> {
+    let mut more = integers(alloc, left)?;
+    more.insert(0, Value::Int(9))?;
+    let wanted = list(alloc, more)?;
+    let longer = value_of(rt, alloc, "conj", &[copy(row)?, Value::Int(9)])?;
+    expect_same(rt, alloc, &longer, &wanted)
+}
+
+fn expect_turned(rt: &impl Abort, alloc: Global, row: &Value, left: &[i64]) -> Result<(), Fail> {
+    let mut back = integers(alloc, left)?;
+    back.reverse();
+    let wanted = list(alloc, back)?;
+    let turned = value_of(rt, alloc, "reverse", &[copy(row)?])?;
+    expect_same(rt, alloc, &turned, &wanted)
+}
+
+fn expect_last(rt: &impl Abort, alloc: Global, row: &Value, left: &[i64]) -> Result<(), Fail> {
+    let last = value_of(rt, alloc, "last", &[copy(row)?])?;
+    let wanted = if left.is_empty() {
+        Value::Nil
+    } else {
+        Value::Int(6)
+    };
+    assert!(rt; same(&last, &wanted));
     Ok(())
 }
 
@@ -53,22 +90,10 @@ fn rests_are_lists(rt: HostRuntime) -> Result<(), Fail> {
     for start in 1..8usize {
         row = value_of(&rt, a, "rest", &[row])?;
         let left = NUMBERS.get(start..).unwrap_or(&[]);
-        expect_same(&rt, a, &row, &list(a, integers(a, left)?)?)?;
-        let longer = value_of(&rt, a, "conj", &[copy(&row)?, Value::Int(9)])?;
-        let mut more = integers(a, left)?;
-        more.insert(0, Value::Int(9))?;
-        expect_same(&rt, a, &longer, &list(a, more)?)?;
-        let turned = value_of(&rt, a, "reverse", &[copy(&row)?])?;
-        let mut back = integers(a, left)?;
-        back.reverse();
-        expect_same(&rt, a, &turned, &list(a, back)?)?;
-        let last = value_of(&rt, a, "last", &[copy(&row)?])?;
-        let wanted = if left.is_empty() {
-            Value::Nil
-        } else {
-            Value::Int(6)
-        };
-        assert!(&rt; same(&last, &wanted));
+        expect_list(&rt, a, &row, left)?;
+        expect_longer(&rt, a, &row, left)?;
+        expect_turned(&rt, a, &row, left)?;
+        expect_last(&rt, a, &row, left)?;
     }
     Ok(())
 }
@@ -76,17 +101,20 @@ fn rests_are_lists(rt: HostRuntime) -> Result<(), Fail> {
 // What stands behind a heavy item does not weigh what that weighs.
 #[test]
 fn rest_of_a_heavy_item(rt: HostRuntime) -> Result<(), Fail> {
-    let a = rt.alloc();
-    let text = ArcStr::from_str(a, "a text that weighs more than all that follows it")?;
-    let mut items = integers(a, &[1, 2])?;
+    let mut row = heavy_third(rt.alloc())?;
+    for _ in 0..3usize {
+        row = value_of(&rt, rt.alloc(), "rest", &[row])?;
+    }
+    expect_list(&rt, rt.alloc(), &row, &[3, 4, 5, 6])?;
+    Ok(())
+}
+
+fn heavy_third(alloc: Global) -> Result<Value, AllocError> {
+    let text = ArcStr::from_str(alloc, "a text that weighs more than all that follows it")?;
+    let mut items = integers(alloc, &[1, 2])?;
     items.push(Value::Str(text))?;
     for n in 3..7i64 {
         items.push(Value::Int(n))?;
     }
-    let mut row = list(a, items)?;
-    for _ in 0..3usize {
-        row = value_of(&rt, a, "rest", &[row])?;
-    }
-    expect_same(&rt, a, &row, &list(a, integers(a, &[3, 4, 5, 6])?)?)?;
-    Ok(())
+    list(alloc, items)
 }

@@ -3,7 +3,7 @@ use crate::messages::Reply::{Done, Fault, Out, Value};
 use crate::messages::{ARITHMETIC, ARITY, CLASS_CAST, ILLEGAL_ARGUMENT, RUNTIME, STACK_OVERFLOW};
 use crate::rows::Row;
 
-pub(crate) const CALL_PROGRAMS: [Row; 13] = [
+pub(crate) const CALL_PROGRAMS: &[Row] = &[
     Row {
         code: "() [] {} [1 (inc 1)] {:a (inc 1) (str \"b\") 2}",
         told: &[

@@ -3,7 +3,7 @@ use crate::messages::Reply::{Done, Fault, Out, Value};
 use crate::messages::{EXCEPTION_INFO, ILLEGAL_ARGUMENT};
 use crate::rows::Row;
 
-pub(crate) const FORM_PROGRAMS: [Row; 17] = [
+pub(crate) const FORM_PROGRAMS: &[Row] = &[
     Row {
         code: "(quote a) '(a b) ''a",
         told: &[Value("a"), Value("(a b)"), Value("(quote a)"), Done],

@@ -6,7 +6,7 @@ use crate::messages::{
 };
 use crate::rows::Row;
 
-pub(crate) const FUNCTION_PROGRAMS: [Row; 23] = [
+pub(crate) const FUNCTION_PROGRAMS: &[Row] = &[
     Row {
         code: "(list) (vector) (list 1 [2]) (vector nil 'a)",
         told: &[

@@ -3,7 +3,7 @@ use crate::messages::Reply::{Done, Fault, In, Refused, Value};
 use crate::messages::{ARITHMETIC, ILLEGAL_STATE, RUNTIME};
 use crate::rows::Request;
 
-pub(crate) const NAMESPACES: [&[Request]; 16] = [
+pub(crate) const NAMESPACES: &[&[Request]] = &[
     &[
         Request(None, "(ns a)", &[In("a", "nil"), Done]),
         Request(Some("a"), "1", &[In("a", "1"), Done]),

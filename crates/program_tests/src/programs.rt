@@ -6,7 +6,7 @@ use crate::messages::{
 };
 use crate::rows::Row;
 
-pub(crate) const PROGRAMS: [Row; 17] = [
+pub(crate) const PROGRAMS: &[Row] = &[
     Row {
         code: "(str nil \"a\" [1 \"b\"])",
         told: &[Value("\"a[1 \\\"b\\\"]\""), Done],

@@ -9,22 +9,22 @@ use std::test::Fail;
 
 #[test]
 fn programs(rt: HostRuntime) -> Result<(), Fail> {
-    expect_rows(&rt, rt.alloc(), &PROGRAMS)
+    expect_rows(&rt, rt.alloc(), PROGRAMS)
 }
 
 #[test]
 fn form_programs(rt: HostRuntime) -> Result<(), Fail> {
-    expect_rows(&rt, rt.alloc(), &FORM_PROGRAMS)
+    expect_rows(&rt, rt.alloc(), FORM_PROGRAMS)
 }
 
 #[test]
 fn call_programs(rt: HostRuntime) -> Result<(), Fail> {
-    expect_rows(&rt, rt.alloc(), &CALL_PROGRAMS)
+    expect_rows(&rt, rt.alloc(), CALL_PROGRAMS)
 }
 
 #[test]
 fn function_programs(rt: HostRuntime) -> Result<(), Fail> {
-    expect_rows(&rt, rt.alloc(), &FUNCTION_PROGRAMS)
+    expect_rows(&rt, rt.alloc(), FUNCTION_PROGRAMS)
 }
 
 #[test]

@@ -1,6 +1,8 @@
 // Messages that are answered at once.
 use crate::table::{ADA_AND_BOB, fields_of};
+use bencode_wire::Dictionary;
 use repl_replies::{RequestOrReply, operation_of, reply_bytes, request_of};
+use std::alloc::{AllocError, Global};
 use std::test::Fail;
 
 // A message, and the reply to it.
@@ -117,45 +119,57 @@ static REFUSED: &[(&[u8], &[u8])] = &[
     ),
 ];
 
+// The bytes of the reply to a message that is refused.
+fn refused(alloc: Global, fields: Dictionary) -> Result<Vec<u8>, AllocError> {
+    match operation_of(fields, &ADA_AND_BOB) {
+        Ok(_) => Vec::from_slice(alloc, b"served"),
+        Err(refusal) => reply_bytes(alloc, &refusal),
+    }
+}
+
 #[test]
 fn refused_messages_are_answered(rt: HostRuntime) -> Result<(), Fail> {
-    let alloc = rt.alloc();
     for &(message, reply) in REFUSED {
-        let fields = fields_of(&rt, alloc, message)?;
-        match operation_of(fields, &ADA_AND_BOB) {
-            Ok(_) => panic!(rt; "served"),
-            Err(refusal) => assert_eq!(rt; reply_bytes(alloc, &refusal)?.as_slice(), reply),
-        }
+        let fields = fields_of(&rt, rt.alloc(), message)?;
+        assert_eq!(rt; refused(rt.alloc(), fields)?.as_slice(), reply);
     }
     Ok(())
 }
 
+// The code that waits, or the bytes of the reply.
+fn waiting_or_answered(alloc: Global, fields: Dictionary) -> Result<Vec<u8>, AllocError> {
+    match request_of(fields) {
+        RequestOrReply::Waits(request) => Vec::from_slice(alloc, request.code.as_bytes()),
+        RequestOrReply::Answered(reply) => reply_bytes(alloc, &reply),
+    }
+}
+
+// A message, and the code that waits or the reply.
+const WITHOUT_SESSIONS: &[(&[u8], &[u8])] = &[
+    (
+        b"d2:id1:52:op4:evale",
+        b"d2:id1:56:statusl5:error7:no-code4:doneee",
+    ),
+    (
+        b"d4:code1:12:op4:eval7:session3:adae",
+        b"d7:session3:ada6:statusl5:error15:unknown-session4:doneee",
+    ),
+    (
+        b"d2:id1:12:op5:clonee",
+        b"d2:id1:12:op5:clone6:statusl5:error10:unknown-op4:doneee",
+    ),
+    (b"d4:code7:(+ 1 2)2:id1:72:op4:evale", b"(+ 1 2)"),
+];
+
 // Where there are no sessions, a message evaluates outside of one or not at all.
 #[test]
 fn messages_without_sessions(rt: HostRuntime) -> Result<(), Fail> {
-    let alloc = rt.alloc();
-    let rows: [(&[u8], &[u8]); 4] = [
-        (
-            b"d2:id1:52:op4:evale",
-            b"d2:id1:56:statusl5:error7:no-code4:doneee",
-        ),
-        (
-            b"d4:code1:12:op4:eval7:session3:adae",
-            b"d7:session3:ada6:statusl5:error15:unknown-session4:doneee",
-        ),
-        (
-            b"d2:id1:12:op5:clonee",
-            b"d2:id1:12:op5:clone6:statusl5:error10:unknown-op4:doneee",
-        ),
-        (b"d4:code7:(+ 1 2)2:id1:72:op4:evale", b"(+ 1 2)"),
-    ];
-    for (message, expected) in rows {
-        match request_of(fields_of(&rt, alloc, message)?) {
-            RequestOrReply::Waits(request) => assert_eq!(rt; request.code.as_bytes(), expected),
-            RequestOrReply::Answered(reply) => {
-                assert_eq!(rt; reply_bytes(alloc, &reply)?.as_slice(), expected);
-            }
-        }
+    for &(message, expected) in WITHOUT_SESSIONS {
+        let fields = fields_of(&rt, rt.alloc(), message)?;
+        assert_eq!(rt;
+            waiting_or_answered(rt.alloc(), fields)?.as_slice(),
+            expected
+        );
     }
     Ok(())
 }

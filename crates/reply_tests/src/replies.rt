@@ -13,83 +13,115 @@ fn string(alloc: Global, bytes: &[u8]) -> Result<Ben, AllocError> {
     Ok(Ben::String(Vec::from_slice(alloc, bytes)?))
 }
 
+// What a reply says, in short.
+#[derive(Clone, Copy)]
+enum Said {
+    // A value, and the namespace.
+    Value(&'static str, &'static str),
+    Output(&'static str),
+    Exception(&'static str),
+    ErrorText(&'static str),
+    Done,
+    NamespaceNotFound,
+    Interrupted,
+    Closed,
+    NoSessions,
+    NoFile,
+    UnknownSession,
+    UnknownOp(&'static [u8]),
+}
+
 // What a reply says, and its bytes where the request had the id `1`.
-type Told = (Body, &'static [u8]);
+const TOLD: &[(Said, &[u8])] = &[
+    // Of a form that is evaluated.
+    (Said::Value("3", "user"), b"d2:id1:12:ns4:user5:value1:3e"),
+    (Said::Output("hi\n"), b"d2:id1:13:out3:hi\ne"),
+    (
+        Said::Exception("arity"),
+        b"d2:ex11:class arity2:id1:17:root-ex11:class arity6:statusl10:eval-erroree",
+    ),
+    (
+        Said::ErrorText("arity: two\n"),
+        b"d3:err11:arity: two\n2:id1:1e",
+    ),
+    (Said::Done, b"d2:id1:16:statusl4:doneee"),
+    // Of sessions, and of requests that are not evaluated.
+    (
+        Said::NamespaceNotFound,
+        b"d2:id1:16:statusl5:error19:namespace-not-found4:doneee",
+    ),
+    (
+        Said::Interrupted,
+        b"d2:id1:16:statusl4:done11:interruptedee",
+    ),
+    (Said::Closed, b"d2:id1:16:statusl4:done14:session-closedee"),
+    (Said::NoSessions, b"d2:id1:18:sessionsle6:statusl4:doneee"),
+    (Said::NoFile, b"d2:id1:16:statusl5:error7:no-file4:doneee"),
+    (
+        Said::UnknownSession,
+        b"d2:id1:16:statusl5:error15:unknown-session4:doneee",
+    ),
+    (
+        Said::UnknownOp(b"x"),
+        b"d2:id1:12:op1:x6:statusl5:error10:unknown-op4:doneee",
+    ),
+];
 
-// Of a form that is evaluated.
-fn told_of_forms(alloc: Global) -> Result<[Told; 5], AllocError> {
-    Ok([
-        (
-            Body::Value {
-                value: text(alloc, "3")?,
-                ns: text(alloc, "user")?,
-            },
-            b"d2:id1:12:ns4:user5:value1:3e",
-        ),
-        (Body::Output(text(alloc, "hi\n")?), b"d2:id1:13:out3:hi\ne"),
-        (
-            Body::Exception {
-                class: text(alloc, "arity")?,
-            },
-            b"d2:ex11:class arity2:id1:17:root-ex11:class arity6:statusl10:eval-erroree",
-        ),
-        (
-            Body::ErrorText(text(alloc, "arity: two\n")?),
-            b"d3:err11:arity: two\n2:id1:1e",
-        ),
-        (Body::Done, b"d2:id1:16:statusl4:doneee"),
-    ])
+fn value_body(alloc: Global, value: &str, ns: &str) -> Result<Body, AllocError> {
+    Ok(Body::Value {
+        value: text(alloc, value)?,
+        ns: text(alloc, ns)?,
+    })
 }
 
-// Of sessions, and of requests that are not evaluated.
-fn told_of_requests(alloc: Global) -> Result<[Told; 7], AllocError> {
-    Ok([
-        (
-            Body::NamespaceNotFound,
-            b"d2:id1:16:statusl5:error19:namespace-not-found4:doneee",
-        ),
-        (
-            Body::Interrupted,
-            b"d2:id1:16:statusl4:done11:interruptedee",
-        ),
-        (Body::Closed, b"d2:id1:16:statusl4:done14:session-closedee"),
-        (
-            Body::Sessions(Vec::new(alloc)),
-            b"d2:id1:18:sessionsle6:statusl4:doneee",
-        ),
-        (Body::NoFile, b"d2:id1:16:statusl5:error7:no-file4:doneee"),
-        (
-            Body::UnknownSession,
-            b"d2:id1:16:statusl5:error15:unknown-session4:doneee",
-        ),
-        (
-            Body::UnknownOp(Some(string(alloc, b"x")?)),
-            b"d2:id1:12:op1:x6:statusl5:error10:unknown-op4:doneee",
-        ),
-    ])
+fn body_of(alloc: Global, said: Said) -> Result<Body, AllocError> {
+    match said {
+        Said::Value(value, ns) => value_body(alloc, value, ns),
+        Said::Output(output) => Ok(Body::Output(text(alloc, output)?)),
+        Said::Exception(class) => Ok(Body::Exception {
+            class: text(alloc, class)?,
+        }),
+        Said::ErrorText(told) => Ok(Body::ErrorText(text(alloc, told)?)),
+        Said::NoSessions => Ok(Body::Sessions(Vec::new(alloc))),
+        Said::UnknownOp(name) => Ok(Body::UnknownOp(Some(string(alloc, name)?))),
+        other => Ok(plain_body(other)),
+    }
 }
 
-fn expect_spelled(rt: &impl Abort, alloc: Global, told: Told) -> Result<(), Fail> {
-    let (body, bytes) = told;
+fn plain_body(said: Said) -> Body {
+    match said {
+        Said::NamespaceNotFound => Body::NamespaceNotFound,
+        Said::Interrupted => Body::Interrupted,
+        Said::Closed => Body::Closed,
+        Said::NoFile => Body::NoFile,
+        Said::UnknownSession => Body::UnknownSession,
+        _done => Body::Done,
+    }
+}
+
+fn reply_of(alloc: Global, said: Said) -> Result<Reply, AllocError> {
     let origin = Origin {
         id: Some(string(alloc, b"1")?),
         session: None,
     };
-    let reply = Reply { origin, body };
-    assert_eq!(rt; reply_bytes(alloc, &reply)?.as_slice(), bytes);
-    // A reply is not used up by its bytes.
-    assert_eq!(rt; reply_bytes(alloc, &reply)?.as_slice(), bytes);
+    Ok(Reply {
+        origin,
+        body: body_of(alloc, said)?,
+    })
+}
+
+fn expect_bytes(rt: &impl Abort, alloc: Global, reply: &Reply, bytes: &[u8]) -> Result<(), Fail> {
+    assert_eq!(rt; reply_bytes(alloc, reply)?.as_slice(), bytes);
     Ok(())
 }
 
 #[test]
 fn replies_are_spelled(rt: HostRuntime) -> Result<(), Fail> {
-    let alloc = rt.alloc();
-    for told in told_of_forms(alloc)? {
-        expect_spelled(&rt, alloc, told)?;
-    }
-    for told in told_of_requests(alloc)? {
-        expect_spelled(&rt, alloc, told)?;
+    for &(said, bytes) in TOLD {
+        let reply = reply_of(rt.alloc(), said)?;
+        expect_bytes(&rt, rt.alloc(), &reply, bytes)?;
+        // A reply is not used up by its bytes.
+        expect_bytes(&rt, rt.alloc(), &reply, bytes)?;
     }
     Ok(())
 }
@@ -102,22 +134,24 @@ fn malformed_streams_are_told(rt: HostRuntime) -> Result<(), Fail> {
         body: Body::Malformed,
     };
     let bytes = b"d6:statusl5:error9:malformed4:doneee".as_slice();
-    assert_eq!(rt; reply_bytes(rt.alloc(), &reply)?.as_slice(), bytes);
-    Ok(())
+    expect_bytes(&rt, rt.alloc(), &reply, bytes)
 }
 
-#[test]
-fn origins_are_copied(rt: HostRuntime) -> Result<(), Fail> {
-    let alloc = rt.alloc();
+// A reply to a copy of an origin with a number for its id.
+fn copied_reply(alloc: Global) -> Result<Reply, AllocError> {
     let origin = Origin {
         id: Some(Ben::Integer(-3)),
         session: Some(string(alloc, b"ada")?),
     };
-    let reply = Reply {
+    Ok(Reply {
         origin: origin.copy(alloc)?,
         body: Body::Done,
-    };
+    })
+}
+
+#[test]
+fn origins_are_copied(rt: HostRuntime) -> Result<(), Fail> {
+    let reply = copied_reply(rt.alloc())?;
     let bytes = b"d2:idi-3e7:session3:ada6:statusl4:doneee".as_slice();
-    assert_eq!(rt; reply_bytes(alloc, &reply)?.as_slice(), bytes);
-    Ok(())
+    expect_bytes(&rt, rt.alloc(), &reply, bytes)
 }

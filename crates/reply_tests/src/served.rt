@@ -3,6 +3,7 @@ use crate::table::{ADA_AND_BOB, fields_of};
 use bencode_wire::{Ben, write_into};
 use repl_replies::{Asked, Body, Operation, Reply, describe_reply, operation_of, reply_bytes};
 use std::alloc::{AllocError, Global};
+use std::process::Abort;
 use std::test::Fail;
 
 // A message, the operation that it asks for as a line, and the reply.
@@ -121,19 +122,26 @@ fn line_of(alloc: Global, operation: &Operation) -> Result<String, AllocError> {
         Operation::Describe { session } => named(alloc, "describe", *session),
         Operation::ListSessions { session } => named(alloc, "ls-sessions", *session),
         Operation::Eval { session, code, ns } => {
-            let mut line = named(alloc, "eval", *session)?;
-            line.push_str(": ")?;
-            line.push_str(code.as_str())?;
+            let mut line = with_code(alloc, "eval", *session, code.as_str())?;
             push_namespace(alloc, &mut line, ns)?;
             Ok(line)
         }
         Operation::LoadFile { session, file } => {
-            let mut line = named(alloc, "load-file", *session)?;
-            line.push_str(": ")?;
-            line.push_str(file.as_str())?;
-            Ok(line)
+            with_code(alloc, "load-file", *session, file.as_str())
         }
     }
+}
+
+fn with_code(
+    alloc: Global,
+    name: &str,
+    session: Option<u64>,
+    code: &str,
+) -> Result<String, AllocError> {
+    let mut line = named(alloc, name, session)?;
+    line.push_str(": ")?;
+    line.push_str(code)?;
+    Ok(line)
 }
 
 fn named(alloc: Global, name: &str, session: Option<u64>) -> Result<String, AllocError> {
@@ -157,39 +165,52 @@ fn text(alloc: Global, text: &str) -> Result<String, AllocError> {
     String::from_str(alloc, text)
 }
 
-// A reply to what is asked, where forms have no values.
+fn session_ids(alloc: Global) -> Result<Vec<String>, AllocError> {
+    let mut ids = Vec::new(alloc);
+    for session in ADA_AND_BOB.sessions {
+        ids.push(text(alloc, session.id)?)?;
+    }
+    Ok(ids)
+}
+
+// What the reply says, where forms have no values. A description is no body alone.
+fn body_of(alloc: Global, operation: &Operation) -> Result<Body, AllocError> {
+    match operation {
+        Operation::Clone { .. } => {
+            Ok(Body::NewSession(text(alloc, "76b8e0ad-a0f1-4d90-805d-6ae55386bd28")?))
+        }
+        Operation::Close { .. } => Ok(Body::Closed),
+        Operation::ListSessions { .. } => Ok(Body::Sessions(session_ids(alloc)?)),
+        _other => Ok(Body::Done),
+    }
+}
+
 fn answered(alloc: Global, asked: Asked) -> Result<Reply, AllocError> {
     let Asked { origin, operation } = asked;
-    let body = match operation {
-        Operation::Clone { .. } => {
-            Body::NewSession(text(alloc, "76b8e0ad-a0f1-4d90-805d-6ae55386bd28")?)
-        }
-        Operation::Close { .. } => Body::Closed,
-        Operation::Describe { .. } => return Ok(describe_reply(origin)),
-        Operation::ListSessions { .. } => {
-            let mut ids = Vec::new(alloc);
-            for session in ADA_AND_BOB.sessions {
-                ids.push(text(alloc, session.id)?)?;
-            }
-            Body::Sessions(ids)
-        }
-        Operation::Eval { .. } => Body::Done,
-        Operation::LoadFile { .. } => Body::Done,
-    };
+    if let Operation::Describe { .. } = &operation {
+        return Ok(describe_reply(origin));
+    }
+    let body = body_of(alloc, &operation)?;
     Ok(Reply { origin, body })
+}
+
+fn expect_reply(rt: &impl Abort, alloc: Global, asked: Asked, bytes: &[u8]) -> Result<(), Fail> {
+    let reply = answered(alloc, asked)?;
+    assert_eq!(rt; reply_bytes(alloc, &reply)?.as_slice(), bytes);
+    Ok(())
+}
+
+fn expect_served(rt: &impl Abort, alloc: Global, asked: Asked, row: &Row) -> Result<(), Fail> {
+    assert_eq!(rt; line_of(alloc, &asked.operation)?.as_str(), row.operation);
+    expect_reply(rt, alloc, asked, row.reply)
 }
 
 #[test]
 fn messages_ask_for_operations(rt: HostRuntime) -> Result<(), Fail> {
-    let alloc = rt.alloc();
     for row in ROWS {
-        let fields = fields_of(&rt, alloc, row.message)?;
+        let fields = fields_of(&rt, rt.alloc(), row.message)?;
         match operation_of(fields, &ADA_AND_BOB) {
-            Ok(asked) => {
-                assert_eq!(rt; line_of(alloc, &asked.operation)?.as_str(), row.operation);
-                let reply = answered(alloc, asked)?;
-                assert_eq!(rt; reply_bytes(alloc, &reply)?.as_slice(), row.reply);
-            }
+            Ok(asked) => expect_served(&rt, rt.alloc(), asked, row)?,
             Err(_) => panic!(rt; "{}", row.operation),
         }
     }

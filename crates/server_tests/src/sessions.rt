@@ -11,7 +11,7 @@ use tenant_turns::Core;
 
 // The first two ids under a seed of zeros are 76b8e0ad-a0f1-4d90-805d-6ae55386bd28 and
 // bdd219b8-a08d-4d1a-a836-efcc8b770dc7.
-const CASES: [Case; 7] = [
+const CASES: &[Case] = &[
     // Two sessions are made and listed.
     Case {
         input: b"d2:id1:12:op5:cloneed2:id1:22:op5:cloneed2:id1:32:op11:ls-sessionse",
@@ -76,11 +76,11 @@ d2:id1:37:session36:76b8e0ad-a0f1-4d90-805d-6ae55386bd286:statusl4:done14:sessio
 
 #[test]
 fn sessions_and_their_operations(rt: HostRuntime) -> Result<(), Fail> {
-    expect_replies(&rt, rt.alloc(), &CASES)
+    expect_replies(&rt, rt.alloc(), CASES)
 }
 
 // Pieces of one stream, each with what is written for it before the next comes.
-const CONVERSATION: [(&[u8], &[u8]); 5] = [
+const CONVERSATION: &[(&[u8], &[u8])] = &[
     (
         b"d2:id1:12:op5:clonee",
         b"d2:id1:111:new-session36:76b8e0ad-a0f1-4d90-805d-6ae55386bd286:statusl4:doneee",
@@ -131,7 +131,7 @@ fn expect_answered(
 #[test]
 fn clone_and_its_session_are_apart(rt: HostRuntime) -> Result<(), Fail> {
     let mut runner = fresh_runner(rt.alloc())?;
-    for (piece, replies) in &CONVERSATION {
+    for (piece, replies) in CONVERSATION {
         expect_answered(&rt, rt.alloc(), &mut runner, *piece, *replies)?;
     }
     Ok(())

@@ -4,7 +4,7 @@ use std::test::Fail;
 
 const MALFORMED: &[u8] = b"d6:statusl5:error9:malformed4:doneee";
 
-const CASES: [Case; 16] = [
+const CASES: &[Case] = &[
     Case {
         input: SUM,
         output: SUM_REPLIES,
@@ -117,5 +117,5 @@ Unable to resolve symbol: xz in this context\ned6:statusl4:doneee",
 
 #[test]
 fn streams(rt: HostRuntime) -> Result<(), Fail> {
-    expect_replies(&rt, rt.alloc(), &CASES)
+    expect_replies(&rt, rt.alloc(), CASES)
 }

@@ -1,6 +1,7 @@
 // Namespaces are made and entered, and names are bound in them.
 use crate::told::{Row, define, define_function, expect};
 use name_spaces::{Spaces, USER};
+use std::alloc::{AllocError, Global};
 use std::process::Abort;
 use std::test::Fail;
 
@@ -10,38 +11,40 @@ fn expect_there(rt: &impl Abort, spaces: &Spaces, rows: &[(&[u8], bool)]) {
     }
 }
 
+const AT_THE_START: &[(&[u8], bool)] = &[
+    (b"user", true),
+    (b"", false),
+    (b"use", false),
+    (b"user ", false),
+    (b"User", false),
+    (b"shared", false),
+    (b"clojure.core", false),
+    (&[0xff], false),
+    (&[b'u', b's', b'e', b'r', 0x80], false),
+];
+
 #[test]
 fn user_alone_is_there_at_the_start(rt: HostRuntime) -> Result<(), Fail> {
     let spaces = Spaces::new(rt.alloc())?;
-    let rows: [(&[u8], bool); 9] = [
-        (b"user", true),
-        (b"", false),
-        (b"use", false),
-        (b"user ", false),
-        (b"User", false),
-        (b"shared", false),
-        (b"clojure.core", false),
-        (&[0xff], false),
-        (&[b'u', b's', b'e', b'r', 0x80], false),
-    ];
-    expect_there(&rt, &spaces, &rows);
+    expect_there(&rt, &spaces, AT_THE_START);
     Ok(())
 }
 
 // UTF-8 spells the name in two bytes; either of them alone is no text.
+const SPELLED: &[(&[u8], bool)] = &[
+    (&[0xc3, 0xa9], true),
+    (&[0xc3], false),
+    (&[0xa9], false),
+    (b"user", true),
+];
+
 #[test]
 fn new_namespace_is_empty_and_there(rt: HostRuntime) -> Result<(), Fail> {
     let a = rt.alloc();
     let mut spaces = Spaces::new(a)?;
     expect(&rt, a, &spaces, &[(USER, "é/x", "No such namespace: é")])?;
     spaces.enter(a, "é")?;
-    let rows: [(&[u8], bool); 4] = [
-        (&[0xc3, 0xa9], true),
-        (&[0xc3], false),
-        (&[0xa9], false),
-        (b"user", true),
-    ];
-    expect_there(&rt, &spaces, &rows);
+    expect_there(&rt, &spaces, SPELLED);
     expect(&rt, a, &spaces, &[(USER, "é/x", "No such var: é/x")])?;
     Ok(())
 }
@@ -65,27 +68,42 @@ fn fixed_namespaces_stay_as_they_are(rt: HostRuntime) -> Result<(), Fail> {
     let a = rt.alloc();
     let mut spaces = Spaces::new(a)?;
     for namespace in ["shared", "clojure.core"] {
-        spaces.enter(a, namespace)?;
-        define(a, &mut spaces, namespace, "x", 1)?;
-        define_function(a, &mut spaces, namespace, "inc")?;
+        change(a, &mut spaces, namespace)?;
         assert!(rt; !spaces.is_there(namespace.as_bytes()));
-        let rows: [Row; 3] = [
-            (
-                namespace,
-                "x",
-                "Unable to resolve symbol: x in this context",
-            ),
-            (namespace, "inc", "core inc"),
-            (USER, "x", "Unable to resolve symbol: x in this context"),
-        ];
-        expect(&rt, a, &spaces, &rows)?;
+        expect_fixed(&rt, a, &spaces, namespace)?;
     }
-    let rows: [Row; 2] = [
-        (USER, "shared/x", "No such var: shared/x"),
-        (USER, "clojure.core/x", "No such namespace: clojure.core"),
-    ];
-    expect(&rt, a, &spaces, &rows)?;
+    expect(&rt, a, &spaces, FIXED)?;
     Ok(())
+}
+
+// Enters the namespace, and binds a value and a function there.
+fn change(alloc: Global, spaces: &mut Spaces, namespace: &str) -> Result<(), AllocError> {
+    spaces.enter(alloc, namespace)?;
+    define(alloc, spaces, namespace, "x", 1)?;
+    define_function(alloc, spaces, namespace, "inc")
+}
+
+const FIXED: &[Row] = &[
+    (USER, "shared/x", "No such var: shared/x"),
+    (USER, "clojure.core/x", "No such namespace: clojure.core"),
+];
+
+fn expect_fixed(
+    rt: &impl Abort,
+    alloc: Global,
+    spaces: &Spaces,
+    namespace: &'static str,
+) -> Result<(), AllocError> {
+    let rows: [Row; 3] = [
+        (
+            namespace,
+            "x",
+            "Unable to resolve symbol: x in this context",
+        ),
+        (namespace, "inc", "core inc"),
+        (USER, "x", "Unable to resolve symbol: x in this context"),
+    ];
+    expect(rt, alloc, spaces, &rows)
 }
 
 #[test]
@@ -109,40 +127,47 @@ fn latest_definition_of_a_name_stands(rt: HostRuntime) -> Result<(), Fail> {
     Ok(())
 }
 
+const DEFINED: &[Row] = &[
+    ("lib", "x", "1"),
+    (USER, "lib/x", "1"),
+    (USER, "lib/y", "No such var: lib/y"),
+    (USER, "x", "Unable to resolve symbol: x in this context"),
+];
+
 #[test]
 fn definition_makes_its_namespace(rt: HostRuntime) -> Result<(), Fail> {
     let a = rt.alloc();
     let mut spaces = Spaces::new(a)?;
     define(a, &mut spaces, "lib", "x", 1)?;
     assert!(rt; spaces.is_there(b"lib"));
-    let rows: [Row; 4] = [
-        ("lib", "x", "1"),
-        (USER, "lib/x", "1"),
-        (USER, "lib/y", "No such var: lib/y"),
-        (USER, "x", "Unable to resolve symbol: x in this context"),
-    ];
-    expect(&rt, a, &spaces, &rows)?;
+    expect(&rt, a, &spaces, DEFINED)?;
     Ok(())
 }
+
+// One of 50 names in one of 40 namespaces.
+fn define_numbered(alloc: Global, spaces: &mut Spaces, number: i64) -> Result<(), AllocError> {
+    let (space, name) = (number % 40, number / 40);
+    let namespace = format!(in alloc; "space{space}")?;
+    let name = format!(in alloc; "name{name}")?;
+    define(alloc, spaces, namespace.as_str(), name.as_str(), number)
+}
+
+const MANY: &[Row] = &[
+    ("space0", "name0", "0"),
+    ("space39", "name0", "39"),
+    ("space0", "name49", "1960"),
+    ("space39", "name49", "1999"),
+    ("space7", "space8/name3", "128"),
+    ("space7", "space40/name3", "No such namespace: space40"),
+];
 
 #[test]
 fn many_namespaces_with_many_names(rt: HostRuntime) -> Result<(), Fail> {
     let a = rt.alloc();
     let mut spaces = Spaces::new(a)?;
     for number in 0..2000i64 {
-        let (space, name) = (number % 40, number / 40);
-        let namespace = format!(in a; "space{space}")?;
-        let name = format!(in a; "name{name}")?;
-        define(a, &mut spaces, namespace.as_str(), name.as_str(), number)?;
+        define_numbered(a, &mut spaces, number)?;
     }
-    let rows: [Row; 6] = [
-        ("space0", "name0", "0"),
-        ("space39", "name0", "39"),
-        ("space0", "name49", "1960"),
-        ("space39", "name49", "1999"),
-        ("space7", "space8/name3", "128"),
-        ("space7", "space40/name3", "No such namespace: space40"),
-    ];
-    expect(&rt, a, &spaces, &rows)?;
+    expect(&rt, a, &spaces, MANY)?;
     Ok(())
 }

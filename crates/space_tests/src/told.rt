@@ -27,11 +27,7 @@ pub(crate) fn expect(
 fn told(alloc: Global, found: &Found) -> Result<String, AllocError> {
     match found {
         Found::Latest(latest) => String::from_str(alloc, latest_told(*latest)),
-        Found::Resolution(Resolution::Value(value)) => {
-            let mut text = String::new(alloc);
-            print_into(alloc, value, &mut text)?;
-            Ok(text)
-        }
+        Found::Resolution(Resolution::Value(value)) => printed(alloc, value),
         Found::Resolution(Resolution::Function(NamedFunction::Core(function))) => {
             let name = function.name();
             format!(in alloc; "core {name}")
@@ -45,12 +41,21 @@ fn told(alloc: Global, found: &Found) -> Result<String, AllocError> {
             format!(in alloc; "function {space}/{name}")
         }
         Found::Resolution(Resolution::Nothing(fault)) => {
-            let (class, text) = (fault.class.as_str(), fault.text.as_str());
-            match class {
-                "java.lang.RuntimeException" => String::from_str(alloc, text),
-                _ => format!(in alloc; "{class}: {text}"),
-            }
+            fault_told(alloc, fault.class.as_str(), fault.text.as_str())
         }
+    }
+}
+
+fn printed(alloc: Global, value: &Value) -> Result<String, AllocError> {
+    let mut text = String::new(alloc);
+    print_into(alloc, value, &mut text)?;
+    Ok(text)
+}
+
+fn fault_told(alloc: Global, class: &str, text: &str) -> Result<String, AllocError> {
+    match class {
+        "java.lang.RuntimeException" => String::from_str(alloc, text),
+        _ => format!(in alloc; "{class}: {text}"),
     }
 }
 
@@ -82,12 +87,16 @@ pub(crate) fn define_function(
     namespace: &str,
     name: &str,
 ) -> Result<(), AllocError> {
+    let function = function_of(alloc, namespace, name)?;
     let name = ArcStr::from_str(alloc, name)?;
-    let function = Function {
+    spaces.define(alloc, namespace, name, Binding::Function(function))
+}
+
+fn function_of(alloc: Global, namespace: &str, name: &str) -> Result<Function, AllocError> {
+    Ok(Function {
         space: ArcStr::from_str(alloc, namespace)?,
-        name: name.clone()?,
+        name: ArcStr::from_str(alloc, name)?,
         params: Arc::new(alloc, Vec::new(alloc))?,
         body: Forms::of_items(Sequence::from_vec(alloc, Vec::new(alloc))?),
-    };
-    spaces.define(alloc, namespace, name, Binding::Function(function))
+    })
 }

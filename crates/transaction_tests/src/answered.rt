@@ -4,7 +4,7 @@ use function_names::StoreFunction;
 use repl_asks::{Answer, Ask, NamedFunction, Reading, Resolution, Verdict};
 use repl_jobs::Finished;
 use repl_values::{Owner, RefName, Value};
-use repl_walker::{Progress, start};
+use repl_walker::{Progress, Walk, start};
 use std::alloc::{AllocError, Global};
 use std::collections::VecDeque;
 use walk_scripts::{ask_told, end_told, fault, job, program, text};
@@ -25,17 +25,23 @@ pub(crate) enum Told {
     Refused,
 }
 
-fn answer(alloc: Global, told: Told) -> Result<Answer, AllocError> {
-    Ok(match told {
+fn plain_answer(told: Told) -> Answer {
+    match told {
         Told::Made(number) => Answer::Value(Value::Ref(own(number))),
         Told::Count(n) => Answer::Value(Value::Int(n)),
-        Told::Done => Answer::Done,
         Told::Found(n) => Answer::Reading(Reading::Found(Value::Int(n))),
         Told::Retry => Answer::Reading(Reading::Retry),
         Told::Committed => Answer::Verdict(Verdict::Committed),
         Told::Conflict => Answer::Verdict(Verdict::Conflict),
-        Told::Refused => Answer::Verdict(Verdict::Faulted(fault(alloc)?)),
-    })
+        _done => Answer::Done,
+    }
+}
+
+fn answer(alloc: Global, told: Told) -> Result<Answer, AllocError> {
+    match told {
+        Told::Refused => Ok(Answer::Verdict(Verdict::Faulted(fault(alloc)?))),
+        other => Ok(plain_answer(other)),
+    }
 }
 
 fn own(number: u64) -> RefName {
@@ -49,22 +55,27 @@ fn own(number: u64) -> RefName {
 const MANY: &str =
     "(if (clojure.core/= a 0) 0 (do (many (clojure.core/dec a)) (many (clojure.core/dec a))))";
 
+const SHARED: RefName = RefName {
+    owner: Owner::Shared,
+    number: 0,
+};
+
+fn value(value: Value) -> Answer {
+    Answer::Resolution(Resolution::Value(value))
+}
+
 // What a symbol names: `r`, `q` and `shared` are refs, `twice` and `many` functions of a program,
 // and `n` is the namespace in which it is resolved.
 fn named(alloc: Global, namespace: &str, symbol: &str) -> Result<Answer, AllocError> {
-    let value = match symbol {
-        "r" => Value::Ref(own(0)),
-        "q" => Value::Ref(own(1)),
-        "shared" => Value::Ref(RefName {
-            owner: Owner::Shared,
-            number: 0,
-        }),
-        "n" => Value::Str(text(alloc, namespace)?),
-        "twice" => return program(alloc, &["a"], "(clojure.core/+ a a)"),
-        "many" => return program(alloc, &["a"], MANY),
-        _ => return function_named(alloc, symbol),
-    };
-    Ok(Answer::Resolution(Resolution::Value(value)))
+    match symbol {
+        "r" => Ok(value(Value::Ref(own(0)))),
+        "q" => Ok(value(Value::Ref(own(1)))),
+        "shared" => Ok(value(Value::Ref(SHARED))),
+        "n" => Ok(value(Value::Str(text(alloc, namespace)?))),
+        "twice" => program(alloc, &["a"], "(clojure.core/+ a a)"),
+        "many" => program(alloc, &["a"], MANY),
+        _ => function_named(alloc, symbol),
+    }
 }
 
 fn function_named(alloc: Global, symbol: &str) -> Result<Answer, AllocError> {
@@ -127,21 +138,53 @@ pub(crate) fn asked(
 ) -> Result<String, AllocError> {
     let mut told = String::new(alloc);
     let mut left = all(alloc, given)?;
-    let mut progress = start(alloc, &job(alloc, code, retries)?)?;
-    for _ in 0..MOST_ASKS {
-        let walk = match progress {
-            Progress::Asks(walk) => walk,
-            Progress::Ends(ending) => {
-                tell_end(alloc, ending.end(), &mut told)?;
-                return Ok(told);
-            }
-        };
-        let Some(answer) = answer_to(alloc, walk.ask(), &mut left, &mut told)? else {
-            told.push_str("waits")?;
-            return Ok(told);
-        };
-        progress = walk.resume(alloc, answer)?;
-    }
-    told.push_str("goes on")?;
+    let progress = start(alloc, &job(alloc, code, retries)?)?;
+    tell_progress(alloc, progress, &mut left, &mut told)?;
     Ok(told)
+}
+
+fn tell_progress(
+    alloc: Global,
+    mut progress: Progress,
+    left: &mut VecDeque<Told>,
+    told: &mut String,
+) -> Result<(), AllocError> {
+    for _ in 0..MOST_ASKS {
+        match next(alloc, progress, left, told)? {
+            Some(next) => progress = next,
+            None => return Ok(()),
+        }
+    }
+    told.push_str("goes on")
+}
+
+// How it goes on, where it does not end or wait.
+fn next(
+    alloc: Global,
+    progress: Progress,
+    left: &mut VecDeque<Told>,
+    told: &mut String,
+) -> Result<Option<Progress>, AllocError> {
+    match progress {
+        Progress::Asks(walk) => answered(alloc, walk, left, told),
+        Progress::Ends(ending) => {
+            tell_end(alloc, ending.end(), told)?;
+            Ok(None)
+        }
+    }
+}
+
+fn answered(
+    alloc: Global,
+    walk: Walk,
+    left: &mut VecDeque<Told>,
+    told: &mut String,
+) -> Result<Option<Progress>, AllocError> {
+    match answer_to(alloc, walk.ask(), left, told)? {
+        Some(answer) => Ok(Some(walk.resume(alloc, answer)?)),
+        None => {
+            told.push_str("waits")?;
+            Ok(None)
+        }
+    }
 }

@@ -5,7 +5,7 @@ use std::test::Fail;
 
 // Another attempt begins as the first did: with its locals, its namespace and the rest of its
 // calls. What was printed stays.
-const AGAIN: [Row; 10] = [
+const AGAIN: &[Row] = &[
     (
         2,
         "(dosync @r)",
@@ -83,11 +83,11 @@ const AGAIN: [Row; 10] = [
 
 #[test]
 fn another_attempt_begins_as_the_first_did(rt: HostRuntime) -> Result<(), Fail> {
-    check(&rt, rt.alloc(), &AGAIN)
+    check(&rt, rt.alloc(), AGAIN)
 }
 
 // No attempt is left: the namespace is that of the last.
-const LIMITS: [Row; 5] = [
+const LIMITS: &[Row] = &[
     (
         0,
         "(dosync 1)",
@@ -126,12 +126,12 @@ const LIMITS: [Row; 5] = [
 
 #[test]
 fn attempts_are_limited(rt: HostRuntime) -> Result<(), Fail> {
-    check(&rt, rt.alloc(), &LIMITS)
+    check(&rt, rt.alloc(), LIMITS)
 }
 
 // `(many n)` makes 6 * 2^n - 4 calls, so that 9,998 are made before the transaction, or 9,999:
 // `alter` takes a call of its own, and its function another.
-const CALLS: [Row; 2] = [
+const CALLS: &[Row] = &[
     (
         1,
         "(do (many 10) (many 9) (many 6) (many 6) (many 1) (many 1) (many 1) (many 0) (many 0) \
@@ -150,5 +150,5 @@ const CALLS: [Row; 2] = [
 
 #[test]
 fn an_alteration_takes_two_calls(rt: HostRuntime) -> Result<(), Fail> {
-    check(&rt, rt.alloc(), &CALLS)
+    check(&rt, rt.alloc(), CALLS)
 }

@@ -4,7 +4,7 @@ use crate::rows::{Row, check};
 use std::test::Fail;
 
 // A commute is told with its arguments, of each ref in order, and one that was ensured is told too.
-const INSIDE: [Row; 9] = [
+const INSIDE: &[Row] = &[
     (
         1,
         "(dosync (ensure r))",
@@ -64,12 +64,12 @@ const INSIDE: [Row; 9] = [
 
 #[test]
 fn attempts_note_what_they_ensure_and_commute(rt: HostRuntime) -> Result<(), Fail> {
-    check(&rt, rt.alloc(), &INSIDE)
+    check(&rt, rt.alloc(), INSIDE)
 }
 
 // A commute reads the ref, then looks at the number of arguments, then whether the function is one
 // of the language that asks nobody.
-const FAULTS: [Row; 16] = [
+const FAULTS: &[Row] = &[
     (
         9,
         "(commute r inc)",
@@ -175,11 +175,11 @@ const FAULTS: [Row; 16] = [
 
 #[test]
 fn faults_of_ensures_and_commutes(rt: HostRuntime) -> Result<(), Fail> {
-    check(&rt, rt.alloc(), &FAULTS)
+    check(&rt, rt.alloc(), FAULTS)
 }
 
 // Another attempt notes anew.
-const AGAIN: [Row; 3] = [
+const AGAIN: &[Row] = &[
     (
         2,
         "(dosync (ensure r))",
@@ -212,5 +212,5 @@ const AGAIN: [Row; 3] = [
 
 #[test]
 fn another_attempt_notes_anew(rt: HostRuntime) -> Result<(), Fail> {
-    check(&rt, rt.alloc(), &AGAIN)
+    check(&rt, rt.alloc(), AGAIN)
 }

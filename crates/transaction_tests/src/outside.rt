@@ -4,7 +4,7 @@ use crate::rows::{Row, check};
 use std::test::Fail;
 
 // Outside of transactions a ref is made, read and told of, and not set.
-const OUTSIDE: [Row; 14] = [
+const OUTSIDE: &[Row] = &[
     (1, "(ref 5)", &[Made(0)], "new-ref 5 0 10; #ref[0]"),
     (
         1,
@@ -83,5 +83,5 @@ const OUTSIDE: [Row; 14] = [
 
 #[test]
 fn refs_are_made_and_read_outside_of_transactions(rt: HostRuntime) -> Result<(), Fail> {
-    check(&rt, rt.alloc(), &OUTSIDE)
+    check(&rt, rt.alloc(), OUTSIDE)
 }

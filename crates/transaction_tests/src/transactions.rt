@@ -4,7 +4,7 @@ use crate::rows::{Row, check};
 use std::test::Fail;
 
 // An attempt knows the last value of a ref that it read or set, and is committed at its body's end.
-const INSIDE: [Row; 15] = [
+const INSIDE: &[Row] = &[
     (1, "(dosync)", &[Done, Committed], "begin; commit; nil"),
     (1, "(dosync 1 2)", &[Done, Committed], "begin; commit; 2"),
     (
@@ -89,11 +89,11 @@ const INSIDE: [Row; 15] = [
 
 #[test]
 fn attempts_know_what_they_read_and_set(rt: HostRuntime) -> Result<(), Fail> {
-    check(&rt, rt.alloc(), &INSIDE)
+    check(&rt, rt.alloc(), INSIDE)
 }
 
 // A fault in a transaction ends the form, and nothing is committed.
-const FAULTS: [Row; 15] = [
+const FAULTS: &[Row] = &[
     (
         9,
         "(dosync (ref-set r 1) (throw 2))",
@@ -181,5 +181,5 @@ const FAULTS: [Row; 15] = [
 
 #[test]
 fn faults_in_transactions_commit_nothing(rt: HostRuntime) -> Result<(), Fail> {
-    check(&rt, rt.alloc(), &FAULTS)
+    check(&rt, rt.alloc(), FAULTS)
 }

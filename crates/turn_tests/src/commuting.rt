@@ -4,7 +4,7 @@ use crate::rows::{Part, Row, expect_rows};
 use crate::scripts::CONFIG;
 use std::test::Fail;
 
-const ROWS: [Row; 6] = [
+const ROWS: &[Row] = &[
     // Each reads what the other sets, and both are committed.
     Row {
         config: CONFIG,
@@ -182,5 +182,5 @@ const ROWS: [Row; 6] = [
 
 #[test]
 fn ensures_and_commutes(rt: HostRuntime) -> Result<(), Fail> {
-    expect_rows(&rt, rt.alloc(), &ROWS)
+    expect_rows(&rt, rt.alloc(), ROWS)
 }

@@ -1,7 +1,7 @@
 // Keys that are chosen to have one hash, and maps as keys.
-use crate::parts::{Part, text, value_of};
+use crate::parts::{Part, table_of, text, value_of};
 use Part::{Int, Keyword, List, Map, Vector};
-use repl_values::{Built, Sequence, Table, Value, hash_of, same};
+use repl_values::{Sequence, Table, Value, hash_of, same};
 use std::alloc::{AllocError, Global};
 use std::test::Fail;
 
@@ -31,10 +31,7 @@ fn spelled(alloc: Global, number: u32) -> Result<String, AllocError> {
 fn map_of(alloc: Global, key: Value, value: Value) -> Result<Value, AllocError> {
     let mut pairs = Vec::new(alloc);
     pairs.push((key, value))?;
-    match Table::from_pairs(alloc, pairs)? {
-        Built::Made(table) => Ok(Value::Map(table)),
-        Built::Repeats(_place) => Ok(Value::Nil),
-    }
+    Ok(Value::Map(table_of(alloc, pairs)?))
 }
 
 fn key_of(alloc: Global, kind: Kind, number: u32) -> Result<Value, AllocError> {
@@ -58,36 +55,53 @@ fn numbered(alloc: Global, kind: Kind, count: u32) -> Result<Table, AllocError> 
     for number in 0..count {
         pairs.push((key_of(alloc, kind, number)?, Value::Int(i64::from(number))))?;
     }
-    match Table::from_pairs(alloc, pairs)? {
-        Built::Made(table) => Ok(table),
-        Built::Repeats(_place) => Table::empty(alloc),
+    table_of(alloc, pairs)
+}
+
+fn number_of(table: &Table, key: &Value) -> i64 {
+    match table.get(key) {
+        Some(Value::Int(found)) => *found,
+        _other => -1,
     }
 }
 
+// Whether the key has the hash, and stands for its number.
+fn is_found(
+    alloc: Global,
+    kind: Kind,
+    table: &Table,
+    hash: u64,
+    number: u32,
+) -> Result<bool, AllocError> {
+    let key = key_of(alloc, kind, number)?;
+    Ok(hash_of(&key) == hash && number_of(table, &key) == i64::from(number))
+}
+
+// Whether the keys up to the count are found under one hash, and the next one is not.
+fn are_found(alloc: Global, kind: Kind, count: u32) -> Result<bool, AllocError> {
+    let table = numbered(alloc, kind, count)?;
+    let hash = hash_of(&key_of(alloc, kind, 0)?);
+    for number in 0..count {
+        if !is_found(alloc, kind, &table, hash, number)? {
+            return Ok(false);
+        }
+    }
+    let other = key_of(alloc, kind, count)?;
+    Ok(table.len() == count as usize && table.get(&other).is_none())
+}
+
+const OF_ONE_HASH: &[(Kind, u32)] = &[
+    (Kind::Text, 20_000),
+    (Kind::Word, 2_000),
+    (Kind::Items, 2_000),
+    (Kind::MapFrom, 2_000),
+    (Kind::MapTo, 2_000),
+];
+
 #[test]
 fn keys_of_one_hash_are_found(rt: HostRuntime) -> Result<(), Fail> {
-    let rows: [(Kind, u32); 5] = [
-        (Kind::Text, 20_000),
-        (Kind::Word, 2_000),
-        (Kind::Items, 2_000),
-        (Kind::MapFrom, 2_000),
-        (Kind::MapTo, 2_000),
-    ];
-    let a = rt.alloc();
-    for (kind, count) in rows {
-        let table = numbered(a, kind, count)?;
-        assert_eq!(rt; table.len(), count as usize);
-        let hash = hash_of(&key_of(a, kind, 0)?);
-        for number in 0..count {
-            let key = key_of(a, kind, number)?;
-            assert_eq!(rt; hash_of(&key), hash);
-            let found = match table.get(&key) {
-                Some(Value::Int(found)) => *found,
-                _other => -1,
-            };
-            assert_eq!(rt; found, i64::from(number));
-        }
-        assert!(rt; table.get(&key_of(a, kind, count)?).is_none());
+    for (kind, count) in OF_ONE_HASH {
+        assert!(rt; are_found(rt.alloc(), *kind, *count)?);
     }
     Ok(())
 }
@@ -109,69 +123,83 @@ fn key_at(order: Order, place: u32, count: u32) -> Value {
     }
 }
 
+fn put_in_order(alloc: Global, order: Order, count: u32) -> Result<Table, AllocError> {
+    let mut pairs = Vec::new(alloc);
+    for place in 0..count {
+        pairs.push((key_at(order, place, count), Value::Int(i64::from(place))))?;
+    }
+    table_of(alloc, pairs)
+}
+
+fn is_found_in_order(alloc: Global, order: Order, count: u32) -> Result<bool, AllocError> {
+    let table = put_in_order(alloc, order, count)?;
+    for place in 0..count {
+        if number_of(&table, &key_at(order, place, count)) != i64::from(place) {
+            return Ok(false);
+        }
+    }
+    Ok(!table.contains(&Value::Int(i64::from(count))))
+}
+
+const ORDERS: &[(Order, u32)] = &[
+    (Order::Falling, 300_000),
+    (Order::Rising, 300_000),
+    (Order::Scattered, 100_000),
+];
+
 #[test]
 fn keys_are_found_in_whatever_order_they_came(rt: HostRuntime) -> Result<(), Fail> {
-    let rows: [(Order, u32); 3] = [
-        (Order::Falling, 300_000),
-        (Order::Rising, 300_000),
-        (Order::Scattered, 100_000),
-    ];
-    let a = rt.alloc();
-    for (order, count) in rows {
-        let mut pairs = Vec::new(a);
-        for place in 0..count {
-            pairs.push((key_at(order, place, count), Value::Int(i64::from(place))))?;
-        }
-        let table = match Table::from_pairs(a, pairs)? {
-            Built::Made(table) => table,
-            Built::Repeats(_place) => Table::empty(a)?,
-        };
-        for place in 0..count {
-            let found = match table.get(&key_at(order, place, count)) {
-                Some(Value::Int(found)) => *found,
-                _other => -1,
-            };
-            assert_eq!(rt; found, i64::from(place));
-        }
-        assert!(rt; !table.contains(&Value::Int(i64::from(count))));
+    for (order, count) in ORDERS {
+        assert!(rt; is_found_in_order(rt.alloc(), *order, *count)?);
     }
     Ok(())
 }
 
+// Whether the second is the same as the first, and found as a key in its place, just where they
+// are equal.
+fn are_one_key(
+    alloc: Global,
+    left: &[Part],
+    right: &[Part],
+    equal: bool,
+) -> Result<bool, AllocError> {
+    let left = value_of(alloc, left)?;
+    let right = value_of(alloc, right)?;
+    let are_same = same(&left, &right);
+    match map_of(alloc, left, Value::Nil)? {
+        Value::Map(table) => Ok(are_same == equal && table.contains(&right) == equal),
+        _other => Ok(false),
+    }
+}
+
+const MAPS: &[(&[Part], &[Part], bool)] = &[
+    (
+        &[Keyword("a"), Int(1), Keyword("b"), Int(2), Map(2)],
+        &[Keyword("b"), Int(2), Keyword("a"), Int(1), Map(2)],
+        true,
+    ),
+    (
+        &[Int(1), Vector(1), Int(7), Int(2), Int(3), Map(2)],
+        &[Int(2), Int(3), Int(1), List(1), Int(7), Map(2)],
+        true,
+    ),
+    (
+        &[Keyword("a"), Int(1), Keyword("b"), Int(2), Map(2)],
+        &[Keyword("b"), Int(1), Keyword("a"), Int(2), Map(2)],
+        false,
+    ),
+    (
+        &[Keyword("a"), Int(1), Map(1)],
+        &[Keyword("a"), Int(1), Keyword("b"), Int(2), Map(2)],
+        false,
+    ),
+    (&[Map(0)], &[Map(0)], true),
+];
+
 #[test]
 fn equal_maps_are_one_key(rt: HostRuntime) -> Result<(), Fail> {
-    let rows: [(&[Part], &[Part], bool); 5] = [
-        (
-            &[Keyword("a"), Int(1), Keyword("b"), Int(2), Map(2)],
-            &[Keyword("b"), Int(2), Keyword("a"), Int(1), Map(2)],
-            true,
-        ),
-        (
-            &[Int(1), Vector(1), Int(7), Int(2), Int(3), Map(2)],
-            &[Int(2), Int(3), Int(1), List(1), Int(7), Map(2)],
-            true,
-        ),
-        (
-            &[Keyword("a"), Int(1), Keyword("b"), Int(2), Map(2)],
-            &[Keyword("b"), Int(1), Keyword("a"), Int(2), Map(2)],
-            false,
-        ),
-        (
-            &[Keyword("a"), Int(1), Map(1)],
-            &[Keyword("a"), Int(1), Keyword("b"), Int(2), Map(2)],
-            false,
-        ),
-        (&[Map(0)], &[Map(0)], true),
-    ];
-    let a = rt.alloc();
-    for (left, right, equal) in rows {
-        let left = value_of(a, left)?;
-        let right = value_of(a, right)?;
-        assert_eq!(rt; same(&left, &right), equal);
-        let Value::Map(table) = map_of(a, left, Value::Nil)? else {
-            panic!(rt; "no map");
-        };
-        assert_eq!(rt; table.contains(&right), equal);
+    for (left, right, equal) in MAPS {
+        assert!(rt; are_one_key(rt.alloc(), left, right, *equal)?);
     }
     Ok(())
 }

@@ -1,5 +1,5 @@
 // Values in short.
-use Part::{Agent, Atom, Bool, Int, Keyword, List, Map, Nil, Ref, Str, Symbol, Var, Vector};
+use Part::{Agent, Atom, Bool, Int, Keyword, List, Map, Ref, Str, Symbol, Var, Vector};
 use repl_values::{Built, Fault, Owner, RefName, Sequence, Table, Value};
 use std::alloc::{AllocError, Global};
 use std::sync::ArcStr;
@@ -38,6 +38,13 @@ fn items(alloc: Global, values: &mut Vec<Value>, n: usize) -> Result<Sequence, A
 }
 
 // The map of distinct keys.
+pub(crate) fn table_of(alloc: Global, pairs: Vec<(Value, Value)>) -> Result<Table, AllocError> {
+    match Table::from_pairs(alloc, pairs)? {
+        Built::Made(table) => Ok(table),
+        Built::Repeats(_place) => Table::empty(alloc),
+    }
+}
+
 fn taken_pairs(alloc: Global, values: &mut Vec<Value>, n: usize) -> Result<Table, AllocError> {
     let mut parts = taken(values, n.saturating_mul(2))?.into_iter();
     let mut pairs = Vec::new(alloc);
@@ -46,9 +53,17 @@ fn taken_pairs(alloc: Global, values: &mut Vec<Value>, n: usize) -> Result<Table
             pairs.push((key, value))?;
         }
     }
-    match Table::from_pairs(alloc, pairs)? {
-        Built::Made(table) => Ok(table),
-        Built::Repeats(_place) => Table::empty(alloc),
+    table_of(alloc, pairs)
+}
+
+fn without_parts(part: Part) -> Value {
+    match part {
+        Bool(b) => Value::Bool(b),
+        Int(n) => Value::Int(n),
+        Ref(owner, number) => Value::Ref(RefName { owner, number }),
+        Atom(number) => Value::Atom(number),
+        Agent(number) => Value::Agent(number),
+        _nil => Value::Nil,
     }
 }
 
@@ -66,18 +81,12 @@ fn with_texts(alloc: Global, part: Part) -> Result<Value, AllocError> {
             text: text(alloc, told)?,
         }
         .into_value()),
-        _other => Ok(Value::Nil),
+        other => Ok(without_parts(other)),
     }
 }
 
 fn made(alloc: Global, part: Part, values: &mut Vec<Value>) -> Result<Value, AllocError> {
     match part {
-        Nil => Ok(Value::Nil),
-        Bool(b) => Ok(Value::Bool(b)),
-        Int(n) => Ok(Value::Int(n)),
-        Ref(owner, number) => Ok(Value::Ref(RefName { owner, number })),
-        Atom(number) => Ok(Value::Atom(number)),
-        Agent(number) => Ok(Value::Agent(number)),
         List(n) => Ok(Value::List(items(alloc, values, n)?)),
         Vector(n) => Ok(Value::Vector(items(alloc, values, n)?)),
         Map(n) => Ok(Value::Map(taken_pairs(alloc, values, n)?)),

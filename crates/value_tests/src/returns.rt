@@ -1,6 +1,6 @@
 // A stream whose last piece is taken back, or settled.
-use crate::wire::{LIMIT, Row, STREAMS, feed, row_of, write};
-use bencode_wire::Decoder;
+use crate::wire::{LIMIT, Row, STREAMS, feed, is_as_wanted, row_of, write};
+use bencode_wire::{Decoder, WireFault};
 use std::alloc::{AllocError, Global};
 
 // Writes the messages that are ready, handed out at once.
@@ -12,25 +12,36 @@ fn write_taken(decoder: &mut Decoder, out: &mut Vec<u8>) -> Result<(), AllocErro
     Ok(())
 }
 
+// Feeds the piece, and writes the messages that it completes.
+fn feed_and_write(
+    alloc: Global,
+    decoder: &mut Decoder,
+    piece: &[u8],
+    written: &mut Vec<u8>,
+) -> Result<Option<WireFault>, AllocError> {
+    let fault = feed(alloc, decoder, piece)?;
+    write_taken(decoder, written)?;
+    Ok(fault)
+}
+
+// Feeds the piece, and takes it back. What it completed is written, and forgotten.
+fn feed_in_vain(alloc: Global, decoder: &mut Decoder, piece: &[u8]) -> Result<(), AllocError> {
+    let mut forgotten = Vec::new(alloc);
+    feed_and_write(alloc, decoder, piece, &mut forgotten)?;
+    decoder.take_back();
+    Ok(())
+}
+
 // Whether the row is read so where its second piece comes, is taken back and comes again.
 fn is_read_again(alloc: Global, row: Row, first: &[u8], second: &[u8]) -> Result<bool, AllocError> {
     let mut decoder = Decoder::new(alloc, row.limit);
     let mut written = Vec::new(alloc);
-    let mut fault = feed(alloc, &mut decoder, first)?;
-    write_taken(&mut decoder, &mut written)?;
+    let mut fault = feed_and_write(alloc, &mut decoder, first, &mut written)?;
     if fault.is_none() {
-        let mut forgotten = Vec::new(alloc);
-        feed(alloc, &mut decoder, second)?;
-        write_taken(&mut decoder, &mut forgotten)?;
-        decoder.take_back();
-        fault = feed(alloc, &mut decoder, second)?;
-        write_taken(&mut decoder, &mut written)?;
+        feed_in_vain(alloc, &mut decoder, second)?;
+        fault = feed_and_write(alloc, &mut decoder, second, &mut written)?;
     }
-    Ok(
-        written.as_slice() == row.written
-            && decoder.rest_is_empty() == row.rest_is_empty
-            && fault == row.fault,
-    )
+    Ok(is_as_wanted(row, &decoder, written.as_slice(), fault))
 }
 
 fn is_read_again_at_every_cut(alloc: Global, row: Row, stream: &[u8]) -> Result<bool, AllocError> {
@@ -45,7 +56,7 @@ fn is_read_again_at_every_cut(alloc: Global, row: Row, stream: &[u8]) -> Result<
 #[test]
 fn a_piece_taken_back_is_read_again_at_every_cut(rt: HostRuntime) -> Result<(), AllocError> {
     for stream in STREAMS {
-        let row = row_of(stream);
+        let row = row_of(*stream);
         assert!(rt; is_read_again_at_every_cut(rt.alloc(), row, row.stream)?);
     }
     Ok(())

@@ -23,7 +23,7 @@ pub(crate) enum Stream {
     Limited(usize, &'static [u8], &'static [u8], WireFault),
 }
 
-pub(crate) const STREAMS: [Stream; 46] = [
+pub(crate) const STREAMS: &[Stream] = &[
     // The examples of the format, as values, and the ones that it calls invalid.
     Whole(b""),
     Whole(b"d1:v4:spame"),
@@ -116,13 +116,9 @@ pub(crate) fn row_of(stream: Stream) -> Row {
         Sorted(stream, written) => make_row(LIMIT, stream, written, true, None),
         Rest(stream) => make_row(LIMIT, stream, b"", false, None),
         Refused(stream, written, fault) => make_row(LIMIT, stream, written, false, Some(fault)),
-        Limited(limit, stream, written, fault) => make_row(
-            limit,
-            stream,
-            written,
-            false,
-            Some(fault),
-        ),
+        Limited(limit, stream, written, fault) => {
+            make_row(limit, stream, written, false, Some(fault))
+        }
     }
 }
 
@@ -193,6 +189,16 @@ fn write_ready(decoder: &mut Decoder, out: &mut Vec<u8>) -> Result<(), AllocErro
     Ok(())
 }
 
+// Whether what was written, what is left and the fault are the row's.
+pub(crate) fn is_as_wanted(
+    row: Row,
+    decoder: &Decoder,
+    written: &[u8],
+    fault: Option<WireFault>,
+) -> bool {
+    written == row.written && decoder.rest_is_empty() == row.rest_is_empty && fault == row.fault
+}
+
 // Whether a row's stream, cut into pieces, comes to what the row says.
 fn is_read(alloc: Global, row: Row, pieces: &[&[u8]]) -> Result<bool, AllocError> {
     let mut decoder = Decoder::new(alloc, row.limit);
@@ -202,17 +208,13 @@ fn is_read(alloc: Global, row: Row, pieces: &[&[u8]]) -> Result<bool, AllocError
         fault = feed(alloc, &mut decoder, piece)?;
         write_ready(&mut decoder, &mut written)?;
     }
-    Ok(
-        written.as_slice() == row.written
-            && decoder.rest_is_empty() == row.rest_is_empty
-            && fault == row.fault,
-    )
+    Ok(is_as_wanted(row, &decoder, written.as_slice(), fault))
 }
 
-fn is_read_at_every_cut(alloc: Global, row: Row, stream: &[u8]) -> Result<bool, AllocError> {
+fn is_read_at_every_cut(alloc: Global, row: Row) -> Result<bool, AllocError> {
+    let stream = row.stream;
     for cut in 0..stream.len() + 1 {
-        let pieces = [&stream[..cut], &stream[cut..]];
-        if !is_read(alloc, row, &pieces)? {
+        if !is_read(alloc, row, &[&stream[..cut], &stream[cut..]])? {
             return Ok(false);
         }
     }
@@ -222,28 +224,38 @@ fn is_read_at_every_cut(alloc: Global, row: Row, stream: &[u8]) -> Result<bool, 
 #[test]
 fn reads_at_every_cut(rt: HostRuntime) -> Result<(), AllocError> {
     for stream in STREAMS {
-        let row = row_of(stream);
-        assert!(rt; is_read_at_every_cut(rt.alloc(), row, row.stream)?);
+        assert!(rt; is_read_at_every_cut(rt.alloc(), row_of(*stream))?);
     }
     Ok(())
 }
 
+// Feeds the bytes one by one, to a copy of the decoder each, and notes the last fault.
+fn feed_bytes(
+    alloc: Global,
+    decoder: &mut Decoder,
+    stream: &[u8],
+    written: &mut Vec<u8>,
+) -> Result<Option<WireFault>, AllocError> {
+    let mut fault = None;
+    for at in 0..stream.len() {
+        fault = feed(alloc, decoder, &stream[at..at + 1])?;
+        *decoder = copied(decoder)?;
+        write_ready(decoder, written)?;
+    }
+    Ok(fault)
+}
+
+fn is_read_byte_by_byte(alloc: Global, row: Row) -> Result<bool, AllocError> {
+    let mut decoder = Decoder::new(alloc, row.limit);
+    let mut written = Vec::new(alloc);
+    let fault = feed_bytes(alloc, &mut decoder, row.stream, &mut written)?;
+    Ok(is_as_wanted(row, &decoder, written.as_slice(), fault))
+}
+
 #[test]
 fn reads_byte_by_byte(rt: HostRuntime) -> Result<(), AllocError> {
-    let alloc = rt.alloc();
     for stream in STREAMS {
-        let row = row_of(stream);
-        let mut decoder = Decoder::new(alloc, row.limit);
-        let mut written = Vec::new(alloc);
-        let mut fault = None;
-        for at in 0..row.stream.len() {
-            fault = feed(alloc, &mut decoder, &row.stream[at..at + 1])?;
-            decoder = copied(&decoder)?;
-            write_ready(&mut decoder, &mut written)?;
-        }
-        assert!(rt; written.as_slice() == row.written);
-        assert_eq!(rt; decoder.rest_is_empty(), row.rest_is_empty);
-        assert!(rt; fault == row.fault);
+        assert!(rt; is_read_byte_by_byte(rt.alloc(), row_of(*stream))?);
     }
     Ok(())
 }
@@ -264,8 +276,7 @@ fn a_large_piece_is_read_at_once(rt: HostRuntime) -> Result<(), AllocError> {
     let message = large_message(alloc)?;
     assert_eq!(rt; message.len(), 65_536);
     let mut decoder = Decoder::new(alloc, LIMIT);
-    let fault = feed(alloc, &mut decoder, message.as_slice())?;
-    assert!(rt; fault == None);
+    assert!(rt; feed(alloc, &mut decoder, message.as_slice())?.is_none());
     let mut written = Vec::new(alloc);
     write_ready(&mut decoder, &mut written)?;
     assert!(rt; written.as_slice() == message.as_slice());

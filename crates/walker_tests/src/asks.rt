@@ -1,34 +1,33 @@
-// What is asked, answered, evaluated and ended is copied, and a replay gives its answers.
-use core_functions::CoreFunction;
-use repl_asks::{
-    Answer, Ask, Binding, Exchange, NamedFunction, Refs, Replay, Resolution, StopReason, copy_trace,
-};
+// What is asked, answered, evaluated and ended is copied.
+use crate::walked::{Given, answer, expect};
+use repl_asks::{Answer, Ask, Binding, Exchange, Resolution, copy_trace};
 use repl_jobs::{End, Finished, Job, Work};
 use repl_values::{Owner, RefName, Value, copy};
-use special_forms::Function;
 use std::alloc::{AllocError, Global};
 use std::process::Abort;
 use std::test::Fail;
 use walk_scripts::{
-    answer_told, ask_told, binding_told, end_told, exchange_told, fault, form, printed, text,
+    answer_told, ask_told, binding_told, end_told, exchange_told, fault, form, function, printed,
+    text,
 };
 
 // (defn f [a b] 1 (c d))
-fn function(alloc: Global) -> Result<Function, AllocError> {
-    walk_scripts::function(alloc, "user", "f", &["a", "b"], "1 (c d)")
+pub(crate) fn function_f(alloc: Global) -> Result<Binding, AllocError> {
+    let function = function(alloc, "user", "f", &["a", "b"], "1 (c d)")?;
+    Ok(Binding::Function(function))
 }
 
 // Its names, its parameters and the forms of its body.
 const FUNCTION: &str = "user/f a b 1 (c d)";
 
-fn resolve(alloc: Global) -> Result<Ask, AllocError> {
+pub(crate) fn resolve(alloc: Global) -> Result<Ask, AllocError> {
     Ok(Ask::Resolve {
         namespace: text(alloc, "user")?,
         symbol: text(alloc, "x")?,
     })
 }
 
-fn define(alloc: Global, binding: Binding) -> Result<Ask, AllocError> {
+pub(crate) fn define(alloc: Global, binding: Binding) -> Result<Ask, AllocError> {
     Ok(Ask::Define {
         namespace: text(alloc, "user")?,
         name: text(alloc, "f")?,
@@ -36,190 +35,221 @@ fn define(alloc: Global, binding: Binding) -> Result<Ask, AllocError> {
     })
 }
 
-const RESOLVE: &str = "resolve user x";
+pub(crate) const RESOLVE: &str = "resolve user x";
 
-const DEFINE: &str = "define user f user/f a b 1 (c d)";
+pub(crate) const DEFINE: &str = "define user f user/f a b 1 (c d)";
 
 // Answers to a symbol and to a definition, and the text of each.
-fn answers(rt: &impl Abort, alloc: Global) -> Result<Vec<Answer>, AllocError> {
-    let mut answers = Vec::new(alloc);
-    let Some(plus) = CoreFunction::named("+") else {
-        panic!(rt; "no function +");
-    };
-    answers.push(Answer::Resolution(Resolution::Value(form(alloc, "[1 \"é\"]")?)))?;
-    answers.push(Answer::Resolution(Resolution::Function(NamedFunction::Core(plus))))?;
-    answers.push(Answer::Resolution(Resolution::Function(NamedFunction::Program(function(
-        alloc,
-    )?))))?;
-    answers.push(Answer::Resolution(Resolution::Nothing(fault(alloc)?)))?;
-    answers.push(Answer::Done)?;
-    Ok(answers)
+pub(crate) const ANSWERS: &[(Given, &str)] = &[
+    (Given::Form("[1 \"é\"]"), "[1 \"é\"]"),
+    (Given::Core("+"), "+"),
+    (Given::OfTwo("1 (c d)"), FUNCTION),
+    (Given::Fault, "#error{C: t}"),
+    (Given::Done, "done"),
+];
+
+// A value in short.
+#[derive(Clone, Copy)]
+enum Spelled {
+    Nil,
+    Bool(bool),
+    Int(i64),
+    // What the code is read as.
+    Form(&'static str),
+    Ref(Owner, u64),
+    Atom(u64),
+    Agent(u64),
+    Var(&'static str, &'static str),
+    Fault,
 }
 
-const ANSWERS: [&str; 5] = ["[1 \"é\"]", "+", FUNCTION, "#error{C: t}", "done"];
+fn plain_value(spelled: Spelled) -> Value {
+    match spelled {
+        Spelled::Bool(is) => Value::Bool(is),
+        Spelled::Int(number) => Value::Int(number),
+        Spelled::Ref(owner, number) => Value::Ref(RefName { owner, number }),
+        Spelled::Atom(number) => Value::Atom(number),
+        Spelled::Agent(number) => Value::Agent(number),
+        _nil => Value::Nil,
+    }
+}
+
+fn value_of(alloc: Global, spelled: Spelled) -> Result<Value, AllocError> {
+    match spelled {
+        Spelled::Form(code) => form(alloc, code),
+        Spelled::Var(space, name) => Ok(Value::Var {
+            space: text(alloc, space)?,
+            name: text(alloc, name)?,
+        }),
+        Spelled::Fault => Ok(fault(alloc)?.into_value()),
+        other => Ok(plain_value(other)),
+    }
+}
+
+const VALUES: &[(Spelled, &str)] = &[
+    (Spelled::Nil, "nil"),
+    (Spelled::Bool(true), "true"),
+    (Spelled::Int(-9), "-9"),
+    (Spelled::Form("\"a\\n\""), "\"a\\n\""),
+    (Spelled::Form(":k"), ":k"),
+    (Spelled::Form("s/t"), "s/t"),
+    (Spelled::Form("(1 (2))"), "(1 (2))"),
+    (Spelled::Form("[1 []]"), "[1 []]"),
+    (Spelled::Form("{:a 1 [2] {}}"), "{:a 1, [2] {}}"),
+    (Spelled::Ref(Owner::Shared, 0), "#ref[shared/0]"),
+    (Spelled::Ref(Owner::Tenant(7), 3), "#ref[3]"),
+    (Spelled::Atom(1), "#atom[1]"),
+    (Spelled::Agent(0), "#agent[0]"),
+    (Spelled::Var("user", "x"), "#'user/x"),
+    (Spelled::Fault, "#error{C: t}"),
+];
+
+fn copied_value_told(alloc: Global, value: &Value) -> Result<String, AllocError> {
+    printed(alloc, &copy(value)?)
+}
 
 #[test]
 fn values_are_copied(rt: HostRuntime) -> Result<(), Fail> {
-    let a = rt.alloc();
-    let shared = RefName {
-        owner: Owner::Shared,
-        number: 0,
-    };
-    let own = RefName {
-        owner: Owner::Tenant(7),
-        number: 3,
-    };
-    let var = Value::Var {
-        space: text(a, "user")?,
-        name: text(a, "x")?,
-    };
-    for (value, print) in [
-        (Value::Nil, "nil"),
-        (Value::Bool(true), "true"),
-        (Value::Int(-9), "-9"),
-        (form(a, "\"a\\n\"")?, "\"a\\n\""),
-        (form(a, ":k")?, ":k"),
-        (form(a, "s/t")?, "s/t"),
-        (form(a, "(1 (2))")?, "(1 (2))"),
-        (form(a, "[1 []]")?, "[1 []]"),
-        (form(a, "{:a 1 [2] {}}")?, "{:a 1, [2] {}}"),
-        (Value::Ref(shared), "#ref[shared/0]"),
-        (Value::Ref(own), "#ref[3]"),
-        (Value::Atom(1), "#atom[1]"),
-        (Value::Agent(0), "#agent[0]"),
-        (var, "#'user/x"),
-        (fault(a)?.into_value(), "#error{C: t}"),
-    ] {
-        assert_eq!(rt; printed(a, &copy(&value)?)?.as_str(), print);
-        assert_eq!(rt; printed(a, &value)?.as_str(), print);
+    for (spelled, print) in VALUES {
+        let value = value_of(rt.alloc(), *spelled)?;
+        expect(&rt, copied_value_told(rt.alloc(), &value)?, print);
+        expect(&rt, printed(rt.alloc(), &value)?, print);
     }
     Ok(())
+}
+
+fn copied_ask_told(alloc: Global, ask: Ask) -> Result<String, AllocError> {
+    ask_told(alloc, &ask.copy()?)
+}
+
+fn copied_binding_told(alloc: Global, binding: Binding) -> Result<String, AllocError> {
+    binding_told(alloc, &binding.copy()?)
+}
+
+// The definition of a copy, copied.
+fn copied_definition_told(alloc: Global) -> Result<String, AllocError> {
+    let binding = function_f(alloc)?.copy()?;
+    copied_ask_told(alloc, define(alloc, binding)?)
+}
+
+fn copied_answer_told(rt: &impl Abort, alloc: Global, given: Given) -> Result<String, AllocError> {
+    let answer = answer(rt, alloc, given)?;
+    answer_told(alloc, &answer.copy()?)
 }
 
 #[test]
 fn asks_and_answers_are_copied(rt: HostRuntime) -> Result<(), Fail> {
     let a = rt.alloc();
-    let ask = resolve(a)?.copy()?;
-    assert_eq!(rt; ask_told(a, &ask)?.as_str(), RESOLVE);
-    let binding = Binding::Function(function(a)?).copy()?;
-    assert_eq!(rt; binding_told(a, &binding)?.as_str(), FUNCTION);
-    let ask = define(a, binding)?.copy()?;
-    assert_eq!(rt; ask_told(a, &ask)?.as_str(), DEFINE);
-    let binding = Binding::Value(form(a, "{1 2}")?).copy()?;
-    assert_eq!(rt; binding_told(a, &binding)?.as_str(), "{1 2}");
-    for (answer, told) in answers(&rt, a)?.into_iter().zip(ANSWERS) {
-        assert_eq!(rt; answer_told(a, &answer.copy()?)?.as_str(), told);
+    expect(&rt, copied_ask_told(a, resolve(a)?)?, RESOLVE);
+    expect(&rt, copied_binding_told(a, function_f(a)?)?, FUNCTION);
+    expect(&rt, copied_definition_told(a)?, DEFINE);
+    let value = form(a, "{1 2}")?;
+    expect(&rt, copied_binding_told(a, Binding::Value(value))?, "{1 2}");
+    for (given, told) in ANSWERS {
+        expect(&rt, copied_answer_told(&rt, a, *given)?, told);
     }
     Ok(())
 }
 
+fn resolved(alloc: Global) -> Result<Exchange, AllocError> {
+    Ok(Exchange {
+        ask: resolve(alloc)?,
+        answer: Answer::Resolution(Resolution::Value(Value::Int(3))),
+    })
+}
+
+fn defined(alloc: Global) -> Result<Exchange, AllocError> {
+    Ok(Exchange {
+        ask: define(alloc, function_f(alloc)?)?,
+        answer: Answer::Done,
+    })
+}
+
+fn trace_of_two(alloc: Global) -> Result<Vec<Exchange>, AllocError> {
+    let mut trace = Vec::new(alloc);
+    trace.push(resolved(alloc)?)?;
+    trace.push(defined(alloc)?)?;
+    Ok(trace)
+}
+
+fn copied_exchange_told(alloc: Global, exchange: &Exchange) -> Result<String, AllocError> {
+    exchange_told(alloc, &exchange.copy()?)
+}
+
+// Each exchange of the copy, with a semicolon behind it.
+fn copied_trace_told(alloc: Global, trace: &[Exchange]) -> Result<String, AllocError> {
+    let mut told = String::new(alloc);
+    for exchange in &copy_trace(alloc, trace)? {
+        told.push_str(exchange_told(alloc, exchange)?.as_str())?;
+        told.push_str("; ")?;
+    }
+    Ok(told)
+}
+
+const TRACE: &str = "resolve user x: 3; define user f user/f a b 1 (c d): done; ";
+
 #[test]
 fn traces_are_copied(rt: HostRuntime) -> Result<(), Fail> {
     let a = rt.alloc();
-    let mut trace = Vec::new(a);
-    assert!(rt; copy_trace(a, trace.as_slice())?.is_empty());
-    trace.push(Exchange {
-        ask: resolve(a)?,
-        answer: Answer::Resolution(Resolution::Value(Value::Int(3))),
-    })?;
-    trace.push(Exchange {
-        ask: define(a, Binding::Function(function(a)?))?,
-        answer: Answer::Done,
-    })?;
-    let copied = trace[0].copy()?;
-    assert_eq!(rt; exchange_told(a, &copied)?.as_str(), "resolve user x: 3");
-    let copied = copy_trace(a, trace.as_slice())?;
-    assert_eq!(rt; copied.len(), 2);
-    assert_eq!(rt; exchange_told(a, &copied[0])?.as_str(), "resolve user x: 3");
-    let told = exchange_told(a, &copied[1])?;
-    assert_eq!(rt; told.as_str(), "define user f user/f a b 1 (c d): done");
+    assert!(rt; copy_trace(a, &[])?.is_empty());
+    expect(
+        &rt,
+        copied_exchange_told(a, &resolved(a)?)?,
+        "resolve user x: 3",
+    );
+    let trace = trace_of_two(a)?;
+    expect(&rt, copied_trace_told(a, trace.as_slice())?, TRACE);
     Ok(())
+}
+
+fn job_of(alloc: Global, work: Work) -> Result<Job, AllocError> {
+    Ok(Job {
+        work,
+        namespace: text(alloc, "user")?,
+        retries: 7,
+    })
+}
+
+fn work_of(alloc: Global) -> Result<Work, AllocError> {
+    Ok(Work::Form(form(alloc, "(f x)")?))
+}
+
+// The form, the namespace and the attempts of a copy, made of a copy.
+fn copied_job_told(alloc: Global) -> Result<String, AllocError> {
+    let job = job_of(alloc, work_of(alloc)?.copy()?)?.copy()?;
+    let form = printed(alloc, job.work.form())?;
+    let (form, namespace, retries) = (form.as_str(), job.namespace.as_str(), job.retries);
+    format!(in alloc; "{form} in {namespace}, {retries}")
+}
+
+fn copied_work_told(alloc: Global) -> Result<String, AllocError> {
+    printed(alloc, work_of(alloc)?.copy()?.form())
+}
+
+// The text, the namespace and the end of a copy, made of a copy.
+fn copied_end_told(alloc: Global, end: End) -> Result<String, AllocError> {
+    let out = String::from_str(alloc, "out")?;
+    let finished = Finished::new(end.copy()?, out, text(alloc, "user")?);
+    finished_told(alloc, &finished.copy(alloc)?)
+}
+
+fn finished_told(alloc: Global, finished: &Finished) -> Result<String, AllocError> {
+    let end = end_told(alloc, finished.end())?;
+    let (end, out, namespace) = (end.as_str(), finished.text(), finished.namespace().as_str());
+    format!(in alloc; "{out} in {namespace}, {end}")
 }
 
 #[test]
 fn jobs_and_ends_are_copied(rt: HostRuntime) -> Result<(), Fail> {
     let a = rt.alloc();
-    let work = Work::Form(form(a, "(f x)")?).copy()?;
-    assert_eq!(rt; printed(a, work.form())?.as_str(), "(f x)");
-    let job = Job {
-        work,
-        namespace: text(a, "user")?,
-        retries: 7,
-    };
-    let job = job.copy()?;
-    assert_eq!(rt; printed(a, job.work.form())?.as_str(), "(f x)");
-    assert_eq!(rt; job.namespace.as_str(), "user");
-    assert_eq!(rt; job.retries, 7);
-    for (end, told) in [
-        (End::Value(Value::Int(3)), "3"),
-        (End::Fault(fault(a)?), "#error{C: t}"),
-    ] {
-        let printed_text = String::from_str(a, "out")?;
-        let finished = Finished::new(end.copy()?, printed_text, text(a, "user")?);
-        let copied = finished.copy(a)?;
-        assert_eq!(rt; end_told(a, copied.end())?.as_str(), told);
-        assert_eq!(rt; copied.text(), "out");
-        assert_eq!(rt; copied.namespace().as_str(), "user");
-    }
-    Ok(())
-}
-
-// The text of the answer, or why there is none; the ask comes back then.
-fn asked(alloc: Global, replay: &mut Replay, ask: Ask, told: &str) -> Result<String, AllocError> {
-    match replay.ask(alloc, ask) {
-        Ok(answer) => answer_told(alloc, &answer),
-        Err(stop) => {
-            if stop.why == StopReason::NoAnswer && ask_told(alloc, &stop.ask)?.as_str() == told {
-                String::from_str(alloc, "no answer")
-            } else {
-                String::from_str(alloc, "another stop")
-            }
-        }
-    }
-}
-
-#[test]
-fn a_replay_gives_its_answers_in_order(rt: HostRuntime) -> Result<(), Fail> {
-    let a = rt.alloc();
-    let mut left = answers(&rt, a)?;
-    left.push(Answer::Resolution(Resolution::Value(Value::Int(2))))?;
-    let mut replay = Replay::new(a, left);
-    for told in &ANSWERS[..4] {
-        assert_eq!(rt;
-            asked(a, &mut replay, resolve(a)?, RESOLVE)?.as_str(),
-            *told
-        );
-    }
-    let definition = define(a, Binding::Value(Value::Nil))?;
-    assert_eq!(rt; asked(a, &mut replay, definition, "")?.as_str(), "done");
-    for told in ["2", "no answer", "no answer"] {
-        assert_eq!(rt; asked(a, &mut replay, resolve(a)?, RESOLVE)?.as_str(), told);
-    }
-    Ok(())
-}
-
-// A definition is answered by `Done` alone, and a symbol by all else. Who stopped answers no more.
-#[test]
-fn an_answer_of_another_kind_counts_as_none(rt: HostRuntime) -> Result<(), Fail> {
-    let a = rt.alloc();
-    for (answer, told) in answers(&rt, a)?.into_iter().zip(ANSWERS) {
-        let mut left = Vec::new(a);
-        left.push(answer)?;
-        left.push(Answer::Done)?;
-        let mut replay = Replay::new(a, left);
-        if told == "done" {
-            assert_eq!(rt;
-                asked(a, &mut replay, resolve(a)?, RESOLVE)?.as_str(),
-                "no answer"
-            );
-        }
-        for _ in 0..2 {
-            let definition = define(a, Binding::Function(function(a)?))?;
-            assert_eq!(rt;
-                asked(a, &mut replay, definition, DEFINE)?.as_str(),
-                "no answer"
-            );
-        }
-    }
+    expect(&rt, copied_work_told(a)?, "(f x)");
+    expect(&rt, copied_job_told(a)?, "(f x) in user, 7");
+    expect(
+        &rt,
+        copied_end_told(a, End::Value(Value::Int(3)))?,
+        "out in user, 3",
+    );
+    let fault = End::Fault(fault(a)?);
+    expect(&rt, copied_end_told(a, fault)?, "out in user, #error{C: t}");
     Ok(())
 }

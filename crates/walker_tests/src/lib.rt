@@ -9,6 +9,8 @@ mod kinds;
 #[cfg(test)]
 mod namespaces;
 #[cfg(test)]
+mod replays;
+#[cfg(test)]
 mod steps;
 #[cfg(test)]
 mod walked;

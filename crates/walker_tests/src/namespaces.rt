@@ -1,5 +1,5 @@
 // What `ns` and `in-ns` ask, and the namespace in which an evaluation goes on and ends.
-use crate::walked::{Given, walked};
+use crate::walked::{Given, expect, walked};
 use std::alloc::Global;
 use std::process::Abort;
 use std::test::Fail;
@@ -10,13 +10,12 @@ type Row = (&'static str, &'static [Given], &'static str);
 fn check(rt: &impl Abort, alloc: Global, rows: &[Row]) -> Result<(), Fail> {
     for (code, given, told) in rows {
         let expected = format!(in alloc; "{code} -- {told}")?;
-        let found = walked(rt, alloc, code, given)?;
-        assert_eq!(rt; found.as_str(), expected.as_str());
+        expect(rt, walked(rt, alloc, code, given)?, expected.as_str());
     }
     Ok(())
 }
 
-const ENTERED: [Row; 8] = [
+const ENTERED: &[Row] = &[
     ("(ns a)", &[Given::Done], "enter a: done; '' in a nil"),
     ("(ns a/b)", &[Given::Done], "enter a/b: done; '' in a/b nil"),
     (
@@ -53,10 +52,10 @@ const ENTERED: [Row; 8] = [
 
 #[test]
 fn namespaces_are_entered(rt: HostRuntime) -> Result<(), Fail> {
-    check(&rt, rt.alloc(), &ENTERED)
+    check(&rt, rt.alloc(), ENTERED)
 }
 
-const REFUSED: [Row; 16] = [
+const REFUSED: &[Row] = &[
     (
         "(ns)",
         &[],
@@ -141,10 +140,10 @@ const REFUSED: [Row; 16] = [
 
 #[test]
 fn other_forms_ask_nothing(rt: HostRuntime) -> Result<(), Fail> {
-    check(&rt, rt.alloc(), &REFUSED)
+    check(&rt, rt.alloc(), REFUSED)
 }
 
-const FOLLOWING: [Row; 6] = [
+const FOLLOWING: &[Row] = &[
     (
         "(do (ns a) (def x 1))",
         &[Given::Done, Given::Done],
@@ -179,12 +178,12 @@ const FOLLOWING: [Row; 6] = [
 
 #[test]
 fn what_follows_is_evaluated_in_the_namespace(rt: HostRuntime) -> Result<(), Fail> {
-    check(&rt, rt.alloc(), &FOLLOWING)
+    check(&rt, rt.alloc(), FOLLOWING)
 }
 
 // A function's body is evaluated in its own namespace, and changes that of the form around its
 // call.
-const BODIES: [Row; 2] = [
+const BODIES: &[Row] = &[
     (
         "(do (ns b) (g))",
         &[Given::Done, Given::OfNone("(def y 2)"), Given::Done],
@@ -205,10 +204,10 @@ const BODIES: [Row; 2] = [
 
 #[test]
 fn bodies_stay_in_their_namespace(rt: HostRuntime) -> Result<(), Fail> {
-    check(&rt, rt.alloc(), &BODIES)
+    check(&rt, rt.alloc(), BODIES)
 }
 
-const FAULTS: [Row; 4] = [
+const FAULTS: &[Row] = &[
     (
         "(do (ns a) (throw 1))",
         &[Given::Done],
@@ -234,21 +233,25 @@ const FAULTS: [Row; 4] = [
 
 #[test]
 fn a_fault_leaves_the_namespace(rt: HostRuntime) -> Result<(), Fail> {
-    check(&rt, rt.alloc(), &FAULTS)
+    check(&rt, rt.alloc(), FAULTS)
 }
+
+const OTHER_ANSWERS: &[&[Given]] = &[
+    &[],
+    &[Given::Int(5)],
+    &[Given::Fault],
+    &[Given::OfNone("1")],
+];
 
 #[test]
 fn an_entry_is_answered_by_done_alone(rt: HostRuntime) -> Result<(), Fail> {
     let a = rt.alloc();
-    let rows: [&[Given]; 4] = [
-        &[],
-        &[Given::Int(5)],
-        &[Given::Fault],
-        &[Given::OfNone("1")],
-    ];
-    for given in rows {
-        let told = walked(&rt, a, "(do (ns a) 1)", given)?;
-        assert_eq!(rt; told.as_str(), "stopped at enter a");
+    for given in OTHER_ANSWERS {
+        expect(
+            &rt,
+            walked(&rt, a, "(do (ns a) 1)", given)?,
+            "stopped at enter a",
+        );
     }
     Ok(())
 }

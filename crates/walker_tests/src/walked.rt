@@ -1,11 +1,14 @@
 // A walk over answers that are known beforehand, and the text by which a test compares its end.
 use core_functions::CoreFunction;
-use repl_asks::{Answer, NamedFunction, Replay, Resolution};
+use repl_asks::{Answer, Ask, Exchange, NamedFunction, Replay, Resolution};
+use repl_jobs::Finished;
 use repl_values::Value;
 use repl_walker::{Ending, WalkError, walk};
 use std::alloc::{AllocError, Global};
 use std::process::Abort;
-use walk_scripts::{ask_told, end_told, exchange_told, fault, job, printed, program};
+use walk_scripts::{
+    ask_told, end_told, exchange_told, fault, form, function, job, printed, program,
+};
 
 // An answer, in short.
 #[derive(Clone, Copy)]
@@ -15,22 +18,38 @@ pub(crate) enum Given {
     // The function `g`, defined in `other`, of one parameter `a` or of none, with this body.
     OfOne(&'static str),
     OfNone(&'static str),
+    // The function `f`, defined in `user`, of two parameters.
+    OfTwo(&'static str),
+    // The value that the code is read as.
+    Form(&'static str),
     Done,
     Fault,
 }
 
-fn answer(rt: &impl Abort, alloc: Global, given: Given) -> Result<Answer, AllocError> {
+fn value(value: Value) -> Answer {
+    Answer::Resolution(Resolution::Value(value))
+}
+
+fn core(rt: &impl Abort, name: &str) -> Answer {
+    let Some(function) = CoreFunction::named(name) else {
+        panic!(rt; "no function {name}");
+    };
+    Answer::Resolution(Resolution::Function(NamedFunction::Core(function)))
+}
+
+fn of_two(alloc: Global, body: &str) -> Result<Answer, AllocError> {
+    let function = function(alloc, "user", "f", &["a", "b"], body)?;
+    Ok(Answer::Resolution(Resolution::Function(NamedFunction::Program(function))))
+}
+
+pub(crate) fn answer(rt: &impl Abort, alloc: Global, given: Given) -> Result<Answer, AllocError> {
     match given {
-        Given::Int(n) => Ok(Answer::Resolution(Resolution::Value(Value::Int(n)))),
-        Given::Core(name) => match CoreFunction::named(name) {
-            Some(function) => {
-                let function = NamedFunction::Core(function);
-                Ok(Answer::Resolution(Resolution::Function(function)))
-            }
-            None => panic!(rt; "no function {name}"),
-        },
+        Given::Int(n) => Ok(value(Value::Int(n))),
+        Given::Form(code) => Ok(value(form(alloc, code)?)),
+        Given::Core(name) => Ok(core(rt, name)),
         Given::OfOne(body) => program(alloc, &["a"], body),
         Given::OfNone(body) => program(alloc, &[], body),
+        Given::OfTwo(body) => of_two(alloc, body),
         Given::Done => Ok(Answer::Done),
         Given::Fault => Ok(Answer::Resolution(Resolution::Nothing(fault(alloc)?))),
     }
@@ -52,24 +71,48 @@ pub(crate) fn answers(
 pub(crate) fn ending_told(alloc: Global, ending: &Ending) -> Result<String, AllocError> {
     let mut told = printed(alloc, ending.job().work.form())?;
     told.push_str(" -- ")?;
-    for exchange in ending.trace() {
+    tell_trace(alloc, ending.trace(), &mut told)?;
+    tell_finished(alloc, ending.end(), &mut told)?;
+    Ok(told)
+}
+
+pub(crate) fn tell_trace(
+    alloc: Global,
+    trace: &[Exchange],
+    told: &mut String,
+) -> Result<(), AllocError> {
+    for exchange in trace {
         told.push_str(exchange_told(alloc, exchange)?.as_str())?;
         told.push_str("; ")?;
     }
-    let finished = ending.end();
+    Ok(())
+}
+
+fn tell_finished(alloc: Global, finished: &Finished, told: &mut String) -> Result<(), AllocError> {
     let (text, namespace) = (finished.text(), finished.namespace().as_str());
     write!(told, "'{text}' in {namespace} ")?;
-    told.push_str(end_told(alloc, finished.end())?.as_str())?;
-    Ok(told)
+    told.push_str(end_told(alloc, finished.end())?.as_str())
+}
+
+fn copied_ending_told(alloc: Global, ending: &Ending) -> Result<String, AllocError> {
+    ending_told(alloc, &ending.copy(alloc)?)
+}
+
+pub(crate) fn expect(rt: &impl Abort, found: String, wanted: &str) {
+    assert_eq!(rt; found.as_str(), wanted);
 }
 
 // The ending, told of itself and of its copy.
 fn told_twice(rt: &impl Abort, alloc: Global, ending: &Ending) -> Result<String, AllocError> {
     let told = ending_told(alloc, ending)?;
-    let copied = ending.copy(alloc)?;
-    let again = ending_told(alloc, &copied)?;
-    assert_eq!(rt; again.as_str(), told.as_str());
+    expect(rt, copied_ending_told(alloc, ending)?, told.as_str());
     Ok(told)
+}
+
+fn stop_told(alloc: Global, ask: &Ask) -> Result<String, AllocError> {
+    let ask = ask_told(alloc, ask)?;
+    let ask = ask.as_str();
+    format!(in alloc; "stopped at {ask}")
 }
 
 // How the walk over these answers ended, or the ask at which it stopped.
@@ -83,11 +126,7 @@ pub(crate) fn walked(
     let mut replay = Replay::new(alloc, answers(rt, alloc, given)?);
     match walk(alloc, &job, &mut replay) {
         Ok(ending) => told_twice(rt, alloc, &ending),
-        Err(WalkError::Stopped(ask)) => {
-            let ask = ask_told(alloc, &ask)?;
-            let ask = ask.as_str();
-            format!(in alloc; "stopped at {ask}")
-        }
+        Err(WalkError::Stopped(ask)) => stop_told(alloc, &ask),
         Err(WalkError::NoMemory) => Err(AllocError),
     }
 }

@@ -1,52 +1,54 @@
 // Evaluations over answers that are known beforehand: what each asks, prints and comes to.
-use crate::walked::{Given, answers, ending_told, walked};
+use crate::walked::{Given, answers, ending_told, expect, walked};
 use repl_asks::Replay;
 use repl_walker::walk;
+use std::alloc::{AllocError, Global};
 use std::test::Fail;
 use walk_scripts::job;
 
 // A definition gives the var of its namespace: that of the function in whose body it stands.
+const DEFINITIONS: &[(&str, &[Given], &str)] = &[
+    (
+        "(def x 1)",
+        &[Given::Done],
+        "(def x 1) -- define user x 1: done; '' in user #'user/x",
+    ),
+    ("(def x 1)", &[Given::Int(5)], "stopped at define user x 1"),
+    ("(def x 1)", &[Given::Fault], "stopped at define user x 1"),
+    (
+        "(def x 1)",
+        &[Given::Core("+")],
+        "stopped at define user x 1",
+    ),
+    (
+        "(def x 1)",
+        &[Given::OfNone("1")],
+        "stopped at define user x 1",
+    ),
+    ("(def x 1)", &[], "stopped at define user x 1"),
+    (
+        "(defn f [a] a)",
+        &[Given::Done],
+        "(defn f [a] a) -- define user f user/f a a: done; '' in user #'user/f",
+    ),
+    (
+        "(g 7)",
+        &[Given::OfOne("(def y a)"), Given::Done],
+        "(g 7) -- resolve user g: other/g a (def y a); define other y 7: done; \
+            '' in user #'other/y",
+    ),
+];
+
 #[test]
 fn definitions_give_their_vars(rt: HostRuntime) -> Result<(), Fail> {
-    let rows: [(&str, &[Given], &str); 8] = [
-        (
-            "(def x 1)",
-            &[Given::Done],
-            "(def x 1) -- define user x 1: done; '' in user #'user/x",
-        ),
-        ("(def x 1)", &[Given::Int(5)], "stopped at define user x 1"),
-        ("(def x 1)", &[Given::Fault], "stopped at define user x 1"),
-        (
-            "(def x 1)",
-            &[Given::Core("+")],
-            "stopped at define user x 1",
-        ),
-        (
-            "(def x 1)",
-            &[Given::OfNone("1")],
-            "stopped at define user x 1",
-        ),
-        ("(def x 1)", &[], "stopped at define user x 1"),
-        (
-            "(defn f [a] a)",
-            &[Given::Done],
-            "(defn f [a] a) -- define user f user/f a a: done; '' in user #'user/f",
-        ),
-        (
-            "(g 7)",
-            &[Given::OfOne("(def y a)"), Given::Done],
-            "(g 7) -- resolve user g: other/g a (def y a); define other y 7: done; \
-                '' in user #'other/y",
-        ),
-    ];
     let a = rt.alloc();
-    for (code, given, told) in rows {
-        assert_eq!(rt; walked(&rt, a, code, given)?.as_str(), told);
+    for (code, given, told) in DEFINITIONS {
+        expect(&rt, walked(&rt, a, code, given)?, told);
     }
     Ok(())
 }
 
-const FORMS: [(&str, &[Given], &str); 8] = [
+const FORMS: &[(&str, &[Given], &str)] = &[
     ("7", &[], "7 -- '' in user 7"),
     (
         "x",
@@ -81,9 +83,16 @@ const FORMS: [(&str, &[Given], &str); 8] = [
 fn forms_ask_in_their_order(rt: HostRuntime) -> Result<(), Fail> {
     let a = rt.alloc();
     for (code, given, told) in FORMS {
-        assert_eq!(rt; walked(&rt, a, code, given)?.as_str(), told);
+        expect(&rt, walked(&rt, a, code, given)?, told);
     }
     Ok(())
+}
+
+fn walk_told(alloc: Global, code: &str, replay: &mut Replay) -> Result<String, AllocError> {
+    match walk(alloc, &job(alloc, code, 1)?, replay) {
+        Ok(ending) => ending_told(alloc, &ending),
+        Err(_stopped) => String::from_str(alloc, "stopped"),
+    }
 }
 
 // A second evaluation goes on with the answers that the first left.
@@ -91,15 +100,9 @@ fn forms_ask_in_their_order(rt: HostRuntime) -> Result<(), Fail> {
 fn answers_are_left_for_the_next(rt: HostRuntime) -> Result<(), Fail> {
     let a = rt.alloc();
     let mut replay = Replay::new(a, answers(&rt, a, &[Given::Int(1), Given::Int(2)])?);
-    let Ok(first) = walk(a, &job(a, "x", 1)?, &mut replay) else {
-        panic!(rt; "the first stopped");
-    };
-    let Ok(second) = walk(a, &job(a, "y", 1)?, &mut replay) else {
-        panic!(rt; "the second stopped");
-    };
-    let told = ending_told(a, &first)?;
-    assert_eq!(rt; told.as_str(), "x -- resolve user x: 1; '' in user 1");
-    let told = ending_told(a, &second)?;
-    assert_eq!(rt; told.as_str(), "y -- resolve user y: 2; '' in user 2");
+    let told = walk_told(a, "x", &mut replay)?;
+    expect(&rt, told, "x -- resolve user x: 1; '' in user 1");
+    let told = walk_told(a, "y", &mut replay)?;
+    expect(&rt, told, "y -- resolve user y: 2; '' in user 2");
     Ok(())
 }
