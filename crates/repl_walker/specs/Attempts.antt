@@ -1,5 +1,5 @@
 -- The trace of a transaction, attempt by attempt.
-use Rattle.std.specs.Prelude.{◌≡◌, ◌⊎◌, ◌+◌, ℕ, List, [], ◌∷◌, ◌++◌, Bool, true, false, length}
+use Rattle.std.specs.Prelude.{◌≡◌, ◌+◌, ℕ, List, [], ◌∷◌, ◌++◌, Bool, true, false, length}
 use Rattle.std.specs.Prelude.{nat_lt}
 use Rattle.core_texts.specs.Limits.{most_text}
 use Rattle.repl_asks.specs.Exchange.{Exchanged}

@@ -1,6 +1,6 @@
 -- What an evaluation that came so far has still to do, of which job, and after what.
 use Rattle.std.specs.Prelude.{◌≡◌, List, [], ◌∷◌, ◌++◌}
-use Rattle.repl_asks.specs.Exchange.{AskData, AnswerData, Exchanged}
+use Rattle.repl_asks.specs.Exchange.{AnswerData, Exchanged}
 use Rattle.repl_asks.specs.Inside.View.{ask_view, trace_view}
 use Rattle.repl_jobs.specs.Job.{JobData}
 use Rattle.repl_jobs.specs.Inside.View.{job_view, finished_view}

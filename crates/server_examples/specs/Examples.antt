@@ -1,13 +1,13 @@
 -- Runs with one tenant and with two.
-use Rattle.std.specs.Prelude.{◌≡◌, ℕ, List, [], ◌∷◌, ◌++◌, Option, Some, None, Ok, Err, codes}
+use Rattle.std.specs.Prelude.{◌≡◌, ℕ, List, [], ◌∷◌, ◌++◌, Some, None, Ok, Err, codes}
 use Rattle.value_data.specs.Datum.{nil}
 use Rattle.repl_jobs.specs.Job as jobs
-use Rattle.repl_jobs.specs.Job.{JobData, EndingData}
+use Rattle.repl_jobs.specs.Job.{EndingData}
 use Rattle.repl_replies.specs.Replies as replies
 use Rattle.server_rules.specs.Numbered.{part_under}
 use Rattle.server_rules.specs.Plan.{ends, tenant_opened}
 use Rattle.server_rules.specs.World.{opens, closes, does, step}
-use Rattle.server_rules.specs.Turns.{Turn, given, turns_of_tenant}
+use Rattle.server_rules.specs.Turns.{Turn, given}
 use Rattle.server_rules.specs.Isolation.Laws.{answer_in}
 use Rattle.server_rules.specs.declared.actor.Actor.{Actor}
 use Rattle.server_rules.specs.declared.refusal.Refusal.{Refusal}

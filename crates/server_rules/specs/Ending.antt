@@ -1,5 +1,5 @@
 -- Ending: an evaluation comes back at its end, and its form is answered.
-use Rattle.std.specs.Prelude.{ℕ, List, Bool, true, false, Option, None, Some, if◌then◌else◌}
+use Rattle.std.specs.Prelude.{ℕ, Bool, true, false, Option, None, Some, if◌then◌else◌}
 use Rattle.server_rules.specs.Calls.{leaves_attempt}
 use Rattle.server_rules.specs.Ground.{Ground}
 use Rattle.server_rules.specs.Request.{Hand, Run}

@@ -1,6 +1,6 @@
 -- What becomes of a request in hand where a form of it ended (the nREPL manual, "Supported nREPL
 -- operations", `eval` and `load-file`).
-use Rattle.std.specs.Prelude.{ℕ, List, [], ◌∷◌, ◌++◌, Option, None, Some, Result, Ok, Err}
+use Rattle.std.specs.Prelude.{List, [], ◌∷◌, ◌++◌, Option, None, Some, Result, Ok, Err}
 use Rattle.value_data.specs.Datum.{Datum, Items, no_items, item}
 use Rattle.repl_faults.specs.Failure.{Failure}
 use Rattle.repl_jobs.specs.Job.{EndData}

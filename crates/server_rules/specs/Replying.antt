@@ -1,6 +1,6 @@
 -- The replies to a request to evaluate (the nREPL manual, "Supported nREPL operations", `eval` and
 -- `load-file`).
-use Rattle.std.specs.Prelude.{ℕ, List, [], ◌∷◌, ◌++◌, Result, Ok, Err, codes}
+use Rattle.std.specs.Prelude.{ℕ, List, [], ◌∷◌, ◌++◌, codes}
 use Rattle.value_data.specs.Datum.{Datum}
 use Rattle.repl_values.specs.Print.{print}
 use Rattle.repl_faults.specs.Failure.{Failure}

@@ -7,9 +7,8 @@ use Rattle.server_rules.specs.Numbered.{part_under}
 use Rattle.server_rules.specs.Ground.{Ground}
 use Rattle.server_rules.specs.Request.{Hand, Run}
 use Rattle.server_rules.specs.Tenant.{ActorData, seat_of, Quiet}
-use Rattle.server_rules.specs.Plan.{Deed, starts, asks_for, ends, StepAnswer, tenant_opened}
-use Rattle.server_rules.specs.Plan.{messages_heard, form_begun, request_answered, ask_answered}
-use Rattle.server_rules.specs.Plan.{form_finished, request_interrupted, reply_given, tenant_gone}
+use Rattle.server_rules.specs.Plan.{Deed, starts, asks_for, ends, StepAnswer}
+use Rattle.server_rules.specs.Plan.{reply_given}
 use Rattle.server_rules.specs.World.{TenantData, World, Step, opens, does, closes, Stepped}
 use Rattle.server_rules.specs.World.{accepted, refused, step, world_or}
 use Rattle.server_rules.specs.declared.actor.Actor.{Actor}

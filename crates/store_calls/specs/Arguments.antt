@@ -8,7 +8,7 @@ use Rattle.repl_faults.specs.declared.rule.Rule.{Rule}
 use Rattle.function_names.specs.StoreNames.{store_name_of}
 use Rattle.function_names.specs.declared.store.StoreFunction.{StoreFunction}
 use Rattle.repl_asks.specs.Transactions.{RefNameData}
-use Rattle.repl_asks.specs.Exchange.{AskData, history, min_history, max_history}
+use Rattle.repl_asks.specs.Exchange.{AskData, min_history, max_history}
 use Rattle.store_calls.specs.declared.bounds.HistoryBound.{HistoryBound}
 
 -- Arguments

@@ -4,7 +4,7 @@
 -- that all tenants share.
 use Rattle.std.specs.Prelude.{List, [], ◌∷◌, Bool, ◌||◌, not, Some, None, Result, Ok, Err}
 use Rattle.std.specs.Prelude.{if◌then◌else◌, length}
-use Rattle.value_data.specs.Datum.{Datum, shared, ref}
+use Rattle.value_data.specs.Datum.{Datum}
 use Rattle.repl_faults.specs.Failure.{Failure, ◌>>=◌, wrong_argument, wrong_arity}
 use Rattle.repl_faults.specs.declared.rule.Rule.{Rule}
 use Rattle.function_names.specs.StoreNames.{store_name_of, store_fits}

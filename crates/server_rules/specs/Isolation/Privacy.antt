@@ -1,7 +1,7 @@
 -- Who names no shared ref, and when a tenant is there from its first Open on.
-use Rattle.std.specs.Prelude.{◌≡◌, ℕ, ◌==◌, List, [], ◌∷◌, Bool, true, Option, ⊤, MatchBool}
+use Rattle.std.specs.Prelude.{ℕ, ◌==◌, List, [], ◌∷◌, ⊤, MatchBool}
 use Rattle.value_data.specs.Datum.{OwnerData, shared, tenant}
-use Rattle.repl_asks.specs.Transactions.{RefNameData, IntentData}
+use Rattle.repl_asks.specs.Transactions.{RefNameData}
 use Rattle.repl_asks.specs.Exchange as exchange
 use Rattle.repl_asks.specs.Exchange.{AskData}
 use Rattle.server_rules.specs.Commit.{touched_refs}
