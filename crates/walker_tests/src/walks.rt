@@ -2,7 +2,6 @@
 use crate::walked::{Given, answers, ending_told, expect, walked};
 use repl_asks::Replay;
 use repl_walker::walk;
-use std::alloc::{AllocError, Global};
 use std::test::Fail;
 use walk_scripts::job;
 
@@ -88,21 +87,20 @@ fn forms_ask_in_their_order(rt: HostRuntime) -> Result<(), Fail> {
     Ok(())
 }
 
-fn walk_told(alloc: Global, code: &str, replay: &mut Replay) -> Result<String, AllocError> {
-    match walk(alloc, &job(alloc, code, 1)?, replay) {
-        Ok(ending) => ending_told(alloc, &ending),
-        Err(_stopped) => String::from_str(alloc, "stopped"),
-    }
-}
-
 // A second evaluation goes on with the answers that the first left.
 #[test]
 fn answers_are_left_for_the_next(rt: HostRuntime) -> Result<(), Fail> {
     let a = rt.alloc();
     let mut replay = Replay::new(a, answers(&rt, a, &[Given::Int(1), Given::Int(2)])?);
-    let told = walk_told(a, "x", &mut replay)?;
+    let Ok(first) = walk(a, &job(a, "x", 1)?, &mut replay) else {
+        panic!(rt; "the first stopped");
+    };
+    let Ok(second) = walk(a, &job(a, "y", 1)?, &mut replay) else {
+        panic!(rt; "the second stopped");
+    };
+    let told = ending_told(a, &first)?;
     expect(&rt, told, "x -- resolve user x: 1; '' in user 1");
-    let told = walk_told(a, "y", &mut replay)?;
+    let told = ending_told(a, &second)?;
     expect(&rt, told, "y -- resolve user y: 2; '' in user 2");
     Ok(())
 }
