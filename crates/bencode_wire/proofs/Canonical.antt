@@ -4,8 +4,8 @@ use Rattle.std.proofs.lemmas.Cmp.{nat_list_cmp_total}
 use Rattle.std.proofs.lemmas.Slice.Eq.{bytes_eq-Decides}
 use Rattle.std.specs.Ordering.{match_ordering, ordering_reverse}
 use Rattle.std.specs.Str.{bytes_eq}
-use Rattle.bencode_wire.specs.Tree.{Tree, integer, string, list, dictionary, Trees, no_trees, tree, Pairs, no_pairs, pair, has_key, HasKey}
-use Rattle.bencode_wire.specs.Spelling.{canonical, sorted, sorted_trees, put_pair, put_pairs, IsString, IsSpellable, AreSpellable, ArePairs, IsDistinct, AreDistinct, PairsDistinct, Spells}
+use Rattle.bencode_wire.specs.Tree.{Tree, integer, string, list, dictionary, Trees, no_trees, tree, Pairs, no_pairs, pair, holds_key, HasKey}
+use Rattle.bencode_wire.specs.Spelling.{canonical, sorted, sorted_trees, put_sorted, put_pairs, IsString, IsSpellable, AreSpellable, ArePairs, IsDistinct, AreDistinct, PairsDistinct, Spells}
 use Rattle.bencode_wire.specs.Inside.Nesting.{nesting, trees_nesting, pairs_nesting}
 use Rattle.bencode_wire.proofs.Orders.{same_key}
 use Rattle.bencode_wire.proofs.Written.{order, Above, InOrder, put_in_ascending, sorted_twice}
@@ -26,13 +26,13 @@ each_ordered P Less key t l u ps more same new old h g = (new, (old, h))
 each_ordered P Equal key t l u ps more same new old h g = (subst (λ x. P x t) (same refl) new, h)
 each_ordered P Greater key t l u ps more same new old h g = (old, g)
 
-each_put : (P : List ℕ → Tree → Type 0) (ps : Pairs) (key : List ℕ) (t : Tree) → Each P ps → P key t → Each P (put_pair ps key t)
+each_put : (P : List ℕ → Tree → Type 0) (ps : Pairs) (key : List ℕ) (t : Tree) → Each P ps → P key t → Each P (put_sorted ps key t)
 each_put P no_pairs key t h new = (new, tt)
-each_put P (pair l u ps) key t h new = each_ordered P (order key l) key t l u ps (put_pair ps key t) (same_key key l) new h.0 h.1 (each_put P ps key t h.1 new)
+each_put P (pair l u ps) key t h new = each_ordered P (order key l) key t l u ps (put_sorted ps key t) (same_key key l) new h.0 h.1 (each_put P ps key t h.1 new)
 
 each_puts : (P : List ℕ → Tree → Type 0) (done ps : Pairs) → Each P done → EachSorted P ps → Each P (put_pairs done ps)
 each_puts P done no_pairs h g = h
-each_puts P done (pair k t ps) h g = each_puts P (put_pair done k (sorted t)) ps (each_put P done k (sorted t) h g.0) g.1
+each_puts P done (pair k t ps) h g = each_puts P (put_sorted done k (sorted t)) ps (each_put P done k (sorted t) h g.0) g.1
 
 -- Keys
 
@@ -44,7 +44,7 @@ less_apart a b h e =
     let same : order a a ≡ Less = ap (order a) e ∙ h in
     less_greater (sym same ∙ nat_list_cmp_total.antisymm a a ∙ ap ordering_reverse same)
 
-other_key : (b : Bool) (low k : List ℕ) (ps : Pairs) → bytes_eq low k ≡ b → order low k ≡ Less → (HasKey low ps → ⊥) → b || has_key low ps ≡ true → ⊥
+other_key : (b : Bool) (low k : List ℕ) (ps : Pairs) → bytes_eq low k ≡ b → order low k ≡ Less → (HasKey low ps → ⊥) → b || holds_key low ps ≡ true → ⊥
 other_key true low k ps e above other h = let same : low ≡ k = grind (arith, bytes_eq-Decides) in less_apart low k above same
 other_key false low k ps e above other h = other h
 

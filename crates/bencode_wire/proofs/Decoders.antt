@@ -3,7 +3,7 @@ use Rattle.std.proofs.Common.{◌≡◌, ℕ, ◌+◌, ◌-◌, List, [], ◌∷
 use Rattle.std.proofs.Common.{None, MatchOption, Err, refl, sym, ap, ◌∙◌, subst, arith}
 use Rattle.std.proofs.lemmas.List.{drop_all}
 use Rattle.bencode_wire.specs.Tree.{Tree}
-use Rattle.bencode_wire.specs.Spelling.{put_pair}
+use Rattle.bencode_wire.specs.Spelling.{put_sorted}
 use Rattle.bencode_wire.specs.Inside.Cut.{Cut}
 use Rattle.bencode_wire.specs.Fault.{StreamRule, counted_place, fault_at}
 use Rattle.bencode_wire.specs.Inside.ByteSteps.{StreamReading, rests, ended_reading, stream_reading, start}
@@ -11,7 +11,7 @@ use Rattle.bencode_wire.specs.Inside.Reader.{cut_view}
 use Rattle.bencode_wire.specs.Stream.{StreamEnding, rest, fault, IsRest, Streams}
 use Rattle.bencode_wire.specs.Inside.Course.{fault_of_end, ahead, ready_view, Advances, Continues}
 use Rattle.bencode_wire.specs.Inside.Decoder.{ready_of, rest_of, rest_place, fault_of, Shows, IsUnchanged}
-use Rattle.bencode_wire.specs.Inside.Decoder.{Stands}
+use Rattle.bencode_wire.specs.Inside.Decoder.{DecoderStands}
 use Rattle.bencode_wire.specs.Inside.Held.{Holds}
 use Rattle.bencode_wire.specs.declared.ben.Ben.{Ben}
 use Rattle.bencode_wire.specs.declared.cut.Course.{Course}
@@ -27,7 +27,7 @@ pub ahead_done : (limit : ℕ) (bytes : List ℕ) (next : Course) → next.at �
     → ahead limit bytes next ≡ ended_reading (rests (next.at - next.begin) (cut_view next.reader))
 ahead_done limit bytes next e =
     let none : drop next.at bytes ≡ [] = drop_all next.at bytes (omega arith) in
-    ap (λ bs. stream_reading limit put_pair (next.at - next.begin) (cut_view next.reader) next.at bs) none
+    ap (λ bs. stream_reading limit put_sorted (next.at - next.begin) (cut_view next.reader) next.at bs) none
 
 pub same_cut : (a b : ℕ) (c d : Cut) (r : StreamReading) → r ≡ ended_reading (rests a c) → r ≡ ended_reading (rests b d) → c ≡ d
 same_cut a b c d r e f = let g : rests a c ≡ rests b d = ap (λ r. r.end) (sym e ∙ f) in cc
@@ -71,7 +71,7 @@ rests_at : (limit : ℕ) (d : Decoder) (all : List ℕ) (taken : List Tree) (end
 rests_at limit d all taken (rest m) none streams shows = record { m = m; streams = streams; shown = shows.1; place = shows.2 }
 rests_at limit d all taken (fault rule at) none streams shows = absurd (none_some (fault_at rule (counted_place at)) (fault_of d) none shows)
 
-pub rests_of : (limit : ℕ) (d : Decoder) (all : List ℕ) (taken : List Tree) → fault_of d ≡ None → Stands limit d all taken → Rests limit d all taken
+pub rests_of : (limit : ℕ) (d : Decoder) (all : List ℕ) (taken : List Tree) → fault_of d ≡ None → DecoderStands limit d all taken → Rests limit d all taken
 rests_of limit d all taken none s = rests_at limit d all taken s.end none s.streams s.shows
 
 stays_at : (limit : ℕ) (d : Decoder) (all piece : List ℕ) (ms : List Tree) (end : StreamEnding) (f : WireFault) → fault_of d ≡ Some f → Streams limit 0 all ms end → Shows d all end
@@ -80,7 +80,7 @@ stays_at limit d all piece ms (rest m) f is streams shows = absurd (none_some f 
 stays_at limit d all piece ms (fault rule at) f is streams shows = (fault rule at, streams_stay limit 0 all piece ms rule at streams, shows)
 
 -- a fault stays
-pub feed_stays : (limit : ℕ) (d : Decoder) (all : List ℕ) (taken : List Tree) (piece : List ℕ) (f : WireFault) → fault_of d ≡ Some f → Stands limit d all taken → Stands limit d (all ++ piece) taken
+pub feed_stays : (limit : ℕ) (d : Decoder) (all : List ℕ) (taken : List Tree) (piece : List ℕ) (f : WireFault) → fault_of d ≡ Some f → DecoderStands limit d all taken → DecoderStands limit d (all ++ piece) taken
 feed_stays limit d all taken piece f is s =
     let g = stays_at limit d all piece (taken ++ ready_of d) s.end f is s.streams s.shows in
     record { end = g.0; streams = g.1; shows = g.2; within = s.within }
@@ -90,7 +90,7 @@ shows_same old new all (rest m) same h = (same.fault ∙ h.0, same.rest ∙ h.1,
 shows_same old new all (fault rule at) same is = same.fault ∙ is
 
 -- a decoder that shows the same stands for the same
-pub stands_same : (limit : ℕ) (old new : Decoder) (all : List ℕ) (taken : List Tree) → IsUnchanged old new → Stands limit old all taken → Stands limit new all taken
+pub stands_same : (limit : ℕ) (old new : Decoder) (all : List ℕ) (taken : List Tree) → IsUnchanged old new → DecoderStands limit old all taken → DecoderStands limit new all taken
 stands_same limit old new all taken same s = record {
   end = s.end;
   streams = subst (λ ms. Streams limit 0 all (taken ++ ms) s.end) (sym same.ready) s.streams;
@@ -101,30 +101,30 @@ stands_same limit old new all taken same s = record {
 -- what is kept is read as its cut
 pub resumed : (d : Decoder) (o old : Option Reader) (bytes : List ℕ) (reader : Reader) → o ≡ old → bytes ≡ d.rest → MatchOption old (Unit {0}) (Holds d.rest)
     → (part : IsRest d.limit d.rest)
-    → ((c : Cut) → MatchOption o (Unit {0}) (Holds bytes) → IsRest d.limit bytes → stream_reading d.limit put_pair 0 start 0 bytes ≡ ended_reading (rests (length bytes) c) → cut_view reader ≡ c)
+    → ((c : Cut) → MatchOption o (Unit {0}) (Holds bytes) → IsRest d.limit bytes → stream_reading d.limit put_sorted 0 start 0 bytes ≡ ended_reading (rests (length bytes) c) → cut_view reader ≡ c)
     → cut_view reader ≡ (rest_kept d.limit d.rest part).0
 resumed d o old bytes reader e f held part reads =
     let k = rest_kept d.limit d.rest part in
     reads k.0 (subst (λ x. MatchOption x (Unit {0}) (Holds bytes)) (sym e) (subst (λ x. MatchOption old (Unit {0}) (Holds x)) (sym f) held))
-    (subst (λ x. IsRest d.limit x) (sym f) part) (subst (λ x. stream_reading d.limit put_pair 0 start 0 x ≡ ended_reading (rests (length x) k.0)) (sym f) k.1.reads)
+    (subst (λ x. IsRest d.limit x) (sym f) part) (subst (λ x. stream_reading d.limit put_sorted 0 start 0 x ≡ ended_reading (rests (length x) k.0)) (sym f) k.1.reads)
 
 -- a reading from a message's start is what it was
 pub resumes : (limit place : ℕ) (bytes : List ℕ) (course next : Course) (old new : List Ben) (c : Cut)
     → cut_view course.reader ≡ start → course.begin ≡ 0 → course.at ≡ 0 → next.at ≡ length bytes
     → Advances (ahead limit bytes course) (ahead limit bytes next) old new
-    → stream_reading limit put_pair 0 start 0 bytes ≡ ended_reading (rests (length bytes) c) → cut_view next.reader ≡ c
+    → stream_reading limit put_sorted 0 start 0 bytes ≡ ended_reading (rests (length bytes) c) → cut_view next.reader ≡ c
 resumes limit place bytes course next old new c fresh begin at done adv read =
     let before : course.at - course.begin ≡ 0 = omega arith in
-    let now : ahead limit bytes course ≡ stream_reading limit put_pair 0 start 0 bytes =
-    ap (λ k. stream_reading limit put_pair k (cut_view course.reader) course.at (drop course.at bytes)) before
-    ∙ ap (λ x. stream_reading limit put_pair 0 x course.at (drop course.at bytes)) fresh
-    ∙ ap (λ k. stream_reading limit put_pair 0 start k (drop k bytes)) at in
+    let now : ahead limit bytes course ≡ stream_reading limit put_sorted 0 start 0 bytes =
+    ap (λ k. stream_reading limit put_sorted k (cut_view course.reader) course.at (drop course.at bytes)) before
+    ∙ ap (λ x. stream_reading limit put_sorted 0 x course.at (drop course.at bytes)) fresh
+    ∙ ap (λ k. stream_reading limit put_sorted 0 start k (drop k bytes)) at in
     let e : rests (next.at - next.begin) (cut_view next.reader) ≡ rests (length bytes) c =
     sym (ap (λ r. r.end) (ahead_done limit bytes next done)) ∙ adv.end ∙ ap (λ r. r.end) (now ∙ read) in
     cc
 
 -- what the reader holds is what the machine makes of the bytes
-pub held : (limit : ℕ) (m : List ℕ) (r : Reader) (c : Cut) → Holds m r → IsRest limit m → stream_reading limit put_pair 0 start 0 m ≡ ended_reading (rests (length m) c) → cut_view r ≡ c
+pub held : (limit : ℕ) (m : List ℕ) (r : Reader) (c : Cut) → Holds m r → IsRest limit m → stream_reading limit put_sorted 0 start 0 m ≡ ended_reading (rests (length m) c) → cut_view r ≡ c
 held limit m r c h part e =
     let k = rest_kept limit m part in
     let same : k.0 ≡ c = same_cut _ _ k.0 c _ k.1.reads e in
@@ -134,7 +134,7 @@ pub holds_some : (m : List ℕ) (o : Option Reader) (r : Reader) → o ≡ Some 
 holds_some m o r e kept = subst (λ o. MatchOption o (Unit {0}) (Holds m)) e kept
 
 -- before any byte
-pub stands_new : (limit : ℕ) (d : Decoder) → d.limit ≡ limit → d.ready ≡ [] → d.rest ≡ [] → d.place ≡ 0 → d.fault ≡ None → Stands limit d [] []
+pub stands_new : (limit : ℕ) (d : Decoder) → d.limit ≡ limit → d.ready ≡ [] → d.rest ≡ [] → d.place ≡ 0 → d.fault ≡ None → DecoderStands limit d [] []
 stands_new limit d within ready none place sound = record {
   end = rest [];
   streams = subst (λ vs. Streams limit 0 [] (ready_view vs) (rest [])) (sym ready) (rest_of_kept limit [] start (kept_none limit), refl);

@@ -3,10 +3,10 @@ use Rattle.std.proofs.Common.{◌≡◌, ℕ, ◌≤◌, max, Bool, true, false,
 use Rattle.std.proofs.lemmas.Slice.Eq.{bytes_eq-Decides}
 use Rattle.std.specs.Ordering.{match_ordering}
 use Rattle.std.specs.Str.{bytes_eq}
-use Rattle.bencode_wire.specs.Tree.{Tree, integer, string, list, dictionary, Trees, no_trees, tree, Pairs, no_pairs, pair, has_key, HasKey}
-use Rattle.bencode_wire.specs.Spelling.{sorted, sorted_trees, put_pair, put_pairs, IsDistinct, AreDistinct, PairsDistinct}
+use Rattle.bencode_wire.specs.Tree.{Tree, integer, string, list, dictionary, Trees, no_trees, tree, Pairs, no_pairs, pair, holds_key, HasKey}
+use Rattle.bencode_wire.specs.Spelling.{sorted, sorted_trees, put_sorted, put_pairs, IsDistinct, AreDistinct, PairsDistinct}
 use Rattle.bencode_wire.specs.Inside.Nesting.{nesting, trees_nesting, pairs_nesting}
-use Rattle.bencode_wire.proofs.Orders.{same_key, has_key-put_pair}
+use Rattle.bencode_wire.proofs.Orders.{same_key, holds_key-put_sorted}
 use Rattle.bencode_wire.proofs.Views.{each_sorted}
 use Rattle.bencode_wire.proofs.Written.{order}
 
@@ -20,21 +20,21 @@ apart_none no_pairs = tt
 apart_none (pair k t ps) = ((λ e. absurd (cc)), apart_none ps)
 
 key_here : (k l : List ℕ) (u : Tree) (ps : Pairs) → k ≡ l → HasKey k (pair l u ps)
-key_here k l u ps e = let same : bytes_eq k l ≡ true = grind (arith, bytes_eq-Decides) in ap (λ b. b || has_key k ps) same
+key_here k l u ps e = let same : bytes_eq k l ≡ true = grind (arith, bytes_eq-Decides) in ap (λ b. b || holds_key k ps) same
 
-key_later : (k : List ℕ) (ps : Pairs) (b : Bool) → HasKey k ps → b || has_key k ps ≡ true
+key_later : (k : List ℕ) (ps : Pairs) (b : Bool) → HasKey k ps → b || holds_key k ps ≡ true
 key_later k ps true e = refl
 key_later k ps false e = e
 
 -- a key that is found among the pairs and one more is that one's, or was there
-apart_one : (b : Bool) (l k : List ℕ) (done : Pairs) → bytes_eq l k ≡ b → (l ≡ k → ⊥) → (HasKey l done → ⊥) → b || has_key l done ≡ true → ⊥
+apart_one : (b : Bool) (l k : List ℕ) (done : Pairs) → bytes_eq l k ≡ b → (l ≡ k → ⊥) → (HasKey l done → ⊥) → b || holds_key l done ≡ true → ⊥
 apart_one true l k done e other was h = other (grind (arith, bytes_eq-Decides))
 apart_one false l k done e other was h = was h
 
-apart_put : (done : Pairs) (k : List ℕ) (v : Tree) (ps : Pairs) → (HasKey k ps → ⊥) → AreApart done ps → AreApart (put_pair done k v) ps
+apart_put : (done : Pairs) (k : List ℕ) (v : Tree) (ps : Pairs) → (HasKey k ps → ⊥) → AreApart done ps → AreApart (put_sorted done k v) ps
 apart_put done k v no_pairs h g = tt
 apart_put done k v (pair l u ps) h g = (
-  λ e. apart_one (bytes_eq l k) l k done refl (λ same. h (key_here k l u ps (sym same))) g.0 (sym (has_key-put_pair l done k v) ∙ e),
+  λ e. apart_one (bytes_eq l k) l k done refl (λ same. h (key_here k l u ps (sym same))) g.0 (sym (holds_key-put_sorted l done k v) ∙ e),
   apart_put done k v ps (λ e. h (key_later k ps (bytes_eq k l) e)) g.1,
 )
 
@@ -44,16 +44,16 @@ grows_ordered Less key t l u ps more other h = omega arith
 grows_ordered Equal key t l u ps more other h = absurd (other refl)
 grows_ordered Greater key t l u ps more other h = omega arith
 
-put_grows : (ps : Pairs) (key : List ℕ) (t : Tree) → (HasKey key ps → ⊥) → max (nesting t) (pairs_nesting ps) ≤ pairs_nesting (put_pair ps key t)
+put_grows : (ps : Pairs) (key : List ℕ) (t : Tree) → (HasKey key ps → ⊥) → max (nesting t) (pairs_nesting ps) ≤ pairs_nesting (put_sorted ps key t)
 put_grows no_pairs key t new = omega arith
 put_grows (pair l u ps) key t new =
-    grows_ordered (order key l) key t l u ps (put_pair ps key t) (λ e. new (key_here key l u ps (same_key key l e)))
+    grows_ordered (order key l) key t l u ps (put_sorted ps key t) (λ e. new (key_here key l u ps (same_key key l e)))
     (put_grows ps key t (λ h. new (key_later key ps (bytes_eq key l) h)))
 
 puts_grow : (done ps : Pairs) → AreApart done ps → PairsDistinct ps → max (pairs_nesting done) (pairs_nesting (each_sorted ps)) ≤ pairs_nesting (put_pairs done ps)
 puts_grow done no_pairs g d = omega arith
 puts_grow done (pair k t ps) g d =
-    let all = put_pair done k (sorted t) in
+    let all = put_sorted done k (sorted t) in
     let first : max (nesting (sorted t)) (pairs_nesting done) ≤ pairs_nesting all = put_grows done k (sorted t) g.0 in
     let more : max (pairs_nesting all) (pairs_nesting (each_sorted ps)) ≤ pairs_nesting (put_pairs all ps) = puts_grow all ps (apart_put done k (sorted t) ps d.0 g.1) d.2 in
     omega arith

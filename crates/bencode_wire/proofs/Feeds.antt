@@ -4,14 +4,14 @@ use Rattle.std.proofs.Common.{refl, sym, ap, ◌∙◌, subst, append_assoc, app
 use Rattle.std.proofs.Common.{arith}
 use Rattle.std.proofs.Math.Seq.{drop-append_seam}
 use Rattle.bencode_wire.specs.Tree.{Tree}
-use Rattle.bencode_wire.specs.Spelling.{put_pair}
+use Rattle.bencode_wire.specs.Spelling.{put_sorted}
 use Rattle.bencode_wire.specs.Inside.Cut.{Cut}
 use Rattle.bencode_wire.specs.Fault.{counted_place, fault_at}
 use Rattle.bencode_wire.specs.Inside.ByteSteps.{ReadingEnd, rests, faults, stream_reading}
 use Rattle.bencode_wire.specs.Inside.Reader.{cut_view}
 use Rattle.bencode_wire.specs.Stream.{rest, fault, IsRest, Streams}
 use Rattle.bencode_wire.specs.Inside.Course.{fault_of_end, ahead, ready_view, Advances, Faults, Continues}
-use Rattle.bencode_wire.specs.Inside.Decoder.{ready_of, rest_of, rest_place, fault_of, Stands}
+use Rattle.bencode_wire.specs.Inside.Decoder.{ready_of, rest_of, rest_place, fault_of, DecoderStands}
 use Rattle.bencode_wire.specs.Inside.Held.{Holds}
 use Rattle.bencode_wire.specs.declared.ben.Ben.{Ben}
 use Rattle.bencode_wire.specs.declared.cut.Course.{Course}
@@ -34,17 +34,17 @@ pub record Fed (limit : ℕ) (d : Decoder) (m piece : List ℕ) (course : Course
   pub at : course.at ≡ length (rest_of d)
 
 fed_ahead : (limit : ℕ) (d : Decoder) (m piece : List ℕ) (course : Course) (c : Cut) → Fed limit d m piece course c
-    → ahead d.limit (rest_of d ++ piece) course ≡ stream_reading limit put_pair (length m) c (0 + length m) piece
+    → ahead d.limit (rest_of d ++ piece) course ≡ stream_reading limit put_sorted (length m) c (0 + length m) piece
 fed_ahead limit d m piece course c f =
     let long : course.at ≡ length m = f.at ∙ ap length f.shown in
     let before : course.at - course.begin ≡ length m = let b = f.begin in omega arith in
     let at : course.at ≡ 0 + length m = omega arith in
     let left : drop course.at (rest_of d ++ piece) ≡ piece = ap (λ k. drop k (rest_of d ++ piece)) f.at ∙ drop-append_seam (rest_of d) piece in
-    ap (λ l. stream_reading l put_pair (course.at - course.begin) (cut_view course.reader) course.at (drop course.at (rest_of d ++ piece))) f.within
-    ∙ ap (λ bs. stream_reading limit put_pair (course.at - course.begin) (cut_view course.reader) course.at bs) left
-    ∙ ap (λ k. stream_reading limit put_pair k (cut_view course.reader) course.at piece) before
-    ∙ ap (λ x. stream_reading limit put_pair (length m) x course.at piece) f.reader
-    ∙ ap (λ k. stream_reading limit put_pair (length m) c k piece) at
+    ap (λ l. stream_reading l put_sorted (course.at - course.begin) (cut_view course.reader) course.at (drop course.at (rest_of d ++ piece))) f.within
+    ∙ ap (λ bs. stream_reading limit put_sorted (course.at - course.begin) (cut_view course.reader) course.at bs) left
+    ∙ ap (λ k. stream_reading limit put_sorted k (cut_view course.reader) course.at piece) before
+    ∙ ap (λ x. stream_reading limit put_sorted (length m) x course.at piece) f.reader
+    ∙ ap (λ k. stream_reading limit put_sorted (length m) c k piece) at
 
 fed_found : (limit : ℕ) (d : Decoder) (m piece : List ℕ) (course : Course) (c : Cut) → Fed limit d m piece course c
     → FoundBy limit 0 (m ++ piece) (ahead d.limit (rest_of d ++ piece) course)
@@ -62,7 +62,7 @@ pub record IsFed (old new : Decoder) (piece : List ℕ) (next : Course) : Type 0
 pub feed_rest : (limit : ℕ) (old new : Decoder) (all : List ℕ) (taken : List Tree) (m piece : List ℕ) (course next : Course) (c : Cut)
     → Streams limit 0 all (taken ++ ready_of old) (rest m) → rest_place old ≡ counted_place (length all - length m)
     → Fed limit old m piece course c → Advances (ahead old.limit (rest_of old ++ piece) course) (ahead old.limit (rest_of old ++ piece) next) old.ready new.ready
-    → IsFed old new piece next → Stands limit new (all ++ piece) taken
+    → IsFed old new piece next → DecoderStands limit new (all ++ piece) taken
 feed_rest limit old new all taken m piece course next c streams place fed adv is =
     let now = ahead old.limit (rest_of old ++ piece) course in
     let over = ahead_done old.limit (rest_of old ++ piece) next is.done in
@@ -129,7 +129,7 @@ pub record IsBroken (old new : Decoder) (f : WireFault) : Type 0 where
 broken_end : (limit : ℕ) (old new : Decoder) (all : List ℕ) (taken : List Tree) (m piece : List ℕ) (f : WireFault) (ms : List Tree) (end : ReadingEnd)
     → Streams limit 0 all (taken ++ ready_of old) (rest m) → rest_place old ≡ counted_place (length all - length m) → old.limit ≡ limit
     → ready_of new ≡ ready_of old ++ ms → fault_of_end (rest_place old) end ≡ Some f → Found limit 0 (m ++ piece) ms end
-    → IsBroken old new f → Stands limit new (all ++ piece) taken
+    → IsBroken old new f → DecoderStands limit new (all ++ piece) taken
 broken_end limit old new all taken m piece f ms (rests n c) streams place within ready is found b = absurd (none_some f None refl is)
 broken_end limit old new all taken m piece f ms (faults rule i) streams place within ready is found b =
     let k = length all - length m in
@@ -150,14 +150,14 @@ broken_end limit old new all taken m piece f ms (faults rule i) streams place wi
 feed_breaks : (limit : ℕ) (old new : Decoder) (all : List ℕ) (taken : List Tree) (m piece : List ℕ) (course : Course) (c : Cut) (f : WireFault)
     → Streams limit 0 all (taken ++ ready_of old) (rest m) → rest_place old ≡ counted_place (length all - length m)
     → Fed limit old m piece course c → Faults (rest_place old) (ahead old.limit (rest_of old ++ piece) course) old.ready new.ready f
-    → IsBroken old new f → Stands limit new (all ++ piece) taken
+    → IsBroken old new f → DecoderStands limit new (all ++ piece) taken
 feed_breaks limit old new all taken m piece course c f streams place fed met b =
     broken_end limit old new all taken m piece f _ _ streams place fed.within met.messages met.end (fed_found limit old m piece course c fed) b
 
 pub feed_broken : (limit : ℕ) (old new : Decoder) (all : List ℕ) (taken : List Tree) (m piece : List ℕ) (course : Course) (c : Cut) (f : WireFault)
     → Streams limit 0 all (taken ++ ready_of old) (rest m) → rest_place old ≡ counted_place (length all - length m)
     → Fed limit old m piece course c → Continues old.limit (rest_place old) (rest_of old ++ piece) course old.ready new.ready (Err f)
-    → (f ≡ wire.NoMemory → ⊥) → IsBroken old new f → Stands limit new (all ++ piece) taken
+    → (f ≡ wire.NoMemory → ⊥) → IsBroken old new f → DecoderStands limit new (all ++ piece) taken
 feed_broken limit old new all taken m piece course c wire.NoMemory streams place fed met other b = absurd (other refl)
 feed_broken limit old new all taken m piece course c (wire.Malformed p) streams place fed met other b = feed_breaks limit old new all taken m piece course c (wire.Malformed p) streams place fed met b
 feed_broken limit old new all taken m piece course c (wire.TooLong p) streams place fed met other b = feed_breaks limit old new all taken m piece course c (wire.TooLong p) streams place fed met b

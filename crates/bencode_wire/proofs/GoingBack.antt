@@ -5,10 +5,10 @@ use Rattle.std.proofs.Common.{subst, arith, ◌+◌, ◌∷◌, Bool, true, fals
 use Rattle.std.specs.Bool.{then_some}
 use Rattle.std.proofs.lemmas.List.{take_at}
 use Rattle.bencode_wire.specs.Tree.{Tree}
-use Rattle.bencode_wire.specs.Inside.View.{view}
+use Rattle.bencode_wire.specs.Inside.View.{tree_view}
 use Rattle.bencode_wire.specs.Inside.State.{Earlier}
 use Rattle.bencode_wire.specs.Stream.{IsRest}
-use Rattle.bencode_wire.specs.Inside.Decoder.{ready_of, rest_of, rest_place, fault_of, Stands}
+use Rattle.bencode_wire.specs.Inside.Decoder.{ready_of, rest_of, rest_place, fault_of, DecoderStands}
 use Rattle.bencode_wire.specs.Inside.Return.{earlier_of, as_it_was, CanReturn}
 use Rattle.bencode_wire.specs.declared.ben.Ben.{Ben}
 use Rattle.bencode_wire.specs.declared.cut.Reader.{Reader}
@@ -22,7 +22,7 @@ pub record IsEarlier (old : Decoder) (e : Earlier) : Type 0 where
   pub rest : e.rest ≡ rest_of old
   pub place : e.place ≡ rest_place old
 
-pub can_return : (limit : ℕ) (all : List ℕ) (taken : List Tree) (old new : Decoder) (e : Earlier) → Stands limit old all taken
+pub can_return : (limit : ℕ) (all : List ℕ) (taken : List Tree) (old new : Decoder) (e : Earlier) → DecoderStands limit old all taken
     → IsEarlier old e → new.limit ≡ old.limit → earlier_of new ≡ Some e → CanReturn limit new all taken
 can_return limit all taken old new e s is within found = record {
   earlier = e;
@@ -31,7 +31,7 @@ can_return limit all taken old new e s is within found = record {
       (record { limit = within; ready = sym is.ready; rest = is.rest; place = is.place; fault = sym is.fault }) s;
 }
 
-pub none_ready : (values : List Ben) → map view values ≡ [] → length values ≡ 0
+pub none_ready : (values : List Ben) → map tree_view values ≡ [] → length values ≡ 0
 none_ready [] e = refl
 none_ready (value ∷ values) e = cc
 

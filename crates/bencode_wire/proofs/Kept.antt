@@ -4,8 +4,8 @@ use Rattle.std.proofs.Common.{◌∷◌, ◌++◌, length, refl, sym, ap, ◌∙
 use Rattle.std.proofs.Common.{append-nil, length-append, arith}
 use Rattle.std.proofs.lemmas.Bool.Decides.{nat_tests}
 use Rattle.bencode_wire.specs.Tree.{Tree, dictionary, Pairs, no_pairs, pair, no_trees, tree}
-use Rattle.bencode_wire.specs.Tree.{has_key}
-use Rattle.bencode_wire.specs.Spelling.{text, pairs_text, sorted, put_pair}
+use Rattle.bencode_wire.specs.Tree.{holds_key}
+use Rattle.bencode_wire.specs.Spelling.{text, pairs_text, sorted, put_sorted}
 use Rattle.bencode_wire.specs.Inside.Cut.{Frame, at_value, between, Cut, cut, cut_text, IsCut, sorted_cut}
 use Rattle.bencode_wire.specs.Inside.Cut.{in_list, at_key, after_i, after_minus, digits, count, part}
 use Rattle.bencode_wire.specs.Fault.{StreamRule, malformed, too_long, too_deep}
@@ -28,7 +28,7 @@ pub record Kept (limit : ℕ) (m : List ℕ) (c : Cut) : Type 0 where
   pub inner : Cut
   pub at : At (read m) inner
   pub is : c ≡ sorted_cut inner
-  pub reads : stream_reading limit put_pair 0 start 0 m ≡ ended_reading (rests (length m) c)
+  pub reads : stream_reading limit put_sorted 0 start 0 m ≡ ended_reading (rests (length m) c)
   pub clean : IsClean limit m
 
 none_refused : (limit : ℕ) (rule : StreamRule) → Meets limit [] rule → ⊥
@@ -104,7 +104,7 @@ checked_at : (limit : ℕ) (next : ByteEffect) (d : Cut) → within_limit limit 
 checked_at limit (goes fs token) d e = cut_of (is_large_token limit token) too_long (cut fs token) d e
 checked_at limit (opens f fs) d e = cut_of false too_long (cut (f ∷ fs) between) d (cut_where (nat_lt (length fs) 64) too_deep limit (cut (f ∷ fs) between) d e)
 checked_at limit (names ps key fs) d e =
-    cut_of false too_long (cut (at_value ps key ∷ fs) between) d (cut_unless (has_key key ps) malformed limit (cut (at_value ps key ∷ fs) between) d e)
+    cut_of false too_long (cut (at_value ps key ∷ fs) between) d (cut_unless (holds_key key ps) malformed limit (cut (at_value ps key ∷ fs) between) d e)
 checked_at limit (ends t) d e = let f : whole t ≡ reads d = e in absurd (cc)
 checked_at limit stuck d e = let f : refuses malformed ≡ reads d = e in absurd (cc)
 
@@ -128,7 +128,7 @@ names_never false limit ps key fs u e = absurd (let g : reads (cut (at_value ps 
 checked_ends : (limit : ℕ) (next : ByteEffect) (u : Tree) → within_limit limit (judged next) ≡ whole u → next ≡ ends u
 checked_ends limit (goes fs token) u e = whole_never (is_large_token limit token) too_long (cut fs token) u e
 checked_ends limit (opens f fs) u e = opens_never (nat_lt (length fs) 64) limit f fs u e
-checked_ends limit (names ps key fs) u e = names_never (has_key key ps) limit ps key fs u e
+checked_ends limit (names ps key fs) u e = names_never (holds_key key ps) limit ps key fs u e
 checked_ends limit (ends t) u e = let f : whole t ≡ whole u = e in cc
 checked_ends limit stuck u e = let f : refuses malformed ≡ whole u = e in absurd (cc)
 
@@ -143,21 +143,21 @@ cut_by : (v : Judged) (c : Cut) → v ≡ reads c → (rule : StreamRule) → v 
 cut_by v c e rule f = absurd (cc)
 
 -- a byte behind what is kept
-pub kept_bite : (limit : ℕ) (m : List ℕ) (c : Cut) (b : ℕ) → Kept limit m c → bite limit put_pair (length m) c (b ∷ []) ≡ sorted_judged (verdict limit (m ++ b ∷ []))
-kept_bite limit m c b k = ap (λ x. bite limit put_pair (length m) x (b ∷ [])) k.is ∙ bite_at limit m k.inner b k.at
+pub kept_bite : (limit : ℕ) (m : List ℕ) (c : Cut) (b : ℕ) → Kept limit m c → bite limit put_sorted (length m) c (b ∷ []) ≡ sorted_judged (verdict limit (m ++ b ∷ []))
+kept_bite limit m c b k = ap (λ x. bite limit put_sorted (length m) x (b ∷ [])) k.is ∙ bite_at limit m k.inner b k.at
 
 -- what the machine makes of one byte more
-pub reads_more : (limit : ℕ) (m : List ℕ) (c : Cut) (b : ℕ) (j : Judged) → stream_reading limit put_pair 0 start 0 m ≡ ended_reading (rests (length m) c)
-    → bite limit put_pair (length m) c (b ∷ []) ≡ j
-    → stream_reading limit put_pair 0 start 0 (m ++ b ∷ []) ≡ onward j (length m) (λ next. ended_reading (rests (length m + 1) next)) (ended_reading (rests 0 start))
+pub reads_more : (limit : ℕ) (m : List ℕ) (c : Cut) (b : ℕ) (j : Judged) → stream_reading limit put_sorted 0 start 0 m ≡ ended_reading (rests (length m) c)
+    → bite limit put_sorted (length m) c (b ∷ []) ≡ j
+    → stream_reading limit put_sorted 0 start 0 (m ++ b ∷ []) ≡ onward j (length m) (λ next. ended_reading (rests (length m + 1) next)) (ended_reading (rests 0 start))
 reads_more limit m c b j e is =
     let place : 0 + length m ≡ length m = omega arith in
-    stream_reading-append limit put_pair 0 start 0 (length m) c m (b ∷ []) e
+    stream_reading-append limit put_sorted 0 start 0 (length m) c m (b ∷ []) e
     ∙ ap (λ j. onward j (0 + length m) (λ d. ended_reading (rests (length m + 1) d)) (ended_reading (rests 0 start))) is
     ∙ ap (λ k. onward j k (λ d. ended_reading (rests (length m + 1) d)) (ended_reading (rests 0 start))) place
 
 -- the message goes on
-pub kept_reads : (limit : ℕ) (m : List ℕ) (c : Cut) (b : ℕ) (next : Cut) → Kept limit m c → bite limit put_pair (length m) c (b ∷ []) ≡ reads next → Kept limit (m ++ b ∷ []) next
+pub kept_reads : (limit : ℕ) (m : List ℕ) (c : Cut) (b : ℕ) (next : Cut) → Kept limit m c → bite limit put_sorted (length m) c (b ∷ []) ≡ reads next → Kept limit (m ++ b ∷ []) next
 kept_reads limit m c b next k e =
     let v = verdict limit (m ++ b ∷ []) in
     let back = reads_back v next (sym (kept_bite limit m c b k) ∙ e) in
@@ -176,7 +176,7 @@ ends_message limit m u e clean =
     subst (λ x. IsMessage limit x m) (ap sorted (sym s.1)) (clean_message limit s.0 m s.2 (ap text (sym s.1) ∙ s.3) clean)
 
 -- a message is whole
-pub kept_whole : (limit : ℕ) (m : List ℕ) (c : Cut) (b : ℕ) (t : Tree) → Kept limit m c → bite limit put_pair (length m) c (b ∷ []) ≡ whole t → IsMessage limit t (m ++ b ∷ [])
+pub kept_whole : (limit : ℕ) (m : List ℕ) (c : Cut) (b : ℕ) (t : Tree) → Kept limit m c → bite limit put_sorted (length m) c (b ∷ []) ≡ whole t → IsMessage limit t (m ++ b ∷ [])
 kept_whole limit m c b t k e =
     let v = verdict limit (m ++ b ∷ []) in
     let back = whole_back v t (sym (kept_bite limit m c b k) ∙ e) in
@@ -185,10 +185,10 @@ kept_whole limit m c b t k e =
     (clean_more limit m b k.clean (ended_by v back.0 back.1)))
 
 -- a rule is met
-pub kept_refuses : (limit : ℕ) (m : List ℕ) (c : Cut) (b : ℕ) (rule : StreamRule) → Kept limit m c → bite limit put_pair (length m) c (b ∷ []) ≡ refuses rule → Meets limit (m ++ b ∷ []) rule
+pub kept_refuses : (limit : ℕ) (m : List ℕ) (c : Cut) (b : ℕ) (rule : StreamRule) → Kept limit m c → bite limit put_sorted (length m) c (b ∷ []) ≡ refuses rule → Meets limit (m ++ b ∷ []) rule
 kept_refuses limit m c b rule k e = verdict_meets limit (m ++ b ∷ []) rule (refuses_back (verdict limit (m ++ b ∷ [])) rule (sym (kept_bite limit m c b k) ∙ e))
 
-pub kept_meets : (limit : ℕ) (m : List ℕ) (c : Cut) (b : ℕ) (rule : StreamRule) → Kept limit m c → Meets limit (m ++ b ∷ []) rule → bite limit put_pair (length m) c (b ∷ []) ≡ refuses rule
+pub kept_meets : (limit : ℕ) (m : List ℕ) (c : Cut) (b : ℕ) (rule : StreamRule) → Kept limit m c → Meets limit (m ++ b ∷ []) rule → bite limit put_sorted (length m) c (b ∷ []) ≡ refuses rule
 kept_meets limit m c b rule k h = kept_bite limit m c b k ∙ ap sorted_judged (meets_verdict limit (m ++ b ∷ []) rule h)
 
 front_of : (next : ByteEffect) (d : Cut) (m : List ℕ) → At next d → Sound next m → IsFront m
@@ -243,7 +243,7 @@ message_verdict limit m u false clean long e =
     ap (λ t. cond t (refuses too_long) (within_limit limit (judged (read m)))) long ∙ ap (λ next. within_limit limit (judged next)) e
 
 -- a message is read as the message
-pub message_read : (limit : ℕ) (t : Tree) (m : List ℕ) → IsMessage limit t m → stream_reading limit put_pair 0 start 0 m ≡ record { messages = t ∷ []; end = rests 0 start }
+pub message_read : (limit : ℕ) (t : Tree) (m : List ℕ) → IsMessage limit t m → stream_reading limit put_sorted 0 start 0 m ≡ record { messages = t ∷ []; end = rests 0 start }
 message_read limit t m h =
     let by = message_text limit t m h in
     let ps = by.pairs in
@@ -252,7 +252,7 @@ message_read limit t m h =
     let clean : IsClean limit (front ++ 101 ∷ []) = subst (λ x. IsClean limit x) is h.4 in
     let k = rest_kept limit front (clean_front limit front (101 ∷ []) clean, (ps, 101, [], by.spellable, refl)) in
     let v = message_verdict limit (front ++ 101 ∷ []) (dictionary ps) (nat_lt limit (length (front ++ 101 ∷ []))) clean refl (run-message ps by.spellable) in
-    ap (λ x. stream_reading limit put_pair 0 start 0 x) is
+    ap (λ x. stream_reading limit put_sorted 0 start 0 x) is
     ∙ reads_more limit front k.0 101 (whole (sorted (dictionary ps))) k.1.reads (kept_bite limit front k.0 101 k.1 ∙ ap sorted_judged v)
     ∙ ap (λ u. record { messages = u ∷ []; end = rests 0 start }) (sym by.sorted)
 

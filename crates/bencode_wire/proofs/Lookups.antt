@@ -9,7 +9,7 @@ use Rattle.std.specs.Cmp.Lexicographic.{slice_cmp}
 use Rattle.std.specs.Map.{lookup, KeepsOthers}
 use Rattle.std.specs.Ordering.{eq_by_cmp}
 use Rattle.bencode_wire.specs.Tree.{field}
-use Rattle.bencode_wire.specs.Inside.View.{view, pairs_view}
+use Rattle.bencode_wire.specs.Inside.View.{tree_view, entries_view}
 use Rattle.bencode_wire.specs.declared.ben.Ben.{Ben}
 use Rattle.bencode_wire.proofs.Views.{Key, Entry, key_cmp}
 
@@ -17,14 +17,14 @@ use Rattle.bencode_wire.proofs.Views.{Key, Entry, key_cmp}
 abbrev pub has_bytes : List ℕ → Key → Bool
 has_bytes k = is_at (λ (q : Key). slice_cmp nat_cmp k q.items)
 
-option_map-cond : (b : Bool) (v : Ben) (rest : Option Ben) → option_map view (cond b (Some v) rest) ≡ cond b (Some (view v)) (option_map view rest)
+option_map-cond : (b : Bool) (v : Ben) (rest : Option Ben) → option_map tree_view (cond b (Some v) rest) ≡ cond b (Some (tree_view v)) (option_map tree_view rest)
 option_map-cond true v rest = refl
 option_map-cond false v rest = refl
 
 -- a map's value under a key is the field
-pub field-pairs_view : (k : List ℕ) (es : List Entry) → option_map view (lookup (has_bytes k) es) ≡ field k (pairs_view es)
-field-pairs_view k [] = refl
-field-pairs_view k (e ∷ es) = option_map-cond (is_eq (slice_cmp nat_cmp k e.0.items)) e.1 _ ∙ rw (is_eq-slice_cmp, field-pairs_view k es)
+pub field-entries_view : (k : List ℕ) (es : List Entry) → option_map tree_view (lookup (has_bytes k) es) ≡ field k (entries_view es)
+field-entries_view k [] = refl
+field-entries_view k (e ∷ es) = option_map-cond (is_eq (slice_cmp nat_cmp k e.0.items)) e.1 _ ∙ rw (is_eq-slice_cmp, field-entries_view k es)
 
 apart : (k other : List ℕ) → bytes_eq other k ≡ false → (q : Key) → has_bytes k q ≡ true → has_bytes other q ≡ false
 apart k other differ q is = is_eq-slice_cmp other q.items ∙ ap (bytes_eq other) (sym same) ∙ differ
@@ -39,14 +39,14 @@ found_still k other old new kept differ =
     kept (has_bytes other) (λ x y. (eq_by_cmp_equiv nat_list_cmp_total).congr other x.items y.items) (apart k other differ)
 
 field_by : (b : Bool) (k other : List ℕ) (old new : List Entry) → bytes_eq other k ≡ b → KeepsOthers (eq_by_cmp key_cmp) (has_bytes k) old new
-    → lookup (has_bytes k) new ≡ None → field other (pairs_view new) ≡ cond b None (field other (pairs_view old))
+    → lookup (has_bytes k) new ≡ None → field other (entries_view new) ≡ cond b None (field other (entries_view old))
 field_by true k other old new is kept gone =
     let same : other ≡ k = grind (arith, bytes_eq-Decides) in
-    ap (λ key. field key (pairs_view new)) same ∙ sym (field-pairs_view k new) ∙ ap (option_map view) gone
+    ap (λ key. field key (entries_view new)) same ∙ sym (field-entries_view k new) ∙ ap (option_map tree_view) gone
 field_by false k other old new is kept gone =
-    sym (field-pairs_view other new) ∙ ap (option_map view) (found_still k other old new kept is) ∙ field-pairs_view other old
+    sym (field-entries_view other new) ∙ ap (option_map tree_view) (found_still k other old new kept is) ∙ field-entries_view other old
 
 -- the fields that are left where the value under a key is taken out
 pub field-taken : (k other : List ℕ) (old new : List Entry) → KeepsOthers (eq_by_cmp key_cmp) (has_bytes k) old new
-    → lookup (has_bytes k) new ≡ None → field other (pairs_view new) ≡ cond (bytes_eq other k) None (field other (pairs_view old))
+    → lookup (has_bytes k) new ≡ None → field other (entries_view new) ≡ cond (bytes_eq other k) None (field other (entries_view old))
 field-taken k other old new = field_by (bytes_eq other k) k other old new refl

@@ -2,12 +2,12 @@
 use Rattle.std.proofs.Common.{◌≡◌, ℕ, suc, Bool, true, false, ◌||◌, List, [], ◌∷◌, ◌++◌, refl, sym, ap, ◌∙◌, subst, append_assoc, inl, inr, arith}
 use Rattle.std.proofs.lemmas.Slice.Eq.{bytes_eq-Decides}
 use Rattle.std.specs.Str.{bytes_eq}
-use Rattle.bencode_wire.specs.Tree.{Tree, integer, string, list, dictionary, Trees, no_trees, tree, Pairs, no_pairs, pair, add_tree, add_pair, has_key, HasKey}
+use Rattle.bencode_wire.specs.Tree.{Tree, integer, string, list, dictionary, Trees, no_trees, tree, Pairs, no_pairs, pair, add_tree, add_pair, holds_key, HasKey}
 use Rattle.bencode_wire.specs.Spelling.{text, trees_text, pairs_text, string_text, IsSpellable, AreSpellable, ArePairs, IsDistinct, AreDistinct, PairsDistinct}
 use Rattle.bencode_wire.specs.Fault.{malformed, too_long}
 use Rattle.bencode_wire.specs.Stream.{AwaitsValue, behind_items, behind_key, AwaitsKey, of_message, of_value, RepeatsKey, IsClean}
 use Rattle.bencode_wire.proofs.Sound.{pairs_text-add_pair, trees_text-add_tree, ArePairs-add_pair, AreSpellable-add_tree}
-use Rattle.bencode_wire.proofs.Within.{has_key-added, has_key-below}
+use Rattle.bencode_wire.proofs.Within.{holds_key-added, holds_key-below}
 
 abbrev NeverRepeats : List ℕ → Type 0
 NeverRepeats m = (front : List ℕ) (more : List ℕ) → m ≡ front ++ more → RepeatsKey front → ⊥
@@ -41,14 +41,14 @@ record Differ (ps qs : Pairs) : Type 0 where
   pub distinct : PairsDistinct qs
   pub apart : (k : List ℕ) → HasKey k ps → HasKey k qs → ⊥
 
-one_of : (k l : List ℕ) (b : Bool) (qs : Pairs) → bytes_eq k l ≡ b → b || has_key k qs ≡ true → (k ≡ l → ⊥) → (HasKey k qs → ⊥) → ⊥
+one_of : (k l : List ℕ) (b : Bool) (qs : Pairs) → bytes_eq k l ≡ b → b || holds_key k qs ≡ true → (k ≡ l → ⊥) → (HasKey k qs → ⊥) → ⊥
 one_of k l true qs e h here later = here (grind (arith, bytes_eq-Decides))
 one_of k l false qs e h here later = later h
 
 add_one : (ps qs : Pairs) (l : List ℕ) (u : Tree) → (HasKey l ps → ⊥) → IsDistinct u → Differ (add_pair ps l u) qs → Differ ps (pair l u qs)
 add_one ps qs l u new d more = record {
-  distinct = (more.apart l (has_key-added l ps u), d, more.distinct);
-  apart = λ k old h. one_of k l (bytes_eq k l) qs refl h (λ e. new (subst (λ x. HasKey x ps) e old)) (more.apart k (has_key-below k l ps u old));
+  distinct = (more.apart l (holds_key-added l ps u), d, more.distinct);
+  apart = λ k old h. one_of k l (bytes_eq k l) qs refl h (λ e. new (subst (λ x. HasKey x ps) e old)) (more.apart k (holds_key-below k l ps u old));
 }
 
 -- a dictionary opens behind these bytes

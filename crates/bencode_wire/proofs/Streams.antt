@@ -2,7 +2,7 @@
 use Rattle.std.proofs.Common.{◌≡◌, ℕ, ◌+◌, ◌-◌, ◌≤◌, List, [], ◌∷◌, ◌++◌, length, refl, sym, ap}
 use Rattle.std.proofs.Common.{◌∙◌, subst, append_assoc, append-nil, length-append, arith}
 use Rattle.bencode_wire.specs.Tree.{Tree}
-use Rattle.bencode_wire.specs.Spelling.{put_pair}
+use Rattle.bencode_wire.specs.Spelling.{put_sorted}
 use Rattle.bencode_wire.specs.Inside.Cut.{Cut}
 use Rattle.bencode_wire.specs.Fault.{StreamRule}
 use Rattle.bencode_wire.specs.Inside.ByteSteps.{bite, Judged, reads, whole, refuses, StreamReading}
@@ -16,7 +16,7 @@ use Rattle.bencode_wire.proofs.Kept.{rest_of_kept}
 -- what a reading of all bytes of a stream from a place on has found
 abbrev pub Found : ℕ → ℕ → List ℕ → List Tree → ReadingEnd → Type 0
 Found limit place bytes ms (rests n c) =
-    (front : List ℕ) × (m : List ℕ) × (bytes ≡ front ++ m) × (length m ≡ n) × (stream_reading limit put_pair 0 start 0 m ≡ ended_reading (rests n c)) × Streams limit place bytes ms (rest m)
+    (front : List ℕ) × (m : List ℕ) × (bytes ≡ front ++ m) × (length m ≡ n) × (stream_reading limit put_sorted 0 start 0 m ≡ ended_reading (rests n c)) × Streams limit place bytes ms (rest m)
 Found limit place bytes ms (faults rule at) = Streams limit place bytes ms (fault rule at)
 
 found_more : (limit place : ℕ) (m more : List ℕ) (t : Tree) (ms : List Tree) (end : ReadingEnd) → IsMessage limit t m
@@ -30,22 +30,22 @@ FoundBy limit place bytes r = Found limit place bytes r.messages r.end
 
 found_on : (limit place : ℕ) (m : List ℕ) (b : ℕ) (bs : List ℕ) (c : Cut) (j : Judged)
     → Kept limit m c
-    → bite limit put_pair (length m) c (b ∷ []) ≡ j
+    → bite limit put_sorted (length m) c (b ∷ []) ≡ j
     → ((next : Cut) → Kept limit (m ++ b ∷ []) next
-    → FoundBy limit place ((m ++ b ∷ []) ++ bs) (stream_reading limit put_pair (length (m ++ b ∷ [])) next (place + length (m ++ b ∷ [])) bs))
-    → FoundBy limit (place + length (m ++ b ∷ [])) bs (stream_reading limit put_pair 0 start (place + length (m ++ b ∷ [])) bs)
+    → FoundBy limit place ((m ++ b ∷ []) ++ bs) (stream_reading limit put_sorted (length (m ++ b ∷ [])) next (place + length (m ++ b ∷ [])) bs))
+    → FoundBy limit (place + length (m ++ b ∷ [])) bs (stream_reading limit put_sorted 0 start (place + length (m ++ b ∷ [])) bs)
     → FoundBy limit place (m ++ b ∷ bs)
-    (onward j (place + length m) (λ next. stream_reading limit put_pair (length m + 1) next (place + length m + 1) bs) (stream_reading limit put_pair 0 start (place + length m + 1) bs))
+    (onward j (place + length m) (λ next. stream_reading limit put_sorted (length m + 1) next (place + length m + 1) bs) (stream_reading limit put_sorted 0 start (place + length m + 1) bs))
 found_on limit place m b bs c (reads next) k is same fresh =
     let long : length (m ++ b ∷ []) ≡ length m + 1 = length-append m (b ∷ []) in
-    subst (λ bytes. FoundBy limit place bytes (stream_reading limit put_pair (length m + 1) next (place + length m + 1) bs)) (append_assoc m (b ∷ []) bs)
+    subst (λ bytes. FoundBy limit place bytes (stream_reading limit put_sorted (length m + 1) next (place + length m + 1) bs)) (append_assoc m (b ∷ []) bs)
     (subst (λ r. FoundBy limit place ((m ++ b ∷ []) ++ bs) r)
-    (same_reads limit put_pair _ _ next next _ _ bs long refl (omega arith)) (same next (kept_reads limit m c b next k is)))
+    (same_reads limit put_sorted _ _ next next _ _ bs long refl (omega arith)) (same next (kept_reads limit m c b next k is)))
 found_on limit place m b bs c (whole t) k is same fresh =
     let long : length (m ++ b ∷ []) ≡ length m + 1 = length-append m (b ∷ []) in
-    let r = stream_reading limit put_pair 0 start (place + length m + 1) bs in
+    let r = stream_reading limit put_sorted 0 start (place + length m + 1) bs in
     let found : FoundBy limit (place + length (m ++ b ∷ [])) bs r =
-    subst (λ r. FoundBy limit (place + length (m ++ b ∷ [])) bs r) (same_reads limit put_pair 0 0 start start _ _ bs refl refl (omega arith)) fresh in
+    subst (λ r. FoundBy limit (place + length (m ++ b ∷ [])) bs r) (same_reads limit put_sorted 0 0 start start _ _ bs refl refl (omega arith)) fresh in
     subst (λ bytes. Found limit place bytes (t ∷ r.messages) r.end) (append_assoc m (b ∷ []) bs)
     (found_more limit place (m ++ b ∷ []) bs t r.messages r.end (kept_whole limit m c b t k is) found)
 found_on limit place m b bs c (refuses rule) k is same fresh =
@@ -53,13 +53,13 @@ found_on limit place m b bs c (refuses rule) k is same fresh =
 
 -- reading goes on behind part of a message
 pub found_behind : (limit place : ℕ) (m bs : List ℕ) (c : Cut) → Kept limit m c
-    → FoundBy limit place (m ++ bs) (stream_reading limit put_pair (length m) c (place + length m) bs)
+    → FoundBy limit place (m ++ bs) (stream_reading limit put_sorted (length m) c (place + length m) bs)
 found_behind limit place m [] c k = ([], m, append-nil m, refl, k.reads, (rest_of_kept limit m c k, append-nil m))
 found_behind limit place m (b ∷ bs) c k =
-    found_on limit place m b bs c (bite limit put_pair (length m) c (b ∷ [])) k refl
+    found_on limit place m b bs c (bite limit put_sorted (length m) c (b ∷ [])) k refl
     (λ next h. found_behind limit place (m ++ b ∷ []) bs next h)
     (let p = place + length (m ++ b ∷ []) in
-    subst (λ r. FoundBy limit p bs r) (same_reads limit put_pair 0 0 start start (p + 0) p bs refl refl (omega arith))
+    subst (λ r. FoundBy limit p bs r) (same_reads limit put_sorted 0 0 start start (p + 0) p bs refl refl (omega arith))
     (found_behind limit p [] bs start (kept_none limit)))
 
 -- the rest is part of the stream
@@ -109,5 +109,5 @@ stream_of limit bytes ms (faults rule at) found = (ms, fault rule at, found)
 -- a stream has a reading
 pub stream_read : (limit : ℕ) (bytes : List ℕ) → (ts : List Tree) × (ending : StreamEnding) × Streams limit 0 bytes ts ending
 stream_read limit bytes =
-    let r = stream_reading limit put_pair 0 start 0 bytes in
+    let r = stream_reading limit put_sorted 0 start 0 bytes in
     stream_of limit bytes r.messages r.end (found_behind limit 0 [] bytes start (kept_none limit))

@@ -3,7 +3,7 @@ use Rattle.std.proofs.Common.{◌≡◌, ℕ, suc, ◌+◌, List, [], ◌∷◌,
 use Rattle.std.proofs.Common.{◌∙◌, subst, append_assoc, length-append, arith}
 use Rattle.std.proofs.Math.Seq.{drop-append_seam}
 use Rattle.bencode_wire.specs.Tree.{Tree}
-use Rattle.bencode_wire.specs.Spelling.{put_pair}
+use Rattle.bencode_wire.specs.Spelling.{put_sorted}
 use Rattle.bencode_wire.specs.Inside.Cut.{Cut}
 use Rattle.bencode_wire.specs.Inside.ByteSteps.{bite, Judged, reads, whole, refuses, StreamReading}
 use Rattle.bencode_wire.specs.Inside.ByteSteps.{ReadingEnd, rests, faults, ended_reading}
@@ -77,45 +77,45 @@ tells_behind m more (rest r) end h = (h.0, m ++ h.1, h.2, ap (λ x. m ++ x) h.3 
 tells_behind m more (fault rule at) end h = h
 
 ends_read : (limit place : ℕ) (bytes : List ℕ) (e : StreamEnding) → Ends limit place bytes e
-    → let r = stream_reading limit put_pair 0 start place bytes in (r.messages ≡ []) × Tells bytes e r.end
+    → let r = stream_reading limit put_sorted 0 start place bytes in (r.messages ≡ []) × Tells bytes e r.end
 ends_read limit place bytes (rest m) h =
     let k = rest_kept limit m h.0 in
     let none : place ≡ place + 0 = omega arith in
-    let is : stream_reading limit put_pair 0 start place bytes ≡ ended_reading (rests (length m) k.0) =
-    ap (λ bs. stream_reading limit put_pair 0 start place bs) h.1 ∙ ap (λ i. stream_reading limit put_pair 0 start i m) none
-    ∙ stream_reading-moved limit put_pair 0 start place 0 m ∙ ap (moved place) k.1.reads in
+    let is : stream_reading limit put_sorted 0 start place bytes ≡ ended_reading (rests (length m) k.0) =
+    ap (λ bs. stream_reading limit put_sorted 0 start place bs) h.1 ∙ ap (λ i. stream_reading limit put_sorted 0 start i m) none
+    ∙ stream_reading-moved limit put_sorted 0 start place 0 m ∙ ap (moved place) k.1.reads in
     (ap (λ r. r.messages) is, (k.0, [], ap (λ r. r.end) is, h.1))
 ends_read limit place bytes (fault rule at) h =
     let m = h.0 in
     let k = rest_kept limit m h.3 in
     let c = k.0 in
     let none : place ≡ place + 0 = omega arith in
-    let part : stream_reading limit put_pair 0 start place m ≡ ended_reading (rests (length m) c) =
-    ap (λ i. stream_reading limit put_pair 0 start i m) none ∙ stream_reading-moved limit put_pair 0 start place 0 m ∙ ap (moved place) k.1.reads in
-    let j = bite limit put_pair (length m) c (h.1 ∷ []) in
+    let part : stream_reading limit put_sorted 0 start place m ≡ ended_reading (rests (length m) c) =
+    ap (λ i. stream_reading limit put_sorted 0 start i m) none ∙ stream_reading-moved limit put_sorted 0 start place 0 m ∙ ap (moved place) k.1.reads in
+    let j = bite limit put_sorted (length m) c (h.1 ∷ []) in
     let refuse : j ≡ refuses rule = kept_meets limit m c h.1 rule k.1 h.5 in
-    let is : stream_reading limit put_pair 0 start place bytes ≡ ended_reading (faults rule at) =
-    ap (λ bs. stream_reading limit put_pair 0 start place bs) h.4
-    ∙ stream_reading-append limit put_pair 0 start place (length m) c m (h.1 ∷ h.2) part
-    ∙ ap (λ i. onward i (place + length m) (λ next. stream_reading limit put_pair (length m + 1) next (place + length m + 1) h.2) (stream_reading limit put_pair 0 start (place + length m + 1) h.2)) refuse
+    let is : stream_reading limit put_sorted 0 start place bytes ≡ ended_reading (faults rule at) =
+    ap (λ bs. stream_reading limit put_sorted 0 start place bs) h.4
+    ∙ stream_reading-append limit put_sorted 0 start place (length m) c m (h.1 ∷ h.2) part
+    ∙ ap (λ i. onward i (place + length m) (λ next. stream_reading limit put_sorted (length m + 1) next (place + length m + 1) h.2) (stream_reading limit put_sorted 0 start (place + length m + 1) h.2)) refuse
     ∙ ap (λ k. ended_reading (faults rule k)) (sym h.6) in
     (ap (λ r. r.messages) is, ap (λ r. r.end) is)
 
 streams_read : (limit place : ℕ) (bytes : List ℕ) (ms : List Tree) (e : StreamEnding) → Streams limit place bytes ms e
-    → let r = stream_reading limit put_pair 0 start place bytes in (r.messages ≡ ms) × Tells bytes e r.end
+    → let r = stream_reading limit put_sorted 0 start place bytes in (r.messages ≡ ms) × Tells bytes e r.end
 streams_read limit place bytes [] e h = ends_read limit place bytes e h
 streams_read limit place bytes (t ∷ ms) e h =
     let m = h.0 in
     let more = h.1 in
     let none : place ≡ place + 0 = omega arith in
-    let message : stream_reading limit put_pair 0 start place m ≡ record { messages = t ∷ []; end = rests 0 start } =
-    ap (λ i. stream_reading limit put_pair 0 start i m) none ∙ stream_reading-moved limit put_pair 0 start place 0 m ∙ ap (moved place) (message_read limit t m h.2) in
-    let is : stream_reading limit put_pair 0 start place bytes ≡ with_message_first t (stream_reading limit put_pair 0 start (place + length m) more) =
-    ap (λ bs. stream_reading limit put_pair 0 start place bs) h.3 ∙ message-append limit put_pair 0 start place t m more message in
+    let message : stream_reading limit put_sorted 0 start place m ≡ record { messages = t ∷ []; end = rests 0 start } =
+    ap (λ i. stream_reading limit put_sorted 0 start i m) none ∙ stream_reading-moved limit put_sorted 0 start place 0 m ∙ ap (moved place) (message_read limit t m h.2) in
+    let is : stream_reading limit put_sorted 0 start place bytes ≡ with_message_first t (stream_reading limit put_sorted 0 start (place + length m) more) =
+    ap (λ bs. stream_reading limit put_sorted 0 start place bs) h.3 ∙ message-append limit put_sorted 0 start place t m more message in
     let later = streams_read limit (place + length m) more ms e h.4 in (
       ap (λ r. r.messages) is ∙ ap (λ xs. t ∷ xs) later.0,
-      subst (λ r. Tells bytes e r) (sym (ap (λ r. r.end) is)) (subst (λ bs. Tells bs e (stream_reading limit put_pair 0 start (place + length m) more).end) (sym h.3)
-          (tells_behind m more e (stream_reading limit put_pair 0 start (place + length m) more).end later.1)),
+      subst (λ r. Tells bytes e r) (sym (ap (λ r. r.end) is)) (subst (λ bs. Tells bs e (stream_reading limit put_sorted 0 start (place + length m) more).end) (sym h.3)
+          (tells_behind m more e (stream_reading limit put_sorted 0 start (place + length m) more).end later.1)),
     )
 
 tells_same : (bytes : List ℕ) (e f : StreamEnding) (end : ReadingEnd) → Tells bytes e end → Tells bytes f end → e ≡ f
@@ -135,4 +135,4 @@ pub streams_same : (limit : ℕ) (bytes : List ℕ) (ms ns : List Tree) (e f : S
 streams_same limit bytes ms ns e f g h =
     let first = streams_read limit 0 bytes ms e g in
     let other = streams_read limit 0 bytes ns f h in
-    (sym first.0 ∙ other.0, tells_same bytes e f (stream_reading limit put_pair 0 start 0 bytes).end first.1 other.1)
+    (sym first.0 ∙ other.0, tells_same bytes e f (stream_reading limit put_sorted 0 start 0 bytes).end first.1 other.1)

@@ -3,8 +3,8 @@ use Rattle.std.proofs.Common.{◌≡◌, ℕ, ◌+◌, ◌<◌, ◌≤◌, inl, 
 use Rattle.std.proofs.Common.{nat_le, List, [], ◌∷◌, ◌++◌, length, refl, sym, ap, ◌∙◌, subst}
 use Rattle.std.proofs.Common.{append_assoc, append-nil, length-append, arith}
 use Rattle.std.proofs.lemmas.Bool.Decides.{nat_tests}
-use Rattle.bencode_wire.specs.Tree.{dictionary, Pairs, add_pair, has_key}
-use Rattle.bencode_wire.specs.Spelling.{text, put_pair}
+use Rattle.bencode_wire.specs.Tree.{dictionary, Pairs, add_pair, holds_key}
+use Rattle.bencode_wire.specs.Spelling.{text, put_sorted}
 use Rattle.bencode_wire.specs.Inside.Cut.{Frame, at_value, between, after_i, after_minus, digits, count}
 use Rattle.bencode_wire.specs.Inside.Cut.{part, Cut, cut, cut_text, IsCut, sorted_frames, sorted_cut}
 use Rattle.bencode_wire.specs.Fault.{StreamRule, malformed, too_long, too_deep}
@@ -146,7 +146,7 @@ reads_refuses : {A : Type 0} → (c : Cut) (rule : StreamRule) → reads c ≡ r
 reads_refuses c rule e = absurd (cc)
 
 names_meets : (limit : ℕ) (m : List ℕ) (ps : Pairs) (key : List ℕ) (fs : List Frame) (rule : StreamRule) → (IsTooLong limit m → ⊥) → Sound (names ps key fs) m
-    → (t : Bool) → has_key key ps ≡ t → within_limit limit (cond t (refuses malformed) (reads (cut (at_value ps key ∷ fs) between))) ≡ refuses rule → Meets limit m rule
+    → (t : Bool) → holds_key key ps ≡ t → within_limit limit (cond t (refuses malformed) (reads (cut (at_value ps key ∷ fs) between))) ≡ refuses rule → Meets limit m rule
 names_meets limit m ps key fs rule brief s true has e =
     meets_at limit m malformed rule e (brief, inr (repeats_key m ps key fs s.0 s.1 has))
 names_meets limit m ps key fs rule brief s false has e = reads_refuses (cut (at_value ps key ∷ fs) between) rule e
@@ -178,7 +178,7 @@ short_meets limit m (goes fs (digits negative n)) rule brief is s e = reads_refu
 short_meets limit m (goes fs (count n)) rule brief is s e = count_meets limit m fs n rule is s (nat_lt limit n) refl e
 short_meets limit m (goes fs (part bytes left)) rule brief is s e = reads_refuses (cut fs (part bytes left)) rule e
 short_meets limit m (opens f fs) rule brief is s e = opens_meets limit m f fs rule brief is s (nat_lt (length fs) 64) refl e
-short_meets limit m (names ps key fs) rule brief is s e = names_meets limit m ps key fs rule brief s (has_key key ps) refl e
+short_meets limit m (names ps key fs) rule brief is s e = names_meets limit m ps key fs rule brief s (holds_key key ps) refl e
 short_meets limit m (ends t) rule brief is s e = let other : whole t ≡ refuses rule = e in absurd (cc)
 short_meets limit m stuck rule brief is s e = meets_at limit m malformed rule e (brief, inl (λ b. begins_read m b is))
 
@@ -218,11 +218,11 @@ sorted_verdict false j = refl
 
 -- a byte's verdict is what the machine makes of the byte
 pub bite_at : (limit : ℕ) (m : List ℕ) (d : Cut) (b : ℕ) → At (read m) d
-    → bite limit put_pair (length m) (sorted_cut d) (b ∷ []) ≡ sorted_judged (verdict limit (m ++ b ∷ []))
+    → bite limit put_sorted (length m) (sorted_cut d) (b ∷ []) ≡ sorted_judged (verdict limit (m ++ b ∷ []))
 bite_at limit m (cut fs token) b h =
     let long = le_lt limit (length m) (length (m ++ b ∷ [])) (length-append m (b ∷ [])) in
     let now : read (m ++ b ∷ []) ≡ step_run add_pair fs token (b ∷ []) = run-append (goes [] between) m (b ∷ []) ∙ after_at (read m) (cut fs token) b h in
-    ap (λ t. cond t (refuses too_long) (within_limit limit (judged (step_run put_pair (sorted_frames fs) token (b ∷ []))))) long
+    ap (λ t. cond t (refuses too_long) (within_limit limit (judged (step_run put_sorted (sorted_frames fs) token (b ∷ []))))) long
     ∙ ap (λ j. cond (nat_lt limit (length (m ++ b ∷ []))) (refuses too_long) j) (judged-step limit fs token b)
     ∙ ap (λ next. cond (nat_lt limit (length (m ++ b ∷ []))) (refuses too_long) (sorted_judged (within_limit limit (judged next)))) (sym now)
     ∙ sorted_verdict (nat_lt limit (length (m ++ b ∷ []))) (within_limit limit (judged (read (m ++ b ∷ []))))

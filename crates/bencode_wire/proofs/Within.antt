@@ -6,7 +6,7 @@ use Rattle.std.proofs.lemmas.Bool.Decides.{nat_tests}
 use Rattle.std.proofs.lemmas.Slice.Eq.{bytes_eq-Decides}
 use Rattle.std.specs.Str.{bytes_eq}
 use Rattle.bencode_wire.specs.Tree.{Tree, integer, string, list, dictionary, Trees, no_trees, tree}
-use Rattle.bencode_wire.specs.Tree.{Pairs, no_pairs, pair, add_tree, add_pair, has_key, HasKey}
+use Rattle.bencode_wire.specs.Tree.{Pairs, no_pairs, pair, add_tree, add_pair, holds_key, HasKey}
 use Rattle.bencode_wire.specs.Spelling.{text, ArePairs}
 use Rattle.bencode_wire.specs.Inside.Cut.{Frame, in_list, at_key, at_value, Token, between, after_i}
 use Rattle.bencode_wire.specs.Inside.Cut.{after_minus, digits, count, part, Cut, cut, greatest}
@@ -60,9 +60,9 @@ or_true : (a : Bool) → a || true ≡ true
 or_true true = refl
 or_true false = refl
 
-pub has_key-added : (key : List ℕ) (ps : Pairs) (t : Tree) → HasKey key (add_pair ps key t)
-has_key-added key no_pairs t = let same : bytes_eq key key ≡ true = grind (arith, bytes_eq-Decides) in ap (λ b. b || false) same
-has_key-added key (pair k u ps) t = ap (λ b. bytes_eq key k || b) (has_key-added key ps t) ∙ or_true (bytes_eq key k)
+pub holds_key-added : (key : List ℕ) (ps : Pairs) (t : Tree) → HasKey key (add_pair ps key t)
+holds_key-added key no_pairs t = let same : bytes_eq key key ≡ true = grind (arith, bytes_eq-Decides) in ap (λ b. b || false) same
+holds_key-added key (pair k u ps) t = ap (λ b. bytes_eq key k || b) (holds_key-added key ps t) ∙ or_true (bytes_eq key k)
 
 or_below : (a b c : Bool) → (b ≡ true → c ≡ true) → a || b ≡ true → a || c ≡ true
 or_below true b c f h = refl
@@ -75,16 +75,16 @@ or_left false b h other = absurd (other h)
 same_key : (key k : List ℕ) → bytes_eq key k ≡ true → key ≡ k
 same_key key k e = grind (arith, bytes_eq-Decides)
 
-pub has_key-below : (k key : List ℕ) (ps : Pairs) (t : Tree) → HasKey k ps → HasKey k (add_pair ps key t)
-has_key-below k key no_pairs t h = absurd (cc)
-has_key-below k key (pair l u ps) t h = or_below (bytes_eq k l) (has_key k ps) (has_key k (add_pair ps key t)) (λ g. has_key-below k key ps t g) h
+pub holds_key-below : (k key : List ℕ) (ps : Pairs) (t : Tree) → HasKey k ps → HasKey k (add_pair ps key t)
+holds_key-below k key no_pairs t h = absurd (cc)
+holds_key-below k key (pair l u ps) t h = or_below (bytes_eq k l) (holds_key k ps) (holds_key k (add_pair ps key t)) (λ g. holds_key-below k key ps t g) h
 
 KeysDiffer-back : (ps : Pairs) (key : List ℕ) (t : Tree) → KeysDiffer (add_pair ps key t) → KeysDiffer ps × (HasKey key ps → ⊥)
 KeysDiffer-back no_pairs key t h = (tt, λ g. absurd (cc))
 KeysDiffer-back (pair k u ps) key t h =
     let more = KeysDiffer-back ps key t h.1 in (
-      (λ g. h.0 (has_key-below k key ps t g), more.0),
-      λ g. h.0 (subst (λ x. HasKey x (add_pair ps key t)) (same_key key k (or_left (bytes_eq key k) (has_key key ps) g more.1)) (has_key-added key ps t)),
+      (λ g. h.0 (holds_key-below k key ps t g), more.0),
+      λ g. h.0 (subst (λ x. HasKey x (add_pair ps key t)) (same_key key k (or_left (bytes_eq key k) (holds_key key ps) g more.1)) (holds_key-added key ps t)),
     )
 
 -- a value that is put within the limits was within them, and so were the frames
@@ -291,7 +291,7 @@ next_passes limit (opens f fs) h rule e =
     reads_not (cut (f ∷ fs) between) rule (ap (λ t. within_limit limit (cond t (reads (cut (f ∷ fs) between)) (refuses too_deep))) (sym (lt_true (length fs) 64 (frame_depth limit f fs h))) ∙ e)
 next_passes limit (names ps key fs) h rule e =
     reads_not (cut (at_value ps key ∷ fs) between) rule
-    (ap (λ t. within_limit limit (cond t (refuses malformed) (reads (cut (at_value ps key ∷ fs) between)))) (sym (no_key (has_key key ps) h.4)) ∙ e)
+    (ap (λ t. within_limit limit (cond t (refuses malformed) (reads (cut (at_value ps key ∷ fs) between)))) (sym (no_key (holds_key key ps) h.4)) ∙ e)
 next_passes limit (ends t) h rule e = let f : whole t ≡ refuses rule = e in absurd (cc)
 next_passes limit stuck h rule e = absurd h
 

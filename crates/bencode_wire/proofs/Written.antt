@@ -4,7 +4,7 @@ use Rattle.std.proofs.lemmas.Cmp.{nat_list_cmp_total}
 use Rattle.std.specs.Cmp.Lexicographic.{slice_cmp}
 use Rattle.std.specs.Ordering.{match_ordering, ordering_reverse}
 use Rattle.bencode_wire.specs.Tree.{Tree, integer, string, list, dictionary, Trees, no_trees, tree, Pairs, no_pairs, pair, add_pair}
-use Rattle.bencode_wire.specs.Spelling.{put_pair, put_pairs, sorted, sorted_trees}
+use Rattle.bencode_wire.specs.Spelling.{put_sorted, put_pairs, sorted, sorted_trees}
 use Rattle.bencode_wire.proofs.Complete.{append_pairs, append_pairs-none}
 
 abbrev pub order : List ℕ → List ℕ → Ordering
@@ -30,17 +30,17 @@ above_ordered Less low key t l u ps more h g a b = (h, (g, a))
 above_ordered Equal low key t l u ps more h g a b = (g, a)
 above_ordered Greater low key t l u ps more h g a b = (g, b)
 
-above_put : (low : List ℕ) (ps : Pairs) (key : List ℕ) (t : Tree) → order low key ≡ Less → Above low ps → Above low (put_pair ps key t)
+above_put : (low : List ℕ) (ps : Pairs) (key : List ℕ) (t : Tree) → order low key ≡ Less → Above low ps → Above low (put_sorted ps key t)
 above_put low no_pairs key t h g = (h, tt)
-above_put low (pair l u ps) key t h g = above_ordered (order key l) low key t l u ps (put_pair ps key t) h g.0 g.1 (above_put low ps key t h g.1)
+above_put low (pair l u ps) key t h g = above_ordered (order key l) low key t l u ps (put_sorted ps key t) h g.0 g.1 (above_put low ps key t h g.1)
 
-in_ordered : (o : Ordering) (key : List ℕ) (t : Tree) (l : List ℕ) (u : Tree) (ps : Pairs) → order key l ≡ o → sorted t ≡ t → InOrder (pair l u ps) → InOrder (put_pair ps key t)
-    → InOrder (match_ordering o (pair key t (pair l u ps)) (pair l t ps) (pair l u (put_pair ps key t)))
+in_ordered : (o : Ordering) (key : List ℕ) (t : Tree) (l : List ℕ) (u : Tree) (ps : Pairs) → order key l ≡ o → sorted t ≡ t → InOrder (pair l u ps) → InOrder (put_sorted ps key t)
+    → InOrder (match_ordering o (pair key t (pair l u ps)) (pair l t ps) (pair l u (put_sorted ps key t)))
 in_ordered Less key t l u ps is e h g = ((is, above_from key l ps is h.0), e, h)
 in_ordered Equal key t l u ps is e h g = (h.0, e, h.2)
 in_ordered Greater key t l u ps is e h g = (above_put l ps key t (nat_list_cmp_total.antisymm l key ∙ ap ordering_reverse is) h.0, h.1, g)
 
-in_order_put : (ps : Pairs) (key : List ℕ) (t : Tree) → sorted t ≡ t → InOrder ps → InOrder (put_pair ps key t)
+in_order_put : (ps : Pairs) (key : List ℕ) (t : Tree) → sorted t ≡ t → InOrder ps → InOrder (put_sorted ps key t)
 in_order_put no_pairs key t e h = (tt, e, tt)
 in_order_put (pair l u ps) key t e h = in_ordered (order key l) key t l u ps refl e h (in_order_put ps key t e h.2)
 
@@ -51,7 +51,7 @@ AreSettled (pair k t ps) = (sorted (sorted t) ≡ sorted t) × AreSettled ps
 
 in_order_all : (done ps : Pairs) → InOrder done → AreSettled ps → InOrder (put_pairs done ps)
 in_order_all done no_pairs h g = h
-in_order_all done (pair k t ps) h g = in_order_all (put_pair done k (sorted t)) ps (in_order_put done k (sorted t) g.0 h) g.1
+in_order_all done (pair k t ps) h g = in_order_all (put_sorted done k (sorted t)) ps (in_order_put done k (sorted t) g.0 h) g.1
 
 -- this key is above each
 abbrev IsLast : List ℕ → Pairs → Type 0
@@ -75,15 +75,15 @@ lasts_none : (ps : Pairs) → AreLast no_pairs ps
 lasts_none no_pairs = tt
 lasts_none (pair k t ps) = (tt, lasts_none ps)
 
-put_last : (done : Pairs) (key : List ℕ) (t : Tree) → IsLast key done → put_pair done key t ≡ add_pair done key t
+put_last : (done : Pairs) (key : List ℕ) (t : Tree) → IsLast key done → put_sorted done key t ≡ add_pair done key t
 put_last no_pairs key t h = refl
 put_last (pair l u done) key t h =
-    ap (λ o. match_ordering o (pair key t (pair l u done)) (pair l t done) (pair l u (put_pair done key t))) h.0 ∙ ap (pair l u) (put_last done key t h.1)
+    ap (λ o. match_ordering o (pair key t (pair l u done)) (pair l t done) (pair l u (put_sorted done key t))) h.0 ∙ ap (pair l u) (put_last done key t h.1)
 
 put_in_order : (done ps : Pairs) → InOrder ps → AreLast done ps → put_pairs done ps ≡ append_pairs done ps
 put_in_order done no_pairs h g = refl
 put_in_order done (pair k t ps) h g =
-    ap (λ x. put_pairs (put_pair done k x) ps) h.1 ∙ ap (λ x. put_pairs x ps) (put_last done k t g.0)
+    ap (λ x. put_pairs (put_sorted done k x) ps) h.1 ∙ ap (λ x. put_pairs x ps) (put_last done k t g.0)
     ∙ put_in_order (add_pair done k t) ps h.2 (lasts_add done k t ps g.1 h.0)
 
 mutual

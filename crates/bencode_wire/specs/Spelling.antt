@@ -58,9 +58,9 @@ abbrev mutual
   ArePairs no_pairs = Unit {0}
   ArePairs (pair key t ps) = IsString key × IsSpellable t × ArePairs ps
 
-abbrev pub joined : List (List ℕ) → List ℕ
-joined [] = []
-joined (bytes ∷ more) = bytes ++ joined more
+abbrev pub spellings_joined : List (List ℕ) → List ℕ
+spellings_joined [] = []
+spellings_joined (bytes ∷ more) = bytes ++ spellings_joined more
 
 -- at every level no key stands twice
 abbrev mutual
@@ -80,11 +80,11 @@ abbrev mutual
 
 -- the pairs, sorted by their keys as raw bytes, with one more; a key that stands there takes the
 -- new value
-abbrev pub put_pair : Pairs → List ℕ → Tree → Pairs
-put_pair no_pairs key t = pair key t no_pairs
-put_pair (pair k u ps) key t =
+abbrev pub put_sorted : Pairs → List ℕ → Tree → Pairs
+put_sorted no_pairs key t = pair key t no_pairs
+put_sorted (pair k u ps) key t =
     match_ordering (slice_cmp nat_cmp key k) (pair key t (pair k u ps)) (pair k t ps)
-    (pair k u (put_pair ps key t))
+    (pair k u (put_sorted ps key t))
 
 -- a value with the pairs put in one by one by their keys as raw bytes, at every level
 abbrev mutual
@@ -100,7 +100,7 @@ abbrev mutual
 
   pub put_pairs : Pairs → Pairs → Pairs
   put_pairs done no_pairs = done
-  put_pairs done (pair key t ps) = put_pairs (put_pair done key (sorted t)) ps
+  put_pairs done (pair key t ps) = put_pairs (put_sorted done key (sorted t)) ps
 
 -- the spelling whose keys are sorted
 abbrev pub canonical : Tree → List ℕ

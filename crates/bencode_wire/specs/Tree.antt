@@ -29,12 +29,12 @@ add_pair no_pairs key t = pair key t no_pairs
 add_pair (pair k u ps) key t = pair k u (add_pair ps key t)
 
 -- whether a pair has the key
-abbrev pub has_key : List ℕ → Pairs → Bool
-has_key key no_pairs = false
-has_key key (pair k t ps) = bytes_eq key k || has_key key ps
+abbrev pub holds_key : List ℕ → Pairs → Bool
+holds_key key no_pairs = false
+holds_key key (pair k t ps) = bytes_eq key k || holds_key key ps
 
 abbrev pub HasKey : List ℕ → Pairs → Type 0
-HasKey key ps = has_key key ps ≡ true
+HasKey key ps = holds_key key ps ≡ true
 
 -- the value under a key
 abbrev pub field : List ℕ → Pairs → Option Tree

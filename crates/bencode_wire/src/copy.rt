@@ -1,6 +1,6 @@
 // Copies, written out since a derived clone says nothing of a type that holds itself.
 ghost use Rattle.std.specs.Prelude.{◌≡◌, IfOk, map};
-ghost use Rattle.bencode_wire.specs.Inside.View.{view, trees_view, pairs_view};
+ghost use Rattle.bencode_wire.specs.Inside.View.{tree_view, trees_view, entries_view};
 
 use crate::ben::{Ben, Dictionary};
 use std::alloc::{AllocError, Global};
@@ -9,7 +9,7 @@ use std::collections::VecDeque;
 impl Ben {
     /// An equal value.
     pub fn copy(&self, alloc: Global) -> Result<Ben, AllocError>
-        ensures { IfOk result (λ copied. view copied ≡ view self.now) }
+        ensures { IfOk result (λ copied. tree_view copied ≡ tree_view self.now) }
     {
         copy(alloc, self)
     }
@@ -23,7 +23,7 @@ pub(crate) fn copy_bytes(alloc: Global, bytes: &Vec<u8>) -> Result<Vec<u8>, Allo
 
 #[cycle(copy)]
 fn copy(alloc: Global, value: &Ben) -> Result<Ben, AllocError>
-    ensures { IfOk result (λ copied. view copied ≡ view value.now) }
+    ensures { IfOk result (λ copied. tree_view copied ≡ tree_view value.now) }
 {
     match value {
         Ben::Integer(n) => Ok(Ben::Integer(*n)),
@@ -46,7 +46,7 @@ pub(crate) fn copy_items(alloc: Global, items: &Vec<Ben>) -> Result<Vec<Ben>, Al
 
 #[cycle(copy)]
 pub(crate) fn copy_pairs(alloc: Global, pairs: &Dictionary) -> Result<Dictionary, AllocError>
-    ensures { IfOk result (λ copied. pairs_view copied.entries ≡ pairs_view pairs.now.entries) }
+    ensures { IfOk result (λ copied. entries_view copied.entries ≡ entries_view pairs.now.entries) }
 {
     let mut copies = Dictionary::new(alloc);
     for (key, value) in pairs.iter() {
@@ -57,7 +57,7 @@ pub(crate) fn copy_pairs(alloc: Global, pairs: &Dictionary) -> Result<Dictionary
 }
 
 pub(crate) fn copy_queue(alloc: Global, values: &VecDeque<Ben>) -> Result<VecDeque<Ben>, AllocError>
-    ensures { IfOk result (λ copied. map view copied.items ≡ map view values.now.items) }
+    ensures { IfOk result (λ copied. map tree_view copied.items ≡ map tree_view values.now.items) }
 {
     let mut copies = VecDeque::new(alloc);
     for at in 0..values.len() {

@@ -2,9 +2,9 @@
 ghost use Rattle.std.specs.Prelude.{◌≡◌, ◌<◌, ◌≤◌, length, take, IfOk, IfSome, OnOk, MatchOption};
 ghost use Rattle.bencode_wire.specs.Inside.Fronts.{BeginsWith};
 ghost use Rattle.bencode_wire.specs.Inside.ByteSteps as steps;
-ghost use Rattle.bencode_wire.specs.Spelling.{put_pair};
+ghost use Rattle.bencode_wire.specs.Spelling.{put_sorted};
 ghost use Rattle.bencode_wire.specs.Inside.Reader.{frames_view, token_view, cut_view};
-ghost use Rattle.bencode_wire.specs.Inside.Gives.{Gives};
+ghost use Rattle.bencode_wire.specs.Inside.Gives.{Yields};
 ghost use Rattle.bencode_wire.specs.Inside.Course.{Continues};
 ghost use Rattle.bencode_wire.specs.Inside.Cut.{Cut};
 ghost use Rattle.bencode_wire.specs.Inside.Held.{Holds};
@@ -47,7 +47,7 @@ pub(crate) fn resume(
     reader: Option<Reader>,
 ) -> Option<Reader>
     ensures { (c : Cut) → MatchOption reader (Unit {0}) (Holds kept.now) → IsRest limit kept.now
-        → steps.stream_reading limit put_pair 0 steps.start 0 kept.now
+        → steps.stream_reading limit put_sorted 0 steps.start 0 kept.now
         ≡ steps.ended_reading (steps.rests (length kept.now) c)
         → IfSome result (λ r. cut_view r ≡ c) }
 {
@@ -115,8 +115,8 @@ fn advance(
 // Reads a run, whose length `run_len` gave.
 fn read_run(alloc: Global, limit: usize, reader: Reader, run: &[u8]) -> Result<Progress, Refusal>
     requires { 0 < length run.now }
-    ensures { Gives (steps.within_limit limit
-        (steps.judged (steps.step_run put_pair (frames_view reader.frames.items)
+    ensures { Yields (steps.within_limit limit
+        (steps.judged (steps.step_run put_sorted (frames_view reader.frames.items)
         (token_view reader.token) run.now))) result }
 {
     match reader.step(alloc, run) {
@@ -128,7 +128,7 @@ fn read_run(alloc: Global, limit: usize, reader: Reader, run: &[u8]) -> Result<P
 
 // The digits of a string's length are not above the limit.
 fn within_limit(limit: usize, reader: Reader) -> Result<Progress, Refusal>
-    ensures { Gives (steps.within_limit limit (steps.reads (cut_view reader))) result }
+    ensures { Yields (steps.within_limit limit (steps.reads (cut_view reader))) result }
 {
     if is_large(limit, &reader.token) {
         Err(Refusal::TooLong)

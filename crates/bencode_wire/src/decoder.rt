@@ -52,14 +52,14 @@ impl Model for Decoder {
 }
 
 impl Decoder {
-    ghost use Rattle.bencode_wire.specs.Inside.View.{view};
-    ghost use Rattle.bencode_wire.specs.Inside.Decoder.{ready_of, rest_of, fault_of, IsUnchanged, Stands};
+    ghost use Rattle.bencode_wire.specs.Inside.View.{tree_view};
+    ghost use Rattle.bencode_wire.specs.Inside.Decoder.{ready_of, rest_of, fault_of, IsUnchanged, DecoderStands};
     ghost use Rattle.bencode_wire.specs.Inside.Return.{CanReturn};
 
     /// A decoder at the start of a stream. `limit` is the greatest length of a message, and of a
     /// string in one.
     pub fn new(alloc: Global, limit: usize) -> Decoder
-        ensures stands { Stands limit result [] [] }
+        ensures stands { DecoderStands limit result [] [] }
         ensures ready { ready_of result ≡ [] }
         ensures fault { fault_of result ≡ None }
     {
@@ -78,16 +78,17 @@ impl Decoder {
     pub fn feed(&mut self, piece: &Bytes) -> Result<(), WireFault>
         // Whatever came before, in whatever pieces, the decoder then stands for all of it.
         ensures stands { (limit : ℕ) (all : List ℕ) (taken : List Tree)
-            → Stands limit self.old all taken
-            → result ≢ Err WireFault.NoMemory → Stands limit self.new (all ++ piece.now) taken }
+            → DecoderStands limit self.old all taken
+            → result ≢ Err WireFault.NoMemory
+            → DecoderStands limit self.new (all ++ piece.now) taken }
         // Where no message was ready, it can go back over the piece, and also over a fault in it.
         ensures returns { (limit : ℕ) (all : List ℕ) (taken : List Tree)
-            → Stands limit self.old all taken
+            → DecoderStands limit self.old all taken
             → ready_of self.old ≡ [] → fault_of self.old ≡ None → result ≢ Err WireFault.NoMemory
             → CanReturn limit self.new all taken }
         ensures keeps { (limit : ℕ) (all : List ℕ) (taken : List Tree)
-            → Stands limit self.old all taken
-            → result ≡ Err WireFault.NoMemory → Stands limit self.new all taken }
+            → DecoderStands limit self.old all taken
+            → result ≡ Err WireFault.NoMemory → DecoderStands limit self.new all taken }
         ensures ok { OnOk result (fault_of self.new ≡ None) }
         ensures fault { IfErr result (λ f. f ≢ WireFault.NoMemory → fault_of self.new ≡ Some f) }
         ensures memory { result ≡ Err WireFault.NoMemory → IsUnchanged self.old self.new }
@@ -104,11 +105,12 @@ impl Decoder {
     /// Hands out the oldest message that is whole, a dictionary. It takes no memory.
     pub fn next(&mut self) -> Option<Ben>
         ensures value { ready_of self.old
-            ≡ option_to_list (option_map view result) ++ ready_of self.new }
+            ≡ option_to_list (option_map tree_view result) ++ ready_of self.new }
         ensures none { result ≡ None → ready_of self.old ≡ [] }
         ensures stands { (limit : ℕ) (all : List ℕ) (taken : List Tree)
-            → Stands limit self.old all taken
-            → Stands limit self.new all (taken ++ option_to_list (option_map view result)) }
+            → DecoderStands limit self.old all taken
+            → DecoderStands limit self.new all
+            (taken ++ option_to_list (option_map tree_view result)) }
         ensures rest { rest_of self.new ≡ rest_of self.old }
         ensures fault { fault_of self.new ≡ fault_of self.old }
         ensures returns { (limit : ℕ) (all : List ℕ) (taken : List Tree)
@@ -137,8 +139,8 @@ impl Decoder {
     pub fn copy(&self) -> Result<Decoder, AllocError>
         ensures same { IfOk result (IsUnchanged self.now) }
         ensures stands { (limit : ℕ) (all : List ℕ) (taken : List Tree)
-            → Stands limit self.now all taken
-            → IfOk result (λ d. Stands limit d all taken) }
+            → DecoderStands limit self.now all taken
+            → IfOk result (λ d. DecoderStands limit d all taken) }
     {
         Ok(Decoder {
             alloc: self.alloc,
@@ -155,15 +157,16 @@ impl Decoder {
     fn feed_bytes(&mut self, piece: &[u8]) -> Result<(), WireFault>
         requires { fault_of self.old ≡ None }
         ensures stands { (limit : ℕ) (all : List ℕ) (taken : List Tree)
-            → Stands limit self.old all taken
-            → result ≢ Err WireFault.NoMemory → Stands limit self.new (all ++ piece.now) taken }
+            → DecoderStands limit self.old all taken
+            → result ≢ Err WireFault.NoMemory
+            → DecoderStands limit self.new (all ++ piece.now) taken }
         ensures returns { (limit : ℕ) (all : List ℕ) (taken : List Tree)
-            → Stands limit self.old all taken
+            → DecoderStands limit self.old all taken
             → ready_of self.old ≡ [] → result ≢ Err WireFault.NoMemory
             → CanReturn limit self.new all taken }
         ensures keeps { (limit : ℕ) (all : List ℕ) (taken : List Tree)
-            → Stands limit self.old all taken
-            → result ≡ Err WireFault.NoMemory → Stands limit self.new all taken }
+            → DecoderStands limit self.old all taken
+            → result ≡ Err WireFault.NoMemory → DecoderStands limit self.new all taken }
         ensures ok { OnOk result (fault_of self.new ≡ None) }
         ensures fault { IfErr result (λ f. f ≢ WireFault.NoMemory → fault_of self.new ≡ Some f) }
         ensures memory { result ≡ Err WireFault.NoMemory → IsUnchanged self.old self.new }

@@ -10,11 +10,11 @@ ghost use Rattle.bencode_wire.specs.Inside.ByteSteps as steps;
 ghost use Rattle.bencode_wire.specs.Inside.ByteSteps.{judged};
 ghost use Rattle.bencode_wire.specs.Tree as tree;
 ghost use Rattle.bencode_wire.specs.Inside.Cut.{in_list, at_key, at_value};
-ghost use Rattle.bencode_wire.specs.Spelling.{put_pair};
-ghost use Rattle.bencode_wire.specs.Inside.View.{view, trees_view, pairs_view};
+ghost use Rattle.bencode_wire.specs.Spelling.{put_sorted};
+ghost use Rattle.bencode_wire.specs.Inside.View.{tree_view, trees_view, entries_view};
 ghost use Rattle.bencode_wire.specs.Inside.Sign.{sign_of};
 ghost use Rattle.bencode_wire.specs.Inside.Reader.{frame_view, frames_view, token_view, cut_view};
-ghost use Rattle.bencode_wire.specs.Inside.Gives.{Gives};
+ghost use Rattle.bencode_wire.specs.Inside.Gives.{Yields};
 
 use crate::ben::{Ben, Dictionary};
 use crate::cut::{Expected, Frame, PartOfInteger, PartOfString, Progress, Reader, Token};
@@ -51,7 +51,7 @@ impl Reader {
     // Reads one run of bytes, whose length `run_len` gave.
     pub(crate) fn step(self, alloc: Global, run: &[u8]) -> Result<Progress, Refusal>
         requires { 0 < length run.now }
-        ensures { Gives (judged (steps.step_run put_pair (frames_view self.frames.items)
+        ensures { Yields (judged (steps.step_run put_sorted (frames_view self.frames.items)
             (token_view self.token) run.now)) result }
     {
         let Reader { frames, token } = self;
@@ -68,7 +68,7 @@ impl Reader {
 }
 
 fn partial(frames: Vec<Frame>, token: Token) -> Result<Progress, Refusal>
-    ensures { Gives
+    ensures { Yields
         (judged (beginnings.goes (frames_view frames.items) (token_view token))) result }
 {
     Ok(Progress::Partial(Reader { frames, token }))
@@ -106,7 +106,7 @@ fn expected_in(frames: &[Frame]) -> Expected
 
 // The first byte of a token.
 fn begin(alloc: Global, frames: Vec<Frame>, sign: Sign) -> Result<Progress, Refusal>
-    ensures { Gives (judged (beginnings.begin put_pair (frames_view frames.items) sign)) result }
+    ensures { Yields (judged (beginnings.begin put_sorted (frames_view frames.items) sign)) result }
 {
     match expected_in(&frames) {
         Expected::Message => begin_message(alloc, frames, sign),
@@ -117,7 +117,7 @@ fn begin(alloc: Global, frames: Vec<Frame>, sign: Sign) -> Result<Progress, Refu
 }
 
 fn begin_message(alloc: Global, frames: Vec<Frame>, sign: Sign) -> Result<Progress, Refusal>
-    ensures { Gives (judged (beginnings.begin_message (frames_view frames.items) sign)) result }
+    ensures { Yields (judged (beginnings.begin_message (frames_view frames.items) sign)) result }
 {
     match sign {
         Sign::Dictionary => open(frames, Frame::Keys(Dictionary::new(alloc))),
@@ -129,7 +129,7 @@ fn begin_message(alloc: Global, frames: Vec<Frame>, sign: Sign) -> Result<Progre
 }
 
 fn begin_value(alloc: Global, frames: Vec<Frame>, sign: Sign) -> Result<Progress, Refusal>
-    ensures { Gives (judged (beginnings.begin_value (frames_view frames.items) sign)) result }
+    ensures { Yields (judged (beginnings.begin_value (frames_view frames.items) sign)) result }
 {
     match sign {
         Sign::Integer => partial(frames, Token::IntegerOpen),
@@ -141,8 +141,8 @@ fn begin_value(alloc: Global, frames: Vec<Frame>, sign: Sign) -> Result<Progress
 }
 
 fn begin_item(alloc: Global, frames: Vec<Frame>, sign: Sign) -> Result<Progress, Refusal>
-    ensures { Gives
-        (judged (beginnings.begin_item put_pair (frames_view frames.items) sign)) result }
+    ensures { Yields
+        (judged (beginnings.begin_item put_sorted (frames_view frames.items) sign)) result }
 {
     match sign {
         Sign::End => close(frames),
@@ -154,8 +154,8 @@ fn begin_item(alloc: Global, frames: Vec<Frame>, sign: Sign) -> Result<Progress,
 }
 
 fn begin_key(frames: Vec<Frame>, sign: Sign) -> Result<Progress, Refusal>
-    ensures { Gives
-        (judged (beginnings.begin_key put_pair (frames_view frames.items) sign)) result }
+    ensures { Yields
+        (judged (beginnings.begin_key put_sorted (frames_view frames.items) sign)) result }
 {
     match sign {
         Sign::End => close(frames),
@@ -166,7 +166,7 @@ fn begin_key(frames: Vec<Frame>, sign: Sign) -> Result<Progress, Refusal>
 }
 
 fn open(frames: Vec<Frame>, frame: Frame) -> Result<Progress, Refusal>
-    ensures { Gives
+    ensures { Yields
         (judged (beginnings.opens (frame_view frame) (frames_view frames.items))) result }
 {
     if frames.len() < MAX_NESTING {
@@ -179,7 +179,7 @@ fn open(frames: Vec<Frame>, frame: Frame) -> Result<Progress, Refusal>
 
 // The end of the innermost list or dictionary.
 fn close(frames: Vec<Frame>) -> Result<Progress, Refusal>
-    ensures { Gives (judged (beginnings.close put_pair (frames_view frames.items))) result }
+    ensures { Yields (judged (beginnings.close put_sorted (frames_view frames.items))) result }
 {
     let (outer, innermost) = pop(frames);
     match innermost {
@@ -192,8 +192,8 @@ fn close(frames: Vec<Frame>) -> Result<Progress, Refusal>
 
 // A value that is whole goes into the innermost list or dictionary, or is the message.
 fn put(frames: Vec<Frame>, value: Ben) -> Result<Progress, Refusal>
-    ensures { Gives
-        (judged (beginnings.put put_pair (frames_view frames.items) (view value))) result }
+    ensures { Yields
+        (judged (beginnings.put put_sorted (frames_view frames.items) (tree_view value))) result }
 {
     let (outer, innermost) = pop(frames);
     match innermost {
@@ -206,8 +206,8 @@ fn put(frames: Vec<Frame>, value: Ben) -> Result<Progress, Refusal>
 
 #[tactic(auto, using(crate::proofs::Rules::item_steps))]
 fn put_item(outer: Vec<Frame>, mut items: Vec<Ben>, item: Ben) -> Result<Progress, Refusal>
-    ensures { Gives (judged (beginnings.put put_pair
-        (in_list (trees_view items.items) ∷ frames_view outer.items) (view item))) result }
+    ensures { Yields (judged (beginnings.put put_sorted
+        (in_list (trees_view items.items) ∷ frames_view outer.items) (tree_view item))) result }
 {
     items.push(item)?;
     let frames = push(outer, Frame::List(items))?;
@@ -217,8 +217,8 @@ fn put_item(outer: Vec<Frame>, mut items: Vec<Ben>, item: Ben) -> Result<Progres
 // A key has to be a string, and a key that stood before in its dictionary is refused at its last
 // byte.
 fn put_key(outer: Vec<Frame>, pairs: Dictionary, key: Ben) -> Result<Progress, Refusal>
-    ensures { Gives (judged (beginnings.put put_pair
-        (at_key (pairs_view pairs.entries) ∷ frames_view outer.items) (view key))) result }
+    ensures { Yields (judged (beginnings.put put_sorted
+        (at_key (entries_view pairs.entries) ∷ frames_view outer.items) (tree_view key))) result }
 {
     match key {
         Ben::String(key) => put_name(outer, pairs, key),
@@ -229,7 +229,7 @@ fn put_key(outer: Vec<Frame>, pairs: Dictionary, key: Ben) -> Result<Progress, R
 }
 
 fn put_name(outer: Vec<Frame>, pairs: Dictionary, key: Vec<u8>) -> Result<Progress, Refusal>
-    ensures { Gives (judged (beginnings.names (pairs_view pairs.entries) key.items
+    ensures { Yields (judged (beginnings.names (entries_view pairs.entries) key.items
         (frames_view outer.items))) result }
 {
     if has_key(&pairs, &key) {
@@ -240,7 +240,7 @@ fn put_name(outer: Vec<Frame>, pairs: Dictionary, key: Vec<u8>) -> Result<Progre
 }
 
 fn has_key(pairs: &Dictionary, key: &Vec<u8>) -> bool
-    ensures { result ≡ tree.has_key key.now.items (pairs_view pairs.now.entries) }
+    ensures { result ≡ tree.holds_key key.now.items (entries_view pairs.now.entries) }
 {
     pairs.contains_key(key)
 }
@@ -251,8 +251,9 @@ fn put_value(
     key: Vec<u8>,
     value: Ben,
 ) -> Result<Progress, Refusal>
-    ensures { Gives (judged (beginnings.put put_pair
-        (at_value (pairs_view pairs.entries) key.items ∷ frames_view outer.items) (view value)))
+    ensures { Yields (judged (beginnings.put put_sorted
+        (at_value (entries_view pairs.entries) key.items ∷ frames_view outer.items)
+        (tree_view value)))
         result }
 {
     let pairs = with_pair(pairs, key, value)?;
@@ -261,8 +262,8 @@ fn put_value(
 }
 
 fn with_pair(mut pairs: Dictionary, key: Vec<u8>, value: Ben) -> Result<Dictionary, Refusal>
-    ensures ok { IfOk result (λ with. pairs_view with.entries
-        ≡ put_pair (pairs_view pairs.entries) key.items (view value)) }
+    ensures ok { IfOk result (λ with. entries_view with.entries
+        ≡ put_sorted (entries_view pairs.entries) key.items (tree_view value)) }
     ensures err { IfErr result (λ e. e ≡ Refusal.NoMemory) }
 {
     drop(pairs.insert(key, value)?);
@@ -271,7 +272,7 @@ fn with_pair(mut pairs: Dictionary, key: Vec<u8>, value: Ben) -> Result<Dictiona
 
 // Behind `i`: a minus or the first digit.
 fn integer_open(frames: Vec<Frame>, sign: Sign) -> Result<Progress, Refusal>
-    ensures { Gives (judged (effects.integer_open (frames_view frames.items) sign)) result }
+    ensures { Yields (judged (effects.integer_open (frames_view frames.items) sign)) result }
 {
     match sign {
         Sign::Minus => partial(frames, Token::IntegerMinus),
@@ -283,7 +284,7 @@ fn integer_open(frames: Vec<Frame>, sign: Sign) -> Result<Progress, Refusal>
 
 // Behind `i-`: a digit that is not zero.
 fn integer_minus(frames: Vec<Frame>, sign: Sign) -> Result<Progress, Refusal>
-    ensures { Gives (judged (effects.integer_minus (frames_view frames.items) sign)) result }
+    ensures { Yields (judged (effects.integer_minus (frames_view frames.items) sign)) result }
 {
     match sign {
         Sign::Digit(digit) => {
@@ -300,7 +301,7 @@ fn integer_minus(frames: Vec<Frame>, sign: Sign) -> Result<Progress, Refusal>
 
 // Behind a digit of an integer: another digit, unless the number is zero, or the end.
 fn integer_digits(frames: Vec<Frame>, part: PartOfInteger, sign: Sign) -> Result<Progress, Refusal>
-    ensures { Gives (judged (effects.integer_digits put_pair
+    ensures { Yields (judged (effects.integer_digits put_sorted
         (frames_view frames.items) part.is_negative part.value sign)) result }
 {
     let PartOfInteger { is_negative, value } = part;
@@ -318,7 +319,7 @@ fn more_digits(
     value: u64,
     digit: u8,
 ) -> Result<Progress, Refusal>
-    ensures { Gives (judged (effects.more_digits
+    ensures { Yields (judged (effects.more_digits
         (frames_view frames.items) is_negative value digit)) result }
 {
     if value == 0 {
@@ -380,7 +381,7 @@ fn length_digits(
     len: usize,
     sign: Sign,
 ) -> Result<Progress, Refusal>
-    ensures { Gives (judged (effects.length_digits put_pair (frames_view frames.items) len sign))
+    ensures { Yields (judged (effects.length_digits put_sorted (frames_view frames.items) len sign))
         result }
 {
     match sign {
@@ -392,7 +393,7 @@ fn length_digits(
 }
 
 fn more_length(frames: Vec<Frame>, len: usize, digit: u8) -> Result<Progress, Refusal>
-    ensures { Gives (judged (effects.more_length (frames_view frames.items) len digit)) result }
+    ensures { Yields (judged (effects.more_length (frames_view frames.items) len digit)) result }
 {
     if len == 0 {
         return Err(Refusal::Malformed);
@@ -405,7 +406,8 @@ fn more_length(frames: Vec<Frame>, len: usize, digit: u8) -> Result<Progress, Re
 }
 
 fn open_string(alloc: Global, frames: Vec<Frame>, len: usize) -> Result<Progress, Refusal>
-    ensures { Gives (judged (effects.open_string put_pair (frames_view frames.items) len)) result }
+    ensures { Yields (judged (effects.open_string put_sorted (frames_view frames.items) len))
+        result }
 {
     let bytes = Vec::new(alloc);
     if len == 0 {
@@ -417,7 +419,7 @@ fn open_string(alloc: Global, frames: Vec<Frame>, len: usize) -> Result<Progress
 
 // More bytes of a string, at most those that are left.
 fn text(frames: Vec<Frame>, part: PartOfString, run: &[u8]) -> Result<Progress, Refusal>
-    ensures { Gives (judged (effects.text_bytes put_pair
+    ensures { Yields (judged (effects.text_bytes put_sorted
         (frames_view frames.items) part.bytes.items part.left run.now)) result }
 {
     let PartOfString { left, mut bytes } = part;

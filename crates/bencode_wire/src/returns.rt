@@ -2,7 +2,7 @@
 ghost use Rattle.std.specs.Prelude.{◌≡◌, ℕ, List, [], ◌++◌, None};
 ghost use Rattle.bencode_wire.specs.Tree.{Tree};
 ghost use Rattle.bencode_wire.specs.Inside.Course.{ready_view};
-ghost use Rattle.bencode_wire.specs.Inside.Decoder.{ready_of, fault_of, IsUnchanged, Stands};
+ghost use Rattle.bencode_wire.specs.Inside.Decoder.{ready_of, fault_of, IsUnchanged, DecoderStands};
 ghost use Rattle.bencode_wire.specs.Inside.Return.{earlier_of, before_last_piece, CanReturn};
 
 use crate::ben::Ben;
@@ -16,8 +16,8 @@ impl Decoder {
         ensures value { ready_view result.items ≡ ready_of self.old }
         ensures taken { self.new ≡ record self.old { ready = [] } }
         ensures stands { (limit : ℕ) (all : List ℕ) (taken : List Tree)
-            → Stands limit self.old all taken
-            → Stands limit self.new all (taken ++ ready_view result.items) }
+            → DecoderStands limit self.old all taken
+            → DecoderStands limit self.new all (taken ++ ready_view result.items) }
         ensures returns { (limit : ℕ) (all : List ℕ) (taken : List Tree)
             → CanReturn limit self.old all taken
             → CanReturn limit self.new all taken }
@@ -32,7 +32,7 @@ impl Decoder {
         ensures as_before { self.new ≡ before_last_piece self.old (earlier_of self.old) }
         ensures stands { (limit : ℕ) (all : List ℕ) (taken : List Tree)
             → CanReturn limit self.old all taken
-            → Stands limit self.new all taken }
+            → DecoderStands limit self.new all taken }
         ensures ready { (limit : ℕ) (all : List ℕ) (taken : List Tree)
             → CanReturn limit self.old all taken
             → ready_of self.new ≡ [] }
@@ -56,8 +56,8 @@ impl Decoder {
         ensures unchanged { IsUnchanged self.old self.new }
         ensures earlier { earlier_of self.new ≡ None }
         ensures stands { (limit : ℕ) (all : List ℕ) (taken : List Tree)
-            → Stands limit self.old all taken
-            → Stands limit self.new all taken }
+            → DecoderStands limit self.old all taken
+            → DecoderStands limit self.new all taken }
     {
         self.tail.settle();
         self.before = None;

@@ -1,6 +1,6 @@
 // Spelling a value. A dictionary's keys come sorted as raw bytes, which is the order of its map.
 ghost use Rattle.std.specs.Prelude.{◌≡◌, ◌++◌, IfOk, OnOk, OnErr, codes, length};
-ghost use Rattle.bencode_wire.specs.Inside.View.{view, trees_view, pairs_view};
+ghost use Rattle.bencode_wire.specs.Inside.View.{tree_view, trees_view, entries_view};
 ghost use Rattle.bencode_wire.specs.Spelling.{canonical, sorted_trees, put_pairs, trees_text};
 ghost use Rattle.bencode_wire.specs.Spelling.{pairs_text, string_text, integer_text, IsInteger};
 ghost use Rattle.bencode_wire.specs.Spelling.{IsString, IsSpellable, AreSpellable, ArePairs};
@@ -16,8 +16,8 @@ const FIRST_ROOM: usize = 128;
 /// The value's canonical spelling. It fails only for want of memory. The integers and strings of
 /// each `Ben` fit into the grammar, which is what the law that it is read again asks.
 pub fn canonical_bytes(alloc: Global, value: &Ben) -> Result<Vec<u8>, AllocError>
-    ensures ok { IfOk result (λ bytes. bytes.items ≡ canonical (view value.now)) }
-    ensures fits { OnOk result (IsSpellable (view value.now)) }
+    ensures ok { IfOk result (λ bytes. bytes.items ≡ canonical (tree_view value.now)) }
+    ensures fits { OnOk result (IsSpellable (tree_view value.now)) }
 {
     let mut bytes = Vec::with_capacity(alloc, FIRST_ROOM)?;
     spell(value, &mut bytes)?;
@@ -26,9 +26,9 @@ pub fn canonical_bytes(alloc: Global, value: &Ben) -> Result<Vec<u8>, AllocError
 
 /// Appends the value's canonical spelling. After want of memory `out` is as it was.
 pub fn write_into(value: &Ben, out: &mut Vec<u8>) -> Result<(), AllocError>
-    ensures ok { OnOk result (out.new.items ≡ out.old.items ++ canonical (view value.now)) }
+    ensures ok { OnOk result (out.new.items ≡ out.old.items ++ canonical (tree_view value.now)) }
     ensures err { OnErr result (out.new.items ≡ out.old.items) }
-    ensures fits { OnOk result (IsSpellable (view value.now)) }
+    ensures fits { OnOk result (IsSpellable (tree_view value.now)) }
 {
     let bytes = canonical_bytes(*out.allocator(), value)?;
     out.extend_from_slice(bytes.as_slice())
@@ -36,8 +36,8 @@ pub fn write_into(value: &Ben, out: &mut Vec<u8>) -> Result<(), AllocError>
 
 #[cycle(spell)]
 fn spell(value: &Ben, out: &mut Vec<u8>) -> Result<(), AllocError>
-    ensures fits { OnOk result (IsSpellable (view value.now)) }
-    ensures text { OnOk result (out.new.items ≡ out.old.items ++ canonical (view value.now)) }
+    ensures fits { OnOk result (IsSpellable (tree_view value.now)) }
+    ensures text { OnOk result (out.new.items ≡ out.old.items ++ canonical (tree_view value.now)) }
 {
     match value {
         Ben::Integer(n) => spell_integer(*n, out),
@@ -69,9 +69,9 @@ fn spell_items(items: &[Ben], out: &mut Vec<u8>) -> Result<(), AllocError>
 
 #[cycle(spell)]
 fn spell_pairs(pairs: &Dictionary, out: &mut Vec<u8>) -> Result<(), AllocError>
-    ensures fits { OnOk result (ArePairs (pairs_view pairs.now.entries)) }
+    ensures fits { OnOk result (ArePairs (entries_view pairs.now.entries)) }
     ensures text { OnOk result (out.new.items
-        ≡ out.old.items ++ pairs_text (put_pairs no_pairs (pairs_view pairs.now.entries))) }
+        ≡ out.old.items ++ pairs_text (put_pairs no_pairs (entries_view pairs.now.entries))) }
 {
     for (key, value) in pairs.iter() {
         spell_string(key, out)?;

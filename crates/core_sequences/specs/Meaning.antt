@@ -22,14 +22,15 @@ last d = items_in (name_of_sequence_function SequenceFunction.Last) d
     >>= λ ds. Ok (item_or_nil (length ds - 1) ds)
 
 -- the items behind the first
-abbrev pub behind_first : List ℕ → Datum → Result (List Datum) Failure
-behind_first function d = items_in function d >>= λ ds. Ok (drop 1 ds)
+abbrev pub items_but_first : List ℕ → Datum → Result (List Datum) Failure
+items_but_first function d = items_in function d >>= λ ds. Ok (drop 1 ds)
 
 unfoldable pub rest : Datum → Result Datum Failure
-rest d = behind_first (name_of_sequence_function SequenceFunction.Rest) d >>= λ ds. Ok (list_of ds)
+rest d = items_but_first (name_of_sequence_function SequenceFunction.Rest) d
+    >>= λ ds. Ok (list_of ds)
 
 unfoldable pub next : Datum → Result Datum Failure
-next d = behind_first (name_of_sequence_function SequenceFunction.Next) d
+next d = items_but_first (name_of_sequence_function SequenceFunction.Next) d
     >>= λ ds. Ok (list_or_nil ds)
 
 unfoldable pub reversed_list : Datum → Result Datum Failure

@@ -51,7 +51,7 @@ pub(crate) fn next(alloc: Global, argument: &Value) -> Result<Value, ApplyError>
 // The items behind the first. Those of a list or a vector are shared, where that holds little more.
 fn behind_first(alloc: Global, function: &str, argument: &Value) -> Result<Sequence, ApplyError>
     ensures { Gives (λ made. listed made.items) result
-        (meant.behind_first function.now (view argument.now)) }
+        (meant.items_but_first function.now (view argument.now)) }
 {
     match argument {
         Value::List(items) => Ok(items.rest(alloc)?),

@@ -7,7 +7,7 @@ ghost use Rattle.std.specs.Prelude.{◌≡◌, ◌++◌, IfOk, OnOk, map, option
 ghost use Rattle.value_data.specs.Inside.View.{view};
 ghost use Rattle.core_texts.specs.Limits.{if_short};
 ghost use Rattle.core_texts.specs.Printing as meant;
-ghost use Rattle.core_texts.specs.Inside.Spelling.{spelling_of};
+ghost use Rattle.core_texts.specs.Inside.Spelling.{text_spelled};
 
 use crate::function::PrintFunction;
 use repl_values::{MOST_TEXT, Value, display_into, print_into};
@@ -40,7 +40,7 @@ pub fn text_printed(
 
 fn line(alloc: Global, spelling: Spelling, values: &[Value]) -> Result<Option<String>, AllocError>
     ensures { IfOk result (λ text. option_map string_bytes text
-        ≡ if_short (meant.spaced_text (spelling_of spelling) (map view values.now)
+        ≡ if_short (meant.spaced_text (text_spelled spelling) (map view values.now)
         ++ meant.newline)) }
 {
     let Some(mut text) = spaced_text(alloc, spelling, values)? else {
@@ -67,7 +67,7 @@ pub(crate) fn spaced_text(
     values: &[Value],
 ) -> Result<Option<String>, AllocError>
     ensures { IfOk result (λ text. option_map string_bytes text
-        ≡ if_short (meant.spaced_text (spelling_of spelling) (map view values.now))) }
+        ≡ if_short (meant.spaced_text (text_spelled spelling) (map view values.now))) }
 {
     let mut text = String::new(alloc);
     let Some((first, rest)) = values.split_first() else {
@@ -91,7 +91,7 @@ fn spell_into(
     out: &mut String,
 ) -> Result<(), AllocError>
     ensures { OnOk result (string_bytes out.new
-        ≡ string_bytes out.old ++ spelling_of spelling (view value.now)) }
+        ≡ string_bytes out.old ++ text_spelled spelling (view value.now)) }
 {
     match spelling {
         Spelling::Print => print_into(alloc, value, out),

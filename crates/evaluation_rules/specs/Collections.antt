@@ -30,14 +30,14 @@ values_in [] = []
 values_in (k ∷ []) = []
 values_in (k ∷ v ∷ ds) = v ∷ values_in ds
 
-abbrev pub item_at : List Datum → ℕ → Option Datum
-item_at [] n = None
-item_at (d ∷ ds) zero = Some d
-item_at (d ∷ ds) (suc n) = item_at ds n
+abbrev pub form_at : List Datum → ℕ → Option Datum
+form_at [] n = None
+form_at (d ∷ ds) zero = Some d
+form_at (d ∷ ds) (suc n) = form_at ds n
 
 -- the first key to which an equal one stands before
 abbrev pub repeated_key : List Datum → Option Datum
-repeated_key keys = option_and_then (item_at keys) (first_repeat (items_of keys))
+repeated_key keys = option_and_then (form_at keys) (first_repeat (items_of keys))
 
 abbrev pub distinct_or : Option Datum → Part Datum → Part Datum
 distinct_or (Some key) part = fails (failures.duplicate_key key)

@@ -23,7 +23,7 @@ honest_of g a kept = honest_deed g a (Some (Some kept.quiet))
 
 turn-as : (g : Ground) (w : World) (t : ℕ) (a : Actor) (kept : TenantData)
     → turns.lone_step g (lone_of w t kept) (turns.goes a)
-    ≡ turns.ended_as (deed_of g w t kept (honest_of g a kept)).store
+    ≡ turns.lone_ended (deed_of g w t kept (honest_of g a kept)).store
     (deed_of g w t kept (honest_of g a kept)).outcome
 unfolding turns.lone_step
 turn-as g w t a kept = refl
@@ -33,13 +33,13 @@ pub goes-give : (g : Ground) (w after : World) (t : ℕ) (a : Actor) (answer : S
 goes-give g w after t a answer is = by (open_in t w) refl
   where
     given : (kept : TenantData) (e : DeedResult) (outcome : Outcome) → e.outcome ≡ outcome
-        → turns.bytes_given (turns.ended_as e.store e.outcome) ≡ []
+        → turns.reply_taken (turns.lone_ended e.store e.outcome) ≡ []
         → ended_as w t e.store outcome ≡ accepted after answer → bytes_in answer ≡ []
     given kept e (refuses why) out gives never = absurd (cc)
     given kept e (leaves q x) out gives same =
         let equal : x ≡ answer = cc in
         subst (λ y. bytes_in y ≡ []) equal
-        (ap (λ o. turns.bytes_given (turns.ended_as e.store o)) (sym out) ∙ gives)
+        (ap (λ o. turns.reply_taken (turns.lone_ended e.store o)) (sym out) ∙ gives)
 
     by : (it : Option TenantData) → open_in t w ≡ it → bytes_in answer ≡ []
     by None none =
@@ -49,6 +49,6 @@ goes-give g w after t a answer is = by (open_in t w) refl
     by (Some kept) there =
         let e = deed_of g w t kept (honest_of g a kept) in
         given kept e e.outcome refl
-        (ap turns.bytes_given (sym (turn-as g w t a kept)) ∙ go-gives g (lone_of w t kept) a)
+        (ap turns.reply_taken (sym (turn-as g w t a kept)) ∙ go-gives g (lone_of w t kept) a)
         (sym (honest_deed-turn g w t a kept there ∙ step-deed g w t (honest_of g a kept) kept there)
         ∙ is)

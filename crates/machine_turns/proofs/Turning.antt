@@ -11,7 +11,7 @@ use Rattle.server_rules.specs.World.{World, accepted, refused, world_or}
 use Rattle.server_rules.specs.declared.refusal.Refusal.{Refusal}
 use Rattle.repl_core.specs.Driving.{world_after_all, with_refusal, refusals}
 use Rattle.repl_core.proofs.Driving.{world_after_all-more, serve-one, refusals-one}
-use Rattle.machine_turns.specs.Driver.{Stands, AcceptsTurn, RefusesTurn}
+use Rattle.machine_turns.specs.Driver.{DriverStands, AcceptsTurn, RefusesTurn}
 use Rattle.machine_turns.specs.Driven.{Drives, MakesTurn}
 use Rattle.machine_turns.specs.Turns.{drained_of, refused_in}
 use Rattle.machine_turns.specs.declared.driver.Driver.{Driver}
@@ -40,12 +40,12 @@ accepted-world_after g w after turn answer is = ap (world_or w) is
 -- a turn that gave a reply
 pub takes-bytes : (g : Ground) (w after : World) (place : ℕ) (turn : Turn) (d : Driver)
     (old new : Outputs) (answer : StepAnswer) (bytes : List ℕ)
-    → turn_step g w turn ≡ accepted after answer → bytes_in answer ≡ bytes → Stands g d after
+    → turn_step g w turn ≡ accepted after answer → bytes_in answer ≡ bytes → DriverStands g d after
     → drained_of new (whose turn) ≡ drained_of old (whose turn) ++ bytes
     → ((t : ℕ) → t ≢ whose turn → drained_of new t ≡ drained_of old t)
     → refused_in new ≡ refused_in old → MakesTurn g w place turn d old new
 takes-bytes g w after place turn d old new answer bytes is gives stands mine others kept = record {
-  stands = subst (Stands g d) (sym (accepted-world_after g w after turn answer is)) stands;
+  stands = subst (DriverStands g d) (sym (accepted-world_after g w after turn answer is)) stands;
   served = λ t. given-so (drained_of old t) (drained_of new t) bytes t (whose turn)
       (λ e. subst (λ u. drained_of new u ≡ drained_of old u ++ bytes) (sym e) mine)
       (others t)
@@ -58,19 +58,19 @@ takes-bytes g w after place turn d old new answer bytes is gives stands mine oth
 -- a turn that gave none
 pub takes-nothing : (g : Ground) (w after : World) (place : ℕ) (turn : Turn) (d : Driver)
     (outputs : Outputs) (answer : StepAnswer) → turn_step g w turn ≡ accepted after answer
-    → bytes_in answer ≡ [] → Stands g d after → MakesTurn g w place turn d outputs outputs
+    → bytes_in answer ≡ [] → DriverStands g d after → MakesTurn g w place turn d outputs outputs
 takes-nothing g w after place turn d outputs answer is gives stands =
     takes-bytes g w after place turn d outputs outputs answer [] is gives stands
     (sym (append-nil (drained_of outputs (whose turn)))) (λ t apart. refl) refl
 
 -- a turn that was refused
 pub takes-refused : (g : Ground) (w : World) (place : ℕ) (turn : Turn) (d : Driver)
-    (old new : Outputs) (why : Refusal) → turn_step g w turn ≡ refused why → Stands g d w
+    (old new : Outputs) (why : Refusal) → turn_step g w turn ≡ refused why → DriverStands g d w
     → ((t : ℕ) → drained_of new t ≡ drained_of old t)
     → refused_in new ≡ refused_in old ++ record { place = place; why = why } ∷ []
     → MakesTurn g w place turn d old new
 takes-refused g w place turn d old new why is stands same noted = record {
-  stands = subst (Stands g d) (sym (ap (world_or w) is)) stands;
+  stands = subst (DriverStands g d) (sym (ap (world_or w) is)) stands;
   served = λ t. same t ∙ nothing-so (drained_of old t) t (whose turn)
       ∙ ap (λ s. drained_of old t ++ (if t == whose turn then rules.bytes_given s else [])) (sym is);
   refused = noted ∙ ap (λ s. refused_in old ++ with_refusal place s []) (sym is);
@@ -78,7 +78,7 @@ takes-refused g w place turn d old new why is stands same noted = record {
 
 -- All turns
 
-pub drives-none : (g : Ground) (w : World) (d : Driver) (o : Outputs) → Stands g d w
+pub drives-none : (g : Ground) (w : World) (d : Driver) (o : Outputs) → DriverStands g d w
     → ((t : ℕ) → drained_of o t ≡ []) → refused_in o ≡ [] → Drives g w [] d o
 drives-none g w d o stands none unrefused = record {
   stands = stands;
@@ -89,7 +89,7 @@ pub drives-more : (g : Ground) (w : World) (place : ℕ) (turns : List Turn) (tu
     (before d : Driver) (old new : Outputs) → Drives g w turns before old → length turns ≡ place
     → MakesTurn g (world_after_all g w turns) place turn d old new → Drives g w (turns ++ turn ∷ []) d new
 drives-more g w place turns turn before d old new on count takes = record {
-  stands = subst (Stands g d) (sym (world_after_all-more g w turns (turn ∷ []))) takes.stands;
+  stands = subst (DriverStands g d) (sym (world_after_all-more g w turns (turn ∷ []))) takes.stands;
   is = record {
     served = λ t. takes.served t
         ∙ ap (λ b. b ++ (if t == whose turn

@@ -5,7 +5,7 @@ use Rattle.server_rules.specs.Turns.{Turn, whose, turn_step, world_after, serve}
 use Rattle.server_rules.specs.Turns as rules
 use Rattle.server_rules.specs.World.{World}
 use Rattle.repl_core.specs.Driving.{world_after_all, with_refusal, refusals}
-use Rattle.machine_turns.specs.Driver.{Stands}
+use Rattle.machine_turns.specs.Driver.{DriverStands}
 use Rattle.machine_turns.specs.Turns.{drained_of, refused_in}
 use Rattle.machine_turns.specs.declared.driver.Driver.{Driver}
 use Rattle.machine_turns.specs.declared.outputs.Outputs.{Outputs}
@@ -18,14 +18,14 @@ pub record IsDriven (g : Ground) (w : World) (turns : List Turn) (o : Outputs) :
 -- and the server is the one behind them
 pub record Drives (g : Ground) (w : World) (turns : List Turn) (d : Driver) (o : Outputs)
     : Type 0 where
-  pub stands : Stands g d (world_after_all g w turns)
+  pub stands : DriverStands g d (world_after_all g w turns)
   pub is : IsDriven g w turns o
 
 -- one turn more, at this place
 pub record MakesTurn (g : Ground) (w : World) (place : ℕ) (turn : Turn) (d : Driver)
     (old new : Outputs)
     : Type 0 where
-  pub stands : Stands g d (world_after g w turn)
+  pub stands : DriverStands g d (world_after g w turn)
   pub served : (t : ℕ) → drained_of new t ≡ drained_of old t
       ++ (if t == whose turn then rules.bytes_given (turn_step g w turn) else [])
   pub refused : refused_in new ≡ refused_in old ++ with_refusal place (turn_step g w turn) []

@@ -12,10 +12,10 @@ use Rattle.repl_core.specs.Standing.{open_in}
 use Rattle.machine_turns.specs.declared.driver.Driver.{Driver}
 use Rattle.machine_turns.specs.AllWalks.{walks_at, IsWalkedAt}
 
-pub record Stands (g : Ground) (d : Driver) (w : World) : Type 0 where
+pub record DriverStands (g : Ground) (d : Driver) (w : World) : Type 0 where
   pub right : IsRight g
   pub ground : Evaluates g
-  pub machine : machine.Stands g d.machine w
+  pub machine : machine.MachineStands g d.machine w
   pub walked : (t : ℕ) → IsWalkedAt (walks_at d.kept t) (open_in t w)
 
 -- the turn is accepted and gives these bytes
@@ -25,10 +25,10 @@ pub record AcceptsTurn (g : Ground) (w : World) (turn : Turn) (d : Driver)
   pub answer : StepAnswer
   pub accepted : turn_step g w turn ≡ accepted after answer
   pub gives : bytes_in answer ≡ bytes
-  pub stands : Stands g d after
+  pub stands : DriverStands g d after
 
 -- the turn is refused so
 pub record RefusesTurn (g : Ground) (w : World) (turn : Turn) (d : Driver)
     (why : Refusal) : Type 0 where
   pub refused : turn_step g w turn ≡ refused why
-  pub stands : Stands g d w
+  pub stands : DriverStands g d w

@@ -21,13 +21,13 @@ turn_view (Turn.Drain t) = given (does t drains)
 turn_view (Turn.Bye t) = given (closes t)
 
 -- the bytes that a turn gave
-abbrev pub bytes_given : Option (Vec ℕ Global) → List ℕ
-bytes_given None = []
-bytes_given (Some bytes) = bytes.items
+abbrev pub piece_given : Option (Vec ℕ Global) → List ℕ
+piece_given None = []
+piece_given (Some bytes) = bytes.items
 
 -- all that were drained of a tenant
 abbrev pub drained_of : Outputs → ℕ → List ℕ
-drained_of outputs t = bytes_given (get nat_cmp outputs.drained t)
+drained_of outputs t = piece_given (get nat_cmp outputs.drained t)
 
 abbrev pub refused_view : RefusedTurn → RefusedData
 refused_view it = record { place = it.place; why = it.why }

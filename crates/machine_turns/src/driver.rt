@@ -6,7 +6,7 @@ ghost use Rattle.server_rules.specs.World.{World, new_world};
 ghost use Rattle.repl_core.specs.Going.{StepKeepsForms};
 ghost use Rattle.repl_core.specs.Steps.{step_view, step_answer_view};
 ghost use Rattle.machine_turns.specs.Configured.{IsConfigured};
-ghost use Rattle.machine_turns.specs.Turns.{turn_view, bytes_given};
+ghost use Rattle.machine_turns.specs.Turns.{turn_view, piece_given};
 
 use crate::all_walks::AllWalks;
 use crate::turn::Turn;
@@ -23,10 +23,10 @@ pub(crate) struct Driver {
 }
 
 impl Driver {
-    ghost use Rattle.machine_turns.specs.Driver.{Stands, AcceptsTurn, RefusesTurn};
+    ghost use Rattle.machine_turns.specs.Driver.{DriverStands, AcceptsTurn, RefusesTurn};
 
     pub(crate) fn new(alloc: Global, config: Config) -> Driver
-        ensures { (g : Ground) → IsConfigured g config → Stands g result (new_world []) }
+        ensures { (g : Ground) → IsConfigured g config → DriverStands g result (new_world []) }
     {
         Driver {
             alloc,
@@ -38,9 +38,9 @@ impl Driver {
     /// Makes a turn, and gives the reply where one was taken out. Where memory is wanted, the
     /// evaluations of a tenant may be lost.
     pub(crate) fn turn(&mut self, turn: &Turn) -> Result<Option<Vec<u8>>, Refusal>
-        ensures done { (g : Ground) (w : World) → Stands g self.old w → IfOk result
-            (λ it. AcceptsTurn g w (turn_view turn.now) self.new (bytes_given it)) }
-        ensures refused { (g : Ground) (w : World) → Stands g self.old w → IfErr result
+        ensures done { (g : Ground) (w : World) → DriverStands g self.old w → IfOk result
+            (λ it. AcceptsTurn g w (turn_view turn.now) self.new (piece_given it)) }
+        ensures refused { (g : Ground) (w : World) → DriverStands g self.old w → IfErr result
             (λ why. why ≢ Refusal.NoMemory → RefusesTurn g w (turn_view turn.now) self.new why) }
     {
         match turn {
@@ -55,9 +55,9 @@ impl Driver {
     // Makes a step by which no form goes on.
     fn step(&mut self, step: Step) -> Result<Option<Vec<u8>>, Refusal>
         requires { StepKeepsForms (step_view step) }
-        ensures done { (g : Ground) (w : World) → Stands g self.old w → IfOk result
-            (λ it. AcceptsTurn g w (given (step_view step)) self.new (bytes_given it)) }
-        ensures refused { (g : Ground) (w : World) → Stands g self.old w → IfErr result
+        ensures done { (g : Ground) (w : World) → DriverStands g self.old w → IfOk result
+            (λ it. AcceptsTurn g w (given (step_view step)) self.new (piece_given it)) }
+        ensures refused { (g : Ground) (w : World) → DriverStands g self.old w → IfErr result
             (λ why. why ≢ Refusal.NoMemory
             → RefusesTurn g w (given (step_view step)) self.new why) }
     {
@@ -69,9 +69,9 @@ impl Driver {
 
     // An actor goes on.
     fn go(&mut self, number: u64, actor: Actor) -> Result<Option<Vec<u8>>, Refusal>
-        ensures done { (g : Ground) (w : World) → Stands g self.old w → IfOk result
-            (λ it. AcceptsTurn g w (goes number actor) self.new (bytes_given it)) }
-        ensures refused { (g : Ground) (w : World) → Stands g self.old w → IfErr result
+        ensures done { (g : Ground) (w : World) → DriverStands g self.old w → IfOk result
+            (λ it. AcceptsTurn g w (goes number actor) self.new (piece_given it)) }
+        ensures refused { (g : Ground) (w : World) → DriverStands g self.old w → IfErr result
             (λ why. why ≢ Refusal.NoMemory → RefusesTurn g w (goes number actor) self.new why) }
     {
         let mut walks = self.kept.take(self.alloc, number);
@@ -86,7 +86,7 @@ impl Driver {
 
 // The reply that was taken out.
 fn reply_in(answer: StepAnswer) -> Option<Vec<u8>>
-    ensures { bytes_given result ≡ bytes_in (step_answer_view answer) }
+    ensures { piece_given result ≡ bytes_in (step_answer_view answer) }
 {
     match answer {
         StepAnswer::Bytes(bytes) => Some(bytes),

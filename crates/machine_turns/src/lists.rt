@@ -3,7 +3,7 @@ ghost use Rattle.std.specs.Prelude.{[], map, IfOk, OnOk};
 ghost use Rattle.server_rules.specs.Ground.{Ground};
 ghost use Rattle.server_rules.specs.World.{World, new_world};
 ghost use Rattle.machine_turns.specs.Configured.{IsConfigured};
-ghost use Rattle.machine_turns.specs.Driver.{Stands};
+ghost use Rattle.machine_turns.specs.Driver.{DriverStands};
 ghost use Rattle.machine_turns.specs.Driven.{IsDriven, MakesTurn};
 ghost use Rattle.machine_turns.specs.Turns.{turn_view};
 
@@ -37,7 +37,7 @@ fn make_turn(
     place: usize,
     turn: &Turn,
 ) -> Result<(), AllocError>
-    ensures { (g : Ground) (w : World) → Stands g driver.old w → OnOk result
+    ensures { (g : Ground) (w : World) → DriverStands g driver.old w → OnOk result
         (MakesTurn g w place (turn_view turn.now) driver.new outputs.old outputs.new) }
 {
     match driver.turn(turn) {

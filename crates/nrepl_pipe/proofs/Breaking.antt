@@ -3,7 +3,7 @@ use Rattle.std.proofs.Common.{◌≡◌, ℕ, ◌⊎◌, inl, inr, List, [], ◌
 use Rattle.std.proofs.Common.{append_assoc, append-nil, Option}
 use Rattle.std.specs.Io.KnownBytes.{Consumes}
 use Rattle.std.proofs.KnownBytes.{Appends-nil, Appends-trans}
-use Rattle.bencode_wire.specs.Spelling.{joined}
+use Rattle.bencode_wire.specs.Spelling.{spellings_joined}
 use Rattle.server_rules.specs.Ground.{Ground}
 use Rattle.tenant_turns.specs.Turns.{Lone, LoneTurn, hears, lone_after, lone_run, lone_served}
 use Rattle.nrepl_pipe.specs.Schedule.{AreRounds}
@@ -22,9 +22,9 @@ begins-all : (g : Ground) (Old : Lone → Type 0) (q : Lone)
     → Consumes left less []
     → Moves unread less held holds (λ read written. BeginsToServe g q read written)
 begins-all g Old q unread left less held holds on consumes = (
-  joined on.pieces,
+  spellings_joined on.pieces,
   lone_served g q on.turns,
-  consumes-all unread left less (joined on.pieces) on.consumes consumes,
+  consumes-all unread left less (spellings_joined on.pieces) on.consumes consumes,
   on.appends,
   record {
     pieces = on.pieces;
@@ -46,7 +46,7 @@ begins-last : (g : Ground) (Old : Lone → Type 0) (q : Lone)
 begins-last g Old q unread left less held holds grown piece rounds on is consumes are begun =
     let now = lone_run g q on.turns in
     let turns : List LoneTurn = hears piece ∷ rounds in (
-      joined (on.pieces ++ piece ∷ []),
+      spellings_joined (on.pieces ++ piece ∷ []),
       lone_served g q on.turns ++ begun.written,
       consumes-more unread left less on.pieces piece on.consumes consumes,
       Appends-trans held holds grown (lone_served g q on.turns) begun.written on.appends begun.appends,

@@ -9,7 +9,7 @@ use Rattle.server_rules.specs.Deeds.{drain_outcome}
 use Rattle.server_rules.specs.declared.refusal.Refusal.{Refusal}
 use Rattle.tenant_turns.specs.DeedResult.{deed_result}
 use Rattle.tenant_turns.specs.Turns.{Lone, LoneTurn, drains, LoneStepped, accepted, refused}
-use Rattle.tenant_turns.specs.Turns.{ended_as, lone_step, lone_or, lone_after, lone_run}
+use Rattle.tenant_turns.specs.Turns.{lone_ended, lone_step, lone_or, lone_after, lone_run}
 use Rattle.tenant_turns.specs.Turns.{lone_served}
 use Rattle.nrepl_pipe.specs.Schedule.{drain_all, MeetsWorn}
 use Rattle.nrepl_pipe.specs.Inside.Parts.{Makes, Begins}
@@ -20,7 +20,7 @@ abbrev pub left : List ReplyData → Lone → Lone
 left replies q = record { quiet = record q.quiet { replies = replies }; store = q.store }
 
 abbrev pub taken_out : Lone → List ReplyData → LoneStepped
-taken_out q replies = ended_as q.store (drain_outcome q.quiet replies)
+taken_out q replies = lone_ended q.store (drain_outcome q.quiet replies)
 
 lone_step-drains : (g : Ground) (q : Lone) → lone_step g q drains ≡ taken_out q q.quiet.replies
 unfolding lone_step deed_result

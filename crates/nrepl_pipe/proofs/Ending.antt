@@ -3,11 +3,11 @@ use Rattle.std.proofs.Common.{◌≡◌, ℕ, ◌⊎◌, inl, inr, ◌==◌, Lis
 use Rattle.std.proofs.Common.{subst, append-nil, Option}
 use Rattle.std.specs.Io.KnownBytes.{Consumes, Appends}
 use Rattle.std.proofs.KnownBytes.{Appends-nil, Appends-trans, Consumes-trans}
-use Rattle.bencode_wire.specs.Spelling.{joined}
+use Rattle.bencode_wire.specs.Spelling.{spellings_joined}
 use Rattle.server_rules.specs.Ground.{Ground}
 use Rattle.server_rules.specs.declared.refusal.Refusal.{Refusal}
 use Rattle.tenant_turns.specs.Turns.{Lone, LoneTurn, hears, refused, lone_step, lone_or}
-use Rattle.tenant_turns.specs.Turns.{bytes_given, lone_after, lone_run, lone_served}
+use Rattle.tenant_turns.specs.Turns.{reply_taken, lone_after, lone_run, lone_served}
 use Rattle.nrepl_pipe.specs.Schedule.{round, AreRounds, last, MeetsWorn, IsSchedule, stream_end}
 use Rattle.nrepl_pipe.specs.Schedule.{IsEnd}
 use Rattle.nrepl_pipe.specs.Served.{Moves, Serves}
@@ -17,7 +17,7 @@ use Rattle.nrepl_pipe.specs.declared.ends.PipeEnd.{PipeEnd}
 use Rattle.nrepl_pipe.proofs.Turns.{lone_served-append, meets-behind, meets-neither}
 use Rattle.nrepl_pipe.proofs.Hearing.{refused-worn, TakesIn}
 use Rattle.nrepl_pipe.proofs.Lasting.{worn-round}
-use Rattle.nrepl_pipe.proofs.Serving.{Serving, pieces-append, joined-append, schedule-last}
+use Rattle.nrepl_pipe.proofs.Serving.{Serving, pieces-append, spellings_joined-append, schedule-last}
 use Rattle.nrepl_pipe.proofs.Serving.{consumes-more, lone_served-heard}
 
 -- the schedule of the pieces so far
@@ -42,9 +42,9 @@ pub serves-all : (g : Ground) (Old : Lone → Type 0) (q : Lone)
     → end ≡ stream_end (g.readings.stream (lone_run g q on.turns).quiet.heard).ending
     → Moves unread less held holds (λ read written. Serves g q read written end)
 serves-all g Old q unread left less held holds end on consumes is = (
-  joined on.pieces,
+  spellings_joined on.pieces,
   lone_served g q on.turns,
-  consumes-all unread left less (joined on.pieces) on.consumes consumes,
+  consumes-all unread left less (spellings_joined on.pieces) on.consumes consumes,
   on.appends,
   record {
     pieces = on.pieces;
@@ -93,7 +93,7 @@ serves-last g Old q unread left less held holds grown piece rounds end on is con
     ends =
     let now = lone_run g q on.turns in
     let turns : List LoneTurn = hears piece ∷ rounds in (
-      joined (on.pieces ++ piece ∷ []),
+      spellings_joined (on.pieces ++ piece ∷ []),
       lone_served g q on.turns ++ lone_served g now turns,
       consumes-more unread left less on.pieces piece on.consumes consumes,
       Appends-trans held holds grown (lone_served g q on.turns) (lone_served g now turns) on.appends appends,
@@ -104,8 +104,8 @@ serves-last g Old q unread left less held holds grown piece rounds end on is con
         cutting = refl;
         schedule = on.closes (piece ∷ []) turns (schedule-last g now piece rounds are);
         written_is = sym (lone_served-append g q on.turns turns);
-        is_end = ends-with g q on.turns turns (joined on.pieces) piece
-            (joined (on.pieces ++ piece ∷ [])) end on.never_worn (joined-append on.pieces piece)
+        is_end = ends-with g q on.turns turns (spellings_joined on.pieces) piece
+            (spellings_joined (on.pieces ++ piece ∷ [])) end on.never_worn (spellings_joined-append on.pieces piece)
             on.heard ends;
       },
     )
@@ -138,7 +138,7 @@ serves-worn g Old q unread left less held holds piece on is consumes worn =
     let none : v.quiet.replies ≡ [] = ap (λ (u : Lone). u.quiet.replies) same ∙ on.empty in
     let stops = worn-round g v (ap (λ (u : Lone). u.quiet.steps == 0) same ∙ used) none in
     let nothing : lone_served g now (hears piece ∷ round g v) ≡ [] =
-    lone_served-heard g now piece (round g v) (ap bytes_given worn) ∙ stops.1 in
+    lone_served-heard g now piece (round g v) (ap reply_taken worn) ∙ stops.1 in
     serves-last g Old q unread left less held holds holds piece (round g v) PipeEnd.Worn on is
     consumes (last v stops.0) (subst (Appends holds holds) (sym nothing) (Appends-nil holds))
     (inl (inl worn, refl))

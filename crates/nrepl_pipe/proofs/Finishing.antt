@@ -3,7 +3,7 @@ use Rattle.std.proofs.Common.{◌≡◌, ℕ, Bool, true, false, if◌then◌els
 use Rattle.repl_asks.specs.Exchange.{AskData, AnswerData}
 use Rattle.server_rules.specs.Ground.{Ground}
 use Rattle.server_rules.specs.Request.{Hand, Run}
-use Rattle.server_rules.specs.Tenant.{ActorData, seat_of, Quiet, is_held, state_of}
+use Rattle.server_rules.specs.Tenant.{ActorData, seat_of, Quiet, is_held, actor_state}
 use Rattle.server_rules.specs.Calls.{gives_up}
 use Rattle.server_rules.specs.Plan.{Outcome, refuses, leaves, form_finished, Plan}
 use Rattle.repl_jobs.specs.Job.{EndingData}
@@ -67,7 +67,7 @@ compared-so : (a : Actor) (actor : ActorData) (h : Hand) (e : EndingData) (q : Q
 compared-so a actor h e q false difference told = λ e. cc
 compared-so a actor h e q true (Some place) told = λ e. cc
 compared-so a actor h e q true None told =
-    accepted-so a actor (form_ended h e.end (state_of a q)) q told
+    accepted-so a actor (form_ended h e.end (actor_state a q)) q told
 
 held_end-so : (q : Quiet) (p : Plan) (held : Bool) → is_held q ≡ held → PlansSo q p
     → PlansSo q (if held then quietly (refuses Refusal.Held) else p)

@@ -19,8 +19,8 @@ use Rattle.server_rules.specs.Turns.{honest_deed, honest_at, honest_of, honest_i
 use Rattle.server_rules.specs.declared.actor.Actor.{Actor}
 use Rattle.server_rules.specs.declared.refusal.Refusal.{Refusal}
 use Rattle.tenant_turns.specs.DeedResult.{carried_out, deed_result}
-use Rattle.tenant_turns.specs.Turns.{Lone, goes, LoneStepped, accepted, refused, ended_as}
-use Rattle.tenant_turns.specs.Turns.{stepped_as, lone_step, lone_or, bytes_given, lone_after}
+use Rattle.tenant_turns.specs.Turns.{Lone, goes, LoneStepped, accepted, refused, lone_ended}
+use Rattle.tenant_turns.specs.Turns.{stepped_as, lone_step, lone_or, reply_taken, lone_after}
 use Rattle.nrepl_pipe.proofs.Starting.{PlansSo, GoesSo, start-so}
 use Rattle.nrepl_pipe.proofs.Finishing.{asked-so, ended-so}
 
@@ -101,7 +101,7 @@ one-less zero m some is = cc
 one-less (suc n) m some is = omega arith
 
 outcome-steps : (l : Lone) (s : Store) (o : Outcome) → (l.quiet.steps == 0) ≡ false
-    → GoesSo l.quiet o → StepsSo l (ended_as s o)
+    → GoesSo l.quiet o → StepsSo l (lone_ended s o)
 outcome-steps l s (refuses why) some so = so
 outcome-steps l s (leaves new answer) some so =
     (one-less l.quiet.steps new.steps some so.0, so.1, so.2)
@@ -139,11 +139,11 @@ go-worn g l a none = lone_step-acts g l a
     ∙ ap (λ worn. stepped_as (carried_out l.store
     (worn_plan (honest_deed-acts g l.store.tenant a l.quiet).plan_is worn))) none
 
-steps-give : (l : Lone) (s : LoneStepped) → StepsSo l s → bytes_given s ≡ []
+steps-give : (l : Lone) (s : LoneStepped) → StepsSo l s → reply_taken s ≡ []
 steps-give l (accepted new bytes) so = so.2
 steps-give l (refused why) so = refl
 
-pub go-gives : (g : Ground) (l : Lone) (a : Actor) → bytes_given (lone_step g l (goes a)) ≡ []
+pub go-gives : (g : Ground) (l : Lone) (a : Actor) → reply_taken (lone_step g l (goes a)) ≡ []
 go-gives g l a = steps-give l (lone_step g l (goes a)) (go-steps g l a)
 
 steps-heard : (l : Lone) (s : LoneStepped) → StepsSo l s

@@ -12,8 +12,8 @@ use Rattle.server_rules.specs.Turns.{bytes_in}
 use Rattle.server_rules.specs.declared.refusal.Refusal.{Refusal}
 use Rattle.tenant_turns.specs.DeedResult.{carried_out, deed_result}
 use Rattle.tenant_turns.specs.Inside.Turned.{Accepted}
-use Rattle.tenant_turns.specs.Turns.{Lone, hears, LoneStepped, accepted, refused, ended_as}
-use Rattle.tenant_turns.specs.Turns.{stepped_as, lone_step, lone_or, bytes_given, lone_after}
+use Rattle.tenant_turns.specs.Turns.{Lone, hears, LoneStepped, accepted, refused, lone_ended}
+use Rattle.tenant_turns.specs.Turns.{stepped_as, lone_step, lone_or, reply_taken, lone_after}
 use Rattle.nrepl_pipe.specs.Inside.Fresh.{IsReady}
 use Rattle.nrepl_pipe.proofs.Messages.{taken_in-heard}
 
@@ -62,7 +62,7 @@ PieceSo g l piece (accepted new bytes) =
     (new.quiet.heard ≡ l.quiet.heard ++ piece) × (bytes ≡ [])
 
 outcome-piece : (g : Ground) (l : Lone) (s : Store) (piece : List ℕ) (o : Outcome)
-    → HeardSo g l.quiet piece o → PieceSo g l piece (ended_as s o)
+    → HeardSo g l.quiet piece o → PieceSo g l piece (lone_ended s o)
 outcome-piece g l s piece (refuses why) so = so
 outcome-piece g l s piece (leaves new answer) so = so
 
@@ -94,7 +94,7 @@ refused-worn g l piece why ready is =
 pub record TakesIn (g : Ground) (Stands : Lone → Type 0) (l : Lone) (piece : List ℕ)
     : Type 0 where
   pub stands : Stands (lone_after g l (hears piece))
-  pub gives : bytes_given (lone_step g l (hears piece)) ≡ []
+  pub gives : reply_taken (lone_step g l (hears piece)) ≡ []
   pub not_worn : lone_step g l (hears piece) ≢ refused Refusal.Worn
   pub heard : (lone_after g l (hears piece)).quiet.heard ≡ l.quiet.heard ++ piece
 
@@ -105,7 +105,7 @@ takes-in_by g Stands l piece (accepted new bytes) is so stands =
     let same : lone_after g l (hears piece) ≡ new = ap (lone_or l) is in
     record {
       stands = subst Stands (sym same) stands;
-      gives = ap bytes_given is ∙ so.1;
+      gives = ap reply_taken is ∙ so.1;
       not_worn = λ (worn : lone_step g l (hears piece) ≡ refused Refusal.Worn).
           let both : accepted new bytes ≡ refused Refusal.Worn = sym is ∙ worn in cc;
       heard = ap (λ (v : Lone). v.quiet.heard) same ∙ so.0;

@@ -3,12 +3,12 @@ use Rattle.std.proofs.Common.{◌≡◌, ◌≢◌, ℕ, inl, inr, List, [], ◌
 use Rattle.std.proofs.Common.{append_assoc, append-nil, Option, None}
 use Rattle.std.specs.Io.KnownBytes.{Consumes, Appends}
 use Rattle.std.proofs.KnownBytes.{Appends-nil, Appends-trans, Consumes-nil, Consumes-trans}
-use Rattle.bencode_wire.specs.Spelling.{joined}
+use Rattle.bencode_wire.specs.Spelling.{spellings_joined}
 use Rattle.server_rules.specs.Ground.{Ground}
 use Rattle.server_rules.specs.Hearing.{stream_fault}
 use Rattle.server_rules.specs.declared.refusal.Refusal.{Refusal}
 use Rattle.tenant_turns.specs.Grounds.{IsRight}
-use Rattle.tenant_turns.specs.Turns.{Lone, LoneTurn, hears, refused, lone_step, bytes_given}
+use Rattle.tenant_turns.specs.Turns.{Lone, LoneTurn, hears, refused, lone_step, reply_taken}
 use Rattle.tenant_turns.specs.Turns.{lone_after, lone_run, lone_served}
 use Rattle.nrepl_pipe.specs.Schedule.{ArePieces, AreRounds, MeetsWorn, IsSchedule}
 use Rattle.nrepl_pipe.specs.Inside.Fresh.{IsFresh}
@@ -26,12 +26,12 @@ pub pieces-append : (pieces : List (List ℕ)) (piece : List ℕ) → ArePieces 
 pieces-append [] piece are is = (is.0, is.1, tt)
 pieces-append (p ∷ pieces) piece are is = (are.0, are.1, pieces-append pieces piece are.2 is)
 
-pub joined-append : (pieces : List (List ℕ)) (piece : List ℕ)
-    → joined (pieces ++ piece ∷ []) ≡ joined pieces ++ piece
-joined-append [] piece = append-nil piece
-joined-append (p ∷ pieces) piece =
-    ap (λ (bytes : List ℕ). p ++ bytes) (joined-append pieces piece)
-    ∙ sym (append_assoc p (joined pieces) piece)
+pub spellings_joined-append : (pieces : List (List ℕ)) (piece : List ℕ)
+    → spellings_joined (pieces ++ piece ∷ []) ≡ spellings_joined pieces ++ piece
+spellings_joined-append [] piece = append-nil piece
+spellings_joined-append (p ∷ pieces) piece =
+    ap (λ (bytes : List ℕ). p ++ bytes) (spellings_joined-append pieces piece)
+    ∙ sym (append_assoc p (spellings_joined pieces) piece)
 
 pub schedule-last : (g : Ground) (now : Lone) (piece : List ℕ) (rounds : List LoneTurn)
     → AreRounds g (lone_after g now (hears piece)) rounds
@@ -52,12 +52,12 @@ pub record Serving (g : Ground) (Stands : Lone → Type 0) (q : Lone)
   pub pieces : List (List ℕ)
   pub turns : List LoneTurn
   pub are_pieces : ArePieces pieces
-  pub consumes : Consumes unread left (joined pieces)
+  pub consumes : Consumes unread left (spellings_joined pieces)
   pub appends : Appends held holds (lone_served g q turns)
   pub stands : Stands (lone_run g q turns)
   pub never_worn : MeetsWorn g q turns → ⊥
   pub no_fault : stream_fault g.readings (lone_run g q turns).quiet.heard ≡ None
-  pub heard : (lone_run g q turns).quiet.heard ≡ joined pieces
+  pub heard : (lone_run g q turns).quiet.heard ≡ spellings_joined pieces
   pub empty : (lone_run g q turns).quiet.replies ≡ []
   -- where the rest comes to from here, all comes to from the start
   pub closes : (more : List (List ℕ)) (behind : List LoneTurn)
@@ -84,14 +84,14 @@ serving-none g Stands q unread held right stands fresh = record {
 -- One more piece
 
 pub consumes-more : (unread left less : Option (List ℕ)) (pieces : List (List ℕ)) (piece : List ℕ)
-    → Consumes unread left (joined pieces) → Consumes left less piece
-    → Consumes unread less (joined (pieces ++ piece ∷ []))
+    → Consumes unread left (spellings_joined pieces) → Consumes left less piece
+    → Consumes unread less (spellings_joined (pieces ++ piece ∷ []))
 consumes-more unread left less pieces piece first second =
-    subst (Consumes unread less) (sym (joined-append pieces piece))
-    (Consumes-trans unread left less (joined pieces) piece first second)
+    subst (Consumes unread less) (sym (spellings_joined-append pieces piece))
+    (Consumes-trans unread left less (spellings_joined pieces) piece first second)
 
 pub lone_served-heard : (g : Ground) (now : Lone) (piece : List ℕ) (rounds : List LoneTurn)
-    → bytes_given (lone_step g now (hears piece)) ≡ []
+    → reply_taken (lone_step g now (hears piece)) ≡ []
     → lone_served g now (hears piece ∷ rounds) ≡ lone_served g (lone_after g now (hears piece)) rounds
 lone_served-heard g now piece rounds gives =
     ap (λ (bytes : List ℕ). bytes ++ lone_served g (lone_after g now (hears piece)) rounds) gives
@@ -136,7 +136,7 @@ serving-more g Old Mid New q unread left less held holds grown piece on is consu
       no_fault = ap (λ (v : Lone). stream_fault g.readings v.quiet.heard) gone ∙ clean;
       heard =
           ap (λ (v : Lone). v.quiet.heard) gone ∙ rounds-heard g then_on rounds made.1 ∙ taken.heard
-          ∙ ap (λ (bytes : List ℕ). bytes ++ piece) on.heard ∙ sym (joined-append on.pieces piece);
+          ∙ ap (λ (bytes : List ℕ). bytes ++ piece) on.heard ∙ sym (spellings_joined-append on.pieces piece);
       empty = ap (λ (v : Lone). v.quiet.replies) gone ∙ rounds-empty g then_on rounds made.1;
       closes = λ (more : List (List ℕ)) (behind : List LoneTurn)
           (schedule : IsSchedule g (lone_run g q (on.turns ++ turns)) more behind).

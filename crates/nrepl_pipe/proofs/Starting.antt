@@ -13,7 +13,7 @@ use Rattle.server_rules.specs.Readings.{ProgramData}
 use Rattle.server_rules.specs.Ground.{Ground}
 use Rattle.server_rules.specs.Request.{Waiting, ProgramText, code, file, Manner, Hand, each_form}
 use Rattle.server_rules.specs.Request.{each_form_elsewhere, last_form}
-use Rattle.server_rules.specs.Tenant.{ActorData, Quiet, is_held, state_of}
+use Rattle.server_rules.specs.Tenant.{ActorData, Quiet, is_held, actor_state}
 use Rattle.server_rules.specs.Plan.{Outcome, refuses, leaves, Plan}
 use Rattle.server_rules.specs.Starting.{Started, next_begun, program_begun, elsewhere_begun}
 use Rattle.server_rules.specs.Starting.{hand_of, code_begun, text_begun, namespace_there}
@@ -82,11 +82,11 @@ next-so : (g : Ground) (a : Actor) (actor : ActorData) (h : Hand) (q : Quiet)
     → GoesSo q (next_form_of g a actor h q)
 next-so g a actor h q = by actor.is_closed where
   by : (closed : Bool) → GoesSo q (if closed then interrupted_in a h q
-      else held_or q (start_outcome a actor (next_begun g h (state_of a q) h.forms) q))
+      else held_or q (start_outcome a actor (next_begun g h (actor_state a q) h.forms) q))
   by true = (refl, refl, refl)
-  by false = held-so q (start_outcome a actor (next_begun g h (state_of a q) h.forms) q)
-      (start_outcome-so a actor (next_begun g h (state_of a q) h.forms) q
-      (begun-so g h (state_of a q) h.forms))
+  by false = held-so q (start_outcome a actor (next_begun g h (actor_state a q) h.forms) q)
+      (start_outcome-so a actor (next_begun g h (actor_state a q) h.forms) q
+      (begun-so g h (actor_state a q) h.forms))
 
 waiting-so : (g : Ground) (a : Actor) (actor : ActorData) (q : Quiet) (ws : List Waiting)
     → GoesSo q (start_waiting g a actor q ws)

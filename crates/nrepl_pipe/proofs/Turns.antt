@@ -3,7 +3,7 @@ use Rattle.std.proofs.Common.{◌≡◌, ℕ, ◌⊎◌, inl, inr, List, [], ◌
 use Rattle.std.proofs.Common.{append_assoc}
 use Rattle.server_rules.specs.Ground.{Ground}
 use Rattle.tenant_turns.specs.Turns.{Lone, LoneTurn, LoneStepped, accepted, lone_step, lone_or}
-use Rattle.tenant_turns.specs.Turns.{bytes_given, lone_after, lone_run, lone_served}
+use Rattle.tenant_turns.specs.Turns.{reply_taken, lone_after, lone_run, lone_served}
 use Rattle.nrepl_pipe.specs.Schedule.{AllRest, MeetsWorn}
 
 pub lone_run-append : (g : Ground) (q : Lone) (xs ys : List LoneTurn)
@@ -16,15 +16,15 @@ pub lone_served-append : (g : Ground) (q : Lone) (xs ys : List LoneTurn)
 lone_served-append g q [] ys = refl
 lone_served-append g q (x ∷ xs) ys =
     let v = lone_after g q x in
-    ap (λ (bytes : List ℕ). bytes_given (lone_step g q x) ++ bytes) (lone_served-append g v xs ys)
-    ∙ sym (append_assoc (bytes_given (lone_step g q x)) (lone_served g v xs) (lone_served g (lone_run g v xs) ys))
+    ap (λ (bytes : List ℕ). reply_taken (lone_step g q x) ++ bytes) (lone_served-append g v xs ys)
+    ∙ sym (append_assoc (reply_taken (lone_step g q x)) (lone_served g v xs) (lone_served g (lone_run g v xs) ys))
 
 -- a turn that was accepted, and others behind it
 pub lone_served-first : (g : Ground) (q now : Lone) (bytes : List ℕ) (turn : LoneTurn)
     (turns all : List LoneTurn) → lone_step g q turn ≡ accepted now bytes → all ≡ turn ∷ turns
     → lone_served g q all ≡ bytes ++ lone_served g now turns
 lone_served-first g q now bytes turn turns all is whole =
-    ap (lone_served g q) whole ∙ ap (λ (s : LoneStepped). bytes_given s ++ lone_served g (lone_or q s) turns) is
+    ap (lone_served g q) whole ∙ ap (λ (s : LoneStepped). reply_taken s ++ lone_served g (lone_or q s) turns) is
 
 pub lone_run-first : (g : Ground) (q now : Lone) (bytes : List ℕ) (turn : LoneTurn) (turns all : List LoneTurn)
     → lone_step g q turn ≡ accepted now bytes → all ≡ turn ∷ turns → lone_run g q all ≡ lone_run g now turns

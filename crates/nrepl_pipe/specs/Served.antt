@@ -1,7 +1,7 @@
 -- What `pipe` serves: `read` was taken from the reader, and `written` was given to the writer.
 use Rattle.std.specs.Prelude.{◌≡◌, ℕ, List, ◌++◌, ⊤, Option, Result, Ok, Err}
 use Rattle.std.specs.Io.KnownBytes.{Consumes, Appends, IsAtEnd}
-use Rattle.bencode_wire.specs.Spelling.{joined}
+use Rattle.bencode_wire.specs.Spelling.{spellings_joined}
 use Rattle.server_rules.specs.Ground.{Ground}
 use Rattle.tenant_turns.specs.Turns.{Lone, LoneTurn, lone_served}
 use Rattle.nrepl_pipe.specs.Schedule.{ArePieces, IsSchedule, IsEnd}
@@ -14,7 +14,7 @@ pub record Serves (g : Ground) (l : Lone) (read written : List ℕ) (end : PipeE
   pub pieces : List (List ℕ)
   pub turns : List LoneTurn
   pub are_pieces : ArePieces pieces
-  pub cutting : joined pieces ≡ read
+  pub cutting : spellings_joined pieces ≡ read
   pub schedule : IsSchedule g l pieces turns
   pub written_is : written ≡ lone_served g l turns
   pub is_end : IsEnd g l turns read end
@@ -24,7 +24,7 @@ pub record BeginsToServe (g : Ground) (l : Lone) (read written : List ℕ) : Typ
   pub pieces : List (List ℕ)
   pub turns : List LoneTurn
   pub are_pieces : ArePieces pieces
-  pub cutting : joined pieces ≡ read
+  pub cutting : spellings_joined pieces ≡ read
   pub schedule : IsSchedule g l pieces turns
   pub more : List ℕ
   pub begins : lone_served g l turns ≡ written ++ more

@@ -12,7 +12,7 @@ use Rattle.ref_history.specs.declared.ref_id.RefId.{RefId}
 use Rattle.ref_table.specs.Refs.{Refs, refs_after}
 use Rattle.ref_table.specs.Directory.{id_named}
 use Rattle.ref_table.specs.Placing.{placed_view, with_place, places_of, AddsAll}
-use Rattle.ref_table.specs.Standing.{Stands}
+use Rattle.ref_table.specs.Standing.{TableStands}
 use Rattle.ref_table.specs.declared.placing.Placed.{Placed}
 use Rattle.ref_table.specs.declared.table.RefTable.{RefTable}
 use Rattle.ref_table.proofs.Seen.{changed_of-tenant}
@@ -22,8 +22,8 @@ use Rattle.ref_table.proofs.Tables.{with_changed_ref-stands, unseen-stands}
 abbrev pub Leads : {H : Type 0} → (H → RefId → Ref → Type 0) → ℕ → List ChangeData → Type 0
 Leads {H} stands stamp cs = (t : RefTable H) (h : H) (ps : List Placed) (s : Store) (r : Refs)
     → map placed_view ps ≡ places_of t.directory s.tenant cs
-    → AddsAll stands stamp t.history ps h → Stands stands t (refs_after s r)
-    → Stands stands (record t { history = h }) (refs_after (with_changes stamp cs s) r)
+    → AddsAll stands stamp t.history ps h → TableStands stands t (refs_after s r)
+    → TableStands stands (record t { history = h }) (refs_after (with_changes stamp cs s) r)
 
 -- the store after one change
 abbrev one_set : ℕ → ChangeData → Store → Store
@@ -41,7 +41,7 @@ same_pair p q ps qs same =
 
 nothing-added : {H : Type 0} (stands : H → RefId → Ref → Type 0) (stamp : ℕ) → Leads stands stamp []
 nothing-added stands stamp t h [] s r e adds now =
-    subst (λ h. Stands stands (record t { history = h }) (refs_after s r)) adds now
+    subst (λ h. TableStands stands (record t { history = h }) (refs_after s r)) adds now
 nothing-added stands stamp t h (p ∷ ps) s r e adds now = cc
 
 one-added : {H : Type 0} (stands : H → RefId → Ref → Type 0) (stamp : ℕ) (c : ChangeData)
@@ -49,8 +49,8 @@ one-added : {H : Type 0} (stands : H → RefId → Ref → Type 0) (stamp : ℕ)
     (t : RefTable H) (h : H) (ps : List Placed) (s : Store) (r : Refs)
     → id_named t.directory s.tenant c.name ≡ o
     → map placed_view ps ≡ with_place o c.now (places_of t.directory s.tenant cs)
-    → AddsAll stands stamp t.history ps h → Stands stands t (refs_after s r)
-    → Stands stands (record t { history = h }) (refs_after (with_changes stamp (c ∷ cs) s) r)
+    → AddsAll stands stamp t.history ps h → TableStands stands t (refs_after s r)
+    → TableStands stands (record t { history = h }) (refs_after (with_changes stamp (c ∷ cs) s) r)
 one-added stands stamp c cs leads None t h ps s r here e adds now =
     leads t h ps (one_set stamp c s) r
     (e ∙ ap (λ v. places_of t.directory v cs) (sym (tenant-stays stamp c s))) adds
@@ -77,8 +77,8 @@ all-added stands stamp (c ∷ cs) = λ t h ps s r e adds now.
 
 -- the counter rises
 pub with_raised_counter-stands : {H : Type 0} (stands : H → RefId → Ref → Type 0) (t : RefTable H) (s : Store)
-    (r : Refs) → Stands stands t (refs_after s r)
-    → Stands stands (record t { counter = t.counter + 1 }) (refs_after (with_raised_counter s) r)
+    (r : Refs) → TableStands stands t (refs_after s r)
+    → TableStands stands (record t { counter = t.counter + 1 }) (refs_after (with_raised_counter s) r)
 with_raised_counter-stands stands t s r now = record {
   counter = ap (λ n. n + 1) now.counter;
   refs = now.refs;

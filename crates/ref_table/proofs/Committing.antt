@@ -16,7 +16,7 @@ use Rattle.server_rules.specs.Versions.{Ref}
 use Rattle.server_rules.specs.Store.{Store, ref_named, left_attempt}
 use Rattle.server_rules.specs.Performed.{as_was, tells}
 use Rattle.server_rules.specs.Commit.{guarded_refs, touched_refs, changing_refs, all_there, all_fit}
-use Rattle.server_rules.specs.Commit.{all_take, are_distinct, intent_fits, is_newer_ref, any_newer}
+use Rattle.server_rules.specs.Commit.{all_take, refs_are_distinct, intent_fits, is_newer_ref, any_newer}
 use Rattle.server_rules.specs.Commit.{all_folded, with_changes, with_raised_counter, with_all}
 use Rattle.server_rules.specs.Commit.{concluded_commit, checked_commit, commit_by}
 use Rattle.server_rules.proofs.Calls.{folded-names}
@@ -25,7 +25,7 @@ use Rattle.ref_table.specs.Refs.{Refs, store_of, refs_after}
 use Rattle.ref_table.specs.Directory.{id_named, all_named, ids_named}
 use Rattle.ref_table.specs.Placing.{with_place, places_of, all_distinct}
 use Rattle.ref_table.specs.Accepting.{may_commit, is_acceptable}
-use Rattle.ref_table.specs.Standing.{Stands}
+use Rattle.ref_table.specs.Standing.{TableStands}
 use Rattle.ref_table.specs.Told.{Performs}
 use Rattle.ref_table.specs.declared.directory.Directory.{Directory}
 use Rattle.ref_table.specs.declared.table.RefTable.{RefTable}
@@ -104,13 +104,13 @@ changing_refs-named d caller intent e =
 
 -- what was looked through is what the rules want
 pub acceptable : {H : Type 0} (stands : H → RefId → Ref → Type 0) (t : RefTable H) (r : Refs)
-    (caller : ℕ) (points : List (Entry ℕ)) (intent : IntentData) → Stands stands t r
+    (caller : ℕ) (points : List (Entry ℕ)) (intent : IntentData) → TableStands stands t r
     → is_acceptable t.directory caller intent
     ≡ (all_there (touched_refs intent) (store_of caller points r) && intent_fits intent)
 acceptable stands t r caller points intent s =
     by (all_named t.directory caller (touched_refs intent))
     (all_there (touched_refs intent) (store_of caller points r)) (all_fit intent.sets)
-    (are_distinct (changing_refs intent))
+    (refs_are_distinct (changing_refs intent))
     (all_distinct same_id (ids_named t.directory caller (changing_refs intent)))
     (all_take intent.commuted)
     (all-named stands t (store_of caller points r) r (touched_refs intent)
@@ -166,7 +166,7 @@ checked_commit-performs stands new r caller points seat point intent o answer fi
 -- where a commit changes nothing
 pub unchanged-performs : {H : Type 0} (stands : H → RefId → Ref → Type 0) (t : RefTable H)
     (r : Refs) (caller : ℕ) (points : List (Entry ℕ)) (seat : ℕ) (answer : AnswerData)
-    → Stands stands t r
+    → TableStands stands t r
     → Performs stands t r (Some answer)
     (tells answer (left_attempt seat (store_of caller points r)))
 unchanged-performs stands t r caller points seat answer s = record {
@@ -175,7 +175,7 @@ unchanged-performs stands t r caller points seat answer s = record {
 }
 
 pub refused-performs : {H : Type 0} (stands : H → RefId → Ref → Type 0) (t : RefTable H)
-    (r : Refs) (caller : ℕ) (points : List (Entry ℕ)) → Stands stands t r
+    (r : Refs) (caller : ℕ) (points : List (Entry ℕ)) → TableStands stands t r
     → Performs stands t r None (as_was (store_of caller points r) None)
 refused-performs stands t r caller points s = record {
   told = refl;
@@ -184,7 +184,7 @@ refused-performs stands t r caller points s = record {
 
 pub faulted-performs : {H : Type 0} (stands : H → RefId → Ref → Type 0) (t : RefTable H)
     (r : Refs) (caller : ℕ) (points : List (Entry ℕ)) (seat : ℕ) (sets : List ChangeData)
-    (f : Failure) (folds : Result (List ChangeData) Failure) → folds ≡ Err f → Stands stands t r
+    (f : Failure) (folds : Result (List ChangeData) Failure) → folds ≡ Err f → TableStands stands t r
     → Performs stands t r (Some (verdict (faulted f)))
     (concluded_commit seat sets (store_of caller points r) folds)
 faulted-performs stands t r caller points seat sets f folds is s =
@@ -195,7 +195,7 @@ faulted-performs stands t r caller points seat sets f folds is s =
 pub committed-performs : {H : Type 0} (stands : H → RefId → Ref → Type 0) (new : RefTable H)
     (r : Refs) (caller : ℕ) (points : List (Entry ℕ)) (seat : ℕ) (sets changes : List ChangeData)
     (folds : Result (List ChangeData) Failure) → folds ≡ Ok changes
-    → Stands stands new (refs_after (with_all (sets ++ changes) (store_of caller points r)) r)
+    → TableStands stands new (refs_after (with_all (sets ++ changes) (store_of caller points r)) r)
     → Performs stands new r (Some (verdict committed))
     (concluded_commit seat sets (store_of caller points r) folds)
 committed-performs stands new r caller points seat sets changes folds is left =

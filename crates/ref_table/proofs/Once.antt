@@ -8,10 +8,10 @@ use Rattle.value_data.specs.Datum.{Datum, OwnerData, shared, tenant}
 use Rattle.repl_asks.specs.Transactions.{RefNameData, ChangeData, same_name}
 use Rattle.repl_asks.specs.Inside.View.{change_view}
 use Rattle.repl_asks.specs.declared.intent.Change.{Change}
-use Rattle.server_rules.specs.Commit.{are_distinct}
+use Rattle.server_rules.specs.Commit.{refs_are_distinct}
 use Rattle.value_data.specs.Same.{same_owner}
 use Rattle.ref_history.specs.declared.ref_id.RefId.{RefId}
-use Rattle.ref_table.specs.Directory.{ids_of, id_named, all_named, with_id, ids_named}
+use Rattle.ref_table.specs.Directory.{refs_of, id_named, all_named, with_id, ids_named}
 use Rattle.ref_table.specs.Placing.{placed_view, with_place, places_of, all_distinct}
 use Rattle.ref_table.specs.Standing.{AreApart}
 use Rattle.ref_table.specs.declared.directory.Directory.{Directory}
@@ -50,7 +50,7 @@ same_id-here a b e = unsigned_tied a.place b.place ∙ eq-eqb a.place b.place (a
 
 -- one id is another exactly where the names are the same
 same-names : (d : Directory) (caller : ℕ) (a b : RefNameData) (i j : RefId)
-    → AreApart (ids_of d) → id_named d caller a ≡ Some i → id_named d caller b ≡ Some j
+    → AreApart (refs_of d) → id_named d caller a ≡ Some i → id_named d caller b ≡ Some j
     → same_id i j ≡ same_name a b
 same-names d caller a b i j apart here there = both-ways (same_id i j) (same_name a b)
     (λ e. let at = apart a.owner b.owner a.number b.number j
@@ -72,7 +72,7 @@ named-first (Some i) rest e = (i, refl, e)
 
 -- whether an id or a name comes again
 any-same : (d : Directory) (caller : ℕ) (name : RefNameData) (i : RefId)
-    (names : List RefNameData) → AreApart (ids_of d) → id_named d caller name ≡ Some i
+    (names : List RefNameData) → AreApart (refs_of d) → id_named d caller name ≡ Some i
     → all_named d caller names ≡ true
     → list_any (same_id i) (ids_named d caller names) ≡ list_any (same_name name) names
 any-same d caller name i [] apart here named = refl
@@ -83,9 +83,9 @@ any-same d caller name i (b ∷ names) apart here named =
     (any-same d caller name i names apart here first.2)
 
 -- the ids are apart exactly where no ref is named twice
-pub distinct-ids : (d : Directory) (caller : ℕ) (names : List RefNameData) → AreApart (ids_of d)
+pub distinct-ids : (d : Directory) (caller : ℕ) (names : List RefNameData) → AreApart (refs_of d)
     → all_named d caller names ≡ true
-    → all_distinct same_id (ids_named d caller names) ≡ are_distinct names
+    → all_distinct same_id (ids_named d caller names) ≡ refs_are_distinct names
 distinct-ids d caller [] apart named = refl
 distinct-ids d caller (name ∷ names) apart named =
     let first = named-first (id_named d caller name) (all_named d caller names) named in

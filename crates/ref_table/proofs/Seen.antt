@@ -9,7 +9,7 @@ use Rattle.server_rules.specs.Store.{Store, ref_of, changed_of}
 use Rattle.ref_history.specs.Changes.{Standing}
 use Rattle.ref_history.specs.declared.ref_id.RefId.{RefId}
 use Rattle.ref_table.specs.Refs.{Refs, owned_with, refs_after}
-use Rattle.ref_table.specs.Directory.{ids_of, id_within}
+use Rattle.ref_table.specs.Directory.{refs_of, id_within}
 use Rattle.ref_table.specs.Standing.{Matches, StandFor}
 use Rattle.ref_table.specs.declared.directory.Directory.{Directory}
 use Rattle.ref_table.proofs.Owners.{found_if, changed_at-absent}
@@ -26,11 +26,11 @@ owned-seen caller owned (tenant t) = elim (cases_Bool (t == caller)) [
 
 -- the id under which a tenant finds a ref stands for what it sees of it
 pub stands-within : (standing : Standing) (d : Directory) (s : Store) (r : Refs) (w : OwnerData)
-    (n : ℕ) → StandFor standing (ids_of d) (refs_after s r).owned
+    (n : ℕ) → StandFor standing (refs_of d) (refs_after s r).owned
     → Matches standing (id_within d s.tenant w n) (ref_of w n s)
 stands-within standing d s r shared n h = h shared n
 stands-within standing d s r (tenant t) n h =
-    by_test (t == s.tenant) (slice_get (ids_of d (tenant t)) n) s.mine.refs (r.owned (tenant t))
+    by_test (t == s.tenant) (slice_get (refs_of d (tenant t)) n) s.mine.refs (r.owned (tenant t))
     (h (tenant t) n) where
       by_test : (b : Bool) (i : Option RefId) (xs ys : List Ref)
           → Matches standing i (slice_get (if b then xs else ys) n)
@@ -49,10 +49,10 @@ changed_of-tenant shared m f s = refl
 changed_of-tenant (tenant t) m f s = refl
 
 pub id-there : (d : Directory) (caller : ℕ) (w : OwnerData) (m : ℕ) (id : RefId)
-    → id_within d caller w m ≡ Some id → slice_get (ids_of d w) m ≡ Some id
+    → id_within d caller w m ≡ Some id → slice_get (refs_of d w) m ≡ Some id
 id-there d caller shared m id e = e
 id-there d caller (tenant t) m id e =
-    (found_if (t == caller) (slice_get (ids_of d (tenant t)) m) id e).1
+    (found_if (t == caller) (slice_get (refs_of d (tenant t)) m) id e).1
 
 -- a ref that the tenant reaches changes among its owner's
 pub changed-here : (d : Directory) (s : Store) (r : Refs) (w : OwnerData) (m : ℕ) (f : Ref → Ref)
@@ -60,7 +60,7 @@ pub changed-here : (d : Directory) (s : Store) (r : Refs) (w : OwnerData) (m : �
     → (refs_after (changed_of w m f s) r).owned w ≡ changed_at m f ((refs_after s r).owned w)
 changed-here d s r shared m f id e = refl
 changed-here d s r (tenant t) m f id e =
-    both (t == s.tenant) (found_if (t == s.tenant) (slice_get (ids_of d (tenant t)) m) id e).0 where
+    both (t == s.tenant) (found_if (t == s.tenant) (slice_get (refs_of d (tenant t)) m) id e).0 where
       both : (b : Bool) → b ≡ true
           → (if b then (if b then changed_at m f s.mine.refs else s.mine.refs) else r.owned (tenant t))
           ≡ changed_at m f (if b then s.mine.refs else r.owned (tenant t))
@@ -78,7 +78,7 @@ changed-elsewhere d s r (tenant t) m f id e (tenant u) differs =
     untouched (u == s.tenant) (ne_eqb u s.tenant (λ is. differs (ap tenant (is ∙ sym mine)))) where
       mine : t ≡ s.tenant
       mine = eqb-true t s.tenant
-          (found_if (t == s.tenant) (slice_get (ids_of d (tenant t)) m) id e).0
+          (found_if (t == s.tenant) (slice_get (refs_of d (tenant t)) m) id e).0
 
       untouched : (b : Bool) → b ≡ false
           → (if b then (if t == s.tenant then changed_at m f s.mine.refs else s.mine.refs)

@@ -15,8 +15,8 @@ use Rattle.value_data.specs.Same.{same_owner}
 use Rattle.ref_history.specs.Changes.{Standing, IsAbsent, SameRefs, SameBut, Changed}
 use Rattle.ref_history.specs.declared.ref_id.RefId.{RefId}
 use Rattle.ref_table.specs.Refs.{Refs, store_of, refs_after, with_ref, without_refs}
-use Rattle.ref_table.specs.Directory.{ids_of, id_named, all_named}
-use Rattle.ref_table.specs.Standing.{Matches, StandFor, AreApart, KeepsNoMore, Stands}
+use Rattle.ref_table.specs.Directory.{refs_of, id_named, all_named}
+use Rattle.ref_table.specs.Standing.{Matches, StandFor, AreApart, KeepsNoMore, TableStands}
 use Rattle.ref_table.specs.declared.directory.Directory.{Directory}
 use Rattle.ref_table.specs.declared.table.RefTable.{RefTable}
 use Rattle.ref_table.proofs.Standing.{there, absent, stand-same, stand-equal, stand-changed}
@@ -28,10 +28,10 @@ use Rattle.ref_table.proofs.Seen.{changed-here, changed-elsewhere, changed-nowhe
 -- what a tenant sees adds nothing
 pub seen-stands : {H : Type 0} (stands : H → RefId → Ref → Type 0) (t : RefTable H) (caller : ℕ)
     (points : List (Entry ℕ)) (r : Refs)
-    → Stands stands t r → Stands stands t (refs_after (store_of caller points r) r)
+    → TableStands stands t r → TableStands stands t (refs_after (store_of caller points r) r)
 seen-stands stands t caller points r s = record {
   counter = s.counter;
-  refs = stand-equal (stands t.history) (ids_of t.directory) r.owned
+  refs = stand-equal (stands t.history) (refs_of t.directory) r.owned
       (refs_after (store_of caller points r) r).owned (owned-seen caller r.owned) s.refs;
   apart = s.apart;
   no_more = s.no_more;
@@ -40,12 +40,12 @@ seen-stands stands t caller points r s = record {
 -- the history keeps all that it stood for
 pub same-stands : {H : Type 0} (stands : H → RefId → Ref → Type 0) (t : RefTable H) (h : H)
     (r : Refs) → SameRefs (stands t.history) (stands h)
-    → Stands stands t r → Stands stands (record t { history = h }) r
+    → TableStands stands t r → TableStands stands (record t { history = h }) r
 same-stands stands t h r same s = record {
   counter = s.counter;
-  refs = stand-same (stands t.history) (stands h) (ids_of t.directory) r.owned same s.refs;
+  refs = stand-same (stands t.history) (stands h) (refs_of t.directory) r.owned same s.refs;
   apart = s.apart;
-  no_more = no_more-same (stands t.history) (stands h) (ids_of t.directory) same s.no_more;
+  no_more = no_more-same (stands t.history) (stands h) (refs_of t.directory) same s.no_more;
 }
 
 -- a ref that the tenant sees changes
@@ -53,17 +53,17 @@ pub with_changed_ref-stands : {H : Type 0} (stands : H → RefId → Ref → Typ
     (s : Store) (r : Refs) (name : RefNameData) (id : RefId) (f : Ref → Ref)
     → id_named t.directory s.tenant name ≡ Some id
     → Changed id f (stands t.history) (stands h)
-    → Stands stands t (refs_after s r)
-    → Stands stands (record t { history = h }) (refs_after (with_changed_ref name f s) r)
+    → TableStands stands t (refs_after s r)
+    → TableStands stands (record t { history = h }) (refs_after (with_changed_ref name f s) r)
 with_changed_ref-stands stands t h s r name id f e change now = record {
   counter = now.counter ∙ sym (changed_of-counter name.owner name.number f s);
-  refs = stand-changed (stands t.history) (stands h) (ids_of t.directory) (refs_after s r).owned
+  refs = stand-changed (stands t.history) (stands h) (refs_of t.directory) (refs_after s r).owned
       (refs_after (with_changed_ref name f s) r).owned name.owner name.number id f
       (id-there t.directory s.tenant name.owner name.number id e) now.apart change
       (changed-here t.directory s r name.owner name.number f id e)
       (changed-elsewhere t.directory s r name.owner name.number f id e) now.refs;
   apart = now.apart;
-  no_more = no_more-changed (stands t.history) (stands h) (ids_of t.directory) name.owner
+  no_more = no_more-changed (stands t.history) (stands h) (refs_of t.directory) name.owner
       name.number id (id-there t.directory s.tenant name.owner name.number id e) change.others
       now.no_more;
 }
@@ -72,10 +72,10 @@ with_changed_ref-stands stands t h s r name id f e change now = record {
 pub unseen-stands : {H : Type 0} (stands : H → RefId → Ref → Type 0) (t : RefTable H)
     (s : Store) (r : Refs) (name : RefNameData) (f : Ref → Ref)
     → id_named t.directory s.tenant name ≡ None
-    → Stands stands t (refs_after s r) → Stands stands t (refs_after (with_changed_ref name f s) r)
+    → TableStands stands t (refs_after s r) → TableStands stands t (refs_after (with_changed_ref name f s) r)
 unseen-stands stands t s r name f e now = record {
   counter = now.counter ∙ sym (changed_of-counter name.owner name.number f s);
-  refs = stand-equal (stands t.history) (ids_of t.directory) (refs_after s r).owned
+  refs = stand-equal (stands t.history) (refs_of t.directory) (refs_after s r).owned
       (refs_after (with_changed_ref name f s) r).owned
       (changed-nowhere s r name.owner name.number f
       (absent (stands t.history) (id_named t.directory s.tenant name) (ref_named name s)
@@ -88,7 +88,7 @@ unseen-stands stands t s r name f e now = record {
 -- the ref that an id stands for is the one that is seen
 pub seen-there : {H : Type 0} (stands : H → RefId → Ref → Type 0) (t : RefTable H) (s : Store)
     (r : Refs) (name : RefNameData) (id : RefId)
-    → id_named t.directory s.tenant name ≡ Some id → Stands stands t (refs_after s r)
+    → id_named t.directory s.tenant name ≡ Some id → TableStands stands t (refs_after s r)
     → (ref : Ref) × (ref_named name s ≡ Some ref) × stands t.history id ref
 seen-there stands t s r name id e now =
     there (stands t.history) (id_named t.directory s.tenant name) (ref_named name s) id
@@ -107,35 +107,35 @@ same_owner-apart (tenant t) (tenant u) differs = ne_eqb t u (λ e. differs (ap t
 -- an owner has one ref more
 pub made-stands : {H : Type 0} (stands : H → RefId → Ref → Type 0) (t : RefTable H)
     (d : Directory) (h : H) (r : Refs) (o : OwnerData) (id : RefId) (ref : Ref)
-    → ids_of d o ≡ ids_of t.directory o ++ id ∷ []
-    → ((p : OwnerData) → p ≢ o → ids_of d p ≡ ids_of t.directory p)
+    → refs_of d o ≡ refs_of t.directory o ++ id ∷ []
+    → ((p : OwnerData) → p ≢ o → refs_of d p ≡ refs_of t.directory p)
     → IsAbsent (stands t.history) id → stands h id ref
     → SameBut id (stands t.history) (stands h)
-    → Stands stands t r
-    → Stands stands (record { counter = t.counter; directory = d; history = h }) (with_ref o ref r)
+    → TableStands stands t r
+    → TableStands stands (record { counter = t.counter; directory = d; history = h }) (with_ref o ref r)
 made-stands stands t d h r o id ref adds rest none here same s = record {
   counter = s.counter;
-  refs = stand-made (stands t.history) (stands h) (ids_of t.directory) (ids_of d) r.owned
+  refs = stand-made (stands t.history) (stands h) (refs_of t.directory) (refs_of d) r.owned
       (with_ref o ref r).owned o id ref adds rest
       (ap (λ b. if b then r.owned o ++ ref ∷ [] else r.owned o) (same_owner-refl o))
       (λ p differs. ap (λ b. if b then r.owned p ++ ref ∷ [] else r.owned p)
       (same_owner-apart p o differs))
       none here same s.refs;
-  apart = apart-made (ids_of t.directory) (ids_of d) o id adds rest
-      (fresh (stands t.history) (ids_of t.directory) r.owned id none s.refs) s.apart;
-  no_more = no_more-made (stands t.history) (stands h) (ids_of t.directory) (ids_of d) o id adds
+  apart = apart-made (refs_of t.directory) (refs_of d) o id adds rest
+      (fresh (stands t.history) (refs_of t.directory) r.owned id none s.refs) s.apart;
+  no_more = no_more-made (stands t.history) (stands h) (refs_of t.directory) (refs_of d) o id adds
       rest same s.no_more;
 }
 
 -- a ref was made, and could not be kept
 pub undone-stands : {H : Type 0} (stands : H → RefId → Ref → Type 0) (t : RefTable H)
     (d : Directory) (h : H) (r : Refs)
-    → ((p : OwnerData) → ids_of d p ≡ ids_of t.directory p) → SameRefs (stands t.history) (stands h)
-    → Stands stands t r
-    → Stands stands (record { counter = t.counter; directory = d; history = h }) r
+    → ((p : OwnerData) → refs_of d p ≡ refs_of t.directory p) → SameRefs (stands t.history) (stands h)
+    → TableStands stands t r
+    → TableStands stands (record { counter = t.counter; directory = d; history = h }) r
 undone-stands stands t d h r as_it_was same s =
     let now = same-stands stands t h r same s in
-    let ids : ids_of d ≡ ids_of t.directory = fun_ext as_it_was in
+    let ids : refs_of d ≡ refs_of t.directory = fun_ext as_it_was in
     record {
       counter = s.counter;
       refs = subst (λ ids. StandFor (stands h) ids r.owned) (sym ids) now.refs;
@@ -146,28 +146,28 @@ undone-stands stands t d h r as_it_was same s =
 -- a tenant has no refs any more
 pub released-stands : {H : Type 0} (stands : H → RefId → Ref → Type 0) (t : RefTable H)
     (d : Directory) (h : H) (r : Refs) (o : OwnerData)
-    → ids_of d o ≡ []
-    → ((p : OwnerData) → p ≢ o → ids_of d p ≡ ids_of t.directory p)
-    → ((n : ℕ) (i : RefId) → slice_get (ids_of t.directory o) n ≡ Some i → IsAbsent (stands h) i)
-    → ((i : RefId) → ((n : ℕ) → slice_get (ids_of t.directory o) n ≢ Some i)
+    → refs_of d o ≡ []
+    → ((p : OwnerData) → p ≢ o → refs_of d p ≡ refs_of t.directory p)
+    → ((n : ℕ) (i : RefId) → slice_get (refs_of t.directory o) n ≡ Some i → IsAbsent (stands h) i)
+    → ((i : RefId) → ((n : ℕ) → slice_get (refs_of t.directory o) n ≢ Some i)
     → (ref : Ref) → stands t.history i ref ↔ stands h i ref)
-    → Stands stands t r
-    → Stands stands (record { counter = t.counter; directory = d; history = h }) (without_refs o r)
+    → TableStands stands t r
+    → TableStands stands (record { counter = t.counter; directory = d; history = h }) (without_refs o r)
 released-stands stands t d h r o gone rest dropped keeps s = record {
   counter = s.counter;
-  refs = stand-released (stands t.history) (stands h) (ids_of t.directory) (ids_of d) r.owned
+  refs = stand-released (stands t.history) (stands h) (refs_of t.directory) (refs_of d) r.owned
       (without_refs o r).owned o gone rest
       (ap (λ b. if b then [] else r.owned o) (same_owner-refl o))
       (λ p differs. ap (λ b. if b then [] else r.owned p) (same_owner-apart p o differs))
       (λ i none ref. (keeps i none ref).0) s.apart s.refs;
-  apart = apart-released (ids_of t.directory) (ids_of d) o gone rest s.apart;
-  no_more = no_more-released (stands t.history) (stands h) (ids_of t.directory) (ids_of d) o rest
+  apart = apart-released (refs_of t.directory) (refs_of d) o gone rest s.apart;
+  no_more = no_more-released (stands t.history) (stands h) (refs_of t.directory) (refs_of d) o rest
       dropped keeps s.no_more;
 }
 
 -- all that a tenant names is there
 pub all-named : {H : Type 0} (stands : H → RefId → Ref → Type 0) (t : RefTable H) (s : Store)
-    (r : Refs) (names : List RefNameData) → Stands stands t (refs_after s r)
+    (r : Refs) (names : List RefNameData) → TableStands stands t (refs_after s r)
     → all_named t.directory s.tenant names ≡ all_there names s
 all-named stands t s r [] now = refl
 all-named stands t s r (name ∷ names) now =

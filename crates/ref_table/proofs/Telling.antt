@@ -14,8 +14,8 @@ use Rattle.server_rules.specs.Calls.{read_at, bound_set, performed_make}
 use Rattle.ref_history.specs.Changes.{SameRefs, Changed}
 use Rattle.ref_history.specs.declared.ref_id.RefId.{RefId}
 use Rattle.ref_table.specs.Refs.{Refs, store_of, refs_after, with_ref}
-use Rattle.ref_table.specs.Directory.{ids_of, id_named, id_within, own_id, own_id_within}
-use Rattle.ref_table.specs.Standing.{Stands}
+use Rattle.ref_table.specs.Directory.{refs_of, id_named, id_within, own_id, own_id_within}
+use Rattle.ref_table.specs.Standing.{TableStands}
 use Rattle.ref_table.specs.Told.{Performs}
 use Rattle.ref_table.specs.declared.directory.Directory.{Directory}
 use Rattle.ref_table.specs.declared.table.RefTable.{RefTable}
@@ -31,7 +31,7 @@ on_err (Err e) p = p
 pub found-performs : {H : Type 0} (stands : H → RefId → Ref → Type 0) (t : RefTable H) (h : H)
     (r : Refs) (caller : ℕ) (points : List (Entry ℕ)) (seat : ℕ) (name : RefNameData)
     (o : Option Datum) (d : Datum) → o ≡ Some d → SameRefs (stands t.history) (stands h)
-    → Stands stands t r
+    → TableStands stands t r
     → Performs stands (record t { history = h }) r (Some (reading (found d)))
     (read_at seat name (store_of caller points r) o)
 found-performs stands t h r caller points seat name o d is same s =
@@ -47,7 +47,7 @@ found-performs stands t h r caller points seat name o d is same s =
 pub retry-performs : {H : Type 0} (stands : H → RefId → Ref → Type 0) (t : RefTable H) (h : H)
     (r : Refs) (caller : ℕ) (points : List (Entry ℕ)) (seat : ℕ) (name : RefNameData) (id : RefId)
     (o : Option Datum) → id_named t.directory caller name ≡ Some id
-    → Changed id with_failed_read (stands t.history) (stands h) → o ≡ None → Stands stands t r
+    → Changed id with_failed_read (stands t.history) (stands h) → o ≡ None → TableStands stands t r
     → Performs stands (record t { history = h }) r (Some (reading retry))
     (read_at seat name (store_of caller points r) o)
 retry-performs stands t h r caller points seat name id o e change none s =
@@ -69,7 +69,7 @@ owned d caller (tenant t) n id e = (t, refl, e)
 pub bound-performs : {H : Type 0} (stands : H → RefId → Ref → Type 0) (t : RefTable H) (h : H)
     (r : Refs) (caller : ℕ) (points : List (Entry ℕ)) (name : RefNameData) (id : RefId)
     (f : Ref → Ref) → own_id t.directory caller name ≡ Some id
-    → Changed id f (stands t.history) (stands h) → Stands stands t r
+    → Changed id f (stands t.history) (stands h) → TableStands stands t r
     → Performs stands (record t { history = h }) r
     (Some (value (datum.ref name.owner name.number)))
     (bound_set name name.owner f (store_of caller points r)
@@ -93,14 +93,14 @@ bound-performs stands t h r caller points name id f e change s =
 pub performed_make-performs : {H : Type 0} (stands : H → RefId → Ref → Type 0) (t : RefTable H) (r : Refs)
     (caller : ℕ) (points : List (Entry ℕ)) (d : Datum) (least most n : ℕ)
     → n ≡ length (r.owned (tenant caller))
-    → Stands stands t (with_ref (tenant caller) (new_ref (record { stamp = 0; content = d }) least most) r)
+    → TableStands stands t (with_ref (tenant caller) (new_ref (record { stamp = 0; content = d }) least most) r)
     → Performs stands t r (Some (value (datum.ref (tenant caller) n)))
     (performed_make (store_of caller points r) d least most)
 performed_make-performs stands t r caller points d least most n number s = record {
   told = ap (λ n. Some (value (datum.ref (tenant caller) n))) number;
   left = record {
     counter = s.counter;
-    refs = stand-equal (stands t.history) (ids_of t.directory) (with_ref (tenant caller) ref r).owned
+    refs = stand-equal (stands t.history) (refs_of t.directory) (with_ref (tenant caller) ref r).owned
         (refs_after (performed_make (store_of caller points r) d least most).store r).owned same s.refs;
     apart = s.apart;
     no_more = s.no_more;

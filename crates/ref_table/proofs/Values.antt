@@ -16,7 +16,7 @@ use Rattle.server_rules.specs.Versions.{Version, Ref, with_version}
 use Rattle.server_rules.specs.Store.{Store, ref_of, ref_named, newest_in_ref, newest_value}
 use Rattle.server_rules.specs.Store.{changed_of, with_changed_ref, left_attempt}
 use Rattle.server_rules.specs.Commit.{guarded_refs, touched_refs, changing_refs, all_there, all_fit}
-use Rattle.server_rules.specs.Commit.{all_take, are_distinct, intent_fits, is_newer_ref}
+use Rattle.server_rules.specs.Commit.{all_take, refs_are_distinct, intent_fits, is_newer_ref}
 use Rattle.value_data.specs.Same.{same_owner}
 use Rattle.server_rules.specs.Commit.{any_newer, folded_from, all_folded, with_changes}
 use Rattle.server_rules.specs.Commit.{with_raised_counter, with_all, concluded_commit}
@@ -157,7 +157,7 @@ none-other name stamp (c ∷ cs) s none =
 
 -- a change that is among these is read
 set-value : (stamp : ℕ) (cs : List ChangeData) (c : ChangeData) (s : Store)
-    → are_distinct (map (λ c. c.name) cs) ≡ true → all_there (map (λ c. c.name) cs) s ≡ true
+    → refs_are_distinct (map (λ c. c.name) cs) ≡ true → all_there (map (λ c. c.name) cs) s ≡ true
     → (k : ℕ) → k < length cs → slice_index_or cs k c ≡ c
     → newest_value c.name (with_changes stamp cs s) ≡ Some c.now
 set-value stamp [] c s once there k below here = absurd (omega arith)
@@ -280,7 +280,7 @@ met-none_newer s seat point intent name told has =
     (any_newer point (guarded_refs intent) s) told).is_older has.0 has.1 has.2
 
 all-value : (cs : List ChangeData) (c : ChangeData) (s : Store)
-    → are_distinct (map (λ c. c.name) cs) ≡ true → all_there (map (λ c. c.name) cs) s ≡ true
+    → refs_are_distinct (map (λ c. c.name) cs) ≡ true → all_there (map (λ c. c.name) cs) s ≡ true
     → Contains cs c → newest_value c.name (with_all cs s) ≡ Some c.now
 all-value [] c s once there has = absurd (omega (arith, has.1))
 all-value (d ∷ cs) c s once there has =
@@ -295,15 +295,15 @@ change-is_read : (s : Store) (seat point : ℕ) (intent : IntentData) (c : Chang
 change-is_read s seat point intent c did has =
     let there = all_there (touched_refs intent) s in
     let fit = both_true there (intent_fits intent) did.is_fit in
-    let once = both_true (all_fit intent.sets) (are_distinct (changing_refs intent))
-    (both_true (all_fit intent.sets && are_distinct (changing_refs intent)) (all_take intent.commuted)
+    let once = both_true (all_fit intent.sets) (refs_are_distinct (changing_refs intent))
+    (both_true (all_fit intent.sets && refs_are_distinct (changing_refs intent)) (all_take intent.commuted)
     fit.1).0 in
     let all = intent.sets ++ did.changes in
     let names = changed-names (λ name. newest_value name s) intent did.changes did.folded in
     ap₂ (λ b n. newest_value c.name (checked_commit seat intent s b n).store) did.is_fit did.is_older
     ∙ ap (λ folds. newest_value c.name (concluded_commit seat intent.sets s folds).store) did.folded
     ∙ ap newest_in_ref (left-ref_named seat c.name (with_all all s))
-    ∙ all-value all c s (ap are_distinct names ∙ once.1)
+    ∙ all-value all c s (ap refs_are_distinct names ∙ once.1)
     (ap (λ names. all_there names s) names ∙ changing_refs-there intent s fit.0) has
 
 pub set-is_read : (s : Store) (seat point : ℕ) (intent : IntentData) (c : ChangeData)

@@ -14,14 +14,14 @@ ids_in None = []
 ids_in (Some ids) = ids.items
 
 -- the ids of an owner's refs, by their numbers
-abbrev pub ids_of : Directory → OwnerData → List RefId
-ids_of d shared = d.shared.items
-ids_of d (tenant t) = ids_in (tree.get nat_cmp d.tenants t)
+abbrev pub refs_of : Directory → OwnerData → List RefId
+refs_of d shared = d.shared.items
+refs_of d (tenant t) = ids_in (tree.get nat_cmp d.tenants t)
 
 -- a tenant reaches no other tenant's refs
 abbrev pub id_within : Directory → ℕ → OwnerData → ℕ → Option RefId
-id_within d caller shared n = slice_get (ids_of d shared) n
-id_within d caller (tenant t) n = if t == caller then slice_get (ids_of d (tenant t)) n else None
+id_within d caller shared n = slice_get (refs_of d shared) n
+id_within d caller (tenant t) n = if t == caller then slice_get (refs_of d (tenant t)) n else None
 
 abbrev pub id_named : Directory → ℕ → RefNameData → Option RefId
 id_named d caller name = id_within d caller name.owner name.number

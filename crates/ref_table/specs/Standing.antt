@@ -5,7 +5,7 @@ use Rattle.server_rules.specs.Versions.{Ref}
 use Rattle.ref_history.specs.Changes.{Standing}
 use Rattle.ref_history.specs.declared.ref_id.RefId.{RefId}
 use Rattle.ref_table.specs.Refs.{Refs}
-use Rattle.ref_table.specs.Directory.{ids_of}
+use Rattle.ref_table.specs.Directory.{refs_of}
 use Rattle.ref_table.specs.declared.table.RefTable.{RefTable}
 
 -- the id stands for the ref, or neither is there
@@ -33,9 +33,9 @@ KeepsNoMore standing ids = (id : RefId) (r : Ref) → standing id r
 abbrev pub counter_of : {H : Type 0} → RefTable H → ℕ
 counter_of t = t.counter
 
-pub record Stands {H : Type 0} (stands : H → RefId → Ref → Type 0) (t : RefTable H) (r : Refs)
+pub record TableStands {H : Type 0} (stands : H → RefId → Ref → Type 0) (t : RefTable H) (r : Refs)
     : Type 0 where
   pub counter : counter_of t ≡ r.counter
-  pub refs : StandFor (stands t.history) (ids_of t.directory) r.owned
-  pub apart : AreApart (ids_of t.directory)
-  pub no_more : KeepsNoMore (stands t.history) (ids_of t.directory)
+  pub refs : StandFor (stands t.history) (refs_of t.directory) r.owned
+  pub apart : AreApart (refs_of t.directory)
+  pub no_more : KeepsNoMore (stands t.history) (refs_of t.directory)

@@ -13,7 +13,7 @@ use Rattle.server_rules.specs.Store.{Store}
 use Rattle.server_rules.specs.Performed.{Performed}
 use Rattle.ref_history.specs.declared.ref_id.RefId.{RefId}
 use Rattle.ref_table.specs.Refs.{Refs, refs_after}
-use Rattle.ref_table.specs.Standing.{Stands}
+use Rattle.ref_table.specs.Standing.{TableStands}
 use Rattle.ref_table.specs.declared.table.RefTable.{RefTable}
 use Rattle.ref_table.specs.declared.outcome.CommitOutcome.{CommitOutcome}
 
@@ -21,7 +21,7 @@ use Rattle.ref_table.specs.declared.outcome.CommitOutcome.{CommitOutcome}
 pub record Performs {H : Type 0} (stands : H → RefId → Ref → Type 0) (t : RefTable H) (r : Refs)
     (answer : Option AnswerData) (p : Performed Store) : Type 0 where
   pub told : answer ≡ p.told
-  pub left : Stands stands t (refs_after p.store r)
+  pub left : TableStands stands t (refs_after p.store r)
 
 -- what is told of a read
 abbrev pub reading_told : Option Reading → Option AnswerData

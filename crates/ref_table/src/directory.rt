@@ -20,10 +20,10 @@ pub(crate) struct Directory {
 
 // Each takes about the logarithm of the number of tenants.
 impl Directory {
-    ghost use Rattle.ref_table.specs.Directory.{ids_in, ids_of, id_named, all_named};
+    ghost use Rattle.ref_table.specs.Directory.{ids_in, refs_of, id_named, all_named};
 
     pub(crate) fn new(alloc: Global) -> Directory
-        ensures { (owner : OwnerData) → ids_of result owner ≡ [] }
+        ensures { (owner : OwnerData) → refs_of result owner ≡ [] }
     {
         Directory {
             shared: Vec::new(alloc),
@@ -79,12 +79,13 @@ impl Directory {
 
     // Adds the id of an owner's next ref, and answers that ref's number.
     pub(crate) fn add(&mut self, alloc: Global, owner: Owner, id: RefId) -> Result<u64, AllocError>
-        ensures number { IfOk result (λ n. n ≡ length (ids_of self.old (owner_view owner))) }
-        ensures added { OnOk result (ids_of self.new (owner_view owner)
-            ≡ ids_of self.old (owner_view owner) ++ id ∷ []) }
+        ensures number { IfOk result (λ n. n ≡ length (refs_of self.old (owner_view owner))) }
+        ensures added { OnOk result (refs_of self.new (owner_view owner)
+            ≡ refs_of self.old (owner_view owner) ++ id ∷ []) }
         ensures others { (o : OwnerData) → o ≢ owner_view owner
-            → ids_of self.new o ≡ ids_of self.old o }
-        ensures as_it_was { OnErr result ((o : OwnerData) → ids_of self.new o ≡ ids_of self.old o) }
+            → refs_of self.new o ≡ refs_of self.old o }
+        ensures as_it_was { OnErr result ((o : OwnerData) →
+            refs_of self.new o ≡ refs_of self.old o) }
     {
         match owner {
             Owner::Shared => push_id(&mut self.shared, id),
@@ -93,12 +94,13 @@ impl Directory {
     }
 
     fn add_for(&mut self, alloc: Global, tenant: u64, id: RefId) -> Result<u64, AllocError>
-        ensures number { IfOk result (λ n. n ≡ length (ids_of self.old (tenant_owner tenant))) }
-        ensures added { OnOk result (ids_of self.new (tenant_owner tenant)
-            ≡ ids_of self.old (tenant_owner tenant) ++ id ∷ []) }
+        ensures number { IfOk result (λ n. n ≡ length (refs_of self.old (tenant_owner tenant))) }
+        ensures added { OnOk result (refs_of self.new (tenant_owner tenant)
+            ≡ refs_of self.old (tenant_owner tenant) ++ id ∷ []) }
         ensures others { (o : OwnerData) → o ≢ tenant_owner tenant
-            → ids_of self.new o ≡ ids_of self.old o }
-        ensures as_it_was { OnErr result ((o : OwnerData) → ids_of self.new o ≡ ids_of self.old o) }
+            → refs_of self.new o ≡ refs_of self.old o }
+        ensures as_it_was { OnErr result ((o : OwnerData) →
+            refs_of self.new o ≡ refs_of self.old o) }
     {
         match self.tenants.get_mut(&tenant) {
             Some(ids) => push_id(ids, id),
@@ -113,10 +115,10 @@ impl Directory {
 
     // Takes the ids of a tenant's refs out.
     pub(crate) fn remove(&mut self, tenant: u64) -> Option<Vec<RefId>>
-        ensures were { ids_in result ≡ ids_of self.old (tenant_owner tenant) }
-        ensures gone { ids_of self.new (tenant_owner tenant) ≡ [] }
+        ensures were { ids_in result ≡ refs_of self.old (tenant_owner tenant) }
+        ensures gone { refs_of self.new (tenant_owner tenant) ≡ [] }
         ensures others { (o : OwnerData) → o ≢ tenant_owner tenant
-            → ids_of self.new o ≡ ids_of self.old o }
+            → refs_of self.new o ≡ refs_of self.old o }
     {
         self.tenants.remove(&tenant)
     }

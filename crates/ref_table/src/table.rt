@@ -31,13 +31,13 @@ pub struct RefTable<H> {
 }
 
 impl<H: History> RefTable<H> {
-    ghost use Rattle.ref_table.specs.Standing.{Stands, counter_of};
+    ghost use Rattle.ref_table.specs.Standing.{TableStands, counter_of};
     ghost use Rattle.ref_table.specs.Told.{Performs};
 
     /// No refs, to be kept in this history, which is empty. It takes no memory.
     pub fn new(alloc: Global, history: H) -> RefTable<H>
         requires { (id : RefId) → IsAbsent (H.stands history) id }
-        ensures { Stands H.stands result no_refs }
+        ensures { TableStands H.stands result no_refs }
     {
         RefTable {
             counter: 0,
@@ -56,21 +56,21 @@ impl<H: History> RefTable<H> {
         value: Value,
         bounds: Bounds,
     ) -> Result<RefName, AllocError>
-        ensures name { (r : Refs) → Stands H.stands self.old r → IfOk result (λ name.
+        ensures name { (r : Refs) → TableStands H.stands self.old r → IfOk result (λ name.
             name ≡ record { owner = owner; number = length (r.owned (owner_view owner)) }) }
-        ensures made { (r : Refs) → Stands H.stands self.old r
-            → OnOk result (Stands H.stands self.new
+        ensures made { (r : Refs) → TableStands H.stands self.old r
+            → OnOk result (TableStands H.stands self.new
             (with_ref (owner_view owner) (first_ref (view value) bounds) r)) }
 
         // One of a tenant is made as the rules say.
         ensures told { (r : Refs) (points : List (Entry ℕ)) (caller : ℕ)
-            → Stands H.stands self.old r → owner ≡ Owner.Tenant caller
+            → TableStands H.stands self.old r → owner ≡ Owner.Tenant caller
             → IfOk result (λ name. Performs H.stands self.new r
             (Some (value_told (ref (owner_view name.owner) name.number)))
             (performed (store_of caller points r)
             (makes (view value) bounds.least bounds.most))) }
-        ensures as_it_was { (r : Refs) → Stands H.stands self.old r
-            → OnErr result (Stands H.stands self.new r) }
+        ensures as_it_was { (r : Refs) → TableStands H.stands self.old r
+            → OnErr result (TableStands H.stands self.new r) }
         ensures counter { counter_of self.new ≡ counter_of self.old }
     {
         let id = self.history.make(value, bounds)?;
@@ -87,11 +87,11 @@ impl<H: History> RefTable<H> {
     pub fn begin(&self) -> Point
         ensures point { result.stamp ≡ counter_of self.now }
         ensures begun { (r : Refs) (points : List (Entry ℕ)) (caller seat : ℕ)
-            → Stands H.stands self.now r → part_under seat points ≡ None
+            → TableStands H.stands self.now r → part_under seat points ≡ None
             → Performs H.stands self.now r (Some done)
             (performed (store_of caller points r) (begins seat)) }
         ensures noted { (r : Refs) (points : List (Entry ℕ)) (caller seat : ℕ)
-            → Stands H.stands self.now r → part_under seat points ≡ None
+            → TableStands H.stands self.now r → part_under seat points ≡ None
             → (performed (store_of caller points r) (begins seat)).store.mine.points
             ≡ entry seat result.stamp ∷ points }
     {
@@ -103,8 +103,8 @@ impl<H: History> RefTable<H> {
     /// Drops the refs of a tenant. What the shared refs hold stays. It takes a step for each
     /// version that is kept of the tenant's refs, and no memory.
     pub fn release(&mut self, tenant: u64)
-        ensures { (r : Refs) → Stands H.stands self.old r
-            → Stands H.stands self.new (without_refs (tenant_owner tenant) r) }
+        ensures { (r : Refs) → TableStands H.stands self.old r
+            → TableStands H.stands self.new (without_refs (tenant_owner tenant) r) }
     {
         if let Some(ids) = self.directory.remove(tenant) {
             drop_refs(&mut self.history, &ids);

@@ -17,7 +17,7 @@ use Rattle.tenant_turns.specs.DeedResult.{DeedResult, deed_result}
 use Rattle.tenant_world.specs.Standing as world
 use Rattle.tenant_world.specs.declared.tenant.Tenant.{Tenant}
 use Rattle.repl_core.specs.TenantAt.{tenant_at}
-use Rattle.repl_core.specs.Standing.{open_in, store_in, PlaceStands, Stands}
+use Rattle.repl_core.specs.Standing.{open_in, store_in, PlaceStands, MachineStands}
 use Rattle.repl_core.specs.Steps.{AcceptsStep, RefusesStep}
 use Rattle.repl_core.specs.declared.machine.Machine.{Machine}
 use Rattle.repl_core.specs.declared.tenants.Tenants.{Tenants}
@@ -45,9 +45,9 @@ err-map P Q (Err e) f p = f e p
 abbrev pub machine_with : Machine → Tenants → ListRefTable → Machine
 machine_with m ts table = record m { tenants = ts; refs = table }
 
-pub stands-with : (g : Ground) (old : Machine) (w : World) (ts : Tenants) → Stands g old w
+pub stands-with : (g : Ground) (old : Machine) (w : World) (ts : Tenants) → MachineStands g old w
     → ((u : ℕ) → tenant_at ts u ≡ tenant_at old.tenants u)
-    → Stands g (machine_with old ts old.refs) w
+    → MachineStands g (machine_with old ts old.refs) w
 stands-with g old w ts s same = record {
   names = s.names;
   seed = s.seed;
@@ -65,7 +65,7 @@ stands-with g old w ts s same = record {
 
 -- of a tenant that is not there
 pub refuses-none : (g : Ground) (w : World) (t : ℕ) (d : Deed) (old : Machine) (ts : Tenants)
-    → Stands g old w → tenant_at old.tenants t ≡ None → tenant_at ts t ≡ None
+    → MachineStands g old w → tenant_at old.tenants t ≡ None → tenant_at ts t ≡ None
     → ((u : ℕ) → u ≢ t → tenant_at ts u ≡ tenant_at old.tenants u)
     → RefusesStep g w (does t d) (machine_with old ts old.refs) Refusal.NoSuchTenant
 refuses-none g w t d old ts s none gone others = record {
@@ -90,13 +90,13 @@ world_behind g w t kept d q =
     with_tenant t (Some (record { quiet = q; mine = e.store.mine })) e.store.around w
 
 pub stands-one : (g : Ground) (w : World) (t : ℕ) (d : Deed) (old : Machine) (ts : Tenants)
-    (table : ListRefTable) (code : Tenant) (kept : TenantData) (q : Quiet) (s : Stands g old w)
+    (table : ListRefTable) (code : Tenant) (kept : TenantData) (q : Quiet) (s : MachineStands g old w)
     → open_in t w ≡ Some kept
-    → world.Stands g code q (deed_of g w t kept d).store
+    → world.QuietStands g code q (deed_of g w t kept d).store
     → TableServes table (deed_of g w t kept d).store (refs_after (deed_of g w t kept d).store s.refs)
     → tenant_at ts t ≡ Some code
     → ((u : ℕ) → u ≢ t → tenant_at ts u ≡ tenant_at old.tenants u)
-    → Stands g (machine_with old ts table) (world_behind g w t kept d q)
+    → MachineStands g (machine_with old ts table) (world_behind g w t kept d q)
 stands-one g w t d old ts table code kept q s there stands serves put others =
     let e = deed_of g w t kept d in
     let same : e.store.tenant ≡ t =
@@ -129,7 +129,7 @@ stands-one g w t d old ts table code kept q s there stands serves put others =
     }
 
 does-one : (g : Ground) (w : World) (t : ℕ) (d : Deed) (old : Machine) (ts : Tenants)
-    (table : ListRefTable) (code : Tenant) (answer : StepAnswer) (kept : TenantData) (s : Stands g old w)
+    (table : ListRefTable) (code : Tenant) (answer : StepAnswer) (kept : TenantData) (s : MachineStands g old w)
     → open_in t w ≡ Some kept
     → world.AcceptsDeed g (deed_of g w t kept d) code answer
     → TableServes table (deed_of g w t kept d).store (refs_after (deed_of g w t kept d).store s.refs)
@@ -146,8 +146,8 @@ does-one g w t d old ts table code answer kept s there did serves put others = r
 
 pub does-so : {X : Type 0} (g : Ground) (w : World) (t : ℕ) (d : Deed) (old : Machine)
     (ts : Tenants) (table : ListRefTable) (was code : Tenant) (answer : X → StepAnswer)
-    (res : Result X Refusal) (s : Stands g old w) → tenant_at old.tenants t ≡ Some was
-    → ((kept : TenantData) → world.Stands g was kept.quiet (store_in w.around t kept.mine)
+    (res : Result X Refusal) (s : MachineStands g old w) → tenant_at old.tenants t ≡ Some was
+    → ((kept : TenantData) → world.QuietStands g was kept.quiet (store_in w.around t kept.mine)
     → TableServes old.refs (store_in w.around t kept.mine) s.refs
     → let e = deed_of g w t kept d in IfOk res (λ x. world.AcceptsDeed g e code (answer x)
     × TableServes table e.store (refs_after e.store s.refs)))
@@ -165,13 +165,13 @@ does-so g w t d old ts table was code answer res s there did put others =
 -- A deed that is refused
 
 pub stays-one : (g : Ground) (w : World) (t : ℕ) (old : Machine) (ts : Tenants) (table : ListRefTable)
-    (code : Tenant) (kept : TenantData) (s : Stands g old w)
+    (code : Tenant) (kept : TenantData) (s : MachineStands g old w)
     → open_in t w ≡ Some kept → kept.mine.refs ≡ s.refs.owned (tenant t)
-    → world.Stands g code kept.quiet (store_in w.around t kept.mine)
+    → world.QuietStands g code kept.quiet (store_in w.around t kept.mine)
     → TableServes table (store_in w.around t kept.mine) s.refs
     → tenant_at ts t ≡ Some code
     → ((u : ℕ) → u ≢ t → tenant_at ts u ≡ tenant_at old.tenants u)
-    → Stands g (machine_with old ts table) w
+    → MachineStands g (machine_with old ts table) w
 stays-one g w t old ts table code kept s there refs stands serves put others = record {
   names = s.names;
   seed = s.seed;
@@ -193,7 +193,7 @@ stays-one g w t old ts table code kept s there refs stands serves put others = r
 }
 
 refuses-one : (g : Ground) (w : World) (t : ℕ) (d : Deed) (old : Machine) (ts : Tenants)
-    (table : ListRefTable) (code : Tenant) (why : Refusal) (kept : TenantData) (s : Stands g old w)
+    (table : ListRefTable) (code : Tenant) (why : Refusal) (kept : TenantData) (s : MachineStands g old w)
     → open_in t w ≡ Some kept → kept.mine.refs ≡ s.refs.owned (tenant t)
     → world.RefusesDeed g kept.quiet (store_in w.around t kept.mine) (deed_of g w t kept d) code why
     → TableServes table (store_in w.around t kept.mine) s.refs
@@ -208,8 +208,8 @@ refuses-one g w t d old ts table code why kept s there refs told serves put othe
 
 pub refuses-so : {X : Type 0} (g : Ground) (w : World) (t : ℕ) (d : Deed) (old : Machine)
     (ts : Tenants) (table : ListRefTable) (was code : Tenant) (res : Result X Refusal)
-    (s : Stands g old w) → tenant_at old.tenants t ≡ Some was
-    → ((kept : TenantData) → world.Stands g was kept.quiet (store_in w.around t kept.mine)
+    (s : MachineStands g old w) → tenant_at old.tenants t ≡ Some was
+    → ((kept : TenantData) → world.QuietStands g was kept.quiet (store_in w.around t kept.mine)
     → TableServes old.refs (store_in w.around t kept.mine) s.refs
     → IfErr res (λ why. world.RefusesDeed g kept.quiet (store_in w.around t kept.mine)
     (deed_of g w t kept d) code why × TableServes table (store_in w.around t kept.mine) s.refs))

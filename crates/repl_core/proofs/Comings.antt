@@ -26,7 +26,7 @@ use Rattle.std.specs.List.{AllByRecursion}
 use Rattle.tenant_world.specs.Standing as world
 use Rattle.tenant_world.specs.declared.tenant.Tenant.{Tenant}
 use Rattle.repl_core.specs.TenantAt.{tenant_at}
-use Rattle.repl_core.specs.Standing.{open_in, store_in, is_reached, PlaceStands, Stands}
+use Rattle.repl_core.specs.Standing.{open_in, store_in, is_reached, PlaceStands, MachineStands}
 use Rattle.repl_core.specs.Steps.{AcceptsStep, RefusesStep}
 use Rattle.repl_core.specs.declared.machine.Machine.{Machine}
 use Rattle.repl_core.specs.declared.tenants.Tenants.{Tenants}
@@ -56,7 +56,7 @@ open-tested g w t used held is full =
     ∙ ap (λ (b : Bool). open_tested g w t b (nat_le g.places (open_count w.tenants))) is
     ∙ ap (open_tested g w t used) full
 
-pub refuses-used : (g : Ground) (w : World) (t : ℕ) (m : Machine) (s : Stands g m w)
+pub refuses-used : (g : Ground) (w : World) (t : ℕ) (m : Machine) (s : MachineStands g m w)
     → is_reached m.newest t ≡ true → RefusesStep g w (opens t) m Refusal.NumberUsed
 refuses-used g w t m s reached = record {
   refused = λ ne. open-tested g w t true (nat_le g.places (open_count w.tenants))
@@ -64,7 +64,7 @@ refuses-used g w t m s reached = record {
   stands = s;
 }
 
-full-so : (g : Ground) (w : World) (m : Machine) (s : Stands g m w) (b : Bool)
+full-so : (g : Ground) (w : World) (m : Machine) (s : MachineStands g m w) (b : Bool)
     → nat_le m.places m.places_taken ≡ b → nat_le g.places (open_count w.tenants) ≡ b
 full-so g w m s b is =
     ap (λ k. nat_le k (open_count w.tenants)) s.places ∙ ap (nat_le m.places) s.places_taken ∙ is
@@ -75,7 +75,7 @@ le-true n m h = grind (arith, nat_tests)
 pub lt-false : (n m : ℕ) → m < n → nat_le n m ≡ false
 lt-false n m h = grind (arith, nat_tests)
 
-pub refuses-full : (g : Ground) (w : World) (t : ℕ) (m : Machine) (s : Stands g m w)
+pub refuses-full : (g : Ground) (w : World) (t : ℕ) (m : Machine) (s : MachineStands g m w)
     → is_reached m.newest t ≡ false → nat_le m.places m.places_taken ≡ true
     → RefusesStep g w (opens t) m Refusal.Full
 refuses-full g w t m s reached full = record {
@@ -93,10 +93,10 @@ machine_more m ts t = record m {
 }
 
 pub does-open : (g : Ground) (w : World) (t : ℕ) (old : Machine) (ts : Tenants) (code : Tenant)
-    (s : Stands g old w) → is_reached old.newest t ≡ false
+    (s : MachineStands g old w) → is_reached old.newest t ≡ false
     → nat_le old.places old.places_taken ≡ false
     → ((st : Store) → st.tenant ≡ t → st.mine.points ≡ []
-    → world.Stands g code (opened_quiet g) st)
+    → world.QuietStands g code (opened_quiet g) st)
     → tenant_at ts t ≡ Some code
     → ((u : ℕ) → u ≢ t → tenant_at ts u ≡ tenant_at old.tenants u)
     → AcceptsStep g w (opens t) (machine_more old ts t) tenant_opened
@@ -153,10 +153,10 @@ abbrev pub machine_less : Machine → Tenants → ListRefTable → ℕ → Machi
 machine_less m ts table n = record m { tenants = ts; refs = table; places_taken = n }
 
 pub does-close : (g : Ground) (w : World) (t n : ℕ) (old : Machine) (ts : Tenants) (table : ListRefTable)
-    (was : Tenant) (s : Stands g old w) → tenant_at old.tenants t ≡ Some was
+    (was : Tenant) (s : MachineStands g old w) → tenant_at old.tenants t ≡ Some was
     → tenant_at ts t ≡ None → ((u : ℕ) → u ≢ t → tenant_at ts u ≡ tenant_at old.tenants u)
-    → ((r : Refs) → refs.Stands ListStands old.refs r
-    → refs.Stands ListStands table (without_refs (tenant t) r))
+    → ((r : Refs) → refs.TableStands ListStands old.refs r
+    → refs.TableStands ListStands table (without_refs (tenant t) r))
     → n ≡ old.places_taken - 1
     → AcceptsStep g w (closes t) (machine_less old ts table n) tenant_gone
 does-close g w t n old ts table was s there gone others released less =
@@ -195,7 +195,7 @@ does-close g w t n old ts table was s there gone others released less =
     }
 
 pub refuses-close : (g : Ground) (w : World) (t : ℕ) (old : Machine) (ts : Tenants)
-    → Stands g old w → tenant_at old.tenants t ≡ None → tenant_at ts t ≡ None
+    → MachineStands g old w → tenant_at old.tenants t ≡ None → tenant_at ts t ≡ None
     → ((u : ℕ) → u ≢ t → tenant_at ts u ≡ tenant_at old.tenants u)
     → RefusesStep g w (closes t) (machine_with old ts old.refs) Refusal.NoSuchTenant
 refuses-close g w t old ts s none gone others = record {
@@ -209,7 +209,7 @@ refuses-close g w t old ts s none gone others = record {
 -- Want of memory
 
 pub refuses-memory : {X : Type 0} (g : Ground) (w : World) (t : ℕ) (m : Machine)
-    (res : Result X Refusal) → IsErrAnd res (λ e. e ≡ Refusal.NoMemory) → Stands g m w
+    (res : Result X Refusal) → IsErrAnd res (λ e. e ≡ Refusal.NoMemory) → MachineStands g m w
     → IfErr res (RefusesStep g w (opens t) m)
 refuses-memory g w t m (Ok x) never s = tt
 refuses-memory g w t m (Err e) is s = record {

@@ -16,7 +16,7 @@ use Rattle.server_rules.specs.Versions.{readable, newest}
 use Rattle.server_rules.specs.Store.{Store, ref_of, ref_named, newest_in_ref, newest_value}
 use Rattle.server_rules.specs.Store.{changed_of, with_changed_ref, with_points, left_attempt}
 use Rattle.server_rules.specs.Commit.{guarded_refs, touched_refs, changing_refs, all_there, all_fit}
-use Rattle.server_rules.specs.Commit.{all_take, are_distinct, intent_fits, any_newer}
+use Rattle.server_rules.specs.Commit.{all_take, refs_are_distinct, intent_fits, any_newer}
 use Rattle.value_data.specs.Same.{same_owner}
 use Rattle.server_rules.specs.Commit.{all_folded, with_changes, with_raised_counter, with_all}
 use Rattle.server_rules.specs.Commit.{concluded_commit, checked_commit, commit_by}
@@ -277,8 +277,8 @@ concluded_commit-newest name seat intent answer s (Err f) fit is told =
     (some-same (verdict (exchange.faulted f)) answer told)
 concluded_commit-newest name seat intent answer s (Ok changes) fit is told =
     let parts = and_parts (all_there (touched_refs intent) s) (intent_fits intent) fit in
-    let once = and_parts (all_fit intent.sets) (are_distinct (changing_refs intent))
-    (and_parts (all_fit intent.sets && are_distinct (changing_refs intent)) (all_take intent.commuted)
+    let once = and_parts (all_fit intent.sets) (refs_are_distinct (changing_refs intent))
+    (and_parts (all_fit intent.sets && refs_are_distinct (changing_refs intent)) (all_take intent.commuted)
     parts.1).0 in
     left-newest name seat (with_all (intent.sets ++ changes) s)
     ∙ all-newest name (intent.sets ++ changes) s

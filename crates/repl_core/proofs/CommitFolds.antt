@@ -8,7 +8,7 @@ use Rattle.std.proofs.lemmas.Bool.{eqb-true, and_parts}
 use Rattle.value_data.specs.Datum.{Datum, OwnerData, shared, tenant}
 use Rattle.repl_faults.specs.Failure.{Failure, ◌>>=◌}
 use Rattle.repl_asks.specs.Transactions.{RefNameData, ChangeData, CommutedData, same_name}
-use Rattle.server_rules.specs.Commit.{are_distinct, folded_from, all_folded}
+use Rattle.server_rules.specs.Commit.{refs_are_distinct, folded_from, all_folded}
 use Rattle.value_data.specs.Same.{same_owner}
 use Rattle.ref_table.proofs.Owners.{none-some}
 use Rattle.repl_core.specs.Commits.{last_set, folded_or, last_commuted}
@@ -42,21 +42,21 @@ among-behind name (x ∷ xs) ys e =
 
 -- the first of names that are distinct is not among the others
 first-apart : (name first : RefNameData) (names : List RefNameData)
-    → are_distinct (first ∷ names) ≡ true → same_name name first ≡ true
+    → refs_are_distinct (first ∷ names) ≡ true → same_name name first ≡ true
     → is_among name names ≡ false
 first-apart name first names once same =
     ap (λ n. is_among n names) (same_name-true name first same)
     ∙ apart (is_among first names)
-    (and_parts (not (is_among first names)) (are_distinct names) once).0
+    (and_parts (not (is_among first names)) (refs_are_distinct names) once).0
   where
     apart : (b : Bool) → not b ≡ true → b ≡ false
     apart true e = absurd (true≢false (sym e))
     apart false e = refl
 
 rest-distinct : (first : RefNameData) (names : List RefNameData)
-    → are_distinct (first ∷ names) ≡ true → are_distinct names ≡ true
+    → refs_are_distinct (first ∷ names) ≡ true → refs_are_distinct names ≡ true
 rest-distinct first names once =
-    (and_parts (not (is_among first names)) (are_distinct names) once).1
+    (and_parts (not (is_among first names)) (refs_are_distinct names) once).1
 
 -- What was commuted
 
@@ -69,7 +69,7 @@ module _ (name : RefNameData) (value : RefNameData → Option Datum) where
   Began cs before = is_among name (map (λ c. c.name) cs) ≡ true → before ≡ value name
 
   folds-gave : (cs : List CommutedData) (changes : List ChangeData) (before : Option Datum)
-      → are_distinct (map (λ c. c.name) cs) ≡ true → all_folded value cs ≡ Ok changes
+      → refs_are_distinct (map (λ c. c.name) cs) ≡ true → all_folded value cs ≡ Ok changes
       → Began cs before → last_set name changes before ≡ last_commuted name cs before
   folds-gave [] changes before once folds began =
       ap (λ ds. last_set name ds before) (sym (ok-same [] changes folds))
@@ -111,7 +111,7 @@ module _ (name : RefNameData) (value : RefNameData → Option Datum) where
   -- all changes of a commit, of which none is of a ref that another changes
   pub changes-gave : (sets : List ChangeData) (cs : List CommutedData) (changes : List ChangeData)
       (before : Option Datum)
-      → are_distinct (map (λ c. c.name) sets ++ map (λ c. c.name) cs) ≡ true
+      → refs_are_distinct (map (λ c. c.name) sets ++ map (λ c. c.name) cs) ≡ true
       → all_folded value cs ≡ Ok changes → Began cs before
       → last_set name (sets ++ changes) before
       ≡ last_commuted name cs (last_set name sets before)

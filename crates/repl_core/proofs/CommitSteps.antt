@@ -12,7 +12,7 @@ use Rattle.server_rules.specs.Store.{Store, ref_of, left_attempt}
 use Rattle.server_rules.specs.Calls.{gives_up, given_up, performed}
 use Rattle.server_rules.specs.Ground.{Ground}
 use Rattle.server_rules.specs.Request.{Hand, Run}
-use Rattle.server_rules.specs.Tenant.{ActorData, seat_of, Quiet, is_held, state_of}
+use Rattle.server_rules.specs.Tenant.{ActorData, seat_of, Quiet, is_held, actor_state}
 use Rattle.server_rules.specs.Plan.{Deed, hears, starts, asks_for, ends, drains}
 use Rattle.repl_jobs.specs.Job.{EndingData}
 use Rattle.server_rules.specs.Plan.{StepAnswer, ask_answered, form_finished, Outcome, refuses}
@@ -190,7 +190,7 @@ module _ (name : RefNameData) (w : World) (t : ℕ) (kept : TenantData)
   compared-gives d still a actor h e false difference = refl
   compared-gives d still a actor h e true (Some place) = refl
   compared-gives d still a actor h e true None = left-gives d still a
-      (leaves (with_step_spent (after_move a actor (form_ended h e.end (state_of a kept.quiet)) kept.quiet))
+      (leaves (with_step_spent (after_move a actor (form_ended h e.end (actor_state a kept.quiet)) kept.quiet))
       form_finished)
 
   checked-gives : (g : Ground) (d : Deed) → Still d → (a : Actor) (actor : ActorData) (h : Hand)

@@ -16,8 +16,8 @@ use Rattle.tenant_walks.specs.Inside.Standing.{parts}
 use Rattle.tenant_walks.specs.declared.walks.Walks.{Walks}
 use Rattle.tenant_world.specs.declared.tenant.Tenant.{Tenant}
 use Rattle.repl_core.specs.TenantAt.{tenant_at}
-use Rattle.repl_core.specs.Standing.{open_in, store_in, TenantStands, Stands}
-use Rattle.repl_core.specs.Going.{AreWalkedIn, AcceptsTurn, RefusesTurn}
+use Rattle.repl_core.specs.Standing.{open_in, store_in, TenantStands, MachineStands}
+use Rattle.repl_core.specs.Going.{AreWalkedIn, AcceptsHonestStep, RefusesHonestStep}
 use Rattle.repl_core.specs.declared.machine.Machine.{Machine}
 use Rattle.repl_core.specs.declared.tenants.Tenants.{Tenants}
 use Rattle.repl_core.proofs.Worlds.{deed_of, found-open, step-deed, step-none}
@@ -37,10 +37,10 @@ abbrev lone_in : World → ℕ → TenantData → Lone
 lone_in w t kept = record { quiet = kept.quiet; store = store_in w.around t kept.mine }
 
 lone-stands : (g : Ground) (w : World) (t : ℕ) (old : Machine) (was : Tenant) (walks : Walks)
-    (kept : TenantData) (s : Stands g old w) → IsRight g → Evaluates g
+    (kept : TenantData) (s : MachineStands g old w) → IsRight g → Evaluates g
     → tenant_at old.tenants t ≡ Some was → open_in t w ≡ Some kept
     → AreWalkedIn walks (open_in t w)
-    → walked.Stands g (parts was old.refs walks) (lone_in w t kept) s.refs
+    → walked.PartsStand g (parts was old.refs walks) (lone_in w t kept) s.refs
 lone-stands g w t old was walks kept s right ground there is walked =
     let at = kept-at g s.refs t was (tenant_at old.tenants t) (open_in t w) (s.tenants t) there in
     let same : at.0 ≡ kept = cc in
@@ -55,13 +55,13 @@ lone-stands g w t old was walks kept s right ground there is walked =
 
 pub goes-so : {X : Type 0} (g : Ground) (w : World) (t : ℕ) (a : Actor) (old : Machine)
     (ts : Tenants) (table : ListRefTable) (was code : Tenant) (before walks : Walks)
-    (res : Result X Refusal) (s : Stands g old w) → IsRight g → Evaluates g
+    (res : Result X Refusal) (s : MachineStands g old w) → IsRight g → Evaluates g
     → tenant_at old.tenants t ≡ Some was → AreWalkedIn before (open_in t w)
-    → ((l : Lone) → walked.Stands g (parts was old.refs before) l s.refs
-    → OnOk res (walked.AcceptsDeed g l s.refs (honest_deed g a (Some (Some l.quiet))) (parts code table walks)))
+    → ((l : Lone) → walked.PartsStand g (parts was old.refs before) l s.refs
+    → OnOk res (walked.AcceptsHonestDeed g l s.refs (honest_deed g a (Some (Some l.quiet))) (parts code table walks)))
     → tenant_at ts t ≡ Some code
     → ((u : ℕ) → u ≢ t → tenant_at ts u ≡ tenant_at old.tenants u)
-    → OnOk res (AcceptsTurn g w t a (machine_with old ts table) walks)
+    → OnOk res (AcceptsHonestStep g w t a (machine_with old ts table) walks)
 goes-so g w t a old ts table was code before walks (Err why) s right ground there walked did put
     others = tt
 goes-so g w t a old ts table was code before walks (Ok x) s right ground there walked did put
@@ -87,14 +87,14 @@ goes-so g w t a old ts table was code before walks (Ok x) s right ground there w
 
 pub halts-so : {X : Type 0} (g : Ground) (w : World) (t : ℕ) (a : Actor) (old : Machine)
     (ts : Tenants) (table : ListRefTable) (was code : Tenant) (before walks : Walks)
-    (res : Result X Refusal) (s : Stands g old w) → IsRight g → Evaluates g
+    (res : Result X Refusal) (s : MachineStands g old w) → IsRight g → Evaluates g
     → tenant_at old.tenants t ≡ Some was → AreWalkedIn before (open_in t w)
-    → ((l : Lone) → walked.Stands g (parts was old.refs before) l s.refs
-    → IfErr res (walked.RefusesDeed g l s.refs (honest_deed g a (Some (Some l.quiet)))
+    → ((l : Lone) → walked.PartsStand g (parts was old.refs before) l s.refs
+    → IfErr res (walked.RefusesHonestDeed g l s.refs (honest_deed g a (Some (Some l.quiet)))
     (parts code table walks)))
     → tenant_at ts t ≡ Some code
     → ((u : ℕ) → u ≢ t → tenant_at ts u ≡ tenant_at old.tenants u)
-    → IfErr res (RefusesTurn g w t a (machine_with old ts table) walks)
+    → IfErr res (RefusesHonestStep g w t a (machine_with old ts table) walks)
 halts-so g w t a old ts table was code before walks (Ok x) s right ground there walked told put
     others = tt
 halts-so g w t a old ts table was code before walks (Err why) s right ground there walked told put
@@ -114,10 +114,10 @@ halts-so g w t a old ts table was code before walks (Err why) s right ground the
 
 -- of a tenant that is not there
 pub halts-none : (g : Ground) (w : World) (t : ℕ) (a : Actor) (old : Machine) (ts : Tenants)
-    (walks : Walks) → Stands g old w → AreWalkedIn walks (open_in t w)
+    (walks : Walks) → MachineStands g old w → AreWalkedIn walks (open_in t w)
     → tenant_at old.tenants t ≡ None → tenant_at ts t ≡ None
     → ((u : ℕ) → u ≢ t → tenant_at ts u ≡ tenant_at old.tenants u)
-    → RefusesTurn g w t a (machine_with old ts old.refs) walks Refusal.NoSuchTenant
+    → RefusesHonestStep g w t a (machine_with old ts old.refs) walks Refusal.NoSuchTenant
 halts-none g w t a old ts walks s walked none gone others = record {
   refused = λ ne. step-none g w t (honest_deed g a (option_map quiet_of (part_under t w.tenants)))
       (none-at g s.refs t (tenant_at old.tenants t) (open_in t w) (s.tenants t) none);

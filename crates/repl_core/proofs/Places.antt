@@ -17,14 +17,14 @@ use Rattle.tenant_world.specs.Standing as world
 use Rattle.tenant_world.specs.declared.tenant.Tenant.{Tenant}
 use Rattle.repl_core.specs.TenantAt.{tenant_at}
 use Rattle.repl_core.specs.Standing.{open_in, store_in, around_in, TenantStands, PlaceStands}
-use Rattle.repl_core.specs.Standing.{Stands}
+use Rattle.repl_core.specs.Standing.{MachineStands}
 use Rattle.repl_core.specs.declared.machine.Machine.{Machine}
 use Rattle.repl_core.proofs.Worlds.{found-open}
 
 -- the code stands for a tenant, whatever all have in common
 pub world-stands : (g : Ground) (code : Tenant) (q : Quiet) (s new : Store)
-    → new.tenant ≡ s.tenant → new.mine.points ≡ s.mine.points → world.Stands g code q s
-    → world.Stands g code q new
+    → new.tenant ≡ s.tenant → new.mine.points ≡ s.mine.points → world.QuietStands g code q s
+    → world.QuietStands g code q new
 world-stands g code q s new same points st = record {
   retries = st.retries;
   names = st.names;
@@ -40,7 +40,7 @@ world-stands g code q s new same points st = record {
 
 -- a tenant behind its step
 pub tenant-stands : (g : Ground) (r : Refs) (t : ℕ) (code : Tenant) (q : Quiet) (s : Store)
-    → s.tenant ≡ t → s.mine.refs ≡ r.owned (tenant t) → world.Stands g code q s
+    → s.tenant ≡ t → s.mine.refs ≡ r.owned (tenant t) → world.QuietStands g code q s
     → TenantStands g r t code (record { quiet = q; mine = s.mine })
 tenant-stands g r t code q s same refs st = record {
   stands = λ around. world-stands g code q s (store_in around t s.mine) (sym same) refl st;
@@ -49,7 +49,7 @@ tenant-stands g r t code q s same refs st = record {
 
 -- the table serves a tenant that is open
 pub serves-in : (g : Ground) (m : Machine) (w : World) (t : ℕ) (code : Tenant) (kept : TenantData)
-    (s : Stands g m w) → TenantStands g s.refs t code kept
+    (s : MachineStands g m w) → TenantStands g s.refs t code kept
     → TableServes m.refs (store_in w.around t kept.mine) s.refs
 serves-in g m w t code kept s it = record {
   stands = s.table;
@@ -164,9 +164,9 @@ owned-mine s r t same =
 
 -- what a tenant that is open shows
 pub shown-of : {X : Type 0} (g : Ground) (m : Machine) (w : World) (t : ℕ) (code : Tenant)
-    (show : Quiet → Option X) (shown : Option X) (s : Stands g m w)
+    (show : Quiet → Option X) (shown : Option X) (s : MachineStands g m w)
     → tenant_at m.tenants t ≡ Some code
-    → ((q : Quiet) (st : Store) → world.Stands g code q st → shown ≡ show q)
+    → ((q : Quiet) (st : Store) → world.QuietStands g code q st → shown ≡ show q)
     → shown ≡ option_and_then (λ it. show it.quiet) (open_in t w)
 shown-of g m w t code show shown s there is =
     let at = kept-at g s.refs t code (tenant_at m.tenants t) (open_in t w) (s.tenants t) there in

@@ -10,7 +10,7 @@ use Rattle.server_rules.specs.declared.refusal.Refusal.{Refusal}
 use Rattle.tenant_walks.specs.Inside.WalkAt.{walk_at}
 use Rattle.tenant_walks.specs.Inside.Walked.{AreWalked}
 use Rattle.tenant_walks.specs.declared.walks.Walks.{Walks}
-use Rattle.repl_core.specs.Standing.{open_in, Stands}
+use Rattle.repl_core.specs.Standing.{open_in, MachineStands}
 use Rattle.repl_core.specs.declared.machine.Machine.{Machine}
 
 -- the evaluations are those of the forms of a tenant, if it is open
@@ -32,17 +32,19 @@ StepKeepsForms (does t d) = KeepsForms d
 StepKeepsForms (closes t) = ⊤
 
 -- the turn is accepted
-pub record AcceptsTurn (g : Ground) (w : World) (t : ℕ) (a : Actor) (m : Machine) (walks : Walks)
+pub record AcceptsHonestStep (g : Ground) (w : World) (t : ℕ) (a : Actor) (m : Machine)
+    (walks : Walks)
     : Type 0 where
   pub after : World
   pub answer : StepAnswer
   pub accepted : turn_step g w (goes t a) ≡ accepted after answer
-  pub stands : Stands g m after
+  pub stands : MachineStands g m after
   pub walked : AreWalkedIn walks (open_in t after)
 
 -- the turn is refused so, unless for want of memory, and all is as it was
-pub record RefusesTurn (g : Ground) (w : World) (t : ℕ) (a : Actor) (m : Machine) (walks : Walks)
+pub record RefusesHonestStep (g : Ground) (w : World) (t : ℕ) (a : Actor) (m : Machine)
+    (walks : Walks)
     (why : Refusal) : Type 0 where
   pub refused : why ≢ Refusal.NoMemory → turn_step g w (goes t a) ≡ refused why
-  pub stands : Stands g m w
+  pub stands : MachineStands g m w
   pub walked : AreWalkedIn walks (open_in t w)

@@ -30,7 +30,7 @@ around_in r = record { counter = r.counter; refs = r.owned shared }
 -- the tenant of the code is that of the rules, and its refs are those of the table
 pub record TenantStands (g : Ground) (r : Refs) (t : ℕ) (code : Tenant) (kept : TenantData)
     : Type 0 where
-  pub stands : (around : Around) → world.Stands g code kept.quiet (store_in around t kept.mine)
+  pub stands : (around : Around) → world.QuietStands g code kept.quiet (store_in around t kept.mine)
   pub refs : kept.mine.refs ≡ r.owned (tenant t)
 
 -- a tenant that is not open has no refs
@@ -45,14 +45,14 @@ abbrev pub is_reached : Option ℕ → ℕ → Bool
 is_reached None t = false
 is_reached (Some newest) t = nat_le t newest
 
-pub record Stands (g : Ground) (m : Machine) (w : World) : Type 0 where
+pub record MachineStands (g : Ground) (m : Machine) (w : World) : Type 0 where
   pub names : SharesNoNames g
   pub seed : g.seed ≡ m.config.seed
   pub steps : g.steps ≡ m.config.steps
   pub retries : g.retries ≡ m.config.retries
   pub places : g.places ≡ m.places
   pub refs : Refs
-  pub table : table.Stands ListStands m.refs refs
+  pub table : table.TableStands ListStands m.refs refs
   pub sound : AreSound refs
   pub around : w.around ≡ around_in refs
   pub tenants : (t : ℕ) → PlaceStands g refs t (tenant_at m.tenants t) (open_in t w)

@@ -11,7 +11,7 @@ use Rattle.server_rules.specs.World as worlds
 use Rattle.server_rules.specs.World.{World, opens, does, closes, accepted, refused, step}
 use Rattle.server_rules.specs.declared.refusal.Refusal.{Refusal}
 use Rattle.repl_walker.specs.Ends.{ending_view}
-use Rattle.repl_core.specs.Standing.{Stands}
+use Rattle.repl_core.specs.Standing.{MachineStands}
 use Rattle.repl_core.specs.declared.machine.Machine.{Machine}
 use Rattle.repl_core.specs.declared.step.Step.{Step}
 use Rattle.repl_core.specs.declared.step.StepAnswer.{StepAnswer}
@@ -42,11 +42,11 @@ pub record AcceptsStep (g : Ground) (w : World) (s : worlds.Step) (m : Machine)
     : Type 0 where
   pub after : World
   pub accepted : step g w s ≡ accepted after answer
-  pub stands : Stands g m after
+  pub stands : MachineStands g m after
 
 -- the step is refused so, unless for want of memory, and the machine stands for the server as it
 -- was
 pub record RefusesStep (g : Ground) (w : World) (s : worlds.Step) (m : Machine) (why : Refusal)
     : Type 0 where
   pub refused : why ≢ Refusal.NoMemory → step g w s ≡ refused why
-  pub stands : Stands g m w
+  pub stands : MachineStands g m w

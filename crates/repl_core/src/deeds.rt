@@ -23,15 +23,15 @@ use tenant_world::{AskAnswer, EndAnswer, StartAnswer};
 
 impl Machine {
     ghost use Rattle.repl_core.specs.Left.{left_at};
-    ghost use Rattle.repl_core.specs.Standing.{Stands};
+    ghost use Rattle.repl_core.specs.Standing.{MachineStands};
     ghost use Rattle.repl_core.specs.Steps.{AcceptsStep, RefusesStep};
 
     /// A tenant hears a piece of its stream.
     pub fn hear(&mut self, number: u64, piece: &Bytes) -> Result<usize, Refusal>
-        ensures done { (g : Ground) (w : World) → IsRight g → Stands g self.old w
+        ensures done { (g : Ground) (w : World) → IsRight g → MachineStands g self.old w
             → IfOk result (λ x. AcceptsStep g w (does number (deeds.hears piece.now)) self.new
             (messages_heard x)) }
-        ensures refused { (g : Ground) (w : World) → IsRight g → Stands g self.old w
+        ensures refused { (g : Ground) (w : World) → IsRight g → MachineStands g self.old w
             → IfErr result (RefusesStep g w (does number (deeds.hears piece.now)) self.new) }
         ensures steps { OnOk result
             ((left_at number self.old).steps ≡ (left_at number self.new).steps + 1) }
@@ -48,10 +48,10 @@ impl Machine {
 
     /// An actor begins its next form, or takes up its next request.
     pub(crate) fn start(&mut self, number: u64, actor: Actor) -> Result<StartAnswer, Refusal>
-        ensures done { (g : Ground) (w : World) → IsRight g → Stands g self.old w
+        ensures done { (g : Ground) (w : World) → IsRight g → MachineStands g self.old w
             → IfOk result (λ x. AcceptsStep g w (does number (deeds.starts actor)) self.new
             (start_answer_view x)) }
-        ensures refused { (g : Ground) (w : World) → IsRight g → Stands g self.old w
+        ensures refused { (g : Ground) (w : World) → IsRight g → MachineStands g self.old w
             → IfErr result (RefusesStep g w (does number (deeds.starts actor)) self.new) }
     {
         let Some(mut tenant) = self.tenants.take(number) else {
@@ -69,11 +69,11 @@ impl Machine {
         actor: Actor,
         ask: &Ask,
     ) -> Result<AskAnswer, Refusal>
-        ensures done { (g : Ground) (w : World) → IsRight g → Stands g self.old w
+        ensures done { (g : Ground) (w : World) → IsRight g → MachineStands g self.old w
             → IfOk result (λ x. AcceptsStep g w
             (does number (deeds.asks_for actor (ask_view ask.now))) self.new
             (ask_answer_view x)) }
-        ensures refused { (g : Ground) (w : World) → IsRight g → Stands g self.old w
+        ensures refused { (g : Ground) (w : World) → IsRight g → MachineStands g self.old w
             → IfErr result (RefusesStep g w
             (does number (deeds.asks_for actor (ask_view ask.now))) self.new) }
     {
@@ -95,11 +95,11 @@ impl Machine {
         actor: Actor,
         ending: &Ending,
     ) -> Result<EndAnswer, Refusal>
-        ensures done { (g : Ground) (w : World) → IsRight g → Stands g self.old w
+        ensures done { (g : Ground) (w : World) → IsRight g → MachineStands g self.old w
             → IfOk result (λ x. AcceptsStep g w
             (does number (deeds.ends actor (endings.ending_view ending.now))) self.new
             (end_answer_view x)) }
-        ensures refused { (g : Ground) (w : World) → IsRight g → Stands g self.old w
+        ensures refused { (g : Ground) (w : World) → IsRight g → MachineStands g self.old w
             → IfErr result (RefusesStep g w
             (does number (deeds.ends actor (endings.ending_view ending.now))) self.new) }
     {
@@ -118,10 +118,10 @@ impl Machine {
 
     /// A tenant's oldest reply is taken out. It takes no memory.
     pub fn drain(&mut self, number: u64) -> Result<Vec<u8>, Refusal>
-        ensures done { (g : Ground) (w : World) → IsRight g → Stands g self.old w
+        ensures done { (g : Ground) (w : World) → IsRight g → MachineStands g self.old w
             → IfOk result (λ x. AcceptsStep g w (does number deeds.drains) self.new
             (reply_given x.items)) }
-        ensures refused { (g : Ground) (w : World) → IsRight g → Stands g self.old w
+        ensures refused { (g : Ground) (w : World) → IsRight g → MachineStands g self.old w
             → IfErr result (RefusesStep g w (does number deeds.drains) self.new) }
         ensures steps { (left_at number self.new).steps ≡ (left_at number self.old).steps }
         ensures oldest { IfOk result (λ reply. (left_at number self.old).outbox

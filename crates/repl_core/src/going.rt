@@ -14,19 +14,21 @@ use tenant_walks::Walks;
 
 impl Machine {
     ghost use Rattle.repl_core.specs.Left.{left_at};
-    ghost use Rattle.repl_core.specs.Standing.{Stands};
-    ghost use Rattle.repl_core.specs.Going.{AcceptsTurn, RefusesTurn};
+    ghost use Rattle.repl_core.specs.Standing.{MachineStands};
+    ghost use Rattle.repl_core.specs.Going.{AcceptsHonestStep, RefusesHonestStep};
 
     /// Makes the honest step of an actor: begins a form, or asks what its evaluation asks, or ends
     /// it as that ends. The evaluations of the tenant's forms are lent, and go on. A step that is
     /// refused changes nothing.
     pub fn go(&mut self, number: u64, actor: Actor, walks: &mut Walks) -> Result<(), Refusal>
-        ensures done { (g : Ground) (w : World) → IsRight g → Evaluates g → Stands g self.old w
+        ensures done { (g : Ground) (w : World) → IsRight g → Evaluates g
+            → MachineStands g self.old w
             → AreWalkedIn walks.old (open_in number w)
-            → OnOk result (AcceptsTurn g w number actor self.new walks.new) }
-        ensures refused { (g : Ground) (w : World) → IsRight g → Evaluates g → Stands g self.old w
+            → OnOk result (AcceptsHonestStep g w number actor self.new walks.new) }
+        ensures refused { (g : Ground) (w : World) → IsRight g → Evaluates g
+            → MachineStands g self.old w
             → AreWalkedIn walks.old (open_in number w)
-            → IfErr result (RefusesTurn g w number actor self.new walks.new) }
+            → IfErr result (RefusesHonestStep g w number actor self.new walks.new) }
         ensures steps { OnOk result
             ((left_at number self.old).steps ≡ (left_at number self.new).steps + 1) }
         ensures kept { OnErr result

@@ -58,12 +58,12 @@ pub struct Machine {
 }
 
 impl Machine {
-    ghost use Rattle.repl_core.specs.Standing.{Stands};
+    ghost use Rattle.repl_core.specs.Standing.{MachineStands};
 
     /// A server to which nobody came. It takes no memory.
     pub fn new(alloc: Global, config: Config) -> Machine
         ensures { (g : Ground) → SharesNoNames g → g.seed ≡ config.seed → g.steps ≡ config.steps
-            → g.retries ≡ config.retries → g.places ≡ 1 → Stands g result (new_world []) }
+            → g.retries ≡ config.retries → g.places ≡ 1 → MachineStands g result (new_world []) }
     {
         Machine {
             alloc,
@@ -86,7 +86,7 @@ impl Machine {
     /// The first actor of a tenant that has a form or a request to begin, if the tenant is open and
     /// has one. It takes a step for each actor, and no memory.
     pub fn ready(&self, number: u64) -> Option<Actor>
-        ensures { (g : Ground) (w : World) → Stands g self.now w
+        ensures { (g : Ground) (w : World) → MachineStands g self.now w
             → result ≡ option_and_then (λ it. ready it.quiet) (open_in number w) }
     {
         self.tenants.get(number)?.ready()

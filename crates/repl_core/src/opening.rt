@@ -11,14 +11,14 @@ use server_rules::Refusal;
 use tenant_world::Tenant;
 
 impl Machine {
-    ghost use Rattle.repl_core.specs.Standing.{Stands};
+    ghost use Rattle.repl_core.specs.Standing.{MachineStands};
     ghost use Rattle.repl_core.specs.Steps.{AcceptsStep, RefusesStep};
 
     /// A tenant comes.
     pub fn open(&mut self, number: u64) -> Result<(), Refusal>
-        ensures done { (g : Ground) (w : World) → IsRight g → Stands g self.old w
+        ensures done { (g : Ground) (w : World) → IsRight g → MachineStands g self.old w
             → OnOk result (AcceptsStep g w (opens number) self.new tenant_opened) }
-        ensures refused { (g : Ground) (w : World) → IsRight g → Stands g self.old w
+        ensures refused { (g : Ground) (w : World) → IsRight g → MachineStands g self.old w
             → IfErr result (RefusesStep g w (opens number) self.new) }
     {
         if self.is_reached(number) {
@@ -52,9 +52,9 @@ impl Machine {
 
     /// A tenant goes, and its refs with it. It takes no memory.
     pub fn close(&mut self, number: u64) -> Result<(), Refusal>
-        ensures done { (g : Ground) (w : World) → Stands g self.old w
+        ensures done { (g : Ground) (w : World) → MachineStands g self.old w
             → OnOk result (AcceptsStep g w (closes number) self.new tenant_gone) }
-        ensures refused { (g : Ground) (w : World) → Stands g self.old w
+        ensures refused { (g : Ground) (w : World) → MachineStands g self.old w
             → IfErr result (RefusesStep g w (closes number) self.new) }
         ensures free { result ≢ Err Refusal.NoMemory }
     {

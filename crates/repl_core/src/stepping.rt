@@ -12,14 +12,14 @@ use server_rules::Refusal;
 use tenant_world::{AskAnswer, EndAnswer, StartAnswer};
 
 impl Machine {
-    ghost use Rattle.repl_core.specs.Standing.{Stands};
+    ghost use Rattle.repl_core.specs.Standing.{MachineStands};
     ghost use Rattle.repl_core.specs.Steps.{AcceptsStep, RefusesStep};
 
     /// Makes a step. A step that is refused changes nothing, and is given back.
     pub fn step(&mut self, step: Step) -> Result<StepAnswer, Refused>
-        ensures done { (g : Ground) (w : World) → IsRight g → Stands g self.old w
+        ensures done { (g : Ground) (w : World) → IsRight g → MachineStands g self.old w
             → IfOk result (λ x. AcceptsStep g w (step_view step) self.new (step_answer_view x)) }
-        ensures refused { (g : Ground) (w : World) → IsRight g → Stands g self.old w
+        ensures refused { (g : Ground) (w : World) → IsRight g → MachineStands g self.old w
             → IfErr result (λ it. RefusesStep g w (step_view step) self.new it.why) }
         ensures handed_back { IfErr result (λ it. it.step ≡ step) }
     {
@@ -30,10 +30,10 @@ impl Machine {
     }
 
     fn make(&mut self, step: &Step) -> Result<StepAnswer, Refusal>
-        ensures done { (g : Ground) (w : World) → IsRight g → Stands g self.old w
+        ensures done { (g : Ground) (w : World) → IsRight g → MachineStands g self.old w
             → IfOk result (λ x. AcceptsStep g w (step_view step.now) self.new
             (step_answer_view x)) }
-        ensures refused { (g : Ground) (w : World) → IsRight g → Stands g self.old w
+        ensures refused { (g : Ground) (w : World) → IsRight g → MachineStands g self.old w
             → IfErr result (RefusesStep g w (step_view step.now) self.new) }
     {
         match step {

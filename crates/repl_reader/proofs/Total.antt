@@ -7,7 +7,7 @@ use Rattle.repl_reader.specs.Reading.{Bracket, FormReading, begins, closes, ends
 use Rattle.repl_reader.specs.Reading.{settled, opens, marks, drops, next_in}
 use Rattle.repl_reader.specs.Grammar.{Reads, plain, marked, marked_deep, opened, opened_deep}
 use Rattle.repl_reader.specs.Grammar.{dropped, undropped, Row, last, more, wrapped_reading}
-use Rattle.repl_reader.specs.Grammar.{enclosed_reading, too_deep, most_nested}
+use Rattle.repl_reader.specs.Grammar.{enclosed_reading, nests_too_deep, most_nested}
 use Rattle.repl_reader.specs.Inside.Laws.{EveryTextReads}
 use Rattle.repl_reader.proofs.Shorter.{NextShorter, next_shorter, reads_shorter}
 
@@ -33,11 +33,11 @@ has_room depth = by_test (ltb depth most_nested) refl
 
 by_mark : (depth : ℕ) (text name rest : List ℕ) → next_in text ≡ marks name rest → (depth < most_nested) ⊎ (most_nested ≤ depth) → Found (depth + 1) rest → Found depth text
 by_mark depth text name rest e (inl k) f = (wrapped_reading name f.0, marked depth text name rest f.0 e k f.1)
-by_mark depth text name rest e (inr k) f = (too_deep rest, marked_deep depth text name rest e k)
+by_mark depth text name rest e (inr k) f = (nests_too_deep rest, marked_deep depth text name rest e k)
 
 by_opening : (depth : ℕ) (text rest : List ℕ) (b : Bracket) → next_in text ≡ opens b rest → (depth < most_nested) ⊎ (most_nested ≤ depth) → FoundRow (depth + 1) rest → Found depth text
 by_opening depth text rest b e (inl k) f = (enclosed_reading b f.0 f.1, opened depth text rest b f.0 f.1 e k f.2)
-by_opening depth text rest b e (inr k) f = (too_deep rest, opened_deep depth text rest b e k)
+by_opening depth text rest b e (inr k) f = (nests_too_deep rest, opened_deep depth text rest b e k)
 
 by_drop : (n depth : ℕ) (text rest : List ℕ) → Reach n → 2 * length text ≤ n → length rest < length text → next_in text ≡ drops rest → (r : FormReading) → Reads depth rest r → Found depth text
 by_drop n depth text rest reach h k e (begins d behind) i =

@@ -6,7 +6,7 @@ use Rattle.repl_reader.specs.Reading.{Bracket, FormReading, begins, Next, settle
 use Rattle.repl_reader.specs.Reading.{drops, next_in}
 use Rattle.repl_reader.specs.Grammar.{Reads, plain, marked, marked_deep, opened, opened_deep}
 use Rattle.repl_reader.specs.Grammar.{dropped, undropped, Row, last, more, IsForm, form_or_fault}
-use Rattle.repl_reader.specs.Grammar.{wrapped_reading, enclosed_reading, too_deep, most_nested}
+use Rattle.repl_reader.specs.Grammar.{wrapped_reading, enclosed_reading, nests_too_deep, most_nested}
 use Rattle.repl_reader.specs.Grammar.{placed_option, last_break}
 use Rattle.repl_reader.specs.Inside.Laws.{ReadingsAreUnique}
 
@@ -14,9 +14,9 @@ use Rattle.repl_reader.specs.Inside.Laws.{ReadingsAreUnique}
 abbrev After : ℕ → Next → FormReading → Type 0
 After depth (settled s) r = r ≡ s
 After depth (opens b rest) r =
-    ((ds : Items) × (s : FormReading) × (depth < most_nested) × Row (depth + 1) rest ds s × (r ≡ enclosed_reading b ds s)) ⊎ ((most_nested ≤ depth) × (r ≡ too_deep rest))
+    ((ds : Items) × (s : FormReading) × (depth < most_nested) × Row (depth + 1) rest ds s × (r ≡ enclosed_reading b ds s)) ⊎ ((most_nested ≤ depth) × (r ≡ nests_too_deep rest))
 After depth (marks name rest) r =
-    ((s : FormReading) × (depth < most_nested) × Reads (depth + 1) rest s × (r ≡ wrapped_reading name s)) ⊎ ((most_nested ≤ depth) × (r ≡ too_deep rest))
+    ((s : FormReading) × (depth < most_nested) × Reads (depth + 1) rest s × (r ≡ wrapped_reading name s)) ⊎ ((most_nested ≤ depth) × (r ≡ nests_too_deep rest))
 After depth (drops rest) r =
     ((d : Datum) × (behind : List ℕ) × Reads depth rest (begins d behind) × Reads depth behind r) ⊎ ((s : FormReading) × Reads depth rest s × (IsForm s → ⊥) × (r ≡ form_or_fault s))
 
@@ -26,9 +26,9 @@ along depth text r x y e h a = subst (λ (z : Next). After depth z r) (sym e ∙
 after : (depth : ℕ) (text : List ℕ) (r : FormReading) → Reads depth text r → (x : Next) → next_in text ≡ x → After depth x r
 after _ _ _ (plain depth text r e) x h = along depth text r _ x e h refl
 after _ _ _ (marked depth text name rest r e k i) x h = along depth text (wrapped_reading name r) _ x e h (inl (r, k, i, refl))
-after _ _ _ (marked_deep depth text name rest e k) x h = along depth text (too_deep rest) _ x e h (inr (k, refl))
+after _ _ _ (marked_deep depth text name rest e k) x h = along depth text (nests_too_deep rest) _ x e h (inr (k, refl))
 after _ _ _ (opened depth text rest b ds r e k i) x h = along depth text (enclosed_reading b ds r) _ x e h (inl (ds, r, k, i, refl))
-after _ _ _ (opened_deep depth text rest b e k) x h = along depth text (too_deep rest) _ x e h (inr (k, refl))
+after _ _ _ (opened_deep depth text rest b e k) x h = along depth text (nests_too_deep rest) _ x e h (inr (k, refl))
 after _ _ _ (dropped depth text rest behind d r e i j) x h = along depth text r _ x e h (inl (d, behind, i, j))
 after _ _ _ (undropped depth text rest r e i k) x h = along depth text (form_or_fault r) _ x e h (inr (r, i, k, refl))
 
@@ -51,7 +51,7 @@ only_marked : (depth : ℕ) (name rest : List ℕ) (r s : FormReading) → depth
 only_marked depth name rest r s k only (inl a) = ap (wrapped_reading name) (only a.0 a.2) ∙ sym a.3
 only_marked depth name rest r s k only (inr a) = absurd (omega (arith, k, a.0))
 
-only_marked_deep : (depth : ℕ) (name rest : List ℕ) (s : FormReading) → most_nested ≤ depth → After depth (marks name rest) s → too_deep rest ≡ s
+only_marked_deep : (depth : ℕ) (name rest : List ℕ) (s : FormReading) → most_nested ≤ depth → After depth (marks name rest) s → nests_too_deep rest ≡ s
 only_marked_deep depth name rest s k (inl a) = absurd (omega (arith, k, a.1))
 only_marked_deep depth name rest s k (inr a) = sym a.1
 
@@ -60,7 +60,7 @@ only_opened depth b rest ds r s k only (inl a) =
     let same = only a.0 a.1 a.3 in ap (λ (es : Items). enclosed_reading b es r) same.0 ∙ ap (enclosed_reading b a.0) same.1 ∙ sym a.4
 only_opened depth b rest ds r s k only (inr a) = absurd (omega (arith, k, a.0))
 
-only_opened_deep : (depth : ℕ) (b : Bracket) (rest : List ℕ) (s : FormReading) → most_nested ≤ depth → After depth (opens b rest) s → too_deep rest ≡ s
+only_opened_deep : (depth : ℕ) (b : Bracket) (rest : List ℕ) (s : FormReading) → most_nested ≤ depth → After depth (opens b rest) s → nests_too_deep rest ≡ s
 only_opened_deep depth b rest s k (inl a) = absurd (omega (arith, k, a.2))
 only_opened_deep depth b rest s k (inr a) = sym a.1
 

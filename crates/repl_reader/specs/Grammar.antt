@@ -36,8 +36,8 @@ abbrev pub unmatched : Bracket → List ℕ → FormReading
 unmatched b rest = breaks (break_of Unmatched (length rest + 1) (closing b))
 
 -- the character before this text opens one nesting too many
-abbrev pub too_deep : List ℕ → FormReading
-too_deep rest = breaks (break_of TooDeep (length rest + 1) [])
+abbrev pub nests_too_deep : List ℕ → FormReading
+nests_too_deep rest = breaks (break_of TooDeep (length rest + 1) [])
 
 abbrev pub IsForm : FormReading → Type 0
 IsForm (begins d rest) = Unit {0}
@@ -83,13 +83,15 @@ mutual
         → next_in text ≡ marks name more → depth < most_nested → Reads (depth + 1) more r
         → Reads depth text (wrapped_reading name r)
     marked_deep : (depth : ℕ) (text name more : List ℕ)
-        → next_in text ≡ marks name more → most_nested ≤ depth → Reads depth text (too_deep more)
+        → next_in text ≡ marks name more → most_nested ≤ depth
+        → Reads depth text (nests_too_deep more)
     -- forms up to a closing bracket
     opened : (depth : ℕ) (text more : List ℕ) (b : Bracket) (ds : Items) (r : FormReading)
         → next_in text ≡ opens b more → depth < most_nested → Row (depth + 1) more ds r
         → Reads depth text (enclosed_reading b ds r)
     opened_deep : (depth : ℕ) (text more : List ℕ) (b : Bracket)
-        → next_in text ≡ opens b more → most_nested ≤ depth → Reads depth text (too_deep more)
+        → next_in text ≡ opens b more → most_nested ≤ depth
+        → Reads depth text (nests_too_deep more)
     -- the form after `#_` is dropped, and what follows it counts
     dropped : (depth : ℕ) (text more rest : List ℕ) (d : Datum) (r : FormReading)
         → next_in text ≡ drops more → Reads depth more (begins d rest) → Reads depth rest r

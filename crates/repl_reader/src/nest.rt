@@ -3,7 +3,7 @@ ghost use Rattle.std.specs.Prelude.{◌≡◌, IfOk, MatchResult};
 ghost use Rattle.value_data.specs.Datum.{Datum, list, symbol, item, no_items};
 ghost use Rattle.value_data.specs.Inside.View.{view, items_view};
 ghost use Rattle.repl_reader.specs.Reading.{begins};
-ghost use Rattle.repl_reader.specs.Grammar.{Reads, IsForm, unmatched, too_deep, form_or_fault};
+ghost use Rattle.repl_reader.specs.Grammar.{Reads, IsForm, unmatched, nests_too_deep, form_or_fault};
 ghost use Rattle.repl_reader.specs.Grammar.{wrapped_reading, collection_reading, enclosed_reading};
 ghost use Rattle.repl_reader.specs.Inside.View.{bracket_view, mark_symbol, form_reading_view, IsFrontOf};
 ghost use Rattle.repl_reader.specs.Inside.View.{IsRow, IsMarked, IsOpened};
@@ -139,7 +139,7 @@ fn read_enclosed<'a>(
 
 // The character before the text opens one nesting too many.
 fn too_deep(alloc: Global, text: &str) -> Result<FormReading<'static>, AllocError>
-    ensures { IfOk result (λ r. form_reading_view r ≡ too_deep text.now) }
+    ensures { IfOk result (λ r. form_reading_view r ≡ nests_too_deep text.now) }
 {
     let left = text.len() + 1;
     Ok(FormReading::Broken(break_with(alloc, FaultKind::TooDeep, left, "")?))

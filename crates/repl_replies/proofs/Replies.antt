@@ -5,8 +5,8 @@ use Rattle.std.specs.BTreeMap.{BTreeMap}
 use Rattle.std.specs.Cmp.Lexicographic.{slice_cmp}
 use Rattle.std.specs.Ordering.{match_ordering}
 use Rattle.bencode_wire.specs.Tree.{Tree, string, dictionary, tree, Pairs, no_pairs, pair}
-use Rattle.bencode_wire.specs.Spelling.{text, canonical, put_pair, put_pairs, sorted}
-use Rattle.bencode_wire.specs.Inside.View.{view, trees_of, pairs_view}
+use Rattle.bencode_wire.specs.Spelling.{text, canonical, put_sorted, put_pairs, sorted}
+use Rattle.bencode_wire.specs.Inside.View.{tree_view, trees_of, entries_view}
 use Rattle.bencode_wire.specs.declared.ben.Ben.{Ben, Dictionary, the_lemmas}
 use Rattle.bencode_wire.proofs.Views.{Key, each_sorted}
 use Rattle.bencode_wire.proofs.Written.{sorted_twice}
@@ -19,27 +19,27 @@ pub trees_of-strings : {X : Type 0} (text : X → List ℕ) (xs : List X) → tr
 trees_of-strings text [] = refl
 trees_of-strings text (x ∷ xs) = ap (tree (string (text x))) (trees_of-strings text xs)
 
-pub view-Dictionary : (fields : BTreeMap Key Ben) → view (Dictionary fields) ≡ dictionary (pairs_view fields.entries)
-view-Dictionary fields = search (rules, the_lemmas)
+pub tree_view-Dictionary : (fields : BTreeMap Key Ben) → tree_view (Dictionary fields) ≡ dictionary (entries_view fields.entries)
+tree_view-Dictionary fields = search (rules, the_lemmas)
 
 each_sorted-match_ordering : (o : Ordering) (a b c : Pairs) → each_sorted (match_ordering o a b c) ≡ match_ordering o (each_sorted a) (each_sorted b) (each_sorted c)
 each_sorted-match_ordering Less a b c = refl
 each_sorted-match_ordering Equal a b c = refl
 each_sorted-match_ordering Greater a b c = refl
 
-each_sorted-put_pair : (ps : Pairs) (key : List ℕ) (t : Tree) → each_sorted (put_pair ps key t) ≡ put_pair (each_sorted ps) key (sorted t)
-each_sorted-put_pair no_pairs key t = refl
-each_sorted-put_pair (pair k u ps) key t = each_sorted-match_ordering (slice_cmp nat_cmp key k) _ _ _ ∙ rw (each_sorted-put_pair ps key t)
+each_sorted-put_sorted : (ps : Pairs) (key : List ℕ) (t : Tree) → each_sorted (put_sorted ps key t) ≡ put_sorted (each_sorted ps) key (sorted t)
+each_sorted-put_sorted no_pairs key t = refl
+each_sorted-put_sorted (pair k u ps) key t = each_sorted-match_ordering (slice_cmp nat_cmp key k) _ _ _ ∙ rw (each_sorted-put_sorted ps key t)
 
 each_sorted-puts : (done ps : Pairs) → each_sorted (puts done ps) ≡ put_pairs (each_sorted done) ps
 each_sorted-puts done no_pairs = refl
 each_sorted-puts done (pair key t ps) =
-    each_sorted-puts (put_pair done key t) ps ∙ ap (λ first. put_pairs first ps) (each_sorted-put_pair done key t)
+    each_sorted-puts (put_sorted done key t) ps ∙ ap (λ first. put_pairs first ps) (each_sorted-put_sorted done key t)
 
 put_pairs-each_sorted : (done ps : Pairs) → put_pairs done (each_sorted ps) ≡ put_pairs done ps
 put_pairs-each_sorted done no_pairs = refl
 put_pairs-each_sorted done (pair key t ps) =
-    ap (λ value. put_pairs (put_pair done key value) (each_sorted ps)) (sorted_twice t) ∙ put_pairs-each_sorted (put_pair done key (sorted t)) ps
+    ap (λ value. put_pairs (put_sorted done key value) (each_sorted ps)) (sorted_twice t) ∙ put_pairs-each_sorted (put_sorted done key (sorted t)) ps
 
 -- putting fields in first changes no spelling
 canonical-puts : (ps : Pairs) → canonical (dictionary (puts no_pairs ps)) ≡ canonical (dictionary ps)

@@ -5,11 +5,11 @@ use Rattle.std.specs.Prelude.{option_map}
 use Rattle.std.specs.Result.{result_ok}
 use Rattle.std.specs.Str.{IsUtf8, is_utf8}
 use Rattle.std.specs.String.{string_vec}
-use Rattle.bencode_wire.specs.Inside.View.{view}
+use Rattle.bencode_wire.specs.Inside.View.{tree_view}
 use Rattle.bencode_wire.specs.declared.ben.Ben.{Ben}
 use Rattle.repl_replies.specs.Inside.View.{field_view}
 
-pub field_view-option_map : (value : Option Ben) → field_view value ≡ option_map view value
+pub field_view-option_map : (value : Option Ben) → field_view value ≡ option_map tree_view value
 field_view-option_map None = refl
 field_view-option_map (Some b) = refl
 

@@ -1,13 +1,13 @@
 -- What `describe` tells (the nREPL manual, "Supported nREPL operations").
 use Rattle.std.specs.Prelude.{List, [], ◌∷◌, pos, codes}
 use Rattle.bencode_wire.specs.Tree.{Tree, integer, dictionary, Pairs, no_pairs, pair}
-use Rattle.repl_replies.specs.OperationNames.{name_of, operations}
+use Rattle.repl_replies.specs.OperationNames.{operation_name, operations}
 use Rattle.repl_replies.specs.declared.names.OperationName.{OperationName}
 
 -- each operation under its name, with nothing further said of it
 abbrev pub ops : List OperationName → Pairs
 ops [] = no_pairs
-ops (operation ∷ more) = pair (name_of operation) (dictionary no_pairs) (ops more)
+ops (operation ∷ more) = pair (operation_name operation) (dictionary no_pairs) (ops more)
 
 -- the server is of version 1.0
 abbrev pub server_version : Tree

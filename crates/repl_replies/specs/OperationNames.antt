@@ -2,13 +2,13 @@
 use Rattle.std.specs.Prelude.{ℕ, List, [], ◌∷◌, Option, find, bytes_eq, codes}
 use Rattle.repl_replies.specs.declared.names.OperationName.{OperationName}
 
-abbrev pub name_of : OperationName → List ℕ
-name_of OperationName.Clone = codes "clone"
-name_of OperationName.Close = codes "close"
-name_of OperationName.Describe = codes "describe"
-name_of OperationName.Eval = codes "eval"
-name_of OperationName.LoadFile = codes "load-file"
-name_of OperationName.ListSessions = codes "ls-sessions"
+abbrev pub operation_name : OperationName → List ℕ
+operation_name OperationName.Clone = codes "clone"
+operation_name OperationName.Close = codes "close"
+operation_name OperationName.Describe = codes "describe"
+operation_name OperationName.Eval = codes "eval"
+operation_name OperationName.LoadFile = codes "load-file"
+operation_name OperationName.ListSessions = codes "ls-sessions"
 
 -- all of them, in the order of their names as bytes
 abbrev pub operations : List OperationName
@@ -18,4 +18,4 @@ operations =
 
 -- the operation of this name, if it is served
 abbrev pub operation_named : List ℕ → Option OperationName
-operation_named name = find (λ operation. bytes_eq (name_of operation) name) operations
+operation_named name = find (λ operation. bytes_eq (operation_name operation) name) operations

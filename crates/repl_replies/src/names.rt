@@ -37,7 +37,7 @@ impl OperationName {
 
     /// Its name in messages.
     pub(crate) fn name(self) -> &'static str
-        ensures { result.now ≡ meant.name_of self }
+        ensures { result.now ≡ meant.operation_name self }
     {
         match self {
             OperationName::Clone => "clone",
@@ -52,7 +52,7 @@ impl OperationName {
 
 fn first_named(operations: &[OperationName], name: &[u8]) -> Option<OperationName>
     ensures { result
-        ≡ find (λ operation. bytes_eq (meant.name_of operation) name.now) operations.now }
+        ≡ find (λ operation. bytes_eq (meant.operation_name operation) name.now) operations.now }
 {
     operations
         .iter()

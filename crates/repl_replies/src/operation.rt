@@ -2,7 +2,7 @@
 ghost use Rattle.std.specs.Prelude.{◌≡◌, IfOk};
 ghost use Rattle.std.specs.Option.{ForSome};
 ghost use Rattle.std.specs.Result.{result_map_both};
-ghost use Rattle.bencode_wire.specs.Inside.View.{pairs_view};
+ghost use Rattle.bencode_wire.specs.Inside.View.{entries_view};
 ghost use Rattle.repl_replies.specs.Operations as meant;
 ghost use Rattle.repl_replies.specs.Inside.Named.{session_of, IsNamed};
 ghost use Rattle.repl_replies.specs.Inside.View.{field_view, origin_view, body_view, reply_view};
@@ -55,7 +55,7 @@ pub struct Asked {
 /// memory.
 pub fn operation_of<S: OpenSessions>(mut message: Dictionary, sessions: &S) -> Result<Asked, Reply>
     ensures asked { result_map_both asked_view reply_view result
-        ≡ meant.operation_or_reply (S.number sessions.now) (pairs_view message.entries) }
+        ≡ meant.operation_or_reply (S.number sessions.now) (entries_view message.entries) }
     // The session of an operation is one that the request names.
     ensures named { IfOk result (λ asked.
         ForSome (session_of (operation_view asked.operation)) (IsNamed (S.number sessions.now))) }
@@ -86,7 +86,7 @@ fn served_operation<S: OpenSessions>(
 ) -> Result<Operation, Body>
     ensures { result_map_both operation_view body_view result
         ≡ (let name = field_view op in
-        meant.served_operation (pairs_view message.entries) name (meant.operation_of_op name)
+        meant.served_operation (entries_view message.entries) name (meant.operation_of_op name)
         (meant.session_in (S.number sessions.now) (field_view session.now))) }
 {
     match operation_of_op(&op) {
@@ -122,7 +122,7 @@ fn operation_in(
     session: Option<u64>,
 ) -> Result<Operation, Body>
     ensures { result_map_both operation_view body_view result
-        ≡ meant.operation_in (pairs_view message.entries) operation session }
+        ≡ meant.operation_in (entries_view message.entries) operation session }
 {
     match operation {
         OperationName::Clone => Ok(Operation::Clone { session }),

@@ -1,6 +1,6 @@
 // The replies.
 ghost use Rattle.std.specs.Prelude.{◌≡◌, IfOk};
-ghost use Rattle.bencode_wire.specs.Inside.View.{view};
+ghost use Rattle.bencode_wire.specs.Inside.View.{tree_view};
 ghost use Rattle.repl_replies.specs.Replies.{no_origin, described};
 ghost use Rattle.repl_replies.specs.Inside.View.{field_view, origin_view, reply_view};
 

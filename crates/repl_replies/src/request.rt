@@ -1,6 +1,6 @@
 // What a message asks for.
 ghost use Rattle.std.specs.Prelude.{◌≡◌, if◌then◌else◌, codes};
-ghost use Rattle.bencode_wire.specs.Inside.View.{pairs_view};
+ghost use Rattle.bencode_wire.specs.Inside.View.{entries_view};
 ghost use Rattle.repl_replies.specs.Replies.{unknown_op};
 ghost use Rattle.repl_replies.specs.Inside.Requests.{request_or_reply, is_this_string, in_session};
 ghost use Rattle.repl_replies.specs.Inside.Requests.{refused};
@@ -30,7 +30,7 @@ pub enum RequestOrReply {
 /// Reads a message. The operation is looked at first, then the session, then the code. Keys that
 /// are not known are ignored.
 pub fn request_of(mut message: Dictionary) -> RequestOrReply
-    ensures { request_or_reply_view result ≡ request_or_reply (pairs_view message.entries) }
+    ensures { request_or_reply_view result ≡ request_or_reply (entries_view message.entries) }
 {
     let op = take_field(&mut message, b"op");
     let code = take_field(&mut message, b"code");

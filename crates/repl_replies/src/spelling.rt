@@ -1,8 +1,8 @@
 // A reply's bytes.
 ghost use Rattle.std.specs.Prelude.{◌≡◌, ◌++◌, IfOk, OnOk, codes, map, string_bytes};
 ghost use Rattle.bencode_wire.specs.Tree.{string, no_pairs};
-ghost use Rattle.bencode_wire.specs.Spelling.{put_pair};
-ghost use Rattle.bencode_wire.specs.Inside.View.{view, trees_view, pairs_view};
+ghost use Rattle.bencode_wire.specs.Spelling.{put_sorted};
+ghost use Rattle.bencode_wire.specs.Inside.View.{tree_view, trees_view, entries_view};
 ghost use Rattle.repl_replies.specs.Inside.Building.{puts};
 ghost use Rattle.repl_replies.specs.Description as told;
 ghost use Rattle.repl_replies.specs.OperationNames.{operations};
@@ -40,8 +40,8 @@ impl Origin {
 }
 
 fn put(alloc: Global, fields: &mut Dictionary, key: &str, value: Ben) -> Result<(), AllocError>
-    ensures { OnOk result (pairs_view fields.new.entries
-        ≡ put_pair (pairs_view fields.old.entries) key.now (view value)) }
+    ensures { OnOk result (entries_view fields.new.entries
+        ≡ put_sorted (entries_view fields.old.entries) key.now (tree_view value)) }
 {
     let key = Vec::from_slice(alloc, key.as_bytes())?;
     put_field(fields, key, value)
@@ -53,8 +53,8 @@ fn put_given(
     key: &str,
     value: &Option<Ben>,
 ) -> Result<(), AllocError>
-    ensures { OnOk result (pairs_view fields.new.entries
-        ≡ puts (pairs_view fields.old.entries)
+    ensures { OnOk result (entries_view fields.new.entries
+        ≡ puts (entries_view fields.old.entries)
         (with_field key.now (field_view value.now) no_pairs)) }
 {
     match value {
@@ -64,15 +64,15 @@ fn put_given(
 }
 
 fn put_text(alloc: Global, fields: &mut Dictionary, key: &str, text: &str) -> Result<(), AllocError>
-    ensures { OnOk result (pairs_view fields.new.entries
-        ≡ put_pair (pairs_view fields.old.entries) key.now (string text.now)) }
+    ensures { OnOk result (entries_view fields.new.entries
+        ≡ put_sorted (entries_view fields.old.entries) key.now (string text.now)) }
 {
     put(alloc, fields, key, string_of(alloc, text)?)
 }
 
 fn put_body(alloc: Global, fields: &mut Dictionary, body: &Body) -> Result<(), AllocError>
-    ensures { OnOk result (pairs_view fields.new.entries
-        ≡ puts (pairs_view fields.old.entries) (body_fields (body_view body.now))) }
+    ensures { OnOk result (entries_view fields.new.entries
+        ≡ puts (entries_view fields.old.entries) (body_fields (body_view body.now))) }
 {
     match body {
         Body::Value { value, ns } => {
@@ -110,7 +110,7 @@ fn class_text(alloc: Global, class: &str) -> Result<String, AllocError>
 }
 
 fn string_of(alloc: Global, text: &str) -> Result<Ben, AllocError>
-    ensures { IfOk result (λ value. view value ≡ string text.now) }
+    ensures { IfOk result (λ value. tree_view value ≡ string text.now) }
 {
     Ok(Ben::String(Vec::from_slice(alloc, text.as_bytes())?))
 }
@@ -161,9 +161,9 @@ fn statuses(body: &Body) -> &'static [&'static str]
 }
 
 fn put_statuses(alloc: Global, fields: &mut Dictionary, body: &Body) -> Result<(), AllocError>
-    ensures { OnOk result (pairs_view fields.new.entries
+    ensures { OnOk result (entries_view fields.new.entries
         ≡ (let words = status_value (status (body_view body.now)) in
-        puts (pairs_view fields.old.entries) (with_field (codes "status") words no_pairs))) }
+        puts (entries_view fields.old.entries) (with_field (codes "status") words no_pairs))) }
 {
     let words = statuses(body);
     if words.is_empty() {
@@ -174,8 +174,8 @@ fn put_statuses(alloc: Global, fields: &mut Dictionary, body: &Body) -> Result<(
 }
 
 fn put_description(alloc: Global, fields: &mut Dictionary) -> Result<(), AllocError>
-    ensures { OnOk result (pairs_view fields.new.entries
-        ≡ puts (pairs_view fields.old.entries) told.description) }
+    ensures { OnOk result (entries_view fields.new.entries
+        ≡ puts (entries_view fields.old.entries) told.description) }
 {
     put(
         alloc,
@@ -188,7 +188,7 @@ fn put_description(alloc: Global, fields: &mut Dictionary) -> Result<(), AllocEr
 }
 
 fn ops(alloc: Global) -> Result<Dictionary, AllocError>
-    ensures { IfOk result (λ named. pairs_view named.entries ≡ told.ops operations) }
+    ensures { IfOk result (λ named. entries_view named.entries ≡ told.ops operations) }
 {
     let mut named = Dictionary::new(alloc);
     for operation in OperationName::all() {
@@ -199,7 +199,7 @@ fn ops(alloc: Global) -> Result<Dictionary, AllocError>
 }
 
 fn versions(alloc: Global) -> Result<Ben, AllocError>
-    ensures { IfOk result (λ named. view named ≡ told.versions) }
+    ensures { IfOk result (λ named. tree_view named ≡ told.versions) }
 {
     let mut version = Dictionary::new(alloc);
     put(alloc, &mut version, "major", Ben::Integer(1))?;

@@ -7,7 +7,7 @@ use Rattle.std.proofs.lemmas.List.{map-append}
 use Rattle.core_texts.specs.Limits.{most_text}
 use Rattle.repl_asks.specs.Transactions.{ChangeData}
 use Rattle.repl_asks.specs.Exchange.{AnswerData}
-use Rattle.tx_attempt.specs.Accesses.{AccessData, named_in, value_in}
+use Rattle.tx_attempt.specs.Accesses.{AccessData, named_in, accessed_value}
 use Rattle.evaluation_rules.specs.Doing.{Doing, left, asking, printing, looking, noting}
 use Rattle.repl_walker.specs.Values.{accesses_after, values_after}
 
@@ -72,7 +72,7 @@ stays less before ops (noting op d) answers more few =
     stays less before (ops ++ op ∷ []) d answers more few
 
 abbrev change_in : AccessData → ChangeData
-change_in op = record { name = named_in op; now = value_in op }
+change_in op = record { name = named_in op; now = accessed_value op }
 
 pub values-stay
     : (body : Doing) (before less : ℕ) (answers more : List AnswerData) → less ≤ before

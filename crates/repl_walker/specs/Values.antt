@@ -4,7 +4,7 @@ use Rattle.std.specs.Prelude.{if◌then◌else◌}
 use Rattle.core_texts.specs.Limits.{most_text}
 use Rattle.repl_asks.specs.Transactions.{ChangeData}
 use Rattle.repl_asks.specs.Exchange.{AnswerData}
-use Rattle.tx_attempt.specs.Accesses.{AccessData, named_in, value_in}
+use Rattle.tx_attempt.specs.Accesses.{AccessData, named_in, accessed_value}
 use Rattle.evaluation_rules.specs.Doing.{Doing, left, asking, printing, looking, noting}
 
 -- Its accesses: those so far, and then those up to the first ask that is left without an answer.
@@ -25,7 +25,8 @@ accesses_after before ops (noting op d) answers =
 
 -- the values that it sees, in order, each with its ref
 abbrev pub values_after : ℕ → Doing → List AnswerData → List ChangeData
-values_after before body answers = map (λ op. record { name = named_in op; now = value_in op })
+values_after before body answers =
+    map (λ op. record { name = named_in op; now = accessed_value op })
     (accesses_after before [] body answers)
 
 -- With more answers, or with less text printed before, an attempt's body has the same values first.

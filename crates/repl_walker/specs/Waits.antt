@@ -10,11 +10,11 @@ use Rattle.repl_walker.specs.declared.waiting.Walk.{Walk}
 use Rattle.repl_walker.specs.declared.waiting.Progress.{Progress}
 use Rattle.repl_walker.specs.Led.{Recorded}
 
-abbrev pub tree_behind : Walk → AnswerData → InteractionTree
-tree_behind w = machine.tree_behind w.waiting
+abbrev pub walk_behind : Walk → AnswerData → InteractionTree
+walk_behind w = machine.tree_behind w.waiting
 
 abbrev pub walk_tree : Walk → InteractionTree
-walk_tree w = asks (ask_view w.ask) (tree_behind w)
+walk_tree w = asks (ask_view w.ask) (walk_behind w)
 
 abbrev pub progress_tree : Progress → InteractionTree
 progress_tree (Progress.Asks w) = walk_tree w

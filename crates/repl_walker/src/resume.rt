@@ -6,7 +6,7 @@ ghost use Rattle.evaluation_rules.specs.Evaluation.{evaluation};
 ghost use Rattle.walker_machine.specs.Waits.{reached_tree, most_calls_of, IsLaterReached};
 ghost use Rattle.walker_state.specs.Position.{Position};
 ghost use Rattle.repl_walker.specs.Led.{LedTo};
-ghost use Rattle.repl_walker.specs.Waits.{tree_behind, progress_tree, progress_job, progress_trace};
+ghost use Rattle.repl_walker.specs.Waits.{walk_behind, progress_tree, progress_job, progress_trace};
 ghost use Rattle.repl_walker.specs.Waits.{trace_with};
 ghost use Rattle.repl_walker.specs.Positions.{walk_position, most_calls, IsLaterProgress};
 
@@ -34,7 +34,7 @@ impl Walk {
     /// Goes on with this answer, up to the next ask or the end. It fails only for want of memory.
     pub fn resume(self, alloc: Global, answer: Answer) -> Result<Progress, AllocError>
         ensures meaning { IfOk result (λ later. progress_tree later
-            ≡ tree_behind self (answer_view answer)) }
+            ≡ walk_behind self (answer_view answer)) }
         ensures job { IfOk result (λ later. progress_job later ≡ job_view self.job) }
         ensures trace { IfOk result (λ later. progress_trace later
             ≡ trace_with self (answer_view answer)) }

@@ -15,7 +15,7 @@ use Rattle.server_examples.specs.Tables.{number, ground}
 use Rattle.server_examples.specs.Runs.{message_turn, drain_turns, turns_of, opening_turns}
 use Rattle.server_examples.specs.Runs.{interleaving, after_all, given_to, first_reply, second_reply}
 use Rattle.server_examples.specs.Runs.{value_body}
-use Rattle.bencode_wire.specs.Spelling.{joined}
+use Rattle.bencode_wire.specs.Spelling.{spellings_joined}
 use Rattle.server_examples.specs.Runs.{begun_replies, steps_of}
 
 -- One session begins to read `r` in a transaction, then the other sets it, and commits. The read
@@ -29,7 +29,7 @@ retried_run t =
     ++ message_turn t 5 ∷ turns_of t 1 6 ++ message_turn t 4 ∷ turns_of t 0 5 ++ drain_turns t 14
 
 abbrev pub retried_replies : ℕ → List ℕ
-retried_replies t = joined (begun_replies t
+retried_replies t = spellings_joined (begun_replies t
     ++ second_reply t (codes "3") (value_body (number 5)) ∷ second_reply t (codes "3") replies.done
     ∷ first_reply t (codes "2") (value_body (number 5)) ∷ first_reply t (codes "2") replies.done
     ∷ first_reply t (codes "4") (value_body (number 0)) ∷ first_reply t (codes "4") replies.done
@@ -53,7 +53,7 @@ BothCommute =
     given_to 0 (given (opens 0) ∷ opening_turns 0 ++ message_turn 0 7 ∷ message_turn 0 8
     ∷ turns_of 0 0 6 ++ turns_of 0 1 8
     ++ turns_of 0 0 2 ++ message_turn 0 2 ∷ turns_of 0 0 6 ++ drain_turns 0 10)
-    ≡ joined (begun_replies 0
+    ≡ spellings_joined (begun_replies 0
     ++ second_reply 0 (codes "9") (value_body nil) ∷ second_reply 0 (codes "9") replies.done
     ∷ first_reply 0 (codes "8") (value_body nil) ∷ first_reply 0 (codes "8") replies.done
     ∷ first_reply 0 (codes "2") (value_body (number 2)) ∷ first_reply 0 (codes "2") replies.done
@@ -66,7 +66,7 @@ CloseInterrupts =
     given_to 0 (given (opens 0) ∷ opening_turns 0 ++ message_turn 0 2 ∷ turns_of 0 0 2
     ++ message_turn 0 4 ∷ message_turn 0 6
     ∷ turns_of 0 0 2 ++ drain_turns 0 8)
-    ≡ joined (begun_replies 0 ++ first_reply 0 (codes "4") replies.interrupted
+    ≡ spellings_joined (begun_replies 0 ++ first_reply 0 (codes "4") replies.interrupted
     ∷ first_reply 0 (codes "7") replies.closed
     ∷ first_reply 0 (codes "2") replies.interrupted ∷ [])
 

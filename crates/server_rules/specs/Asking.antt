@@ -14,7 +14,7 @@ use Rattle.server_rules.specs.Calls.{Call, nothing, makes, begins, reads, counts
 use Rattle.server_rules.specs.Calls.{tells_most, sets_least, sets_most, commits, gives_up}
 use Rattle.server_rules.specs.Ground.{Ground}
 use Rattle.server_rules.specs.Request.{Hand, Run}
-use Rattle.server_rules.specs.Tenant.{ActorData, seat_of, Quiet, with_actor, state_of}
+use Rattle.server_rules.specs.Tenant.{ActorData, seat_of, Quiet, with_actor, actor_state}
 use Rattle.server_rules.specs.Starting.{interrupted_in}
 use Rattle.server_rules.specs.Plan.{Outcome, refuses, leaves, ask_answered, Plan, quietly}
 use Rattle.server_rules.specs.Plan.{with_step_spent}
@@ -65,7 +65,7 @@ resolution_of state (found_latest latest) = names_value (latest_of latest state)
 
 abbrev pub symbol_resolution : Ground → Actor → Quiet → List ℕ → List ℕ → ResolutionData
 symbol_resolution g a q namespace symbol =
-    resolution_of (state_of a q) (names.resolved g.shared_names q.spaces namespace symbol)
+    resolution_of (actor_state a q) (names.resolved g.shared_names q.spaces namespace symbol)
 
 -- the answer is what the refs told, but for symbols; to a definition and to an entered namespace
 -- they told `done`

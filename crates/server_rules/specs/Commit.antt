@@ -36,9 +36,9 @@ all_fit [] = true
 all_fit (c ∷ cs) = may_hold c.name.owner c.now && all_fit cs
 
 -- each ref is set once, to its last value
-abbrev pub are_distinct : List RefNameData → Bool
-are_distinct [] = true
-are_distinct (name ∷ names) = not (list_any (same_name name) names) && are_distinct names
+abbrev pub refs_are_distinct : List RefNameData → Bool
+refs_are_distinct [] = true
+refs_are_distinct (name ∷ names) = not (list_any (same_name name) names) && refs_are_distinct names
 
 -- the refs that change, each once
 abbrev pub changing_refs : IntentData → List RefNameData
@@ -53,7 +53,7 @@ all_take cs = list_all (λ c. list_all takes_its_arguments c.commutes) cs
 
 abbrev pub intent_fits : IntentData → Bool
 intent_fits intent =
-    all_fit intent.sets && are_distinct (changing_refs intent) && all_take intent.commuted
+    all_fit intent.sets && refs_are_distinct (changing_refs intent) && all_take intent.commuted
 
 abbrev pub is_newer_ref : ℕ → Option Ref → Bool
 is_newer_ref point None = false

@@ -3,7 +3,7 @@ use Rattle.std.specs.Prelude.{ℕ, Bool, true, false, Option, None, Some, if◌t
 use Rattle.server_rules.specs.Calls.{leaves_attempt}
 use Rattle.server_rules.specs.Ground.{Ground}
 use Rattle.server_rules.specs.Request.{Hand, Run}
-use Rattle.server_rules.specs.Tenant.{ActorData, seat_of, Quiet, is_held, state_of}
+use Rattle.server_rules.specs.Tenant.{ActorData, seat_of, Quiet, is_held, actor_state}
 use Rattle.server_rules.specs.Moves.{form_ended}
 use Rattle.server_rules.specs.Starting.{after_move, interrupted_in}
 use Rattle.server_rules.specs.Plan.{Outcome, refuses, leaves, form_finished}
@@ -19,7 +19,7 @@ with_left_attempt a outcome =
 
 abbrev pub end_accepted : Actor → ActorData → Hand → EndingData → Quiet → Plan
 end_accepted a actor h e q = with_left_attempt a
-    (leaves (with_step_spent (after_move a actor (form_ended h e.end (state_of a q)) q))
+    (leaves (with_step_spent (after_move a actor (form_ended h e.end (actor_state a q)) q))
     form_finished)
 
 abbrev pub end_compared

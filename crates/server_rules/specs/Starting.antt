@@ -17,7 +17,7 @@ use Rattle.server_rules.specs.Ground.{Ground}
 use Rattle.server_rules.specs.Request.{Waiting, ProgramText, code, file, Manner, Hand, each_form}
 use Rattle.server_rules.specs.Request.{each_form_elsewhere, last_form}
 use Rattle.server_rules.specs.Tenant.{ActorData, seat_of, Quiet, is_held, with_actor, with_replies}
-use Rattle.server_rules.specs.Tenant.{state_of, with_state}
+use Rattle.server_rules.specs.Tenant.{actor_state, with_state}
 use Rattle.server_rules.specs.Replying.{reply}
 use Rattle.server_rules.specs.Moves.{Move, over_move, in_hand, closing_move}
 use Rattle.server_rules.specs.Plan.{Outcome, refuses, leaves, StepAnswer, form_begun}
@@ -93,7 +93,7 @@ text_begun g spaces origin state (file text) =
 -- a request without a session remembers nothing of another
 abbrev pub first_state : Actor → Quiet → StateData
 first_state Actor.Bare q = fresh
-first_state (Actor.Session n) q = state_of (Actor.Session n) q
+first_state (Actor.Session n) q = actor_state (Actor.Session n) q
 
 -- the actor goes on with what is still to do
 abbrev pub after_move : Actor → ActorData → Move → Quiet → Quiet
@@ -117,7 +117,7 @@ held_or q outcome = if is_held q then refuses Refusal.Held else outcome
 abbrev pub next_form_of : Ground → Actor → ActorData → Hand → Quiet → Outcome
 next_form_of g a actor h q =
     if actor.is_closed then interrupted_in a h q
-    else held_or q (start_outcome a actor (next_begun g h (state_of a q) h.forms) q)
+    else held_or q (start_outcome a actor (next_begun g h (actor_state a q) h.forms) q)
 
 abbrev pub start_in_hand : Ground → Actor → ActorData → Hand → Quiet → Bool → Outcome
 start_in_hand g a actor h q true = refuses Refusal.Idle

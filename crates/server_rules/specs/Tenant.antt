@@ -64,9 +64,9 @@ abbrev pub with_replies : List ReplyData → Quiet → Quiet
 with_replies more q = record q { replies = q.replies ++ more }
 
 -- what the session of an actor remembers
-abbrev pub state_of : Actor → Quiet → StateData
-state_of Actor.Bare q = q.bare
-state_of (Actor.Session n) q = unwrap_or (sessions.state_of q.sessions n) fresh
+abbrev pub actor_state : Actor → Quiet → StateData
+actor_state Actor.Bare q = q.bare
+actor_state (Actor.Session n) q = unwrap_or (sessions.state_of q.sessions n) fresh
 
 abbrev pub with_state : Actor → StateData → Quiet → Quiet
 with_state Actor.Bare state q = record q { bare = state }

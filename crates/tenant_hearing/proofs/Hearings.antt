@@ -5,7 +5,7 @@ use Rattle.std.proofs.Math.Seq.{drop-append_seam}
 use Rattle.bencode_wire.specs.Tree.{Tree, integer, string, list, dictionary}
 use Rattle.bencode_wire.specs.Stream.{StreamEnding, rest, fault, Streams}
 use Rattle.bencode_wire.specs.Fault.{counted_place}
-use Rattle.bencode_wire.specs.Inside.Decoder.{ready_of, fault_of, Shows, Stands}
+use Rattle.bencode_wire.specs.Inside.Decoder.{ready_of, fault_of, Shows, DecoderStands}
 use Rattle.bencode_wire.specs.Inside.Return.{before_last_piece}
 use Rattle.bencode_wire.specs.Inside.State.{Earlier}
 use Rattle.bencode_wire.specs.declared.decoder.Decoder.{Decoder}
@@ -77,7 +77,7 @@ pub record IsRead (g : Ground) (all : List ℕ) (taken : List Tree) (d : Decoder
   pub messages : taken ≡ (g.readings.stream all).messages
   pub reads : HasReadAll g all d
 
-pub is-read : (g : Ground) (all : List ℕ) (taken : List Tree) (d : Decoder) → AreRight g.readings → Stands message_limit d all taken
+pub is-read : (g : Ground) (all : List ℕ) (taken : List Tree) (d : Decoder) → AreRight g.readings → DecoderStands message_limit d all taken
     → ready_of d ≡ [] → IsRead g all taken d
 is-read g all taken d right s ready =
     let streams : Streams message_limit 0 all taken s.end =
@@ -86,7 +86,7 @@ is-read g all taken d right s ready =
     record {
       messages = same.0;
       reads = record {
-        stands = subst (λ ms. Stands message_limit d all ms) same.0 s;
+        stands = subst (λ ms. DecoderStands message_limit d all ms) same.0 s;
         ready = ready;
         fault = shown-fault d all s.end s.shows ∙ ap fault_in same.1;
       };
@@ -98,7 +98,7 @@ told-fault (Some f) = refl
 
 pub heard-all : (g : Ground) (t : ℕ) (q : Quiet) (piece : List ℕ) (messages : List Tree) (broken : Bool) (count : ℕ) (d : Decoder)
     (s : NamedSessions) (es : List (Entry ActorData)) (waiting : List (List ℕ))
-    → AreRight g.readings → Stands message_limit d (q.heard ++ piece) ((g.readings.stream q.heard).messages ++ messages) → ready_of d ≡ []
+    → AreRight g.readings → DecoderStands message_limit d (q.heard ++ piece) ((g.readings.stream q.heard).messages ++ messages) → ready_of d ≡ []
     → broken ≡ is_some (fault_of d) → count ≡ length messages
     → PartsStandFor g t (with_piece g t messages broken (record q { heard = q.heard ++ piece })) s es waiting
     → IsHeard g t q piece count d s es waiting

@@ -1,7 +1,7 @@
 // What the messages of a piece have come to so far.
 ghost use Rattle.std.specs.Prelude.{◌≡◌, [], map, OnOk};
 ghost use Rattle.std.specs.BTreeSet.{keys};
-ghost use Rattle.bencode_wire.specs.Inside.View.{view, pairs_view};
+ghost use Rattle.bencode_wire.specs.Inside.View.{tree_view, entries_view};
 ghost use Rattle.bencode_wire.specs.Tree.{dictionary};
 ghost use Rattle.server_rules.specs.Operating.{with_message};
 ghost use Rattle.tenant_actors.specs.View.{actors_view};
@@ -56,7 +56,7 @@ impl Draft {
     ) -> Result<(), AllocError>
         requires { AreSeated sessions.old (actors_view actors.old) }
         ensures heard { OnOk result (FollowsRules
-            (λ g t. with_piece g t (map view messages.items) is_broken)
+            (λ g t. with_piece g t (map tree_view messages.items) is_broken)
             (scene self.old sessions.old actors.old) (scene self.new sessions.new actors.new)) }
         ensures kept { IsKept (scene self.old sessions.old actors.old)
             (scene self.new sessions.new actors.new) }
@@ -78,7 +78,7 @@ impl Draft {
         actors: &mut Actors,
     ) -> Result<(), AllocError>
         requires { AreSeated sessions.old (actors_view actors.old) }
-        ensures heard { OnOk result (FollowsRules (λ g t. with_message g t (view message))
+        ensures heard { OnOk result (FollowsRules (λ g t. with_message g t (tree_view message))
             (scene self.old sessions.old actors.old) (scene self.new sessions.new actors.new)) }
         ensures kept { IsKept (scene self.old sessions.old actors.old)
             (scene self.new sessions.new actors.new) }
@@ -99,7 +99,7 @@ impl Draft {
     ) -> Result<(), AllocError>
         requires { AreSeated sessions.old (actors_view actors.old) }
         ensures heard { OnOk result (FollowsRules
-            (λ g t. with_message g t (dictionary (pairs_view fields.entries)))
+            (λ g t. with_message g t (dictionary (entries_view fields.entries)))
             (scene self.old sessions.old actors.old) (scene self.new sessions.new actors.new)) }
         ensures kept { IsKept (scene self.old sessions.old actors.old)
             (scene self.new sessions.new actors.new) }

@@ -1,7 +1,7 @@
 // A piece's messages are carried out, all or none.
 ghost use Rattle.std.specs.Prelude.{◌≡◌, ◌++◌, ℕ, map, Ok, OnOk, OnErr};
 ghost use Rattle.std.specs.BTreeSet.{keys};
-ghost use Rattle.bencode_wire.specs.Inside.View.{view};
+ghost use Rattle.bencode_wire.specs.Inside.View.{tree_view};
 ghost use Rattle.server_rules.specs.Ground.{Ground};
 ghost use Rattle.server_rules.specs.Tenant.{Quiet};
 ghost use Rattle.tenant_actors.specs.View.{actors_view};
@@ -37,7 +37,7 @@ pub fn handle_messages(
     requires { AreSeated sessions.old (actors_view actors.old) }
     ensures taken { (g : Ground) (t : ℕ) (q : Quiet)
         → PartsStandFor g t q sessions.old (actors_view actors.old) (waiting_bytes outbox.old)
-        → OnOk result (PartsStandFor g t (with_piece g t (map view messages.items) is_broken q)
+        → OnOk result (PartsStandFor g t (with_piece g t (map tree_view messages.items) is_broken q)
         sessions.new (actors_view actors.new) (waiting_bytes outbox.new)) }
     ensures sessions_stay { OnErr result (sessions.new ≡ sessions.old) }
     ensures actors_stay { OnErr result (actors_view actors.new ≡ actors_view actors.old) }

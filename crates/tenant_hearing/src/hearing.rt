@@ -2,7 +2,7 @@
 ghost use Rattle.std.specs.Prelude.{◌≡◌, ◌≢◌, ℕ, List, [], ◌++◌, true, false, None, is_some, IfOk};
 ghost use Rattle.std.specs.Prelude.{OnOk, OnErr};
 ghost use Rattle.bencode_wire.specs.Tree.{Tree};
-ghost use Rattle.bencode_wire.specs.Inside.Decoder.{ready_of, fault_of, Stands, IsUnchanged};
+ghost use Rattle.bencode_wire.specs.Inside.Decoder.{ready_of, fault_of, DecoderStands, IsUnchanged};
 ghost use Rattle.bencode_wire.specs.Inside.Return.{CanReturn};
 ghost use Rattle.server_rules.specs.Ground.{Ground};
 ghost use Rattle.server_rules.specs.Readings.{AreRight};
@@ -68,14 +68,14 @@ fn feed_piece(decoder: &mut Decoder, piece: &Bytes) -> Result<bool, AllocError>
     requires { fault_of decoder.old ≡ None }
     ensures broken { IfOk result (λ broken. broken ≡ is_some (fault_of decoder.new)) }
     ensures stands { (limit : ℕ) (all : List ℕ) (taken : List Tree)
-        → Stands limit decoder.old all taken
-        → OnOk result (Stands limit decoder.new (all ++ piece.now) taken) }
+        → DecoderStands limit decoder.old all taken
+        → OnOk result (DecoderStands limit decoder.new (all ++ piece.now) taken) }
     ensures returns { (limit : ℕ) (all : List ℕ) (taken : List Tree)
-        → Stands limit decoder.old all taken
+        → DecoderStands limit decoder.old all taken
         → ready_of decoder.old ≡ [] → OnOk result (CanReturn limit decoder.new all taken) }
     ensures keeps { (limit : ℕ) (all : List ℕ) (taken : List Tree)
-        → Stands limit decoder.old all taken
-        → OnErr result (Stands limit decoder.new all taken) }
+        → DecoderStands limit decoder.old all taken
+        → OnErr result (DecoderStands limit decoder.new all taken) }
     ensures stays { OnErr result (IsUnchanged decoder.old decoder.new) }
 {
     match decoder.feed(piece) {

@@ -2,7 +2,7 @@
 ghost use Rattle.std.specs.Prelude.{◌≡◌, IfOk};
 ghost use Rattle.std.specs.BTreeSet.{keys};
 ghost use Rattle.std.specs.Result.{result_map_both};
-ghost use Rattle.bencode_wire.specs.Inside.View.{pairs_view};
+ghost use Rattle.bencode_wire.specs.Inside.View.{entries_view};
 ghost use Rattle.repl_replies.specs.Operations as meant;
 ghost use Rattle.repl_replies.specs.Inside.View.{asked_view, operation_view, reply_view};
 ghost use Rattle.repl_sessions.specs.Named.{number_named};
@@ -37,7 +37,7 @@ pub(crate) fn read_message(
 ) -> Result<Asked, Reply>
     ensures asked { result_map_both asked_view reply_view result
         ≡ meant.operation_or_reply (number_named (remaining_named (keys leaving.now) sessions.now))
-        (pairs_view fields.entries) }
+        (entries_view fields.entries) }
     ensures served { IfOk result (λ asked.
         IsServed (session_of (operation_view asked.operation)) (keys leaving.now)
         sessions.now.sessions) }

@@ -8,7 +8,7 @@ use Rattle.server_rules.specs.Ground.{Ground}
 use Rattle.server_rules.specs.Request.{Hand, ProgramText, code, file}
 use Rattle.server_rules.specs.Starting.{Started, next_begun, text_begun, elsewhere_begun}
 use Rattle.tenant_moves.specs.Opening.{opened_hand, named_namespace, opened_elsewhere}
-use Rattle.tenant_moves.specs.Starts.{first_of, form_begun_with, request_over, not_found}
+use Rattle.tenant_moves.specs.Starts.{first_item, form_begun_with, request_over, not_found}
 
 -- what an opened request begins with
 abbrev pub start_opened : Ground → OriginData → StateData → Option Hand → Started
@@ -33,7 +33,7 @@ opened_hand-begins g spaces origin state (file text) = refl
 
 -- the first of the forms begins
 pub first-begins : (g : Ground) (h : Hand) (state : StateData) (forms : Items) (d : Datum)
-    → first_of forms ≡ Some d
+    → first_item forms ≡ Some d
     → form_begun_with g (record h { forms = forms }) state d
     ≡ next_begun g (record h { forms = forms }) state forms
 first-begins g h state no_items d first = absurd (cc)
@@ -42,7 +42,7 @@ first-begins g h state (item e es) d first =
 
 -- there is none
 pub none-begins : (g : Ground) (h : Hand) (state : StateData) (forms : Items)
-    → first_of forms ≡ None
+    → first_item forms ≡ None
     → request_over h state ≡ next_begun g (record h { forms = forms }) state forms
 none-begins g h state no_items first = refl
 none-begins g h state (item e es) first = absurd (cc)

@@ -19,9 +19,9 @@ use Rattle.tenant_moves.specs.declared.starting.NextForm.{NextForm}
 use Rattle.tenant_moves.specs.declared.starting.BegunRequest.{BegunRequest}
 use Rattle.tenant_moves.specs.Told.{Tells}
 
-abbrev pub first_of : Items → Option Datum
-first_of no_items = None
-first_of (item d ds) = Some d
+abbrev pub first_item : Items → Option Datum
+first_item no_items = None
+first_item (item d ds) = Some d
 
 -- the first of the forms runs, as this job
 abbrev pub with_run : rules.Hand → JobData → rules.Hand

@@ -1,7 +1,7 @@
 // A request is opened: its text is read.
 ghost use Rattle.std.specs.Prelude.{◌≡◌, option_map, option_and_then, Some, string_bytes, IfOk};
 ghost use Rattle.std.specs.Arc.{arc_str_bytes};
-ghost use Rattle.bencode_wire.specs.Inside.View.{view};
+ghost use Rattle.bencode_wire.specs.Inside.View.{tree_view};
 ghost use Rattle.repl_faults.specs.Inside.View.{failure_of};
 ghost use Rattle.repl_reader.specs.Inside.View.{fault_option};
 ghost use Rattle.repl_replies.specs.Inside.View.{origin_view, field_view};
@@ -132,7 +132,7 @@ fn text_fault(alloc: Global, fault: Option<ReaderFault>) -> Result<Option<Fault>
 // The namespace that a request names, if it is there.
 fn namespace_named(alloc: Global, spaces: &Spaces, ns: &Ben) -> Result<Option<ArcStr>, AllocError>
     ensures { IfOk result (λ found. option_map (λ name. arc_str_bytes name) found
-        ≡ named_namespace (namespaces_of spaces.now) (view ns.now)) }
+        ≡ named_namespace (namespaces_of spaces.now) (tree_view ns.now)) }
 {
     match ns {
         Ben::String(name) => namespace_of(alloc, spaces, name.as_slice()),

@@ -10,7 +10,7 @@ ghost use Rattle.repl_jobs.specs.Job as jobs;
 ghost use Rattle.value_data.specs.Inside.View.{view};
 ghost use Rattle.repl_replies.specs.Inside.View.{origin_view};
 ghost use Rattle.tenant_actors.specs.View.{hand_view, waiting_view};
-ghost use Rattle.tenant_moves.specs.Starts.{first_of, form_begun_with, request_over, with_run};
+ghost use Rattle.tenant_moves.specs.Starts.{first_item, form_begun_with, request_over, with_run};
 ghost use Rattle.tenant_moves.specs.Starts.{not_found, GoesOn, BeginsRequest};
 
 use crate::news::News;
@@ -65,7 +65,7 @@ pub fn next_form(
 }
 
 fn first_form(hand: &Hand) -> Option<&Value>
-    ensures { option_map (λ v. view v.now) result ≡ first_of (hand_view hand.now).forms }
+    ensures { option_map (λ v. view v.now) result ≡ first_item (hand_view hand.now).forms }
 {
     hand.forms.front()
 }

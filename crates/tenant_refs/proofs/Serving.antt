@@ -119,7 +119,7 @@ comes-told table attempts s r answer p holds is =
     subst (PerformsCall table attempts r answer) (sym is) (record {
       called = record {
         told = refl;
-        left = subst (refs.Stands ListStands table)
+        left = subst (refs.TableStands ListStands table)
             (sym (refs_after-seen s r holds.serves.reached)) holds.serves.stands;
       };
       reaches = holds.reaches;
@@ -132,7 +132,7 @@ pub holds-still : (new old : ListRefTable) (attempts later : Attempts) (s : Stor
     → ServesWithAttempts new later s r
 holds-still new old attempts later s r answer p holds told same is = record {
   serves = record {
-    stands = subst (refs.Stands ListStands new)
+    stands = subst (refs.TableStands ListStands new)
         (ap (λ x. refs_after x r) same ∙ refs_after-seen s r holds.serves.reached) told.left;
     sound = holds.serves.sound;
     reached = holds.serves.reached;
@@ -147,7 +147,7 @@ pub holds-unended : (new old : ListRefTable) (attempts : Attempts) (seat : ℕ) 
     → ServesWithAttempts new attempts s r
 holds-unended new old attempts seat s r answer p holds told left = record {
   serves = record {
-    stands = subst (refs.Stands ListStands new)
+    stands = subst (refs.TableStands ListStands new)
         (ap (λ x. refs_after x r) left ∙ refs_after-seen s r holds.serves.reached) told.left;
     sound = holds.serves.sound;
     reached = holds.serves.reached;
@@ -156,7 +156,7 @@ holds-unended new old attempts seat s r answer p holds told left = record {
 }
 
 pub holds-new : (new old : ListRefTable) (attempts : Attempts) (s : Store) (r : Refs)
-    → ServesWithAttempts old attempts s r → refs.Stands ListStands new r → ServesWithAttempts new attempts s r
+    → ServesWithAttempts old attempts s r → refs.TableStands ListStands new r → ServesWithAttempts new attempts s r
 holds-new new old attempts s r holds stands = record {
   serves = record {
     stands = stands;
@@ -191,7 +191,7 @@ pub holds-left : (table : ListRefTable) (attempts later : Attempts) (seat : ℕ)
     → ServesWithAttempts table later (left_attempt seat s) (refs_after (left_attempt seat s) r)
 holds-left table attempts later seat s r holds same points = record {
   serves = record {
-    stands = subst (refs.Stands ListStands table)
+    stands = subst (refs.TableStands ListStands table)
         (sym (refs_after-seen s r holds.serves.reached)) holds.serves.stands;
     sound = refs_after-sound (left_attempt seat s) r
         (reaches-sound s.tenant s r holds.serves.reached holds.serves.sound) holds.serves.sound;

@@ -18,7 +18,7 @@ ListRefTable = RefTable ListHistory
 
 -- the table stands for the refs of all, of which the tenant reaches this
 pub record TableServes (table : ListRefTable) (s : Store) (r : Refs) : Type 0 where
-  pub stands : refs.Stands ListStands table r
+  pub stands : refs.TableStands ListStands table r
   pub sound : AreSound r
   pub reached : s ≡ store_of s.tenant s.mine.points r
 

@@ -17,13 +17,13 @@ use Rattle.server_rules.specs.declared.refusal.Refusal.{Refusal}
 use Rattle.tenant_turns.specs.DeedResult.{DeedResult, deed_result}
 use Rattle.tenant_turns.specs.Grounds.{IsRight}
 use Rattle.tenant_turns.specs.Turns.{LoneTurn, Lone, goes, drains, accepted, deed_of, lone_step}
-use Rattle.tenant_turns.specs.Turns.{stepped_as, ended_as, opened_lone}
+use Rattle.tenant_turns.specs.Turns.{stepped_as, lone_ended, opened_lone}
 use Rattle.tenant_turns.specs.Inside.Turned.{Accepted, IsRefused}
 use Rattle.tenant_walks.specs.Grounds.{Evaluates}
 use Rattle.tenant_walks.specs.Inside.WalkAt.{walk_at}
 use Rattle.tenant_world.specs.Standing as tenants
 use Rattle.tenant_world.specs.declared.tenant.Tenant.{Tenant}
-use Rattle.repl_core.specs.Going.{AreWalkedIn, KeepsForms, AcceptsTurn, RefusesTurn}
+use Rattle.repl_core.specs.Going.{AreWalkedIn, KeepsForms, AcceptsHonestStep, RefusesHonestStep}
 use Rattle.repl_core.specs.Standing as machine
 use Rattle.repl_core.specs.Standing.{open_in, store_in}
 use Rattle.repl_core.specs.Steps as core
@@ -35,7 +35,7 @@ use Rattle.repl_core.proofs.Behind.{deed_result-tenant}
 use Rattle.repl_core.proofs.Comings.{open-tested}
 use Rattle.repl_core.proofs.Honest.{honest_deed-turn}
 use Rattle.repl_core.proofs.Walking.{same-world, deed-walked, fresh-walked}
-use Rattle.tenant_runner.specs.Standing.{tenant_data_of, Stands}
+use Rattle.tenant_runner.specs.Standing.{tenant_data_of, RunnerStands}
 use Rattle.tenant_runner.specs.declared.runner.Runner.{Runner}
 
 -- what a deed of the tenant comes to, in its server
@@ -45,7 +45,7 @@ deeded_in g w l d = world.deed_of g w 0 (tenant_data_of l) d
 -- the turn comes to what the deed does
 turn-so : (g : Ground) (w : World) (l : Lone) (turn : LoneTurn) (d : Deed)
     → l.store ≡ store_in w.around 0 l.store.mine → d ≡ deed_of g l turn
-    → lone_step g l turn ≡ ended_as (deeded_in g w l d).store (deeded_in g w l d).outcome
+    → lone_step g l turn ≡ lone_ended (deeded_in g w l d).store (deeded_in g w l d).outcome
 unfolding lone_step
 turn-so g w l turn d seen is =
     ap (λ x. stepped_as (deed_result g l.store l.quiet x)) (sym is)
@@ -62,8 +62,8 @@ stands-behind : (g : Ground) (w after : World) (l : Lone) (d : Deed) (q : Quiet)
     → IsRight g → Evaluates g → open_in 0 w ≡ Some (tenant_data_of l)
     → with_tenant 0 (Some (record { quiet = q; mine = (deeded_in g w l d).store.mine }))
     (deeded_in g w l d).store.around w ≡ after
-    → machine.Stands g new.machine after → AreWalkedIn new.walks (open_in 0 after)
-    → Stands g new (record { quiet = q; store = (deeded_in g w l d).store })
+    → machine.MachineStands g new.machine after → AreWalkedIn new.walks (open_in 0 after)
+    → RunnerStands g new (record { quiet = q; store = (deeded_in g w l d).store })
 stands-behind g w after l d q new right ground there same stands walked =
     let e = deeded_in g w l d in
     let part : TenantData = record { quiet = q; mine = e.store.mine } in
@@ -82,9 +82,9 @@ stands-behind g w after l d q new right ground there same stands walked =
 accepted-deed : (g : Ground) (w after : World) (l : Lone) (d : Deed) (answer : StepAnswer)
     (new : Runner) → IsRight g → Evaluates g → open_in 0 w ≡ Some (tenant_data_of l)
     → worlds.step g w (does 0 d) ≡ worlds.accepted after answer
-    → machine.Stands g new.machine after → AreWalkedIn new.walks (open_in 0 after)
-    → (it : Lone) × (ended_as (deeded_in g w l d).store (deeded_in g w l d).outcome
-    ≡ accepted it (bytes_in answer)) × Stands g new it
+    → machine.MachineStands g new.machine after → AreWalkedIn new.walks (open_in 0 after)
+    → (it : Lone) × (lone_ended (deeded_in g w l d).store (deeded_in g w l d).outcome
+    ≡ accepted it (bytes_in answer)) × RunnerStands g new it
 accepted-deed g w after l d answer new right ground there is stands walked =
     by e.outcome refl (sym (step-deed g w 0 d (tenant_data_of l) there) ∙ is)
   where
@@ -92,13 +92,13 @@ accepted-deed g w after l d answer new right ground there is stands walked =
     e = deeded_in g w l d
 
     by : (o : Outcome) → e.outcome ≡ o → worlds.ended_as w 0 e.store o ≡ worlds.accepted after answer
-        → (it : Lone) × (ended_as e.store e.outcome ≡ accepted it (bytes_in answer))
-        × Stands g new it
+        → (it : Lone) × (lone_ended e.store e.outcome ≡ accepted it (bytes_in answer))
+        × RunnerStands g new it
     by (refuses why) out never = absurd (cc)
     by (leaves q x) out same =
         let given : x ≡ answer = cc in (
           record { quiet = q; store = e.store },
-          ap (ended_as e.store) out
+          ap (lone_ended e.store) out
               ∙ ap (λ a. accepted (record { quiet = q; store = e.store }) (bytes_in a)) given,
           stands-behind g w after l d q new right ground there (same-world _ after x answer same)
               stands walked,
@@ -108,8 +108,8 @@ pub accepted-turn : (g : Ground) (w after : World) (l : Lone) (turn : LoneTurn) 
     (answer : StepAnswer) (new : Runner) → IsRight g → Evaluates g
     → open_in 0 w ≡ Some (tenant_data_of l) → l.store ≡ store_in w.around 0 l.store.mine
     → d ≡ deed_of g l turn → worlds.step g w (does 0 d) ≡ worlds.accepted after answer
-    → machine.Stands g new.machine after → AreWalkedIn new.walks (open_in 0 after)
-    → (it : Lone) × (lone_step g l turn ≡ accepted it (bytes_in answer)) × Stands g new it
+    → machine.MachineStands g new.machine after → AreWalkedIn new.walks (open_in 0 after)
+    → (it : Lone) × (lone_step g l turn ≡ accepted it (bytes_in answer)) × RunnerStands g new it
 accepted-turn g w after l turn d answer new right ground there seen same is stands walked =
     let it = accepted-deed g w after l d answer new right ground there is stands walked in
     (it.0, turn-so g w l turn d seen same ∙ it.1, it.2)
@@ -127,15 +127,15 @@ refused-turn g w l turn d why there seen same is =
     e = deeded_in g w l d
 
     by : (o : Outcome) → e.outcome ≡ o → worlds.ended_as w 0 e.store o ≡ worlds.refused why
-        → IsRefused why (ended_as e.store e.outcome)
+        → IsRefused why (lone_ended e.store e.outcome)
     by (refuses x) out same =
         let told : x ≡ why = cc in
-        ap (ended_as e.store) out ∙ ap (λ y. ended_as e.store (refuses y)) told
+        ap (lone_ended e.store) out ∙ ap (λ y. lone_ended e.store (refuses y)) told
     by (leaves q x) out never = absurd (cc)
 
-stands-same : (g : Ground) (l : Lone) (old new : Runner) (s : Stands g old l)
-    → machine.Stands g new.machine s.world → AreWalkedIn new.walks (open_in 0 s.world)
-    → Stands g new l
+stands-same : (g : Ground) (l : Lone) (old new : Runner) (s : RunnerStands g old l)
+    → machine.MachineStands g new.machine s.world → AreWalkedIn new.walks (open_in 0 s.world)
+    → RunnerStands g new l
 stands-same g l old new s stands walked = record {
   right = s.right;
   ground = s.ground;
@@ -148,9 +148,9 @@ stands-same g l old new s stands walked = record {
 
 -- a deed by which no form goes on
 pub does-turn : (g : Ground) (l : Lone) (turn : LoneTurn) (d : Deed) (old new : Runner)
-    (answer : StepAnswer) (s : Stands g old l) → KeepsForms d → d ≡ deed_of g l turn
+    (answer : StepAnswer) (s : RunnerStands g old l) → KeepsForms d → d ≡ deed_of g l turn
     → new.walks ≡ old.walks → core.AcceptsStep g s.world (does 0 d) new.machine answer
-    → (it : Lone) × (lone_step g l turn ≡ accepted it (bytes_in answer)) × Stands g new it
+    → (it : Lone) × (lone_step g l turn ≡ accepted it (bytes_in answer)) × RunnerStands g new it
 does-turn g l turn d old new answer s keeps is same did =
     accepted-turn g s.world did.after l turn d answer new s.right s.ground s.there s.store is
     did.accepted did.stands
@@ -158,9 +158,9 @@ does-turn g l turn d old new answer s keeps is same did =
     (deed-walked g s.world did.after 0 d answer old.walks keeps did.accepted s.walked))
 
 pub refuses-turn : (g : Ground) (l : Lone) (turn : LoneTurn) (d : Deed) (old new : Runner)
-    (why : Refusal) (s : Stands g old l) → d ≡ deed_of g l turn → new.walks ≡ old.walks
+    (why : Refusal) (s : RunnerStands g old l) → d ≡ deed_of g l turn → new.walks ≡ old.walks
     → core.RefusesStep g s.world (does 0 d) new.machine why → why ≢ Refusal.NoMemory
-    → IsRefused why (lone_step g l turn) × Stands g new l
+    → IsRefused why (lone_step g l turn) × RunnerStands g new l
 refuses-turn g l turn d old new why s is same told ne = (
   refused-turn g s.world l turn d why s.there s.store is (told.refused ne),
   stands-same g l old new s told.stands
@@ -168,15 +168,15 @@ refuses-turn g l turn d old new why s is same told ne = (
 )
 
 pub accepted-so : (g : Ground) (l : Lone) (turn : LoneTurn) (new : Runner) (bytes : List ℕ)
-    → ((it : Lone) × (lone_step g l turn ≡ accepted it bytes) × Stands g new it)
-    → Accepted (Stands g new) (lone_step g l turn)
-accepted-so g l turn new bytes it = subst (Accepted (Stands g new)) (sym it.1) it.2
+    → ((it : Lone) × (lone_step g l turn ≡ accepted it bytes) × RunnerStands g new it)
+    → Accepted (RunnerStands g new) (lone_step g l turn)
+accepted-so g l turn new bytes it = subst (Accepted (RunnerStands g new)) (sym it.1) it.2
 
 -- an actor goes on
 pub goes-turn : {X : Type 0} (g : Ground) (l : Lone) (a : Actor) (old new : Runner)
-    (res : Result X Refusal) (s : Stands g old l)
-    → OnOk res (AcceptsTurn g s.world 0 a new.machine new.walks)
-    → OnOk res (Accepted (Stands g new) (lone_step g l (goes a)))
+    (res : Result X Refusal) (s : RunnerStands g old l)
+    → OnOk res (AcceptsHonestStep g s.world 0 a new.machine new.walks)
+    → OnOk res (Accepted (RunnerStands g new) (lone_step g l (goes a)))
 goes-turn g l a old new (Err why) s did = tt
 goes-turn g l a old new (Ok x) s did =
     accepted-so g l (goes a) new _
@@ -185,10 +185,10 @@ goes-turn g l a old new (Ok x) s did =
     (sym (honest_deed-turn g s.world 0 a (tenant_data_of l) s.there) ∙ did.accepted) did.stands did.walked)
 
 pub halts-turn : {X : Type 0} (g : Ground) (l : Lone) (a : Actor) (old new : Runner)
-    (res : Result X Refusal) (s : Stands g old l)
-    → IfErr res (RefusesTurn g s.world 0 a new.machine new.walks)
+    (res : Result X Refusal) (s : RunnerStands g old l)
+    → IfErr res (RefusesHonestStep g s.world 0 a new.machine new.walks)
     → IfErr res (λ why. why ≢ Refusal.NoMemory
-    → IsRefused why (lone_step g l (goes a)) × Stands g new l)
+    → IsRefused why (lone_step g l (goes a)) × RunnerStands g new l)
 halts-turn g l a old new (Ok x) s told = tt
 halts-turn g l a old new (Err why) s told = λ ne. (
   refused-turn g s.world l (goes a) (honest_deed g a (Some (Some l.quiet))) why s.there s.store refl
@@ -198,8 +198,8 @@ halts-turn g l a old new (Err why) s told = λ ne. (
 
 -- what is refused where no reply waits
 drain_outcome-idle : (g : Ground) (q : Quiet) (s : Store) (why : Refusal) (replies : List ReplyData)
-    → IsRefused why (ended_as s (drain_outcome q replies))
-    → IsRefused Refusal.Idle (ended_as s (drain_outcome q replies))
+    → IsRefused why (lone_ended s (drain_outcome q replies))
+    → IsRefused Refusal.Idle (lone_ended s (drain_outcome q replies))
 drain_outcome-idle g q s why [] is = refl
 drain_outcome-idle g q s why (oldest ∷ more) never = absurd (cc)
 
@@ -210,18 +210,18 @@ drains-idle g l why is = drain_outcome-idle g l.quiet l.store why l.quiet.replie
 
 -- What is shown
 
-pub tenant-of : (g : Ground) (l : Lone) (r : Runner) (code : Tenant) (s : Stands g r l)
-    → tenant_at r.machine.tenants 0 ≡ Some code → tenants.Stands g code l.quiet l.store
+pub tenant-of : (g : Ground) (l : Lone) (r : Runner) (code : Tenant) (s : RunnerStands g r l)
+    → tenant_at r.machine.tenants 0 ≡ Some code → tenants.QuietStands g code l.quiet l.store
 tenant-of g l r code s is =
     let w = s.world in
     let m = s.machine in
     let at = kept-at g m.refs 0 code (tenant_at r.machine.tenants 0) (open_in 0 w) (m.tenants 0) is in
     let same : at.0 ≡ tenant_data_of l = cc (at.1, s.there) in
-    subst (tenants.Stands g code l.quiet) (sym s.store)
-    (subst (λ k. tenants.Stands g code k.quiet (store_in w.around 0 k.mine)) same
+    subst (tenants.QuietStands g code l.quiet) (sym s.store)
+    (subst (λ k. tenants.QuietStands g code k.quiet (store_in w.around 0 k.mine)) same
     (at.2.stands w.around))
 
-pub tenant-there : (g : Ground) (l : Lone) (r : Runner) (s : Stands g r l)
+pub tenant-there : (g : Ground) (l : Lone) (r : Runner) (s : RunnerStands g r l)
     → tenant_at r.machine.tenants 0 ≡ None → ⊥
 tenant-there g l r s gone =
     let none : open_in 0 s.world ≡ None =
@@ -233,7 +233,7 @@ tenant-there g l r s gone =
 pub opened-stands : (g : Ground) (made : Runner) → IsRight g → Evaluates g → g.places ≡ 1
     → ((a : Actor) → walk_at made.walks a ≡ None)
     → core.AcceptsStep g (new_world []) (opens 0) made.machine tenant_opened
-    → Stands g made (opened_lone g)
+    → RunnerStands g made (opened_lone g)
 opened-stands g made right ground places none did =
     let first : World = record {
       around = (new_world []).around;

@@ -19,11 +19,11 @@ abbrev pub tenant_data_of : Lone → TenantData
 tenant_data_of l = record { quiet = l.quiet; mine = l.store.mine }
 
 -- it is the first tenant of a server
-pub record Stands (g : Ground) (r : Runner) (l : Lone) : Type 0 where
+pub record RunnerStands (g : Ground) (r : Runner) (l : Lone) : Type 0 where
   pub right : IsRight g
   pub ground : Evaluates g
   pub world : World
-  pub machine : machine.Stands g r.machine world
+  pub machine : machine.MachineStands g r.machine world
   pub there : open_in 0 world ≡ Some (tenant_data_of l)
   pub store : l.store ≡ store_in world.around 0 l.store.mine
   pub walked : AreWalkedIn r.walks (open_in 0 world)

@@ -14,13 +14,13 @@ use tenant_turns::{Core, Wire};
 use tenant_walks::Walks;
 
 impl Runner {
-    ghost use Rattle.tenant_runner.specs.Standing.{Stands};
+    ghost use Rattle.tenant_runner.specs.Standing.{RunnerStands};
 
     /// A server whose first tenant has heard nothing. It fails only for want of memory.
     pub fn new(alloc: Global, config: Config) -> Result<Runner, AllocError>
         ensures { (g : Ground) → IsRight g → Evaluates g → g.seed ≡ config.seed
             → g.steps ≡ config.steps → g.retries ≡ config.retries → g.places ≡ 1
-            → IfOk result (λ made. Stands g made (opened_lone g)) }
+            → IfOk result (λ made. RunnerStands g made (opened_lone g)) }
     {
         let mut machine = Machine::new(alloc, config);
         match machine.open(NUMBER) {
@@ -34,11 +34,11 @@ impl Runner {
 }
 
 impl Core for Runner {
-    ghost use Rattle.tenant_runner.specs.Standing.{work_left, Stands};
+    ghost use Rattle.tenant_runner.specs.Standing.{work_left, RunnerStands};
 
     ghost left = { work_left };
 
-    ghost stands = { Stands };
+    ghost stands = { RunnerStands };
 
     fn hear(&mut self, piece: &Bytes) -> Result<(), Refusal> {
         match self.machine.hear(NUMBER, piece) {

@@ -47,12 +47,12 @@ deed_of g l (hears piece) = deeds.hears piece
 deed_of g l (goes a) = honest_deed g a (Some (Some l.quiet))
 deed_of g l drains = deeds.drains
 
-abbrev pub ended_as : Store → Outcome → LoneStepped
-ended_as s (refuses why) = refused why
-ended_as s (leaves q answer) = accepted (record { quiet = q; store = s }) (bytes_in answer)
+abbrev pub lone_ended : Store → Outcome → LoneStepped
+lone_ended s (refuses why) = refused why
+lone_ended s (leaves q answer) = accepted (record { quiet = q; store = s }) (bytes_in answer)
 
 abbrev pub stepped_as : DeedResult → LoneStepped
-stepped_as d = ended_as d.store d.outcome
+stepped_as d = lone_ended d.store d.outcome
 
 unfoldable pub lone_step : Ground → Lone → LoneTurn → LoneStepped
 lone_step g l turn = stepped_as (deed_result g l.store l.quiet (deed_of g l turn))
@@ -62,9 +62,9 @@ abbrev pub lone_or : Lone → LoneStepped → Lone
 lone_or old (accepted new bytes) = new
 lone_or old (refused why) = old
 
-abbrev pub bytes_given : LoneStepped → List ℕ
-bytes_given (accepted new bytes) = bytes
-bytes_given (refused why) = []
+abbrev pub reply_taken : LoneStepped → List ℕ
+reply_taken (accepted new bytes) = bytes
+reply_taken (refused why) = []
 
 abbrev pub lone_after : Ground → Lone → LoneTurn → Lone
 lone_after g l turn = lone_or l (lone_step g l turn)
@@ -76,7 +76,7 @@ lone_run g l (turn ∷ turns) = lone_run g (lone_after g l turn) turns
 -- what a list of turns serves: the bytes that its turns give, joined
 abbrev pub lone_served : Ground → Lone → List LoneTurn → List ℕ
 lone_served g l [] = []
-lone_served g l (turn ∷ turns) = bytes_given (lone_step g l turn)
+lone_served g l (turn ∷ turns) = reply_taken (lone_step g l turn)
     ++ lone_served g (lone_after g l turn) turns
 
 -- the actors, in the order of their rounds

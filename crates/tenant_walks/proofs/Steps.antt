@@ -25,7 +25,7 @@ use Rattle.tenant_world.specs.Running.{running_of, running_in}
 use Rattle.tenant_world.specs.Standing as world
 use Rattle.tenant_walks.specs.Inside.WalkAt.{walk_at}
 use Rattle.tenant_walks.specs.Inside.Walked.{IsWalkOf, AreWalked, AreWalkedBut}
-use Rattle.tenant_walks.specs.Inside.Standing.{Parts, parts, Stands, AcceptsDeed, RefusesDeed, comes_to}
+use Rattle.tenant_walks.specs.Inside.Standing.{Parts, parts, PartsStand, AcceptsHonestDeed, RefusesHonestDeed, comes_to}
 use Rattle.tenant_walks.specs.declared.walks.Walks.{Walks}
 use Rattle.tenant_walks.proofs.Runs.{heard-runs}
 use Rattle.tenant_world.specs.Asking.{exchange_from, run_with}
@@ -35,12 +35,12 @@ use Rattle.tenant_walks.proofs.Stores.{Reached, serves-all-still, hears-reached,
 
 -- an actor's step, behind which its evaluation is followed
 pub does-followed : (g : Ground) (l : Lone) (r : Refs) (deed : Deed) (a : Actor) (old new : Parts)
-    (answer : StepAnswer) → Stands g old l r
+    (answer : StepAnswer) → PartsStand g old l r
     → world.AcceptsDeedBy g a l.quiet (comes_to g l deed) new.tenant answer
     → TableServes new.table (comes_to g l deed).store (refs_after (comes_to g l deed).store r)
-    → ((then : Quiet) (s : Store) → world.Stands g new.tenant then s
+    → ((then : Quiet) (s : Store) → world.QuietStands g new.tenant then s
     → AreWalkedBut a (walk_at old.walks) then → AreWalked (walk_at new.walks) then)
-    → AcceptsDeed g l r deed new
+    → AcceptsHonestDeed g l r deed new
 does-followed g l r deed a old new answer s does serves follows = record {
   after = does.after;
   answer = answer;
@@ -56,7 +56,7 @@ does-followed g l r deed a old new answer s does serves follows = record {
 }
 
 -- the table, where the deed leaves the refs
-pub serves-same : (g : Ground) (l : Lone) (r : Refs) (deed : Deed) (old : Parts) (s : Stands g old l r)
+pub serves-same : (g : Ground) (l : Lone) (r : Refs) (deed : Deed) (old : Parts) (s : PartsStand g old l r)
     → Reached l.store (comes_to g l deed).store
     → TableServes old.table (comes_to g l deed).store (refs_after (comes_to g l deed).store r)
 serves-same g l r deed old s reached =
@@ -64,14 +64,14 @@ serves-same g l r deed old s reached =
 
 -- a refused step
 pub refused-parts : {X : Type 0} (g : Ground) (l : Lone) (r : Refs) (deed : Deed) (old : Parts)
-    (tenant : Tenant) (table : ListRefTable) (why : Refusal) (res : Result X Refusal) (s : Stands g old l r)
+    (tenant : Tenant) (table : ListRefTable) (why : Refusal) (res : Result X Refusal) (s : PartsStand g old l r)
     → IsErrAnd res (λ e. e ≡ why)
     → world.RefusesDeed g l.quiet l.store (comes_to g l deed) tenant why
     → TableServes table l.store r
-    → IfErr res (RefusesDeed g l r deed (parts tenant table old.walks))
+    → IfErr res (RefusesHonestDeed g l r deed (parts tenant table old.walks))
 refused-parts g l r deed old tenant table why (Ok x) s never told serves = tt
 refused-parts g l r deed old tenant table why (Err e) s is told serves =
-    subst (RefusesDeed g l r deed (parts tenant table old.walks)) (sym is) (record {
+    subst (RefusesHonestDeed g l r deed (parts tenant table old.walks)) (sym is) (record {
       refused = told.refused;
       stands = record {
         right = s.right;
@@ -84,9 +84,9 @@ refused-parts g l r deed old tenant table why (Err e) s is told serves =
 
 -- a piece that was heard
 pub does-heard : (g : Ground) (l : Lone) (r : Refs) (piece : List ℕ) (old : Parts) (tenant : Tenant)
-    (count : ℕ) → Stands g old l r
+    (count : ℕ) → PartsStand g old l r
     → world.AcceptsDeed g (comes_to g l (deeds.hears piece)) tenant (messages_heard count)
-    → AcceptsDeed g l r (deeds.hears piece) (parts tenant old.table old.walks)
+    → AcceptsHonestDeed g l r (deeds.hears piece) (parts tenant old.table old.walks)
 does-heard g l r piece old tenant count s does =
     let behind = heard-after g l.quiet l.store piece does.after _ does.accepted in
     record {
@@ -122,9 +122,9 @@ drains-by g l = refl
 
 -- a reply was taken out
 pub does-drained : (g : Ground) (l : Lone) (r : Refs) (old : Parts) (tenant : Tenant)
-    (answer : StepAnswer) → Stands g old l r
+    (answer : StepAnswer) → PartsStand g old l r
     → world.AcceptsDeed g (comes_to g l deeds.drains) tenant answer
-    → AcceptsDeed g l r deeds.drains (parts tenant old.table old.walks)
+    → AcceptsHonestDeed g l r deeds.drains (parts tenant old.table old.walks)
 does-drained g l r old tenant answer s does = record {
   after = does.after;
   answer = answer;
@@ -171,14 +171,14 @@ some-so f (Some x) b is some = (f x, refl)
 
 -- an ask that was answered
 pub does-resumed : (g : Ground) (l : Lone) (r : Refs) (a : Actor) (old new : Parts) (ask : AskData)
-    (answer : AnswerData) (run : Run) → Stands g old l r → running_in a l.quiet ≡ Some run
+    (answer : AnswerData) (run : Run) → PartsStand g old l r → running_in a l.quiet ≡ Some run
     → world.AcceptsDeedBy g a l.quiet (comes_to g l (deeds.asks_for a ask)) new.tenant (ask_answered answer)
     → let d = comes_to g l (deeds.asks_for a ask) in
     TableServes new.table d.store (refs_after d.store r)
     → ((p : Progress) → walk_at new.walks a ≡ Some p
     → IsWalkOf (run_with (exchange_from ask answer) run) p)
     → ((b : Actor) → seat_of b ≢ seat_of a → walk_at new.walks b ≡ walk_at old.walks b)
-    → AcceptsDeed g l r (deeds.asks_for a ask) new
+    → AcceptsHonestDeed g l r (deeds.asks_for a ask) new
 does-resumed g l r a old new ask answer run s runs does serves mine others =
     let behind = answered-after g l.quiet l.store a ask does.after answer run does.accepted runs in
     record {
@@ -200,11 +200,11 @@ does-resumed g l r a old new ask answer run s runs does serves mine others =
 
 -- a deed that is the same
 pub does-as : {X : Type 0} (g : Ground) (l : Lone) (r : Refs) (deed honest : Deed) (p : Parts)
-    (res : Result X Refusal) → deed ≡ honest → OnOk res (AcceptsDeed g l r deed p)
-    → OnOk res (AcceptsDeed g l r honest p)
-does-as g l r deed honest p res is does = subst (λ d. OnOk res (AcceptsDeed g l r d p)) is does
+    (res : Result X Refusal) → deed ≡ honest → OnOk res (AcceptsHonestDeed g l r deed p)
+    → OnOk res (AcceptsHonestDeed g l r honest p)
+does-as g l r deed honest p res is does = subst (λ d. OnOk res (AcceptsHonestDeed g l r d p)) is does
 
 pub refuses-as : {X : Type 0} (g : Ground) (l : Lone) (r : Refs) (deed honest : Deed) (p : Parts)
-    (res : Result X Refusal) → deed ≡ honest → IfErr res (RefusesDeed g l r deed p)
-    → IfErr res (RefusesDeed g l r honest p)
-refuses-as g l r deed honest p res is told = subst (λ d. IfErr res (RefusesDeed g l r d p)) is told
+    (res : Result X Refusal) → deed ≡ honest → IfErr res (RefusesHonestDeed g l r deed p)
+    → IfErr res (RefusesHonestDeed g l r honest p)
+refuses-as g l r deed honest p res is told = subst (λ d. IfErr res (RefusesHonestDeed g l r d p)) is told

@@ -6,7 +6,7 @@ use Rattle.repl_asks.specs.Exchange.{AnswerData, Exchanged}
 use Rattle.repl_asks.specs.Inside.View.{ask_view}
 use Rattle.repl_jobs.specs.InteractionTree.{InteractionTree, finished, asks}
 use Rattle.repl_jobs.specs.Leading.{tree_after}
-use Rattle.repl_walker.specs.Waits.{tree_behind, progress_job, progress_trace, progress_tree}
+use Rattle.repl_walker.specs.Waits.{walk_behind, progress_job, progress_trace, progress_tree}
 use Rattle.repl_walker.specs.Waits.{trace_with}
 use Rattle.repl_walker.specs.declared.waiting.Walk.{Walk}
 use Rattle.repl_walker.specs.declared.waiting.Progress.{Progress}
@@ -54,7 +54,7 @@ tree_after-more (asks ask k) (y ∷ ys) x = tree_after-more (k y.answer) ys x
 
 -- an evaluation that goes on with an answer
 pub walk-resumed : (run : Run) (w : Walk) (p : Progress) (answer : AnswerData)
-    → IsWalkOf run (Progress.Asks w) → progress_tree p ≡ tree_behind w answer
+    → IsWalkOf run (Progress.Asks w) → progress_tree p ≡ walk_behind w answer
     → progress_job p ≡ job_view w.job → progress_trace p ≡ trace_with w answer
     → IsWalkOf (run_with (exchange_from (ask_view w.ask) answer) run) p
 walk-resumed run w p answer walk tree job trace =

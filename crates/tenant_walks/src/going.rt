@@ -33,7 +33,7 @@ use tenant_actors::Run;
 use tenant_world::{AskAnswer, Tenant};
 
 impl Walks {
-    ghost use Rattle.tenant_walks.specs.Inside.Standing.{parts, Stands, AcceptsDeed, RefusesDeed};
+    ghost use Rattle.tenant_walks.specs.Inside.Standing.{parts, PartsStand, AcceptsHonestDeed, RefusesHonestDeed};
 
     /// Does what is next for an actor of the tenant whose evaluations these are: begins a form,
     /// answers one ask of it or ends it. What a form asks of refs is asked of this table.
@@ -45,12 +45,12 @@ impl Walks {
     ) -> Result<(), Refusal>
         requires { counter_of refs.old < u128.MAX }
         ensures done { (g : Ground) (l : Lone) (r : Refs) → IsRight g
-            → Stands g (parts tenant.old refs.old self.old) l r → OnOk result
-            (AcceptsDeed g l r (honest_deed g actor (Some (Some l.quiet)))
+            → PartsStand g (parts tenant.old refs.old self.old) l r → OnOk result
+            (AcceptsHonestDeed g l r (honest_deed g actor (Some (Some l.quiet)))
             (parts tenant.new refs.new self.new)) }
         ensures refused { (g : Ground) (l : Lone) (r : Refs) → IsRight g
-            → Stands g (parts tenant.old refs.old self.old) l r → IfErr result
-            (RefusesDeed g l r (honest_deed g actor (Some (Some l.quiet)))
+            → PartsStand g (parts tenant.old refs.old self.old) l r → IfErr result
+            (RefusesHonestDeed g l r (honest_deed g actor (Some (Some l.quiet)))
             (parts tenant.new refs.new self.new)) }
         ensures counted { CountsStep tenant.old tenant.new result }
         ensures counter { counter_of refs.new ≤ counter_of refs.old + 1 }
@@ -74,11 +74,11 @@ impl Walks {
         actor: Actor,
     ) -> Result<(), Refusal>
         ensures done { (g : Ground) (l : Lone) (r : Refs) → IsRight g
-            → Stands g (parts tenant.old refs.now self.old) l r → OnOk result
-            (AcceptsDeed g l r (deeds.starts actor) (parts tenant.new refs.now self.new)) }
+            → PartsStand g (parts tenant.old refs.now self.old) l r → OnOk result
+            (AcceptsHonestDeed g l r (deeds.starts actor) (parts tenant.new refs.now self.new)) }
         ensures refused { (g : Ground) (l : Lone) (r : Refs) → IsRight g
-            → Stands g (parts tenant.old refs.now self.old) l r → IfErr result
-            (RefusesDeed g l r (deeds.starts actor) (parts tenant.new refs.now self.new)) }
+            → PartsStand g (parts tenant.old refs.now self.old) l r → IfErr result
+            (RefusesHonestDeed g l r (deeds.starts actor) (parts tenant.new refs.now self.new)) }
         ensures counted { CountsStep tenant.old tenant.new result }
     {
         tenant.start(actor)?;
@@ -95,15 +95,15 @@ impl Walks {
     ) -> Result<(), Refusal>
         requires { counter_of refs.old < u128.MAX }
         ensures done { (g : Ground) (l : Lone) (r : Refs) (run : rules.Run) (w : Walk) → IsRight g
-            → Stands g (parts tenant.old refs.old self.old) l r
+            → PartsStand g (parts tenant.old refs.old self.old) l r
             → running_in actor l.quiet ≡ Some run
             → walk_at self.old actor ≡ Some (Progress.Asks w)
-            → OnOk result (AcceptsDeed g l r (deeds.asks_for actor (ask_view w.ask))
+            → OnOk result (AcceptsHonestDeed g l r (deeds.asks_for actor (ask_view w.ask))
             (parts tenant.new refs.new self.new)) }
         ensures refused { (g : Ground) (l : Lone) (r : Refs) (w : Walk) → IsRight g
-            → Stands g (parts tenant.old refs.old self.old) l r
+            → PartsStand g (parts tenant.old refs.old self.old) l r
             → walk_at self.old actor ≡ Some (Progress.Asks w)
-            → IfErr result (RefusesDeed g l r (deeds.asks_for actor (ask_view w.ask))
+            → IfErr result (RefusesHonestDeed g l r (deeds.asks_for actor (ask_view w.ask))
             (parts tenant.new refs.new self.new)) }
         ensures counted { CountsStep tenant.old tenant.new result }
         ensures counter { counter_of refs.new ≤ counter_of refs.old + 1 }
@@ -127,14 +127,14 @@ impl Walks {
         actor: Actor,
     ) -> Result<(), Refusal>
         ensures done { (g : Ground) (l : Lone) (r : Refs) (e : endings.Ending) → IsRight g
-            → Stands g (parts tenant.old refs.now self.old) l r
+            → PartsStand g (parts tenant.old refs.now self.old) l r
             → walk_at self.old actor ≡ Some (Progress.Ends e) → OnOk result
-            (AcceptsDeed g l r (deeds.ends actor (ending_view e))
+            (AcceptsHonestDeed g l r (deeds.ends actor (ending_view e))
             (parts tenant.new refs.now self.new)) }
         ensures refused { (g : Ground) (l : Lone) (r : Refs) (e : endings.Ending) → IsRight g
-            → Stands g (parts tenant.old refs.now self.old) l r
+            → PartsStand g (parts tenant.old refs.now self.old) l r
             → walk_at self.old actor ≡ Some (Progress.Ends e) → IfErr result
-            (RefusesDeed g l r (deeds.ends actor (ending_view e))
+            (RefusesHonestDeed g l r (deeds.ends actor (ending_view e))
             (parts tenant.new refs.now self.new)) }
         ensures counted { CountsStep tenant.old tenant.new result }
     {
@@ -166,7 +166,7 @@ impl Walks {
 
     // The evaluation of the form that the actor then runs begins; for want of memory it is lost.
     fn follow(&mut self, tenant: &Tenant, actor: Actor)
-        ensures { (g : Ground) (q : Quiet) (s : Store) → world.Stands g tenant.now q s
+        ensures { (g : Ground) (q : Quiet) (s : Store) → world.QuietStands g tenant.now q s
             → AreWalkedBut actor (walk_at self.old) q → AreWalked (walk_at self.new) q }
     {
         drop(self.take(actor));

@@ -47,7 +47,7 @@ holds-untold new old attempts later s r call holds comes =
     let same = untold-stays s call comes.called.told in
     record {
       serves = record {
-        stands = subst (refs.Stands ListStands new)
+        stands = subst (refs.TableStands ListStands new)
             (ap (λ x. refs_after x r) same ∙ refs_after-seen s r holds.serves.reached) comes.called.left;
         sound = holds.serves.sound;
         reached = holds.serves.reached;

@@ -4,7 +4,7 @@ use Rattle.std.proofs.Common.{sym, ap, subst, ◌∙◌, if◌then◌else◌, is
 use Rattle.repl_jobs.specs.declared.job.Job.{Job}
 use Rattle.server_rules.specs.Ground.{Ground}
 use Rattle.server_rules.specs.Request.{Hand, Waiting}
-use Rattle.server_rules.specs.Tenant.{ActorData, Quiet, is_held, state_of, with_replies, with_state}
+use Rattle.server_rules.specs.Tenant.{ActorData, Quiet, is_held, actor_state, with_replies, with_state}
 use Rattle.server_rules.specs.Starting.{Started, start_outcome, held_or, next_begun, first_state}
 use Rattle.server_rules.specs.Starting.{text_begun, start_waiting, start_in_hand, interrupted_in}
 use Rattle.server_rules.specs.Starting.{after_move}
@@ -68,4 +68,4 @@ interrupted-start g a actor q h k is between closed = sym (
   where
     closed_by : Bool → Outcome
     closed_by b = if b then interrupted_in a k q
-        else held_or q (start_outcome a actor (next_begun g k (state_of a q) k.forms) q)
+        else held_or q (start_outcome a actor (next_begun g k (actor_state a q) k.forms) q)

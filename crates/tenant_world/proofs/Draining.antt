@@ -20,7 +20,7 @@ use Rattle.tenant_turns.specs.DeedResult.{deed_result}
 use Rattle.tenant_world.specs.declared.tenant.Tenant.{Tenant}
 use Rattle.tenant_refs.specs.declared.attempts.Attempts.{Attempts}
 use Rattle.tenant_refs.specs.Attempts.{Reaches}
-use Rattle.tenant_world.specs.Standing.{Stands, AcceptsDeed, RefusesDeed}
+use Rattle.tenant_world.specs.Standing.{QuietStands, AcceptsDeed, RefusesDeed}
 
 drains-by : (g : Ground) (q : Quiet) (s : Store)
     → (deed_result g s q deeds.drains).outcome ≡ drain_outcome q q.replies
@@ -43,12 +43,12 @@ pub record OnlyDrains (code new : Tenant) : Type 0 where
   pub attempts : new.attempts ≡ code.attempts
 
 stands-with : (g : Ground) (q : Quiet) (s : Store) (code new : Tenant) (replies : List ReplyData)
-    → OnlyDrains code new → Stands g code q s
+    → OnlyDrains code new → QuietStands g code q s
     → waiting_bytes new.memory.outbox ≡ map bytes_of replies
-    → Stands g new (record q { replies = replies }) s
+    → QuietStands g new (record q { replies = replies }) s
 stands-with g q s code new replies same st waits =
     let E : Decoder → Type 0 = λ d.
-    decoder.Stands message_limit d q.heard (g.readings.stream q.heard).messages in
+    decoder.DecoderStands message_limit d q.heard (g.readings.stream q.heard).messages in
     let A : Attempts → Type 0 = λ x. Reaches x s in
     record {
       retries = same.retries ∙ st.retries;
@@ -66,7 +66,7 @@ stands-with g q s code new replies same st waits =
     }
 
 pub drains : {X : Type 0} (items : X → List ℕ) (g : Ground) (q : Quiet) (s : Store) (code new : Tenant)
-    (r : Option X) → OnlyDrains code new → Stands g code q s
+    (r : Option X) → OnlyDrains code new → QuietStands g code q s
     → MatchOption r ((waiting_bytes code.memory.outbox ≡ []) × (waiting_bytes new.memory.outbox ≡ []))
     (λ v. waiting_bytes code.memory.outbox ≡ items v ∷ waiting_bytes new.memory.outbox)
     → MatchOption r
@@ -84,7 +84,7 @@ drains {X = X} items g q s code new r same st told = by q.replies refl r st.reme
         (reply_given (items v)))
     by [] is None waits none = record {
       refused = λ ne. drains-by g q s ∙ ap (drain_outcome q) is;
-      stands = subst (λ rs. Stands g new (record q { replies = rs }) s) (sym is)
+      stands = subst (λ rs. QuietStands g new (record q { replies = rs }) s) (sym is)
           (stands-with g q s code new [] same st none.1);
     }
     by [] is (Some v) waits some =
@@ -104,6 +104,6 @@ drains {X = X} items g q s code new r same st told = by q.replies refl r st.reme
           after = record q { replies = more };
           accepted = drains-by g q s ∙ ap (drain_outcome q) is
               ∙ ap (λ bytes. leaves (record q { replies = more }) (reply_given bytes)) first;
-          stands = subst (Stands g new (record q { replies = more })) (sym (drains-none g q s))
+          stands = subst (QuietStands g new (record q { replies = more })) (sym (drains-none g q s))
               (stands-with g q s code new more same st (sym rest));
         }

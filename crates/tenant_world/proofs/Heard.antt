@@ -30,7 +30,7 @@ use Rattle.tenant_turns.specs.DeedResult.{deed_result}
 use Rattle.tenant_world.specs.declared.tenant.Tenant.{Tenant}
 use Rattle.tenant_refs.specs.declared.attempts.Attempts.{Attempts}
 use Rattle.tenant_refs.specs.Attempts.{Reaches}
-use Rattle.tenant_world.specs.Standing.{Stands, AcceptsDeed}
+use Rattle.tenant_world.specs.Standing.{QuietStands, AcceptsDeed}
 
 -- what messages leave as it was
 record Keeps (old new : Quiet) : Type 0 where
@@ -138,7 +138,7 @@ none-long (x ∷ xs) e = absurd (cc)
 
 -- the code behind a piece
 pub does-hear : (g : Ground) (q : Quiet) (s : Store) (old new : Tenant) (piece : List ℕ) (count : ℕ)
-    → Stands g old q s → (q.steps == 0) ≡ false → None ≡ stream_fault g.readings q.heard
+    → QuietStands g old q s → (q.steps == 0) ≡ false → None ≡ stream_fault g.readings q.heard
     → is_held q ≡ false
     → new.retries ≡ old.retries → new.steps ≡ old.steps - 1
     → new.memory.bare ≡ old.memory.bare → new.memory.spaces ≡ old.memory.spaces
@@ -150,7 +150,7 @@ does-hear g q s old new piece count st some sound free tries less bare spaces tr
     let after = taken_in g s.tenant piece q in
     let kept = taken-keeps g s.tenant piece q in
     let A : Attempts → Type 0 = λ x. Reaches x s in
-    let stands : Stands g new (with_step_spent after) s = record {
+    let stands : QuietStands g new (with_step_spent after) s = record {
       retries = tries ∙ st.retries;
       names = st.names;
       steps = less ∙ ap (λ n. n - 1) (st.steps ∙ sym kept.steps);
@@ -168,7 +168,7 @@ does-hear g q s old new piece count st some sound free tries less bare spaces tr
       after = with_step_spent after;
       accepted = hears-so g q s piece some sound free
           ∙ ap (λ n. leaves (with_step_spent after) (messages_heard n)) (sym heard.messages);
-      stands = subst (Stands g new (with_step_spent after)) (sym (hears-none g q s piece)) stands;
+      stands = subst (QuietStands g new (with_step_spent after)) (sym (hears-none g q s piece)) stands;
     }
 
 pub held-back : (g : Ground) (t : ℕ) (piece : List ℕ) (q : Quiet) → is_held q ≡ true

@@ -37,7 +37,7 @@ use Rattle.tenant_world.specs.declared.memory.Memory.{Memory}
 use Rattle.tenant_world.specs.declared.tenant.Tenant.{Tenant}
 use Rattle.tenant_world.specs.Memories.{Remembers}
 use Rattle.tenant_world.specs.Acting.{AcceptsOutcome, RefusesOutcome, actors_after, is_interruption}
-use Rattle.tenant_world.specs.Standing.{Stands, Lends, AcceptsDeedBy, RefusesDeed}
+use Rattle.tenant_world.specs.Standing.{QuietStands, Lends, AcceptsDeedBy, RefusesDeed}
 
 -- Deeds of an actor
 
@@ -166,12 +166,12 @@ pub settled : (g : Ground) (a : Actor) (old new : Tenant) (q after : Quiet) (s :
     → new.retries ≡ old.retries → new.steps ≡ old.steps - 1 → new.decoder ≡ old.decoder
     → new.memory ≡ old.memory → new.attempts ≡ old.attempts
     → actors_view new.actors ≡ actors_after b a actor (actors_view old.actors)
-    → Stands g new (with_step_spent after) s
+    → QuietStands g new (with_step_spent after) s
 settled g a old new q after s b actor lends r reaches actors steps heard tries less same kept tried put =
     let D : List ℕ → Type 0 = λ all.
-    decoder.Stands message_limit old.decoder all (g.readings.stream all).messages in
+    decoder.DecoderStands message_limit old.decoder all (g.readings.stream all).messages in
     let E : Decoder → Type 0 = λ d.
-    decoder.Stands message_limit d after.heard (g.readings.stream after.heard).messages in
+    decoder.DecoderStands message_limit d after.heard (g.readings.stream after.heard).messages in
     let M : Memory → Type 0 = λ m. Remembers g s.tenant m after in
     let A : Attempts → Type 0 = λ x. Reaches x s in
     let there = subst M (sym kept) r in
@@ -201,10 +201,10 @@ pub restored : (g : Ground) (a : Actor) (old new : Tenant) (q : Quiet) (s : Stor
     → new.retries ≡ old.retries → new.steps ≡ old.steps → new.decoder ≡ old.decoder
     → new.memory ≡ old.memory → new.attempts ≡ old.attempts
     → actors_view new.actors ≡ with_part (seat_of a) actor (actors_view old.actors)
-    → Stands g new q s
+    → QuietStands g new q s
 restored g a old new q s actor lends r reaches there tries less same kept tried put =
     let E : Decoder → Type 0 = λ d.
-    decoder.Stands message_limit d q.heard (g.readings.stream q.heard).messages in
+    decoder.DecoderStands message_limit d q.heard (g.readings.stream q.heard).messages in
     let A : Attempts → Type 0 = λ x. Reaches x s in
     record {
       retries = tries ∙ lends.retries;
@@ -227,14 +227,14 @@ pub does-acted : (g : Ground) (t : ℕ) (a : Actor) (q : Quiet) (s : Store) (p :
     → ((after : Quiet) → Remembers g t m after
     → after.actors ≡ actors_after (is_interruption answer) a actor q.actors
     → after.steps ≡ q.steps → after.heard ≡ q.heard
-    → Stands g new (with_step_spent after) (carried_out s (p old_actor)).store)
+    → QuietStands g new (with_step_spent after) (carried_out s (p old_actor)).store)
     → AcceptsDeedBy g a q deed new answer
 does-acted g t a q s p deed old_actor m actor answer new is some there acted settles =
     let same : deed ≡ carried_out s (p old_actor) = is ∙ done-by q s a p old_actor some there in
     record {
       after = with_step_spent acted.after;
       accepted = ap (λ d. d.outcome) same ∙ acted.accepted;
-      stands = subst (λ d. Stands g new (with_step_spent acted.after) d.store) (sym same)
+      stands = subst (λ d. QuietStands g new (with_step_spent acted.after) d.store) (sym same)
           (settles acted.after acted.remembers acted.actors acted.steps acted.heard);
       others = λ b apart. ap (part_under (seat_of b)) acted.actors
           ∙ part_under-left (is_interruption answer) a b actor q.actors apart;
@@ -245,7 +245,7 @@ pub refuses-declined : (g : Ground) (t : ℕ) (a : Actor) (q : Quiet) (s : Store
     (new : Tenant)
     → deed ≡ by_actor s q a p → 0 < q.steps → part_under (seat_of a) q.actors ≡ Some old_actor
     → RefusesOutcome g t q (carried_out s (p old_actor)).outcome m why
-    → (Remembers g t m q → Stands g new q s) → RefusesDeed g q s deed new why
+    → (Remembers g t m q → QuietStands g new q s) → RefusesDeed g q s deed new why
 refuses-declined g t a q s p deed old_actor m why new is some there declined stands = record {
   refused = λ ne. ap (λ d. d.outcome) (is ∙ done-by q s a p old_actor some there)
       ∙ declined.refused ne;
@@ -258,7 +258,7 @@ pub lends-memory : (g : Ground) (a : Actor) (code new : Tenant) (q : Quiet)
     → new.actors ≡ code.actors → Lends g a code q → Lends g a new q
 lends-memory g a code new q tries steps same put lends =
     let E : Decoder → Type 0 = λ d.
-    decoder.Stands message_limit d q.heard (g.readings.stream q.heard).messages in
+    decoder.DecoderStands message_limit d q.heard (g.readings.stream q.heard).messages in
     record {
       retries = tries ∙ lends.retries;
       names = lends.names;
@@ -278,10 +278,10 @@ refuses-so g q s deed new why (Err e) is told =
 pub stands-same : (g : Ground) (q : Quiet) (s : Store) (old new : Tenant)
     → new.retries ≡ old.retries → new.steps ≡ old.steps → new.decoder ≡ old.decoder
     → new.actors ≡ old.actors → new.memory ≡ old.memory → new.attempts ≡ old.attempts
-    → Stands g old q s → Stands g new q s
+    → QuietStands g old q s → QuietStands g new q s
 stands-same g q s old new tries steps same put kept tried st =
     let E : Decoder → Type 0 = λ d.
-    decoder.Stands message_limit d q.heard (g.readings.stream q.heard).messages in
+    decoder.DecoderStands message_limit d q.heard (g.readings.stream q.heard).messages in
     let A : Attempts → Type 0 = λ x. Reaches x s in
     record {
       retries = tries ∙ st.retries;

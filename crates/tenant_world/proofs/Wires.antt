@@ -18,13 +18,13 @@ IsUnique = (limit : ℕ) (bytes : List ℕ) (ms ns : List Tree) (e f : StreamEnd
     → Streams limit 0 bytes ms e → Streams limit 0 bytes ns f → (ms ≡ ns) × (e ≡ f)
 
 pub read-messages : IsUnique → (r : Readings) (d : Decoder) (all : List ℕ) (taken : List Tree)
-    → AreRight r → decoder.Stands message_limit d all taken
+    → AreRight r → decoder.DecoderStands message_limit d all taken
     → taken ++ ready_of d ≡ (r.stream all).messages
 read-messages unique r d all taken right h =
     (unique message_limit all _ _ _ _ h.streams (right.stream all)).0
 
 pub read-ending : IsUnique → (r : Readings) (d : Decoder) (all : List ℕ) (taken : List Tree)
-    → AreRight r → decoder.Stands message_limit d all taken → Shows d all (r.stream all).ending
+    → AreRight r → decoder.DecoderStands message_limit d all taken → Shows d all (r.stream all).ending
 read-ending unique r d all taken right h =
     subst (λ end. Shows d all end)
     (unique message_limit all _ _ _ _ h.streams (right.stream all)).1 h.shows
@@ -35,7 +35,7 @@ shown-fault d all (rest m) h = h.0
 shown-fault d all (fault rule at) h = h
 
 pub read-fault : IsUnique → (r : Readings) (d : Decoder) (all : List ℕ) (taken : List Tree)
-    → AreRight r → decoder.Stands message_limit d all taken → fault_of d ≡ stream_fault r all
+    → AreRight r → decoder.DecoderStands message_limit d all taken → fault_of d ≡ stream_fault r all
 read-fault unique r d all taken right h =
     shown-fault d all _ (read-ending unique r d all taken right h)
 

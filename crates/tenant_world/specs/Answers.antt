@@ -22,8 +22,8 @@ abbrev pub end_answer_view : EndAnswer → StepAnswer
 end_answer_view EndAnswer.Finished = form_finished
 end_answer_view EndAnswer.Interrupted = request_interrupted
 
-abbrev pub ending_view : Ending → EndingData
-ending_view e = record {
+abbrev pub told_ending : Ending → EndingData
+told_ending e = record {
   job = job_view e.job.now;
   trace = trace_view e.trace.now;
   end = finished_view e.finished.now;

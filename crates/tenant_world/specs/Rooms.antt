@@ -19,5 +19,5 @@ abbrev pub IfInHand : Option Hand → Type 0
 IfInHand None = ⊤
 IfInHand (Some hand) = HandHasRoom hand
 
-abbrev pub HasRoom : ActorState → Type 0
-HasRoom state = IfInHand state.hand
+abbrev pub ActorHasRoom : ActorState → Type 0
+ActorHasRoom state = IfInHand state.hand

@@ -18,12 +18,12 @@ use Rattle.tenant_world.specs.Memories.{Remembers}
 use Rattle.tenant_world.specs.declared.tenant.Tenant.{Tenant}
 
 -- the tenant whose store this is
-pub record Stands (g : Ground) (code : Tenant) (q : Quiet) (s : Store) : Type 0 where
+pub record QuietStands (g : Ground) (code : Tenant) (q : Quiet) (s : Store) : Type 0 where
   pub retries : code.retries ≡ g.retries
   pub names : SharesNoNames g
   pub steps : code.steps ≡ q.steps
   -- the decoder has read all that was heard, and its messages were taken
-  pub stream : decoder.Stands message_limit code.decoder q.heard
+  pub stream : decoder.DecoderStands message_limit code.decoder q.heard
       (g.readings.stream q.heard).messages
   pub actors : actors_view code.actors ≡ q.actors
   pub remembers : Remembers g s.tenant code.memory q
@@ -34,7 +34,7 @@ pub record Lends (g : Ground) (a : Actor) (code : Tenant) (q : Quiet) : Type 0 w
   pub retries : code.retries ≡ g.retries
   pub names : SharesNoNames g
   pub steps : code.steps ≡ q.steps
-  pub stream : decoder.Stands message_limit code.decoder q.heard
+  pub stream : decoder.DecoderStands message_limit code.decoder q.heard
       (g.readings.stream q.heard).messages
   pub place : ActorData
   pub actors : actors_view code.actors ≡ with_part (seat_of a) place q.actors
@@ -44,14 +44,14 @@ pub record AcceptsDeed (g : Ground) (d : DeedResult) (code : Tenant)
     (answer : StepAnswer) : Type 0 where
   pub after : Quiet
   pub accepted : d.outcome ≡ leaves after answer
-  pub stands : Stands g code after d.store
+  pub stands : QuietStands g code after d.store
 
 -- the deed of an actor, which leaves every other actor as it was
 pub record AcceptsDeedBy (g : Ground) (a : Actor) (q : Quiet) (d : DeedResult) (code : Tenant)
     (answer : StepAnswer) : Type 0 where
   pub after : Quiet
   pub accepted : d.outcome ≡ leaves after answer
-  pub stands : Stands g code after d.store
+  pub stands : QuietStands g code after d.store
   pub others : (b : Actor) → seat_of b ≢ seat_of a
       → part_under (seat_of b) after.actors ≡ part_under (seat_of b) q.actors
 
@@ -59,7 +59,7 @@ pub record AcceptsDeedBy (g : Ground) (a : Actor) (q : Quiet) (d : DeedResult) (
 pub record RefusesDeed (g : Ground) (q : Quiet) (s : Store) (d : DeedResult) (code : Tenant)
     (why : Refusal) : Type 0 where
   pub refused : why ≢ Refusal.NoMemory → d.outcome ≡ refuses why
-  pub stands : Stands g code q s
+  pub stands : QuietStands g code q s
 
 -- the replies that wait, oldest first, each as its bytes
 abbrev pub replies_of : Tenant → List (List ℕ)

@@ -11,7 +11,7 @@ ghost use Rattle.tenant_actors.specs.View.{actor_view, run_view};
 ghost use Rattle.tenant_turns.specs.Grounds.{IsRight};
 ghost use Rattle.tenant_turns.specs.DeedResult.{carried_out};
 ghost use Rattle.tenant_world.specs.Memories.{Remembers, opened_by};
-ghost use Rattle.tenant_world.specs.Answers.{end_answer_view, ending_view};
+ghost use Rattle.tenant_world.specs.Answers.{end_answer_view, told_ending};
 ghost use Rattle.tenant_refs.specs.Attempts.{Reaches};
 ghost use Rattle.tenant_world.specs.Acting.{AcceptsOutcome, RefusesOutcome, IsActorStep};
 ghost use Rattle.tenant_world.specs.Comparing.{ending_refusal, refusal_in, compared_run};
@@ -43,14 +43,14 @@ pub(crate) fn end(
 ) -> Result<EndAnswer, Refusal>
     ensures acted { (g : Ground) (q : Quiet) (s : Store) → IsRight g
         → Remembers g s.tenant memory.old q → Reaches attempts.old s
-        → let d = carried_out s (end_of g actor (actor_view state.old) (ending_view ending.now) q
+        → let d = carried_out s (end_of g actor (actor_view state.old) (told_ending ending.now) q
         (actor_view state.old).hand) in IfOk result (λ x.
         AcceptsOutcome g s.tenant actor q d.outcome memory.new (actor_view state.new)
         (end_answer_view x)
         × Reaches attempts.new d.store) }
     ensures declined { (g : Ground) (q : Quiet) (s : Store) → IsRight g
         → Remembers g s.tenant memory.old q → Reaches attempts.old s
-        → let d = carried_out s (end_of g actor (actor_view state.old) (ending_view ending.now) q
+        → let d = carried_out s (end_of g actor (actor_view state.old) (told_ending ending.now) q
         (actor_view state.old).hand) in IfErr result (λ why.
         RefusesOutcome g s.tenant q d.outcome memory.new why × Reaches attempts.new s) }
     ensures step { IsActorStep memory.old memory.new (actor_view state.old) (actor_view state.new)
@@ -110,9 +110,9 @@ pub(crate) fn finish(
 fn compare_if_due(memory: &Memory, state: &ActorState, ending: &Ending<'_>) -> Result<(), Refusal>
     ensures free { IfErr result (λ why. why ≢ Refusal.Held) }
     ensures passed { (g : Ground) (t : ℕ) (q : Quiet) → IsRight g → Remembers g t memory.now q
-        → OnOk result (PassesComparison g (actor_view state.now) q (ending_view ending.now)) }
+        → OnOk result (PassesComparison g (actor_view state.now) q (told_ending ending.now)) }
     ensures failed { (g : Ground) (t : ℕ) (q : Quiet) → IsRight g → Remembers g t memory.now q
-        → IfErr result (FailsComparison g (actor_view state.now) q (ending_view ending.now)) }
+        → IfErr result (FailsComparison g (actor_view state.now) q (told_ending ending.now)) }
 {
     match run_to_compare(memory, state) {
         Some(run) => compare(run, ending),
@@ -136,7 +136,7 @@ fn run_to_compare<'a>(memory: &Memory, state: &'a ActorState) -> Option<&'a Run>
 fn compare(run: &Run, ending: &Ending<'_>) -> Result<(), Refusal>
     ensures free { IfErr result (λ why. why ≢ Refusal.Held) }
     ensures told { (g : Ground) → IsRight g
-        → refusal_in result ≡ ending_refusal g (run_view run.now) (ending_view ending.now) }
+        → refusal_in result ≡ ending_refusal g (run_view run.now) (told_ending ending.now) }
 {
     first_difference_is_unique();
     equal_traces_differ_nowhere();

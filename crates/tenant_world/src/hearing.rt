@@ -15,16 +15,18 @@ use server_rules::Refusal;
 use tenant_hearing::hear;
 
 impl Tenant {
-    ghost use Rattle.tenant_world.specs.Standing.{Stands, AcceptsDeed, RefusesDeed};
+    ghost use Rattle.tenant_world.specs.Standing.{QuietStands, AcceptsDeed, RefusesDeed};
 
     /// Hears the next piece of the stream, and answers how many messages became whole with it.
     /// Sessions are made, closed, listed and described at once; requests to evaluate wait.
     pub fn hear(&mut self, piece: &Bytes) -> Result<usize, Refusal>
-        ensures done { (g : Ground) (q : Quiet) (s : Store) → IsRight g → Stands g self.old q s
+        ensures done { (g : Ground) (q : Quiet) (s : Store) → IsRight g
+            → QuietStands g self.old q s
             → IfOk result (λ count. AcceptsDeed g
             (deed_result g s q (deeds.hears piece.now)) self.new
             (messages_heard count)) }
-        ensures refused { (g : Ground) (q : Quiet) (s : Store) → IsRight g → Stands g self.old q s
+        ensures refused { (g : Ground) (q : Quiet) (s : Store) → IsRight g
+            → QuietStands g self.old q s
             → IfErr result (RefusesDeed g q s
             (deed_result g s q (deeds.hears piece.now)) self.new) }
         ensures steps { OnOk result (self.old.steps ≡ self.new.steps + 1) }

@@ -3,7 +3,7 @@ ghost use Rattle.std.specs.Prelude.{◌≡◌, OnOk, OnErr};
 ghost use Rattle.repl_asks.specs.Inside.View.{exchange_view};
 ghost use Rattle.tenant_actors.specs.View.{actor_view, hand_view, run_view};
 ghost use Rattle.tenant_world.specs.Asking.{run_with, hand_with, with_exchange};
-ghost use Rattle.tenant_world.specs.Rooms.{RunHasRoom, HandHasRoom, HasRoom};
+ghost use Rattle.tenant_world.specs.Rooms.{RunHasRoom, HandHasRoom, ActorHasRoom};
 
 use repl_asks::Exchange;
 use std::alloc::AllocError;
@@ -12,7 +12,7 @@ use tenant_actors::{ActorState, Hand, Run};
 /// Makes room for an ask with its answer in the trace of the form that runs. It fails only for want
 /// of memory.
 pub(crate) fn make_room(state: &mut ActorState) -> Result<(), AllocError>
-    ensures room { OnOk result (HasRoom state.new) }
+    ensures room { OnOk result (ActorHasRoom state.new) }
     ensures same { actor_view state.new ≡ actor_view state.old }
 {
     match &mut state.hand {
@@ -40,7 +40,7 @@ fn make_room_in_run(run: &mut Run) -> Result<(), AllocError>
 
 /// Keeps an ask with its answer in the trace of the form that runs. It takes no memory.
 pub(crate) fn keep(state: &mut ActorState, exchange: Exchange)
-    requires { HasRoom state.old }
+    requires { ActorHasRoom state.old }
     ensures { actor_view state.new
         ≡ with_exchange (exchange_view exchange) (actor_view state.old) }
 {

@@ -3,7 +3,7 @@ ghost use Rattle.std.specs.Prelude.{◌≡◌, ℕ, List, map, IfOk, OnOk, OnErr
 ghost use Rattle.repl_replies.specs.Replies.{ReplyData, bytes_of};
 ghost use Rattle.repl_sessions.specs.Inside.StateView.{state_view};
 ghost use Rattle.server_rules.specs.Ground.{Ground};
-ghost use Rattle.server_rules.specs.Tenant.{Quiet, state_of, with_state, with_replies};
+ghost use Rattle.server_rules.specs.Tenant.{Quiet, actor_state, with_state, with_replies};
 ghost use Rattle.server_rules.specs.Starting.{first_state};
 ghost use Rattle.server_rules.specs.Moves.{Move};
 ghost use Rattle.tenant_replies.specs.View.{made_bytes};
@@ -30,7 +30,7 @@ impl Memory {
     /// What the session of an actor remembers.
     pub(crate) fn state_of(&self, alloc: Global, actor: Actor) -> Result<SessionState, AllocError>
         ensures { (g : Ground) (t : ℕ) (q : Quiet) → Remembers g t self.now q
-            → IfOk result (λ state. state_view state ≡ state_of actor q) }
+            → IfOk result (λ state. state_view state ≡ actor_state actor q) }
     {
         match actor {
             Actor::Bare => self.bare.copy(),

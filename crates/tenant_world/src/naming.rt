@@ -6,7 +6,7 @@ ghost use Rattle.repl_asks.specs.Inside.View.{ask_view, answer_view, resolution_
 ghost use Rattle.repl_sessions.specs.Inside.StateView.{state_view};
 ghost use Rattle.name_spaces.specs.Inside.Seen.{found_view};
 ghost use Rattle.server_rules.specs.Ground.{Ground};
-ghost use Rattle.server_rules.specs.Tenant.{Quiet, state_of};
+ghost use Rattle.server_rules.specs.Tenant.{Quiet, actor_state};
 ghost use Rattle.server_rules.specs.Asking.{answer_to, spaces_after};
 ghost use Rattle.server_rules.specs.Asking as meant;
 ghost use Rattle.tenant_world.specs.Memories.{Remembers, opened_by};
@@ -76,7 +76,7 @@ fn resolution_of(
 ) -> Result<Resolution, AllocError>
     ensures { (g : Ground) (t : ℕ) (q : Quiet) → Remembers g t memory.now q
         → IfOk result (λ named. resolution_view named
-        ≡ meant.resolution_of (state_of actor q) (found_view found)) }
+        ≡ meant.resolution_of (actor_state actor q) (found_view found)) }
 {
     match found {
         Found::Resolution(resolution) => Ok(resolution),

@@ -27,7 +27,7 @@ use tenant_replies::Outbox;
 use tenant_turns::Wire;
 
 impl Tenant {
-    ghost use Rattle.tenant_world.specs.Standing.{Stands, AcceptsDeed, RefusesDeed, replies_of};
+    ghost use Rattle.tenant_world.specs.Standing.{QuietStands, AcceptsDeed, RefusesDeed, replies_of};
 
     /// A tenant that has heard nothing. Its number chooses the ids of its sessions, under the
     /// server's seed. It fails only for want of memory.
@@ -40,7 +40,7 @@ impl Tenant {
     ) -> Result<Tenant, AllocError>
         ensures { (g : Ground) → IsRight g → SharesNoNames g → g.seed ≡ seed → g.steps ≡ steps
             → g.retries ≡ retries → (s : Store) → s.tenant ≡ number → s.mine.points ≡ []
-            → IfOk result (λ made. Stands g made (opened_quiet g) s) }
+            → IfOk result (λ made. QuietStands g made (opened_quiet g) s) }
     {
         a_stream_has_one_reading();
         let memory = Memory {
@@ -66,7 +66,7 @@ impl Tenant {
         ensures oldest { MatchOption result
             ((replies_of self.old ≡ []) × (replies_of self.new ≡ []))
             (λ reply. replies_of self.old ≡ reply.items ∷ replies_of self.new) }
-        ensures drained { (g : Ground) (q : Quiet) (s : Store) → Stands g self.old q s
+        ensures drained { (g : Ground) (q : Quiet) (s : Store) → QuietStands g self.old q s
             → MatchOption result
             (RefusesDeed g q s (deed_result g s q deeds.drains) self.new Refusal.Idle)
             (λ reply. AcceptsDeed g (deed_result g s q deeds.drains) self.new
@@ -77,7 +77,8 @@ impl Tenant {
 
     /// The first actor that has a form or a request to begin. It takes no memory.
     pub fn ready(&self) -> Option<Actor>
-        ensures { (g : Ground) (q : Quiet) (s : Store) → Stands g self.now q s → result ≡ ready q }
+        ensures { (g : Ground) (q : Quiet) (s : Store) → QuietStands g self.now q s
+            → result ≡ ready q }
     {
         self.actors.ready()
     }
@@ -85,7 +86,7 @@ impl Tenant {
     /// The actors, in the order of their rounds. It takes a step for each, and fails only for want
     /// of memory.
     pub fn actors(&self, alloc: Global) -> Result<Vec<Actor>, AllocError>
-        ensures { (g : Ground) (l : Lone) → Stands g self.now l.quiet l.store
+        ensures { (g : Ground) (l : Lone) → QuietStands g self.now l.quiet l.store
             → IfOk result (λ actors. actors.items ≡ actors_of l) }
     {
         self.actors.names(alloc)
@@ -93,7 +94,7 @@ impl Tenant {
 
     /// The form of an actor that runs, if one does: its job, and what it asked and was answered.
     pub fn running(&self, actor: Actor) -> Option<&Run>
-        ensures { (g : Ground) (q : Quiet) (s : Store) → Stands g self.now q s
+        ensures { (g : Ground) (q : Quiet) (s : Store) → QuietStands g self.now q s
             → option_map (λ run. run_view run.now) result ≡ running_in actor q }
     {
         self.actors.get(actor)?.hand.as_ref()?.running.as_ref()
@@ -101,7 +102,7 @@ impl Tenant {
 
     /// What has come of the stream. It takes no memory.
     pub fn wire(&self) -> Wire
-        ensures { (g : Ground) (q : Quiet) (s : Store) → IsRight g → Stands g self.now q s
+        ensures { (g : Ground) (q : Quiet) (s : Store) → IsRight g → QuietStands g self.now q s
             → result ≡ wire_at (g.readings.stream q.heard).ending }
     {
         a_stream_has_one_reading();

@@ -3,7 +3,7 @@ ghost use Rattle.std.specs.Prelude.{◌≡◌, ℕ, None, Some, option_map, IfOk
 ghost use Rattle.server_rules.specs.Ground.{Ground};
 ghost use Rattle.server_rules.specs.Request as rules;
 ghost use Rattle.server_rules.specs.Starting.{start_waiting, held_or, start_outcome, next_begun};
-ghost use Rattle.server_rules.specs.Tenant.{Quiet, state_of};
+ghost use Rattle.server_rules.specs.Tenant.{Quiet, actor_state};
 ghost use Rattle.server_rules.specs.Deeds.{start_of};
 ghost use Rattle.tenant_actors.specs.View.{actor_view, hand_view, waiting_view};
 ghost use Rattle.tenant_moves.specs.Starts.{hand_begun, answer_given, given_job};
@@ -66,13 +66,13 @@ fn start_form(
         → Remembers g t memory.old q → (actor_view state.old).hand ≡ Some h
         → IfOk result (λ s. AcceptsOutcome g t actor q
         (held_or q (start_outcome actor (actor_view state.old)
-        (next_begun g h (state_of actor q) h.forms) q))
+        (next_begun g h (actor_state actor q) h.forms) q))
         memory.new (actor_view state.new) (start_answer_view s)) }
     ensures declined { (g : Ground) (t : ℕ) (q : Quiet) (h : rules.Hand) → retries ≡ g.retries
         → Remembers g t memory.old q → (actor_view state.old).hand ≡ Some h
         → IfErr result (RefusesOutcome g t q
         (held_or q (start_outcome actor (actor_view state.old)
-        (next_begun g h (state_of actor q) h.forms) q)) memory.new) }
+        (next_begun g h (actor_state actor q) h.forms) q)) memory.new) }
     ensures step { IsActorStep memory.old memory.new (actor_view state.old) (actor_view state.new)
         result }
 {

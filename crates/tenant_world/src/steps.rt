@@ -16,7 +16,7 @@ ghost use Rattle.tenant_actors.specs.View.{actor_view, actors_view};
 ghost use Rattle.tenant_turns.specs.DeedResult.{carried_out, deed_result};
 ghost use Rattle.tenant_turns.specs.Grounds.{IsRight};
 ghost use Rattle.tenant_world.specs.Answers.{start_answer_view, ask_answer_view, end_answer_view};
-ghost use Rattle.tenant_world.specs.Answers.{ending_view};
+ghost use Rattle.tenant_world.specs.Answers.{told_ending};
 ghost use Rattle.tenant_world.specs.Acting.{actors_after};
 ghost use Rattle.tenant_refs.specs.Attempts.{Reaches};
 ghost use Rattle.tenant_world.specs.Memories.{Remembers};
@@ -36,16 +36,18 @@ use server_rules::{Actor, Refusal};
 use tenant_actors::{ActorState, Actors};
 
 impl Tenant {
-    ghost use Rattle.tenant_world.specs.Standing.{Stands, Lends, RefusesDeed, replies_of};
+    ghost use Rattle.tenant_world.specs.Standing.{QuietStands, Lends, RefusesDeed, replies_of};
     ghost use Rattle.tenant_world.specs.Standing.{CountsStep, AcceptsDeedBy};
 
     /// The actor begins its next form, or takes up its next request.
     pub fn start(&mut self, actor: Actor) -> Result<StartAnswer, Refusal>
-        ensures done { (g : Ground) (q : Quiet) (s : Store) → IsRight g → Stands g self.old q s
+        ensures done { (g : Ground) (q : Quiet) (s : Store) → IsRight g
+            → QuietStands g self.old q s
             → IfOk result (λ x. AcceptsDeedBy g actor q
             (deed_result g s q (deeds.starts actor)) self.new
             (start_answer_view x)) }
-        ensures refused { (g : Ground) (q : Quiet) (s : Store) → IsRight g → Stands g self.old q s
+        ensures refused { (g : Ground) (q : Quiet) (s : Store) → IsRight g
+            → QuietStands g self.old q s
             → IfErr result (RefusesDeed g q s (deed_result g s q (deeds.starts actor)) self.new) }
         ensures counted { CountsStep self.old self.new result }
     {
@@ -81,12 +83,12 @@ impl Tenant {
     ) -> Result<AskAnswer, Refusal>
         requires { counter_of refs.old < u128.MAX }
         ensures done { (g : Ground) (q : Quiet) (s : Store) (r : Refs) → IsRight g
-            → Stands g self.old q s → TableServes refs.old s r
+            → QuietStands g self.old q s → TableServes refs.old s r
             → let d = deed_result g s q (deeds.asks_for actor (ask_view asked.now)) in
             IfOk result (λ x. AcceptsDeedBy g actor q d self.new (ask_answer_view x)
             × TableServes refs.new d.store (refs_after d.store r)) }
         ensures refused { (g : Ground) (q : Quiet) (s : Store) (r : Refs) → IsRight g
-            → Stands g self.old q s → TableServes refs.old s r
+            → QuietStands g self.old q s → TableServes refs.old s r
             → let d = deed_result g s q (deeds.asks_for actor (ask_view asked.now)) in
             IfErr result (λ why. RefusesDeed g q s d self.new why × TableServes refs.new s r) }
         ensures counted { CountsStep self.old self.new result }
@@ -116,13 +118,15 @@ impl Tenant {
 
     /// The form of the actor that runs has ended so.
     pub fn end_form(&mut self, actor: Actor, ending: &Ending<'_>) -> Result<EndAnswer, Refusal>
-        ensures done { (g : Ground) (q : Quiet) (s : Store) → IsRight g → Stands g self.old q s
+        ensures done { (g : Ground) (q : Quiet) (s : Store) → IsRight g
+            → QuietStands g self.old q s
             → IfOk result (λ x. AcceptsDeedBy g actor q
-            (deed_result g s q (deeds.ends actor (ending_view ending.now))) self.new
+            (deed_result g s q (deeds.ends actor (told_ending ending.now))) self.new
             (end_answer_view x)) }
-        ensures refused { (g : Ground) (q : Quiet) (s : Store) → IsRight g → Stands g self.old q s
+        ensures refused { (g : Ground) (q : Quiet) (s : Store) → IsRight g
+            → QuietStands g self.old q s
             → IfErr result (RefusesDeed g q s
-            (deed_result g s q (deeds.ends actor (ending_view ending.now)))
+            (deed_result g s q (deeds.ends actor (told_ending ending.now)))
             self.new) }
         ensures counted { CountsStep self.old self.new result }
     {
@@ -150,12 +154,12 @@ impl Tenant {
     /// it. Nothing is compared: it takes as long for a long trace as for a short one.
     pub fn finish(&mut self, actor: Actor, finished: &Finished) -> Result<EndAnswer, Refusal>
         ensures done { (g : Ground) (q : Quiet) (s : Store) (e : EndingData) → IsRight g
-            → Stands g self.old q s → IsEndOfForm (running_in actor q)
+            → QuietStands g self.old q s → IsEndOfForm (running_in actor q)
             (finished_view finished.now) e
             → IfOk result (λ x. AcceptsDeedBy g actor q (deed_result g s q (deeds.ends actor e))
             self.new (end_answer_view x)) }
         ensures refused { (g : Ground) (q : Quiet) (s : Store) (e : EndingData) → IsRight g
-            → Stands g self.old q s → IsEndOfForm (running_in actor q)
+            → QuietStands g self.old q s → IsEndOfForm (running_in actor q)
             (finished_view finished.now) e
             → IfErr result (RefusesDeed g q s (deed_result g s q (deeds.ends actor e)) self.new) }
         ensures counted { CountsStep self.old self.new result }
@@ -183,7 +187,7 @@ impl Tenant {
     // Whether the actor is there with nothing to begin, and steps are left. Its start is refused
     // then, as most are that go round the actors; so it is found out before the state is taken out.
     fn is_idle(&self, actor: Actor) -> bool
-        ensures { result ≡ true → (g : Ground) (q : Quiet) (s : Store) → Stands g self.now q s
+        ensures { result ≡ true → (g : Ground) (q : Quiet) (s : Store) → QuietStands g self.now q s
             → (deed_result g s q (deeds.starts actor)).outcome ≡ deeds.refuses Refusal.Idle }
     {
         match self.actors.get(actor) {
@@ -196,12 +200,12 @@ impl Tenant {
     fn lend(&mut self, actor: Actor) -> Result<ActorState, Refusal>
         ensures steps { self.new.steps ≡ self.old.steps }
         ensures some { IfOk result (λ _. 0 < self.old.steps) }
-        ensures lent { (g : Ground) (q : Quiet) (s : Store) → Stands g self.old q s
+        ensures lent { (g : Ground) (q : Quiet) (s : Store) → QuietStands g self.old q s
             → IfOk result (λ state. Lends g actor self.new q
             × (part_under (seat_of actor) q.actors ≡ Some (actor_view state))
             × Remembers g s.tenant self.new.memory q × Reaches self.new.attempts s) }
         ensures refused { (g : Ground) (q : Quiet) (s : Store) (p : ActorData → Plan)
-            → Stands g self.old q s → IfErr result (λ why. RefusesDeed g q s
+            → QuietStands g self.old q s → IfErr result (λ why. RefusesDeed g q s
             (carried_out s (unless_worn q (for_actor (part_under (seat_of actor) q.actors) p)))
             self.new why) }
         ensures held { result ≢ Err Refusal.Held }
@@ -225,7 +229,7 @@ impl Tenant {
             → Remembers g s.tenant self.old.memory after → Reaches self.old.attempts s
             → after.actors ≡ actors_after is_interrupted actor (actor_view state) q.actors
             → after.steps ≡ q.steps → after.heard ≡ q.heard
-            → Stands g self.new (with_step_spent after) s }
+            → QuietStands g self.new (with_step_spent after) s }
     {
         put_back(&mut self.actors, actor, state, is_interrupted);
         self.steps -= 1;
@@ -237,7 +241,7 @@ impl Tenant {
         ensures stands { (g : Ground) (q : Quiet) (s : Store) → Lends g actor self.old q
             → Remembers g s.tenant self.old.memory q → Reaches self.old.attempts s
             → part_under (seat_of actor) q.actors ≡ Some (actor_view state)
-            → Stands g self.new q s }
+            → QuietStands g self.new q s }
     {
         drop(self.actors.replace(actor, state));
     }

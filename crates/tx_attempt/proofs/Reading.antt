@@ -10,7 +10,7 @@ use Rattle.tx_attempt.specs.declared.key.Key.{Key}
 use Rattle.tx_attempt.specs.declared.latest.LatestAccess.{LatestAccess}
 use Rattle.tx_attempt.specs.declared.access.Access.{Access}
 use Rattle.tx_attempt.specs.Inside.Keys.{key_of}
-use Rattle.tx_attempt.specs.Accesses.{value_in, names_ref, attempt_value}
+use Rattle.tx_attempt.specs.Accesses.{accessed_value, names_ref, attempt_value}
 use Rattle.tx_attempt.specs.Inside.Places.{last_place, KeepsPlaces}
 use Rattle.tx_attempt.specs.Inside.View.{access_view}
 use Rattle.tx_attempt.proofs.LastPlaces.{last_place-below, find-nowhere, find-last}
@@ -21,7 +21,7 @@ pub value-nowhere : (latest : BTreeMap Key LatestAccess) (xs : List Access) (k :
     → None ≡ attempt_value name (map access_view xs)
 unfolding attempt_value
 value-nowhere latest xs k name key kept none =
-    sym (ap (option_map value_in) (find-nowhere (names_ref name) (map access_view xs)
+    sym (ap (option_map accessed_value) (find-nowhere (names_ref name) (map access_view xs)
     (sym (ap (option_map (λ l. l.place)) (none ∙ ap (get (order.ghosts).cmp latest) key) ∙ kept name))))
 
 placed-at : (latest : BTreeMap Key LatestAccess) (xs : List Access) (k : Key) (name : RefNameData) (l : LatestAccess)
@@ -42,9 +42,9 @@ place-below latest xs k name l key kept found =
 pub value-there : (latest : BTreeMap Key LatestAccess) (xs : List Access) (k : Key) (name : RefNameData) (l : LatestAccess)
     (op : Access) → k ≡ key_of name → KeepsPlaces (order.ghosts).cmp latest xs
     → Some l ≡ get (order.ghosts).cmp latest k → op ≡ get_or xs l.place op
-    → Some (value_in (access_view op)) ≡ attempt_value name (map access_view xs)
+    → Some (accessed_value (access_view op)) ≡ attempt_value name (map access_view xs)
 unfolding attempt_value
 value-there latest xs k name l op key kept found is =
-    sym (ap (option_map value_in) (find-last (names_ref name) (map access_view xs) l.place (access_view op)
+    sym (ap (option_map accessed_value) (find-last (names_ref name) (map access_view xs) l.place (access_view op)
     (placed-at latest xs k name l key kept found)
     (ap access_view is ∙ sym (get_or-map access_view xs l.place op))))

@@ -24,18 +24,18 @@ named_in (put n d) = n
 named_in (commuted n c d) = n
 named_in (ensured n d) = n
 
-abbrev pub value_in : AccessData → Datum
-value_in (got n d) = d
-value_in (put n d) = d
-value_in (commuted n c d) = d
-value_in (ensured n d) = d
+abbrev pub accessed_value : AccessData → Datum
+accessed_value (got n d) = d
+accessed_value (put n d) = d
+accessed_value (commuted n c d) = d
+accessed_value (ensured n d) = d
 
 abbrev pub names_ref : RefNameData → AccessData → Bool
 names_ref name op = same_name name (named_in op)
 
 -- the value of a ref in the attempt: that of the last access that names it
 unfoldable pub attempt_value : RefNameData → List AccessData → Option Datum
-attempt_value name ops = option_map value_in (find (names_ref name) (reverse ops))
+attempt_value name ops = option_map accessed_value (find (names_ref name) (reverse ops))
 
 -- the ref that an access sets, commutes or ensures
 abbrev pub ref_put : AccessData → Option RefNameData

@@ -2,7 +2,7 @@
 ghost use Rattle.std.specs.Prelude.{◌≡◌, option_map, is_some};
 ghost use Rattle.value_data.specs.Inside.View.{view};
 ghost use Rattle.repl_asks.specs.Inside.View.{name_view};
-ghost use Rattle.tx_attempt.specs.Accesses.{named_in, value_in, ref_put, ref_commuted, ref_ensured};
+ghost use Rattle.tx_attempt.specs.Accesses.{named_in, accessed_value, ref_put, ref_commuted, ref_ensured};
 ghost use Rattle.tx_attempt.specs.Inside.Parts.{ref_accessed};
 ghost use Rattle.tx_attempt.specs.Inside.View.{access_view};
 
@@ -58,7 +58,7 @@ impl Access {
     }
 
     pub(crate) fn value(&self) -> &Value
-        ensures { view result.now ≡ value_in (access_view self.now) }
+        ensures { view result.now ≡ accessed_value (access_view self.now) }
     {
         match self {
             Access::Got { value, .. } => value,

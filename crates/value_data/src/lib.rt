@@ -3,9 +3,8 @@
 //! The texts, items and pairs of a `Value` are shared nodes that keep what was measured of them,
 //! so that a copy, a weight and a hash of a collection take one step. Contracts see a value as
 //! plain data, `specs/Datum.antt`, by `view` of `specs/Inside/View.antt`: two values with one view
-//! are the same value to every caller. `specs/Inside/Code.antt` has the codes by which a model holds
-//! values.
-//! `repl_values` hands all of this on, with printing, faults and laws.
+//! are the same value to every caller. `specs/Inside/Code.antt` has the codes by which a model
+//! holds values. `repl_values` hands all of this on, with printing, faults and laws.
 #![tactic(auto)]
 
 mod building;

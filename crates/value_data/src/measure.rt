@@ -14,20 +14,12 @@ pub fn weight(value: &Value) -> u64
     ensures { result ≡ capped (weight_of (view value.now)) }
 {
     match value {
-        Value::Str(text) => text_weight(text),
-        Value::Keyword(text) => text_weight(text),
-        Value::Symbol(text) => text_weight(text),
-        Value::List(items) => items.weight().saturating_add(1),
-        Value::Vector(items) => items.weight().saturating_add(1),
+        Value::Str(text) | Value::Keyword(text) | Value::Symbol(text) => text_weight(text),
+        Value::List(items) | Value::Vector(items) => items.weight().saturating_add(1),
         Value::Map(pairs) => pairs.weight().saturating_add(1),
         Value::Var { space, name } => two_texts_weight(space, name),
         Value::Fault { class, text } => two_texts_weight(class, text),
-        Value::Nil
-        | Value::Bool(_)
-        | Value::Int(_)
-        | Value::Ref(_)
-        | Value::Atom(_)
-        | Value::Agent(_) => 1,
+        _ => 1,
     }
 }
 
@@ -49,19 +41,8 @@ pub fn nesting(value: &Value) -> u64
     ensures { result ≡ capped (nesting_of (view value.now)) }
 {
     match value {
-        Value::List(items) => items.nesting().saturating_add(1),
-        Value::Vector(items) => items.nesting().saturating_add(1),
+        Value::List(items) | Value::Vector(items) => items.nesting().saturating_add(1),
         Value::Map(pairs) => pairs.nesting().saturating_add(1),
-        Value::Nil
-        | Value::Bool(_)
-        | Value::Int(_)
-        | Value::Str(_)
-        | Value::Keyword(_)
-        | Value::Symbol(_)
-        | Value::Ref(_)
-        | Value::Atom(_)
-        | Value::Agent(_)
-        | Value::Var { .. }
-        | Value::Fault { .. } => 0,
+        _ => 0,
     }
 }

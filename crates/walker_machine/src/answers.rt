@@ -139,14 +139,8 @@ fn use_in_alter(
         Resolution::Function(function) => {
             let mut values = Vec::new(alloc);
             values.push(target)?;
-            next_argument(
-                alloc,
-                state,
-                Callee::Alter(by, function),
-                values,
-                forms,
-                room,
-            )
+            let callee = Callee::Alter(by, function);
+            next_argument(alloc, state, callee, values, forms, room)
         }
         Resolution::Value(value) => Ok(Control::Fault(not_a_function(alloc, &value)?)),
         Resolution::Nothing(fault) => Ok(Control::Fault(fault)),

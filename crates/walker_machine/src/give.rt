@@ -8,13 +8,13 @@ ghost use Rattle.walker_state.specs.Size.{frame_size};
 ghost use Rattle.walker_state.specs.Position.{LeadsOnWithin};
 
 use crate::alter::{call_altering, name_function};
-use crate::rows::{bind, next_argument, next_binding, next_in_logic, next_item};
+use crate::rows::{next_argument, next_binding, next_in_logic, next_item};
 use crate::special::define;
 use repl_asks::Binding;
 use repl_values::Value;
 use special_forms::chosen_body;
 use std::alloc::{AllocError, Global};
-use walker_state::{Control, Frame, State, commute, enter_named, hold, next_in_body, throw};
+use walker_state::{Control, Frame, State, bind, commute, enter_named, hold, next_in_body, throw};
 
 pub(crate) fn give(
     alloc: Global,

@@ -68,8 +68,7 @@ fn turn_of(transaction: &Option<Box<Transaction>>) -> u64
 fn most_calls(transaction: &Option<Box<Transaction>>, calls: u32) -> u32
     ensures { result ≡ outer_calls (record {
       transaction = around transaction.now;
-      calls =
-          calls;
+      calls = calls;
       size = 0;
     }) }
 {

@@ -2,24 +2,20 @@
 #![tactic(auto, using(walker_state::proofs::Stepping::steps))]
 
 ghost use Rattle.std.specs.Prelude.{◌≡◌, ◌+◌, ◌<◌, IfOk};
-ghost use Rattle.std.specs.Arc.{arc_str_bytes};
 ghost use Rattle.value_data.specs.Inside.View.{view};
-ghost use Rattle.walker_state.specs.Frames.{callee_view, call_behind, items_behind, bottom};
-ghost use Rattle.walker_state.specs.Pending.{place_of, kept_of, next_of, from_state, tree};
+ghost use Rattle.walker_state.specs.Frames.{callee_view, call_behind, items_behind};
+ghost use Rattle.walker_state.specs.Pending.{place_of, from_state, tree};
 ghost use Rattle.special_forms.specs.Inside.Bindings.{bindings_in};
 ghost use Rattle.special_forms.specs.Inside.Seen.{views, forms_view};
 ghost use Rattle.special_forms.specs.Inside.Size.{forms_size, bindings_size};
-ghost use Rattle.walker_state.specs.Size.{frames_size};
 ghost use Rattle.walker_state.specs.Position.{LeadsOnWithin};
 ghost use Rattle.evaluation_rules.specs.Evaluation.{value_at};
-ghost use Rattle.evaluation_rules.specs.Places.{with_local};
 ghost use Rattle.evaluation_rules.specs.SpecialForms.{let_value, logic_value};
 
 use crate::calls::call;
 use repl_values::Value;
 use special_forms::{Forms, LetBinding, Logic};
 use std::alloc::{AllocError, Global};
-use std::sync::ArcStr;
 use walker_state::{Callee, Collection, Control, Frame, State, make_collection, next_in_body};
 
 // The next argument is evaluated, or the function is called.
@@ -137,24 +133,4 @@ pub(crate) fn next_binding(
             Ok(Control::Evaluate(form, room))
         }
     }
-}
-
-// The name is a local for what follows in its `let`.
-pub(crate) fn bind(state: &mut State, name: ArcStr, value: Value) -> Result<(), AllocError>
-    ensures size { IfOk result (λ _. frames_size state.new.frames.items
-        ≡ 1 + frames_size state.old.frames.items) }
-    ensures calls { state.new.calls ≡ state.old.calls }
-    ensures transaction { state.new.transaction ≡ state.old.transaction }
-    ensures retries { state.new.retries ≡ state.old.retries }
-    ensures bottom { IfOk result (λ _. bottom state.new.frames.items (place_of state.new)
-        ≡ bottom state.old.frames.items (place_of state.old)) }
-    ensures place { IfOk result (λ _. place_of state.new
-        ≡ with_local (place_of state.old) (arc_str_bytes name) (view value)) }
-    ensures next { IfOk result (λ _. next_of state.new ≡ next_of state.old) }
-    ensures kept { kept_of state.new ≡ kept_of state.old }
-    ensures text { state.new.text ≡ state.old.text }
-{
-    state.place.locals.bind(name, value)?;
-    state.frames.push_front(Frame::Unbind)?;
-    Ok(())
 }

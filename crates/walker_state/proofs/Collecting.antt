@@ -21,7 +21,7 @@ use Rattle.evaluation_rules.specs.Doing.{Part, fails}
 use Rattle.evaluation_rules.specs.Tree.{ends}
 use Rattle.walker_state.specs.Pending.{kept_of, from_state, tree}
 use Rattle.walker_state.specs.declared.frames.Control.{Control}
-use Rattle.evaluation_rules.specs.Collections.{keys_in, values_in, item_at, within_limits}
+use Rattle.evaluation_rules.specs.Collections.{keys_in, values_in, form_at, within_limits}
 use Rattle.evaluation_rules.specs.Collections.{map_value}
 use Rattle.walker_state.specs.declared.frames.State.{State}
 use Rattle.walker_state.proofs.Stepping.{fails-at}
@@ -67,10 +67,10 @@ first_repeat-within vs n h = omega (arith, length_views vs, repeat-within no_ite
     length_views [] = refl
     length_views (w ∷ ws) = ap suc (length_views ws)
 
-pub item_at-views : (vs : List Value) (n : ℕ) (v : Value) → n < length vs → v ≡ get_or vs n v → item_at (views vs) n ≡ Some (view v)
-item_at-views [] n v h is = absurd (omega (arith, h))
-item_at-views (u ∷ vs) zero v h is = ap (λ (w : Value). Some (view w)) (sym is)
-item_at-views (u ∷ vs) (suc n) v h is = item_at-views vs n v (omega (arith, h)) is
+pub form_at-views : (vs : List Value) (n : ℕ) (v : Value) → n < length vs → v ≡ get_or vs n v → form_at (views vs) n ≡ Some (view v)
+form_at-views [] n v h is = absurd (omega (arith, h))
+form_at-views (u ∷ vs) zero v h is = ap (λ (w : Value). Some (view w)) (sym is)
+form_at-views (u ∷ vs) (suc n) v h is = form_at-views vs n v (omega (arith, h)) is
 
 -- the map of keys and values by turns, where no key stands twice
 pub map_value-made : (ds : List Datum) (qs : List (Datum × Datum)) (ps : Pairs) → qs ≡ zip (keys_in ds) (values_in ds) → ps ≡ pairs_of qs
@@ -83,7 +83,7 @@ map_value-made ds qs ps turns made none =
 
 -- and where one does, its fault
 pub map_value-repeats : (ds : List Datum) (qs : List (Datum × Datum)) (n : ℕ) (key : Datum) → qs ≡ zip (keys_in ds) (values_in ds)
-    → first_repeat (keys_of (pairs_of qs)) ≡ Some n → item_at (keys_in ds) n ≡ Some key → map_value ds ≡ fails (duplicate_key key)
+    → first_repeat (keys_of (pairs_of qs)) ≡ Some n → form_at (keys_in ds) n ≡ Some key → map_value ds ≡ fails (duplicate_key key)
 map_value-repeats ds qs n key turns found at =
     let keys : keys_of (pairs_of qs) ≡ items_of (keys_in ds) = ap (λ (rs : List (Datum × Datum)). keys_of (pairs_of rs)) turns ∙ keys_of-turns ds in
     let first : first_repeat (items_of (keys_in ds)) ≡ Some n = sym (ap first_repeat keys) ∙ found in
@@ -113,7 +113,7 @@ pub map_value-repeated : (ds : List Datum) (ks : List Value) (qs : List (Datum �
     → key ≡ get_or ks n key → f ≡ duplicate_key (view key) → ends (Err f) (string_bytes s.text) (kept_of s) ≡ from_state (map_value ds) s
 map_value-repeated ds ks qs n key f s keys turns found at told =
     let within : n < length ks = repeat-within-keys ds ks qs n keys turns found in
-    let here : item_at (keys_in ds) n ≡ Some (view key) = ap (λ (es : List Datum). item_at es n) (sym keys) ∙ item_at-views ks n key within at in
+    let here : form_at (keys_in ds) n ≡ Some (view key) = ap (λ (es : List Datum). form_at es n) (sym keys) ∙ form_at-views ks n key within at in
     let whole = map_value-repeats ds qs n (view key) turns found here in
     ap (λ (g : Failure). ends (Err g) (string_bytes s.text) (kept_of s)) told ∙ sym (fails-at (duplicate_key (view key)) s)
     ∙ sym (ap (λ (part : Part Datum). from_state part s) whole)

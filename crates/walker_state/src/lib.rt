@@ -25,6 +25,6 @@ pub use frames::{
 pub use names::{look_up, names_function, resolve, space};
 pub use namespaces::{enter_named, enter_namespace, go_on_in};
 pub use refs::read;
-pub use rows::next_in_body;
+pub use rows::{bind, next_in_body};
 pub use store::{call_store, commute, ensure_or_retry, hold, note_or_retry};
 pub use thrown::throw;

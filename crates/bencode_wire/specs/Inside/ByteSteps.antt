@@ -1,7 +1,7 @@
 -- Reading byte by byte: what a byte makes of a cut. No public clause speaks of it.
 use Rattle.std.specs.Prelude.{◌≡◌, ℕ, ◌≤◌, ◌+◌, ◌-◌, Bool, false, cond, nat_lt, nat_le, List, []}
 use Rattle.std.specs.Prelude.{◌∷◌, length}
-use Rattle.bencode_wire.specs.Tree.{Tree, string, has_key}
+use Rattle.bencode_wire.specs.Tree.{Tree, string, holds_key}
 use Rattle.bencode_wire.specs.Inside.Cut.{Frame, at_value, Token, between, after_i, after_minus, digits}
 use Rattle.bencode_wire.specs.Inside.Cut.{count, part, Cut, cut}
 use Rattle.bencode_wire.specs.Inside.Sign.{sign_of}
@@ -22,7 +22,7 @@ abbrev pub judged : ByteEffect → Judged
 judged (goes fs token) = reads (cut fs token)
 judged (opens f fs) =
     cond (nat_lt (length fs) MAX_NESTING) (reads (cut (f ∷ fs) between)) (refuses too_deep)
-judged (names ps key fs) = cond (has_key key ps) (refuses malformed)
+judged (names ps key fs) = cond (holds_key key ps) (refuses malformed)
     (reads (cut (at_value ps key ∷ fs) between))
 judged (ends t) = whole t
 judged stuck = refuses malformed

@@ -3,11 +3,11 @@
 use Rattle.std.specs.Prelude.{◌≡◌, ℕ, ◌+◌, ◌-◌, List, ◌++◌, map, drop, Option, Some, None, Result}
 use Rattle.std.specs.Prelude.{Ok, Err}
 use Rattle.bencode_wire.specs.Tree.{Tree}
-use Rattle.bencode_wire.specs.Spelling.{put_pair}
+use Rattle.bencode_wire.specs.Spelling.{put_sorted}
 use Rattle.bencode_wire.specs.Fault.{counted_place, fault_at}
 use Rattle.bencode_wire.specs.Inside.ByteSteps.{StreamReading, ReadingEnd, rests, faults, stream_reading}
 use Rattle.bencode_wire.specs.Inside.Reader.{cut_view}
-use Rattle.bencode_wire.specs.Inside.View.{view}
+use Rattle.bencode_wire.specs.Inside.View.{tree_view}
 use Rattle.bencode_wire.specs.declared.ben.Ben.{Ben}
 use Rattle.bencode_wire.specs.declared.cut.Course.{Course}
 use Rattle.bencode_wire.specs.declared.fault.WireFault.{WireFault}
@@ -19,11 +19,11 @@ fault_of_end place (faults rule at) = Some (fault_at rule (counted_place (place 
 
 -- what is ahead on a course
 abbrev pub ahead : ℕ → List ℕ → Course → StreamReading
-ahead limit bytes course = stream_reading limit put_pair (course.at - course.begin)
+ahead limit bytes course = stream_reading limit put_sorted (course.at - course.begin)
     (cut_view course.reader) course.at (drop course.at bytes)
 
 abbrev pub ready_view : List Ben → List Tree
-ready_view vs = map view vs
+ready_view vs = map tree_view vs
 
 pub record Advances (now next : StreamReading) (old new : List Ben) : Type 0 where
   pub messages : ready_view new ++ next.messages ≡ ready_view old ++ now.messages

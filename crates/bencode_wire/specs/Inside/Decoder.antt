@@ -2,7 +2,7 @@
 -- where, and its fault.
 use Rattle.std.specs.Prelude.{◌≡◌, ℕ, ◌-◌, List, ◌++◌, length, map, Option, Some, None}
 use Rattle.bencode_wire.specs.Tree.{Tree}
-use Rattle.bencode_wire.specs.Inside.View.{view}
+use Rattle.bencode_wire.specs.Inside.View.{tree_view}
 use Rattle.bencode_wire.specs.Stream.{StreamEnding, rest, fault, Streams}
 use Rattle.bencode_wire.specs.Fault.{counted_place, fault_at}
 use Rattle.bencode_wire.specs.declared.fault.WireFault.{WireFault}
@@ -12,7 +12,7 @@ abbrev pub limit_of : Decoder → ℕ
 limit_of d = d.limit
 
 abbrev pub ready_of : Decoder → List Tree
-ready_of d = map view d.ready
+ready_of d = map tree_view d.ready
 
 abbrev pub rest_of : Decoder → List ℕ
 rest_of d = d.rest
@@ -39,7 +39,7 @@ Shows d all (fault rule at) = fault_of d ≡ Some (fault_at rule (counted_place 
 
 -- reading all these bytes gives the messages that were taken, those that are ready, and the end
 -- that the decoder shows
-pub record Stands (limit : ℕ) (d : Decoder) (all : List ℕ) (taken : List Tree) : Type 0 where
+pub record DecoderStands (limit : ℕ) (d : Decoder) (all : List ℕ) (taken : List Tree) : Type 0 where
   pub end : StreamEnding
   pub streams : Streams limit 0 all (taken ++ ready_of d) end
   pub shows : Shows d all end

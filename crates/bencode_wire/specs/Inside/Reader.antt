@@ -1,15 +1,15 @@
 -- The cut that a reader stands for, and what its functions' results say.
 use Rattle.std.specs.Prelude.{List, map, reverse}
 use Rattle.bencode_wire.specs.Inside.Cut as cuts
-use Rattle.bencode_wire.specs.Inside.View.{trees_view, pairs_view}
+use Rattle.bencode_wire.specs.Inside.View.{trees_view, entries_view}
 use Rattle.bencode_wire.specs.declared.cut.Frame.{Frame}
 use Rattle.bencode_wire.specs.declared.cut.Token.{Token}
 use Rattle.bencode_wire.specs.declared.cut.Reader.{Reader}
 
 abbrev pub frame_view : Frame → cuts.Frame
 frame_view (Frame.List items) = cuts.in_list (trees_view items.items)
-frame_view (Frame.Keys pairs) = cuts.at_key (pairs_view pairs.entries)
-frame_view (Frame.Value pairs key) = cuts.at_value (pairs_view pairs.entries) key.items
+frame_view (Frame.Keys pairs) = cuts.at_key (entries_view pairs.entries)
+frame_view (Frame.Value pairs key) = cuts.at_value (entries_view pairs.entries) key.items
 
 -- the innermost first
 abbrev pub frames_view : List Frame → List cuts.Frame

@@ -2,7 +2,7 @@
 use Rattle.std.specs.Prelude.{◌≡◌, ℕ, List, [], Option, Some, None}
 use Rattle.bencode_wire.specs.Tree.{Tree}
 use Rattle.bencode_wire.specs.Inside.State.{Earlier}
-use Rattle.bencode_wire.specs.Inside.Decoder.{Stands}
+use Rattle.bencode_wire.specs.Inside.Decoder.{DecoderStands}
 use Rattle.bencode_wire.specs.declared.decoder.Decoder.{Decoder}
 
 -- what it was before its last piece, where it can go back there
@@ -28,4 +28,4 @@ before_last_piece d (Some e) = as_it_was d e
 pub record CanReturn (limit : ℕ) (d : Decoder) (all : List ℕ) (taken : List Tree) : Type 0 where
   pub earlier : Earlier
   pub is : earlier_of d ≡ Some earlier
-  pub stands : Stands limit (as_it_was d earlier) all taken
+  pub stands : DecoderStands limit (as_it_was d earlier) all taken

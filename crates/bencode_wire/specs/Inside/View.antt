@@ -10,25 +10,25 @@ abbrev pub trees_of : List Tree → Trees
 trees_of [] = no_trees
 trees_of (t ∷ ts) = tree t (trees_of ts)
 
-abbrev pub pairs_of : List (Vec ℕ Global × Tree) → Pairs
-pairs_of [] = no_pairs
-pairs_of (p ∷ ps) = pair p.0.items p.1 (pairs_of ps)
+abbrev pub pairs_from : List (Vec ℕ Global × Tree) → Pairs
+pairs_from [] = no_pairs
+pairs_from (p ∷ ps) = pair p.0.items p.1 (pairs_from ps)
 
 -- one level, with each value inside already seen as its data
 abbrev pub view_step : Ben-F Tree → Tree
 view_step (Ben-F.Integer n) = integer n
 view_step (Ben-F.String v) = string v.items
 view_step (Ben-F.List v) = list (trees_of v.items)
-view_step (Ben-F.Dictionary m) = dictionary (pairs_of m.entries)
+view_step (Ben-F.Dictionary m) = dictionary (pairs_from m.entries)
 
-abbrev pub view : Ben → Tree
-view = fold-Ben Tree view_step
+abbrev pub tree_view : Ben → Tree
+tree_view = fold-Ben Tree view_step
 
 abbrev pub trees_view : List Ben → Trees
-trees_view vs = trees_of (map view vs)
+trees_view vs = trees_of (map tree_view vs)
 
-abbrev pub pair_view : Vec ℕ Global × Ben → Vec ℕ Global × Tree
-pair_view p = (p.0, view p.1)
+abbrev pub entry_view : Vec ℕ Global × Ben → Vec ℕ Global × Tree
+entry_view p = (p.0, tree_view p.1)
 
-abbrev pub pairs_view : List (Vec ℕ Global × Ben) → Pairs
-pairs_view ps = pairs_of (map pair_view ps)
+abbrev pub entries_view : List (Vec ℕ Global × Ben) → Pairs
+entries_view ps = pairs_from (map entry_view ps)

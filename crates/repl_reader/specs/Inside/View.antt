@@ -15,7 +15,7 @@ use Rattle.repl_reader.specs.declared.next.Next.{Next}
 use Rattle.repl_reader.specs.declared.entries.Entries.{Entries}
 use Rattle.repl_reader.specs.declared.nest.Front.{Front}
 use Rattle.repl_reader.specs.declared.nest.Row.{Row as CodeRow}
-use Rattle.repl_reader.specs.Grammar.{Reads, Row, most_nested, too_deep, wrapped_reading}
+use Rattle.repl_reader.specs.Grammar.{Reads, Row, most_nested, nests_too_deep, wrapped_reading}
 use Rattle.repl_reader.specs.Grammar.{enclosed_reading}
 
 abbrev pub break_view : Break → BreakData
@@ -65,12 +65,12 @@ IsFrontOf depth text (Front.Read r) = Reads depth text (form_reading_view r)
 pub data IsMarked (depth : ℕ) (name text : List ℕ) : plain.FormReading → Type 0 where
   wraps : (r : plain.FormReading) → depth < most_nested → Reads (depth + 1) text r
       → IsMarked depth name text (wrapped_reading name r)
-  wraps_deep : most_nested ≤ depth → IsMarked depth name text (too_deep text)
+  wraps_deep : most_nested ≤ depth → IsMarked depth name text (nests_too_deep text)
 
 pub data IsOpened (depth : ℕ) (b : plain.Bracket) (text : List ℕ) : plain.FormReading → Type 0 where
   encloses : (ds : Items) (r : plain.FormReading) → depth < most_nested → Row (depth + 1) text ds r
       → IsOpened depth b text (enclosed_reading b ds r)
-  encloses_deep : most_nested ≤ depth → IsOpened depth b text (too_deep text)
+  encloses_deep : most_nested ≤ depth → IsOpened depth b text (nests_too_deep text)
 
 abbrev pub IsRow : ℕ → List ℕ → CodeRow → Type 0
 IsRow depth text row = Row depth text (items_view row.forms.items) (form_reading_view row.after)

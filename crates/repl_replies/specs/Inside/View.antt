@@ -1,7 +1,7 @@
 -- The data that the code's types stand for.
 use Rattle.std.specs.Prelude.{Option, Some, None, map, string_bytes}
 use Rattle.bencode_wire.specs.Tree.{Tree}
-use Rattle.bencode_wire.specs.Inside.View.{view}
+use Rattle.bencode_wire.specs.Inside.View.{tree_view}
 use Rattle.bencode_wire.specs.declared.ben.Ben.{Ben}
 use Rattle.repl_replies.specs.Replies.{OriginData, BodyData, ReplyData, value, output, exception}
 use Rattle.repl_replies.specs.Replies.{error_text, done, unknown_op, unknown_session, no_code}
@@ -20,7 +20,7 @@ use Rattle.repl_replies.specs.declared.request.RequestOrReply.{RequestOrReply}
 
 -- the value of a field that a request may have
 abbrev pub field_view : Option Ben → Option Tree
-field_view (Some b) = Some (view b)
+field_view (Some b) = Some (tree_view b)
 field_view None = None
 
 abbrev pub origin_view : Origin → OriginData

@@ -26,10 +26,10 @@ abbrev pub parts : Tenant → ListRefTable → Walks → Parts
 parts tenant table walks = record { tenant = tenant; table = table; walks = walks }
 
 -- the table stands for these refs, which are those of all tenants
-pub record Stands (g : Ground) (p : Parts) (l : Lone) (r : Refs) : Type 0 where
+pub record PartsStand (g : Ground) (p : Parts) (l : Lone) (r : Refs) : Type 0 where
   pub right : IsRight g
   pub ground : Evaluates g
-  pub tenant : world.Stands g p.tenant l.quiet l.store
+  pub tenant : world.QuietStands g p.tenant l.quiet l.store
   pub serves : TableServes p.table l.store r
   pub walked : AreWalked (walk_at p.walks) l.quiet
 
@@ -41,15 +41,17 @@ abbrev pub lone_behind : DeedResult → Quiet → Lone
 lone_behind d q = record { quiet = q; store = d.store }
 
 -- the deed is accepted
-pub record AcceptsDeed (g : Ground) (l : Lone) (r : Refs) (deed : Deed) (p : Parts) : Type 0 where
+pub record AcceptsHonestDeed (g : Ground) (l : Lone) (r : Refs) (deed : Deed) (p : Parts)
+    : Type 0 where
   pub after : Quiet
   pub answer : StepAnswer
   pub accepted : (comes_to g l deed).outcome ≡ leaves after answer
-  pub stands : Stands g p (lone_behind (comes_to g l deed) after)
+  pub stands : PartsStand g p (lone_behind (comes_to g l deed) after)
       (refs_after (comes_to g l deed).store r)
 
 -- the deed is refused so, unless for want of memory
-pub record RefusesDeed (g : Ground) (l : Lone) (r : Refs) (deed : Deed) (p : Parts) (why : Refusal)
+pub record RefusesHonestDeed (g : Ground) (l : Lone) (r : Refs) (deed : Deed) (p : Parts)
+    (why : Refusal)
     : Type 0 where
   pub refused : why ≢ Refusal.NoMemory → (comes_to g l deed).outcome ≡ refuses why
-  pub stands : Stands g p l r
+  pub stands : PartsStand g p l r

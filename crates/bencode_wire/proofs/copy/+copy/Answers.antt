@@ -1,8 +1,8 @@
 use Rattle.std.proofs.Common.{◌≡◌, [], ◌∷◌, ◌++◌, sym, ap, ◌∙◌, subst, append_assoc}
 use Rattle.std.specs.List.Sorted.{IsStrictlySortedBy}
 use Rattle.std.specs.Map.{keys_of}
-use Rattle.bencode_wire.specs.Inside.View.{pairs_view}
-use Rattle.bencode_wire.proofs.Views.{Entry, key_cmp, pairs_view-insert_entry, put_last}
+use Rattle.bencode_wire.specs.Inside.View.{entries_view}
+use Rattle.bencode_wire.proofs.Views.{Entry, key_cmp, entries_view-insert_entry, put_last}
 use Rattle.bencode_wire.proofs.copy.+copy.Goals as goal
 
 -- the copied pairs and this turn's, whose key comes after theirs
@@ -17,5 +17,5 @@ copy_pairs-loop-key-preserved t c =
     let named : c.in_ok-name.name.items ≡ e.0.items = c.in_ok-name.ensures in (
       done ++ e ∷ [],
       all ∙ sym (append_assoc done (e ∷ []) left),
-      ap pairs_view c.in_ok-insert.ensures.entries ∙ pairs_view-insert_entry l.copies.entries c.in_ok-name.name c.in_ok-copy.field-0 ∙ rw (named, c.in_ok-copy.ensures, l.invariant.2) last,
+      ap entries_view c.in_ok-insert.ensures.entries ∙ entries_view-insert_entry l.copies.entries c.in_ok-name.name c.in_ok-copy.field-0 ∙ rw (named, c.in_ok-copy.ensures, l.invariant.2) last,
     )

@@ -1,8 +1,8 @@
 use Rattle.std.proofs.Common.{ap, ◌∙◌}
-use Rattle.bencode_wire.specs.Inside.View.{pairs_view}
-use Rattle.bencode_wire.proofs.Views.{pairs_view-insert_entry}
+use Rattle.bencode_wire.specs.Inside.View.{entries_view}
+use Rattle.bencode_wire.proofs.Views.{entries_view-insert_entry}
 use Rattle.bencode_wire.proofs.fields.put_field.Goals as goal
 
 pub returns-clause-ok : goal.returns-clause-ok
 returns-clause-ok c =
-    ap pairs_view c.in_ok-insert.ensures.entries ∙ pairs_view-insert_entry c.args.fields.now.entries c.args.key c.args.value
+    ap entries_view c.in_ok-insert.ensures.entries ∙ entries_view-insert_entry c.args.fields.now.entries c.args.key c.args.value

@@ -1,12 +1,12 @@
 use Rattle.std.proofs.Common.{ap, ◌∙◌}
 use Rattle.std.specs.Prelude.{option_map}
-use Rattle.bencode_wire.specs.Inside.View.{view}
-use Rattle.bencode_wire.proofs.Lookups.{field-pairs_view, field-taken}
+use Rattle.bencode_wire.specs.Inside.View.{tree_view}
+use Rattle.bencode_wire.proofs.Lookups.{field-entries_view, field-taken}
 use Rattle.bencode_wire.proofs.fields.take_field.Goals as goal
 
 pub returns-clause-value : goal.returns-clause-value
 returns-clause-value c =
-    ap (option_map view) c.remove.ensures.value ∙ field-pairs_view c.args.key.now c.args.fields.now.entries
+    ap (option_map tree_view) c.remove.ensures.value ∙ field-entries_view c.args.key.now c.args.fields.now.entries
 
 pub returns-clause-others : goal.returns-clause-others
 returns-clause-others c = λ other.

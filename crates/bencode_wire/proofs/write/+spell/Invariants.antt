@@ -1,5 +1,5 @@
 use Rattle.std.proofs.Common.{◌≡◌, ◌++◌, drop}
-use Rattle.bencode_wire.specs.Inside.View.{trees_view, pairs_view}
+use Rattle.bencode_wire.specs.Inside.View.{trees_view, entries_view}
 use Rattle.bencode_wire.specs.Spelling.{trees_text, pairs_text, sorted_trees, AreSpellable, ArePairs}
 use Rattle.bencode_wire.proofs.Views.{each_sorted}
 use Rattle.bencode_wire.proofs.write.+spell.Given as goal
@@ -12,6 +12,6 @@ invariant-spell_items-loop-item l = record {
 
 abbrev pub invariant-spell_pairs-loop-key : goal.invariant-spell_pairs-loop-key
 invariant-spell_pairs-loop-key l = record {
-  fits : ArePairs (pairs_view l.key-iterator) → ArePairs (pairs_view l.pairs.entries);
-  text : l.out.items ++ pairs_text (each_sorted (pairs_view l.key-iterator)) ≡ l.initial.out.items ++ pairs_text (each_sorted (pairs_view l.pairs.entries));
+  fits : ArePairs (entries_view l.key-iterator) → ArePairs (entries_view l.pairs.entries);
+  text : l.out.items ++ pairs_text (each_sorted (entries_view l.key-iterator)) ≡ l.initial.out.items ++ pairs_text (each_sorted (entries_view l.pairs.entries));
 }

@@ -1,5 +1,5 @@
 use Rattle.std.proofs.Common.{◌∙◌, ap, codes}
-use Rattle.bencode_wire.specs.Inside.View.{pairs_view}
+use Rattle.bencode_wire.specs.Inside.View.{entries_view}
 use Rattle.repl_replies.specs.Operations.{of_origin}
 use Rattle.repl_replies.specs.Inside.View.{field_view}
 use Rattle.repl_replies.proofs.Operations.{Taken, operation_or_reply-taken}
@@ -12,8 +12,8 @@ told g c =
     let id = c.take_field-id in
     let session = c.take_field-session in
     let op = c.take_field-op in
-    let all = pairs_view c.args.message.entries in
-    let left = pairs_view op.new.fields.entries in
+    let all = entries_view c.args.message.entries in
+    let left = entries_view op.new.fields.entries in
     let taken : Taken (field_view id.result) (field_view session.result) (field_view op.result) left all = record {
       id_is = field_view-option_map id.result ∙ id.ensures.value;
       session_is = field_view-option_map session.result ∙ session.ensures.value ∙ id.ensures.others (codes "session");
@@ -32,4 +32,4 @@ returns-clause-asked g c = told g c
 
 pub returns-clause-named : goal.returns-clause-named
 returns-clause-named g c =
-    operation_or_reply-view-names (g.S.OpenSessions.number c.args.sessions.now) (pairs_view c.args.message.entries) c.of_origin.result (told g c)
+    operation_or_reply-view-names (g.S.OpenSessions.number c.args.sessions.now) (entries_view c.args.message.entries) c.of_origin.result (told g c)

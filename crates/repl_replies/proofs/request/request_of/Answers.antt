@@ -1,6 +1,6 @@
 use Rattle.std.proofs.Common.{◌≡◌, ◌∙◌, refl, codes}
 use Rattle.bencode_wire.specs.Tree.{field}
-use Rattle.bencode_wire.specs.Inside.View.{pairs_view}
+use Rattle.bencode_wire.specs.Inside.View.{entries_view}
 use Rattle.repl_replies.specs.Inside.Requests.{request_or_reply}
 use Rattle.repl_replies.specs.Inside.View.{field_view}
 use Rattle.repl_replies.proofs.Requests.{field_view-option_map}
@@ -15,7 +15,7 @@ returns c =
     let ns = c.take_field-ns in
     let id = c.take_field-id in
     let session = c.take_field-session in
-    let m = pairs_view c.args.message.entries in
+    let m = entries_view c.args.message.entries in
     let op_is : field_view op.result ≡ field (codes "op") m = field_view-option_map op.result ∙ op.ensures.value in
     let code_is : field_view code.result ≡ field (codes "code") m = field_view-option_map code.result ∙ code.ensures.value ∙ op.ensures.others (codes "code") in
     let ns_is : field_view ns.result ≡ field (codes "ns") m =

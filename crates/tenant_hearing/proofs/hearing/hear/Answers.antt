@@ -1,7 +1,7 @@
 use Rattle.std.proofs.Common.{◌≡◌, ◌∙◌, sym, ap, ◌++◌, length, is_some, Option, arith}
 use Rattle.std.proofs.lemmas.Grind.{common_steps}
 use Rattle.std.proofs.lemmas.List.{length-map}
-use Rattle.bencode_wire.specs.Inside.View.{view}
+use Rattle.bencode_wire.specs.Inside.View.{tree_view}
 use Rattle.bencode_wire.specs.Inside.Course.{ready_view}
 use Rattle.bencode_wire.specs.Inside.Decoder.{ready_of, fault_of}
 use Rattle.bencode_wire.specs.declared.fault.WireFault.{WireFault}
@@ -23,7 +23,7 @@ returns-in-Ok-clause-heard c = λ g t q right reads held.
     let none = same.ready ∙ ap ready_of c.take_ready-messages.ensures.taken in
     let fault : fault_of c.settle.new.self ≡ fault_of c.feed_piece.new.decoder = same.fault ∙ ap fault_of c.take_ready-messages.ensures.taken in
     let broken = c.in_ok-is_broken.ensures.broken ∙ ap (λ (o : Option WireFault). is_some o) (sym fault) in
-    let long : length messages ≡ length c.take_ready-messages.result.items = length-map c.take_ready-messages.result.items view in
+    let long : length messages ≡ length c.take_ready-messages.result.items = length-map c.take_ready-messages.result.items tree_view in
     let count : c.len-count.result ≡ length messages = grind (arith, common_steps, c.len-count.ensures, long) in
     let start : Quiet = record q { heard = all } in
     let first : PartsStandFor g t start c.args.sessions.now _ _ = record { sessions = held.sessions; actors = held.actors; replies = held.replies } in

@@ -4,7 +4,7 @@ use Rattle.repl_jobs.specs.Inside.View.{finished_view}
 use Rattle.repl_sessions.specs.State.{StateData}
 use Rattle.repl_sessions.specs.Inside.StateView.{state_view}
 use Rattle.server_rules.specs.Request.{Hand}
-use Rattle.server_rules.specs.Tenant.{state_of}
+use Rattle.server_rules.specs.Tenant.{actor_state}
 use Rattle.server_rules.specs.Moves.{form_ended}
 use Rattle.server_rules.specs.Starting.{after_move}
 use Rattle.server_rules.specs.Plan.{leaves, with_step_spent, form_finished}
@@ -24,7 +24,7 @@ returns-clause-acted c = λ g q s' h e is r hand.
     let s = state_view c.in_ok-session.session in
     let kept = ap (option_map hand_view) c.in-Some.is in
     let same_hand : k ≡ h = some-same k h (sym kept ∙ hand) in
-    let same_state : s ≡ state_of a q = c.in_ok-session.ensures g s'.tenant q r in
+    let same_state : s ≡ actor_state a q = c.in_ok-session.ensures g s'.tenant q r in
     let m = form_ended k end s in
     let ends = c.in_ok-news.ensures in
     let taken = c.in_ok-post_news.ensures.taken g s'.tenant q m r ends.told in

@@ -5,14 +5,14 @@ use Rattle.repl_asks.specs.Inside.View.{ask_view}
 use Rattle.name_spaces.specs.Bindings.{nothing_bound}
 use Rattle.name_spaces.specs.Inside.Seen.{namespaces_of}
 use Rattle.name_spaces.specs.Resolving as names
-use Rattle.server_rules.specs.Tenant.{state_of}
+use Rattle.server_rules.specs.Tenant.{actor_state}
 use Rattle.server_rules.specs.Asking.{resolution_of, answer_to}
 use Rattle.tenant_world.proofs.naming.answer_of.Goals as goal
 
 pub returns-in_ok-resolution_of-in-Resolve : goal.returns-in_ok-resolution_of-in-Resolve
 returns-in_ok-resolution_of-in-Resolve c = λ g t q shares r.
     let a = c.args.actor in
-    let state = state_of a q in
+    let state = actor_state a q in
     let spaces = namespaces_of c.args.memory.now.spaces in
     let namespace = arc_str_bytes c.in-Resolve.namespace in
     let symbol = arc_str_bytes c.in-Resolve.symbol in

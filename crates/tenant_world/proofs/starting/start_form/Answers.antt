@@ -2,7 +2,7 @@ use Rattle.std.proofs.Common.{◌≡◌, ◌∙◌, sym, ap, subst, option_map}
 use Rattle.repl_sessions.specs.State.{StateData}
 use Rattle.repl_sessions.specs.Inside.StateView.{state_view}
 use Rattle.server_rules.specs.Request.{Hand}
-use Rattle.server_rules.specs.Tenant.{state_of}
+use Rattle.server_rules.specs.Tenant.{actor_state}
 use Rattle.server_rules.specs.Starting.{held_or, start_outcome, next_begun}
 use Rattle.server_rules.specs.Plan.{StepAnswer}
 use Rattle.tenant_actors.specs.View.{actor_view, hand_view}
@@ -27,7 +27,7 @@ returns-clause-acted c = λ g t q h tries r hand.
     let s = state_view c.in_ok-session.session in
     let kept = ap (option_map hand_view) c.in-Some.is in
     let same_hand : k ≡ h = some-same k h (sym kept ∙ hand) in
-    let same_state : s ≡ state_of a q = c.in_ok-session.ensures g t q r in
+    let same_state : s ≡ actor_state a q = c.in_ok-session.ensures g t q r in
     let free = held-so g t c.args.memory.now q c.is_held.result r c.is_held.ensures ∙ c.if-is_held.false in
     let goes = c.in_ok-news.ensures g tries in
     let start = next_begun g k s k.forms in
@@ -42,5 +42,5 @@ returns-clause-acted c = λ g t q h tries r hand.
     let Q : StateData → Type 0 = λ x. AcceptsOutcome g t a q
     (held_or q (start_outcome a actor (next_begun g h x h.forms) q)) memory new (answer_given given) in
     let R : StepAnswer → Type 0 = λ x. AcceptsOutcome g t a q
-    (held_or q (start_outcome a actor (next_begun g h (state_of a q) h.forms) q)) memory new x in
+    (held_or q (start_outcome a actor (next_begun g h (actor_state a q) h.forms) q)) memory new x in
     subst R (sym c.put_begun.ensures.answer) (subst Q same_state (subst P same_hand here))

@@ -1,7 +1,7 @@
 use Rattle.std.proofs.Common.{◌≡◌, ℕ, ◌+◌, ◌^◌, ◌-◌, min, List, [], ◌++◌, length, drop, take, None}
 use Rattle.std.proofs.Common.{Some, Err, refl, sym, ap, subst, ◌∙◌, arith, rules}
 use Rattle.bencode_wire.specs.Inside.Course.{Advances, ahead, Continues}
-use Rattle.bencode_wire.specs.Inside.Decoder.{fault_of, ready_of, Stands}
+use Rattle.bencode_wire.specs.Inside.Decoder.{fault_of, ready_of, DecoderStands}
 use Rattle.std.proofs.lemmas.Grind.{common_steps}
 use Rattle.std.proofs.lemmas.List.{take_at}
 use Rattle.bencode_wire.specs.Fault.{counted_place}
@@ -63,7 +63,7 @@ returns-in-Ok-clause-stands c = λ limit all taken s other.
     let adv : Advances (ahead d.limit (d.rest ++ piece) course) (ahead d.limit (d.rest ++ piece) next) d.ready c.read_on.new.ready.items =
     subst (λ (b : List ℕ). Advances (ahead d.limit b course) (ahead d.limit b next) d.ready c.read_on.new.ready.items) now c.in-Ok.ensures.continues in
     let rest : drop next.begin c.extend_from_slice.new.self.items ≡ drop next.begin (d.rest ++ piece) = ap (λ (x : List ℕ). drop next.begin x) bytes in
-    let stood : Stands limit d all taken = subst (λ (x : Decoder). Stands limit x all taken) (sym c.self.view_is) s in
+    let stood : DecoderStands limit d all taken = subst (λ (x : Decoder). DecoderStands limit x all taken) (sym c.self.view_is) s in
     let r = rests_of limit d all taken none stood in
     feed_rest limit d _ all taken r.m piece course next k.0 r.streams r.place (fed_for limit d r.m piece course k.0 stood.within r.shown fed) adv
     (record { limit = refl; rest = rest; place = ap (λ (x : ℕ). min (x + next.begin) (2 ^ 64 - 1)) c.settle.ensures.start; fault = none; done = c.in-Ok.ensures.all ∙ ap length now })
@@ -75,7 +75,7 @@ returns-in-Ok-clause-returns c = λ limit all taken s nothing other.
     let none : d.fault ≡ None = ap fault_of c.self.view_is ∙ c.requires in
     let kept : c.len-kept.result ≡ length d.rest = search rules in
     let bytes : c.extend_from_slice.new.self.items ≡ d.rest ++ piece = grind (arith, c.extend_from_slice.ensures.items, c.if-is_err.ensures.negation, c.settle.ensures.bytes) in
-    let stood : Stands limit d all taken = subst (λ (x : Decoder). Stands limit x all taken) (sym c.self.view_is) s in
+    let stood : DecoderStands limit d all taken = subst (λ (x : Decoder). DecoderStands limit x all taken) (sym c.self.view_is) s in
     let was : ready_of d ≡ [] = ap ready_of c.self.view_is ∙ nothing in
     let empty = none_ready d.ready was in
     let count : c.len-ready.result ≡ 0 = grind (arith, common_steps, c.len-ready.ensures, empty) in
@@ -145,7 +145,7 @@ returns-in-Err-clause-stands c = λ limit all taken s other.
     let fed = fed_by d c.in-Some.reader piece course part is refl refl kept in
     let bytes : c.extend_from_slice.new.self.items ≡ d.rest ++ piece = grind (arith, c.extend_from_slice.ensures.items, c.if-is_err.ensures.negation, c.settle.ensures.bytes) in
     let now : c.as_slice-bytes.result.now ≡ d.rest ++ piece = c.as_slice-bytes.ensures.value ∙ bytes in
-    let stood : Stands limit d all taken = subst (λ (x : Decoder). Stands limit x all taken) (sym c.self.view_is) s in
+    let stood : DecoderStands limit d all taken = subst (λ (x : Decoder). DecoderStands limit x all taken) (sym c.self.view_is) s in
     let r = rests_of limit d all taken none stood in
     let met : Continues d.limit d.place (d.rest ++ piece) course d.ready c.read_on.new.ready.items (Err c.in-Err.fault) =
     subst (λ (p : ℕ). Continues d.limit p (d.rest ++ piece) course d.ready c.read_on.new.ready.items (Err c.in-Err.fault)) c.settle.ensures.start
@@ -160,7 +160,7 @@ returns-in-Err-clause-returns c = λ limit all taken s nothing other.
     let none : d.fault ≡ None = ap fault_of c.self.view_is ∙ c.requires in
     let kept : c.len-kept.result ≡ length d.rest = search rules in
     let bytes : c.extend_from_slice.new.self.items ≡ d.rest ++ piece = grind (arith, c.extend_from_slice.ensures.items, c.if-is_err.ensures.negation, c.settle.ensures.bytes) in
-    let stood : Stands limit d all taken = subst (λ (x : Decoder). Stands limit x all taken) (sym c.self.view_is) s in
+    let stood : DecoderStands limit d all taken = subst (λ (x : Decoder). DecoderStands limit x all taken) (sym c.self.view_is) s in
     let was : ready_of d ≡ [] = ap ready_of c.self.view_is ∙ nothing in
     let empty = none_ready d.ready was in
     let count : c.len-ready.result ≡ 0 = grind (arith, common_steps, c.len-ready.ensures, empty) in

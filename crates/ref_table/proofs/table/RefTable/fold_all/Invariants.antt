@@ -6,14 +6,14 @@ use Rattle.server_rules.specs.Numbered.{Entry}
 use Rattle.server_rules.specs.Store.{newest_value}
 use Rattle.server_rules.specs.Commit.{all_take, all_folded}
 use Rattle.ref_table.specs.Refs.{Refs, store_of}
-use Rattle.ref_table.specs.Standing.{Stands}
+use Rattle.ref_table.specs.Standing.{TableStands}
 use Rattle.ref_table.proofs.table.RefTable.fold_all.Given as goal
 
 -- what is folded and what is left to be folded
 abbrev pub invariant-loop-one : goal.invariant-loop-one
 invariant-loop-one g l = record {
   takes : all_take (map commuted_view (drop l.one-index l.commuted)) ≡ true;
-  folded : (r : Refs) (points : List (Entry ℕ)) → Stands g.H.History.stands l.self r
+  folded : (r : Refs) (points : List (Entry ℕ)) → TableStands g.H.History.stands l.self r
       → all_folded (λ name. newest_value name (store_of l.caller points r))
       (map commuted_view l.commuted)
       ≡ (all_folded (λ name. newest_value name (store_of l.caller points r))

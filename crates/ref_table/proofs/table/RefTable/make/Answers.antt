@@ -6,8 +6,8 @@ use Rattle.repl_asks.specs.Exchange.{value}
 use Rattle.server_rules.specs.Calls.{performed_make}
 use Rattle.ref_history.specs.Effects.{first_ref}
 use Rattle.ref_table.specs.Refs.{with_ref, store_of}
-use Rattle.ref_table.specs.Directory.{ids_of}
-use Rattle.ref_table.specs.Standing.{Stands}
+use Rattle.ref_table.specs.Directory.{refs_of}
+use Rattle.ref_table.specs.Standing.{TableStands}
 use Rattle.ref_table.specs.Told.{Performs}
 use Rattle.ref_table.proofs.Standing.{lengths, undone}
 use Rattle.ref_table.proofs.Tables.{made-stands, undone-stands}
@@ -19,7 +19,7 @@ returns-in-Ok-clause-name g c = λ r s.
     let name : ℕ → RefName = λ n. record { owner = c.args.owner; number = n } in
     let o = owner_view c.args.owner in
     ap name (c.in-Ok.ensures.number ∙ lengths (g.H.History.stands c.args.self.now.history)
-    (ids_of c.args.self.now.directory o) (r.owned o) (s.refs o))
+    (refs_of c.args.self.now.directory o) (r.owned o) (s.refs o))
 
 pub returns-in-Ok-clause-made : goal.returns-in-Ok-clause-made
 returns-in-Ok-clause-made g c = λ r s.
@@ -40,9 +40,9 @@ returns-in-Ok-clause-told g c = λ r points caller s mine.
     (performed_make-performs stands t r caller points (view c.args.value) c.args.bounds.least
     c.args.bounds.most c.in-Ok.number
     (c.in-Ok.ensures.number ∙ lengths (stands c.args.self.now.history)
-    (ids_of c.args.self.now.directory o) (r.owned o) (s.refs o)
+    (refs_of c.args.self.now.directory o) (r.owned o) (s.refs o)
     ∙ ap (λ o. length (r.owned o)) own)
-    (subst (λ o. Stands stands t (with_ref o (first_ref (view c.args.value) c.args.bounds) r)) own
+    (subst (λ o. TableStands stands t (with_ref o (first_ref (view c.args.value) c.args.bounds) r)) own
     (made-stands stands c.args.self.now c.add.new.self c.make.new.self r o c.in_ok-id.id
     (first_ref (view c.args.value) c.args.bounds)
     c.in-Ok.ensures.added c.add.ensures.others c.in_ok-id.ensures.is_new c.in_ok-id.ensures.made

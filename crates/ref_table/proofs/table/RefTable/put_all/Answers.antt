@@ -4,7 +4,7 @@ use Rattle.server_rules.specs.Commit.{with_raised_counter, with_all}
 use Rattle.ref_table.specs.Placing.{placed_view, places_of, AddsAll}
 use Rattle.ref_table.specs.declared.placing.Placed.{Placed}
 use Rattle.ref_table.specs.Refs.{store_of, refs_after}
-use Rattle.ref_table.specs.Standing.{Stands}
+use Rattle.ref_table.specs.Standing.{TableStands}
 use Rattle.ref_table.proofs.Rooms.{have-room}
 use Rattle.ref_table.proofs.Adding.{all-added, with_raised_counter-stands}
 use Rattle.ref_table.proofs.Committing.{no-places, with_all-some}
@@ -23,7 +23,7 @@ returns-then-is_empty-clause-put g c = λ r caller points changes s named e.
     let none : c.args.placed.items ≡ [] = grind (arith, common_steps, c.if-is_empty.ensures) in
     let nothing : changes ≡ [] = no-places c.args.self.now.directory caller changes named
     (sym (ap (map placed_view) none) ∙ e) in
-    subst (λ cs. Stands stands c.args.self.now (refs_after (with_all cs (store_of caller points r)) r))
+    subst (λ cs. TableStands stands c.args.self.now (refs_after (with_all cs (store_of caller points r)) r))
     (sym nothing) (seen-stands stands c.args.self.now caller points r s)
 
 map_empty : (ps : List Placed) → map placed_view ps ≡ [] → ps ≡ []
@@ -39,7 +39,7 @@ returns-clause-put g c = λ r caller points changes s named e.
     (same-stands stands c.args.self.now c.reserve_all.new.history r c.reserve_all.ensures.same s)) in
     let some : c.args.placed.items ≡ [] → ⊥ =
     λ none. grind (arith, common_steps, none, c.if-is_empty.ensures) in
-    subst (λ s. Stands stands
+    subst (λ s. TableStands stands
     (record t { counter = t.counter + 1; history = c.add_all.new.history }) (refs_after s r))
     (sym (with_all-some changes (store_of caller points r)
     (λ nothing. some (map_empty c.args.placed.items

@@ -1,6 +1,6 @@
 use Rattle.std.proofs.Common.{◌≡◌, ℕ, sym, ap, ◌∙◌, slice_get}
 use Rattle.value_data.specs.Datum.{tenant}
-use Rattle.ref_table.specs.Directory.{ids_of}
+use Rattle.ref_table.specs.Directory.{refs_of}
 use Rattle.ref_table.proofs.Owners.{none-some}
 use Rattle.ref_table.proofs.Tables.{released-stands}
 use Rattle.ref_table.proofs.table.RefTable.release.Goals as goal
@@ -8,7 +8,7 @@ use Rattle.ref_table.proofs.table.RefTable.release.Goals as goal
 pub returns-in-Some : goal.returns-in-Some
 returns-in-Some g c = λ r s.
     let same : (n : ℕ) → slice_get c.deref.result.now n
-    ≡ slice_get (ids_of c.args.self.now.directory (tenant c.args.tenant)) n
+    ≡ slice_get (refs_of c.args.self.now.directory (tenant c.args.tenant)) n
     = λ n. ap (λ ids. slice_get ids n) (c.deref.ensures.value ∙ c.in-Some.ensures.were) in
     released-stands g.H.History.stands c.args.self.now c.remove.new.self c.drop_refs.new.history r
     (tenant c.args.tenant) c.in-Some.ensures.gone c.in-Some.ensures.others

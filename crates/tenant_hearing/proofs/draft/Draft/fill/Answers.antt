@@ -3,7 +3,7 @@ use Rattle.std.proofs.Common.{arith}
 use Rattle.std.proofs.lemmas.Grind.{common_steps}
 use Rattle.std.proofs.lemmas.List.{nil_from_length}
 use Rattle.std.proofs.lemmas.Result.{on_ok_weaker}
-use Rattle.bencode_wire.specs.Inside.View.{view}
+use Rattle.bencode_wire.specs.Inside.View.{tree_view}
 use Rattle.bencode_wire.specs.declared.ben.Ben.{Ben}
 use Rattle.repl_replies.specs.Replies.{OriginData, no_origin, malformed, bytes_of}
 use Rattle.server_rules.specs.Hearing.{with_messages}
@@ -26,9 +26,9 @@ loop-message-preserved c =
       kept = kept-then first before now was.invariant.kept c.hear.ensures.kept;
       heard = λ g t q waiting d.
           let h = was.invariant.heard g t q waiting d in (
-            with_messages g t (view c.in-Some.message ∷ []) h.0,
+            with_messages g t (tree_view c.in-Some.message ∷ []) h.0,
             c.in_ok-hear.ensures.heard g t h.0 waiting h.1,
-            sym (ap (λ (ms : List Ben). with_messages g t (map view ms) h.0) c.in-Some.ensures.items) ∙ h.2,
+            sym (ap (λ (ms : List Ben). with_messages g t (map tree_view ms) h.0) c.in-Some.ensures.items) ∙ h.2,
           );
     }
 
@@ -42,9 +42,9 @@ returns-then-is_broken-clause-heard c =
     let now : Scene = record before { made = made_bytes c.add.new.self } in
     on_ok_weaker c.add.result (λ added g t q waiting d.
     let h = was.invariant.heard g t q waiting d in
-    let all : h.0 ≡ with_messages g t (map view c.args.messages.items) q =
-    sym (ap (λ (ms : List Ben). with_messages g t (map view ms) h.0) empty) ∙ h.2 in
-    drafts-as g t _ _ waiting now (ap (with_replies more) all ∙ sym (ap (λ (b : Bool). with_replies (told_broken b) (with_messages g t (map view c.args.messages.items) q)) c.if-is_broken.true))
+    let all : h.0 ≡ with_messages g t (map tree_view c.args.messages.items) q =
+    sym (ap (λ (ms : List Ben). with_messages g t (map tree_view ms) h.0) empty) ∙ h.2 in
+    drafts-as g t _ _ waiting now (ap (with_replies more) all ∙ sym (ap (λ (b : Bool). with_replies (told_broken b) (with_messages g t (map tree_view c.args.messages.items) q)) c.if-is_broken.true))
     (comes-replied more before now.made (added ∙ ap (λ (o : OriginData). made_bytes was.self.batch ++ map bytes_of (reply o malformed ∷ [])) c.none.ensures) g t h.0 waiting h.1))
     c.add.ensures
 
@@ -55,8 +55,8 @@ returns-clause-heard c = λ g t q waiting d.
     let none : length was.messages.items ≡ 0 = grind (arith, common_steps, c.in_default.ensures.cases) in
     let empty : was.messages.items ≡ [] = nil_from_length was.messages.items none in
     let h = was.invariant.heard g t q waiting d in
-    let all : h.0 ≡ with_messages g t (map view c.args.messages.items) q =
-    sym (ap (λ (ms : List Ben). with_messages g t (map view ms) h.0) empty) ∙ h.2 in
+    let all : h.0 ≡ with_messages g t (map tree_view c.args.messages.items) q =
+    sym (ap (λ (ms : List Ben). with_messages g t (map tree_view ms) h.0) empty) ∙ h.2 in
     let nothing : with_replies [] h.0 ≡ h.0 = ap (λ l. record h.0 { replies = l }) (append-nil h.0.replies) in
     drafts-as g t _ _ waiting _ (sym nothing ∙ ap (with_replies []) all
-    ∙ sym (ap (λ (b : Bool). with_replies (told_broken b) (with_messages g t (map view c.args.messages.items) q)) c.if-is_broken.false)) h.1
+    ∙ sym (ap (λ (b : Bool). with_replies (told_broken b) (with_messages g t (map tree_view c.args.messages.items) q)) c.if-is_broken.false)) h.1

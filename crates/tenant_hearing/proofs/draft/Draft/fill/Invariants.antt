@@ -1,5 +1,5 @@
 use Rattle.std.proofs.Common.{◌≡◌, ℕ, List, map, deque_len}
-use Rattle.bencode_wire.specs.Inside.View.{view}
+use Rattle.bencode_wire.specs.Inside.View.{tree_view}
 use Rattle.server_rules.specs.Ground.{Ground}
 use Rattle.server_rules.specs.Hearing.{with_messages}
 use Rattle.server_rules.specs.Tenant.{Quiet}
@@ -15,7 +15,7 @@ invariant-loop-message l =
       kept : IsKept old now;
       heard : (g : Ground) (t : ℕ) (q : Quiet) (waiting : List (List ℕ)) → Drafts g t q waiting old
           → (r : Quiet) × Drafts g t r waiting now
-          × (with_messages g t (map view l.messages.items) r ≡ with_messages g t (map view l.fn.messages.items) q);
+          × (with_messages g t (map tree_view l.messages.items) r ≡ with_messages g t (map tree_view l.fn.messages.items) q);
     }
 
 abbrev pub decreases-loop-message : goal.decreases-loop-message

@@ -8,7 +8,7 @@ use Rattle.tenant_turns.specs.DeedResult.{carried_out, deed_result}
 use Rattle.tenant_world.specs.Memories.{Remembers}
 use Rattle.tenant_world.proofs.Standing.{carried-tenant}
 use Rattle.tenant_world.specs.Acting.{actors_after}
-use Rattle.tenant_world.specs.Answers.{end_answer_view, ending_view}
+use Rattle.tenant_world.specs.Answers.{end_answer_view, told_ending}
 use Rattle.tenant_world.specs.Standing.{RefusesDeed}
 use Rattle.tenant_world.proofs.Standing.{ends-by, does-acted, refuses-declined, refuses-so}
 use Rattle.tenant_world.proofs.Standing.{lends-memory}
@@ -17,7 +17,7 @@ use Rattle.tenant_world.proofs.tenant.Tenant.end_form.Goals as goal
 pub returns-in_err-state-clause-refused : goal.returns-in_err-state-clause-refused
 returns-in_err-state-clause-refused c = λ g q s right stands.
     let a = c.args.actor in
-    let e = ending_view c.args.ending.now in
+    let e = told_ending c.args.ending.now in
     let p : ActorData → Plan = λ actor. end_of g a actor e q actor.hand in
     refuses-so g q s (deed_result g s q (deeds.ends a e)) c.lend.new.self c.in_err-state.field-0.0
     c.from_residual.result c.from_residual.ensures.1
@@ -27,7 +27,7 @@ returns-in_err-state-clause-refused c = λ g q s right stands.
 pub returns-in-Ok-clause-done : goal.returns-in-Ok-clause-done
 returns-in-Ok-clause-done c = λ g q s right stands.
     let a = c.args.actor in
-    let e = ending_view c.args.ending.now in
+    let e = told_ending c.args.ending.now in
     let p : ActorData → Plan = λ actor. end_of g a actor e q actor.hand in
     let lent = c.in_ok-state.ensures.lent g q s stands in
     let some = subst (λ n. 0 < n) stands.steps c.in_ok-state.ensures.some in
@@ -46,7 +46,7 @@ returns-in-Ok-clause-done c = λ g q s right stands.
 pub returns-in-Err-clause-refused : goal.returns-in-Err-clause-refused
 returns-in-Err-clause-refused c = λ g q s right stands.
     let a = c.args.actor in
-    let e = ending_view c.args.ending.now in
+    let e = told_ending c.args.ending.now in
     let p : ActorData → Plan = λ actor. end_of g a actor e q actor.hand in
     let lent = c.in_ok-state.ensures.lent g q s stands in
     let some = subst (λ n. 0 < n) stands.steps c.in_ok-state.ensures.some in
