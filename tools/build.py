@@ -3,34 +3,24 @@
 
     tools/build.py NAME ..
 
-`rt` proves one crate after another, and two of its runs wait for each other where they share a
-crate below. So each crate is built in a room of its own: a copy of its sources, with the libraries
-below it as they were built. Crates that do not stand on one another are built at one time, first
-those with the longest chain of others behind them, and processors that no other crate waits for go
-into the crate that is being proved. What is built is kept in each crate's out/, as by `rt lib`, so
-that only what changed is proved again. How far it is stands on standard error."""
+This is `rt ci` over a copy of these crates alone, without their must-fail edits: it proves crates
+that do not stand on one another at one time, first those for which most others wait, and builds and
+runs each program. What it proved is kept on this machine, where that is possible, so that later only
+what changed is proved again, here and by the gate. Programs come to the out/ of their crates. How
+far it is stands on standard error."""
 
 import contextlib
-import fcntl
 import os
+import re
 import shutil
-import subprocess
 import sys
-import tempfile
 import threading
 import time
-from concurrent.futures import FIRST_COMPLETED, ThreadPoolExecutor, wait
 
 import workspace
 
-PROCESSORS = len(os.sched_getaffinity(0))
-# What a check takes at most of memory, for each of its jobs.
-BYTES_A_JOB = 2_500_000_000
 SECONDS_BETWEEN_REPORTS = 5
-
-
-class Failed(Exception):
-    """A crate was not proved; the exception has its name and what `rt` printed."""
+PROVED = re.compile(r"rt: (\w+) (?:proved$|is kept: )")
 
 
 def main(names):
@@ -39,39 +29,40 @@ def main(names):
     if lost or not names:
         print(f"build: no such crate: {' '.join(lost)}" if lost else __doc__, file=sys.stderr)
         return 2
-    wanted = []
-    for name in names:
-        wanted += [it for it in [*known[name].below(), known[name]] if it not in wanted]
-    try:
-        with reports(wanted) as built, held(wanted):
-            side_by_side(wanted, built)
-    except Failed as failure:
-        print(f"build: {failure.args[0]} was not proved:\n{failure.args[1]}", file=sys.stderr)
-        return 1
+    wanted = workspace.with_those_below([known[it] for it in names])
+    printed = []
+    with workspace.copied(wanted) as tree, reports(wanted) as proved:
+
+        def see(line):
+            printed.append(line)
+            if PROVED.match(line):
+                proved.append(PROVED.match(line)[1])
+
+        if workspace.rt_ci(tree, see):
+            print("build: not proved, or not built:\n" + "".join(printed), file=sys.stderr)
+            return 1
+        for crate in wanted:
+            if crate.is_program():
+                put_program(f"{tree}/crates/{crate.name}/out/{crate.name}", crate)
     return 0
 
 
-@contextlib.contextmanager
-def held(crates):
-    """Holds the crates' folders, as a run of `rt` does, so that no other run works in them."""
-    opened = [os.open(it.folder, os.O_RDONLY) for it in sorted(crates, key=lambda it: it.name)]
-    try:
-        for it in opened:
-            fcntl.flock(it, fcntl.LOCK_EX)
-        yield
-    finally:
-        for it in opened:
-            os.close(it)
+def put_program(built, crate):
+    """Puts a program into its crate's out/, in one step, since another start may run the old one."""
+    program = f"{crate.folder}/out/{crate.name}"
+    os.makedirs(os.path.dirname(program), exist_ok=True)
+    shutil.copy(built, f"{program}.new")
+    os.replace(f"{program}.new", program)
 
 
 @contextlib.contextmanager
 def reports(crates):
-    """Says every few seconds how many crates are built. Gives the list to which they are added."""
-    built, ended, began = [], threading.Event(), time.monotonic()
+    """Says every few seconds how many crates are proved. Gives the list to which they are added."""
+    proved, ended, began = [], threading.Event(), time.monotonic()
 
     def say():
         minutes = (time.monotonic() - began) / 60
-        text = f"build: {len(built)} of {len(crates)} crates proved, {minutes:.1f} minutes"
+        text = f"build: {len(proved)} of {len(crates)} crates proved, {minutes:.1f} minutes"
         print(text, file=sys.stderr, flush=True)
 
     def go_on():
@@ -81,89 +72,11 @@ def reports(crates):
     teller = threading.Thread(target=go_on, daemon=True)
     teller.start()
     try:
-        yield built
+        yield proved
     finally:
         ended.set()
         teller.join()
         say()
-
-
-def side_by_side(crates, built):
-    """Builds the crates, each once those below it are built."""
-    behind = {it: 0 for it in crates}
-    for it in sorted(crates, key=lambda it: -len(it.below())):
-        behind[it] += it.lines()
-        for below in it.below():
-            behind[below] = max(behind[below], behind[it])
-    left, running = sorted(crates, key=lambda it: -behind[it]), {}
-    with ThreadPoolExecutor(PROCESSORS) as pool:
-        while left or running:
-            ready = [it for it in left if all(below in built for below in it.below())]
-            for place, crate in enumerate(ready):
-                if len(running) >= jobs_at_once():
-                    break
-                # The one with the longest chain behind it gets all that the others leave, and two
-                # jobs at least, since all wait for that chain in the end. None waits for the
-                # processors that another was given: much of a check has no use for a second one.
-                leads = all(behind[crate] >= behind[it] for it, _ in running.values())
-                idle = jobs_at_once() - sum(jobs for _, jobs in running.values())
-                jobs = max(2 if leads else 1, min(4, idle - (len(ready) - place - 1)))
-                left.remove(crate)
-                running[pool.submit(build, crate, jobs)] = crate, jobs
-            for done in wait(running, return_when=FIRST_COMPLETED).done:
-                crate, _ = running.pop(done)
-                done.result()
-                built.append(crate)
-
-
-def jobs_at_once():
-    with open("/proc/meminfo", encoding="utf-8") as file:
-        total = 1024 * int(next(it for it in file if it.startswith("MemTotal")).split()[1])
-    return max(1, min(PROCESSORS, int(0.85 * total) // BYTES_A_JOB))
-
-
-def build(crate, jobs):
-    """Proves and builds one crate: a library, or a program that is then run once on empty input."""
-    command = [*workspace.RT, "lib", "--jobs", str(jobs)]
-    if os.path.isfile(f"{crate.folder}/src/main.rt"):
-        command = [*workspace.RT, "run", "--jobs", str(jobs), "--", *arguments(crate)]
-    os.makedirs(f"{crate.folder}/out", exist_ok=True)
-    with tempfile.TemporaryDirectory(prefix=f".build-{crate.name}-", dir=workspace.TOP) as room:
-        furnish(room, crate)
-        inside = f"{room}/crates/{crate.name}"
-        os.rename(f"{crate.folder}/out", f"{inside}/out")
-        try:
-            ran = subprocess.run(
-                command, cwd=inside, stdin=subprocess.DEVNULL, stdout=subprocess.PIPE,
-                stderr=subprocess.STDOUT, errors="replace",
-            )
-        finally:
-            os.rename(f"{inside}/out", f"{crate.folder}/out")
-    if ran.returncode:
-        raise Failed(crate.name, ran.stdout)
-
-
-def arguments(crate):
-    """The words with which a stored run starts the program, one a line of its file args."""
-    path = f"{crate.folder}/args"
-    return workspace.content(path).decode().splitlines() if os.path.isfile(path) else []
-
-
-def furnish(room, crate):
-    """Puts into the room what a check of the crate reads."""
-    crates = [*crate.below(), crate]
-    shutil.copy(f"{workspace.TOP}/HANDLES", room)
-    with open(f"{room}/crates.txt", "w", encoding="utf-8") as file:
-        file.writelines(f"{it.line}\n" for it in crates)
-    for it in crates:
-        inside = f"{room}/crates/{it.name}"
-        os.makedirs(inside)
-        for part in workspace.SOURCES:
-            if os.path.isdir(f"{it.folder}/{part}"):
-                shutil.copytree(f"{it.folder}/{part}", f"{inside}/{part}")
-        if it is not crate:
-            # links, since a library is large and nobody writes to it
-            shutil.copytree(f"{it.folder}/out/rlib", f"{inside}/out/rlib", copy_function=os.link)
 
 
 if __name__ == "__main__":

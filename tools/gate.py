@@ -21,16 +21,18 @@ show is that its line was written by `.ci/run edits`: `.ci/run whole` shows that
 `rt ci` runs as quick_rt.py starts it: the kit's own, but each crate's sources are summed once."""
 
 import os
+import re
 import shutil
-import subprocess
 import sys
 import tempfile
 import time
 
-import build
-import edits
 import minutes
 import workspace
+
+# What `rt ci` says of an edit that was refused for its meaning. One that is refused only because a
+# proof names what it took away, or only by a limit of the prover, has a parenthesis behind `be`.
+REFUSED = re.compile(r"rt: must-fail (\w+)/(\S+\.edit): refused, as it must be(?:: .*)?$")
 
 
 def main(words):
@@ -88,45 +90,55 @@ def run_gate(left_out):
         shutil.copytree(workspace.TOP, tree, symlinks=True, ignore=skipped)
         for it in left_out:
             shutil.rmtree(f"{tree}/crates/{it.name}/must-fail")
+        last = [""]
+
+        def see(line):
+            print(line, end="", flush=True)
+            last[:] = [line]
+
         with minutes.measured() as table:
-            # `rt ci`, without the hour in which it sums sources
-            ran = subprocess.Popen(
-                [*workspace.RT, "ci"], cwd=tree, stdout=subprocess.PIPE, errors="replace"
-            )
-            last = ""
-            for line in ran.stdout:
-                print(last, end="", flush=True)
-                last = line
-            status = ran.wait()
+            status = workspace.rt_ci(tree, see)
     elapsed = (time.monotonic() - began) / 60
-    print(f"gate: {elapsed:.0f} minutes on {build.PROCESSORS} processors\n{table.text()}")
+    print(f"gate: {elapsed:.0f} minutes on {workspace.PROCESSORS} processors\n{table.text()}")
     print(f"edits: {tried} tried, {taken} taken from the record")
-    print(last, end="", flush=True)
+    print(last[0], end="", flush=True)
     return status
 
 
 def try_edits(names):
-    """Tries the edits of these crates, or of all that the record does not cover, some crates at a
-    time."""
+    """Tries the edits of these crates, or of all that the record does not cover, by `rt ci` over a
+    tree of them and of what they stand on, and writes the lines of those whose edits were refused."""
     known = {it.name: it for it in workspace.crates()}
     lost = [it for it in names if it not in known]
     if lost:
         print(f"edits: no such crate: {' '.join(lost)}", file=sys.stderr)
         return 2
     asked = [it for it in [known[it] for it in names] or uncovered() if it.edits()]
-    if asked and build.main([it.name for it in asked]):
-        return 1
     before = workspace.fingerprints()
-    written = 0
-    for crate, refused in edits.tried(asked):
-        # what changed meanwhile was not tried
-        if refused and workspace.fingerprints()[crate.name] == before[crate.name]:
-            note([crate], before)
-            written += 1
-        else:
-            print(f"edits: {crate.name}: no line is written", flush=True)
-    print(f"edits: {written} of {len(asked)} crates recorded")
-    return 0 if written == len(asked) else 1
+    refused = {it.name: set() for it in asked}
+    with workspace.copied(workspace.with_those_below(asked), with_edits=asked) as tree:
+
+        def see(line):
+            print(line, end="", flush=True)
+            if REFUSED.match(line):
+                name, edit = REFUSED.match(line).groups()
+                refused[name].add(edit)
+
+        workspace.rt_ci(tree, see)
+    # what changed meanwhile was not tried
+    now = workspace.fingerprints()
+    well = [it for it in asked if now[it.name] == before[it.name] and is_whole(it, refused[it.name])]
+    note(well, before)
+    for it in asked:
+        if it not in well:
+            left = {os.path.basename(edit) for edit in it.edits()} - refused[it.name]
+            print(f"edits: {it.name}: no line is written: {' '.join(sorted(left))}")
+    print(f"edits: {len(well)} of {len(asked)} crates recorded")
+    return 0 if len(well) == len(asked) else 1
+
+
+def is_whole(crate, refused):
+    return {os.path.basename(edit) for edit in crate.edits()} == refused
 
 
 def note(crates, now):

@@ -1,13 +1,17 @@
 """The crates of this repository, as the scripts beside this file see them."""
 
+import contextlib
 import functools
 import hashlib
 import os
 import re
+import shutil
 import subprocess
 import sys
+import tempfile
 
 TOP = os.path.dirname(os.path.dirname(os.path.abspath(__file__)))
+PROCESSORS = len(os.sched_getaffinity(0))
 SOURCES = ("src", "specs", "proofs")
 # `rt`, as the scripts start it: it sums each crate's sources once.
 RT = (sys.executable, f"{TOP}/tools/quick_rt.py")
@@ -40,6 +44,9 @@ class Crate:
     def edits(self):
         return [it for it in self.files("must-fail") if it.endswith(".edit")]
 
+    def is_program(self):
+        return os.path.isfile(f"{self.folder}/src/main.rt")
+
     def lines(self, *parts):
         return sum(content(it).count(b"\n") for it in self.files(*(parts or SOURCES)))
 
@@ -61,6 +68,43 @@ def crates():
         names = crate.line.partition(":")[2].split()
         crate.uses = [listed[it] for it in names if it in listed]
     return sorted(listed.values(), key=lambda it: len(it.below()))
+
+
+def with_those_below(some):
+    """These crates and all that they stand on, each behind those that it stands on itself."""
+    found = []
+    for crate in some:
+        found += [it for it in [*crate.below(), crate] if it not in found]
+    return found
+
+
+@contextlib.contextmanager
+def copied(some, with_edits=()):
+    """A tree of its own of these crates, without what checks kept in them, and with the must-fail
+    edits of those alone that are named as such. Gives its folder, which goes in the end."""
+    with tempfile.TemporaryDirectory(prefix="crates-") as room:
+        tree = f"{room}/tree"
+        # `rt ci` takes the tree for the top of a repository
+        os.makedirs(f"{tree}/.git")
+        shutil.copy(f"{TOP}/HANDLES", tree)
+        with open(f"{tree}/crates.txt", "w", encoding="utf-8") as file:
+            file.writelines(f"{it.line}\n" for it in some)
+        for it in some:
+            left_out = ("out",) if it in with_edits else ("out", "must-fail")
+            ignored = shutil.ignore_patterns(*left_out)
+            shutil.copytree(it.folder, f"{tree}/crates/{it.name}", ignore=ignored)
+        yield tree
+
+
+def rt_ci(tree, see):
+    """Runs `rt ci` over a tree, hands each line that it prints to `see`, and returns its status."""
+    with subprocess.Popen(
+        [*RT, "ci"], cwd=tree, stdin=subprocess.DEVNULL, stdout=subprocess.PIPE,
+        stderr=subprocess.STDOUT, errors="replace",
+    ) as ran:
+        for line in ran.stdout:
+            see(line)
+    return ran.returncode
 
 
 @functools.lru_cache(maxsize=None)

@@ -1,4 +1,5 @@
-//! Tests of sessions: of `repl_sessions`, by its public calls alone.
+//! Tests of sessions (`repl_sessions`), of what messages ask for, and of the bytes of replies
+//! (`repl_replies`).
 #![tactic(auto)]
 
 #[cfg(test)]
@@ -6,6 +7,14 @@ mod ids;
 #[cfg(test)]
 mod opening;
 #[cfg(test)]
+mod refusals;
+#[cfg(test)]
 mod remembering;
+#[cfg(test)]
+mod replies;
+#[cfg(test)]
+mod served;
+#[cfg(test)]
+mod table;
 #[cfg(test)]
 mod told;

@@ -1,5 +1,5 @@
-//! Tests of refs and transactions by `repl_walker`: what is asked of the store, answer by answer,
-//! and what comes of it.
+//! Tests of transactions: what is asked of the store and what comes of it (`repl_walker`), what an
+//! attempt did (`tx_attempt`), and the versions of refs (`ref_history`).
 #![tactic(auto)]
 
 #[cfg(test)]
@@ -9,8 +9,20 @@ mod attempts;
 #[cfg(test)]
 mod commuting;
 #[cfg(test)]
+mod dropping;
+#[cfg(test)]
+mod growing;
+#[cfg(test)]
+mod memory;
+#[cfg(test)]
 mod outside;
 #[cfg(test)]
 mod rows;
 #[cfg(test)]
+mod seen;
+#[cfg(test)]
 mod transactions;
+#[cfg(test)]
+mod versions;
+#[cfg(test)]
+mod wanted;

@@ -1,0 +1,69 @@
+//! Times layers of the server alone: the decoder of messages, the walker, and the table of refs.
+//! Each line of standard input names a layer and gives numbers; what stands behind the line `wire`
+//! is a bencode stream.
+#![tactic(auto)]
+
+mod refs;
+mod walker;
+mod wire;
+
+use std::io::{self, Read};
+use std::str::SplitWhitespace;
+
+// What is no number counts as 0.
+fn number_of(word: Option<&str>) -> u64 {
+    match word {
+        Some(word) => word.parse::<u64>().unwrap_or(0),
+        None => 0,
+    }
+}
+
+fn time_refs(rt: &HostRuntime, words: &mut SplitWhitespace<'_>) -> io::Result<()> {
+    let counts = refs::run(rt.alloc(), refs::size_of(words))?;
+    let refs::Counts {
+        committed,
+        found,
+        to_retry,
+    } = counts;
+    println!(rt; "{committed} committed, {found} found, {to_retry} to retry")
+}
+
+fn time_walker(rt: &HostRuntime, words: &mut SplitWhitespace<'_>) -> io::Result<()> {
+    let counts = walker::run(rt.alloc(), walker::size_of(words))?;
+    let walker::Counts {
+        asked,
+        conflicts,
+        values,
+    } = counts;
+    println!(rt; "{asked} asked, {conflicts} conflicts, {values} values")
+}
+
+fn time_wire(rt: &HostRuntime) -> io::Result<()> {
+    let messages = wire::count_messages(rt.alloc(), &mut rt.reader())?;
+    println!(rt; "{messages} messages")
+}
+
+// Times the layer that the line names, and answers whether a line may follow it.
+fn time_layer(rt: &HostRuntime, line: &str) -> io::Result<bool> {
+    let mut words = line.split_whitespace();
+    match words.next() {
+        Some("refs") => time_refs(rt, &mut words)?,
+        Some("walker") => time_walker(rt, &mut words)?,
+        Some("wire") => {
+            time_wire(rt)?;
+            return Ok(false);
+        }
+        _ => println!(rt; "no such layer: {line}")?,
+    }
+    Ok(true)
+}
+
+fn main(rt: HostRuntime) -> io::Result<()> {
+    for _ in 0..u64::MAX {
+        let mut line = String::new(rt.alloc());
+        if rt.read_line(&mut line)? == 0 || !time_layer(&rt, line.trim())? {
+            return Ok(());
+        }
+    }
+    Ok(())
+}
