@@ -1,10 +1,15 @@
 #!/usr/bin/env python3
-"""Runs `rt` with the words given to it, and sums each crate's sources once.
+"""Runs `rt` with the words given to it, sums each crate's sources once, and has `rt ci` use idle
+processors.
 
 Whether a library is up to date `rt` tells by a sum over its sources and those of all crates below
 it. It sums a crate once for each path through crates.txt that leads there: some 260,000 of them for
 the crates on top, ten minutes before a check begins. Here a question for a sum keeps the sums of
-the crates below until it is answered; what is asked is the same."""
+the crates below until it is answered; what is asked is the same.
+
+`rt ci` counts the tests of a crate that has none as work that waits, and so gives a library for
+which all others wait one job where three processors are idle. Here it gets those that no other proof
+has. The number of jobs changes no verdict: the kernel checks each item once."""
 
 import importlib.machinery
 import importlib.util
@@ -14,6 +19,9 @@ import sys
 import threading
 
 KEPT = threading.local()
+PROCESSORS = len(os.sched_getaffinity(0))
+# Of more a check has been seen to make little use.
+MOST_JOBS = 4
 
 
 def main(words):
@@ -24,7 +32,30 @@ def main(words):
     rt = importlib.util.module_from_spec(importlib.util.spec_from_loader("rt", loader))
     loader.exec_module(rt)
     rt.rtlib.Crate.stamp = once(rt.rtlib.Crate.stamp)
+    rt.Crate.ci = with_idle_processors(rt.Crate.ci)
     return rt.main(words)
+
+
+def with_idle_processors(ci):
+    """The same proof, with a job for each processor that no other proof has, but at most four. A
+    library has two at least, since others wait for it."""
+    running, lock = [], threading.Lock()
+
+    def proved(crate, flags, tests):
+        with lock:
+            running.append(crate)
+            idle = PROCESSORS - len(running)
+        try:
+            if flags[:1] == ["--jobs"] and not tests:
+                least = 1 if crate.is_program else min(2, PROCESSORS)
+                jobs = max(int(flags[1]), least, min(MOST_JOBS, 1 + idle))
+                flags = ["--jobs", str(jobs), *flags[2:]]
+            return ci(crate, flags, tests)
+        finally:
+            with lock:
+                running.remove(crate)
+
+    return proved
 
 
 def once(stamp):

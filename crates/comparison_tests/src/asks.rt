@@ -1,5 +1,4 @@
 // Asks of namespaces, refs and transactions in pairs, and whether the two are the same.
-use crate::parts::text;
 use crate::steps::{MINUS, PLUS};
 use function_names::CoreFunction;
 use repl_asks::{Ask, Change, Commute, Commuted, Intent};
@@ -8,6 +7,7 @@ use std::alloc::{AllocError, Global};
 use std::sync::Arc;
 use std::test::Fail;
 use trace_comparison::{same_ask, same_intent};
+use value_parts::text;
 
 const OWN: Owner = Owner::Tenant(7);
 

@@ -1,5 +1,4 @@
 // Exchanges and traces in pairs, and where they differ.
-use crate::parts::{Part, text};
 use crate::steps::{
     MINUS, PLUS, PROGRAM, Program, Step, exchange_of, forms_of, function_of, trace_of,
 };
@@ -14,6 +13,7 @@ use special_forms::Forms;
 use std::alloc::{AllocError, Global};
 use std::test::Fail;
 use trace_comparison::{first_difference, same_ask, same_exchange, same_function, same_trace};
+use value_parts::{Part, text};
 
 const STEPS: &[Step] = &[
     NamesValue("x", &[Int(1)]),

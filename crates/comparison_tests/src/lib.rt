@@ -8,8 +8,6 @@ mod asks;
 #[cfg(test)]
 mod exchanges;
 #[cfg(test)]
-mod parts;
-#[cfg(test)]
 mod steps;
 #[cfg(test)]
 mod values;

@@ -1,5 +1,4 @@
 // Asks and answers in short.
-use crate::parts::{Part, text, value_of};
 use core_integers::{ArithmeticFunction, IntegerFunction};
 use function_names::{CoreFunction, StoreFunction};
 use repl_asks::{Answer, Ask, Binding, Exchange, NamedFunction, Resolution, Trace};
@@ -7,6 +6,7 @@ use repl_values::{Fault, Sequence, Value};
 use special_forms::{Forms, Function};
 use std::alloc::{AllocError, Global};
 use std::sync::Arc;
+use value_parts::{Part, text, value_of};
 
 // A function of the program: its namespace, its name, its parameters and the integers of its body.
 #[derive(Clone, Copy)]

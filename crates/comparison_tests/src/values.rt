@@ -1,10 +1,11 @@
 // Values and jobs in pairs, and whether the two are the same.
-use crate::parts::{Part, job_of, value_of};
 use Part::{Agent, Atom, Bool, Int, Keyword, List, Map, Nil, Ref, Str, Symbol, Var, Vector};
+use repl_jobs::{Job, Work};
 use repl_values::{Owner, Sequence, Value, same};
 use std::alloc::{AllocError, Global};
 use std::test::Fail;
 use trace_comparison::{same_job, same_value};
+use value_parts::{Part, text, value_of};
 
 const OWN: Owner = Owner::Tenant(7);
 
@@ -141,6 +142,14 @@ fn a_rest_is_what_is_in_it(rt: HostRuntime) -> Result<(), Fail> {
     assert!(rt; rest_is(rt.alloc(), 3)?);
     assert!(rt; !rest_is(rt.alloc(), 2)?);
     Ok(())
+}
+
+fn job_of(alloc: Global, parts: &[Part], namespace: &str, retries: u32) -> Result<Job, AllocError> {
+    Ok(Job {
+        work: Work::Form(value_of(alloc, parts)?),
+        namespace: text(alloc, namespace)?,
+        retries,
+    })
 }
 
 // Whether a job is the same as the first row's, and that the same as it.

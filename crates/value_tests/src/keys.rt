@@ -1,9 +1,9 @@
 // Keys that are chosen to have one hash, and maps as keys.
-use crate::parts::{Part, table_of, text, value_of};
 use Part::{Int, Keyword, List, Map, Vector};
 use repl_values::{Sequence, Table, Value, hash_of, same};
 use std::alloc::{AllocError, Global};
 use std::test::Fail;
+use value_parts::{Part, table_of, text, value_of};
 
 // One may stand for the other in a text, and the text's hash stays.
 const BLOCKS: [&str; 2] = ["RICYCKLEfJM", "CCdCPCCCCCC"];

@@ -4,8 +4,6 @@
 #[cfg(test)]
 mod keys;
 #[cfg(test)]
-mod parts;
-#[cfg(test)]
 mod returns;
 #[cfg(test)]
 mod values;

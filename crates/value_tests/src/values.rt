@@ -1,5 +1,4 @@
 // The rules' own examples, each call that allocates, and the time that many keys take.
-use crate::parts::{Part, text, value_of};
 use Part::{Agent, Atom, Bool, Int, Keyword, List, Map, Nil, Ref, Str, Symbol, Var, Vector};
 use repl_values::{
     Owner, Sequence, Value, copy, copy_text, display_into, first_repeated, hash_of, is_plain,
@@ -9,6 +8,7 @@ use special_forms::{Forms, Function};
 use std::alloc::{AllocError, Global};
 use std::sync::{Arc, ArcStr};
 use std::test::Fail;
+use value_parts::{Part, text, value_of};
 
 const OWN: Owner = Owner::Tenant(7);
 

@@ -4,10 +4,10 @@ use repl_values::{Built, Fault, Owner, RefName, Sequence, Table, Value};
 use std::alloc::{AllocError, Global};
 use std::sync::ArcStr;
 
-// A value, written with its parts first: `List(n)` and `Vector(n)` take the last n values, and
-// `Map(n)` the last n pairs.
+/// A value, written with its parts first: `List(n)` and `Vector(n)` take the last n values, and
+/// `Map(n)` the last n pairs.
 #[derive(Clone, Copy)]
-pub(crate) enum Part {
+pub enum Part {
     Nil,
     Bool(bool),
     Int(i64),
@@ -24,7 +24,8 @@ pub(crate) enum Part {
     Map(usize),
 }
 
-pub(crate) fn text(alloc: Global, text: &str) -> Result<ArcStr, AllocError> {
+/// The text as a value shares it.
+pub fn text(alloc: Global, text: &str) -> Result<ArcStr, AllocError> {
     ArcStr::from_str(alloc, text)
 }
 
@@ -37,8 +38,8 @@ fn items(alloc: Global, values: &mut Vec<Value>, n: usize) -> Result<Sequence, A
     Sequence::from_vec(alloc, taken(values, n)?)
 }
 
-// The map of distinct keys.
-pub(crate) fn table_of(alloc: Global, pairs: Vec<(Value, Value)>) -> Result<Table, AllocError> {
+/// The map of these pairs, or no pairs where two keys are equal.
+pub fn table_of(alloc: Global, pairs: Vec<(Value, Value)>) -> Result<Table, AllocError> {
     match Table::from_pairs(alloc, pairs)? {
         Built::Made(table) => Ok(table),
         Built::Repeats(_place) => Table::empty(alloc),
@@ -94,7 +95,8 @@ fn made(alloc: Global, part: Part, values: &mut Vec<Value>) -> Result<Value, All
     }
 }
 
-pub(crate) fn value_of(alloc: Global, parts: &[Part]) -> Result<Value, AllocError> {
+/// The value that is written by these parts: the last that they make.
+pub fn value_of(alloc: Global, parts: &[Part]) -> Result<Value, AllocError> {
     let mut values = Vec::new(alloc);
     for part in parts {
         let value = made(alloc, *part, &mut values)?;
