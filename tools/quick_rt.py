@@ -17,11 +17,13 @@ import os
 import shutil
 import sys
 import threading
+import time
 
 KEPT = threading.local()
 PROCESSORS = len(os.sched_getaffinity(0))
 # Of more a check has been seen to make little use.
 MOST_JOBS = 4
+SECONDS_TO_BEGIN = 0.2
 
 
 def main(words):
@@ -44,7 +46,9 @@ def with_idle_processors(ci):
     def proved(crate, flags, tests):
         with lock:
             running.append(crate)
-            idle = PROCESSORS - len(running)
+        # proofs that begin at the same time are counted too
+        time.sleep(SECONDS_TO_BEGIN)
+        idle = PROCESSORS - len(running)
         try:
             if flags[:1] == ["--jobs"] and not tests:
                 least = 1 if crate.is_program else min(2, PROCESSORS)
