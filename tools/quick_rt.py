@@ -39,8 +39,7 @@ def main(words):
 
 
 def with_idle_processors(ci):
-    """The same proof, with a job for each processor that no other proof has, but at most four. A
-    library has two at least, since others wait for it."""
+    """The same proof, with a job for each processor that no other proof has, but at most four."""
     running, lock = [], threading.Lock()
 
     def proved(crate, flags, tests):
@@ -50,9 +49,8 @@ def with_idle_processors(ci):
         time.sleep(SECONDS_TO_BEGIN)
         idle = PROCESSORS - len(running)
         try:
-            if flags[:1] == ["--jobs"] and not tests:
-                least = 1 if crate.is_program else min(2, PROCESSORS)
-                jobs = max(int(flags[1]), least, min(MOST_JOBS, 1 + idle))
+            if flags[:1] == ["--jobs"]:
+                jobs = max(int(flags[1]), min(MOST_JOBS, 1 + idle))
                 flags = ["--jobs", str(jobs), *flags[2:]]
             return ci(crate, flags, tests)
         finally:
