@@ -39,7 +39,8 @@ def main(words):
 
 
 def with_idle_processors(ci):
-    """The same proof, with a job for each processor that no other proof has, but at most four."""
+    """The same proof; that of a library has a job for each processor that no other proof has, but at
+    most four, since crates wait for it."""
     running, lock = [], threading.Lock()
 
     def proved(crate, flags, tests):
@@ -49,7 +50,7 @@ def with_idle_processors(ci):
         time.sleep(SECONDS_TO_BEGIN)
         idle = PROCESSORS - len(running)
         try:
-            if flags[:1] == ["--jobs"]:
+            if flags[:1] == ["--jobs"] and crate.makes_rlib() and not tests:
                 jobs = max(int(flags[1]), min(MOST_JOBS, 1 + idle))
                 flags = ["--jobs", str(jobs), *flags[2:]]
             return ci(crate, flags, tests)
