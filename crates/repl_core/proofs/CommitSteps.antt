@@ -33,7 +33,7 @@ use Rattle.server_rules.specs.declared.refusal.Refusal.{Refusal}
 use Rattle.server_rules.proofs.Steps.{room}
 use Rattle.tenant_refs.proofs.Calls.{performed-tenant}
 use Rattle.repl_core.specs.Standing.{open_in, store_in}
-use Rattle.repl_core.specs.Commits.{refs_of, refs_in, newest_in, goes_with, given_by, newest_after}
+use Rattle.repl_core.specs.Commits.{kept_refs, refs_in, newest_in, goes_with, given_by, newest_after}
 use Rattle.repl_core.specs.Commits.{newest_behind}
 use Rattle.repl_core.proofs.Worlds.{used-none}
 use Rattle.repl_core.proofs.Places.{open-others, open-mine}
@@ -121,7 +121,7 @@ put-newest name w t kept q s given there same here idle = by name.owner here
     part = Some (record { quiet = q; mine = s.mine })
 
     shown : Option TenantData → Option Datum
-    shown p = newest_of (slice_get (refs_of p) name.number)
+    shown p = newest_of (slice_get (kept_refs p) name.number)
 
     at : (u : ℕ) (b : Bool) → (u == t) ≡ b
         → newest_of (if b then slice_get s.mine.refs name.number else None)
@@ -289,7 +289,7 @@ come-gives : (name : RefNameData) (g : Ground) (w : World) (t : ℕ)
 come-gives name g w t = by (is_used t w.tenants) refl
   where
     shown : Option (Option TenantData) → Option Datum
-    shown o = newest_of (slice_get (refs_of (option_and_then (λ part. part) o)) name.number)
+    shown o = newest_of (slice_get (kept_refs (option_and_then (λ part. part) o)) name.number)
 
     at : is_used t w.tenants ≡ false → (u : ℕ) (b : Bool) → (u == t) ≡ b
         → shown (if b then Some (Some (opened_tenant g)) else part_under u w.tenants)
@@ -325,7 +325,7 @@ close-gives name w t (Some (Some kept)) is = by name.owner
     there = ap (option_and_then (λ part. part)) is
 
     shown : Option TenantData → Option Datum
-    shown p = newest_of (slice_get (refs_of p) name.number)
+    shown p = newest_of (slice_get (kept_refs p) name.number)
 
     at : (u : ℕ) (b : Bool) → (u == t) ≡ b
         → shown (open_in u (with_tenant t None w.around w))

@@ -28,7 +28,7 @@ use Rattle.server_rules.specs.World.{planned_step, deed_step, step, world_or, ru
 use Rattle.server_rules.specs.declared.actor.Actor.{Actor}
 use Rattle.server_rules.specs.declared.refusal.Refusal.{Refusal}
 use Rattle.repl_core.specs.Standing.{open_in, store_in}
-use Rattle.repl_core.specs.Commits.{refs_of, refs_in, ref_in_world, newest_in, MetNoNewer}
+use Rattle.repl_core.specs.Commits.{kept_refs, refs_in, ref_in_world, newest_in, MetNoNewer}
 use Rattle.repl_core.specs.Commits.{newest_through}
 use Rattle.repl_core.proofs.CommitCalls.{all_there-parts}
 use Rattle.repl_core.proofs.CommitSteps.{closed_plan, open_plan, asked-by, step-gives}
@@ -49,9 +49,9 @@ ref-near name w t kept there = by name.owner
   where
     at : (u : ℕ) (b : Bool) → (u == t) ≡ b
         → is_some (if b then slice_get kept.mine.refs name.number else None) ≡ true
-        → slice_get (refs_of (open_in u w)) name.number
+        → slice_get (kept_refs (open_in u w)) name.number
         ≡ (if b then slice_get kept.mine.refs name.number else None)
-    at u true same e = ap (λ p. slice_get (refs_of p) name.number)
+    at u true same e = ap (λ p. slice_get (kept_refs p) name.number)
         (ap (λ k. open_in k w) (eqb-true u t same) ∙ there)
     at u false apart e = absurd (true≢false (sym e))
 

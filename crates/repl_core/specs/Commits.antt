@@ -23,13 +23,13 @@ use Rattle.repl_core.specs.Standing.{open_in}
 
 -- Refs of a server
 
-abbrev pub refs_of : Option TenantData → List Ref
-refs_of None = []
-refs_of (Some kept) = kept.mine.refs
+abbrev pub kept_refs : Option TenantData → List Ref
+kept_refs None = []
+kept_refs (Some kept) = kept.mine.refs
 
 abbrev pub refs_in : OwnerData → World → List Ref
 refs_in shared w = w.around.refs
-refs_in (tenant t) w = refs_of (open_in t w)
+refs_in (tenant t) w = kept_refs (open_in t w)
 
 abbrev pub ref_in_world : RefNameData → World → Option Ref
 ref_in_world name w = slice_get (refs_in name.owner w) name.number

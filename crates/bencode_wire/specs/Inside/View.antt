@@ -27,8 +27,8 @@ tree_view = fold-Ben Tree view_step
 abbrev pub trees_view : List Ben → Trees
 trees_view vs = trees_of (map tree_view vs)
 
-abbrev pub entry_view : Vec ℕ Global × Ben → Vec ℕ Global × Tree
-entry_view p = (p.0, tree_view p.1)
+abbrev pub entry_tree : Vec ℕ Global × Ben → Vec ℕ Global × Tree
+entry_tree p = (p.0, tree_view p.1)
 
 abbrev pub entries_view : List (Vec ℕ Global × Ben) → Pairs
-entries_view ps = pairs_from (map entry_view ps)
+entries_view ps = pairs_from (map entry_tree ps)
