@@ -1,5 +1,6 @@
 // Ids against the key streams that RFC 8439, appendix A.1, publishes.
-use crate::told::{FIRST_IDS, none_open};
+use crate::steps::{Step, expect_steps};
+use crate::told::{FIRST_ID, FOURTH_ID, SECOND_ID, THIRD_ID, expect_bytes, none_open};
 use repl_sessions::IdStream;
 use std::process::Abort;
 use std::test::Fail;
@@ -21,14 +22,15 @@ fn expect(rt: &impl Abort, seed: [u8; 32], tenant: u64, first: u64, wanted: &[&s
     let ids = IdStream::new(seed, tenant);
     let mut number = first;
     for text in wanted {
-        assert_eq!(rt; ids.text(number).as_slice(), text.as_bytes());
+        expect_bytes(rt, &ids.text(number), text.as_bytes());
         number = number.saturating_add(1);
     }
 }
 
 #[test]
 fn first_block_of_the_zero_key(rt: HostRuntime) {
-    expect(&rt, ZEROS, 0, 0, &FIRST_IDS);
+    let wanted = [FIRST_ID, SECOND_ID, THIRD_ID, FOURTH_ID];
+    expect(&rt, ZEROS, 0, 0, &wanted);
 }
 
 #[test]
@@ -87,29 +89,36 @@ fn id_is_the_bytes_of_its_text(rt: HostRuntime) {
     assert_eq!(rt; id, wanted);
 }
 
+const FOUND: &[(Step, &str)] = &[
+    (Step::Find(FIRST_ID), "none"),
+    (Step::Open, "0"),
+    (Step::Find(FIRST_ID), "0"),
+    (Step::Id(0), "0"),
+    (Step::Find(SECOND_ID), "none"),
+    (Step::Open, "1"),
+    (Step::Find(SECOND_ID), "1"),
+    (Step::Id(1), "1"),
+    (Step::Find(THIRD_ID), "none"),
+    (Step::Open, "2"),
+    (Step::Find(THIRD_ID), "2"),
+    (Step::Id(2), "2"),
+    (Step::Find(FOURTH_ID), "none"),
+    (Step::Open, "3"),
+    (Step::Find(FOURTH_ID), "3"),
+    (Step::Id(3), "3"),
+    // The ids of none.
+    (Step::Find(""), "none"),
+    (Step::Find("76b8e0ad-a0f1-4d90-805d-6ae55386bd2"), "none"),
+    (Step::Find("76b8e0ad-a0f1-4d90-805d-6ae55386bd28 "), "none"),
+    (Step::Find("76B8E0AD-A0F1-4D90-805D-6AE55386BD28"), "none"),
+    (Step::Find("76b8e0ada0f14d90805d6ae55386bd28"), "none"),
+    (Step::Find("00000000-0000-0000-0000-000000000000"), "none"),
+    (Step::Find("ffffffff-ffff-ffff-ffff-ffffffffffff"), "none"),
+    (Step::Find("76b8e0ad-a0f1-4d90-805d-6ae55386bd29"), "none"),
+];
+
 #[test]
 fn sessions_are_found_by_their_ids(rt: HostRuntime) -> Result<(), Fail> {
     let a = rt.alloc();
-    let mut sessions = none_open(a);
-    let mut number = 0u64;
-    for text in &FIRST_IDS {
-        assert_eq!(rt; sessions.number(text.as_bytes()), None);
-        assert_eq!(rt; sessions.clone_of(a, None)?, number);
-        assert_eq!(rt; sessions.number(text.as_bytes()), Some(number));
-        assert_eq!(rt; sessions.id_text(number).as_slice(), text.as_bytes());
-        number = number.saturating_add(1);
-    }
-    for stranger in [
-        "",
-        "76b8e0ad-a0f1-4d90-805d-6ae55386bd2",
-        "76b8e0ad-a0f1-4d90-805d-6ae55386bd28 ",
-        "76B8E0AD-A0F1-4D90-805D-6AE55386BD28",
-        "76b8e0ada0f14d90805d6ae55386bd28",
-        "00000000-0000-0000-0000-000000000000",
-        "ffffffff-ffff-ffff-ffff-ffffffffffff",
-        "76b8e0ad-a0f1-4d90-805d-6ae55386bd29",
-    ] {
-        assert_eq!(rt; sessions.number(stranger.as_bytes()), None);
-    }
-    Ok(())
+    expect_steps(&rt, a, &mut none_open(a), FOUND)
 }

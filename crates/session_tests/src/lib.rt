@@ -15,6 +15,8 @@ mod replies;
 #[cfg(test)]
 mod served;
 #[cfg(test)]
+mod steps;
+#[cfg(test)]
 mod table;
 #[cfg(test)]
 mod told;

@@ -1,144 +1,199 @@
 // Sessions are cloned, listed, closed and copied; numbers are given once.
-use crate::told::{FIRST_IDS, expect_states, none_open};
+use crate::steps::{Change, Step, change_among, expect_steps, made, opened};
+use crate::told::{
+    FIRST_ID, FOURTH_ID, SECOND_ID, THIRD_ID, expect, name_of, none_open, number_told,
+};
 use repl_sessions::Sessions;
-use repl_values::Value;
 use std::alloc::{AllocError, Global};
 use std::collections::BTreeSet;
 use std::process::Abort;
-use std::sync::ArcStr;
 use std::test::Fail;
 
-// The list against the ids of these numbers, in this order.
-fn expect_list(
-    rt: &impl Abort,
-    alloc: Global,
-    sessions: &Sessions,
-    wanted: &[usize],
-) -> Result<(), AllocError> {
-    let texts = sessions.list(alloc)?;
-    assert_eq!(rt; texts.len(), wanted.len());
-    for (text, number) in texts.iter().zip(wanted) {
-        assert!(rt; *number < FIRST_IDS.len());
-        assert_eq!(rt; text.as_slice(), FIRST_IDS[*number].as_bytes());
-    }
-    Ok(())
-}
+const CLONES: &[(Step, &str)] = &[
+    (Step::List, ""),
+    (Step::Open, "0"),
+    (Step::Change(0, Change::Int(1)), ""),
+    (Step::Change(0, Change::Enter("app")), ""),
+    (Step::Clone(0), "1"),
+    (Step::Change(1, Change::Int(2)), ""),
+    (Step::Clone(1), "2"),
+    (Step::Change(0, Change::Int(3)), ""),
+    (Step::State(0), "app 3 1 nil nil"),
+    (Step::State(1), "app 2 1 nil nil"),
+    (Step::State(2), "app 2 1 nil nil"),
+    (Step::State(3), "not open"),
+    (Step::List, "012"),
+];
 
 #[test]
 fn clone_of_a_clone(rt: HostRuntime) -> Result<(), Fail> {
     let a = rt.alloc();
-    let mut sessions = none_open(a);
-    expect_list(&rt, a, &sessions, &[])?;
-    let first = sessions.clone_of(a, None)?;
-    sessions.note_value(first, Value::Int(1));
-    sessions.enter(first, ArcStr::from_str(a, "app")?);
-    assert!(rt; sessions.is_open(first));
-    let second = sessions.clone_of(a, Some(first))?;
-    sessions.note_value(second, Value::Int(2));
-    assert!(rt; sessions.is_open(second));
-    let third = sessions.clone_of(a, Some(second))?;
-    sessions.note_value(first, Value::Int(3));
-    assert_eq!(rt; [first, second, third], [0, 1, 2]);
-    let wanted = [
-        Some("app 3 1 nil nil"),
-        Some("app 2 1 nil nil"),
-        Some("app 2 1 nil nil"),
-        None,
-    ];
-    expect_states(&rt, a, &sessions, &wanted)?;
-    expect_list(&rt, a, &sessions, &[0, 1, 2])?;
-    Ok(())
+    expect_steps(&rt, a, &mut none_open(a), CLONES)
 }
+
+const CLOSES: &[(Step, &str)] = &[
+    (Step::Open, "0"),
+    (Step::Open, "1"),
+    (Step::Open, "2"),
+    (Step::Close(2), ""),
+    (Step::Close(0), ""),
+    (Step::Close(0), ""),
+    (Step::Close(9), ""),
+    (Step::Change(0, Change::Int(1)), ""),
+    (Step::Change(1, Change::Int(2)), ""),
+    (Step::List, "1"),
+    (Step::Find(FIRST_ID), "none"),
+    (Step::Find(THIRD_ID), "none"),
+    (Step::Find(SECOND_ID), "1"),
+    (Step::Open, "3"),
+    (Step::List, "13"),
+    (Step::State(0), "not open"),
+    (Step::State(1), "user 2 nil nil nil"),
+    (Step::State(2), "not open"),
+    (Step::State(3), "user nil nil nil nil"),
+];
 
 #[test]
 fn closed_number_is_not_given_again(rt: HostRuntime) -> Result<(), Fail> {
     let a = rt.alloc();
-    let mut sessions = none_open(a);
-    for _ in 0..3 {
-        sessions.clone_of(a, None)?;
-    }
-    sessions.close(2);
-    sessions.close(0);
-    sessions.close(0);
-    sessions.close(9);
-    sessions.note_value(0, Value::Int(1));
-    sessions.note_value(1, Value::Int(2));
-    expect_list(&rt, a, &sessions, &[1])?;
-    for closed in [FIRST_IDS[0], FIRST_IDS[2]] {
-        assert_eq!(rt; sessions.number(closed.as_bytes()), None);
-    }
-    assert_eq!(rt; sessions.number(FIRST_IDS[1].as_bytes()), Some(1));
-    assert_eq!(rt; sessions.clone_of(a, None)?, 3);
-    expect_list(&rt, a, &sessions, &[1, 3])?;
-    let wanted = [
-        None,
-        Some("user 2 nil nil nil"),
-        None,
-        Some("user nil nil nil nil"),
-    ];
-    expect_states(&rt, a, &sessions, &wanted)?;
-    Ok(())
+    expect_steps(&rt, a, &mut none_open(a), CLOSES)
 }
+
+const THREE: &[(Step, &str)] = &[(Step::Open, "0"), (Step::Open, "1"), (Step::Open, "2")];
+
+// An id, the number that is found by it, and the session whose id it is.
+const ONE_LEAVES: &[(&str, &str, u64)] = &[
+    (FIRST_ID, "0", 0),
+    (SECOND_ID, "none", 1),
+    (THIRD_ID, "2", 2),
+    (FOURTH_ID, "none", 3),
+];
 
 // Those that leave are not named or listed, and stay open.
 #[test]
 fn leaving_sessions_are_passed_over(rt: HostRuntime) -> Result<(), Fail> {
     let a = rt.alloc();
     let mut sessions = none_open(a);
-    for _ in 0..3 {
-        sessions.clone_of(a, None)?;
+    expect_steps(&rt, a, &mut sessions, THREE)?;
+    let leaving = set_of(a, 1)?;
+    for &(id, found, number) in ONE_LEAVES {
+        expect(&rt, found_but(a, &sessions, &leaving, id)?, found);
+        expect(&rt, sessions.id_string(a, number)?, id);
     }
-    let mut leaving = BTreeSet::new(a);
-    leaving.insert(1)?;
-    for (number, id) in FIRST_IDS.iter().enumerate() {
-        let wanted = (number == 0 || number == 2).then_some(number as u64);
-        assert_eq!(rt; sessions.number_but(id.as_bytes(), &leaving), wanted);
-        assert!(rt; sessions.id_string(a, number as u64)?.as_str() == *id);
-    }
-    let texts = sessions.list_but(a, &leaving)?;
-    assert_eq!(rt; texts.len(), 2);
-    assert!(rt; texts[0].as_str() == FIRST_IDS[0]);
-    assert!(rt; texts[1].as_str() == FIRST_IDS[2]);
-    expect_list(&rt, a, &sessions, &[0, 1, 2])?;
-    Ok(())
+    expect(&rt, listed_but(a, &sessions, &leaving)?, "02");
+    expect_steps(&rt, a, &mut sessions, &[(Step::List, "012")])
 }
+
+fn set_of(alloc: Global, number: u64) -> Result<BTreeSet<u64>, AllocError> {
+    let mut numbers = BTreeSet::new(alloc);
+    numbers.insert(number)?;
+    Ok(numbers)
+}
+
+fn found_but(
+    alloc: Global,
+    sessions: &Sessions,
+    leaving: &BTreeSet<u64>,
+    id: &str,
+) -> Result<String, AllocError> {
+    number_told(alloc, sessions.number_but(id.as_bytes(), leaving))
+}
+
+fn listed_but(
+    alloc: Global,
+    sessions: &Sessions,
+    leaving: &BTreeSet<u64>,
+) -> Result<String, AllocError> {
+    let mut names = String::new(alloc);
+    for id in &sessions.list_but(alloc, leaving)? {
+        names.push_str(name_of(id.as_bytes()))?;
+    }
+    Ok(names)
+}
+
+const RETRACTED: &[(Step, &str)] = &[
+    (Step::Retract, ""),
+    (Step::Open, "0"),
+    (Step::Open, "1"),
+    (Step::Retract, ""),
+    (Step::List, "0"),
+    (Step::Open, "1"),
+    (Step::List, "01"),
+];
 
 #[test]
 fn retracted_number_is_given_again(rt: HostRuntime) -> Result<(), Fail> {
     let a = rt.alloc();
-    let mut sessions = none_open(a);
-    sessions.retract();
-    for _ in 0..2 {
-        sessions.clone_of(a, None)?;
-    }
-    sessions.retract();
-    expect_list(&rt, a, &sessions, &[0])?;
-    assert_eq!(rt; sessions.clone_of(a, None)?, 1);
-    expect_list(&rt, a, &sessions, &[0, 1])?;
-    Ok(())
+    expect_steps(&rt, a, &mut none_open(a), RETRACTED)
 }
+
+const BEFORE_THE_COPY: &[(Step, &str)] = &[
+    (Step::Open, "0"),
+    (Step::Open, "1"),
+    (Step::Close(0), ""),
+    (Step::Change(1, Change::Int(1)), ""),
+];
+
+#[derive(Clone, Copy)]
+enum Of {
+    Original,
+    Copy,
+}
+
+const AFTER_THE_COPY: &[(Of, Step, &str)] = &[
+    (Of::Original, Step::Change(1, Change::Int(2)), ""),
+    (Of::Copy, Step::Change(1, Change::Int(3)), ""),
+    (Of::Copy, Step::Open, "2"),
+    (Of::Original, Step::State(0), "not open"),
+    (Of::Original, Step::State(1), "user 2 1 nil nil"),
+    (Of::Original, Step::State(2), "not open"),
+    (Of::Copy, Step::State(0), "not open"),
+    (Of::Copy, Step::State(1), "user 3 1 nil nil"),
+    (Of::Copy, Step::State(2), "user nil nil nil nil"),
+    (Of::Original, Step::List, "1"),
+    (Of::Copy, Step::List, "12"),
+    (Of::Copy, Step::Find(THIRD_ID), "2"),
+    (Of::Original, Step::Find(THIRD_ID), "none"),
+];
 
 #[test]
 fn copy_goes_its_own_way(rt: HostRuntime) -> Result<(), Fail> {
     let a = rt.alloc();
     let mut sessions = none_open(a);
-    for _ in 0..2 {
-        sessions.clone_of(a, None)?;
-    }
-    sessions.close(0);
-    sessions.note_value(1, Value::Int(1));
+    expect_steps(&rt, a, &mut sessions, BEFORE_THE_COPY)?;
     let mut copied = sessions.copy()?;
-    sessions.note_value(1, Value::Int(2));
-    copied.note_value(1, Value::Int(3));
-    assert_eq!(rt; copied.clone_of(a, None)?, 2);
-    let wanted = [None, Some("user 2 1 nil nil"), None];
-    expect_states(&rt, a, &sessions, &wanted)?;
-    let wanted = [None, Some("user 3 1 nil nil"), Some("user nil nil nil nil")];
-    expect_states(&rt, a, &copied, &wanted)?;
-    expect_list(&rt, a, &sessions, &[1])?;
-    expect_list(&rt, a, &copied, &[1, 2])?;
-    assert_eq!(rt; copied.number(FIRST_IDS[2].as_bytes()), Some(2));
-    assert_eq!(rt; sessions.number(FIRST_IDS[2].as_bytes()), None);
+    for &(of, step, wanted) in AFTER_THE_COPY {
+        match of {
+            Of::Original => expect(&rt, made(a, &mut sessions, step)?, wanted),
+            Of::Copy => expect(&rt, made(a, &mut copied, step)?, wanted),
+        }
+    }
+    Ok(())
+}
+
+// The value that is noted in each is its number.
+fn open_many(rt: &impl Abort, alloc: Global, sessions: &mut Sessions) -> Result<(), Fail> {
+    for number in 0..200u64 {
+        assert_eq!(rt; opened(alloc, sessions)?, number);
+        change_among(alloc, sessions, number, Change::Int(number as i64))?;
+    }
+    Ok(())
+}
+
+fn close_every_second(sessions: &mut Sessions) {
+    for number in 0..100u64 {
+        sessions.close(number * 2);
+    }
+}
+
+fn expect_odd_numbers(rt: &impl Abort, alloc: Global, sessions: &Sessions) -> Result<(), Fail> {
+    let ids = sessions.list(alloc)?;
+    assert_eq!(rt; ids.len(), 100);
+    let mut number = 1u64;
+    for id in &ids {
+        assert_eq!(rt; sessions.number(id.as_slice()), Some(number));
+        number = number.saturating_add(2);
+    }
     Ok(())
 }
 
@@ -146,19 +201,7 @@ fn copy_goes_its_own_way(rt: HostRuntime) -> Result<(), Fail> {
 fn many_sessions(rt: HostRuntime) -> Result<(), Fail> {
     let a = rt.alloc();
     let mut sessions = none_open(a);
-    for number in 0..200u64 {
-        assert_eq!(rt; sessions.clone_of(a, None)?, number);
-        sessions.note_value(number, Value::Int(number as i64));
-    }
-    for number in 0..100u64 {
-        sessions.close(number * 2);
-    }
-    let texts = sessions.list(a)?;
-    assert_eq!(rt; texts.len(), 100);
-    let mut number = 1u64;
-    for text in &texts {
-        assert_eq!(rt; sessions.number(text.as_slice()), Some(number));
-        number = number.saturating_add(2);
-    }
-    Ok(())
+    open_many(&rt, a, &mut sessions)?;
+    close_every_second(&mut sessions);
+    expect_odd_numbers(&rt, a, &sessions)
 }

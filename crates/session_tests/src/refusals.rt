@@ -1,5 +1,6 @@
 // Messages that are answered at once.
 use crate::table::{ADA_AND_BOB, fields_of};
+use crate::told::expect_bytes;
 use bencode_wire::Dictionary;
 use repl_replies::{RequestOrReply, operation_of, reply_bytes, request_of};
 use std::alloc::{AllocError, Global};
@@ -131,7 +132,7 @@ fn refused(alloc: Global, fields: Dictionary) -> Result<Vec<u8>, AllocError> {
 fn refused_messages_are_answered(rt: HostRuntime) -> Result<(), Fail> {
     for &(message, reply) in REFUSED {
         let fields = fields_of(&rt, rt.alloc(), message)?;
-        assert_eq!(rt; refused(rt.alloc(), fields)?.as_slice(), reply);
+        expect_bytes(&rt, &refused(rt.alloc(), fields)?, reply);
     }
     Ok(())
 }
@@ -166,10 +167,7 @@ const WITHOUT_SESSIONS: &[(&[u8], &[u8])] = &[
 fn messages_without_sessions(rt: HostRuntime) -> Result<(), Fail> {
     for &(message, expected) in WITHOUT_SESSIONS {
         let fields = fields_of(&rt, rt.alloc(), message)?;
-        assert_eq!(rt;
-            waiting_or_answered(rt.alloc(), fields)?.as_slice(),
-            expected
-        );
+        expect_bytes(&rt, &waiting_or_answered(rt.alloc(), fields)?, expected);
     }
     Ok(())
 }

@@ -1,54 +1,53 @@
 // What a session remembers of its forms, alone and among others.
-use crate::told::{expect_states, fault, none_open, told};
+use crate::steps::{Change, Step, expect_changes, expect_steps};
+use crate::told::{expect, none_open, told};
 use repl_sessions::{SessionState, USER};
-use repl_values::Value;
-use std::sync::ArcStr;
 use std::test::Fail;
+
+const BEFORE_THE_COPY: &[(Change, &str)] = &[
+    (Change::Int(1), "user 1 nil nil nil"),
+    (Change::Int(2), "user 2 1 nil nil"),
+    (Change::Int(3), "user 3 2 1 nil"),
+    (Change::Int(4), "user 4 3 2 nil"),
+    (Change::Fault, "user 4 3 2 #error{C: t}"),
+];
+
+const AFTER_THE_COPY: &[(Change, &str)] = &[
+    (Change::Enter("app"), "app 4 3 2 #error{C: t}"),
+    (Change::Nil, "app nil 4 3 #error{C: t}"),
+];
 
 #[test]
 fn values_move_and_faults_do_not(rt: HostRuntime) -> Result<(), Fail> {
     let a = rt.alloc();
     let mut state = SessionState::fresh(a)?;
     assert_eq!(rt; state.namespace.as_str(), USER);
-    assert_eq!(rt; told(a, &state)?.as_str(), "user nil nil nil nil");
-    for (value, wanted) in [
-        (1, "user 1 nil nil nil"),
-        (2, "user 2 1 nil nil"),
-        (3, "user 3 2 1 nil"),
-        (4, "user 4 3 2 nil"),
-    ] {
-        state.note_value(Value::Int(value));
-        assert_eq!(rt; told(a, &state)?.as_str(), wanted);
-    }
-    state.note_fault(fault(a)?);
-    assert_eq!(rt; told(a, &state)?.as_str(), "user 4 3 2 #error{C: t}");
+    expect(&rt, told(a, &state)?, "user nil nil nil nil");
+    expect_changes(&rt, a, &mut state, BEFORE_THE_COPY)?;
     let copied = state.copy()?;
-    state.enter(ArcStr::from_str(a, "app")?);
-    state.note_value(Value::Nil);
-    assert_eq!(rt; told(a, &state)?.as_str(), "app nil 4 3 #error{C: t}");
-    assert_eq!(rt; told(a, &copied)?.as_str(), "user 4 3 2 #error{C: t}");
+    expect_changes(&rt, a, &mut state, AFTER_THE_COPY)?;
+    expect(&rt, told(a, &copied)?, "user 4 3 2 #error{C: t}");
     Ok(())
 }
+
+const CHANGES: &[(Step, &str)] = &[
+    (Step::Open, "0"),
+    (Step::Open, "1"),
+    (Step::Open, "2"),
+    (Step::Change(1, Change::Enter("app")), ""),
+    (Step::Change(2, Change::Fault), ""),
+    (Step::Change(0, Change::True), ""),
+    (Step::Change(3, Change::Enter("lost")), ""),
+    (Step::Change(3, Change::Fault), ""),
+    (Step::Change(3, Change::Int(1)), ""),
+    (Step::State(0), "user true nil nil nil"),
+    (Step::State(1), "app nil nil nil nil"),
+    (Step::State(2), "user nil nil nil #error{C: t}"),
+    (Step::State(3), "not open"),
+];
 
 #[test]
 fn one_session_changes_and_no_other(rt: HostRuntime) -> Result<(), Fail> {
     let a = rt.alloc();
-    let mut sessions = none_open(a);
-    for _ in 0..3 {
-        sessions.clone_of(a, None)?;
-    }
-    sessions.enter(1, ArcStr::from_str(a, "app")?);
-    sessions.note_fault(2, fault(a)?);
-    sessions.note_value(0, Value::Bool(true));
-    sessions.enter(3, ArcStr::from_str(a, "lost")?);
-    sessions.note_fault(3, fault(a)?);
-    sessions.note_value(3, Value::Int(1));
-    let wanted = [
-        Some("user true nil nil nil"),
-        Some("app nil nil nil nil"),
-        Some("user nil nil nil #error{C: t}"),
-        None,
-    ];
-    expect_states(&rt, a, &sessions, &wanted)?;
-    Ok(())
+    expect_steps(&rt, a, &mut none_open(a), CHANGES)
 }

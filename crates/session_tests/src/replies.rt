@@ -1,4 +1,5 @@
 // The bytes of each reply.
+use crate::told::expect_bytes;
 use bencode_wire::Ben;
 use repl_replies::{Body, Origin, Reply, reply_bytes};
 use std::alloc::{AllocError, Global};
@@ -99,19 +100,27 @@ fn plain_body(said: Said) -> Body {
     }
 }
 
-fn reply_of(alloc: Global, said: Said) -> Result<Reply, AllocError> {
-    let origin = Origin {
+// The origin of a request with the id `1` outside of any session.
+fn origin(alloc: Global) -> Result<Origin, AllocError> {
+    Ok(Origin {
         id: Some(string(alloc, b"1")?),
         session: None,
-    };
-    Ok(Reply {
-        origin,
-        body: body_of(alloc, said)?,
     })
 }
 
-fn expect_bytes(rt: &impl Abort, alloc: Global, reply: &Reply, bytes: &[u8]) -> Result<(), Fail> {
-    assert_eq!(rt; reply_bytes(alloc, reply)?.as_slice(), bytes);
+fn reply_of(alloc: Global, said: Said) -> Result<Reply, AllocError> {
+    let origin = origin(alloc)?;
+    let body = body_of(alloc, said)?;
+    Ok(Reply { origin, body })
+}
+
+pub(crate) fn expect_spelled(
+    rt: &impl Abort,
+    alloc: Global,
+    reply: &Reply,
+    bytes: &[u8],
+) -> Result<(), Fail> {
+    expect_bytes(rt, &reply_bytes(alloc, reply)?, bytes);
     Ok(())
 }
 
@@ -119,9 +128,9 @@ fn expect_bytes(rt: &impl Abort, alloc: Global, reply: &Reply, bytes: &[u8]) -> 
 fn replies_are_spelled(rt: HostRuntime) -> Result<(), Fail> {
     for &(said, bytes) in TOLD {
         let reply = reply_of(rt.alloc(), said)?;
-        expect_bytes(&rt, rt.alloc(), &reply, bytes)?;
+        expect_spelled(&rt, rt.alloc(), &reply, bytes)?;
         // A reply is not used up by its bytes.
-        expect_bytes(&rt, rt.alloc(), &reply, bytes)?;
+        expect_spelled(&rt, rt.alloc(), &reply, bytes)?;
     }
     Ok(())
 }
@@ -134,7 +143,7 @@ fn malformed_streams_are_told(rt: HostRuntime) -> Result<(), Fail> {
         body: Body::Malformed,
     };
     let bytes = b"d6:statusl5:error9:malformed4:doneee".as_slice();
-    expect_bytes(&rt, rt.alloc(), &reply, bytes)
+    expect_spelled(&rt, rt.alloc(), &reply, bytes)
 }
 
 // A reply to a copy of an origin with a number for its id.
@@ -153,5 +162,5 @@ fn copied_reply(alloc: Global) -> Result<Reply, AllocError> {
 fn origins_are_copied(rt: HostRuntime) -> Result<(), Fail> {
     let reply = copied_reply(rt.alloc())?;
     let bytes = b"d2:idi-3e7:session3:ada6:statusl4:doneee".as_slice();
-    expect_bytes(&rt, rt.alloc(), &reply, bytes)
+    expect_spelled(&rt, rt.alloc(), &reply, bytes)
 }

@@ -1,7 +1,9 @@
 // Messages that are served: what they ask for, and a reply to each.
+use crate::replies::expect_spelled;
 use crate::table::{ADA_AND_BOB, fields_of};
+use crate::told::expect;
 use bencode_wire::{Ben, write_into};
-use repl_replies::{Asked, Body, Operation, Reply, describe_reply, operation_of, reply_bytes};
+use repl_replies::{Asked, Body, Operation, Reply, describe_reply, operation_of};
 use std::alloc::{AllocError, Global};
 use std::process::Abort;
 use std::test::Fail;
@@ -196,12 +198,11 @@ fn answered(alloc: Global, asked: Asked) -> Result<Reply, AllocError> {
 
 fn expect_reply(rt: &impl Abort, alloc: Global, asked: Asked, bytes: &[u8]) -> Result<(), Fail> {
     let reply = answered(alloc, asked)?;
-    assert_eq!(rt; reply_bytes(alloc, &reply)?.as_slice(), bytes);
-    Ok(())
+    expect_spelled(rt, alloc, &reply, bytes)
 }
 
 fn expect_served(rt: &impl Abort, alloc: Global, asked: Asked, row: &Row) -> Result<(), Fail> {
-    assert_eq!(rt; line_of(alloc, &asked.operation)?.as_str(), row.operation);
+    expect(rt, line_of(alloc, &asked.operation)?, row.operation);
     expect_reply(rt, alloc, asked, row.reply)
 }
 

@@ -50,14 +50,20 @@ pub(crate) static ADA_AND_BOB: Table = Table {
     ],
 };
 
+fn fed(alloc: Global, message: &[u8]) -> Result<Decoder, Fail> {
+    let piece = Bytes::copy_from_slice(alloc, message)?;
+    let mut decoder = Decoder::new(alloc, message.len());
+    decoder.feed(&piece)?;
+    Ok(decoder)
+}
+
 // The fields of the one message that these bytes are.
 pub(crate) fn fields_of(
     rt: &impl Abort,
     alloc: Global,
     message: &[u8],
 ) -> Result<Dictionary, Fail> {
-    let mut decoder = Decoder::new(alloc, message.len());
-    decoder.feed(&Bytes::copy_from_slice(alloc, message)?)?;
+    let mut decoder = fed(alloc, message)?;
     assert!(rt; decoder.rest_is_empty());
     match decoder.next() {
         Some(Ben::Dictionary(fields)) => Ok(fields),

@@ -1,4 +1,4 @@
-// What a session remembers, as a text by which a test compares it.
+// What sessions tell, as texts by which a test compares it.
 use repl_sessions::{IdStream, SessionState, Sessions};
 use repl_values::{Fault, Value, print_into};
 use std::alloc::{AllocError, Global};
@@ -10,19 +10,48 @@ pub(crate) fn none_open(alloc: Global) -> Sessions {
     Sessions::new(alloc, IdStream::new([0; 32], 0))
 }
 
-/// The first ids of that tenant: the key stream of RFC 8439, appendix A.1, test vector 1, with the
-/// bits of RFC 9562 set by hand.
-pub(crate) const FIRST_IDS: [&str; 4] = [
-    "76b8e0ad-a0f1-4d90-805d-6ae55386bd28",
-    "bdd219b8-a08d-4d1a-a836-efcc8b770dc7",
-    "da41597c-5157-488d-b724-e03fb8d84a37",
-    "6a43b8f4-1518-411c-8387-b669b2ee6586",
+// The first ids of that tenant: the key stream of RFC 8439, appendix A.1, test vector 1, with the
+// bits of RFC 9562 set by hand.
+pub(crate) const FIRST_ID: &str = "76b8e0ad-a0f1-4d90-805d-6ae55386bd28";
+
+pub(crate) const SECOND_ID: &str = "bdd219b8-a08d-4d1a-a836-efcc8b770dc7";
+
+pub(crate) const THIRD_ID: &str = "da41597c-5157-488d-b724-e03fb8d84a37";
+
+pub(crate) const FOURTH_ID: &str = "6a43b8f4-1518-411c-8387-b669b2ee6586";
+
+// Each is named by the number of its session.
+const NAMES: &[(&str, &str)] = &[
+    (FIRST_ID, "0"),
+    (SECOND_ID, "1"),
+    (THIRD_ID, "2"),
+    (FOURTH_ID, "3"),
 ];
+
+pub(crate) fn name_of(id: &[u8]) -> &'static str {
+    for &(first, name) in NAMES {
+        if first.as_bytes() == id {
+            return name;
+        }
+    }
+    "another"
+}
+
+pub(crate) fn number_told(alloc: Global, number: Option<u64>) -> Result<String, AllocError> {
+    match number {
+        Some(number) => format!(in alloc; "{number}"),
+        None => String::from_str(alloc, "none"),
+    }
+}
+
+pub(crate) fn shared(alloc: Global, text: &str) -> Result<ArcStr, AllocError> {
+    ArcStr::from_str(alloc, text)
+}
 
 pub(crate) fn fault(alloc: Global) -> Result<Fault, AllocError> {
     Ok(Fault {
-        class: ArcStr::from_str(alloc, "C")?,
-        text: ArcStr::from_str(alloc, "t")?,
+        class: shared(alloc, "C")?,
+        text: shared(alloc, "t")?,
     })
 }
 
@@ -41,22 +70,10 @@ fn put(alloc: Global, value: &Value, told: &mut String) -> Result<(), AllocError
     print_into(alloc, value, told)
 }
 
-/// Each session, from number 0 on, against what it should remember; none where it is not open.
-pub(crate) fn expect_states(
-    rt: &impl Abort,
-    alloc: Global,
-    sessions: &Sessions,
-    wanted: &[Option<&str>],
-) -> Result<(), AllocError> {
-    let mut number = 0u64;
-    for expected in wanted {
-        assert_eq!(rt; sessions.is_open(number), expected.is_some());
-        match (sessions.state(number), expected) {
-            (Some(state), Some(text)) => assert_eq!(rt; told(alloc, state)?.as_str(), *text),
-            (None, None) => {}
-            _ => panic!(rt; "another session is open"),
-        }
-        number = number.saturating_add(1);
-    }
-    Ok(())
+pub(crate) fn expect(rt: &impl Abort, told: String, wanted: &str) {
+    assert_eq!(rt; told.as_str(), wanted);
+}
+
+pub(crate) fn expect_bytes(rt: &impl Abort, bytes: &[u8], wanted: &[u8]) {
+    assert_eq!(rt; bytes, wanted);
 }
