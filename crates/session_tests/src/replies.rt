@@ -6,7 +6,7 @@ use std::alloc::{AllocError, Global};
 use std::process::Abort;
 use std::test::Fail;
 
-fn text(alloc: Global, text: &str) -> Result<String, AllocError> {
+pub(crate) fn text(alloc: Global, text: &str) -> Result<String, AllocError> {
     String::from_str(alloc, text)
 }
 
@@ -135,15 +135,19 @@ fn replies_are_spelled(rt: HostRuntime) -> Result<(), Fail> {
     Ok(())
 }
 
+fn malformed() -> Reply {
+    Reply {
+        origin: Origin::none(),
+        body: Body::Malformed,
+    }
+}
+
+const MALFORMED: &[u8] = b"d6:statusl5:error9:malformed4:doneee";
+
 // The fault of a stream is told to no request.
 #[test]
 fn malformed_streams_are_told(rt: HostRuntime) -> Result<(), Fail> {
-    let reply = Reply {
-        origin: Origin::none(),
-        body: Body::Malformed,
-    };
-    let bytes = b"d6:statusl5:error9:malformed4:doneee".as_slice();
-    expect_spelled(&rt, rt.alloc(), &reply, bytes)
+    expect_spelled(&rt, rt.alloc(), &malformed(), MALFORMED)
 }
 
 // A reply to a copy of an origin with a number for its id.
@@ -158,9 +162,10 @@ fn copied_reply(alloc: Global) -> Result<Reply, AllocError> {
     })
 }
 
+const COPIED: &[u8] = b"d2:idi-3e7:session3:ada6:statusl4:doneee";
+
 #[test]
 fn origins_are_copied(rt: HostRuntime) -> Result<(), Fail> {
     let reply = copied_reply(rt.alloc())?;
-    let bytes = b"d2:idi-3e7:session3:ada6:statusl4:doneee".as_slice();
-    expect_spelled(&rt, rt.alloc(), &reply, bytes)
+    expect_spelled(&rt, rt.alloc(), &reply, COPIED)
 }

@@ -1,8 +1,8 @@
 // Messages that are served: what they ask for, and a reply to each.
-use crate::replies::expect_spelled;
+use crate::replies::{expect_spelled, text};
 use crate::table::{ADA_AND_BOB, fields_of};
-use crate::told::expect;
-use bencode_wire::{Ben, write_into};
+use crate::told::{expect, number_told};
+use bencode_wire::{Ben, Dictionary, write_into};
 use repl_replies::{Asked, Body, Operation, Reply, describe_reply, operation_of};
 use std::alloc::{AllocError, Global};
 use std::process::Abort;
@@ -147,10 +147,10 @@ fn with_code(
 }
 
 fn named(alloc: Global, name: &str, session: Option<u64>) -> Result<String, AllocError> {
-    match session {
-        Some(number) => format!(in alloc; "{name} in {number}"),
-        None => format!(in alloc; "{name} in none"),
-    }
+    let mut line = text(alloc, name)?;
+    line.push_str(" in ")?;
+    line.push_str(number_told(alloc, session)?.as_str())?;
+    Ok(line)
 }
 
 fn push_namespace(alloc: Global, line: &mut String, ns: &Option<Ben>) -> Result<(), AllocError> {
@@ -161,10 +161,6 @@ fn push_namespace(alloc: Global, line: &mut String, ns: &Option<Ben>) -> Result<
     write_into(ns, &mut bytes)?;
     line.push_str(", ns ")?;
     line.push_str(str::from_utf8(bytes.as_slice()).unwrap_or("no text"))
-}
-
-fn text(alloc: Global, text: &str) -> Result<String, AllocError> {
-    String::from_str(alloc, text)
 }
 
 fn session_ids(alloc: Global) -> Result<Vec<String>, AllocError> {
@@ -206,13 +202,20 @@ fn expect_served(rt: &impl Abort, alloc: Global, asked: Asked, row: &Row) -> Res
     expect_reply(rt, alloc, asked, row.reply)
 }
 
+fn asked(fields: Dictionary) -> Option<Asked> {
+    match operation_of(fields, &ADA_AND_BOB) {
+        Ok(asked) => Some(asked),
+        Err(_) => None,
+    }
+}
+
 #[test]
 fn messages_ask_for_operations(rt: HostRuntime) -> Result<(), Fail> {
     for row in ROWS {
         let fields = fields_of(&rt, rt.alloc(), row.message)?;
-        match operation_of(fields, &ADA_AND_BOB) {
-            Ok(asked) => expect_served(&rt, rt.alloc(), asked, row)?,
-            Err(_) => panic!(rt; "{}", row.operation),
+        match asked(fields) {
+            Some(asked) => expect_served(&rt, rt.alloc(), asked, row)?,
+            None => panic!(rt; "{}", row.operation),
         }
     }
     Ok(())
