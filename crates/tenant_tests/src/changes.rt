@@ -1,5 +1,5 @@
 // Namespaces are made and entered, and names are bound in them.
-use crate::spaces::{Row, define, define_function, expect};
+use crate::spaces::{Change, Row, define, expect, expect_stages, make_changes};
 use name_spaces::{Spaces, USER};
 use std::alloc::{AllocError, Global};
 use std::process::Abort;
@@ -43,88 +43,108 @@ fn new_namespace_is_empty_and_there(rt: HostRuntime) -> Result<(), Fail> {
     let a = rt.alloc();
     let mut spaces = Spaces::new(a)?;
     expect(&rt, a, &spaces, &[(USER, "é/x", "No such namespace: é")])?;
-    spaces.enter(a, "é")?;
+    make_changes(a, &mut spaces, &[Change::Enter("é")])?;
     expect_there(&rt, &spaces, SPELLED);
     expect(&rt, a, &spaces, &[(USER, "é/x", "No such var: é/x")])?;
     Ok(())
 }
 
+const X_AND_Y: &[Row] = &[(USER, "x", "1"), (USER, "app/y", "2")];
+
+const ENTERED_AGAIN: &[(&[Change], &[Row])] = &[
+    (
+        &[
+            Change::Enter("app"),
+            Change::Define(USER, "x", 1),
+            Change::Define("app", "y", 2),
+            Change::Enter(USER),
+        ],
+        X_AND_Y,
+    ),
+    (&[Change::Enter("app")], X_AND_Y),
+    (&[Change::Enter("lib")], X_AND_Y),
+    (&[Change::Enter(USER)], X_AND_Y),
+];
+
 #[test]
 fn entering_again_keeps_what_is_bound(rt: HostRuntime) -> Result<(), Fail> {
-    let a = rt.alloc();
-    let mut spaces = Spaces::new(a)?;
-    spaces.enter(a, "app")?;
-    define(a, &mut spaces, USER, "x", 1)?;
-    define(a, &mut spaces, "app", "y", 2)?;
-    for namespace in [USER, "app", "lib", USER] {
-        spaces.enter(a, namespace)?;
-        expect(&rt, a, &spaces, &[(USER, "x", "1"), (USER, "app/y", "2")])?;
-    }
-    Ok(())
+    expect_stages(&rt, rt.alloc(), ENTERED_AGAIN)
 }
+
+// A fixed namespace, what is tried to change there, and what is named then.
+const FIXED: &[(&[u8], &[Change], &[Row])] = &[
+    (
+        b"shared",
+        &[
+            Change::Enter("shared"),
+            Change::Define("shared", "x", 1),
+            Change::DefineFunction("shared", "inc"),
+        ],
+        &[
+            ("shared", "x", "Unable to resolve symbol: x in this context"),
+            ("shared", "inc", "core inc"),
+            (USER, "x", "Unable to resolve symbol: x in this context"),
+        ],
+    ),
+    (
+        b"clojure.core",
+        &[
+            Change::Enter("clojure.core"),
+            Change::Define("clojure.core", "x", 1),
+            Change::DefineFunction("clojure.core", "inc"),
+        ],
+        &[
+            (
+                "clojure.core",
+                "x",
+                "Unable to resolve symbol: x in this context",
+            ),
+            ("clojure.core", "inc", "core inc"),
+            (USER, "x", "Unable to resolve symbol: x in this context"),
+            (USER, "shared/x", "No such var: shared/x"),
+            (USER, "clojure.core/x", "No such namespace: clojure.core"),
+        ],
+    ),
+];
 
 #[test]
 fn fixed_namespaces_stay_as_they_are(rt: HostRuntime) -> Result<(), Fail> {
     let a = rt.alloc();
     let mut spaces = Spaces::new(a)?;
-    for namespace in ["shared", "clojure.core"] {
-        change(a, &mut spaces, namespace)?;
-        assert!(rt; !spaces.is_there(namespace.as_bytes()));
-        expect_fixed(&rt, a, &spaces, namespace)?;
+    for &(namespace, changes, rows) in FIXED {
+        make_changes(a, &mut spaces, changes)?;
+        expect_there(&rt, &spaces, &[(namespace, false)]);
+        expect(&rt, a, &spaces, rows)?;
     }
-    expect(&rt, a, &spaces, FIXED)?;
     Ok(())
 }
 
-// Enters the namespace, and binds a value and a function there.
-fn change(alloc: Global, spaces: &mut Spaces, namespace: &str) -> Result<(), AllocError> {
-    spaces.enter(alloc, namespace)?;
-    define(alloc, spaces, namespace, "x", 1)?;
-    define_function(alloc, spaces, namespace, "inc")
-}
-
-const FIXED: &[Row] = &[
-    (USER, "shared/x", "No such var: shared/x"),
-    (USER, "clojure.core/x", "No such namespace: clojure.core"),
+const LATEST: &[(&[Change], &[Row])] = &[
+    (
+        &[Change::Define(USER, "y", 0), Change::Define(USER, "x", 1)],
+        &[(USER, "x", "1"), (USER, "y", "0")],
+    ),
+    (
+        &[Change::Define(USER, "x", 2)],
+        &[(USER, "x", "2"), (USER, "y", "0")],
+    ),
+    (
+        &[Change::Define(USER, "x", 3)],
+        &[(USER, "x", "3"), (USER, "y", "0")],
+    ),
+    (
+        &[Change::DefineFunction(USER, "x")],
+        &[(USER, "x", "function user/x"), (USER, "y", "0")],
+    ),
+    (
+        &[Change::Define(USER, "x", 4)],
+        &[(USER, "x", "4"), (USER, "y", "0")],
+    ),
 ];
-
-fn expect_fixed(
-    rt: &impl Abort,
-    alloc: Global,
-    spaces: &Spaces,
-    namespace: &'static str,
-) -> Result<(), AllocError> {
-    let rows: [Row; 3] = [
-        (
-            namespace,
-            "x",
-            "Unable to resolve symbol: x in this context",
-        ),
-        (namespace, "inc", "core inc"),
-        (USER, "x", "Unable to resolve symbol: x in this context"),
-    ];
-    expect(rt, alloc, spaces, &rows)
-}
 
 #[test]
 fn latest_definition_of_a_name_stands(rt: HostRuntime) -> Result<(), Fail> {
-    let a = rt.alloc();
-    let mut spaces = Spaces::new(a)?;
-    define(a, &mut spaces, USER, "y", 0)?;
-    for (integer, wanted) in [(1, "1"), (2, "2"), (3, "3")] {
-        define(a, &mut spaces, USER, "x", integer)?;
-        expect(&rt, a, &spaces, &[(USER, "x", wanted), (USER, "y", "0")])?;
-    }
-    define_function(a, &mut spaces, USER, "x")?;
-    expect(
-        &rt,
-        a,
-        &spaces,
-        &[(USER, "x", "function user/x"), (USER, "y", "0")],
-    )?;
-    define(a, &mut spaces, USER, "x", 4)?;
-    expect(&rt, a, &spaces, &[(USER, "x", "4"), (USER, "y", "0")])?;
-    Ok(())
+    expect_stages(&rt, rt.alloc(), LATEST)
 }
 
 const DEFINED: &[Row] = &[
@@ -138,8 +158,8 @@ const DEFINED: &[Row] = &[
 fn definition_makes_its_namespace(rt: HostRuntime) -> Result<(), Fail> {
     let a = rt.alloc();
     let mut spaces = Spaces::new(a)?;
-    define(a, &mut spaces, "lib", "x", 1)?;
-    assert!(rt; spaces.is_there(b"lib"));
+    make_changes(a, &mut spaces, &[Change::Define("lib", "x", 1)])?;
+    expect_there(&rt, &spaces, &[(b"lib", true)]);
     expect(&rt, a, &spaces, DEFINED)?;
     Ok(())
 }

@@ -8,7 +8,7 @@ const SESSIONS: [&str; 2] = [
     "bdd219b8-a08d-4d1a-a836-efcc8b770dc7",
 ];
 
-pub(crate) const CLONE: &str = "d2:id1:12:op5:clonee";
+pub(crate) const CLONE: &[u8] = b"d2:id1:12:op5:clonee";
 
 // What a request is told: by the session, its id of one digit, and what comes of it.
 #[derive(Clone, Copy)]

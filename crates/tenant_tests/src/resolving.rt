@@ -1,8 +1,6 @@
 // What symbols name, bound and unbound, with a namespace and without.
-use crate::spaces::{Row, define, define_function, expect};
-use name_spaces::{Spaces, USER};
-use std::alloc::{AllocError, Global};
-use std::process::Abort;
+use crate::spaces::{Change, Row, expect_stages};
+use name_spaces::USER;
 use std::test::Fail;
 
 const UNBOUND: &[Row] = &[
@@ -31,10 +29,7 @@ const UNBOUND: &[Row] = &[
 
 #[test]
 fn nothing_is_bound_at_the_start(rt: HostRuntime) -> Result<(), Fail> {
-    let a = rt.alloc();
-    let spaces = Spaces::new(a)?;
-    expect(&rt, a, &spaces, UNBOUND)?;
-    Ok(())
+    expect_stages(&rt, rt.alloc(), &[(&[], UNBOUND)])
 }
 
 // A symbol with a namespace names a var of that namespace, and nothing else.
@@ -59,12 +54,20 @@ const QUALIFIED: &[Row] = &[
 
 #[test]
 fn qualified_symbols_name_vars_alone(rt: HostRuntime) -> Result<(), Fail> {
-    let a = rt.alloc();
-    let mut spaces = Spaces::new(a)?;
-    define(a, &mut spaces, USER, "y", 7)?;
-    expect(&rt, a, &spaces, QUALIFIED)?;
-    Ok(())
+    let changes = [Change::Define(USER, "y", 7)];
+    expect_stages(&rt, rt.alloc(), &[(&changes, QUALIFIED)])
 }
+
+const BINDINGS: &[Change] = &[
+    Change::Enter("app"),
+    Change::Define(USER, "x", 1),
+    Change::Define(USER, "*1", 2),
+    Change::Define(USER, "inc", 3),
+    Change::Define(USER, "if", 4),
+    Change::Define(USER, "ref", 6),
+    Change::Define("app", "x", 5),
+    Change::DefineFunction("app", "*e"),
+];
 
 // What is bound hides a latest result and a function of the language of its name, in its namespace
 // alone.
@@ -93,16 +96,7 @@ const BOUND: &[Row] = &[
 
 #[test]
 fn bound_names_come_first(rt: HostRuntime) -> Result<(), Fail> {
-    let a = rt.alloc();
-    let mut spaces = Spaces::new(a)?;
-    spaces.enter(a, "app")?;
-    for (name, integer) in [("x", 1), ("*1", 2), ("inc", 3), ("if", 4), ("ref", 6)] {
-        define(a, &mut spaces, USER, name, integer)?;
-    }
-    define(a, &mut spaces, "app", "x", 5)?;
-    define_function(a, &mut spaces, "app", "*e")?;
-    expect(&rt, a, &spaces, BOUND)?;
-    Ok(())
+    expect_stages(&rt, rt.alloc(), &[(BINDINGS, BOUND)])
 }
 
 const FUNCTIONS: &[Row] = &[
@@ -115,41 +109,36 @@ const FUNCTIONS: &[Row] = &[
 
 #[test]
 fn function_of_one_namespace_is_found_from_another(rt: HostRuntime) -> Result<(), Fail> {
-    let a = rt.alloc();
-    let mut spaces = Spaces::new(a)?;
-    define_function(a, &mut spaces, USER, "f")?;
-    spaces.enter(a, "app")?;
-    expect(&rt, a, &spaces, FUNCTIONS)?;
-    Ok(())
+    let changes = [Change::DefineFunction(USER, "f"), Change::Enter("app")];
+    expect_stages(&rt, rt.alloc(), &[(&changes, FUNCTIONS)])
 }
 
 // Nothing is bound in a namespace that is not there, nor in one that no tenant has of its own.
+const KNOWN: &[Row] = &[
+    ("nope", "x", "Unable to resolve symbol: x in this context"),
+    ("nope", "inc", "core inc"),
+    ("nope", "*1", "latest value"),
+    ("nope", "user/x", "1"),
+    ("shared", "x", "Unable to resolve symbol: x in this context"),
+    ("shared", "inc", "core inc"),
+    ("shared", "*1", "latest value"),
+    ("shared", "user/x", "1"),
+    (
+        "clojure.core",
+        "x",
+        "Unable to resolve symbol: x in this context",
+    ),
+    ("clojure.core", "inc", "core inc"),
+    ("clojure.core", "*1", "latest value"),
+    ("clojure.core", "user/x", "1"),
+    ("", "x", "Unable to resolve symbol: x in this context"),
+    ("", "inc", "core inc"),
+    ("", "*1", "latest value"),
+    ("", "user/x", "1"),
+];
+
 #[test]
 fn any_namespace_knows_what_needs_no_binding(rt: HostRuntime) -> Result<(), Fail> {
-    let a = rt.alloc();
-    let mut spaces = Spaces::new(a)?;
-    define(a, &mut spaces, USER, "x", 1)?;
-    for namespace in ["nope", "shared", "clojure.core", ""] {
-        expect_known(&rt, a, &spaces, namespace)?;
-    }
-    Ok(())
-}
-
-fn expect_known(
-    rt: &impl Abort,
-    alloc: Global,
-    spaces: &Spaces,
-    namespace: &'static str,
-) -> Result<(), AllocError> {
-    let rows: [Row; 4] = [
-        (
-            namespace,
-            "x",
-            "Unable to resolve symbol: x in this context",
-        ),
-        (namespace, "inc", "core inc"),
-        (namespace, "*1", "latest value"),
-        (namespace, "user/x", "1"),
-    ];
-    expect(rt, alloc, spaces, &rows)
+    let changes = [Change::Define(USER, "x", 1)];
+    expect_stages(&rt, rt.alloc(), &[(&changes, KNOWN)])
 }

@@ -6,9 +6,55 @@ use special_forms::{Forms, Function};
 use std::alloc::{AllocError, Global};
 use std::process::Abort;
 use std::sync::{Arc, ArcStr};
+use std::test::Fail;
 
 /// A namespace, a symbol in it, and what that should name.
 pub(crate) type Row = (&'static str, &'static str, &'static str);
+
+/// A change of the namespaces.
+#[derive(Clone, Copy)]
+pub(crate) enum Change {
+    Enter(&'static str),
+    // `(def name integer)` in this namespace
+    Define(&'static str, &'static str, i64),
+    // `(defn name [])` in this namespace
+    DefineFunction(&'static str, &'static str),
+}
+
+/// What should be named after the changes of each stage, from the start on.
+pub(crate) fn expect_stages(
+    rt: &impl Abort,
+    alloc: Global,
+    stages: &[(&[Change], &[Row])],
+) -> Result<(), Fail> {
+    let mut spaces = Spaces::new(alloc)?;
+    for (changes, rows) in stages {
+        make_changes(alloc, &mut spaces, changes)?;
+        expect(rt, alloc, &spaces, rows)?;
+    }
+    Ok(())
+}
+
+pub(crate) fn make_changes(
+    alloc: Global,
+    spaces: &mut Spaces,
+    changes: &[Change],
+) -> Result<(), AllocError> {
+    for change in changes {
+        make_change(alloc, spaces, *change)?;
+    }
+    Ok(())
+}
+
+fn make_change(alloc: Global, spaces: &mut Spaces, change: Change) -> Result<(), AllocError> {
+    match change {
+        Change::Enter(namespace) => spaces.enter(alloc, namespace),
+        Change::Define(namespace, name, integer) => {
+            define(alloc, spaces, namespace, name, integer)
+        }
+        Change::DefineFunction(namespace, name) => define_function(alloc, spaces, namespace, name),
+    }
+}
 
 pub(crate) fn expect(
     rt: &impl Abort,
@@ -68,7 +114,6 @@ fn latest_told(latest: Latest) -> &'static str {
     }
 }
 
-/// `(def name integer)` in this namespace.
 pub(crate) fn define(
     alloc: Global,
     spaces: &mut Spaces,
@@ -80,8 +125,7 @@ pub(crate) fn define(
     spaces.define(alloc, namespace, name, Binding::Value(Value::Int(integer)))
 }
 
-/// `(defn name [])` in this namespace.
-pub(crate) fn define_function(
+fn define_function(
     alloc: Global,
     spaces: &mut Spaces,
     namespace: &str,

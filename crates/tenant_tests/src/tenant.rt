@@ -69,7 +69,7 @@ fn hear_once(
 }
 
 // How many messages become whole with these bytes.
-pub(crate) fn heard(
+fn heard(
     rt: &impl Abort,
     alloc: Global,
     tenant: &mut Tenant,
@@ -87,8 +87,28 @@ pub(crate) fn heard(
     }
 }
 
+// With these bytes so many messages become whole, and these replies then wait, in this order.
+pub(crate) fn expect_heard(
+    rt: &impl Abort,
+    alloc: Global,
+    tenant: &mut Tenant,
+    bytes: &[u8],
+    count: usize,
+    replies: &[&[u8]],
+) -> Result<(), AllocError>
+    requires ready { ready_of tenant.old.decoder ≡ [] }
+    requires seated { AreSeated tenant.old.sessions (actors_view tenant.old.actors) }
+    ensures ready { ready_of tenant.new.decoder ≡ [] }
+    ensures seated { AreSeated tenant.new.sessions (actors_view tenant.new.actors) }
+{
+    let whole = heard(rt, alloc, tenant, bytes)?;
+    assert_eq!(rt; whole, count);
+    expect_replies(rt, &mut tenant.outbox, replies);
+    Ok(())
+}
+
 // The replies that wait are these, in this order.
-pub(crate) fn expect_replies(rt: &impl Abort, outbox: &mut Outbox, wanted: &[&[u8]]) {
+fn expect_replies(rt: &impl Abort, outbox: &mut Outbox, wanted: &[&[u8]]) {
     for reply in wanted {
         let waits = match outbox.take() {
             Some(bytes) => bytes.as_slice() == *reply,
