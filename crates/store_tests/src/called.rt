@@ -5,6 +5,7 @@ use repl_asks::Ask;
 use repl_values::{RefName, Value, print_into};
 use std::alloc::{AllocError, Global};
 use std::process::Abort;
+use std::test::Fail;
 use store_calls::{Alteration, Altered, Call, call, ref_to_alter};
 
 /// Whether a transaction runs, the arguments, and what the call should come to.
@@ -15,7 +16,7 @@ pub(crate) fn expect(
     alloc: Global,
     function: StoreFunction,
     rows: &[Row],
-) -> Result<(), AllocError> {
+) -> Result<(), Fail> {
     for (in_transaction, given, wanted) in rows {
         let told = told_of(alloc, function, *in_transaction, given)?;
         assert_eq!(rt; told.as_str(), *wanted);
@@ -39,14 +40,10 @@ pub(crate) fn expect_always(
     alloc: Global,
     function: StoreFunction,
     rows: &[(&'static [Given], &'static str)],
-) -> Result<(), AllocError> {
+) -> Result<(), Fail> {
     for (given, wanted) in rows {
-        expect(
-            rt,
-            alloc,
-            function,
-            &[(true, *given, *wanted), (false, *given, *wanted)],
-        )?;
+        let both = [(true, *given, *wanted), (false, *given, *wanted)];
+        expect(rt, alloc, function, &both)?;
     }
     Ok(())
 }

@@ -1,139 +1,87 @@
 // What is set by a commit, and what keeps it from being set.
-use crate::told::{Came, Told, commit, commit_intent, make, new_table, outcome_of, read};
-use repl_asks::{Change, Intent};
-use repl_values::{Owner, RefName, Value};
+use crate::given::OURS;
+use crate::intents::Want::{Ensure, Hold, Set};
+use crate::steps::Call::{Begin, Commit, Make, Read};
+use crate::steps::Told::{Begun, Committed, Conflict, Made, Number, Refused};
+use crate::steps::{FIRST, SECOND, Step, check};
+use repl_values::Owner;
 use std::test::Fail;
+
+const TWICE: &[Step] = &[
+    (Make(Owner::Tenant(1), 1), Made(FIRST)),
+    (Begin, Begun(0)),
+    (Commit(1, &[Set(FIRST, 2)], 0), Committed),
+    (Commit(1, &[Set(FIRST, 3)], 0), Conflict),
+    (Read(1, FIRST), Number(2)),
+    (Begin, Begun(1)),
+    (Commit(1, &[Set(FIRST, 3)], 1), Committed),
+    (Read(1, FIRST), Number(3)),
+];
 
 #[test]
 fn first_of_two_commits_wins(rt: HostRuntime) -> Result<(), Fail> {
-    let alloc = rt.alloc();
-    let mut table = new_table(alloc);
-    let name = make(&mut table, alloc, Owner::Tenant(1), 1)?;
-    let point = table.begin();
-    assert_eq!(rt; point.stamp, 0);
-    assert_eq!(rt;
-        commit(&mut table, alloc, 1, &[(name, 2)], &[], point)?,
-        Came::Committed
-    );
-    assert_eq!(rt;
-        commit(&mut table, alloc, 1, &[(name, 3)], &[], point)?,
-        Came::Conflict
-    );
-    assert_eq!(rt; read(&mut table, 1, name, None)?, Told::Number(2));
-    let point = table.begin();
-    assert_eq!(rt; point.stamp, 1);
-    assert_eq!(rt;
-        commit(&mut table, alloc, 1, &[(name, 3)], &[], point)?,
-        Came::Committed
-    );
-    assert_eq!(rt; read(&mut table, 1, name, None)?, Told::Number(3));
-    Ok(())
+    check(&rt, rt.alloc(), TWICE)
 }
 
 // Two attempts that each read one ref and set the other both commit, unless they ensure what they
 // read (the Clojure reference, `ensure`).
+const HELD: &[Step] = &[
+    (Make(Owner::Tenant(1), 1), Made(FIRST)),
+    (Make(Owner::Tenant(1), 2), Made(SECOND)),
+    (Begin, Begun(0)),
+    (Commit(1, &[Set(FIRST, 3), Ensure(SECOND)], 0), Committed),
+    (Commit(1, &[Set(SECOND, 4), Ensure(FIRST)], 0), Conflict),
+    (Commit(1, &[Set(SECOND, 4)], 0), Committed),
+    (Read(1, SECOND), Number(4)),
+];
+
 #[test]
 fn ensured_ref_is_held(rt: HostRuntime) -> Result<(), Fail> {
-    let alloc = rt.alloc();
-    let mut table = new_table(alloc);
-    let one = make(&mut table, alloc, Owner::Tenant(1), 1)?;
-    let other = make(&mut table, alloc, Owner::Tenant(1), 2)?;
-    let point = table.begin();
-    assert_eq!(rt;
-        commit(&mut table, alloc, 1, &[(one, 3)], &[other], point)?,
-        Came::Committed
-    );
-    assert_eq!(rt;
-        commit(&mut table, alloc, 1, &[(other, 4)], &[one], point)?,
-        Came::Conflict
-    );
-    assert_eq!(rt;
-        commit(&mut table, alloc, 1, &[(other, 4)], &[], point)?,
-        Came::Committed
-    );
-    assert_eq!(rt; read(&mut table, 1, other, None)?, Told::Number(4));
-    Ok(())
+    check(&rt, rt.alloc(), HELD)
 }
+
+const NOTHING_SET: &[Step] = &[
+    (Make(Owner::Tenant(1), 1), Made(FIRST)),
+    (Begin, Begun(0)),
+    (Commit(1, &[Ensure(FIRST)], 0), Committed),
+    (Begin, Begun(0)),
+    (Commit(1, &[Set(FIRST, 2)], 0), Committed),
+    (Commit(1, &[Ensure(FIRST)], 0), Conflict),
+];
 
 #[test]
 fn commit_that_sets_nothing_leaves_the_counter(rt: HostRuntime) -> Result<(), Fail> {
-    let alloc = rt.alloc();
-    let mut table = new_table(alloc);
-    let name = make(&mut table, alloc, Owner::Tenant(1), 1)?;
-    let point = table.begin();
-    assert_eq!(rt;
-        commit(&mut table, alloc, 1, &[], &[name], point)?,
-        Came::Committed
-    );
-    assert_eq!(rt; table.begin(), point);
-    assert_eq!(rt;
-        commit(&mut table, alloc, 1, &[(name, 2)], &[], point)?,
-        Came::Committed
-    );
-    assert_eq!(rt;
-        commit(&mut table, alloc, 1, &[], &[name], point)?,
-        Came::Conflict
-    );
-    Ok(())
+    check(&rt, rt.alloc(), NOTHING_SET)
 }
+
+// A ref that is set twice, one that is not there, as `SECOND`, and one of another tenant.
+const WRONG: &[Step] = &[
+    (Make(Owner::Tenant(1), 1), Made(FIRST)),
+    (Begin, Begun(0)),
+    (Commit(1, &[Set(FIRST, 2), Set(FIRST, 3)], 0), Refused),
+    (Commit(1, &[Set(SECOND, 2)], 0), Refused),
+    (Commit(1, &[Set(FIRST, 2), Ensure(SECOND)], 0), Refused),
+    (Commit(2, &[Set(FIRST, 2)], 0), Refused),
+    (Read(1, FIRST), Number(1)),
+    (Begin, Begun(0)),
+];
 
 #[test]
 fn what_breaks_a_rule_is_refused(rt: HostRuntime) -> Result<(), Fail> {
-    let alloc = rt.alloc();
-    let mut table = new_table(alloc);
-    let name = make(&mut table, alloc, Owner::Tenant(1), 1)?;
-    let absent = RefName {
-        owner: Owner::Tenant(1),
-        number: 1,
-    };
-    let point = table.begin();
-    let twice = [(name, 2), (name, 3)];
-    assert_eq!(rt;
-        commit(&mut table, alloc, 1, &twice, &[], point)?,
-        Came::Refused
-    );
-    assert_eq!(rt;
-        commit(&mut table, alloc, 1, &[(absent, 2)], &[], point)?,
-        Came::Refused
-    );
-    assert_eq!(rt;
-        commit(&mut table, alloc, 1, &[(name, 2)], &[absent], point)?,
-        Came::Refused
-    );
-    assert_eq!(rt;
-        commit(&mut table, alloc, 2, &[(name, 2)], &[], point)?,
-        Came::Refused
-    );
-    assert_eq!(rt; read(&mut table, 1, name, None)?, Told::Number(1));
-    assert_eq!(rt; table.begin(), point);
-    Ok(())
+    check(&rt, rt.alloc(), WRONG)
 }
+
+const PLAIN: &[Step] = &[
+    (Make(Owner::Shared, 1), Made(OURS)),
+    (Make(Owner::Tenant(1), 2), Made(FIRST)),
+    (Begin, Begun(0)),
+    (Commit(1, &[Hold(OURS, FIRST)], 0), Refused),
+    (Commit(1, &[Hold(FIRST, FIRST)], 0), Committed),
+    (Commit(2, &[Set(OURS, 3)], 0), Committed),
+    (Read(1, OURS), Number(3)),
+];
 
 #[test]
 fn shared_ref_holds_what_is_plain(rt: HostRuntime) -> Result<(), Fail> {
-    let alloc = rt.alloc();
-    let mut table = new_table(alloc);
-    let shared = make(&mut table, alloc, Owner::Shared, 1)?;
-    let own = make(&mut table, alloc, Owner::Tenant(1), 2)?;
-    let point = table.begin();
-    for (name, expected) in [(shared, Came::Refused), (own, Came::Committed)] {
-        let mut sets = Vec::new(alloc);
-        sets.push(Change {
-            name,
-            now: Value::Ref(own),
-        })?;
-        let intent = Intent {
-            sets,
-            ensured: Vec::new(alloc),
-            commuted: Vec::new(alloc),
-        };
-        let outcome = commit_intent(&mut table, alloc, 1, &intent, point)?;
-        assert_eq!(rt; outcome_of(outcome), expected);
-    }
-    assert_eq!(rt;
-        commit(&mut table, alloc, 2, &[(shared, 3)], &[], point)?,
-        Came::Committed
-    );
-    assert_eq!(rt; read(&mut table, 1, shared, None)?, Told::Number(3));
-    Ok(())
+    check(&rt, rt.alloc(), PLAIN)
 }

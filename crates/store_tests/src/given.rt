@@ -21,6 +21,8 @@ pub(crate) enum Given {
     Nil,
     Int(i64),
     Text(&'static str),
+    /// A text of so many characters.
+    Long(u64),
     Keyword(&'static str),
     Atom,
     Ref(RefName),
@@ -35,12 +37,21 @@ pub(crate) fn value_of(alloc: Global, given: Given) -> Result<Value, AllocError>
         Given::Nil => Ok(Value::Nil),
         Given::Int(number) => Ok(Value::Int(number)),
         Given::Text(text) => Ok(Value::Str(ArcStr::from_str(alloc, text)?)),
+        Given::Long(length) => long_text(alloc, length),
         Given::Keyword(name) => Ok(Value::Keyword(ArcStr::from_str(alloc, name)?)),
         Given::Atom => Ok(Value::Atom(0)),
         Given::Ref(name) => Ok(Value::Ref(name)),
         Given::Holding(name) => vector_of(alloc, Value::Ref(name)),
         Given::Vector(number) => vector_of(alloc, Value::Int(number)),
     }
+}
+
+fn long_text(alloc: Global, length: u64) -> Result<Value, AllocError> {
+    let mut text = String::new(alloc);
+    for _ in 0..length {
+        text.push_str("x")?;
+    }
+    Ok(Value::Str(ArcStr::from_str(alloc, text.as_str())?))
 }
 
 fn vector_of(alloc: Global, item: Value) -> Result<Value, AllocError> {

@@ -1,5 +1,6 @@
 // The histories of refs: how many versions there are, and their bounds.
 use crate::called::{Row, expect, expect_always};
+use crate::given::Given::{Int, Keyword, Nil, Ref, Text};
 use crate::given::{Given, MINE, OURS};
 use function_names::StoreFunction;
 use std::test::Fail;
@@ -7,18 +8,17 @@ use std::test::Fail;
 const STAYS: &str = "#error{java.lang.IllegalStateException: Shared history can't be set}";
 
 const COUNTED: &[Row] = &[
-    (true, &[Given::Ref(MINE)], "history of #ref[3]"),
-    (false, &[Given::Ref(MINE)], "history of #ref[3]"),
-    (false, &[Given::Ref(OURS)], "history of #ref[shared/0]"),
+    (true, &[Ref(MINE)], "history of #ref[3]"),
+    (false, &[Ref(MINE)], "history of #ref[3]"),
+    (false, &[Ref(OURS)], "history of #ref[shared/0]"),
     (
         true,
-        &[Given::Ref(OURS)],
-        "#error{java.lang.IllegalStateException: \
-         Shared history can't be read in a transaction}",
+        &[Ref(OURS)],
+        "#error{java.lang.IllegalStateException: Shared history can't be read in a transaction}",
     ),
     (
         true,
-        &[Given::Int(1)],
+        &[Int(1)],
         "#error{java.lang.ClassCastException: Wrong argument to ref-history-count: 1}",
     ),
     (
@@ -31,25 +31,24 @@ const COUNTED: &[Row] = &[
 
 #[test]
 fn histories_are_counted(rt: HostRuntime) -> Result<(), Fail> {
-    expect(&rt, rt.alloc(), StoreFunction::HistoryCount, COUNTED)?;
-    Ok(())
+    expect(&rt, rt.alloc(), StoreFunction::HistoryCount, COUNTED)
 }
 
 const LEAST: &[(&'static [Given], &'static str)] = &[
-    (&[Given::Ref(MINE)], "least of #ref[3]"),
-    (&[Given::Ref(OURS)], "least of #ref[shared/0]"),
-    (&[Given::Ref(MINE), Given::Int(0)], "least of #ref[3] is 0"),
-    (&[Given::Ref(OURS), Given::Int(2)], STAYS),
+    (&[Ref(MINE)], "least of #ref[3]"),
+    (&[Ref(OURS)], "least of #ref[shared/0]"),
+    (&[Ref(MINE), Int(0)], "least of #ref[3] is 0"),
+    (&[Ref(OURS), Int(2)], STAYS),
     (
-        &[Given::Ref(OURS), Given::Int(-2)],
+        &[Ref(OURS), Int(-2)],
         "#error{java.lang.ClassCastException: Wrong argument to ref-min-history: -2}",
     ),
     (
-        &[Given::Nil, Given::Int(-2)],
+        &[Nil, Int(-2)],
         "#error{java.lang.ClassCastException: Wrong argument to ref-min-history: nil}",
     ),
     (
-        &[Given::Ref(MINE), Given::Int(0), Given::Int(0)],
+        &[Ref(MINE), Int(0), Int(0)],
         "#error{clojure.lang.ArityException: \
          Wrong number of args (3) passed to: ref-min-history}",
     ),
@@ -57,21 +56,20 @@ const LEAST: &[(&'static [Given], &'static str)] = &[
 
 #[test]
 fn least_counts_are_told_and_set(rt: HostRuntime) -> Result<(), Fail> {
-    expect_always(&rt, rt.alloc(), StoreFunction::MinHistory, LEAST)?;
-    Ok(())
+    expect_always(&rt, rt.alloc(), StoreFunction::MinHistory, LEAST)
 }
 
 const GREATEST: &[(&'static [Given], &'static str)] = &[
-    (&[Given::Ref(MINE)], "most of #ref[3]"),
-    (&[Given::Ref(OURS)], "most of #ref[shared/0]"),
-    (&[Given::Ref(MINE), Given::Int(20)], "most of #ref[3] is 20"),
-    (&[Given::Ref(OURS), Given::Int(20)], STAYS),
+    (&[Ref(MINE)], "most of #ref[3]"),
+    (&[Ref(OURS)], "most of #ref[shared/0]"),
+    (&[Ref(MINE), Int(20)], "most of #ref[3] is 20"),
+    (&[Ref(OURS), Int(20)], STAYS),
     (
-        &[Given::Ref(OURS), Given::Text("2")],
+        &[Ref(OURS), Text("2")],
         "#error{java.lang.ClassCastException: Wrong argument to ref-max-history: \"2\"}",
     ),
     (
-        &[Given::Keyword("r")],
+        &[Keyword("r")],
         "#error{java.lang.ClassCastException: Wrong argument to ref-max-history: :r}",
     ),
     (
@@ -83,6 +81,5 @@ const GREATEST: &[(&'static [Given], &'static str)] = &[
 
 #[test]
 fn greatest_counts_are_told_and_set(rt: HostRuntime) -> Result<(), Fail> {
-    expect_always(&rt, rt.alloc(), StoreFunction::MaxHistory, GREATEST)?;
-    Ok(())
+    expect_always(&rt, rt.alloc(), StoreFunction::MaxHistory, GREATEST)
 }

@@ -1,37 +1,79 @@
-// What an attempt wants committed, put together step by step.
+// What an attempt wants committed, in short.
+use crate::given::{Given, values_of};
 use function_names::CoreFunction;
 use repl_asks::{Change, Commute, Commuted, Intent};
 use repl_values::{RefName, Value};
 use std::alloc::{AllocError, Global};
 use std::process::Abort;
 
-pub(crate) fn nothing(alloc: Global) -> Intent {
-    Intent {
+/// A part of an intent. Commutes of one ref come one after the other.
+#[derive(Clone, Copy)]
+pub(crate) enum Want {
+    Set(RefName, i64),
+    /// A ref is set to another.
+    Hold(RefName, RefName),
+    Ensure(RefName),
+    /// The function of this name is applied to a ref, with an integer behind its value.
+    Commute(RefName, &'static str, i64),
+    /// The same with these arguments.
+    CommuteWith(RefName, &'static str, &'static [Given]),
+    /// One is added to a ref so many times.
+    CountUp(RefName, u64),
+}
+
+pub(crate) fn intent_of(
+    rt: &impl Abort,
+    alloc: Global,
+    wants: &[Want],
+) -> Result<Intent, AllocError> {
+    let mut intent = Intent {
         sets: Vec::new(alloc),
         ensured: Vec::new(alloc),
         commuted: Vec::new(alloc),
+    };
+    for want in wants {
+        add(rt, alloc, &mut intent, *want)?;
+    }
+    Ok(intent)
+}
+
+fn add(rt: &impl Abort, alloc: Global, intent: &mut Intent, want: Want) -> Result<(), AllocError> {
+    match want {
+        Want::Set(name, number) => set(intent, name, Value::Int(number)),
+        Want::Hold(name, held) => set(intent, name, Value::Ref(held)),
+        Want::Ensure(name) => Ok(intent.ensured.push(name)?),
+        Want::Commute(name, function, number) => {
+            commute(rt, alloc, intent, name, function, &[Given::Int(number)])
+        }
+        Want::CommuteWith(name, function, given) => {
+            commute(rt, alloc, intent, name, function, given)
+        }
+        Want::CountUp(name, times) => {
+            for _ in 0..times {
+                commute(rt, alloc, intent, name, "+", &[Given::Int(1)])?;
+            }
+            Ok(())
+        }
     }
 }
 
-pub(crate) fn set(intent: &mut Intent, name: RefName, number: i64) -> Result<(), AllocError> {
-    let now = Value::Int(number);
+fn set(intent: &mut Intent, name: RefName, now: Value) -> Result<(), AllocError> {
     intent.sets.push(Change { name, now })?;
     Ok(())
 }
 
-// The function of this name is applied to the ref, with these arguments behind its value. Commutes
-// of one ref come one after the other.
-pub(crate) fn commute(
+fn commute(
     rt: &impl Abort,
     alloc: Global,
     intent: &mut Intent,
     name: RefName,
     function: &str,
-    arguments: Vec<Value>,
+    given: &[Given],
 ) -> Result<(), AllocError> {
     let Some(function) = CoreFunction::named(function) else {
         panic!(rt; "unknown function {function}");
     };
+    let arguments = values_of(alloc, given)?;
     let commute = Commute {
         function,
         arguments,
@@ -46,14 +88,4 @@ pub(crate) fn commute(
     commutes.push(commute)?;
     intent.commuted.push(Commuted { name, commutes })?;
     Ok(())
-}
-
-pub(crate) fn one(alloc: Global, value: Value) -> Result<Vec<Value>, AllocError> {
-    let mut values = Vec::new(alloc);
-    values.push(value)?;
-    Ok(values)
-}
-
-pub(crate) fn number(alloc: Global, number: i64) -> Result<Vec<Value>, AllocError> {
-    one(alloc, Value::Int(number))
 }

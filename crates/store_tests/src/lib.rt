@@ -23,8 +23,8 @@ mod owning;
 #[cfg(test)]
 mod reading;
 #[cfg(test)]
-mod table_memory;
+mod steps;
 #[cfg(test)]
-mod told;
+mod table_memory;
 #[cfg(test)]
 mod transactions;

@@ -1,60 +1,55 @@
 // Whose a ref is.
-use crate::told::{Came, Told, commit, make, new_table, read};
-use repl_values::{Owner, RefName};
+use crate::given::OURS;
+use crate::intents::Want::Set;
+use crate::steps::Call::{Begin, Commit, Make, Read, ReadAt, Release};
+use crate::steps::Told::{Begun, Committed, Done, Made, Nothing, Number};
+use crate::steps::{FIRST, OTHERS, SECOND, Step, THIRD, check};
+use repl_values::Owner;
 use std::test::Fail;
+
+const NUMBERED: &[Step] = &[
+    (Make(Owner::Tenant(1), 1), Made(FIRST)),
+    (Make(Owner::Tenant(2), 1), Made(OTHERS)),
+    (Make(Owner::Tenant(1), 1), Made(SECOND)),
+    (Make(Owner::Shared, 1), Made(OURS)),
+    (Make(Owner::Tenant(1), 1), Made(THIRD)),
+];
 
 #[test]
 fn each_owner_numbers_its_refs_from_zero(rt: HostRuntime) -> Result<(), Fail> {
-    let alloc = rt.alloc();
-    let mut table = new_table(alloc);
-    let (mine, other) = (Owner::Tenant(1), Owner::Tenant(2));
-    for (owner, number) in [
-        (mine, 0),
-        (other, 0),
-        (mine, 1),
-        (Owner::Shared, 0),
-        (mine, 2),
-    ] {
-        assert_eq!(rt;
-            make(&mut table, alloc, owner, 1)?,
-            RefName { owner, number }
-        );
-    }
-    Ok(())
+    check(&rt, rt.alloc(), NUMBERED)
 }
+
+const REACHED: &[Step] = &[
+    (Make(Owner::Tenant(1), 1), Made(FIRST)),
+    (Begin, Begun(0)),
+    (Read(2, FIRST), Nothing),
+    (ReadAt(2, FIRST, 0), Nothing),
+    (ReadAt(1, FIRST, 0), Number(1)),
+];
 
 #[test]
 fn tenant_reaches_no_other_tenants_refs(rt: HostRuntime) -> Result<(), Fail> {
-    let alloc = rt.alloc();
-    let mut table = new_table(alloc);
-    let name = make(&mut table, alloc, Owner::Tenant(1), 1)?;
-    let point = table.begin();
-    assert_eq!(rt; read(&mut table, 2, name, None)?, Told::Nothing);
-    assert_eq!(rt; read(&mut table, 2, name, Some(point))?, Told::Nothing);
-    assert_eq!(rt; read(&mut table, 1, name, Some(point))?, Told::Number(1));
-    Ok(())
+    check(&rt, rt.alloc(), REACHED)
 }
+
+const RELEASED: &[Step] = &[
+    (Make(Owner::Shared, 1), Made(OURS)),
+    (Make(Owner::Tenant(1), 2), Made(FIRST)),
+    (Make(Owner::Tenant(2), 3), Made(OTHERS)),
+    (Begin, Begun(0)),
+    (Commit(1, &[Set(OURS, 4), Set(FIRST, 5)], 0), Committed),
+    (Release(1), Done),
+    (Release(1), Done),
+    (Read(1, FIRST), Nothing),
+    (Read(2, OTHERS), Number(3)),
+    (Read(2, OURS), Number(4)),
+    (Make(Owner::Tenant(1), 6), Made(FIRST)),
+    (Read(1, FIRST), Number(6)),
+    (Read(2, OTHERS), Number(3)),
+];
 
 #[test]
 fn release_takes_the_refs_of_one_tenant(rt: HostRuntime) -> Result<(), Fail> {
-    let alloc = rt.alloc();
-    let mut table = new_table(alloc);
-    let shared = make(&mut table, alloc, Owner::Shared, 1)?;
-    let mine = make(&mut table, alloc, Owner::Tenant(1), 2)?;
-    let other = make(&mut table, alloc, Owner::Tenant(2), 3)?;
-    let point = table.begin();
-    let sets = [(shared, 4), (mine, 5)];
-    assert_eq!(rt;
-        commit(&mut table, alloc, 1, &sets, &[], point)?,
-        Came::Committed
-    );
-    table.release(1);
-    table.release(1);
-    assert_eq!(rt; read(&mut table, 1, mine, None)?, Told::Nothing);
-    assert_eq!(rt; read(&mut table, 2, other, None)?, Told::Number(3));
-    assert_eq!(rt; read(&mut table, 2, shared, None)?, Told::Number(4));
-    assert_eq!(rt; make(&mut table, alloc, Owner::Tenant(1), 6)?, mine);
-    assert_eq!(rt; read(&mut table, 1, mine, None)?, Told::Number(6));
-    assert_eq!(rt; read(&mut table, 2, other, None)?, Told::Number(3));
-    Ok(())
+    check(&rt, rt.alloc(), RELEASED)
 }

@@ -1,56 +1,61 @@
 // What attempts read, and which versions are kept for them.
-use crate::told::{Told, commit, make, new_table, read};
-use ref_history::Bounds;
+use crate::given::OURS;
+use crate::intents::Want::Set;
+use crate::steps::Call::{Begin, BoundsOf, Commit, CountOf, Make, Read, ReadAt, SetLeast, SetMost};
+use crate::steps::Told::{
+    Begun, Bounds, Committed, Count, Done, Made, NotDone, Nothing, Number, Retry,
+};
+use crate::steps::{FIRST, Step, check};
 use repl_values::Owner;
 use std::test::Fail;
 
+const AS_IT_WAS: &[Step] = &[
+    (Make(Owner::Tenant(1), 1), Made(FIRST)),
+    (SetLeast(1, FIRST, 1), Done),
+    (Begin, Begun(0)),
+    (Commit(1, &[Set(FIRST, 2)], 0), Committed),
+    (ReadAt(1, FIRST, 0), Number(1)),
+    (Read(1, FIRST), Number(2)),
+    (CountOf(1, FIRST), Count(1)),
+];
+
 #[test]
 fn attempt_reads_as_it_was_when_it_began(rt: HostRuntime) -> Result<(), Fail> {
-    let alloc = rt.alloc();
-    let mut table = new_table(alloc);
-    let name = make(&mut table, alloc, Owner::Tenant(1), 1)?;
-    assert!(rt; table.set_least(1, name, 1));
-    let point = table.begin();
-    commit(&mut table, alloc, 1, &[(name, 2)], &[], point)?;
-    assert_eq!(rt; read(&mut table, 1, name, Some(point))?, Told::Number(1));
-    assert_eq!(rt; read(&mut table, 1, name, None)?, Told::Number(2));
-    assert_eq!(rt; table.history_count(1, name), Some(1));
-    Ok(())
+    check(&rt, rt.alloc(), AS_IT_WAS)
 }
+
+const ASKS_FOR_MORE: &[Step] = &[
+    (Make(Owner::Tenant(1), 1), Made(FIRST)),
+    (Begin, Begun(0)),
+    (Commit(1, &[Set(FIRST, 2)], 0), Committed),
+    (CountOf(1, FIRST), Count(0)),
+    (ReadAt(1, FIRST, 0), Retry),
+    (Begin, Begun(1)),
+    (Commit(1, &[Set(FIRST, 3)], 1), Committed),
+    (CountOf(1, FIRST), Count(1)),
+    (ReadAt(1, FIRST, 1), Number(2)),
+];
 
 #[test]
 fn read_that_finds_nothing_asks_for_more_history(rt: HostRuntime) -> Result<(), Fail> {
-    let alloc = rt.alloc();
-    let mut table = new_table(alloc);
-    let name = make(&mut table, alloc, Owner::Tenant(1), 1)?;
-    let first = table.begin();
-    commit(&mut table, alloc, 1, &[(name, 2)], &[], first)?;
-    assert_eq!(rt; table.history_count(1, name), Some(0));
-    assert_eq!(rt; read(&mut table, 1, name, Some(first))?, Told::Retry);
-    let second = table.begin();
-    commit(&mut table, alloc, 1, &[(name, 3)], &[], second)?;
-    assert_eq!(rt; table.history_count(1, name), Some(1));
-    assert_eq!(rt; read(&mut table, 1, name, Some(second))?, Told::Number(2));
-    Ok(())
+    check(&rt, rt.alloc(), ASKS_FOR_MORE)
 }
+
+const BOUNDS: &[Step] = &[
+    (Make(Owner::Tenant(1), 1), Made(FIRST)),
+    (Make(Owner::Shared, 2), Made(OURS)),
+    (SetLeast(1, FIRST, 2), Done),
+    (SetMost(1, FIRST, 3), Done),
+    (BoundsOf(1, FIRST), Bounds(2, 3)),
+    (SetLeast(1, OURS, 2), NotDone),
+    (SetMost(1, OURS, 3), NotDone),
+    (SetLeast(2, FIRST, 4), NotDone),
+    (BoundsOf(1, OURS), Bounds(0, 10)),
+    (BoundsOf(2, FIRST), Nothing),
+    (CountOf(2, FIRST), Nothing),
+];
 
 #[test]
 fn bounds_of_own_refs_are_set(rt: HostRuntime) -> Result<(), Fail> {
-    let alloc = rt.alloc();
-    let mut table = new_table(alloc);
-    let own = make(&mut table, alloc, Owner::Tenant(1), 1)?;
-    let shared = make(&mut table, alloc, Owner::Shared, 2)?;
-    assert!(rt; table.set_least(1, own, 2));
-    assert!(rt; table.set_most(1, own, 3));
-    assert_eq!(rt; table.bounds(1, own), Some(Bounds { least: 2, most: 3 }));
-    assert!(rt; !table.set_least(1, shared, 2));
-    assert!(rt; !table.set_most(1, shared, 3));
-    assert!(rt; !table.set_least(2, own, 4));
-    assert_eq!(rt;
-        table.bounds(1, shared),
-        Some(Bounds { least: 0, most: 10 })
-    );
-    assert_eq!(rt; table.bounds(2, own), None);
-    assert_eq!(rt; table.history_count(2, own), None);
-    Ok(())
+    check(&rt, rt.alloc(), BOUNDS)
 }

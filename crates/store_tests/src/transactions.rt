@@ -1,5 +1,6 @@
 // Refs are read, set, altered, commuted and ensured.
 use crate::called::{Row, altered_told, expect, expect_always};
+use crate::given::Given::{Atom, Holding, Int, Keyword, Nil, Ref, Text, Vector};
 use crate::given::{Given, MINE, OURS, value_of};
 use function_names::StoreFunction;
 use repl_values::RefName;
@@ -13,10 +14,10 @@ const NOT_PLAIN: &str =
     "#error{java.lang.IllegalArgumentException: Only plain data goes into a shared ref}";
 
 const READ: &[(&'static [Given], &'static str)] = &[
-    (&[Given::Ref(MINE)], "reads #ref[3]"),
-    (&[Given::Ref(OURS)], "reads #ref[shared/0]"),
+    (&[Ref(MINE)], "reads #ref[3]"),
+    (&[Ref(OURS)], "reads #ref[shared/0]"),
     (
-        &[Given::Int(5)],
+        &[Int(5)],
         "#error{java.lang.ClassCastException: Wrong argument to deref: 5}",
     ),
     (
@@ -24,122 +25,105 @@ const READ: &[(&'static [Given], &'static str)] = &[
         "#error{clojure.lang.ArityException: Wrong number of args (0) passed to: deref}",
     ),
     (
-        &[Given::Ref(MINE), Given::Nil],
+        &[Ref(MINE), Nil],
         "#error{clojure.lang.ArityException: Wrong number of args (2) passed to: deref}",
     ),
 ];
 
 #[test]
 fn refs_alone_are_read(rt: HostRuntime) -> Result<(), Fail> {
-    expect_always(&rt, rt.alloc(), StoreFunction::Deref, READ)?;
-    Ok(())
+    expect_always(&rt, rt.alloc(), StoreFunction::Deref, READ)
 }
 
 const PUT: &[Row] = &[
-    (true, &[Given::Ref(MINE), Given::Int(5)], "#ref[3] gets 5"),
-    (
-        true,
-        &[Given::Ref(MINE), Given::Ref(OURS)],
-        "#ref[3] gets #ref[shared/0]",
-    ),
-    (
-        true,
-        &[Given::Ref(OURS), Given::Vector(1)],
-        "#ref[shared/0] gets [1]",
-    ),
-    (true, &[Given::Ref(OURS), Given::Ref(MINE)], NOT_PLAIN),
-    (true, &[Given::Ref(OURS), Given::Holding(OURS)], NOT_PLAIN),
-    (true, &[Given::Ref(OURS), Given::Atom], NOT_PLAIN),
+    (true, &[Ref(MINE), Int(5)], "#ref[3] gets 5"),
+    (true, &[Ref(MINE), Ref(OURS)], "#ref[3] gets #ref[shared/0]"),
+    (true, &[Ref(OURS), Vector(1)], "#ref[shared/0] gets [1]"),
+    (true, &[Ref(OURS), Ref(MINE)], NOT_PLAIN),
+    (true, &[Ref(OURS), Holding(OURS)], NOT_PLAIN),
+    (true, &[Ref(OURS), Atom], NOT_PLAIN),
 ];
 
 #[test]
 fn refs_get_values_in_a_transaction(rt: HostRuntime) -> Result<(), Fail> {
-    expect(&rt, rt.alloc(), StoreFunction::RefSet, PUT)?;
-    Ok(())
+    expect(&rt, rt.alloc(), StoreFunction::RefSet, PUT)
 }
 
 // First the number of arguments, then their kinds, then the transaction, then what may be held.
 const FAULTS: &[Row] = &[
-    (false, &[Given::Ref(MINE), Given::Int(5)], NOT_RUNNING),
-    (false, &[Given::Ref(OURS), Given::Ref(OURS)], NOT_RUNNING),
+    (false, &[Ref(MINE), Int(5)], NOT_RUNNING),
+    (false, &[Ref(OURS), Ref(OURS)], NOT_RUNNING),
     (
         false,
-        &[Given::Int(5), Given::Ref(OURS)],
+        &[Int(5), Ref(OURS)],
         "#error{java.lang.ClassCastException: Wrong argument to ref-set: 5}",
     ),
     (
         true,
-        &[Given::Text("a"), Given::Nil],
+        &[Text("a"), Nil],
         "#error{java.lang.ClassCastException: Wrong argument to ref-set: \"a\"}",
     ),
     (
         false,
-        &[Given::Int(5)],
+        &[Int(5)],
         "#error{clojure.lang.ArityException: Wrong number of args (1) passed to: ref-set}",
     ),
     (
         true,
-        &[Given::Ref(MINE), Given::Nil, Given::Nil],
+        &[Ref(MINE), Nil, Nil],
         "#error{clojure.lang.ArityException: Wrong number of args (3) passed to: ref-set}",
     ),
 ];
 
 #[test]
 fn faults_of_ref_set_have_an_order(rt: HostRuntime) -> Result<(), Fail> {
-    expect(&rt, rt.alloc(), StoreFunction::RefSet, FAULTS)?;
-    Ok(())
+    expect(&rt, rt.alloc(), StoreFunction::RefSet, FAULTS)
 }
 
 // A function is no value, so the second argument is a wrong one, unless the first is one already.
 const ALTERING: &[(&'static [Given], &'static str)] = &[
     (
-        &[Given::Ref(MINE), Given::Int(1)],
+        &[Ref(MINE), Int(1)],
         "#error{java.lang.ClassCastException: Wrong argument to alter: 1}",
     ),
     (
-        &[Given::Int(0), Given::Int(1), Given::Nil],
+        &[Int(0), Int(1), Nil],
         "#error{java.lang.ClassCastException: Wrong argument to alter: 0}",
     ),
     (
-        &[Given::Ref(OURS), Given::Ref(MINE), Given::Nil],
+        &[Ref(OURS), Ref(MINE), Nil],
         "#error{java.lang.ClassCastException: Wrong argument to alter: #ref[3]}",
     ),
     (
-        &[Given::Ref(MINE)],
+        &[Ref(MINE)],
         "#error{clojure.lang.ArityException: Wrong number of args (1) passed to: alter}",
     ),
 ];
 
 #[test]
 fn no_value_alters_a_ref(rt: HostRuntime) -> Result<(), Fail> {
-    expect_always(&rt, rt.alloc(), StoreFunction::Alter, ALTERING)?;
-    Ok(())
+    expect_always(&rt, rt.alloc(), StoreFunction::Alter, ALTERING)
 }
 
 const COMMUTING: &[(&'static [Given], &'static str)] = &[
     (
-        &[Given::Ref(MINE), Given::Int(1)],
+        &[Ref(MINE), Int(1)],
         "#error{java.lang.ClassCastException: Wrong argument to commute: 1}",
     ),
     (
-        &[Given::Int(0), Given::Int(1), Given::Nil],
+        &[Int(0), Int(1), Nil],
         "#error{java.lang.ClassCastException: Wrong argument to commute: 0}",
     ),
     (
-        &[Given::Ref(OURS), Given::Ref(MINE), Given::Nil],
+        &[Ref(OURS), Ref(MINE), Nil],
         "#error{java.lang.ClassCastException: Wrong argument to commute: #ref[3]}",
     ),
     (
-        &[
-            Given::Ref(MINE),
-            Given::Keyword("a"),
-            Given::Nil,
-            Given::Nil,
-        ],
+        &[Ref(MINE), Keyword("a"), Nil, Nil],
         "#error{java.lang.ClassCastException: Wrong argument to commute: :a}",
     ),
     (
-        &[Given::Ref(MINE)],
+        &[Ref(MINE)],
         "#error{clojure.lang.ArityException: Wrong number of args (1) passed to: commute}",
     ),
     (
@@ -150,45 +134,39 @@ const COMMUTING: &[(&'static [Given], &'static str)] = &[
 
 #[test]
 fn no_value_commutes_a_ref(rt: HostRuntime) -> Result<(), Fail> {
-    expect_always(&rt, rt.alloc(), StoreFunction::Commute, COMMUTING)?;
-    Ok(())
+    expect_always(&rt, rt.alloc(), StoreFunction::Commute, COMMUTING)
 }
 
 // What alters a ref, whether a transaction runs, what it is to alter, and the ref or the fault.
 const ALTERED: &[(Alteration, bool, Given, &str)] = &[
-    (Alteration::Alter, true, Given::Ref(MINE), "#ref[3]"),
-    (Alteration::Commute, true, Given::Ref(MINE), "#ref[3]"),
-    (Alteration::Alter, true, Given::Ref(OURS), "#ref[shared/0]"),
-    (
-        Alteration::Commute,
-        true,
-        Given::Ref(OURS),
-        "#ref[shared/0]",
-    ),
-    (Alteration::Alter, false, Given::Ref(MINE), NOT_RUNNING),
-    (Alteration::Commute, false, Given::Ref(MINE), NOT_RUNNING),
+    (Alteration::Alter, true, Ref(MINE), "#ref[3]"),
+    (Alteration::Commute, true, Ref(MINE), "#ref[3]"),
+    (Alteration::Alter, true, Ref(OURS), "#ref[shared/0]"),
+    (Alteration::Commute, true, Ref(OURS), "#ref[shared/0]"),
+    (Alteration::Alter, false, Ref(MINE), NOT_RUNNING),
+    (Alteration::Commute, false, Ref(MINE), NOT_RUNNING),
     (
         Alteration::Alter,
         false,
-        Given::Atom,
+        Atom,
         "#error{java.lang.ClassCastException: Wrong argument to alter: #atom[0]}",
     ),
     (
         Alteration::Commute,
         false,
-        Given::Atom,
+        Atom,
         "#error{java.lang.ClassCastException: Wrong argument to commute: #atom[0]}",
     ),
     (
         Alteration::Alter,
         true,
-        Given::Nil,
+        Nil,
         "#error{java.lang.ClassCastException: Wrong argument to alter: nil}",
     ),
     (
         Alteration::Commute,
         true,
-        Given::Nil,
+        Nil,
         "#error{java.lang.ClassCastException: Wrong argument to commute: nil}",
     ),
 ];
@@ -204,18 +182,18 @@ fn refs_are_altered_in_a_transaction(rt: HostRuntime) -> Result<(), Fail> {
 
 // First the number of arguments, then their kinds, then the transaction.
 const ENSURED: &[Row] = &[
-    (true, &[Given::Ref(MINE)], "ensures #ref[3]"),
-    (true, &[Given::Ref(OURS)], "ensures #ref[shared/0]"),
-    (false, &[Given::Ref(MINE)], NOT_RUNNING),
-    (false, &[Given::Ref(OURS)], NOT_RUNNING),
+    (true, &[Ref(MINE)], "ensures #ref[3]"),
+    (true, &[Ref(OURS)], "ensures #ref[shared/0]"),
+    (false, &[Ref(MINE)], NOT_RUNNING),
+    (false, &[Ref(OURS)], NOT_RUNNING),
     (
         true,
-        &[Given::Int(5)],
+        &[Int(5)],
         "#error{java.lang.ClassCastException: Wrong argument to ensure: 5}",
     ),
     (
         false,
-        &[Given::Atom],
+        &[Atom],
         "#error{java.lang.ClassCastException: Wrong argument to ensure: #atom[0]}",
     ),
     (
@@ -225,15 +203,14 @@ const ENSURED: &[Row] = &[
     ),
     (
         true,
-        &[Given::Ref(MINE), Given::Ref(MINE)],
+        &[Ref(MINE), Ref(MINE)],
         "#error{clojure.lang.ArityException: Wrong number of args (2) passed to: ensure}",
     ),
 ];
 
 #[test]
 fn refs_are_ensured_in_a_transaction(rt: HostRuntime) -> Result<(), Fail> {
-    expect(&rt, rt.alloc(), StoreFunction::Ensure, ENSURED)?;
-    Ok(())
+    expect(&rt, rt.alloc(), StoreFunction::Ensure, ENSURED)
 }
 
 fn may_hold_given(alloc: Global, name: RefName, given: Given) -> Result<bool, AllocError> {
@@ -242,12 +219,12 @@ fn may_hold_given(alloc: Global, name: RefName, given: Given) -> Result<bool, Al
 
 // A ref, what it is to hold, and whether it may.
 const HELD: &[(RefName, Given, bool)] = &[
-    (MINE, Given::Holding(MINE), true),
-    (MINE, Given::Atom, true),
-    (OURS, Given::Vector(1), true),
-    (OURS, Given::Text("a"), true),
-    (OURS, Given::Holding(OURS), false),
-    (OURS, Given::Atom, false),
+    (MINE, Holding(MINE), true),
+    (MINE, Atom, true),
+    (OURS, Vector(1), true),
+    (OURS, Text("a"), true),
+    (OURS, Holding(OURS), false),
+    (OURS, Atom, false),
 ];
 
 #[test]
