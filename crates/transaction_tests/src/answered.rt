@@ -7,6 +7,8 @@ use repl_values::{Owner, RefName, Value};
 use repl_walker::{Progress, Walk, start};
 use std::alloc::{AllocError, Global};
 use std::collections::VecDeque;
+use std::process::Abort;
+use std::test::Fail;
 use walk_scripts::{ask_told, end_told, fault, job, program, text};
 
 // More asks than an evaluation of these tests has.
@@ -25,23 +27,17 @@ pub(crate) enum Told {
     Refused,
 }
 
-fn plain_answer(told: Told) -> Answer {
-    match told {
+fn answer(alloc: Global, told: Told) -> Result<Answer, AllocError> {
+    Ok(match told {
         Told::Made(number) => Answer::Value(Value::Ref(own(number))),
         Told::Count(n) => Answer::Value(Value::Int(n)),
+        Told::Done => Answer::Done,
         Told::Found(n) => Answer::Reading(Reading::Found(Value::Int(n))),
         Told::Retry => Answer::Reading(Reading::Retry),
         Told::Committed => Answer::Verdict(Verdict::Committed),
         Told::Conflict => Answer::Verdict(Verdict::Conflict),
-        _done => Answer::Done,
-    }
-}
-
-fn answer(alloc: Global, told: Told) -> Result<Answer, AllocError> {
-    match told {
-        Told::Refused => Ok(Answer::Verdict(Verdict::Faulted(fault(alloc)?))),
-        other => Ok(plain_answer(other)),
-    }
+        Told::Refused => Answer::Verdict(Verdict::Faulted(fault(alloc)?)),
+    })
 }
 
 fn own(number: u64) -> RefName {
@@ -121,24 +117,28 @@ fn answer_to(
     }
 }
 
-fn all(alloc: Global, given: &[Told]) -> Result<VecDeque<Told>, AllocError> {
-    let mut left = Vec::new(alloc);
-    for told in given {
-        left.push(*told)?;
+// The form, the answers that it is given, and what is told of it.
+pub(crate) type Row = (&'static str, &'static [Told], &'static str);
+
+/// Each row, where a transaction has so many attempts.
+pub(crate) fn check(
+    rt: &impl Abort,
+    alloc: Global,
+    attempts: u32,
+    rows: &[Row],
+) -> Result<(), Fail> {
+    for (code, given, told) in rows {
+        let found = asked(alloc, attempts, code, given)?;
+        assert_eq!(rt; found.as_str(), *told, "at {code}");
     }
-    Ok(VecDeque::from_vec(left))
+    Ok(())
 }
 
 // What is asked but for symbols, and the end; or `waits` where no answer is left.
-pub(crate) fn asked(
-    alloc: Global,
-    retries: u32,
-    code: &str,
-    given: &[Told],
-) -> Result<String, AllocError> {
+fn asked(alloc: Global, attempts: u32, code: &str, given: &[Told]) -> Result<String, AllocError> {
     let mut told = String::new(alloc);
-    let mut left = all(alloc, given)?;
-    let progress = start(alloc, &job(alloc, code, retries)?)?;
+    let mut left = VecDeque::from_vec(Vec::from_slice(alloc, given)?);
+    let progress = start(alloc, &job(alloc, code, attempts)?)?;
     tell_progress(alloc, progress, &mut left, &mut told)?;
     Ok(told)
 }

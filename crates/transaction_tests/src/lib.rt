@@ -9,15 +9,7 @@ mod attempts;
 #[cfg(test)]
 mod commuting;
 #[cfg(test)]
-mod dropping;
-#[cfg(test)]
-mod growing;
-#[cfg(test)]
 mod memory;
-#[cfg(test)]
-mod outside;
-#[cfg(test)]
-mod rows;
 #[cfg(test)]
 mod seen;
 #[cfg(test)]
