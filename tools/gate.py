@@ -114,6 +114,9 @@ def try_edits(names):
         print(f"edits: no such crate: {' '.join(lost)}", file=sys.stderr)
         return 2
     asked = [it for it in [known[it] for it in names] or uncovered() if it.edits()]
+    if not asked:
+        print("edits: the record covers all")
+        return 0
     before = workspace.fingerprints()
     refused = {it.name: set() for it in asked}
     with workspace.copied(workspace.with_those_below(asked), with_edits=asked) as tree:

@@ -50,6 +50,19 @@ class Record(unittest.TestCase):
         self.write("HANDLES", "Handles allowed: Net.\n")
         self.assert_covered()
 
+    def test_edit_counts_only_where_its_meaning_was_refused(self):
+        told = "rt: must-fail low/turned.edit: "
+        self.assertEqual(gate.REFUSED.match(f"{told}refused, as it must be\n")[2], "turned.edit")
+        self.assertEqual(gate.REFUSED.match(f"{told}refused, as it must be: why\n")[1], "low")
+        for why in (
+            "refused, as it must be (only because a proof file names what the edit took away)\n",
+            "refused, as it must be (only by a limit of the prover): why\n",
+            "NOT REFUSED: the crate is still proved with this edit\n",
+            "BAD EDIT: it changes nothing\n",
+            "NOT TRIED: run this again\n",
+        ):
+            self.assertIsNone(gate.REFUSED.match(told + why))
+
     def test_altered_edit_uncovers(self):
         self.write("crates/other/must-fail/turned.edit", "old: a\nnew: a\n")
         self.assert_covered("low", "middle", "high")
