@@ -9,7 +9,7 @@ import workspace
 
 ROW = re.compile(r"^\| `(\w+)` \| ([\d,]+) \| ([\d,]+) \|", re.MULTILINE)
 # Folders of specs/ that hold nothing to believe for `pipe`.
-APART = {"Lib", "Inside", "Isolation"}
+APART = {"Lib", "Inside", "Isolation", "Machine"}
 
 
 class Believed(unittest.TestCase):

@@ -3,8 +3,10 @@ use Rattle.std.proofs.Common.{◌≡◌, ℕ, [], Option, Some, None, option_map
 use Rattle.server_rules.specs.Ground.{Ground}
 use Rattle.server_rules.specs.Numbered.{part_under}
 use Rattle.server_rules.specs.Plan.{Deed, StepAnswer, Outcome, refuses, leaves}
-use Rattle.server_rules.specs.Turns.{bytes_in, goes, turn_step, honest_deed, quiet_of}
-use Rattle.server_rules.specs.World.{TenantData, World, accepted, refused, ended_as}
+use Rattle.server_rules.specs.Honest.{honest_deed}
+use Rattle.server_rules.specs.Machine.Turns.{goes, turn_step, quiet_of}
+use Rattle.server_rules.specs.Plan.{bytes_in}
+use Rattle.server_rules.specs.Machine.World.{TenantData, World, accepted, refused, ended_as}
 use Rattle.server_rules.specs.declared.actor.Actor.{Actor}
 use Rattle.server_rules.specs.declared.refusal.Refusal.{Refusal}
 use Rattle.tenant_turns.specs.DeedResult.{DeedResult}

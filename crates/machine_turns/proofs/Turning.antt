@@ -5,9 +5,10 @@ use Rattle.std.proofs.Common.{Result, Ok, Err, OnOk}
 use Rattle.std.proofs.lemmas.Bool.{eqb-true, eqb-false}
 use Rattle.server_rules.specs.Ground.{Ground}
 use Rattle.server_rules.specs.Plan.{StepAnswer}
-use Rattle.server_rules.specs.Turns as rules
-use Rattle.server_rules.specs.Turns.{Turn, whose, turn_step, world_after, bytes_in, serve}
-use Rattle.server_rules.specs.World.{World, accepted, refused, world_or}
+use Rattle.server_rules.specs.Machine.Turns as rules
+use Rattle.server_rules.specs.Machine.Turns.{Turn, whose, turn_step, world_after, serve}
+use Rattle.server_rules.specs.Plan.{bytes_in}
+use Rattle.server_rules.specs.Machine.World.{World, accepted, refused, world_or}
 use Rattle.server_rules.specs.declared.refusal.Refusal.{Refusal}
 use Rattle.repl_core.specs.Driving.{world_after_all, with_refusal, refusals}
 use Rattle.repl_core.proofs.Driving.{world_after_all-more, serve-one, refusals-one}

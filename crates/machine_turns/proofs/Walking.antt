@@ -6,11 +6,11 @@ use Rattle.server_rules.specs.Ground.{Ground}
 use Rattle.server_rules.specs.Numbered.{entry, part_under}
 use Rattle.server_rules.specs.Plan.{Deed, StepAnswer, tenant_opened}
 use Rattle.server_rules.specs.Tenant.{unoccupied, seat_of, opened_quiet}
-use Rattle.server_rules.specs.Turns.{whose_step}
-use Rattle.server_rules.specs.World as worlds
-use Rattle.server_rules.specs.World.{TenantData, World, Stepped, accepted, refused, step, world_or}
-use Rattle.server_rules.specs.World.{opens, does, closes, open_step, opened_tenant, is_used}
-use Rattle.server_rules.specs.World.{open_count}
+use Rattle.server_rules.specs.Machine.Turns.{whose_step}
+use Rattle.server_rules.specs.Machine.World as worlds
+use Rattle.server_rules.specs.Machine.World.{TenantData, World, Stepped, accepted, refused, step, world_or}
+use Rattle.server_rules.specs.Machine.World.{opens, does, closes, open_step, opened_tenant, is_used}
+use Rattle.server_rules.specs.Machine.World.{open_count}
 use Rattle.server_rules.specs.declared.actor.Actor.{Actor}
 use Rattle.server_rules.specs.declared.refusal.Refusal.{Refusal}
 use Rattle.server_rules.proofs.Steps.{step-other}

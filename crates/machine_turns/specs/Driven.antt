@@ -1,9 +1,9 @@
 -- What a list of turns comes to.
 use Rattle.std.specs.Prelude.{◌≡◌, ℕ, ◌==◌, List, [], ◌++◌, if◌then◌else◌}
 use Rattle.server_rules.specs.Ground.{Ground}
-use Rattle.server_rules.specs.Turns.{Turn, whose, turn_step, world_after, serve}
-use Rattle.server_rules.specs.Turns as rules
-use Rattle.server_rules.specs.World.{World}
+use Rattle.server_rules.specs.Machine.Turns.{Turn, whose, turn_step, world_after, serve}
+use Rattle.server_rules.specs.Machine.Turns as rules
+use Rattle.server_rules.specs.Machine.World.{World}
 use Rattle.repl_core.specs.Driving.{world_after_all, with_refusal, refusals}
 use Rattle.machine_turns.specs.Driver.{DriverStands}
 use Rattle.machine_turns.specs.Turns.{drained_of, refused_in}

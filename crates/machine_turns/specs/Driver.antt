@@ -2,8 +2,9 @@
 use Rattle.std.specs.Prelude.{◌≡◌, ℕ, List}
 use Rattle.server_rules.specs.Ground.{Ground}
 use Rattle.server_rules.specs.Plan.{StepAnswer}
-use Rattle.server_rules.specs.Turns.{Turn, turn_step, bytes_in}
-use Rattle.server_rules.specs.World.{World, accepted, refused}
+use Rattle.server_rules.specs.Machine.Turns.{Turn, turn_step}
+use Rattle.server_rules.specs.Plan.{bytes_in}
+use Rattle.server_rules.specs.Machine.World.{World, accepted, refused}
 use Rattle.server_rules.specs.declared.refusal.Refusal.{Refusal}
 use Rattle.tenant_turns.specs.Grounds.{IsRight}
 use Rattle.tenant_walks.specs.Grounds.{Evaluates}

@@ -5,9 +5,9 @@ use Rattle.std.specs.Ordering.{nat_cmp}
 use Rattle.std.specs.Prelude.{Vec}
 use Rattle.std.specs.declared.alloc.Global.{Global}
 use Rattle.server_rules.specs.Plan.{hears, drains}
-use Rattle.server_rules.specs.Turns as rules
-use Rattle.server_rules.specs.Turns.{given, goes}
-use Rattle.server_rules.specs.World.{opens, does, closes}
+use Rattle.server_rules.specs.Machine.Turns as rules
+use Rattle.server_rules.specs.Machine.Turns.{given, goes}
+use Rattle.server_rules.specs.Machine.World.{opens, does, closes}
 use Rattle.repl_core.specs.Driving.{RefusedData}
 use Rattle.machine_turns.specs.declared.turn.Turn.{Turn}
 use Rattle.machine_turns.specs.declared.outputs.Outputs.{Outputs}

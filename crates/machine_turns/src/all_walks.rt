@@ -1,6 +1,6 @@
 // The evaluations of all tenants.
 ghost use Rattle.std.specs.Prelude.{◌≡◌, ◌≢◌, ℕ, Option, None, Some, OnOk};
-ghost use Rattle.server_rules.specs.World.{TenantData};
+ghost use Rattle.server_rules.specs.Machine.World.{TenantData};
 ghost use Rattle.repl_core.specs.Going.{AreWalkedIn};
 ghost use Rattle.machine_turns.specs.AllWalks.{walks_at, IsWalkedAt};
 

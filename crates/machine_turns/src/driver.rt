@@ -1,8 +1,9 @@
 // A server that makes turns.
 ghost use Rattle.std.specs.Prelude.{◌≡◌, ◌≢◌, [], IfOk, IfErr, OnOk};
 ghost use Rattle.server_rules.specs.Ground.{Ground};
-ghost use Rattle.server_rules.specs.Turns.{given, goes, bytes_in};
-ghost use Rattle.server_rules.specs.World.{World, new_world};
+ghost use Rattle.server_rules.specs.Machine.Turns.{given, goes};
+ghost use Rattle.server_rules.specs.Plan.{bytes_in};
+ghost use Rattle.server_rules.specs.Machine.World.{World, new_world};
 ghost use Rattle.repl_core.specs.Going.{StepKeepsForms};
 ghost use Rattle.repl_core.specs.Steps.{step_view, step_answer_view};
 ghost use Rattle.machine_turns.specs.Configured.{IsConfigured};

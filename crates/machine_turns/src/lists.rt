@@ -1,7 +1,7 @@
 // Lists of turns.
 ghost use Rattle.std.specs.Prelude.{[], map, IfOk, OnOk};
 ghost use Rattle.server_rules.specs.Ground.{Ground};
-ghost use Rattle.server_rules.specs.World.{World, new_world};
+ghost use Rattle.server_rules.specs.Machine.World.{World, new_world};
 ghost use Rattle.machine_turns.specs.Configured.{IsConfigured};
 ghost use Rattle.machine_turns.specs.Driver.{DriverStands};
 ghost use Rattle.machine_turns.specs.Driven.{IsDriven, MakesTurn};

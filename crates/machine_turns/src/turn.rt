@@ -1,6 +1,6 @@
 // A turn of the server.
 ghost use Rattle.std.specs.Prelude.{◌≡◌};
-ghost use Rattle.server_rules.specs.Turns.{whose};
+ghost use Rattle.server_rules.specs.Machine.Turns.{whose};
 ghost use Rattle.machine_turns.specs.Turns.{turn_view};
 
 use bytes::Bytes;

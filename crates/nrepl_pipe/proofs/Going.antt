@@ -15,7 +15,7 @@ use Rattle.server_rules.specs.Plan.{leaves, Plan, quietly}
 use Rattle.server_rules.specs.Asking.{asked_of}
 use Rattle.server_rules.specs.Ending.{end_of}
 use Rattle.server_rules.specs.Deeds.{start_of, for_actor, unless_worn, plan}
-use Rattle.server_rules.specs.Turns.{honest_deed, honest_at, honest_of, honest_in, honest_by}
+use Rattle.server_rules.specs.Honest.{honest_deed, honest_at, honest_of, honest_in, honest_by}
 use Rattle.server_rules.specs.declared.actor.Actor.{Actor}
 use Rattle.server_rules.specs.declared.refusal.Refusal.{Refusal}
 use Rattle.tenant_turns.specs.DeedResult.{carried_out, deed_result}

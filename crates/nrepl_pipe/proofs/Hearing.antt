@@ -8,7 +8,7 @@ use Rattle.server_rules.specs.Store.{Store}
 use Rattle.server_rules.specs.Tenant.{Quiet, is_held}
 use Rattle.server_rules.specs.Hearing.{stream_fault, hears_more, hearing_plan}
 use Rattle.server_rules.specs.Plan.{Outcome, refuses, leaves}
-use Rattle.server_rules.specs.Turns.{bytes_in}
+use Rattle.server_rules.specs.Plan.{bytes_in}
 use Rattle.server_rules.specs.declared.refusal.Refusal.{Refusal}
 use Rattle.tenant_turns.specs.DeedResult.{carried_out, deed_result}
 use Rattle.tenant_turns.specs.Inside.Turned.{Accepted}

@@ -18,9 +18,9 @@ use Rattle.server_rules.specs.Plan.{Outcome, refuses, leaves, Plan}
 use Rattle.server_rules.specs.Starting.{Started, next_begun, program_begun, elsewhere_begun}
 use Rattle.server_rules.specs.Starting.{hand_of, code_begun, text_begun, namespace_there}
 use Rattle.server_rules.specs.Starting.{start_outcome, interrupted_in, first_state, held_or}
-use Rattle.server_rules.specs.Starting.{next_form_of, start_in_hand, start_waiting}
+use Rattle.server_rules.specs.Starting.{start_in_hand, start_waiting}
 use Rattle.server_rules.specs.Deeds.{start_of}
-use Rattle.server_rules.specs.Turns.{bytes_in}
+use Rattle.server_rules.specs.Plan.{bytes_in}
 use Rattle.server_rules.specs.declared.actor.Actor.{Actor}
 use Rattle.server_rules.specs.declared.refusal.Refusal.{Refusal}
 
@@ -79,7 +79,7 @@ held-so : (q : Quiet) (o : Outcome) → GoesSo q o → GoesSo q (held_or q o)
 held-so q o so = held-by q o (is_held q) refl so
 
 next-so : (g : Ground) (a : Actor) (actor : ActorData) (h : Hand) (q : Quiet)
-    → GoesSo q (next_form_of g a actor h q)
+    → GoesSo q (start_in_hand g a actor h q false)
 next-so g a actor h q = by actor.is_closed where
   by : (closed : Bool) → GoesSo q (if closed then interrupted_in a h q
       else held_or q (start_outcome a actor (next_begun g h (actor_state a q) h.forms) q))

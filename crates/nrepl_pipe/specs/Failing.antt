@@ -21,16 +21,12 @@ Marks (Some before) None since = ⊥
 Marks (Some before) (Some now) since = now ≡ (before || since)
 
 abbrev pub is_read_failed : {A : Type 0} → Result A PipeError → Bool
-is_read_failed (Ok answer) = false
-is_read_failed (Err PipeError.NoMemory) = false
 is_read_failed (Err PipeError.ReadFailed) = true
-is_read_failed (Err PipeError.WriteFailed) = false
+is_read_failed _ = false
 
 abbrev pub is_write_failed : {A : Type 0} → Result A PipeError → Bool
-is_write_failed (Ok answer) = false
-is_write_failed (Err PipeError.NoMemory) = false
-is_write_failed (Err PipeError.ReadFailed) = false
 is_write_failed (Err PipeError.WriteFailed) = true
+is_write_failed _ = false
 
 -- `ReadFailed` is answered where a read failed, `WriteFailed` where a write failed, and neither
 -- elsewhere

@@ -33,8 +33,7 @@ pub record BeginsToServe (g : Ground) (l : Lone) (read written : List ℕ) : Typ
 abbrev pub IsReadUp : PipeEnd → Option (List ℕ) → Type 0
 IsReadUp PipeEnd.Whole left = IsAtEnd left
 IsReadUp PipeEnd.Truncated left = IsAtEnd left
-IsReadUp (PipeEnd.Broken f) left = ⊤
-IsReadUp PipeEnd.Worn left = ⊤
+IsReadUp _ left = ⊤
 
 -- the bytes that a reader loses and a writer gains are these, as far as they tell their bytes
 abbrev pub Moves

@@ -6,7 +6,4 @@ use Rattle.nrepl_pipe.specs.declared.ends.PipeError.{PipeError}
 -- 0 where the input was whole messages and all was answered, else 1
 abbrev pub status_of : Result PipeEnd PipeError → ℕ
 status_of (Ok PipeEnd.Whole) = 0
-status_of (Ok PipeEnd.Truncated) = 1
-status_of (Ok (PipeEnd.Broken f)) = 1
-status_of (Ok PipeEnd.Worn) = 1
-status_of (Err error) = 1
+status_of _ = 1

@@ -7,7 +7,7 @@ use Rattle.server_rules.specs.Ground.{Ground}
 use Rattle.server_rules.specs.Plan.{Deed, StepAnswer}
 use Rattle.server_rules.specs.Store.{Store}
 use Rattle.server_rules.specs.Tenant.{Quiet}
-use Rattle.server_rules.specs.World.{TenantData, World, does, ended_as, with_tenant}
+use Rattle.server_rules.specs.Machine.World.{TenantData, World, does, ended_as, with_tenant}
 use Rattle.server_rules.specs.declared.actor.Actor.{Actor}
 use Rattle.server_rules.specs.declared.refusal.Refusal.{Refusal}
 use Rattle.ref_table.specs.Refs.{refs_after}

@@ -12,9 +12,9 @@ use Rattle.server_rules.specs.Numbered.{entry, part_under}
 use Rattle.server_rules.specs.Plan.{tenant_opened, tenant_gone}
 use Rattle.server_rules.specs.Store.{Store}
 use Rattle.server_rules.specs.Tenant.{opened_quiet}
-use Rattle.server_rules.specs.World.{TenantData, World, opens, closes, opened_tenant, with_tenant}
-use Rattle.server_rules.specs.World as worlds
-use Rattle.server_rules.specs.World.{is_used, open_count, open_step, step, accepted, refused}
+use Rattle.server_rules.specs.Machine.World.{TenantData, World, opens, closes, opened_tenant, with_tenant}
+use Rattle.server_rules.specs.Machine.World as worlds
+use Rattle.server_rules.specs.Machine.World.{is_used, open_count, open_step, step, accepted, refused}
 use Rattle.server_rules.specs.declared.refusal.Refusal.{Refusal}
 use Rattle.ref_history.specs.Histories.{ListStands}
 use Rattle.ref_table.specs.Refs.{Refs, without_refs}

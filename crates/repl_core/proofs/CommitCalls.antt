@@ -20,7 +20,7 @@ use Rattle.server_rules.specs.Commit.{all_take, refs_are_distinct, intent_fits, 
 use Rattle.value_data.specs.Same.{same_owner}
 use Rattle.server_rules.specs.Commit.{all_folded, with_changes, with_raised_counter, with_all}
 use Rattle.server_rules.specs.Commit.{concluded_commit, checked_commit, commit_by}
-use Rattle.server_rules.specs.Calls.{made_ref, performed_make, performed_begin, read_at, read_by}
+use Rattle.server_rules.specs.Calls.{performed_make, performed_begin, read_at, read_by}
 use Rattle.server_rules.specs.Calls.{bound_set, performed}
 use Rattle.server_rules.specs.Asking.{call_of}
 use Rattle.server_rules.proofs.Sound.{version_with}
@@ -205,7 +205,7 @@ left-newest name seat s = points-newest name (without seat s.mine.points) s
 
 performed_make-newest : (name : RefNameData) (d : Datum) (least most : ℕ) (s : Store)
     → newest_at name (performed_make s d least most).store
-    ≡ given_by name (exchange.new_ref d least most) (value (made_ref s (length s.mine.refs)))
+    ≡ given_by name (exchange.new_ref d least most) (value (datum.ref (tenant s.tenant) (length s.mine.refs)))
     (newest_at name s)
 performed_make-newest name d least most s = by name.owner
   where
@@ -323,7 +323,7 @@ asked-newest name seat (exchange.enter namespace) answer s told = refl
 asked-newest name seat (exchange.new_ref d least most) answer s told =
     performed_make-newest name d least most s
     ∙ ap (λ v. given_by name (exchange.new_ref d least most) v (newest_at name s))
-    (some-same (value (made_ref s (length s.mine.refs))) answer told)
+    (some-same (value (datum.ref (tenant s.tenant) (length s.mine.refs))) answer told)
 asked-newest name seat exchange.begin answer s told =
     performed_begin-newest name seat s (numbered.part_under seat s.mine.points)
 asked-newest name seat (exchange.read other) answer s told =

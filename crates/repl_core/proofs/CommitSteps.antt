@@ -25,9 +25,9 @@ use Rattle.server_rules.specs.Asking.{asked_allowed, asked_running, asked_of}
 use Rattle.server_rules.specs.Ending.{with_left_attempt, end_compared, end_checked, end_running}
 use Rattle.server_rules.specs.Ending.{end_of}
 use Rattle.server_rules.specs.Deeds.{start_of, for_actor, unless_worn, drain_outcome, plan}
-use Rattle.server_rules.specs.World.{TenantData, World, Step, opens, does, closes, Stepped, refused}
-use Rattle.server_rules.specs.World.{is_used, open_count, opened_tenant, open_step, with_tenant}
-use Rattle.server_rules.specs.World.{ended_as, planned_step, deed_step, close_step, step, world_or}
+use Rattle.server_rules.specs.Machine.World.{TenantData, World, Step, opens, does, closes, Stepped, refused}
+use Rattle.server_rules.specs.Machine.World.{is_used, open_count, opened_tenant, open_step, with_tenant}
+use Rattle.server_rules.specs.Machine.World.{ended_as, planned_step, deed_step, close_step, step, world_or}
 use Rattle.server_rules.specs.declared.actor.Actor.{Actor}
 use Rattle.server_rules.specs.declared.refusal.Refusal.{Refusal}
 use Rattle.server_rules.proofs.Steps.{room}

@@ -23,8 +23,8 @@ use Rattle.server_rules.specs.Plan.{asks_for, StepAnswer, ask_answered, Plan}
 use Rattle.server_rules.specs.Starting.{interrupted_in}
 use Rattle.server_rules.specs.Asking.{answer_outcome, when_told}
 use Rattle.server_rules.specs.Deeds.{plan}
-use Rattle.server_rules.specs.World.{TenantData, World, Step, does, accepted, refused, ended_as}
-use Rattle.server_rules.specs.World.{planned_step, deed_step, step, world_or, run}
+use Rattle.server_rules.specs.Machine.World.{TenantData, World, Step, does, accepted, refused, ended_as}
+use Rattle.server_rules.specs.Machine.World.{planned_step, deed_step, step, world_or, run}
 use Rattle.server_rules.specs.declared.actor.Actor.{Actor}
 use Rattle.server_rules.specs.declared.refusal.Refusal.{Refusal}
 use Rattle.repl_core.specs.Standing.{open_in, store_in}

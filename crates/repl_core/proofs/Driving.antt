@@ -2,8 +2,8 @@
 use Rattle.std.proofs.Common.{◌≡◌, ℕ, suc, ◌+◌, ◌==◌, List, [], ◌∷◌, ◌++◌, length, refl, sym, ap}
 use Rattle.std.proofs.Common.{◌∙◌, if◌then◌else◌, append_assoc, append-nil, arith}
 use Rattle.server_rules.specs.Ground.{Ground}
-use Rattle.server_rules.specs.Turns.{Turn, whose, turn_step, world_after, serve, bytes_given}
-use Rattle.server_rules.specs.World.{World, Stepped, accepted, refused}
+use Rattle.server_rules.specs.Machine.Turns.{Turn, whose, turn_step, world_after, serve, bytes_given}
+use Rattle.server_rules.specs.Machine.World.{World, Stepped, accepted, refused}
 use Rattle.repl_core.specs.Driving.{world_after_all, RefusedData, with_refusal, refusals}
 
 pub world_after_all-more : (g : Ground) (w : World) (xs ys : List Turn)

@@ -3,8 +3,9 @@ use Rattle.std.proofs.Common.{◌≡◌, ◌≢◌, ℕ, Some, None, option_map,
 use Rattle.std.proofs.Common.{sym, ap, subst, ◌∙◌}
 use Rattle.server_rules.specs.Ground.{Ground}
 use Rattle.server_rules.specs.Numbered.{part_under}
-use Rattle.server_rules.specs.Turns.{goes, turn_step, honest_deed, quiet_of}
-use Rattle.server_rules.specs.World.{TenantData, World, step, does, ended_as}
+use Rattle.server_rules.specs.Honest.{honest_deed}
+use Rattle.server_rules.specs.Machine.Turns.{goes, turn_step, quiet_of}
+use Rattle.server_rules.specs.Machine.World.{TenantData, World, step, does, ended_as}
 use Rattle.server_rules.specs.declared.actor.Actor.{Actor}
 use Rattle.server_rules.specs.declared.refusal.Refusal.{Refusal}
 use Rattle.tenant_refs.specs.Serving.{ListRefTable}

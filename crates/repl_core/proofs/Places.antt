@@ -7,7 +7,7 @@ use Rattle.server_rules.specs.Ground.{Ground}
 use Rattle.server_rules.specs.Numbered.{part_under, with_part}
 use Rattle.server_rules.specs.Store.{Around, Store}
 use Rattle.server_rules.specs.Tenant.{Quiet}
-use Rattle.server_rules.specs.World.{TenantData, World}
+use Rattle.server_rules.specs.Machine.World.{TenantData, World}
 use Rattle.ref_table.specs.Refs.{Refs, refs_after}
 use Rattle.tenant_refs.specs.Attempts.{ArePoints}
 use Rattle.tenant_refs.specs.Serving.{TableServes}

@@ -5,8 +5,8 @@ use Rattle.server_rules.specs.Plan as deeds
 use Rattle.server_rules.specs.Plan.{Deed, StepAnswer, Outcome, refuses, leaves}
 use Rattle.server_rules.specs.Store.{Store}
 use Rattle.server_rules.specs.Tenant.{Quiet}
-use Rattle.server_rules.specs.World.{TenantData, World, Stepped, accepted, refused, step, does}
-use Rattle.server_rules.specs.World.{ended_as}
+use Rattle.server_rules.specs.Machine.World.{TenantData, World, Stepped, accepted, refused, step, does}
+use Rattle.server_rules.specs.Machine.World.{ended_as}
 use Rattle.server_rules.specs.declared.actor.Actor.{Actor}
 use Rattle.server_rules.specs.declared.refusal.Refusal.{Refusal}
 use Rattle.tenant_turns.specs.DeedResult.{deed_result}

@@ -10,9 +10,9 @@ use Rattle.server_rules.specs.Plan.{Deed}
 use Rattle.server_rules.specs.Deeds.{plan}
 use Rattle.server_rules.specs.Store.{Store}
 use Rattle.server_rules.specs.Tenant.{Quiet}
-use Rattle.server_rules.specs.World.{TenantData, World, is_used, open_count, accepted, refused}
-use Rattle.server_rules.specs.World.{step, does, closes, deed_step, close_step, ended_as}
-use Rattle.server_rules.specs.World.{with_tenant}
+use Rattle.server_rules.specs.Machine.World.{TenantData, World, is_used, open_count, accepted, refused}
+use Rattle.server_rules.specs.Machine.World.{step, does, closes, deed_step, close_step, ended_as}
+use Rattle.server_rules.specs.Machine.World.{with_tenant}
 use Rattle.server_rules.specs.Plan.{tenant_gone}
 use Rattle.server_rules.specs.declared.refusal.Refusal.{Refusal}
 use Rattle.tenant_actors.proofs.EntryLaws.{found_first, replaced_first}

@@ -1,8 +1,8 @@
 -- What a list of turns comes to.
 use Rattle.std.specs.Prelude.{ℕ, ◌+◌, List, [], ◌∷◌}
 use Rattle.server_rules.specs.Ground.{Ground}
-use Rattle.server_rules.specs.Turns.{Turn, turn_step, world_after}
-use Rattle.server_rules.specs.World.{World, Stepped, accepted, refused}
+use Rattle.server_rules.specs.Machine.Turns.{Turn, turn_step, world_after}
+use Rattle.server_rules.specs.Machine.World.{World, Stepped, accepted, refused}
 use Rattle.server_rules.specs.declared.refusal.Refusal.{Refusal}
 
 -- the server behind a list of turns

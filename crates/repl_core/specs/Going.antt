@@ -2,9 +2,9 @@
 use Rattle.std.specs.Prelude.{◌≡◌, ◌≢◌, ℕ, Option, None, Some, ⊤}
 use Rattle.server_rules.specs.Ground.{Ground}
 use Rattle.server_rules.specs.Plan.{Deed, StepAnswer, hears, starts, asks_for, ends, drains}
-use Rattle.server_rules.specs.Turns.{goes, turn_step}
-use Rattle.server_rules.specs.World as worlds
-use Rattle.server_rules.specs.World.{TenantData, World, opens, does, closes, accepted, refused}
+use Rattle.server_rules.specs.Machine.Turns.{goes, turn_step}
+use Rattle.server_rules.specs.Machine.World as worlds
+use Rattle.server_rules.specs.Machine.World.{TenantData, World, opens, does, closes, accepted, refused}
 use Rattle.server_rules.specs.declared.actor.Actor.{Actor}
 use Rattle.server_rules.specs.declared.refusal.Refusal.{Refusal}
 use Rattle.tenant_walks.specs.Inside.WalkAt.{walk_at}

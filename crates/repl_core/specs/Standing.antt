@@ -4,7 +4,7 @@ use Rattle.value_data.specs.Datum.{shared, tenant}
 use Rattle.server_rules.specs.Ground.{Ground}
 use Rattle.server_rules.specs.Numbered.{part_under}
 use Rattle.server_rules.specs.Store.{Around, Own, Store}
-use Rattle.server_rules.specs.World.{TenantData, World, is_used, open_count}
+use Rattle.server_rules.specs.Machine.World.{TenantData, World, is_used, open_count}
 use Rattle.ref_history.specs.Histories.{ListStands}
 use Rattle.ref_table.specs.Refs.{Refs}
 use Rattle.ref_table.specs.Standing as table

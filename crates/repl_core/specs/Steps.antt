@@ -7,8 +7,8 @@ use Rattle.server_rules.specs.Plan as rules
 use Rattle.server_rules.specs.Plan.{tenant_opened, messages_heard, form_begun, request_answered}
 use Rattle.server_rules.specs.Plan.{ask_answered, form_finished, request_interrupted, reply_given}
 use Rattle.server_rules.specs.Plan.{tenant_gone}
-use Rattle.server_rules.specs.World as worlds
-use Rattle.server_rules.specs.World.{World, opens, does, closes, accepted, refused, step}
+use Rattle.server_rules.specs.Machine.World as worlds
+use Rattle.server_rules.specs.Machine.World.{World, opens, does, closes, accepted, refused, step}
 use Rattle.server_rules.specs.declared.refusal.Refusal.{Refusal}
 use Rattle.repl_walker.specs.Ends.{ending_view}
 use Rattle.repl_core.specs.Standing.{MachineStands}

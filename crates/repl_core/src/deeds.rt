@@ -5,7 +5,7 @@ ghost use Rattle.repl_asks.specs.Inside.View.{ask_view};
 ghost use Rattle.server_rules.specs.Ground.{Ground};
 ghost use Rattle.server_rules.specs.Plan as deeds;
 ghost use Rattle.server_rules.specs.Plan.{messages_heard, reply_given};
-ghost use Rattle.server_rules.specs.World.{World, does};
+ghost use Rattle.server_rules.specs.Machine.World.{World, does};
 ghost use Rattle.ref_table.specs.Standing.{counter_of};
 ghost use Rattle.tenant_turns.specs.Grounds.{IsRight};
 ghost use Rattle.repl_walker.specs.Ends as endings;

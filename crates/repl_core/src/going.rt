@@ -1,7 +1,7 @@
 // An actor goes on as its evaluation says.
 ghost use Rattle.std.specs.Prelude.{◌≡◌, ◌+◌, ◌<◌, Err, OnOk, IfErr, OnErr, length};
 ghost use Rattle.server_rules.specs.Ground.{Ground};
-ghost use Rattle.server_rules.specs.World.{World};
+ghost use Rattle.server_rules.specs.Machine.World.{World};
 ghost use Rattle.tenant_turns.specs.Grounds.{IsRight};
 ghost use Rattle.tenant_walks.specs.Grounds.{Evaluates};
 ghost use Rattle.repl_core.specs.Standing.{open_in};

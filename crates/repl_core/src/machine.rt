@@ -1,8 +1,8 @@
 // The machine as it begins, and what it shows.
 ghost use Rattle.std.specs.Prelude.{◌≡◌, [], option_and_then, option_map};
 ghost use Rattle.server_rules.specs.Ground.{Ground};
-ghost use Rattle.server_rules.specs.Ready.{ready};
-ghost use Rattle.server_rules.specs.World.{World, new_world};
+ghost use Rattle.server_rules.specs.Machine.Ready.{ready};
+ghost use Rattle.server_rules.specs.Machine.World.{World, new_world};
 ghost use Rattle.tenant_world.specs.Asking.{SharesNoNames};
 ghost use Rattle.repl_core.specs.Standing.{open_in};
 ghost use Rattle.repl_core.specs.TenantAt.{tenant_at};

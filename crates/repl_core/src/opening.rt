@@ -2,7 +2,7 @@
 ghost use Rattle.std.specs.Prelude.{◌≡◌, ◌≢◌, Err, OnOk, IfErr};
 ghost use Rattle.server_rules.specs.Ground.{Ground};
 ghost use Rattle.server_rules.specs.Plan.{tenant_opened, tenant_gone};
-ghost use Rattle.server_rules.specs.World.{World, opens, closes};
+ghost use Rattle.server_rules.specs.Machine.World.{World, opens, closes};
 ghost use Rattle.tenant_turns.specs.Grounds.{IsRight};
 ghost use Rattle.repl_core.specs.Standing.{is_reached};
 

@@ -1,7 +1,7 @@
 // The step of the server.
 ghost use Rattle.std.specs.Prelude.{◌≡◌, IfOk, IfErr};
 ghost use Rattle.server_rules.specs.Ground.{Ground};
-ghost use Rattle.server_rules.specs.World.{World};
+ghost use Rattle.server_rules.specs.Machine.World.{World};
 ghost use Rattle.tenant_turns.specs.Grounds.{IsRight};
 ghost use Rattle.tenant_world.specs.Answers.{start_answer_view, ask_answer_view, end_answer_view};
 ghost use Rattle.repl_core.specs.Steps.{step_view, step_answer_view};

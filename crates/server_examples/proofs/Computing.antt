@@ -18,7 +18,7 @@ use Rattle.repl_replies.specs.Operations.{operation_or_reply}
 use Rattle.server_rules.specs.Operating.{with_message}
 use Rattle.server_rules.specs.Hearing.{taken_in}
 use Rattle.server_rules.specs.Moves.{form_ended}
-use Rattle.server_rules.specs.World.{step}
+use Rattle.server_rules.specs.Machine.World.{step}
 use Rattle.server_examples.specs.Examples.{ReadIsRetried, TwoAreApart, CloseInterrupts}
 use Rattle.server_examples.specs.Examples.{OtherTraceIsRefused, PlaceIsFreed, NothingIsLeft}
 use Rattle.server_examples.specs.Examples.{IdleCostsNothing, BothCommute}

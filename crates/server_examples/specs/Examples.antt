@@ -6,8 +6,8 @@ use Rattle.repl_jobs.specs.Job.{EndingData}
 use Rattle.repl_replies.specs.Replies as replies
 use Rattle.server_rules.specs.Numbered.{part_under}
 use Rattle.server_rules.specs.Plan.{ends, tenant_opened}
-use Rattle.server_rules.specs.World.{opens, closes, does, step}
-use Rattle.server_rules.specs.Turns.{Turn, given}
+use Rattle.server_rules.specs.Machine.World.{opens, closes, does, step}
+use Rattle.server_rules.specs.Machine.Turns.{Turn, given}
 use Rattle.server_rules.specs.Isolation.Laws.{answer_in}
 use Rattle.server_rules.specs.declared.actor.Actor.{Actor}
 use Rattle.server_rules.specs.declared.refusal.Refusal.{Refusal}

@@ -7,8 +7,8 @@ use Rattle.repl_replies.specs.Replies as replies
 use Rattle.repl_replies.specs.Replies.{BodyData, bytes_of}
 use Rattle.server_rules.specs.Numbered.{part_under}
 use Rattle.server_rules.specs.Plan.{hears, drains}
-use Rattle.server_rules.specs.World.{TenantData, World, does, new_world}
-use Rattle.server_rules.specs.Turns.{Turn, given, goes, world_after, serve}
+use Rattle.server_rules.specs.Machine.World.{TenantData, World, does, new_world}
+use Rattle.server_rules.specs.Machine.Turns.{Turn, given, goes, world_after, serve}
 use Rattle.server_rules.specs.declared.actor.Actor.{Actor}
 use Rattle.server_examples.specs.Tables.{ground}
 use Rattle.server_examples.specs.Messages.{first_id, second_id, text_tree}

@@ -3,8 +3,8 @@ use Rattle.std.proofs.Common.{◌≡◌, ℕ, Option, Some, None, refl, sym, ap,
 use Rattle.std.specs.Prelude.{Result, Ok, Err}
 use Rattle.server_rules.specs.Ground.{Ground}
 use Rattle.server_rules.specs.Plan.{StepAnswer}
-use Rattle.server_rules.specs.World.{World, Step, Stepped, accepted, refused, step}
-use Rattle.server_rules.specs.Turns.{whose_step}
+use Rattle.server_rules.specs.Machine.World.{World, Step, Stepped, accepted, refused, step}
+use Rattle.server_rules.specs.Machine.Turns.{whose_step}
 use Rattle.server_rules.specs.Isolation.View.{View, view_for}
 use Rattle.server_rules.specs.Isolation.Privacy.{IsPrivateFor}
 use Rattle.server_rules.specs.Isolation.Laws.{answer_in, SameStep}

@@ -11,12 +11,14 @@ use Rattle.server_rules.specs.Ground.{Ground}
 use Rattle.server_rules.specs.Tenant.{Quiet}
 use Rattle.server_rules.specs.Plan.{Deed, StepAnswer, tenant_opened, tenant_gone, Outcome, refuses}
 use Rattle.server_rules.specs.Plan.{leaves}
-use Rattle.server_rules.specs.World.{TenantData, World, Step, opens, does, closes, Stepped}
-use Rattle.server_rules.specs.World.{accepted, refused, is_used, open_count, opened_tenant}
-use Rattle.server_rules.specs.World.{open_step, deed_step, close_step, step, world_or, run}
-use Rattle.server_rules.specs.Turns.{whose_step, Turn, given, goes, whose, honest_deed, quiet_of}
-use Rattle.server_rules.specs.Turns.{step_of, turn_step, world_after, bytes_in, bytes_given, serve}
-use Rattle.server_rules.specs.Turns.{turns_of_tenant}
+use Rattle.server_rules.specs.Machine.World.{TenantData, World, Step, opens, does, closes, Stepped}
+use Rattle.server_rules.specs.Machine.World.{accepted, refused, is_used, open_count, opened_tenant}
+use Rattle.server_rules.specs.Machine.World.{open_step, deed_step, close_step, step, world_or, run}
+use Rattle.server_rules.specs.Honest.{honest_deed}
+use Rattle.server_rules.specs.Machine.Turns.{whose_step, Turn, given, goes, whose, quiet_of}
+use Rattle.server_rules.specs.Machine.Turns.{step_of, turn_step, world_after, bytes_given, serve}
+use Rattle.server_rules.specs.Plan.{bytes_in}
+use Rattle.server_rules.specs.Machine.Turns.{turns_of_tenant}
 use Rattle.server_rules.specs.Isolation.View.{Seen, View, tenant_view, part_view, view_for}
 use Rattle.server_rules.specs.Isolation.Privacy.{NamesNoShared, IsPrivateFor, Private, IsAccepted, FirstOpen}
 use Rattle.server_rules.specs.declared.refusal.Refusal.{Refusal}

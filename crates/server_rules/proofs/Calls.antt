@@ -11,7 +11,8 @@ use Rattle.repl_faults.specs.Failure.{Failure, ◌>>=◌}
 use Rattle.repl_asks.specs.Transactions.{RefNameData, ChangeData, CommutedData, IntentData}
 use Rattle.repl_asks.specs.Exchange as exchange
 use Rattle.repl_asks.specs.Exchange.{AnswerData}
-use Rattle.server_rules.specs.Numbered.{changed_at, Entry, entry, part_under, map_entry}
+use Rattle.server_rules.specs.Numbered.{changed_at, Entry, entry, part_under}
+use Rattle.server_rules.specs.Isolation.View.{map_entry}
 use Rattle.server_rules.specs.Versions.{RefOf, new_ref, with_version, with_failed_read, with_least}
 use Rattle.server_rules.specs.Versions.{with_most, Ref, readable}
 use Rattle.server_rules.specs.Store.{Store, ref_of, ref_named, newest_in_ref, newest_value}

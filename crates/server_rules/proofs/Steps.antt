@@ -25,11 +25,11 @@ use Rattle.server_rules.specs.Asking.{when_told, answer_outcome}
 use Rattle.server_rules.specs.Ending.{with_left_attempt, end_compared, end_checked, end_running}
 use Rattle.server_rules.specs.Ending.{end_of}
 use Rattle.server_rules.specs.Deeds.{for_actor, unless_worn, drain_outcome, plan}
-use Rattle.server_rules.specs.World.{TenantData, World, Step, opens, does, closes, Stepped}
-use Rattle.server_rules.specs.World.{accepted, refused, is_used, open_count, opened_tenant}
-use Rattle.server_rules.specs.World.{open_step, ended_as, done_by, planned_step, deed_step}
-use Rattle.server_rules.specs.World.{close_step, with_tenant, step, world_or}
-use Rattle.server_rules.specs.Turns.{whose_step}
+use Rattle.server_rules.specs.Machine.World.{TenantData, World, Step, opens, does, closes, Stepped}
+use Rattle.server_rules.specs.Machine.World.{accepted, refused, is_used, open_count, opened_tenant}
+use Rattle.server_rules.specs.Machine.World.{open_step, ended_as, done_by, planned_step, deed_step}
+use Rattle.server_rules.specs.Machine.World.{close_step, with_tenant, step, world_or}
+use Rattle.server_rules.specs.Machine.Turns.{whose_step}
 use Rattle.server_rules.specs.Isolation.View.{Seen, seen_of, View, tenant_view, part_view, view_for}
 use Rattle.server_rules.specs.Isolation.Privacy.{IsPrivate, NamesNoShared}
 use Rattle.server_rules.specs.declared.actor.Actor.{Actor}

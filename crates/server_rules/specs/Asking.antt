@@ -23,9 +23,6 @@ use Rattle.server_rules.specs.declared.refusal.Refusal.{Refusal}
 
 -- what is asked of the refs
 abbrev pub call_of : ℕ → AskData → Call
-call_of seat (exchange.resolve namespace symbol) = nothing
-call_of seat (exchange.define namespace name binding) = nothing
-call_of seat (exchange.enter name) = nothing
 call_of seat (exchange.new_ref d least most) = makes d least most
 call_of seat exchange.begin = begins seat
 call_of seat (exchange.read name) = reads seat name
@@ -35,6 +32,7 @@ call_of seat (exchange.min_history name (Some n)) = sets_least name n
 call_of seat (exchange.max_history name None) = tells_most name
 call_of seat (exchange.max_history name (Some n)) = sets_most name n
 call_of seat (exchange.commit intent) = commits seat intent
+call_of seat _ = nothing
 
 -- a bound of a history is a number of the language
 abbrev pub is_bound : ℕ → Bool
@@ -83,10 +81,8 @@ spaces_after _ spaces = spaces
 abbrev pub with_recorded_answer : Actor → ActorData → Hand → Run → AskData → AnswerData → Quiet
     → Quiet
 with_recorded_answer a actor h run ask answer q =
-    let more : Run = record run {
-      trace =
-          run.trace ++ record { ask = ask; answer = answer } ∷ [];
-    } in
+    let trace = run.trace ++ record { ask = ask; answer = answer } ∷ [] in
+    let more : Run = record run { trace = trace } in
     with_actor a (record actor { hand = Some (record h { running = Some more }) }) q
 
 abbrev pub answer_outcome : Ground → Actor → ActorData → Hand → Run → AskData → Quiet → AnswerData
@@ -101,23 +97,19 @@ abbrev pub when_told : Option AnswerData → (AnswerData → Outcome) → Outcom
 when_told None next = refuses Refusal.Idle
 when_told (Some told) next = next told
 
+abbrev pub calling : Call → (AnswerData → Outcome) → Plan
+calling call next = record { call = call; next = λ told. when_told told next }
+
 abbrev pub asked_allowed : Ground → Actor → ActorData → Hand → Run → AskData → Quiet → Plan
 asked_allowed g a actor h run ask q =
     if actor.is_closed
-    then record {
-      call = gives_up (seat_of a) (call_of (seat_of a) ask);
-      next = λ told. when_told told (λ _. interrupted_in a h q);
-    }
-    else record {
-      call = call_of (seat_of a) ask;
-      next = λ told. when_told told (answer_outcome g a actor h run ask q);
-    }
+    then calling (gives_up (seat_of a) (call_of (seat_of a) ask)) (λ _. interrupted_in a h q)
+    else calling (call_of (seat_of a) ask) (answer_outcome g a actor h run ask q)
 
 abbrev pub asked_running : Ground → Actor → ActorData → Hand → AskData → Quiet → Option Run → Plan
 asked_running g a actor h ask q None = quietly (refuses Refusal.Idle)
 asked_running g a actor h ask q (Some run) =
-    if is_allowed ask then asked_allowed g a actor h run ask q
-    else quietly (refuses Refusal.Idle)
+    if is_allowed ask then asked_allowed g a actor h run ask q else quietly (refuses Refusal.Idle)
 
 abbrev pub asked_of : Ground → Actor → ActorData → AskData → Quiet → Option Hand → Plan
 asked_of g a actor ask q None = quietly (refuses Refusal.Idle)

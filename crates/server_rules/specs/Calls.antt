@@ -33,11 +33,8 @@ pub data Call : Type 0 where
 
 -- Making
 
-abbrev pub made_ref : Store → ℕ → Datum
-made_ref s n = datum.ref (tenant s.tenant) n
-
 abbrev pub performed_make : Store → Datum → ℕ → ℕ → Performed Store
-performed_make s d least most = tells (value (made_ref s (length s.mine.refs)))
+performed_make s d least most = tells (value (datum.ref (tenant s.tenant) (length s.mine.refs)))
     (with_refs (s.mine.refs ++ new_ref (record { stamp = 0; content = d }) least most ∷ []) s)
 
 -- Beginning: the read point is what the counter says
@@ -68,8 +65,7 @@ number_told n = value (datum.integer (pos n))
 -- in an attempt a shared ref's history is not told
 abbrev pub count_told : OwnerData → Option ℕ → Option Ref → Option AnswerData
 count_told shared (Some point) r = None
-count_told shared None r = option_map (λ r. number_told r.kept) r
-count_told (tenant t) point r = option_map (λ r. number_told r.kept) r
+count_told _ _ r = option_map (λ r. number_told r.kept) r
 
 -- a shared ref's bounds are not set
 abbrev pub bound_set : RefNameData → OwnerData → (Ref → Ref) → Store → Option Ref → Performed Store

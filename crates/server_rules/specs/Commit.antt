@@ -96,10 +96,8 @@ with_changes stamp (c ∷ cs) s = with_changes stamp cs
     (with_changed_ref c.name (with_version (record { stamp = stamp; content = c.now })) s)
 
 abbrev pub with_raised_counter : Store → Store
-with_raised_counter s = record s {
-  around =
-      record { counter = s.around.counter + 1; refs = s.around.refs };
-}
+with_raised_counter s =
+    record s { around = record { counter = s.around.counter + 1; refs = s.around.refs } }
 
 -- the counter rises where a ref changes
 abbrev pub with_all : List ChangeData → Store → Store

@@ -14,16 +14,14 @@ use Rattle.server_rules.specs.declared.refusal.Refusal.{Refusal}
 
 -- with the form also its attempt is left, where one runs
 abbrev pub with_left_attempt : Actor → Outcome → Plan
-with_left_attempt a outcome =
-    record { call = leaves_attempt (seat_of a); next = λ told. outcome }
+with_left_attempt a outcome = record { call = leaves_attempt (seat_of a); next = λ told. outcome }
 
 abbrev pub end_accepted : Actor → ActorData → Hand → EndingData → Quiet → Plan
 end_accepted a actor h e q = with_left_attempt a
     (leaves (with_step_spent (after_move a actor (form_ended h e.end (actor_state a q)) q))
     form_finished)
 
-abbrev pub end_compared
-    : Actor → ActorData → Hand → EndingData → Quiet → Bool → Option ℕ → Plan
+abbrev pub end_compared : Actor → ActorData → Hand → EndingData → Quiet → Bool → Option ℕ → Plan
 end_compared a actor h e q false difference = quietly (refuses (Refusal.TraceMismatch 0))
 end_compared a actor h e q true (Some place) = quietly (refuses (Refusal.TraceMismatch place))
 end_compared a actor h e q true None = end_accepted a actor h e q
@@ -37,8 +35,7 @@ abbrev pub end_running : Ground → Actor → ActorData → Hand → EndingData 
 end_running g a actor h e q None = quietly (refuses Refusal.Idle)
 end_running g a actor h e q (Some run) =
     if actor.is_closed then with_left_attempt a (interrupted_in a h q)
-    else if is_held q then quietly (refuses Refusal.Held)
-    else end_checked g a actor h run e q
+    else if is_held q then quietly (refuses Refusal.Held) else end_checked g a actor h run e q
 
 abbrev pub end_of : Ground → Actor → ActorData → EndingData → Quiet → Option Hand → Plan
 end_of g a actor e q None = quietly (refuses Refusal.Idle)

@@ -18,7 +18,6 @@ pub mod Starting
 pub mod Asking
 pub mod Ending
 pub mod Deeds
-pub mod Ready
-pub mod World
-pub mod Turns
+pub mod Honest
+pub mod Machine
 pub mod Isolation

@@ -36,10 +36,9 @@ over_by origin f state = over_move (fault_replies origin f ++ reply origin done 
 -- behind the last form: the fault of the text, if it has one, and last that the request is done
 abbrev pub closing_move : OriginData → Manner → Option Failure → StateData → Move
 closing_move origin manner (Some f) state = over_by origin f state
-closing_move origin each_form None state = over_move (reply origin done ∷ []) state
-closing_move origin each_form_elsewhere None state = over_move (reply origin done ∷ []) state
 closing_move origin (last_form d) None state =
     over_move (value_reply origin state.namespace d ∷ reply origin done ∷ []) (after_value d state)
+closing_move origin _ None state = over_move (reply origin done ∷ []) state
 
 -- behind a form that ended: the request waits for its next form, or is done
 abbrev pub going_on : Hand → Items → StateData → Move

@@ -26,6 +26,3 @@ with_part n part (e ∷ es) = if n == e.number then entry n part ∷ es else e �
 abbrev pub without : {A : Type 0} → ℕ → List (Entry A) → List (Entry A)
 without n [] = []
 without n (e ∷ es) = if n == e.number then without n es else e ∷ without n es
-
-abbrev pub map_entry : {A B : Type 0} → (A → B) → Entry A → Entry B
-map_entry f e = entry e.number (f e.part)

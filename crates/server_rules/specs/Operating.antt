@@ -67,8 +67,7 @@ asker (Some n) = Actor.Session n
 
 abbrev pub queued_for : Actor → Waiting → Quiet → Option ActorData → Quiet
 queued_for a w q None = q
-queued_for a w q (Some actor) =
-    with_actor a (record actor { waiting = actor.waiting ++ w ∷ [] }) q
+queued_for a w q (Some actor) = with_actor a (record actor { waiting = actor.waiting ++ w ∷ [] }) q
 
 abbrev pub with_queued : Actor → OriginData → ProgramText → Quiet → Quiet
 with_queued a origin text q =
@@ -96,6 +95,4 @@ with_asked g t (Err refusal) q = with_replies (refusal ∷ []) q
 unfoldable pub with_message : Ground → ℕ → wire.Tree → Quiet → Quiet
 with_message g t (wire.dictionary fields) q =
     with_asked g t (operations.operation_or_reply (number_named (named_sessions g t q)) fields) q
-with_message g t (wire.integer n) q = q
-with_message g t (wire.string bytes) q = q
-with_message g t (wire.list ts) q = q
+with_message g t _ q = q

@@ -1,5 +1,5 @@
 -- A tenant's deeds as plans: each calls the refs at most once, and goes on with what they tell.
-use Rattle.std.specs.Prelude.{ℕ, ◌-◌, List, Option}
+use Rattle.std.specs.Prelude.{ℕ, ◌-◌, List, [], Option}
 use Rattle.repl_asks.specs.Exchange.{AskData, AnswerData}
 use Rattle.repl_jobs.specs.Job.{JobData, EndingData}
 use Rattle.server_rules.specs.Calls.{Call, nothing}
@@ -30,6 +30,11 @@ pub data StepAnswer : Type 0 where
   request_interrupted : StepAnswer
   reply_given : List ℕ → StepAnswer
   tenant_gone : StepAnswer
+
+-- the bytes that an answer gives
+abbrev pub bytes_in : StepAnswer → List ℕ
+bytes_in (reply_given bytes) = bytes
+bytes_in _ = []
 
 -- what comes of a deed once the refs have told
 pub data Outcome : Type 0 where

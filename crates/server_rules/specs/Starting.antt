@@ -39,11 +39,8 @@ next_begun g h state no_items =
     record { move = closing_move h.origin h.manner h.fault state; answer = request_answered }
 next_begun g h state (item d ds) =
     let job = form_job g h (jobs.form d) in
-    record {
-      move = in_hand (record h { running = Some (record { job = job; trace = [] }); forms = ds })
-          state;
-      answer = form_begun job;
-    }
+    let begun : Hand = record h { running = Some (record { job = job; trace = [] }); forms = ds } in
+    record { move = in_hand begun state; answer = form_begun job }
 
 -- the fault of a program's text, as a fault of evaluation is told
 abbrev pub text_failure : FaultData → Failure
@@ -69,11 +66,8 @@ namespace_there spaces name = if is_there spaces name then Some name else None
 
 abbrev pub elsewhere_begun : Ground → OriginData → List ℕ → StateData → Option (List ℕ) → Started
 elsewhere_begun g origin text state None =
-    record {
-      move = over_move (reply origin namespace_not_found ∷ []) state;
-      answer =
-          request_answered;
-    }
+    let move = over_move (reply origin namespace_not_found ∷ []) state in
+    record { move = move; answer = request_answered }
 elsewhere_begun g origin text state (Some name) =
     program_begun g origin each_form_elsewhere name state (g.readings.program text)
 
@@ -113,15 +107,12 @@ interrupted_in a h q = leaves
 abbrev pub held_or : Quiet → Outcome → Outcome
 held_or q outcome = if is_held q then refuses Refusal.Held else outcome
 
--- a form of the request in hand
-abbrev pub next_form_of : Ground → Actor → ActorData → Hand → Quiet → Outcome
-next_form_of g a actor h q =
-    if actor.is_closed then interrupted_in a h q
-    else held_or q (start_outcome a actor (next_begun g h (actor_state a q) h.forms) q)
-
+-- a form of the request in hand, where none runs
 abbrev pub start_in_hand : Ground → Actor → ActorData → Hand → Quiet → Bool → Outcome
 start_in_hand g a actor h q true = refuses Refusal.Idle
-start_in_hand g a actor h q false = next_form_of g a actor h q
+start_in_hand g a actor h q false =
+    if actor.is_closed then interrupted_in a h q
+    else held_or q (start_outcome a actor (next_begun g h (actor_state a q) h.forms) q)
 
 abbrev pub start_waiting : Ground → Actor → ActorData → Quiet → List Waiting → Outcome
 start_waiting g a actor q [] = refuses Refusal.Idle

@@ -41,14 +41,11 @@ newest_in_ref (Some r) = newest r.versions
 abbrev pub newest_value : RefNameData → Store → Option Datum
 newest_value name s = newest_in_ref (ref_named name s)
 
-abbrev pub with_mine : Own → Store → Store
-with_mine mine s = record s { mine = mine }
-
 abbrev pub with_refs : List Ref → Store → Store
-with_refs refs s = with_mine (record { refs = refs; points = s.mine.points }) s
+with_refs refs s = record s { mine = record { refs = refs; points = s.mine.points } }
 
 abbrev pub with_points : List (Entry ℕ) → Store → Store
-with_points points s = with_mine (record { refs = s.mine.refs; points = points }) s
+with_points points s = record s { mine = record { refs = s.mine.refs; points = points } }
 
 abbrev pub changed_of : OwnerData → ℕ → (Ref → Ref) → Store → Store
 changed_of shared n f s =

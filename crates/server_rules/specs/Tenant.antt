@@ -1,5 +1,5 @@
 -- A tenant, without its refs and read points.
-use Rattle.std.specs.Prelude.{ℕ, suc, List, [], ◌∷◌, ◌++◌, Bool, false, Option, None, nat_le}
+use Rattle.std.specs.Prelude.{ℕ, zero, suc, List, [], ◌∷◌, ◌++◌, Bool, false, Option, None, nat_le}
 use Rattle.std.specs.Prelude.{length, unwrap_or}
 use Rattle.repl_sessions.specs.State.{StateData, fresh}
 use Rattle.repl_sessions.specs.Sessions as sessions
@@ -27,6 +27,10 @@ unoccupied = record { waiting = []; hand = None; is_closed = false }
 abbrev pub seat_of : Actor → ℕ
 seat_of Actor.Bare = 0
 seat_of (Actor.Session n) = suc n
+
+abbrev pub actor_at : ℕ → Actor
+actor_at zero = Actor.Bare
+actor_at (suc n) = Actor.Session n
 
 pub record Quiet : Type 0 where
   -- how many more pieces, and starts, asks and ends of forms it takes

@@ -8,7 +8,7 @@ use Rattle.std.proofs.lemmas.List.{take_at}
 use Rattle.std.proofs.lemmas.Map.Steps.{set_value_same}
 use Rattle.server_rules.specs.Numbered.{Entry, entry, part_under, with_part}
 use Rattle.server_rules.specs.Operating.{with_vacated_seat}
-use Rattle.server_rules.specs.Ready.{actor_at}
+use Rattle.server_rules.specs.Tenant.{actor_at}
 use Rattle.server_rules.specs.Request.{Waiting, Hand}
 use Rattle.server_rules.specs.Tenant.{ActorData, seat_of}
 use Rattle.server_rules.specs.declared.actor.Actor.{Actor}

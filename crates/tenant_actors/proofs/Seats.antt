@@ -14,7 +14,8 @@ use Rattle.std.proofs.lemmas.Cmp.{ranked}
 use Rattle.std.proofs.lemmas.List.{map-append}
 use Rattle.server_rules.specs.Numbered.{Entry, entry, part_under, with_part, without}
 use Rattle.server_rules.specs.Tenant.{ActorData, seat_of}
-use Rattle.server_rules.specs.Ready.{has_work, actor_at}
+use Rattle.server_rules.specs.Machine.Ready.{has_work}
+use Rattle.server_rules.specs.Tenant.{actor_at}
 use Rattle.server_rules.specs.declared.actor.Actor.{Actor}
 use Rattle.server_rules.specs.contracts.actor.ActorOrd.TheImpl as ord
 use Rattle.tenant_actors.specs.View.{actor_view, actor_entry_view, AreBelow}

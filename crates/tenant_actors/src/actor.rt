@@ -1,6 +1,6 @@
 // An actor, which runs the forms of its requests one after another.
 ghost use Rattle.std.specs.Prelude.{◌≡◌, [], true, option_map, OnOk, OnErr};
-ghost use Rattle.server_rules.specs.Ready.{may_begin};
+ghost use Rattle.server_rules.specs.Machine.Ready.{may_begin};
 ghost use Rattle.server_rules.specs.Tenant.{unoccupied};
 ghost use Rattle.tenant_actors.specs.View.{waiting_view, hand_view, actor_view};
 ghost use Rattle.tenant_actors.specs.Queues.{with_request, without_newest};

@@ -1,7 +1,8 @@
 // The actors by their names.
 ghost use Rattle.std.specs.Prelude.{◌≡◌, [], ◌∷◌, ◌++◌, find, map, option_map, IfOk, OnOk, OnErr};
 ghost use Rattle.server_rules.specs.Numbered.{entry, part_under, with_part, without};
-ghost use Rattle.server_rules.specs.Ready.{has_work, actor_at};
+ghost use Rattle.server_rules.specs.Machine.Ready.{has_work};
+ghost use Rattle.server_rules.specs.Tenant.{actor_at};
 ghost use Rattle.server_rules.specs.Tenant.{seat_of, unoccupied};
 ghost use Rattle.tenant_actors.specs.View.{actor_view, actors_view, AreBelow};
 

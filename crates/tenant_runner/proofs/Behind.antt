@@ -8,10 +8,11 @@ use Rattle.server_rules.specs.Ground.{Ground}
 use Rattle.server_rules.specs.Plan.{Deed, StepAnswer, Outcome, refuses, leaves, tenant_opened}
 use Rattle.server_rules.specs.Store.{Around, Store}
 use Rattle.server_rules.specs.Tenant.{Quiet}
-use Rattle.server_rules.specs.Turns.{bytes_in, honest_deed}
-use Rattle.server_rules.specs.World as worlds
-use Rattle.server_rules.specs.World.{TenantData, World, new_world, opened_tenant, opens, does}
-use Rattle.server_rules.specs.World.{with_tenant}
+use Rattle.server_rules.specs.Honest.{honest_deed}
+use Rattle.server_rules.specs.Plan.{bytes_in}
+use Rattle.server_rules.specs.Machine.World as worlds
+use Rattle.server_rules.specs.Machine.World.{TenantData, World, new_world, opened_tenant, opens, does}
+use Rattle.server_rules.specs.Machine.World.{with_tenant}
 use Rattle.server_rules.specs.declared.actor.Actor.{Actor}
 use Rattle.server_rules.specs.declared.refusal.Refusal.{Refusal}
 use Rattle.tenant_turns.specs.DeedResult.{DeedResult, deed_result}

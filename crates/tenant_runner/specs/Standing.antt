@@ -1,7 +1,7 @@
 -- The code stands for a tenant that is served alone.
 use Rattle.std.specs.Prelude.{◌≡◌, Some}
 use Rattle.server_rules.specs.Ground.{Ground}
-use Rattle.server_rules.specs.World.{TenantData, World}
+use Rattle.server_rules.specs.Machine.World.{TenantData, World}
 use Rattle.tenant_turns.specs.Grounds.{IsRight}
 use Rattle.tenant_turns.specs.Inside.Turned.{Left}
 use Rattle.tenant_turns.specs.Turns.{Lone}

@@ -12,12 +12,11 @@ pub record DeedResult : Type 0 where
   -- what the tenant reaches of the refs behind it; it is left so only where the outcome is accepted
   pub store : Store
 
-abbrev pub deed_result_as : Plan → Performed Store → DeedResult
-deed_result_as p called = record { outcome = p.next called.told; store = called.store }
-
 -- a plan with its call of the refs
 abbrev pub carried_out : Store → Plan → DeedResult
-carried_out s p = deed_result_as p (performed s p.call)
+carried_out s p =
+    let called = performed s p.call in
+    record { outcome = p.next called.told; store = called.store }
 
 -- what a deed comes to of the tenant whose store this is
 unfoldable pub deed_result : Ground → Store → Quiet → Deed → DeedResult

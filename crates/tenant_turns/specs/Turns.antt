@@ -1,18 +1,16 @@
 -- The turns of a tenant that is served alone, and what a list of them serves.
 use Rattle.std.specs.Prelude.{ℕ, List, [], ◌∷◌, ◌++◌, Some, map}
-use Rattle.bencode_wire.specs.Stream.{StreamEnding, rest, fault}
-use Rattle.bencode_wire.specs.Fault.{counted_place, fault_at}
-use Rattle.server_rules.specs.Store.{Store}
+use Rattle.server_rules.specs.Store.{Around, Own, Store}
 use Rattle.server_rules.specs.Ground.{Ground}
 use Rattle.server_rules.specs.Tenant.{Quiet, opened_quiet}
-use Rattle.server_rules.specs.Ready.{actor_at}
+use Rattle.server_rules.specs.Tenant.{actor_at}
 use Rattle.server_rules.specs.Plan.{Deed, Outcome, refuses, leaves}
 use Rattle.server_rules.specs.Plan as deeds
-use Rattle.server_rules.specs.Turns.{honest_deed, bytes_in}
+use Rattle.server_rules.specs.Honest.{honest_deed}
+use Rattle.server_rules.specs.Plan.{bytes_in}
 use Rattle.server_rules.specs.declared.actor.Actor.{Actor}
 use Rattle.server_rules.specs.declared.refusal.Refusal.{Refusal}
 use Rattle.tenant_turns.specs.DeedResult.{DeedResult, deed_result}
-use Rattle.tenant_turns.specs.declared.turns.Wire.{Wire}
 
 -- A turn: a piece of the stream is heard, an actor goes on as its evaluation says, or the oldest
 -- reply is taken out.
@@ -28,14 +26,10 @@ pub record Lone : Type 0 where
 
 -- it begins as the tenant with the first number, and there are no refs
 abbrev pub opened_lone : Ground → Lone
-opened_lone g = record {
-  quiet = opened_quiet g;
-  store = record {
-    around = record { counter = 0; refs = [] };
-    tenant = 0;
-    mine = record { refs = []; points = [] };
-  };
-}
+opened_lone g =
+    let around : Around = record { counter = 0; refs = [] } in
+    let mine : Own = record { refs = []; points = [] } in
+    record { quiet = opened_quiet g; store = record { around = around; tenant = 0; mine = mine } }
 
 -- what a turn makes of the tenant, with the bytes that it gives; or why it is refused
 pub data LoneStepped : Type 0 where
@@ -82,9 +76,3 @@ lone_served g l (turn ∷ turns) = reply_taken (lone_step g l turn)
 -- the actors, in the order of their rounds
 abbrev pub actors_of : Lone → List Actor
 actors_of l = map (λ e. actor_at e.number) l.quiet.actors
-
--- what has come of the stream
-abbrev pub wire_at : StreamEnding → Wire
-wire_at (rest []) = Wire.Whole
-wire_at (rest (byte ∷ m)) = Wire.Partial
-wire_at (fault rule at) = Wire.Broken (fault_at rule (counted_place at))

@@ -4,7 +4,8 @@ ghost use Rattle.std.specs.Prelude.{IfErr, MatchOption};
 ghost use Rattle.server_rules.specs.Ground.{Ground};
 ghost use Rattle.tenant_turns.specs.Grounds.{IsRight};
 ghost use Rattle.tenant_turns.specs.Turns.{Lone, hears, goes, drains, accepted, lone_step};
-ghost use Rattle.tenant_turns.specs.Turns.{actors_of, wire_at};
+ghost use Rattle.tenant_turns.specs.Turns.{actors_of};
+ghost use Rattle.tenant_turns.specs.Inside.Wires.{wire_at};
 ghost use Rattle.tenant_turns.specs.Inside.Turned.{Left, Accepted, IsRefused};
 
 use bencode_wire::WireFault;

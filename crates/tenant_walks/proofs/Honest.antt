@@ -11,7 +11,7 @@ use Rattle.server_rules.specs.Numbered.{part_under}
 use Rattle.server_rules.specs.Request.{Hand, Run}
 use Rattle.server_rules.specs.Tenant.{ActorData, Quiet, seat_of}
 use Rattle.server_rules.specs.Plan as deeds
-use Rattle.server_rules.specs.Turns.{honest_deed, honest_at, honest_of, honest_in, honest_by}
+use Rattle.server_rules.specs.Honest.{honest_deed, honest_at, honest_of, honest_in, honest_by}
 use Rattle.server_rules.specs.declared.actor.Actor.{Actor}
 use Rattle.tenant_world.specs.Running.{running_of, running_in}
 use Rattle.repl_walker.specs.Ends.{ending_view}

@@ -12,7 +12,7 @@ use Rattle.repl_walker.specs.declared.waiting.Walk.{Walk}
 use Rattle.repl_walker.specs.declared.waiting.Progress.{Progress}
 use Rattle.repl_walker.specs.declared.ending.Ending.{Ending}
 use Rattle.repl_jobs.specs.Inside.View.{job_view}
-use Rattle.server_rules.specs.Ready.{actor_at}
+use Rattle.server_rules.specs.Tenant.{actor_at}
 use Rattle.server_rules.specs.Request.{Run}
 use Rattle.server_rules.specs.Tenant.{Quiet, seat_of}
 use Rattle.server_rules.specs.declared.actor.Actor.{Actor}

@@ -11,7 +11,7 @@ use Rattle.repl_asks.specs.Exchange.{AskData}
 use Rattle.server_rules.specs.Numbered.{Entry, entry, part_under, with_part}
 use Rattle.server_rules.specs.Ground.{Ground}
 use Rattle.server_rules.specs.Readings.{message_limit}
-use Rattle.server_rules.specs.Ready.{has_waiting, may_begin}
+use Rattle.server_rules.specs.Machine.Ready.{has_waiting, may_begin}
 use Rattle.server_rules.specs.Request.{Waiting, Hand}
 use Rattle.server_rules.specs.Starting.{start_waiting, start_in_hand}
 use Rattle.server_rules.specs.Store.{Store}

@@ -2,14 +2,15 @@
 ghost use Rattle.std.specs.Prelude.{◌≡◌, ◌+◌, ℕ, [], ◌∷◌, map, option_map, IfOk, MatchOption};
 ghost use Rattle.server_rules.specs.Ground.{Ground};
 ghost use Rattle.server_rules.specs.Tenant.{Quiet, opened_quiet};
-ghost use Rattle.server_rules.specs.Ready.{ready};
+ghost use Rattle.server_rules.specs.Machine.Ready.{ready};
 ghost use Rattle.server_rules.specs.Plan as deeds;
 ghost use Rattle.server_rules.specs.Plan.{reply_given};
 ghost use Rattle.tenant_actors.specs.View.{run_view};
 ghost use Rattle.tenant_turns.specs.Grounds.{IsRight};
 ghost use Rattle.server_rules.specs.Store.{Store};
 ghost use Rattle.tenant_turns.specs.DeedResult.{deed_result};
-ghost use Rattle.tenant_turns.specs.Turns.{Lone, actors_of, wire_at};
+ghost use Rattle.tenant_turns.specs.Turns.{Lone, actors_of};
+ghost use Rattle.tenant_turns.specs.Inside.Wires.{wire_at};
 ghost use Rattle.tenant_world.specs.Asking.{SharesNoNames};
 ghost use Rattle.tenant_world.specs.Running.{running_in};
 

@@ -14,7 +14,8 @@ ghost use Rattle.evaluation_rules.specs.Calls.{alter_call, commute_applied, comm
 ghost use Rattle.evaluation_rules.specs.Calls.{named_call, not_of_core};
 ghost use Rattle.evaluation_rules.specs.Evaluation.{value_at};
 ghost use Rattle.walker_state.specs.Pending.{from_state, place_of, tree};
-ghost use Rattle.walker_state.specs.Frames.{alter_behind, alter_step};
+ghost use Rattle.walker_state.specs.Frames.{alter_behind, alter_step, store_next};
+ghost use Rattle.walker_state.specs.Size.{store_frame_size};
 ghost use Rattle.walker_state.specs.declared.frames.State.{State};
 ghost use Rattle.walker_state.specs.Position.{LeadsOnWithin};
 
@@ -28,7 +29,9 @@ use repl_values::{RefName, Value, copy_items};
 use special_forms::{Forms, Function};
 use std::alloc::{AllocError, Global};
 use store_calls::{Alteration, Altered, ref_to_alter};
-use walker_state::{Callee, Control, Frame, State, SymbolUse, call_core, read};
+use walker_state::{
+    Callee, Control, Frame, State, StoreFrame, SymbolUse, call_core, commute, hold, read,
+};
 
 // A list with `alter` or `commute` at its head, and these forms behind it: a function stands
 // between the first argument and those behind it.
@@ -53,32 +56,45 @@ pub(crate) fn begin_alter(
     };
     match forms.take_first()? {
         Some(function) => {
-            let frame = Frame::AlterRef {
-                by,
-                function,
-                forms,
-                room,
-            };
-            state.frames.push_front(frame)?;
+            let frame = StoreFrame::AlterRef(by, function, forms, room);
+            state.frames.push_front(Frame::Store(frame))?;
             Ok(Control::Evaluate(target, room))
         }
         None => {
-            let frame = Frame::Arguments {
-                callee,
-                values,
-                forms,
-                room,
-            };
+            let frame = Frame::Arguments(callee, values, forms, room);
             state.frames.push_front(frame)?;
             Ok(Control::Evaluate(target, room))
         }
     }
 }
 
+// The value goes to a function that asks the store.
+pub(crate) fn give_to_store(
+    alloc: Global,
+    state: &mut State,
+    frame: StoreFrame,
+    value: Value,
+) -> Result<Control, AllocError>
+    ensures on { IfOk result (LeadsOnWithin (1 + store_frame_size frame) state.old state.new) }
+    ensures meaning { IfOk result (λ control. tree control state.new
+        ≡ from_state (store_next frame (place_of state.old) (view value)) state.old) }
+{
+    match frame {
+        StoreFrame::AlterRef(by, function, forms, room) => {
+            name_function(alloc, state, by, value, function, forms, room)
+        }
+        StoreFrame::AlterCall(by, name, function, values, room) => {
+            call_altering(alloc, state, by, name, function, values, value, room)
+        }
+        StoreFrame::Held(name) => hold(alloc, state, name, value),
+        StoreFrame::Commuted(name, applied) => commute(alloc, state, name, applied, value),
+    }
+}
+
 // Either of them behind its first argument, which has this value: its function is named by a
 // symbol.
 #[tactic(auto, using(value_data::proofs::Views::value_views, walker_state::proofs::Stepping::steps), unfolding(walker_state::specs::Frames::alter_behind))]
-pub(crate) fn name_function(
+fn name_function(
     alloc: Global,
     state: &mut State,
     by: Alteration,
@@ -127,14 +143,8 @@ pub(crate) fn call_alter(
     match ref_to_alter(alloc, by, state.transaction.is_some(), &target)? {
         Altered::Refused(fault) => Ok(Control::Fault(fault)),
         Altered::Ref(name) => {
-            let frame = Frame::AlterCall {
-                by,
-                name,
-                function,
-                values,
-                room,
-            };
-            state.frames.push_front(frame)?;
+            let frame = StoreFrame::AlterCall(by, name, function, values, room);
+            state.frames.push_front(Frame::Store(frame))?;
             read(state, name)
         }
     }
@@ -142,7 +152,7 @@ pub(crate) fn call_alter(
 
 // The function is called with the value of the ref, and these arguments behind it.
 #[tactic(auto, using(walker_state::proofs::Stepping::steps), unfolding(walker_state::specs::Frames::alter_step))]
-pub(crate) fn call_altering(
+fn call_altering(
     alloc: Global,
     state: &mut State,
     by: Alteration,
@@ -161,7 +171,8 @@ pub(crate) fn call_altering(
         Alteration::Alter => {
             let mut values = values;
             values.insert(0, value)?;
-            state.frames.push_front(Frame::Held { name })?;
+            let frame = Frame::Store(StoreFrame::Held(name));
+            state.frames.push_front(frame)?;
             call_named(alloc, state, function, values, room)
         }
         Alteration::Commute => call_commuting(alloc, state, name, function, values, value),
@@ -218,7 +229,8 @@ fn apply_commuting(
         function,
         arguments: values,
     };
-    state.frames.push_front(Frame::Commuted { name, commute })?;
+    let frame = Frame::Store(StoreFrame::Commuted(name, commute));
+    state.frames.push_front(frame)?;
     call_core(alloc, state, function, row.as_slice())
 }
 

@@ -193,7 +193,7 @@ pub(crate) fn enter(
     let locals = bind_parameters(alloc, &params, values)?;
     let home = Some(space);
     let place = mem::replace(&mut state.place, Place { locals, home });
-    state.frames.push_front(Frame::Leave { place })?;
+    state.frames.push_front(Frame::Leave(place))?;
     next_in_body(state, Value::Nil, body, room)
 }
 

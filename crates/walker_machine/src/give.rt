@@ -7,14 +7,14 @@ ghost use Rattle.walker_state.specs.Pending.{tree_with_value, tree};
 ghost use Rattle.walker_state.specs.Size.{frame_size};
 ghost use Rattle.walker_state.specs.Position.{LeadsOnWithin};
 
-use crate::alter::{call_altering, name_function};
+use crate::alter::give_to_store;
 use crate::rows::{next_argument, next_binding, next_in_logic, next_item};
 use crate::special::define;
 use repl_asks::Binding;
 use repl_values::Value;
 use special_forms::chosen_body;
 use std::alloc::{AllocError, Global};
-use walker_state::{Control, Frame, State, bind, commute, enter_named, hold, next_in_body, throw};
+use walker_state::{Control, Frame, State, bind, enter_named, next_in_body, throw};
 
 pub(crate) fn give(
     alloc: Global,
@@ -27,69 +27,33 @@ pub(crate) fn give(
         ≡ tree_with_value frame (view value) state.old) }
 {
     match frame {
-        Frame::Arguments {
-            callee,
-            mut values,
-            forms,
-            room,
-        } => {
+        Frame::Arguments(callee, mut values, forms, room) => {
             values.push(value)?;
             next_argument(alloc, state, callee, values, forms, room)
         }
-        Frame::Collection {
-            kind,
-            mut values,
-            forms,
-            room,
-        } => {
+        Frame::Collection(kind, mut values, forms, room) => {
             values.push(value)?;
             next_item(alloc, state, kind, values, forms, room)
         }
-        Frame::Body { forms, room } => next_in_body(state, value, forms, room),
-        Frame::Choice {
-            consequent,
-            alternative,
-            room,
-        } => {
+        Frame::Body(forms, room) => next_in_body(state, value, forms, room),
+        Frame::Choice(consequent, alternative, room) => {
             let body = chosen_body(value, consequent, alternative);
             next_in_body(state, Value::Nil, body, room)
         }
-        Frame::Logic { logic, forms, room } => next_in_logic(state, logic, value, forms, room),
-        Frame::Let {
-            name,
-            bindings,
-            body,
-            room,
-        } => {
+        Frame::Logic(logic, forms, room) => next_in_logic(state, logic, value, forms, room),
+        Frame::Let(name, bindings, body, room) => {
             bind(state, name, value)?;
             next_binding(alloc, state, bindings, body, room)
         }
-        Frame::Define { name } => define(state, name, Binding::Value(value)),
+        Frame::Define(name) => define(state, name, Binding::Value(value)),
         Frame::Throw => throw(alloc, value),
         Frame::Namespace => enter_named(alloc, value),
-        Frame::AlterRef {
-            by,
-            function,
-            forms,
-            room,
-        } => name_function(alloc, state, by, value, function, forms, room),
-        Frame::AlterCall {
-            by,
-            name,
-            function,
-            values,
-            room,
-        } => call_altering(alloc, state, by, name, function, values, value, room),
-        Frame::Held { name } => hold(alloc, state, name, value),
-        Frame::Commuted {
-            name,
-            commute: applied,
-        } => commute(alloc, state, name, applied, value),
+        Frame::Store(frame) => give_to_store(alloc, state, frame, value),
         Frame::Unbind => {
             state.place.locals.unbind();
             Ok(Control::Return(value))
         }
-        Frame::Leave { place } => {
+        Frame::Leave(place) => {
             state.place = place;
             Ok(Control::Return(value))
         }

@@ -37,12 +37,7 @@ pub(crate) fn next_argument(
     let Some(form) = forms.take_first()? else {
         return call(alloc, state, callee, values, room);
     };
-    let frame = Frame::Arguments {
-        callee,
-        values,
-        forms,
-        room,
-    };
+    let frame = Frame::Arguments(callee, values, forms, room);
     state.frames.push_front(frame)?;
     Ok(Control::Evaluate(form, room))
 }
@@ -66,12 +61,7 @@ pub(crate) fn next_item(
     match forms.take_first()? {
         None => make_collection(alloc, kind, values),
         Some(form) => {
-            let frame = Frame::Collection {
-                kind,
-                values,
-                forms,
-                room,
-            };
+            let frame = Frame::Collection(kind, values, forms, room);
             state.frames.push_front(frame)?;
             Ok(Control::Evaluate(form, room))
         }
@@ -96,7 +86,7 @@ pub(crate) fn next_in_logic(
         None => Ok(Control::Return(last)),
         Some(_form) if logic.decides(&last) => Ok(Control::Return(last)),
         Some(form) => {
-            let frame = Frame::Logic { logic, forms, room };
+            let frame = Frame::Logic(logic, forms, room);
             state.frames.push_front(frame)?;
             Ok(Control::Evaluate(form, room))
         }
@@ -123,12 +113,7 @@ pub(crate) fn next_binding(
         None => next_in_body(state, Value::Nil, body, room),
         Some(binding) => {
             let LetBinding { name, form } = binding;
-            let frame = Frame::Let {
-                name,
-                bindings,
-                body,
-                room,
-            };
+            let frame = Frame::Let(name, bindings, body, room);
             state.frames.push_front(frame)?;
             Ok(Control::Evaluate(form, room))
         }

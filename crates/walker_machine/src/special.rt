@@ -68,16 +68,12 @@ fn begin(alloc: Global, state: &mut State, shape: Shape, room: u32) -> Result<Co
             consequent,
             alternative,
         } => {
-            let frame = Frame::Choice {
-                consequent,
-                alternative,
-                room,
-            };
+            let frame = Frame::Choice(consequent, alternative, room);
             evaluate_for(state, frame, condition, room)
         }
         Shape::Let { bindings, body } => next_binding(alloc, state, bindings, body, room),
         Shape::Logic(logic, forms) => next_in_logic(state, logic, logic.before(), forms, room),
-        Shape::Define { name, form } => evaluate_for(state, Frame::Define { name }, form, room),
+        Shape::Define { name, form } => evaluate_for(state, Frame::Define(name), form, room),
         Shape::DefineFunction { name, params, body } => {
             define_function(alloc, state, name, params, body)
         }

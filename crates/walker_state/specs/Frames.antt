@@ -28,6 +28,7 @@ use Rattle.walker_state.specs.declared.frames.Place.{Place}
 use Rattle.walker_state.specs.declared.frames.Callee.{Callee}
 use Rattle.walker_state.specs.declared.frames.Collection.{Collection}
 use Rattle.walker_state.specs.declared.frames.Frame.{Frame}
+use Rattle.walker_state.specs.declared.frames.StoreFrame.{StoreFrame}
 
 abbrev pub place_view : Place → PlaceData
 place_view p = record { locals = p.locals; home = option_map arc_str_bytes p.home }
@@ -82,6 +83,16 @@ unfoldable pub alter_step : ℕ → Alteration → RefNameData → NamedFunction
     → Part Datum
 alter_step room by name f args d = alteration_value (value_at room) by f args name d
 
+-- what a function that asks the store does with the value
+abbrev pub store_next : StoreFrame → PlaceData → Datum → Part Datum
+store_next (StoreFrame.AlterRef by function forms room) p v =
+    alter_behind room p by v (view function) (forms_view forms)
+store_next (StoreFrame.AlterCall by name f values room) p v =
+    alter_step room by (name_view name) (named_view f) (views values.items) v
+store_next (StoreFrame.Held name) p v = held_value (name_view name) v
+store_next (StoreFrame.Commuted name commute) p v =
+    commute_noted (name_view name) (commute_view commute) v
+
 -- what is done with the value of the innermost form
 abbrev pub frames_next : List Frame → PlaceData → Datum → Kept → Doing
 frames_next [] p v kept = left (gave v) kept
@@ -106,15 +117,7 @@ frames_next (Frame.Define name ∷ frames) p v kept =
     definition_value p (arc_str_bytes name) (bound_value v) (frames_next frames p) kept
 frames_next (Frame.Throw ∷ frames) p v kept = thrown_value v (frames_next frames p) kept
 frames_next (Frame.Namespace ∷ frames) p v kept = computed_entry_value v (frames_next frames p) kept
-frames_next (Frame.AlterRef by function forms room ∷ frames) p v kept =
-    alter_behind room p by v (view function) (forms_view forms) (frames_next frames p) kept
-frames_next (Frame.AlterCall by name f values room ∷ frames) p v kept =
-    alter_step room by (name_view name) (named_view f) (views values.items) v
-    (frames_next frames p) kept
-frames_next (Frame.Held name ∷ frames) p v kept =
-    held_value (name_view name) v (frames_next frames p) kept
-frames_next (Frame.Commuted name commute ∷ frames) p v kept =
-    commute_noted (name_view name) (commute_view commute) v (frames_next frames p) kept
+frames_next (Frame.Store frame ∷ frames) p v kept = store_next frame p v (frames_next frames p) kept
 frames_next (Frame.Unbind ∷ frames) p v kept = frames_next frames (without_local p) v kept
 frames_next (Frame.Leave place ∷ frames) p v kept = frames_next frames (place_view place) v kept
 

@@ -5,9 +5,17 @@ use Rattle.special_forms.specs.Inside.Bindings.{bindings_in}
 use Rattle.special_forms.specs.Inside.Seen.{forms_view}
 use Rattle.special_forms.specs.Inside.Size.{datum_size, forms_size, bindings_size}
 use Rattle.walker_state.specs.declared.frames.Frame.{Frame}
+use Rattle.walker_state.specs.declared.frames.StoreFrame.{StoreFrame}
 use Rattle.walker_state.specs.declared.frames.SymbolUse.{SymbolUse}
 use Rattle.walker_state.specs.declared.frames.Wanted.{Wanted}
 use Rattle.walker_state.specs.declared.frames.Control.{Control}
+
+abbrev pub store_frame_size : StoreFrame → ℕ
+store_frame_size (StoreFrame.AlterRef by function forms room) =
+    6 + (3 * datum_size (view function) + forms_size (forms_view forms))
+store_frame_size (StoreFrame.AlterCall by name f values room) = 3
+store_frame_size (StoreFrame.Held name) = 1
+store_frame_size (StoreFrame.Commuted name commute) = 1
 
 abbrev pub frame_size : Frame → ℕ
 frame_size (Frame.Arguments callee values forms room) = 5 + forms_size (forms_view forms)
@@ -21,11 +29,7 @@ frame_size (Frame.Let name bindings body room) =
 frame_size (Frame.Define name) = 2
 frame_size Frame.Throw = 1
 frame_size Frame.Namespace = 2
-frame_size (Frame.AlterRef by function forms room) =
-    6 + (3 * datum_size (view function) + forms_size (forms_view forms))
-frame_size (Frame.AlterCall by name f values room) = 3
-frame_size (Frame.Held name) = 1
-frame_size (Frame.Commuted name commute) = 1
+frame_size (Frame.Store frame) = store_frame_size frame
 frame_size Frame.Unbind = 1
 frame_size (Frame.Leave place) = 1
 

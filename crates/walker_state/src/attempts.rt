@@ -121,20 +121,17 @@ fn go_behind(frame: Frame, place: &mut Place)
 {
     match frame {
         Frame::Unbind => place.locals.unbind(),
-        Frame::Leave { place: outer } => *place = outer,
-        Frame::Arguments { .. }
-        | Frame::Collection { .. }
-        | Frame::Body { .. }
-        | Frame::Choice { .. }
-        | Frame::Logic { .. }
-        | Frame::Let { .. }
-        | Frame::Define { .. }
+        Frame::Leave(outer) => *place = outer,
+        Frame::Arguments(..)
+        | Frame::Collection(..)
+        | Frame::Body(..)
+        | Frame::Choice(..)
+        | Frame::Logic(..)
+        | Frame::Let(..)
+        | Frame::Define(..)
         | Frame::Throw
         | Frame::Namespace
-        | Frame::AlterRef { .. }
-        | Frame::AlterCall { .. }
-        | Frame::Held { .. }
-        | Frame::Commuted { .. } => {}
+        | Frame::Store(..) => {}
     }
 }
 

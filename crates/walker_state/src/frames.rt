@@ -26,88 +26,49 @@ pub enum Collection {
     Map,
 }
 
-/// What waits for the value of the form that is evaluated. Forms that are still to be evaluated
-/// have `room` for so many forms inside one another.
+/// What waits for the value of the form that is evaluated. Where forms are still to be evaluated,
+/// the number behind them is their room: for so many forms inside one another.
 #[derive(Drop)]
 pub enum Frame {
-    // A call: the values of its first arguments, and the forms of those behind the one that is
-    // evaluated.
-    Arguments {
-        callee: Callee,
-        values: Vec<Value>,
-        forms: Forms,
-        room: u32,
-    },
+    // A call: what is called, the values of its first arguments, and the forms of those behind the
+    // one that is evaluated.
+    Arguments(Callee, Vec<Value>, Forms, u32),
     // The items of a vector or, by turns, the keys and values of a map: those that have values, and
     // the forms behind the one that is evaluated.
-    Collection {
-        kind: Collection,
-        values: Vec<Value>,
-        forms: Forms,
-        room: u32,
-    },
+    Collection(Collection, Vec<Value>, Forms, u32),
     // The forms of a body behind the one that is evaluated.
-    Body {
-        forms: Forms,
-        room: u32,
-    },
-    // The bodies of which a condition chooses one.
-    Choice {
-        consequent: Forms,
-        alternative: Forms,
-        room: u32,
-    },
+    Body(Forms, u32),
+    // The bodies of which a condition chooses one: the first where it is true, else the second.
+    Choice(Forms, Forms, u32),
     // The forms of `and` or `or` behind the one that is evaluated.
-    Logic {
-        logic: Logic,
-        forms: Forms,
-        room: u32,
-    },
+    Logic(Logic, Forms, u32),
     // The name whose value is evaluated, the names and forms behind it by turns, and the body.
-    Let {
-        name: ArcStr,
-        bindings: Forms,
-        body: Forms,
-        room: u32,
-    },
+    Let(ArcStr, Forms, Forms, u32),
     // The definition of this name.
-    Define {
-        name: ArcStr,
-    },
+    Define(ArcStr),
     Throw,
     // The value is the name of the namespace to enter.
     Namespace,
-    // The ref of `alter` or `commute`: the form of its function, and the forms of the arguments
-    // behind that.
-    AlterRef {
-        by: Alteration,
-        function: Value,
-        forms: Forms,
-        room: u32,
-    },
-    // The value of the ref that is altered, with its function and the arguments behind it.
-    AlterCall {
-        by: Alteration,
-        name: RefName,
-        function: NamedFunction,
-        values: Vec<Value>,
-        room: u32,
-    },
-    // What goes into this ref.
-    Held {
-        name: RefName,
-    },
-    // What a function gave that is applied to this ref's value, and is to be applied again.
-    Commuted {
-        name: RefName,
-        commute: Commute,
-    },
+    // A function that asks the store.
+    Store(StoreFrame),
     // The newest local goes.
     Unbind,
     // A function's body ends, and this is the place of its call.
-    Leave {
-        place: Place,
-    },
+    Leave(Place),
+}
+
+/// What of a function that asks the store waits for a value.
+#[derive(Drop)]
+pub enum StoreFrame {
+    // `alter` or `commute`, for its ref: the form of its function, and the forms of the arguments
+    // behind that, with their room.
+    AlterRef(Alteration, Value, Forms, u32),
+    // Either of them, for the value of this ref: its function, and the arguments behind it.
+    AlterCall(Alteration, RefName, NamedFunction, Vec<Value>, u32),
+    // What goes into this ref.
+    Held(RefName),
+    // What a function gave that is applied to this ref's value, and is to be applied again.
+    Commuted(RefName, Commute),
 }
 
 /// Where a form stands: the locals, and the namespace in which the function was defined

@@ -20,7 +20,7 @@ pub use attempts::{begin_again, begin_attempt, begin_transaction, retry};
 pub use collect::make_collection;
 pub use commits::{EndOrCommit, leave, settle};
 pub use frames::{
-    Callee, Collection, Control, Frame, Place, State, SymbolUse, Transaction, Wanted,
+    Callee, Collection, Control, Frame, Place, State, StoreFrame, SymbolUse, Transaction, Wanted,
 };
 pub use names::{look_up, names_function, resolve, space};
 pub use namespaces::{enter_named, enter_namespace, go_on_in};

@@ -34,7 +34,7 @@ pub fn next_in_body(
     match forms.take_first()? {
         None => Ok(Control::Return(last)),
         Some(form) => {
-            state.frames.push_front(Frame::Body { forms, room })?;
+            state.frames.push_front(Frame::Body(forms, room))?;
             Ok(Control::Evaluate(form, room))
         }
     }

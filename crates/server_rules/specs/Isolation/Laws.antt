@@ -3,9 +3,9 @@ use Rattle.std.specs.Prelude.{◌≡◌, ◌≢◌, ℕ, List, Option, Some, Res
 use Rattle.server_rules.specs.Versions.{Ref}
 use Rattle.server_rules.specs.Ground.{Ground}
 use Rattle.server_rules.specs.Plan.{StepAnswer}
-use Rattle.server_rules.specs.World.{World, Step, Stepped, accepted, refused, step, world_or}
-use Rattle.server_rules.specs.World.{new_world, run}
-use Rattle.server_rules.specs.Turns.{whose_step, Turn, serve, turns_of_tenant}
+use Rattle.server_rules.specs.Machine.World.{World, Step, Stepped, accepted, refused, step, world_or}
+use Rattle.server_rules.specs.Machine.World.{new_world, run}
+use Rattle.server_rules.specs.Machine.Turns.{whose_step, Turn, serve, turns_of_tenant}
 use Rattle.server_rules.specs.Isolation.View.{View, view_for}
 use Rattle.server_rules.specs.Isolation.Privacy.{IsPrivateFor, Private, FirstOpen}
 use Rattle.server_rules.specs.declared.refusal.Refusal.{Refusal}

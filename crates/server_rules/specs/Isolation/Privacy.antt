@@ -7,9 +7,9 @@ use Rattle.repl_asks.specs.Exchange.{AskData}
 use Rattle.server_rules.specs.Commit.{touched_refs}
 use Rattle.server_rules.specs.Ground.{Ground}
 use Rattle.server_rules.specs.Plan.{Deed, asks_for}
-use Rattle.server_rules.specs.World.{World, Step, opens, does, closes, Stepped, accepted, refused}
-use Rattle.server_rules.specs.World.{step}
-use Rattle.server_rules.specs.Turns.{Turn, given, goes, step_of, world_after}
+use Rattle.server_rules.specs.Machine.World.{World, Step, opens, does, closes, Stepped, accepted, refused}
+use Rattle.server_rules.specs.Machine.World.{step}
+use Rattle.server_rules.specs.Machine.Turns.{Turn, given, goes, step_of, world_after}
 
 abbrev pub IsOwned : OwnerData → Type 0
 IsOwned shared = ⊥

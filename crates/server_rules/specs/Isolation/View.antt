@@ -2,11 +2,11 @@
 -- which the commits of others move.
 use Rattle.std.specs.Prelude.{ℕ, ◌+◌, List, [], ◌∷◌, nat_le, map, Option, option_map, if◌then◌else◌}
 use Rattle.value_data.specs.Datum.{Datum}
-use Rattle.server_rules.specs.Numbered.{Entry, part_under, map_entry}
+use Rattle.server_rules.specs.Numbered.{Entry, entry, part_under}
 use Rattle.server_rules.specs.Versions.{RefOf, Version, Ref}
 use Rattle.server_rules.specs.Store.{Own}
 use Rattle.server_rules.specs.Tenant.{Quiet}
-use Rattle.server_rules.specs.World.{TenantData, World}
+use Rattle.server_rules.specs.Machine.World.{TenantData, World}
 
 -- the values that a ref ever had, without their stamps
 abbrev pub map_ref : {V W : Type 0} → (V → W) → RefOf V → RefOf W
@@ -30,6 +30,9 @@ count_at point (v ∷ vs) =
 -- the same, for each ref
 abbrev pub counts_at : List Ref → ℕ → List ℕ
 counts_at refs point = map (λ r. count_at point r.versions) refs
+
+abbrev pub map_entry : {A B : Type 0} → (A → B) → Entry A → Entry B
+map_entry f e = entry e.number (f e.part)
 
 pub record Seen : Type 0 where
   pub refs : List (RefOf Datum)

@@ -1,7 +1,7 @@
 use Rattle.std.proofs.Common.{◌≡◌, ◌∙◌, ◌+◌, ◌<◌, ◌≤◌, ap, refl, sym, subst, ℕ, List, [], ◌∷◌, ◌++◌}
 use Rattle.std.proofs.Common.{take, map, length, arith}
 use Rattle.std.proofs.lemmas.List.{map_more, length-map, length-take-le, take_all}
-use Rattle.server_rules.specs.World.{new_world}
+use Rattle.server_rules.specs.Machine.World.{new_world}
 use Rattle.machine_turns.specs.Driven.{IsDriven, Drives}
 use Rattle.machine_turns.specs.Turns.{turn_view}
 use Rattle.machine_turns.specs.declared.turn.Turn.{Turn}

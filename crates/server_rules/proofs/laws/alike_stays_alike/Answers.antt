@@ -1,4 +1,4 @@
-use Rattle.server_rules.specs.World.{new_world, run}
+use Rattle.server_rules.specs.Machine.World.{new_world, run}
 use Rattle.server_rules.proofs.Alone.{run-sound}
 use Rattle.server_rules.proofs.Alike.{alike}
 use Rattle.server_rules.proofs.laws.alike_stays_alike.Goals as goal

@@ -1,5 +1,5 @@
 use Rattle.std.proofs.Common.{refl}
-use Rattle.server_rules.specs.World.{new_world}
+use Rattle.server_rules.specs.Machine.World.{new_world}
 use Rattle.server_rules.proofs.Alone.{before-alone}
 use Rattle.server_rules.proofs.laws.served_alone.Goals as goal
 

@@ -1,5 +1,5 @@
 use Rattle.std.proofs.Common.{subst, sym, []}
-use Rattle.server_rules.specs.World.{new_world}
+use Rattle.server_rules.specs.Machine.World.{new_world}
 use Rattle.repl_core.specs.Standing.{open_in}
 use Rattle.machine_turns.specs.AllWalks.{IsWalkedAt}
 use Rattle.machine_turns.proofs.driver.Driver.new.Goals as goal

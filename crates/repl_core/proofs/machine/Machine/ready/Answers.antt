@@ -1,5 +1,5 @@
 use Rattle.std.proofs.Common.{◌∙◌, ap, sym, option_map}
-use Rattle.server_rules.specs.Ready as rules
+use Rattle.server_rules.specs.Machine.Ready as rules
 use Rattle.repl_core.proofs.Places.{shown-of}
 use Rattle.repl_core.proofs.machine.Machine.ready.Goals as goal
 

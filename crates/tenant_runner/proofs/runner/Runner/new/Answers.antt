@@ -1,5 +1,5 @@
 use Rattle.std.proofs.Common.{[]}
-use Rattle.server_rules.specs.World.{new_world}
+use Rattle.server_rules.specs.Machine.World.{new_world}
 use Rattle.tenant_runner.proofs.Behind.{opened-stands}
 use Rattle.tenant_runner.specs.declared.runner.Runner.{Runner}
 use Rattle.tenant_runner.proofs.runner.Runner.new.Goals as goal

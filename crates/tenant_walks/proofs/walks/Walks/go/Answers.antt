@@ -2,7 +2,7 @@ use Rattle.std.proofs.Common.{◌∙◌, sym, Some}
 use Rattle.repl_asks.specs.Inside.View.{ask_view}
 use Rattle.repl_walker.specs.declared.waiting.Progress.{Progress}
 use Rattle.server_rules.specs.Plan as deeds
-use Rattle.server_rules.specs.Turns.{honest_deed}
+use Rattle.server_rules.specs.Honest.{honest_deed}
 use Rattle.tenant_actors.specs.View.{run_view}
 use Rattle.repl_walker.specs.Ends.{ending_view}
 use Rattle.tenant_walks.specs.Inside.Standing.{parts}

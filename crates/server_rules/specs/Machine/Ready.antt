@@ -1,9 +1,9 @@
 -- Which actors have something to begin.
-use Rattle.std.specs.Prelude.{ℕ, zero, suc, List, [], ◌∷◌, Bool, true, false, not, is_some}
+use Rattle.std.specs.Prelude.{List, [], ◌∷◌, Bool, true, false, not, is_some}
 use Rattle.std.specs.Prelude.{Option, None, Some, option_map, find}
 use Rattle.server_rules.specs.Numbered.{Entry}
 use Rattle.server_rules.specs.Request.{Waiting, Hand}
-use Rattle.server_rules.specs.Tenant.{ActorData, Quiet}
+use Rattle.server_rules.specs.Tenant.{ActorData, actor_at, Quiet}
 use Rattle.server_rules.specs.declared.actor.Actor.{Actor}
 
 abbrev pub has_waiting : List Waiting → Bool
@@ -16,10 +16,6 @@ may_begin waiting (Some h) = not (is_some h.running)
 
 abbrev pub has_work : Entry ActorData → Bool
 has_work e = may_begin e.part.waiting e.part.hand
-
-abbrev pub actor_at : ℕ → Actor
-actor_at zero = Actor.Bare
-actor_at (suc n) = Actor.Session n
 
 -- the first actor that has a form or a request to begin
 abbrev pub ready : Quiet → Option Actor
