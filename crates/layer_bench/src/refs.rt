@@ -1,5 +1,5 @@
-// Makes refs, sets each of them in rounds, reads each as it was at every round, and commutes one more
-// ref in one transaction, so that the table of refs can be timed alone.
+// Makes refs, sets each of them in rounds, reads each as it was at every round, and commutes one
+// more ref in one transaction, so that the table of refs can be timed alone.
 use crate::number_of;
 use function_names::CoreFunction;
 use ref_history::{Bounds, ListHistory};

@@ -1,5 +1,5 @@
-// Counts the messages of a bencode stream, so that the decoder can be timed alone. Messages before a
-// fault are counted; what follows one is not read.
+// Counts the messages of a bencode stream, so that the decoder can be timed alone. Messages before
+// a fault are counted; what follows one is not read.
 
 ghost use Rattle.std.specs.Prelude.{◌≡◌, ◌+◌, length};
 ghost use Rattle.bencode_wire.specs.Inside.Decoder.{ready_of};

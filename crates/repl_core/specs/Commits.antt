@@ -16,7 +16,8 @@ use Rattle.server_rules.specs.Commit.{guarded_refs, is_newer_ref, folded_from}
 use Rattle.server_rules.specs.Ground.{Ground}
 use Rattle.server_rules.specs.Tenant.{seat_of}
 use Rattle.server_rules.specs.Plan.{StepAnswer, asks_for, ask_answered}
-use Rattle.server_rules.specs.Machine.World.{TenantData, World, Step, does, closes, Stepped, accepted}
+use Rattle.server_rules.specs.Machine.World.{TenantData, World, Step, does, closes, Stepped}
+use Rattle.server_rules.specs.Machine.World.{accepted}
 use Rattle.server_rules.specs.Machine.World.{refused, step, world_or, run}
 use Rattle.server_rules.specs.declared.actor.Actor.{Actor}
 use Rattle.repl_core.specs.Standing.{open_in}

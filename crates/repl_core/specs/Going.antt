@@ -4,7 +4,8 @@ use Rattle.server_rules.specs.Ground.{Ground}
 use Rattle.server_rules.specs.Plan.{Deed, StepAnswer, hears, starts, asks_for, ends, drains}
 use Rattle.server_rules.specs.Machine.Turns.{goes, turn_step}
 use Rattle.server_rules.specs.Machine.World as worlds
-use Rattle.server_rules.specs.Machine.World.{TenantData, World, opens, does, closes, accepted, refused}
+use Rattle.server_rules.specs.Machine.World.{TenantData, World, opens, does, closes, accepted}
+use Rattle.server_rules.specs.Machine.World.{refused}
 use Rattle.server_rules.specs.declared.actor.Actor.{Actor}
 use Rattle.server_rules.specs.declared.refusal.Refusal.{Refusal}
 use Rattle.tenant_walks.specs.Inside.WalkAt.{walk_at}

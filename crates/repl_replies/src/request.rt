@@ -2,7 +2,7 @@
 ghost use Rattle.std.specs.Prelude.{◌≡◌, if◌then◌else◌, codes};
 ghost use Rattle.bencode_wire.specs.Inside.View.{entries_view};
 ghost use Rattle.repl_replies.specs.Replies.{unknown_op};
-ghost use Rattle.repl_replies.specs.Inside.Requests.{request_or_reply, is_this_string, in_session};
+ghost use Rattle.repl_replies.specs.Inside.Requests.{request_or_reply, is_this_string, for_session};
 ghost use Rattle.repl_replies.specs.Inside.Requests.{refused};
 ghost use Rattle.repl_replies.specs.Inside.View.{field_view, origin_view, body_view};
 ghost use Rattle.repl_replies.specs.Inside.View.{request_or_reply_view};
@@ -47,7 +47,7 @@ fn request_of_fields(
     origin: Origin,
 ) -> RequestOrReply
     ensures { request_or_reply_view result ≡ (if is_this_string (codes "eval") (field_view op)
-        then in_session (origin_view origin) (field_view code) (field_view ns)
+        then for_session (origin_view origin) (field_view code) (field_view ns)
         (field_view origin.session)
         else refused (origin_view origin) (unknown_op (field_view op))) }
 {

@@ -12,7 +12,8 @@ use Rattle.server_rules.specs.Tenant.{actor_at}
 use Rattle.server_rules.specs.Request.{Waiting, Hand}
 use Rattle.server_rules.specs.Tenant.{ActorData, seat_of}
 use Rattle.server_rules.specs.declared.actor.Actor.{Actor}
-use Rattle.tenant_actors.specs.Queues.{changed_found, changed_at, with_request, without_newest}
+use Rattle.tenant_actors.specs.Queues.{changed_found, with_changed_actor, with_request}
+use Rattle.tenant_actors.specs.Queues.{without_newest}
 use Rattle.tenant_actors.specs.Queues.{vacated_found, vacated_at}
 use Rattle.tenant_actors.specs.View.{hand_view, actor_view}
 use Rattle.tenant_actors.specs.declared.request.Hand as code
@@ -43,7 +44,7 @@ state-part_under a v es is = sym (part_under-seen a es) ∙ ap (option_map actor
 -- a change of the actor of a name, and none where it is not there
 pub changed-seen : (a : Actor) (f : ActorData → ActorData) (v w : ActorState) (es : Entries)
     → lookup (at a) es ≡ Some v → actor_view w ≡ f (actor_view v)
-    → seen (set_value (at a) es w) ≡ changed_at (seat_of a) f (seen es)
+    → seen (set_value (at a) es w) ≡ with_changed_actor (seat_of a) f (seen es)
 changed-seen a f v w es is step =
     with_part-seen a w es
     ∙ ap (λ (x : ActorData). with_part (seat_of a) x (seen es)) step
@@ -58,7 +59,7 @@ kept-seen a v w es is same =
     (state-part_under a v es is ∙ ap (λ (x : ActorData). Some x) (sym same))
 
 pub absent-changed : (a : Actor) (f : ActorData → ActorData) (es : Entries)
-    → lookup (at a) es ≡ None → seen es ≡ changed_at (seat_of a) f (seen es)
+    → lookup (at a) es ≡ None → seen es ≡ with_changed_actor (seat_of a) f (seen es)
 absent-changed a f es absent =
     sym (ap (changed_found (seat_of a) f (seen es)) (absent-seen a es absent))
 
@@ -72,11 +73,11 @@ newest-back w actor =
     ∙ take_at actor.waiting (w ∷ []) (length actor.waiting) refl)
 
 pub queued-back : (n : ℕ) (w : Waiting) (es : List (Entry ActorData))
-    → changed_at n without_newest (changed_at n (with_request w) es) ≡ es
+    → with_changed_actor n without_newest (with_changed_actor n (with_request w) es) ≡ es
 queued-back n w es = by (part_under n es) refl
   where
     by : (o : Option ActorData) → part_under n es ≡ o
-        → changed_at n without_newest (changed_found n (with_request w) es o) ≡ es
+        → with_changed_actor n without_newest (changed_found n (with_request w) es o) ≡ es
     by None is = ap (changed_found n without_newest es) is
     by (Some actor) is =
         let more = with_request w actor in

@@ -12,9 +12,9 @@ abbrev pub changed_found
 changed_found seat f es None = es
 changed_found seat f es (Some actor) = with_part seat (f actor) es
 
-abbrev pub changed_at
+abbrev pub with_changed_actor
     : ℕ → (ActorData → ActorData) → List (Entry ActorData) → List (Entry ActorData)
-changed_at seat f es = changed_found seat f es (part_under seat es)
+with_changed_actor seat f es = changed_found seat f es (part_under seat es)
 
 -- a request waits behind the others
 abbrev pub with_request : Waiting → ActorData → ActorData

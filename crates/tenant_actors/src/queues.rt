@@ -2,7 +2,8 @@
 ghost use Rattle.std.specs.Prelude.{◌≡◌, OnOk, OnErr};
 ghost use Rattle.server_rules.specs.Tenant.{seat_of};
 ghost use Rattle.tenant_actors.specs.View.{waiting_view, actors_view};
-ghost use Rattle.tenant_actors.specs.Queues.{changed_at, with_request, without_newest, vacated_at};
+ghost use Rattle.tenant_actors.specs.Queues.{with_changed_actor, with_request, without_newest};
+ghost use Rattle.tenant_actors.specs.Queues.{vacated_at};
 
 use crate::actors::Actors;
 use crate::request::Waiting;
@@ -15,11 +16,11 @@ impl Actors {
     /// only for want of memory.
     pub fn queue(&mut self, actor: Actor, request: Waiting) -> Result<(), AllocError>
         ensures queued { OnOk result (actors_view self.new
-            ≡ changed_at (seat_of actor) (with_request (waiting_view request))
+            ≡ with_changed_actor (seat_of actor) (with_request (waiting_view request))
             (actors_view self.old)) }
         // `unqueue` undoes it
         ensures undone { OnOk result (
-            changed_at (seat_of actor) without_newest (actors_view self.new)
+            with_changed_actor (seat_of actor) without_newest (actors_view self.new)
             ≡ actors_view self.old) }
         ensures stays { OnErr result (actors_view self.new ≡ actors_view self.old) }
     {
@@ -36,7 +37,7 @@ impl Actors {
     /// takes no memory.
     pub fn unqueue(&mut self, actor: Actor)
         ensures { actors_view self.new
-            ≡ changed_at (seat_of actor) without_newest (actors_view self.old) }
+            ≡ with_changed_actor (seat_of actor) without_newest (actors_view self.old) }
     {
         if let Some(state) = self.live.get_mut(&actor) {
             state.unqueue();

@@ -25,7 +25,7 @@ use Rattle.server_rules.specs.Replying.{reply}
 use Rattle.server_rules.specs.Request.{Waiting}
 use Rattle.server_rules.specs.Tenant.{ActorData, unoccupied, seat_of, Quiet, with_replies}
 use Rattle.server_rules.specs.declared.actor.Actor.{Actor}
-use Rattle.tenant_actors.specs.Queues.{changed_found, changed_at, with_request, vacated_found}
+use Rattle.tenant_actors.specs.Queues.{changed_found, with_changed_actor, with_request, vacated_found}
 use Rattle.tenant_actors.specs.Queues.{vacated_at}
 use Rattle.tenant_actors.specs.View.{AreBelow}
 use Rattle.tenant_hearing.specs.Holds.{PartsStandFor, AreSeated}
@@ -167,16 +167,16 @@ asker-apart None ks s served = bare-apart ks
 asker-apart (Some n) ks s served = staying-apart n ks (open-remaining_sessions ks n s (served n refl))
 
 pub comes-with_queued_request : (session : Option ℕ) (w : Waiting) (x y : Scene) → IsServed session x.leaving x.sessions.sessions
-    → y.sessions ≡ x.sessions → y.actors ≡ changed_at (seat_of (asker session)) (with_request w) x.actors
+    → y.sessions ≡ x.sessions → y.actors ≡ with_changed_actor (seat_of (asker session)) (with_request w) x.actors
     → y.leaving ≡ x.leaving → y.made ≡ x.made
     → FollowsRules (λ g t. with_queued_request (asker session) w) x y
 comes-with_queued_request session w x y served same queued stay told = λ g t q waiting d.
     let a = asker session in
     let ks = x.leaving in
-    let after : Drafts g t (record q { actors = changed_at (seat_of a) (with_request w) q.actors }) waiting y = record {
+    let after : Drafts g t (record q { actors = with_changed_actor (seat_of a) (with_request w) q.actors }) waiting y = record {
       ids = ap (λ (s : NamedSessions). s.ids) same ∙ d.ids;
       sessions = d.sessions ∙ sym (ap₂ (λ l (s : NamedSessions). remaining_sessions l s.sessions) stay same);
-      actors = ap (changed_at (seat_of a) (with_request w)) d.actors
+      actors = ap (with_changed_actor (seat_of a) (with_request w)) d.actors
           ∙ all-changed (seat_of a) (with_request w) ks x.actors (asker-apart session ks x.sessions.sessions served)
           ∙ sym (ap₂ all_vacated stay queued);
       replies = d.replies ∙ ap (λ (l : List (List ℕ)). waiting ++ l) (sym told);

@@ -12,7 +12,7 @@ use Rattle.server_rules.specs.Numbered.{Entry, entry, part_under, with_part, wit
 use Rattle.server_rules.specs.Operating.{with_vacated_seat}
 use Rattle.server_rules.specs.Request.{Hand}
 use Rattle.server_rules.specs.Tenant.{ActorData}
-use Rattle.tenant_actors.specs.Queues.{changed_found, changed_at, vacated_found, vacated_at}
+use Rattle.tenant_actors.specs.Queues.{changed_found, with_changed_actor, vacated_found, vacated_at}
 use Rattle.tenant_actors.specs.View.{AreBelow}
 use Rattle.tenant_hearing.specs.Scene.{all_vacated}
 use Rattle.tenant_hearing.proofs.Apart.{part_under-with_part-apart, part_under-without-apart}
@@ -80,11 +80,11 @@ changed-left n m f (Some x) None es apart = refl
 changed-left n m f (Some x) (Some y) es apart = with_part-with_vacated_seat n m (f x) y.hand es apart
 
 pub changed-one : (n m : ℕ) (f : ActorData → ActorData) (es : Actors) → (n ≡ m → ⊥)
-    → changed_at n f (vacated_at m es) ≡ vacated_at m (changed_at n f es)
+    → with_changed_actor n f (vacated_at m es) ≡ vacated_at m (with_changed_actor n f es)
 changed-one n m f es apart =
     ap (changed_found n f (vacated_at m es)) (part_under-one n m es apart)
     ∙ changed-left n m f (part_under n es) (part_under m es) es apart
-    ∙ sym (ap (vacated_found m (changed_at n f es)) (part_under-changed m n f (part_under n es) es (λ same. apart (sym same))))
+    ∙ sym (ap (vacated_found m (with_changed_actor n f es)) (part_under-changed m n f (part_under n es) es (λ same. apart (sym same))))
 
 added-left : (n m : ℕ) (x : ActorData) (o : Option ActorData) (es : Actors) → (n ≡ m → ⊥)
     → vacated_found n (es ++ entry m x ∷ []) o ≡ vacated_found n es o ++ entry m x ∷ []
@@ -122,7 +122,7 @@ all-part_under seat [] es apart = refl
 all-part_under seat (k ∷ ks) es apart = all-part_under seat ks (vacated_at (suc k) es) apart.1 ∙ part_under-one seat (suc k) es apart.0
 
 pub all-changed : (seat : ℕ) (f : ActorData → ActorData) (ks : List ℕ) (es : Actors) → IsApart seat ks
-    → changed_at seat f (all_vacated ks es) ≡ all_vacated ks (changed_at seat f es)
+    → with_changed_actor seat f (all_vacated ks es) ≡ all_vacated ks (with_changed_actor seat f es)
 all-changed seat f [] es apart = refl
 all-changed seat f (k ∷ ks) es apart =
     all-changed seat f ks (vacated_at (suc k) es) apart.1 ∙ ap (all_vacated ks) (changed-one seat (suc k) f es apart.0)
@@ -169,7 +169,7 @@ pub below-all : (m : ℕ) (ks : List ℕ) (es : Actors) → AreBelow m es → Ar
 below-all m [] es below = below
 below-all m (k ∷ ks) es below = below-all m ks (vacated_at (suc k) es) (below-left m (suc k) (part_under (suc k) es) es below)
 
-pub below-changed : (m n : ℕ) (f : ActorData → ActorData) (es : Actors) → AreBelow m es → AreBelow m (changed_at n f es)
+pub below-changed : (m n : ℕ) (f : ActorData → ActorData) (es : Actors) → AreBelow m es → AreBelow m (with_changed_actor n f es)
 below-changed m n f es below = by (part_under n es)
   where
     by : (o : Option ActorData) → AreBelow m (changed_found n f es o)

@@ -5,7 +5,7 @@ use Rattle.repl_sessions.specs.Inside.Retracted.{without_newest_session}
 use Rattle.server_rules.specs.Numbered.{Entry, without}
 use Rattle.server_rules.specs.Tenant.{ActorData, seat_of}
 use Rattle.server_rules.specs.declared.actor.Actor.{Actor}
-use Rattle.tenant_actors.specs.Queues.{changed_at, without_newest}
+use Rattle.tenant_actors.specs.Queues.{with_changed_actor, without_newest}
 use Rattle.tenant_hearing.specs.declared.changes.LoggedChange.{LoggedChange}
 
 -- what messages change, but for the replies
@@ -25,7 +25,7 @@ undone (LoggedChange.Cloned number) p = record {
   actors = without (seat_of (Actor.Session number)) p.actors;
 }
 undone (LoggedChange.Queued actor) p =
-    record p { actors = changed_at (seat_of actor) without_newest p.actors }
+    record p { actors = with_changed_actor (seat_of actor) without_newest p.actors }
 
 -- the last change is the newest
 abbrev pub all_undone : List LoggedChange → SessionsAndActors → SessionsAndActors

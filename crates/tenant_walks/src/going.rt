@@ -33,7 +33,8 @@ use tenant_actors::Run;
 use tenant_world::{AskAnswer, Tenant};
 
 impl Walks {
-    ghost use Rattle.tenant_walks.specs.Inside.Standing.{parts, PartsStand, AcceptsHonestDeed, RefusesHonestDeed};
+    ghost use Rattle.tenant_walks.specs.Inside.Standing.{parts, PartsStand, AcceptsHonestDeed};
+    ghost use Rattle.tenant_walks.specs.Inside.Standing.{RefusesHonestDeed};
 
     /// Does what is next for an actor of the tenant whose evaluations these are: begins a form,
     /// answers one ask of it or ends it. What a form asks of refs is asked of this table.

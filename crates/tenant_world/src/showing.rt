@@ -28,7 +28,8 @@ use tenant_replies::Outbox;
 use tenant_turns::Wire;
 
 impl Tenant {
-    ghost use Rattle.tenant_world.specs.Standing.{QuietStands, AcceptsDeed, RefusesDeed, replies_of};
+    ghost use Rattle.tenant_world.specs.Standing.{QuietStands, AcceptsDeed, RefusesDeed};
+    ghost use Rattle.tenant_world.specs.Standing.{replies_of};
 
     /// A tenant that has heard nothing. Its number chooses the ids of its sessions, under the
     /// server's seed. It fails only for want of memory.

@@ -33,9 +33,9 @@ with_code origin ns None = refused origin no_code
 with_code origin ns (Some code) = waits (record { origin = origin; code = code; ns = ns })
 
 -- no session is open yet
-abbrev pub in_session : OriginData → Option Tree → Option Tree → Option Tree → RequestOrReplyData
-in_session origin code ns None = with_code origin ns (text_of code)
-in_session origin code ns (Some session) = refused origin unknown_session
+abbrev pub for_session : OriginData → Option Tree → Option Tree → Option Tree → RequestOrReplyData
+for_session origin code ns None = with_code origin ns (text_of code)
+for_session origin code ns (Some session) = refused origin unknown_session
 
 -- the operation is looked at first, then the session, then the code
 unfoldable pub request_or_reply : Pairs → RequestOrReplyData
@@ -46,6 +46,6 @@ request_or_reply fields =
           field (codes "session") fields;
     } in
     if is_this_string (codes "eval") (field (codes "op") fields)
-    then in_session origin (field (codes "code") fields) (field (codes "ns") fields)
+    then for_session origin (field (codes "code") fields) (field (codes "ns") fields)
     (field (codes "session") fields)
     else refused origin (unknown_op (field (codes "op") fields))

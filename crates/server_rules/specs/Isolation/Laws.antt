@@ -3,7 +3,8 @@ use Rattle.std.specs.Prelude.{◌≡◌, ◌≢◌, ℕ, List, Option, Some, Res
 use Rattle.server_rules.specs.Versions.{Ref}
 use Rattle.server_rules.specs.Ground.{Ground}
 use Rattle.server_rules.specs.Plan.{StepAnswer}
-use Rattle.server_rules.specs.Machine.World.{World, Step, Stepped, accepted, refused, step, world_or}
+use Rattle.server_rules.specs.Machine.World.{World, Step, Stepped, accepted, refused, step}
+use Rattle.server_rules.specs.Machine.World.{world_or}
 use Rattle.server_rules.specs.Machine.World.{new_world, run}
 use Rattle.server_rules.specs.Machine.Turns.{whose_step, Turn, serve, turns_of_tenant}
 use Rattle.server_rules.specs.Isolation.View.{View, view_for}

@@ -7,7 +7,8 @@ use Rattle.repl_asks.specs.Exchange.{AskData}
 use Rattle.server_rules.specs.Commit.{touched_refs}
 use Rattle.server_rules.specs.Ground.{Ground}
 use Rattle.server_rules.specs.Plan.{Deed, asks_for}
-use Rattle.server_rules.specs.Machine.World.{World, Step, opens, does, closes, Stepped, accepted, refused}
+use Rattle.server_rules.specs.Machine.World.{World, Step, opens, does, closes, Stepped, accepted}
+use Rattle.server_rules.specs.Machine.World.{refused}
 use Rattle.server_rules.specs.Machine.World.{step}
 use Rattle.server_rules.specs.Machine.Turns.{Turn, given, goes, step_of, world_after}
 

@@ -3,7 +3,7 @@ use Rattle.std.specs.BTreeMap.{BTreeMap}
 use Rattle.std.proofs.lemmas.Result.{on_ok_weaker, on_err_weaker}
 use Rattle.server_rules.specs.Tenant.{seat_of}
 use Rattle.server_rules.specs.declared.actor.Actor.{Actor}
-use Rattle.tenant_actors.specs.Queues.{changed_at, with_request, without_newest}
+use Rattle.tenant_actors.specs.Queues.{with_changed_actor, with_request, without_newest}
 use Rattle.tenant_actors.specs.View.{waiting_view}
 use Rattle.tenant_actors.specs.declared.actor.ActorState.{ActorState}
 use Rattle.tenant_actors.proofs.Seats.{seen}
@@ -25,7 +25,7 @@ returns-in-Some-clause-undone c =
     let w = waiting_view c.args.request in
     let seat = seat_of c.args.actor in
     on_ok_weaker c.queue.result (λ d.
-    ap (changed_at seat without_newest)
+    ap (with_changed_actor seat without_newest)
     (ap seen (c.get_mut.follows.holds c.queue.new.self).0
     ∙ changed-seen c.args.actor (with_request w) c.in-Some.state.now c.queue.new.self was (sym c.in-Some.ensures.value) d)
     ∙ queued-back seat w (seen was))
@@ -48,5 +48,5 @@ returns-in-None-clause-queued c =
 pub returns-in-None-clause-undone : goal.returns-in-None-clause-undone
 returns-in-None-clause-undone c =
     let was = c.args.self.now.live.entries in
-    ap (λ (m : BTreeMap Actor ActorState). changed_at (seat_of c.args.actor) without_newest (seen m.entries)) c.get_mut.follows.holds-at-none
+    ap (λ (m : BTreeMap Actor ActorState). with_changed_actor (seat_of c.args.actor) without_newest (seen m.entries)) c.get_mut.follows.holds-at-none
     ∙ sym (absent-changed c.args.actor without_newest was (sym c.in-None.ensures.value))

@@ -3,7 +3,7 @@ use Rattle.server_rules.specs.Numbered.{Entry}
 use Rattle.server_rules.specs.Operating.{asker}
 use Rattle.server_rules.specs.Tenant.{ActorData, seat_of}
 use Rattle.server_rules.specs.declared.actor.Actor.{Actor}
-use Rattle.tenant_actors.specs.Queues.{changed_at, with_request}
+use Rattle.tenant_actors.specs.Queues.{with_changed_actor, with_request}
 use Rattle.tenant_actors.specs.View.{waiting_view, actors_view, AreBelow}
 use Rattle.tenant_hearing.specs.Scene.{scene}
 use Rattle.tenant_hearing.specs.Undone.{sessions_and_actors}
@@ -17,8 +17,8 @@ use Rattle.tenant_hearing.proofs.draft.Draft.queue.Goals as goal
 pub returns-clause-heard : goal.returns-clause-heard
 returns-clause-heard c = λ s seated served.
     let w = waiting_view c.args.request in
-    let queued : actors_view c.queue.new.self ≡ changed_at (seat_of (asker c.args.session)) (with_request w) (actors_view c.args.actors.now) =
-    c.in_ok-queue.ensures.queued ∙ ap (λ (a : Actor). changed_at (seat_of a) (with_request w) (actors_view c.args.actors.now)) c.asker-actor.ensures in
+    let queued : actors_view c.queue.new.self ≡ with_changed_actor (seat_of (asker c.args.session)) (with_request w) (actors_view c.args.actors.now) =
+    c.in_ok-queue.ensures.queued ∙ ap (λ (a : Actor). with_changed_actor (seat_of a) (with_request w) (actors_view c.args.actors.now)) c.asker-actor.ensures in
     comes-with_queued_request c.args.session w (scene c.args.self.now s c.args.actors.now) _ served refl queued refl refl
 
 pub returns-clause-kept : goal.returns-clause-kept
