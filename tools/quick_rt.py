@@ -9,8 +9,11 @@ the crates below until it is answered; what is asked is the same.
 
 `rt ci` counts the tests of a crate that has none as work that waits, and so gives a library for
 which all others wait one job where three processors are idle. Here it gets those that no other proof
-has. The number of jobs changes no verdict: the kernel checks each item once."""
+has; and one with much code gets three in any case, since it goes on when the others of its time are
+done, and then with the jobs that it began with. The number of jobs changes no verdict: the kernel
+checks each item once."""
 
+import glob
 import importlib.machinery
 import importlib.util
 import os
@@ -23,6 +26,8 @@ KEPT = threading.local()
 PROCESSORS = len(os.sched_getaffinity(0))
 # Of more a check has been seen to make little use.
 MOST_JOBS = 4
+# What a library has of code, in lines of src/, that takes the longest.
+MUCH_CODE, JOBS_FOR_MUCH = 1000, 3
 SECONDS_TO_BEGIN = 0.2
 
 
@@ -40,7 +45,7 @@ def main(words):
 
 def with_idle_processors(ci):
     """The same proof; that of a library has a job for each processor that no other proof has, but at
-    most four, since crates wait for it."""
+    most four, since crates wait for it, and three at least if it has much code."""
     running, lock = [], threading.Lock()
 
     def proved(crate, flags, tests):
@@ -51,7 +56,8 @@ def with_idle_processors(ci):
         idle = PROCESSORS - len(running)
         try:
             if flags[:1] == ["--jobs"] and crate.makes_rlib() and not tests:
-                jobs = max(int(flags[1]), min(MOST_JOBS, 1 + idle))
+                least = JOBS_FOR_MUCH if lines_of_code(crate) >= MUCH_CODE else 1
+                jobs = max(int(flags[1]), least, min(MOST_JOBS, 1 + idle))
                 flags = ["--jobs", str(jobs), *flags[2:]]
             return ci(crate, flags, tests)
         finally:
@@ -59,6 +65,11 @@ def with_idle_processors(ci):
                 running.remove(crate)
 
     return proved
+
+
+def lines_of_code(crate):
+    files = glob.glob(f"{crate.folder}/src/**/*.rt", recursive=True)
+    return sum(len(open(file, "rb").read().splitlines()) for file in files)
 
 
 def once(stamp):
