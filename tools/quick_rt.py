@@ -56,7 +56,8 @@ def with_idle_processors(ci):
         idle = PROCESSORS - len(running)
         try:
             if flags[:1] == ["--jobs"] and crate.makes_rlib() and not tests:
-                least = JOBS_FOR_MUCH if lines_of_code(crate) >= MUCH_CODE else 1
+                has_much = lines_of_code(crate) >= MUCH_CODE
+                least = min(JOBS_FOR_MUCH, PROCESSORS) if has_much else 1
                 jobs = max(int(flags[1]), least, min(MOST_JOBS, 1 + idle))
                 flags = ["--jobs", str(jobs), *flags[2:]]
             return ci(crate, flags, tests)
