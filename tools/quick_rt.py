@@ -13,10 +13,10 @@ has; and one with much code gets three in any case, since it goes on when the ot
 done, and then with the jobs that it began with. The number of jobs changes no verdict: the kernel
 checks each item once."""
 
-import glob
 import importlib.machinery
 import importlib.util
 import os
+import pathlib
 import shutil
 import sys
 import threading
@@ -69,8 +69,8 @@ def with_idle_processors(ci):
 
 
 def lines_of_code(crate):
-    files = glob.glob(f"{crate.folder}/src/**/*.rt", recursive=True)
-    return sum(len(open(file, "rb").read().splitlines()) for file in files)
+    files = pathlib.Path(crate.folder, "src").rglob("*.rt")
+    return sum(it.read_bytes().count(b"\n") for it in files)
 
 
 def once(stamp):

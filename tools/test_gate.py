@@ -1,10 +1,13 @@
-"""What the record covers, on a small tree: started by .ci/run before the gate."""
+"""What the record covers, on a small tree, and the jobs of a proof: started by .ci/run before the
+gate."""
 
 import os
 import tempfile
+import threading
 import unittest
 
 import gate
+import quick_rt
 import workspace
 
 
@@ -111,6 +114,58 @@ class Record(unittest.TestCase):
 
     def line(self):
         return f"other {workspace.kit()} {workspace.fingerprints()['other']}"
+
+
+class Library:
+    """A crate of so many lines, as `rt` has it."""
+
+    def __init__(self, room, name, lines):
+        self.name, self.folder = name, f"{room}/{name}"
+        os.makedirs(f"{self.folder}/src/inner")
+        with open(f"{self.folder}/src/inner/mod.rt", "w", encoding="utf-8") as file:
+            file.write("//\n" * lines)
+
+    def makes_rlib(self):
+        return True
+
+
+class Jobs(unittest.TestCase):
+    def jobs(self, **lines):
+        """The jobs that libraries of so many lines get, whose proofs run at one time."""
+        together, given = threading.Barrier(len(lines)), {}
+
+        def ci(crate, flags, tests):
+            together.wait(timeout=10)
+            given[crate.name] = flags
+
+        proved = quick_rt.with_idle_processors(ci)
+        with tempfile.TemporaryDirectory() as room:
+            crates = [Library(room, name, count) for name, count in lines.items()]
+            asked = [(it, ["--jobs", "1"], False) for it in crates]
+            runs = [threading.Thread(target=proved, args=words) for words in asked]
+            for run in runs:
+                run.start()
+            for run in runs:
+                run.join()
+        return {name: int(flags[1]) for name, flags in given.items()}
+
+    def setUp(self):
+        self.addCleanup(setattr, quick_rt, "PROCESSORS", quick_rt.PROCESSORS)
+        quick_rt.PROCESSORS = 4
+
+    def test_a_proof_alone_gets_all_processors(self):
+        self.assertEqual(self.jobs(small=10), {"small": 4})
+
+    def test_two_proofs_get_what_is_idle(self):
+        self.assertEqual(self.jobs(one=10, other=10), {"one": 3, "other": 3})
+
+    def test_much_code_gets_three_jobs_beside_others(self):
+        found = self.jobs(one=10, two=999, three=10, much=1000)
+        self.assertEqual(found, {"one": 1, "two": 1, "three": 1, "much": 3})
+
+    def test_no_more_jobs_than_processors(self):
+        quick_rt.PROCESSORS = 2
+        self.assertEqual(self.jobs(one=10, much=1000), {"one": 1, "much": 2})
 
 
 if __name__ == "__main__":
