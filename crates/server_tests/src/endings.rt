@@ -1,5 +1,7 @@
-// Endings that come back with the trace that the machine kept, and with another.
-use crate::servers::{expect_accepted, expect_refused, expect_reply, fresh_machine, hear};
+// Endings that come back with the trace that the machine kept, with another, and of another form.
+use crate::servers::{
+    answer_of, begun, expect_accepted, expect_heard, expect_replies, fresh_machine,
+};
 use repl_asks::{Answer, Reading, Replay, Resolution};
 use repl_core::{Machine, Step, StepAnswer};
 use repl_jobs::Job;
@@ -12,22 +14,14 @@ use std::test::Fail;
 
 const FORMS: &[u8] = b"d4:code18:(def r (ref 0)) @r2:id1:12:op4:evale";
 
-const DEFINED: &[u8] = b"d2:id1:12:ns4:user5:value8:#'user/re";
-
-const VALUE: &[u8] = b"d2:id1:12:ns4:user5:value1:0e";
-
-const DONE: &[u8] = b"d2:id1:16:statusl4:doneee";
-
-// The next form of the requests without a session begins.
-fn begun(rt: &impl Abort, machine: &mut Machine) -> Job {
-    match machine.step(Step::Start(0, Actor::Bare)) {
-        Ok(StepAnswer::Begun(job)) => job,
-        _ => panic!(rt; "no form begins"),
-    }
-}
+const REPLIES: &[&[u8]] = &[
+    b"d2:id1:12:ns4:user5:value8:#'user/re",
+    b"d2:id1:12:ns4:user5:value1:0e",
+    b"d2:id1:16:statusl4:doneee",
+];
 
 fn answered(rt: &impl Abort, machine: &mut Machine, step: Step) -> Answer {
-    match machine.step(step) {
+    match answer_of(machine, step) {
         Ok(StepAnswer::Answer(answer)) => answer,
         _ => panic!(rt; "no answer"),
     }
@@ -45,8 +39,7 @@ fn honest_ending(
         progress = match progress {
             Progress::Asks(walk) => {
                 let step = Step::Asked(0, Actor::Bare, walk.ask().copy()?);
-                let answer = answered(rt, machine, step.copy(alloc)?);
-                walk.resume(alloc, answer)?
+                walk.resume(alloc, answered(rt, machine, step))?
             }
             Progress::Ends(ending) => return Ok(ending),
         };
@@ -54,48 +47,62 @@ fn honest_ending(
     panic!(rt; "the form does not end");
 }
 
-// How the form ends where its symbol names the tenant's first ref, in which this is read.
+// How the form ends where its symbol names the tenant's ref of this number, in which 1 is read.
 fn ending_after(
     rt: &impl Abort,
     alloc: Global,
     job: &Job,
-    read: i64,
+    number: u64,
 ) -> Result<Ending, AllocError> {
-    let first = RefName {
+    let named = RefName {
         owner: Owner::Tenant(0),
-        number: 0,
+        number,
     };
     let mut answers = Vec::new(alloc);
-    answers.push(Answer::Resolution(Resolution::Value(Value::Ref(first))))?;
-    answers.push(Answer::Reading(Reading::Found(Value::Int(read))))?;
+    answers.push(Answer::Resolution(Resolution::Value(Value::Ref(named))))?;
+    answers.push(Answer::Reading(Reading::Found(Value::Int(1))))?;
     match walk(alloc, job, &mut Replay::new(alloc, answers)) {
         Ok(ending) => Ok(ending),
         Err(_) => panic!(rt; "the form does not end"),
     }
 }
 
-// An ending is taken only where its trace is the one that was kept: here the second answer differs.
+// The ending is refused at this place, and comes back.
+fn expect_mismatch(
+    rt: &impl Abort,
+    machine: &mut Machine,
+    ending: Ending,
+    place: u64,
+) -> Result<(), Fail> {
+    let Err(refused) = machine.step(Step::Ended(0, Actor::Bare, ending)) else {
+        panic!(rt; "the ending is accepted");
+    };
+    assert_eq!(rt; refused.why, Refusal::TraceMismatch(place), "the place");
+    assert!(rt;
+        matches!(refused.step, Step::Ended(0, Actor::Bare, _)),
+        "the step"
+    );
+    Ok(())
+}
+
+// An ending is taken where it is of the form that runs, and has the trace that was kept.
 #[test]
-fn ending_is_compared(rt: HostRuntime) -> Result<(), Fail> {
+fn endings_are_compared(rt: HostRuntime) -> Result<(), Fail> {
     let alloc = rt.alloc();
-    let mut machine = fresh_machine(alloc, 100);
-    expect_accepted(&rt, &mut machine, Step::Open(0))?;
-    hear(&rt, alloc, &mut machine, 0, FORMS)?;
-    let first = begun(&rt, &mut machine);
-    let ending = honest_ending(&rt, alloc, &mut machine, &first)?;
-    expect_accepted(&rt, &mut machine, Step::Ended(0, Actor::Bare, ending))?;
-    let second = begun(&rt, &mut machine);
-    let honest = honest_ending(&rt, alloc, &mut machine, &second)?;
-    let other = ending_after(&rt, alloc, &second, 1)?;
-    expect_refused(
-        &rt,
-        &mut machine,
-        Step::Ended(0, Actor::Bare, other),
-        Refusal::TraceMismatch(1),
-    )?;
+    let mut machine = fresh_machine(alloc);
+    expect_heard(&rt, alloc, &mut machine, &[FORMS])?;
+    let job = begun(&rt, &mut machine);
+    let first = honest_ending(&rt, alloc, &mut machine, &job)?;
+    let of_another_form = first.copy(alloc)?;
+    expect_accepted(&rt, &mut machine, Step::Ended(0, Actor::Bare, first))?;
+    let job = begun(&rt, &mut machine);
+    let honest = honest_ending(&rt, alloc, &mut machine, &job)?;
+    let first_differs = ending_after(&rt, alloc, &job, 1)?;
+    let second_differs = ending_after(&rt, alloc, &job, 0)?;
+    expect_mismatch(&rt, &mut machine, of_another_form, 0)?;
+    expect_mismatch(&rt, &mut machine, first_differs, 0)?;
+    expect_mismatch(&rt, &mut machine, second_differs, 1)?;
     let copied = Step::Ended(0, Actor::Bare, honest).copy(alloc)?;
     expect_accepted(&rt, &mut machine, copied)?;
-    expect_reply(&rt, &mut machine, 0, DEFINED)?;
-    expect_reply(&rt, &mut machine, 0, VALUE)?;
-    expect_reply(&rt, &mut machine, 0, DONE)
+    expect_replies(&rt, &mut machine, REPLIES)
 }

@@ -1,8 +1,9 @@
 // Readers and writers that fail, at each of their calls in turn.
 ghost use Rattle.std.specs.Prelude.{◌≡◌, Some, None, false};
-ghost use Rattle.nrepl_pipe.specs.Failing.{Marks, read_fails, write_fails, is_read_failed, is_write_failed};
+ghost use Rattle.nrepl_pipe.specs.Failing.{Marks, read_fails, write_fails};
+ghost use Rattle.nrepl_pipe.specs.Failing.{is_read_failed, is_write_failed};
 
-use crate::cases::{SUM, SUM_REPLIES, fresh_runner};
+use crate::runners::{SUM, SUM_REPLIES, fresh_runner};
 use nrepl_pipe::{PipeEnd, PipeError, Sink, Source, pipe, pipe_command};
 use std::alloc::Global;
 use std::io;

@@ -1,9 +1,9 @@
-//! Tests of the server: whole streams, with the bytes that are written for them (`nrepl_pipe`), and
-//! steps one by one, with their answers and their refusals (`repl_core`).
+//! Tests of the server: readers and writers that fail, steps that are refused or dishonest, and
+//! calls that no program makes.
 #![tactic(auto)]
 
 #[cfg(test)]
-mod cases;
+mod calls;
 #[cfg(test)]
 mod endings;
 #[cfg(test)]
@@ -11,12 +11,10 @@ mod ends;
 #[cfg(test)]
 mod failures;
 #[cfg(test)]
-mod refusals;
+mod memory;
+#[cfg(test)]
+mod runners;
 #[cfg(test)]
 mod servers;
 #[cfg(test)]
-mod serving;
-#[cfg(test)]
-mod sessions;
-#[cfg(test)]
-mod streams;
+mod steps;

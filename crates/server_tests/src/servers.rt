@@ -1,38 +1,39 @@
 // A server to which nobody came, and steps of it that are accepted.
 use bytes::Bytes;
-use repl_core::{Config, Machine, SharedText, Step};
-use server_rules::Refusal;
-use std::alloc::Global;
+use repl_core::{Config, Machine, Refused, SharedText, Step, StepAnswer};
+use repl_jobs::Job;
+use server_rules::{Actor, Refusal};
+use std::alloc::{AllocError, Global};
 use std::process::Abort;
 use std::test::Fail;
 
 // Its ids are those of the seed that is all zeros.
-pub(crate) fn fresh_machine(alloc: Global, steps: u32) -> Machine {
+pub(crate) fn fresh_machine(alloc: Global) -> Machine {
     let config = Config {
         seed: [0; 32],
         retries: 10_000,
-        steps,
+        steps: 100,
         shared: SharedText::Empty,
     };
     Machine::new(alloc, config)
 }
 
-// How a step is refused, if it is.
-pub(crate) fn refusal_of(machine: &mut Machine, step: Step) -> Option<Refusal> {
-    match machine.step(step) {
-        Ok(_) => None,
-        Err(refused) => Some(refused.why),
+// A step that is refused for want of memory changes nothing, and is made once more.
+pub(crate) fn answer_of(machine: &mut Machine, step: Step) -> Result<StepAnswer, Refusal> {
+    let again = match machine.step(step) {
+        Ok(answer) => return Ok(answer),
+        Err(
+            Refused {
+                why: Refusal::NoMemory,
+                step,
+            },
+        ) => step,
+        Err(refused) => return Err(refused.why),
+    };
+    match machine.step(again) {
+        Ok(answer) => Ok(answer),
+        Err(refused) => Err(refused.why),
     }
-}
-
-pub(crate) fn expect_refused(
-    rt: &impl Abort,
-    machine: &mut Machine,
-    step: Step,
-    why: Refusal,
-) -> Result<(), Fail> {
-    assert_eq!(rt; refusal_of(machine, step), Some(why), "refused");
-    Ok(())
 }
 
 pub(crate) fn expect_accepted(
@@ -40,32 +41,51 @@ pub(crate) fn expect_accepted(
     machine: &mut Machine,
     step: Step,
 ) -> Result<(), Fail> {
-    assert!(rt; machine.step(step).is_ok(), "accepted");
+    assert!(rt; answer_of(machine, step).is_ok(), "accepted");
     Ok(())
 }
 
-pub(crate) fn hear(
+fn piece(alloc: Global, bytes: &[u8]) -> Result<Bytes, AllocError> {
+    match Bytes::copy_from_slice(alloc, bytes) {
+        Ok(piece) => Ok(piece),
+        Err(_refused) => Bytes::copy_from_slice(alloc, bytes),
+    }
+}
+
+// Tenant 0 comes, and hears these pieces.
+pub(crate) fn expect_heard(
     rt: &impl Abort,
     alloc: Global,
     machine: &mut Machine,
-    number: u64,
-    piece: &[u8],
+    pieces: &[&[u8]],
 ) -> Result<(), Fail> {
-    let piece = Bytes::copy_from_slice(alloc, piece)?;
-    let step = Step::Hear(number, piece).copy(alloc)?;
-    expect_accepted(rt, machine, step)
+    expect_accepted(rt, machine, Step::Open(0))?;
+    for bytes in pieces {
+        expect_accepted(rt, machine, Step::Hear(0, piece(alloc, bytes)?))?;
+    }
+    Ok(())
 }
 
-// The reply that is taken out is this.
-pub(crate) fn expect_reply(
+// The next form of the requests without a session begins.
+pub(crate) fn begun(rt: &impl Abort, machine: &mut Machine) -> Job {
+    match answer_of(machine, Step::Start(0, Actor::Bare)) {
+        Ok(StepAnswer::Begun(job)) => job,
+        _ => panic!(rt; "no form begins"),
+    }
+}
+
+// These replies are taken out, and then none is left.
+pub(crate) fn expect_replies(
     rt: &impl Abort,
     machine: &mut Machine,
-    number: u64,
-    reply: &[u8],
+    replies: &[&[u8]],
 ) -> Result<(), Fail> {
-    match machine.drain(number) {
-        Ok(bytes) => assert_eq!(rt; bytes.as_slice(), reply, "the reply"),
-        Err(_) => assert!(rt; false, "a reply"),
+    for reply in replies {
+        match machine.drain(0) {
+            Ok(bytes) => assert_eq!(rt; bytes.as_slice(), *reply, "the reply"),
+            Err(_) => assert!(rt; false, "a reply"),
+        }
     }
+    assert!(rt; machine.drain(0).is_err(), "no other reply");
     Ok(())
 }

@@ -1,85 +1,139 @@
-// The histories of refs: how many versions there are, and their bounds.
-use crate::called::{Row, expect, expect_always};
-use crate::given::Given::{Int, Keyword, Nil, Ref, Text};
-use crate::given::{Given, MINE, OURS};
-use function_names::StoreFunction;
+// Calls of a history whose refs hold integers. How many versions it keeps is worked out by hand
+// from the Clojure reference.
+use crate::histories::Call::{
+    Add, BoundsOf, Count, DropRef, IsNewer, Make, Newest, Read, SetLeast, SetMost,
+};
+use crate::histories::Told::{Done, Kept, No, Nothing, Number, Yes};
+use ref_history::{Bounds, History, ListHistory, RefId};
+use std::alloc::AllocError;
 use std::test::Fail;
+use value_data::Value;
 
-const STAYS: &str = "#error{java.lang.IllegalStateException: Shared history can't be set}";
-
-const COUNTED: &[Row] = &[
-    (true, &[Ref(MINE)], "history of #ref[3]"),
-    (false, &[Ref(MINE)], "history of #ref[3]"),
-    (false, &[Ref(OURS)], "history of #ref[shared/0]"),
-    (
-        true,
-        &[Ref(OURS)],
-        "#error{java.lang.IllegalStateException: Shared history can't be read in a transaction}",
-    ),
-    (
-        true,
-        &[Int(1)],
-        "#error{java.lang.ClassCastException: Wrong argument to ref-history-count: 1}",
-    ),
-    (
-        true,
-        &[],
-        "#error{clojure.lang.ArityException: \
-         Wrong number of args (0) passed to: ref-history-count}",
-    ),
-];
-
-#[test]
-fn histories_are_counted(rt: HostRuntime) -> Result<(), Fail> {
-    expect(&rt, rt.alloc(), StoreFunction::HistoryCount, COUNTED)
+#[derive(Clone, Copy)]
+enum Call {
+    /// A ref is made with this integer, and these bounds. The calls behind it are of this ref.
+    Make(i64, u64, u64),
+    /// It gets a version with this stamp and this integer, and tells how many it then keeps.
+    Add(u128, i64),
+    Read(u128),
+    Newest,
+    IsNewer(u128),
+    Count,
+    BoundsOf,
+    SetLeast(u64),
+    SetMost(u64),
+    DropRef,
 }
 
-const LEAST: &[(&'static [Given], &'static str)] = &[
-    (&[Ref(MINE)], "least of #ref[3]"),
-    (&[Ref(OURS)], "least of #ref[shared/0]"),
-    (&[Ref(MINE), Int(0)], "least of #ref[3] is 0"),
-    (&[Ref(OURS), Int(2)], STAYS),
-    (
-        &[Ref(OURS), Int(-2)],
-        "#error{java.lang.ClassCastException: Wrong argument to ref-min-history: -2}",
-    ),
-    (
-        &[Nil, Int(-2)],
-        "#error{java.lang.ClassCastException: Wrong argument to ref-min-history: nil}",
-    ),
-    (
-        &[Ref(MINE), Int(0), Int(0)],
-        "#error{clojure.lang.ArityException: \
-         Wrong number of args (3) passed to: ref-min-history}",
-    ),
-];
-
-#[test]
-fn least_counts_are_told_and_set(rt: HostRuntime) -> Result<(), Fail> {
-    expect_always(&rt, rt.alloc(), StoreFunction::MinHistory, LEAST)
+#[derive(Clone, Copy, Debug, PartialEq, Eq)]
+enum Told {
+    Done,
+    Number(i64),
+    Kept(u64),
+    Bounds(u64, u64),
+    Yes,
+    No,
+    Nothing,
 }
 
-const GREATEST: &[(&'static [Given], &'static str)] = &[
-    (&[Ref(MINE)], "most of #ref[3]"),
-    (&[Ref(OURS)], "most of #ref[shared/0]"),
-    (&[Ref(MINE), Int(20)], "most of #ref[3] is 20"),
-    (&[Ref(OURS), Int(20)], STAYS),
-    (
-        &[Ref(OURS), Text("2")],
-        "#error{java.lang.ClassCastException: Wrong argument to ref-max-history: \"2\"}",
-    ),
-    (
-        &[Keyword("r")],
-        "#error{java.lang.ClassCastException: Wrong argument to ref-max-history: :r}",
-    ),
-    (
-        &[],
-        "#error{clojure.lang.ArityException: \
-         Wrong number of args (0) passed to: ref-max-history}",
-    ),
+fn make(
+    history: &mut ListHistory,
+    number: i64,
+    least: u64,
+    most: u64,
+) -> Result<RefId, AllocError> {
+    history.make(Value::Int(number), Bounds { least, most })
+}
+
+fn told_of(history: &mut ListHistory, id: RefId, call: Call) -> Result<Told, AllocError> {
+    match call {
+        Call::Add(stamp, number) => return add(history, id, stamp, number),
+        Call::Read(point) => return Ok(number(history.read_at(id, point))),
+        Call::Newest => return Ok(number(history.newest(id))),
+        Call::IsNewer(point) => return Ok(answer(history.is_newer(id, point))),
+        Call::Count => return Ok(count(history, id)),
+        Call::BoundsOf => return Ok(bounds(history, id)),
+        Call::SetLeast(least) => history.set_least(id, least),
+        Call::SetMost(most) => history.set_most(id, most),
+        Call::DropRef => history.drop_ref(id),
+        Call::Make(..) => (),
+    }
+    Ok(Told::Done)
+}
+
+fn add(history: &mut ListHistory, id: RefId, stamp: u128, number: i64) -> Result<Told, AllocError> {
+    history.reserve(id)?;
+    history.add_version(id, stamp, Value::Int(number));
+    Ok(count(history, id))
+}
+
+fn number(found: Option<&Value>) -> Told {
+    match found {
+        Some(Value::Int(number)) => Told::Number(*number),
+        _ => Told::Nothing,
+    }
+}
+
+fn answer(is_so: bool) -> Told {
+    if is_so { Told::Yes } else { Told::No }
+}
+
+fn count(history: &ListHistory, id: RefId) -> Told {
+    match history.count(id) {
+        Some(count) => Told::Kept(count),
+        None => Told::Nothing,
+    }
+}
+
+fn bounds(history: &ListHistory, id: RefId) -> Told {
+    match history.bounds(id) {
+        Some(bounds) => Told::Bounds(bounds.least, bounds.most),
+        None => Told::Nothing,
+    }
+}
+
+// A failed read keeps one version more, and stamps go up to the greatest of 128 bits. Of a ref that
+// was dropped nothing is left, and another is made beside it.
+const STEPS: &[(Call, Told)] = &[
+    (Make(1, 0, 10), Done),
+    (IsNewer(0), No),
+    (Add(4, 2), Kept(0)),
+    (Read(3), Nothing),
+    (Add(6, 3), Kept(1)),
+    (Read(5), Number(2)),
+    (Add(u128::MAX, 4), Kept(1)),
+    (Read(5), Nothing),
+    (Read(u128::MAX - 1), Number(3)),
+    (Read(u128::MAX), Number(4)),
+    (Newest, Number(4)),
+    (IsNewer(u128::MAX - 1), Yes),
+    (IsNewer(u128::MAX), No),
+    (SetLeast(2), Done),
+    (SetMost(3), Done),
+    (BoundsOf, Told::Bounds(2, 3)),
+    (DropRef, Done),
+    (DropRef, Done),
+    (Add(1, 3), Nothing),
+    (Newest, Nothing),
+    (Read(1), Nothing),
+    (Count, Nothing),
+    (BoundsOf, Nothing),
+    (IsNewer(0), No),
+    (Make(5, 0, 0), Done),
+    (Newest, Number(5)),
+    (Count, Kept(0)),
 ];
 
 #[test]
-fn greatest_counts_are_told_and_set(rt: HostRuntime) -> Result<(), Fail> {
-    expect_always(&rt, rt.alloc(), StoreFunction::MaxHistory, GREATEST)
+fn histories_keep_what_their_bounds_say(rt: HostRuntime) -> Result<(), Fail> {
+    let mut history = ListHistory::new(rt.alloc());
+    let mut id = make(&mut history, 0, 0, 0)?;
+    for (place, (call, wanted)) in STEPS.iter().enumerate() {
+        if let Make(number, least, most) = *call {
+            id = make(&mut history, number, least, most)?;
+        }
+        let told = told_of(&mut history, id, *call)?;
+        assert_eq!(rt; told, *wanted, "at step {place}");
+    }
+    Ok(())
 }

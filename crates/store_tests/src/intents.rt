@@ -13,12 +13,8 @@ pub(crate) enum Want {
     /// A ref is set to another.
     Hold(RefName, RefName),
     Ensure(RefName),
-    /// The function of this name is applied to a ref, with an integer behind its value.
-    Commute(RefName, &'static str, i64),
-    /// The same with these arguments.
-    CommuteWith(RefName, &'static str, &'static [Given]),
-    /// One is added to a ref so many times.
-    CountUp(RefName, u64),
+    /// The function of this name is applied to a ref, with these arguments behind its value.
+    Commute(RefName, &'static str, &'static [Given]),
 }
 
 pub(crate) fn intent_of(
@@ -42,18 +38,7 @@ fn add(rt: &impl Abort, alloc: Global, intent: &mut Intent, want: Want) -> Resul
         Want::Set(name, number) => set(intent, name, Value::Int(number)),
         Want::Hold(name, held) => set(intent, name, Value::Ref(held)),
         Want::Ensure(name) => Ok(intent.ensured.push(name)?),
-        Want::Commute(name, function, number) => {
-            commute(rt, alloc, intent, name, function, &[Given::Int(number)])
-        }
-        Want::CommuteWith(name, function, given) => {
-            commute(rt, alloc, intent, name, function, given)
-        }
-        Want::CountUp(name, times) => {
-            for _ in 0..times {
-                commute(rt, alloc, intent, name, "+", &[Given::Int(1)])?;
-            }
-            Ok(())
-        }
+        Want::Commute(name, function, given) => commute(rt, alloc, intent, name, function, given),
     }
 }
 

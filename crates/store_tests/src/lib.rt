@@ -1,15 +1,11 @@
-//! Tests of the store: calls of the functions that ask it (`store_calls`), and the table of refs
-//! (`ref_table`).
+//! Tests of what no program shows of evaluations, attempts at transactions, and refs: memory that
+//! is refused, answers that do not fit, shared refs, and calls that break a rule.
 #![tactic(auto)]
 
 #[cfg(test)]
-mod call_memory;
+mod attempts;
 #[cfg(test)]
-mod called;
-#[cfg(test)]
-mod committing;
-#[cfg(test)]
-mod commuting;
+mod calls;
 #[cfg(test)]
 mod given;
 #[cfg(test)]
@@ -17,14 +13,12 @@ mod histories;
 #[cfg(test)]
 mod intents;
 #[cfg(test)]
-mod making;
-#[cfg(test)]
-mod owning;
-#[cfg(test)]
-mod reading;
+mod replays;
 #[cfg(test)]
 mod steps;
 #[cfg(test)]
 mod table_memory;
 #[cfg(test)]
-mod transactions;
+mod tables;
+#[cfg(test)]
+mod walks;

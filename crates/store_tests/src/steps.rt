@@ -3,37 +3,10 @@ use crate::intents::{Want, intent_of};
 use ref_history::{Bounds, ListHistory};
 use ref_table::{CommitOutcome, Point, RefTable};
 use repl_asks::{Intent, Reading};
-use repl_values::{Fault, Owner, RefName, Value};
+use repl_values::{Owner, RefName, Value};
 use std::alloc::{AllocError, Global};
 use std::process::Abort;
 use std::test::Fail;
-
-/// The first refs of tenant 1.
-pub(crate) const FIRST: RefName = RefName {
-    owner: Owner::Tenant(1),
-    number: 0,
-};
-
-pub(crate) const SECOND: RefName = RefName {
-    owner: Owner::Tenant(1),
-    number: 1,
-};
-
-pub(crate) const THIRD: RefName = RefName {
-    owner: Owner::Tenant(1),
-    number: 2,
-};
-
-pub(crate) const FOURTH: RefName = RefName {
-    owner: Owner::Tenant(1),
-    number: 3,
-};
-
-/// The first ref of tenant 2.
-pub(crate) const OTHERS: RefName = RefName {
-    owner: Owner::Tenant(2),
-    number: 0,
-};
 
 /// A call. Where it names a tenant, that is the caller; and a point is told by its stamp.
 #[derive(Clone, Copy)]
@@ -43,6 +16,8 @@ pub(crate) enum Call {
     Begin,
     /// A tenant commits this, of an attempt that began at this point.
     Commit(u64, &'static [Want], u128),
+    /// Whether a commit of this would not be refused.
+    Accepts(u64, &'static [Want]),
     Read(u64, RefName),
     ReadAt(u64, RefName, u128),
     SetLeast(u64, RefName, u64),
@@ -61,16 +36,13 @@ pub(crate) enum Told {
     Committed,
     Conflict,
     Refused,
-    DividedByZero,
-    NotPlain,
-    OtherFault,
+    Fault,
     Number(i64),
-    Nil,
     Retry,
     /// There is no such ref.
     Nothing,
-    Done,
-    NotDone,
+    Yes,
+    No,
     Bounds(u64, u64),
     Count(u64),
 }
@@ -119,15 +91,19 @@ fn told_of(
             let intent = intent_of(rt, alloc, wants)?;
             commit(alloc, table, caller, &intent, Point { stamp })
         }
+        Call::Accepts(caller, wants) => {
+            let intent = intent_of(rt, alloc, wants)?;
+            Ok(answer(table.accepts(alloc, caller, &intent)?))
+        }
         Call::Read(caller, name) => read(table, caller, name, None),
         Call::ReadAt(caller, name, stamp) => read(table, caller, name, Some(Point { stamp })),
-        Call::SetLeast(caller, name, least) => Ok(done(table.set_least(caller, name, least))),
-        Call::SetMost(caller, name, most) => Ok(done(table.set_most(caller, name, most))),
+        Call::SetLeast(caller, name, least) => Ok(answer(table.set_least(caller, name, least))),
+        Call::SetMost(caller, name, most) => Ok(answer(table.set_most(caller, name, most))),
         Call::BoundsOf(caller, name) => Ok(bounds(table, caller, name)),
         Call::CountOf(caller, name) => Ok(count(table, caller, name)),
         Call::Release(tenant) => {
             table.release(tenant);
-            Ok(Told::Done)
+            Ok(Told::Yes)
         }
     }
 }
@@ -147,25 +123,12 @@ fn commit(
     if table.begin().stamp == u128::MAX {
         return Ok(Told::Refused);
     }
-    Ok(outcome_told(table.commit(alloc, caller, intent, point)?))
-}
-
-fn outcome_told(outcome: CommitOutcome) -> Told {
-    match outcome {
+    Ok(match table.commit(alloc, caller, intent, point)? {
         CommitOutcome::Committed => Told::Committed,
         CommitOutcome::Conflict => Told::Conflict,
-        CommitOutcome::Faulted(fault) => fault_told(&fault),
+        CommitOutcome::Faulted(_fault) => Told::Fault,
         CommitOutcome::Refused => Told::Refused,
-    }
-}
-
-fn fault_told(fault: &Fault) -> Told {
-    match (fault.class.as_str(), fault.text.as_str()) {
-        ("java.lang.ArithmeticException", "Divide by zero") => Told::DividedByZero,
-        ("java.lang.IllegalArgumentException", "Only plain data goes into a shared ref") =>
-            Told::NotPlain,
-        _ => Told::OtherFault,
-    }
+    })
 }
 
 fn read(
@@ -176,14 +139,13 @@ fn read(
 ) -> Result<Told, AllocError> {
     match table.read(caller, name, point)? {
         Some(Reading::Found(Value::Int(number))) => Ok(Told::Number(number)),
-        Some(Reading::Found(Value::Nil)) => Ok(Told::Nil),
         Some(Reading::Retry) => Ok(Told::Retry),
         _ => Ok(Told::Nothing),
     }
 }
 
-fn done(is_done: bool) -> Told {
-    if is_done { Told::Done } else { Told::NotDone }
+fn answer(is_so: bool) -> Told {
+    if is_so { Told::Yes } else { Told::No }
 }
 
 fn bounds(table: &Table, caller: u64, name: RefName) -> Told {

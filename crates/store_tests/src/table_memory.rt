@@ -1,20 +1,19 @@
-// Where memory is wanting: run with one allocation after the other failing.
-use crate::given::OURS;
+// A table where memory is wanting: run with one allocation after the other failing.
+use crate::given::Given::Int;
+use crate::given::{FIRST, OTHERS, OURS, SECOND};
 use crate::intents::Want;
 use crate::intents::Want::{Commute, Set};
 use crate::steps::Call::{Begin, Commit, CountOf, Make, Read, ReadAt, SetLeast};
-use crate::steps::Told::{Begun, Committed, Count, Done, Made, Nothing, Number};
-use crate::steps::{FIRST, OTHERS, SECOND, Step, new_table, take};
+use crate::steps::Told::{Begun, Committed, Count, Made, Nothing, Number, Yes};
+use crate::steps::{Step, new_table, take};
 use repl_values::Owner;
-use std::alloc::Global;
-use std::process::Abort;
 use std::test::Fail;
 
 const BEFORE: &[Step] = &[
     (Make(Owner::Tenant(1), 1), Made(FIRST)),
     (Make(Owner::Tenant(1), 2), Made(SECOND)),
-    (SetLeast(1, FIRST, 1), Done),
-    (SetLeast(1, SECOND, 1), Done),
+    (SetLeast(1, FIRST, 1), Yes),
+    (SetLeast(1, SECOND, 1), Yes),
     (Begin, Begun(0)),
 ];
 
@@ -26,51 +25,34 @@ const AS_IT_WAS: &[Step] = &[
     (Read(1, SECOND), Number(2)),
 ];
 
-// Where a commit of these is refused memory all is as it was, and it is made once more.
-fn expect_whole(
-    rt: &impl Abort,
-    alloc: Global,
-    wants: &'static [Want],
-    after: &[Step],
-) -> Result<(), Fail> {
-    let commit = [(Commit(1, wants, 0), Committed)];
-    let mut table = new_table(alloc);
-    if take(rt, alloc, &mut table, BEFORE).is_err() {
-        return Ok(());
-    }
-    if take(rt, alloc, &mut table, &commit).is_err() {
-        take(rt, alloc, &mut table, AS_IT_WAS)?;
-        take(rt, alloc, &mut table, &commit)?;
-    }
-    take(rt, alloc, &mut table, after)?;
-    Ok(())
-}
+const WANTS: &[Want] = &[
+    Set(FIRST, 3),
+    Commute(SECOND, "+", &[Int(4)]),
+    Commute(SECOND, "*", &[Int(3)]),
+];
 
-const BOTH_SET: &[Want] = &[Set(FIRST, 3), Set(SECOND, 4)];
+const COMMIT: &[Step] = &[(Commit(1, WANTS, 0), Committed)];
 
-const AFTER_BOTH: &[Step] = &[
+const AFTER: &[Step] = &[
     (Read(1, FIRST), Number(3)),
-    (Read(1, SECOND), Number(4)),
+    (Read(1, SECOND), Number(18)),
     (ReadAt(1, FIRST, 0), Number(1)),
 ];
 
+// Commutes may have been made again in part. Then all is as it was, and it is committed once more.
 #[test]
 fn commit_that_fails_changes_nothing(rt: HostRuntime) -> Result<(), Fail> {
-    expect_whole(&rt, rt.alloc(), BOTH_SET, AFTER_BOTH)
-}
-
-// The same where one of the two is commuted, and its commutes may be made again in part.
-const SET_AND_COMMUTED: &[Want] = &[
-    Set(FIRST, 3),
-    Commute(SECOND, "+", 4),
-    Commute(SECOND, "*", 3),
-];
-
-const AFTER_COMMUTES: &[Step] = &[(Read(1, FIRST), Number(3)), (Read(1, SECOND), Number(18))];
-
-#[test]
-fn commit_that_fails_between_commutes_changes_nothing(rt: HostRuntime) -> Result<(), Fail> {
-    expect_whole(&rt, rt.alloc(), SET_AND_COMMUTED, AFTER_COMMUTES)
+    let alloc = rt.alloc();
+    let mut table = new_table(alloc);
+    if take(&rt, alloc, &mut table, BEFORE).is_err() {
+        return Ok(());
+    }
+    if take(&rt, alloc, &mut table, COMMIT).is_err() {
+        take(&rt, alloc, &mut table, AS_IT_WAS)?;
+        take(&rt, alloc, &mut table, COMMIT)?;
+    }
+    take(&rt, alloc, &mut table, AFTER)?;
+    Ok(())
 }
 
 const NUMBERED: &[Step] = &[

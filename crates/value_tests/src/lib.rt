@@ -1,10 +1,16 @@
-//! Tests of values, of special forms and of the wire, by public calls alone.
+//! Tests of the wire, of values, of the reader and of traces, by public calls alone.
 #![tactic(auto)]
 
 #[cfg(test)]
+mod calls;
+#[cfg(test)]
 mod keys;
 #[cfg(test)]
-mod returns;
+mod places;
+#[cfg(test)]
+mod read;
+#[cfg(test)]
+mod traces;
 #[cfg(test)]
 mod values;
 #[cfg(test)]

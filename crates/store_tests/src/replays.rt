@@ -1,0 +1,91 @@
+// A replay gives its answers in their order, each to an ask of its kind alone.
+use crate::given::FIRST;
+use repl_asks::{
+    Answer, AnswerKind, Ask, Reading, Refs, Replay, Resolution, Stop, StopReason, Verdict,
+};
+use repl_values::{RefName, Value};
+use std::alloc::{AllocError, Global};
+use std::test::Fail;
+
+/// An answer, in short.
+#[derive(Clone, Copy)]
+pub(crate) enum Given {
+    /// The symbol names this integer.
+    Int(i64),
+    /// The symbol names this ref.
+    Ref(RefName),
+    Done,
+    /// The ref holds this integer.
+    Found(i64),
+    Committed,
+}
+
+fn answer(given: Given) -> Answer {
+    match given {
+        Given::Int(number) => Answer::Resolution(Resolution::Value(Value::Int(number))),
+        Given::Ref(name) => Answer::Resolution(Resolution::Value(Value::Ref(name))),
+        Given::Done => Answer::Done,
+        Given::Found(number) => Answer::Reading(Reading::Found(Value::Int(number))),
+        Given::Committed => Answer::Verdict(Verdict::Committed),
+    }
+}
+
+pub(crate) fn answers_of(alloc: Global, given: &[Given]) -> Result<Vec<Answer>, AllocError> {
+    let mut answers = Vec::new(alloc);
+    for one in given {
+        answers.push(answer(*one))?;
+    }
+    Ok(answers)
+}
+
+/// What an ask is answered, or what an evaluation comes to.
+#[derive(Clone, Copy, Debug, PartialEq, Eq)]
+pub(crate) enum Told {
+    Int(i64),
+    /// A fault: a shared ref was to hold what is not plain.
+    NotPlain,
+    Other,
+    /// An ask had no answer, which would have been of this kind.
+    Stopped(AnswerKind),
+}
+
+fn read(alloc: Global, replay: &mut Replay) -> Told {
+    match replay.ask(alloc, Ask::Read(FIRST)) {
+        Ok(Answer::Reading(Reading::Found(Value::Int(number)))) => Told::Int(number),
+        Ok(_other) => Told::Other,
+        Err(stop) => stop_told(&stop),
+    }
+}
+
+fn stop_told(stop: &Stop) -> Told {
+    if stop.why == StopReason::NoAnswer {
+        Told::Stopped(stop.ask.kind())
+    } else {
+        Told::Other
+    }
+}
+
+const STOPPED: Told = Told::Stopped(AnswerKind::Reading);
+
+// The answers of a replay, and what one read after the other is told. Who stopped answers no more,
+// also where the next answer would fit.
+const REPLAYS: &[(&[Given], &[Told])] = &[
+    (
+        &[Given::Found(5), Given::Found(6)],
+        &[Told::Int(5), Told::Int(6), STOPPED, STOPPED],
+    ),
+    (&[Given::Done, Given::Found(5)], &[STOPPED, STOPPED]),
+    (&[Given::Int(1), Given::Found(5)], &[STOPPED, STOPPED]),
+    (&[Given::Committed, Given::Found(5)], &[STOPPED, STOPPED]),
+];
+
+#[test]
+fn replays_answer_what_fits(rt: HostRuntime) -> Result<(), Fail> {
+    for (given, wanted) in REPLAYS {
+        let mut replay = Replay::new(rt.alloc(), answers_of(rt.alloc(), given)?);
+        for told in *wanted {
+            assert_eq!(rt; read(rt.alloc(), &mut replay), *told);
+        }
+    }
+    Ok(())
+}
