@@ -1,5 +1,5 @@
 #!/usr/bin/env python3
-"""Measures what programs cost on the built server, and prints the table of docs/GATE.md.
+"""Measures what programs cost on the built server, and prints the table of docs/COSTS.md.
 
     tools/costs.py [WORD ..]          all rows, or those in whose names one of the words stands
     tools/costs.py --stream ROW COUNT writes the stream of a row, by its number, for so many

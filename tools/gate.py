@@ -2,37 +2,42 @@
 """The merge gate, started by .ci/run.
 
     .ci/run                 `rt ci` over a copy of the tree: every proof from nothing, every test,
-                            every program. The must-fail edits of a crate are left out of the copy
-                            where the record says that just these were refused
-    .ci/run whole           the same, and every must-fail edit
-    .ci/run edits [NAME ..] tries the edits of the crates that are named, or of all that the record
-                            does not cover, and writes their lines of the record where each edit was
-                            refused. Nothing else writes one
+                            every program; then the cases of cases/ on these programs. Of the
+                            must-fail edits it tries those that the record does not cover, for at
+                            most 40 minutes of all processors, and names those that are left
+    .ci/run whole           the same, and all must-fail edits, however long they take
+    .ci/run edits [NAME ..] tries the edits of the crates that are named, or all that the record
+                            does not cover, and nothing else
 
-The record is tools/refused_edits.txt: for a crate its name, the kit (`rt version`), a fingerprint
-and the number of its edits. The fingerprint is a sum over all that the edits depend on
-(workspace.py): the edits, the sources of the crate and of each crate below it, their lines of
-crates.txt, HANDLES and the kit. A line counts only where kit, fingerprint and number are those of
-the tree and of the machine. So after a change of a crate its edits are tried again, and those of
-every crate above it; and a line that was altered, or whose edits were, covers nothing. A crate may
-have a line for each of several kits, since not all machines have the same. What a record cannot
-show is that its line was written by `.ci/run edits`: `.ci/run whole` shows that.
+The record is tools/refused_edits.txt. Each run adds the edits to it that it saw refused: the edit,
+its fingerprint, and the kit (`rt version`) that refused it. The fingerprint is a sum over what the
+edit's meaning depends on (workspace.py): what it changes, the sources, definitions and proofs of
+its crate, and the definitions of the crates below. A line counts as long as that is what it was;
+whatever kit there is. What a record cannot show is that nobody wrote a line by hand: `.ci/run
+whole` takes nothing from it.
 
-`rt ci` runs as quick_rt.py starts it: the kit's own, but each crate's sources are summed once."""
+`rt ci` runs as quick_rt.py starts it."""
 
 import os
 import re
 import shutil
 import sys
-import tempfile
 import time
 
+import build
+import cases
 import minutes
 import workspace
 
+MINUTES_FOR_EDITS = 40
 # What `rt ci` says of an edit that was refused for its meaning. One that is refused only because a
 # proof names what it took away, or only by a limit of the prover, has a parenthesis behind `be`.
-REFUSED = re.compile(r"rt: must-fail (\w+)/(\S+\.edit): refused, as it must be(?:: .*)?$")
+REFUSED = re.compile(r"rt: must-fail (\w+/\S+\.edit): refused, as it must be(?:: .*)?$")
+COUNTS = re.compile(r"(\d+) passed, (\d+) failed$")
+HEAD = """\
+# The must-fail edits that were seen refused, each with the fingerprint of what its meaning depends
+# on, and the kit that refused it. Written by .ci/run.
+"""
 
 
 def main(words):
@@ -41,7 +46,7 @@ def main(words):
     if words not in ([], ["whole"]):
         print(__doc__, file=sys.stderr)
         return 2
-    return run_gate([] if words else covered())
+    return run_gate(is_whole=bool(words))
 
 
 def record():
@@ -49,119 +54,146 @@ def record():
 
 
 def recorded():
-    """The lines of the record: by crate and kit the fingerprint and the number of edits. Where a
-    crate has two lines for one kit, it has none for it."""
+    """The lines of the record: for an edit, as `crate/file`, its fingerprint and the kit."""
     found = {}
     if os.path.isfile(record()):
         for line in workspace.content(record()).decode(errors="replace").splitlines():
             words = line.split()
-            if len(words) > 3 and not line.startswith("#"):
-                key = words[0], " ".join(words[1:-2])
-                found[key] = None if key in found else (words[-2], words[-1])
+            if len(words) > 2 and not line.startswith("#"):
+                found[words[0]] = words[1], " ".join(words[2:])
     return found
 
 
-def covered():
-    """The crates all of whose edits were seen refused, as they stand now, with this kit."""
+def name_of(edit):
+    """An edit as the record and `rt ci` name it."""
+    folder, file = os.path.split(edit)
+    return f"{os.path.basename(os.path.dirname(folder))}/{file}"
+
+
+def all_edits():
+    return [edit for crate in workspace.crates() for edit in crate.edits()]
+
+
+def uncovered(edits):
+    """Those of these edits of which the record says nothing, as they stand now."""
     lines, now = recorded(), workspace.fingerprints()
-    return [it for it in workspace.crates() if it.edits() and stands(it, lines, now)]
+    return [it for it in edits if lines.get(name_of(it), ("",))[0] != now[it]]
 
 
-def stands(crate, lines, now, kit=None):
-    """Whether the crate's line for a kit is of the tree with these fingerprints."""
-    line = lines.get((crate.name, kit or workspace.kit()))
-    return line == (now[crate.name], str(len(crate.edits())))
-
-
-def uncovered():
-    """The crates that have edits of which the record says nothing."""
-    names = {it.name for it in covered()}
-    return [it for it in workspace.crates() if it.edits() and it.name not in names]
-
-
-def run_gate(left_out):
-    """Runs `rt ci` over a copy of the tree without these crates' edits, and returns its status."""
+def run_gate(is_whole):
+    """Runs `rt ci` over a copy of the tree, the cases on its programs, and returns the status."""
     began = time.monotonic()
-    taken = sum(len(it.edits()) for it in left_out)
-    tried = sum(len(it.edits()) for it in workspace.crates()) - taken
-    with tempfile.TemporaryDirectory(prefix="gate-") as room:
-        tree = f"{room}/tree"
-        skipped = shutil.ignore_patterns(".git", "out", "__pycache__", ".build-*")
-        shutil.copytree(workspace.TOP, tree, symlinks=True, ignore=skipped)
-        for it in left_out:
-            shutil.rmtree(f"{tree}/crates/{it.name}/must-fail")
-        last = [""]
-
-        def see(line):
-            print(line, end="", flush=True)
-            last[:] = [line]
-
+    every = all_edits()
+    asked = every if is_whole else uncovered(every)
+    sums = build.program_sums()
+    with workspace.copied(workspace.crates(), asked) as tree, Run(asked) as run:
         with minutes.measured() as table:
-            status = workspace.rt_ci(tree, see)
+            status = workspace.rt_ci(tree, run.see, None if is_whole else MINUTES_FOR_EDITS)
+        cases_passed, cases_failed = run_cases(tree)
+        if not status:
+            build.keep_programs(tree, sums)
     elapsed = (time.monotonic() - began) / 60
     print(f"gate: {elapsed:.0f} minutes on {workspace.PROCESSORS} processors\n{table.text()}")
-    print(f"edits: {tried} tried, {taken} taken from the record")
-    print(last[0], end="", flush=True)
-    return status
+    left = run.left()
+    print(f"edits: {len(asked) - len(left)} tried, {len(every) - len(asked)} taken from the record")
+    if left:
+        print(
+            f"edits: left, since their time was used or their crate was not proved:\n{listed(left)}"
+        )
+    print(f"cases: {cases_passed} passed, {cases_failed} failed")
+    passed, failed = run.counts
+    print(f"{passed + cases_passed} passed, {failed + cases_failed} failed", flush=True)
+    return 1 if status or failed or cases_failed else 0
+
+
+def listed(edits):
+    """A line for each crate."""
+    by_crate = {}
+    for edit in edits:
+        crate, file = name_of(edit).split("/")
+        by_crate.setdefault(crate, []).append(file.removesuffix(".edit"))
+    return "\n".join(f"    {crate}: {' '.join(files)}" for crate, files in by_crate.items())
+
+
+def run_cases(tree):
+    """Runs all cases on the programs of this tree. Where one is not there that is a failure."""
+    programs = [f"{tree}/crates/{name}/out/{name}" for name in ("nrepl_server", "run_turns")]
+    lost = [it for it in programs if not os.path.isfile(it)]
+    if lost:
+        print(f"cases: not run: no program {' '.join(map(os.path.basename, lost))}")
+        return 0, 1
+    return cases.run(cases.all_files(), *programs)
 
 
 def try_edits(names):
-    """Tries the edits of these crates, or of all that the record does not cover, by `rt ci` over a
-    tree of them and of what they stand on, and writes the lines of those whose edits were refused."""
+    """Tries the edits of these crates, or all that the record does not cover, by `rt ci` over a
+    tree of their crates and of what these stand on."""
     known = {it.name: it for it in workspace.crates()}
     lost = [it for it in names if it not in known]
     if lost:
         print(f"edits: no such crate: {' '.join(lost)}", file=sys.stderr)
         return 2
-    asked = [it for it in [known[it] for it in names] or uncovered() if it.edits()]
+    named = [edit for name in names for edit in known[name].edits()]
+    asked = named if names else uncovered(all_edits())
     if not asked:
-        print("edits: the record covers all")
+        print("edits: none to try")
         return 0
-    before = workspace.fingerprints()
-    refused = {it.name: set() for it in asked}
-    with workspace.copied(workspace.with_those_below(asked), with_edits=asked) as tree:
-
-        def see(line):
-            print(line, end="", flush=True)
-            if REFUSED.match(line):
-                name, edit = REFUSED.match(line).groups()
-                refused[name].add(edit)
-
-        workspace.rt_ci(tree, see)
-    # what changed meanwhile was not tried
-    now = workspace.fingerprints()
-    well = [it for it in asked if now[it.name] == before[it.name] and is_whole(it, refused[it.name])]
-    note(well, before)
-    for it in asked:
-        if it not in well:
-            left = {os.path.basename(edit) for edit in it.edits()} - refused[it.name]
-            print(f"edits: {it.name}: no line is written: {' '.join(sorted(left))}")
-    print(f"edits: {len(well)} of {len(asked)} crates recorded")
-    return 0 if len(well) == len(asked) else 1
+    homes = [it for it in known.values() if any(edit in asked for edit in it.edits())]
+    with workspace.copied(workspace.with_those_below(homes), asked) as tree, Run(asked) as run:
+        status = workspace.rt_ci(tree, run.see)
+    print(f"edits: {len(run.refused)} of {len(asked)} refused, and recorded")
+    return 1 if status or len(run.refused) < len(asked) else 0
 
 
-def is_whole(crate, refused):
-    return {os.path.basename(edit) for edit in crate.edits()} == refused
+class Run:
+    """What a run of `rt ci` says of these edits. In the end those that were refused are recorded,
+    if what they depend on is still what it was."""
+
+    def __init__(self, edits):
+        self.edits = {name_of(it): it for it in edits}
+        self.refused, self.tried, self.counts = [], set(), (0, 1)
+
+    def see(self, line):
+        counts = COUNTS.match(line)
+        if counts:
+            self.counts = int(counts[1]), int(counts[2])
+            return
+        if line.startswith("rt: must-fail "):
+            name = line.split()[2].rstrip(":")
+            # quick_rt.py has it said when it is known, and `rt ci` says it again
+            if name in self.tried:
+                return
+            self.tried.add(name)
+        print(line, end="", flush=True)
+        if REFUSED.match(line):
+            self.refused.append(REFUSED.match(line)[1])
+
+    def left(self):
+        return [edit for name, edit in self.edits.items() if name not in self.tried]
+
+    def __enter__(self):
+        self.before = workspace.fingerprints()
+        return self
+
+    def __exit__(self, *_):
+        now = workspace.fingerprints()
+        same = [it for it in self.refused if it in self.edits]
+        note([it for it in same if now.get(self.edits[it]) == self.before[self.edits[it]]], now)
 
 
-def note(crates, now):
-    """Writes the lines of these crates for this kit, and keeps all others that still count."""
+def note(names, now):
+    """Writes lines of these edits, and keeps those that still count."""
     lines, kept = recorded(), {}
-    for kit in sorted({kit for _, kit in lines}):
-        then = workspace.fingerprints(kit)
-        for it in workspace.crates():
-            if stands(it, lines, then, kit):
-                kept[it.name, kit] = lines[it.name, kit]
-    for it in crates:
-        kept[it.name, workspace.kit()] = now[it.name], str(len(it.edits()))
-    order = {it.name: place for place, it in enumerate(workspace.crates())}
-    with open(record(), "w", encoding="utf-8") as file:
-        file.write(
-            "# A crate, the kit, the fingerprint for which all its edits were refused, and their "
-            "number.\n# Written by .ci/run edits.\n"
-        )
-        for name, kit in sorted(kept, key=lambda key: (order[key[0]], key[1])):
-            file.write(f"{name} {kit} {' '.join(kept[name, kit])}\n")
+    for edit in all_edits():
+        name = name_of(edit)
+        if name in names:
+            kept[name] = now[edit], workspace.kit()
+        elif lines.get(name, ("",))[0] == now[edit]:
+            kept[name] = lines[name]
+    with open(f"{record()}.new", "w", encoding="utf-8") as file:
+        file.write(HEAD)
+        file.writelines(f"{name} {' '.join(line)}\n" for name, line in kept.items())
+    shutil.move(f"{record()}.new", record())
 
 
 if __name__ == "__main__":

@@ -25,7 +25,9 @@ class Believed(unittest.TestCase):
 
     def test_page_has_each_folder_and_its_lines(self):
         number = lambda text: int(text.replace(",", ""))
-        rows = {name: (number(lines), number(rules)) for name, lines, rules in ROW.findall(self.page)}
+        rows = {
+            name: (number(lines), number(rules)) for name, lines, rules in ROW.findall(self.page)
+        }
         counted = {name: believed.counts(name, files) for name, files in self.found.items()}
         self.assertEqual(rows, counted)
 

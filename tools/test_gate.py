@@ -1,9 +1,13 @@
-"""What the record covers, on a small tree, and the jobs of a proof: started by .ci/run before the
-gate."""
+"""What the record covers, on a small tree; the edits that a run has time for; that sums are the
+kit's; and the jobs of a proof: started by .ci/run before the gate."""
 
+import contextlib
+import io
 import os
 import tempfile
 import threading
+import time
+import types
 import unittest
 
 import gate
@@ -11,19 +15,25 @@ import quick_rt
 import workspace
 
 
-class Record(unittest.TestCase):
+class Tree(unittest.TestCase):
+    """A small repository: `high` stands on `middle`, which stands on `low`."""
+
     def setUp(self):
         room = tempfile.TemporaryDirectory()
         self.addCleanup(room.cleanup)
         self.addCleanup(setattr, workspace, "TOP", workspace.TOP)
         workspace.TOP = room.name
-        self.write("crates.txt", "low: itoa\nmiddle: low\nhigh: middle # the program\nother:\n")
+        self.write("crates.txt", "low: itoa\nmiddle: low\nhigh: middle low # the program\nother:\n")
         self.write("HANDLES", "Handles allowed: none.\n")
         for name in ("low", "middle", "high", "other"):
             self.write(f"crates/{name}/src/lib.rt", f"// {name}\n")
+            self.write(f"crates/{name}/specs/Lib.antt", f"-- {name}\n")
             self.write(f"crates/{name}/must-fail/turned.edit", "old: a\nnew: b\n")
         os.mkdir(f"{room.name}/tools")
-        gate.note(workspace.crates(), workspace.fingerprints())
+        # what a run prints again of `rt ci`
+        quiet = contextlib.redirect_stdout(io.StringIO())
+        quiet.__enter__()
+        self.addCleanup(quiet.__exit__, None, None, None)
 
     def write(self, path, text):
         path = f"{workspace.TOP}/{path}"
@@ -31,32 +41,84 @@ class Record(unittest.TestCase):
         with open(path, "w", encoding="utf-8") as file:
             file.write(text)
 
+
+class Record(Tree):
+    def setUp(self):
+        super().setUp()
+        with gate.Run(gate.all_edits()) as run:
+            for name in ("low", "middle", "high", "other"):
+                run.see(f"rt: must-fail {name}/turned.edit: refused, as it must be: why\n")
+
     def turn_record(self, old, new):
         text = workspace.content(gate.record()).decode()
         self.assertIn(old, text)
         self.write("tools/refused_edits.txt", text.replace(old, new))
 
     def assert_covered(self, *names):
-        self.assertEqual({it.name for it in gate.covered()}, {*names})
+        left = {gate.name_of(it) for it in gate.uncovered(gate.all_edits())}
+        every = {gate.name_of(it) for it in gate.all_edits()}
+        self.assertEqual({it.partition("/")[0] for it in every - left}, {*names})
 
     def test_unchanged_tree_is_covered(self):
         self.assert_covered("low", "middle", "high", "other")
 
-    def test_change_uncovers_the_crates_above(self):
+    def test_source_uncovers_its_own_crate_alone(self):
         self.write("crates/middle/src/lib.rt", "// changed\n")
-        self.assert_covered("low", "other")
-        self.assertEqual([it.name for it in gate.uncovered()], ["middle", "high"])
+        self.assert_covered("low", "high", "other")
 
-    def test_proofs_specifications_and_ground_count(self):
+    def test_proof_uncovers_its_own_crate_alone(self):
         self.write("crates/low/proofs/Lib.antt", "")
-        self.assert_covered("other")
-        self.write("HANDLES", "Handles allowed: Net.\n")
-        self.assert_covered()
+        self.assert_covered("middle", "high", "other")
+
+    def test_definition_uncovers_the_crates_above(self):
+        self.write("crates/middle/specs/Lib.antt", "-- changed\n")
+        self.assert_covered("low", "other")
+
+    def test_altered_edit_uncovers_itself_alone(self):
+        self.write("crates/low/must-fail/more.edit", "old: a\nnew: c\n")
+        self.write("crates/other/must-fail/turned.edit", "old: a\nnew: a\n")
+        left = [gate.name_of(it) for it in gate.uncovered(gate.all_edits())]
+        self.assertEqual(left, ["low/more.edit", "other/turned.edit"])
+
+    def test_line_of_crates_counts(self):
+        self.write("crates.txt", "low: itoa bytes\nmiddle: low\nhigh: middle low\nother:\n")
+        self.assert_covered("middle", "high", "other")
+
+    def test_wrong_fingerprint_covers_nothing(self):
+        number = workspace.fingerprints()[gate.all_edits()[-1]]
+        self.turn_record(number, "0" * len(number))
+        left = gate.uncovered(gate.all_edits())
+        self.assertEqual(left, gate.all_edits()[-1:])
+
+    def test_another_kit_uncovers_nothing(self):
+        self.addCleanup(setattr, workspace, "kit", workspace.kit)
+        workspace.kit = lambda: "kit-0 logic 0"
+        self.assert_covered("low", "middle", "high", "other")
+
+    def test_kit_that_refused_is_kept(self):
+        self.turn_record(f" {workspace.kit()}\n", " kit-0 logic 0\n")
+        gate.note(["low/turned.edit"], workspace.fingerprints())
+        kits = {name: kit for name, (_, kit) in gate.recorded().items()}
+        self.assertEqual(kits.pop("low/turned.edit"), workspace.kit())
+        self.assertEqual({*kits.values()}, {"kit-0 logic 0"})
+
+    def test_line_that_does_not_count_goes(self):
+        self.write("crates/low/src/lib.rt", "// changed\n")
+        gate.note([], workspace.fingerprints())
+        self.assertNotIn("low/turned.edit", gate.recorded())
+
+    def test_change_in_a_run_is_not_recorded(self):
+        self.write("crates/low/src/lib.rt", "// changed\n")
+        with gate.Run(gate.all_edits()) as run:
+            run.see("rt: must-fail low/turned.edit: refused, as it must be: why\n")
+            self.write("crates/low/src/lib.rt", "// changed again\n")
+        self.assert_covered("middle", "high", "other")
 
     def test_edit_counts_only_where_its_meaning_was_refused(self):
         told = "rt: must-fail low/turned.edit: "
-        self.assertEqual(gate.REFUSED.match(f"{told}refused, as it must be\n")[2], "turned.edit")
-        self.assertEqual(gate.REFUSED.match(f"{told}refused, as it must be: why\n")[1], "low")
+        self.assertEqual(
+            gate.REFUSED.match(f"{told}refused, as it must be\n")[1], "low/turned.edit"
+        )
         for why in (
             "refused, as it must be (only because a proof file names what the edit took away)\n",
             "refused, as it must be (only by a limit of the prover): why\n",
@@ -66,54 +128,40 @@ class Record(unittest.TestCase):
         ):
             self.assertIsNone(gate.REFUSED.match(told + why))
 
-    def test_altered_edit_uncovers(self):
-        self.write("crates/other/must-fail/turned.edit", "old: a\nnew: a\n")
-        self.assert_covered("low", "middle", "high")
+    def test_edit_that_was_not_tried_is_left(self):
+        run = gate.Run(gate.all_edits())
+        run.see("rt: must-fail low/turned.edit: NOT REFUSED: the crate is still proved\n")
+        run.see("3 passed, 1 failed\n")
+        self.assertEqual(run.counts, (3, 1))
+        left = {gate.name_of(it) for it in run.left()}
+        self.assertEqual(left, {f"{it}/turned.edit" for it in ("middle", "high", "other")})
 
-    def test_edits_of_a_crate_count_for_no_other(self):
-        self.write("crates/low/must-fail/turned.edit", "old: a\nnew: a\n")
-        self.assert_covered("middle", "high", "other")
 
-    def test_added_edit_uncovers(self):
-        self.write("crates/other/must-fail/more.edit", "old: a\nnew: b\n")
-        self.assert_covered("low", "middle", "high")
+class MinutesForEdits(unittest.TestCase):
+    def test_no_crate_begins_when_the_time_is_used(self):
+        def must_fail_all(crate, edits, flags):
+            time.sleep(0.02)
+            return [(True, edit) for edit in edits]
 
-    def test_line_of_crates_counts(self):
-        self.write("crates.txt", "low: itoa bytes\nmiddle: low\nhigh: middle\nother:\n")
-        self.assert_covered("other")
+        tried = quick_rt.for_so_long(must_fail_all, 0.03)
+        crates = [types.SimpleNamespace(name=name) for name in "abc"]
+        given = [tried(it, ["edit"], []) for it in crates]
+        self.assertEqual(given, [[(True, "edit")], [(True, "edit")], []])
 
-    def test_wrong_number_covers_nothing(self):
-        self.turn_record(f"{self.line()} 1", f"{self.line()} 2")
-        self.assert_covered("low", "middle", "high")
 
-    def test_wrong_fingerprint_covers_nothing(self):
-        number = workspace.fingerprints()["other"]
-        self.turn_record(number, "0" * len(number))
-        self.assert_covered("low", "middle", "high")
-
-    def test_crate_with_two_lines_has_none(self):
-        self.turn_record(f"{self.line()} 1", f"{self.line()} 1\n{self.line()} 1")
-        self.assert_covered("low", "middle", "high")
-
-    def test_line_of_another_kit_covers_nothing(self):
-        self.turn_record(f"other {workspace.kit()}", "other kit-0 logic 0")
-        self.assert_covered("low", "middle", "high")
-
-    def test_lines_of_another_kit_stay_while_they_count(self):
-        other = workspace.fingerprints("kit-0 logic 0")
-        lines = "".join(f"{it} kit-0 logic 0 {other[it]} 1\n" for it in ("low", "other"))
-        self.turn_record(f"{self.line()} 1\n", f"{self.line()} 1\n{lines}")
-        self.assert_covered("low", "middle", "high", "other")
-        self.write("crates/low/src/lib.rt", "// changed\n")
-        gate.note([it for it in workspace.crates() if it.name == "low"], workspace.fingerprints())
-        self.assert_covered("low", "other")
-        text = workspace.content(gate.record()).decode()
-        self.assertIn(f"other kit-0 logic 0 {other['other']} 1\n", text)
-        self.assertNotIn("low kit-0", text)
-        self.assertNotIn("middle", text)
-
-    def line(self):
-        return f"other {workspace.kit()} {workspace.fingerprints()['other']}"
+class Sums(Tree):
+    def test_sums_and_crates_below_are_the_kits(self):
+        rt = quick_rt.kit()
+        crates = rt.rtlib.crates_below(workspace.TOP)
+        told = {it.name: (it.stamp(), [its.name for its in it.below()]) for it in crates}
+        self.assertEqual(len({sum for sum, _ in told.values()}), 4)
+        below, stamp = quick_rt.kept(rt.rtlib.Crate.below), quick_rt.once(rt.rtlib.Crate.stamp)
+        self.addCleanup(setattr, rt.rtlib.Crate, "below", rt.rtlib.Crate.below)
+        self.addCleanup(setattr, rt.rtlib.Crate, "stamp", rt.rtlib.Crate.stamp)
+        rt.rtlib.Crate.below, rt.rtlib.Crate.stamp = below, stamp
+        for _ in range(2):
+            for it in rt.rtlib.crates_below(workspace.TOP):
+                self.assertEqual((it.stamp(), [its.name for its in it.below()]), told[it.name])
 
 
 class Library:

@@ -80,8 +80,8 @@ def with_those_below(some):
 
 @contextlib.contextmanager
 def copied(some, with_edits=()):
-    """A tree of its own of these crates, without what checks kept in them, and with the must-fail
-    edits of those alone that are named as such. Gives its folder, which goes in the end."""
+    """A tree of its own of these crates, without what checks kept in them, and with those of their
+    must-fail edits that are named. Gives its folder, which goes in the end."""
     with tempfile.TemporaryDirectory(prefix="crates-") as room:
         tree = f"{room}/tree"
         # `rt ci` takes the tree for the top of a repository
@@ -89,18 +89,29 @@ def copied(some, with_edits=()):
         shutil.copy(f"{TOP}/HANDLES", tree)
         with open(f"{tree}/crates.txt", "w", encoding="utf-8") as file:
             file.writelines(f"{it.line}\n" for it in some)
+        left_out = shutil.ignore_patterns("out", "must-fail")
         for it in some:
-            left_out = ("out",) if it in with_edits else ("out", "must-fail")
-            ignored = shutil.ignore_patterns(*left_out)
-            shutil.copytree(it.folder, f"{tree}/crates/{it.name}", ignore=ignored)
+            to = f"{tree}/crates/{it.name}"
+            shutil.copytree(it.folder, to, ignore=left_out)
+            for edit in it.edits():
+                if edit in with_edits:
+                    os.makedirs(f"{to}/must-fail", exist_ok=True)
+                    shutil.copy(edit, f"{to}/must-fail")
         yield tree
 
 
-def rt_ci(tree, see):
-    """Runs `rt ci` over a tree, hands each line that it prints to `see`, and returns its status."""
+def rt_ci(tree, see, minutes_for_edits=None):
+    """Runs `rt ci` over a tree, hands each line that it prints to `see`, and returns its status.
+    quick_rt.py begins with no crate's edits once these took so many minutes on all processors."""
+    limit = {"MINUTES_FOR_EDITS": str(minutes_for_edits)} if minutes_for_edits is not None else {}
     with subprocess.Popen(
-        [*RT, "ci"], cwd=tree, stdin=subprocess.DEVNULL, stdout=subprocess.PIPE,
-        stderr=subprocess.STDOUT, errors="replace",
+        [*RT, "ci"],
+        cwd=tree,
+        stdin=subprocess.DEVNULL,
+        stdout=subprocess.PIPE,
+        stderr=subprocess.STDOUT,
+        errors="replace",
+        env={**os.environ, **limit},
     ) as ran:
         for line in ran.stdout:
             see(line)
@@ -113,17 +124,29 @@ def kit():
     return subprocess.check_output(["rt", "version"], text=True).strip()
 
 
-def fingerprints(with_kit=None):
-    """For each crate's name a sum over all that its must-fail edits depend on: its edits, its
-    sources and its line of crates.txt, the same two of each crate below it, HANDLES and the kit:
-    this machine's, or the one that is named."""
-    identity = with_kit or kit()
-    sums = {}
+def fingerprints():
+    """For each must-fail edit a sum over what its meaning depends on: what it changes, the sources,
+    definitions and proofs of its crate, the crate's line of crates.txt, and the definitions of all
+    crates below."""
+    definitions = {it.name: digest([], it, "specs") for it in crates()}
+    found = {}
     for crate in crates():
-        below = [sums[it.name] for it in crate.below()]
-        ground = [content(f"{TOP}/HANDLES"), identity, crate.line, below]
-        sums[crate.name] = digest(ground, crate, *SOURCES)
-    return {it.name: digest([sums[it.name]], it, "must-fail") for it in crates()}
+        below = [definitions[it.name] for it in crate.below()]
+        own = digest([crate.line, below], crate, *SOURCES)
+        for edit in crate.edits():
+            found[edit] = hashlib.sha256(repr([own, content(edit)]).encode()).hexdigest()
+    return found
+
+
+def program_sum(crate):
+    """A sum over all that a program is made from: its sources, those of all crates below, and the
+    kit."""
+    ground = [
+        content(f"{TOP}/HANDLES"),
+        kit(),
+        *(digest([it.line], it, *SOURCES) for it in crate.below()),
+    ]
+    return digest([ground, crate.line], crate, *SOURCES)
 
 
 def digest(ground, crate, *parts):
