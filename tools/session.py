@@ -1,59 +1,85 @@
 #!/usr/bin/env python3
-"""A session with the server, as an editor has one: each line of the input is sent to it as a form,
-and what comes back is printed as a REPL prints it.
+"""A session with the server, as an editor has one: each line is sent to it as a form, and what
+comes back is printed as a REPL prints it.
 
-    python3 tools/session.py < FORMS
+    python3 tools/session.py            a session of the built program. Where there is none it shows
+                                        README's session, or the forms on its standard input, by a
+                                        program whose proofs are not checked
+    python3 tools/session.py --proved   proves and builds the program first
 
 The server is `nrepl_server pipe`: it has no socket yet."""
 
+import io
 import os
+import re
 import subprocess
 import sys
 
-TOP = os.path.dirname(os.path.dirname(os.path.abspath(__file__)))
+import build
+import workspace
+from bencode import decoded, encoded
+from session_ids import session_id
+
+NOT_CHECKED = """\
+The proofs of this program were not checked here: it was compiled without them.
+`python3 tools/session.py --proved` checks them, which takes half an hour to an
+hour on four processors."""
+# Stands before a prompt with its form, which a terminal shows already.
+PROMPTED = "\0"
+EXAMPLE = re.compile(r"^    [a-z.]+=> (.*)$", re.MULTILINE)
 
 
-def encoded(value):
-    """The bencode of a text, a list or a dictionary."""
-    if isinstance(value, dict):
-        return b"d%be" % b"".join(encoded(key) + encoded(value[key]) for key in sorted(value))
-    if isinstance(value, list):
-        return b"l%be" % b"".join(map(encoded, value))
-    text = value.encode()
-    return b"%d:%b" % (len(text), text)
+def main(words):
+    if words not in ([], ["--proved"]):
+        print(__doc__, file=sys.stderr)
+        return 2
+    server = next(it for it in workspace.crates() if it.name == "nrepl_server")
+    if words and build.main([server.name]):
+        return 1
+    if build.is_kept(server):
+        return talk([build.program_of(server), "pipe"])
+    return show(server)
 
 
-def decoded(read):
-    """One value of a stream of bencode, of which `read` gives so many bytes."""
-    first = read(1)
-    if first in (b"l", b"d"):
-        items = list(iter(lambda: decoded(read), None))
-        return items if first == b"l" else dict(zip(items[::2], items[1::2]))
-    if first in (b"e", b""):
-        return None
-    length = first
-    while not length.endswith(b":"):
-        length += read(1)
-    return read(int(length[:-1])).decode()
+def talk(command):
+    """A session of this program: forms from the terminal, at a prompt, or lines of the input."""
+    is_terminal = sys.stdin.isatty()
+    with subprocess.Popen(command, stdin=subprocess.PIPE, stdout=subprocess.PIPE) as server:
+
+        def write(request):
+            server.stdin.write(request)
+            server.stdin.flush()
+
+        for line in asked(typed if is_terminal else given, write, server.stdout.read):
+            if not is_terminal or not line.startswith(PROMPTED):
+                print(line.removeprefix(PROMPTED), flush=True)
+    return 0
 
 
-def replies(read):
-    """The replies to a request: the last of them says that it is done."""
-    while True:
-        reply = decoded(read)
-        yield reply
-        if "done" in reply.get("status", []):
-            return
+def typed(namespace):
+    """The next form that is typed at a prompt, or nothing at the end."""
+    form = " "
+    while form.isspace():
+        print(f"{namespace}=> ", end="", flush=True)
+        form = sys.stdin.readline()
+    return form.strip()
 
 
-def asked(forms, write, read):
-    """What a session prints that is asked to evaluate these forms, line by line."""
+def given(_):
+    """The next line of the input that is not empty, or nothing at the end."""
+    return next((line.strip() for line in sys.stdin if line.strip()), "")
+
+
+def asked(next_form, write, read):
+    """What a session prints that is asked to evaluate these forms, line by line. It takes the next
+    form when it has answered the one before."""
     write(encoded({"id": "0", "op": "clone"}))
     session = next(replies(read))["new-session"]
-    namespace = "user"
-    for number, form in enumerate(forms, start=1):
-        yield f"{namespace}=> {form}"
-        write(encoded({"code": form, "id": str(number), "op": "eval", "session": session}))
+    namespace, number = "user", 0
+    while form := next_form(namespace):
+        number += 1
+        yield f"{PROMPTED}{namespace}=> {form}"
+        write(request(number, form, session))
         for reply in replies(read):
             namespace = reply.get("ns", namespace)
             for key in ("out", "err", "value"):
@@ -61,18 +87,44 @@ def asked(forms, write, read):
                     yield reply[key].removesuffix("\n")
 
 
-def main():
-    pipes = {"stdin": subprocess.PIPE, "stdout": subprocess.PIPE}
-    with subprocess.Popen([f"{TOP}/nrepl_server", "pipe"], **pipes) as server:
+def request(number, form, session):
+    return encoded({"code": form, "id": str(number), "op": "eval", "session": session})
 
-        def write(request):
-            server.stdin.write(request)
-            server.stdin.flush()
 
-        forms = (line.strip() for line in sys.stdin if line.strip())
-        for line in asked(forms, write, server.stdout.read):
-            print(line, flush=True)
+def replies(read):
+    """The replies to a request: the last of them says that it is done."""
+    while True:
+        reply = decoded(read)
+        if reply is None:
+            raise EOFError("the server ended")
+        yield reply
+        if "done" in reply.get("status", []):
+            return
+
+
+def show(server):
+    """Runs README's forms, or those of the input, through a program compiled without its proofs,
+    and says so. Such a program takes its whole input before it begins."""
+    forms = [] if sys.stdin.isatty() else [line.strip() for line in sys.stdin if line.strip()]
+    forms = forms or EXAMPLE.findall(workspace.content(f"{workspace.TOP}/README.md").decode())
+    requests = [
+        request(number, form, session_id(0, 0)) for number, form in enumerate(forms, start=1)
+    ]
+    stream = encoded({"id": "0", "op": "clone"}) + b"".join(requests)
+    print(
+        "No program is built yet: compiling one, without its proofs.", file=sys.stderr, flush=True
+    )
+    command = [*workspace.RT, "try", "--", "pipe"]
+    ran = subprocess.run(command, cwd=server.folder, input=stream, capture_output=True)
+    if not ran.stdout:
+        print(ran.stderr.decode(errors="replace"), file=sys.stderr)
+        return 1
+    left = iter(forms)
+    for line in asked(lambda _: next(left, ""), lambda _: None, io.BytesIO(ran.stdout).read):
+        print(line.removeprefix(PROMPTED))
+    print(NOT_CHECKED)
+    return 0
 
 
 if __name__ == "__main__":
-    main()
+    sys.exit(main(sys.argv[1:]))

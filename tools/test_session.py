@@ -20,7 +20,9 @@ class Example(unittest.TestCase):
         program = f"{workspace.TOP}/crates/nrepl_server"
         sent = io.BytesIO()
         answers = io.BytesIO(workspace.content(f"{program}/stdout"))
-        lines = list(session.asked(forms, sent.write, answers.read))
+        left = iter(forms)
+        lines = session.asked(lambda namespace: next(left, ""), sent.write, answers.read)
+        lines = [line.removeprefix(session.PROMPTED) for line in lines]
         self.assertEqual(sent.getvalue(), workspace.content(f"{program}/stdin"))
         self.assertEqual(answers.read(), b"")
         self.assertIn("".join(f"    {line}\n" for line in lines), readme)
