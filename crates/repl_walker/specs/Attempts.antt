@@ -34,10 +34,28 @@ Leaves before ops (printing text kept d) xs l =
 Leaves before ops (looking behind) xs l = Leaves before ops (behind ops) xs l
 Leaves before ops (noting op d) xs l = Leaves before (ops ++ op ∷ []) d xs l
 
+-- A body is led by this trace from where it stands to what it has still to do, with the text that
+-- is printed and the accesses that are done by then.
+abbrev pub Comes : List ℕ → List AccessData → Doing → List Exchanged → List ℕ → List AccessData
+    → Doing → Type 0
+Comes before ops (left exit kept) xs t o r = ⊥
+Comes before ops (asking ask behind) [] t o r = (t ≡ before) × (o ≡ ops)
+    × (r ≡ asking ask behind)
+Comes before ops (asking ask behind) (x ∷ xs) t o r = (x.ask ≡ ask)
+    × Comes before ops (behind x.answer) xs t o r
+Comes before ops (printing text kept d) [] t o r = (t ≡ before) × (o ≡ ops)
+    × (r ≡ printing text kept d)
+Comes before ops (printing text kept d) (x ∷ xs) t o r =
+    Unless (nat_lt most_text (length before + length text))
+    (Comes (before ++ text) ops d (x ∷ xs) t o r)
+Comes before ops (looking behind) xs t o r = Comes before ops (behind ops) xs t o r
+Comes before ops (noting op d) xs t o r = Comes before (ops ++ op ∷ []) d xs t o r
+
 -- A body is under way, or what it prints is too long; `after` is what is done when it is left.
-abbrev pub IsUnderWay : (Exit → Kept → List AccessData → Doing) → InteractionTree → Type 0
-IsUnderWay after end = (text : List ℕ) × (ops : List AccessData) × (rest : Doing)
-    × (end ≡ written_tree text (with_attempt after ops rest))
+abbrev pub IsUnderWay : (Exit → Kept → List AccessData → Doing) → List ℕ → List AccessData → Doing
+    → List Exchanged → InteractionTree → Type 0
+IsUnderWay after text ops body trace end = (t : List ℕ) × (o : List AccessData) × (r : Doing)
+    × Comes text ops body trace t o r × (end ≡ written_tree t (with_attempt after o r))
 
 -- The trace is that of the body until it was left, and then that of what follows.
 abbrev pub IsDivided : (Exit → Kept → List AccessData → Doing) → List ℕ → List AccessData → Doing

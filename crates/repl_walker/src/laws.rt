@@ -1,5 +1,5 @@
 //! Laws of evaluations and their traces. The functions do nothing: what they ensure is proved.
-ghost use Rattle.std.specs.Prelude.{◌≡◌, ◌↔◌, ◌⊎◌, ℕ, suc, List, [], ◌∷◌};
+ghost use Rattle.std.specs.Prelude.{◌≡◌, ◌↔◌, ◌⊎◌, ℕ, suc, List, [], ◌∷◌, length, map};
 ghost use Rattle.value_data.specs.Datum.{Datum};
 ghost use Rattle.repl_asks.specs.Exchange.{begin, Exchanged};
 ghost use Rattle.repl_jobs.specs.InteractionTree.{InteractionTree};
@@ -7,8 +7,9 @@ ghost use Rattle.repl_jobs.specs.Leading.{Leads, tree_after, AreItsAsks};
 ghost use Rattle.evaluation_rules.specs.Doing.{Kept, Doing};
 ghost use Rattle.evaluation_rules.specs.Tree.{written_tree};
 ghost use Rattle.evaluation_rules.specs.Transactions.{after_body, attempts};
-ghost use Rattle.repl_walker.specs.Attempts.{IsUnderWay, IsDivided};
-ghost use Rattle.repl_walker.specs.Values.{ValuesStay};
+ghost use Rattle.tx_attempt.specs.Accesses.{AccessData};
+ghost use Rattle.repl_walker.specs.Attempts.{IsUnderWay, IsDivided, Leaving, Leaves};
+ghost use Rattle.repl_walker.specs.Values.{ValuesStay, accesses_after};
 
 /// A trace leads an evaluation to one thing alone: to what it does after these answers, where each
 /// ask of the trace is what the evaluation asks next.
@@ -25,7 +26,8 @@ pub fn a_transaction_is_its_attempts()
         → (text : List ℕ)
         → (exchange : Exchanged) → (trace : List Exchanged) → (end : InteractionTree)
         → Leads (written_tree text (attempts (suc left) body next last)) (exchange ∷ trace) end
-        → (exchange.ask ≡ begin) × (IsUnderWay (after_body (attempts left body next) next) end
+        → (exchange.ask ≡ begin)
+        × (IsUnderWay (after_body (attempts left body next) next) text [] body trace end
         ⊎ IsDivided (after_body (attempts left body next) next) text [] body trace end) }
 {}
 
@@ -33,4 +35,11 @@ pub fn a_transaction_is_its_attempts()
 /// first. So two runs of it agree up to the first answer in which they differ.
 pub fn more_answers_keep_the_values()
     ensures { ValuesStay }
+{}
+
+/// What a body did where it is left is what it did with the answers that it was given.
+pub fn a_left_body_did_this()
+    ensures { (text : List ℕ) (ops : List AccessData) (body : Doing) (trace : List Exchanged)
+        (l : Leaving) → Leaves text ops body trace l
+        → accesses_after (length text) ops body (map (λ x. x.answer) trace) ≡ l.accesses }
 {}

@@ -12,6 +12,7 @@ ghost use Rattle.repl_walker.specs.Positions.{walk_position, most_calls, IsLater
 
 use crate::ending::Ending;
 use crate::waiting::{Progress, Walk};
+use evaluation_rules::CALLS;
 use repl_asks::{Answer, Exchange, Trace};
 use repl_jobs::Job;
 use std::alloc::{AllocError, Global};
@@ -23,7 +24,7 @@ pub fn start(alloc: Global, job: &Job) -> Result<Progress, AllocError>
         ≡ evaluation (job_view job.now)) }
     ensures job { IfOk result (λ progress. progress_job progress ≡ job_view job.now) }
     ensures trace { IfOk result (λ progress. progress_trace progress ≡ []) }
-    ensures calls { IfOk result (λ progress. most_calls progress ≤ 10_000) }
+    ensures calls { IfOk result (λ progress. most_calls progress ≤ CALLS) }
 {
     let copied = job.copy()?;
     let reached = begin(alloc, job)?;

@@ -1,6 +1,8 @@
 -- Runs with one tenant and with two.
 use Rattle.std.specs.Prelude.{◌≡◌, ℕ, List, [], ◌∷◌, ◌++◌, Some, None, Ok, Err, codes}
 use Rattle.value_data.specs.Datum.{nil}
+use Rattle.function_names.specs.declared.store.StoreFunction.{StoreFunction}
+use Rattle.repl_asks.specs.Exchange as exchange
 use Rattle.repl_jobs.specs.Job as jobs
 use Rattle.repl_jobs.specs.Job.{EndingData}
 use Rattle.repl_replies.specs.Replies as replies
@@ -11,7 +13,7 @@ use Rattle.server_rules.specs.Machine.Turns.{Turn, given}
 use Rattle.server_rules.specs.Isolation.Laws.{answer_in}
 use Rattle.server_rules.specs.declared.actor.Actor.{Actor}
 use Rattle.server_rules.specs.declared.refusal.Refusal.{Refusal}
-use Rattle.server_examples.specs.Tables.{number, ground}
+use Rattle.server_examples.specs.Tables.{number, symbol, ground}
 use Rattle.server_examples.specs.Runs.{message_turn, drain_turns, turns_of, opening_turns}
 use Rattle.server_examples.specs.Runs.{interleaving, after_all, given_to, first_reply, second_reply}
 use Rattle.server_examples.specs.Runs.{value_body}
@@ -70,11 +72,15 @@ CloseInterrupts =
     ∷ first_reply 0 (codes "7") replies.closed
     ∷ first_reply 0 (codes "2") replies.interrupted ∷ [])
 
--- An ending whose trace is shorter than the recorded one is refused where they differ first.
+-- An ending with the first of two recorded exchanges alone is refused at the place of the second.
 abbrev pub defining_ended : EndingData
 defining_ended = record {
   job = record { work = jobs.form (number 100); namespace = codes "user"; retries = 10000 };
-  trace = [];
+  trace = record {
+    ask = symbol (codes "ref");
+    answer = exchange.resolution
+        (exchange.names_function (exchange.store_function StoreFunction.Ref));
+  } ∷ [];
   end = record { result = Ok (number 7); text = []; namespace = codes "user" };
 }
 
@@ -82,7 +88,7 @@ abbrev pub OtherTraceIsRefused : Type 0
 OtherTraceIsRefused =
     let w = after_all (given (opens 0) ∷ message_turn 0 0 ∷ message_turn 0 1 ∷ turns_of 0 0 3) in
     answer_in (step ground w (does 0 (ends (Actor.Session 0) defining_ended)))
-    ≡ Err (Refusal.TraceMismatch 0)
+    ≡ Err (Refusal.TraceMismatch 1)
 
 -- A tenant that goes leaves its place to another, and nothing of its refs.
 abbrev pub PlaceIsFreed : Type 0
