@@ -3,3 +3,4 @@ pub mod Attempts
 pub mod Sound
 pub mod Serving
 pub mod Bounds
+pub mod Telling

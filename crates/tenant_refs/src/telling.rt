@@ -1,5 +1,5 @@
 // Whether the refs would tell what a form asks.
-ghost use Rattle.std.specs.Prelude.{◌≡◌, is_some, IfOk};
+ghost use Rattle.std.specs.Prelude.{◌≡◌, ◌||◌, true, is_some, IfOk, OnErr};
 ghost use Rattle.repl_asks.specs.Inside.View.{ask_view, name_view, intent_view};
 ghost use Rattle.server_rules.specs.Asking.{call_of};
 ghost use Rattle.server_rules.specs.Calls.{performed, counts, commits};
@@ -8,6 +8,7 @@ ghost use Rattle.server_rules.specs.Tenant.{seat_of};
 ghost use Rattle.ref_table.specs.Refs.{Refs};
 ghost use Rattle.tenant_refs.specs.Bounds.{is_bounded};
 ghost use Rattle.tenant_refs.specs.Serving.{ServesWithAttempts};
+ghost use Rattle.tenant_refs.specs.Telling.{is_commit};
 
 use crate::attempts::Attempts;
 use ref_history::ListHistory;
@@ -17,7 +18,8 @@ use repl_values::{Owner, RefName};
 use server_rules::Actor;
 use std::alloc::{AllocError, Global};
 
-/// Whether the refs would tell anything where this is asked. It fails only for want of memory.
+/// Whether the refs would tell anything where this is asked. It fails only for want of memory, and
+/// only of a commit.
 pub fn is_told(
     alloc: Global,
     refs: &RefTable<ListHistory>,
@@ -25,19 +27,45 @@ pub fn is_told(
     actor: Actor,
     ask: &Ask,
 ) -> Result<bool, AllocError>
-    ensures { (s : Store) (r : Refs) → ServesWithAttempts refs.now attempts.now s r
+    ensures told { (s : Store) (r : Refs) → ServesWithAttempts refs.now attempts.now s r
         → IfOk result (λ it.
         it ≡ is_some (performed s (call_of (seat_of actor) (ask_view ask.now))).told) }
+    ensures failed { OnErr result (is_commit (ask_view ask.now) ≡ true) }
 {
     match ask {
-        Ask::Resolve { .. } | Ask::Define { .. } | Ask::Enter(_) | Ask::NewRef { .. } => Ok(true),
-        Ask::Begin => Ok(attempts.point(actor).is_none()),
-        Ask::Read(name) => Ok(is_there(refs, attempts, *name)),
-        Ask::History(name) => Ok(is_counted(refs, attempts, actor, *name)),
-        Ask::MinHistory { name, set } | Ask::MaxHistory { name, set } => {
-            Ok(is_bounded(refs, attempts, *name, set.is_some()))
-        }
         Ask::Commit(intent) => is_committed(alloc, refs, attempts, actor, intent),
+        Ask::Resolve { .. }
+        | Ask::Define { .. }
+        | Ask::Enter(_)
+        | Ask::NewRef { .. }
+        | Ask::Begin
+        | Ask::Read(_)
+        | Ask::History(_)
+        | Ask::MinHistory { .. }
+        | Ask::MaxHistory { .. } => Ok(may_be_told(refs, attempts, actor, ask)),
+    }
+}
+
+/// Whether the refs would tell anything where this is asked, or it is a commit. It takes no memory.
+pub fn may_be_told(
+    refs: &RefTable<ListHistory>,
+    attempts: &Attempts,
+    actor: Actor,
+    ask: &Ask,
+) -> bool
+    ensures { (s : Store) (r : Refs) → ServesWithAttempts refs.now attempts.now s r
+        → result ≡ (is_commit (ask_view ask.now)
+        || is_some (performed s (call_of (seat_of actor) (ask_view ask.now))).told) }
+{
+    match ask {
+        Ask::Resolve { .. } | Ask::Define { .. } | Ask::Enter(_) | Ask::NewRef { .. } => true,
+        Ask::Begin => attempts.point(actor).is_none(),
+        Ask::Read(name) => is_there(refs, attempts, *name),
+        Ask::History(name) => is_counted(refs, attempts, actor, *name),
+        Ask::MinHistory { name, set } | Ask::MaxHistory { name, set } => {
+            is_bounded(refs, attempts, *name, set.is_some())
+        }
+        Ask::Commit(_) => true,
     }
 }
 

@@ -1,6 +1,7 @@
 -- What a form asks, beside the rules' step.
 use Rattle.std.proofs.Common.{◌≡◌, ◌^◌, ℕ, Bool, true, false, Option, None, Some, refl, sym, ap}
 use Rattle.std.proofs.Common.{◌∙◌, option_map, true≢false, if◌then◌else◌, is_some, nat_lt, ◌≢◌}
+use Rattle.std.proofs.Common.{◌||◌}
 use Rattle.std.proofs.Common.{Result, Ok, Err, IfErr}
 use Rattle.std.specs.Result.{IsErrAnd}
 use Rattle.std.proofs.lemmas.Bool.{and_parts, ltb-true}
@@ -22,7 +23,7 @@ use Rattle.server_rules.specs.declared.refusal.Refusal.{Refusal}
 use Rattle.tenant_turns.specs.DeedResult.{carried_out}
 use Rattle.tenant_world.specs.declared.memory.Memory.{Memory}
 use Rattle.tenant_world.specs.Memories.{Remembers}
-use Rattle.tenant_world.specs.Acting.{AcceptsOutcome, RefusesOutcome}
+use Rattle.tenant_world.specs.Acting.{AcceptsOutcome, RefusesOutcome, is_accepted}
 use Rattle.tenant_world.specs.Asking.{is_of_names, answered_plan, exchange_from, run_with}
 use Rattle.tenant_world.specs.Asking.{hand_with, with_exchange}
 use Rattle.tenant_refs.proofs.Soundness.{MayBe}
@@ -188,6 +189,29 @@ pub answered-untold : (g : Ground) (s : Store) (a : Actor) (actor : ActorData) (
     → (carried_out s (answered_plan g a actor h run ask q)).outcome ≡ refuses Refusal.Idle
 answered-untold g s a actor h run ask q none =
     ap (λ o. when_told o (answer_outcome g a actor h run ask q)) none
+
+-- where something is told, the rules accept the ask
+pub answered-accepted : (g : Ground) (s : Store) (a : Actor) (actor : ActorData) (h : Hand) (run : Run)
+    (ask : AskData) (q : Quiet) → is_some (performed s (call_of (seat_of a) ask)).told ≡ true
+    → is_accepted (carried_out s (answered_plan g a actor h run ask q)).outcome ≡ true
+answered-accepted g s a actor h run ask q some =
+    by (performed s (call_of (seat_of a) ask)).told some
+  where
+    by : (o : Option AnswerData) → is_some o ≡ true
+        → is_accepted (when_told o (answer_outcome g a actor h run ask q)) ≡ true
+    by None none = absurd (true≢false (sym none))
+    by (Some told) some = refl
+
+-- whether something is told, where it is no commit
+pub told-so : (told commit : Bool) → true ≡ (commit || told) → commit ≡ false → told ≡ true
+told-so told true is never = absurd (true≢false never)
+told-so told false is other = sym is
+
+pub untold-so : {A : Type 0} (told : Option A) (commit : Bool) → false ≡ (commit || is_some told)
+    → told ≡ None
+untold-so told true never = absurd (true≢false (sym never))
+untold-so None false is = refl
+untold-so (Some answer) false never = absurd (true≢false (sym never))
 
 -- for want of memory nothing is said of the rules
 pub stays-memory : {A : Type 0} (r : Result A Refusal) (T : Refusal → Type 0) (M H : Type 0)

@@ -15,7 +15,7 @@ use Rattle.server_rules.specs.declared.refusal.Refusal.{Refusal}
 use Rattle.tenant_moves.specs.Starts.{answer_given}
 use Rattle.tenant_world.specs.declared.memory.Memory.{Memory}
 use Rattle.tenant_world.specs.Memories.{Remembers}
-use Rattle.tenant_world.specs.Acting.{AcceptsOutcome, is_interruption, oldest, younger}
+use Rattle.tenant_world.specs.Acting.{AcceptsOutcome, is_accepted, is_interruption, oldest, younger}
 use Rattle.tenant_world.proofs.Remembering.{acted-after_move, some-same}
 
 -- what is given out is no interruption
@@ -28,7 +28,13 @@ not-held q outcome free = ap (λ (b : Bool). held_by b) free where
   held_by : Bool → Outcome
   held_by b = if b then refuses Refusal.Held else outcome
 
--- a start that is accepted
+-- a start is accepted, where not too many replies wait
+pub accepted-start_outcome : (a : Actor) (actor : ActorData) (s : Started) (q : Quiet)
+    → is_held q ≡ false → is_accepted (held_or q (start_outcome a actor s q)) ≡ true
+accepted-start_outcome a actor s q free =
+    ap is_accepted (not-held q (start_outcome a actor s q) free)
+
+-- what comes of it
 pub acted-start_outcome : (g : Ground) (t : ℕ) (m : Memory) (a : Actor) (actor new : ActorData) (s : Started)
     (q : Quiet) (given : Option Job)
     → is_held q ≡ false
@@ -52,20 +58,28 @@ waiting-taken g a actor q w (v ∷ vs) some =
     ap (λ it. held_or q (start_outcome a (record actor { waiting = vs })
     (text_begun g q.spaces it.origin (first_state a q) it.text) q)) (sym (some-same v w some))
 
+pub waiting-accepted : (g : Ground) (a : Actor) (actor : ActorData) (q : Quiet) (w : Waiting)
+    (waiting : List Waiting) → oldest waiting ≡ Some w → is_held q ≡ false
+    → is_accepted (start_waiting g a actor q waiting) ≡ true
+waiting-accepted g a actor q w waiting some free =
+    sym (ap is_accepted (waiting-taken g a actor q w waiting some))
+    ∙ accepted-start_outcome a (record actor { waiting = younger waiting })
+    (text_begun g q.spaces w.origin (first_state a q) w.text) q free
+
 pub none-mapped : {A B : Type 0} (f : A → B) (r : Option A) → is_some r ≡ false
     → option_map f r ≡ None
 none-mapped f None none = refl
 none-mapped f (Some x) some = absurd (true≢false some)
 
--- the session was closed between two forms
-pub interrupted-start : (g : Ground) (a : Actor) (actor : ActorData) (q : Quiet) (h : Option Hand)
-    (k : Hand) → h ≡ Some k → k.running ≡ None → actor.is_closed ≡ true
-    → interrupted_in a k q ≡ start_of g a actor q h
-interrupted-start g a actor q h k is between closed = sym (
+-- between two forms the next begins, unless the session was closed
+abbrev pub between_forms : Ground → Actor → ActorData → Quiet → Hand → Bool → Outcome
+between_forms g a actor q k b = if b then interrupted_in a k q
+    else held_or q (start_outcome a actor (next_begun g k (actor_state a q) k.forms) q)
+
+pub start-between : (g : Ground) (a : Actor) (actor : ActorData) (q : Quiet) (h : Option Hand)
+    (k : Hand) (b : Bool) → h ≡ Some k → k.running ≡ None → actor.is_closed ≡ b
+    → between_forms g a actor q k b ≡ start_of g a actor q h
+start-between g a actor q h k b is between closed = sym (
     ap (start_of g a actor q) is
     ∙ ap (λ r. start_in_hand g a actor k q (is_some r)) between
-    ∙ ap (λ (b : Bool). closed_by b) closed)
-  where
-    closed_by : Bool → Outcome
-    closed_by b = if b then interrupted_in a k q
-        else held_or q (start_outcome a actor (next_begun g k (actor_state a q) k.forms) q)
+    ∙ ap (λ (b : Bool). between_forms g a actor q k b) closed)

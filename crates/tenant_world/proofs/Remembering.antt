@@ -126,6 +126,12 @@ held-so g t m q b r told =
 pub some-same : {A : Type 0} (a b : A) → Some a ≡ Some b → a ≡ b
 some-same a b e = ap (λ o. unwrap_or o a) e
 
+-- the refusal that is handed on was for want of memory
+pub wanted-memory : {X : Type 0} (why : Refusal) (r : Result X Refusal) → IsErrAnd r (λ e. e ≡ why)
+    → r ≡ Err Refusal.NoMemory → why ≡ Refusal.NoMemory
+wanted-memory why (Ok x) never none = absurd never
+wanted-memory why (Err e) is none = let same : e ≡ Refusal.NoMemory = cc in sym is ∙ same
+
 -- for want of memory nothing is said of the rules
 pub declined-memory : {A : Type 0} (g : Ground) (t : ℕ) (q : Quiet) (outcome : Outcome) (m : Memory)
     (r : Result A Refusal) → IsErrAnd r (λ e. e ≡ Refusal.NoMemory) → Remembers g t m q

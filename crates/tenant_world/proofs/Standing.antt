@@ -37,6 +37,7 @@ use Rattle.tenant_world.specs.declared.memory.Memory.{Memory}
 use Rattle.tenant_world.specs.declared.tenant.Tenant.{Tenant}
 use Rattle.tenant_world.specs.Memories.{Remembers}
 use Rattle.tenant_world.specs.Acting.{AcceptsOutcome, RefusesOutcome, actors_after, is_interruption}
+use Rattle.tenant_world.specs.Acting.{is_accepted}
 use Rattle.tenant_world.specs.Standing.{QuietStands, Lends, AcceptsDeedBy, RefusesDeed}
 
 -- Deeds of an actor
@@ -251,6 +252,14 @@ refuses-declined g t a q s p deed old_actor m why new is some there declined sta
       ∙ declined.refused ne;
   stands = stands declined.remembers;
 }
+
+-- where the rules accept an actor's step, they accept the tenant's deed
+pub accepts-by : (q : Quiet) (s : Store) (a : Actor) (p : ActorData → Plan) (deed : DeedResult)
+    (actor : ActorData) → deed ≡ by_actor s q a p → 0 < q.steps
+    → part_under (seat_of a) q.actors ≡ Some actor
+    → is_accepted (carried_out s (p actor)).outcome ≡ true → is_accepted deed.outcome ≡ true
+accepts-by q s a p deed actor is some there accepted =
+    ap (λ d. is_accepted d.outcome) (is ∙ done-by q s a p actor some there) ∙ accepted
 
 -- the memory and the attempts are no part of it
 pub lends-memory : (g : Ground) (a : Actor) (code new : Tenant) (q : Quiet)

@@ -14,6 +14,11 @@ use Rattle.tenant_world.specs.declared.memory.Memory.{Memory}
 use Rattle.tenant_replies.specs.View.{waiting_bytes}
 use Rattle.tenant_world.specs.Memories.{Remembers, opened_by}
 
+-- the rules do not refuse it
+abbrev pub is_accepted : Outcome → Bool
+is_accepted (refuses why) = false
+is_accepted (leaves after answer) = true
+
 abbrev pub is_interruption : StepAnswer → Bool
 is_interruption request_interrupted = true
 is_interruption _ = false

@@ -1,6 +1,6 @@
 // A form asks.
-ghost use Rattle.std.specs.Prelude.{◌≡◌, ◌≢◌, ◌<◌, ◌≤◌, ◌+◌, ◌∷◌, [], true, None, Some, Err, IfOk};
-ghost use Rattle.std.specs.Prelude.{OnOk, IfErr, OnErr, MatchOption, is_some, IsNone};
+ghost use Rattle.std.specs.Prelude.{◌≡◌, ◌≢◌, ◌<◌, ◌≤◌, ◌+◌, ◌∷◌, [], true, false, None, Some, Err};
+ghost use Rattle.std.specs.Prelude.{IfOk, OnOk, IfErr, OnErr, MatchOption, is_some, IsNone};
 ghost use Rattle.repl_asks.specs.Inside.View.{ask_view, answer_view};
 ghost use Rattle.repl_replies.specs.Replies.{interrupted};
 ghost use Rattle.repl_replies.specs.Inside.View.{origin_view};
@@ -20,8 +20,10 @@ ghost use Rattle.tenant_turns.specs.DeedResult.{carried_out};
 ghost use Rattle.tenant_world.specs.Memories.{Remembers, opened_by};
 ghost use Rattle.tenant_world.specs.Answers.{ask_answer_view};
 ghost use Rattle.tenant_world.specs.Acting.{AcceptsOutcome, RefusesOutcome, IsActorStep};
+ghost use Rattle.tenant_world.specs.Acting.{is_accepted};
 ghost use Rattle.tenant_world.specs.Asking.{SharesNoNames, Answers, answered_plan, is_of_names};
 ghost use Rattle.tenant_refs.specs.Serving.{ServesWithAttempts};
+ghost use Rattle.tenant_refs.specs.Telling.{is_commit};
 ghost use Rattle.tenant_refs.specs.Twice.{twice_view, AreTwice};
 
 use crate::acting::interrupt;
@@ -36,7 +38,7 @@ use repl_replies::Origin;
 use server_rules::{Actor, Refusal};
 use std::alloc::{AllocError, Global};
 use tenant_actors::ActorState;
-use tenant_refs::{Attempts, Twice, call, is_told};
+use tenant_refs::{Attempts, Twice, call, is_told, may_be_told};
 
 // The first number that is none of the language.
 const END_OF_NUMBERS: u64 = 0x8000_0000_0000_0000;
@@ -65,6 +67,10 @@ pub(crate) fn ask(
         (actor_view state.old).hand) in IfErr result (λ why.
         RefusesOutcome g s.tenant q d.outcome memory.new why
         × ServesWithAttempts refs.new attempts.new s r) }
+    ensures no_memory { (g : Ground) (q : Quiet) (s : Store) (r : Refs)
+        → ServesWithAttempts refs.old attempts.old s r → result ≡ Err Refusal.NoMemory
+        → is_commit (ask_view ask.now) ≡ false → is_accepted (carried_out s (asked_of g actor
+        (actor_view state.old) (ask_view ask.now) q (actor_view state.old).hand)).outcome ≡ true }
     ensures step { IsActorStep memory.old memory.new (actor_view state.old) (actor_view state.new)
         result }
     ensures counter { counter_of refs.new ≤ counter_of refs.old + 1 }
@@ -139,6 +145,9 @@ fn give_up(
         → IfErr result (λ why. (why ≢ Refusal.NoMemory → (why ≡ Refusal.Idle)
         × ((performed s (call_of (seat_of actor) (ask_view ask.now))).told ≡ None))
         × Remembers g s.tenant memory.new q × ServesWithAttempts refs.now attempts.new s r) }
+    ensures no_memory { (s : Store) (r : Refs) → ServesWithAttempts refs.now attempts.old s r
+        → result ≡ Err Refusal.NoMemory → is_commit (ask_view ask.now) ≡ false
+        → is_some (performed s (call_of (seat_of actor) (ask_view ask.now))).told ≡ true }
     ensures opened { opened_by memory.new ≡ opened_by memory.old }
     ensures free { result ≢ Err Refusal.Held }
 {
@@ -150,7 +159,8 @@ fn give_up(
     Ok(())
 }
 
-// The answer, which is kept with its ask. Where it is refused nothing has changed.
+// The answer, which is kept with its ask. Where it is refused nothing has changed. Memory is taken
+// only once something is to be told; of a commit that is found out with memory.
 fn answer(
     alloc: Global,
     memory: &mut Memory,
@@ -177,12 +187,20 @@ fn answer(
         (ask_view ask.now) q) in IfErr result (λ why.
         RefusesOutcome g s.tenant q d.outcome memory.new why
         × ServesWithAttempts refs.new attempts.new s r) }
+    ensures no_memory { (g : Ground) (q : Quiet) (s : Store) (r : Refs) (h : rules.Hand)
+        (run : rules.Run) → ServesWithAttempts refs.old attempts.old s r
+        → result ≡ Err Refusal.NoMemory → is_commit (ask_view ask.now) ≡ false
+        → is_accepted (carried_out s (answered_plan g actor (actor_view state.old) h run
+        (ask_view ask.now) q)).outcome ≡ true }
     ensures stays { OnErr result (actor_view state.new ≡ actor_view state.old) }
     ensures opened { opened_by memory.new ≡ opened_by memory.old }
     ensures counter { counter_of refs.new ≤ counter_of refs.old + 1 }
     ensures failed { OnErr result (counter_of refs.new ≡ counter_of refs.old) }
     ensures free { result ≢ Err Refusal.Held }
 {
+    if !may_be_told(refs, attempts, actor, ask) {
+        return Err(Refusal::Idle);
+    }
     let asked = ask.copy()?;
     make_room(state)?;
     let Some(answer) = perform_ask(alloc, memory, refs, attempts, actor, ask)? else {

@@ -1,6 +1,6 @@
 // An evaluation comes back at its end.
 ghost use Rattle.std.specs.Prelude.{◌≡◌, ◌≢◌, ℕ, Some, IfOk, OnOk, IfErr, OnErr, ◌<◌, Err};
-ghost use Rattle.std.specs.Prelude.{option_map};
+ghost use Rattle.std.specs.Prelude.{true, option_map};
 ghost use Rattle.repl_jobs.specs.Inside.View.{finished_view};
 ghost use Rattle.server_rules.specs.Ground.{Ground};
 ghost use Rattle.server_rules.specs.Request as rules;
@@ -14,6 +14,7 @@ ghost use Rattle.tenant_world.specs.Memories.{Remembers, opened_by};
 ghost use Rattle.tenant_world.specs.Answers.{end_answer_view, told_ending};
 ghost use Rattle.tenant_refs.specs.Attempts.{Reaches};
 ghost use Rattle.tenant_world.specs.Acting.{AcceptsOutcome, RefusesOutcome, IsActorStep};
+ghost use Rattle.tenant_world.specs.Acting.{is_accepted};
 ghost use Rattle.tenant_world.specs.Comparing.{ending_refusal, refusal_in, compared_run};
 ghost use Rattle.tenant_world.specs.Comparing.{PassesComparison, FailsComparison};
 ghost use Rattle.server_rules.specs.Plan.{form_finished};
@@ -53,6 +54,10 @@ pub(crate) fn end(
         → let d = carried_out s (end_of g actor (actor_view state.old) (told_ending ending.now) q
         (actor_view state.old).hand) in IfErr result (λ why.
         RefusesOutcome g s.tenant q d.outcome memory.new why × Reaches attempts.new s) }
+    ensures no_memory { (g : Ground) (q : Quiet) (s : Store) → IsRight g
+        → Remembers g s.tenant memory.old q → result ≡ Err Refusal.NoMemory
+        → is_accepted (carried_out s (end_of g actor (actor_view state.old)
+        (told_ending ending.now) q (actor_view state.old).hand)).outcome ≡ true }
     ensures step { IsActorStep memory.old memory.new (actor_view state.old) (actor_view state.new)
         result }
 {
@@ -83,6 +88,10 @@ pub(crate) fn finish(
         → let d = carried_out s (end_of g actor (actor_view state.old) e q
         (actor_view state.old).hand) in IfErr result (λ why.
         RefusesOutcome g s.tenant q d.outcome memory.new why × Reaches attempts.new s) }
+    ensures no_memory { (g : Ground) (q : Quiet) (s : Store) (e : EndingData)
+        → PassesComparison g (actor_view state.old) q e → Remembers g s.tenant memory.old q
+        → result ≡ Err Refusal.NoMemory → is_accepted (carried_out s (end_of g actor
+        (actor_view state.old) e q (actor_view state.old).hand)).outcome ≡ true }
     ensures step { IsActorStep memory.old memory.new (actor_view state.old) (actor_view state.new)
         result }
 {
@@ -109,6 +118,7 @@ pub(crate) fn finish(
 // back whatever it is, nothing is compared.
 fn compare_if_due(memory: &Memory, state: &ActorState, ending: &Ending<'_>) -> Result<(), Refusal>
     ensures free { IfErr result (λ why. why ≢ Refusal.Held) }
+    ensures frugal { IfErr result (λ why. why ≢ Refusal.NoMemory) }
     ensures passed { (g : Ground) (t : ℕ) (q : Quiet) → IsRight g → Remembers g t memory.now q
         → OnOk result (PassesComparison g (actor_view state.now) q (told_ending ending.now)) }
     ensures failed { (g : Ground) (t : ℕ) (q : Quiet) → IsRight g → Remembers g t memory.now q
@@ -135,6 +145,7 @@ fn run_to_compare<'a>(memory: &Memory, state: &'a ActorState) -> Option<&'a Run>
 // kept.
 fn compare(run: &Run, ending: &Ending<'_>) -> Result<(), Refusal>
     ensures free { IfErr result (λ why. why ≢ Refusal.Held) }
+    ensures frugal { IfErr result (λ why. why ≢ Refusal.NoMemory) }
     ensures told { (g : Ground) → IsRight g
         → refusal_in result ≡ ending_refusal g (run_view run.now) (told_ending ending.now) }
 {

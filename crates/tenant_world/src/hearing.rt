@@ -1,5 +1,5 @@
 // A tenant hears a piece of its stream.
-ghost use Rattle.std.specs.Prelude.{◌≡◌, ◌+◌, ℕ, IfOk, OnOk, IfErr, OnErr};
+ghost use Rattle.std.specs.Prelude.{◌≡◌, ◌+◌, ℕ, true, Err, IfOk, OnOk, IfErr, OnErr};
 ghost use Rattle.server_rules.specs.Ground.{Ground};
 ghost use Rattle.server_rules.specs.Tenant.{Quiet};
 ghost use Rattle.server_rules.specs.Plan as deeds;
@@ -7,6 +7,7 @@ ghost use Rattle.server_rules.specs.Store.{Store};
 ghost use Rattle.server_rules.specs.Plan.{messages_heard};
 ghost use Rattle.tenant_turns.specs.Grounds.{IsRight};
 ghost use Rattle.tenant_turns.specs.DeedResult.{deed_result};
+ghost use Rattle.tenant_world.specs.Acting.{is_accepted};
 
 use crate::tenant::Tenant;
 use bencode_wire::laws::a_stream_has_one_reading;
@@ -29,6 +30,9 @@ impl Tenant {
             → QuietStands g self.old q s
             → IfErr result (RefusesDeed g q s
             (deed_result g s q (deeds.hears piece.now)) self.new) }
+        ensures no_memory { (g : Ground) (q : Quiet) (s : Store) → IsRight g
+            → QuietStands g self.old q s → result ≡ Err Refusal.NoMemory
+            → is_accepted (deed_result g s q (deeds.hears piece.now)).outcome ≡ true }
         ensures steps { OnOk result (self.old.steps ≡ self.new.steps + 1) }
         ensures kept { OnErr result (self.new.steps ≡ self.old.steps) }
     {

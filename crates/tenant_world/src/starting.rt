@@ -1,5 +1,5 @@
 // An actor begins its next form, or takes up its next request.
-ghost use Rattle.std.specs.Prelude.{◌≡◌, ℕ, None, Some, option_map, IfOk, IfErr, ◌<◌, Err};
+ghost use Rattle.std.specs.Prelude.{◌≡◌, ℕ, true, None, Some, option_map, IfOk, IfErr, ◌<◌, Err};
 ghost use Rattle.server_rules.specs.Ground.{Ground};
 ghost use Rattle.server_rules.specs.Request as rules;
 ghost use Rattle.server_rules.specs.Starting.{start_waiting, held_or, start_outcome, next_begun};
@@ -11,7 +11,7 @@ ghost use Rattle.tenant_turns.specs.Grounds.{IsRight};
 ghost use Rattle.tenant_world.specs.Memories.{Remembers};
 ghost use Rattle.tenant_world.specs.Answers.{start_answer_view};
 ghost use Rattle.tenant_world.specs.Acting.{AcceptsOutcome, RefusesOutcome, oldest, IsActorStep};
-ghost use Rattle.tenant_world.specs.Acting.{with_next_in_hand};
+ghost use Rattle.tenant_world.specs.Acting.{with_next_in_hand, is_accepted};
 
 use crate::acting::interrupt;
 use crate::answers::StartAnswer;
@@ -38,6 +38,9 @@ pub(crate) fn start(
     ensures declined { (g : Ground) (t : ℕ) (q : Quiet) → IsRight g → retries ≡ g.retries
         → Remembers g t memory.old q → IfErr result (RefusesOutcome g t q
         (start_of g actor (actor_view state.old) q (actor_view state.old).hand) memory.new) }
+    ensures no_memory { (g : Ground) (t : ℕ) (q : Quiet) → Remembers g t memory.old q
+        → result ≡ Err Refusal.NoMemory → is_accepted
+        (start_of g actor (actor_view state.old) q (actor_view state.old).hand) ≡ true }
     ensures step { IsActorStep memory.old memory.new (actor_view state.old) (actor_view state.new)
         result }
 {
@@ -73,6 +76,10 @@ fn start_form(
         → IfErr result (RefusesOutcome g t q
         (held_or q (start_outcome actor (actor_view state.old)
         (next_begun g h (actor_state actor q) h.forms) q)) memory.new) }
+    ensures no_memory { (g : Ground) (t : ℕ) (q : Quiet) (h : rules.Hand)
+        → Remembers g t memory.old q → result ≡ Err Refusal.NoMemory
+        → is_accepted (held_or q (start_outcome actor (actor_view state.old)
+        (next_begun g h (actor_state actor q) h.forms) q)) ≡ true }
     ensures step { IsActorStep memory.old memory.new (actor_view state.old) (actor_view state.new)
         result }
 {
@@ -124,6 +131,9 @@ fn start_request(
         → IfErr result (RefusesOutcome g t q
         (start_waiting g actor (actor_view state.old) q (actor_view state.old).waiting)
         memory.new) }
+    ensures no_memory { (g : Ground) (t : ℕ) (q : Quiet) → Remembers g t memory.old q
+        → result ≡ Err Refusal.NoMemory → is_accepted
+        (start_waiting g actor (actor_view state.old) q (actor_view state.old).waiting) ≡ true }
     ensures step { IsActorStep memory.old memory.new (actor_view state.old) (actor_view state.new)
         result }
 {

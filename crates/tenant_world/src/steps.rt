@@ -1,5 +1,6 @@
 // The steps of a tenant's actors.
-ghost use Rattle.std.specs.Prelude.{◌≡◌, ◌≢◌, ◌+◌, ◌<◌, ◌≤◌, true, Some, Err, IfOk, IfErr, OnErr};
+ghost use Rattle.std.specs.Prelude.{◌≡◌, ◌≢◌, ◌+◌, ◌<◌, ◌≤◌, true, false, Some, Err, IfOk, IfErr};
+ghost use Rattle.std.specs.Prelude.{OnErr};
 ghost use Rattle.repl_asks.specs.Inside.View.{ask_view};
 ghost use Rattle.repl_jobs.specs.Inside.View.{finished_view};
 ghost use Rattle.server_rules.specs.Ground.{Ground};
@@ -17,11 +18,12 @@ ghost use Rattle.tenant_turns.specs.DeedResult.{carried_out, deed_result};
 ghost use Rattle.tenant_turns.specs.Grounds.{IsRight};
 ghost use Rattle.tenant_world.specs.Answers.{start_answer_view, ask_answer_view, end_answer_view};
 ghost use Rattle.tenant_world.specs.Answers.{told_ending};
-ghost use Rattle.tenant_world.specs.Acting.{actors_after};
+ghost use Rattle.tenant_world.specs.Acting.{actors_after, is_accepted};
 ghost use Rattle.tenant_refs.specs.Attempts.{Reaches};
 ghost use Rattle.tenant_world.specs.Memories.{Remembers};
 ghost use Rattle.tenant_world.specs.Running.{IsEndOfForm, running_in};
 ghost use Rattle.tenant_refs.specs.Serving.{TableServes};
+ghost use Rattle.tenant_refs.specs.Telling.{is_commit};
 
 use crate::answers::{AskAnswer, EndAnswer, Ending, StartAnswer};
 use crate::asking::ask;
@@ -49,6 +51,9 @@ impl Tenant {
         ensures refused { (g : Ground) (q : Quiet) (s : Store) → IsRight g
             → QuietStands g self.old q s
             → IfErr result (RefusesDeed g q s (deed_result g s q (deeds.starts actor)) self.new) }
+        ensures no_memory { (g : Ground) (q : Quiet) (s : Store) → IsRight g
+            → QuietStands g self.old q s → result ≡ Err Refusal.NoMemory
+            → is_accepted (deed_result g s q (deeds.starts actor)).outcome ≡ true }
         ensures counted { CountsStep self.old self.new result }
     {
         if self.is_idle(actor) {
@@ -74,7 +79,8 @@ impl Tenant {
     }
 
     /// The form of the actor that runs asks this. The answer is kept with its ask. What is asked of
-    /// refs is asked of this table, which serves the tenant.
+    /// refs is asked of this table, which serves the tenant. Whether a commit is refused is seen
+    /// only with memory.
     pub fn answer(
         &mut self,
         refs: &mut RefTable<ListHistory>,
@@ -91,6 +97,11 @@ impl Tenant {
             → QuietStands g self.old q s → TableServes refs.old s r
             → let d = deed_result g s q (deeds.asks_for actor (ask_view asked.now)) in
             IfErr result (λ why. RefusesDeed g q s d self.new why × TableServes refs.new s r) }
+        ensures no_memory { (g : Ground) (q : Quiet) (s : Store) (r : Refs)
+            → QuietStands g self.old q s → TableServes refs.old s r
+            → result ≡ Err Refusal.NoMemory → is_commit (ask_view asked.now) ≡ false
+            → is_accepted (deed_result g s q (deeds.asks_for actor (ask_view asked.now))).outcome
+            ≡ true }
         ensures counted { CountsStep self.old self.new result }
         ensures counter { counter_of refs.new ≤ counter_of refs.old + 1 }
         ensures failed { OnErr result (counter_of refs.new ≡ counter_of refs.old) }
@@ -128,6 +139,10 @@ impl Tenant {
             → IfErr result (RefusesDeed g q s
             (deed_result g s q (deeds.ends actor (told_ending ending.now)))
             self.new) }
+        ensures no_memory { (g : Ground) (q : Quiet) (s : Store) → IsRight g
+            → QuietStands g self.old q s → result ≡ Err Refusal.NoMemory
+            → is_accepted (deed_result g s q (deeds.ends actor (told_ending ending.now))).outcome
+            ≡ true }
         ensures counted { CountsStep self.old self.new result }
     {
         let mut state = self.lend(actor)?;
@@ -162,6 +177,10 @@ impl Tenant {
             → QuietStands g self.old q s → IsEndOfForm (running_in actor q)
             (finished_view finished.now) e
             → IfErr result (RefusesDeed g q s (deed_result g s q (deeds.ends actor e)) self.new) }
+        ensures no_memory { (g : Ground) (q : Quiet) (s : Store) (e : EndingData) → IsRight g
+            → QuietStands g self.old q s → IsEndOfForm (running_in actor q)
+            (finished_view finished.now) e → result ≡ Err Refusal.NoMemory
+            → is_accepted (deed_result g s q (deeds.ends actor e)).outcome ≡ true }
         ensures counted { CountsStep self.old self.new result }
     {
         let mut state = self.lend(actor)?;
@@ -209,6 +228,7 @@ impl Tenant {
             (carried_out s (unless_worn q (for_actor (part_under (seat_of actor) q.actors) p)))
             self.new why) }
         ensures held { result ≢ Err Refusal.Held }
+        ensures free { result ≢ Err Refusal.NoMemory }
         ensures replies { replies_of self.new ≡ replies_of self.old }
     {
         if self.steps == 0 {

@@ -1,11 +1,11 @@
-use Rattle.std.proofs.Common.{ap, subst, ◌∙◌}
+use Rattle.std.proofs.Common.{sym, ap, subst, ◌∙◌}
 use Rattle.repl_asks.specs.Inside.View.{ask_view, answer_view}
 use Rattle.server_rules.specs.Plan.{Outcome, ask_answered}
 use Rattle.tenant_actors.specs.View.{actor_view}
 use Rattle.tenant_world.specs.Acting.{AcceptsOutcome}
 use Rattle.tenant_world.specs.Asking.{exchange_from, with_exchange}
 use Rattle.tenant_world.proofs.Answering.{acted-answer_outcome, answer_outcome-told}
-use Rattle.tenant_world.proofs.Answering.{answered-untold}
+use Rattle.tenant_world.proofs.Answering.{answered-untold, answered-accepted, told-so, untold-so}
 use Rattle.tenant_world.proofs.Remembering.{declined-memory-with}
 use Rattle.tenant_world.proofs.asking.answer.Goals as goal
 
@@ -49,3 +49,29 @@ returns-clause-acted c = λ g q s r h run shares remembers holds allowed hand ru
           put answers.is same answers.remembers),
       answers.holds,
     )
+
+pub returns-then-not-may_be_told-clause-declined : goal.returns-then-not-may_be_told-clause-declined
+returns-then-not-may_be_told-clause-declined c = λ g q s r h run shares remembers holds allowed. (
+  record {
+    refused = λ ne. answered-untold g s c.args.actor (actor_view c.args.state.now) h run
+        (ask_view c.args.ask.now) q
+        (untold-so _ _ (sym c.if-not-may_be_told.true ∙ c.may_be_told.ensures s r holds));
+    remembers = remembers;
+  },
+  holds,
+)
+
+pub returns-in_err-asked-clause-no_memory : goal.returns-in_err-asked-clause-no_memory
+returns-in_err-asked-clause-no_memory c = λ g q s r h run holds none other.
+    answered-accepted g s c.args.actor (actor_view c.args.state.now) h run (ask_view c.args.ask.now) q
+    (told-so _ _ (sym c.if-not-may_be_told.false ∙ c.may_be_told.ensures s r holds) other)
+
+pub returns-in_err-make_room-clause-no_memory : goal.returns-in_err-make_room-clause-no_memory
+returns-in_err-make_room-clause-no_memory c = λ g q s r h run holds none other.
+    answered-accepted g s c.args.actor (actor_view c.args.state.now) h run (ask_view c.args.ask.now) q
+    (told-so _ _ (sym c.if-not-may_be_told.false ∙ c.may_be_told.ensures s r holds) other)
+
+pub returns-in_err-answer-clause-no_memory : goal.returns-in_err-answer-clause-no_memory
+returns-in_err-answer-clause-no_memory c = λ g q s r h run holds none other.
+    answered-accepted g s c.args.actor (actor_view c.args.state.now) h run (ask_view c.args.ask.now) q
+    (told-so _ _ (sym c.if-not-may_be_told.false ∙ c.may_be_told.ensures s r holds) other)

@@ -1,13 +1,13 @@
-use Rattle.std.proofs.Common.{sym, ap, subst, ◌∙◌, option_map}
+use Rattle.std.proofs.Common.{sym, ap, subst, ◌∙◌, option_map, Err}
 use Rattle.repl_asks.specs.Inside.View.{ask_view, answer_view}
 use Rattle.server_rules.specs.Plan.{Plan, Outcome, ask_answered, request_interrupted}
 use Rattle.server_rules.specs.Store.{Store}
 use Rattle.ref_table.specs.Refs.{refs_after}
 use Rattle.tenant_actors.specs.View.{actor_view, hand_view, run_view}
 use Rattle.tenant_turns.specs.DeedResult.{carried_out}
-use Rattle.tenant_world.specs.Acting.{AcceptsOutcome}
+use Rattle.tenant_world.specs.Acting.{AcceptsOutcome, is_accepted}
 use Rattle.tenant_refs.specs.Serving.{ServesWithAttempts}
-use Rattle.tenant_world.proofs.Remembering.{acted-interrupted}
+use Rattle.tenant_world.proofs.Remembering.{acted-interrupted, wanted-memory}
 use Rattle.tenant_world.proofs.Answering.{asked-open, asked-closed, given-told, given-declined}
 use Rattle.tenant_world.proofs.asking.ask.Goals as goal
 
@@ -67,3 +67,34 @@ returns-clause-acted c = λ g q s r shares remembers holds.
     (refs_after (carried_out s p).store r) in
     subst P (asked-open g a actor ask q k run hand running allowed c.if-state.false)
     (c.in_ok-answer.ensures.acted g q s r k run shares remembers holds allowed hand running)
+
+pub returns-in_err-give_up-clause-no_memory : goal.returns-in_err-give_up-clause-no_memory
+returns-in_err-give_up-clause-no_memory c = λ g q s r holds none other.
+    let a = c.args.actor in
+    let actor = actor_view c.args.state.now in
+    let ask = ask_view c.args.ask.now in
+    let k = hand_view c.in-Some.hand in
+    let allowed = sym c.is_allowed.ensures ∙ c.if-not-is_allowed.false in
+    let plan = asked-closed g a actor ask q k (run_view c.in-Some-running._run)
+    (ap (option_map hand_view) c.in-Some.is) (ap (option_map run_view) c.in-Some-running.is)
+    allowed c.if-state.true in
+    let why = wanted-memory c.in_err-give_up.field-0.0 c.from_residual.result
+    c.from_residual.ensures.1 none in
+    sym (ap (λ p. is_accepted (carried_out s p).outcome) plan)
+    ∙ ap is_accepted (given-told s a k ask q
+    (c.in_err-give_up.ensures.no_memory s r holds (ap (λ e. Err e) why) other)).0
+
+pub returns-in_err-answer-clause-no_memory : goal.returns-in_err-answer-clause-no_memory
+returns-in_err-answer-clause-no_memory c = λ g q s r holds none other.
+    let a = c.args.actor in
+    let actor = actor_view c.args.state.now in
+    let ask = ask_view c.args.ask.now in
+    let k = hand_view c.in-Some.hand in
+    let run = run_view c.in-Some-running._run in
+    let allowed = sym c.is_allowed.ensures ∙ c.if-not-is_allowed.false in
+    let plan = asked-open g a actor ask q k run (ap (option_map hand_view) c.in-Some.is)
+    (ap (option_map run_view) c.in-Some-running.is) allowed c.if-state.false in
+    let why = wanted-memory c.in_err-answer.field-0.0 c.from_residual-in_err-answer.result
+    c.from_residual-in_err-answer.ensures.1 none in
+    sym (ap (λ p. is_accepted (carried_out s p).outcome) plan)
+    ∙ c.in_err-answer.ensures.no_memory g q s r k run holds (ap (λ e. Err e) why) other

@@ -1,4 +1,4 @@
-use Rattle.std.proofs.Common.{sym, ◌∙◌}
+use Rattle.std.proofs.Common.{sym, ◌∙◌, true≢false}
 use Rattle.server_rules.specs.Tenant.{seat_of}
 use Rattle.tenant_world.proofs.Answering.{stays-memory}
 use Rattle.tenant_refs.proofs.Serving.{holds-left}
@@ -12,8 +12,16 @@ returns-in_err-interrupt-clause-stays c = λ g q s r remembers holds.
 
 pub returns-clause-gone : goal.returns-clause-gone
 returns-clause-gone c = λ g q s r remembers holds. (
-  sym (c.in_ok-is_told.ensures s r holds) ∙ c.if-not-branch.false,
+  sym (c.in_ok-is_told.ensures.told s r holds) ∙ c.if-not-branch.false,
   c.in_ok-interrupt.ensures.told g s.tenant q remembers,
   holds-left c.args.refs.now c.args.attempts.now c.leave.new.self (seat_of c.args.actor) s r holds
       c.leave.ensures.tenant (c.leave.ensures.left s.mine.points holds.reaches.points),
 )
+
+pub returns-in_err-is_told-clause-no_memory : goal.returns-in_err-is_told-clause-no_memory
+returns-in_err-is_told-clause-no_memory c = λ s r holds none other.
+    absurd (true≢false (sym c.in_err-is_told.ensures.failed ∙ other))
+
+pub returns-in_err-interrupt-clause-no_memory : goal.returns-in_err-interrupt-clause-no_memory
+returns-in_err-interrupt-clause-no_memory c = λ s r holds none other.
+    sym (c.in_ok-is_told.ensures.told s r holds) ∙ c.if-not-branch.false

@@ -14,3 +14,8 @@ pub returns-clause-acted : goal.returns-clause-acted
 returns-clause-acted c = λ g q s right r reaches.
     c.finish.ensures.acted g q s (told_ending c.args.ending.now) refl
     (c.in_ok-compare_if_due.ensures.passed g s.tenant q right r) r reaches
+
+pub returns-clause-no_memory : goal.returns-clause-no_memory
+returns-clause-no_memory c = λ g q s right r none.
+    c.finish.ensures.no_memory g q s (told_ending c.args.ending.now)
+    (c.in_ok-compare_if_due.ensures.passed g s.tenant q right r) r none

@@ -1,8 +1,8 @@
-use Rattle.std.proofs.Common.{◌∙◌, ap, subst, option_map, false}
+use Rattle.std.proofs.Common.{◌∙◌, sym, ap, subst, option_map, false}
 use Rattle.server_rules.specs.Plan.{Plan, request_interrupted, form_finished}
 use Rattle.tenant_actors.specs.View.{actor_view, hand_view, run_view}
 use Rattle.tenant_turns.specs.DeedResult.{carried_out}
-use Rattle.tenant_world.specs.Acting.{AcceptsOutcome}
+use Rattle.tenant_world.specs.Acting.{AcceptsOutcome, is_accepted}
 use Rattle.tenant_refs.specs.Attempts.{Reaches}
 use Rattle.tenant_world.proofs.Remembering.{acted-interrupted, declined-memory-with, held-so}
 use Rattle.tenant_world.proofs.Ends.{ends-interrupted, ends-accepted}
@@ -55,3 +55,18 @@ returns-clause-acted c = λ g q s e is passes r reaches.
         points = c.leave-2.ensures.left s.mine.points reaches.points;
       },
     )
+
+pub returns-in_err-interrupt-clause-no_memory : goal.returns-in_err-interrupt-clause-no_memory
+returns-in_err-interrupt-clause-no_memory c = λ g q s e passes r none.
+    let actor = actor_view c.args.state.now in
+    sym (ap (λ p. is_accepted (carried_out s p).outcome) (ends-interrupted g c.args.actor actor e q
+    (hand_view c.in-Some.hand) _ (ap (option_map hand_view) c.in-Some.is)
+    (ap (option_map run_view) c.in-Some-running.is) c.if-state.true))
+
+pub returns-in_err-accept-clause-no_memory : goal.returns-in_err-accept-clause-no_memory
+returns-in_err-accept-clause-no_memory c = λ g q s e passes r none.
+    let actor = actor_view c.args.state.now in
+    let free = held-so g s.tenant c.args.memory.now q _ r c.is_held.ensures ∙ c.if-is_held.false in
+    sym (ap (λ p. is_accepted (carried_out s p).outcome) (ends-accepted g c.args.actor actor e q
+    (hand_view c.in-Some.hand) _ (ap (option_map hand_view) c.in-Some.is)
+    (ap (option_map run_view) c.in-Some-running.is) c.if-state.false free passes))

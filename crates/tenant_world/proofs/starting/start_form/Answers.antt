@@ -9,7 +9,7 @@ use Rattle.tenant_actors.specs.View.{actor_view, hand_view}
 use Rattle.tenant_moves.specs.Starts.{answer_given, given_job}
 use Rattle.tenant_world.specs.Acting.{AcceptsOutcome}
 use Rattle.tenant_world.proofs.Remembering.{held-so, some-same, declined-memory}
-use Rattle.tenant_world.proofs.Begins.{acted-start_outcome}
+use Rattle.tenant_world.proofs.Begins.{acted-start_outcome, accepted-start_outcome}
 use Rattle.tenant_world.proofs.starting.start_form.Goals as goal
 
 pub returns-in_err-post_news-clause-declined : goal.returns-in_err-post_news-clause-declined
@@ -44,3 +44,18 @@ returns-clause-acted c = λ g t q h tries r hand.
     let R : StepAnswer → Type 0 = λ x. AcceptsOutcome g t a q
     (held_or q (start_outcome a actor (next_begun g h (actor_state a q) h.forms) q)) memory new x in
     subst R (sym c.put_begun.ensures.answer) (subst Q same_state (subst P same_hand here))
+
+pub returns-in_err-session-clause-no_memory : goal.returns-in_err-session-clause-no_memory
+returns-in_err-session-clause-no_memory c = λ g t q h r none.
+    accepted-start_outcome c.args.actor (actor_view c.args.state.now) _ q
+    (held-so g t c.args.memory.now q c.is_held.result r c.is_held.ensures ∙ c.if-is_held.false)
+
+pub returns-in_err-news-clause-no_memory : goal.returns-in_err-news-clause-no_memory
+returns-in_err-news-clause-no_memory c = λ g t q h r none.
+    accepted-start_outcome c.args.actor (actor_view c.args.state.now) _ q
+    (held-so g t c.args.memory.now q c.is_held.result r c.is_held.ensures ∙ c.if-is_held.false)
+
+pub returns-in_err-post_news-clause-no_memory : goal.returns-in_err-post_news-clause-no_memory
+returns-in_err-post_news-clause-no_memory c = λ g t q h r none.
+    accepted-start_outcome c.args.actor (actor_view c.args.state.now) _ q
+    (held-so g t c.args.memory.now q c.is_held.result r c.is_held.ensures ∙ c.if-is_held.false)

@@ -10,7 +10,7 @@ use Rattle.tenant_moves.specs.Starts.{answer_given}
 use Rattle.tenant_world.specs.Answers.{start_answer_view}
 use Rattle.tenant_world.specs.Acting.{AcceptsOutcome, younger, with_next_in_hand}
 use Rattle.tenant_world.proofs.Remembering.{held-so, declined-memory}
-use Rattle.tenant_world.proofs.Begins.{acted-start_outcome, waiting-taken}
+use Rattle.tenant_world.proofs.Begins.{acted-start_outcome, waiting-taken, waiting-accepted}
 use Rattle.tenant_world.proofs.starting.start_request.Goals as goal
 
 pub returns-in_err-post_news-clause-declined : goal.returns-in_err-post_news-clause-declined
@@ -48,3 +48,24 @@ returns-clause-acted c = λ g t q right tries r hand.
     let S : Outcome → Type 0 = λ x. AcceptsOutcome g t a q x memory new (start_answer_view c.answer_of.result) in
     subst S (waiting-taken g a actor q w actor.waiting first)
     (subst R (sym c.answer_of.ensures) (subst Q same_state (subst P r.spaces here)))
+
+pub returns-in_err-session-clause-no_memory : goal.returns-in_err-session-clause-no_memory
+returns-in_err-session-clause-no_memory c = λ g t q r none.
+    let actor = actor_view c.args.state.now in
+    waiting-accepted g c.args.actor actor q (waiting_view c.in-Some.waiting.now) actor.waiting
+    (sym c.oldest.ensures ∙ ap (option_map (λ x. waiting_view x.now)) c.in-Some.is)
+    (held-so g t c.args.memory.now q c.is_held.result r c.is_held.ensures ∙ c.if-is_held.false)
+
+pub returns-in_err-news-clause-no_memory : goal.returns-in_err-news-clause-no_memory
+returns-in_err-news-clause-no_memory c = λ g t q r none.
+    let actor = actor_view c.args.state.now in
+    waiting-accepted g c.args.actor actor q (waiting_view c.in-Some.waiting.now) actor.waiting
+    (sym c.oldest.ensures ∙ ap (option_map (λ x. waiting_view x.now)) c.in-Some.is)
+    (held-so g t c.args.memory.now q c.is_held.result r c.is_held.ensures ∙ c.if-is_held.false)
+
+pub returns-in_err-post_news-clause-no_memory : goal.returns-in_err-post_news-clause-no_memory
+returns-in_err-post_news-clause-no_memory c = λ g t q r none.
+    let actor = actor_view c.args.state.now in
+    waiting-accepted g c.args.actor actor q (waiting_view c.in-Some.waiting.now) actor.waiting
+    (sym c.oldest.ensures ∙ ap (option_map (λ x. waiting_view x.now)) c.in-Some.is)
+    (held-so g t c.args.memory.now q c.is_held.result r c.is_held.ensures ∙ c.if-is_held.false)

@@ -13,7 +13,7 @@ use Rattle.tenant_world.specs.Memories.{Remembers}
 use Rattle.tenant_refs.specs.Serving.{TableServes}
 use Rattle.tenant_world.specs.Standing.{RefusesDeed}
 use Rattle.tenant_world.proofs.Standing.{carried-tenant, asks-by, done-by, does-acted}
-use Rattle.tenant_world.proofs.Standing.{refuses-declined, lends-memory, refuses-with}
+use Rattle.tenant_world.proofs.Standing.{refuses-declined, lends-memory, refuses-with, accepts-by}
 use Rattle.tenant_world.proofs.tenant.Tenant.answer.Goals as goal
 
 pub returns-in_err-state-clause-refused : goal.returns-in_err-state-clause-refused
@@ -69,3 +69,15 @@ returns-in-Err-clause-refused c = λ g q s refs right stands serves.
           (lent.1 ∙ ap Some (sym c.in-Err.ensures.step.stays))),
       declined.1.serves,
     )
+
+pub returns-in-Err-clause-no_memory : goal.returns-in-Err-clause-no_memory
+returns-in-Err-clause-no_memory c = λ g q s r stands serves none other.
+    let a = c.args.actor in
+    let ask = ask_view c.args.asked.now in
+    let p : ActorData → Plan = λ actor. asked_of g a actor ask q actor.hand in
+    let lent = c.in_ok-state.ensures.lent g q s stands in
+    let some = subst (λ n. 0 < n) stands.steps c.in_ok-state.ensures.some in
+    accepts-by q s a p (deed_result g s q (deeds.asks_for a ask)) (actor_view c.in_ok-state.state)
+    (asks-by g q s a ask) some lent.1
+    (c.in-Err.ensures.no_memory g q s r
+    (record { serves = serves; reaches = lent.3 }) none other)

@@ -14,7 +14,7 @@ use Rattle.tenant_world.specs.Running.{IsEndOfForm, running_of}
 use Rattle.tenant_world.proofs.Ends.{own-passes}
 use Rattle.tenant_world.specs.Standing.{RefusesDeed}
 use Rattle.tenant_world.proofs.Standing.{ends-by, does-acted, refuses-declined, refuses-so}
-use Rattle.tenant_world.proofs.Standing.{lends-memory}
+use Rattle.tenant_world.proofs.Standing.{lends-memory, accepts-by}
 use Rattle.tenant_world.proofs.tenant.Tenant.finish.Goals as goal
 
 pub returns-in_err-state-clause-refused : goal.returns-in_err-state-clause-refused
@@ -58,3 +58,16 @@ returns-in-Err-clause-refused c = λ g q s e right stands own.
     c.finish.new.memory c.in-Err.why c.restore.new.self (ends-by g q s a e) some lent.1
     declined.0 (λ r. c.restore.ensures.stands g q s lends r declined.1
     (lent.1 ∙ ap Some (sym c.in-Err.ensures.step.stays)))
+
+pub returns-in-Err-clause-no_memory : goal.returns-in-Err-clause-no_memory
+returns-in-Err-clause-no_memory c = λ g q s e right stands own none.
+    let a = c.args.actor in
+    let p : ActorData → Plan = λ actor. end_of g a actor e q actor.hand in
+    let lent = c.in_ok-state.ensures.lent g q s stands in
+    let some = subst (λ n. 0 < n) stands.steps c.in_ok-state.ensures.some in
+    accepts-by q s a p (deed_result g s q (deeds.ends a e)) (actor_view c.in_ok-state.state)
+    (ends-by g q s a e) some lent.1
+    (c.in-Err.ensures.no_memory g q s e
+    (own-passes g right (actor_view c.in_ok-state.state) q (finished_view c.args.finished.now) e
+    (subst (λ o. IsEndOfForm (running_of o) (finished_view c.args.finished.now) e) lent.1 own))
+    lent.2 none)

@@ -8,7 +8,8 @@ use Rattle.tenant_world.proofs.Remembering.{held-so}
 use Rattle.tenant_world.proofs.Standing.{not-zero, stands-same}
 use Rattle.tenant_world.proofs.Seating.{seated-below, below-seated}
 use Rattle.tenant_world.proofs.Wires.{read-fault}
-use Rattle.tenant_world.proofs.Heard.{heard_by, hears-by, none-long, does-hear, held-back}
+use Rattle.tenant_world.specs.Acting.{is_accepted}
+use Rattle.tenant_world.proofs.Heard.{heard_by, hears-by, hears-so, none-long, does-hear, held-back}
 use Rattle.tenant_world.proofs.tenant.Tenant.hear.Goals as goal
 
 pub returns-then-self-eq0-clause-refused : goal.returns-then-self-eq0-clause-refused
@@ -82,3 +83,13 @@ returns-clause-done c = λ g q s right st.
     (not-zero q.steps (λ none. c.if-self-eq0.false (st.steps ∙ none))) sound free
     refl refl refl refl refl
     (c.in_ok-count.ensures.heard g s.tenant q right.readings reads held)
+
+pub returns-in_err-count-clause-no_memory : goal.returns-in_err-count-clause-no_memory
+returns-in_err-count-clause-no_memory c = λ g q s right st none.
+    let sound = sym c.in_default.is ∙ c.fault.ensures
+    ∙ read-fault c.a_stream_has_one_reading.ensures g.readings c.args.self.now.decoder q.heard _
+    right.readings st.stream in
+    let free = held-so g s.tenant c.args.self.now.memory q c.is_held.result st.remembers c.is_held.ensures
+    ∙ c.if-is_held.false in
+    ap is_accepted (hears-so g q s c.args.piece.now
+    (not-zero q.steps (λ zero. c.if-self-eq0.false (st.steps ∙ zero))) sound free)

@@ -9,7 +9,7 @@ use Rattle.tenant_world.specs.Acting.{actors_after}
 use Rattle.tenant_world.specs.Answers.{start_answer_view}
 use Rattle.tenant_world.specs.Standing.{RefusesDeed}
 use Rattle.tenant_world.proofs.Standing.{starts-by, does-acted, refuses-declined, refuses-so}
-use Rattle.tenant_world.proofs.Standing.{lends-memory}
+use Rattle.tenant_world.proofs.Standing.{lends-memory, accepts-by}
 use Rattle.tenant_world.proofs.tenant.Tenant.start.Goals as goal
 
 pub returns-in_err-state-clause-refused : goal.returns-in_err-state-clause-refused
@@ -48,3 +48,13 @@ returns-in-Err-clause-refused c = λ g q s right stands.
     c.start.new.memory c.in-Err.why c.restore.new.self (starts-by g q s a) some lent.1
     declined (λ r. c.restore.ensures.stands g q s lends r lent.3
     (lent.1 ∙ ap Some (sym c.in-Err.ensures.step.stays)))
+
+pub returns-in-Err-clause-no_memory : goal.returns-in-Err-clause-no_memory
+returns-in-Err-clause-no_memory c = λ g q s right stands none.
+    let a = c.args.actor in
+    let p : ActorData → Plan = λ actor. quietly (start_of g a actor q actor.hand) in
+    let lent = c.in_ok-state.ensures.lent g q s stands in
+    let some = subst (λ n. 0 < n) stands.steps c.in_ok-state.ensures.some in
+    accepts-by q s a p (deed_result g s q (deeds.starts a)) (actor_view c.in_ok-state.state)
+    (starts-by g q s a) some lent.1
+    (c.in-Err.ensures.no_memory g s.tenant q lent.2 none)
