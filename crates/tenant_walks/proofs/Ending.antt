@@ -1,21 +1,20 @@
 -- The end of an evaluation is that of the form that runs.
-use Rattle.std.proofs.Common.{◌≡◌, Some, sym}
+use Rattle.std.proofs.Common.{◌≡◌, Some, sym, ap, ◌∙◌}
+use Rattle.repl_jobs.specs.Inside.View.{finished_view}
 use Rattle.repl_jobs.specs.Job.{EndData}
 use Rattle.repl_walker.specs.declared.ending.Ending.{Ending}
-use Rattle.repl_walker.specs.declared.waiting.Progress.{Progress}
+use Rattle.server_rules.specs.Request.{Run}
 use Rattle.server_rules.specs.Tenant.{Quiet}
 use Rattle.server_rules.specs.declared.actor.Actor.{Actor}
 use Rattle.tenant_world.specs.Running.{IsEndOfForm, running_in}
-use Rattle.repl_walker.specs.Ends.{ending_view}
-use Rattle.tenant_walks.specs.Inside.WalkAt.{walk_at}
-use Rattle.tenant_walks.specs.Inside.Walked.{AreWalked}
-use Rattle.tenant_walks.specs.declared.walks.Walks.{Walks}
+use Rattle.tenant_walks.specs.Inside.Walked.{ending_of}
+use Rattle.tenant_walks.proofs.Walking.{some-same}
 
-pub end-of-walk : (a : Actor) (walks : Walks) (q : Quiet) (e : Ending) (end : EndData)
-    → AreWalked (walk_at walks) q → walk_at walks a ≡ Some (Progress.Ends e)
-    → end ≡ (ending_view e).end → IsEndOfForm (running_in a q) end (ending_view e)
-end-of-walk a walks q e end walked at is = record {
+pub end-of-form : (a : Actor) (q : Quiet) (run : Run) (e : Ending) (end : EndData)
+    → running_in a q ≡ Some run → end ≡ finished_view e.finished
+    → IsEndOfForm (running_in a q) end (ending_of run e)
+end-of-form a q run e end some is = record {
   end = sym is;
-  job = λ run runs. (walked a run (Progress.Ends e) runs at).job;
-  trace = λ run runs. (walked a run (Progress.Ends e) runs at).trace;
+  job = λ other runs. ap (λ r. r.job) (some-same run other (sym some ∙ runs));
+  trace = λ other runs. ap (λ r. r.trace) (some-same run other (sym some ∙ runs));
 }

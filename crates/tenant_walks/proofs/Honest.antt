@@ -14,9 +14,8 @@ use Rattle.server_rules.specs.Plan as deeds
 use Rattle.server_rules.specs.Honest.{honest_deed, honest_at, honest_of, honest_in, honest_by}
 use Rattle.server_rules.specs.declared.actor.Actor.{Actor}
 use Rattle.tenant_world.specs.Running.{running_of, running_in}
-use Rattle.repl_walker.specs.Ends.{ending_view}
 use Rattle.tenant_walks.specs.Grounds.{Evaluates}
-use Rattle.tenant_walks.specs.Inside.Walked.{IsWalkOf}
+use Rattle.tenant_walks.specs.Inside.Walked.{IsWalkOf, ending_of}
 
 -- no form of the actor runs
 pub honest_deed-starts : (g : Ground) (a : Actor) (q : Quiet) → running_in a q ≡ None
@@ -62,7 +61,7 @@ walked-so : (g : Ground) (a : Actor) (q : Quiet) (run : Run) (p : Progress) → 
 walked-so g a q run p ground some walk =
     honest_deed-runs g a q run some
     ∙ ap (λ t. honest_at a run (tree_after t run.trace)) (ground.evaluation run.job)
-    ∙ ap (honest_at a run) (sym walk.tree)
+    ∙ ap (honest_at a run) (sym walk)
 
 pub honest_deed-asks : (g : Ground) (a : Actor) (q : Quiet) (run : Run) (w : Walk) → Evaluates g
     → running_in a q ≡ Some run → IsWalkOf run (Progress.Asks w)
@@ -72,8 +71,6 @@ honest_deed-asks g a q run w ground some walk =
 
 pub honest_deed-ends : (g : Ground) (a : Actor) (q : Quiet) (run : Run) (e : Ending) → Evaluates g
     → running_in a q ≡ Some run → IsWalkOf run (Progress.Ends e)
-    → deeds.ends a (ending_view e) ≡ honest_deed g a (Some (Some q))
+    → deeds.ends a (ending_of run e) ≡ honest_deed g a (Some (Some q))
 honest_deed-ends g a q run e ground some walk =
-    ap (λ job. deeds.ends a (record (ending_view e) { job = job })) walk.job
-    ∙ ap (λ trace. deeds.ends a (record (ending_view e) { job = run.job; trace = trace })) walk.trace
-    ∙ sym (walked-so g a q run (Progress.Ends e) ground some walk)
+    sym (walked-so g a q run (Progress.Ends e) ground some walk)

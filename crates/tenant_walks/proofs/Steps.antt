@@ -1,7 +1,6 @@
 -- The parts of the code behind the steps of a tenant.
-use Rattle.std.proofs.Common.{◌≡◌, ◌≢◌, ℕ, List, [], ◌∷◌, Option, Some, None, Result, Ok, Err, refl}
-use Rattle.std.proofs.Common.{sym, ap, subst, ◌∙◌, IfErr, OnOk, OnErr, is_some, option_map, Bool}
-use Rattle.std.proofs.Common.{true, false, true≢false, not}
+use Rattle.std.proofs.Common.{◌≡◌, ◌≢◌, ℕ, List, [], ◌∷◌, Some, None, Result, Ok, Err, refl}
+use Rattle.std.proofs.Common.{sym, ap, subst, ◌∙◌, IfErr, OnOk, OnErr}
 use Rattle.std.specs.Result.{IsErrAnd}
 use Rattle.repl_replies.specs.Replies.{ReplyData}
 use Rattle.repl_walker.specs.declared.waiting.Progress.{Progress}
@@ -15,7 +14,6 @@ use Rattle.repl_asks.specs.Exchange.{AskData, AnswerData}
 use Rattle.server_rules.specs.Deeds.{drain_outcome}
 use Rattle.server_rules.specs.declared.actor.Actor.{Actor}
 use Rattle.server_rules.specs.declared.refusal.Refusal.{Refusal}
-use Rattle.server_rules.specs.Store.{Store}
 use Rattle.ref_table.specs.Refs.{Refs, refs_after}
 use Rattle.tenant_refs.specs.Serving.{ListRefTable, TableServes}
 use Rattle.tenant_turns.specs.DeedResult.{deed_result}
@@ -24,7 +22,7 @@ use Rattle.tenant_world.specs.declared.tenant.Tenant.{Tenant}
 use Rattle.tenant_world.specs.Running.{running_of, running_in}
 use Rattle.tenant_world.specs.Standing as world
 use Rattle.tenant_walks.specs.Inside.WalkAt.{walk_at}
-use Rattle.tenant_walks.specs.Inside.Walked.{IsWalkOf, AreWalked, AreWalkedBut}
+use Rattle.tenant_walks.specs.Inside.Walked.{IsWalkOf, AreWalked}
 use Rattle.tenant_walks.specs.Inside.Standing.{Parts, parts, PartsStand, AcceptsHonestDeed, RefusesHonestDeed, comes_to}
 use Rattle.tenant_walks.specs.declared.walks.Walks.{Walks}
 use Rattle.tenant_walks.proofs.Runs.{heard-runs}
@@ -33,15 +31,15 @@ use Rattle.tenant_walks.proofs.Outcomes.{heard-after, answered-after}
 use Rattle.tenant_walks.proofs.Walking.{walked-all, some-same}
 use Rattle.tenant_walks.proofs.Stores.{Reached, serves-all-still, hears-reached, drains-reached}
 
--- an actor's step, behind which its evaluation is followed
-pub does-followed : (g : Ground) (l : Lone) (r : Refs) (deed : Deed) (a : Actor) (old new : Parts)
+-- an actor's step, behind which no evaluation of it is kept
+pub does-removed : (g : Ground) (l : Lone) (r : Refs) (deed : Deed) (a : Actor) (old new : Parts)
     (answer : StepAnswer) → PartsStand g old l r
     → world.AcceptsDeedBy g a l.quiet (comes_to g l deed) new.tenant answer
     → TableServes new.table (comes_to g l deed).store (refs_after (comes_to g l deed).store r)
-    → ((then : Quiet) (s : Store) → world.QuietStands g new.tenant then s
-    → AreWalkedBut a (walk_at old.walks) then → AreWalked (walk_at new.walks) then)
+    → walk_at new.walks a ≡ None
+    → ((b : Actor) → seat_of b ≢ seat_of a → walk_at new.walks b ≡ walk_at old.walks b)
     → AcceptsHonestDeed g l r deed new
-does-followed g l r deed a old new answer s does serves follows = record {
+does-removed g l r deed a old new answer s does serves gone others = record {
   after = does.after;
   answer = answer;
   accepted = does.accepted;
@@ -50,9 +48,34 @@ does-followed g l r deed a old new answer s does serves follows = record {
     ground = s.ground;
     tenant = does.stands;
     serves = serves;
-    walked = follows does.after (comes_to g l deed).store does.stands (λ b run p apart runs at.
-        s.walked b run p (sym (ap running_of (does.others b apart)) ∙ runs) at);
+    walked = walked-all a (walk_at new.walks) does.after
+        (λ b run p apart runs at. s.walked b run p
+        (sym (ap running_of (does.others b apart)) ∙ runs) (sym (others b apart) ∙ at))
+        (λ run p runs at. let never : None ≡ Some p = sym gone ∙ at in absurd (cc));
   };
+}
+
+-- the evaluations are others, and walked as well
+pub stands-found : (g : Ground) (l : Lone) (r : Refs) (tenant : Tenant) (table : ListRefTable)
+    (old new : Walks) → PartsStand g (parts tenant table old) l r
+    → (AreWalked (walk_at old) l.quiet → AreWalked (walk_at new) l.quiet)
+    → PartsStand g (parts tenant table new) l r
+stands-found g l r tenant table old new s found = record {
+  right = s.right;
+  ground = s.ground;
+  tenant = s.tenant;
+  serves = s.serves;
+  walked = found s.walked;
+}
+
+-- refused for want of memory
+pub refused-memory : {X : Type 0} (g : Ground) (l : Lone) (r : Refs) (deed : Deed) (p : Parts)
+    (res : Result X Refusal) → IsErrAnd res (λ e. e ≡ Refusal.NoMemory) → PartsStand g p l r
+    → IfErr res (RefusesHonestDeed g l r deed p)
+refused-memory g l r deed p (Ok x) is s = tt
+refused-memory g l r deed p (Err e) is s = record {
+  refused = λ other. absurd (other is);
+  stands = s;
 }
 
 -- the table, where the deed leaves the refs
@@ -156,18 +179,6 @@ pub put-others : {X E : Type 0} (a b : Actor) (mid new : Walks) (r : Result X E)
     → walk_at new b ≡ walk_at mid b
 put-others a b mid new (Ok x) others stays apart = others b apart
 put-others a b mid new (Err e) others stays apart = stays b
-
--- Whether something is there
-
-pub none-so : {A B : Type 0} (f : A → B) (r : Option A) (b : Bool) → is_some r ≡ not b → b ≡ true
-    → option_map f r ≡ None
-none-so f None b is none = refl
-none-so f (Some x) b is none = absurd (true≢false (is ∙ ap not none))
-
-pub some-so : {A B : Type 0} (f : A → B) (r : Option A) (b : Bool) → is_some r ≡ not b → b ≡ false
-    → (x : B) × (option_map f r ≡ Some x)
-some-so f None b is some = absurd (true≢false (sym (is ∙ ap not some)))
-some-so f (Some x) b is some = (f x, refl)
 
 -- an ask that was answered
 pub does-resumed : (g : Ground) (l : Lone) (r : Refs) (a : Actor) (old new : Parts) (ask : AskData)

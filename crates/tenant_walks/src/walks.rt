@@ -10,8 +10,8 @@ use std::collections::BTreeMap;
 
 /// How far the evaluations of the forms of a tenant that run have come.
 ///
-/// An evaluation that was lost for want of memory is not found again: each later turn of its actor
-/// is refused for want of memory.
+/// The evaluation of a form begins when its actor goes on. One that is lost for want of memory is
+/// made again then, over the answers that are recorded: that takes as long as the form took so far.
 #[derive(Drop)]
 pub struct Walks {
     pub(crate) alloc: Global,

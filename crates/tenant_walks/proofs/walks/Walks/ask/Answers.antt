@@ -10,7 +10,7 @@ use Rattle.ref_table.specs.Refs.{refs_after}
 use Rattle.tenant_refs.specs.Serving.{TableServes}
 use Rattle.tenant_walks.specs.Inside.Standing.{parts, comes_to}
 use Rattle.tenant_walks.proofs.Walking.{asks-same, at-so, some-same}
-use Rattle.tenant_walks.proofs.Steps.{does-followed, does-resumed, refused-parts}
+use Rattle.tenant_walks.proofs.Steps.{does-removed, does-resumed, refused-parts}
 use Rattle.tenant_walks.proofs.walks.Walks.ask.Goals as goal
 
 pub returns-in_err-answer-clause-refused : goal.returns-in_err-answer-clause-refused
@@ -69,6 +69,6 @@ returns-in-Interrupted-clause-done c = λ g l r run w right s runs at.
     (refs_after (comes_to g l (deeds.asks_for a x)).store r) in
     let did = subst P asked
     (c.in_ok-answer.ensures.done g l.quiet l.store r right s.tenant s.serves) in
-    does-followed g l r (deeds.asks_for a (ask_view w.ask)) a old
-    (parts c.answer.new.self c.answer.new.refs c.follow.new.self) _ s did.0 did.1
-    (λ then st. c.follow.ensures g then st)
+    does-removed g l r (deeds.asks_for a (ask_view w.ask)) a old
+    (parts c.answer.new.self c.answer.new.refs c.remove.new.self) _ s did.0 did.1
+    c.remove.ensures.gone c.remove.ensures.others

@@ -1,6 +1,6 @@
 use Rattle.server_rules.specs.Plan as deeds
 use Rattle.tenant_walks.specs.Inside.Standing.{parts}
-use Rattle.tenant_walks.proofs.Steps.{does-followed, refused-parts, serves-same}
+use Rattle.tenant_walks.proofs.Steps.{does-removed, refused-parts, serves-same}
 use Rattle.tenant_walks.proofs.Stores.{starts-reached}
 use Rattle.tenant_walks.proofs.walks.Walks.begin.Goals as goal
 
@@ -15,8 +15,8 @@ pub returns-clause-done : goal.returns-clause-done
 returns-clause-done c = λ g l r right s.
     let a = c.args.actor in
     let old = parts c.args.tenant.now c.args.refs.now c.args.self.now in
-    does-followed g l r (deeds.starts a) a old
-    (parts c.start.new.self c.args.refs.now c.follow.new.self) _ s
+    does-removed g l r (deeds.starts a) a old
+    (parts c.start.new.self c.args.refs.now c.remove.new.self) _ s
     (c.in_ok-start.ensures.done g l.quiet l.store right s.tenant)
     (serves-same g l r (deeds.starts a) old s (starts-reached g l.quiet l.store a))
-    (λ then st. c.follow.ensures g then st)
+    c.remove.ensures.gone c.remove.ensures.others

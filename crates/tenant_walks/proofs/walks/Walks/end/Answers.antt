@@ -2,41 +2,41 @@ use Rattle.std.proofs.Common.{◌∙◌, sym, ap}
 use Rattle.repl_jobs.specs.Inside.View.{finished_view}
 use Rattle.repl_walker.specs.declared.waiting.Progress.{Progress}
 use Rattle.server_rules.specs.Plan as deeds
-use Rattle.repl_walker.specs.Ends.{ending_view}
 use Rattle.tenant_walks.specs.Inside.Standing.{parts}
+use Rattle.tenant_walks.specs.Inside.Walked.{ending_of}
 use Rattle.tenant_walks.proofs.Walking.{ends-same, at-so, some-same}
-use Rattle.tenant_walks.proofs.Ending.{end-of-walk}
-use Rattle.tenant_walks.proofs.Steps.{does-followed, refused-parts, serves-same}
+use Rattle.tenant_walks.proofs.Ending.{end-of-form}
+use Rattle.tenant_walks.proofs.Steps.{does-removed, refused-parts, serves-same}
 use Rattle.tenant_walks.proofs.Stores.{ends-reached}
 use Rattle.tenant_walks.proofs.walks.Walks.end.Goals as goal
 
 pub returns-in_err-finish-clause-refused : goal.returns-in_err-finish-clause-refused
-returns-in_err-finish-clause-refused c = λ g l r e right s at.
+returns-in_err-finish-clause-refused c = λ g l r run e right s runs at.
     let a = c.args.actor in
     let old = parts c.args.tenant.now c.args.refs.now c.args.self.now in
     let d = c.in-Some-Ends.ending in
     let kept = at-so (λ p. p.now) c.get.result _ (Progress.Ends d) _ c.get.ensures
     c.in-Some-Ends.is c.in-Some-Ends.field-0-is in
     let same = ends-same d e (some-same _ _ (sym kept ∙ at)) in
-    let own = end-of-walk a old.walks l.quiet e _ s.walked at
+    let own = end-of-form a l.quiet run e _ runs
     (ap finished_view c.end.ensures ∙ ap (λ x. finished_view x.finished) same) in
-    refused-parts g l r (deeds.ends a (ending_view e)) old c.finish.new.self c.args.refs.now
+    refused-parts g l r (deeds.ends a (ending_of run e)) old c.finish.new.self c.args.refs.now
     c.in_err-finish.field-0.0 c.from_residual.result s c.from_residual.ensures.1
-    (c.in_err-finish.ensures.refused g l.quiet l.store (ending_view e) right s.tenant own) s.serves
+    (c.in_err-finish.ensures.refused g l.quiet l.store (ending_of run e) right s.tenant own) s.serves
 
 pub returns-clause-done : goal.returns-clause-done
-returns-clause-done c = λ g l r e right s at.
+returns-clause-done c = λ g l r run e right s runs at.
     let a = c.args.actor in
     let old = parts c.args.tenant.now c.args.refs.now c.args.self.now in
     let d = c.in-Some-Ends.ending in
     let kept = at-so (λ p. p.now) c.get.result _ (Progress.Ends d) _ c.get.ensures
     c.in-Some-Ends.is c.in-Some-Ends.field-0-is in
     let same = ends-same d e (some-same _ _ (sym kept ∙ at)) in
-    let own = end-of-walk a old.walks l.quiet e _ s.walked at
+    let own = end-of-form a l.quiet run e _ runs
     (ap finished_view c.end.ensures ∙ ap (λ x. finished_view x.finished) same) in
-    does-followed g l r (deeds.ends a (ending_view e)) a old
-    (parts c.finish.new.self c.args.refs.now c.follow.new.self) _ s
-    (c.in_ok-finish.ensures.done g l.quiet l.store (ending_view e) right s.tenant own)
-    (serves-same g l r (deeds.ends a (ending_view e)) old s
-    (ends-reached g l.quiet l.store a (ending_view e)))
-    (λ then st. c.follow.ensures g then st)
+    does-removed g l r (deeds.ends a (ending_of run e)) a old
+    (parts c.finish.new.self c.args.refs.now c.remove.new.self) _ s
+    (c.in_ok-finish.ensures.done g l.quiet l.store (ending_of run e) right s.tenant own)
+    (serves-same g l r (deeds.ends a (ending_of run e)) old s
+    (ends-reached g l.quiet l.store a (ending_of run e)))
+    c.remove.ensures.gone c.remove.ensures.others
