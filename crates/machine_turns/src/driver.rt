@@ -6,7 +6,7 @@ ghost use Rattle.server_rules.specs.Plan.{bytes_in};
 ghost use Rattle.server_rules.specs.Machine.World.{World, new_world};
 ghost use Rattle.repl_core.specs.Going.{StepKeepsForms};
 ghost use Rattle.repl_core.specs.Steps.{step_view, step_answer_view};
-ghost use Rattle.machine_turns.specs.Configured.{IsConfigured};
+ghost use Rattle.repl_core.specs.Configured.{IsConfigured};
 ghost use Rattle.machine_turns.specs.Turns.{turn_view, piece_given};
 
 use crate::all_walks::AllWalks;
@@ -36,8 +36,8 @@ impl Driver {
         }
     }
 
-    /// Makes a turn, and gives the reply where one was taken out. Where memory is wanted, the
-    /// evaluations of a tenant may be lost.
+    /// Makes a turn, and gives the reply where one was taken out. Where memory is refused, the
+    /// evaluations of a tenant may be lost; they are made again when their actors go on.
     pub(crate) fn turn(&mut self, turn: &Turn) -> Result<Option<Vec<u8>>, Refusal>
         ensures done { (g : Ground) (w : World) → DriverStands g self.old w → IfOk result
             (λ it. AcceptsTurn g w (turn_view turn.now) self.new (piece_given it)) }

@@ -2,7 +2,7 @@
 ghost use Rattle.std.specs.Prelude.{[], map, IfOk, OnOk};
 ghost use Rattle.server_rules.specs.Ground.{Ground};
 ghost use Rattle.server_rules.specs.Machine.World.{World, new_world};
-ghost use Rattle.machine_turns.specs.Configured.{IsConfigured};
+ghost use Rattle.repl_core.specs.Configured.{IsConfigured};
 ghost use Rattle.machine_turns.specs.Driver.{DriverStands};
 ghost use Rattle.machine_turns.specs.Driven.{IsDriven, MakesTurn};
 ghost use Rattle.machine_turns.specs.Turns.{turn_view};

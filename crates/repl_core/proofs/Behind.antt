@@ -1,24 +1,25 @@
 -- A machine behind the deeds of a tenant.
 use Rattle.std.proofs.Common.{◌≡◌, ◌≢◌, ℕ, Some, None, Result, Ok, Err, IfOk, IfErr, refl, sym, ap}
-use Rattle.std.proofs.Common.{subst, ◌∙◌}
+use Rattle.std.proofs.Common.{subst, ◌∙◌, true, true≢false}
 use Rattle.value_data.specs.Datum.{tenant}
 use Rattle.server_rules.specs.Deeds.{plan}
 use Rattle.server_rules.specs.Ground.{Ground}
-use Rattle.server_rules.specs.Plan.{Deed, StepAnswer}
+use Rattle.server_rules.specs.Plan.{Deed, StepAnswer, Outcome, refuses, leaves}
 use Rattle.server_rules.specs.Store.{Store}
 use Rattle.server_rules.specs.Tenant.{Quiet}
-use Rattle.server_rules.specs.Machine.World.{TenantData, World, does, ended_as, with_tenant}
+use Rattle.server_rules.specs.Machine.World.{TenantData, World, does, ended_as, with_tenant, step}
 use Rattle.server_rules.specs.declared.actor.Actor.{Actor}
 use Rattle.server_rules.specs.declared.refusal.Refusal.{Refusal}
 use Rattle.ref_table.specs.Refs.{refs_after}
 use Rattle.tenant_refs.specs.Serving.{ListRefTable, TableServes}
 use Rattle.tenant_refs.proofs.Calls.{performed-tenant}
 use Rattle.tenant_turns.specs.DeedResult.{DeedResult, deed_result}
+use Rattle.tenant_world.specs.Acting.{is_accepted}
 use Rattle.tenant_world.specs.Standing as world
 use Rattle.tenant_world.specs.declared.tenant.Tenant.{Tenant}
 use Rattle.repl_core.specs.TenantAt.{tenant_at}
 use Rattle.repl_core.specs.Standing.{open_in, store_in, PlaceStands, MachineStands}
-use Rattle.repl_core.specs.Steps.{AcceptsStep, RefusesStep}
+use Rattle.repl_core.specs.Steps.{AcceptsStep, RefusesStep, is_accepted_step}
 use Rattle.repl_core.specs.declared.machine.Machine.{Machine}
 use Rattle.repl_core.specs.declared.tenants.Tenants.{Tenants}
 use Rattle.repl_core.proofs.Worlds.{deed_of, found-open, used-with_part, count-with_part, step-deed}
@@ -222,6 +223,27 @@ refuses-so g w t d old ts table was code res s there told put others =
     let it = found.2 in
     err-map _ _ res (λ why both. refuses-one g w t d old ts table code why kept s found.1 it.refs
     both.0 both.1 put others)
+    (told kept (it.stands w.around) (serves-in g old w t was kept s it))
+
+-- Where the rules accept a tenant's deed, they accept the step
+
+ended-accepted : (w : World) (t : ℕ) (s : Store) (o : Outcome) → is_accepted o ≡ true
+    → is_accepted_step (ended_as w t s o) ≡ true
+ended-accepted w t s (refuses why) never = absurd (true≢false (sym never))
+ended-accepted w t s (leaves q answer) is = refl
+
+pub accepts-so : (g : Ground) (w : World) (t : ℕ) (d : Deed) (old : Machine) (was : Tenant)
+    (s : MachineStands g old w) → tenant_at old.tenants t ≡ Some was
+    → ((kept : TenantData) → world.QuietStands g was kept.quiet (store_in w.around t kept.mine)
+    → TableServes old.refs (store_in w.around t kept.mine) s.refs
+    → is_accepted (deed_of g w t kept d).outcome ≡ true)
+    → is_accepted_step (step g w (does t d)) ≡ true
+accepts-so g w t d old was s there told =
+    let found = kept-at g s.refs t was (tenant_at old.tenants t) (open_in t w) (s.tenants t) there in
+    let kept = found.0 in
+    let it = found.2 in
+    let e = deed_of g w t kept d in
+    ap is_accepted_step (step-deed g w t d kept found.1) ∙ ended-accepted w t e.store e.outcome
     (told kept (it.stands w.around) (serves-in g old w t was kept s it))
 
 -- the deed of an actor

@@ -27,7 +27,7 @@ use Rattle.tenant_world.specs.Standing as world
 use Rattle.tenant_world.specs.declared.tenant.Tenant.{Tenant}
 use Rattle.repl_core.specs.TenantAt.{tenant_at}
 use Rattle.repl_core.specs.Standing.{open_in, store_in, is_reached, PlaceStands, MachineStands}
-use Rattle.repl_core.specs.Steps.{AcceptsStep, RefusesStep}
+use Rattle.repl_core.specs.Steps.{AcceptsStep, RefusesStep, is_accepted_step}
 use Rattle.repl_core.specs.declared.machine.Machine.{Machine}
 use Rattle.repl_core.specs.declared.tenants.Tenants.{Tenants}
 use Rattle.repl_core.proofs.Worlds.{used-none, used-with_part, reached-more, found-open, count-less}
@@ -83,6 +83,13 @@ refuses-full g w t m s reached full = record {
       (full-so g w m s true full);
   stands = s;
 }
+
+-- a number above all that were opened comes where a place is free
+pub accepts-open : (g : Ground) (w : World) (t : ℕ) (m : Machine) (s : MachineStands g m w)
+    → is_reached m.newest t ≡ false → nat_le m.places m.places_taken ≡ false
+    → is_accepted_step (step g w (opens t)) ≡ true
+accepts-open g w t m s reached full = ap is_accepted_step
+    (open-tested g w t false false (s.newest t ∙ reached) (full-so g w m s false full))
 
 -- the machine with one tenant more
 abbrev pub machine_more : Machine → Tenants → ℕ → Machine

@@ -1,3 +1,4 @@
+pub mod Configured
 pub mod TenantAt
 pub mod Standing
 pub mod Left

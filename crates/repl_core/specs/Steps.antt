@@ -1,5 +1,5 @@
 -- A step and its answer, as the rules have them.
-use Rattle.std.specs.Prelude.{◌≡◌, ◌≢◌}
+use Rattle.std.specs.Prelude.{◌≡◌, ◌≢◌, Bool, true, false}
 use Rattle.repl_asks.specs.Inside.View.{ask_view, answer_view}
 use Rattle.repl_jobs.specs.Inside.View.{job_view}
 use Rattle.server_rules.specs.Ground.{Ground}
@@ -8,9 +8,11 @@ use Rattle.server_rules.specs.Plan.{tenant_opened, messages_heard, form_begun, r
 use Rattle.server_rules.specs.Plan.{ask_answered, form_finished, request_interrupted, reply_given}
 use Rattle.server_rules.specs.Plan.{tenant_gone}
 use Rattle.server_rules.specs.Machine.World as worlds
-use Rattle.server_rules.specs.Machine.World.{World, opens, does, closes, accepted, refused, step}
+use Rattle.server_rules.specs.Machine.World.{World, opens, does, closes, Stepped, accepted, refused}
+use Rattle.server_rules.specs.Machine.World.{step}
 use Rattle.server_rules.specs.declared.refusal.Refusal.{Refusal}
 use Rattle.repl_walker.specs.Ends.{ending_view}
+use Rattle.tenant_refs.specs.Telling.{is_commit}
 use Rattle.repl_core.specs.Standing.{MachineStands}
 use Rattle.repl_core.specs.declared.machine.Machine.{Machine}
 use Rattle.repl_core.specs.declared.step.Step.{Step}
@@ -35,6 +37,16 @@ step_answer_view StepAnswer.Finished = form_finished
 step_answer_view StepAnswer.Interrupted = request_interrupted
 step_answer_view (StepAnswer.Bytes bytes) = reply_given bytes.items
 step_answer_view StepAnswer.Gone = tenant_gone
+
+-- the rules do not refuse it
+abbrev pub is_accepted_step : Stepped → Bool
+is_accepted_step (accepted after answer) = true
+is_accepted_step (refused why) = false
+
+-- a form asks to commit
+abbrev pub is_commit_step : worlds.Step → Bool
+is_commit_step (does t (rules.asks_for actor ask)) = is_commit ask
+is_commit_step _ = false
 
 -- the step is accepted with this answer, and the machine stands for the server behind it
 pub record AcceptsStep (g : Ground) (w : World) (s : worlds.Step) (m : Machine)

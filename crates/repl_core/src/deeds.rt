@@ -1,14 +1,15 @@
 // What tenants do.
-ghost use Rattle.std.specs.Prelude.{◌≡◌, ◌≢◌, ◌+◌, ◌<◌, ◌∷◌, [], true, Err, IfOk, IfErr, OnOk};
-ghost use Rattle.std.specs.Prelude.{OnErr};
+ghost use Rattle.std.specs.Prelude.{◌≡◌, ◌≢◌, ◌+◌, ◌<◌, ◌∷◌, [], true, false, Err, IfOk, IfErr};
+ghost use Rattle.std.specs.Prelude.{OnOk, OnErr};
 ghost use Rattle.repl_asks.specs.Inside.View.{ask_view};
 ghost use Rattle.server_rules.specs.Ground.{Ground};
 ghost use Rattle.server_rules.specs.Plan as deeds;
 ghost use Rattle.server_rules.specs.Plan.{messages_heard, reply_given};
-ghost use Rattle.server_rules.specs.Machine.World.{World, does};
+ghost use Rattle.server_rules.specs.Machine.World.{World, does, step};
 ghost use Rattle.ref_table.specs.Standing.{counter_of};
 ghost use Rattle.tenant_turns.specs.Grounds.{IsRight};
 ghost use Rattle.repl_walker.specs.Ends as endings;
+ghost use Rattle.tenant_refs.specs.Telling.{is_commit};
 ghost use Rattle.tenant_world.specs.Answers.{start_answer_view, ask_answer_view, end_answer_view};
 
 use crate::machine::Machine;
@@ -24,7 +25,7 @@ use tenant_world::{AskAnswer, EndAnswer, StartAnswer};
 impl Machine {
     ghost use Rattle.repl_core.specs.Left.{left_at};
     ghost use Rattle.repl_core.specs.Standing.{MachineStands};
-    ghost use Rattle.repl_core.specs.Steps.{AcceptsStep, RefusesStep};
+    ghost use Rattle.repl_core.specs.Steps.{AcceptsStep, RefusesStep, is_accepted_step};
 
     /// A tenant hears a piece of its stream.
     pub fn hear(&mut self, number: u64, piece: &Bytes) -> Result<usize, Refusal>
@@ -33,6 +34,9 @@ impl Machine {
             (messages_heard x)) }
         ensures refused { (g : Ground) (w : World) → IsRight g → MachineStands g self.old w
             → IfErr result (RefusesStep g w (does number (deeds.hears piece.now)) self.new) }
+        ensures no_memory { (g : Ground) (w : World) → IsRight g → MachineStands g self.old w
+            → result ≡ Err Refusal.NoMemory
+            → is_accepted_step (step g w (does number (deeds.hears piece.now))) ≡ true }
         ensures steps { OnOk result
             ((left_at number self.old).steps ≡ (left_at number self.new).steps + 1) }
         ensures kept { OnErr result
@@ -53,6 +57,9 @@ impl Machine {
             (start_answer_view x)) }
         ensures refused { (g : Ground) (w : World) → IsRight g → MachineStands g self.old w
             → IfErr result (RefusesStep g w (does number (deeds.starts actor)) self.new) }
+        ensures no_memory { (g : Ground) (w : World) → IsRight g → MachineStands g self.old w
+            → result ≡ Err Refusal.NoMemory
+            → is_accepted_step (step g w (does number (deeds.starts actor))) ≡ true }
     {
         let Some(mut tenant) = self.tenants.take(number) else {
             return Err(Refusal::NoSuchTenant);
@@ -76,6 +83,10 @@ impl Machine {
         ensures refused { (g : Ground) (w : World) → IsRight g → MachineStands g self.old w
             → IfErr result (RefusesStep g w
             (does number (deeds.asks_for actor (ask_view ask.now))) self.new) }
+        ensures no_memory { (g : Ground) (w : World) → IsRight g → MachineStands g self.old w
+            → counter_of self.old.refs < u128.MAX → result ≡ Err Refusal.NoMemory
+            → is_commit (ask_view ask.now) ≡ false → is_accepted_step
+            (step g w (does number (deeds.asks_for actor (ask_view ask.now)))) ≡ true }
     {
         if !has_stamps(&self.refs) {
             return Err(Refusal::NoMemory);
@@ -102,6 +113,9 @@ impl Machine {
         ensures refused { (g : Ground) (w : World) → IsRight g → MachineStands g self.old w
             → IfErr result (RefusesStep g w
             (does number (deeds.ends actor (endings.ending_view ending.now))) self.new) }
+        ensures no_memory { (g : Ground) (w : World) → IsRight g → MachineStands g self.old w
+            → result ≡ Err Refusal.NoMemory → is_accepted_step
+            (step g w (does number (deeds.ends actor (endings.ending_view ending.now)))) ≡ true }
     {
         let Some(mut tenant) = self.tenants.take(number) else {
             return Err(Refusal::NoSuchTenant);
@@ -144,7 +158,8 @@ impl Machine {
 
 // Whether there is a stamp for one more commit. There always is: no run has 2^128 commits.
 pub(crate) fn has_stamps(refs: &RefTable<ListHistory>) -> bool
-    ensures { result ≡ true → counter_of refs.now < u128.MAX }
+    ensures enough { result ≡ true → counter_of refs.now < u128.MAX }
+    ensures all { counter_of refs.now < u128.MAX → result ≡ true }
 {
     refs.begin().stamp < u128::MAX
 }

@@ -1,6 +1,20 @@
-//! Laws of transactions, over any run of the server's steps. The functions do nothing: what they
-//! ensure is proved.
+//! Laws of what a server stands on, and of transactions, over any run of its steps. The functions
+//! do nothing: what they ensure is proved.
+ghost use Rattle.server_rules.specs.Ground.{Ground};
+ghost use Rattle.repl_core.specs.Configured.{IsConfigured};
+ghost use Rattle.repl_core.specs.declared.machine.Config.{Config};
 ghost use Rattle.repl_core.specs.Commits.{CommittedMetNoNewer, NewestIsTheFoldOfWhatWasCommitted};
+
+use tenant_turns::laws::{exact_comparisons_exist, there_is_one_right_reading};
+
+/// Whatever a server begins with, there is something that it can stand on: what is promised of all
+/// that is right is promised of something.
+pub fn every_configuration_has_a_ground()
+    ensures { (config : Config) → (g : Ground) × IsConfigured g config }
+{
+    there_is_one_right_reading();
+    exact_comparisons_exist();
+}
 
 /// Where a commit was answered as committed, the newest version of each ref that it set or ensured
 /// was not newer than the read point of its attempt. That of a ref that it commuted may be newer,

@@ -3,7 +3,7 @@ ghost use Rattle.std.specs.Prelude.{◌≡◌, [], option_and_then, option_map};
 ghost use Rattle.server_rules.specs.Ground.{Ground};
 ghost use Rattle.server_rules.specs.Machine.Ready.{ready};
 ghost use Rattle.server_rules.specs.Machine.World.{World, new_world};
-ghost use Rattle.tenant_world.specs.Asking.{SharesNoNames};
+ghost use Rattle.repl_core.specs.Configured.{IsConfigured};
 ghost use Rattle.repl_core.specs.Standing.{open_in};
 ghost use Rattle.repl_core.specs.TenantAt.{tenant_at};
 
@@ -15,7 +15,7 @@ use std::alloc::Global;
 use tenant_world::Tenant;
 
 /// How many tenants may be open at once.
-pub const PLACES: usize = 1;
+pub const PLACES: usize = 64;
 
 /// The steps that a tenant takes unless told otherwise.
 pub const STEPS: u32 = 4_194_304;
@@ -62,8 +62,7 @@ impl Machine {
 
     /// A server to which nobody came. It takes no memory.
     pub fn new(alloc: Global, config: Config) -> Machine
-        ensures { (g : Ground) → SharesNoNames g → g.seed ≡ config.seed → g.steps ≡ config.steps
-            → g.retries ≡ config.retries → g.places ≡ 1 → MachineStands g result (new_world []) }
+        ensures { (g : Ground) → IsConfigured g config → MachineStands g result (new_world []) }
     {
         Machine {
             alloc,

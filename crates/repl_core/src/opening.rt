@@ -1,8 +1,8 @@
 // Tenants come and go.
-ghost use Rattle.std.specs.Prelude.{◌≡◌, ◌≢◌, Err, OnOk, IfErr};
+ghost use Rattle.std.specs.Prelude.{◌≡◌, ◌≢◌, true, Err, OnOk, IfErr};
 ghost use Rattle.server_rules.specs.Ground.{Ground};
 ghost use Rattle.server_rules.specs.Plan.{tenant_opened, tenant_gone};
-ghost use Rattle.server_rules.specs.Machine.World.{World, opens, closes};
+ghost use Rattle.server_rules.specs.Machine.World.{World, opens, closes, step};
 ghost use Rattle.tenant_turns.specs.Grounds.{IsRight};
 ghost use Rattle.repl_core.specs.Standing.{is_reached};
 
@@ -12,7 +12,7 @@ use tenant_world::Tenant;
 
 impl Machine {
     ghost use Rattle.repl_core.specs.Standing.{MachineStands};
-    ghost use Rattle.repl_core.specs.Steps.{AcceptsStep, RefusesStep};
+    ghost use Rattle.repl_core.specs.Steps.{AcceptsStep, RefusesStep, is_accepted_step};
 
     /// A tenant comes.
     pub fn open(&mut self, number: u64) -> Result<(), Refusal>
@@ -20,6 +20,8 @@ impl Machine {
             → OnOk result (AcceptsStep g w (opens number) self.new tenant_opened) }
         ensures refused { (g : Ground) (w : World) → IsRight g → MachineStands g self.old w
             → IfErr result (RefusesStep g w (opens number) self.new) }
+        ensures no_memory { (g : Ground) (w : World) → IsRight g → MachineStands g self.old w
+            → result ≡ Err Refusal.NoMemory → is_accepted_step (step g w (opens number)) ≡ true }
     {
         if self.is_reached(number) {
             return Err(Refusal::NumberUsed);

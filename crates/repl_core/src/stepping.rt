@@ -1,7 +1,9 @@
 // The step of the server.
-ghost use Rattle.std.specs.Prelude.{◌≡◌, IfOk, IfErr};
+ghost use Rattle.std.specs.Prelude.{◌≡◌, ◌<◌, true, false, IfOk, IfErr};
 ghost use Rattle.server_rules.specs.Ground.{Ground};
+ghost use Rattle.server_rules.specs.Machine.World as worlds;
 ghost use Rattle.server_rules.specs.Machine.World.{World};
+ghost use Rattle.ref_table.specs.Standing.{counter_of};
 ghost use Rattle.tenant_turns.specs.Grounds.{IsRight};
 ghost use Rattle.tenant_world.specs.Answers.{start_answer_view, ask_answer_view, end_answer_view};
 ghost use Rattle.repl_core.specs.Steps.{step_view, step_answer_view};
@@ -13,7 +15,8 @@ use tenant_world::{AskAnswer, EndAnswer, StartAnswer};
 
 impl Machine {
     ghost use Rattle.repl_core.specs.Standing.{MachineStands};
-    ghost use Rattle.repl_core.specs.Steps.{AcceptsStep, RefusesStep};
+    ghost use Rattle.repl_core.specs.Steps.{AcceptsStep, RefusesStep, is_accepted_step};
+    ghost use Rattle.repl_core.specs.Steps.{is_commit_step};
 
     /// Makes a step. A step that is refused changes nothing, and is given back.
     pub fn step(&mut self, step: Step) -> Result<StepAnswer, Refused>
@@ -21,6 +24,10 @@ impl Machine {
             → IfOk result (λ x. AcceptsStep g w (step_view step) self.new (step_answer_view x)) }
         ensures refused { (g : Ground) (w : World) → IsRight g → MachineStands g self.old w
             → IfErr result (λ it. RefusesStep g w (step_view step) self.new it.why) }
+        ensures no_memory { (g : Ground) (w : World) → IsRight g → MachineStands g self.old w
+            → counter_of self.old.refs < u128.MAX → is_commit_step (step_view step) ≡ false
+            → IfErr result (λ it. it.why ≡ Refusal.NoMemory
+            → is_accepted_step (worlds.step g w (step_view step)) ≡ true) }
         ensures handed_back { IfErr result (λ it. it.step ≡ step) }
     {
         match self.make(&step) {
@@ -35,6 +42,10 @@ impl Machine {
             (step_answer_view x)) }
         ensures refused { (g : Ground) (w : World) → IsRight g → MachineStands g self.old w
             → IfErr result (RefusesStep g w (step_view step.now) self.new) }
+        ensures no_memory { (g : Ground) (w : World) → IsRight g → MachineStands g self.old w
+            → counter_of self.old.refs < u128.MAX → is_commit_step (step_view step.now) ≡ false
+            → IfErr result (λ why. why ≡ Refusal.NoMemory
+            → is_accepted_step (worlds.step g w (step_view step.now)) ≡ true) }
     {
         match step {
             Step::Open(number) => {

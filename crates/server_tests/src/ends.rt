@@ -1,7 +1,8 @@
 // How a stream ends where its steps are used up, and the line where memory is refused.
-use crate::runners::{SUM, SUM_REPLIES, runner_of_steps};
-use nrepl_pipe::{out_of_memory, pipe_command};
+use crate::runners::{SUM, SUM_REPLIES, server_of_steps};
+use nrepl_pipe::out_of_memory;
 use std::test::Fail;
+use tenant_runner::pipe_command;
 
 // A piece costs a step, and so does each turn. The request takes three turns, of which the last
 // makes its replies, and then comes one in which nothing is to be done.
@@ -15,11 +16,11 @@ const ENDS: &[(u32, &[u8], u8, &str)] = &[
 fn steps_end_the_stream(rt: HostRuntime) -> Result<(), Fail> {
     let alloc = rt.alloc();
     for &(steps, replies, status, line) in ENDS {
-        let mut runner = runner_of_steps(alloc, steps)?;
+        let config = server_of_steps(steps);
         let mut input = SUM;
         let mut output = Vec::new(alloc);
         let mut errors = Vec::new(alloc);
-        let told = pipe_command(alloc, &mut runner, &mut input, &mut output, &mut errors);
+        let told = pipe_command(alloc, config, &mut input, &mut output, &mut errors);
         assert_eq!(rt; output.as_slice(), replies, "{steps}");
         assert_eq!(rt; errors.as_slice(), line.as_bytes(), "{steps}");
         assert_eq!(rt; told, status, "{steps}");

@@ -3,13 +3,13 @@ ghost use Rattle.std.specs.Prelude.{◌≡◌, Some, None, false};
 ghost use Rattle.nrepl_pipe.specs.Failing.{Marks, read_fails, write_fails};
 ghost use Rattle.nrepl_pipe.specs.Failing.{is_read_failed, is_write_failed};
 
-use crate::runners::{SUM, SUM_REPLIES, fresh_runner};
-use nrepl_pipe::{PipeEnd, PipeError, Sink, Source, pipe, pipe_command};
+use crate::runners::{SUM, SUM_REPLIES, server};
+use nrepl_pipe::{PipeEnd, PipeError, Sink, Source};
 use std::alloc::Global;
 use std::io;
 use std::io::{Error, ErrorKind, Read, Write};
 use std::test::Fail;
-use tenant_runner::Runner;
+use tenant_runner::{pipe, pipe_command};
 
 // Gives a few bytes at each read, and fails once its reads are used up.
 #[derive(Drop)]
@@ -66,14 +66,7 @@ fn failing_reads(rt: HostRuntime) -> Result<(), Fail> {
         let mut reader = FailingReader { input: SUM, reads };
         let mut output = Vec::new(rt.alloc());
         let mut errors = Vec::new(rt.alloc());
-        let mut runner = fresh_runner(rt.alloc())?;
-        let status = pipe_command(
-            rt.alloc(),
-            &mut runner,
-            &mut reader,
-            &mut output,
-            &mut errors,
-        );
+        let status = pipe_command(rt.alloc(), server(), &mut reader, &mut output, &mut errors);
         let is_whole = reads == 6;
         let line = if is_whole { "" } else { "nrepl: read failed\n" };
         assert_eq!(rt; errors.as_slice(), line.as_bytes(), "{reads}");
@@ -97,14 +90,7 @@ fn failing_writes(rt: HostRuntime) -> Result<(), Fail> {
                 takes_nothing,
             };
             let mut errors = Vec::new(rt.alloc());
-            let mut runner = fresh_runner(rt.alloc())?;
-            let status = pipe_command(
-                rt.alloc(),
-                &mut runner,
-                &mut input,
-                &mut writer,
-                &mut errors,
-            );
+            let status = pipe_command(rt.alloc(), server(), &mut input, &mut writer, &mut errors);
             let is_whole = writes == 8;
             let line = if is_whole {
                 ""
@@ -135,7 +121,9 @@ impl<R: Read> Source for Remembering<R> {
 
     ghost failed = { λ it. Some it.has_failed };
 
-    fn read_bytes(&mut self, buf: &mut [u8]) -> io::Result<usize> {
+    ghost reads = { λ _. None };
+
+    fn read_bytes<V: Sink>(&mut self, _writer: &V, buf: &mut [u8]) -> io::Result<usize> {
         let answer = self.inner.read(buf);
         self.has_failed = self.has_failed || answer.is_err();
         answer
@@ -160,7 +148,6 @@ impl<W: Write> Sink for Remembering<W> {
 
 fn served<R: Read, W: Write>(
     alloc: Global,
-    runner: &mut Runner,
     reader: &mut Remembering<R>,
     writer: &mut Remembering<W>,
 ) -> Result<PipeEnd, PipeError>
@@ -168,7 +155,7 @@ fn served<R: Read, W: Write>(
     ensures reads { reader.new.has_failed ≡ is_read_failed result }
     ensures writes { writer.new.has_failed ≡ is_write_failed result }
 {
-    pipe(alloc, runner, reader, writer)
+    pipe(alloc, server(), reader, writer)
 }
 
 // The last write fails, and then the last read.
@@ -191,8 +178,7 @@ fn failures_that_are_remembered(rt: HostRuntime) -> Result<(), Fail> {
             },
             has_failed: false,
         };
-        let mut runner = fresh_runner(rt.alloc())?;
-        let outcome = served(rt.alloc(), &mut runner, &mut reader, &mut writer);
+        let outcome = served(rt.alloc(), &mut reader, &mut writer);
         assert!(&rt; outcome == expected, "{reads} {writes}");
     }
     Ok(())

@@ -9,14 +9,14 @@ use std::process::Abort;
 use std::sync::ArcStr;
 use std::test::Fail;
 
-// Of each kind one, but for an ending, each of a tenant that never came.
+// Of each kind one, but for an ending: each of a tenant that never came, or that comes twice.
 fn refused_steps(alloc: Global) -> Result<Vec<Step>, AllocError> {
     let ask = Ask::Resolve {
         namespace: ArcStr::from_str(alloc, "user")?,
         symbol: ArcStr::from_str(alloc, "x")?,
     };
     let mut steps = Vec::new(alloc);
-    steps.push(Step::Open(1))?;
+    steps.push(Step::Open(0))?;
     steps.push(Step::Hear(2, Bytes::copy_from_slice(alloc, b"de")?))?;
     steps.push(Step::Start(3, Actor::Session(4)))?;
     steps.push(Step::Asked(5, Actor::Bare, ask))?;
@@ -56,7 +56,7 @@ fn expect_given_back(
     let back = told(alloc, &refused.step)?;
     assert_eq!(rt; back.as_str(), wanted.as_str(), "the step that comes back");
     let why = match step {
-        Step::Open(_) => Refusal::Full,
+        Step::Open(_) => Refusal::NumberUsed,
         _ => Refusal::NoSuchTenant,
     };
     assert_eq!(rt; refused.why, why, "{wanted}");

@@ -1,7 +1,7 @@
 use Rattle.std.proofs.Common.{◌≡◌, take, map, []}
 use Rattle.server_rules.specs.Ground.{Ground}
 use Rattle.server_rules.specs.Machine.World.{new_world}
-use Rattle.machine_turns.specs.Configured.{IsConfigured}
+use Rattle.repl_core.specs.Configured.{IsConfigured}
 use Rattle.machine_turns.specs.Driven.{Drives}
 use Rattle.machine_turns.specs.Turns.{turn_view}
 use Rattle.machine_turns.proofs.lists.drive.Given as goal

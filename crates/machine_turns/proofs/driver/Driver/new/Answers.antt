@@ -8,6 +8,6 @@ pub returns : goal.returns
 returns c = λ g it. record {
   right = it.right;
   ground = it.evaluates;
-  machine = c.new.ensures g it.evaluates.names it.seed it.steps it.retries it.places;
+  machine = c.new.ensures g it;
   walked = λ t. subst (λ o. IsWalkedAt o (open_in t (new_world []))) (sym (c.new-2.ensures t)) tt;
 }

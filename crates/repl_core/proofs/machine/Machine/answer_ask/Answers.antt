@@ -4,6 +4,7 @@ use Rattle.repl_asks.specs.Inside.View.{ask_view}
 use Rattle.tenant_world.specs.Answers.{ask_answer_view}
 use Rattle.repl_core.specs.Standing.{store_in}
 use Rattle.repl_core.proofs.Behind.{does-so, refuses-so, refuses-none, ok-map}
+use Rattle.repl_core.proofs.Behind.{accepts-so}
 use Rattle.repl_core.proofs.machine.Machine.answer_ask.Goals as goal
 
 pub returns-in_default-clause-refused : goal.returns-in_default-clause-refused
@@ -42,3 +43,11 @@ returns-clause-refused c = λ g w right s.
     c.answer-result.ensures.refused g kept.quiet (store_in w.around t kept.mine) s.refs right st serves)
     (c.put_back.ensures.put (c.in-Some.ensures.place refl))
     (λ u apart. c.put_back.ensures.others u apart ∙ c.in-Some.ensures.others u apart)
+
+pub returns-clause-no_memory : goal.returns-clause-no_memory
+returns-clause-no_memory c = λ g w right s room none other.
+    let t = c.args.number in
+    accepts-so g w t (deeds.asks_for c.args.actor (ask_view c.args.ask.now)) c.args.self.now
+    c.in-Some.tenant s (sym c.in-Some.ensures.taken)
+    (λ kept st serves. c.answer-result.ensures.no_memory g kept.quiet
+    (store_in w.around t kept.mine) s.refs st serves none other)

@@ -1,4 +1,4 @@
-use Rattle.std.proofs.Common.{◌≡◌, ◌∙◌, refl, sym, ap, subst, IfOk, IfErr}
+use Rattle.std.proofs.Common.{◌≡◌, ◌∙◌, refl, sym, ap, subst, IfOk, IfErr, true}
 use Rattle.repl_asks.specs.Inside.View.{trace_view}
 use Rattle.repl_jobs.specs.Inside.View.{job_view, finished_view}
 use Rattle.server_rules.specs.Plan as deeds
@@ -6,10 +6,12 @@ use Rattle.repl_jobs.specs.Job.{EndingData}
 use Rattle.tenant_turns.specs.DeedResult.{deed_result}
 use Rattle.repl_walker.specs.Ends.{ending_view}
 use Rattle.tenant_walks.proofs.Stores.{serves-all-still, ends-reached}
+use Rattle.tenant_world.specs.Acting.{is_accepted}
 use Rattle.tenant_world.specs.Answers.{end_answer_view}
 use Rattle.tenant_world.specs.Standing as world
 use Rattle.repl_core.specs.Standing.{store_in}
 use Rattle.repl_core.proofs.Behind.{does-so, refuses-so, refuses-none, of-actor, err-with}
+use Rattle.repl_core.proofs.Behind.{accepts-so}
 use Rattle.repl_core.proofs.machine.Machine.end_form.Goals as goal
 
 pub returns-in_default-clause-refused : goal.returns-in_default-clause-refused
@@ -72,3 +74,24 @@ returns-clause-refused c = λ g w right s.
     (subst D is (c.end_form-result.ensures.refused g kept.quiet at right st)) serves)
     (c.put_back.ensures.put (c.in-Some.ensures.place refl))
     (λ u apart. c.put_back.ensures.others u apart ∙ c.in-Some.ensures.others u apart)
+
+pub returns-clause-no_memory : goal.returns-clause-no_memory
+returns-clause-no_memory c = λ g w right s none.
+    let t = c.args.number in
+    let e = c.args.ending.now in
+    let first : EndingData = record {
+      job = job_view c.job.result.now;
+      trace = trace_view c.trace.result.now;
+      end = finished_view c.end.result.now;
+    } in
+    let is : first ≡ ending_view e =
+    ap (λ j. record first { job = job_view j }) c.job.ensures
+    ∙ ap (λ x. record first { job = job_view e.job; trace = trace_view x }) c.trace.ensures
+    ∙ ap (λ f. record (ending_view e) { end = finished_view f }) c.end.ensures in
+    accepts-so g w t (deeds.ends c.args.actor (ending_view e)) c.args.self.now c.in-Some.tenant s
+    (sym c.in-Some.ensures.taken)
+    (λ kept st serves.
+    let at = store_in w.around t kept.mine in
+    let D : EndingData → Type 0 = λ x.
+    is_accepted (deed_result g at kept.quiet (deeds.ends c.args.actor x)).outcome ≡ true in
+    subst D is (c.end_form-result.ensures.no_memory g kept.quiet at right st none))

@@ -4,6 +4,7 @@ use Rattle.server_rules.specs.Plan.{messages_heard}
 use Rattle.tenant_walks.proofs.Stores.{serves-all-still, hears-reached}
 use Rattle.repl_core.specs.Standing.{store_in}
 use Rattle.repl_core.proofs.Behind.{does-so, refuses-so, refuses-none, ok-with, err-with}
+use Rattle.repl_core.proofs.Behind.{accepts-so}
 use Rattle.repl_core.proofs.Left.{left-less, left-kept, left-none}
 use Rattle.repl_core.proofs.machine.Machine.hear.Goals as goal
 
@@ -53,3 +54,10 @@ pub returns-clause-kept : goal.returns-clause-kept
 returns-clause-kept c =
     left-kept _ _ c.in-Some.tenant c.hear-result.new.self c.hear-result.result (sym c.in-Some.ensures.taken)
     (c.put_back.ensures.put (c.in-Some.ensures.place refl)) c.hear-result.ensures.kept
+
+pub returns-clause-no_memory : goal.returns-clause-no_memory
+returns-clause-no_memory c = λ g w right s none.
+    let t = c.args.number in
+    accepts-so g w t (deeds.hears c.args.piece.now) c.args.self.now c.in-Some.tenant s (sym c.in-Some.ensures.taken)
+    (λ kept st serves. c.hear-result.ensures.no_memory g kept.quiet (store_in w.around t kept.mine)
+    right st none)

@@ -4,12 +4,12 @@ use Rattle.repl_core.proofs.Places.{place-none}
 use Rattle.repl_core.proofs.machine.Machine.new.Goals as goal
 
 pub returns : goal.returns
-returns c = λ g names seed steps retries places. record {
-  names = names;
-  seed = seed;
-  steps = steps;
-  retries = retries;
-  places = places;
+returns c = λ g it. record {
+  names = it.evaluates.names;
+  seed = it.seed;
+  steps = it.steps;
+  retries = it.retries;
+  places = it.places;
   refs = no_refs;
   table = c.new-2.ensures;
   sound = λ owner. tt;

@@ -1,6 +1,6 @@
 use Rattle.std.proofs.Common.{◌∙◌, sym}
 use Rattle.repl_core.proofs.Comings.{refuses-used, refuses-full, does-open, refuses-memory}
-use Rattle.repl_core.proofs.Comings.{le-true, lt-false}
+use Rattle.repl_core.proofs.Comings.{le-true, lt-false, accepts-open}
 use Rattle.repl_core.proofs.Behind.{machine_with, stands-with}
 use Rattle.repl_core.proofs.machine.Machine.open.Goals as goal
 
@@ -33,3 +33,13 @@ returns-clause-done c = λ g w right s.
     (λ st same points.
     c.in_ok-tenant.ensures g right s.names s.seed s.steps s.retries st same points)
     c.in_ok-add.ensures.added c.in_ok-add.ensures.others
+
+pub returns-in_err-tenant-clause-no_memory : goal.returns-in_err-tenant-clause-no_memory
+returns-in_err-tenant-clause-no_memory c = λ g w right s none.
+    accepts-open g w c.args.number c.args.self.now s
+    (sym c.is_reached.ensures ∙ c.if-is_reached.false) (lt-false _ _ c.if-self.false)
+
+pub returns-in_err-add-clause-no_memory : goal.returns-in_err-add-clause-no_memory
+returns-in_err-add-clause-no_memory c = λ g w right s none.
+    accepts-open g w c.args.number c.args.self.now s
+    (sym c.is_reached.ensures ∙ c.if-is_reached.false) (lt-false _ _ c.if-self.false)

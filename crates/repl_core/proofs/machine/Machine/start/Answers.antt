@@ -4,6 +4,7 @@ use Rattle.tenant_walks.proofs.Stores.{serves-all-still, starts-reached}
 use Rattle.tenant_world.specs.Answers.{start_answer_view}
 use Rattle.repl_core.specs.Standing.{store_in}
 use Rattle.repl_core.proofs.Behind.{does-so, refuses-so, refuses-none, of-actor, err-with}
+use Rattle.repl_core.proofs.Behind.{accepts-so}
 use Rattle.repl_core.proofs.machine.Machine.start.Goals as goal
 
 pub returns-in_default-clause-refused : goal.returns-in_default-clause-refused
@@ -39,3 +40,10 @@ returns-clause-refused c = λ g w right s.
     (c.start-result.ensures.refused g kept.quiet (store_in w.around t kept.mine) right st) serves)
     (c.put_back.ensures.put (c.in-Some.ensures.place refl))
     (λ u apart. c.put_back.ensures.others u apart ∙ c.in-Some.ensures.others u apart)
+
+pub returns-clause-no_memory : goal.returns-clause-no_memory
+returns-clause-no_memory c = λ g w right s none.
+    let t = c.args.number in
+    accepts-so g w t (deeds.starts c.args.actor) c.args.self.now c.in-Some.tenant s (sym c.in-Some.ensures.taken)
+    (λ kept st serves. c.start-result.ensures.no_memory g kept.quiet (store_in w.around t kept.mine)
+    right st none)
