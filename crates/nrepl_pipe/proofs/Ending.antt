@@ -10,7 +10,7 @@ use Rattle.tenant_turns.specs.Turns.{Lone, LoneTurn, hears, refused, lone_step, 
 use Rattle.tenant_turns.specs.Turns.{reply_taken, lone_after, lone_run, lone_served}
 use Rattle.nrepl_pipe.specs.Schedule.{round, AreRounds, last, MeetsWorn, IsSchedule, stream_end}
 use Rattle.nrepl_pipe.specs.Schedule.{IsEnd}
-use Rattle.nrepl_pipe.specs.Served.{Moves, Serves}
+use Rattle.nrepl_pipe.specs.Served.{Moves, ServesSoFar, Serves}
 use Rattle.nrepl_pipe.specs.Inside.Parts.{IsPiece, MakesRounds}
 use Rattle.nrepl_pipe.specs.declared.rounds.Rounds.{Rounds}
 use Rattle.nrepl_pipe.specs.declared.ends.PipeEnd.{PipeEnd}
@@ -28,6 +28,19 @@ schedule-all g Old q unread left held holds on =
     subst (λ (ps : List (List ℕ)). IsSchedule g q ps on.turns) (append-nil on.pieces)
     (subst (IsSchedule g q (on.pieces ++ [])) (append-nil on.turns) (on.closes [] [] refl))
 
+-- all is written that the pieces so far serve
+pub serves-so_far : (g : Ground) (Old : Lone → Type 0) (q : Lone)
+    (unread left held holds : Option (List ℕ)) (on : Serving g Old q unread left held holds)
+    → ServesSoFar g q (spellings_joined on.pieces) (lone_served g q on.turns)
+serves-so_far g Old q unread left held holds on = record {
+  pieces = on.pieces;
+  turns = on.turns;
+  are_pieces = on.are_pieces;
+  cutting = refl;
+  schedule = schedule-all g Old q unread left held holds on;
+  written_is = refl;
+}
+
 -- nothing more was read
 pub consumes-all : (unread left less : Option (List ℕ)) (read : List ℕ) → Consumes unread left read
     → Consumes left less [] → Consumes unread less read
@@ -41,18 +54,14 @@ pub serves-all : (g : Ground) (Old : Lone → Type 0) (q : Lone)
     (on : Serving g Old q unread left held holds) → Consumes left less []
     → end ≡ stream_end (g.readings.stream (lone_run g q on.turns).quiet.heard).ending
     → Moves unread less held holds (λ read written. Serves g q read written end)
+unfolding serves-so_far
 serves-all g Old q unread left less held holds end on consumes is = (
   spellings_joined on.pieces,
   lone_served g q on.turns,
   consumes-all unread left less (spellings_joined on.pieces) on.consumes consumes,
   on.appends,
   record {
-    pieces = on.pieces;
-    turns = on.turns;
-    are_pieces = on.are_pieces;
-    cutting = refl;
-    schedule = schedule-all g Old q unread left held holds on;
-    written_is = refl;
+    all = serves-so_far g Old q unread left held holds on;
     is_end = inr (
       on.never_worn,
       is ∙ ap (λ (bytes : List ℕ). stream_end (g.readings.stream bytes).ending) on.heard,
@@ -98,12 +107,14 @@ serves-last g Old q unread left less held holds grown piece rounds end on is con
       consumes-more unread left less on.pieces piece on.consumes consumes,
       Appends-trans held holds grown (lone_served g q on.turns) (lone_served g now turns) on.appends appends,
       record {
-        pieces = on.pieces ++ piece ∷ [];
-        turns = on.turns ++ turns;
-        are_pieces = pieces-append on.pieces piece on.are_pieces is;
-        cutting = refl;
-        schedule = on.closes (piece ∷ []) turns (schedule-last g now piece rounds are);
-        written_is = sym (lone_served-append g q on.turns turns);
+        all = record {
+          pieces = on.pieces ++ piece ∷ [];
+          turns = on.turns ++ turns;
+          are_pieces = pieces-append on.pieces piece on.are_pieces is;
+          cutting = refl;
+          schedule = on.closes (piece ∷ []) turns (schedule-last g now piece rounds are);
+          written_is = sym (lone_served-append g q on.turns turns);
+        };
         is_end = ends-with g q on.turns turns (spellings_joined on.pieces) piece
             (spellings_joined (on.pieces ++ piece ∷ [])) end on.never_worn (spellings_joined-append on.pieces piece)
             on.heard ends;

@@ -12,6 +12,7 @@ pub mod Lasting
 pub mod Marking
 pub mod Messages
 pub mod Outcomes
+pub mod Reading
 pub mod Rounding
 pub mod Serving
 pub mod Starting

@@ -1,5 +1,6 @@
 pub mod Failing
 pub mod Schedule
+pub mod Reads
 pub mod Served
 pub mod Status
 pub mod Inside

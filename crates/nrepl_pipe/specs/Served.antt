@@ -10,14 +10,18 @@ use Rattle.nrepl_pipe.specs.declared.ends.PipeError.{PipeError}
 
 -- for some cutting of what was read into pieces, what was written is what the schedule of these
 -- pieces serves
-pub record Serves (g : Ground) (l : Lone) (read written : List ℕ) (end : PipeEnd) : Type 0 where
+pub record ServesSoFar (g : Ground) (l : Lone) (read written : List ℕ) : Type 0 where
   pub pieces : List (List ℕ)
   pub turns : List LoneTurn
   pub are_pieces : ArePieces pieces
   pub cutting : spellings_joined pieces ≡ read
   pub schedule : IsSchedule g l pieces turns
   pub written_is : written ≡ lone_served g l turns
-  pub is_end : IsEnd g l turns read end
+
+-- and so it ends
+pub record Serves (g : Ground) (l : Lone) (read written : List ℕ) (end : PipeEnd) : Type 0 where
+  pub all : ServesSoFar g l read written
+  pub is_end : IsEnd g l all.turns read end
 
 -- what was written begins what the schedule of these pieces serves
 pub record BeginsToServe (g : Ground) (l : Lone) (read written : List ℕ) : Type 0 where

@@ -1,45 +1,14 @@
-// The exit status of `pipe`, and its line on standard error.
-ghost use Rattle.std.specs.Prelude.{◌≡◌, Result};
-ghost use Rattle.server_rules.specs.Ground.{Ground};
-ghost use Rattle.tenant_turns.specs.Turns.{Lone};
-ghost use Rattle.tenant_turns.specs.Grounds.{IsRight};
-ghost use Rattle.nrepl_pipe.specs.Failing.{TellsFailures};
-ghost use Rattle.nrepl_pipe.specs.Inside.Fresh.{IsFresh};
-ghost use Rattle.nrepl_pipe.specs.Served.{IsPipeOutcome};
+// The exit status of a stream's serving, and its line on standard error.
+ghost use Rattle.std.specs.Prelude.{◌≡◌};
 ghost use Rattle.nrepl_pipe.specs.Status.{status_of};
-ghost use Rattle.nrepl_pipe.specs.declared.ends.PipeEnd.{PipeEnd};
-ghost use Rattle.nrepl_pipe.specs.declared.ends.PipeError.{PipeError};
 
 use crate::ends::{PipeEnd, PipeError};
-use crate::ports::{Sink, Source};
-use crate::stream::pipe;
 use bencode_wire::WireFault;
-use std::alloc::Global;
 use std::io::Write;
-use tenant_turns::Core;
 
-/// Serves one stream to a tenant that heard nothing yet, and gives the exit status: 0 where the
-/// input was whole messages and all was answered, else 1 with one line on `errors`.
-pub fn pipe_command<C: Core, R: Source, W: Sink, E: Write>(
-    alloc: Global,
-    core: &mut C,
-    reader: &mut R,
-    writer: &mut W,
-    errors: &mut E,
-) -> u8
-    ensures { (outcome : Result PipeEnd PipeError) × (result ≡ status_of outcome)
-        × TellsFailures (R.failed reader.old) (R.failed reader.new)
-        (W.failed writer.old) (W.failed writer.new) outcome
-        × ((g : Ground) (l : Lone) → IsRight g → C.stands g core.old l → IsFresh l
-        → IsPipeOutcome g l (R.remaining reader.old) (R.remaining reader.new)
-        (W.contents writer.old) (W.contents writer.new) outcome) }
-{
-    let outcome = pipe(alloc, core, reader, writer);
-    tell(outcome, errors)
-}
-
-// The exit status; where it is not 0, a line says why.
-fn tell<E: Write>(outcome: Result<PipeEnd, PipeError>, errors: &mut E) -> u8
+/// The exit status: 0 where the input was whole messages and all was answered, else 1 with one line
+/// on `errors` that says why.
+pub fn exit_status<E: Write>(outcome: Result<PipeEnd, PipeError>, errors: &mut E) -> u8
     ensures { result ≡ status_of outcome }
 {
     match outcome {

@@ -1,7 +1,7 @@
 //! One stream served to its end: pieces of bytes in, replies out.
 //!
-//! `pipe` serves a tenant over any reader and writer; `pipe_command` turns how that ended into an
-//! exit status and a line on standard error.
+//! `serve_stream` serves a tenant over any reader and writer; `exit_status` turns how that ended
+//! into an exit status and a line on standard error.
 #![tactic(auto)]
 
 mod actors;
@@ -12,7 +12,7 @@ mod replies;
 mod rounds;
 mod stream;
 
-pub use command::{bad_options, out_of_memory, pipe_command};
+pub use command::{bad_options, exit_status, out_of_memory};
 pub use ends::{PipeEnd, PipeError};
 pub use ports::{Sink, Source};
-pub use stream::pipe;
+pub use stream::serve_stream;

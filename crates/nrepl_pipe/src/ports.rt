@@ -1,27 +1,37 @@
 // Where the bytes of a stream come from, and where they go.
-ghost use Rattle.std.specs.Prelude.{◌≡◌, ℕ, List, Bool, Option, None};
+ghost use Rattle.std.specs.Prelude.{◌≡◌, ℕ, List, [], ◌∷◌, length, Bool, Option, None};
 ghost use Rattle.std.specs.Io.{ReadsAtMost, WritesAtMost};
 ghost use Rattle.std.specs.Io.KnownBytes.{Keeps, ReadConsumes, WriteAppends};
 ghost use Rattle.nrepl_pipe.specs.Failing.{Marks, read_fails, write_fails};
+ghost use Rattle.nrepl_pipe.specs.Reads.{ReadAt, ReadsSince};
 
 use std::io;
 use std::io::{Read, Write};
 
 /// Where bytes come from: any `Read` is one.
 ///
-/// It remembers whether a read has failed, as far as that is known. A `Read` tells no contract so;
-/// but code over any `Source` cannot see whether this one does, so what it answers is the same.
+/// It remembers whether a read has failed, and of each read what had been written by then, as far
+/// as that is known. A `Read` tells no contract so; but code over any `Source` cannot see whether
+/// this one does, so what it does is the same.
 pub trait Source {
     /// The bytes that reads will give from here on, where they are known.
     ghost remaining: { Self → Option (List ℕ) };
     /// Whether a read has failed by now, where that is known.
     ghost failed: { Self → Option Bool };
+    /// The reads that were made, oldest first, where they are known.
+    ghost reads: { Self → Option (List ReadAt) };
 
-    /// Reads some bytes: none at the end, or where there is no room for them.
-    fn read_bytes(&mut self, buf: &mut [u8]) -> io::Result<usize>
+    /// Reads some bytes: none at the end, or where there is no room for them. It is shown the
+    /// writer as it stands, to remember what has been written.
+    fn read_bytes<W: Sink>(&mut self, writer: &W, buf: &mut [u8]) -> io::Result<usize>
         ensures bound { ReadsAtMost result buf.new }
         ensures bytes { ReadConsumes (remaining self.old) (remaining self.new) result buf.new }
-        ensures failed { Marks (failed self.old) (failed self.new) (read_fails result) };
+        ensures failed { Marks (failed self.old) (failed self.new) (read_fails result) }
+        ensures noted { ReadsSince (reads self.old) (reads self.new) (record {
+          room = length buf.old;
+          unread = remaining self.old;
+          written = W.contents writer.now;
+        } ∷ []) };
 }
 
 impl<R: Read> Source for R {
@@ -29,12 +39,15 @@ impl<R: Read> Source for R {
 
     ghost failed = { λ _. None };
 
-    fn read_bytes(&mut self, buf: &mut [u8]) -> io::Result<usize> {
+    ghost reads = { λ _. None };
+
+    fn read_bytes<W: Sink>(&mut self, _writer: &W, buf: &mut [u8]) -> io::Result<usize> {
         self.read(buf)
     }
 }
 
-/// Where bytes go: any `Write` is one. It remembers failed writes as a `Source` does failed reads.
+/// Where bytes go: any `Write` is one. It remembers failed writes as a `Source` does failed
+/// reads.
 pub trait Sink {
     /// The bytes that were written, where they are known.
     ghost contents: { Self → Option (List ℕ) };

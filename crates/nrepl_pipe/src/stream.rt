@@ -1,14 +1,17 @@
 // One stream served to its end: pieces in, replies out.
-ghost use Rattle.std.specs.Prelude.{◌≡◌, ◌+◌, ℕ, [], false, Ok, OnErr, IfOk, IfErr, MatchOption};
+ghost use Rattle.std.specs.Prelude.{◌≡◌, ◌+◌, ℕ, [], ◌∷◌, false, Ok, OnErr, IfOk, IfErr};
+ghost use Rattle.std.specs.Prelude.{MatchOption};
 ghost use Rattle.std.specs.Io.KnownBytes.{Consumes, IsAtEnd};
 ghost use Rattle.server_rules.specs.Ground.{Ground};
 ghost use Rattle.tenant_turns.specs.Grounds.{IsRight};
 ghost use Rattle.tenant_turns.specs.Turns.{Lone, hears, lone_step};
 ghost use Rattle.nrepl_pipe.specs.Schedule.{stream_end};
 ghost use Rattle.nrepl_pipe.specs.Served.{IsPipeOutcome};
+ghost use Rattle.nrepl_pipe.specs.Reads.{ReadsSince, ReadsPromptly};
 ghost use Rattle.nrepl_pipe.specs.Inside.Fresh.{IsFresh, IsReady};
 ghost use Rattle.nrepl_pipe.specs.Failing.{Marks, TellsFailures, is_read_failed, is_write_failed};
 ghost use Rattle.nrepl_pipe.specs.Inside.Parts.{IsPiece, LosesPiece, HearsSo};
+ghost use Rattle.nrepl_pipe.specs.declared.stream.TheConstants.{PIECE};
 
 use crate::ends::{PipeEnd, PipeError};
 use crate::ports::{Sink, Source};
@@ -28,11 +31,12 @@ const PIECE: usize = 4_096;
 /// session and then those of sessions in order of creation, and then the replies that wait are
 /// written. They end with the first round in which every turn is refused, and none for replies
 /// that wait. Reading stops at the end of the input, at a fault of the stream and at the last step.
-/// After an error what was written is a part of the whole from its front.
+/// After an error what was written is a part of the whole from its front. No read is made before
+/// the replies to what was read are written.
 ///
 /// Each reply is flushed. A flush that fails is not told, nor what it loses: with a writer that
 /// holds bytes back, flush it again at the end.
-pub fn pipe<C: Core, R: Source, W: Sink>(
+pub fn serve_stream<C: Core, R: Source, W: Sink>(
     alloc: Global,
     core: &mut C,
     reader: &mut R,
@@ -41,11 +45,14 @@ pub fn pipe<C: Core, R: Source, W: Sink>(
     ensures served { (g : Ground) (l : Lone) → IsRight g → C.stands g core.old l → IsFresh l
         → IsPipeOutcome g l (R.remaining reader.old) (R.remaining reader.new)
         (W.contents writer.old) (W.contents writer.new) result }
+    ensures prompt { (g : Ground) (l : Lone) → IsRight g → C.stands g core.old l → IsFresh l
+        → ReadsPromptly g l (R.remaining reader.old) (W.contents writer.old)
+        (R.reads reader.old) (R.reads reader.new) }
     ensures told { TellsFailures (R.failed reader.old) (R.failed reader.new)
         (W.failed writer.old) (W.failed writer.new) result }
 {
     loop {
-        let Some(piece) = next_piece(alloc, reader)? else {
+        let Some(piece) = next_piece(alloc, reader, writer)? else {
             return Ok(end_of(core));
         };
         if let HearAnswer::Worn = hear_piece(core, &piece)? {
@@ -72,7 +79,11 @@ fn end_of<C: Core>(core: &C) -> PipeEnd
 }
 
 // The next piece; none at the end of the input.
-fn next_piece<R: Source>(alloc: Global, reader: &mut R) -> Result<Option<Bytes>, PipeError>
+fn next_piece<R: Source, W: Sink>(
+    alloc: Global,
+    reader: &mut R,
+    writer: &W,
+) -> Result<Option<Bytes>, PipeError>
     ensures ok { IfOk result (λ next. MatchOption next
         (Consumes (R.remaining reader.old) (R.remaining reader.new) []
         × IsAtEnd (R.remaining reader.new))
@@ -81,9 +92,14 @@ fn next_piece<R: Source>(alloc: Global, reader: &mut R) -> Result<Option<Bytes>,
     ensures err { OnErr result (LosesPiece (R.remaining reader.old) (R.remaining reader.new)) }
     ensures told { Marks (R.failed reader.old) (R.failed reader.new) (is_read_failed result) }
     ensures no_write { is_write_failed result ≡ false }
+    ensures noted { ReadsSince (R.reads reader.old) (R.reads reader.new) (record {
+      room = PIECE;
+      unread = R.remaining reader.old;
+      written = W.contents writer.now;
+    } ∷ []) }
 {
     let mut buffer = [0u8; PIECE];
-    match reader.read_bytes(&mut buffer) {
+    match reader.read_bytes(writer, &mut buffer) {
         Ok(0) => Ok(None),
         Ok(n) => Ok(Some(Bytes::copy_from_slice(alloc, &buffer[..n])?)),
         Err(_) => Err(PipeError::ReadFailed),

@@ -1,18 +1,18 @@
 //! An nREPL server: `nrepl_server pipe` serves one stream from standard input to standard output.
 #![tactic(auto)]
 
+mod options;
+
 use clap::error::ErrorKind;
-use clap::{Arg, ArgAction, ArgMatches, Command};
-use hex::FromHex;
-use nrepl_pipe::{bad_options, out_of_memory, pipe_command};
-use repl_core::{Config, RETRIES, STEPS, SharedText};
+use clap::{Arg, ArgAction, Command};
+use nrepl_pipe::{bad_options, out_of_memory};
+use options::config_of;
+use repl_core::Config;
 use std::alloc::{AllocError, Global};
 use std::process::ExitCode;
 use std::rt::Env;
 use std::{env, io};
-use tenant_runner::Runner;
-
-const MOST_RETRIES: u32 = 1_000_000;
+use tenant_runner::pipe_command;
 
 // What the command line asks for.
 #[derive(Clone, Copy)]
@@ -40,47 +40,16 @@ fn choice_of(alloc: Global, words: &[String]) -> Chosen {
     };
     match command.try_get_matches_from(words) {
         Ok(matches) => match matches.subcommand_matches("pipe") {
-            Some(pipe) => pipe_chosen(pipe),
+            Some(pipe) => match config_of(pipe) {
+                Some(config) => Chosen::Pipe(config),
+                None => Chosen::BadOptions,
+            },
             None => Chosen::BadOptions,
         },
         Err(error) => match error.kind() {
             ErrorKind::OutOfMemory => Chosen::NoMemory,
             _ => Chosen::BadOptions,
         },
-    }
-}
-
-fn pipe_chosen(pipe: &ArgMatches<'_>) -> Chosen {
-    let Some(seed) = seed_chosen(pipe) else {
-        return Chosen::BadOptions;
-    };
-    let Some(retries) = retries_chosen(pipe) else {
-        return Chosen::BadOptions;
-    };
-    Chosen::Pipe(Config {
-        seed,
-        retries,
-        steps: STEPS,
-        shared: SharedText::Empty,
-    })
-}
-
-// A seed is 64 hexadecimal digits, in either case; it is all zeros where none is given.
-fn seed_chosen(pipe: &ArgMatches<'_>) -> Option<[u8; 32]> {
-    let Some(text) = pipe.get_str("seed") else {
-        return Some([0; 32]);
-    };
-    <[u8; 32] as FromHex>::from_hex(text).ok()
-}
-
-// How many attempts a transaction has is a number from 1 to 1,000,000.
-fn retries_chosen(pipe: &ArgMatches<'_>) -> Option<u32> {
-    let Some(text) = pipe.get_str("retries") else {
-        return Some(RETRIES);
-    };
-    match text.parse::<u32>() {
-        Ok(retries) if (1..=MOST_RETRIES).contains(&retries) => Some(retries),
-        _ => None,
     }
 }
 
@@ -108,12 +77,7 @@ fn main(rt: HostRuntime) -> ExitCode {
         Chosen::Pipe(config) => {
             let mut reader = rt.reader();
             let mut writer = rt.stdout();
-            match Runner::new(alloc, config) {
-                Ok(mut runner) => {
-                    pipe_command(alloc, &mut runner, &mut reader, &mut writer, &mut errors)
-                }
-                Err(_) => out_of_memory(&mut errors),
-            }
+            pipe_command(alloc, config, &mut reader, &mut writer, &mut errors)
         }
         Chosen::BadOptions => bad_options(&mut errors),
         Chosen::NoMemory => out_of_memory(&mut errors),

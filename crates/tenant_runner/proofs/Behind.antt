@@ -24,6 +24,7 @@ use Rattle.tenant_walks.specs.Grounds.{Evaluates}
 use Rattle.tenant_walks.specs.Inside.WalkAt.{walk_at}
 use Rattle.tenant_world.specs.Standing as tenants
 use Rattle.tenant_world.specs.declared.tenant.Tenant.{Tenant}
+use Rattle.repl_core.specs.declared.machine.TheConstants.{PLACES}
 use Rattle.repl_core.specs.Going.{AreWalkedIn, KeepsForms, AcceptsHonestStep, RefusesHonestStep}
 use Rattle.repl_core.specs.Standing as machine
 use Rattle.repl_core.specs.Standing.{open_in, store_in}
@@ -36,15 +37,15 @@ use Rattle.repl_core.proofs.Behind.{deed_result-tenant}
 use Rattle.repl_core.proofs.Comings.{open-tested}
 use Rattle.repl_core.proofs.Honest.{honest_deed-turn}
 use Rattle.repl_core.proofs.Walking.{same-world, deed-walked, fresh-walked}
-use Rattle.tenant_runner.specs.Standing.{tenant_data_of, RunnerStands}
+use Rattle.tenant_runner.specs.Inside.Standing.{tenant_data_of, RunnerStands}
 use Rattle.tenant_runner.specs.declared.runner.Runner.{Runner}
 
 -- what a deed of the tenant comes to, in its server
-abbrev deeded_in : Ground → World → Lone → Deed → DeedResult
+abbrev pub deeded_in : Ground → World → Lone → Deed → DeedResult
 deeded_in g w l d = world.deed_of g w 0 (tenant_data_of l) d
 
 -- the turn comes to what the deed does
-turn-so : (g : Ground) (w : World) (l : Lone) (turn : LoneTurn) (d : Deed)
+pub turn-so : (g : Ground) (w : World) (l : Lone) (turn : LoneTurn) (d : Deed)
     → l.store ≡ store_in w.around 0 l.store.mine → d ≡ deed_of g l turn
     → lone_step g l turn ≡ lone_ended (deeded_in g w l d).store (deeded_in g w l d).outcome
 unfolding lone_step
@@ -53,7 +54,7 @@ turn-so g w l turn d seen is =
     ∙ ap (λ s. stepped_as (deed_result g s l.quiet d)) seen
 
 -- what is seen behind it
-seen-behind : (around : Around) (s : Store) → s.around ≡ around → s.tenant ≡ 0
+pub seen-behind : (around : Around) (s : Store) → s.around ≡ around → s.tenant ≡ 0
     → s ≡ store_in around 0 s.mine
 seen-behind around s same mine =
     ap (λ a. record { around = a; tenant = s.tenant; mine = s.mine }) same
@@ -231,7 +232,7 @@ tenant-there g l r s gone =
     let never : None ≡ Some (tenant_data_of l) = sym none ∙ s.there in cc
 
 -- as it begins
-pub opened-stands : (g : Ground) (made : Runner) → IsRight g → Evaluates g → g.places ≡ 1
+pub opened-stands : (g : Ground) (made : Runner) → IsRight g → Evaluates g → g.places ≡ PLACES
     → ((a : Actor) → walk_at made.walks a ≡ None)
     → core.AcceptsStep g (new_world []) (opens 0) made.machine tenant_opened
     → RunnerStands g made (opened_lone g)

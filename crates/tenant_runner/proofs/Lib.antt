@@ -1,1 +1,3 @@
+pub mod Alone
+pub mod Beginning
 pub mod Behind

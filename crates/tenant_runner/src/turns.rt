@@ -2,8 +2,7 @@
 ghost use Rattle.std.specs.Prelude.{◌≡◌, IfOk};
 ghost use Rattle.server_rules.specs.Ground.{Ground};
 ghost use Rattle.tenant_turns.specs.Turns.{opened_lone};
-ghost use Rattle.tenant_turns.specs.Grounds.{IsRight};
-ghost use Rattle.tenant_walks.specs.Grounds.{Evaluates};
+ghost use Rattle.repl_core.specs.Configured.{IsConfigured};
 
 use crate::runner::{NUMBER, Runner};
 use bytes::Bytes;
@@ -14,12 +13,11 @@ use tenant_turns::{Core, Wire};
 use tenant_walks::Walks;
 
 impl Runner {
-    ghost use Rattle.tenant_runner.specs.Standing.{RunnerStands};
+    ghost use Rattle.tenant_runner.specs.Inside.Standing.{RunnerStands};
 
     /// A server whose first tenant has heard nothing. It fails only for want of memory.
     pub fn new(alloc: Global, config: Config) -> Result<Runner, AllocError>
-        ensures { (g : Ground) → IsRight g → Evaluates g → g.seed ≡ config.seed
-            → g.steps ≡ config.steps → g.retries ≡ config.retries → g.places ≡ 1
+        ensures { (g : Ground) → IsConfigured g config
             → IfOk result (λ made. RunnerStands g made (opened_lone g)) }
     {
         let mut machine = Machine::new(alloc, config);
@@ -34,7 +32,7 @@ impl Runner {
 }
 
 impl Core for Runner {
-    ghost use Rattle.tenant_runner.specs.Standing.{work_left, RunnerStands};
+    ghost use Rattle.tenant_runner.specs.Inside.Standing.{work_left, RunnerStands};
 
     ghost left = { work_left };
 

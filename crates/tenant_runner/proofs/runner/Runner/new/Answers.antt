@@ -5,8 +5,7 @@ use Rattle.tenant_runner.specs.declared.runner.Runner.{Runner}
 use Rattle.tenant_runner.proofs.runner.Runner.new.Goals as goal
 
 pub returns-in-Ok : goal.returns-in-Ok
-returns-in-Ok c = λ g right ground seed steps retries places.
+returns-in-Ok c = λ g it.
     let made : Runner = record { machine = c.«open».new.self; walks = c.new.result } in
-    opened-stands g made right ground places c.new.ensures
-    (c.in-Ok.ensures.done g (new_world []) right
-    (c.new-machine.ensures g ground.names seed steps retries places))
+    opened-stands g made it.right it.evaluates it.places c.new.ensures
+    (c.in-Ok.ensures.done g (new_world []) it.right (c.new-machine.ensures g it))

@@ -3,9 +3,10 @@ use Rattle.server_rules.specs.Ground.{Ground}
 use Rattle.tenant_turns.specs.Turns.{Lone}
 use Rattle.tenant_turns.specs.Grounds.{IsRight}
 use Rattle.nrepl_pipe.specs.Failing.{Marks}
+use Rattle.nrepl_pipe.specs.Reads.{ReadsPromptly}
 use Rattle.nrepl_pipe.specs.Inside.Fresh.{IsFresh}
 use Rattle.nrepl_pipe.proofs.Serving.{Serving}
-use Rattle.nrepl_pipe.proofs.stream.pipe.Given as goal
+use Rattle.nrepl_pipe.proofs.stream.serve_stream.Given as goal
 
 abbrev pub invariant-loop-piece : goal.invariant-loop-piece
 invariant-loop-piece g l = record {
@@ -13,6 +14,10 @@ invariant-loop-piece g l = record {
       → Serving h (g.C.Core.stands h l.core) q
       (g.R.Source.remaining l.initial.reader) (g.R.Source.remaining l.reader)
       (g.W.Sink.contents l.initial.writer) (g.W.Sink.contents l.writer);
+  prompt : (h : Ground) (q : Lone) → IsRight h → g.C.Core.stands h l.initial.core q → IsFresh q
+      → ReadsPromptly h q (g.R.Source.remaining l.initial.reader)
+      (g.W.Sink.contents l.initial.writer) (g.R.Source.reads l.initial.reader)
+      (g.R.Source.reads l.reader);
   reads : Marks (g.R.Source.failed l.initial.reader) (g.R.Source.failed l.reader) false;
   writes : Marks (g.W.Sink.failed l.initial.writer) (g.W.Sink.failed l.writer) false;
 }

@@ -9,11 +9,13 @@ use Rattle.nrepl_pipe.proofs.Telling.{read-up, broken-read_up, wire-clean, ends-
 use Rattle.nrepl_pipe.proofs.Breaking.{begins-lost, begins-unheard, begins-rounds}
 use Rattle.nrepl_pipe.proofs.Outcomes.{outcome-err}
 use Rattle.nrepl_pipe.proofs.Marking.{marks-none, marks-behind}
-use Rattle.nrepl_pipe.proofs.stream.pipe.Goals as goal
+use Rattle.nrepl_pipe.proofs.Reading.{reads-none, reads-more}
+use Rattle.nrepl_pipe.proofs.stream.serve_stream.Goals as goal
 
 pub loop-piece-init : goal.loop-piece-init
 loop-piece-init g c = record {
   serving = λ h q right stands fresh. serving-none h _ q _ _ right stands fresh;
+  prompt = λ h q right stands fresh. reads-none h q _ _ _;
   reads = marks-none _;
   writes = marks-none _;
 }
@@ -24,6 +26,11 @@ returns-in_err-piece-clause-served g c = λ h q right stands fresh.
     outcome-err h q _ _ _ _ c.from_residual.result c.from_residual.ensures.0
     (begins-lost h _ q _ _ _ _ _ on c.in_err-piece.ensures.err)
 
+pub returns-in_err-piece-clause-prompt : goal.returns-in_err-piece-clause-prompt
+returns-in_err-piece-clause-prompt g c = λ h q right stands fresh.
+    reads-more h _ q _ _ _ _ _ _ _ (c.loop-piece.invariant.serving h q right stands fresh)
+    (c.loop-piece.invariant.prompt h q right stands fresh) c.in_err-piece.ensures.noted
+
 pub returns-in_default-clause-served : goal.returns-in_default-clause-served
 returns-in_default-clause-served g c = λ h q right stands fresh.
     let on = c.loop-piece.invariant.serving h q right stands fresh in
@@ -31,6 +38,11 @@ returns-in_default-clause-served g c = λ h q right stands fresh.
       serves-all h _ q _ _ _ _ _ c.end_of.result on none.0 (c.end_of.ensures h _ on.stands),
       read-up c.end_of.result _ none.1,
     )
+
+pub returns-in_default-clause-prompt : goal.returns-in_default-clause-prompt
+returns-in_default-clause-prompt g c = λ h q right stands fresh.
+    reads-more h _ q _ _ _ _ _ _ _ (c.loop-piece.invariant.serving h q right stands fresh)
+    (c.loop-piece.invariant.prompt h q right stands fresh) c.in_ok-piece.ensures.noted
 
 pub returns-in_err-hear_piece-clause-served : goal.returns-in_err-hear_piece-clause-served
 returns-in_err-hear_piece-clause-served g c = λ h q right stands fresh.
@@ -40,6 +52,11 @@ returns-in_err-hear_piece-clause-served g c = λ h q right stands fresh.
     c.from_residual-in_err-hear_piece.ensures.0
     (begins-unheard h _ q _ _ _ _ _ c.in-Some.piece on piece.0 piece.1)
 
+pub returns-in_err-hear_piece-clause-prompt : goal.returns-in_err-hear_piece-clause-prompt
+returns-in_err-hear_piece-clause-prompt g c = λ h q right stands fresh.
+    reads-more h _ q _ _ _ _ _ _ _ (c.loop-piece.invariant.serving h q right stands fresh)
+    (c.loop-piece.invariant.prompt h q right stands fresh) c.in_ok-piece.ensures.noted
+
 pub returns-in-Worn-clause-served : goal.returns-in-Worn-clause-served
 returns-in-Worn-clause-served g c = λ h q right stands fresh.
     let on = c.loop-piece.invariant.serving h q right stands fresh in
@@ -47,6 +64,11 @@ returns-in-Worn-clause-served g c = λ h q right stands fresh.
     let told = rw c.in-Worn.is at c.in_ok-hear_piece.ensures.heard h (lone_run h q on.turns) right
     on.stands (on.no_fault, on.empty) in
     (serves-worn h _ q _ _ _ _ _ c.in-Some.piece on piece.0 piece.1 told, tt)
+
+pub returns-in-Worn-clause-prompt : goal.returns-in-Worn-clause-prompt
+returns-in-Worn-clause-prompt g c = λ h q right stands fresh.
+    reads-more h _ q _ _ _ _ _ _ _ (c.loop-piece.invariant.serving h q right stands fresh)
+    (c.loop-piece.invariant.prompt h q right stands fresh) c.in_ok-piece.ensures.noted
 
 pub returns-in_err-run_rounds-clause-served : goal.returns-in_err-run_rounds-clause-served
 returns-in_err-run_rounds-clause-served g c = λ h q right stands fresh.
@@ -60,6 +82,11 @@ returns-in_err-run_rounds-clause-served g c = λ h q right stands fresh.
     c.from_residual-in_err-run_rounds.ensures.0
     (begins-rounds h _ (g.C.Core.stands h c.hear_piece.new.core) q _ _ _ _ _ _ c.in-Some.piece on
     piece.0 piece.1 taken (c.in_err-run_rounds.ensures.err h _ right taken.stands))
+
+pub returns-in_err-run_rounds-clause-prompt : goal.returns-in_err-run_rounds-clause-prompt
+returns-in_err-run_rounds-clause-prompt g c = λ h q right stands fresh.
+    reads-more h _ q _ _ _ _ _ _ _ (c.loop-piece.invariant.serving h q right stands fresh)
+    (c.loop-piece.invariant.prompt h q right stands fresh) c.in_ok-piece.ensures.noted
 
 pub returns-in-Worn-2-clause-served : goal.returns-in-Worn-2-clause-served
 returns-in-Worn-2-clause-served g c = λ h q right stands fresh.
@@ -80,6 +107,11 @@ returns-in-Worn-2-clause-served g c = λ h q right stands fresh.
           c.in-Some.piece made),
       tt,
     )
+
+pub returns-in-Worn-2-clause-prompt : goal.returns-in-Worn-2-clause-prompt
+returns-in-Worn-2-clause-prompt g c = λ h q right stands fresh.
+    reads-more h _ q _ _ _ _ _ _ _ (c.loop-piece.invariant.serving h q right stands fresh)
+    (c.loop-piece.invariant.prompt h q right stands fresh) c.in_ok-piece.ensures.noted
 
 pub returns-in-Broken-clause-served : goal.returns-in-Broken-clause-served
 returns-in-Broken-clause-served g c = λ h q right stands fresh.
@@ -103,6 +135,11 @@ returns-in-Broken-clause-served g c = λ h q right stands fresh.
           (c.end_of-in-Broken.ensures h _ made.2.stands),
     )
 
+pub returns-in-Broken-clause-prompt : goal.returns-in-Broken-clause-prompt
+returns-in-Broken-clause-prompt g c = λ h q right stands fresh.
+    reads-more h _ q _ _ _ _ _ _ _ (c.loop-piece.invariant.serving h q right stands fresh)
+    (c.loop-piece.invariant.prompt h q right stands fresh) c.in_ok-piece.ensures.noted
+
 pub loop-piece-preserved-in_default-wire : goal.loop-piece-preserved-in_default-wire
 loop-piece-preserved-in_default-wire g c = record {
   serving = λ h q right stands fresh.
@@ -120,6 +157,9 @@ loop-piece-preserved-in_default-wire g c = record {
       (g.C.Core.stands h c.run_rounds.new.core) q _ _ _ _ _ _ c.in-Some.piece on piece.0 piece.1
       taken made
       (wire-clean c.wire.result _ (c.wire.ensures h _ made.2.stands) c.in_default-wire.not-Broken);
+  prompt = λ h q right stands fresh.
+      reads-more h _ q _ _ _ _ _ _ _ (c.loop-piece.invariant.serving h q right stands fresh)
+      (c.loop-piece.invariant.prompt h q right stands fresh) c.in_ok-piece.ensures.noted;
   reads = marks-behind _ _ _ _ c.loop-piece.invariant.reads c.in_ok-piece.ensures.told;
   writes = marks-behind _ _ _ _ c.loop-piece.invariant.writes c.in_ok-run_rounds.ensures.told;
 }
@@ -141,6 +181,9 @@ loop-piece-preserved g c = record {
       (g.C.Core.stands h c.run_rounds.new.core) q _ _ _ _ _ _ c.in-Some.piece on piece.0 piece.1
       taken made
       (wire-clean c.wire.result _ (c.wire.ensures h _ made.2.stands) c.in_default-wire.not-Broken);
+  prompt = λ h q right stands fresh.
+      reads-more h _ q _ _ _ _ _ _ _ (c.loop-piece.invariant.serving h q right stands fresh)
+      (c.loop-piece.invariant.prompt h q right stands fresh) c.in_ok-piece.ensures.noted;
   reads = marks-behind _ _ _ _ c.loop-piece.invariant.reads c.in_ok-piece.ensures.told;
   writes = marks-behind _ _ _ _ c.loop-piece.invariant.writes c.in_ok-run_rounds.ensures.told;
 }
