@@ -1,7 +1,8 @@
 #!/usr/bin/env python3
-"""Prints what has to be believed: for each crate the files of its specs/ to which the contract of
-`pipe` leads by their imports, how many lines they have, and how many of these are rules: neither
-imports nor comments nor blank.
+"""Prints what has to be believed: for each crate the files of its specs/ to which the claim of the
+program leads, how many lines they have, and how many of these are rules: neither imports nor
+comments nor blank. The claim is the contract of one function: what its clauses name leads to files,
+and what they import to others.
 
 docs/BELIEVE.md has this table, and says what the files are about. test_believed.py holds the page
 to it."""
@@ -12,20 +13,14 @@ import sys
 
 import workspace
 
-# The words of the contract of `pipe`, and what its evaluation is.
-ROOTS = (
-    "nrepl_pipe/specs/Schedule.antt",
-    "nrepl_pipe/specs/Served.antt",
-    "nrepl_pipe/specs/Failing.antt",
-    "nrepl_pipe/specs/Status.antt",
-    "tenant_turns/specs/Grounds.antt",
-    "tenant_walks/specs/Grounds.antt",
-)
+# Where the claim stands: a source file, and the function whose contract it is.
+CLAIM = ("tenant_runner/src/serving.rt", "pipe_command")
 IMPORT = re.compile(r"^(?:pub )?use Rattle\.(\w+)\.specs\.([\w.]+?)(?:\.\{|\s|$)", re.MULTILINE)
 NO_RULE = re.compile(r"\s*(--|use |pub use |pub mod |mod |$)")
+NAMED = re.compile(r"^ghost use Rattle\.(\w+)\.specs\.([\w.]+)\.\{([^}]*)\};$", re.MULTILINE)
 SERVER = {
     "repl_sessions", "name_spaces", "server_rules", "trace_comparison", "tenant_turns",
-    "tenant_walks", "nrepl_pipe",
+    "tenant_walks", "nrepl_pipe", "repl_core",
 }  # fmt: skip
 
 
@@ -42,8 +37,8 @@ def main():
 
 
 def believed():
-    """For each crate, lowest first, the files of specs/ to which the roots lead, by their names."""
-    seen, left = set(), [f"{workspace.TOP}/crates/{it}" for it in ROOTS]
+    """For each crate, lowest first, the files of specs/ to which the claim leads, by their names."""
+    seen, left = set(), claimed(*CLAIM)
     while left:
         path = left.pop()
         if path not in seen:
@@ -58,18 +53,34 @@ def believed():
     return found
 
 
+def claimed(path, function):
+    """The files of this repository in which the names stand that a function's contract uses."""
+    text = workspace.content(f"{workspace.TOP}/crates/{path}").decode()
+    contract = re.search(rf"^pub fn {function}\b.*?^{{", text, re.MULTILINE | re.DOTALL).group()
+    words = set(re.findall(r"\w+", contract[contract.index("ensures") :]))
+    found = []
+    for crate, module, names in NAMED.findall(text):
+        if words & set(re.findall(r"\w+", names)):
+            found += file_of(crate, module)
+    return found
+
+
 def imported(path):
     """The files of this repository that a file of definitions imports."""
     found = []
     for crate, module in IMPORT.findall(workspace.content(path).decode()):
-        parts = module.split(".")
-        # a module, or an item of one
-        for some in (parts, parts[:-1]):
-            file = f"{workspace.TOP}/crates/{crate}/specs/{'/'.join(some)}.antt"
-            if os.path.isfile(file):
-                found.append(file)
-                break
+        found += file_of(crate, module)
     return found
+
+
+def file_of(crate, module):
+    """The file of a module of definitions, or of an item of one; none where it is not ours."""
+    parts = module.split(".")
+    for some in (parts, parts[:-1]):
+        file = f"{workspace.TOP}/crates/{crate}/specs/{'/'.join(some)}.antt"
+        if os.path.isfile(file):
+            return [file]
+    return []
 
 
 def counts(crate, files):

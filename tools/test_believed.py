@@ -8,8 +8,9 @@ import believed
 import workspace
 
 ROW = re.compile(r"^\| `(\w+)` \| ([\d,]+) \| ([\d,]+) \|", re.MULTILINE)
-# Folders of specs/ that hold nothing to believe for `pipe`.
+# What of specs/ holds nothing to believe for `pipe`, and crates of which it needs a file alone.
 APART = {"Lib", "Inside", "Isolation", "Machine"}
+PARTLY = {"repl_core": {"Configured"}}
 
 
 class Believed(unittest.TestCase):
@@ -21,7 +22,7 @@ class Believed(unittest.TestCase):
         for crate, files in self.found.items():
             there = os.listdir(f"{workspace.TOP}/crates/{crate}/specs")
             there = {it[: -len(".antt")] for it in there if it.endswith(".antt")} - APART
-            self.assertEqual(set(files), there, crate)
+            self.assertEqual(set(files), PARTLY.get(crate, there), crate)
 
     def test_page_has_each_folder_and_its_lines(self):
         number = lambda text: int(text.replace(",", ""))
