@@ -6,3 +6,6 @@ pub mod Calls
 pub mod Steps
 pub mod Alone
 pub mod Alike
+pub mod Rising
+pub mod Seats
+pub mod Starts

@@ -195,7 +195,7 @@ SoundPart counter (Some (Some tenant)) = Sound counter tenant.mine
 abbrev pub SoundWorld : World → Type 0
 SoundWorld w = (t : ℕ) → SoundPart w.around.counter (part_under t w.tenants)
 
-abbrev store_of : World → ℕ → TenantData → Store
+abbrev pub store_of : World → ℕ → TenantData → Store
 store_of w t tenant = record { around = w.around; tenant = t; mine = tenant.mine }
 
 deed-seen

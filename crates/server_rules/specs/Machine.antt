@@ -2,3 +2,4 @@
 pub mod Ready
 pub mod World
 pub mod Turns
+pub mod Laws

@@ -1,5 +1,6 @@
 //! Laws of the server's definitions. The functions do nothing: what they ensure is proved.
 ghost use Rattle.server_rules.specs.Isolation.Laws.{OthersLeaveIt, AlikeStaysAlike, ServedAlone};
+ghost use Rattle.server_rules.specs.Machine.Laws.{ReadyHasWork};
 
 /// Another tenant's step leaves what a tenant sees.
 pub fn others_leave_it()
@@ -16,4 +17,10 @@ pub fn alike_stays_alike()
 /// if its turns were alone.
 pub fn served_alone()
     ensures { ServedAlone }
+{}
+
+/// The actor that `ready` names has work: whatever happened, a start of it is refused only where no
+/// step is left, or where too many replies wait.
+pub fn ready_has_work()
+    ensures { ReadyHasWork }
 {}
