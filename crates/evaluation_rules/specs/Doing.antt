@@ -29,6 +29,8 @@ pub data Doing : Type 0 where
   looking : (List AccessData → Doing) → Doing
   -- one more access of the attempt
   noting : AccessData → Doing → Doing
+  -- an attempt has begun: its body by itself, and what goes on
+  trying : Doing → Doing → Doing
 
 -- a part of an evaluation, which gives an A: by what is done with it, and from there, the whole
 abbrev pub Part : Type 0 → Type 0

@@ -7,7 +7,7 @@ use Rattle.repl_asks.specs.Exchange.{begin, commit, VerdictData, committed, conf
 use Rattle.repl_asks.specs.Exchange.{verdict_in}
 use Rattle.tx_attempt.specs.Accesses.{AccessData, intent_of}
 use Rattle.evaluation_rules.specs.Doing.{Kept, Exit, gave, failed, retried, Doing, left, asking}
-use Rattle.evaluation_rules.specs.Doing.{Part}
+use Rattle.evaluation_rules.specs.Doing.{trying, Part}
 use Rattle.evaluation_rules.specs.Tree.{with_attempt}
 
 abbrev pub with_running : Bool → Kept → Kept
@@ -33,12 +33,12 @@ after_body again next (gave d) kept ops =
 after_body again next (failed f) kept ops = left (failed f) kept
 after_body again next retried kept ops = again kept
 
--- Up to so many attempts. Each begins as the first did; what was printed stays. When none is left,
--- the namespace is that of the last.
+-- Up to so many attempts. Each begins as the first did, and notes the body that it tries; what was
+-- printed stays. When none is left, the namespace is that of the last.
 abbrev pub attempts : ℕ → Doing → (Datum → Kept → Doing) → Kept → Doing
 attempts zero body next last = left (failed (broken_rule Rule.AttemptsAreLimited)) last
 attempts (suc n) body next last = asking begin
-    (λ answer. with_attempt (after_body (attempts n body next) next) [] body)
+    (λ answer. trying body (with_attempt (after_body (attempts n body next) next) [] body))
 
 -- a transaction within another joins it
 abbrev pub transacted_value : Bool → Part Datum → Part Datum

@@ -9,16 +9,18 @@ use Rattle.repl_faults.specs.declared.rule.Rule.{Rule}
 use Rattle.repl_jobs.specs.InteractionTree.{InteractionTree, finished, asks}
 use Rattle.tx_attempt.specs.Accesses.{AccessData}
 use Rattle.evaluation_rules.specs.Doing.{Kept, Exit, gave, failed, retried, Doing, left, asking}
-use Rattle.evaluation_rules.specs.Doing.{printing, looking, noting}
+use Rattle.evaluation_rules.specs.Doing.{printing, looking, noting, trying}
 
--- An attempt did these accesses so far and goes on; `after` says what is done when it is left.
+-- An attempt did these accesses so far and goes on; `after` says what is done when it is left. What
+-- it does stays noted.
 abbrev pub with_attempt : (Exit → Kept → List AccessData → Doing) → List AccessData → Doing → Doing
 with_attempt after ops (left exit kept) = after exit kept ops
 with_attempt after ops (asking ask behind) =
     asking ask (λ answer. with_attempt after ops (behind answer))
 with_attempt after ops (printing text kept d) = printing text kept (with_attempt after ops d)
 with_attempt after ops (looking behind) = with_attempt after ops (behind ops)
-with_attempt after ops (noting op d) = with_attempt after (ops ++ op ∷ []) d
+with_attempt after ops (noting op d) = noting op (with_attempt after (ops ++ op ∷ []) d)
+with_attempt after ops (trying body d) = trying body (with_attempt after ops d)
 
 abbrev pub ends : Result Datum Failure → List ℕ → Kept → InteractionTree
 ends r text kept = finished (record { result = r; text = text; namespace = kept.namespace })
@@ -30,7 +32,7 @@ exit_tree (failed f) text kept = ends (Err f) text kept
 exit_tree retried text kept = ends (Err (failures.broken_rule Rule.AttemptsAreLimited)) text kept
 
 -- The whole, where `before` was printed so far. Text that would pass the limit is not printed at
--- all. Outside of transactions no accesses are noted.
+-- all. Attempts and their accesses are not written: others do not see them.
 abbrev pub written_tree : List ℕ → Doing → InteractionTree
 written_tree before (left exit kept) = exit_tree exit before kept
 written_tree before (asking ask behind) = asks ask (λ answer. written_tree before (behind answer))
@@ -40,3 +42,4 @@ written_tree before (printing text kept d) =
     else written_tree (before ++ text) d
 written_tree before (looking behind) = written_tree before (behind [])
 written_tree before (noting access d) = written_tree before d
+written_tree before (trying body d) = written_tree before d

@@ -1,66 +1,52 @@
--- The trace of a transaction, attempt by attempt.
-use Rattle.std.specs.Prelude.{◌≡◌, ◌+◌, ℕ, List, [], ◌∷◌, ◌++◌, Bool, true, false, length}
-use Rattle.std.specs.Prelude.{nat_lt}
-use Rattle.core_texts.specs.Limits.{most_text}
-use Rattle.repl_asks.specs.Exchange.{Exchanged}
+-- The trace of a transaction, attempt by attempt. `body` says where an attempt's body stands after
+-- these answers, and `after` what is done when it is left.
+use Rattle.std.specs.Prelude.{◌≡◌, List, ◌∷◌, ◌++◌, map, ⊤}
+use Rattle.repl_asks.specs.Exchange.{AnswerData, Exchanged}
 use Rattle.repl_jobs.specs.InteractionTree.{InteractionTree}
 use Rattle.repl_jobs.specs.Leading.{Leads}
 use Rattle.tx_attempt.specs.Accesses.{AccessData}
 use Rattle.evaluation_rules.specs.Doing.{Kept, Exit, Doing, left, asking, printing, looking, noting}
+use Rattle.evaluation_rules.specs.Doing.{trying}
 use Rattle.evaluation_rules.specs.Tree.{with_attempt, written_tree}
+use Rattle.repl_walker.specs.Standing.{Standing}
 
--- how an attempt's body was left, with the text that was printed by then and what the attempt did
-pub record Leaving : Type 0 where
-  pub exit : Exit
-  pub kept : Kept
-  pub text : List ℕ
-  pub accesses : List AccessData
+abbrev pub answers_in : List Exchanged → List AnswerData
+answers_in = map (λ x. x.answer)
 
-abbrev pub Unless : Bool → Type 0 → Type 0
-Unless true t = ⊥
-Unless false t = t
+-- Each ask of the trace is what the body asks next, after the answers before it.
+abbrev pub AsksThese : (List AnswerData → Standing) → List Exchanged → Type 0
+AsksThese body trace = (before : List Exchanged) (x : Exchanged) (behind : List Exchanged)
+    → trace ≡ before ++ x ∷ behind
+    → (goes_on : AnswerData → Doing) × ((body (answers_in before)).rest ≡ asking x.ask goes_on)
 
--- A body is left so by this trace, where this text was printed before and the attempt did these
--- accesses.
-abbrev pub Leaves : List ℕ → List AccessData → Doing → List Exchanged → Leaving → Type 0
-Leaves before ops (left exit kept) [] l = l
-    ≡ record { exit = exit; kept = kept; text = before; accesses = ops }
-Leaves before ops (left exit kept) (x ∷ xs) l = ⊥
-Leaves before ops (asking ask behind) [] l = ⊥
-Leaves before ops (asking ask behind) (x ∷ xs) l = (x.ask ≡ ask)
-    × Leaves before ops (behind x.answer) xs l
-Leaves before ops (printing text kept d) xs l =
-    Unless (nat_lt most_text (length before + length text)) (Leaves (before ++ text) ops d xs l)
-Leaves before ops (looking behind) xs l = Leaves before ops (behind ops) xs l
-Leaves before ops (noting op d) xs l = Leaves before (ops ++ op ∷ []) d xs l
+-- it stands at an ask, or at a text that is too long
+abbrev pub IsWithin : Doing → Type 0
+IsWithin (left exit kept) = ⊥
+IsWithin (asking ask behind) = ⊤
+IsWithin (printing text kept d) = ⊤
+IsWithin (looking behind) = ⊥
+IsWithin (noting op d) = ⊥
+IsWithin (trying body d) = ⊥
 
--- A body is led by this trace from where it stands to what it has still to do, with the text that
--- is printed and the accesses that are done by then.
-abbrev pub Comes : List ℕ → List AccessData → Doing → List Exchanged → List ℕ → List AccessData
-    → Doing → Type 0
-Comes before ops (left exit kept) xs t o r = ⊥
-Comes before ops (asking ask behind) [] t o r = (t ≡ before) × (o ≡ ops)
-    × (r ≡ asking ask behind)
-Comes before ops (asking ask behind) (x ∷ xs) t o r = (x.ask ≡ ask)
-    × Comes before ops (behind x.answer) xs t o r
-Comes before ops (printing text kept d) [] t o r = (t ≡ before) × (o ≡ ops)
-    × (r ≡ printing text kept d)
-Comes before ops (printing text kept d) (x ∷ xs) t o r =
-    Unless (nat_lt most_text (length before + length text))
-    (Comes (before ++ text) ops d (x ∷ xs) t o r)
-Comes before ops (looking behind) xs t o r = Comes before ops (behind ops) xs t o r
-Comes before ops (noting op d) xs t o r = Comes before (ops ++ op ∷ []) d xs t o r
+-- what is done from where it stands
+abbrev pub tree_from : (Exit → Kept → List AccessData → Doing) → Standing → InteractionTree
+tree_from after s = written_tree s.text (with_attempt after s.accesses s.rest)
 
--- A body is under way, or what it prints is too long; `after` is what is done when it is left.
-abbrev pub IsUnderWay : (Exit → Kept → List AccessData → Doing) → List ℕ → List AccessData → Doing
+-- The trace is that of the body, which is under way, or prints what is too long.
+abbrev pub IsUnderWay : (Exit → Kept → List AccessData → Doing) → (List AnswerData → Standing)
     → List Exchanged → InteractionTree → Type 0
-IsUnderWay after text ops body trace end = (t : List ℕ) × (o : List AccessData) × (r : Doing)
-    × Comes text ops body trace t o r × (end ≡ written_tree t (with_attempt after o r))
+IsUnderWay after body trace end = AsksThese body trace × IsWithin (body (answers_in trace)).rest
+    × (end ≡ tree_from after (body (answers_in trace)))
+
+-- The body is left so where it stands, and the trace leads on from there.
+abbrev pub IsLeft : (Exit → Kept → List AccessData → Doing) → Standing → List Exchanged
+    → InteractionTree → Type 0
+IsLeft after s trace end = (exit : Exit) × (kept : Kept) × (s.rest ≡ left exit kept)
+    × Leads (written_tree s.text (after exit kept s.accesses)) trace end
 
 -- The trace is that of the body until it was left, and then that of what follows.
-abbrev pub IsDivided : (Exit → Kept → List AccessData → Doing) → List ℕ → List AccessData → Doing
+abbrev pub IsDivided : (Exit → Kept → List AccessData → Doing) → (List AnswerData → Standing)
     → List Exchanged → InteractionTree → Type 0
-IsDivided after text ops body trace end = (first : List Exchanged) × (rest : List Exchanged)
-    × (l : Leaving) × (trace ≡ first ++ rest)
-    × Leaves text ops body first l × Leads
-    (written_tree l.text (after l.exit l.kept l.accesses)) rest end
+IsDivided after body trace end = (first : List Exchanged) × (rest : List Exchanged)
+    × (trace ≡ first ++ rest) × AsksThese body first
+    × IsLeft after (body (answers_in first)) rest end

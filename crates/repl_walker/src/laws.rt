@@ -1,15 +1,20 @@
 //! Laws of evaluations and their traces. The functions do nothing: what they ensure is proved.
-ghost use Rattle.std.specs.Prelude.{◌≡◌, ◌↔◌, ◌⊎◌, ℕ, suc, List, [], ◌∷◌, length, map};
-ghost use Rattle.value_data.specs.Datum.{Datum};
-ghost use Rattle.repl_asks.specs.Exchange.{begin, Exchanged};
+ghost use Rattle.std.specs.Prelude.{◌≡◌, ◌↔◌, ◌⊎◌, ℕ, suc, List, [], ◌∷◌, ◌++◌};
+ghost use Rattle.value_data.specs.Datum.{Datum, nil};
+ghost use Rattle.repl_asks.specs.Exchange.{AnswerData, begin, Exchanged};
 ghost use Rattle.repl_jobs.specs.InteractionTree.{InteractionTree};
 ghost use Rattle.repl_jobs.specs.Leading.{Leads, tree_after, AreItsAsks};
-ghost use Rattle.evaluation_rules.specs.Doing.{Kept, Doing};
+ghost use Rattle.evaluation_rules.specs.Doing.{Kept, Exit, Doing, left};
 ghost use Rattle.evaluation_rules.specs.Tree.{written_tree};
-ghost use Rattle.evaluation_rules.specs.Transactions.{after_body, attempts};
+ghost use Rattle.evaluation_rules.specs.Places.{PlaceData};
+ghost use Rattle.evaluation_rules.specs.Rows.{last_of};
+ghost use Rattle.evaluation_rules.specs.Transactions.{body_of, after_body, attempts};
+ghost use Rattle.evaluation_rules.specs.Evaluation.{value_at};
 ghost use Rattle.tx_attempt.specs.Accesses.{AccessData};
-ghost use Rattle.repl_walker.specs.Attempts.{IsUnderWay, IsDivided, Leaving, Leaves};
-ghost use Rattle.repl_walker.specs.Values.{ValuesStay, accesses_after};
+ghost use Rattle.repl_walker.specs.Standing.{standing_after, on_from};
+ghost use Rattle.repl_walker.specs.Attempts.{IsUnderWay, IsDivided};
+ghost use Rattle.repl_walker.specs.Values.{ValuesStay};
+ghost use Rattle.repl_walker.specs.Retries.{RetriesLeave};
 
 /// A trace leads an evaluation to one thing alone: to what it does after these answers, where each
 /// ask of the trace is what the evaluation asks next.
@@ -22,13 +27,15 @@ pub fn exchanges_lead_to_what_comes_after()
 /// body. Once the body is left, what follows is the commit of what it did, or another attempt of as
 /// many as are left; and so on, as long as an attempt is begun.
 pub fn a_transaction_is_its_attempts()
-    ensures { (left : ℕ) → (body : Doing) → (next : Datum → Kept → Doing) → (last : Kept)
+    ensures { (more : ℕ) → (body : Doing) → (next : Datum → Kept → Doing) → (last : Kept)
         → (text : List ℕ)
         → (exchange : Exchanged) → (trace : List Exchanged) → (end : InteractionTree)
-        → Leads (written_tree text (attempts (suc left) body next last)) (exchange ∷ trace) end
+        → Leads (written_tree text (attempts (suc more) body next last)) (exchange ∷ trace) end
         → (exchange.ask ≡ begin)
-        × (IsUnderWay (after_body (attempts left body next) next) text [] body trace end
-        ⊎ IsDivided (after_body (attempts left body next) next) text [] body trace end) }
+        × (IsUnderWay (after_body (attempts more body next) next) (standing_after text [] body)
+        trace end
+        ⊎ IsDivided (after_body (attempts more body next) next) (standing_after text [] body)
+        trace end) }
 {}
 
 /// With more answers, or with less text printed before, an attempt's body has the same values
@@ -37,9 +44,24 @@ pub fn more_answers_keep_the_values()
     ensures { ValuesStay }
 {}
 
-/// What a body did where it is left is what it did with the answers that it was given.
-pub fn a_left_body_did_this()
-    ensures { (text : List ℕ) (ops : List AccessData) (body : Doing) (trace : List Exchanged)
-        (l : Leaving) → Leaves text ops body trace l
-        → accesses_after (length text) ops body (map (λ x. x.answer) trace) ≡ l.accesses }
+/// With more answers a body goes on from where it stands. Where it is left, it takes no more: what
+/// its attempt did stays as it is.
+pub fn a_body_goes_on_from_where_it_stands()
+    ensures goes_on { (text : List ℕ) (ops : List AccessData) (body : Doing)
+        (answers more : List AnswerData)
+        → standing_after text ops body (answers ++ more)
+        ≡ on_from (standing_after text ops body answers) more }
+    ensures stays { (text : List ℕ) (ops : List AccessData) (body : Doing)
+        (answers more : List AnswerData) (exit : Exit) (kept : Kept)
+        → (standing_after text ops body answers).rest ≡ left exit kept
+        → standing_after text ops body (answers ++ more) ≡ standing_after text ops body answers }
+{}
+
+/// Whatever form makes a read in an attempt's body: where it is told to read again, the body is
+/// left for another attempt, and what it printed and did stays.
+pub fn a_retry_leaves_the_body()
+    ensures { (room : ℕ) (p : PlaceData) (forms : List Datum) (begun : Kept) (text : List ℕ)
+        (ops : List AccessData)
+        → RetriesLeave (standing_after text ops
+        (body_of (last_of (value_at room p) nil forms) begun)) }
 {}

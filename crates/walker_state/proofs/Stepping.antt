@@ -18,7 +18,7 @@ use Rattle.tx_attempt.specs.Accesses.{AccessData, intent_of}
 use Rattle.tx_attempt.specs.Inside.Seen.{accesses_of}
 use Rattle.tx_attempt.specs.declared.attempt.Attempt.{Attempt}
 use Rattle.evaluation_rules.specs.Doing.{Kept, Doing, left, failed, retried, asking, printing}
-use Rattle.evaluation_rules.specs.Doing.{looking, Part, pure_part, fails}
+use Rattle.evaluation_rules.specs.Doing.{looking, trying, Part, pure_part, fails}
 use Rattle.evaluation_rules.specs.Tree.{with_attempt, ends, written_tree}
 use Rattle.evaluation_rules.specs.Places.{PlaceData}
 use Rattle.evaluation_rules.specs.Rows.{last_of}
@@ -73,11 +73,11 @@ if_ok-turned F (Err e) turned h = tt
 
 -- an attempt that is left is asked for
 pub attempts-left : (n : ℕ) (body : Doing) (next : Datum → Kept → Doing) (last : Kept) → n ≢ 0
-    → attempts n body next last ≡ asking begin (λ answer. with_attempt (after_body (attempts (n - 1) body next) next) [] body)
+    → attempts n body next last ≡ asking begin (λ answer. trying body (with_attempt (after_body (attempts (n - 1) body next) next) [] body))
 attempts-left zero body next last some = absurd (some refl)
 attempts-left (suc n) body next last some =
     let e : suc n - 1 ≡ n = omega arith in
-    ap (λ (m : ℕ). asking begin (λ answer. with_attempt (after_body (attempts m body next) next) [] body)) (sym e)
+    ap (λ (m : ℕ). asking begin (λ answer. trying body (with_attempt (after_body (attempts m body next) next) [] body))) (sym e)
 
 -- no attempt is left
 pub again-none : (r : ℕ) (t : Transaction) (p : PlaceData) (last : Kept) (text : List ℕ) → t.left ≡ 0

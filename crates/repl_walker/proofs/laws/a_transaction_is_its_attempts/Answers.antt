@@ -4,5 +4,5 @@ use Rattle.repl_walker.proofs.Attempts.{divides}
 use Rattle.repl_walker.proofs.laws.a_transaction_is_its_attempts.Goals as goal
 
 pub returns : goal.returns
-returns c = λ left body next last text exchange trace end leads.
-    (leads.0, divides (after_body (attempts left body next) next) body text [] trace end leads.1)
+returns c = λ more body next last text exchange trace end leads.
+    (leads.0, divides (after_body (attempts more body next) next) body text [] trace end leads.1)

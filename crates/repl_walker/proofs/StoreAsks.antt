@@ -1,0 +1,90 @@
+-- No call of a function that asks the store reads a ref by its ask.
+use Rattle.std.proofs.Common.{ℕ, List, [], ◌∷◌, Bool, true, false, Some, Result, Ok, Err}
+use Rattle.std.proofs.Common.{if◌then◌else◌, length}
+use Rattle.std.specs.Prelude.{⊤, not, ◌||◌}
+use Rattle.value_data.specs.Datum.{Datum}
+use Rattle.repl_faults.specs.Failure.{Failure, ◌>>=◌, wrong_arity}
+use Rattle.repl_faults.specs.declared.rule.Rule.{Rule}
+use Rattle.function_names.specs.StoreNames.{store_name_of, store_fits}
+use Rattle.function_names.specs.declared.store.StoreFunction.{StoreFunction}
+use Rattle.repl_asks.specs.Transactions.{RefNameData, may_hold}
+use Rattle.repl_asks.specs.Exchange.{AskData, read, min_history, max_history}
+use Rattle.store_calls.specs.declared.altering.Alteration.{Alteration}
+use Rattle.store_calls.specs.Arguments.{ref_in, count_in, is_shared, kept_to, usual_bounds}
+use Rattle.store_calls.specs.Arguments.{bounds_in}
+use Rattle.store_calls.specs.Calling.{CallData, refused, asks_value}
+use Rattle.store_calls.specs.Calling.{altering, call_with, called_for, call_data_of}
+
+abbrev pub IsNoRead : AskData → Type 0
+IsNoRead (read name) = ⊥
+IsNoRead ask = ⊤
+
+abbrev pub AsksNoRead : CallData → Type 0
+AsksNoRead (asks_value ask) = IsNoRead ask
+AsksNoRead call = ⊤
+
+abbrev GivesNoRead : Result CallData Failure → Type 0
+GivesNoRead (Ok call) = AsksNoRead call
+GivesNoRead (Err f) = ⊤
+
+gives-then : {A : Type 0} (r : Result A Failure) (behind : A → Result CallData Failure)
+    → ((a : A) → GivesNoRead (behind a)) → GivesNoRead (r >>= behind)
+gives-then (Ok a) behind gives = gives a
+gives-then (Err f) behind gives = tt
+
+no-read-bound : (f : StoreFunction) (d : Datum) (e : Datum)
+    (behind : RefNameData → ℕ → Result CallData Failure)
+    → ((name : RefNameData) (n : ℕ) → GivesNoRead (behind name n))
+    → GivesNoRead (ref_in f d >>= λ name. (count_in f e
+    >>= λ n. (kept_to Rule.SharedBoundsStay (not (is_shared name.owner)) >>= λ _. behind name n)))
+no-read-bound f d e behind gives =
+    gives-then (ref_in f d) _ (λ name. gives-then (count_in f e) _ (λ n.
+    gives-then (kept_to Rule.SharedBoundsStay (not (is_shared name.owner))) _ (λ holds.
+    gives name n)))
+
+no-read : (f : StoreFunction) (running : Bool) (ds : List Datum)
+    → GivesNoRead (call_with f running ds)
+no-read StoreFunction.Ref running [] = tt
+no-read StoreFunction.Ref running (d ∷ ds) = gives-then (bounds_in usual_bounds ds) _ (λ bounds. tt)
+no-read StoreFunction.Deref running (d ∷ []) =
+    gives-then (ref_in StoreFunction.Deref d) _ (λ name. tt)
+no-read StoreFunction.RefSet running (d ∷ e ∷ []) =
+    gives-then (ref_in StoreFunction.RefSet d) _ (λ name.
+    gives-then (kept_to Rule.ATransactionRuns running) _ (λ runs.
+    gives-then (kept_to Rule.SharedRefsArePlain (may_hold name.owner e)) _ (λ holds. tt)))
+no-read StoreFunction.Alter running (d ∷ e ∷ ds) =
+    gives-then (ref_in (altering Alteration.Alter) d) _ (λ name. tt)
+no-read StoreFunction.Commute running (d ∷ e ∷ ds) =
+    gives-then (ref_in (altering Alteration.Commute) d) _ (λ name. tt)
+no-read StoreFunction.Ensure running (d ∷ []) =
+    gives-then (ref_in StoreFunction.Ensure d) _ (λ name.
+    gives-then (kept_to Rule.ATransactionRuns running) _ (λ runs. tt))
+no-read StoreFunction.HistoryCount running (d ∷ []) =
+    gives-then (ref_in StoreFunction.HistoryCount d) _ (λ name.
+    gives-then (kept_to Rule.SharedHistoryIsHidden (not running || not (is_shared name.owner))) _
+    (λ holds. tt))
+no-read StoreFunction.MinHistory running (d ∷ []) =
+    gives-then (ref_in StoreFunction.MinHistory d) _ (λ name. tt)
+no-read StoreFunction.MinHistory running (d ∷ e ∷ []) =
+    no-read-bound StoreFunction.MinHistory d e
+    (λ name n. Ok (asks_value (min_history name (Some n)))) (λ name n. tt)
+no-read StoreFunction.MaxHistory running (d ∷ []) =
+    gives-then (ref_in StoreFunction.MaxHistory d) _ (λ name. tt)
+no-read StoreFunction.MaxHistory running (d ∷ e ∷ []) =
+    no-read-bound StoreFunction.MaxHistory d e
+    (λ name n. Ok (asks_value (max_history name (Some n)))) (λ name n. tt)
+no-read f running ds = tt
+
+called : (r : Result CallData Failure) → GivesNoRead r → AsksNoRead (called_for r)
+called (Ok call) gives = gives
+called (Err f) gives = tt
+
+pub calls-no-read : (f : StoreFunction) (running : Bool) (ds : List Datum)
+    → AsksNoRead (call_data_of f running ds)
+unfolding call_data_of
+calls-no-read f running ds = at (store_fits f (length ds))
+  where
+    at : (b : Bool) → AsksNoRead (if b then called_for (call_with f running ds)
+        else refused (wrong_arity (store_name_of f) (length ds)))
+    at true = called (call_with f running ds) (no-read f running ds)
+    at false = tt
