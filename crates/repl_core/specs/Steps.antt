@@ -17,6 +17,7 @@ use Rattle.repl_core.specs.Standing.{MachineStands}
 use Rattle.repl_core.specs.declared.machine.Machine.{Machine}
 use Rattle.repl_core.specs.declared.step.Step.{Step}
 use Rattle.repl_core.specs.declared.step.StepAnswer.{StepAnswer}
+use Rattle.repl_core.specs.declared.step.StepAnswers.{StepAnswers}
 
 abbrev pub step_view : Step → worlds.Step
 step_view (Step.Open t) = opens t
@@ -37,6 +38,10 @@ step_answer_view StepAnswer.Finished = form_finished
 step_answer_view StepAnswer.Interrupted = request_interrupted
 step_answer_view (StepAnswer.Bytes bytes) = reply_given bytes.items
 step_answer_view StepAnswer.Gone = tenant_gone
+
+-- both are the same
+abbrev pub AreSame : StepAnswers → Type 0
+AreSame it = step_answer_view it.noted ≡ step_answer_view it.given
 
 -- the rules do not refuse it
 abbrev pub is_accepted_step : Stepped → Bool

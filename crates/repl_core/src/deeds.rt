@@ -10,6 +10,7 @@ ghost use Rattle.ref_table.specs.Standing.{counter_of};
 ghost use Rattle.tenant_turns.specs.Grounds.{IsRight};
 ghost use Rattle.repl_walker.specs.Ends as endings;
 ghost use Rattle.tenant_refs.specs.Telling.{is_commit};
+ghost use Rattle.tenant_world.specs.Answers.{AreSameStarts, AreSameAnswers, AreSameReplies};
 ghost use Rattle.tenant_world.specs.Answers.{start_answer_view, ask_answer_view, end_answer_view};
 
 use crate::machine::Machine;
@@ -20,7 +21,7 @@ use repl_asks::Ask;
 use repl_walker::Ending;
 use server_rules::{Actor, Refusal};
 use tenant_world as world;
-use tenant_world::{AskAnswer, EndAnswer, StartAnswer};
+use tenant_world::{AskAnswers, EndAnswer, Replies, StartAnswers};
 
 impl Machine {
     ghost use Rattle.repl_core.specs.Left.{left_at};
@@ -51,12 +52,13 @@ impl Machine {
     }
 
     /// An actor begins its next form, or takes up its next request.
-    pub(crate) fn start(&mut self, number: u64, actor: Actor) -> Result<StartAnswer, Refusal>
+    pub(crate) fn start(&mut self, number: u64, actor: Actor) -> Result<StartAnswers, Refusal>
         ensures done { (g : Ground) (w : World) → IsRight g → MachineStands g self.old w
             → IfOk result (λ x. AcceptsStep g w (does number (deeds.starts actor)) self.new
-            (start_answer_view x)) }
+            (start_answer_view x.given)) }
         ensures refused { (g : Ground) (w : World) → IsRight g → MachineStands g self.old w
             → IfErr result (RefusesStep g w (does number (deeds.starts actor)) self.new) }
+        ensures same { IfOk result AreSameStarts }
         ensures no_memory { (g : Ground) (w : World) → IsRight g → MachineStands g self.old w
             → result ≡ Err Refusal.NoMemory
             → is_accepted_step (step g w (does number (deeds.starts actor))) ≡ true }
@@ -64,7 +66,7 @@ impl Machine {
         let Some(mut tenant) = self.tenants.take(number) else {
             return Err(Refusal::NoSuchTenant);
         };
-        let result = tenant.start(actor);
+        let result = tenant.start_copied(actor);
         self.tenants.put_back(number, tenant);
         result
     }
@@ -75,14 +77,15 @@ impl Machine {
         number: u64,
         actor: Actor,
         ask: &Ask,
-    ) -> Result<AskAnswer, Refusal>
+    ) -> Result<AskAnswers, Refusal>
         ensures done { (g : Ground) (w : World) → IsRight g → MachineStands g self.old w
             → IfOk result (λ x. AcceptsStep g w
             (does number (deeds.asks_for actor (ask_view ask.now))) self.new
-            (ask_answer_view x)) }
+            (ask_answer_view x.given)) }
         ensures refused { (g : Ground) (w : World) → IsRight g → MachineStands g self.old w
             → IfErr result (RefusesStep g w
             (does number (deeds.asks_for actor (ask_view ask.now))) self.new) }
+        ensures same { IfOk result AreSameAnswers }
         ensures no_memory { (g : Ground) (w : World) → IsRight g → MachineStands g self.old w
             → counter_of self.old.refs < u128.MAX → result ≡ Err Refusal.NoMemory
             → is_commit (ask_view ask.now) ≡ false → is_accepted_step
@@ -94,7 +97,7 @@ impl Machine {
         let Some(mut tenant) = self.tenants.take(number) else {
             return Err(Refusal::NoSuchTenant);
         };
-        let result = tenant.answer(&mut self.refs, actor, ask);
+        let result = tenant.answer_copied(&mut self.refs, actor, ask);
         self.tenants.put_back(number, tenant);
         result
     }
@@ -128,6 +131,29 @@ impl Machine {
         let result = tenant.end_form(actor, &parts);
         self.tenants.put_back(number, tenant);
         result
+    }
+
+    /// A tenant's oldest reply is taken out, and the same once more.
+    pub(crate) fn drain_copied(&mut self, number: u64) -> Result<Replies, Refusal>
+        ensures done { (g : Ground) (w : World) → IsRight g → MachineStands g self.old w
+            → IfOk result (λ x. AcceptsStep g w (does number deeds.drains) self.new
+            (reply_given x.given.items)) }
+        ensures refused { (g : Ground) (w : World) → IsRight g → MachineStands g self.old w
+            → IfErr result (RefusesStep g w (does number deeds.drains) self.new) }
+        ensures same { IfOk result AreSameReplies }
+        ensures no_memory { (g : Ground) (w : World) → IsRight g → MachineStands g self.old w
+            → result ≡ Err Refusal.NoMemory
+            → is_accepted_step (step g w (does number deeds.drains)) ≡ true }
+    {
+        let Some(mut tenant) = self.tenants.take(number) else {
+            return Err(Refusal::NoSuchTenant);
+        };
+        let result = tenant.drain_copied();
+        self.tenants.put_back(number, tenant);
+        match result? {
+            Some(replies) => Ok(replies),
+            None => Err(Refusal::Idle),
+        }
     }
 
     /// A tenant's oldest reply is taken out. It takes no memory.

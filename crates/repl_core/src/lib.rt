@@ -11,4 +11,4 @@ mod stepping;
 mod tenants;
 
 pub use machine::{Config, Machine, PLACES, RETRIES, STEPS, SharedText};
-pub use step::{Refused, Step, StepAnswer};
+pub use step::{Refused, Step, StepAnswer, StepAnswers};

@@ -1,6 +1,7 @@
 // What a machine is given and answers.
 ghost use Rattle.std.specs.Prelude.{◌≡◌, IfOk};
-ghost use Rattle.repl_core.specs.Steps.{step_view};
+ghost use Rattle.server_rules.specs.Machine.Turns.{whose_step};
+ghost use Rattle.repl_core.specs.Steps.{step_view, step_answer_view};
 
 use bytes::Bytes;
 use repl_asks::{Answer, Ask};
@@ -47,6 +48,13 @@ pub enum StepAnswer {
     Gone,
 }
 
+/// What a step that was accepted answers, and the same once more for whoever writes it down.
+#[derive(Drop)]
+pub struct StepAnswers {
+    pub given: StepAnswer,
+    pub noted: StepAnswer,
+}
+
 /// A step that was refused, and why.
 #[derive(Drop)]
 pub struct Refused {
@@ -55,6 +63,21 @@ pub struct Refused {
 }
 
 impl Step {
+    /// The number of the tenant whose step it is.
+    pub fn tenant(&self) -> u64
+        ensures { result ≡ whose_step (step_view self.now) }
+    {
+        match self {
+            Step::Open(number)
+            | Step::Hear(number, _)
+            | Step::Start(number, _)
+            | Step::Asked(number, _, _)
+            | Step::Ended(number, _, _)
+            | Step::Drain(number)
+            | Step::Bye(number) => *number,
+        }
+    }
+
     /// The same step once more. It fails only for want of memory.
     pub fn copy(&self, alloc: Global) -> Result<Step, AllocError>
         ensures { IfOk result (λ copied. step_view copied ≡ step_view self.now) }

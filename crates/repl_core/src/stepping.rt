@@ -1,17 +1,19 @@
 // The step of the server.
 ghost use Rattle.std.specs.Prelude.{◌≡◌, ◌<◌, true, false, IfOk, IfErr};
 ghost use Rattle.server_rules.specs.Ground.{Ground};
+ghost use Rattle.server_rules.specs.Plan.{reply_given};
 ghost use Rattle.server_rules.specs.Machine.World as worlds;
 ghost use Rattle.server_rules.specs.Machine.World.{World};
 ghost use Rattle.ref_table.specs.Standing.{counter_of};
 ghost use Rattle.tenant_turns.specs.Grounds.{IsRight};
 ghost use Rattle.tenant_world.specs.Answers.{start_answer_view, ask_answer_view, end_answer_view};
-ghost use Rattle.repl_core.specs.Steps.{step_view, step_answer_view};
+ghost use Rattle.tenant_world.specs.Answers.{AreSameStarts, AreSameAnswers, AreSameReplies};
+ghost use Rattle.repl_core.specs.Steps.{step_view, step_answer_view, AreSame};
 
 use crate::machine::Machine;
-use crate::step::{Refused, Step, StepAnswer};
+use crate::step::{Refused, Step, StepAnswer, StepAnswers};
 use server_rules::Refusal;
-use tenant_world::{AskAnswer, EndAnswer, StartAnswer};
+use tenant_world::{AskAnswer, AskAnswers, EndAnswer, Replies, StartAnswer, StartAnswers};
 
 impl Machine {
     ghost use Rattle.repl_core.specs.Standing.{MachineStands};
@@ -30,44 +32,84 @@ impl Machine {
             → is_accepted_step (worlds.step g w (step_view step)) ≡ true) }
         ensures handed_back { IfErr result (λ it. it.step ≡ step) }
     {
+        Ok(self.step_copied(step)?.given)
+    }
+
+    /// The same, with its answer twice.
+    pub fn step_copied(&mut self, step: Step) -> Result<StepAnswers, Refused>
+        ensures done { (g : Ground) (w : World) → IsRight g → MachineStands g self.old w
+            → IfOk result (λ x. AcceptsStep g w (step_view step) self.new (step_answer_view x.given)) }
+        ensures refused { (g : Ground) (w : World) → IsRight g → MachineStands g self.old w
+            → IfErr result (λ it. RefusesStep g w (step_view step) self.new it.why) }
+        ensures no_memory { (g : Ground) (w : World) → IsRight g → MachineStands g self.old w
+            → counter_of self.old.refs < u128.MAX → is_commit_step (step_view step) ≡ false
+            → IfErr result (λ it. it.why ≡ Refusal.NoMemory
+            → is_accepted_step (worlds.step g w (step_view step)) ≡ true) }
+        ensures same { IfOk result AreSame }
+        ensures handed_back { IfErr result (λ it. it.step ≡ step) }
+    {
         match self.make(&step) {
-            Ok(answer) => Ok(answer),
+            Ok(answers) => Ok(answers),
             Err(why) => Err(Refused { why, step }),
         }
     }
 
-    fn make(&mut self, step: &Step) -> Result<StepAnswer, Refusal>
+    /// Makes a step that is lent, and answers twice. A step that is refused changes nothing.
+    pub fn make(&mut self, step: &Step) -> Result<StepAnswers, Refusal>
         ensures done { (g : Ground) (w : World) → IsRight g → MachineStands g self.old w
             → IfOk result (λ x. AcceptsStep g w (step_view step.now) self.new
-            (step_answer_view x)) }
+            (step_answer_view x.given)) }
         ensures refused { (g : Ground) (w : World) → IsRight g → MachineStands g self.old w
             → IfErr result (RefusesStep g w (step_view step.now) self.new) }
         ensures no_memory { (g : Ground) (w : World) → IsRight g → MachineStands g self.old w
             → counter_of self.old.refs < u128.MAX → is_commit_step (step_view step.now) ≡ false
             → IfErr result (λ why. why ≡ Refusal.NoMemory
             → is_accepted_step (worlds.step g w (step_view step.now)) ≡ true) }
+        ensures same { IfOk result AreSame }
     {
         match step {
             Step::Open(number) => {
                 self.open(*number)?;
-                Ok(StepAnswer::Opened)
+                Ok(StepAnswers {
+                    given: StepAnswer::Opened,
+                    noted: StepAnswer::Opened,
+                })
             }
-            Step::Hear(number, piece) => Ok(StepAnswer::Heard(self.hear(*number, piece)?)),
+            Step::Hear(number, piece) => {
+                let count = self.hear(*number, piece)?;
+                Ok(StepAnswers {
+                    given: StepAnswer::Heard(count),
+                    noted: StepAnswer::Heard(count),
+                })
+            }
             Step::Start(number, actor) => Ok(of_started(self.start(*number, *actor)?)),
             Step::Asked(number, actor, ask) => Ok(of_asked(self.answer_ask(*number, *actor, ask)?)),
             Step::Ended(number, actor, ending) => {
                 Ok(of_ended(self.end_form(*number, *actor, ending)?))
             }
-            Step::Drain(number) => Ok(StepAnswer::Bytes(self.drain(*number)?)),
+            Step::Drain(number) => Ok(of_drained(self.drain_copied(*number)?)),
             Step::Bye(number) => {
                 self.close(*number)?;
-                Ok(StepAnswer::Gone)
+                Ok(StepAnswers {
+                    given: StepAnswer::Gone,
+                    noted: StepAnswer::Gone,
+                })
             }
         }
     }
 }
 
-fn of_started(started: StartAnswer) -> StepAnswer
+fn of_started(started: StartAnswers) -> StepAnswers
+    ensures given { step_answer_view result.given ≡ start_answer_view started.given }
+    ensures same { AreSameStarts started → AreSame result }
+{
+    StepAnswers {
+        given: of_start(started.given),
+        noted: of_start(started.noted),
+    }
+}
+
+fn of_start(started: StartAnswer) -> StepAnswer
     ensures { step_answer_view result ≡ start_answer_view started }
 {
     match started {
@@ -77,7 +119,17 @@ fn of_started(started: StartAnswer) -> StepAnswer
     }
 }
 
-fn of_asked(asked: AskAnswer) -> StepAnswer
+fn of_asked(asked: AskAnswers) -> StepAnswers
+    ensures given { step_answer_view result.given ≡ ask_answer_view asked.given }
+    ensures same { AreSameAnswers asked → AreSame result }
+{
+    StepAnswers {
+        given: of_ask(asked.given),
+        noted: of_ask(asked.noted),
+    }
+}
+
+fn of_ask(asked: AskAnswer) -> StepAnswer
     ensures { step_answer_view result ≡ ask_answer_view asked }
 {
     match asked {
@@ -86,11 +138,31 @@ fn of_asked(asked: AskAnswer) -> StepAnswer
     }
 }
 
-fn of_ended(ended: EndAnswer) -> StepAnswer
+fn of_ended(ended: EndAnswer) -> StepAnswers
+    ensures given { step_answer_view result.given ≡ end_answer_view ended }
+    ensures same { AreSame result }
+{
+    StepAnswers {
+        given: of_end(ended),
+        noted: of_end(ended),
+    }
+}
+
+fn of_end(ended: EndAnswer) -> StepAnswer
     ensures { step_answer_view result ≡ end_answer_view ended }
 {
     match ended {
         EndAnswer::Finished => StepAnswer::Finished,
         EndAnswer::Interrupted => StepAnswer::Interrupted,
+    }
+}
+
+fn of_drained(replies: Replies) -> StepAnswers
+    ensures given { step_answer_view result.given ≡ reply_given replies.given.items }
+    ensures same { AreSameReplies replies → AreSame result }
+{
+    StepAnswers {
+        given: StepAnswer::Bytes(replies.given),
+        noted: StepAnswer::Bytes(replies.noted),
     }
 }

@@ -4,9 +4,11 @@ use Rattle.std.specs.Prelude.{option_map}
 use Rattle.repl_asks.specs.Transactions.{RefNameData}
 use Rattle.repl_asks.specs.Exchange.{AnswerData}
 use Rattle.server_rules.specs.Versions.{Ref}
-use Rattle.server_rules.specs.Store.{Store, ref_named}
+use Rattle.server_rules.specs.Store.{Store, ref_named, changed_of}
 use Rattle.server_rules.specs.Performed.{as_was}
-use Rattle.server_rules.specs.Calls.{performed, number_told}
+use Rattle.value_data.specs.Datum.{OwnerData, shared, tenant}
+use Rattle.server_rules.specs.Versions.{with_least, with_most}
+use Rattle.server_rules.specs.Calls.{performed, number_told, bound_set, sets_least, sets_most}
 use Rattle.ref_history.specs.Effects.{bounds_of}
 use Rattle.ref_history.specs.declared.ref_id.Bounds.{Bounds}
 use Rattle.ref_table.specs.Refs.{Refs, store_of}
@@ -65,3 +67,24 @@ most-comes table attempts s r name set b given holds none some told =
     (number-comes (λ ref. ref.most) (λ x. x.most) (λ ref. refl) table attempts s r name b given
     holds (λ ref there. (ref_named-sound s name ref sound there).most)
     (some ∙ ap (λ x. option_map bounds_of (ref_named name x)) (seen-so table attempts s r holds)) told)
+
+-- where a bound is set, no attempt is left or begun
+
+changed-still : (o : OwnerData) (n : ℕ) (f : Ref → Ref) (s : Store)
+    → (changed_of o n f s).mine.points ≡ s.mine.points
+changed-still shared n f s = refl
+changed-still (tenant t) n f s = refl
+
+bound-still : (name : RefNameData) (o : OwnerData) (f : Ref → Ref) (s : Store) (r : Option Ref)
+    → (bound_set name o f s r).store.mine.points ≡ s.mine.points
+bound-still name o f s None = refl
+bound-still name shared f s (Some r) = refl
+bound-still name (tenant t) f s (Some r) = changed-still name.owner name.number f s
+
+pub least-set-still : (s : Store) (name : RefNameData) (n : ℕ)
+    → (performed s (sets_least name n)).store.mine.points ≡ s.mine.points
+least-set-still s name n = bound-still name name.owner (with_least n) s (ref_named name s)
+
+pub most-set-still : (s : Store) (name : RefNameData) (n : ℕ)
+    → (performed s (sets_most name n)).store.mine.points ≡ s.mine.points
+most-set-still s name n = bound-still name name.owner (with_most n) s (ref_named name s)

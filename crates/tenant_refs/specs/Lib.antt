@@ -1,4 +1,4 @@
-pub mod Twice
+pub mod Thrice
 pub mod Attempts
 pub mod Sound
 pub mod Serving

@@ -11,10 +11,10 @@ ghost use Rattle.ref_table.specs.Standing.{counter_of};
 ghost use Rattle.ref_table.specs.Told.{setting_told};
 ghost use Rattle.tenant_refs.specs.Bounds.{least_call, most_call};
 ghost use Rattle.tenant_refs.specs.Serving.{TableServes, ServesWithAttempts, PerformsCall};
-ghost use Rattle.tenant_refs.specs.Twice.{told_answer, AreTwice};
+ghost use Rattle.tenant_refs.specs.Thrice.{told_answer, AreThrice};
 
 use crate::attempts::Attempts;
-use crate::twice::Twice;
+use crate::thrice::Thrice;
 use ref_history::{Bounds, ListHistory};
 use ref_table::{CommitOutcome, RefTable};
 use repl_asks::{Ask, Intent, Reading};
@@ -31,7 +31,7 @@ pub fn call(
     attempts: &mut Attempts,
     actor: Actor,
     ask: &Ask,
-) -> Result<Option<Twice>, AllocError>
+) -> Result<Option<Thrice>, AllocError>
     requires { counter_of refs.old < u128.MAX }
     ensures called { (s : Store) (r : Refs) → ServesWithAttempts refs.old attempts.old s r
         → is_allowed (ask_view ask.now) ≡ true
@@ -42,10 +42,10 @@ pub fn call(
     ensures counter { counter_of refs.new ≤ counter_of refs.old + 1 }
     ensures untold { IfOk result (λ it. IsNone it → counter_of refs.new ≡ counter_of refs.old) }
     ensures failed { OnErr result (counter_of refs.new ≡ counter_of refs.old) }
-    ensures twice { IfOk result AreTwice }
+    ensures thrice { IfOk result AreThrice }
 {
     match ask {
-        Ask::Resolve { .. } | Ask::Define { .. } | Ask::Enter(_) => Ok(Some(Twice::done())),
+        Ask::Resolve { .. } | Ask::Define { .. } | Ask::Enter(_) => Ok(Some(Thrice::done())),
         Ask::NewRef {
             value,
             min_history,
@@ -73,18 +73,18 @@ fn make(
     attempts: &Attempts,
     value: &Value,
     bounds: Bounds,
-) -> Result<Option<Twice>, AllocError>
+) -> Result<Option<Thrice>, AllocError>
     ensures called { (s : Store) (r : Refs) → ServesWithAttempts refs.old attempts.now s r
         → IfOk result (λ it. PerformsCall refs.new attempts.now r (told_answer it)
         (performed s (makes (view value.now) bounds.least bounds.most))) }
     ensures stays { (s : Store) (r : Refs) → ServesWithAttempts refs.old attempts.now s r
         → OnErr result (ServesWithAttempts refs.new attempts.now s r) }
     ensures counter { counter_of refs.new ≡ counter_of refs.old }
-    ensures twice { IfOk result AreTwice }
+    ensures thrice { IfOk result AreThrice }
 {
     let owner = Owner::Tenant(attempts.tenant);
     let name = refs.make(alloc, owner, copy(value)?, bounds)?;
-    Ok(Some(Twice::of_name(name)))
+    Ok(Some(Thrice::of_name(name)))
 }
 
 // An attempt begins.
@@ -92,19 +92,19 @@ fn begin(
     refs: &RefTable<ListHistory>,
     attempts: &mut Attempts,
     actor: Actor,
-) -> Result<Option<Twice>, AllocError>
+) -> Result<Option<Thrice>, AllocError>
     ensures called { (s : Store) (r : Refs) → ServesWithAttempts refs.now attempts.old s r
         → IfOk result (λ it. PerformsCall refs.now attempts.new r (told_answer it)
         (performed s (begins (seat_of actor)))) }
     ensures stays { (s : Store) (r : Refs) → ServesWithAttempts refs.now attempts.old s r
         → OnErr result (ServesWithAttempts refs.now attempts.new s r) }
-    ensures twice { IfOk result AreTwice }
+    ensures thrice { IfOk result AreThrice }
 {
     if attempts.point(actor).is_some() {
         return Ok(None);
     }
     attempts.begin(actor, refs.begin())?;
-    Ok(Some(Twice::done()))
+    Ok(Some(Thrice::done()))
 }
 
 // A ref is read. The attempt that is to be made again is over.
@@ -113,21 +113,21 @@ fn read(
     attempts: &mut Attempts,
     actor: Actor,
     name: RefName,
-) -> Result<Option<Twice>, AllocError>
+) -> Result<Option<Thrice>, AllocError>
     ensures called { (s : Store) (r : Refs) → ServesWithAttempts refs.old attempts.old s r
         → IfOk result (λ it. PerformsCall refs.new attempts.new r (told_answer it)
         (performed s (reads (seat_of actor) (name_view name)))) }
     ensures stays { (s : Store) (r : Refs) → ServesWithAttempts refs.old attempts.old s r
         → OnErr result (ServesWithAttempts refs.new attempts.new s r) }
     ensures counter { counter_of refs.new ≡ counter_of refs.old }
-    ensures twice { IfOk result AreTwice }
+    ensures thrice { IfOk result AreThrice }
 {
     let point = attempts.point(actor);
     match refs.read(attempts.tenant, name, point)? {
-        Some(Reading::Found(value)) => Ok(Some(Twice::of_found(value)?)),
+        Some(Reading::Found(value)) => Ok(Some(Thrice::of_found(value)?)),
         Some(Reading::Retry) => {
             attempts.leave(actor);
-            Ok(Some(Twice::retry()))
+            Ok(Some(Thrice::retry()))
         }
         None => Ok(None),
     }
@@ -139,17 +139,17 @@ fn count(
     attempts: &Attempts,
     actor: Actor,
     name: RefName,
-) -> Option<Twice>
+) -> Option<Thrice>
     ensures called { (s : Store) (r : Refs) → ServesWithAttempts refs.now attempts.now s r
         → PerformsCall refs.now attempts.now r (told_answer result)
         (performed s (counts (seat_of actor) (name_view name))) }
-    ensures twice { AreTwice result }
+    ensures thrice { AreThrice result }
 {
     if matches!(name.owner, Owner::Shared) && attempts.point(actor).is_some() {
         return None;
     }
     let count = refs.history_count(attempts.tenant, name)?;
-    Some(Twice::of_number(count))
+    Some(Thrice::of_number(count))
 }
 
 // The lower bound of a ref's history, or the ref where it is set.
@@ -158,16 +158,16 @@ fn tell_or_set_least(
     attempts: &Attempts,
     name: RefName,
     set: Option<u64>,
-) -> Option<Twice>
+) -> Option<Thrice>
     ensures called { (s : Store) (r : Refs) → ServesWithAttempts refs.old attempts.now s r
         → PerformsCall refs.new attempts.now r (told_answer result)
         (performed s (least_call (name_view name) set)) }
     ensures counter { counter_of refs.new ≡ counter_of refs.old }
-    ensures twice { AreTwice result }
+    ensures thrice { AreThrice result }
 {
     match set {
         Some(least) => ref_if_set(name, refs.set_least(attempts.tenant, name, least)),
-        None => Some(Twice::of_number(refs.bounds(attempts.tenant, name)?.least)),
+        None => Some(Thrice::of_number(refs.bounds(attempts.tenant, name)?.least)),
     }
 }
 
@@ -177,25 +177,25 @@ fn tell_or_set_most(
     attempts: &Attempts,
     name: RefName,
     set: Option<u64>,
-) -> Option<Twice>
+) -> Option<Thrice>
     ensures called { (s : Store) (r : Refs) → ServesWithAttempts refs.old attempts.now s r
         → PerformsCall refs.new attempts.now r (told_answer result)
         (performed s (most_call (name_view name) set)) }
     ensures counter { counter_of refs.new ≡ counter_of refs.old }
-    ensures twice { AreTwice result }
+    ensures thrice { AreThrice result }
 {
     match set {
         Some(most) => ref_if_set(name, refs.set_most(attempts.tenant, name, most)),
-        None => Some(Twice::of_number(refs.bounds(attempts.tenant, name)?.most)),
+        None => Some(Thrice::of_number(refs.bounds(attempts.tenant, name)?.most)),
     }
 }
 
-fn ref_if_set(name: RefName, is_set: bool) -> Option<Twice>
+fn ref_if_set(name: RefName, is_set: bool) -> Option<Thrice>
     ensures told { told_answer result ≡ setting_told name is_set }
-    ensures twice { AreTwice result }
+    ensures thrice { AreThrice result }
 {
     if is_set {
-        Some(Twice::of_name(name))
+        Some(Thrice::of_name(name))
     } else {
         None
     }
@@ -208,7 +208,7 @@ fn commit(
     attempts: &mut Attempts,
     actor: Actor,
     intent: &Intent,
-) -> Result<Option<Twice>, AllocError>
+) -> Result<Option<Thrice>, AllocError>
     requires { counter_of refs.old < u128.MAX }
     ensures called { (s : Store) (r : Refs) → ServesWithAttempts refs.old attempts.old s r
         → IfOk result (λ it. PerformsCall refs.new attempts.new r (told_answer it)
@@ -218,7 +218,7 @@ fn commit(
     ensures counter { counter_of refs.new ≤ counter_of refs.old + 1 }
     ensures untold { IfOk result (λ it. IsNone it → counter_of refs.new ≡ counter_of refs.old) }
     ensures failed { OnErr result (counter_of refs.new ≡ counter_of refs.old) }
-    ensures twice { IfOk result AreTwice }
+    ensures thrice { IfOk result AreThrice }
 {
     let Some(point) = attempts.point(actor) else {
         return Ok(None);
@@ -226,14 +226,14 @@ fn commit(
     match refs.commit(alloc, attempts.tenant, intent, point)? {
         CommitOutcome::Committed => {
             attempts.leave(actor);
-            Ok(Some(Twice::committed()))
+            Ok(Some(Thrice::committed()))
         }
         CommitOutcome::Conflict => {
             attempts.leave(actor);
-            Ok(Some(Twice::conflict()))
+            Ok(Some(Thrice::conflict()))
         }
         CommitOutcome::Faulted(fault) => {
-            let told = Twice::faulted(fault)?;
+            let told = Thrice::faulted(fault)?;
             attempts.leave(actor);
             Ok(Some(told))
         }

@@ -4,9 +4,9 @@
 mod attempts;
 mod calling;
 mod telling;
-mod twice;
+mod thrice;
 
 pub use attempts::Attempts;
 pub use calling::call;
 pub use telling::{is_told, may_be_told};
-pub use twice::Twice;
+pub use thrice::Thrice;

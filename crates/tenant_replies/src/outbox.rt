@@ -1,6 +1,6 @@
 // The replies that wait.
 ghost use Rattle.std.specs.Prelude.{◌≡◌, ◌≤◌, ◌↔◌, [], ◌∷◌, ◌++◌, length, IsTrue, OnOk, OnErr};
-ghost use Rattle.std.specs.Prelude.{MatchOption};
+ghost use Rattle.std.specs.Prelude.{MatchOption, option_map, slice_get};
 ghost use Rattle.tenant_replies.specs.View.{made_bytes, waiting_bytes};
 
 use crate::batch::Batch;
@@ -29,6 +29,13 @@ impl Outbox {
         ensures { IsTrue result ↔ (MOST_REPLIES ≤ length (waiting_bytes self.now)) }
     {
         self.replies.len() >= MOST_REPLIES
+    }
+
+    /// The oldest reply that waits.
+    pub fn oldest(&self) -> Option<&[u8]>
+        ensures { option_map (λ reply. reply.now) result ≡ slice_get (waiting_bytes self.now) 0 }
+    {
+        Some(self.replies.front()?.as_slice())
     }
 
     /// Takes the oldest reply out. It takes no memory.

@@ -15,10 +15,10 @@ use Rattle.tenant_refs.specs.Attempts.{Reaches}
 use Rattle.tenant_world.specs.Asking.{is_of_names, Answers}
 use Rattle.tenant_world.specs.Memories.{Remembers}
 use Rattle.tenant_refs.specs.Serving.{ListRefTable, ServesWithAttempts, PerformsCall}
-use Rattle.tenant_refs.specs.Twice.{twice_view, told_answer}
+use Rattle.tenant_refs.specs.Thrice.{thrice_view, told_answer}
 use Rattle.tenant_refs.specs.declared.attempts.Attempts.{Attempts}
 use Rattle.tenant_world.specs.declared.memory.Memory.{Memory}
-use Rattle.tenant_refs.specs.declared.twice.Twice.{Twice}
+use Rattle.tenant_refs.specs.declared.thrice.Thrice.{Thrice}
 use Rattle.tenant_world.proofs.Answering.{names-nothing, refs-told, allowed-may}
 use Rattle.tenant_refs.proofs.Calls.{untold-stays}
 use Rattle.tenant_refs.proofs.Serving.{refs_after-seen, holds-refs_after}
@@ -57,13 +57,13 @@ holds-untold new old attempts later s r call holds comes =
 
 pub refs-answered : {E : Type 0} (g : Ground) (t : ℕ) (a : Actor) (q : Quiet) (ask : AskData)
     (s : Store) (r : Refs) (m : Memory) (new old : ListRefTable) (attempts later : Attempts)
-    (result : Result (Option Twice) E) → ServesWithAttempts old attempts s r → is_of_names ask ≡ false
+    (result : Result (Option Thrice) E) → ServesWithAttempts old attempts s r → is_of_names ask ≡ false
     → is_allowed ask ≡ true → Remembers g t m q
     → IfOk result (λ it. PerformsCall new later r (told_answer it) (performed s (call_of (seat_of a) ask)))
     → IfOk result (λ it. MatchOption it
     (((performed s (call_of (seat_of a) ask)).told ≡ None) × Remembers g t m q × ServesWithAttempts new later s r)
     (λ answer. Answers g t a q ask (performed s (call_of (seat_of a) ask)) m new later r
-    (twice_view answer)))
+    (thrice_view answer)))
 refs-answered g t a q ask s r m new old attempts later (Err e) holds refs allowed remembers comes = tt
 refs-answered g t a q ask s r m new old attempts later (Ok None) holds refs allowed remembers comes = (
   sym comes.called.told,
@@ -71,9 +71,9 @@ refs-answered g t a q ask s r m new old attempts later (Ok None) holds refs allo
   holds-untold new old attempts later s r (call_of (seat_of a) ask) holds comes,
 )
 refs-answered g t a q ask s r m new old attempts later (Ok (Some it)) holds refs allowed remembers comes =
-    let still = refs-told g a q ask (twice_view it) refs in
+    let still = refs-told g a q ask (thrice_view it) refs in
     record {
-      told = twice_view it;
+      told = thrice_view it;
       is_told = sym comes.called.told;
       is = still.0;
       remembers = record {
@@ -82,6 +82,6 @@ refs-answered g t a q ask s r m new old attempts later (Ok (Some it)) holds refs
         spaces = remembers.spaces ∙ still.1;
         replies = remembers.replies;
       };
-      holds = holds-refs_after new old attempts later s r (Some (twice_view it))
+      holds = holds-refs_after new old attempts later s r (Some (thrice_view it))
           (call_of (seat_of a) ask) holds (allowed-may (seat_of a) ask allowed) comes;
     }

@@ -1,6 +1,6 @@
 -- The oldest reply is taken out.
 use Rattle.std.proofs.Common.{◌≡◌, ℕ, List, [], ◌∷◌, Option, None, Some, MatchOption, refl, sym, ap}
-use Rattle.std.proofs.Common.{subst, ◌∙◌, map}
+use Rattle.std.proofs.Common.{subst, ◌∙◌, ◌≢◌, map, true}
 use Rattle.bencode_wire.specs.Inside.Decoder as decoder
 use Rattle.bencode_wire.specs.declared.decoder.Decoder.{Decoder}
 use Rattle.name_spaces.specs.Inside.Seen.{namespaces_of}
@@ -20,6 +20,7 @@ use Rattle.tenant_turns.specs.DeedResult.{deed_result}
 use Rattle.tenant_world.specs.declared.tenant.Tenant.{Tenant}
 use Rattle.tenant_refs.specs.declared.attempts.Attempts.{Attempts}
 use Rattle.tenant_refs.specs.Attempts.{Reaches}
+use Rattle.tenant_world.specs.Acting.{is_accepted}
 use Rattle.tenant_world.specs.Standing.{QuietStands, AcceptsDeed, RefusesDeed}
 
 drains-by : (g : Ground) (q : Quiet) (s : Store)
@@ -107,3 +108,14 @@ drains {X = X} items g q s code new r same st told = by q.replies refl r st.reme
           stands = subst (QuietStands g new (record q { replies = more })) (sym (drains-none g q s))
               (stands-with g q s code new more same st (sym rest));
         }
+
+-- where a reply waits, one is taken out
+pub drains-accepted : (g : Ground) (q : Quiet) (s : Store) (code : Tenant) → QuietStands g code q s
+    → waiting_bytes code.memory.outbox ≢ []
+    → is_accepted (deed_result g s q deeds.drains).outcome ≡ true
+drains-accepted g q s code st some = by q.replies refl
+  where
+    by : (replies : List ReplyData) → q.replies ≡ replies
+        → is_accepted (deed_result g s q deeds.drains).outcome ≡ true
+    by [] is = absurd (some (st.remembers.replies ∙ ap (map bytes_of) is))
+    by (oldest ∷ more) is = ap is_accepted (drains-by g q s ∙ ap (drain_outcome q) is)

@@ -20,8 +20,9 @@ use Rattle.server_rules.specs.declared.actor.Actor.{Actor}
 use Rattle.server_rules.specs.declared.refusal.Refusal.{Refusal}
 use Rattle.tenant_replies.specs.View.{waiting_bytes}
 use Rattle.tenant_world.specs.declared.memory.Memory.{Memory}
-use Rattle.tenant_world.specs.Memories.{Remembers}
+use Rattle.tenant_world.specs.Memories.{Remembers, opened_by}
 use Rattle.tenant_world.specs.Acting.{AcceptsOutcome, RefusesOutcome, actors_after, is_interruption}
+use Rattle.tenant_world.specs.Acting.{IsActorStep}
 
 -- the actors are no part of it
 pub with-actors : (g : Ground) (t : ℕ) (m : Memory) (q : Quiet) (es : List (Entry ActorData))
@@ -131,6 +132,17 @@ pub wanted-memory : {X : Type 0} (why : Refusal) (r : Result X Refusal) → IsEr
     → r ≡ Err Refusal.NoMemory → why ≡ Refusal.NoMemory
 wanted-memory why (Ok x) never none = absurd never
 wanted-memory why (Err e) is none = let same : e ≡ Refusal.NoMemory = cc in sym is ∙ same
+
+-- where memory was wanted, the actor and the sessions are as they were
+pub step-without-memory : {A : Type 0} (old new : Memory) (before after : ActorData)
+    (r : Result A Refusal) → IsErrAnd r (λ e. e ≡ Refusal.NoMemory) → after ≡ before
+    → opened_by new ≡ opened_by old → IsActorStep old new before after r
+step-without-memory old new before after (Ok x) never same opened = absurd never
+step-without-memory old new before after (Err e) is same opened = record {
+  stays = same;
+  opened = opened;
+  held = λ held. let never : Refusal.NoMemory ≡ Refusal.Held = cc in absurd (cc);
+}
 
 -- for want of memory nothing is said of the rules
 pub declined-memory : {A : Type 0} (g : Ground) (t : ℕ) (q : Quiet) (outcome : Outcome) (m : Memory)

@@ -1,4 +1,5 @@
 -- What the steps of the code are given and answered, as the rules have it.
+use Rattle.std.specs.Prelude.{◌≡◌}
 use Rattle.repl_asks.specs.Inside.View.{answer_view, trace_view}
 use Rattle.repl_jobs.specs.Inside.View.{job_view, finished_view}
 use Rattle.server_rules.specs.Plan.{StepAnswer, form_begun, request_answered, ask_answered}
@@ -6,6 +7,9 @@ use Rattle.server_rules.specs.Plan.{form_finished, request_interrupted}
 use Rattle.repl_jobs.specs.Job.{EndingData}
 use Rattle.tenant_world.specs.declared.answers.StartAnswer.{StartAnswer}
 use Rattle.tenant_world.specs.declared.answers.AskAnswer.{AskAnswer}
+use Rattle.tenant_world.specs.declared.answers.StartAnswers.{StartAnswers}
+use Rattle.tenant_world.specs.declared.answers.AskAnswers.{AskAnswers}
+use Rattle.tenant_world.specs.declared.answers.Replies.{Replies}
 use Rattle.tenant_world.specs.declared.answers.EndAnswer.{EndAnswer}
 use Rattle.tenant_world.specs.declared.answers.Ending.{Ending}
 
@@ -17,6 +21,16 @@ start_answer_view StartAnswer.Interrupted = request_interrupted
 abbrev pub ask_answer_view : AskAnswer → StepAnswer
 ask_answer_view (AskAnswer.Answer answer) = ask_answered (answer_view answer)
 ask_answer_view AskAnswer.Interrupted = request_interrupted
+
+-- both are the same
+abbrev pub AreSameStarts : StartAnswers → Type 0
+AreSameStarts it = start_answer_view it.noted ≡ start_answer_view it.given
+
+abbrev pub AreSameAnswers : AskAnswers → Type 0
+AreSameAnswers it = ask_answer_view it.noted ≡ ask_answer_view it.given
+
+abbrev pub AreSameReplies : Replies → Type 0
+AreSameReplies it = it.noted.items ≡ it.given.items
 
 abbrev pub end_answer_view : EndAnswer → StepAnswer
 end_answer_view EndAnswer.Finished = form_finished

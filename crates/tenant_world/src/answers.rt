@@ -1,10 +1,14 @@
 // What the steps of an actor are given and answered.
-ghost use Rattle.std.specs.Prelude.{◌≡◌};
+ghost use Rattle.std.specs.Prelude.{◌≡◌, IfOk};
 ghost use Rattle.tenant_world.specs.Acting.{is_interruption};
+ghost use Rattle.tenant_world.specs.declared.answers.StartAnswer as StartAnswer;
+ghost use Rattle.tenant_world.specs.declared.answers.AskAnswer as AskAnswer;
+ghost use Rattle.tenant_world.specs.Answers.{AreSameStarts, AreSameAnswers};
 ghost use Rattle.tenant_world.specs.Answers.{start_answer_view, ask_answer_view, end_answer_view};
 
 use repl_asks::{Answer, Exchange};
 use repl_jobs::{Finished, Job};
+use std::alloc::AllocError;
 
 /// What comes of a start.
 #[derive(Drop)]
@@ -23,6 +27,27 @@ pub enum AskAnswer {
     Answer(Answer),
     /// The session was closed meanwhile, and the request is answered so.
     Interrupted,
+}
+
+/// What comes of a start, and the same once more for whoever writes it down.
+#[derive(Drop)]
+pub struct StartAnswers {
+    pub given: StartAnswer,
+    pub noted: StartAnswer,
+}
+
+/// What comes of an ask, and the same once more for whoever writes it down.
+#[derive(Drop)]
+pub struct AskAnswers {
+    pub given: AskAnswer,
+    pub noted: AskAnswer,
+}
+
+/// A reply that is taken out, and the same once more for whoever writes it down.
+#[derive(Drop)]
+pub struct Replies {
+    pub given: Vec<u8>,
+    pub noted: Vec<u8>,
 }
 
 /// An evaluation that comes back at its end: its job, what it asked and was answered, and how it
@@ -47,6 +72,50 @@ impl StartAnswer {
         ensures { result ≡ is_interruption (start_answer_view self.now) }
     {
         matches!(self, StartAnswer::Interrupted)
+    }
+
+    // The same once more. It takes one step, and fails only where 2^63 owners share a part of it.
+    fn copy(&self) -> Result<StartAnswer, AllocError>
+        ensures { IfOk result (λ copied. start_answer_view copied ≡ start_answer_view self.now) }
+    {
+        match self {
+            StartAnswer::Begun(job) => Ok(StartAnswer::Begun(job.copy()?)),
+            StartAnswer::Answered => Ok(StartAnswer::Answered),
+            StartAnswer::Interrupted => Ok(StartAnswer::Interrupted),
+        }
+    }
+}
+
+impl StartAnswers {
+    /// It fails only where 2^63 owners share a part of the answer.
+    pub(crate) fn of(given: StartAnswer) -> Result<StartAnswers, AllocError>
+        ensures given { IfOk result (λ it. it.given ≡ given) }
+        ensures same { IfOk result AreSameStarts }
+    {
+        let noted = given.copy()?;
+        Ok(StartAnswers { given, noted })
+    }
+
+    pub(crate) fn interrupted() -> StartAnswers
+        ensures given { result.given ≡ StartAnswer.Interrupted }
+        ensures same { AreSameStarts result }
+    {
+        StartAnswers {
+            given: StartAnswer::Interrupted,
+            noted: StartAnswer::Interrupted,
+        }
+    }
+}
+
+impl AskAnswers {
+    pub(crate) fn interrupted() -> AskAnswers
+        ensures given { result.given ≡ AskAnswer.Interrupted }
+        ensures same { AreSameAnswers result }
+    {
+        AskAnswers {
+            given: AskAnswer::Interrupted,
+            noted: AskAnswer::Interrupted,
+        }
     }
 }
 

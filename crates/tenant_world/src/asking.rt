@@ -1,14 +1,13 @@
 // A form asks.
 ghost use Rattle.std.specs.Prelude.{◌≡◌, ◌≢◌, ◌<◌, ◌≤◌, ◌+◌, ◌∷◌, [], true, false, None, Some, Err};
 ghost use Rattle.std.specs.Prelude.{IfOk, OnOk, IfErr, OnErr, MatchOption, is_some, IsNone};
-ghost use Rattle.repl_asks.specs.Inside.View.{ask_view, answer_view};
+ghost use Rattle.repl_asks.specs.Inside.View.{ask_view};
 ghost use Rattle.repl_replies.specs.Replies.{interrupted};
 ghost use Rattle.repl_replies.specs.Inside.View.{origin_view};
 ghost use Rattle.server_rules.specs.Ground.{Ground};
 ghost use Rattle.server_rules.specs.Request as rules;
 ghost use Rattle.server_rules.specs.Tenant.{Quiet, seat_of, with_replies};
 ghost use Rattle.server_rules.specs.Replying.{reply};
-ghost use Rattle.server_rules.specs.Plan.{ask_answered};
 ghost use Rattle.server_rules.specs.Calls.{performed};
 ghost use Rattle.server_rules.specs.Store.{Store, left_attempt};
 ghost use Rattle.server_rules.specs.Asking.{asked_of, call_of};
@@ -18,27 +17,27 @@ ghost use Rattle.ref_table.specs.Standing.{counter_of};
 ghost use Rattle.tenant_actors.specs.View.{actor_view};
 ghost use Rattle.tenant_turns.specs.DeedResult.{carried_out};
 ghost use Rattle.tenant_world.specs.Memories.{Remembers, opened_by};
-ghost use Rattle.tenant_world.specs.Answers.{ask_answer_view};
+ghost use Rattle.tenant_world.specs.Answers.{ask_answer_view, AreSameAnswers};
 ghost use Rattle.tenant_world.specs.Acting.{AcceptsOutcome, RefusesOutcome, IsActorStep};
 ghost use Rattle.tenant_world.specs.Acting.{is_accepted};
 ghost use Rattle.tenant_world.specs.Asking.{SharesNoNames, Answers, answered_plan, is_of_names};
 ghost use Rattle.tenant_refs.specs.Serving.{ServesWithAttempts};
 ghost use Rattle.tenant_refs.specs.Telling.{is_commit};
-ghost use Rattle.tenant_refs.specs.Twice.{twice_view, AreTwice};
+ghost use Rattle.tenant_refs.specs.Thrice.{thrice_view, AreThrice};
 
 use crate::acting::interrupt;
-use crate::answers::AskAnswer;
+use crate::answers::{AskAnswer, AskAnswers};
 use crate::keeping::{keep, make_room};
 use crate::memory::Memory;
 use crate::naming::name;
 use ref_history::ListHistory;
 use ref_table::RefTable;
-use repl_asks::{Answer, Ask, Exchange, is_fixed};
+use repl_asks::{Ask, Exchange, is_fixed};
 use repl_replies::Origin;
 use server_rules::{Actor, Refusal};
 use std::alloc::{AllocError, Global};
 use tenant_actors::ActorState;
-use tenant_refs::{Attempts, Twice, call, is_told, may_be_told};
+use tenant_refs::{Attempts, Thrice, call, is_told, may_be_told};
 
 // The first number that is none of the language.
 const END_OF_NUMBERS: u64 = 0x8000_0000_0000_0000;
@@ -52,14 +51,14 @@ pub(crate) fn ask(
     actor: Actor,
     state: &mut ActorState,
     ask: &Ask,
-) -> Result<AskAnswer, Refusal>
+) -> Result<AskAnswers, Refusal>
     requires { counter_of refs.old < u128.MAX }
     ensures acted { (g : Ground) (q : Quiet) (s : Store) (r : Refs) → SharesNoNames g
         → Remembers g s.tenant memory.old q → ServesWithAttempts refs.old attempts.old s r
         → let d = carried_out s (asked_of g actor (actor_view state.old) (ask_view ask.now) q
         (actor_view state.old).hand) in IfOk result (λ x.
         AcceptsOutcome g s.tenant actor q d.outcome memory.new (actor_view state.new)
-        (ask_answer_view x)
+        (ask_answer_view x.given)
         × ServesWithAttempts refs.new attempts.new d.store (refs_after d.store r)) }
     ensures declined { (g : Ground) (q : Quiet) (s : Store) (r : Refs) → SharesNoNames g
         → Remembers g s.tenant memory.old q → ServesWithAttempts refs.old attempts.old s r
@@ -71,6 +70,7 @@ pub(crate) fn ask(
         → ServesWithAttempts refs.old attempts.old s r → result ≡ Err Refusal.NoMemory
         → is_commit (ask_view ask.now) ≡ false → is_accepted (carried_out s (asked_of g actor
         (actor_view state.old) (ask_view ask.now) q (actor_view state.old).hand)).outcome ≡ true }
+    ensures same { IfOk result AreSameAnswers }
     ensures step { IsActorStep memory.old memory.new (actor_view state.old) (actor_view state.new)
         result }
     ensures counter { counter_of refs.new ≤ counter_of refs.old + 1 }
@@ -87,10 +87,9 @@ pub(crate) fn ask(
     }
     if state.is_closed {
         give_up(alloc, memory, refs, attempts, actor, &hand.origin, ask)?;
-        return Ok(AskAnswer::Interrupted);
+        return Ok(AskAnswers::interrupted());
     }
-    let answer = answer(alloc, memory, refs, attempts, actor, state, ask)?;
-    Ok(AskAnswer::Answer(answer))
+    answer(alloc, memory, refs, attempts, actor, state, ask)
 }
 
 // Whether the ask breaks no rule of its own: nothing is defined in a namespace that is fixed, nor
@@ -169,7 +168,7 @@ fn answer(
     actor: Actor,
     state: &mut ActorState,
     ask: &Ask,
-) -> Result<Answer, Refusal>
+) -> Result<AskAnswers, Refusal>
     requires { counter_of refs.old < u128.MAX }
     ensures acted { (g : Ground) (q : Quiet) (s : Store) (r : Refs) (h : rules.Hand)
         (run : rules.Run) → SharesNoNames g → Remembers g s.tenant memory.old q
@@ -178,7 +177,7 @@ fn answer(
         → let d = carried_out s (answered_plan g actor (actor_view state.old) h run
         (ask_view ask.now) q) in IfOk result
         (λ x. AcceptsOutcome g s.tenant actor q d.outcome memory.new
-        (actor_view state.new) (ask_answered (answer_view x))
+        (actor_view state.new) (ask_answer_view x.given)
         × ServesWithAttempts refs.new attempts.new d.store (refs_after d.store r)) }
     ensures declined { (g : Ground) (q : Quiet) (s : Store) (r : Refs) (h : rules.Hand)
         (run : rules.Run) → SharesNoNames g → Remembers g s.tenant memory.old q
@@ -192,6 +191,7 @@ fn answer(
         → result ≡ Err Refusal.NoMemory → is_commit (ask_view ask.now) ≡ false
         → is_accepted (carried_out s (answered_plan g actor (actor_view state.old) h run
         (ask_view ask.now) q)).outcome ≡ true }
+    ensures same { IfOk result AreSameAnswers }
     ensures stays { OnErr result (actor_view state.new ≡ actor_view state.old) }
     ensures opened { opened_by memory.new ≡ opened_by memory.old }
     ensures counter { counter_of refs.new ≤ counter_of refs.old + 1 }
@@ -206,7 +206,7 @@ fn answer(
     let Some(answer) = perform_ask(alloc, memory, refs, attempts, actor, ask)? else {
         return Err(Refusal::Idle);
     };
-    let Twice { kept, given } = answer;
+    let Thrice { kept, given, noted } = answer;
     keep(
         state,
         Exchange {
@@ -214,7 +214,10 @@ fn answer(
             answer: kept,
         },
     );
-    Ok(given)
+    Ok(AskAnswers {
+        given: AskAnswer::Answer(given),
+        noted: AskAnswer::Answer(noted),
+    })
 }
 
 // What the answer is, if anything is told, and whatever is asked is done. It fails only for want of
@@ -226,7 +229,7 @@ fn perform_ask(
     attempts: &mut Attempts,
     actor: Actor,
     ask: &Ask,
-) -> Result<Option<Twice>, AllocError>
+) -> Result<Option<Thrice>, AllocError>
     requires { counter_of refs.old < u128.MAX }
     ensures answered { (g : Ground) (q : Quiet) (s : Store) (r : Refs) → SharesNoNames g
         → Remembers g s.tenant memory.old q → ServesWithAttempts refs.old attempts.old s r
@@ -236,7 +239,7 @@ fn perform_ask(
         ((p.told ≡ None) × Remembers g s.tenant memory.new q
         × ServesWithAttempts refs.new attempts.new s r)
         (λ answer. Answers g s.tenant actor q (ask_view ask.now) p memory.new refs.new attempts.new
-        r (twice_view answer))) }
+        r (thrice_view answer))) }
     ensures stays { (g : Ground) (q : Quiet) (s : Store) (r : Refs)
         → Remembers g s.tenant memory.old q → ServesWithAttempts refs.old attempts.old s r
         → OnErr result (Remembers g s.tenant memory.new q
@@ -245,7 +248,7 @@ fn perform_ask(
     ensures counter { counter_of refs.new ≤ counter_of refs.old + 1 }
     ensures untold { IfOk result (λ it. IsNone it → counter_of refs.new ≡ counter_of refs.old) }
     ensures failed { OnErr result (counter_of refs.new ≡ counter_of refs.old) }
-    ensures twice { IfOk result AreTwice }
+    ensures thrice { IfOk result AreThrice }
 {
     if is_of_names(ask) {
         return Ok(Some(name(alloc, memory, actor, ask)?));

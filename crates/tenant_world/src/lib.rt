@@ -14,5 +14,5 @@ mod starting;
 mod steps;
 mod tenant;
 
-pub use answers::{AskAnswer, EndAnswer, Ending, StartAnswer};
+pub use answers::{AskAnswer, AskAnswers, EndAnswer, Ending, Replies, StartAnswer, StartAnswers};
 pub use tenant::Tenant;

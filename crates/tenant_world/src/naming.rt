@@ -11,7 +11,7 @@ ghost use Rattle.server_rules.specs.Asking.{answer_to, spaces_after};
 ghost use Rattle.server_rules.specs.Asking as meant;
 ghost use Rattle.tenant_world.specs.Memories.{Remembers, opened_by};
 ghost use Rattle.tenant_world.specs.Asking.{SharesNoNames};
-ghost use Rattle.tenant_refs.specs.Twice.{twice_view, IsTwice};
+ghost use Rattle.tenant_refs.specs.Thrice.{thrice_view, IsThrice};
 
 use crate::memory::Memory;
 use name_spaces::{Found, Latest};
@@ -20,7 +20,7 @@ use repl_sessions::SessionState;
 use repl_values::{Value, copy, copy_text};
 use server_rules::Actor;
 use std::alloc::{AllocError, Global};
-use tenant_refs::Twice;
+use tenant_refs::Thrice;
 
 /// Answers an ask of names, and does what is asked. It fails only for want of memory, and has then
 /// changed nothing.
@@ -29,18 +29,18 @@ pub(crate) fn name(
     memory: &mut Memory,
     actor: Actor,
     ask: &Ask,
-) -> Result<Twice, AllocError>
+) -> Result<Thrice, AllocError>
     ensures answered { (g : Ground) (t : ℕ) (q : Quiet) → SharesNoNames g
         → Remembers g t memory.old q → IfOk result (λ it.
-        (twice_view it ≡ answer_to g actor q (ask_view ask.now) done)
+        (thrice_view it ≡ answer_to g actor q (ask_view ask.now) done)
         × Remembers g t memory.new
         (record q { spaces = spaces_after (ask_view ask.now) q.spaces })) }
     ensures stays { (g : Ground) (t : ℕ) (q : Quiet) → Remembers g t memory.old q
         → OnErr result (Remembers g t memory.new q) }
     ensures opened { opened_by memory.new ≡ opened_by memory.old }
-    ensures twice { IfOk result IsTwice }
+    ensures thrice { IfOk result IsThrice }
 {
-    let answer = Twice::of(answer_of(alloc, memory, actor, ask)?)?;
+    let answer = Thrice::of(answer_of(alloc, memory, actor, ask)?)?;
     change(alloc, memory, ask)?;
     Ok(answer)
 }

@@ -1,5 +1,6 @@
 // A tenant as it begins, and what it shows.
-ghost use Rattle.std.specs.Prelude.{◌≡◌, ◌+◌, ℕ, [], ◌∷◌, map, option_map, IfOk, MatchOption};
+ghost use Rattle.std.specs.Prelude.{◌≡◌, ◌≢◌, ◌+◌, ◌<◌, ℕ, List, [], ◌∷◌, map, option_map, IfOk};
+ghost use Rattle.std.specs.Prelude.{OnErr, MatchOption, IfSome, true, false};
 ghost use Rattle.server_rules.specs.Ground.{Ground};
 ghost use Rattle.server_rules.specs.Tenant.{Quiet, opened_quiet};
 ghost use Rattle.server_rules.specs.Machine.Ready.{ready};
@@ -11,9 +12,12 @@ ghost use Rattle.server_rules.specs.Store.{Store};
 ghost use Rattle.tenant_turns.specs.DeedResult.{deed_result};
 ghost use Rattle.tenant_turns.specs.Turns.{Lone, actors_of};
 ghost use Rattle.tenant_turns.specs.Inside.Wires.{wire_at};
+ghost use Rattle.tenant_world.specs.Acting.{is_accepted};
+ghost use Rattle.tenant_world.specs.Answers.{AreSameReplies};
 ghost use Rattle.tenant_world.specs.Asking.{SharesNoNames};
 ghost use Rattle.tenant_world.specs.Running.{running_in};
 
+use crate::answers::Replies;
 use crate::memory::Memory;
 use crate::tenant::Tenant;
 use bencode_wire::Decoder;
@@ -77,6 +81,37 @@ impl Tenant {
         self.memory.outbox.take()
     }
 
+    /// The same, with the reply twice. It fails only for want of memory, and then changes nothing.
+    pub fn drain_copied(&mut self) -> Result<Option<Replies>, AllocError>
+        ensures drained { (g : Ground) (q : Quiet) (s : Store) → QuietStands g self.old q s
+            → IfOk result (λ it. MatchOption it
+            (RefusesDeed g q s (deed_result g s q deeds.drains) self.new Refusal.Idle)
+            (λ replies. AcceptsDeed g (deed_result g s q deeds.drains) self.new
+            (reply_given replies.given.items))) }
+        ensures same { IfOk result (λ it. IfSome it AreSameReplies) }
+        ensures stays { OnErr result (self.new ≡ self.old) }
+        ensures no_memory { (g : Ground) (q : Quiet) (s : Store) → QuietStands g self.old q s
+            → OnErr result (is_accepted (deed_result g s q deeds.drains).outcome ≡ true) }
+    {
+        let noted = self.copy_oldest()?;
+        let Some(given) = self.drain() else {
+            return Ok(None);
+        };
+        Ok(Some(Replies { given, noted }))
+    }
+
+    // The bytes of the oldest reply, or none.
+    fn copy_oldest(&self) -> Result<Vec<u8>, AllocError>
+        ensures same { (reply : List ℕ) (more : List (List ℕ)) → replies_of self.now ≡ reply ∷ more
+            → IfOk result (λ copied. copied.items ≡ reply) }
+        ensures some { OnErr result (replies_of self.now ≢ []) }
+    {
+        match self.memory.outbox.oldest() {
+            Some(oldest) => Vec::from_slice(self.alloc, oldest),
+            None => Ok(Vec::new(self.alloc)),
+        }
+    }
+
     /// The first actor that has a form or a request to begin. It takes no memory.
     pub fn ready(&self) -> Option<Actor>
         ensures { (g : Ground) (q : Quiet) (s : Store) → QuietStands g self.now q s
@@ -100,6 +135,14 @@ impl Tenant {
             → option_map (λ run. run_view run.now) result ≡ running_in actor q }
     {
         self.actors.get(actor)?.hand.as_ref()?.running.as_ref()
+    }
+
+    /// Whether all its steps are used up: then it only gives its replies. It takes no memory.
+    pub fn is_worn(&self) -> bool
+        ensures worn { result ≡ true → self.now.steps ≡ 0 }
+        ensures left { result ≡ false → 0 < self.now.steps }
+    {
+        self.steps == 0
     }
 
     /// What has come of the stream. It takes no memory.

@@ -9,16 +9,16 @@ ghost use Rattle.tenant_actors.specs.View.{actor_view, hand_view, waiting_view};
 ghost use Rattle.tenant_moves.specs.Starts.{hand_begun, answer_given, given_job};
 ghost use Rattle.tenant_turns.specs.Grounds.{IsRight};
 ghost use Rattle.tenant_world.specs.Memories.{Remembers};
-ghost use Rattle.tenant_world.specs.Answers.{start_answer_view};
+ghost use Rattle.tenant_world.specs.Answers.{start_answer_view, AreSameStarts};
 ghost use Rattle.tenant_world.specs.Acting.{AcceptsOutcome, RefusesOutcome, oldest, IsActorStep};
 ghost use Rattle.tenant_world.specs.Acting.{with_next_in_hand, is_accepted};
 
 use crate::acting::interrupt;
-use crate::answers::StartAnswer;
+use crate::answers::{StartAnswer, StartAnswers};
 use crate::memory::Memory;
 use repl_jobs::Job;
 use server_rules::{Actor, Refusal};
-use std::alloc::Global;
+use std::alloc::{AllocError, Global};
 use tenant_actors::{ActorState, Hand, Waiting};
 use tenant_moves::{Begun, BegunRequest, NextForm, begin, begin_request, next_form};
 
@@ -30,17 +30,18 @@ pub(crate) fn start(
     retries: u32,
     actor: Actor,
     state: &mut ActorState,
-) -> Result<StartAnswer, Refusal>
+) -> Result<StartAnswers, Refusal>
     ensures acted { (g : Ground) (t : ℕ) (q : Quiet) → IsRight g → retries ≡ g.retries
         → Remembers g t memory.old q → IfOk result (λ s. AcceptsOutcome g t actor q
         (start_of g actor (actor_view state.old) q (actor_view state.old).hand)
-        memory.new (actor_view state.new) (start_answer_view s)) }
+        memory.new (actor_view state.new) (start_answer_view s.given)) }
     ensures declined { (g : Ground) (t : ℕ) (q : Quiet) → IsRight g → retries ≡ g.retries
         → Remembers g t memory.old q → IfErr result (RefusesOutcome g t q
         (start_of g actor (actor_view state.old) q (actor_view state.old).hand) memory.new) }
     ensures no_memory { (g : Ground) (t : ℕ) (q : Quiet) → Remembers g t memory.old q
         → result ≡ Err Refusal.NoMemory → is_accepted
         (start_of g actor (actor_view state.old) q (actor_view state.old).hand) ≡ true }
+    ensures same { IfOk result AreSameStarts }
     ensures step { IsActorStep memory.old memory.new (actor_view state.old) (actor_view state.new)
         result }
 {
@@ -52,7 +53,7 @@ pub(crate) fn start(
     }
     if state.is_closed {
         interrupt(alloc, memory, &hand.origin)?;
-        return Ok(StartAnswer::Interrupted);
+        return Ok(StartAnswers::interrupted());
     }
     start_form(alloc, memory, retries, actor, state)
 }
@@ -64,13 +65,13 @@ fn start_form(
     retries: u32,
     actor: Actor,
     state: &mut ActorState,
-) -> Result<StartAnswer, Refusal>
+) -> Result<StartAnswers, Refusal>
     ensures acted { (g : Ground) (t : ℕ) (q : Quiet) (h : rules.Hand) → retries ≡ g.retries
         → Remembers g t memory.old q → (actor_view state.old).hand ≡ Some h
         → IfOk result (λ s. AcceptsOutcome g t actor q
         (held_or q (start_outcome actor (actor_view state.old)
         (next_begun g h (actor_state actor q) h.forms) q))
-        memory.new (actor_view state.new) (start_answer_view s)) }
+        memory.new (actor_view state.new) (start_answer_view s.given)) }
     ensures declined { (g : Ground) (t : ℕ) (q : Quiet) (h : rules.Hand) → retries ≡ g.retries
         → Remembers g t memory.old q → (actor_view state.old).hand ≡ Some h
         → IfErr result (RefusesOutcome g t q
@@ -80,6 +81,7 @@ fn start_form(
         → Remembers g t memory.old q → result ≡ Err Refusal.NoMemory
         → is_accepted (held_or q (start_outcome actor (actor_view state.old)
         (next_begun g h (actor_state actor q) h.forms) q)) ≡ true }
+    ensures same { IfOk result AreSameStarts }
     ensures step { IsActorStep memory.old memory.new (actor_view state.old) (actor_view state.new)
         result }
 {
@@ -91,8 +93,20 @@ fn start_form(
         return Err(Refusal::Idle);
     };
     let NextForm { news, begun } = next_form(alloc, retries, hand, session)?;
+    let noted = begun_answer(&begun)?;
     memory.post_news(actor, news)?;
-    Ok(put_begun(alloc, state, begun))
+    let given = put_begun(alloc, state, begun);
+    Ok(StartAnswers { given, noted })
+}
+
+// What is answered. It fails only where 2^63 owners share a part of the job.
+fn begun_answer(begun: &Option<Begun>) -> Result<StartAnswer, AllocError>
+    ensures { IfOk result (λ it. start_answer_view it ≡ answer_given (given_job begun.now)) }
+{
+    match begun {
+        Some(begun) => Ok(StartAnswer::Begun(begun.given.copy()?)),
+        None => Ok(StartAnswer::Answered),
+    }
 }
 
 // Its next form runs, or the request in hand is done.
@@ -120,12 +134,12 @@ fn start_request(
     retries: u32,
     actor: Actor,
     state: &mut ActorState,
-) -> Result<StartAnswer, Refusal>
+) -> Result<StartAnswers, Refusal>
     ensures acted { (g : Ground) (t : ℕ) (q : Quiet) → IsRight g → retries ≡ g.retries
         → Remembers g t memory.old q → (actor_view state.old).hand ≡ None
         → IfOk result (λ s. AcceptsOutcome g t actor q
         (start_waiting g actor (actor_view state.old) q (actor_view state.old).waiting)
-        memory.new (actor_view state.new) (start_answer_view s)) }
+        memory.new (actor_view state.new) (start_answer_view s.given)) }
     ensures declined { (g : Ground) (t : ℕ) (q : Quiet) → IsRight g → retries ≡ g.retries
         → Remembers g t memory.old q → (actor_view state.old).hand ≡ None
         → IfErr result (RefusesOutcome g t q
@@ -134,6 +148,7 @@ fn start_request(
     ensures no_memory { (g : Ground) (t : ℕ) (q : Quiet) → Remembers g t memory.old q
         → result ≡ Err Refusal.NoMemory → is_accepted
         (start_waiting g actor (actor_view state.old) q (actor_view state.old).waiting) ≡ true }
+    ensures same { IfOk result AreSameStarts }
     ensures step { IsActorStep memory.old memory.new (actor_view state.old) (actor_view state.new)
         result }
 {
@@ -151,9 +166,10 @@ fn start_request(
         waiting,
         session,
     )?;
+    let answers = StartAnswers::of(answer_of(given))?;
     memory.post_news(actor, news)?;
     put_next_in_hand(state, hand);
-    Ok(answer_of(given))
+    Ok(answers)
 }
 
 fn oldest(state: &ActorState) -> Option<&Waiting>

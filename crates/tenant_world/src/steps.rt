@@ -17,7 +17,7 @@ ghost use Rattle.tenant_actors.specs.View.{actor_view, actors_view};
 ghost use Rattle.tenant_turns.specs.DeedResult.{carried_out, deed_result};
 ghost use Rattle.tenant_turns.specs.Grounds.{IsRight};
 ghost use Rattle.tenant_world.specs.Answers.{start_answer_view, ask_answer_view, end_answer_view};
-ghost use Rattle.tenant_world.specs.Answers.{told_ending};
+ghost use Rattle.tenant_world.specs.Answers.{told_ending, AreSameStarts, AreSameAnswers};
 ghost use Rattle.tenant_world.specs.Acting.{actors_after, is_accepted};
 ghost use Rattle.tenant_refs.specs.Attempts.{Reaches};
 ghost use Rattle.tenant_world.specs.Memories.{Remembers};
@@ -25,7 +25,7 @@ ghost use Rattle.tenant_world.specs.Running.{IsEndOfForm, running_in};
 ghost use Rattle.tenant_refs.specs.Serving.{TableServes};
 ghost use Rattle.tenant_refs.specs.Telling.{is_commit};
 
-use crate::answers::{AskAnswer, EndAnswer, Ending, StartAnswer};
+use crate::answers::{AskAnswer, AskAnswers, EndAnswer, Ending, StartAnswer, StartAnswers};
 use crate::asking::ask;
 use crate::ending::{end, finish};
 use crate::starting::start;
@@ -56,6 +56,25 @@ impl Tenant {
             → is_accepted (deed_result g s q (deeds.starts actor)).outcome ≡ true }
         ensures counted { CountsStep self.old self.new result }
     {
+        Ok(self.start_copied(actor)?.given)
+    }
+
+    /// The same, with its answer twice.
+    pub fn start_copied(&mut self, actor: Actor) -> Result<StartAnswers, Refusal>
+        ensures done { (g : Ground) (q : Quiet) (s : Store) → IsRight g
+            → QuietStands g self.old q s
+            → IfOk result (λ x. AcceptsDeedBy g actor q
+            (deed_result g s q (deeds.starts actor)) self.new
+            (start_answer_view x.given)) }
+        ensures refused { (g : Ground) (q : Quiet) (s : Store) → IsRight g
+            → QuietStands g self.old q s
+            → IfErr result (RefusesDeed g q s (deed_result g s q (deeds.starts actor)) self.new) }
+        ensures no_memory { (g : Ground) (q : Quiet) (s : Store) → IsRight g
+            → QuietStands g self.old q s → result ≡ Err Refusal.NoMemory
+            → is_accepted (deed_result g s q (deeds.starts actor)).outcome ≡ true }
+        ensures same { IfOk result AreSameStarts }
+        ensures counted { CountsStep self.old self.new result }
+    {
         if self.is_idle(actor) {
             return Err(Refusal::Idle);
         }
@@ -68,7 +87,7 @@ impl Tenant {
             &mut state,
         ) {
             Ok(started) => {
-                self.settle(actor, state, started.is_interrupted());
+                self.settle(actor, state, started.given.is_interrupted());
                 Ok(started)
             }
             Err(why) => {
@@ -106,6 +125,36 @@ impl Tenant {
         ensures counter { counter_of refs.new ≤ counter_of refs.old + 1 }
         ensures failed { OnErr result (counter_of refs.new ≡ counter_of refs.old) }
     {
+        Ok(self.answer_copied(refs, actor, asked)?.given)
+    }
+
+    /// The same, with its answer twice.
+    pub fn answer_copied(
+        &mut self,
+        refs: &mut RefTable<ListHistory>,
+        actor: Actor,
+        asked: &Ask,
+    ) -> Result<AskAnswers, Refusal>
+        requires { counter_of refs.old < u128.MAX }
+        ensures done { (g : Ground) (q : Quiet) (s : Store) (r : Refs) → IsRight g
+            → QuietStands g self.old q s → TableServes refs.old s r
+            → let d = deed_result g s q (deeds.asks_for actor (ask_view asked.now)) in
+            IfOk result (λ x. AcceptsDeedBy g actor q d self.new (ask_answer_view x.given)
+            × TableServes refs.new d.store (refs_after d.store r)) }
+        ensures refused { (g : Ground) (q : Quiet) (s : Store) (r : Refs) → IsRight g
+            → QuietStands g self.old q s → TableServes refs.old s r
+            → let d = deed_result g s q (deeds.asks_for actor (ask_view asked.now)) in
+            IfErr result (λ why. RefusesDeed g q s d self.new why × TableServes refs.new s r) }
+        ensures no_memory { (g : Ground) (q : Quiet) (s : Store) (r : Refs)
+            → QuietStands g self.old q s → TableServes refs.old s r
+            → result ≡ Err Refusal.NoMemory → is_commit (ask_view asked.now) ≡ false
+            → is_accepted (deed_result g s q (deeds.asks_for actor (ask_view asked.now))).outcome
+            ≡ true }
+        ensures same { IfOk result AreSameAnswers }
+        ensures counted { CountsStep self.old self.new result }
+        ensures counter { counter_of refs.new ≤ counter_of refs.old + 1 }
+        ensures failed { OnErr result (counter_of refs.new ≡ counter_of refs.old) }
+    {
         let mut state = self.lend(actor)?;
         match ask(
             self.alloc,
@@ -117,7 +166,7 @@ impl Tenant {
             asked,
         ) {
             Ok(answered) => {
-                self.settle(actor, state, answered.is_interrupted());
+                self.settle(actor, state, answered.given.is_interrupted());
                 Ok(answered)
             }
             Err(why) => {

@@ -38,7 +38,7 @@ returns-clause-acted c = λ g q s r h run shares remembers holds allowed hand ru
     let new = actor_view c.keep.new.state in
     let answers = rw c.in-Some.is at
     (c.in_ok-answer.ensures.answered g q s r shares remembers holds allowed) in
-    let same = rw c.in-Some.is at c.in_ok-answer.ensures.twice in
+    let same = rw c.in-Some.is at c.in_ok-answer.ensures.thrice in
     let put = c.keep.ensures
     ∙ ap (λ x. with_exchange (exchange_from x kept) (actor_view c.make_room.new.state))
     c.in_ok-asked.ensures
@@ -46,7 +46,7 @@ returns-clause-acted c = λ g q s r h run shares remembers holds allowed hand ru
     let P : Outcome → Type 0 = λ x. AcceptsOutcome g s.tenant a q x memory new (ask_answered given) in (
       subst P (answer_outcome-told g s a actor h run ask q answers.told answers.is_told)
           (acted-answer_outcome g s.tenant memory a actor new h run ask q answers.told kept given hand running
-          put answers.is same answers.remembers),
+          put answers.is same.given answers.remembers),
       answers.holds,
     )
 

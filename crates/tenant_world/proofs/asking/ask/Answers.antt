@@ -1,11 +1,13 @@
-use Rattle.std.proofs.Common.{sym, ap, subst, ◌∙◌, option_map, Err}
-use Rattle.repl_asks.specs.Inside.View.{ask_view, answer_view}
-use Rattle.server_rules.specs.Plan.{Plan, Outcome, ask_answered, request_interrupted}
+use Rattle.std.proofs.Common.{sym, ap, subst, ◌∙◌, option_map, Err, IfOk, IfErr}
+use Rattle.repl_asks.specs.Inside.View.{ask_view}
+use Rattle.server_rules.specs.Plan.{Plan, Outcome, StepAnswer}
+use Rattle.server_rules.specs.Starting.{interrupted_in}
 use Rattle.server_rules.specs.Store.{Store}
 use Rattle.ref_table.specs.Refs.{refs_after}
 use Rattle.tenant_actors.specs.View.{actor_view, hand_view, run_view}
 use Rattle.tenant_turns.specs.DeedResult.{carried_out}
-use Rattle.tenant_world.specs.Acting.{AcceptsOutcome, is_accepted}
+use Rattle.tenant_world.specs.Answers.{ask_answer_view}
+use Rattle.tenant_world.specs.Acting.{AcceptsOutcome, RefusesOutcome, is_accepted}
 use Rattle.tenant_refs.specs.Serving.{ServesWithAttempts}
 use Rattle.tenant_world.proofs.Remembering.{acted-interrupted, wanted-memory}
 use Rattle.tenant_world.proofs.Answering.{asked-open, asked-closed, given-told, given-declined}
@@ -41,12 +43,16 @@ returns-then-state-clause-acted c = λ g q s r shares remembers holds.
     let gone = c.in_ok-give_up.ensures.gone g q s r remembers holds in
     let both = given-told s a k ask q gone.0 in
     let P : Plan → Type 0 = λ p.
-    AcceptsOutcome g s.tenant a q (carried_out s p).outcome memory actor request_interrupted
+    AcceptsOutcome g s.tenant a q (carried_out s p).outcome memory actor
+    (ask_answer_view c.interrupted.result.given)
     × ServesWithAttempts refs attempts (carried_out s p).store (refs_after (carried_out s p).store r) in
-    let Q : Outcome → Type 0 = λ x. AcceptsOutcome g s.tenant a q x memory actor request_interrupted in
+    let answer = ask_answer_view c.interrupted.result.given in
+    let Q : Outcome → Type 0 = λ x. AcceptsOutcome g s.tenant a q x memory actor answer in
+    let T : StepAnswer → Type 0 = λ x. AcceptsOutcome g s.tenant a q (interrupted_in a k q) memory actor x in
     let R : Store → Type 0 = λ x. ServesWithAttempts refs attempts x (refs_after x r) in
     subst P plan (
-      subst Q (sym both.0) (acted-interrupted g s.tenant memory a actor k q gone.1),
+      subst Q (sym both.0) (subst T (sym (ap ask_answer_view c.interrupted.ensures.given))
+          (acted-interrupted g s.tenant memory a actor k q gone.1)),
       subst R (sym both.1) gone.2,
     )
 
@@ -60,13 +66,28 @@ returns-clause-acted c = λ g q s r shares remembers holds.
     let allowed = sym c.is_allowed.ensures ∙ c.if-not-is_allowed.false in
     let hand = ap (option_map hand_view) c.in-Some.is in
     let running = ap (option_map run_view) c.in-Some-running.is in
-    let P : Plan → Type 0 = λ p.
+    let P : Plan → Type 0 = λ p. IfOk c.answer.result (λ x.
     AcceptsOutcome g s.tenant a q (carried_out s p).outcome c.answer.new.memory
-    (actor_view c.answer.new.state) (ask_answered (answer_view c.in_ok-answer.answer))
+    (actor_view c.answer.new.state) (ask_answer_view x.given)
     × ServesWithAttempts c.answer.new.refs c.answer.new.attempts (carried_out s p).store
-    (refs_after (carried_out s p).store r) in
+    (refs_after (carried_out s p).store r)) in
     subst P (asked-open g a actor ask q k run hand running allowed c.if-state.false)
-    (c.in_ok-answer.ensures.acted g q s r k run shares remembers holds allowed hand running)
+    (c.answer.ensures.acted g q s r k run shares remembers holds allowed hand running)
+
+pub returns-clause-declined : goal.returns-clause-declined
+returns-clause-declined c = λ g q s r shares remembers holds.
+    let a = c.args.actor in
+    let actor = actor_view c.args.state.now in
+    let ask = ask_view c.args.ask.now in
+    let k = hand_view c.in-Some.hand in
+    let run = run_view c.in-Some-running._run in
+    let allowed = sym c.is_allowed.ensures ∙ c.if-not-is_allowed.false in
+    let P : Plan → Type 0 = λ p. IfErr c.answer.result (λ why.
+    RefusesOutcome g s.tenant q (carried_out s p).outcome c.answer.new.memory why
+    × ServesWithAttempts c.answer.new.refs c.answer.new.attempts s r) in
+    subst P (asked-open g a actor ask q k run (ap (option_map hand_view) c.in-Some.is)
+    (ap (option_map run_view) c.in-Some-running.is) allowed c.if-state.false)
+    (c.answer.ensures.declined g q s r k run shares remembers holds allowed)
 
 pub returns-in_err-give_up-clause-no_memory : goal.returns-in_err-give_up-clause-no_memory
 returns-in_err-give_up-clause-no_memory c = λ g q s r holds none other.
@@ -84,8 +105,8 @@ returns-in_err-give_up-clause-no_memory c = λ g q s r holds none other.
     ∙ ap is_accepted (given-told s a k ask q
     (c.in_err-give_up.ensures.no_memory s r holds (ap (λ e. Err e) why) other)).0
 
-pub returns-in_err-answer-clause-no_memory : goal.returns-in_err-answer-clause-no_memory
-returns-in_err-answer-clause-no_memory c = λ g q s r holds none other.
+pub returns-clause-no_memory : goal.returns-clause-no_memory
+returns-clause-no_memory c = λ g q s r holds none other.
     let a = c.args.actor in
     let actor = actor_view c.args.state.now in
     let ask = ask_view c.args.ask.now in
@@ -94,7 +115,5 @@ returns-in_err-answer-clause-no_memory c = λ g q s r holds none other.
     let allowed = sym c.is_allowed.ensures ∙ c.if-not-is_allowed.false in
     let plan = asked-open g a actor ask q k run (ap (option_map hand_view) c.in-Some.is)
     (ap (option_map run_view) c.in-Some-running.is) allowed c.if-state.false in
-    let why = wanted-memory c.in_err-answer.field-0.0 c.from_residual-in_err-answer.result
-    c.from_residual-in_err-answer.ensures.1 none in
     sym (ap (λ p. is_accepted (carried_out s p).outcome) plan)
-    ∙ c.in_err-answer.ensures.no_memory g q s r k run holds (ap (λ e. Err e) why) other
+    ∙ c.answer.ensures.no_memory g q s r k run holds none other

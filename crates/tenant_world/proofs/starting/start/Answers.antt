@@ -1,7 +1,9 @@
 use Rattle.std.proofs.Common.{◌∙◌, sym, ap, subst, option_map, true, false}
 use Rattle.server_rules.specs.Deeds.{start_of}
-use Rattle.server_rules.specs.Plan.{Outcome, request_interrupted}
+use Rattle.server_rules.specs.Plan.{Outcome, StepAnswer}
+use Rattle.server_rules.specs.Starting.{interrupted_in}
 use Rattle.tenant_actors.specs.View.{actor_view, hand_view, run_view}
+use Rattle.tenant_world.specs.Answers.{start_answer_view}
 use Rattle.tenant_world.specs.Acting.{AcceptsOutcome, is_accepted}
 use Rattle.tenant_world.proofs.Remembering.{acted-interrupted, declined-memory}
 use Rattle.tenant_world.proofs.Begins.{none-mapped, start-between}
@@ -21,9 +23,12 @@ returns-then-state-clause-acted c = λ g t q right tries r.
     let there = ap (option_map hand_view) c.in-Some.is in
     let between = none-mapped run_view c.in-Some.hand.running
     (sym c.is_some.ensures ∙ c.if-is_some.false) in
-    let P : Outcome → Type 0 = λ x. AcceptsOutcome g t a q x memory actor request_interrupted in
+    let answer = start_answer_view c.interrupted.result.given in
+    let P : Outcome → Type 0 = λ x. AcceptsOutcome g t a q x memory actor answer in
+    let Q : StepAnswer → Type 0 = λ x. AcceptsOutcome g t a q (interrupted_in a k q) memory actor x in
     subst P (start-between g a actor q actor.hand k true there between c.if-state.true)
-    (acted-interrupted g t memory a actor k q (c.in_ok-interrupt.ensures.told g t q r))
+    (subst Q (sym (ap start_answer_view c.interrupted.ensures.given))
+    (acted-interrupted g t memory a actor k q (c.in_ok-interrupt.ensures.told g t q r)))
 
 pub returns-in_err-interrupt-clause-no_memory : goal.returns-in_err-interrupt-clause-no_memory
 returns-in_err-interrupt-clause-no_memory c = λ g t q r none.

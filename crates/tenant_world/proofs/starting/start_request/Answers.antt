@@ -1,4 +1,4 @@
-use Rattle.std.proofs.Common.{◌≡◌, ◌∙◌, sym, ap, subst, option_map}
+use Rattle.std.proofs.Common.{◌≡◌, ◌∙◌, refl, sym, ap, subst, option_map}
 use Rattle.repl_sessions.specs.State.{StateData}
 use Rattle.repl_sessions.specs.Inside.StateView.{state_view}
 use Rattle.name_spaces.specs.Namespaces.{Namespaces}
@@ -9,7 +9,7 @@ use Rattle.tenant_actors.specs.View.{actor_view, waiting_view}
 use Rattle.tenant_moves.specs.Starts.{answer_given}
 use Rattle.tenant_world.specs.Answers.{start_answer_view}
 use Rattle.tenant_world.specs.Acting.{AcceptsOutcome, younger, with_next_in_hand}
-use Rattle.tenant_world.proofs.Remembering.{held-so, declined-memory}
+use Rattle.tenant_world.proofs.Remembering.{held-so, declined-memory, step-without-memory}
 use Rattle.tenant_world.proofs.Begins.{acted-start_outcome, waiting-taken, waiting-accepted}
 use Rattle.tenant_world.proofs.starting.start_request.Goals as goal
 
@@ -45,9 +45,11 @@ returns-clause-acted c = λ g t q right tries r hand.
     (text_begun g q.spaces w.origin x w.text) q)) memory new (answer_given given) in
     let R : StepAnswer → Type 0 = λ x. AcceptsOutcome g t a q (held_or q (start_outcome a behind
     (text_begun g q.spaces w.origin (first_state a q) w.text) q)) memory new x in
-    let S : Outcome → Type 0 = λ x. AcceptsOutcome g t a q x memory new (start_answer_view c.answer_of.result) in
+    let answer = start_answer_view c.in_ok-answers.answers.given in
+    let S : Outcome → Type 0 = λ x. AcceptsOutcome g t a q x memory new answer in
+    let told_so = ap start_answer_view c.in_ok-answers.ensures.given ∙ c.answer_of.ensures in
     subst S (waiting-taken g a actor q w actor.waiting first)
-    (subst R (sym c.answer_of.ensures) (subst Q same_state (subst P r.spaces here)))
+    (subst R (sym told_so) (subst Q same_state (subst P r.spaces here)))
 
 pub returns-in_err-session-clause-no_memory : goal.returns-in_err-session-clause-no_memory
 returns-in_err-session-clause-no_memory c = λ g t q r none.
@@ -63,9 +65,26 @@ returns-in_err-news-clause-no_memory c = λ g t q r none.
     (sym c.oldest.ensures ∙ ap (option_map (λ x. waiting_view x.now)) c.in-Some.is)
     (held-so g t c.args.memory.now q c.is_held.result r c.is_held.ensures ∙ c.if-is_held.false)
 
+pub returns-in_err-answers-clause-no_memory : goal.returns-in_err-answers-clause-no_memory
+returns-in_err-answers-clause-no_memory c = λ g t q r none.
+    let actor = actor_view c.args.state.now in
+    waiting-accepted g c.args.actor actor q (waiting_view c.in-Some.waiting.now) actor.waiting
+    (sym c.oldest.ensures ∙ ap (option_map (λ x. waiting_view x.now)) c.in-Some.is)
+    (held-so g t c.args.memory.now q c.is_held.result r c.is_held.ensures ∙ c.if-is_held.false)
+
 pub returns-in_err-post_news-clause-no_memory : goal.returns-in_err-post_news-clause-no_memory
 returns-in_err-post_news-clause-no_memory c = λ g t q r none.
     let actor = actor_view c.args.state.now in
     waiting-accepted g c.args.actor actor q (waiting_view c.in-Some.waiting.now) actor.waiting
     (sym c.oldest.ensures ∙ ap (option_map (λ x. waiting_view x.now)) c.in-Some.is)
     (held-so g t c.args.memory.now q c.is_held.result r c.is_held.ensures ∙ c.if-is_held.false)
+
+pub returns-in_err-answers-clause-step : goal.returns-in_err-answers-clause-step
+returns-in_err-answers-clause-step c =
+    step-without-memory _ _ _ _ c.from_residual-in_err-answers.result
+    c.from_residual-in_err-answers.ensures.1 refl refl
+
+pub returns-in_err-post_news-clause-step : goal.returns-in_err-post_news-clause-step
+returns-in_err-post_news-clause-step c =
+    step-without-memory _ _ _ _ c.from_residual-in_err-post_news.result
+    c.from_residual-in_err-post_news.ensures.1 refl c.post_news.ensures.opened

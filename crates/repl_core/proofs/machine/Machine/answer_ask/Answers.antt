@@ -17,18 +17,18 @@ returns-clause-done c = λ g w right s.
     let t = c.args.number in
     let old = c.args.self.now in
     let d = deeds.asks_for c.args.actor (ask_view c.args.ask.now) in
-    does-so g w t d old c.put_back.new.self c.answer-result.new.refs c.in-Some.tenant c.answer-result.new.self
-    ask_answer_view c.answer-result.result s (sym c.in-Some.ensures.taken)
+    does-so g w t d old c.put_back.new.self c.answer_copied-result.new.refs c.in-Some.tenant c.answer_copied-result.new.self
+    (λ x. ask_answer_view x.given) c.answer_copied-result.result s (sym c.in-Some.ensures.taken)
     (λ kept st serves.
     let at = store_in w.around t kept.mine in
-    ok-map _ _ c.answer-result.result (λ x it. (
+    ok-map _ _ c.answer_copied-result.result (λ x it. (
       record {
         after = it.0.after;
         accepted = it.0.accepted;
         stands = it.0.stands;
       },
       it.1,
-    )) (c.answer-result.ensures.done g kept.quiet at s.refs right st serves))
+    )) (c.answer_copied-result.ensures.done g kept.quiet at s.refs right st serves))
     (c.put_back.ensures.put (c.in-Some.ensures.place refl))
     (λ u apart. c.put_back.ensures.others u apart ∙ c.in-Some.ensures.others u apart)
 
@@ -37,10 +37,10 @@ returns-clause-refused c = λ g w right s.
     let t = c.args.number in
     let old = c.args.self.now in
     let d = deeds.asks_for c.args.actor (ask_view c.args.ask.now) in
-    refuses-so g w t d old c.put_back.new.self c.answer-result.new.refs c.in-Some.tenant c.answer-result.new.self
-    c.answer-result.result s (sym c.in-Some.ensures.taken)
+    refuses-so g w t d old c.put_back.new.self c.answer_copied-result.new.refs c.in-Some.tenant c.answer_copied-result.new.self
+    c.answer_copied-result.result s (sym c.in-Some.ensures.taken)
     (λ kept st serves.
-    c.answer-result.ensures.refused g kept.quiet (store_in w.around t kept.mine) s.refs right st serves)
+    c.answer_copied-result.ensures.refused g kept.quiet (store_in w.around t kept.mine) s.refs right st serves)
     (c.put_back.ensures.put (c.in-Some.ensures.place refl))
     (λ u apart. c.put_back.ensures.others u apart ∙ c.in-Some.ensures.others u apart)
 
@@ -49,5 +49,5 @@ returns-clause-no_memory c = λ g w right s room none other.
     let t = c.args.number in
     accepts-so g w t (deeds.asks_for c.args.actor (ask_view c.args.ask.now)) c.args.self.now
     c.in-Some.tenant s (sym c.in-Some.ensures.taken)
-    (λ kept st serves. c.answer-result.ensures.no_memory g kept.quiet
+    (λ kept st serves. c.answer_copied-result.ensures.no_memory g kept.quiet
     (store_in w.around t kept.mine) s.refs st serves none other)

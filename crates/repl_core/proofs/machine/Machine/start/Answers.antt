@@ -17,12 +17,13 @@ returns-clause-done c = λ g w right s.
     let t = c.args.number in
     let old = c.args.self.now in
     let d = deeds.starts c.args.actor in
-    does-so g w t d old c.put_back.new.self old.refs c.in-Some.tenant c.start-result.new.self
-    start_answer_view c.start-result.result s (sym c.in-Some.ensures.taken)
+    does-so g w t d old c.put_back.new.self old.refs c.in-Some.tenant c.start_copied-result.new.self
+    (λ x. start_answer_view x.given) c.start_copied-result.result s (sym c.in-Some.ensures.taken)
     (λ kept st serves.
     let at = store_in w.around t kept.mine in
-    of-actor g c.args.actor kept.quiet _ c.start-result.new.self start_answer_view _ c.start-result.result
-    (c.start-result.ensures.done g kept.quiet at right st)
+    of-actor g c.args.actor kept.quiet _ c.start_copied-result.new.self (λ x. start_answer_view x.given) _
+    c.start_copied-result.result
+    (c.start_copied-result.ensures.done g kept.quiet at right st)
     (serves-all-still old.refs at _ s.refs serves
     (starts-reached g kept.quiet at c.args.actor)))
     (c.put_back.ensures.put (c.in-Some.ensures.place refl))
@@ -33,11 +34,11 @@ returns-clause-refused c = λ g w right s.
     let t = c.args.number in
     let old = c.args.self.now in
     let d = deeds.starts c.args.actor in
-    refuses-so g w t d old c.put_back.new.self old.refs c.in-Some.tenant c.start-result.new.self
-    c.start-result.result s (sym c.in-Some.ensures.taken)
+    refuses-so g w t d old c.put_back.new.self old.refs c.in-Some.tenant c.start_copied-result.new.self
+    c.start_copied-result.result s (sym c.in-Some.ensures.taken)
     (λ kept st serves.
-    err-with _ _ c.start-result.result
-    (c.start-result.ensures.refused g kept.quiet (store_in w.around t kept.mine) right st) serves)
+    err-with _ _ c.start_copied-result.result
+    (c.start_copied-result.ensures.refused g kept.quiet (store_in w.around t kept.mine) right st) serves)
     (c.put_back.ensures.put (c.in-Some.ensures.place refl))
     (λ u apart. c.put_back.ensures.others u apart ∙ c.in-Some.ensures.others u apart)
 
@@ -45,5 +46,5 @@ pub returns-clause-no_memory : goal.returns-clause-no_memory
 returns-clause-no_memory c = λ g w right s none.
     let t = c.args.number in
     accepts-so g w t (deeds.starts c.args.actor) c.args.self.now c.in-Some.tenant s (sym c.in-Some.ensures.taken)
-    (λ kept st serves. c.start-result.ensures.no_memory g kept.quiet (store_in w.around t kept.mine)
+    (λ kept st serves. c.start_copied-result.ensures.no_memory g kept.quiet (store_in w.around t kept.mine)
     right st none)

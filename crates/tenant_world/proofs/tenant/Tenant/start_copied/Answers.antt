@@ -10,7 +10,7 @@ use Rattle.tenant_world.specs.Answers.{start_answer_view}
 use Rattle.tenant_world.specs.Standing.{RefusesDeed}
 use Rattle.tenant_world.proofs.Standing.{starts-by, does-acted, refuses-declined, refuses-so}
 use Rattle.tenant_world.proofs.Standing.{lends-memory, accepts-by}
-use Rattle.tenant_world.proofs.tenant.Tenant.start.Goals as goal
+use Rattle.tenant_world.proofs.tenant.Tenant.start_copied.Goals as goal
 
 pub returns-in_err-state-clause-refused : goal.returns-in_err-state-clause-refused
 returns-in_err-state-clause-refused c = λ g q s right stands.
@@ -31,7 +31,7 @@ returns-in-Ok-clause-done c = λ g q s right stands.
     let lends = lends-memory g a c.lend.new.self _ q refl refl refl refl lent.0 in
     let actor = actor_view c.start.new.state in
     does-acted g s.tenant a q s p (deed_result g s q (deeds.starts a)) (actor_view c.in_ok-state.state)
-    c.start.new.memory actor (start_answer_view c.in-Ok.started) c.settle.new.self
+    c.start.new.memory actor (start_answer_view c.in-Ok.started.given) c.settle.new.self
     (starts-by g q s a) some lent.1 acted
     (λ after r actors steps heard. c.settle.ensures.stands g q after s lends r lent.3
     (actors ∙ ap (λ b. actors_after b a actor q.actors) (sym c.is_interrupted.ensures)) steps heard)

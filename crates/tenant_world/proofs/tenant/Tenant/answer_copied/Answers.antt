@@ -14,7 +14,7 @@ use Rattle.tenant_refs.specs.Serving.{TableServes}
 use Rattle.tenant_world.specs.Standing.{RefusesDeed}
 use Rattle.tenant_world.proofs.Standing.{carried-tenant, asks-by, done-by, does-acted}
 use Rattle.tenant_world.proofs.Standing.{refuses-declined, lends-memory, refuses-with, accepts-by}
-use Rattle.tenant_world.proofs.tenant.Tenant.answer.Goals as goal
+use Rattle.tenant_world.proofs.tenant.Tenant.answer_copied.Goals as goal
 
 pub returns-in_err-state-clause-refused : goal.returns-in_err-state-clause-refused
 returns-in_err-state-clause-refused c = λ g q s r right stands serves.
@@ -43,7 +43,7 @@ returns-in-Ok-clause-done c = λ g q s refs right stands serves.
     let same = asks-by g q s a ask ∙ done-by q s a p before some lent.1 in
     let S : DeedResult → Type 0 = λ x. TableServes c.ask.new.refs x.store (refs_after x.store refs) in (
       does-acted g s.tenant a q s p (deed_result g s q (deeds.asks_for a ask)) before
-          c.ask.new.memory actor (ask_answer_view c.in-Ok.answered) c.settle.new.self
+          c.ask.new.memory actor (ask_answer_view c.in-Ok.answered.given) c.settle.new.self
           (asks-by g q s a ask) some lent.1 acted.0
           (λ behind r actors steps heard. c.settle.ensures.stands g q behind d.store lends
           (subst (λ t. Remembers g t c.ask.new.memory behind) (sym (carried-tenant s (p before))) r)
