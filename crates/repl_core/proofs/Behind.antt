@@ -227,7 +227,7 @@ refuses-so g w t d old ts table was code res s there told put others =
 
 -- Where the rules accept a tenant's deed, they accept the step
 
-ended-accepted : (w : World) (t : ℕ) (s : Store) (o : Outcome) → is_accepted o ≡ true
+pub ended-accepted : (w : World) (t : ℕ) (s : Store) (o : Outcome) → is_accepted o ≡ true
     → is_accepted_step (ended_as w t s o) ≡ true
 ended-accepted w t s (refuses why) never = absurd (true≢false (sym never))
 ended-accepted w t s (leaves q answer) is = refl

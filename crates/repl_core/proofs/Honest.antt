@@ -1,10 +1,11 @@
 -- A machine behind the turn of an actor.
-use Rattle.std.proofs.Common.{◌≡◌, ◌≢◌, ℕ, Some, None, option_map, Result, Ok, Err, IfErr, OnOk}
+use Rattle.std.proofs.Common.{◌≡◌, ◌≢◌, ℕ, Bool, true, Some, None, option_map, Result, Ok, Err, IfErr}
+use Rattle.std.proofs.Common.{OnOk}
 use Rattle.std.proofs.Common.{sym, ap, subst, ◌∙◌}
 use Rattle.server_rules.specs.Ground.{Ground}
 use Rattle.server_rules.specs.Numbered.{part_under}
 use Rattle.server_rules.specs.Honest.{honest_deed}
-use Rattle.server_rules.specs.Machine.Turns.{goes, turn_step, quiet_of}
+use Rattle.server_rules.specs.Machine.Turns.{goes, step_of, turn_step, quiet_of}
 use Rattle.server_rules.specs.Machine.World.{TenantData, World, step, does, ended_as}
 use Rattle.server_rules.specs.declared.actor.Actor.{Actor}
 use Rattle.server_rules.specs.declared.refusal.Refusal.{Refusal}
@@ -12,18 +13,22 @@ use Rattle.tenant_refs.specs.Serving.{ListRefTable}
 use Rattle.tenant_turns.specs.Grounds.{IsRight}
 use Rattle.tenant_turns.specs.Turns.{Lone}
 use Rattle.tenant_walks.specs.Grounds.{Evaluates}
+use Rattle.tenant_walks.specs.Inside.Seen.{is_seen}
 use Rattle.tenant_walks.specs.Inside.Standing as walked
 use Rattle.tenant_walks.specs.Inside.Standing.{parts}
 use Rattle.tenant_walks.specs.declared.walks.Walks.{Walks}
+use Rattle.tenant_world.specs.Acting.{is_accepted}
 use Rattle.tenant_world.specs.declared.tenant.Tenant.{Tenant}
 use Rattle.repl_core.specs.TenantAt.{tenant_at}
 use Rattle.repl_core.specs.Standing.{open_in, store_in, TenantStands, MachineStands}
-use Rattle.repl_core.specs.Going.{AreWalkedIn, AcceptsHonestStep, RefusesHonestStep}
+use Rattle.repl_core.specs.Going.{AreWalkedIn, AcceptsHonestStep, RefusesHonestStep, is_seen_step}
+use Rattle.repl_core.specs.Steps.{is_accepted_step}
 use Rattle.repl_core.specs.declared.machine.Machine.{Machine}
 use Rattle.repl_core.specs.declared.tenants.Tenants.{Tenants}
 use Rattle.repl_core.proofs.Worlds.{deed_of, found-open, step-deed, step-none}
 use Rattle.repl_core.proofs.Places.{serves-in, kept-at, none-at, open-mine, all-places}
 use Rattle.repl_core.proofs.Behind.{machine_with, stands-with, stands-one, stays-one, world_behind}
+use Rattle.repl_core.proofs.Behind.{ended-accepted}
 
 -- the turn is the honest deed
 pub honest_deed-turn : (g : Ground) (w : World) (t : ℕ) (a : Actor) (kept : TenantData)
@@ -112,6 +117,27 @@ halts-so g w t a old ts table was code before walks (Err why) s right ground the
           it.stands.serves put others;
       walked = subst (AreWalkedIn walks) (sym at.1) it.stands.walked;
     }
+
+-- where the rules accept the honest deed, they accept the turn
+pub accepts-goes : (g : Ground) (w : World) (t : ℕ) (a : Actor) (old : Machine) (was : Tenant)
+    (walks : Walks) (kept : Bool) (s : MachineStands g old w) → IsRight g → Evaluates g
+    → tenant_at old.tenants t ≡ Some was → AreWalkedIn walks (open_in t w)
+    → ((l : Lone) → walked.PartsStand g (parts was old.refs walks) l s.refs
+    → is_seen kept (honest_deed g a (Some (Some l.quiet))) ≡ true
+    → is_accepted (walked.comes_to g l (honest_deed g a (Some (Some l.quiet)))).outcome ≡ true)
+    → is_seen_step kept (step_of g w (goes t a)) ≡ true
+    → is_accepted_step (turn_step g w (goes t a)) ≡ true
+accepts-goes g w t a old was walks kept s right ground there walked told seen =
+    let at = kept-at g s.refs t was (tenant_at old.tenants t) (open_in t w) (s.tenants t) there in
+    let mine = at.0 in
+    let d = honest_deed g a (Some (Some mine.quiet)) in
+    let e = deed_of g w t mine d in
+    let found = found-open (part_under t w.tenants) mine at.1 in
+    ap is_accepted_step (honest_deed-turn g w t a mine at.1 ∙ step-deed g w t d mine at.1)
+    ∙ ended-accepted w t e.store e.outcome (told (lone_in w t mine)
+    (lone-stands g w t old was walks mine s right ground there at.1 walked)
+    (sym (ap (λ o. is_seen kept (honest_deed g a (option_map quiet_of o))) found)
+    ∙ seen))
 
 -- of a tenant that is not there
 pub halts-none : (g : Ground) (w : World) (t : ℕ) (a : Actor) (old : Machine) (ts : Tenants)

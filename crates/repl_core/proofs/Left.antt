@@ -39,3 +39,7 @@ waits-so o code there = ap (λ it. (left_of it).outbox) there
 pub some-waits : (o : Option Tenant) (code : Tenant) → o ≡ Some code
     → 0 < length (replies_of code) → 0 < length (left_of o).outbox
 some-waits o code there waits = subst (λ it. 0 < length (left_of it).outbox) (sym there) waits
+
+pub some-left : (o : Option Tenant) (code : Tenant) → o ≡ Some code → 0 < code.steps
+    → 0 < (left_of o).steps
+some-left o code there left = subst (λ it. 0 < (left_of it).steps) (sym there) left

@@ -1,5 +1,5 @@
 -- An actor of a tenant goes on as its evaluation says.
-use Rattle.std.specs.Prelude.{◌≡◌, ◌≢◌, ℕ, Option, None, Some, ⊤}
+use Rattle.std.specs.Prelude.{◌≡◌, ◌≢◌, ℕ, Bool, true, Option, None, Some, ⊤}
 use Rattle.server_rules.specs.Ground.{Ground}
 use Rattle.server_rules.specs.Plan.{Deed, StepAnswer, hears, starts, asks_for, ends, drains}
 use Rattle.server_rules.specs.Machine.Turns.{goes, turn_step}
@@ -8,6 +8,7 @@ use Rattle.server_rules.specs.Machine.World.{TenantData, World, opens, does, clo
 use Rattle.server_rules.specs.Machine.World.{refused}
 use Rattle.server_rules.specs.declared.actor.Actor.{Actor}
 use Rattle.server_rules.specs.declared.refusal.Refusal.{Refusal}
+use Rattle.tenant_walks.specs.Inside.Seen.{is_seen}
 use Rattle.tenant_walks.specs.Inside.WalkAt.{walk_at}
 use Rattle.tenant_walks.specs.Inside.Walked.{AreWalked}
 use Rattle.tenant_walks.specs.declared.walks.Walks.{Walks}
@@ -31,6 +32,11 @@ abbrev pub StepKeepsForms : worlds.Step → Type 0
 StepKeepsForms (opens t) = ⊤
 StepKeepsForms (does t d) = KeepsForms d
 StepKeepsForms (closes t) = ⊤
+
+-- whether it is seen without memory if the step is refused
+abbrev pub is_seen_step : Bool → worlds.Step → Bool
+is_seen_step kept (does t d) = is_seen kept d
+is_seen_step kept _ = true
 
 -- the turn is accepted
 pub record AcceptsHonestStep (g : Ground) (w : World) (t : ℕ) (a : Actor) (m : Machine)

@@ -1,11 +1,15 @@
 // An actor goes on as its evaluation says.
-ghost use Rattle.std.specs.Prelude.{◌≡◌, ◌+◌, ◌<◌, Err, OnOk, IfErr, OnErr, length};
+ghost use Rattle.std.specs.Prelude.{◌≡◌, ◌+◌, ◌<◌, true, Err, OnOk, IfErr, OnErr, length};
 ghost use Rattle.server_rules.specs.Ground.{Ground};
+ghost use Rattle.server_rules.specs.Machine.Turns.{goes, step_of, turn_step};
 ghost use Rattle.server_rules.specs.Machine.World.{World};
+ghost use Rattle.ref_table.specs.Standing.{counter_of};
 ghost use Rattle.tenant_turns.specs.Grounds.{IsRight};
 ghost use Rattle.tenant_walks.specs.Grounds.{Evaluates};
+ghost use Rattle.tenant_walks.specs.Inside.Seen.{is_kept};
 ghost use Rattle.repl_core.specs.Standing.{open_in};
-ghost use Rattle.repl_core.specs.Going.{AreWalkedIn};
+ghost use Rattle.repl_core.specs.Going.{AreWalkedIn, is_seen_step};
+ghost use Rattle.repl_core.specs.Steps.{is_accepted_step};
 
 use crate::deeds::has_stamps;
 use crate::machine::Machine;
@@ -29,6 +33,15 @@ impl Machine {
             → MachineStands g self.old w
             → AreWalkedIn walks.old (open_in number w)
             → IfErr result (RefusesHonestStep g w number actor self.new walks.new) }
+        ensures no_memory { (g : Ground) (w : World) → IsRight g → Evaluates g
+            → MachineStands g self.old w
+            → AreWalkedIn walks.old (open_in number w)
+            → counter_of self.old.refs < u128.MAX → result ≡ Err Refusal.NoMemory
+            → is_seen_step (is_kept walks.old walks.new actor) (step_of g w (goes number actor))
+            ≡ true
+            → is_accepted_step (turn_step g w (goes number actor)) ≡ true }
+        ensures unworn { counter_of self.old.refs < u128.MAX → result ≡ Err Refusal.NoMemory
+            → 0 < (left_at number self.old).steps }
         ensures steps { OnOk result
             ((left_at number self.old).steps ≡ (left_at number self.new).steps + 1) }
         ensures kept { OnErr result

@@ -35,7 +35,7 @@ honest_deed-starts g a q none = sym (by (part_under (seat_of a) q.actors) none)
     by None e = refl
     by (Some actor) e = in_hand actor.hand e
 
-honest_deed-runs : (g : Ground) (a : Actor) (q : Quiet) (run : Run) → running_in a q ≡ Some run
+pub honest_deed-runs : (g : Ground) (a : Actor) (q : Quiet) (run : Run) → running_in a q ≡ Some run
     → honest_deed g a (Some (Some q)) ≡ honest_at a run (tree_after (g.evaluation run.job) run.trace)
 honest_deed-runs g a q run some = by (part_under (seat_of a) q.actors) some
   where

@@ -5,3 +5,4 @@ pub mod Walking
 pub mod Stores
 pub mod Steps
 pub mod Ending
+pub mod Memory

@@ -2,4 +2,5 @@
 -- code, and proofs, and none of the rules.
 pub mod WalkAt
 pub mod Walked
+pub mod Seen
 pub mod Standing

@@ -1,5 +1,6 @@
 // An actor goes on as its evaluation says.
-ghost use Rattle.std.specs.Prelude.{◌≡◌, ◌≢◌, ◌+◌, ◌<◌, ◌≤◌, Some, None, Err, OnOk, IfErr, OnErr};
+ghost use Rattle.std.specs.Prelude.{◌≡◌, ◌≢◌, ◌+◌, ◌<◌, ◌≤◌, true, false, Some, None, Err, OnOk};
+ghost use Rattle.std.specs.Prelude.{IfErr, OnErr};
 ghost use Rattle.repl_asks.specs.Inside.View.{ask_view, answer_view};
 ghost use Rattle.server_rules.specs.Ground.{Ground};
 ghost use Rattle.server_rules.specs.Tenant.{seat_of};
@@ -10,9 +11,12 @@ ghost use Rattle.ref_table.specs.Refs.{Refs};
 ghost use Rattle.ref_table.specs.Standing.{counter_of};
 ghost use Rattle.tenant_turns.specs.Grounds.{IsRight};
 ghost use Rattle.tenant_turns.specs.Turns.{Lone};
+ghost use Rattle.tenant_refs.specs.Telling.{is_commit};
+ghost use Rattle.tenant_world.specs.Acting.{is_accepted};
 ghost use Rattle.tenant_world.specs.Asking.{exchange_from, run_with};
 ghost use Rattle.tenant_world.specs.Running.{running_in};
 ghost use Rattle.tenant_world.specs.Standing.{CountsStep};
+ghost use Rattle.tenant_walks.specs.Inside.Seen.{is_kept, is_seen};
 ghost use Rattle.tenant_walks.specs.Inside.Walked.{IsWalkOf, ending_of};
 ghost use Rattle.tenant_walks.specs.Inside.WalkAt.{walk_at, IsAsking, IsEnded};
 ghost use Rattle.repl_walker.specs.declared.waiting.Walk.{Walk};
@@ -29,7 +33,7 @@ use tenant_world::{AskAnswer, Tenant};
 
 impl Walks {
     ghost use Rattle.tenant_walks.specs.Inside.Standing.{parts, PartsStand, AcceptsHonestDeed};
-    ghost use Rattle.tenant_walks.specs.Inside.Standing.{RefusesHonestDeed};
+    ghost use Rattle.tenant_walks.specs.Inside.Standing.{RefusesHonestDeed, comes_to};
 
     /// Does what is next for an actor of the tenant whose evaluations these are: begins a form,
     /// answers one ask of it or ends it. What a form asks of refs is asked of this table.
@@ -48,10 +52,20 @@ impl Walks {
             → PartsStand g (parts tenant.old refs.old self.old) l r → IfErr result
             (RefusesHonestDeed g l r (honest_deed g actor (Some (Some l.quiet)))
             (parts tenant.new refs.new self.new)) }
+        ensures no_memory { (g : Ground) (l : Lone) (r : Refs) → IsRight g
+            → PartsStand g (parts tenant.old refs.old self.old) l r
+            → result ≡ Err Refusal.NoMemory
+            → let d = honest_deed g actor (Some (Some l.quiet)) in
+            is_seen (is_kept self.old self.new actor) d ≡ true
+            → is_accepted (comes_to g l d).outcome ≡ true }
+        ensures unworn { result ≡ Err Refusal.NoMemory → 0 < tenant.old.steps }
         ensures counted { CountsStep tenant.old tenant.new result }
         ensures counter { counter_of refs.new ≤ counter_of refs.old + 1 }
         ensures failed { OnErr result (counter_of refs.new ≡ counter_of refs.old) }
     {
+        if tenant.is_worn() {
+            return Err(Refusal::Worn);
+        }
         let Some(run) = tenant.running(actor) else {
             return self.begin(tenant, refs, actor);
         };
@@ -76,6 +90,10 @@ impl Walks {
         ensures refused { (g : Ground) (l : Lone) (r : Refs) → IsRight g
             → PartsStand g (parts tenant.old refs.now self.old) l r → IfErr result
             (RefusesHonestDeed g l r (deeds.starts actor) (parts tenant.new refs.now self.new)) }
+        ensures no_memory { (g : Ground) (l : Lone) (r : Refs) → IsRight g
+            → PartsStand g (parts tenant.old refs.now self.old) l r
+            → result ≡ Err Refusal.NoMemory
+            → is_accepted (comes_to g l (deeds.starts actor)).outcome ≡ true }
         ensures counted { CountsStep tenant.old tenant.new result }
     {
         tenant.start(actor)?;
@@ -103,6 +121,11 @@ impl Walks {
             → walk_at self.old actor ≡ Some (Progress.Asks w)
             → IfErr result (RefusesHonestDeed g l r (deeds.asks_for actor (ask_view w.ask))
             (parts tenant.new refs.new self.new)) }
+        ensures no_memory { (g : Ground) (l : Lone) (r : Refs) (w : Walk)
+            → PartsStand g (parts tenant.old refs.old self.old) l r
+            → walk_at self.old actor ≡ Some (Progress.Asks w)
+            → result ≡ Err Refusal.NoMemory → is_commit (ask_view w.ask) ≡ false
+            → is_accepted (comes_to g l (deeds.asks_for actor (ask_view w.ask))).outcome ≡ true }
         ensures counted { CountsStep tenant.old tenant.new result }
         ensures counter { counter_of refs.new ≤ counter_of refs.old + 1 }
         ensures failed { OnErr result (counter_of refs.new ≡ counter_of refs.old) }
@@ -137,6 +160,12 @@ impl Walks {
             → walk_at self.old actor ≡ Some (Progress.Ends e) → IfErr result
             (RefusesHonestDeed g l r (deeds.ends actor (ending_of run e))
             (parts tenant.new refs.now self.new)) }
+        ensures no_memory { (g : Ground) (l : Lone) (r : Refs) (run : rules.Run)
+            (e : endings.Ending) → IsRight g → PartsStand g (parts tenant.old refs.now self.old) l r
+            → running_in actor l.quiet ≡ Some run
+            → walk_at self.old actor ≡ Some (Progress.Ends e)
+            → result ≡ Err Refusal.NoMemory
+            → is_accepted (comes_to g l (deeds.ends actor (ending_of run e))).outcome ≡ true }
         ensures counted { CountsStep tenant.old tenant.new result }
     {
         let Some(Progress::Ends(ending)) = self.get(actor) else {

@@ -1,6 +1,7 @@
 use Rattle.std.proofs.Common.{◌∙◌, refl, sym}
-use Rattle.repl_core.proofs.Honest.{goes-so, halts-so, halts-none}
-use Rattle.repl_core.proofs.Left.{left-less, left-kept, left-none, some-waits}
+use Rattle.tenant_walks.specs.Inside.Seen.{is_kept}
+use Rattle.repl_core.proofs.Honest.{goes-so, halts-so, halts-none, accepts-goes}
+use Rattle.repl_core.proofs.Left.{left-less, left-kept, left-none, some-waits, some-left}
 use Rattle.repl_core.proofs.machine.Machine.go.Goals as goal
 
 pub returns-in_default-clause-refused : goal.returns-in_default-clause-refused
@@ -47,3 +48,15 @@ returns-clause-kept c =
 pub returns-clause-held : goal.returns-clause-held
 returns-clause-held c = λ held.
     some-waits _ c.in-Some.tenant (sym c.in-Some.ensures.taken) (c.go-result.ensures.counted.held held)
+
+pub returns-clause-no_memory : goal.returns-clause-no_memory
+returns-clause-no_memory c = λ g w right ground s walked room none.
+    let a = c.args.actor in
+    accepts-goes g w c.args.number a c.args.self.now c.in-Some.tenant c.args.walks.now
+    (is_kept c.args.walks.now c.go-result.new.self a) s right ground
+    (sym c.in-Some.ensures.taken) walked
+    (λ l st. c.go-result.ensures.no_memory g l s.refs right st none)
+
+pub returns-clause-unworn : goal.returns-clause-unworn
+returns-clause-unworn c = λ room none.
+    some-left _ c.in-Some.tenant (sym c.in-Some.ensures.taken) (c.go-result.ensures.unworn none)

@@ -1,4 +1,6 @@
+use Rattle.std.proofs.Common.{ap, Err}
 use Rattle.server_rules.specs.Plan as deeds
+use Rattle.tenant_world.proofs.Remembering.{wanted-memory}
 use Rattle.tenant_walks.specs.Inside.Standing.{parts}
 use Rattle.tenant_walks.proofs.Steps.{does-removed, refused-parts, serves-same}
 use Rattle.tenant_walks.proofs.Stores.{starts-reached}
@@ -20,3 +22,9 @@ returns-clause-done c = λ g l r right s.
     (c.in_ok-start.ensures.done g l.quiet l.store right s.tenant)
     (serves-same g l r (deeds.starts a) old s (starts-reached g l.quiet l.store a))
     c.remove.ensures.gone c.remove.ensures.others
+
+pub returns-in_err-start-clause-no_memory : goal.returns-in_err-start-clause-no_memory
+returns-in_err-start-clause-no_memory c = λ g l r right s none.
+    let why = wanted-memory c.in_err-start.field-0.0 c.from_residual.result
+    c.from_residual.ensures.1 none in
+    c.in_err-start.ensures.no_memory g l.quiet l.store right s.tenant (ap (λ e. Err e) why)

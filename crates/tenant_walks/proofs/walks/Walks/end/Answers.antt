@@ -1,7 +1,8 @@
-use Rattle.std.proofs.Common.{◌∙◌, sym, ap}
+use Rattle.std.proofs.Common.{◌∙◌, sym, ap, Err}
 use Rattle.repl_jobs.specs.Inside.View.{finished_view}
 use Rattle.repl_walker.specs.declared.waiting.Progress.{Progress}
 use Rattle.server_rules.specs.Plan as deeds
+use Rattle.tenant_world.proofs.Remembering.{wanted-memory}
 use Rattle.tenant_walks.specs.Inside.Standing.{parts}
 use Rattle.tenant_walks.specs.Inside.Walked.{ending_of}
 use Rattle.tenant_walks.proofs.Walking.{ends-same, at-so, some-same}
@@ -40,3 +41,16 @@ returns-clause-done c = λ g l r run e right s runs at.
     (serves-same g l r (deeds.ends a (ending_of run e)) old s
     (ends-reached g l.quiet l.store a (ending_of run e)))
     c.remove.ensures.gone c.remove.ensures.others
+
+pub returns-in_err-finish-clause-no_memory : goal.returns-in_err-finish-clause-no_memory
+returns-in_err-finish-clause-no_memory c = λ g l r run e right s runs at none.
+    let d = c.in-Some-Ends.ending in
+    let kept = at-so (λ p. p.now) c.get.result _ (Progress.Ends d) _ c.get.ensures
+    c.in-Some-Ends.is c.in-Some-Ends.field-0-is in
+    let same = ends-same d e (some-same _ _ (sym kept ∙ at)) in
+    let own = end-of-form c.args.actor l.quiet run e _ runs
+    (ap finished_view c.end.ensures ∙ ap (λ x. finished_view x.finished) same) in
+    let why = wanted-memory c.in_err-finish.field-0.0 c.from_residual.result
+    c.from_residual.ensures.1 none in
+    c.in_err-finish.ensures.no_memory g l.quiet l.store (ending_of run e) right s.tenant own
+    (ap (λ x. Err x) why)

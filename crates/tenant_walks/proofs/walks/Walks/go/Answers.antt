@@ -4,9 +4,12 @@ use Rattle.repl_walker.specs.declared.waiting.Progress.{Progress}
 use Rattle.server_rules.specs.Plan as deeds
 use Rattle.server_rules.specs.Honest.{honest_deed}
 use Rattle.tenant_actors.specs.View.{run_view}
-use Rattle.tenant_walks.specs.Inside.Standing.{parts}
+use Rattle.tenant_world.specs.Acting.{is_accepted}
+use Rattle.tenant_walks.specs.Inside.Seen.{is_kept, is_seen}
+use Rattle.tenant_walks.specs.Inside.Standing.{parts, comes_to}
 use Rattle.tenant_walks.specs.Inside.Walked.{ending_of}
 use Rattle.tenant_walks.proofs.Honest.{honest_deed-starts, honest_deed-asks, honest_deed-ends}
+use Rattle.tenant_walks.proofs.Memory.{refused-worn, seen-asks, unkept-unseen}
 use Rattle.tenant_walks.proofs.Walking.{at-so}
 use Rattle.tenant_walks.proofs.Steps.{does-as, refuses-as, stands-found, refused-memory}
 use Rattle.tenant_walks.proofs.walks.Walks.go.Goals as goal
@@ -102,3 +105,56 @@ returns-in-Some-Ends-clause-refused c = λ g l r right s.
     (parts c.end.new.tenant c.args.refs.now c.end.new.self) c.end.result
     (honest_deed-ends g a l.quiet run e s.ground runs (found.walked a run (Progress.Ends e) runs at))
     (c.end.ensures.refused g l r run e right found runs at)
+
+pub returns-then-is_worn-clause-refused : goal.returns-then-is_worn-clause-refused
+returns-then-is_worn-clause-refused c = λ g l r right s.
+    refused-worn g l r c.args.actor (parts c.args.tenant.now c.args.refs.now c.args.self.now)
+    (c.is_worn.ensures.worn c.if-is_worn.true) s
+
+pub returns-in_default-clause-no_memory : goal.returns-in_default-clause-no_memory
+returns-in_default-clause-no_memory c = λ g l r right s none seen.
+    let runs = sym (c.running.ensures g l.quiet l.store s.tenant)
+    ∙ ap (option_map (λ it. run_view it.now)) c.in_default.is in
+    sym (ap (λ d. is_accepted (comes_to g l d).outcome)
+    (honest_deed-starts g c.args.actor l.quiet runs))
+    ∙ c.begin.ensures.no_memory g l r right s none
+
+pub returns-in_err-find-clause-no_memory : goal.returns-in_err-find-clause-no_memory
+returns-in_err-find-clause-no_memory c = λ g l r right s none seen.
+    let runs = sym (c.running.ensures g l.quiet l.store s.tenant)
+    ∙ ap (option_map (λ it. run_view it.now)) c.in-Some.is in
+    absurd (unkept-unseen g c.args.actor l.quiet (run_view c.in-Some.run'.now) c.args.self.now
+    c.find.new.self runs c.in_err-find.ensures.lost (c.in_err-find.ensures.stays c.args.actor) seen)
+
+pub returns-in-Some-Asks-clause-no_memory : goal.returns-in-Some-Asks-clause-no_memory
+returns-in-Some-Asks-clause-no_memory c = λ g l r right s none seen.
+    let a = c.args.actor in
+    let w = c.in-Some-Asks._walk in
+    let run = run_view c.in-Some.run'.now in
+    let runs = sym (c.running.ensures g l.quiet l.store s.tenant)
+    ∙ ap (option_map (λ it. run_view it.now)) c.in-Some.is in
+    let found = stands-found g l r c.args.tenant.now c.args.refs.now c.args.self.now
+    c.find.new.self s (c.find.ensures.walked l.quiet runs) in
+    let at = at-so (λ p. p.now) c.get.result _ (Progress.Asks w) _ c.get.ensures
+    c.in-Some-Asks.is c.in-Some-Asks.field-0-is in
+    let same = honest_deed-asks g a l.quiet run w s.ground runs
+    (found.walked a run (Progress.Asks w) runs at) in
+    let kept = is_kept c.args.self.now c.ask.new.self a in
+    sym (ap (λ d. is_accepted (comes_to g l d).outcome) same)
+    ∙ c.ask.ensures.no_memory g l r w found at none
+    (seen-asks kept a (ask_view w.ask) (ap (is_seen kept) same ∙ seen))
+
+pub returns-in-Some-Ends-clause-no_memory : goal.returns-in-Some-Ends-clause-no_memory
+returns-in-Some-Ends-clause-no_memory c = λ g l r right s none seen.
+    let a = c.args.actor in
+    let e = c.in-Some-Ends._ending in
+    let run = run_view c.in-Some.run'.now in
+    let runs = sym (c.running.ensures g l.quiet l.store s.tenant)
+    ∙ ap (option_map (λ it. run_view it.now)) c.in-Some.is in
+    let found = stands-found g l r c.args.tenant.now c.args.refs.now c.args.self.now
+    c.find.new.self s (c.find.ensures.walked l.quiet runs) in
+    let at = at-so (λ p. p.now) c.get.result _ (Progress.Ends e) _ c.get.ensures
+    c.in-Some-Ends.is c.in-Some-Ends.field-0-is in
+    sym (ap (λ d. is_accepted (comes_to g l d).outcome) (honest_deed-ends g a l.quiet run e
+    s.ground runs (found.walked a run (Progress.Ends e) runs at)))
+    ∙ c.end.ensures.no_memory g l r run e right found runs at none

@@ -1,0 +1,18 @@
+-- What is seen of a deed of an actor without memory.
+use Rattle.std.specs.Prelude.{Bool, true, ◌&&◌, ◌||◌, not, is_some}
+use Rattle.server_rules.specs.Plan.{Deed, asks_for, ends}
+use Rattle.server_rules.specs.declared.actor.Actor.{Actor}
+use Rattle.tenant_refs.specs.Telling.{is_commit}
+use Rattle.tenant_walks.specs.Inside.WalkAt.{walk_at}
+use Rattle.tenant_walks.specs.declared.walks.Walks.{Walks}
+
+-- the evaluation of the actor's form is kept before a turn, or behind it
+abbrev pub is_kept : Walks → Walks → Actor → Bool
+is_kept old new a = is_some (walk_at old a) || is_some (walk_at new a)
+
+-- Whether the deed is refused. Of a commit that takes memory; and what a form does is not known
+-- where its evaluation was not kept and could not be made.
+abbrev pub is_seen : Bool → Deed → Bool
+is_seen kept (asks_for a ask) = kept && not (is_commit ask)
+is_seen kept (ends a e) = kept
+is_seen kept _ = true
