@@ -8,14 +8,17 @@ use std::process::Abort;
 use std::test::Fail;
 
 // Its ids are those of the seed that is all zeros.
-pub(crate) fn fresh_machine(alloc: Global) -> Machine {
-    let config = Config {
+pub(crate) fn fresh_config() -> Config {
+    Config {
         seed: [0; 32],
         retries: 10_000,
         steps: 100,
         shared: SharedText::Empty,
-    };
-    Machine::new(alloc, config)
+    }
+}
+
+pub(crate) fn fresh_machine(alloc: Global) -> Machine {
+    Machine::new(alloc, fresh_config())
 }
 
 // A step that is refused for want of memory changes nothing, and is made once more.

@@ -1,0 +1,47 @@
+use Rattle.std.proofs.Common.{◌≡◌, ◌+◌, ◌*◌, ◌≤◌, ◌∙◌, sym, ap, subst, arith, inr}
+use Rattle.server_rules.specs.Plan.{tenant_opened}
+use Rattle.server_rules.specs.Machine.World.{opens}
+use Rattle.journal_book.specs.View.{BookData, entries}
+use Rattle.journal_book.specs.Standing.{IsAnswered, IsRefused}
+use Rattle.journal_book.proofs.Keeping.{err-so}
+use Rattle.journal_book.proofs.book.Book.admit.Goals as goal
+
+pub invariant_of-self : goal.invariant_of-self
+invariant_of-self g c =
+    let kept = c.self.invariant in (
+      c.open.ensures.keeps c.self.inside.config kept.0,
+      kept.1 ∙ sym c.in_err-open.ensures.stays.1,
+      kept.2,
+      kept.3,
+      kept.4,
+    )
+
+pub invariant_of-self-2 : goal.invariant_of-self-2
+invariant_of-self-2 g c =
+    let kept = c.self.invariant in
+    let all : c.self.inside.rest.parts + 5 * c.self.inside.tenants ≡ 5000001 = kept.2 in
+    let one = c.taken_from-reader.ensures.parts in
+    let two = c.taken_from-worker.ensures.parts in
+    let three = c.taken_from-other_worker.ensures.parts in
+    let four = c.taken_from-writer.ensures.parts in
+    let five = c.taken_from-runner.ensures.parts in (
+      c.open.ensures.keeps c.self.inside.config kept.0,
+      c.count.ensures.total ∙ ap (λ n. n + 1) kept.1 ∙ sym c.in_ok-open.ensures.length,
+      omega arith,
+      c.taken_from-runner.ensures.amount,
+      omega arith,
+    )
+
+pub returns-in_err-open-clause-refused : goal.returns-in_err-open-clause-refused
+returns-in_err-open-clause-refused g c =
+    let why = c.in_err-open.field-0.0 in
+    let P : BookData → Type 0 = λ b. IsRefused b.config (entries b.journal) (opens b.tenants) why in
+    err-so _ c.from_residual.result why c.from_residual.ensures.1
+    (inr (subst P c.self.view_is
+    (c.in_err-open.ensures.refused c.self.inside.config c.self.invariant.0)))
+
+pub returns-clause-answer : goal.returns-clause-answer
+returns-clause-answer g c =
+    let P : BookData → Type 0 = λ b. IsAnswered b.config (entries b.journal) (opens b.tenants)
+    tenant_opened in
+    subst P c.self.view_is (c.in_ok-open.ensures.answer c.self.inside.config c.self.invariant.0)

@@ -1,0 +1,4 @@
+pub mod Journal
+pub mod View
+pub mod Standing
+pub mod Rows

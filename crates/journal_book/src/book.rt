@@ -1,0 +1,314 @@
+// The book: the journal, the machine that stands for it, and the count of all steps.
+ghost use Rattle.std.specs.Prelude.{◌≡◌, ◌≢◌, ◌+◌, ◌*◌, ◌<◌, ◌^◌, ◌⊎◌, ℕ, [], ◌∷◌, ◌++◌, IfOk};
+ghost use Rattle.std.specs.Prelude.{IfErr, OnErr, OnOk, length, vec_len, vec_capacity};
+ghost use Rattle.server_rules.specs.Ground.{Ground};
+ghost use Rattle.server_rules.specs.Plan.{tenant_opened};
+ghost use Rattle.server_rules.specs.Machine.World.{World, new_world, opens};
+ghost use Rattle.server_rules.specs.Machine.Turns.{whose_step};
+ghost use Rattle.repl_core.specs.Configured.{IsConfigured};
+ghost use Rattle.repl_core.specs.Steps.{step_view, step_answer_view};
+ghost use Rattle.journal_book.specs.Journal.{IsJournal};
+ghost use Rattle.journal_book.specs.View.{entries, seat_with};
+ghost use Rattle.journal_book.specs.Rows.{row, row_of, entries_of, counted_of, all_counted};
+ghost use Rattle.journal_book.specs.Standing.{KeepsFor, IsAnswered, IsRefused, Notes, entry};
+
+use crate::entry::Entry;
+use crate::report::Report;
+use crate::seat::Seat;
+use repl_core::{Config, Machine, Refused, Step, StepAnswer};
+use server_rules::Refusal;
+use std::alloc::Global;
+use std::marker::Model;
+use std::sync::ledger;
+use std::sync::ledger::{Blank, Ledger, Share};
+
+/// How many tenants a book admits in all.
+pub const TENANTS: u64 = 1_000_000;
+
+/// How many seats a tenant gets.
+const SEATS: u64 = 5;
+
+/// Into how many parts a book's ledger is cut: one for each seat, and one that stays.
+pub const PARTS: u64 = 5_000_001;
+
+/// The journal of all steps that a server accepted, and the machine that made them. Whoever gets
+/// a book has that its journal replays (`replays`).
+#[derive(Drop)]
+pub struct Book<L: Ledger> {
+    alloc: Global,
+    config: Config,
+    journal: Vec<Entry>,
+    machine: Machine,
+    counts: ledger::Book<L>,
+    rest: Share<L>,
+    tenants: u64,
+}
+
+impl<L: Ledger> Model for Book<L> {
+    ghost use Rattle.std.specs.Prelude.{◌≡◌, ◌+◌, ◌*◌, ◌≤◌, vec_len};
+    ghost use Rattle.std.specs.Coded.{codes};
+    ghost use Rattle.journal_book.specs.contracts.entry.Entry as kept;
+    ghost use Rattle.journal_book.specs.View.{BookData, entries};
+    ghost use Rattle.journal_book.specs.Rows.{row, row_of, entries_of, counted_of, all_counted};
+    ghost use Rattle.journal_book.specs.Standing.{KeepsFor};
+
+    ghost Value = { BookData };
+
+    ghost coded = { Prim.hlevel (codes, kept.the_row.coded) };
+
+    ghost view = { λ b. record {
+      config = b.config;
+      journal = b.journal.items;
+      tenants = b.tenants;
+    } };
+
+    ghost invariant = { λ b. KeepsFor b.config b.machine (entries b.journal.items)
+        × (b.counts.total ≡ vec_len b.journal)
+        × (b.rest.parts + 5 * b.tenants ≡ 5000001) × (b.rest.amount ≡ 0)
+        × (b.tenants ≤ 1000000) };
+}
+
+/// Where an accepted step stands in the journal, and its answer.
+#[derive(Drop)]
+pub struct Receipt {
+    pub place: u64,
+    pub answer: StepAnswer,
+}
+
+/// A new tenant, and the seats of its crew. The tenant's opening is counted on the reader's.
+#[derive(Drop)]
+pub struct Places<L: Ledger> {
+    pub tenant: u64,
+    pub reader: Seat<L>,
+    pub worker: Seat<L>,
+    pub other_worker: Seat<L>,
+    pub writer: Seat<L>,
+    pub runner: Seat<L>,
+}
+
+/// A book that could not be closed for want of memory, and the seats that were given back.
+#[derive(Drop)]
+pub struct Unclosed<L: Ledger> {
+    pub book: Book<L>,
+    pub seats: Vec<Seat<L>>,
+}
+
+impl<L: Ledger> Book<L> {
+    /// An empty book of a server to which nobody came.
+    pub fn new(blank: Blank, alloc: Global, config: Config) -> Book<L>
+        requires name { blank.name ≡ L.name }
+        requires parts { (blank.parts ≡ L.parts) × (blank.parts ≡ 5000001) }
+        ensures { result ≡ record { config = config; journal = []; tenants = 0 } }
+    {
+        let (counts, rest) = blank.open::<L>();
+        Book {
+            alloc,
+            config,
+            journal: Vec::new(alloc),
+            machine: Machine::new(alloc, config),
+            counts,
+            rest,
+            tenants: 0,
+        }
+    }
+
+    /// The journal of a book replays: its steps are accepted one behind another by a server of its
+    /// configuration, and answered so.
+    pub fn replays(&self)
+        ensures { (g : Ground) → IsConfigured g self.now.config
+            → (w : World) × IsJournal g (new_world []) (entries self.now.journal) w }
+    {
+        let _ = &self.config;
+    }
+
+    /// Opens the next tenant, which is counted on the first of its seats. Where it is refused
+    /// nothing has changed.
+    pub fn admit(&mut self) -> Result<Places<L>, Refusal>
+        ensures journal { IfOk result (λ p. Notes self.old self.new
+            (entry (opens p.tenant) tenant_opened)) }
+        ensures tenants { OnOk result (self.new.tenants ≡ self.old.tenants + 1) }
+        ensures answer { OnOk result (IsAnswered self.old.config (entries self.old.journal)
+            (opens self.old.tenants) tenant_opened) }
+        ensures tenant { IfOk result (λ p. p.tenant ≡ self.old.tenants) }
+        ensures seats { IfOk result (λ p. (p.reader ≡ seat_with p.tenant 1)
+            × (p.worker ≡ seat_with p.tenant 0) × (p.other_worker ≡ seat_with p.tenant 0)
+            × (p.writer ≡ seat_with p.tenant 0) × (p.runner ≡ seat_with p.tenant 0)) }
+        ensures refused { IfErr result (λ why. ((why ≡ Refusal.Full) × (self.old.tenants ≡ TENANTS))
+            ⊎ IsRefused self.old.config (entries self.old.journal) (opens self.old.tenants) why) }
+        ensures stays { OnErr result (self.new ≡ self.old) }
+    {
+        if self.tenants == TENANTS {
+            return Err(Refusal::Full);
+        }
+        let tenant = self.tenants;
+        open(&mut self.machine, &mut self.journal, tenant)?;
+        self.tenants += 1;
+        let mut reader = Seat::taken_from(&mut self.rest, tenant);
+        reader.count(&mut self.counts);
+        let worker = Seat::taken_from(&mut self.rest, tenant);
+        let other_worker = Seat::taken_from(&mut self.rest, tenant);
+        let writer = Seat::taken_from(&mut self.rest, tenant);
+        let runner = Seat::taken_from(&mut self.rest, tenant);
+        Ok(Places {
+            tenant,
+            reader,
+            worker,
+            other_worker,
+            writer,
+            runner,
+        })
+    }
+
+    /// Makes a step of the seat's tenant, writes it down, and counts it on the seat. A step that is
+    /// refused changes nothing, and is given back.
+    pub fn act(&mut self, seat: &mut Seat<L>, step: Step) -> Result<Receipt, Refused>
+        requires own { whose_step (step_view step) ≡ seat.old.tenant }
+        requires other { step_view step ≢ opens seat.old.tenant }
+        ensures journal { IfOk result (λ r. Notes self.old self.new
+            (entry (step_view step) (step_answer_view r.answer))) }
+        ensures tenants { self.new.tenants ≡ self.old.tenants }
+        ensures answer { IfOk result (λ r. IsAnswered self.old.config (entries self.old.journal)
+            (step_view step) (step_answer_view r.answer)) }
+        ensures place { IfOk result (λ r. r.place ≡ length self.old.journal) }
+        ensures counted { OnOk result (seat.new ≡ seat_with seat.old.tenant (seat.old.made + 1)) }
+        ensures refused { IfErr result (λ it. IsRefused self.old.config (entries self.old.journal)
+            (step_view step) it.why) }
+        ensures stays { IfErr result (λ it. (self.new ≡ self.old) × (seat.new ≡ seat.old)
+            × (it.step ≡ step)) }
+    {
+        let place = self.journal.len() as u64;
+        let answer = write(&mut self.machine, &mut self.journal, step)?;
+        seat.count(&mut self.counts);
+        Ok(Receipt { place, answer })
+    }
+
+    /// Takes seats back, and tells of each tenant what was journalled and what its seats made.
+    /// Where all seats came back, both come to the same.
+    pub fn close(self, seats: Vec<Seat<L>>) -> Result<(Book<L>, Report), Unclosed<L>>
+        requires whole { L.parts ≡ 5000001 }
+        ensures book { IfOk result (λ r. r.0 ≡ self) }
+        ensures rows { IfOk result (λ r. (t : ℕ) → row_of t r.1
+            ≡ row (entries_of t (entries self.journal)) (counted_of t seats.items)) }
+        ensures all { OnOk result (vec_len seats ≡ 5 * self.tenants
+            → all_counted seats.items ≡ length self.journal) }
+        ensures refused { IfErr result (λ it. (it.book ≡ self) × (it.seats ≡ seats)) }
+    {
+        let Ok(report) = Report::of(self.alloc, self.journal.as_slice(), seats.as_slice()) else {
+            return Err(Unclosed { book: self, seats });
+        };
+        let Book {
+            alloc,
+            config,
+            journal,
+            machine,
+            mut counts,
+            mut rest,
+            tenants,
+        } = self;
+        let mut all = rest.empty();
+        gather(&mut counts, &mut all, seats);
+        let kept = PARTS - SEATS * tenants;
+        rest.give(&mut all, kept, 0);
+        counts.audit(&mut all);
+        all.give(&mut rest, kept, 0);
+        let book = Book {
+            alloc,
+            config,
+            journal,
+            machine,
+            counts,
+            rest,
+            tenants,
+        };
+        Ok((book, report))
+    }
+}
+
+// Puts the shares of all seats together.
+fn gather<L: Ledger>(counts: &mut ledger::Book<L>, all: &mut Share<L>, seats: Vec<Seat<L>>)
+    requires none { (all.old.parts ≡ 0) × (all.old.amount ≡ 0) }
+    requires total { counts.old.total < 2 ^ 64 }
+    ensures total { counts.new.total ≡ counts.old.total }
+    ensures parts { all.new.parts ≡ vec_len seats }
+    ensures amount { all.new.amount ≡ all_counted seats.items }
+    ensures bound { all_counted seats.items < 2 ^ 64 }
+{
+    let mut seats = seats;
+    while let Some(seat) = seats.pop() {
+        all.merge(seat.into_share());
+    }
+    counts.audit(all);
+}
+
+// Makes a step, and writes it down with its answer. Where it is refused nothing is written.
+fn write(machine: &mut Machine, journal: &mut Vec<Entry>, step: Step) -> Result<StepAnswer, Refused>
+    ensures keeps { (config : Config) → KeepsFor config machine.old (entries journal.old.items)
+        → KeepsFor config machine.new (entries journal.new.items) }
+    ensures journal { IfOk result (λ answer. entries journal.new.items
+        ≡ entries journal.old.items ++ entry (step_view step) (step_answer_view answer) ∷ []) }
+    ensures length { OnOk result (vec_len journal.new ≡ vec_len journal.old + 1) }
+    ensures answer { (config : Config) → KeepsFor config machine.old (entries journal.old.items)
+        → IfOk result (λ answer. IsAnswered config (entries journal.old.items) (step_view step)
+        (step_answer_view answer)) }
+    ensures refused { (config : Config) → KeepsFor config machine.old (entries journal.old.items)
+        → IfErr result (λ it. IsRefused config (entries journal.old.items) (step_view step)
+        it.why) }
+    ensures stays { IfErr result (λ it. (journal.new.items ≡ journal.old.items)
+        × (vec_len journal.new ≡ vec_len journal.old) × (it.step ≡ step)) }
+{
+    if journal.reserve(1).is_err() {
+        return Err(Refused {
+            why: Refusal::NoMemory,
+            step,
+        });
+    }
+    match machine.make(&step) {
+        Ok(answers) => {
+            let entry = Entry {
+                step,
+                answer: answers.noted,
+            };
+            note(journal, entry);
+            Ok(answers.given)
+        }
+        Err(why) => Err(Refused { why, step }),
+    }
+}
+
+// Opens a tenant, and writes it down. Where it is refused nothing is written.
+fn open(machine: &mut Machine, journal: &mut Vec<Entry>, tenant: u64) -> Result<(), Refusal>
+    ensures keeps { (config : Config) → KeepsFor config machine.old (entries journal.old.items)
+        → KeepsFor config machine.new (entries journal.new.items) }
+    ensures journal { OnOk result (entries journal.new.items
+        ≡ entries journal.old.items ++ entry (opens tenant) tenant_opened ∷ []) }
+    ensures length { OnOk result (vec_len journal.new ≡ vec_len journal.old + 1) }
+    ensures answer { (config : Config) → KeepsFor config machine.old (entries journal.old.items)
+        → OnOk result (IsAnswered config (entries journal.old.items) (opens tenant)
+        tenant_opened) }
+    ensures refused { (config : Config) → KeepsFor config machine.old (entries journal.old.items)
+        → IfErr result (IsRefused config (entries journal.old.items) (opens tenant)) }
+    ensures stays { OnErr result ((journal.new.items ≡ journal.old.items)
+        × (vec_len journal.new ≡ vec_len journal.old)) }
+{
+    if journal.reserve(1).is_err() {
+        return Err(Refusal::NoMemory);
+    }
+    machine.open(tenant)?;
+    let opening = Entry {
+        step: Step::Open(tenant),
+        answer: StepAnswer::Opened,
+    };
+    note(journal, opening);
+    Ok(())
+}
+
+// There is room for the entry.
+fn note(journal: &mut Vec<Entry>, entry: Entry)
+    requires { vec_len journal.old < vec_capacity journal.old }
+    ensures items { journal.new.items ≡ journal.old.items ++ entry ∷ [] }
+    ensures length { vec_len journal.new ≡ vec_len journal.old + 1 }
+{
+    let Ok(()) = journal.push(entry) else {
+        unreachable!()
+    };
+}

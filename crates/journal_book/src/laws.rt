@@ -1,0 +1,18 @@
+//! Laws of journals. The functions do nothing: what they ensure is proved.
+ghost use Rattle.std.specs.Prelude.{◌≡◌, List, ◌++◌};
+ghost use Rattle.server_rules.specs.Ground.{Ground};
+ghost use Rattle.server_rules.specs.Machine.World.{World};
+ghost use Rattle.journal_book.specs.Journal.{EntryData, IsJournal};
+
+/// A journal goes on where another begins.
+pub fn journals_join()
+    ensures { (g : Ground) (w between now : World) (first then : List EntryData)
+        → IsJournal g w first between → IsJournal g between then now
+        → IsJournal g w (first ++ then) now }
+{}
+
+/// A journal leads to one server.
+pub fn a_journal_leads_to_one_server()
+    ensures { (g : Ground) (w now other : World) (journal : List EntryData)
+        → IsJournal g w journal now → IsJournal g w journal other → now ≡ other }
+{}

@@ -1,0 +1,13 @@
+//! The book of a server: its machine, and the journal of all steps that it accepted.
+#![tactic(auto)]
+
+mod book;
+mod entry;
+pub mod laws;
+mod report;
+mod seat;
+
+pub use book::{Book, PARTS, Places, Receipt, TENANTS, Unclosed};
+pub use entry::Entry;
+pub use report::{Report, Row};
+pub use seat::Seat;
