@@ -1,12 +1,19 @@
 -- A machine that keeps a journal keeps it with one entry more, and answers as the journal leads.
 use Rattle.std.proofs.Common.{◌≡◌, ◌≢◌, ◌∙◌, List, [], ◌∷◌, ◌++◌, refl, sym, ap, subst}
-use Rattle.std.proofs.Common.{Result, Ok, Err, IfErr}
+use Rattle.std.proofs.Common.{Result, Ok, Err, IfErr, ℕ, None, Some, option_map}
 use Rattle.std.specs.Result.{IsErrAnd}
 use Rattle.server_rules.specs.Ground.{Ground}
 use Rattle.server_rules.specs.Plan.{StepAnswer}
+use Rattle.server_rules.specs.Store.{Store}
+use Rattle.server_rules.specs.Tenant.{Quiet}
 use Rattle.server_rules.specs.Machine.World.{World, Step, new_world, accepted, refused, step}
 use Rattle.server_rules.specs.declared.refusal.Refusal.{Refusal}
+use Rattle.tenant_world.specs.Standing as world
+use Rattle.tenant_world.specs.declared.tenant.Tenant.{Tenant}
+use Rattle.repl_core.specs.Standing.{MachineStands, open_in, store_in}
 use Rattle.repl_core.specs.Steps.{AcceptsStep, RefusesStep}
+use Rattle.repl_core.specs.TenantAt.{tenant_at}
+use Rattle.repl_core.proofs.Places.{kept-at, none-at}
 use Rattle.repl_core.specs.declared.machine.Machine.{Machine}
 use Rattle.journal_book.specs.Journal.{EntryData, IsJournal}
 use Rattle.journal_book.specs.Standing.{Keeps, entry}
@@ -51,3 +58,27 @@ pub err-so : {A E : Type 0} (P : E → Type 0) (r : Result A E) (e : E) → IsEr
     → P e → IfErr r P
 err-so P (Ok x) e never p = tt
 err-so P (Err x) e is p = subst P (sym is) p
+
+-- what is so of the server that the machine stands for is so of the one to which the journal leads
+pub told-so : (g : Ground) (m : Machine) (journal : List EntryData) (k : Keeps g m journal)
+    (w : World) → IsJournal g (new_world []) journal w → (P : World → Type 0) → P k.world → P w
+told-so g m journal k w leads P is =
+    subst P (leads-to-one g (new_world []) k.world w journal k.leads leads) is
+
+-- a tenant that is open shows what its code shows
+pub shown-some : {X : Type 0} (g : Ground) (m : Machine) (w : World) (t : ℕ) (code : Tenant)
+    (show : Quiet → X) (shown : X) (s : MachineStands g m w) → tenant_at m.tenants t ≡ Some code
+    → ((q : Quiet) (st : Store) → world.QuietStands g code q st → shown ≡ show q)
+    → Some shown ≡ option_map (λ it. show it.quiet) (open_in t w)
+shown-some g m w t code show shown s there is =
+    let at = kept-at g s.refs t code (tenant_at m.tenants t) (open_in t w) (s.tenants t) there in
+    ap Some (is at.0.quiet (store_in w.around t at.0.mine) (at.2.stands w.around))
+    ∙ sym (ap (option_map (λ it. show it.quiet)) at.1)
+
+-- and one that is not open shows nothing
+pub shown-none : {X : Type 0} (g : Ground) (m : Machine) (w : World) (t : ℕ) (show : Quiet → X)
+    (s : MachineStands g m w) → tenant_at m.tenants t ≡ None
+    → None ≡ option_map (λ it. show it.quiet) (open_in t w)
+shown-none g m w t show s gone =
+    sym (ap (option_map (λ it. show it.quiet))
+    (none-at g s.refs t (tenant_at m.tenants t) (open_in t w) (s.tenants t) gone))

@@ -1,11 +1,15 @@
 // The book: the journal, the machine that stands for it, and the count of all steps.
-ghost use Rattle.std.specs.Prelude.{◌≡◌, ◌≢◌, ◌+◌, ◌*◌, ◌<◌, ◌^◌, ◌⊎◌, ℕ, [], ◌∷◌, ◌++◌, IfOk};
+ghost use Rattle.std.specs.Prelude.{◌≡◌, ◌≢◌, ◌+◌, ◌*◌, ◌<◌, ◌≤◌, ◌^◌, ◌⊎◌, ℕ, [], ◌∷◌, ◌++◌, IfOk};
 ghost use Rattle.std.specs.Prelude.{IfErr, OnErr, OnOk, length, vec_len, vec_capacity};
+ghost use Rattle.std.specs.Prelude.{option_and_then, option_map};
 ghost use Rattle.server_rules.specs.Ground.{Ground};
 ghost use Rattle.server_rules.specs.Plan.{tenant_opened};
+ghost use Rattle.server_rules.specs.Machine.Ready.{ready};
 ghost use Rattle.server_rules.specs.Machine.World.{World, new_world, opens};
 ghost use Rattle.server_rules.specs.Machine.Turns.{whose_step};
 ghost use Rattle.repl_core.specs.Configured.{IsConfigured};
+ghost use Rattle.tenant_turns.specs.Inside.Wires.{wire_at};
+ghost use Rattle.repl_core.specs.Standing.{open_in};
 ghost use Rattle.repl_core.specs.Steps.{step_view, step_answer_view};
 ghost use Rattle.journal_book.specs.Journal.{IsJournal};
 ghost use Rattle.journal_book.specs.View.{entries, seat_with};
@@ -16,11 +20,12 @@ use crate::entry::Entry;
 use crate::report::Report;
 use crate::seat::Seat;
 use repl_core::{Config, Machine, Refused, Step, StepAnswer};
-use server_rules::Refusal;
+use server_rules::{Actor, Refusal};
 use std::alloc::Global;
 use std::marker::Model;
 use std::sync::ledger;
 use std::sync::ledger::{Blank, Ledger, Share};
+use tenant_turns::Wire;
 
 /// How many tenants a book admits in all.
 pub const TENANTS: u64 = 1_000_000;
@@ -119,6 +124,41 @@ impl<L: Ledger> Book<L> {
             → (w : World) × IsJournal g (new_world []) (entries self.now.journal) w }
     {
         let _ = &self.config;
+    }
+
+    /// How many tenants were admitted.
+    pub fn tenants(&self) -> u64
+        ensures number { result ≡ self.now.tenants }
+        ensures bound { result ≤ TENANTS }
+    {
+        self.tenants
+    }
+
+    /// The steps that were accepted, with their answers, in order.
+    pub fn journal(&self) -> &[Entry]
+        ensures { result.now ≡ self.now.journal }
+    {
+        self.journal.as_slice()
+    }
+
+    /// The first actor of a tenant that has a form or a request to begin, if the tenant is open and
+    /// has one. It takes a step for each actor, and no memory.
+    pub fn ready(&self, tenant: u64) -> Option<Actor>
+        ensures { (g : Ground) (w : World) → IsConfigured g self.now.config
+            → IsJournal g (new_world []) (entries self.now.journal) w
+            → result ≡ option_and_then (λ it. ready it.quiet) (open_in tenant w) }
+    {
+        self.machine.ready(tenant)
+    }
+
+    /// What has come of a tenant's stream, if the tenant is open. It takes no memory.
+    pub fn wire(&self, tenant: u64) -> Option<Wire>
+        ensures { (g : Ground) (w : World) → IsConfigured g self.now.config
+            → IsJournal g (new_world []) (entries self.now.journal) w
+            → result ≡ option_map (λ it. wire_at (g.readings.stream it.quiet.heard).ending)
+            (open_in tenant w) }
+    {
+        Some(self.machine.tenant(tenant)?.wire())
     }
 
     /// Opens the next tenant, which is counted on the first of its seats. Where it is refused
