@@ -1,0 +1,6 @@
+use Rattle.std.proofs.Common.{ap, sym}
+use Rattle.connection_queue.proofs.Numbers.{sends}
+use Rattle.connection_queue.proofs.feeding.send.Goals as goal
+
+pub send_as-requires-clause-rule : goal.send_as-requires-clause-rule
+send_as-requires-clause-rule g c = (sends _ _ _ _ (ap (λ v. v.sends) c.requires.next) (sym (ap (λ v. v.number) c.requires.next)), λ _ _ _ _. tt)
