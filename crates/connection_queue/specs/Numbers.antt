@@ -13,12 +13,12 @@ abbrev pub IsRising : ℕ → List Accepted → ℕ → Type 0
 IsRising low [] next = low ≤ next
 IsRising low (x ∷ xs) next = (low ≤ x.number) × IsRising (x.number + 1) xs next
 
--- the one that sends knows the next number, and what the others took is below low
-abbrev pub Fits : ℕ → ℕ → ℕ → ℕ → Hand → Type 0
-Fits writer low next port v =
+-- the ticket at a port: the one that sends knows the next number, what others took is below low
+abbrev pub TicketAgrees : ℕ → ℕ → ℕ → ℕ → Hand → Type 0
+TicketAgrees writer low next port v =
     (v.sends ≡ true → (port ≡ writer) × (v.number ≡ next)) × (v.sends ≡ false → v.number ≤ low)
 
 -- the connections that wait rise in their numbers, from above all that were taken to below the next
 abbrev pub Rises : List Accepted → List Hand → Type 0
 Rises items views = (writer : ℕ) × (low : ℕ) × (next : ℕ) × IsRising low items next
-    × ((port : ℕ) (v : Hand) → get_elem? views port ≡ some v → Fits writer low next port v)
+    × ((port : ℕ) (v : Hand) → get_elem? views port ≡ some v → TicketAgrees writer low next port v)

@@ -100,27 +100,20 @@ pub fn send<R: Wait>(rt: &R, feed: &Feed, ticket: &mut Ticket, accepted: Accepte
     ensures sent { result ≡ true → view ticket.new ≡ hand true (accepted.number + 1) }
     ensures unsent { result ≡ false → view ticket.new ≡ view ticket.old }
 {
-    match feed.send_as::<Sent, R>(rt, ticket, accepted) {
-        Ok(()) => true,
-        Err(_) => false,
-    }
+    feed.send_as::<Sent, R>(rt, ticket, accepted).is_ok()
 }
 
-/// Takes the oldest connection, whose number is at least `after`: it is above all that were taken
-/// with this ticket. It waits for one, and gives none where nobody sends any more.
-pub fn take<R: Wait>(rt: &R, from: &Takings, ticket: &mut Ticket, after: u64) -> Option<Accepted>
+/// Takes the oldest connection: its number is above all that were taken with this ticket. It waits
+/// for one, and gives none where nobody sends any more.
+pub fn take<R: Wait>(rt: &R, from: &Takings, ticket: &mut Ticket) -> Option<Accepted>
     requires ticket { IsSeatAt (receives_on from.now) ticket.old }
-    requires view { view ticket.old ≡ hand false after }
+    requires takes { (view ticket.old).sends ≡ false }
     ensures ticket { IsSeatAt (receives_on from.now) ticket.new }
-    ensures taken { IfSome result (λ a. (after ≤ a.number)
+    ensures taken { IfSome result (λ a. ((view ticket.old).number ≤ a.number)
         × (view ticket.new ≡ hand false (a.number + 1))) }
     ensures none { IfNone result (view ticket.new ≡ view ticket.old) }
 {
-    let _ = after;
-    match from.recv_as::<Taken, R>(rt, ticket) {
-        Ok(accepted) => Some(accepted),
-        Err(_) => None,
-    }
+    from.recv_as::<Taken, R>(rt, ticket).ok()
 }
 
 /// A ticket for one more crew, which has taken nothing.

@@ -3,4 +3,6 @@ use Rattle.connection_queue.proofs.Numbers.{sends}
 use Rattle.connection_queue.proofs.feeding.send.Goals as goal
 
 pub send_as-requires-clause-rule : goal.send_as-requires-clause-rule
-send_as-requires-clause-rule g c = (sends _ _ _ _ (ap (λ v. v.sends) c.requires.next) (sym (ap (λ v. v.number) c.requires.next)), λ _ _ _ _. tt)
+send_as-requires-clause-rule g c =
+    let is = c.requires.next in
+    (sends _ _ _ _ (ap (λ v. v.sends) is) (sym (ap (λ v. v.number) is)), λ _ _ _ _. tt)
