@@ -6,8 +6,11 @@ comes back is printed as a REPL prints it.
                                         README's session, or the forms on its standard input, by a
                                         program whose proofs are not checked
     python3 tools/session.py --proved   proves and builds the program first
+    python3 tools/session.py --connect PORT
+                                        a session over a socket with a server that listens on this
+                                        machine; HOST:PORT for another
 
-The server is `nrepl_server pipe`: it has no socket yet."""
+Without `--connect` the server is `nrepl_server pipe`, which is started here."""
 
 import io
 import os
@@ -19,6 +22,7 @@ import build
 import workspace
 from bencode import decoded, encoded
 from session_ids import session_id
+from sockets import Connection, address_of
 
 NOT_CHECKED = """\
 The proofs of this program were not checked here: it was compiled without them.
@@ -30,6 +34,8 @@ EXAMPLE = re.compile(r"^    [a-z.]+=> (.*)$", re.MULTILINE)
 
 
 def main(words):
+    if len(words) == 2 and words[0] == "--connect" and address_of(words[1]):
+        return connect(address_of(words[1]))
     if words not in ([], ["--proved"]):
         print(__doc__, file=sys.stderr)
         return 2
@@ -42,18 +48,45 @@ def main(words):
 
 
 def talk(command):
-    """A session of this program: forms from the terminal, at a prompt, or lines of the input."""
-    is_terminal = sys.stdin.isatty()
+    """A session of this program."""
     with subprocess.Popen(command, stdin=subprocess.PIPE, stdout=subprocess.PIPE) as server:
 
         def write(request):
             server.stdin.write(request)
             server.stdin.flush()
 
-        for line in asked(typed if is_terminal else given, write, server.stdout.read):
-            if not is_terminal or not line.startswith(PROMPTED):
-                print(line.removeprefix(PROMPTED), flush=True)
+        converse(write, server.stdout.read)
     return 0
+
+
+def connect(address):
+    """A session over a socket. It waits for a reply as long as that takes."""
+    try:
+        with Connection(address, seconds=None) as connection:
+            converse(connection.send, connection.read)
+    except (OSError, EOFError, ValueError, KeyError) as error:
+        print(f"session: {address[0]}:{address[1]}: {reason(error)}", file=sys.stderr)
+        return 1
+    return 0
+
+
+def reason(error):
+    """Why a session over a socket ended, in a few words."""
+    if isinstance(error, ConnectionRefusedError):
+        return "nobody listens"
+    if isinstance(error, (EOFError, ConnectionError)):
+        return "the server ended"
+    if isinstance(error, OSError):
+        return error.strerror or str(error)
+    return "what listens there is no nREPL server"
+
+
+def converse(write, read):
+    """A session: forms from the terminal, at a prompt, or lines of the input."""
+    is_terminal = sys.stdin.isatty()
+    for line in asked(typed if is_terminal else given, write, read):
+        if not is_terminal or not line.startswith(PROMPTED):
+            print(line.removeprefix(PROMPTED), flush=True)
 
 
 def typed(namespace):

@@ -1,0 +1,595 @@
+-- A book may go to another thread, and so may all that it is made of.
+use denote.RattleType.{RattleType}
+use denote.Exit.{no}
+use denote.Param.{param, arg}
+use denote.Ref.{NamedLft}
+use denote.Param.Send.{IsSend, IsSync, sendable, param_send, arg_send}
+use denote.Param.Send.{shr_send, plain_send, plain_sync, owning_send, view_send, shr_sync}
+use denote.Param.SendFields.{declared_send, declared_sync}
+use denote.Param.SendFields.{variants_send, variants_sync, as_row_send}
+use Rattle.std.proofs.Crossing.{crosses}
+use Rattle.std.proofs.Crossing as heap
+use Rattle.std.proofs.MapsCrossing as maps
+use Rattle.std.specs.contracts.alloc.Global as Heap
+use Rattle.std.specs.contracts.impls.GlobalAllocator.TheImpl.{ghosts}
+use Rattle.std.specs.contracts.sync.ArcStr as text
+use Rattle.std.specs.contracts.option.Option as option
+use Rattle.std.specs.contracts.string.String as string
+use Rattle.value_data.proofs.value.Sequence.TheLaws.TheKnot as knot
+use Rattle.bencode_wire.proofs.ben.Ben.TheLaws.TheKnot as bens
+use Rattle.bytes.proofs.Crosses as blocks
+use Rattle.bytes.specs.contracts.block.Seen as seen
+use lib.ListN.{drop}
+use Rattle.value_data.specs.contracts.value.Value as value
+use Rattle.value_data.specs.contracts.value.RefName as ref_name
+use Rattle.function_names.specs.contracts.function.CoreFunction as core
+use Rattle.function_names.specs.contracts.store.StoreFunction as store
+use Rattle.special_forms.specs.contracts.forms.Forms as forms
+use Rattle.special_forms.specs.contracts.function.Function as function
+use Rattle.repl_values.specs.contracts.fault.Fault as fault
+use Rattle.repl_asks.specs.contracts.intent.Change as change
+use Rattle.repl_asks.specs.contracts.intent.Commute as commute
+use Rattle.repl_asks.specs.contracts.intent.Commuted as commuted
+use Rattle.repl_asks.specs.contracts.intent.Intent as intent
+use Rattle.repl_asks.specs.contracts.ask.Binding as binding
+use Rattle.repl_asks.specs.contracts.ask.Ask as ask
+use Rattle.repl_asks.specs.contracts.answer.NamedFunction as named
+use Rattle.repl_asks.specs.contracts.answer.Resolution as resolution
+use Rattle.repl_asks.specs.contracts.answer.Reading as reading
+use Rattle.repl_asks.specs.contracts.answer.Verdict as verdict
+use Rattle.repl_asks.specs.contracts.answer.Answer as answer
+use Rattle.repl_asks.specs.contracts.exchange.Exchange as exchange
+use Rattle.bytes.specs.contracts.shared.Bytes as bytes
+use Rattle.server_rules.specs.contracts.actor.Actor as actor
+use Rattle.bencode_wire.specs.contracts.ben.Ben as ben
+use Rattle.repl_jobs.specs.contracts.job.Work as work
+use Rattle.repl_jobs.specs.contracts.job.Job as job
+use Rattle.repl_jobs.specs.contracts.job.End as end
+use Rattle.repl_jobs.specs.contracts.job.Finished as finished
+use Rattle.repl_walker.specs.contracts.ending.Ending as ending
+use Rattle.repl_core.specs.contracts.step.Step as step
+use Rattle.repl_core.specs.contracts.step.StepAnswer as step_answer
+use Rattle.journal_book.specs.contracts.entry.Entry as entry
+use Rattle.bencode_wire.specs.contracts.decoder.Decoder as decoder
+use Rattle.repl_replies.specs.contracts.reply.Origin as origin
+use Rattle.tenant_actors.specs.contracts.request.ProgramText as program_text
+use Rattle.tenant_actors.specs.contracts.request.Waiting as waiting
+use Rattle.tenant_actors.specs.contracts.request.Manner as manner
+use Rattle.tenant_actors.specs.contracts.request.Run as run
+use Rattle.tenant_actors.specs.contracts.request.Hand as hand
+use Rattle.tenant_actors.specs.contracts.actor.ActorState as actor_state
+use Rattle.tenant_actors.specs.contracts.actors.Actors as actors
+use Rattle.repl_sessions.specs.contracts.sessions.Sessions as sessions
+use Rattle.repl_sessions.specs.contracts.state.SessionState as session_state
+use Rattle.name_spaces.specs.contracts.spaces.Spaces as spaces
+use Rattle.tenant_replies.specs.contracts.outbox.Outbox as outbox
+use Rattle.tenant_refs.specs.contracts.attempts.Attempts as attempts
+use Rattle.tenant_world.specs.contracts.tenant.Tenant as tenant
+use Rattle.ref_history.specs.contracts.list_history.ListHistory as history
+use Rattle.ref_table.specs.contracts.table.RefTable as ref_table
+use Rattle.repl_core.specs.contracts.machine.Machine as machine
+use Rattle.repl_core.specs.contracts.machine.Config as config
+use Rattle.journal_book.specs.contracts.book.Book as book
+use Rattle.slab.specs.contracts.Slab as slab
+use Rattle.tenant_world.specs.contracts.memory.Memory as memory
+use Rattle.ref_history.specs.contracts.kept_ref.KeptRef as kept_ref
+use Rattle.ref_history.specs.contracts.kept_ref.KeptVersion as kept_version
+use Rattle.ref_history.specs.contracts.ref_id.Bounds as bounds
+use Rattle.ref_table.specs.contracts.directory.Directory as directory
+use Rattle.repl_core.specs.contracts.tenants.Tenants as tenants
+use Rattle.journal_book.specs.contracts.book.Book.TheInside as book_inside
+use Rattle.std.specs.declared.sync.ledger.Ledger as ledger
+use Rattle.std.specs.contracts.sync.ledger.Book as counts
+use Rattle.std.specs.contracts.sync.ledger.Share as share
+use Rattle.std.below.core.proofs.ledger.Sent as sent
+use Rattle.std.below.core.proofs.sync.Sent as locks
+use Rattle.std.specs.contracts.sync.Mutex as mutex
+use Rattle.std.specs.contracts.sync.Arc as arc
+use Rattle.std.specs.contracts.net.TcpStream as tcp_stream
+use Rattle.connection_crews.specs.contracts.crew.Crew as crew
+use Rattle.connection_crews.specs.contracts.crew.Post as post
+use Rattle.journal_book.specs.contracts.seat.Seat as seat
+use Rattle.journal_book.specs.contracts.seat.Seat.TheInside as seat_inside
+use Rattle.crossbeam_channel.proofs.flavors.array.ruled.Receiving.TheSendSync as takings
+use Rattle.crossbeam_channel.proofs.flavors.array.Rows.TheSendSync as rows
+use Rattle.crossbeam_channel.proofs.flavors.array.Key.TheSendSync as key
+use Rattle.crossbeam_channel.proofs.flavors.array.Doing.TheSendSync as doing
+use Rattle.crossbeam_channel.proofs.flavors.array.Rounds.TheSendSync as rounds
+use Rattle.crossbeam_channel.proofs.flavors.array.Lockers.TheSendSync as lockers
+use Rattle.crossbeam_channel.proofs.flavors.array.Whole.TheSendSync as whole
+use Rattle.atomic_table.proofs.shared.Seat.TheSendSync as tickets
+use Rattle.atomic_table.proofs.badge.Badge.TheSendSync as badge
+use Rattle.connection_queue.proofs.feeding.Accepted.TheSendSync as accepted
+use Rattle.connection_queue.proofs.feeding.Hand.TheSendSync as known
+use Rattle.connection_queue.proofs.feeding.Rising.TheSendSync as rising
+use Rattle.connection_crews.specs.contracts.desk.Desk as desk
+use Rattle.connection_crews.specs.contracts.moves.Connection as connection
+use denote.Struct.Tuple.{TupleAt, type_at}
+use denote.Struct.Field.{row_field, shr_ref_field}
+use mir.Syntax.{Ty}
+use mathlib.Core.List.{List, [], ◌∷◌}
+use Prim.Native.Nat.{ℕ}
+
+ruleset all = (sendable, crosses, maps.crosses, knot.crosses)
+
+-- of the channel
+ruleset queued = (
+  sendable,
+  crosses,
+  takings.the_send,
+  tickets.the_send,
+  rows.the_send,
+  rows.the_sync,
+  key.the_send,
+  key.the_sync,
+  doing.the_send,
+  rounds.the_send,
+  rounds.the_sync,
+  lockers.the_send,
+  lockers.the_sync,
+  whole.the_send,
+  whole.the_sync,
+  badge.the_send,
+  accepted.the_send,
+  accepted.the_sync,
+  known.the_send,
+  known.the_sync,
+  rising.the_send,
+  rising.the_sync,
+)
+
+ruleset made = (declared_send, declared_sync, variants_send, variants_sync, plain_send, plain_sync)
+
+text-send : IsSend (text.the_row Heap.the_row ghosts)
+text-send = search (sendable, crosses) depth 20
+
+text-sync : IsSync (text.the_row Heap.the_row ghosts)
+text-sync = search (sendable, crosses) depth 20
+
+option-send : (R : RattleType) → IsSend R → IsSend (option.the_row R)
+option-send R s = search sendable depth 12
+
+number-send : IsSend (option.the_row denote.Builtin.u64)
+number-send = search sendable depth 12
+
+number-sync : IsSync (option.the_row denote.Builtin.u64)
+number-sync = search sendable depth 12
+
+value-send : IsSend value.the_row
+value-send = search all depth 40 fits 20000
+
+value-sync : IsSync value.the_row
+value-sync = search all depth 40 fits 20000
+
+ref_name-send : IsSend ref_name.the_row
+ref_name-send = search all depth 40 fits 20000
+
+ref_name-sync : IsSync ref_name.the_row
+ref_name-sync = search all depth 40 fits 20000
+
+core-send : IsSend core.the_row
+core-send = search all depth 40 fits 20000
+
+core-sync : IsSync core.the_row
+core-sync = search all depth 40 fits 20000
+
+store-send : IsSend store.the_row
+store-send = search all depth 40 fits 20000
+
+store-sync : IsSync store.the_row
+store-sync = search all depth 40 fits 20000
+
+forms-send : IsSend forms.the_row
+forms-send = search all depth 40 fits 20000
+
+forms-sync : IsSync forms.the_row
+forms-sync = search all depth 40 fits 20000
+
+fault-send : IsSend fault.the_row
+fault-send = search all depth 40 fits 20000
+
+fault-sync : IsSync fault.the_row
+fault-sync = search all depth 40 fits 20000
+
+function-send : IsSend function.the_row
+function-send =
+    search (made, text-send, text-sync, forms-send, heap.Vec-send, heap.Vec-sync, heap.Arc-send)
+    depth 30 fits 20000
+
+function-sync : IsSync function.the_row
+function-sync =
+    search (made, text-send, text-sync, forms-sync, heap.Vec-send, heap.Vec-sync, heap.Arc-sync)
+    depth 30 fits 20000
+
+change-send : IsSend change.the_row
+change-send = search (made, ref_name-send, value-send) depth 30 fits 20000
+
+change-sync : IsSync change.the_row
+change-sync = search (made, ref_name-sync, value-sync) depth 30 fits 20000
+
+commute-send : IsSend commute.the_row
+commute-send = search (made, core-send, value-send, heap.Vec-send) depth 30 fits 20000
+
+commute-sync : IsSync commute.the_row
+commute-sync = search (made, core-sync, value-sync, heap.Vec-sync) depth 30 fits 20000
+
+commuted-send : IsSend commuted.the_row
+commuted-send = search (made, ref_name-send, commute-send, heap.Vec-send) depth 30 fits 20000
+
+commuted-sync : IsSync commuted.the_row
+commuted-sync = search (made, ref_name-sync, commute-sync, heap.Vec-sync) depth 30 fits 20000
+
+intent-send : IsSend intent.the_row
+intent-send =
+    search (made, change-send, ref_name-send, commuted-send, heap.Vec-send) depth 30 fits 20000
+
+intent-sync : IsSync intent.the_row
+intent-sync =
+    search (made, change-sync, ref_name-sync, commuted-sync, heap.Vec-sync) depth 30 fits 20000
+
+binding-send : IsSend binding.the_row
+binding-send = search (made, value-send, function-send) depth 30 fits 20000
+
+binding-sync : IsSync binding.the_row
+binding-sync = search (made, value-sync, function-sync) depth 30 fits 20000
+
+ask-send : IsSend ask.the_row
+ask-send =
+    search (
+      made,
+      text-send,
+      binding-send,
+      value-send,
+      ref_name-send,
+      intent-send,
+      intent-sync,
+      number-send,
+      heap.Arc-send,
+    ) depth 30 fits 20000
+
+ask-sync : IsSync ask.the_row
+ask-sync =
+    search (
+      made,
+      text-sync,
+      binding-sync,
+      value-sync,
+      ref_name-sync,
+      intent-send,
+      intent-sync,
+      number-sync,
+      heap.Arc-sync,
+    ) depth 30 fits 20000
+
+named-send : IsSend named.the_row
+named-send = search (made, core-send, store-send, function-send) depth 30 fits 20000
+
+named-sync : IsSync named.the_row
+named-sync = search (made, core-sync, store-sync, function-sync) depth 30 fits 20000
+
+resolution-send : IsSend resolution.the_row
+resolution-send = search (made, value-send, named-send, fault-send) depth 30 fits 20000
+
+resolution-sync : IsSync resolution.the_row
+resolution-sync = search (made, value-sync, named-sync, fault-sync) depth 30 fits 20000
+
+reading-send : IsSend reading.the_row
+reading-send = search (made, value-send) depth 30 fits 20000
+
+reading-sync : IsSync reading.the_row
+reading-sync = search (made, value-sync) depth 30 fits 20000
+
+verdict-send : IsSend verdict.the_row
+verdict-send = search (made, fault-send) depth 30 fits 20000
+
+verdict-sync : IsSync verdict.the_row
+verdict-sync = search (made, fault-sync) depth 30 fits 20000
+
+answer-send : IsSend answer.the_row
+answer-send =
+    search (made, resolution-send, value-send, reading-send, verdict-send) depth 30 fits 20000
+
+answer-sync : IsSync answer.the_row
+answer-sync =
+    search (made, resolution-sync, value-sync, reading-sync, verdict-sync) depth 30 fits 20000
+
+exchange-send : IsSend exchange.the_row
+exchange-send = search (made, ask-send, answer-send) depth 30 fits 20000
+
+exchange-sync : IsSync exchange.the_row
+exchange-sync = search (made, ask-sync, answer-sync) depth 30 fits 20000
+
+string-send : IsSend (string.the_row Heap.the_row ghosts)
+string-send = search (sendable, crosses) depth 20
+
+seen-send : IsSend seen.the_row
+seen-send = owning_send seen.the_type tt
+    (λ s. blocks.seen_owns-keyless s.life (drop s.at s.names) s.ptr s.items) (λ k x w. tt)
+
+bytes-send : IsSend (bytes.the_row Heap.the_row ghosts)
+bytes-send =
+    search (sendable, crosses, blocks.block-send, blocks.block-sync, seen-send) depth 40 fits
+    20000
+
+actor-send : IsSend actor.the_row
+actor-send = search all depth 40 fits 20000
+
+ben-send : IsSend ben.the_row
+ben-send = search (sendable, crosses, maps.crosses, bens.crosses) depth 40 fits 20000
+
+decoder-send : IsSend decoder.the_row
+decoder-send = search (sendable, crosses, maps.crosses, bens.crosses) depth 40 fits 20000
+
+work-send : IsSend work.the_row
+work-send = search (made, value-send) depth 30 fits 20000
+
+job-send : IsSend job.the_row
+job-send = search (made, work-send, text-send) depth 30 fits 20000
+
+end-send : IsSend end.the_row
+end-send = search (made, value-send, fault-send) depth 30 fits 20000
+
+finished-send : IsSend finished.the_row
+finished-send = search (made, end-send, string-send, text-send) depth 30 fits 20000
+
+ending-send : IsSend ending.the_row
+ending-send =
+    search (made, job-send, exchange-send, finished-send, heap.Vec-send) depth 30 fits 20000
+
+number : IsSend denote.Builtin.u64
+number = search sendable
+
+step-send : IsSend step.the_row
+step-send =
+    search (variants_send, as_row_send, bytes-send, actor-send, ask-send, ending-send, number)
+    depth 30 fits 20000
+
+step_answer-send : IsSend step_answer.the_row
+step_answer-send = search (made, job-send, answer-send, heap.Vec-send) depth 30 fits 20000
+
+entry-send : IsSend entry.the_row
+entry-send = search (made, step-send, step_answer-send) depth 30 fits 20000
+
+origin-send : IsSend origin.the_row
+origin-send = search (made, ben-send, option-send) depth 30 fits 20000
+
+program_text-send : IsSend program_text.the_row
+program_text-send = search (made, string-send, ben-send, option-send) depth 30 fits 20000
+
+waiting-send : IsSend waiting.the_row
+waiting-send = search (made, origin-send, program_text-send) depth 30 fits 20000
+
+manner-send : IsSend manner.the_row
+manner-send = search (made, value-send) depth 30 fits 20000
+
+run-send : IsSend run.the_row
+run-send = search (made, job-send, exchange-send, heap.Vec-send) depth 30 fits 20000
+
+hand-send : IsSend hand.the_row
+hand-send =
+    search (
+      made,
+      origin-send,
+      manner-send,
+      text-send,
+      run-send,
+      value-send,
+      fault-send,
+      option-send,
+      heap.Deque-send,
+    ) depth 30 fits 20000
+
+actor_state-send : IsSend actor_state.the_row
+actor_state-send =
+    search (made, waiting-send, hand-send, option-send, heap.Deque-send) depth 30 fits 20000
+
+actors-send : IsSend actors.the_row
+actors-send =
+    search (sendable, crosses, maps.crosses, actor-send, actor_state-send) depth 40 fits 20000
+
+session_state-send : IsSend session_state.the_row
+session_state-send = search (made, text-send, value-send) depth 30 fits 20000
+
+outbox-send : IsSend outbox.the_row
+outbox-send = search all depth 40 fits 20000
+
+attempts-send : IsSend attempts.the_row
+attempts-send = search all depth 40 fits 20000
+
+spaces-send : IsSend spaces.the_row
+spaces-send = search (sendable, crosses, maps.crosses, binding-send) depth 40 fits 20000
+
+sessions-send : IsSend sessions.the_row
+sessions-send = search (sendable, crosses, maps.crosses, session_state-send) depth 40 fits 20000
+
+slab-send : (R : RattleType) → IsSend R → IsSend (slab.the_row R Heap.the_row ghosts)
+slab-send R s = search (sendable, crosses) depth 40 fits 20000
+
+kept_version-send : IsSend kept_version.the_row
+kept_version-send = declared_send kept_version.the_type (search sendable, (value-send, tt))
+
+bounds-send : IsSend bounds.the_row
+bounds-send = search sendable depth 20
+
+kept_ref-send : IsSend kept_ref.the_row
+kept_ref-send = declared_send kept_ref.the_type
+    (kept_version-send, (heap.Deque-send _ kept_version-send, (search sendable, (bounds-send, tt))))
+
+history-send : IsSend history.the_row
+history-send =
+    declared_send history.the_type (heap.send, (slab-send kept_ref.the_row kept_ref-send, tt))
+
+directory-send : IsSend directory.the_row
+directory-send = search (sendable, crosses, maps.crosses) depth 40 fits 20000
+
+table-send : IsSend (ref_table.the_row history.the_row)
+table-send =
+    declared_send (ref_table.the_type history.the_row) (
+      search sendable,
+      (
+        directory-send,
+        (history-send, tt),
+      ),
+    )
+
+number32 : IsSend denote.Builtin.u32
+number32 = search sendable
+
+memory-send : IsSend memory.the_row
+memory-send =
+    declared_send memory.the_type (
+      sessions-send,
+      (
+        session_state-send,
+        (
+          spaces-send,
+          (
+            outbox-send,
+            tt,
+          ),
+        ),
+      ),
+    )
+
+tenant-send : IsSend tenant.the_row
+tenant-send = declared_send tenant.the_type (
+  heap.send,
+  (
+    number32,
+    (
+      number32,
+      (
+        decoder-send,
+        (
+          actors-send,
+          (memory-send, (attempts-send, tt)),
+        ),
+      ),
+    ),
+  ),
+)
+
+tenants-send : IsSend tenants.the_row
+tenants-send = search (sendable, crosses, maps.crosses, tenant-send) depth 40 fits 20000
+
+config-send : IsSend config.the_row
+config-send = search sendable depth 20
+
+newest-send : IsSend (option.the_row denote.Builtin.u64)
+newest-send = option-send denote.Builtin.u64 number
+
+machine-send : IsSend machine.the_row
+machine-send = declared_send machine.the_type (
+  heap.send,
+  (
+    config-send,
+    (
+      search sendable,
+      (
+        search sendable,
+        (
+          newest-send,
+          (
+            table-send,
+            (tenants-send, tt),
+          ),
+        ),
+      ),
+    ),
+  ),
+)
+
+desk-sync : IsSync desk.the_row
+desk-sync = search (sendable, crosses) depth 40 fits 20000
+
+stream-sync : IsSync tcp_stream.the_row
+stream-sync = search (sendable, crosses) depth 40 fits 20000
+
+-- a closure, by what it captures
+pub captures-3 : (n : List ℕ) (A B C : RattleType) → IsSend A → IsSend B → IsSend C
+    → IsSend (TupleAt n (A ∷ B ∷ C ∷ []))
+captures-3 n A B C a b c = declared_send (type_at n (A ∷ B ∷ C ∷ []))
+    (as_row_send (row_field A) a, (as_row_send (row_field B) b, (as_row_send (row_field C) c, tt)))
+
+pub post_send : IsSend post.the_row
+post_send =
+    declared_send post.the_type (
+      search queued depth 40 fits 20000,
+      (
+        search queued depth 40 fits
+            20000,
+        tt,
+      ),
+    )
+
+module _ (L : RattleType) (g : ledger.Ghosts L.Denot) (s : IsSend L) where
+  counts-send : IsSend (counts.the_row L g)
+  counts-send = sent.book_send L g
+
+  share-send : IsSend (share.the_row L g)
+  share-send = sent.share_send L g
+
+  inside-send : IsSend (book_inside.the_row L g)
+  inside-send = declared_send (book_inside.the_type L g) (
+    heap.send,
+    (
+      config-send,
+      (
+        heap.Vec-send _ entry-send,
+        (
+          machine-send,
+          (
+            counts-send,
+            (share-send, (number, tt)),
+          ),
+        ),
+      ),
+    ),
+  )
+
+  pub book_send : IsSend (book.the_row L g)
+  book_send = search (view_send, inside-send)
+
+  lock-send : IsSend (mutex.the_row (book.the_row L g))
+  lock-send = locks.Mutex-send _ book_send
+
+  lock-sync : IsSync (mutex.the_row (book.the_row L g))
+  lock-sync = locks.Mutex-sync _ book_send
+
+  shared-send : IsSend (arc.the_row (mutex.the_row (book.the_row L g)) Heap.the_row ghosts)
+  shared-send = heap.Arc-send _ lock-send lock-sync
+
+  pub crew_send : (G : RattleType) → IsSend G → IsSync G → IsSend (crew.the_row L G g)
+  crew_send G sent seen = declared_send (crew.the_type L G g)
+      (heap.send, (shared-send, (heap.Arc-send G sent seen, tt)))
+
+  pub connection_sync : (a : denote.Ref.NamedLft) (G : RattleType) → IsSync G
+      → IsSync (connection.the_row a L G g)
+  connection_sync a G seen = declared_sync (connection.the_type a L G g) (
+    heap.sync,
+    (
+      shr_sync _ _ _ lock-sync,
+      (
+        shr_sync _ _ _ seen,
+        (
+          shr_sync _ _ _ desk-sync,
+          (shr_sync _ _ _ stream-sync, tt),
+        ),
+      ),
+    ),
+  )
+
+  seat-inside-send : IsSend (seat_inside.the_row L g)
+  seat-inside-send = declared_send (seat_inside.the_type L g) (number, (number, (share-send, tt)))
+
+  seat_send : IsSend (seat.the_row L g)
+  seat_send = search (view_send, seat-inside-send)
+
+  -- a thread of a crew, by what it captures: the handle, the connection and its seat
+  pub thread_send : (name : List ℕ) (layout : Ty) (a b c : NamedLft) (R G : RattleType) → IsSync
+      (param 2 R) → IsSync G
+      → IsSend (param 1 (arg layout no (TupleAt name ((shr_ref_field a (param 2 R) tt).row
+      ∷ (shr_ref_field b (connection.the_row c L G g) tt).row ∷ seat.the_row L g ∷ []))))
+  thread_send name layout a b c R G handle gate =
+      param_send 1 _ (arg_send _ no _ (captures-3 name _ _ _
+      (shr_send _ _ _ handle) (shr_send _ _ _ (connection_sync c G gate)) seat_send))

@@ -1,0 +1,125 @@
+// A crew serves one connection after another.
+ghost use Rattle.std.specs.Prelude.{◌≡◌, false};
+ghost use Rattle.crossbeam_channel.specs.Claims.{view, IsSeatAt};
+ghost use Rattle.crossbeam_channel.specs.Ends.{receives_on};
+ghost use Rattle.connection_queue.specs.Numbers.{hand};
+
+use crate::desk::Desk;
+use crate::gate::Gate;
+use crate::moves::{Connection, bid_farewell, locked};
+use crate::reading::{read_away, read_pieces};
+use crate::working::work;
+use crate::writing::write_what_waits;
+use connection_queue::{Takings, Ticket, take};
+use journal_book::{Book, Places, Seat};
+use std::alloc::Global;
+use std::net::TcpStream;
+use std::sync::ledger::Ledger;
+use std::sync::{Arc, Mutex, Wait};
+use std::thread;
+use std::thread::Threads;
+
+// How many seats a tenant gets.
+const SEATS: usize = 5;
+
+/// Serves connections: for each one a reader, two workers and a writer.
+#[derive(Drop)]
+pub struct Crew<L: Ledger, G: Drop> {
+    pub(crate) alloc: Global,
+    pub(crate) book: Arc<Mutex<Book<L>>>,
+    pub(crate) gate: Arc<G>,
+}
+
+/// Where a crew takes connections, and its ticket there.
+#[derive(Drop)]
+pub struct Post {
+    pub(crate) from: Takings,
+    pub(crate) ticket: Ticket,
+}
+
+/// The seats of all tenants that a crew served.
+#[derive(Drop)]
+pub struct Shift<L: Ledger> {
+    pub seats: Vec<Seat<L>>,
+}
+
+impl<L: Ledger + Send + Sync, G: Gate + Drop + Send + Sync> Crew<L, G> {
+    /// Serves connections from the queue until it ends.
+    pub fn serve_all<R: Threads + Wait + Sync>(&self, rt: &R, post: Post) -> Shift<L>
+        requires { IsSeatAt (receives_on post.from) post.ticket × (view post.ticket ≡ hand false 0) }
+    {
+        let Post { from, mut ticket } = post;
+        let mut seats = Vec::new(self.alloc);
+        for _ in rt.forever() {
+            let Some(accepted) = take(rt, &from, &mut ticket) else {
+                break;
+            };
+            self.serve(rt, &accepted.stream, &mut seats);
+        }
+        Shift { seats }
+    }
+
+    // Serves one connection. Where there is no place or no memory for it, it is closed at once.
+    fn serve<R: Threads + Wait + Sync>(
+        &self,
+        rt: &R,
+        stream: &TcpStream,
+        seats: &mut Vec<Seat<L>>,
+    ) {
+        if seats.reserve(SEATS).is_err() {
+            return;
+        }
+        let Ok(places) = locked(rt, &*self.book).admit() else {
+            return;
+        };
+        let _ = stream.set_nodelay(true);
+        let desk = Desk::new();
+        let connection = Connection {
+            alloc: self.alloc,
+            book: &*self.book,
+            gate: &*self.gate,
+            desk: &desk,
+            stream,
+        };
+        let Places {
+            tenant: _,
+            reader,
+            worker,
+            other_worker,
+            writer,
+            runner,
+        } = places;
+        // where no thread can be started the reader reads all the same, and the others run last
+        let (worker, (other_worker, (writer, mut reader))) = thread::join(
+            rt,
+            || work(rt, &connection, worker),
+            || {
+                thread::join(
+                    rt,
+                    || work(rt, &connection, other_worker),
+                    || {
+                        thread::join(
+                            rt,
+                            || write_what_waits(rt, &connection, writer),
+                            || read_pieces(rt, &connection, reader),
+                        )
+                    },
+                )
+            },
+        );
+        bid_farewell(rt, &*self.book, &mut reader);
+        if desk.is_broken(rt) {
+            read_away(stream);
+        }
+        keep(seats, reader);
+        keep(seats, worker);
+        keep(seats, other_worker);
+        keep(seats, writer);
+        keep(seats, runner);
+    }
+}
+
+// There is room for it.
+fn keep<L: Ledger>(seats: &mut Vec<Seat<L>>, seat: Seat<L>) {
+    let _ = seats.push(seat);
+}

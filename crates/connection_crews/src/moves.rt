@@ -1,0 +1,294 @@
+// The steps that a crew makes through the book, each under one hold of its lock.
+ghost use Rattle.std.specs.Prelude.{◌≡◌};
+
+use crate::desk::Desk;
+use crate::gate::Gate;
+use bytes::Bytes;
+use journal_book::{Book, Receipt, Seat};
+use repl_asks::{Answer, Ask};
+use repl_core::{Refused, Step, StepAnswer};
+use repl_jobs::Job;
+use repl_walker::Ending;
+use server_rules::{Actor, Refusal};
+use std::alloc::Global;
+use std::hint::spin_loop;
+use std::net::{Shutdown, TcpStream};
+use std::sync::ledger::Ledger;
+use std::sync::{Mutex, MutexGuard, Wait};
+use std::thread;
+use tenant_turns::Wire;
+
+// How often the book's lock is tried before a thread sleeps for it, how many pauses lie between two
+// tries, and after how many tries other threads may run.
+const TRIES: u32 = 100;
+
+const PAUSES: u32 = 10;
+
+const TRIES_IN_A_ROW: u32 = 10;
+
+/// A connection, as each thread of its crew sees it.
+#[derive(Drop)]
+pub(crate) struct Connection<'a, L: Ledger, G> {
+    pub(crate) alloc: Global,
+    pub(crate) book: &'a Mutex<Book<L>>,
+    pub(crate) gate: &'a G,
+    pub(crate) desk: &'a Desk,
+    pub(crate) stream: &'a TcpStream,
+}
+
+/// What came of a piece of the stream.
+#[derive(Drop)]
+pub(crate) enum Heard {
+    // so many messages became whole; whether the stream goes on, and replies to write
+    Taken {
+        messages: usize,
+        goes_on: bool,
+        replies: Vec<Vec<u8>>,
+    },
+    // too many replies wait; the piece, and how often replies were taken out
+    Held(Bytes, u64),
+    Refused,
+}
+
+/// What a worker found to do.
+#[derive(Drop)]
+pub(crate) enum Found {
+    Form(Actor, Job),
+    // a request that is done at once, with its replies
+    Answered(Vec<Vec<u8>>),
+    // nothing; how often a request came
+    Nothing(u64),
+    Held(u64),
+    Refused,
+}
+
+/// What an evaluation was told.
+#[derive(Drop)]
+pub(crate) enum Told {
+    Answer(Answer),
+    Interrupted(Vec<Vec<u8>>),
+    Refused,
+}
+
+/// What came of an ending.
+#[derive(Drop)]
+pub(crate) enum Ended {
+    Taken(Vec<Vec<u8>>),
+    Held(Ending, u64),
+    Refused,
+}
+
+impl<'a, L: Ledger, G: Gate> Connection<'a, L, G> {
+    /// Ends a connection that cannot go on: nobody waits for its peer any more.
+    pub(crate) fn cut<R: Wait>(&self, rt: &R) {
+        self.desk.end(rt);
+        let _ = self.stream.shutdown(Shutdown::Both);
+    }
+
+    /// The tenant hears a piece.
+    pub(crate) fn hear<R: Wait>(&self, rt: &R, seat: &mut Seat<L>, piece: Bytes) -> Heard
+        ensures { seat.new.tenant ≡ seat.old.tenant }
+    {
+        let tenant = seat.tenant();
+        let mut book = locked(rt, self.book);
+        match book.act(seat, Step::Hear(tenant, piece)) {
+            Ok(receipt) => {
+                let goes_on = !matches!(book.wire(tenant), Some(Wire::Broken(_)));
+                let replies = self.replies(rt, &mut *book, seat);
+                Heard::Taken {
+                    messages: messages_in(&receipt.answer),
+                    goes_on,
+                    replies,
+                }
+            }
+            Err(
+                Refused {
+                    why: Refusal::Held,
+                    step: Step::Hear(_, piece),
+                },
+            ) => { Heard::Held(piece, self.desk.rooms(rt)) }
+            Err(_) => Heard::Refused,
+        }
+    }
+
+    /// Begins what the first actor that is ready has to do.
+    pub(crate) fn begin<R: Wait>(&self, rt: &R, seat: &mut Seat<L>) -> Found
+        ensures { seat.new.tenant ≡ seat.old.tenant }
+    {
+        let tenant = seat.tenant();
+        let mut book = locked(rt, self.book);
+        let Some(actor) = book.ready(tenant) else {
+            return Found::Nothing(self.desk.requests(rt));
+        };
+        match book.act(seat, Step::Start(tenant, actor)) {
+            Ok(
+                Receipt {
+                    place: _,
+                    answer: StepAnswer::Begun(job),
+                },
+            ) => {
+                self.desk.begin_evaluation(rt);
+                Found::Form(actor, job)
+            }
+            Ok(_) => Found::Answered(self.replies(rt, &mut *book, seat)),
+            Err(
+                Refused {
+                    why: Refusal::Held,
+                    step: _,
+                },
+            ) => Found::Held(self.desk.rooms(rt)),
+            Err(_) => Found::Refused,
+        }
+    }
+
+    /// The form of an actor asks this.
+    pub(crate) fn ask<R: Wait>(&self, rt: &R, seat: &mut Seat<L>, actor: Actor, ask: Ask) -> Told
+        ensures { seat.new.tenant ≡ seat.old.tenant }
+    {
+        let tenant = seat.tenant();
+        let mut book = locked(rt, self.book);
+        match book.act(seat, Step::Asked(tenant, actor, ask)) {
+            Ok(
+                Receipt {
+                    place: _,
+                    answer: StepAnswer::Answer(answer),
+                },
+            ) => Told::Answer(answer),
+            Ok(_) => Told::Interrupted(self.replies(rt, &mut *book, seat)),
+            Err(_) => Told::Refused,
+        }
+    }
+
+    /// The form of an actor has ended so.
+    pub(crate) fn end_form<R: Wait>(
+        &self,
+        rt: &R,
+        seat: &mut Seat<L>,
+        actor: Actor,
+        ending: Ending,
+    ) -> Ended
+        ensures { seat.new.tenant ≡ seat.old.tenant }
+    {
+        let tenant = seat.tenant();
+        let mut book = locked(rt, self.book);
+        match book.act(seat, Step::Ended(tenant, actor, ending)) {
+            Ok(_) => Ended::Taken(self.replies(rt, &mut *book, seat)),
+            Err(
+                Refused {
+                    why: Refusal::Held,
+                    step: Step::Ended(_, _, ending),
+                },
+            ) => { Ended::Held(ending, self.desk.rooms(rt)) }
+            Err(_) => Ended::Refused,
+        }
+    }
+
+    /// The replies that wait, for the writer; and whether the connection is done.
+    pub(crate) fn look<R: Wait>(&self, rt: &R, seat: &mut Seat<L>) -> (Vec<Vec<u8>>, bool)
+        ensures { seat.new.tenant ≡ seat.old.tenant }
+    {
+        let tenant = seat.tenant();
+        let mut book = locked(rt, self.book);
+        let replies = self.replies(rt, &mut *book, seat);
+        let is_done = replies.is_empty()
+            && book.ready(tenant).is_none()
+            && self.desk.is_at_rest(rt);
+        (replies, is_done)
+    }
+
+    // Takes the replies out that wait, and the pen with them, if nobody has it and there are any.
+    fn replies<R: Wait>(&self, rt: &R, book: &mut Book<L>, seat: &mut Seat<L>) -> Vec<Vec<u8>>
+        ensures { seat.new.tenant ≡ seat.old.tenant }
+    {
+        if !self.desk.take_pen(rt) {
+            return Vec::new(self.alloc);
+        }
+        let (replies, are_all) = drain_all(self.alloc, book, seat);
+        if !are_all {
+            self.desk.end(rt);
+        }
+        if replies.is_empty() {
+            self.desk.return_pen(rt);
+        } else {
+            self.desk.note_room(rt);
+        }
+        replies
+    }
+}
+
+/// The book, as soon as nobody else has it.
+pub(crate) fn locked<'b, L: Ledger, R: Wait>(
+    rt: &R,
+    book: &'b Mutex<Book<L>>,
+) -> MutexGuard<'b, Book<L>> {
+    for tried in 1..=TRIES {
+        if let Some(guard) = book.try_lock() {
+            return guard;
+        }
+        if tried % TRIES_IN_A_ROW == 0 {
+            thread::yield_now();
+        } else {
+            for _ in 0..PAUSES {
+                spin_loop();
+            }
+        }
+    }
+    book.lock(rt)
+}
+
+/// The tenant goes.
+pub(crate) fn bid_farewell<L: Ledger, R: Wait>(rt: &R, book: &Mutex<Book<L>>, seat: &mut Seat<L>)
+    ensures { seat.new.tenant ≡ seat.old.tenant }
+{
+    let tenant = seat.tenant();
+    match locked(rt, book).act(seat, Step::Bye(tenant)) {
+        Ok(_gone) => {}
+        Err(_refused) => {}
+    }
+}
+
+// All replies that wait; and whether there was memory to take them all out.
+fn drain_all<L: Ledger>(
+    alloc: Global,
+    book: &mut Book<L>,
+    seat: &mut Seat<L>,
+) -> (Vec<Vec<u8>>, bool)
+    ensures { seat.new.tenant ≡ seat.old.tenant }
+{
+    let mut replies = Vec::new(alloc);
+    for _ in 0..u64::MAX {
+        if replies.reserve(1).is_err() {
+            return (replies, false);
+        }
+        let Some(reply) = drain(book, seat) else {
+            return (replies, true);
+        };
+        if replies.push(reply).is_err() {
+            return (replies, false);
+        }
+    }
+    (replies, true)
+}
+
+// The oldest reply that waits.
+fn drain<L: Ledger>(book: &mut Book<L>, seat: &mut Seat<L>) -> Option<Vec<u8>>
+    ensures { seat.new.tenant ≡ seat.old.tenant }
+{
+    let tenant = seat.tenant();
+    match book.act(seat, Step::Drain(tenant)) {
+        Ok(
+            Receipt {
+                place: _,
+                answer: StepAnswer::Bytes(reply),
+            },
+        ) => Some(reply),
+        _ => None,
+    }
+}
+
+fn messages_in(answer: &StepAnswer) -> usize {
+    match answer {
+        StepAnswer::Heard(messages) => *messages,
+        _ => 0,
+    }
+}

@@ -1,0 +1,124 @@
+#!/usr/bin/env python3
+"""Measures how fast nREPL servers answer evals over sockets, and prints a table for each.
+
+    tools/load.py                    the built program, as `serve`
+    tools/load.py --command COMMAND  the server that this command starts, which prints its port
+    tools/load.py --idle COMMAND     the same for one that answers 3 to whatever it is asked: it
+                                     shows what sockets and the load allow, and is asked for no ref
+
+`--command` and `--idle` may stand more than once; the servers are measured one after another.
+`--evals N` makes N evals in a row of the table, 10,000 unless given. load.c, which gcc compiles
+here, makes the load. It compares each reply with the bytes that it has to have, and ends at the
+first that is another; then the status is 1.
+
+All evals are in a session. In the second row the client leaves it to its system when what came is
+acknowledged, as most do: a server that writes the value and `done` apart, without TCP_NODELAY,
+takes 40 ms for each eval there. In the others the client acknowledges at once, so that any server
+shows what evaluating costs. Before the table as many evals are made as one of its rows has. The
+memory is that of the process which the command starts, with its last connections still open."""
+
+import shlex
+import subprocess
+import sys
+import tempfile
+import typing
+
+import workspace
+from sockets import Server
+
+PROGRAM = f"{workspace.TOP}/crates/nrepl_server/out/nrepl_server"
+BUILT = f"{shlex.quote(PROGRAM)} serve --port 0 --connections 1000 --crews 32"
+MANY, LATE, SIXTEEN = 100, 200, 16
+ADD, ALTER = ("nil", "(+ 1 2)", "3"), ("(def r (ref 0))", "(dosync (alter r inc))", "counted")
+HEAD = """
+| Evals | A second | Median, ms | 99 in 100, ms | Slowest, ms | Out of order |
+|---|---|---|---|---|---|"""
+
+
+class Row(typing.NamedTuple):
+    """Evals on some connections, and how many of each connection's are unanswered at once."""
+
+    name: str
+    evals: int
+    work: tuple = ADD
+    connections: int = 1
+    window: int = 1
+    acknowledges: int = 1
+
+
+def main(words):
+    servers, evals = [], 10_000
+    while len(words) > 1 and words[0] in ("--command", "--idle", "--evals"):
+        if words[0] == "--evals":
+            evals = max(int(words[1]) // SIXTEEN, LATE) * SIXTEEN
+        else:
+            servers.append((words[1], words[0] == "--idle"))
+        words = words[2:]
+    if words:
+        print(__doc__, file=sys.stderr)
+        return 2
+    with tempfile.TemporaryDirectory(prefix="load-") as room:
+        program, source = f"{room}/load", f"{workspace.TOP}/tools/load.c"
+        subprocess.run(["gcc", "-O2", "-pthread", "-o", program, source], check=True)
+        try:
+            for command, is_idle in servers or [(BUILT, False)]:
+                measure(program, command, rows(evals)[: -1 if is_idle else None])
+        except (OSError, EOFError, ValueError) as error:
+            print(f"load: {error}", file=sys.stderr)
+            return 1
+    return 0
+
+
+def rows(evals):
+    """The row that is made before the table, and those of the table."""
+    return (
+        Row("", evals - LATE),
+        Row("`(+ 1 2)`, one after another", evals),
+        Row("the same, acknowledged late", LATE, acknowledges=0),
+        Row(f"`(+ 1 2)`, {MANY} unanswered at once", evals, window=MANY),
+        Row(f"`(+ 1 2)`, one after another on {SIXTEEN} connections", evals, connections=SIXTEEN),
+        Row("`(dosync (alter r inc))`, one after another", evals, ALTER),
+    )
+
+
+def measure(program, command, its_rows):
+    """Prints the table of a server, and its memory."""
+    with Server(shlex.split(command)) as server:
+        begin = memory = megabytes(server)
+        print(f"\n{command}\n{HEAD}", flush=True)
+        for row in its_rows:
+            seconds, overtaken, times, memory = run(program, server, row)
+            if row.name:
+                told = [times[len(times) // 2], times[len(times) * 99 // 100], times[-1]]
+                told = " | ".join(f"{it / 1000:.3f}" for it in told)
+                speed = f"{len(times) / seconds:,.0f}"
+                print(f"| {row.name} | {speed} | {told} | {overtaken} |", flush=True)
+        made = sum(it.evals for it in its_rows)
+        print(f"\nResident memory: {begin} MB before, {memory} MB after {made:,} evals.")
+
+
+def run(program, server, row):
+    """The seconds that a row took, how many evals were answered out of order, the microseconds of
+    each in ascending order, and the server's memory then."""
+    each = row.evals // row.connections
+    numbers = server.address[1], row.connections, each, row.window, row.acknowledges
+    words = [program, *map(str, numbers), *row.work]
+    pipes = {"stdin": subprocess.PIPE, "stdout": subprocess.PIPE, "text": True}
+    with subprocess.Popen(words, **pipes) as load:
+        lines = [load.stdout.readline() for _ in range(1 + each * row.connections)]
+        memory = megabytes(server)
+    if load.returncode:
+        raise ValueError(f"not answered as it has to be: {row.name or row.work[1]}")
+    seconds, overtaken = lines[0].split()
+    return float(seconds), int(overtaken), sorted(map(float, lines[1:])), memory
+
+
+def megabytes(server):
+    """The memory of the server's process that is resident."""
+    with open(f"/proc/{server.process.pid}/status", encoding="utf-8") as file:
+        line = next(it for it in file if it.startswith("VmRSS:"))
+    return round(int(line.split()[1]) / 1000, 1)
+
+
+if __name__ == "__main__":
+    sys.exit(main(sys.argv[1:]))
