@@ -2,9 +2,10 @@
 """The merge gate, started by .ci/run.
 
     .ci/run                 `rt ci` over a copy of the tree: every proof from nothing, every test,
-                            every program; then the cases of cases/ on these programs. Of the
-                            must-fail edits it tries those that the record does not cover, for at
-                            most 40 minutes of all processors, and names those that are left
+                            every program; then the cases of cases/ on these programs, and the tests
+                            over sockets on the server. Of the must-fail edits it tries those that
+                            the record does not cover, for at most 40 minutes of all processors, and
+                            names those that are left
     .ci/run whole           the same, and all must-fail edits, however long they take
     .ci/run edits [NAME ..] tries the edits of the crates that are named, or all that the record
                             does not cover, and nothing else
@@ -27,6 +28,7 @@ import time
 import build
 import cases
 import minutes
+import test_serve
 import workspace
 
 MINUTES_FOR_EDITS = 40
@@ -90,6 +92,7 @@ def run_gate(is_whole):
         with minutes.measured() as table:
             status = workspace.rt_ci(tree, run.see, None if is_whole else MINUTES_FOR_EDITS)
         cases_passed, cases_failed = run_cases(tree)
+        peers_passed, peers_failed = run_peers(tree)
         if not status:
             build.keep_programs(tree, sums)
     elapsed = (time.monotonic() - began) / 60
@@ -101,9 +104,11 @@ def run_gate(is_whole):
             f"edits: left, since their time was used or their crate was not proved:\n{listed(left)}"
         )
     print(f"cases: {cases_passed} passed, {cases_failed} failed")
-    passed, failed = run.counts
-    print(f"{passed + cases_passed} passed, {failed + cases_failed} failed", flush=True)
-    return 1 if status or failed or cases_failed else 0
+    print(f"over sockets: {peers_passed} passed, {peers_failed} failed")
+    passed = run.counts[0] + cases_passed + peers_passed
+    failed = run.counts[1] + cases_failed + peers_failed
+    print(f"{passed} passed, {failed} failed", flush=True)
+    return 1 if status or failed else 0
 
 
 def listed(edits):
@@ -117,12 +122,22 @@ def listed(edits):
 
 def run_cases(tree):
     """Runs all cases on the programs of this tree. Where one is not there that is a failure."""
-    programs = [f"{tree}/crates/{name}/out/{name}" for name in ("nrepl_server", "run_turns")]
+    programs = [program_in(tree, name) for name in ("nrepl_server", "run_turns")]
     lost = [it for it in programs if not os.path.isfile(it)]
     if lost:
         print(f"cases: not run: no program {' '.join(map(os.path.basename, lost))}")
         return 0, 1
     return cases.run(cases.all_files(), *programs)
+
+
+def run_peers(tree):
+    """Runs all tests over sockets on the server of this tree, if it is there."""
+    program = program_in(tree, "nrepl_server")
+    return test_serve.run(program) if os.path.isfile(program) else (0, 1)
+
+
+def program_in(tree, name):
+    return f"{tree}/crates/{name}/out/{name}"
 
 
 def try_edits(names):
