@@ -84,6 +84,10 @@ def transaction(body, count):
     return evaluated(REF, f"(dosync {times(body, count)})")
 
 
+def added(count):
+    return " ".join(f"(alter r assoc {it} 1)" for it in range(count))
+
+
 REF = "(def r (ref 0))"
 DOUBLING = "(defn f [n] (if (zero? n) 0 (do (f (dec n)) (f (dec n)))))"
 SKIPPING = f"(defn f [] (if true 1 (do {times('1', 20000)})))"
@@ -145,6 +149,16 @@ ROWS = (
     (
         "`(commute r inc)` in one `dosync`, each made again at its commit",
         lambda n: transaction("(commute r inc)", n),
+        1200,
+    ),
+    (
+        "`(alter r conj 1)` in one `dosync`, from an empty vector",
+        lambda n: evaluated("(def r (ref []))", f"(dosync {times('(alter r conj 1)', n)} nil)"),
+        1200,
+    ),
+    (
+        "`(alter r assoc KEY 1)` in one `dosync`, from an empty map",
+        lambda n: evaluated("(def r (ref {}))", f"(dosync {added(n)} nil)"),
         1200,
     ),
     ("`(ensure r)` in one `dosync`", lambda n: transaction("(ensure r)", n), 1250),

@@ -1,10 +1,10 @@
 -- What a part of an evaluation does until it is left. It sees neither the text that was printed
--- before it nor what an attempt did so far, unless it looks.
+-- before it nor what an attempt has so far, unless it looks.
 use Rattle.std.specs.Prelude.{ℕ, List, Bool}
 use Rattle.value_data.specs.Datum.{Datum}
 use Rattle.repl_faults.specs.Failure.{Failure}
 use Rattle.repl_asks.specs.Exchange.{AskData, AnswerData, ResolutionData, resolution_in}
-use Rattle.tx_attempt.specs.Accesses.{AccessData}
+use Rattle.tx_attempt.specs.Accesses.{AccessData, AttemptData}
 
 -- What an evaluation carries from form to form: the calls that it may still make, its namespace,
 -- whether a transaction runs, and how many attempts a transaction may make.
@@ -25,8 +25,8 @@ pub data Doing : Type 0 where
   left : Exit → Kept → Doing
   asking : AskData → (AnswerData → Doing) → Doing
   printing : List ℕ → Kept → Doing → Doing
-  -- at the accesses of the attempt so far
-  looking : (List AccessData → Doing) → Doing
+  -- at what the attempt has so far
+  looking : (AttemptData → Doing) → Doing
   -- one more access of the attempt
   noting : AccessData → Doing → Doing
   -- an attempt has begun: its body by itself, and what goes on

@@ -26,7 +26,7 @@ known_or_read name None next kept =
 
 -- the value that the attempt knows, else that which is read
 abbrev pub ref_value : RefNameData → Part Datum
-ref_value name next kept = looking (λ ops. known_or_read name (attempt_value name ops) next kept)
+ref_value name next kept = looking (λ a. known_or_read name (attempt_value name a) next kept)
 
 -- A ref is set, and the value given. One that was commuted is set no more.
 abbrev pub put_by : RefNameData → Datum → Bool → Part Datum
@@ -34,7 +34,7 @@ put_by name d true next kept = left (failed (broken_rule Rule.NoSetAfterCommute)
 put_by name d false next kept = noting (put name d) (next d kept)
 
 unfoldable pub put_value : RefNameData → Datum → Part Datum
-put_value name d next kept = looking (λ ops. put_by name d (is_commuted name ops) next kept)
+put_value name d next kept = looking (λ a. put_by name d (is_commuted name a) next kept)
 
 -- the same, where the ref may hold it
 unfoldable pub held_value : RefNameData → Datum → Part Datum

@@ -1,5 +1,5 @@
 -- What others see of a part of an evaluation that is the whole: its asks, and how it ends.
-use Rattle.std.specs.Prelude.{ℕ, ◌+◌, List, [], ◌∷◌, ◌++◌, Result, Ok, Err, length, nat_lt}
+use Rattle.std.specs.Prelude.{ℕ, ◌+◌, List, ◌++◌, Result, Ok, Err, length, nat_lt}
 use Rattle.std.specs.Prelude.{if◌then◌else◌}
 use Rattle.value_data.specs.Datum.{Datum}
 use Rattle.core_texts.specs.Limits.{most_text}
@@ -7,20 +7,20 @@ use Rattle.repl_faults.specs.Failure as failures
 use Rattle.repl_faults.specs.Failure.{Failure}
 use Rattle.repl_faults.specs.declared.rule.Rule.{Rule}
 use Rattle.repl_jobs.specs.InteractionTree.{InteractionTree, finished, asks}
-use Rattle.tx_attempt.specs.Accesses.{AccessData}
+use Rattle.tx_attempt.specs.Accesses.{AttemptData, noted, nothing_noted}
 use Rattle.evaluation_rules.specs.Doing.{Kept, Exit, gave, failed, retried, Doing, left, asking}
 use Rattle.evaluation_rules.specs.Doing.{printing, looking, noting, trying}
 
--- An attempt did these accesses so far and goes on; `after` says what is done when it is left. What
--- it does stays noted.
-abbrev pub with_attempt : (Exit → Kept → List AccessData → Doing) → List AccessData → Doing → Doing
-with_attempt after ops (left exit kept) = after exit kept ops
-with_attempt after ops (asking ask behind) =
-    asking ask (λ answer. with_attempt after ops (behind answer))
-with_attempt after ops (printing text kept d) = printing text kept (with_attempt after ops d)
-with_attempt after ops (looking behind) = with_attempt after ops (behind ops)
-with_attempt after ops (noting op d) = noting op (with_attempt after (ops ++ op ∷ []) d)
-with_attempt after ops (trying body d) = trying body (with_attempt after ops d)
+-- An attempt has this so far and goes on; `after` says what is done when it is left. What it does
+-- stays noted.
+abbrev pub with_attempt : (Exit → Kept → AttemptData → Doing) → AttemptData → Doing → Doing
+with_attempt after a (left exit kept) = after exit kept a
+with_attempt after a (asking ask behind) =
+    asking ask (λ answer. with_attempt after a (behind answer))
+with_attempt after a (printing text kept d) = printing text kept (with_attempt after a d)
+with_attempt after a (looking behind) = with_attempt after a (behind a)
+with_attempt after a (noting op d) = noting op (with_attempt after (noted op a) d)
+with_attempt after a (trying body d) = trying body (with_attempt after a d)
 
 abbrev pub ends : Result Datum Failure → List ℕ → Kept → InteractionTree
 ends r text kept = finished (record { result = r; text = text; namespace = kept.namespace })
@@ -40,6 +40,6 @@ written_tree before (printing text kept d) =
     if nat_lt most_text (length before + length text)
     then ends (Err failures.output_too_long) before kept
     else written_tree (before ++ text) d
-written_tree before (looking behind) = written_tree before (behind [])
+written_tree before (looking behind) = written_tree before (behind nothing_noted)
 written_tree before (noting access d) = written_tree before d
 written_tree before (trying body d) = written_tree before d

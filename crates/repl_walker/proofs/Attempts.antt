@@ -3,21 +3,22 @@ use Rattle.std.proofs.Common.{◌≡◌, ℕ, ◌+◌, ◌⊎◌, inl, inr, List
 use Rattle.std.proofs.Common.{length, if◌then◌else◌, refl, sym, ap, subst, ◌∙◌, arith}
 use Rattle.std.proofs.lemmas.List.{length-append}
 use Rattle.std.specs.Prelude.{nat_lt}
+use Rattle.std.specs.List.{fold}
 use Rattle.core_texts.specs.Limits.{most_text}
 use Rattle.repl_asks.specs.Exchange.{AskData, AnswerData, Exchanged}
 use Rattle.repl_jobs.specs.InteractionTree.{InteractionTree}
 use Rattle.repl_jobs.specs.Leading.{Leads}
-use Rattle.tx_attempt.specs.Accesses.{AccessData}
+use Rattle.tx_attempt.specs.Accesses.{AccessData, AttemptData, nothing_noted, noted}
 use Rattle.evaluation_rules.specs.Doing.{Kept, Exit, Doing, left, asking, printing, looking, noting}
 use Rattle.evaluation_rules.specs.Doing.{trying}
 use Rattle.evaluation_rules.specs.Tree.{with_attempt, ends, written_tree}
 use Rattle.repl_faults.specs.Failure.{output_too_long}
 use Rattle.std.proofs.Common.{Err}
-use Rattle.repl_walker.specs.Standing.{Standing, standing_after}
+use Rattle.repl_walker.specs.Standing.{Standing, standing_after, attempt_of}
 use Rattle.repl_walker.specs.Attempts.{answers_in, AsksThese, IsUnderWay, IsDivided}
 
 abbrev After : Type 0
-After = Exit → Kept → List AccessData → Doing
+After = Exit → Kept → AttemptData → Doing
 
 abbrev Divides : After → (List AnswerData → Standing)
     → List Exchanged → InteractionTree → Type 0
@@ -73,7 +74,7 @@ printed b text more ops kept d answers =
 
 abbrev written : Bool → After → List ℕ → List ℕ → List AccessData → Kept → Doing → InteractionTree
 written b after text more ops kept d = if b then ends (Err output_too_long) text kept
-    else written_tree (text ++ more) (with_attempt after ops d)
+    else written_tree (text ++ more) (with_attempt after (attempt_of ops) d)
 
 too-long : (after : After) (text more : List ℕ) (ops : List AccessData) (kept : Kept) (d : Doing)
     (xs : List Exchanged)
@@ -99,9 +100,19 @@ printed-on after text more ops kept d xs end true test on leads =
     too-long after text more ops kept d xs end test leads
 printed-on after text more ops kept d xs end false test on leads = on leads
 
+one-more : (ops : List AccessData) (op : AccessData)
+    → attempt_of (ops ++ op ∷ []) ≡ noted op (attempt_of ops)
+one-more ops op = at nothing_noted ops
+  where
+    at : (a : AttemptData) (xs : List AccessData)
+        → fold (λ (b : AttemptData) (x : AccessData). noted x b) a (xs ++ op ∷ [])
+        ≡ noted op (fold (λ (b : AttemptData) (x : AccessData). noted x b) a xs)
+    at a [] = refl
+    at a (x ∷ xs) = at (noted x a) xs
+
 pub divides : (after : After) (d : Doing) (text : List ℕ) (ops : List AccessData)
     (xs : List Exchanged) (end : InteractionTree)
-    → Leads (written_tree text (with_attempt after ops d)) xs end
+    → Leads (written_tree text (with_attempt after (attempt_of ops) d)) xs end
     → Divides after (standing_after text ops d) xs end
 divides after (left exit kept) text ops xs end leads =
     let asks = asks-none (standing_after text ops (left exit kept)) in
@@ -115,7 +126,9 @@ divides after (printing more kept d) text ops xs end leads =
     printed-on after text more ops kept d xs end (nat_lt most_text (length text + length more)) refl
     (divides after d (text ++ more) ops xs end) leads
 divides after (looking behind) text ops xs end leads =
-    divides after (behind ops) text ops xs end leads
+    divides after (behind (attempt_of ops)) text ops xs end leads
 divides after (noting op d) text ops xs end leads =
-    divides after d text (ops ++ op ∷ []) xs end leads
+    divides after d text (ops ++ op ∷ []) xs end
+    (subst (λ (a : AttemptData). Leads (written_tree text (with_attempt after a d)) xs end)
+    (sym (one-more ops op)) leads)
 divides after (trying body d) text ops xs end leads = divides after d text ops xs end leads

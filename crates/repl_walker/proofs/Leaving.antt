@@ -11,7 +11,7 @@ use Rattle.evaluation_rules.specs.Places.{PlaceData}
 use Rattle.evaluation_rules.specs.Rows.{last_of}
 use Rattle.evaluation_rules.specs.Transactions.{body_of}
 use Rattle.evaluation_rules.specs.Evaluation.{value_at}
-use Rattle.repl_walker.specs.Standing.{Standing, standing_after}
+use Rattle.repl_walker.specs.Standing.{Standing, attempt_of, standing_after}
 use Rattle.repl_walker.specs.Retries.{RetriesLeave}
 use Rattle.repl_walker.proofs.Standing.{goes-on}
 use Rattle.repl_walker.proofs.Retries.{Leaves, LeavesOn, body-leaves}
@@ -35,7 +35,8 @@ stands text ops (printing more kept d) answers h =
     at : (b : Bool) → Leaves further.rest → Leaves (if b then here else further).rest
     at true on = h
     at false on = on
-stands text ops (looking behind) answers h = stands text ops (behind ops) answers (h ops)
+stands text ops (looking behind) answers h =
+    stands text ops (behind (attempt_of ops)) answers (h (attempt_of ops))
 stands text ops (noting op d) answers h = stands text (ops ++ op ∷ []) d answers h
 stands text ops (trying body d) answers h = stands text ops d answers h
 

@@ -32,7 +32,7 @@ use Rattle.special_forms.specs.Shapes as shapes
 use Rattle.special_forms.specs.Shapes.{ShapeData, shape_of}
 use Rattle.special_forms.specs.declared.shapes.Logic.{Logic}
 use Rattle.special_forms.specs.declared.special.SpecialForm.{SpecialForm}
-use Rattle.tx_attempt.specs.Accesses.{AccessData, commuted, attempt_value, is_commuted}
+use Rattle.tx_attempt.specs.Accesses.{AttemptData, commuted, attempt_value, is_commuted}
 use Rattle.store_calls.specs.Calling.{CallData, refused, reads, puts, ensures, asks_value}
 use Rattle.store_calls.specs.Calling.{call_data_of, altered_in}
 use Rattle.store_calls.specs.declared.altering.Alteration.{Alteration}
@@ -81,7 +81,7 @@ Leaves (left exit kept) = ⊤
 Leaves (asking ask behind) =
     (answer : AnswerData) → LeavesBehind ask answer (behind answer) × Leaves (behind answer)
 Leaves (printing text kept d) = Leaves d
-Leaves (looking behind) = (ops : List AccessData) → Leaves (behind ops)
+Leaves (looking behind) = (a : AttemptData) → Leaves (behind a)
 Leaves (noting op d) = Leaves d
 Leaves (trying body d) = Leaves d
 
@@ -200,8 +200,8 @@ known-read name None = record {
 
 refs : (name : RefNameData) → Passes Datum (ref_value name)
 refs name = record {
-  leaves = λ next kept runs on ops.
-      (known-read name (attempt_value name ops)).leaves next kept runs on;
+  leaves = λ next kept runs on a.
+      (known-read name (attempt_value name a)).leaves next kept runs on;
 }
 
 put-passes-by : (name : RefNameData) (d : Datum) (b : Bool) → Passes Datum (put_by name d b)
@@ -211,8 +211,8 @@ put-passes-by name d false = record { leaves = λ next kept runs on. on d kept r
 put-passes : (name : RefNameData) (d : Datum) → Passes Datum (put_value name d)
 unfolding put_value
 put-passes name d = record {
-  leaves = λ next kept runs on ops.
-      (put-passes-by name d (is_commuted name ops)).leaves next kept runs on;
+  leaves = λ next kept runs on a.
+      (put-passes-by name d (is_commuted name a)).leaves next kept runs on;
 }
 
 held : (name : RefNameData) (d : Datum) → Passes Datum (held_value name d)

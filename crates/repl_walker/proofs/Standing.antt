@@ -6,7 +6,7 @@ use Rattle.repl_asks.specs.Exchange.{AnswerData}
 use Rattle.tx_attempt.specs.Accesses.{AccessData}
 use Rattle.evaluation_rules.specs.Doing.{Kept, Exit, Doing, left, asking, printing, looking, noting}
 use Rattle.evaluation_rules.specs.Doing.{trying}
-use Rattle.repl_walker.specs.Standing.{Standing, standing_after, on_from}
+use Rattle.repl_walker.specs.Standing.{Standing, attempt_of, standing_after, on_from}
 
 pub goes-on
     : (text : List ℕ) (ops : List AccessData) (d : Doing) (answers more : List AnswerData)
@@ -31,7 +31,8 @@ goes-on text ops (printing printed kept d) answers more =
         ≡ on_from (if b then here else further answers) more
     at true passes on = sym (ap (λ c. if c then here else further more) passes)
     at false fits on = on
-goes-on text ops (looking behind) answers more = goes-on text ops (behind ops) answers more
+goes-on text ops (looking behind) answers more =
+    goes-on text ops (behind (attempt_of ops)) answers more
 goes-on text ops (noting op d) answers more = goes-on text (ops ++ op ∷ []) d answers more
 goes-on text ops (trying body d) answers more = goes-on text ops d answers more
 

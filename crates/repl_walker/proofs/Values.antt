@@ -9,7 +9,7 @@ use Rattle.repl_asks.specs.Transactions.{ChangeData}
 use Rattle.repl_asks.specs.Exchange.{AnswerData}
 use Rattle.tx_attempt.specs.Accesses.{AccessData, named_in, accessed_value}
 use Rattle.evaluation_rules.specs.Doing.{Doing, left, asking, printing, looking, noting, trying}
-use Rattle.repl_walker.specs.Standing.{Standing, standing_after}
+use Rattle.repl_walker.specs.Standing.{Standing, attempt_of, standing_after}
 use Rattle.repl_walker.specs.Values.{values_after}
 
 -- the one list begins as the other
@@ -38,7 +38,7 @@ grows text ops (printing more kept d) answers =
         → Begins (if b then here else further).accesses ops
     at true on = same ops
     at false on = on
-grows text ops (looking behind) answers = grows text ops (behind ops) answers
+grows text ops (looking behind) answers = grows text ops (behind (attempt_of ops)) answers
 grows text ops (noting op d) answers =
     let more = grows text (ops ++ op ∷ []) d answers in
     (op ∷ more.0, more.1 ∙ append_assoc ops (op ∷ []) more.0)
@@ -79,7 +79,7 @@ stays less before ops (printing text kept d) answers more few =
         grind (arith, nat_tests, fits, few) in
         rw too on
 stays less before ops (looking behind) answers more few =
-    stays less before ops (behind ops) answers more few
+    stays less before ops (behind (attempt_of ops)) answers more few
 stays less before ops (noting op d) answers more few =
     stays less before (ops ++ op ∷ []) d answers more few
 stays less before ops (trying body d) answers more few = stays less before ops d answers more few

@@ -4,11 +4,11 @@ use Rattle.std.specs.Prelude.{◌≡◌, List, ◌∷◌, ◌++◌, map, ⊤}
 use Rattle.repl_asks.specs.Exchange.{AnswerData, Exchanged}
 use Rattle.repl_jobs.specs.InteractionTree.{InteractionTree}
 use Rattle.repl_jobs.specs.Leading.{Leads}
-use Rattle.tx_attempt.specs.Accesses.{AccessData}
+use Rattle.tx_attempt.specs.Accesses.{AttemptData}
 use Rattle.evaluation_rules.specs.Doing.{Kept, Exit, Doing, left, asking, printing, looking, noting}
 use Rattle.evaluation_rules.specs.Doing.{trying}
 use Rattle.evaluation_rules.specs.Tree.{with_attempt, written_tree}
-use Rattle.repl_walker.specs.Standing.{Standing}
+use Rattle.repl_walker.specs.Standing.{Standing, attempt_of}
 
 abbrev pub answers_in : List Exchanged → List AnswerData
 answers_in = map (λ x. x.answer)
@@ -29,23 +29,23 @@ IsWithin (noting op d) = ⊥
 IsWithin (trying body d) = ⊥
 
 -- what is done from where it stands
-abbrev pub tree_from : (Exit → Kept → List AccessData → Doing) → Standing → InteractionTree
-tree_from after s = written_tree s.text (with_attempt after s.accesses s.rest)
+abbrev pub tree_from : (Exit → Kept → AttemptData → Doing) → Standing → InteractionTree
+tree_from after s = written_tree s.text (with_attempt after (attempt_of s.accesses) s.rest)
 
 -- The trace is that of the body, which is under way, or prints what is too long.
-abbrev pub IsUnderWay : (Exit → Kept → List AccessData → Doing) → (List AnswerData → Standing)
+abbrev pub IsUnderWay : (Exit → Kept → AttemptData → Doing) → (List AnswerData → Standing)
     → List Exchanged → InteractionTree → Type 0
 IsUnderWay after body trace end = AsksThese body trace × IsWithin (body (answers_in trace)).rest
     × (end ≡ tree_from after (body (answers_in trace)))
 
 -- The body is left so where it stands, and the trace leads on from there.
-abbrev pub IsLeft : (Exit → Kept → List AccessData → Doing) → Standing → List Exchanged
+abbrev pub IsLeft : (Exit → Kept → AttemptData → Doing) → Standing → List Exchanged
     → InteractionTree → Type 0
 IsLeft after s trace end = (exit : Exit) × (kept : Kept) × (s.rest ≡ left exit kept)
-    × Leads (written_tree s.text (after exit kept s.accesses)) trace end
+    × Leads (written_tree s.text (after exit kept (attempt_of s.accesses))) trace end
 
 -- The trace is that of the body until it was left, and then that of what follows.
-abbrev pub IsDivided : (Exit → Kept → List AccessData → Doing) → (List AnswerData → Standing)
+abbrev pub IsDivided : (Exit → Kept → AttemptData → Doing) → (List AnswerData → Standing)
     → List Exchanged → InteractionTree → Type 0
 IsDivided after body trace end = (first : List Exchanged) × (rest : List Exchanged)
     × (trace ≡ first ++ rest) × AsksThese body first

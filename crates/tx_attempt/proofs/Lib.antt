@@ -1,7 +1,6 @@
 pub mod Names
-pub mod LastPlaces
+pub mod Listed
+pub mod Stated
 pub mod Noting
-pub mod Reading
-pub mod Once
-pub mod Grouped
-pub mod Ordered
+pub mod TakenOut
+pub mod Wanted

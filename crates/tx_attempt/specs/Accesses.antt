@@ -1,7 +1,7 @@
--- What an attempt at a transaction did, in order; the values that it sees, and what it wants
+-- What an attempt at a transaction does with refs, what it has of them then, and what it wants
 -- committed (the Clojure reference, Refs and Transactions).
-use Rattle.std.specs.Prelude.{List, [], ◌∷◌, Bool, not, Option, None, Some, option_map, find}
-use Rattle.std.specs.Prelude.{reverse, filter, filter_map, map, if◌then◌else◌}
+use Rattle.std.specs.Prelude.{List, [], ◌∷◌, ◌++◌, Bool, not, Option, None, Some, option_map}
+use Rattle.std.specs.Prelude.{filter, filter_map, map, if◌then◌else◌}
 use Rattle.std.specs.List.{list_any}
 use Rattle.value_data.specs.Datum.{Datum}
 use Rattle.repl_asks.specs.Transactions.{RefNameData, ChangeData, CommuteData, CommutedData}
@@ -30,65 +30,71 @@ accessed_value (put n d) = d
 accessed_value (commuted n c d) = d
 accessed_value (ensured n d) = d
 
-abbrev pub names_ref : RefNameData → AccessData → Bool
-names_ref name op = same_name name (named_in op)
+-- What an attempt has.
+pub record AttemptData : Type 0 where
+  -- the value of each ref that it named
+  pub value : RefNameData → Option Datum
+  -- what it applied to the value of each ref, in order
+  pub commutes : RefNameData → List CommuteData
+  -- the refs that it set, each once, in the order in which they were first set
+  pub sets : List RefNameData
+  -- those that it ensured, and those that it commuted, likewise
+  pub ensured : List RefNameData
+  pub commuted : List RefNameData
 
--- the value of a ref in the attempt: that of the last access that names it
-unfoldable pub attempt_value : RefNameData → List AccessData → Option Datum
-attempt_value name ops = option_map accessed_value (find (names_ref name) (reverse ops))
-
--- the ref that an access sets, commutes or ensures
-abbrev pub ref_put : AccessData → Option RefNameData
-ref_put (put n d) = Some n
-ref_put op = None
-
-abbrev pub ref_commuted : AccessData → Option RefNameData
-ref_commuted (commuted n c d) = Some n
-ref_commuted op = None
-
-abbrev pub ref_ensured : AccessData → Option RefNameData
-ref_ensured (ensured n d) = Some n
-ref_ensured op = None
+-- before its first access
+abbrev pub nothing_noted : AttemptData
+nothing_noted = record {
+  value = λ n. None;
+  commutes = λ n. [];
+  sets = [];
+  ensured = [];
+  commuted = [];
+}
 
 abbrev pub is_among : RefNameData → List RefNameData → Bool
 is_among name names = list_any (same_name name) names
 
+-- these names and this one, which is not there twice
+abbrev pub with_name : RefNameData → List RefNameData → List RefNameData
+with_name name names = if is_among name names then names else names ++ name ∷ []
+
+-- the value of a ref in the attempt is that of the last access that named it
+abbrev pub with_value : RefNameData → Datum → AttemptData → AttemptData
+with_value name d a = record a { value = λ n. if same_name name n then Some d else a.value n }
+
+abbrev pub with_commute : RefNameData → CommuteData → AttemptData → AttemptData
+with_commute name c a = record a {
+  commutes = λ n. if same_name name n then a.commutes n ++ c ∷ [] else a.commutes n;
+  commuted = with_name name a.commuted;
+}
+
+-- one access more
+unfoldable pub noted : AccessData → AttemptData → AttemptData
+noted (got n d) a = with_value n d a
+noted (put n d) a = with_value n d (record a { sets = with_name n a.sets })
+noted (commuted n c d) a = with_value n d (with_commute n c a)
+noted (ensured n d) a = with_value n d (record a { ensured = with_name n a.ensured })
+
+unfoldable pub attempt_value : RefNameData → AttemptData → Option Datum
+attempt_value name a = a.value name
+
 -- a ref that was commuted is set no more
-unfoldable pub is_commuted : RefNameData → List AccessData → Bool
-is_commuted name ops = is_among name (filter_map ref_commuted ops)
-
--- each name once, where it comes first
-abbrev pub each_once : List RefNameData → List RefNameData
-each_once [] = []
-each_once (n ∷ ns) = n ∷ filter (λ m. not (same_name n m)) (each_once ns)
-
--- the refs that were set, each once, in the order in which they were first set
-unfoldable pub set_refs : List AccessData → List RefNameData
-set_refs ops = each_once (filter_map ref_put ops)
+unfoldable pub is_commuted : RefNameData → AttemptData → Bool
+is_commuted name a = is_among name a.commuted
 
 -- a ref gets the value that it has in the attempt
-abbrev pub change_of : List AccessData → RefNameData → Option ChangeData
-change_of ops name = option_map (λ d. record { name = name; now = d }) (attempt_value name ops)
+abbrev pub change_of : AttemptData → RefNameData → Option ChangeData
+change_of a name = option_map (λ d. record { name = name; now = d }) (a.value name)
 
--- those that were commuted and not set, likewise
-unfoldable pub commuted_refs : List AccessData → List RefNameData
-commuted_refs ops =
-    filter (λ name. not (is_among name (filter_map ref_put ops)))
-    (each_once (filter_map ref_commuted ops))
-
--- what was applied to the value of a ref, in order
-abbrev pub commute_of : RefNameData → AccessData → Option CommuteData
-commute_of name (commuted n c d) = if same_name name n then Some c else None
-commute_of name op = None
-
-abbrev pub commutes_of : List AccessData → RefNameData → CommutedData
-commutes_of ops name = record { name = name; commutes = filter_map (commute_of name) ops }
+abbrev pub commutes_of : AttemptData → RefNameData → CommutedData
+commutes_of a name = record { name = name; commutes = a.commutes name }
 
 -- What the attempt wants committed: each ref that was set, with its value; those that were ensured;
--- and what was applied to each that was commuted alone.
-unfoldable pub intent_of : List AccessData → IntentData
-intent_of ops = record {
-  sets = filter_map (change_of ops) (set_refs ops);
-  ensured = each_once (filter_map ref_ensured ops);
-  commuted = map (commutes_of ops) (commuted_refs ops);
+-- and what was applied to each that was commuted and not set.
+unfoldable pub intent_of : AttemptData → IntentData
+intent_of a = record {
+  sets = filter_map (change_of a) a.sets;
+  ensured = a.ensured;
+  commuted = map (commutes_of a) (filter (λ name. not (is_among name a.sets)) a.commuted);
 }

@@ -1,8 +1,7 @@
 -- How the code is seen and kept. Nobody has to believe these: they say what contracts say of the
 -- code, and proofs, and none of the rules.
 pub mod Keys
-pub mod View
+pub mod States
+pub mod Marks
 pub mod Parts
-pub mod Places
-pub mod Groups
 pub mod Seen

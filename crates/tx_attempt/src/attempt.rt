@@ -1,81 +1,90 @@
-// What an attempt read, set, commuted and ensured.
-ghost use Rattle.tx_attempt.specs.Inside.Places.{KeepsPlaces, KeepsMarks};
+// What an attempt has of the refs that it read, set, commuted and ensured.
+ghost use Rattle.tx_attempt.specs.Inside.States.{states_of};
+ghost use Rattle.tx_attempt.specs.Inside.Marks.{SetsAre, EnsuredAre, CommutedAre, NamesOnce};
+ghost use Rattle.std.specs.Prelude.{◌≡◌, ◌<◌, ◌++◌, [], ◌∷◌, if◌then◌else◌, vec_len};
+ghost use Rattle.std.specs.Prelude.{vec_capacity};
 
-use crate::access::Access;
 use crate::error::SetError;
 use crate::key::Key;
-use crate::latest::LatestAccess;
+use crate::state::Mark;
+use crate::states::RefStates;
 use repl_asks::Commute;
 use repl_values::{RefName, Value};
 use std::alloc::{AllocError, Global};
-use std::collections::BTreeMap;
 
 /// One attempt at a transaction.
 #[derive(Drop)]
 pub struct Attempt {
     pub(crate) alloc: Global,
-    pub(crate) accesses: Vec<Access>,
-    pub(crate) latest: BTreeMap<Key, LatestAccess>,
-    ghost places: { KeepsPlaces ⟦<Key as Ord>⟧.cmp latest accesses.items },
-    ghost marks: { KeepsMarks ⟦<Key as Ord>⟧.cmp latest accesses.items },
+    pub(crate) states: RefStates,
+    // The refs to which something was done, each once, in the order in which that was first done.
+    pub(crate) sets: Vec<RefName>,
+    pub(crate) ensured: Vec<RefName>,
+    pub(crate) commuted: Vec<RefName>,
+    ghost set_marks: { SetsAre (states_of ⟦<Key as Ord>⟧.cmp states) sets.items },
+    ghost ensured_marks: { EnsuredAre (states_of ⟦<Key as Ord>⟧.cmp states) ensured.items },
+    ghost commuted_marks: { CommutedAre (states_of ⟦<Key as Ord>⟧.cmp states) commuted.items },
+    ghost sets_once: { NamesOnce sets.items },
+    ghost commuted_once: { NamesOnce commuted.items },
 }
 
 impl Attempt {
-    ghost use Rattle.std.specs.Prelude.{◌≡◌, [], ◌∷◌, ◌++◌, option_map, OnOk, OnErr};
+    ghost use Rattle.std.specs.Prelude.{◌≡◌, option_map, OnOk, OnErr};
     ghost use Rattle.value_data.specs.Inside.View.{view};
     ghost use Rattle.repl_asks.specs.Inside.View.{name_view, commute_view};
-    ghost use Rattle.tx_attempt.specs.Accesses.{got, put, commuted, ensured, named_in};
-    ghost use Rattle.tx_attempt.specs.Accesses.{attempt_value, is_commuted};
+    ghost use Rattle.tx_attempt.specs.Accesses.{got, put, commuted, ensured};
+    ghost use Rattle.tx_attempt.specs.Accesses.{nothing_noted, noted, attempt_value, is_commuted};
     ghost use Rattle.tx_attempt.specs.Inside.Parts.{is_refused};
-    ghost use Rattle.tx_attempt.specs.Inside.View.{access_view};
-    ghost use Rattle.tx_attempt.specs.Inside.Seen.{accesses_of};
+    ghost use Rattle.tx_attempt.specs.Inside.Seen.{attempt_view};
 
     /// An attempt that begins. It takes no memory.
-    #[tactic(auto, unfolding(crate::specs::Inside::Seen::accesses_of, crate::specs::Accesses::is_commuted))]
     pub fn new(alloc: Global) -> Attempt
-        ensures { accesses_of result ≡ [] }
+        ensures { attempt_view result ≡ nothing_noted }
     {
         Attempt {
             alloc,
-            accesses: Vec::new(alloc),
-            latest: BTreeMap::new(alloc),
+            states: RefStates::new(alloc),
+            sets: Vec::new(alloc),
+            ensured: Vec::new(alloc),
+            commuted: Vec::new(alloc),
         }
     }
 
     /// The value of a ref in this attempt, if an access named it: that of the last one. It takes
     /// about the logarithm of the number of refs that were named, and no memory.
-    #[tactic(auto, unfolding(crate::specs::Inside::Seen::accesses_of))]
     pub fn value_of(&self, name: RefName) -> Option<&Value>
         ensures { option_map (λ v. view v.now) result
-            ≡ attempt_value (name_view name) (accesses_of self.now) }
+            ≡ attempt_value (name_view name) (attempt_view self.now) }
     {
-        let latest = self.latest.get(&Key::of(name))?;
-        Some(self.accesses[latest.place].value())
+        self.states.value_of(name)
     }
 
     /// Notes that a ref was read, and its value. It fails only for want of memory; then all stays
     /// as it was.
     pub fn note_read(&mut self, name: RefName, value: Value) -> Result<(), AllocError>
-        ensures noted { OnOk result (accesses_of self.new
-            ≡ accesses_of self.old ++ got (name_view name) (view value) ∷ []) }
-        ensures stays { OnErr result (accesses_of self.new ≡ accesses_of self.old) }
+        ensures noted { OnOk result (attempt_view self.new
+            ≡ noted (got (name_view name) (view value)) (attempt_view self.old)) }
+        ensures stays { OnErr result (attempt_view self.new ≡ attempt_view self.old) }
     {
-        self.note(Access::Got { name, value })
+        self.states.note(name, value, Mark::Read)?;
+        Ok(())
     }
 
     /// Sets a ref, in this attempt alone. One that was commuted is not set: that is looked at
     /// first, and takes no memory. After either error all stays as it was.
     pub fn set(&mut self, name: RefName, value: Value) -> Result<(), SetError>
-        ensures set { OnOk result (accesses_of self.new
-            ≡ accesses_of self.old ++ put (name_view name) (view value) ∷ []) }
+        ensures set { OnOk result (attempt_view self.new
+            ≡ noted (put (name_view name) (view value)) (attempt_view self.old)) }
         ensures commuted { is_refused result
-            ≡ is_commuted (name_view name) (accesses_of self.old) }
-        ensures stays { OnErr result (accesses_of self.new ≡ accesses_of self.old) }
+            ≡ is_commuted (name_view name) (attempt_view self.old) }
+        ensures stays { OnErr result (attempt_view self.new ≡ attempt_view self.old) }
     {
-        if self.is_commuted(name) {
+        if self.states.is_commuted(name) {
             return Err(SetError::Commuted);
         }
-        self.note(Access::Set { name, value })?;
+        self.sets.reserve(1)?;
+        let is_first = self.states.note(name, value, Mark::Set)?;
+        list(&mut self.sets, name, is_first);
         Ok(())
     }
 
@@ -87,61 +96,38 @@ impl Attempt {
         commute: Commute,
         value: Value,
     ) -> Result<(), AllocError>
-        ensures noted { OnOk result (accesses_of self.new
-            ≡ accesses_of self.old
-            ++ commuted (name_view name) (commute_view commute) (view value) ∷ []) }
-        ensures stays { OnErr result (accesses_of self.new ≡ accesses_of self.old) }
+        ensures noted { OnOk result (attempt_view self.new
+            ≡ noted (commuted (name_view name) (commute_view commute) (view value))
+            (attempt_view self.old)) }
+        ensures stays { OnErr result (attempt_view self.new ≡ attempt_view self.old) }
     {
-        self.note(Access::Commuted {
-            name,
-            function: commute.function,
-            arguments: commute.arguments,
-            value,
-        })
+        self.commuted.reserve(1)?;
+        let is_first = self.states.commute(name, commute, value)?;
+        list(&mut self.commuted, name, is_first);
+        Ok(())
     }
 
     /// Notes that nobody else is to change a ref, and its value. It fails only for want of memory;
     /// then all stays as it was.
     pub fn ensure(&mut self, name: RefName, value: Value) -> Result<(), AllocError>
-        ensures noted { OnOk result (accesses_of self.new
-            ≡ accesses_of self.old ++ ensured (name_view name) (view value) ∷ []) }
-        ensures stays { OnErr result (accesses_of self.new ≡ accesses_of self.old) }
+        ensures noted { OnOk result (attempt_view self.new
+            ≡ noted (ensured (name_view name) (view value)) (attempt_view self.old)) }
+        ensures stays { OnErr result (attempt_view self.new ≡ attempt_view self.old) }
     {
-        self.note(Access::Ensured { name, value })
-    }
-
-    #[tactic(auto, unfolding(crate::specs::Inside::Seen::accesses_of))]
-    fn is_commuted(&self, name: RefName) -> bool
-        ensures { result ≡ is_commuted (name_view name) (accesses_of self.now) }
-    {
-        match self.latest.get(&Key::of(name)) {
-            Some(latest) => latest.is_commuted,
-            None => false,
-        }
-    }
-
-    // Whether the ref of this access is commuted once that is noted.
-    fn is_commuted_with(&self, access: &Access) -> bool
-        ensures { result ≡ is_commuted (named_in (access_view access.now))
-            (accesses_of self.now ++ access_view access.now ∷ []) }
-    {
-        access.is_commute() || self.is_commuted(access.name())
-    }
-
-    // Each takes about the logarithm of the number of refs.
-    #[tactic(auto, unfolding(crate::specs::Inside::Seen::accesses_of))]
-    fn note(&mut self, access: Access) -> Result<(), AllocError>
-        ensures noted { OnOk result (accesses_of self.new
-            ≡ accesses_of self.old ++ access_view access ∷ []) }
-        ensures stays { OnErr result (accesses_of self.new ≡ accesses_of self.old) }
-    {
-        self.accesses.reserve(1)?;
-        let latest = LatestAccess {
-            place: self.accesses.len(),
-            is_commuted: self.is_commuted_with(&access),
-        };
-        self.latest.insert(Key::of(access.name()), latest)?;
-        self.accesses.push_reserved(access);
+        self.ensured.reserve(1)?;
+        let is_first = self.states.note(name, value, Mark::Ensure)?;
+        list(&mut self.ensured, name, is_first);
         Ok(())
+    }
+}
+
+// Lists a name, where it comes for the first time.
+fn list(names: &mut Vec<RefName>, name: RefName, is_first: bool)
+    requires { vec_len names.old < vec_capacity names.old }
+    ensures { names.new.items
+        ≡ (if is_first then names.old.items ++ name ∷ [] else names.old.items) }
+{
+    if is_first {
+        names.push_reserved(name);
     }
 }

@@ -1,7 +1,7 @@
 -- Reads and sets of refs, where a transaction runs and where none does.
 use Rattle.std.specs.Global.{Global}
 use Rattle.std.specs.Prelude.{Box, string_bytes}
-use Rattle.std.proofs.Common.{◌≡◌, ◌∙◌, ap, Bool, true, false, [], ◌∷◌, ◌++◌, Some, None, Err, refl}
+use Rattle.std.proofs.Common.{◌≡◌, ◌∙◌, ap, Bool, true, false, Some, None, Err, refl}
 use Rattle.std.proofs.Common.{sym}
 use Rattle.value_data.specs.Datum.{Datum}
 use Rattle.repl_faults.specs.Failure.{Failure, broken_rule}
@@ -11,8 +11,8 @@ use Rattle.repl_asks.specs.Exchange.{read}
 use Rattle.repl_asks.specs.Inside.View.{name_view}
 use Rattle.repl_jobs.specs.InteractionTree.{asks}
 use Rattle.value_data.specs.declared.value.RefName.{RefName}
-use Rattle.tx_attempt.specs.Accesses.{AccessData, put, attempt_value, is_commuted}
-use Rattle.tx_attempt.specs.Inside.Seen.{accesses_of}
+use Rattle.tx_attempt.specs.Accesses.{AccessData, put, noted, attempt_value, is_commuted}
+use Rattle.tx_attempt.specs.Inside.Seen.{attempt_view}
 use Rattle.tx_attempt.specs.declared.attempt.Attempt.{Attempt}
 use Rattle.evaluation_rules.specs.Doing.{Doing, noting, pure_part}
 use Rattle.evaluation_rules.specs.Tree.{ends}
@@ -35,10 +35,10 @@ unfolding inside_attempt
 noted-outside s op d none = rw none refl
 
 pub noted-inside : (s : State) (t u : Box Transaction Global) (a : Attempt) (op : AccessData) (d : Doing) → s.transaction ≡ Some t
-    → u.value ≡ record (t.value) { attempt = a } → accesses_of a ≡ accesses_of t.value.attempt ++ op ∷ []
+    → u.value ≡ record (t.value) { attempt = a } → attempt_view a ≡ noted op (attempt_view t.value.attempt)
     → whole (record s { transaction = Some u }) d ≡ whole s (noting op d)
 unfolding inside_attempt again
-noted-inside s t u a op d runs is noted = rw (runs, is, noted) refl
+noted-inside s t u a op d runs is now = rw (runs, is, now) refl
 
 -- A ref is set
 
@@ -59,17 +59,17 @@ kept-inside : (s : State) (t u : Box Transaction Global) → s.transaction ≡ S
 kept-inside s t u runs = rw runs refl
 
 pub put-inside : (s : State) (t u : Box Transaction Global) (a : Attempt) (name : RefNameData) (v : Datum) → s.transaction ≡ Some t
-    → u.value ≡ record (t.value) { attempt = a } → accesses_of a ≡ accesses_of t.value.attempt ++ put name v ∷ []
-    → is_commuted name (accesses_of t.value.attempt) ≡ false
+    → u.value ≡ record (t.value) { attempt = a } → attempt_view a ≡ noted (put name v) (attempt_view t.value.attempt)
+    → is_commuted name (attempt_view t.value.attempt) ≡ false
     → from_state (pure_part v) (record s { transaction = Some u }) ≡ from_state (put_value name v) s
-put-inside s t u a name v runs is noted free =
+put-inside s t u a name v runs is now free =
     ap (λ k. whole (record s { transaction = Some u }) (next_of s v k)) (kept-inside s t u runs)
-    ∙ noted-inside s t u a (put name v) (next_of s v (kept_of s)) runs is noted
+    ∙ noted-inside s t u a (put name v) (next_of s v (kept_of s)) runs is now
     ∙ sym (put-at s name v false (ap (λ t. is_commuted name (so_far t)) runs ∙ free))
 
 -- one that was commuted is not
 pub put-refused : (s : State) (t u : Box Transaction Global) (name : RefNameData) (v : Datum) (told : Failure) → s.transaction ≡ Some t
-    → is_commuted name (accesses_of t.value.attempt) ≡ true → told ≡ broken_rule Rule.NoSetAfterCommute
+    → is_commuted name (attempt_view t.value.attempt) ≡ true → told ≡ broken_rule Rule.NoSetAfterCommute
     → ends (Err told) (string_bytes s.text) (kept_of (record s { transaction = Some u })) ≡ from_state (put_value name v) s
 put-refused s t u name v told runs blocked is =
     ap (λ f. ends (Err f) (string_bytes s.text) (kept_of (record s { transaction = Some u }))) is

@@ -14,8 +14,8 @@ use Rattle.repl_asks.specs.Exchange.{AskData, AnswerData, begin, commit, committ
 use Rattle.repl_jobs.specs.InteractionTree.{InteractionTree, asks}
 use Rattle.special_forms.specs.Inside.Seen.{forms_view}
 use Rattle.special_forms.specs.declared.forms.Forms.{Forms}
-use Rattle.tx_attempt.specs.Accesses.{AccessData, intent_of}
-use Rattle.tx_attempt.specs.Inside.Seen.{accesses_of}
+use Rattle.tx_attempt.specs.Accesses.{AttemptData, intent_of, nothing_noted}
+use Rattle.tx_attempt.specs.Inside.Seen.{attempt_view}
 use Rattle.tx_attempt.specs.declared.attempt.Attempt.{Attempt}
 use Rattle.evaluation_rules.specs.Doing.{Kept, Doing, left, failed, retried, asking, printing}
 use Rattle.evaluation_rules.specs.Doing.{looking, trying, Part, pure_part, fails}
@@ -54,7 +54,7 @@ unfolding inside_attempt
 inside_attempt-printing r None p more kept d text = refl
 inside_attempt-printing r (Some t) p more kept d text = refl
 
-pub inside_attempt-looking : (r : ℕ) (t : Running) (p : PlaceData) (behind : List AccessData → Doing) (text : List ℕ)
+pub inside_attempt-looking : (r : ℕ) (t : Running) (p : PlaceData) (behind : AttemptData → Doing) (text : List ℕ)
     → written_tree text (inside_attempt r t p (looking behind)) ≡ written_tree text (inside_attempt r t p (behind (so_far t)))
 unfolding inside_attempt
 inside_attempt-looking r None p behind text = refl
@@ -73,11 +73,11 @@ if_ok-turned F (Err e) turned h = tt
 
 -- an attempt that is left is asked for
 pub attempts-left : (n : ℕ) (body : Doing) (next : Datum → Kept → Doing) (last : Kept) → n ≢ 0
-    → attempts n body next last ≡ asking begin (λ answer. trying body (with_attempt (after_body (attempts (n - 1) body next) next) [] body))
+    → attempts n body next last ≡ asking begin (λ answer. trying body (with_attempt (after_body (attempts (n - 1) body next) next) nothing_noted body))
 attempts-left zero body next last some = absurd (some refl)
 attempts-left (suc n) body next last some =
     let e : suc n - 1 ≡ n = omega arith in
-    ap (λ (m : ℕ). asking begin (λ answer. trying body (with_attempt (after_body (attempts m body next) next) [] body))) (sym e)
+    ap (λ (m : ℕ). asking begin (λ answer. trying body (with_attempt (after_body (attempts m body next) next) nothing_noted body))) (sym e)
 
 -- no attempt is left
 pub again-none : (r : ℕ) (t : Transaction) (p : PlaceData) (last : Kept) (text : List ℕ) → t.left ≡ 0
@@ -88,7 +88,7 @@ again-none r t p last text none = rw none refl
 -- one is, and it begins
 pub again-left : (r : ℕ) (t u : Transaction) (p : PlaceData) (last : Kept) (text : List ℕ) → t.left ≢ 0
     → u ≡ record t { left = t.left - 1; is_first = false }
-    → asks begin (λ answer. written_tree text (with_attempt (after_body (again r u p) (frames_next u.frames.items p)) [] (body_at r u p)))
+    → asks begin (λ answer. written_tree text (with_attempt (after_body (again r u p) (frames_next u.frames.items p)) nothing_noted (body_at r u p)))
     ≡ written_tree text (again r t p last)
 unfolding again
 again-left r t u p last text some is =
@@ -130,7 +130,7 @@ unfolding inside_attempt
 left-outside s v empty none = rw (empty, none) refl
 
 pub left-inside : (s : State) (t : Box Transaction Global) (u : Transaction) (a : Attempt) (v : Datum) (intent : IntentData)
-    → s.frames.items ≡ [] → s.transaction ≡ Some t → u ≡ record (t.value) { attempt = a } → intent ≡ intent_of (accesses_of t.value.attempt)
+    → s.frames.items ≡ [] → s.transaction ≡ Some t → u ≡ record (t.value) { attempt = a } → intent ≡ intent_of (attempt_view t.value.attempt)
     → asks (commit intent) (λ answer. settled_tree u v (verdict_in answer) (record s { transaction = None })) ≡ from_state (pure_part v) s
 unfolding inside_attempt again
 left-inside s t u a v intent empty runs is wants = rw (empty, runs, is, wants) refl
@@ -139,7 +139,7 @@ left-inside s t u a v intent empty runs is wants = rw (empty, runs, is, wants) r
 pub begun-at : (s u : State) (b : Box Transaction Global) (t : Transaction) (a : Attempt) (forms : Forms) (room : ℕ) (v : Datum)
     → (place_of u ≡ place_of s) × (string_bytes u.text ≡ string_bytes s.text) × (u.retries ≡ s.retries)
     → (u.frames.items ≡ []) × (u.calls ≡ t.calls) × (arc_str_bytes u.namespace ≡ arc_str_bytes t.namespace) × (u.transaction ≡ Some b)
-    → (b.value ≡ record t { attempt = a }) × (accesses_of a ≡ [])
+    → (b.value ≡ record t { attempt = a }) × (attempt_view a ≡ nothing_noted)
     → (forms_view forms ≡ forms_view t.body) × (room ≡ t.room) × (v ≡ nil)
     → from_state (last_of (value_at room (place_of u)) v (forms_view forms)) u ≡ begun_tree t s
 unfolding inside_attempt again

@@ -1,5 +1,5 @@
 -- What an evaluation has still to do, in the words of the definition.
-use Rattle.std.specs.Prelude.{ℕ, List, [], ◌∷◌, true, false, Err, string_bytes}
+use Rattle.std.specs.Prelude.{ℕ, List, ◌∷◌, true, false, Err, string_bytes}
 use Rattle.std.specs.Arc.{arc_str_bytes}
 use Rattle.value_data.specs.Datum.{Datum, nil}
 use Rattle.value_data.specs.Inside.View.{view}
@@ -10,6 +10,7 @@ use Rattle.repl_asks.specs.Inside.View.{ask_view, name_view}
 use Rattle.repl_asks.specs.declared.answer.Resolution.{Resolution}
 use Rattle.repl_jobs.specs.InteractionTree.{InteractionTree, asks}
 use Rattle.special_forms.specs.Inside.Seen.{views, forms_view, function_view}
+use Rattle.tx_attempt.specs.Accesses.{nothing_noted}
 use Rattle.evaluation_rules.specs.Doing.{Kept, Doing, Part, ◌>>=◌, pure_part}
 use Rattle.evaluation_rules.specs.Tree.{with_attempt, ends, written_tree}
 use Rattle.evaluation_rules.specs.Places.{PlaceData}
@@ -79,7 +80,7 @@ symbol_for_use p s purpose = resolution p s >>= value_for_use p purpose
 abbrev pub begun_tree : Transaction → State → InteractionTree
 begun_tree t s = written_tree (string_bytes s.text)
     (with_attempt (after_body (again s.retries t (place_of s))
-    (frames_next t.frames.items (place_of s))) [] (body_at s.retries t (place_of s)))
+    (frames_next t.frames.items (place_of s))) nothing_noted (body_at s.retries t (place_of s)))
 
 abbrev pub kept_inside : State → Kept
 kept_inside s = with_running true (kept_of s)

@@ -1,11 +1,11 @@
 -- A transaction that is under way, in the words of the definition.
-use Rattle.std.specs.Prelude.{ℕ, List, [], Bool, true, false, Option, Some, None, Box}
+use Rattle.std.specs.Prelude.{ℕ, Bool, true, false, Option, Some, None, Box}
 use Rattle.std.specs.Global.{Global}
 use Rattle.std.specs.Arc.{arc_str_bytes}
 use Rattle.value_data.specs.Datum.{nil}
 use Rattle.special_forms.specs.Inside.Seen.{forms_view}
-use Rattle.tx_attempt.specs.Accesses.{AccessData}
-use Rattle.tx_attempt.specs.Inside.Seen.{accesses_of}
+use Rattle.tx_attempt.specs.Accesses.{AttemptData, nothing_noted}
+use Rattle.tx_attempt.specs.Inside.Seen.{attempt_view}
 use Rattle.evaluation_rules.specs.Doing.{Kept, Doing, left}
 use Rattle.evaluation_rules.specs.Tree.{with_attempt}
 use Rattle.evaluation_rules.specs.Places.{PlaceData}
@@ -40,12 +40,12 @@ unfoldable pub inside_attempt : ℕ → Option (Box Transaction Global) → Plac
 inside_attempt retries None p d = d
 inside_attempt retries (Some t) p d =
     with_attempt (after_body (again retries t.value p) (frames_next t.value.frames.items p))
-    (accesses_of t.value.attempt) d
+    (attempt_view t.value.attempt) d
 
--- what the attempt that runs did so far
-abbrev pub so_far : Option (Box Transaction Global) → List AccessData
-so_far None = []
-so_far (Some t) = accesses_of t.value.attempt
+-- what the attempt that runs has so far
+abbrev pub so_far : Option (Box Transaction Global) → AttemptData
+so_far None = nothing_noted
+so_far (Some t) = attempt_view t.value.attempt
 
 abbrev pub is_running : Option (Box Transaction Global) → Bool
 is_running None = false

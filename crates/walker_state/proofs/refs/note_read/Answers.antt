@@ -1,9 +1,9 @@
-use Rattle.std.proofs.Common.{sym, ap, ◌∙◌, ◌++◌, ◌∷◌, []}
+use Rattle.std.proofs.Common.{sym, ap, ◌∙◌}
 use Rattle.value_data.specs.Datum.{Datum}
 use Rattle.value_data.specs.Inside.View.{view}
 use Rattle.repl_asks.specs.Inside.View.{name_view}
-use Rattle.tx_attempt.specs.Accesses.{got}
-use Rattle.tx_attempt.specs.Inside.Seen.{accesses_of}
+use Rattle.tx_attempt.specs.Accesses.{noted, got}
+use Rattle.tx_attempt.specs.Inside.Seen.{attempt_view}
 use Rattle.walker_state.specs.declared.frames.Transaction.{Transaction}
 use Rattle.walker_state.proofs.Noting.{noted-outside, noted-inside}
 use Rattle.walker_state.proofs.refs.note_read.Goals as goal
@@ -21,5 +21,5 @@ returns-in_ok-note_read-in-Some-clause-noted c =
     λ d. noted-inside c.args.state.now t b a (got (name_view c.args.name) (view c.args.value.now)) d (sym c.in-Some.ensures.value)
     (ap (λ (x : Transaction). record x { attempt = a }) now)
     (c.in_ok-note_read-in-Some.ensures.noted
-    ∙ ap (λ (x : Transaction). accesses_of x.attempt ++ got (name_view c.args.name) (view c.in_ok-copy-in-Some.field-0) ∷ []) now
-    ∙ ap (λ (v : Datum). accesses_of t.value.attempt ++ got (name_view c.args.name) v ∷ []) c.in_ok-copy-in-Some.ensures)
+    ∙ ap (λ (x : Transaction). noted (got (name_view c.args.name) (view c.in_ok-copy-in-Some.field-0)) (attempt_view x.attempt)) now
+    ∙ ap (λ (v : Datum). noted (got (name_view c.args.name) v) (attempt_view t.value.attempt)) c.in_ok-copy-in-Some.ensures)

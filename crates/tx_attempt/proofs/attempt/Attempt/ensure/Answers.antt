@@ -1,0 +1,60 @@
+use Rattle.std.proofs.Common.{refl, ap, ◌∙◌, cond, ◌++◌, ◌∷◌, []}
+use Rattle.value_data.specs.Inside.View.{view}
+use Rattle.repl_asks.specs.Inside.View.{name_view}
+use Rattle.tx_attempt.specs.contracts.key.KeyOrd.TheImpl as order
+use Rattle.tx_attempt.specs.declared.state.Mark.{Mark}
+use Rattle.tx_attempt.specs.Inside.States.{states_of, marked, has_value}
+use Rattle.tx_attempt.specs.Inside.Seen.{attempt_view}
+use Rattle.tx_attempt.proofs.Stated.{same-data, Restated, marks-stay, marks-more}
+use Rattle.tx_attempt.proofs.Noting.{on-err, ensured-noted}
+use Rattle.tx_attempt.proofs.attempt.Attempt.ensure.Goals as goal
+
+pub returns-in_err-reserve-clause-stays : goal.returns-in_err-reserve-clause-stays
+unfolding attempt_view
+returns-in_err-reserve-clause-stays c =
+    let a = c.args.self.now in
+    let f = states_of (order.ghosts).cmp a.states in
+    on-err c.from_residual.result
+    (same-data f f a.sets.items a.sets.items a.ensured.items c.reserve.new.self.items a.commuted.items a.commuted.items
+    (λ n. refl) refl c.in_err-reserve.ensures.items refl)
+
+pub returns-in_err-is_first-clause-stays : goal.returns-in_err-is_first-clause-stays
+unfolding attempt_view
+returns-in_err-is_first-clause-stays c =
+    let a = c.args.self.now in
+    on-err c.from_residual-in_err-is_first.result
+    (same-data (states_of (order.ghosts).cmp a.states) (states_of (order.ghosts).cmp c.note.new.self)
+    a.sets.items a.sets.items a.ensured.items c.reserve.new.self.items a.commuted.items a.commuted.items
+    c.in_err-is_first.ensures.stays refl c.in_ok-reserve.ensures.items refl)
+
+pub invariant_of-self-2 : goal.invariant_of-self-2
+invariant_of-self-2 c =
+    let a = c.args.self.now in
+    let f = states_of (order.ghosts).cmp a.states in
+    let g = states_of (order.ghosts).cmp c.note.new.self in
+    let name = name_view c.args.name in
+    let new = marked Mark.Ensure (has_value (view c.args.value) (f name)) in
+    let now : Restated f g name new = record { at = c.in_ok-is_first.ensures.noted } in
+    record {
+      set_marks = marks-stay (λ s. s.is_set) f g name new a.sets.items now refl a.set_marks;
+      ensured_marks = marks-more (λ s. s.is_ensured) f g c.args.name new c.in_ok-is_first.is_first
+          a.ensured.items c.list.new.names.items now refl c.in_ok-is_first.ensures.first
+          (c.list.ensures
+          ∙ ap (λ xs. cond c.in_ok-is_first.is_first (xs ++ c.args.name ∷ []) xs) c.in_ok-reserve.ensures.items)
+          a.ensured_marks;
+      commuted_marks = marks-stay (λ s. s.is_commuted) f g name new a.commuted.items now refl a.commuted_marks;
+      sets_once = a.sets_once;
+      commuted_once = a.commuted_once;
+    }
+
+pub returns-clause-noted : goal.returns-clause-noted
+unfolding attempt_view
+returns-clause-noted c =
+    let a = c.args.self.now in
+    ensured-noted (states_of (order.ghosts).cmp a.states) (states_of (order.ghosts).cmp c.note.new.self)
+    c.args.name (view c.args.value) c.in_ok-is_first.is_first a.sets.items a.ensured.items
+    c.list.new.names.items a.commuted.items (record { at = c.in_ok-is_first.ensures.noted })
+    c.in_ok-is_first.ensures.first
+    (c.list.ensures
+    ∙ ap (λ xs. cond c.in_ok-is_first.is_first (xs ++ c.args.name ∷ []) xs) c.in_ok-reserve.ensures.items)
+    a.ensured_marks
