@@ -2,18 +2,10 @@
 use Rattle.std.proofs.Common.{◌≡◌, ◌∙◌, ap, arith, false, ℕ, ◌+◌, ◌≤◌, Result, Ok, Err, IfOk}
 use Rattle.walker_state.specs.Size.{frames_size}
 use Rattle.walker_state.specs.Position.{TransactionPosition, around, IsLater}
-use Rattle.walker_state.specs.Position.{IsOn, control_position, Position, LeadsOnWithin}
+use Rattle.walker_state.specs.Position.{IsOn, control_position, Position, outer_calls, LeadsOnWithin}
 use Rattle.walker_state.specs.declared.frames.Control.{Control}
 use Rattle.walker_state.specs.declared.frames.State.{State}
-use Rattle.walker_state.proofs.Laters.{later_on, later_smaller}
-use Rattle.walker_machine.specs.Waits.{position_of, most_calls_of, IsOnReached, IsLaterReached}
-use Rattle.walker_machine.specs.declared.steps.Reached.{Reached}
-
--- after an answer
-pub if_later : {E : Type 0} (r : Result Reached E) (old middle : Position) → IsLater middle old → IfOk r (λ p. IsOnReached p middle) → IfOk r (λ p. IsLaterReached p old)
-if_later (Ok (Reached.Asks w ask)) old middle later h = later_on old middle (position_of w) later h
-if_later (Ok (Reached.Ends end)) old middle later h = tt
-if_later (Err e) old middle later h = tt
+use Rattle.walker_state.proofs.Laters.{later_smaller}
 
 -- an answer that leads on in the same attempt
 pub leads-later : {E : Type 0} (r : Result Control E) (work : ℕ) (before new : State) (old : Position)
@@ -25,14 +17,11 @@ leads-later (Ok c) work before new old same fewer smaller on =
 leads-later (Err e) work before new old same fewer smaller on = tt
 
 -- without an answer, and outside of transactions
-pub begun-calls : {E : Type 0} (r : Result Reached E) (old : Position) → old.transaction.runs ≡ false → IfOk r (λ p. IsOnReached p old)
-    → IfOk r (λ p. most_calls_of p ≤ old.calls)
+pub begun-calls : (new old : Position) → old.transaction.runs ≡ false → IsOn new old → outer_calls new ≤ old.calls
 unfolding IsOn
-begun-calls (Ok (Reached.Asks w ask)) old outside on =
-    let runs : (position_of w).transaction.runs ≡ false = ap (λ (a : TransactionPosition). a.runs) on.0 ∙ outside in
+begun-calls new old outside on =
+    let runs : new.transaction.runs ≡ false = ap (λ (a : TransactionPosition). a.runs) on.0 ∙ outside in
     rw runs on.1
-begun-calls (Ok (Reached.Ends end)) old outside on = omega arith
-begun-calls (Err e) old outside on = tt
 
 pub leads-within : {E : Type 0} (r : Result Control E) (m n : ℕ) (old new : State) → m ≤ n
     → IfOk r (LeadsOnWithin m old new) → IfOk r (LeadsOnWithin n old new)

@@ -14,6 +14,7 @@ use Rattle.walker_state.specs.Position.{around, Position, wanted_position, outer
 use Rattle.walker_state.specs.Position.{IsOn}
 use Rattle.walker_state.specs.declared.frames.State.{State}
 use Rattle.walker_machine.specs.declared.steps.Leg.{Leg}
+use Rattle.walker_machine.specs.declared.steps.Stop.{Stop}
 use Rattle.walker_machine.specs.declared.steps.WaitingEvaluation.{WaitingEvaluation}
 use Rattle.walker_machine.specs.declared.steps.Reached.{Reached}
 
@@ -23,9 +24,14 @@ leg_tree (Leg.Enters f values room) s =
     from_state (body_value (value_at room) (function_view f) (views values.items)) s
 leg_tree (Leg.Ends end) s = ends (end_view end) (string_bytes s.text) (kept_of s)
 
+abbrev pub stop_tree : Stop → State → InteractionTree
+stop_tree (Stop.Asks ask wanted) s =
+    asks (ask_view ask) (λ answer. tree_with_answer wanted answer s)
+stop_tree (Stop.Ends end) s = ends (end_view end) (string_bytes s.text) (kept_of s)
+
 -- what an evaluation does with the answer that it waits for
 abbrev pub tree_behind : WaitingEvaluation → AnswerData → InteractionTree
-tree_behind w answer = tree_with_answer w.wanted answer w.state
+tree_behind w answer = tree_with_answer w.wanted answer w.state.value
 
 -- what an evaluation that came so far has still to do
 abbrev pub reached_tree : Reached → InteractionTree
@@ -35,7 +41,7 @@ reached_tree (Reached.Ends end) = finished (finished_view end)
 -- Where an evaluation stands, for the proof that it ends. No promise speaks of it.
 
 abbrev pub position_of : WaitingEvaluation → Position
-position_of w = wanted_position w.wanted w.state
+position_of w = wanted_position w.wanted w.state.value
 
 -- without the body of another function
 abbrev pub IsOnLeg : Leg → State → Position → Type 0
@@ -45,6 +51,11 @@ IsOnLeg (Leg.Enters f values room) s old = (around s.transaction ≡ old.transac
 IsOnLeg (Leg.Ends end) s old = ⊤
 
 -- it came on without an answer, or there is no more to do
+abbrev pub IsOnStop : Stop → State → Position → Type 0
+IsOnStop (Stop.Asks ask wanted) s old = IsOn (wanted_position wanted s) old
+IsOnStop (Stop.Ends end) s old = ⊤
+
+-- the same of one that waits
 abbrev pub IsOnReached : Reached → Position → Type 0
 IsOnReached (Reached.Asks w ask) old = IsOn (position_of w) old
 IsOnReached (Reached.Ends end) old = ⊤

@@ -11,8 +11,9 @@ ghost use Rattle.value_data.specs.Inside.View.{view};
 ghost use Rattle.evaluation_rules.specs.Doing.{pure_part};
 ghost use Rattle.walker_state.specs.Position.{Position, control_position};
 ghost use Rattle.walker_state.specs.declared.frames.Control.{Control};
-ghost use Rattle.walker_machine.specs.Waits.{leg_tree, tree_behind, reached_tree, position_of};
-ghost use Rattle.walker_machine.specs.Waits.{most_calls_of, IsOnLeg, IsOnReached, IsLaterReached};
+ghost use Rattle.walker_machine.specs.Waits.{leg_tree, stop_tree, tree_behind, reached_tree};
+ghost use Rattle.walker_machine.specs.Waits.{position_of, most_calls_of, IsOnLeg, IsOnStop};
+ghost use Rattle.walker_machine.specs.Waits.{IsOnReached, IsLaterReached};
 
 use crate::answers::use_answer;
 use crate::calls::enter;
@@ -25,13 +26,15 @@ use repl_jobs::{End, Finished, Job};
 use repl_values::{Value, copy, copy_text};
 use special_forms::Function;
 use std::alloc::{AllocError, Global};
+use std::boxed::Box;
 use std::collections::VecDeque;
 use walker_state::{Control, EndOrCommit, Place, State, Wanted, leave};
 
-/// An evaluation that waits for the answer to its last ask.
+/// An evaluation that waits for the answer to its last ask. Whoever hands it on moves a few words:
+/// its state stays where it was put at the first ask.
 #[derive(Drop)]
 pub struct WaitingEvaluation {
-    pub(crate) state: State,
+    pub(crate) state: Box<State>,
     pub(crate) wanted: Wanted,
 }
 
@@ -40,6 +43,13 @@ pub struct WaitingEvaluation {
 pub enum Reached {
     Asks(WaitingEvaluation, Ask),
     Ends(Finished),
+}
+
+// What an evaluation asks next, or its end.
+#[derive(Drop)]
+enum Stop {
+    Asks(Ask, Wanted),
+    Ends(End),
 }
 
 // How far an evaluation comes without the body of another function.
@@ -56,7 +66,7 @@ pub fn begin(alloc: Global, job: &Job) -> Result<Reached, AllocError>
         ≡ evaluation (job_view job.now)) }
     ensures calls { IfOk result (λ reached. most_calls_of reached ≤ CALLS) }
 {
-    let state = State {
+    let mut state = State {
         frames: VecDeque::new(alloc),
         place: Place {
             locals: Locals::none(alloc),
@@ -69,7 +79,13 @@ pub fn begin(alloc: Global, job: &Job) -> Result<Reached, AllocError>
         transaction: None,
     };
     let form = copy(job.work.form())?;
-    go_on(alloc, state, Control::Evaluate(form, ROOM))
+    match go_on(alloc, &mut state, Control::Evaluate(form, ROOM))? {
+        Stop::Ends(end) => Ok(end_reached(state, end)),
+        Stop::Asks(ask, wanted) => {
+            let state = Box::new(alloc, state)?;
+            Ok(Reached::Asks(WaitingEvaluation { state, wanted }, ask))
+        }
+    }
 }
 
 impl WaitingEvaluation {
@@ -81,27 +97,27 @@ impl WaitingEvaluation {
     {
         let WaitingEvaluation { mut state, wanted } = self;
         let control = use_answer(alloc, &mut state, wanted, answer)?;
-        go_on(alloc, state, control)
+        match go_on(alloc, &mut state, control)? {
+            Stop::Ends(end) => Ok(end_reached(Box::into_inner(state), end)),
+            Stop::Asks(ask, wanted) => {
+                Ok(Reached::Asks(WaitingEvaluation { state, wanted }, ask))
+            }
+        }
     }
 }
 
 // Each further leg has taken a call from the budget.
-fn go_on(alloc: Global, state: State, control: Control) -> Result<Reached, AllocError>
-    ensures meaning { IfOk result (λ reached. reached_tree reached ≡ tree control state) }
-    ensures on { IfOk result (λ reached. IsOnReached reached (control_position control state)) }
+fn go_on(alloc: Global, state: &mut State, control: Control) -> Result<Stop, AllocError>
+    ensures meaning { IfOk result (λ stop. stop_tree stop state.new ≡ tree control state.old) }
+    ensures on { IfOk result (λ stop.
+        IsOnStop stop state.new (control_position control state.old)) }
 {
-    let mut state = state;
     let mut control = control;
     loop {
-        control = match run_leg(alloc, &mut state, control)? {
-            Leg::Ends(end) => return Ok(end_reached(state, end)),
-            Leg::Asks(ask, wanted) => return Ok(Reached::Asks(
-                WaitingEvaluation { state, wanted },
-                ask,
-            )),
-            Leg::Enters(function, values, room) => {
-                enter(alloc, &mut state, function, values, room)?
-            }
+        control = match run_leg(alloc, state, control)? {
+            Leg::Ends(end) => return Ok(Stop::Ends(end)),
+            Leg::Asks(ask, wanted) => return Ok(Stop::Asks(ask, wanted)),
+            Leg::Enters(function, values, room) => enter(alloc, state, function, values, room)?,
         };
     }
 }

@@ -1,14 +1,75 @@
-use Rattle.std.proofs.Common.{refl, ap, [], None}
+use Rattle.std.proofs.Common.{◌≡◌, refl, sym, ap, subst, ◌∙◌, [], None}
+use Rattle.repl_asks.specs.Inside.View.{ask_view}
+use Rattle.repl_jobs.specs.Inside.View.{job_view}
+use Rattle.repl_jobs.specs.InteractionTree.{InteractionTree, asks}
 use Rattle.evaluation_rules.specs.Tree.{written_tree}
+use Rattle.evaluation_rules.specs.Evaluation.{evaluation}
+use Rattle.evaluation_rules.specs.declared.limits.TheConstants.{CALLS, ROOM}
+use Rattle.walker_state.specs.Pending.{tree, tree_with_answer}
+use Rattle.walker_state.specs.Position.{control_position, wanted_position, IsOn}
+use Rattle.walker_state.specs.declared.frames.Control.{Control}
+use Rattle.walker_state.specs.declared.frames.State.{State}
 use Rattle.walker_state.proofs.Stepping.{outside}
+use Rattle.walker_machine.specs.Waits.{stop_tree, IsOnStop}
+use Rattle.walker_machine.specs.declared.steps.Stop.{Stop}
 use Rattle.walker_machine.proofs.Going.{begun-calls}
-use Rattle.walker_machine.proofs.Evaluating.{if_ok-turned}
 use Rattle.walker_machine.proofs.steps.begin.Goals as goal
 
-pub returns-clause-meaning : goal.returns-clause-meaning
-returns-clause-meaning c =
-    if_ok-turned _ _ (rw (c.in_ok-form.ensures, ← c.form.ensures, c.new.ensures.items, c.none.ensures, c.in_ok-copy_text.ensures, c.new-2.ensures.bytes) (ap (written_tree []) (outside c.args.job.now.retries None _ _ refl)))
-    c.go_on.ensures.meaning
+pub returns-in-Ends-clause-meaning : goal.returns-in-Ends-clause-meaning
+returns-in-Ends-clause-meaning c =
+    let form = c.in_ok-form.form in
+    let s : State = record {
+      frames = c.new.result;
+      place = record { locals = c.none.result; home = None };
+      calls = CALLS;
+      namespace = c.in_ok-copy_text.field-0;
+      text = c.new-2.result;
+      retries = c.args.job.now.retries;
+      transaction = None;
+    } in
+    let start : tree (Control.Evaluate form ROOM) s ≡ evaluation (job_view c.args.job.now) =
+    rw (c.in_ok-form.ensures, ← c.form.ensures, c.new.ensures.items, c.none.ensures, c.in_ok-copy_text.ensures, c.new-2.ensures.bytes)
+    (ap (written_tree []) (outside c.args.job.now.retries None _ _ refl)) in
+    let P : Stop → Type 0 = λ stop. stop_tree stop c.go_on.new.state ≡ tree (Control.Evaluate form ROOM) s in
+    let ended : P (Stop.Ends c.in-Ends.end) = subst P c.in-Ends.is c.in_ok-end.ensures.meaning in
+    c.end_reached.ensures.meaning ∙ ended ∙ start
 
-pub returns-clause-calls : goal.returns-clause-calls
-returns-clause-calls c = begun-calls _ _ refl c.go_on.ensures.on
+pub returns-in_ok-state-in-Asks-clause-meaning : goal.returns-in_ok-state-in-Asks-clause-meaning
+returns-in_ok-state-in-Asks-clause-meaning c =
+    let form = c.in_ok-form.form in
+    let s : State = record {
+      frames = c.new.result;
+      place = record { locals = c.none.result; home = None };
+      calls = CALLS;
+      namespace = c.in_ok-copy_text.field-0;
+      text = c.new-2.result;
+      retries = c.args.job.now.retries;
+      transaction = None;
+    } in
+    let start : tree (Control.Evaluate form ROOM) s ≡ evaluation (job_view c.args.job.now) =
+    rw (c.in_ok-form.ensures, ← c.form.ensures, c.new.ensures.items, c.none.ensures, c.in_ok-copy_text.ensures, c.new-2.ensures.bytes)
+    (ap (written_tree []) (outside c.args.job.now.retries None _ _ refl)) in
+    let P : Stop → Type 0 = λ stop. stop_tree stop c.go_on.new.state ≡ tree (Control.Evaluate form ROOM) s in
+    let asked : P (Stop.Asks c.in-Asks.ask c.in-Asks.wanted) = subst P c.in-Asks.is c.in_ok-end.ensures.meaning in
+    let behind : State → InteractionTree =
+    λ now. asks (ask_view c.in-Asks.ask) (λ answer. tree_with_answer c.in-Asks.wanted answer now) in
+    ap behind c.in_ok-state-in-Asks.ensures.ok ∙ asked ∙ start
+
+pub returns-in_ok-state-in-Asks-clause-calls : goal.returns-in_ok-state-in-Asks-clause-calls
+returns-in_ok-state-in-Asks-clause-calls c =
+    let form = c.in_ok-form.form in
+    let s : State = record {
+      frames = c.new.result;
+      place = record { locals = c.none.result; home = None };
+      calls = CALLS;
+      namespace = c.in_ok-copy_text.field-0;
+      text = c.new-2.result;
+      retries = c.args.job.now.retries;
+      transaction = None;
+    } in
+    let old = control_position (Control.Evaluate form ROOM) s in
+    let P : Stop → Type 0 = λ stop. IsOnStop stop c.go_on.new.state old in
+    let on : P (Stop.Asks c.in-Asks.ask c.in-Asks.wanted) = subst P c.in-Asks.is c.in_ok-end.ensures.on in
+    let Q : State → Type 0 = λ now. IsOn (wanted_position c.in-Asks.wanted now) old in
+    begun-calls (wanted_position c.in-Asks.wanted c.in_ok-state-in-Asks.state.value) old refl
+    (subst Q (sym c.in_ok-state-in-Asks.ensures.ok) on)

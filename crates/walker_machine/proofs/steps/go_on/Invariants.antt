@@ -3,11 +3,11 @@ use Rattle.walker_state.specs.Position.{control_calls, control_position, IsOn}
 use Rattle.walker_state.specs.Pending.{tree}
 use Rattle.walker_machine.proofs.steps.go_on.Given as goal
 
-abbrev pub invariant-loop-state : goal.invariant-loop-state
-invariant-loop-state l = record {
+abbrev pub invariant-loop-end : goal.invariant-loop-end
+invariant-loop-end l = record {
   meaning : tree l.control l.state ≡ tree l.initial.control l.initial.state;
   on : IsOn (control_position l.control l.state) (control_position l.initial.control l.initial.state);
 }
 
-abbrev pub decreases-loop-state : goal.decreases-loop-state
-decreases-loop-state l = control_calls l.control l.state
+abbrev pub decreases-loop-end : goal.decreases-loop-end
+decreases-loop-end l = control_calls l.control l.state
