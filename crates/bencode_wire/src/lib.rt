@@ -8,7 +8,7 @@
 //!   are byte strings, and no key comes twice. They are read in any order and written sorted.
 //!
 //! A message is one dictionary. `Decoder` takes a stream in pieces of any size and hands out its
-//! messages; `canonical_bytes` and `write_into` spell one value.
+//! messages; `canonical_bytes` and `write_into` spell one value, `write_string` one byte string.
 #![tactic(auto)]
 
 mod ben;
@@ -29,4 +29,4 @@ pub use ben::{Ben, Dictionary};
 pub use decoder::Decoder;
 pub use fault::WireFault;
 pub use fields::{put_field, take_field};
-pub use write::{canonical_bytes, write_into};
+pub use write::{canonical_bytes, write_into, write_string};

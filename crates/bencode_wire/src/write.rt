@@ -1,5 +1,5 @@
 // Spelling a value. A dictionary's keys come sorted as raw bytes, which is the order of its map.
-ghost use Rattle.std.specs.Prelude.{◌≡◌, ◌++◌, IfOk, OnOk, OnErr, codes, length};
+ghost use Rattle.std.specs.Prelude.{◌≡◌, ◌++◌, IfOk, OnOk, OnErr, codes, length, take};
 ghost use Rattle.bencode_wire.specs.Inside.View.{tree_view, trees_view, entries_view};
 ghost use Rattle.bencode_wire.specs.Spelling.{canonical, sorted_trees, put_pairs, trees_text};
 ghost use Rattle.bencode_wire.specs.Spelling.{pairs_text, string_text, integer_text, IsInteger};
@@ -30,12 +30,30 @@ pub fn write_into(value: &Ben, out: &mut Vec<u8>) -> Result<(), AllocError>
     ensures err { OnErr result (out.new.items ≡ out.old.items) }
     ensures fits { OnOk result (IsSpellable (tree_view value.now)) }
 {
-    let bytes = canonical_bytes(*out.allocator(), value)?;
-    out.extend_from_slice(bytes.as_slice())
+    let start = out.len();
+    let written = spell(value, out);
+    if written.is_err() {
+        out.truncate(start);
+    }
+    written
+}
+
+/// Appends the spelling of a byte string. After want of memory `out` is as it was.
+pub fn write_string(bytes: &[u8], out: &mut Vec<u8>) -> Result<(), AllocError>
+    ensures ok { OnOk result (out.new.items ≡ out.old.items ++ string_text bytes.now) }
+    ensures err { OnErr result (out.new.items ≡ out.old.items) }
+{
+    let start = out.len();
+    let written = spell_string(bytes, out);
+    if written.is_err() {
+        out.truncate(start);
+    }
+    written
 }
 
 #[cycle(spell)]
 fn spell(value: &Ben, out: &mut Vec<u8>) -> Result<(), AllocError>
+    ensures front { take (length out.old.items) out.new.items ≡ out.old.items }
     ensures fits { OnOk result (IsSpellable (tree_view value.now)) }
     ensures text { OnOk result (out.new.items ≡ out.old.items ++ canonical (tree_view value.now)) }
 {
@@ -57,6 +75,7 @@ fn spell(value: &Ben, out: &mut Vec<u8>) -> Result<(), AllocError>
 
 #[cycle(spell)]
 fn spell_items(items: &[Ben], out: &mut Vec<u8>) -> Result<(), AllocError>
+    ensures front { take (length out.old.items) out.new.items ≡ out.old.items }
     ensures fits { OnOk result (AreSpellable (trees_view items.now)) }
     ensures text { OnOk result (out.new.items
         ≡ out.old.items ++ trees_text (sorted_trees (trees_view items.now))) }
@@ -69,6 +88,7 @@ fn spell_items(items: &[Ben], out: &mut Vec<u8>) -> Result<(), AllocError>
 
 #[cycle(spell)]
 fn spell_pairs(pairs: &Dictionary, out: &mut Vec<u8>) -> Result<(), AllocError>
+    ensures front { take (length out.old.items) out.new.items ≡ out.old.items }
     ensures fits { OnOk result (ArePairs (entries_view pairs.now.entries)) }
     ensures text { OnOk result (out.new.items
         ≡ out.old.items ++ pairs_text (put_pairs no_pairs (entries_view pairs.now.entries))) }
@@ -81,6 +101,7 @@ fn spell_pairs(pairs: &Dictionary, out: &mut Vec<u8>) -> Result<(), AllocError>
 }
 
 fn spell_integer(n: i64, out: &mut Vec<u8>) -> Result<(), AllocError>
+    ensures front { take (length out.old.items) out.new.items ≡ out.old.items }
     ensures fits { IsInteger n }
     ensures text { OnOk result (out.new.items ≡ out.old.items ++ integer_text n) }
 {
@@ -91,6 +112,7 @@ fn spell_integer(n: i64, out: &mut Vec<u8>) -> Result<(), AllocError>
 }
 
 fn spell_string(bytes: &[u8], out: &mut Vec<u8>) -> Result<(), AllocError>
+    ensures front { take (length out.old.items) out.new.items ≡ out.old.items }
     ensures fits { IsString bytes.now }
     ensures text { OnOk result (out.new.items ≡ out.old.items ++ string_text bytes.now) }
 {

@@ -1,72 +1,233 @@
--- A reply's fields, put in one by one, are spelled as the message that they make.
-use Rattle.std.proofs.Common.{◌≡◌, ℕ, List, [], ◌∷◌, Option, Some, None, Ordering, Less, Equal}
-use Rattle.std.proofs.Common.{Greater, nat_cmp, map, refl, sym, ap, ◌∙◌, codes, rules}
-use Rattle.std.specs.BTreeMap.{BTreeMap}
-use Rattle.std.specs.Cmp.Lexicographic.{slice_cmp}
-use Rattle.std.specs.Ordering.{match_ordering}
-use Rattle.bencode_wire.specs.Tree.{Tree, string, dictionary, tree, Pairs, no_pairs, pair}
-use Rattle.bencode_wire.specs.Spelling.{text, canonical, put_sorted, put_pairs, sorted}
-use Rattle.bencode_wire.specs.Inside.View.{tree_view, trees_of, entries_view}
-use Rattle.bencode_wire.specs.declared.ben.Ben.{Ben, Dictionary, the_lemmas}
-use Rattle.bencode_wire.proofs.Views.{Key, each_sorted}
-use Rattle.bencode_wire.proofs.Written.{sorted_twice}
-use Rattle.repl_replies.specs.Inside.Building.{puts}
-use Rattle.repl_replies.specs.Replies.{ReplyData, with_field, status, status_value, strings}
+-- A reply's fields, written one behind another in the order of their keys, are its message's spelling.
+use Rattle.std.proofs.Common.{◌≡◌, ℕ, List, ◌++◌, Option, Some, None, Result, Ok, Err, IfOk, Vec, Global, refl, sym, ap, ◌∙◌, codes, append_assoc, append-nil}
+use Rattle.std.specs.Fmt.{digits}
+use Rattle.std.specs.declared.alloc.AllocError.{AllocError}
+use Rattle.bencode_wire.specs.Tree.{Tree, string, list, dictionary, Pairs, no_pairs, pair}
+use Rattle.bencode_wire.specs.Spelling.{canonical, string_text, pairs_text, put_pairs}
+use Rattle.bencode_wire.proofs.Views.{each_sorted}
+use Rattle.repl_replies.specs.Description.{ops, versions}
+use Rattle.repl_replies.specs.OperationNames.{operations}
+use Rattle.repl_replies.specs.Inside.Building.{behind}
+use Rattle.repl_replies.specs.Replies.{OriginData, BodyData, value, output, exception, error_text}
+use Rattle.repl_replies.specs.Replies.{done, unknown_op, unknown_session, no_code, no_file}
+use Rattle.repl_replies.specs.Replies.{namespace_not_found, malformed, new_session, sessions}
+use Rattle.repl_replies.specs.Replies.{described, closed, interrupted}
+use Rattle.repl_replies.specs.Replies.{with_field, status, status_value, strings, class_text}
 use Rattle.repl_replies.specs.Replies.{body_fields, message, bytes_of}
 
--- each text as a string
-pub trees_of-strings : {X : Type 0} (text : X → List ℕ) (xs : List X) → trees_of (map (λ x. string (text x)) xs) ≡ strings (map text xs)
-trees_of-strings text [] = refl
-trees_of-strings text (x ∷ xs) = ap (tree (string (text x))) (trees_of-strings text xs)
+-- the status alone, where there is one
+abbrev with_status : BodyData → Pairs
+with_status body = with_field (codes "status") (status_value (status body)) no_pairs
 
-pub tree_view-Dictionary : (fields : BTreeMap Key Ben) → tree_view (Dictionary fields) ≡ dictionary (entries_view fields.entries)
-tree_view-Dictionary fields = search (rules, the_lemmas)
+-- a reply that has no field but a status
+abbrev plain : OriginData → BodyData → Pairs
+plain o body = with_field (codes "id") o.id (with_field (codes "session") o.session (with_status body))
 
-each_sorted-match_ordering : (o : Ordering) (a b c : Pairs) → each_sorted (match_ordering o a b c) ≡ match_ordering o (each_sorted a) (each_sorted b) (each_sorted c)
-each_sorted-match_ordering Less a b c = refl
-each_sorted-match_ordering Equal a b c = refl
-each_sorted-match_ordering Greater a b c = refl
+-- the fields of a reply in the order of their keys
+abbrev in_order : OriginData → BodyData → Pairs
+in_order o (value text ns) =
+    with_field (codes "id") o.id (pair (codes "ns") (string ns)
+    (with_field (codes "session") o.session (pair (codes "value") (string text) no_pairs)))
+in_order o (output text) = with_field (codes "id") o.id (pair (codes "out") (string text) (with_field (codes "session") o.session no_pairs))
+in_order o (exception class) =
+    pair (codes "ex") (class_text class) (with_field (codes "id") o.id (pair (codes "root-ex") (class_text class)
+    (with_field (codes "session") o.session (with_status (exception class)))))
+in_order o (error_text line) = pair (codes "err") (string line) (with_field (codes "id") o.id (with_field (codes "session") o.session no_pairs))
+in_order o (unknown_op op) = with_field (codes "id") o.id (with_field (codes "op") op (with_field (codes "session") o.session (with_status (unknown_op op))))
+in_order o (new_session id) =
+    with_field (codes "id") o.id (pair (codes "new-session") (string id) (with_field (codes "session") o.session (with_status (new_session id))))
+in_order o (sessions ids) =
+    with_field (codes "id") o.id (with_field (codes "session") o.session (pair (codes "sessions") (list (strings ids)) (with_status (sessions ids))))
+in_order o described =
+    pair (codes "aux") (dictionary no_pairs) (with_field (codes "id") o.id (pair (codes "ops") (dictionary (ops operations))
+    (with_field (codes "session") o.session (with_field (codes "status") (status_value (status described)) (pair (codes "versions") versions no_pairs)))))
+in_order o done = plain o done
+in_order o unknown_session = plain o unknown_session
+in_order o no_code = plain o no_code
+in_order o no_file = plain o no_file
+in_order o namespace_not_found = plain o namespace_not_found
+in_order o malformed = plain o malformed
+in_order o closed = plain o closed
+in_order o interrupted = plain o interrupted
 
-each_sorted-put_sorted : (ps : Pairs) (key : List ℕ) (t : Tree) → each_sorted (put_sorted ps key t) ≡ put_sorted (each_sorted ps) key (sorted t)
-each_sorted-put_sorted no_pairs key t = refl
-each_sorted-put_sorted (pair k u ps) key t = each_sorted-match_ordering (slice_cmp nat_cmp key k) _ _ _ ∙ rw (each_sorted-put_sorted ps key t)
+-- the fields in the order in which the message has them
+abbrev fields_of : OriginData → BodyData → Pairs
+fields_of o body =
+    with_field (codes "id") o.id (with_field (codes "session") o.session (with_field (codes "status") (status_value (status body)) (body_fields body)))
 
-each_sorted-puts : (done ps : Pairs) → each_sorted (puts done ps) ≡ put_pairs (each_sorted done) ps
-each_sorted-puts done no_pairs = refl
-each_sorted-puts done (pair key t ps) =
-    each_sorted-puts (put_sorted done key t) ps ∙ ap (λ first. put_pairs first ps) (each_sorted-put_sorted done key t)
+-- sorting puts them into the order in which they are written
+abbrev AreInOrder : BodyData → Option Tree → Option Tree → Type 0
+AreInOrder body id session =
+    let o : OriginData = record { id = id; session = session } in
+    put_pairs no_pairs (fields_of o body) ≡ each_sorted (in_order o body)
 
-put_pairs-each_sorted : (done ps : Pairs) → put_pairs done (each_sorted ps) ≡ put_pairs done ps
-put_pairs-each_sorted done no_pairs = refl
-put_pairs-each_sorted done (pair key t ps) =
-    ap (λ value. put_pairs (put_sorted done key value) (each_sorted ps)) (sorted_twice t) ∙ put_pairs-each_sorted (put_sorted done key (sorted t)) ps
+in_each : (body : BodyData) → AreInOrder body None None → ((t : Tree) → AreInOrder body (Some t) None) → ((u : Tree) → AreInOrder body None (Some u))
+    → ((t u : Tree) → AreInOrder body (Some t) (Some u)) → (id session : Option Tree) → AreInOrder body id session
+in_each body neither one other both None None = neither
+in_each body neither one other both (Some t) None = one t
+in_each body neither one other both None (Some u) = other u
+in_each body neither one other both (Some t) (Some u) = both t u
 
--- putting fields in first changes no spelling
-canonical-puts : (ps : Pairs) → canonical (dictionary (puts no_pairs ps)) ≡ canonical (dictionary ps)
-canonical-puts ps =
-    ap (λ all. text (dictionary all)) (sym (put_pairs-each_sorted no_pairs (puts no_pairs ps)) ∙ ap (put_pairs no_pairs) (each_sorted-puts no_pairs ps))
-    ∙ ap text (sorted_twice (dictionary ps))
+are_in_order : (body : BodyData) (id session : Option Tree) → AreInOrder body id session
+are_in_order (value text ns) = in_each (value text ns) refl (λ t. refl) (λ u. refl) (λ t u. refl)
+are_in_order (output text) = in_each (output text) refl (λ t. refl) (λ u. refl) (λ t u. refl)
+are_in_order (exception class) = in_each (exception class) refl (λ t. refl) (λ u. refl) (λ t u. refl)
+are_in_order (error_text line) = in_each (error_text line) refl (λ t. refl) (λ u. refl) (λ t u. refl)
+are_in_order (unknown_op None) = in_each (unknown_op None) refl (λ t. refl) (λ u. refl) (λ t u. refl)
+are_in_order (unknown_op (Some op)) = in_each (unknown_op (Some op)) refl (λ t. refl) (λ u. refl) (λ t u. refl)
+are_in_order (new_session id) = in_each (new_session id) refl (λ t. refl) (λ u. refl) (λ t u. refl)
+are_in_order (sessions ids) = in_each (sessions ids) refl (λ t. refl) (λ u. refl) (λ t u. refl)
+are_in_order described = in_each described refl (λ t. refl) (λ u. refl) (λ t u. refl)
+are_in_order done = in_each done refl (λ t. refl) (λ u. refl) (λ t u. refl)
+are_in_order unknown_session = in_each unknown_session refl (λ t. refl) (λ u. refl) (λ t u. refl)
+are_in_order no_code = in_each no_code refl (λ t. refl) (λ u. refl) (λ t u. refl)
+are_in_order no_file = in_each no_file refl (λ t. refl) (λ u. refl) (λ t u. refl)
+are_in_order namespace_not_found = in_each namespace_not_found refl (λ t. refl) (λ u. refl) (λ t u. refl)
+are_in_order malformed = in_each malformed refl (λ t. refl) (λ u. refl) (λ t u. refl)
+are_in_order closed = in_each closed refl (λ t. refl) (λ u. refl) (λ t u. refl)
+are_in_order interrupted = in_each interrupted refl (λ t. refl) (λ u. refl) (λ t u. refl)
 
-puts-with_field : (done : Pairs) (key : List ℕ) (value : Option Tree) (more : Pairs) → puts (puts done (with_field key value no_pairs)) more ≡ puts done (with_field key value more)
-puts-with_field done key None more = refl
-puts-with_field done key (Some t) more = refl
+-- pairs, written behind what there is
+abbrev written : List ℕ → Pairs → List ℕ
+written out no_pairs = out
+written out (pair key t ps) = written (out ++ (string_text key ++ canonical t)) ps
 
--- a reply's fields, in the order in which they are put in
-abbrev pub reply_fields : ReplyData → Pairs
-reply_fields reply =
-    puts (puts (puts (puts no_pairs (with_field (codes "id") reply.origin.id no_pairs)) (with_field (codes "session") reply.origin.session no_pairs))
-    (with_field (codes "status") (status_value (status reply.body)) no_pairs))
-    (body_fields reply.body)
+written_text : (out : List ℕ) (ps : Pairs) → written out ps ≡ out ++ pairs_text (each_sorted ps)
+written_text out no_pairs = sym (append-nil out)
+written_text out (pair key t ps) = written_text (out ++ (string_text key ++ canonical t)) ps ∙ append_assoc out (string_text key ++ canonical t) (pairs_text (each_sorted ps))
 
-pub reply_spelled : (reply : ReplyData) → canonical (dictionary (reply_fields reply)) ≡ bytes_of reply
+-- a field that there may be, and those behind it
+given : (out key : List ℕ) (v : Option Tree) (more : Pairs) → written out (with_field key v more) ≡ written (out ++ behind (string_text key) v) more
+given out key None more = ap (λ x. written x more) (sym (append-nil out))
+given out key (Some t) more = refl
+
+spelled : (o : OriginData) (body : BodyData) → written (codes "d") (in_order o body) ++ codes "e" ≡ bytes_of (record { origin = o; body = body })
 unfolding message bytes_of
-reply_spelled reply =
-    let body = body_fields reply.body in
-    let third = with_field (codes "status") (status_value (status reply.body)) body in
-    let second = with_field (codes "session") reply.origin.session third in
-    let first = with_field (codes "id") reply.origin.id second in
-    let begun = puts no_pairs (with_field (codes "id") reply.origin.id no_pairs) in
-    ap (λ all. canonical (dictionary all))
-    (puts-with_field (puts begun (with_field (codes "session") reply.origin.session no_pairs)) (codes "status") (status_value (status reply.body)) body
-    ∙ puts-with_field begun (codes "session") reply.origin.session third ∙ puts-with_field no_pairs (codes "id") reply.origin.id second)
-    ∙ canonical-puts first
+spelled o body =
+    ap (λ x. x ++ codes "e") (written_text (codes "d") (in_order o body) ∙ ap (λ ps. codes "d" ++ pairs_text ps) (sym (are_in_order body o.id o.session)))
+
+pub value_spelled : (o : OriginData) (text ns : List ℕ)
+    → codes "d" ++ behind (codes "2:id") o.id ++ (codes "2:ns" ++ string_text ns) ++ behind (codes "7:session") o.session ++ (codes "5:value" ++ string_text text) ++ codes "e"
+    ≡ bytes_of (record { origin = o; body = value text ns })
+unfolding digits
+value_spelled o text ns =
+    ap (λ x. x ++ codes "e") (sym (given (codes "d") (codes "id") o.id _ ∙ given (codes "d" ++ behind (codes "2:id") o.id ++ (codes "2:ns" ++ string_text ns)) (codes "session") o.session _))
+    ∙ spelled o (value text ns)
+
+pub output_spelled : (o : OriginData) (text : List ℕ)
+    → codes "d" ++ behind (codes "2:id") o.id ++ (codes "3:out" ++ string_text text) ++ behind (codes "7:session") o.session ++ codes "e"
+    ≡ bytes_of (record { origin = o; body = output text })
+unfolding digits
+output_spelled o text =
+    ap (λ x. x ++ codes "e") (sym (given (codes "d") (codes "id") o.id _ ∙ given (codes "d" ++ behind (codes "2:id") o.id ++ (codes "3:out" ++ string_text text)) (codes "session") o.session _))
+    ∙ spelled o (output text)
+
+pub exception_spelled : (o : OriginData) (class : List ℕ)
+    → codes "d" ++ (codes "2:ex" ++ string_text (codes "class " ++ class)) ++ behind (codes "2:id") o.id ++ (codes "7:root-ex" ++ string_text (codes "class " ++ class))
+    ++ behind (codes "7:session") o.session ++ codes "6:statusl10:eval-errore" ++ codes "e"
+    ≡ bytes_of (record { origin = o; body = exception class })
+unfolding digits
+exception_spelled o class =
+    let text = string_text (codes "class " ++ class) in
+    let begun = codes "d" ++ (codes "2:ex" ++ text) in
+    ap (λ x. x ++ codes "e") (sym (given begun (codes "id") o.id _ ∙ given (begun ++ behind (codes "2:id") o.id ++ (codes "7:root-ex" ++ text)) (codes "session") o.session _))
+    ∙ spelled o (exception class)
+
+pub error_text_spelled : (o : OriginData) (line : List ℕ)
+    → codes "d" ++ (codes "3:err" ++ string_text line) ++ behind (codes "2:id") o.id ++ behind (codes "7:session") o.session ++ codes "e"
+    ≡ bytes_of (record { origin = o; body = error_text line })
+unfolding digits
+error_text_spelled o line =
+    let begun = codes "d" ++ (codes "3:err" ++ string_text line) in
+    ap (λ x. x ++ codes "e") (sym (given begun (codes "id") o.id _ ∙ given (begun ++ behind (codes "2:id") o.id) (codes "session") o.session _))
+    ∙ spelled o (error_text line)
+
+pub unknown_op_spelled : (o : OriginData) (op : Option Tree)
+    → codes "d" ++ behind (codes "2:id") o.id ++ behind (codes "2:op") op ++ behind (codes "7:session") o.session ++ codes "6:statusl5:error10:unknown-op4:donee" ++ codes "e"
+    ≡ bytes_of (record { origin = o; body = unknown_op op })
+unfolding digits
+unknown_op_spelled o op =
+    let begun = codes "d" ++ behind (codes "2:id") o.id in
+    ap (λ x. x ++ codes "e") (sym (given (codes "d") (codes "id") o.id _ ∙ given begun (codes "op") op _ ∙ given (begun ++ behind (codes "2:op") op) (codes "session") o.session _))
+    ∙ spelled o (unknown_op op)
+
+pub new_session_spelled : (o : OriginData) (id : List ℕ)
+    → codes "d" ++ behind (codes "2:id") o.id ++ (codes "11:new-session" ++ string_text id) ++ behind (codes "7:session") o.session ++ codes "6:statusl4:donee" ++ codes "e"
+    ≡ bytes_of (record { origin = o; body = new_session id })
+unfolding digits
+new_session_spelled o id =
+    ap (λ x. x ++ codes "e") (sym (given (codes "d") (codes "id") o.id _ ∙ given (codes "d" ++ behind (codes "2:id") o.id ++ (codes "11:new-session" ++ string_text id)) (codes "session") o.session _))
+    ∙ spelled o (new_session id)
+
+pub sessions_spelled : (o : OriginData) (ids : List (List ℕ))
+    → codes "d" ++ behind (codes "2:id") o.id ++ behind (codes "7:session") o.session ++ codes "8:sessions" ++ canonical (list (strings ids)) ++ codes "6:statusl4:donee" ++ codes "e"
+    ≡ bytes_of (record { origin = o; body = sessions ids })
+unfolding digits
+sessions_spelled o ids =
+    let begun = codes "d" ++ behind (codes "2:id") o.id in
+    ap (λ x. x ++ codes "6:statusl4:donee" ++ codes "e") (append_assoc (begun ++ behind (codes "7:session") o.session) (codes "8:sessions") (canonical (list (strings ids))))
+    ∙ ap (λ x. x ++ codes "e") (sym (given (codes "d") (codes "id") o.id _ ∙ given begun (codes "session") o.session _))
+    ∙ spelled o (sessions ids)
+
+pub described_spelled : (o : OriginData)
+    → codes "d" ++ codes "3:auxde" ++ behind (codes "2:id") o.id ++ codes "3:ops" ++ (codes "d" ++ pairs_text (ops operations) ++ codes "e") ++ behind (codes "7:session") o.session
+    ++ codes "6:statusl4:donee" ++ codes "8:versionsd6:serverd5:majori1e5:minori0eee" ++ codes "e"
+    ≡ bytes_of (record { origin = o; body = described })
+unfolding digits
+described_spelled o =
+    let begun = codes "d" ++ codes "3:auxde" in
+    let all = codes "d" ++ pairs_text (ops operations) ++ codes "e" in
+    ap (λ x. x ++ behind (codes "7:session") o.session ++ codes "6:statusl4:donee" ++ codes "8:versionsd6:serverd5:majori1e5:minori0eee" ++ codes "e")
+    (append_assoc (begun ++ behind (codes "2:id") o.id) (codes "3:ops") all)
+    ∙ ap (λ x. x ++ codes "e") (sym (given begun (codes "id") o.id _ ∙ given (begun ++ behind (codes "2:id") o.id ++ (codes "3:ops" ++ all)) (codes "session") o.session _))
+    ∙ spelled o described
+
+-- a reply that has no field but a status
+abbrev pub IsPlain : BodyData → List ℕ → Type 0
+IsPlain body status_field =
+    (o : OriginData) → codes "d" ++ behind (codes "2:id") o.id ++ behind (codes "7:session") o.session ++ status_field ++ codes "e"
+    ≡ bytes_of (record { origin = o; body = body })
+
+plain_spelled : (body : BodyData) → ((o : OriginData) → in_order o body ≡ plain o body) → IsPlain body (behind (codes "6:status") (status_value (status body)))
+unfolding digits
+plain_spelled body is o =
+    ap (λ x. x ++ codes "e") (sym (given (codes "d") (codes "id") o.id _ ∙ given (codes "d" ++ behind (codes "2:id") o.id) (codes "session") o.session _
+    ∙ given (codes "d" ++ behind (codes "2:id") o.id ++ behind (codes "7:session") o.session) (codes "status") (status_value (status body)) no_pairs)
+    ∙ ap (written (codes "d")) (sym (is o)))
+    ∙ spelled o body
+
+pub done_spelled : IsPlain done (codes "6:statusl4:donee")
+unfolding digits
+done_spelled = plain_spelled done (λ o. refl)
+
+pub unknown_session_spelled : IsPlain unknown_session (codes "6:statusl5:error15:unknown-session4:donee")
+unfolding digits
+unknown_session_spelled = plain_spelled unknown_session (λ o. refl)
+
+pub no_code_spelled : IsPlain no_code (codes "6:statusl5:error7:no-code4:donee")
+unfolding digits
+no_code_spelled = plain_spelled no_code (λ o. refl)
+
+pub no_file_spelled : IsPlain no_file (codes "6:statusl5:error7:no-file4:donee")
+unfolding digits
+no_file_spelled = plain_spelled no_file (λ o. refl)
+
+pub namespace_not_found_spelled : IsPlain namespace_not_found (codes "6:statusl5:error19:namespace-not-found4:donee")
+unfolding digits
+namespace_not_found_spelled = plain_spelled namespace_not_found (λ o. refl)
+
+pub malformed_spelled : IsPlain malformed (codes "6:statusl5:error9:malformed4:donee")
+unfolding digits
+malformed_spelled = plain_spelled malformed (λ o. refl)
+
+pub closed_spelled : IsPlain closed (codes "6:statusl4:done14:session-closede")
+unfolding digits
+closed_spelled = plain_spelled closed (λ o. refl)
+
+pub interrupted_spelled : IsPlain interrupted (codes "6:statusl4:done11:interruptede")
+unfolding digits
+interrupted_spelled = plain_spelled interrupted (λ o. refl)
+
+pub same_bytes : {a b : List ℕ} (r : Result (Vec ℕ Global) AllocError) → a ≡ b → IfOk r (λ bytes. bytes.items ≡ a) → IfOk r (λ bytes. bytes.items ≡ b)
+same_bytes (Ok bytes) e h = h ∙ e
+same_bytes (Err refused) e h = tt

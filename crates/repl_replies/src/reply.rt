@@ -14,17 +14,10 @@ pub struct Origin {
     pub session: Option<Ben>,
 }
 
-/// What a reply says.
+/// What a reply says. Those that tell of a form are not here: calls of their own make them, of
+/// texts that are lent.
 #[derive(Drop)]
 pub enum Body {
-    /// A form's value as it is printed, and the namespace after the form.
-    Value { value: String, ns: String },
-    /// The text that a form printed.
-    Output(String),
-    /// The class of the fault that ended a form.
-    Exception { class: String },
-    /// The fault once more, as a line of text.
-    ErrorText(String),
     Done,
     /// The request's `op` is none of those that are served; it is given back.
     UnknownOp(Option<Ben>),

@@ -1,19 +1,20 @@
-// A reply's bytes.
+// A reply's bytes: its fields are written one behind another, in the order of their keys as bytes.
 ghost use Rattle.std.specs.Prelude.{◌≡◌, ◌++◌, IfOk, OnOk, codes, map, string_bytes};
-ghost use Rattle.bencode_wire.specs.Tree.{string, no_pairs};
-ghost use Rattle.bencode_wire.specs.Spelling.{put_sorted};
-ghost use Rattle.bencode_wire.specs.Inside.View.{tree_view, trees_view, entries_view};
-ghost use Rattle.repl_replies.specs.Inside.Building.{puts};
+ghost use Rattle.bencode_wire.specs.Spelling.{canonical, pairs_text, string_text};
+ghost use Rattle.bencode_wire.specs.Tree.{list};
+ghost use Rattle.repl_replies.specs.Inside.Building.{behind};
 ghost use Rattle.repl_replies.specs.Description as told;
-ghost use Rattle.repl_replies.specs.OperationNames.{operations};
-ghost use Rattle.repl_replies.specs.Replies.{with_field, status, status_value, strings};
-ghost use Rattle.repl_replies.specs.Replies.{body_fields, bytes_of};
+ghost use Rattle.repl_replies.specs.Replies as meant;
+ghost use Rattle.repl_replies.specs.Replies.{bytes_of, strings};
 ghost use Rattle.repl_replies.specs.Inside.View.{field_view, origin_view, body_view, reply_view};
 
 use crate::names::OperationName;
 use crate::reply::{Body, Origin, Reply};
-use bencode_wire::{Ben, Dictionary, canonical_bytes, put_field};
+use bencode_wire::{Ben, write_into, write_string};
 use std::alloc::{AllocError, Global};
+
+// Most replies take no more bytes than these.
+const FIRST_ROOM: usize = 128;
 
 /// The reply as a message of the stream: a dictionary with its keys sorted. It fails only for want
 /// of memory.
@@ -23,82 +24,195 @@ pub fn reply_bytes(alloc: Global, reply: &Reply) -> Result<Vec<u8>, AllocError>
     reply.origin.reply_bytes(alloc, &reply.body)
 }
 
+// Each fails only for want of memory.
 impl Origin {
-    /// The bytes of a reply to this request that says this. It fails only for want of memory.
+    /// The bytes of a reply to this request that says this.
     pub fn reply_bytes(&self, alloc: Global, body: &Body) -> Result<Vec<u8>, AllocError>
         ensures { IfOk result (λ bytes. bytes.items
             ≡ bytes_of (record { origin = origin_view self.now; body = body_view body.now })) }
     {
-        let mut fields = Dictionary::new(alloc);
-        put_given(alloc, &mut fields, "id", &self.id)?;
-        put_given(alloc, &mut fields, "session", &self.session)?;
-        put_statuses(alloc, &mut fields, body)?;
-        put_body(alloc, &mut fields, body)?;
-        let bytes = canonical_bytes(alloc, &Ben::Dictionary(fields))?;
+        match body {
+            Body::UnknownOp(op) => self.unknown_op_bytes(alloc, op),
+            Body::NewSession(id) => self.new_session_bytes(alloc, id.as_str()),
+            Body::Sessions(ids) => self.sessions_bytes(alloc, ids),
+            Body::Described => self.described_bytes(alloc),
+            Body::Done => self.status_bytes(alloc, b"6:statusl4:donee"),
+            Body::UnknownSession => {
+                self.status_bytes(alloc, b"6:statusl5:error15:unknown-session4:donee")
+            }
+            Body::NoCode => self.status_bytes(alloc, b"6:statusl5:error7:no-code4:donee"),
+            Body::NoFile => self.status_bytes(alloc, b"6:statusl5:error7:no-file4:donee"),
+            Body::NamespaceNotFound => {
+                self.status_bytes(alloc, b"6:statusl5:error19:namespace-not-found4:donee")
+            }
+            Body::Malformed => self.status_bytes(alloc, b"6:statusl5:error9:malformed4:donee"),
+            Body::Closed => self.status_bytes(alloc, b"6:statusl4:done14:session-closede"),
+            Body::Interrupted => self.status_bytes(alloc, b"6:statusl4:done11:interruptede"),
+        }
+    }
+
+    /// The same of a form's value as it is printed, and the namespace after the form.
+    pub fn value_bytes(&self, alloc: Global, value: &str, ns: &str) -> Result<Vec<u8>, AllocError>
+        ensures { IfOk result (λ bytes. bytes.items ≡ bytes_of
+            (record { origin = origin_view self.now; body = meant.value value.now ns.now })) }
+    {
+        let mut bytes = begun(alloc)?;
+        write_given(b"2:id", &self.id, &mut bytes)?;
+        write_text(b"2:ns", ns, &mut bytes)?;
+        write_given(b"7:session", &self.session, &mut bytes)?;
+        write_text(b"5:value", value, &mut bytes)?;
+        bytes.extend_from_slice(b"e")?;
+        Ok(bytes)
+    }
+
+    /// The same of the text that a form printed.
+    pub fn output_bytes(&self, alloc: Global, text: &str) -> Result<Vec<u8>, AllocError>
+        ensures { IfOk result (λ bytes. bytes.items ≡ bytes_of
+            (record { origin = origin_view self.now; body = meant.output text.now })) }
+    {
+        let mut bytes = begun(alloc)?;
+        write_given(b"2:id", &self.id, &mut bytes)?;
+        write_text(b"3:out", text, &mut bytes)?;
+        write_given(b"7:session", &self.session, &mut bytes)?;
+        bytes.extend_from_slice(b"e")?;
+        Ok(bytes)
+    }
+
+    /// The same of the class of the fault that ended a form.
+    pub fn exception_bytes(&self, alloc: Global, class: &str) -> Result<Vec<u8>, AllocError>
+        ensures { IfOk result (λ bytes. bytes.items ≡ bytes_of
+            (record { origin = origin_view self.now; body = meant.exception class.now })) }
+    {
+        let text = class_text(alloc, class)?;
+        let mut bytes = begun(alloc)?;
+        write_text(b"2:ex", text.as_str(), &mut bytes)?;
+        write_given(b"2:id", &self.id, &mut bytes)?;
+        write_text(b"7:root-ex", text.as_str(), &mut bytes)?;
+        write_given(b"7:session", &self.session, &mut bytes)?;
+        bytes.extend_from_slice(b"6:statusl10:eval-errore")?;
+        bytes.extend_from_slice(b"e")?;
+        Ok(bytes)
+    }
+
+    /// The same of the fault once more, as a line of text.
+    pub fn error_text_bytes(&self, alloc: Global, line: &str) -> Result<Vec<u8>, AllocError>
+        ensures { IfOk result (λ bytes. bytes.items ≡ bytes_of
+            (record { origin = origin_view self.now; body = meant.error_text line.now })) }
+    {
+        let mut bytes = begun(alloc)?;
+        write_text(b"3:err", line, &mut bytes)?;
+        write_given(b"2:id", &self.id, &mut bytes)?;
+        write_given(b"7:session", &self.session, &mut bytes)?;
+        bytes.extend_from_slice(b"e")?;
+        Ok(bytes)
+    }
+
+    fn unknown_op_bytes(&self, alloc: Global, op: &Option<Ben>) -> Result<Vec<u8>, AllocError>
+        ensures { IfOk result (λ bytes. bytes.items ≡ bytes_of (record {
+          origin = origin_view self.now;
+          body = meant.unknown_op (field_view op.now);
+        })) }
+    {
+        let mut bytes = begun(alloc)?;
+        write_given(b"2:id", &self.id, &mut bytes)?;
+        write_given(b"2:op", op, &mut bytes)?;
+        write_given(b"7:session", &self.session, &mut bytes)?;
+        bytes.extend_from_slice(b"6:statusl5:error10:unknown-op4:donee")?;
+        bytes.extend_from_slice(b"e")?;
+        Ok(bytes)
+    }
+
+    #[tactic(auto, using(crate::proofs::Replies::new_session_spelled))]
+    fn new_session_bytes(&self, alloc: Global, id: &str) -> Result<Vec<u8>, AllocError>
+        ensures { IfOk result (λ bytes. bytes.items ≡ bytes_of
+            (record { origin = origin_view self.now; body = meant.new_session id.now })) }
+    {
+        let mut bytes = begun(alloc)?;
+        write_given(b"2:id", &self.id, &mut bytes)?;
+        write_text(b"11:new-session", id, &mut bytes)?;
+        write_given(b"7:session", &self.session, &mut bytes)?;
+        bytes.extend_from_slice(b"6:statusl4:donee")?;
+        bytes.extend_from_slice(b"e")?;
+        Ok(bytes)
+    }
+
+    fn sessions_bytes(&self, alloc: Global, ids: &[String]) -> Result<Vec<u8>, AllocError>
+        ensures { IfOk result (λ bytes. bytes.items ≡ bytes_of (record {
+          origin = origin_view self.now;
+          body = meant.sessions (map string_bytes ids.now);
+        })) }
+    {
+        let mut bytes = begun(alloc)?;
+        write_given(b"2:id", &self.id, &mut bytes)?;
+        write_given(b"7:session", &self.session, &mut bytes)?;
+        bytes.extend_from_slice(b"8:sessions")?;
+        write_ids(ids, &mut bytes)?;
+        bytes.extend_from_slice(b"6:statusl4:donee")?;
+        bytes.extend_from_slice(b"e")?;
+        Ok(bytes)
+    }
+
+    fn described_bytes(&self, alloc: Global) -> Result<Vec<u8>, AllocError>
+        ensures { IfOk result (λ bytes. bytes.items ≡ bytes_of
+            (record { origin = origin_view self.now; body = meant.described })) }
+    {
+        let mut bytes = begun(alloc)?;
+        bytes.extend_from_slice(b"3:auxde")?;
+        write_given(b"2:id", &self.id, &mut bytes)?;
+        bytes.extend_from_slice(b"3:ops")?;
+        write_operations(&OperationName::all(), &mut bytes)?;
+        write_given(b"7:session", &self.session, &mut bytes)?;
+        bytes.extend_from_slice(b"6:statusl4:donee")?;
+        bytes.extend_from_slice(b"8:versionsd6:serverd5:majori1e5:minori0eee")?;
+        bytes.extend_from_slice(b"e")?;
+        Ok(bytes)
+    }
+
+    // A reply that has no field but a status.
+    fn status_bytes(&self, alloc: Global, status: &[u8]) -> Result<Vec<u8>, AllocError>
+        ensures { IfOk result (λ bytes. bytes.items ≡ codes "d"
+            ++ behind (codes "2:id") (field_view self.now.id)
+            ++ behind (codes "7:session") (field_view self.now.session)
+            ++ status.now ++ codes "e") }
+    {
+        let mut bytes = begun(alloc)?;
+        write_given(b"2:id", &self.id, &mut bytes)?;
+        write_given(b"7:session", &self.session, &mut bytes)?;
+        bytes.extend_from_slice(status)?;
+        bytes.extend_from_slice(b"e")?;
         Ok(bytes)
     }
 }
 
-fn put(alloc: Global, fields: &mut Dictionary, key: &str, value: Ben) -> Result<(), AllocError>
-    ensures { OnOk result (entries_view fields.new.entries
-        ≡ put_sorted (entries_view fields.old.entries) key.now (tree_view value)) }
+// A dictionary that is begun.
+fn begun(alloc: Global) -> Result<Vec<u8>, AllocError>
+    ensures { IfOk result (λ bytes. bytes.items ≡ codes "d") }
 {
-    let key = Vec::from_slice(alloc, key.as_bytes())?;
-    put_field(fields, key, value)
+    let mut bytes = Vec::with_capacity(alloc, FIRST_ROOM)?;
+    bytes.extend_from_slice(b"d")?;
+    Ok(bytes)
 }
 
-fn put_given(
-    alloc: Global,
-    fields: &mut Dictionary,
-    key: &str,
-    value: &Option<Ben>,
-) -> Result<(), AllocError>
-    ensures { OnOk result (entries_view fields.new.entries
-        ≡ puts (entries_view fields.old.entries)
-        (with_field key.now (field_view value.now) no_pairs)) }
+// The value behind the spelling of its key, if there is a value.
+fn write_given(head: &[u8], value: &Option<Ben>, out: &mut Vec<u8>) -> Result<(), AllocError>
+    ensures { OnOk result (out.new.items
+        ≡ out.old.items ++ behind head.now (field_view value.now)) }
 {
     match value {
-        Some(value) => put(alloc, fields, key, value.copy(alloc)?),
+        Some(value) => {
+            out.extend_from_slice(head)?;
+            write_into(value, out)
+        }
         None => Ok(()),
     }
 }
 
-fn put_text(alloc: Global, fields: &mut Dictionary, key: &str, text: &str) -> Result<(), AllocError>
-    ensures { OnOk result (entries_view fields.new.entries
-        ≡ put_sorted (entries_view fields.old.entries) key.now (string text.now)) }
+// The text behind the spelling of its key.
+fn write_text(head: &[u8], text: &str, out: &mut Vec<u8>) -> Result<(), AllocError>
+    ensures { OnOk result (out.new.items ≡ out.old.items ++ (head.now ++ string_text text.now)) }
 {
-    put(alloc, fields, key, string_of(alloc, text)?)
-}
-
-fn put_body(alloc: Global, fields: &mut Dictionary, body: &Body) -> Result<(), AllocError>
-    ensures { OnOk result (entries_view fields.new.entries
-        ≡ puts (entries_view fields.old.entries) (body_fields (body_view body.now))) }
-{
-    match body {
-        Body::Value { value, ns } => {
-            put_text(alloc, fields, "value", value.as_str())?;
-            put_text(alloc, fields, "ns", ns.as_str())
-        }
-        Body::Exception { class } => {
-            let text = class_text(alloc, class.as_str())?;
-            put_text(alloc, fields, "ex", text.as_str())?;
-            put_text(alloc, fields, "root-ex", text.as_str())
-        }
-        Body::Output(text) => put_text(alloc, fields, "out", text.as_str()),
-        Body::ErrorText(text) => put_text(alloc, fields, "err", text.as_str()),
-        Body::UnknownOp(op) => put_given(alloc, fields, "op", op),
-        Body::NewSession(id) => put_text(alloc, fields, "new-session", id.as_str()),
-        Body::Sessions(ids) => put(alloc, fields, "sessions", Ben::List(id_list(alloc, ids)?)),
-        Body::Described => put_description(alloc, fields),
-        Body::Done => Ok(()),
-        Body::UnknownSession => Ok(()),
-        Body::NoCode => Ok(()),
-        Body::NoFile => Ok(()),
-        Body::NamespaceNotFound => Ok(()),
-        Body::Malformed => Ok(()),
-        Body::Closed => Ok(()),
-        Body::Interrupted => Ok(()),
-    }
+    out.extend_from_slice(head)?;
+    write_string(text.as_bytes(), out)
 }
 
 fn class_text(alloc: Global, class: &str) -> Result<String, AllocError>
@@ -109,102 +223,27 @@ fn class_text(alloc: Global, class: &str) -> Result<String, AllocError>
     Ok(text)
 }
 
-fn string_of(alloc: Global, text: &str) -> Result<Ben, AllocError>
-    ensures { IfOk result (λ value. tree_view value ≡ string text.now) }
+// A list of these ids.
+fn write_ids(ids: &[String], out: &mut Vec<u8>) -> Result<(), AllocError>
+    ensures { OnOk result (out.new.items
+        ≡ out.old.items ++ canonical (list (strings (map string_bytes ids.now)))) }
 {
-    Ok(Ben::String(Vec::from_slice(alloc, text.as_bytes())?))
-}
-
-fn word_list(alloc: Global, words: &[&str]) -> Result<Vec<Ben>, AllocError>
-    ensures { IfOk result (λ list. trees_view list.items
-        ≡ strings (map (λ word. word.now) words.now)) }
-{
-    let mut list = Vec::with_capacity(alloc, words.len())?;
-    for word in words {
-        list.push(string_of(alloc, word)?)?;
-    }
-    Ok(list)
-}
-
-fn id_list(alloc: Global, ids: &[String]) -> Result<Vec<Ben>, AllocError>
-    ensures { IfOk result (λ list. trees_view list.items ≡ strings (map string_bytes ids.now)) }
-{
-    let mut list = Vec::with_capacity(alloc, ids.len())?;
+    out.extend_from_slice(b"l")?;
     for id in ids {
-        list.push(string_of(alloc, id.as_str())?)?;
+        write_string(id.as_bytes(), out)?;
     }
-    Ok(list)
+    out.extend_from_slice(b"e")
 }
 
-// The words of a reply's status, in the order in which they are sent; none where it has no status.
-fn statuses(body: &Body) -> &'static [&'static str]
-    ensures { map (λ word. word.now) result.now ≡ status (body_view body.now) }
+// A dictionary with these operations, and nothing said of them.
+fn write_operations(operations: &[OperationName], out: &mut Vec<u8>) -> Result<(), AllocError>
+    ensures { OnOk result (out.new.items
+        ≡ out.old.items ++ (codes "d" ++ pairs_text (told.ops operations.now) ++ codes "e")) }
 {
-    match body {
-        Body::Value { .. } => &[],
-        Body::Output(_) => &[],
-        Body::ErrorText(_) => &[],
-        Body::Exception { .. } => &["eval-error"],
-        Body::Done => &["done"],
-        Body::UnknownOp(_) => &["error", "unknown-op", "done"],
-        Body::UnknownSession => &["error", "unknown-session", "done"],
-        Body::NoCode => &["error", "no-code", "done"],
-        Body::NoFile => &["error", "no-file", "done"],
-        Body::NamespaceNotFound => &["error", "namespace-not-found", "done"],
-        Body::Malformed => &["error", "malformed", "done"],
-        Body::NewSession(_) => &["done"],
-        Body::Sessions(_) => &["done"],
-        Body::Described => &["done"],
-        Body::Closed => &["done", "session-closed"],
-        Body::Interrupted => &["done", "interrupted"],
+    out.extend_from_slice(b"d")?;
+    for operation in operations {
+        write_string(operation.name().as_bytes(), out)?;
+        out.extend_from_slice(b"de")?;
     }
-}
-
-fn put_statuses(alloc: Global, fields: &mut Dictionary, body: &Body) -> Result<(), AllocError>
-    ensures { OnOk result (entries_view fields.new.entries
-        ≡ (let words = status_value (status (body_view body.now)) in
-        puts (entries_view fields.old.entries) (with_field (codes "status") words no_pairs))) }
-{
-    let words = statuses(body);
-    if words.is_empty() {
-        return Ok(());
-    }
-    let list = word_list(alloc, words)?;
-    put(alloc, fields, "status", Ben::List(list))
-}
-
-fn put_description(alloc: Global, fields: &mut Dictionary) -> Result<(), AllocError>
-    ensures { OnOk result (entries_view fields.new.entries
-        ≡ puts (entries_view fields.old.entries) told.description) }
-{
-    put(
-        alloc,
-        fields,
-        "aux",
-        Ben::Dictionary(Dictionary::new(alloc)),
-    )?;
-    put(alloc, fields, "ops", Ben::Dictionary(ops(alloc)?))?;
-    put(alloc, fields, "versions", versions(alloc)?)
-}
-
-fn ops(alloc: Global) -> Result<Dictionary, AllocError>
-    ensures { IfOk result (λ named. entries_view named.entries ≡ told.ops operations) }
-{
-    let mut named = Dictionary::new(alloc);
-    for operation in OperationName::all() {
-        let nothing = Ben::Dictionary(Dictionary::new(alloc));
-        put(alloc, &mut named, operation.name(), nothing)?;
-    }
-    Ok(named)
-}
-
-fn versions(alloc: Global) -> Result<Ben, AllocError>
-    ensures { IfOk result (λ named. tree_view named ≡ told.versions) }
-{
-    let mut version = Dictionary::new(alloc);
-    put(alloc, &mut version, "major", Ben::Integer(1))?;
-    put(alloc, &mut version, "minor", Ben::Integer(0))?;
-    let mut versions = Dictionary::new(alloc);
-    put(alloc, &mut versions, "server", Ben::Dictionary(version))?;
-    Ok(Ben::Dictionary(versions))
+    out.extend_from_slice(b"e")
 }

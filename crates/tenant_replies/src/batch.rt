@@ -52,10 +52,12 @@ impl Batch {
             (fault_replies (origin_view origin.now) (failure_of fault.now))) }
     {
         let Fault { class, text } = fault;
+        let told = origin.exception_bytes(self.alloc, class.as_str())?;
+        self.replies.push(told)?;
         let line = line_of(self.alloc, class.as_str(), text.as_str())?;
-        let class = String::from_str(self.alloc, class.as_str())?;
-        self.add(origin, Body::Exception { class })?;
-        self.add(origin, Body::ErrorText(line))
+        let told = origin.error_text_bytes(self.alloc, line.as_str())?;
+        self.replies.push(told)?;
+        Ok(())
     }
 
     /// Adds what was printed, if that is anything.
@@ -67,8 +69,9 @@ impl Batch {
         if printed.is_empty() {
             return Ok(());
         }
-        let printed = String::from_str(self.alloc, printed)?;
-        self.add(origin, Body::Output(printed))
+        let bytes = origin.output_bytes(self.alloc, printed)?;
+        self.replies.push(bytes)?;
+        Ok(())
     }
 
     /// Adds a value as it is printed, with the namespace.
@@ -84,8 +87,9 @@ impl Batch {
     {
         let mut text = String::new(self.alloc);
         print_into(self.alloc, value, &mut text)?;
-        let ns = String::from_str(self.alloc, namespace)?;
-        self.add(origin, Body::Value { value: text, ns })
+        let bytes = origin.value_bytes(self.alloc, text.as_str(), namespace)?;
+        self.replies.push(bytes)?;
+        Ok(())
     }
 
     /// Adds how a form ended: first what it printed, and then its value or its fault.

@@ -53,6 +53,9 @@ impl Outbox {
             ≡ waiting_bytes self.old ++ made_bytes batch) }
         ensures stays { OnErr result (waiting_bytes self.new ≡ waiting_bytes self.old) }
     {
+        if batch.replies.is_empty() {
+            return Ok(());
+        }
         let mut made = VecDeque::from_vec(batch.replies);
         self.replies.append(&mut made)
     }

@@ -1,8 +1,9 @@
--- How a reply's fields are put together, one by one.
-use Rattle.bencode_wire.specs.Tree.{Pairs, no_pairs, pair}
-use Rattle.bencode_wire.specs.Spelling.{put_sorted}
+-- How a reply's fields are written, one behind another.
+use Rattle.std.specs.Prelude.{ℕ, List, [], ◌++◌, Option, Some, None}
+use Rattle.bencode_wire.specs.Tree.{Tree}
+use Rattle.bencode_wire.specs.Spelling.{canonical}
 
--- `put_pairs` with each value as it came: spelling sorts the values
-abbrev pub puts : Pairs → Pairs → Pairs
-puts done no_pairs = done
-puts done (pair key t ps) = puts (put_sorted done key t) ps
+-- a value behind the spelling of its key, if there is a value
+abbrev pub behind : List ℕ → Option Tree → List ℕ
+behind head None = []
+behind head (Some t) = head ++ canonical t

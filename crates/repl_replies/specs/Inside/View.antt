@@ -3,8 +3,8 @@ use Rattle.std.specs.Prelude.{Option, Some, None, map, string_bytes}
 use Rattle.bencode_wire.specs.Tree.{Tree}
 use Rattle.bencode_wire.specs.Inside.View.{tree_view}
 use Rattle.bencode_wire.specs.declared.ben.Ben.{Ben}
-use Rattle.repl_replies.specs.Replies.{OriginData, BodyData, ReplyData, value, output, exception}
-use Rattle.repl_replies.specs.Replies.{error_text, done, unknown_op, unknown_session, no_code}
+use Rattle.repl_replies.specs.Replies.{OriginData, BodyData, ReplyData}
+use Rattle.repl_replies.specs.Replies.{done, unknown_op, unknown_session, no_code}
 use Rattle.repl_replies.specs.Replies.{no_file, namespace_not_found, malformed, new_session}
 use Rattle.repl_replies.specs.Replies.{sessions, described, closed, interrupted}
 use Rattle.repl_replies.specs.Inside.Requests.{RequestData, RequestOrReplyData, waits, answered}
@@ -27,10 +27,6 @@ abbrev pub origin_view : Origin → OriginData
 origin_view o = record { id = field_view o.id; session = field_view o.session }
 
 abbrev pub body_view : Body → BodyData
-body_view (Body.Value text ns) = value (string_bytes text) (string_bytes ns)
-body_view (Body.Output text) = output (string_bytes text)
-body_view (Body.Exception class) = exception (string_bytes class)
-body_view (Body.ErrorText line) = error_text (string_bytes line)
 body_view Body.Done = done
 body_view (Body.UnknownOp op) = unknown_op (field_view op)
 body_view Body.UnknownSession = unknown_session

@@ -1,0 +1,8 @@
+use Rattle.repl_replies.specs.Inside.View.{origin_view}
+use Rattle.repl_replies.proofs.Replies.{error_text_spelled}
+use Rattle.repl_replies.proofs.reply.Origin.error_text_bytes.Goals as goal
+
+pub returns : goal.returns
+returns c =
+    rw (c.in_ok-extend_from_slice.ensures.items, c.in_ok-write_given-2.ensures, c.in_ok-write_given.ensures, c.in_ok-write_text.ensures, c.in_ok-bytes.ensures)
+    (error_text_spelled (origin_view c.args.self.now) c.args.line.now)
