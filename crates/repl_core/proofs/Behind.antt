@@ -1,13 +1,15 @@
 -- A machine behind the deeds of a tenant.
 use Rattle.std.proofs.Common.{◌≡◌, ◌≢◌, ℕ, Some, None, Result, Ok, Err, IfOk, IfErr, refl, sym, ap}
 use Rattle.std.proofs.Common.{subst, ◌∙◌, true, true≢false}
+use Rattle.std.specs.Result.{IsErrAnd}
 use Rattle.value_data.specs.Datum.{tenant}
 use Rattle.server_rules.specs.Deeds.{plan}
 use Rattle.server_rules.specs.Ground.{Ground}
 use Rattle.server_rules.specs.Plan.{Deed, StepAnswer, Outcome, refuses, leaves}
 use Rattle.server_rules.specs.Store.{Store}
 use Rattle.server_rules.specs.Tenant.{Quiet}
-use Rattle.server_rules.specs.Machine.World.{TenantData, World, does, ended_as, with_tenant, step}
+use Rattle.server_rules.specs.Machine.World.{TenantData, World, Step, does, ended_as, with_tenant}
+use Rattle.server_rules.specs.Machine.World.{step}
 use Rattle.server_rules.specs.declared.actor.Actor.{Actor}
 use Rattle.server_rules.specs.declared.refusal.Refusal.{Refusal}
 use Rattle.ref_table.specs.Refs.{refs_after}
@@ -75,6 +77,16 @@ refuses-none g w t d old ts s none gone others = record {
   stands = stands-with g old w ts s (all-places
       (λ u. tenant_at ts u ≡ tenant_at old.tenants u) t (gone ∙ sym none)
       (λ u apart is. others u apart));
+}
+
+-- memory was refused, and the machine stands for the server as it was
+pub refuses-unmade : {X : Type 0} (g : Ground) (w : World) (x : Step) (m : Machine)
+    (res : Result X Refusal) → IsErrAnd res (λ e. e ≡ Refusal.NoMemory) → MachineStands g m w
+    → IfErr res (RefusesStep g w x m)
+refuses-unmade g w x m (Ok y) never s = tt
+refuses-unmade g w x m (Err e) is s = record {
+  refused = λ ne. absurd (ne is);
+  stands = s;
 }
 
 -- A deed that is accepted

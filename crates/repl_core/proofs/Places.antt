@@ -1,6 +1,8 @@
 -- The places of tenants, through the steps of one.
 use Rattle.std.proofs.Common.{◌≡◌, ◌≢◌, ℕ, ◌==◌, [], Bool, true, false, Option, Some, None}
-use Rattle.std.proofs.Common.{option_and_then, refl, sym, ap, subst, ◌∙◌, if◌then◌else◌}
+use Rattle.std.proofs.Common.{is_some, true≢false, option_and_then, refl, sym, ap, subst, ◌∙◌, if◌then◌else◌}
+use Rattle.std.specs.Prelude.{OnSome}
+use Rattle.std.specs.Borrow.{MutBor}
 use Rattle.std.proofs.lemmas.Bool.{eqb-true, eqb-false, eq-eqb}
 use Rattle.value_data.specs.Datum.{tenant}
 use Rattle.server_rules.specs.Ground.{Ground}
@@ -16,9 +18,11 @@ use Rattle.tenant_world.specs.Memories.{Remembers}
 use Rattle.tenant_world.specs.Standing as world
 use Rattle.tenant_world.specs.declared.tenant.Tenant.{Tenant}
 use Rattle.repl_core.specs.TenantAt.{tenant_at}
+use Rattle.repl_core.specs.Lending.{IsLeft}
 use Rattle.repl_core.specs.Standing.{open_in, store_in, around_in, TenantStands, PlaceStands}
 use Rattle.repl_core.specs.Standing.{MachineStands}
 use Rattle.repl_core.specs.declared.machine.Machine.{Machine}
+use Rattle.repl_core.specs.declared.tenants.Tenants.{Tenants}
 use Rattle.repl_core.proofs.Worlds.{found-open}
 
 -- the code stands for a tenant, whatever all have in common
@@ -59,6 +63,19 @@ serves-in g m w t code kept s it = record {
       ∙ ap (λ refs. store_in (around_in s.refs) t
       (record { refs = refs; points = kept.mine.points })) it.refs;
 }
+
+-- a tenant that was lent
+pub left-so : {old new : Tenants} {t : ℕ} {r : Option (MutBor Tenant)} {m : MutBor Tenant}
+    {left : Tenant} → r ≡ Some m → OnSome r (IsLeft old new t left) → IsLeft old new t left
+left-so {old} {new} {t} {left = left} is so = subst (λ o. OnSome o (IsLeft old new t left)) is so
+
+pub there-some : (o : Option Tenant) → is_some o ≡ true → (code : Tenant) × (o ≡ Some code)
+there-some None is = absurd (true≢false (sym is))
+there-some (Some code) is = (code, refl)
+
+pub there-none : (o : Option Tenant) → is_some o ≡ false → o ≡ None
+there-none None is = refl
+there-none (Some code) is = absurd (true≢false is)
 
 -- One place
 

@@ -1,5 +1,6 @@
 pub mod Configured
 pub mod TenantAt
+pub mod Lending
 pub mod Standing
 pub mod Left
 pub mod Steps

@@ -43,12 +43,10 @@ impl Machine {
         ensures kept { OnErr result
             ((left_at number self.new).steps ≡ (left_at number self.old).steps) }
     {
-        let Some(mut tenant) = self.tenants.take(number) else {
+        let Some(tenant) = self.tenants.get_mut(number) else {
             return Err(Refusal::NoSuchTenant);
         };
-        let result = tenant.hear(piece);
-        self.tenants.put_back(number, tenant);
-        result
+        tenant.hear(piece)
     }
 
     /// An actor begins its next form, or takes up its next request.
@@ -63,12 +61,10 @@ impl Machine {
             → result ≡ Err Refusal.NoMemory
             → is_accepted_step (step g w (does number (deeds.starts actor))) ≡ true }
     {
-        let Some(mut tenant) = self.tenants.take(number) else {
+        let Some(tenant) = self.tenants.get_mut(number) else {
             return Err(Refusal::NoSuchTenant);
         };
-        let result = tenant.start_copied(actor);
-        self.tenants.put_back(number, tenant);
-        result
+        tenant.start_copied(actor)
     }
 
     /// The form of an actor that runs asks this.
@@ -94,12 +90,10 @@ impl Machine {
         if !has_stamps(&self.refs) {
             return Err(Refusal::NoMemory);
         }
-        let Some(mut tenant) = self.tenants.take(number) else {
+        let Some(tenant) = self.tenants.get_mut(number) else {
             return Err(Refusal::NoSuchTenant);
         };
-        let result = tenant.answer_copied(&mut self.refs, actor, ask);
-        self.tenants.put_back(number, tenant);
-        result
+        tenant.answer_copied(&mut self.refs, actor, ask)
     }
 
     /// The form of an actor that runs has ended so.
@@ -120,7 +114,7 @@ impl Machine {
             → result ≡ Err Refusal.NoMemory → is_accepted_step
             (step g w (does number (deeds.ends actor (endings.ending_view ending.now)))) ≡ true }
     {
-        let Some(mut tenant) = self.tenants.take(number) else {
+        let Some(tenant) = self.tenants.get_mut(number) else {
             return Err(Refusal::NoSuchTenant);
         };
         let parts = world::Ending {
@@ -128,9 +122,7 @@ impl Machine {
             trace: ending.trace(),
             finished: ending.end(),
         };
-        let result = tenant.end_form(actor, &parts);
-        self.tenants.put_back(number, tenant);
-        result
+        tenant.end_form(actor, &parts)
     }
 
     /// A tenant's oldest reply is taken out, and the same once more.
@@ -145,12 +137,10 @@ impl Machine {
             → result ≡ Err Refusal.NoMemory
             → is_accepted_step (step g w (does number deeds.drains)) ≡ true }
     {
-        let Some(mut tenant) = self.tenants.take(number) else {
+        let Some(tenant) = self.tenants.get_mut(number) else {
             return Err(Refusal::NoSuchTenant);
         };
-        let result = tenant.drain_copied();
-        self.tenants.put_back(number, tenant);
-        match result? {
+        match tenant.drain_copied()? {
             Some(replies) => Ok(replies),
             None => Err(Refusal::Idle),
         }
@@ -170,12 +160,10 @@ impl Machine {
             × ((left_at number self.new).outbox ≡ [])) }
         ensures free { result ≢ Err Refusal.NoMemory }
     {
-        let Some(mut tenant) = self.tenants.take(number) else {
+        let Some(tenant) = self.tenants.get_mut(number) else {
             return Err(Refusal::NoSuchTenant);
         };
-        let reply = tenant.drain();
-        self.tenants.put_back(number, tenant);
-        match reply {
+        match tenant.drain() {
             Some(bytes) => Ok(bytes),
             None => Err(Refusal::Idle),
         }

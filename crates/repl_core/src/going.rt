@@ -51,11 +51,9 @@ impl Machine {
         if !has_stamps(&self.refs) {
             return Err(Refusal::NoMemory);
         }
-        let Some(mut tenant) = self.tenants.take(number) else {
+        let Some(tenant) = self.tenants.get_mut(number) else {
             return Err(Refusal::NoSuchTenant);
         };
-        let result = walks.go(&mut tenant, &mut self.refs, actor);
-        self.tenants.put_back(number, tenant);
-        result
+        walks.go(tenant, &mut self.refs, actor)
     }
 }

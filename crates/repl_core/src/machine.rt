@@ -83,7 +83,7 @@ impl Machine {
     }
 
     /// The first actor of a tenant that has a form or a request to begin, if the tenant is open and
-    /// has one. It takes a step for each actor, and no memory.
+    /// has one. It takes a step for each that has something to do, and no memory.
     pub fn ready(&self, number: u64) -> Option<Actor>
         ensures { (g : Ground) (w : World) → MachineStands g self.now w
             → result ≡ option_and_then (λ it. ready it.quiet) (open_in number w) }

@@ -60,10 +60,9 @@ impl Machine {
             → IfErr result (RefusesStep g w (closes number) self.new) }
         ensures free { result ≢ Err Refusal.NoMemory }
     {
-        let Some(tenant) = self.tenants.remove(number) else {
+        if !self.tenants.remove(number) {
             return Err(Refusal::NoSuchTenant);
-        };
-        drop(tenant);
+        }
         self.refs.release(number);
         self.places_taken = self.places_taken.saturating_sub(1);
         Ok(())

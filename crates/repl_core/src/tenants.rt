@@ -1,17 +1,18 @@
 // The tenants that are open, by their numbers.
-ghost use Rattle.std.specs.Prelude.{◌≡◌, ◌≢◌, ℕ, None, Some, true, is_some, option_map, OnOk};
-ghost use Rattle.std.specs.Prelude.{OnErr};
-ghost use Rattle.repl_core.specs.TenantAt.{tenant_at, has_place};
+ghost use Rattle.std.specs.Prelude.{◌≡◌, ◌≢◌, ℕ, None, Some, is_some, option_map, OnOk, OnErr};
+ghost use Rattle.std.specs.Borrow.{sem};
+ghost use Rattle.repl_core.specs.TenantAt.{tenant_at};
+ghost use Rattle.repl_core.specs.Lending.{LendsTenant};
 
 use std::alloc::{AllocError, Global};
 use std::collections::BTreeMap;
 use tenant_world::Tenant;
 
-/// The tenants that are open.
+/// The tenants that are open. Each lies still from when it comes until it goes.
 #[derive(Drop)]
 pub(crate) struct Tenants {
-    // A tenant keeps its place while it is taken out, so that to put it back takes no memory.
-    pub(crate) live: BTreeMap<u64, Option<Tenant>>,
+    alloc: Global,
+    pub(crate) live: BTreeMap<u64, Box<Tenant>>,
 }
 
 // Each takes about the logarithm of the number of tenants that are open.
@@ -20,6 +21,7 @@ impl Tenants {
         ensures { (u : ℕ) → tenant_at result u ≡ None }
     {
         Tenants {
+            alloc,
             live: BTreeMap::new(alloc),
         }
     }
@@ -27,26 +29,20 @@ impl Tenants {
     pub(crate) fn get(&self, number: u64) -> Option<&Tenant>
         ensures { option_map (λ it. it.now) result ≡ tenant_at self.now number }
     {
-        self.live.get(&number)?.as_ref()
+        match self.live.get(&number) {
+            Some(place) => Some(&**place),
+            None => None,
+        }
     }
 
-    /// Takes a tenant out. Its place stays.
-    pub(crate) fn take(&mut self, number: u64) -> Option<Tenant>
-        ensures taken { result ≡ tenant_at self.old number }
-        ensures place { is_some result ≡ true → has_place self.new number ≡ true }
-        ensures gone { tenant_at self.new number ≡ None }
-        ensures others { (u : ℕ) → u ≢ number → tenant_at self.new u ≡ tenant_at self.old u }
+    /// Lends a tenant, to be changed in its place.
+    pub(crate) fn get_mut(&mut self, number: u64) -> Option<&mut Tenant>
+        ensures* writes_back { sem 𝓛 (LendsTenant self.entry number result) }
+        ensures value { option_map (λ it. it.now) result ≡ tenant_at self.old number }
     {
-        self.live.get_mut(&number)?.take()
-    }
-
-    /// Puts a tenant into its place.
-    pub(crate) fn put_back(&mut self, number: u64, tenant: Tenant)
-        ensures put { has_place self.old number ≡ true → tenant_at self.new number ≡ Some tenant }
-        ensures others { (u : ℕ) → u ≢ number → tenant_at self.new u ≡ tenant_at self.old u }
-    {
-        if let Some(place) = self.live.get_mut(&number) {
-            drop(place.replace(tenant));
+        match self.live.get_mut(&number) {
+            Some(place) => Some(&mut **place),
+            None => None,
         }
     }
 
@@ -57,16 +53,18 @@ impl Tenants {
             → tenant_at self.new u ≡ tenant_at self.old u) }
         ensures stays { OnErr result ((u : ℕ) → tenant_at self.new u ≡ tenant_at self.old u) }
     {
-        drop(self.live.insert(number, Some(tenant))?);
+        let place = Box::new(self.alloc, tenant)?;
+        drop(self.live.insert(number, place)?);
         Ok(())
     }
 
-    /// Takes a tenant out, and its place away.
-    pub(crate) fn remove(&mut self, number: u64) -> Option<Tenant>
-        ensures was { result ≡ tenant_at self.old number }
+    /// Takes a tenant away, and answers whether it was there. It takes no memory.
+    pub(crate) fn remove(&mut self, number: u64) -> bool
+        ensures was { result ≡ is_some (tenant_at self.old number) }
         ensures gone { tenant_at self.new number ≡ None }
         ensures others { (u : ℕ) → u ≢ number → tenant_at self.new u ≡ tenant_at self.old u }
     {
-        self.live.remove(&number)?
+        let tenant = self.live.remove(&number);
+        tenant.is_some()
     }
 }
