@@ -16,19 +16,19 @@ use Rattle.server_rules.specs.Ending.{with_left_attempt, end_compared, end_check
 use Rattle.server_rules.specs.Ending.{end_of}
 use Rattle.server_rules.specs.declared.actor.Actor.{Actor}
 use Rattle.server_rules.specs.declared.refusal.Refusal.{Refusal}
-use Rattle.nrepl_pipe.proofs.Starting.{GoesSo, PlansSo}
+use Rattle.nrepl_pipe.proofs.Starting.{GoesSo, PlansSo, with-stays, without-stays}
 
 -- Asking
 
-told-so : (q : Quiet) (told : Option AnswerData) (next : AnswerData → Outcome)
-    → ((answer : AnswerData) → GoesSo q (next answer)) → GoesSo q (when_told told next)
-told-so q None next so = λ e. cc
-told-so q (Some answer) next so = so answer
+told-so : (a : Actor) (q : Quiet) (told : Option AnswerData) (next : AnswerData → Outcome)
+    → ((answer : AnswerData) → GoesSo a q (next answer)) → GoesSo a q (when_told told next)
+told-so a q None next so = λ e. cc
+told-so a q (Some answer) next so = so answer
 
 allowed-so : (g : Ground) (a : Actor) (actor : ActorData) (h : Hand) (run : Run) (ask : AskData)
-    (q : Quiet) → PlansSo q (asked_allowed g a actor h run ask q)
+    (q : Quiet) → PlansSo a q (asked_allowed g a actor h run ask q)
 allowed-so g a actor h run ask q told = by actor.is_closed where
-  by : (closed : Bool) → GoesSo q (let p : Plan = (if closed
+  by : (closed : Bool) → GoesSo a q (let p : Plan = (if closed
       then record {
         call = gives_up (seat_of a) (call_of (seat_of a) ask);
         next = λ told. when_told told (λ _. interrupted_in a h q);
@@ -37,57 +37,60 @@ allowed-so g a actor h run ask q told = by actor.is_closed where
         call = call_of (seat_of a) ask;
         next = λ told. when_told told (answer_outcome g a actor h run ask q);
       }) in p.next told)
-  by true = told-so q told (λ _. interrupted_in a h q) (λ _. (refl, refl, refl))
-  by false = told-so q told (answer_outcome g a actor h run ask q) (λ _. (refl, refl, refl))
+  by true = told-so a q told (λ _. interrupted_in a h q) (λ _. (refl, refl, refl, without-stays a q))
+  by false = told-so a q told (answer_outcome g a actor h run ask q)
+      (λ _. (refl, refl, refl, with-stays a _ q))
 
 asking-so : (g : Ground) (a : Actor) (actor : ActorData) (h : Hand) (ask : AskData) (q : Quiet)
-    (run : Option Run) → PlansSo q (asked_running g a actor h ask q run)
+    (run : Option Run) → PlansSo a q (asked_running g a actor h ask q run)
 asking-so g a actor h ask q None told = λ e. cc
 asking-so g a actor h ask q (Some run) told = by (is_allowed ask) where
-  by : (allowed : Bool) → GoesSo q (let p : Plan = (if allowed
+  by : (allowed : Bool) → GoesSo a q (let p : Plan = (if allowed
       then asked_allowed g a actor h run ask q
       else quietly (refuses Refusal.Idle)) in p.next told)
   by true = allowed-so g a actor h run ask q told
   by false = λ e. cc
 
 pub asked-so : (g : Ground) (a : Actor) (actor : ActorData) (ask : AskData) (q : Quiet)
-    (h : Option Hand) → PlansSo q (asked_of g a actor ask q h)
+    (h : Option Hand) → PlansSo a q (asked_of g a actor ask q h)
 asked-so g a actor ask q None told = λ e. cc
 asked-so g a actor ask q (Some h) told = asking-so g a actor h ask q h.running told
 
 -- Ending
 
 accepted-so : (a : Actor) (actor : ActorData) (m : Move) (q : Quiet) (told : Option AnswerData)
-    → GoesSo q ((with_left_attempt a (leaves (with_step_spent (after_move a actor m q)) form_finished)).next told)
-accepted-so Actor.Bare actor m q told = (refl, refl, refl)
-accepted-so (Actor.Session n) actor m q told = (refl, refl, refl)
+    → GoesSo a q ((with_left_attempt a (leaves (with_step_spent (after_move a actor m q)) form_finished)).next told)
+accepted-so Actor.Bare actor m q told =
+    (refl, refl, refl, with-stays Actor.Bare (record actor { hand = m.hand }) q)
+accepted-so (Actor.Session n) actor m q told =
+    (refl, refl, refl, with-stays (Actor.Session n) (record actor { hand = m.hand }) q)
 
 compared-so : (a : Actor) (actor : ActorData) (h : Hand) (e : EndingData) (q : Quiet)
-    (same : Bool) (difference : Option ℕ) → PlansSo q (end_compared a actor h e q same difference)
+    (same : Bool) (difference : Option ℕ) → PlansSo a q (end_compared a actor h e q same difference)
 compared-so a actor h e q false difference told = λ e. cc
 compared-so a actor h e q true (Some place) told = λ e. cc
 compared-so a actor h e q true None told =
     accepted-so a actor (form_ended h e.end (actor_state a q)) q told
 
-held_end-so : (q : Quiet) (p : Plan) (held : Bool) → is_held q ≡ held → PlansSo q p
-    → PlansSo q (if held then quietly (refuses Refusal.Held) else p)
-held_end-so q p true is so told = λ _. is
-held_end-so q p false is so told = so told
+held_end-so : (a : Actor) (q : Quiet) (p : Plan) (held : Bool) → is_held q ≡ held → PlansSo a q p
+    → PlansSo a q (if held then quietly (refuses Refusal.Held) else p)
+held_end-so a q p true is so told = λ _. is
+held_end-so a q p false is so told = so told
 
 ending-so : (g : Ground) (a : Actor) (actor : ActorData) (h : Hand) (e : EndingData) (q : Quiet)
-    (run : Option Run) → PlansSo q (end_running g a actor h e q run)
+    (run : Option Run) → PlansSo a q (end_running g a actor h e q run)
 ending-so g a actor h e q None told = λ e. cc
 ending-so g a actor h e q (Some run) told = by actor.is_closed where
-  by : (closed : Bool) → GoesSo q (let p : Plan = (if closed
+  by : (closed : Bool) → GoesSo a q (let p : Plan = (if closed
       then with_left_attempt a (interrupted_in a h q)
       else if is_held q then quietly (refuses Refusal.Held)
       else end_checked g a actor h run e q) in p.next told)
-  by true = (refl, refl, refl)
-  by false = held_end-so q (end_checked g a actor h run e q) (is_held q) refl
+  by true = (refl, refl, refl, without-stays a q)
+  by false = held_end-so a q (end_checked g a actor h run e q) (is_held q) refl
       (compared-so a actor h e q
       (g.comparisons.is_same_job e.job run.job) (g.comparisons.difference e.trace run.trace)) told
 
 pub ended-so : (g : Ground) (a : Actor) (actor : ActorData) (e : EndingData) (q : Quiet)
-    (h : Option Hand) → PlansSo q (end_of g a actor e q h)
+    (h : Option Hand) → PlansSo a q (end_of g a actor e q h)
 ended-so g a actor e q None told = λ e. cc
 ended-so g a actor e q (Some h) told = ending-so g a actor h e q h.running told

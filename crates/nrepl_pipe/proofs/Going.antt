@@ -1,12 +1,16 @@
 -- What an actor's turn does to the steps, the replies and what was heard.
-use Rattle.std.proofs.Common.{◌≡◌, ℕ, zero, suc, ◌+◌, ◌-◌, ◌==◌, [], Bool, true, false}
-use Rattle.std.proofs.Common.{if◌then◌else◌, Option, None, Some, refl, sym, ap, ◌∙◌, subst, arith}
+use Rattle.std.proofs.Common.{◌≡◌, ◌≢◌, ℕ, zero, suc, ◌+◌, ◌-◌, ◌==◌, List, [], ◌∷◌, Bool, true}
+use Rattle.std.proofs.Common.{false, ◌||◌, if◌then◌else◌, Option, None, Some, is_some, refl, sym}
+use Rattle.std.proofs.Common.{ap, ◌∙◌, subst, arith}
+use Rattle.std.specs.Prelude.{⊤}
 use Rattle.repl_asks.specs.Exchange.{AskData}
 use Rattle.repl_jobs.specs.InteractionTree.{InteractionTree, finished, asks}
 use Rattle.repl_jobs.specs.Leading as leading
 use Rattle.server_rules.specs.Numbered.{part_under}
 use Rattle.server_rules.specs.Ground.{Ground}
-use Rattle.server_rules.specs.Request.{Hand, Run}
+use Rattle.server_rules.specs.Request.{Waiting, Hand, Run}
+use Rattle.server_rules.specs.Starting.{start_waiting}
+use Rattle.server_rules.specs.Machine.Ready.{has_waiting}
 use Rattle.server_rules.specs.Store.{Store}
 use Rattle.server_rules.specs.Tenant.{ActorData, seat_of, Quiet, is_held}
 use Rattle.server_rules.specs.Plan.{Deed, starts, asks_for, ends, Outcome, refuses}
@@ -19,73 +23,74 @@ use Rattle.server_rules.specs.Honest.{honest_deed, honest_at, honest_of, honest_
 use Rattle.server_rules.specs.declared.actor.Actor.{Actor}
 use Rattle.server_rules.specs.declared.refusal.Refusal.{Refusal}
 use Rattle.tenant_turns.specs.DeedResult.{carried_out, deed_result}
+use Rattle.tenant_turns.specs.Inside.Rounds.{is_some_busy, is_busy_at}
 use Rattle.tenant_turns.specs.Turns.{Lone, goes, LoneStepped, accepted, refused, lone_ended}
 use Rattle.tenant_turns.specs.Turns.{stepped_as, lone_step, lone_or, reply_taken, lone_after}
-use Rattle.nrepl_pipe.proofs.Starting.{PlansSo, GoesSo, start-so}
+use Rattle.nrepl_pipe.proofs.Starting.{OthersStay, PlansSo, GoesSo, start-so}
 use Rattle.nrepl_pipe.proofs.Finishing.{asked-so, ended-so}
 
 -- The honest deed
 
 -- where steps are left, the deed is this plan
-record Acts (g : Ground) (t : ℕ) (q : Quiet) (d : Deed) : Type 0 where
+record Acts (g : Ground) (t : ℕ) (a : Actor) (q : Quiet) (d : Deed) : Type 0 where
   plan_is : Plan
-  so : PlansSo q plan_is
+  so : PlansSo a q plan_is
   is : plan g t q d ≡ unless_worn q plan_is
 
-for_actor-so : (q : Quiet) (there : Option ActorData) (p : ActorData → Plan)
-    → ((actor : ActorData) → PlansSo q (p actor)) → PlansSo q (for_actor there p)
-for_actor-so q None p so told = λ e. cc
-for_actor-so q (Some actor) p so told = so actor told
+for_actor-so : (a : Actor) (q : Quiet) (there : Option ActorData) (p : ActorData → Plan)
+    → ((actor : ActorData) → PlansSo a q (p actor)) → PlansSo a q (for_actor there p)
+for_actor-so a q None p so told = λ e. cc
+for_actor-so a q (Some actor) p so told = so actor told
 
-starts-acts : (g : Ground) (t : ℕ) (a : Actor) (q : Quiet) → Acts g t q (starts a)
+starts-acts : (g : Ground) (t : ℕ) (a : Actor) (q : Quiet) → Acts g t a q (starts a)
 starts-acts g t a q = record {
   plan_is = for_actor (part_under (seat_of a) q.actors)
       (λ actor. quietly (start_of g a actor q actor.hand));
-  so = for_actor-so q (part_under (seat_of a) q.actors)
+  so = for_actor-so a q (part_under (seat_of a) q.actors)
       (λ actor. quietly (start_of g a actor q actor.hand))
       (λ actor told. start-so g a actor q actor.hand);
   is = refl;
 }
 
-asks-acts : (g : Ground) (t : ℕ) (a : Actor) (ask : AskData) (q : Quiet) → Acts g t q (asks_for a ask)
+asks-acts : (g : Ground) (t : ℕ) (a : Actor) (ask : AskData) (q : Quiet) → Acts g t a q (asks_for a ask)
 asks-acts g t a ask q = record {
   plan_is = for_actor (part_under (seat_of a) q.actors)
       (λ actor. asked_of g a actor ask q actor.hand);
-  so = for_actor-so q (part_under (seat_of a) q.actors)
+  so = for_actor-so a q (part_under (seat_of a) q.actors)
       (λ actor. asked_of g a actor ask q actor.hand)
       (λ actor. asked-so g a actor ask q actor.hand);
   is = refl;
 }
 
-ends-acts : (g : Ground) (t : ℕ) (a : Actor) (e : EndingData) (q : Quiet) → Acts g t q (ends a e)
+ends-acts : (g : Ground) (t : ℕ) (a : Actor) (e : EndingData) (q : Quiet) → Acts g t a q (ends a e)
 ends-acts g t a e q = record {
   plan_is = for_actor (part_under (seat_of a) q.actors) (λ actor. end_of g a actor e q actor.hand);
-  so = for_actor-so q (part_under (seat_of a) q.actors)
+  so = for_actor-so a q (part_under (seat_of a) q.actors)
       (λ actor. end_of g a actor e q actor.hand)
       (λ actor. ended-so g a actor e q actor.hand);
   is = refl;
 }
 
 at-acts : (g : Ground) (n : ℕ) (a : Actor) (q : Quiet) (run : Run) (t : InteractionTree)
-    → Acts g n q (honest_at a run t)
+    → Acts g n a q (honest_at a run t)
 at-acts g n a q run (asks ask behind) = asks-acts g n a ask q
 at-acts g n a q run (finished e) =
     ends-acts g n a (record { job = run.job; trace = run.trace; end = e }) q
 
-of-acts : (g : Ground) (t : ℕ) (a : Actor) (q : Quiet) (run : Option Run) → Acts g t q (honest_of g a run)
+of-acts : (g : Ground) (t : ℕ) (a : Actor) (q : Quiet) (run : Option Run) → Acts g t a q (honest_of g a run)
 of-acts g t a q None = starts-acts g t a q
 of-acts g t a q (Some run) = at-acts g t a q run (leading.tree_after (g.evaluation run.job) run.trace)
 
-in-acts : (g : Ground) (t : ℕ) (a : Actor) (q : Quiet) (h : Option Hand) → Acts g t q (honest_in g a h)
+in-acts : (g : Ground) (t : ℕ) (a : Actor) (q : Quiet) (h : Option Hand) → Acts g t a q (honest_in g a h)
 in-acts g t a q None = starts-acts g t a q
 in-acts g t a q (Some h) = of-acts g t a q h.running
 
 by-acts : (g : Ground) (t : ℕ) (a : Actor) (q : Quiet) (there : Option ActorData)
-    → Acts g t q (honest_by g a there)
+    → Acts g t a q (honest_by g a there)
 by-acts g t a q None = starts-acts g t a q
 by-acts g t a q (Some actor) = in-acts g t a q actor.hand
 
-honest_deed-acts : (g : Ground) (t : ℕ) (a : Actor) (q : Quiet) → Acts g t q (honest_deed g a (Some (Some q)))
+honest_deed-acts : (g : Ground) (t : ℕ) (a : Actor) (q : Quiet) → Acts g t a q (honest_deed g a (Some (Some q)))
 honest_deed-acts g t a q = by-acts g t a q (part_under (seat_of a) q.actors)
 
 -- The step
@@ -100,20 +105,20 @@ one-less : (n m : ℕ) → (n == 0) ≡ false → m ≡ n - 1 → n ≡ m + 1
 one-less zero m some is = cc
 one-less (suc n) m some is = omega arith
 
-outcome-steps : (l : Lone) (s : Store) (o : Outcome) → (l.quiet.steps == 0) ≡ false
-    → GoesSo l.quiet o → StepsSo l (lone_ended s o)
-outcome-steps l s (refuses why) some so = so
-outcome-steps l s (leaves new answer) some so =
+outcome-steps : (a : Actor) (l : Lone) (s : Store) (o : Outcome) → (l.quiet.steps == 0) ≡ false
+    → GoesSo a l.quiet o → StepsSo l (lone_ended s o)
+outcome-steps a l s (refuses why) some so = so
+outcome-steps a l s (leaves new answer) some so =
     (one-less l.quiet.steps new.steps some so.0, so.1, so.2)
 
 abbrev worn_plan : Plan → Bool → Plan
 worn_plan p worn = if worn then quietly (refuses Refusal.Worn) else p
 
-worn-steps : (l : Lone) (p : Plan) (worn : Bool) → (l.quiet.steps == 0) ≡ worn
-    → PlansSo l.quiet p → StepsSo l (stepped_as (carried_out l.store (worn_plan p worn)))
-worn-steps l p true is so = λ e. cc
-worn-steps l p false is so =
-    outcome-steps l (carried_out l.store p).store (carried_out l.store p).outcome is (so _)
+worn-steps : (a : Actor) (l : Lone) (p : Plan) (worn : Bool) → (l.quiet.steps == 0) ≡ worn
+    → PlansSo a l.quiet p → StepsSo l (stepped_as (carried_out l.store (worn_plan p worn)))
+worn-steps a l p true is so = λ e. cc
+worn-steps a l p false is so =
+    outcome-steps a l (carried_out l.store p).store (carried_out l.store p).outcome is (so _)
 
 lone_step-goes : (g : Ground) (l : Lone) (a : Actor) → lone_step g l (goes a)
     ≡ stepped_as (carried_out l.store
@@ -131,7 +136,7 @@ pub go-steps : (g : Ground) (l : Lone) (a : Actor) → StepsSo l (lone_step g l 
 go-steps g l a =
     let acts = honest_deed-acts g l.store.tenant a l.quiet in
     subst (StepsSo l) (sym (lone_step-acts g l a))
-    (worn-steps l acts.plan_is (l.quiet.steps == 0) refl acts.so)
+    (worn-steps a l acts.plan_is (l.quiet.steps == 0) refl acts.so)
 
 pub go-worn : (g : Ground) (l : Lone) (a : Actor) → (l.quiet.steps == 0) ≡ true
     → lone_step g l (goes a) ≡ refused Refusal.Worn
@@ -154,3 +159,101 @@ steps-heard l (refused why) so = refl
 pub go-heard : (g : Ground) (l : Lone) (a : Actor)
     → (lone_after g l (goes a)).quiet.heard ≡ l.quiet.heard
 go-heard g l a = steps-heard l (lone_step g l (goes a)) (go-steps g l a)
+
+-- The other actors are as they were
+
+abbrev StaysSo : Actor → Lone → LoneStepped → Type 0
+StaysSo a l (accepted new bytes) = OthersStay a l.quiet new.quiet
+StaysSo a l (refused why) = ⊤
+
+outcome-stays : (a : Actor) (l : Lone) (s : Store) (o : Outcome) → GoesSo a l.quiet o
+    → StaysSo a l (lone_ended s o)
+outcome-stays a l s (refuses why) so = tt
+outcome-stays a l s (leaves new answer) so = so.3
+
+worn-stays : (a : Actor) (l : Lone) (p : Plan) (worn : Bool) → PlansSo a l.quiet p
+    → StaysSo a l (stepped_as (carried_out l.store (worn_plan p worn)))
+worn-stays a l p true so = tt
+worn-stays a l p false so =
+    outcome-stays a l (carried_out l.store p).store (carried_out l.store p).outcome (so _)
+
+stays-behind : (a : Actor) (l : Lone) (s : LoneStepped) → StaysSo a l s
+    → OthersStay a l.quiet (lone_or l s).quiet
+stays-behind a l (accepted new bytes) so = so
+stays-behind a l (refused why) so = λ n other. refl
+
+pub go-others : (g : Ground) (l : Lone) (a : Actor)
+    → OthersStay a l.quiet (lone_after g l (goes a)).quiet
+go-others g l a =
+    let acts = honest_deed-acts g l.store.tenant a l.quiet in
+    stays-behind a l (lone_step g l (goes a))
+    (subst (StaysSo a l) (sym (lone_step-acts g l a))
+    (worn-stays a l acts.plan_is (l.quiet.steps == 0) acts.so))
+
+-- An actor that has nothing to do
+
+idle-waiting : (g : Ground) (a : Actor) (actor : ActorData) (q : Quiet) (ws : List Waiting)
+    → has_waiting ws ≡ false → start_waiting g a actor q ws ≡ refuses Refusal.Idle
+idle-waiting g a actor q [] none = refl
+idle-waiting g a actor q (w ∷ ws) none = cc
+
+idle-hand : (g : Ground) (a : Actor) (actor : ActorData) (q : Quiet) (h : Option Hand)
+    → (is_some h || has_waiting actor.waiting) ≡ false
+    → (honest_in g a h ≡ starts a) × (start_of g a actor q h ≡ refuses Refusal.Idle)
+idle-hand g a actor q None none = (refl, idle-waiting g a actor q actor.waiting none)
+idle-hand g a actor q (Some h) none = cc
+
+abbrev why_idle : Option ActorData → Refusal
+why_idle None = Refusal.NoSuchActor
+why_idle (Some actor) = Refusal.Idle
+
+idle-deed : (g : Ground) (a : Actor) (q : Quiet) (there : Option ActorData)
+    → is_some_busy there ≡ false → honest_by g a there ≡ starts a
+idle-deed g a q None none = refl
+idle-deed g a q (Some actor) none = (idle-hand g a actor q actor.hand none).0
+
+idle-plan : (g : Ground) (a : Actor) (q : Quiet) (there : Option ActorData)
+    → is_some_busy there ≡ false
+    → for_actor there (λ actor. quietly (start_of g a actor q actor.hand))
+    ≡ quietly (refuses (why_idle there))
+idle-plan g a q None none = refl
+idle-plan g a q (Some actor) none = ap quietly (idle-hand g a actor q actor.hand none).1
+
+idle-refused : (g : Ground) (l : Lone) (a : Actor) → is_busy_at l a ≡ false
+    → (l.quiet.steps == 0) ≡ false
+    → lone_step g l (goes a) ≡ refused (why_idle (part_under (seat_of a) l.quiet.actors))
+idle-refused g l a none left =
+    let there = part_under (seat_of a) l.quiet.actors in
+    lone_step-goes g l a
+    ∙ ap (λ d. stepped_as (carried_out l.store (plan g l.store.tenant l.quiet d)))
+    (idle-deed g a l.quiet there none)
+    ∙ ap (λ p. stepped_as (carried_out l.store (unless_worn l.quiet p)))
+    (idle-plan g a l.quiet there none)
+    ∙ ap (λ worn. stepped_as (carried_out l.store
+    (worn_plan (quietly (refuses (why_idle there))) worn))) left
+
+-- its turn is refused, and neither for replies that wait nor for the steps
+pub record IsPassed (g : Ground) (l : Lone) (a : Actor) : Type 0 where
+  pub why : Refusal
+  pub refused_so : lone_step g l (goes a) ≡ refused why
+  pub not_held : why ≢ Refusal.Held
+  pub not_worn : why ≢ Refusal.Worn
+
+pub idle-passed : (g : Ground) (l : Lone) (a : Actor) → is_busy_at l a ≡ false
+    → (l.quiet.steps == 0) ≡ false → IsPassed g l a
+idle-passed g l a none left =
+    by (part_under (seat_of a) l.quiet.actors) (idle-refused g l a none left) where
+      by : (there : Option ActorData) → lone_step g l (goes a) ≡ refused (why_idle there)
+          → IsPassed g l a
+      by None is = record {
+        why = Refusal.NoSuchActor;
+        refused_so = is;
+        not_held = λ e. cc;
+        not_worn = λ e. cc;
+      }
+      by (Some actor) is = record {
+        why = Refusal.Idle;
+        refused_so = is;
+        not_held = λ e. cc;
+        not_worn = λ e. cc;
+      }

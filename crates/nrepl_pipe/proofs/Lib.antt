@@ -1,3 +1,4 @@
+pub mod Apart
 pub mod Breaking
 pub mod Determined
 pub mod Draining
@@ -12,6 +13,7 @@ pub mod Lasting
 pub mod Marking
 pub mod Messages
 pub mod Outcomes
+pub mod Passing
 pub mod Reading
 pub mod Rounding
 pub mod Serving

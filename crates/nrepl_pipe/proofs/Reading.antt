@@ -1,10 +1,11 @@
 -- Each read is made once all is written that the pieces before serve.
-use Rattle.std.proofs.Common.{◌≡◌, ℕ, List, [], ◌∷◌, ◌++◌, refl, sym, ap, ◌∙◌, append_assoc}
+use Rattle.std.proofs.Common.{ℕ, List, [], ◌∷◌, ◌++◌, refl, sym, ap, ◌∙◌, append_assoc}
 use Rattle.std.proofs.Common.{append-nil, Option, None, Some}
 use Rattle.bencode_wire.specs.Spelling.{spellings_joined}
 use Rattle.server_rules.specs.Ground.{Ground}
 use Rattle.tenant_turns.specs.Turns.{Lone, lone_served}
 use Rattle.nrepl_pipe.specs.Reads.{ReadAt, ReadsSince, IsPrompt, ArePrompt, ReadsPromptly}
+use Rattle.nrepl_pipe.specs.Reads.{IsPassedOn, ArePassedOn, ReadsPassedOn}
 use Rattle.nrepl_pipe.specs.declared.stream.TheConstants.{PIECE}
 use Rattle.nrepl_pipe.proofs.Serving.{Serving}
 use Rattle.nrepl_pipe.proofs.Ending.{serves-so_far}
@@ -35,12 +36,15 @@ reads-none g l unread held reads = ([], since-none reads, tt)
 
 -- one more read
 pub reads-more : (g : Ground) (Old : Lone → Type 0) (q : Lone)
-    (unread left held holds : Option (List ℕ)) (before between now : Option (List ReadAt))
+    (unread left held holds passes : Option (List ℕ))
+    (before between now : Option (List ReadAt))
     → Serving g Old q unread left held holds → ReadsPromptly g q unread held before between
-    → ReadsSince between now (record { room = PIECE; unread = left; written = holds } ∷ [])
+    → ReadsSince between now
+    (record { room = PIECE; unread = left; written = holds; passed = passes } ∷ [])
     → ReadsPromptly g q unread held before now
-reads-more g Old q unread left held holds before between now on prompt read =
-    let r : ReadAt = record { room = PIECE; unread = left; written = holds } in (
+reads-more g Old q unread left held holds passes before between now on prompt read =
+    let r : ReadAt =
+    record { room = PIECE; unread = left; written = holds; passed = passes } in (
       prompt.0 ++ r ∷ [],
       since-more before between now prompt.0 (r ∷ []) prompt.1 read,
       prompt-more g q unread held prompt.0 r prompt.2 (
@@ -54,3 +58,22 @@ reads-more g Old q unread left held holds before between now on prompt read =
         ),
       ),
     )
+
+-- Nothing is held back
+
+passed-more : (rs : List ReadAt) (r : ReadAt) → ArePassedOn rs → IsPassedOn r.written r.passed
+    → ArePassedOn (rs ++ r ∷ [])
+passed-more [] r are is = (is, tt)
+passed-more (first ∷ rs) r are is = (are.0, passed-more rs r are.1 is)
+
+pub passed-none : (reads : Option (List ReadAt)) → ReadsPassedOn reads reads
+passed-none reads = ([], since-none reads, tt)
+
+pub passed-once : (before between now : Option (List ReadAt)) (r : ReadAt)
+    → ReadsPassedOn before between → IsPassedOn r.written r.passed
+    → ReadsSince between now (r ∷ []) → ReadsPassedOn before now
+passed-once before between now r so is read = (
+  so.0 ++ r ∷ [],
+  since-more before between now so.0 (r ∷ []) so.1 read,
+  passed-more so.0 r so.2 is,
+)

@@ -1,6 +1,6 @@
 -- What an actor's start comes to.
-use Rattle.std.proofs.Common.{◌≡◌, ℕ, ◌-◌, List, [], ◌∷◌, Bool, true, false, if◌then◌else◌, Option}
-use Rattle.std.proofs.Common.{None, Some, refl}
+use Rattle.std.proofs.Common.{◌≡◌, ◌≢◌, ℕ, ◌-◌, List, [], ◌∷◌, Bool, true, false, if◌then◌else◌}
+use Rattle.std.proofs.Common.{Option, None, Some, refl}
 use Rattle.bencode_wire.specs.Tree as wire
 use Rattle.value_data.specs.Datum.{nil, Items, no_items, item}
 use Rattle.repl_asks.specs.Exchange.{AnswerData}
@@ -13,7 +13,8 @@ use Rattle.server_rules.specs.Readings.{ProgramData}
 use Rattle.server_rules.specs.Ground.{Ground}
 use Rattle.server_rules.specs.Request.{Waiting, ProgramText, code, file, Manner, Hand, each_form}
 use Rattle.server_rules.specs.Request.{each_form_elsewhere, last_form}
-use Rattle.server_rules.specs.Tenant.{ActorData, Quiet, is_held, actor_state}
+use Rattle.server_rules.specs.Numbered.{part_under, with_part, without}
+use Rattle.server_rules.specs.Tenant.{ActorData, seat_of, Quiet, is_held, actor_state}
 use Rattle.server_rules.specs.Plan.{Outcome, refuses, leaves, Plan}
 use Rattle.server_rules.specs.Starting.{Started, next_begun, program_begun, elsewhere_begun}
 use Rattle.server_rules.specs.Starting.{hand_of, code_begun, text_begun, namespace_there}
@@ -23,16 +24,33 @@ use Rattle.server_rules.specs.Deeds.{start_of}
 use Rattle.server_rules.specs.Plan.{bytes_in}
 use Rattle.server_rules.specs.declared.actor.Actor.{Actor}
 use Rattle.server_rules.specs.declared.refusal.Refusal.{Refusal}
+use Rattle.server_rules.proofs.Numbered.{part_under-other}
+use Rattle.nrepl_pipe.proofs.Apart.{part_under-without}
 
--- What a deed comes to where steps are left: refused for replies only where too many wait; or one
--- step less is left, the stream is as it was, and no bytes are given.
-abbrev pub GoesSo : Quiet → Outcome → Type 0
-GoesSo q (refuses why) = why ≡ Refusal.Held → is_held q ≡ true
-GoesSo q (leaves new answer) =
-    (new.steps ≡ q.steps - 1) × (new.heard ≡ q.heard) × (bytes_in answer ≡ [])
+-- the other actors are as they were
+abbrev pub OthersStay : Actor → Quiet → Quiet → Type 0
+OthersStay a q new =
+    (n : ℕ) → n ≢ seat_of a → part_under n new.actors ≡ part_under n q.actors
 
-abbrev pub PlansSo : Quiet → Plan → Type 0
-PlansSo q p = (told : Option AnswerData) → GoesSo q (p.next told)
+-- What a deed of an actor comes to where steps are left: refused for replies only where too many
+-- wait; or one step less is left, the stream is as it was, no bytes are given, and the other actors
+-- are as they were.
+abbrev pub GoesSo : Actor → Quiet → Outcome → Type 0
+GoesSo a q (refuses why) = why ≡ Refusal.Held → is_held q ≡ true
+GoesSo a q (leaves new answer) =
+    (new.steps ≡ q.steps - 1) × (new.heard ≡ q.heard) × (bytes_in answer ≡ []) × OthersStay a q new
+
+abbrev pub PlansSo : Actor → Quiet → Plan → Type 0
+PlansSo a q p = (told : Option AnswerData) → GoesSo a q (p.next told)
+
+-- the actor is changed, or gone
+pub with-stays : (a : Actor) (actor : ActorData) (q : Quiet) (n : ℕ) → n ≢ seat_of a
+    → part_under n (with_part (seat_of a) actor q.actors) ≡ part_under n q.actors
+with-stays a actor q n other = part_under-other n (seat_of a) actor q.actors other
+
+pub without-stays : (a : Actor) (q : Quiet) (n : ℕ) → n ≢ seat_of a
+    → part_under n (without (seat_of a) q.actors) ≡ part_under n q.actors
+without-stays a q n other = part_under-without n (seat_of a) q.actors other
 
 begun-so : (g : Ground) (h : Hand) (state : StateData) (forms : Items)
     → bytes_in (next_begun g h state forms).answer ≡ []
@@ -66,43 +84,45 @@ text-so g spaces origin state (file text) =
     program-so g origin (last_form nil) state.namespace state (g.readings.program text)
 
 start_outcome-so : (a : Actor) (actor : ActorData) (s : Started) (q : Quiet)
-    → bytes_in s.answer ≡ [] → GoesSo q (start_outcome a actor s q)
-start_outcome-so Actor.Bare actor s q none = (refl, refl, none)
-start_outcome-so (Actor.Session n) actor s q none = (refl, refl, none)
+    → bytes_in s.answer ≡ [] → GoesSo a q (start_outcome a actor s q)
+start_outcome-so Actor.Bare actor s q none =
+    (refl, refl, none, with-stays Actor.Bare (record actor { hand = s.move.hand }) q)
+start_outcome-so (Actor.Session n) actor s q none =
+    (refl, refl, none, with-stays (Actor.Session n) (record actor { hand = s.move.hand }) q)
 
-held-by : (q : Quiet) (o : Outcome) (held : Bool) → is_held q ≡ held → GoesSo q o
-    → GoesSo q (if held then refuses Refusal.Held else o)
-held-by q o true is so = λ _. is
-held-by q o false is so = so
+held-by : (a : Actor) (q : Quiet) (o : Outcome) (held : Bool) → is_held q ≡ held → GoesSo a q o
+    → GoesSo a q (if held then refuses Refusal.Held else o)
+held-by a q o true is so = λ _. is
+held-by a q o false is so = so
 
-held-so : (q : Quiet) (o : Outcome) → GoesSo q o → GoesSo q (held_or q o)
-held-so q o so = held-by q o (is_held q) refl so
+held-so : (a : Actor) (q : Quiet) (o : Outcome) → GoesSo a q o → GoesSo a q (held_or q o)
+held-so a q o so = held-by a q o (is_held q) refl so
 
 next-so : (g : Ground) (a : Actor) (actor : ActorData) (h : Hand) (q : Quiet)
-    → GoesSo q (start_in_hand g a actor h q false)
+    → GoesSo a q (start_in_hand g a actor h q false)
 next-so g a actor h q = by actor.is_closed where
-  by : (closed : Bool) → GoesSo q (if closed then interrupted_in a h q
+  by : (closed : Bool) → GoesSo a q (if closed then interrupted_in a h q
       else held_or q (start_outcome a actor (next_begun g h (actor_state a q) h.forms) q))
-  by true = (refl, refl, refl)
-  by false = held-so q (start_outcome a actor (next_begun g h (actor_state a q) h.forms) q)
+  by true = (refl, refl, refl, without-stays a q)
+  by false = held-so a q (start_outcome a actor (next_begun g h (actor_state a q) h.forms) q)
       (start_outcome-so a actor (next_begun g h (actor_state a q) h.forms) q
       (begun-so g h (actor_state a q) h.forms))
 
 waiting-so : (g : Ground) (a : Actor) (actor : ActorData) (q : Quiet) (ws : List Waiting)
-    → GoesSo q (start_waiting g a actor q ws)
+    → GoesSo a q (start_waiting g a actor q ws)
 waiting-so g a actor q [] = λ e. cc
 waiting-so g a actor q (w ∷ ws) =
     let begun = text_begun g q.spaces w.origin (first_state a q) w.text in
-    held-so q (start_outcome a (record actor { waiting = ws }) begun q)
+    held-so a q (start_outcome a (record actor { waiting = ws }) begun q)
     (start_outcome-so a (record actor { waiting = ws }) begun q
     (text-so g q.spaces w.origin (first_state a q) w.text))
 
 in_hand-so : (g : Ground) (a : Actor) (actor : ActorData) (h : Hand) (q : Quiet) (runs : Bool)
-    → GoesSo q (start_in_hand g a actor h q runs)
+    → GoesSo a q (start_in_hand g a actor h q runs)
 in_hand-so g a actor h q true = λ e. cc
 in_hand-so g a actor h q false = next-so g a actor h q
 
 pub start-so : (g : Ground) (a : Actor) (actor : ActorData) (q : Quiet) (h : Option Hand)
-    → GoesSo q (start_of g a actor q h)
+    → GoesSo a q (start_of g a actor q h)
 start-so g a actor q None = waiting-so g a actor q actor.waiting
 start-so g a actor q (Some h) = in_hand-so g a actor h q (is_some h.running)

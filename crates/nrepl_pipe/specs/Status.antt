@@ -1,5 +1,5 @@
 -- The exit status of the command `pipe`.
-use Rattle.std.specs.Prelude.{ℕ, Result, Ok, Err}
+use Rattle.std.specs.Prelude.{ℕ, Result, Ok}
 use Rattle.nrepl_pipe.specs.declared.ends.PipeEnd.{PipeEnd}
 use Rattle.nrepl_pipe.specs.declared.ends.PipeError.{PipeError}
 

@@ -3,16 +3,16 @@ ghost use Rattle.std.specs.Prelude.{◌≡◌, ℕ, List, [], ◌∷◌, length,
 ghost use Rattle.std.specs.Io.{ReadsAtMost, WritesAtMost};
 ghost use Rattle.std.specs.Io.KnownBytes.{Keeps, ReadConsumes, WriteAppends};
 ghost use Rattle.nrepl_pipe.specs.Failing.{Marks, read_fails, write_fails};
-ghost use Rattle.nrepl_pipe.specs.Reads.{ReadAt, ReadsSince};
+ghost use Rattle.nrepl_pipe.specs.Reads.{ReadAt, ReadsSince, IsPassedOn};
 
 use std::io;
 use std::io::{Read, Write};
 
 /// Where bytes come from: any `Read` is one.
 ///
-/// It remembers whether a read has failed, and of each read what had been written by then, as far
-/// as that is known. A `Read` tells no contract so; but code over any `Source` cannot see whether
-/// this one does, so what it does is the same.
+/// It remembers whether a read has failed, and of each read what had been written and passed on by
+/// then, as far as that is known. A `Read` tells no contract so; but code over any `Source` cannot
+/// see whether this one does, so what it does is the same.
 pub trait Source {
     /// The bytes that reads will give from here on, where they are known.
     ghost remaining: { Self → Option (List ℕ) };
@@ -31,6 +31,7 @@ pub trait Source {
           room = length buf.old;
           unread = remaining self.old;
           written = W.contents writer.now;
+          passed = W.passed writer.now;
         } ∷ []) };
 }
 
@@ -51,6 +52,8 @@ impl<R: Read> Source for R {
 pub trait Sink {
     /// The bytes that were written, where they are known.
     ghost contents: { Self → Option (List ℕ) };
+    /// Those of them that were passed on, where they are known.
+    ghost passed: { Self → Option (List ℕ) };
     /// Whether a write has failed or taken nothing by now, where that is known.
     ghost failed: { Self → Option Bool };
 
@@ -64,11 +67,14 @@ pub trait Sink {
     /// it fails.
     fn pass_on(&mut self)
         ensures bytes { Keeps (contents self.old) (contents self.new) }
+        ensures passed { IsPassedOn (contents self.new) (passed self.new) }
         ensures failed { failed self.new ≡ failed self.old };
 }
 
 impl<W: Write> Sink for W {
     ghost contents = { λ w. W.contents w };
+
+    ghost passed = { λ _. None };
 
     ghost failed = { λ _. None };
 

@@ -5,6 +5,7 @@ ghost use Rattle.server_rules.specs.Ground.{Ground};
 ghost use Rattle.tenant_turns.specs.Turns.{Lone};
 ghost use Rattle.nrepl_pipe.specs.Schedule.{drain_all};
 ghost use Rattle.nrepl_pipe.specs.Failing.{Marks, is_read_failed, is_write_failed};
+ghost use Rattle.nrepl_pipe.specs.Reads.{IsPassedOn};
 ghost use Rattle.nrepl_pipe.specs.Inside.Parts.{Makes, Begins};
 
 use crate::ends::PipeError;
@@ -20,6 +21,8 @@ pub(crate) fn write_replies<C: Core, W: Sink>(core: &mut C, writer: &mut W) -> R
     ensures err { (g : Ground) (l : Lone) → C.stands g core.old l
         → OnErr result (Begins g l (drain_all l.quiet.replies)
         (W.contents writer.old) (W.contents writer.new)) }
+    ensures passed { IsPassedOn (W.contents writer.old) (W.passed writer.old)
+        → OnOk result (IsPassedOn (W.contents writer.new) (W.passed writer.new)) }
     ensures told { Marks (W.failed writer.old) (W.failed writer.new) (is_write_failed result) }
     ensures no_read { is_read_failed result ≡ false }
 {
@@ -29,11 +32,13 @@ pub(crate) fn write_replies<C: Core, W: Sink>(core: &mut C, writer: &mut W) -> R
     Ok(())
 }
 
-// Writes the whole reply. After an error a part of it was written from its front.
+// Writes the whole reply, and has the writer pass it on. After an error a part of it was written
+// from its front.
 fn write_reply<W: Sink>(reply: &[u8], writer: &mut W) -> Result<(), PipeError>
     ensures ok { OnOk result (Appends (W.contents writer.old) (W.contents writer.new) reply.now) }
     ensures err { OnErr result ((front back : List ℕ) × (reply.now ≡ front ++ back)
         × Appends (W.contents writer.old) (W.contents writer.new) front) }
+    ensures passed { OnOk result (IsPassedOn (W.contents writer.new) (W.passed writer.new)) }
     ensures told { Marks (W.failed writer.old) (W.failed writer.new) (is_write_failed result) }
     ensures no_read { is_read_failed result ≡ false }
 {

@@ -1,10 +1,11 @@
 // The rounds behind a piece: each actor goes on once, and the replies that wait are written.
-ghost use Rattle.std.specs.Prelude.{◌≡◌, ◌<◌, ◌≤◌, [], true, false, not, IfOk, OnErr};
+ghost use Rattle.std.specs.Prelude.{◌≡◌, ◌<◌, ◌≤◌, [], true, false, not, IfOk, OnOk, OnErr};
 ghost use Rattle.server_rules.specs.Ground.{Ground};
 ghost use Rattle.tenant_turns.specs.Grounds.{IsRight};
 ghost use Rattle.tenant_turns.specs.Turns.{Lone, actors_of};
 ghost use Rattle.nrepl_pipe.specs.Schedule.{go_each, round};
 ghost use Rattle.nrepl_pipe.specs.Failing.{Marks, is_read_failed, is_write_failed};
+ghost use Rattle.nrepl_pipe.specs.Reads.{IsPassedOn};
 ghost use Rattle.nrepl_pipe.specs.Inside.Parts.{IsRound, Makes, Begins, MakesRounds, BeginsRounds};
 
 use crate::actors::{Round, go_each};
@@ -34,6 +35,8 @@ pub(crate) fn run_rounds<C: Core, W: Sink>(
         (W.contents writer.old) (W.contents writer.new) end) }
     ensures err { (g : Ground) (l : Lone) → IsRight g → C.stands g core.old l
         → OnErr result (BeginsRounds g l (W.contents writer.old) (W.contents writer.new)) }
+    ensures passed { IsPassedOn (W.contents writer.old) (W.passed writer.old)
+        → OnOk result (IsPassedOn (W.contents writer.new) (W.passed writer.new)) }
     ensures told { Marks (W.failed writer.old) (W.failed writer.new) (is_write_failed result) }
     ensures no_read { is_read_failed result ≡ false }
 {
@@ -66,6 +69,8 @@ fn run_round<C: Core, W: Sink>(
         (W.contents writer.old) (W.contents writer.new)) }
     ensures err { (g : Ground) (l : Lone) → IsRight g → C.stands g core.old l
         → OnErr result (Begins g l (round g l) (W.contents writer.old) (W.contents writer.new)) }
+    ensures passed { IsPassedOn (W.contents writer.old) (W.passed writer.old)
+        → OnOk result (IsPassedOn (W.contents writer.new) (W.passed writer.new)) }
     ensures told { Marks (W.failed writer.old) (W.failed writer.new) (is_write_failed result) }
     ensures no_read { is_read_failed result ≡ false }
 {

@@ -7,7 +7,7 @@ ghost use Rattle.tenant_turns.specs.Grounds.{IsRight};
 ghost use Rattle.tenant_turns.specs.Turns.{Lone, hears, lone_step};
 ghost use Rattle.nrepl_pipe.specs.Schedule.{stream_end};
 ghost use Rattle.nrepl_pipe.specs.Served.{IsPipeOutcome};
-ghost use Rattle.nrepl_pipe.specs.Reads.{ReadsSince, ReadsPromptly};
+ghost use Rattle.nrepl_pipe.specs.Reads.{ReadsSince, ReadsPromptly, HoldsNothingBack};
 ghost use Rattle.nrepl_pipe.specs.Inside.Fresh.{IsFresh, IsReady};
 ghost use Rattle.nrepl_pipe.specs.Failing.{Marks, TellsFailures, is_read_failed, is_write_failed};
 ghost use Rattle.nrepl_pipe.specs.Inside.Parts.{IsPiece, LosesPiece, HearsSo};
@@ -32,7 +32,7 @@ const PIECE: usize = 4_096;
 /// written. They end with the first round in which every turn is refused, and none for replies
 /// that wait. Reading stops at the end of the input, at a fault of the stream and at the last step.
 /// After an error what was written is a part of the whole from its front. No read is made before
-/// the replies to what was read are written.
+/// the replies to what was read are written and passed on.
 ///
 /// Each reply is flushed. A flush that fails is not told, nor what it loses: with a writer that
 /// holds bytes back, flush it again at the end.
@@ -48,6 +48,9 @@ pub fn serve_stream<C: Core, R: Source, W: Sink>(
     ensures prompt { (g : Ground) (l : Lone) → IsRight g → C.stands g core.old l → IsFresh l
         → ReadsPromptly g l (R.remaining reader.old) (W.contents writer.old)
         (R.reads reader.old) (R.reads reader.new) }
+    ensures passed { HoldsNothingBack (W.contents writer.old) (W.passed writer.old)
+        (W.contents writer.new) (W.passed writer.new) (R.reads reader.old) (R.reads reader.new)
+        result }
     ensures told { TellsFailures (R.failed reader.old) (R.failed reader.new)
         (W.failed writer.old) (W.failed writer.new) result }
 {
@@ -96,6 +99,7 @@ fn next_piece<R: Source, W: Sink>(
       room = PIECE;
       unread = R.remaining reader.old;
       written = W.contents writer.now;
+      passed = W.passed writer.now;
     } ∷ []) }
 {
     let mut buffer = [0u8; PIECE];

@@ -133,6 +133,8 @@ impl<R: Read> Source for Remembering<R> {
 impl<W: Write> Sink for Remembering<W> {
     ghost contents = { λ it. W.contents it.inner };
 
+    ghost passed = { λ _. None };
+
     ghost failed = { λ it. Some it.has_failed };
 
     fn write_bytes(&mut self, bytes: &[u8]) -> io::Result<usize> {

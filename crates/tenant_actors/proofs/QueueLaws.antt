@@ -37,7 +37,7 @@ with_part-same {A} n x (e ∷ es) h =
         ap (λ (k : ℕ). entry k x ∷ es) (same refl) ∙ ap (λ (y : A). entry e.number y ∷ es) (sym part)
     by false same g ih = ap (λ (l : List (Entry A)). e ∷ l) (ih g)
 
-state-part_under : (a : Actor) (v : ActorState) (es : Entries)
+pub state-part_under : (a : Actor) (v : ActorState) (es : Entries)
     → lookup (at a) es ≡ Some v → part_under (seat_of a) (seen es) ≡ Some (actor_view v)
 state-part_under a v es is = sym (part_under-seen a es) ∙ ap (option_map actor_view) is
 

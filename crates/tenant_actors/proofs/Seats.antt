@@ -1,8 +1,8 @@
 -- The actors by their seats: the entries of the map, seen as data.
 use Rattle.std.proofs.Common.{◌≡◌, ℕ, ◌<◌, suc, Bool, true, false, cond, ◌==◌, List, [], ◌∷◌, ◌++◌}
-use Rattle.std.proofs.Common.{map, find, Option, Some, None, option_map, refl, sym, ap, ◌∙◌, arith}
-use denote.Ref.{Bor}
-use Rattle.std.specs.Option.{option_copied}
+use Rattle.std.proofs.Common.{map, Option, Some, None, option_map, refl, sym, ap, ◌∙◌, arith}
+use denote.Ref.{Bor, MutBor}
+use Rattle.std.specs.Option.{option_copied, option_copied_mut}
 use Rattle.std.specs.Ordering.{nat_cmp, is_eq, match_ordering, MatchOrdering}
 use Rattle.std.specs.declared.cmp.Ordering.{Ordering}
 use Rattle.std.specs.declared.cmp.Ordering.TheVariants.{Less, Equal, Greater}
@@ -13,9 +13,7 @@ use Rattle.std.proofs.lemmas.Bool.{eqb-true}
 use Rattle.std.proofs.lemmas.Cmp.{ranked}
 use Rattle.std.proofs.lemmas.List.{map-append}
 use Rattle.server_rules.specs.Numbered.{Entry, entry, part_under, with_part, without}
-use Rattle.server_rules.specs.Tenant.{ActorData, seat_of}
-use Rattle.server_rules.specs.Machine.Ready.{has_work}
-use Rattle.server_rules.specs.Tenant.{actor_at}
+use Rattle.server_rules.specs.Tenant.{ActorData, actor_at, seat_of}
 use Rattle.server_rules.specs.declared.actor.Actor.{Actor}
 use Rattle.server_rules.specs.contracts.actor.ActorOrd.TheImpl as ord
 use Rattle.tenant_actors.specs.View.{actor_view, actor_entry_view, AreBelow}
@@ -81,6 +79,11 @@ pub behind-reference : (o : Option (Bor ActorState))
 behind-reference (Some x) = refl
 behind-reference None = refl
 
+pub behind-lent : (o : Option (MutBor ActorState))
+    → option_map (λ it. actor_view it.now) o ≡ option_map actor_view (option_copied_mut o)
+behind-lent (Some x) = refl
+behind-lent None = refl
+
 pub with_part-seen : (a : Actor) (w : ActorState) (es : Entries)
     → seen (set_value (at a) es w) ≡ with_part (seat_of a) (actor_view w) (seen es)
 with_part-seen a w [] = refl
@@ -144,20 +147,3 @@ pub added-seen : (a : Actor) (v : ActorState) (es : Entries) → AreBelow (seat_
     → seen (insert_entry by_name es a v) ≡ seen es ++ actor_entry_view (a, v) ∷ []
 added-seen a v es below =
     ap seen (put-behind a v es below) ∙ map-append actor_entry_view es ((a, v) ∷ [])
-
-abbrev pub works : Actor × ActorState → Bool
-works e = has_work (actor_entry_view e)
-
--- the name of the first that has work
-pub ready-seen : (es : Entries) → option_map (λ e. e.0) (find works es)
-    ≡ option_map (λ e. actor_at e.number) (find has_work (seen es))
-ready-seen [] = refl
-ready-seen (e ∷ es) = by (ready-seen es) (works e)
-  where
-    by : option_map (λ f. f.0) (find works es)
-        ≡ option_map (λ f. actor_at f.number) (find has_work (seen es)) → (b : Bool)
-        → option_map (λ f. f.0) (cond b (Some e) (find works es))
-        ≡ option_map (λ f. actor_at f.number)
-        (cond b (Some (actor_entry_view e)) (find has_work (seen es)))
-    by behind true = ap (λ (a : Actor). Some a) (sym (seat-back e.0))
-    by behind false = behind

@@ -2,7 +2,8 @@
 ghost use Rattle.std.specs.Prelude.{◌≡◌, [], true, option_map, OnOk, OnErr};
 ghost use Rattle.server_rules.specs.Machine.Ready.{may_begin};
 ghost use Rattle.server_rules.specs.Tenant.{unoccupied};
-ghost use Rattle.tenant_actors.specs.View.{waiting_view, hand_view, actor_view};
+ghost use Rattle.tenant_actors.specs.States.{waiting_view, hand_view, actor_view};
+ghost use Rattle.tenant_actors.specs.Busy.{is_busy};
 ghost use Rattle.tenant_actors.specs.Queues.{with_request, without_newest};
 
 use crate::request::{Hand, Waiting};
@@ -39,6 +40,13 @@ impl ActorState {
             Some(hand) => hand.running.is_none(),
             None => !self.waiting.is_empty(),
         }
+    }
+
+    /// Whether a form runs, or a request is in hand, or one waits.
+    pub fn is_busy(&self) -> bool
+        ensures { result ≡ is_busy (actor_view self.now) }
+    {
+        self.hand.is_some() || !self.waiting.is_empty()
     }
 
     // Lets a request wait behind the others.

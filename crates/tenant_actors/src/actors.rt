@@ -1,16 +1,18 @@
 // The actors by their names.
-ghost use Rattle.std.specs.Prelude.{◌≡◌, [], ◌∷◌, ◌++◌, find, map, option_map, IfOk, OnOk, OnErr};
-ghost use Rattle.server_rules.specs.Numbered.{entry, part_under, with_part, without};
-ghost use Rattle.server_rules.specs.Machine.Ready.{has_work};
-ghost use Rattle.server_rules.specs.Tenant.{actor_at};
-ghost use Rattle.server_rules.specs.Tenant.{seat_of, unoccupied};
-ghost use Rattle.tenant_actors.specs.View.{actor_view, actors_view, AreBelow};
+ghost use Rattle.std.specs.Prelude.{◌≡◌, [], ◌∷◌, ◌++◌, true, find, map, option_map, IfOk, OnOk};
+ghost use Rattle.std.specs.Prelude.{OnErr};
+ghost use Rattle.std.specs.Borrow.{sem};
+ghost use Rattle.server_rules.specs.Numbered.{entry, part_under, without};
+ghost use Rattle.server_rules.specs.Machine.Ready.{has_work, may_begin};
+ghost use Rattle.server_rules.specs.Tenant.{actor_at, seat_of, unoccupied};
+ghost use Rattle.tenant_actors.specs.Busy.{is_busy, busy_of, passes};
+ghost use Rattle.tenant_actors.specs.Listed.{are_listed};
+ghost use Rattle.tenant_actors.specs.States.{actor_view, actor_entry_view};
 
 use crate::actor::ActorState;
 use server_rules::Actor;
 use std::alloc::{AllocError, Global};
-use std::collections::BTreeMap;
-use std::mem;
+use std::collections::{BTreeMap, BTreeSet};
 
 /// The actors of a tenant: that of the requests without a session first, and then those of the
 /// sessions in the order in which they were made.
@@ -18,10 +20,17 @@ use std::mem;
 pub struct Actors {
     alloc: Global,
     pub(crate) live: BTreeMap<Actor, ActorState>,
+    // The names of those that have something to do. A name may stay of one that has nothing to do
+    // any more, where memory was refused as a request came to wait for it.
+    pub(crate) busy: BTreeSet<Actor>,
+    ghost listed: { are_listed busy (map actor_entry_view live.entries) ≡ true },
 }
 
-// Each takes about the logarithm of the number of actors, but `ready`, which may pass all of them.
+// Each takes about the logarithm of the number of actors, but those that say otherwise.
 impl Actors {
+    ghost use Rattle.tenant_actors.specs.View.{actors_view, AreBelow};
+    ghost use Rattle.tenant_actors.specs.Lent.{LendsActor, IsBusyIfThere, Ascend};
+
     /// The actor of the requests without a session, alone. It fails only for want of memory.
     pub fn new(alloc: Global) -> Result<Actors, AllocError>
         ensures { IfOk result (λ made.
@@ -29,7 +38,11 @@ impl Actors {
     {
         let mut live = BTreeMap::new(alloc);
         live.insert(Actor::Bare, ActorState::unoccupied(alloc))?;
-        Ok(Actors { alloc, live })
+        Ok(Actors {
+            alloc,
+            live,
+            busy: BTreeSet::new(alloc),
+        })
     }
 
     /// The actor of this name, if it is there.
@@ -40,18 +53,26 @@ impl Actors {
         self.live.get(&actor)
     }
 
-    /// Puts this one in the place of the actor of this name, if it is there, and gives that one
-    /// back.
-    pub fn replace(&mut self, actor: Actor, state: ActorState) -> Option<ActorState>
-        ensures was { option_map actor_view result
+    /// The actor of this name, if it is there, to be changed in its place. It has something to do.
+    /// Once it was changed, `rest` is for it.
+    pub fn get_mut(&mut self, actor: Actor) -> Option<&mut ActorState>
+        requires { IsBusyIfThere (part_under (seat_of actor) (actors_view self.old)) }
+        ensures* writes_back { sem 𝓛 (LendsActor self.entry actor result) }
+        ensures value { option_map (λ it. actor_view it.now) result
             ≡ part_under (seat_of actor) (actors_view self.old) }
-        ensures put { actors_view self.new
-            ≡ with_part (seat_of actor) (actor_view state) (actors_view self.old) }
     {
-        let Some(place) = self.live.get_mut(&actor) else {
-            return None;
-        };
-        Some(mem::replace(place, state))
+        self.live.get_mut(&actor)
+    }
+
+    /// Nobody looks at the actor of this name any more while it has nothing to do. Actors that have
+    /// something to do are found in any case.
+    pub fn rest(&mut self, actor: Actor)
+        ensures { actors_view self.new ≡ actors_view self.old }
+    {
+        self.ascend();
+        if !self.is_busy(actor) {
+            self.busy.remove(&actor);
+        }
     }
 
     /// Takes the actor of this name away, if it is there.
@@ -59,6 +80,7 @@ impl Actors {
         ensures { actors_view self.new ≡ without (seat_of actor) (actors_view self.old) }
     {
         drop(self.live.remove(&actor));
+        self.busy.remove(&actor);
     }
 
     /// Adds an actor behind all others. It fails only for want of memory.
@@ -84,12 +106,58 @@ impl Actors {
         Ok(names)
     }
 
-    /// The first that has a form or a request to begin.
+    /// The names of those that have something to do, in order: a form runs, or a request is in
+    /// hand, or one waits. It takes a step for each of them, and fails only for want of memory.
+    pub fn busy(&self, alloc: Global) -> Result<Vec<Actor>, AllocError>
+        ensures names { IfOk result (λ names. names.items ≡ busy_of (actors_view self.now)) }
+        ensures order { Ascend (actors_view self.now) }
+    {
+        self.ascend();
+        let mut names = Vec::with_capacity(alloc, self.busy.len())?;
+        for actor in &self.busy {
+            if self.is_busy(*actor) {
+                names.push(*actor)?;
+            }
+        }
+        Ok(names)
+    }
+
+    /// The first that has a form or a request to begin. It takes a step for each that has something
+    /// to do, up to that one.
     pub fn ready(&self) -> Option<Actor>
         ensures { result
             ≡ option_map (λ e. actor_at e.number) (find has_work (actors_view self.now)) }
     {
-        let (actor, _) = self.live.iter().find(|(_, state)| state.has_work())?;
-        Some(*actor)
+        self.ascend();
+        let first = self.busy.iter().find(|actor| self.has_work(**actor))?;
+        Some(*first)
+    }
+
+    // Whether the actor of this name is there, and has something to do.
+    fn is_busy(&self, actor: Actor) -> bool
+        ensures { result ≡ passes is_busy (part_under (seat_of actor) (actors_view self.now)) }
+    {
+        match self.live.get(&actor) {
+            Some(state) => state.is_busy(),
+            None => false,
+        }
+    }
+
+    // Whether the actor of this name is there, and has a form or a request to begin.
+    fn has_work(&self, actor: Actor) -> bool
+        ensures { result ≡ passes (λ it. may_begin it.waiting it.hand)
+            (part_under (seat_of actor) (actors_view self.now)) }
+    {
+        match self.live.get(&actor) {
+            Some(state) => state.has_work(),
+            None => false,
+        }
+    }
+
+    // The actors are in the order of their seats.
+    fn ascend(&self)
+        ensures { Ascend (actors_view self.now) }
+    {
+        let _count = self.live.len();
     }
 }

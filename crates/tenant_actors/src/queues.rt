@@ -24,13 +24,12 @@ impl Actors {
             ≡ actors_view self.old) }
         ensures stays { OnErr result (actors_view self.new ≡ actors_view self.old) }
     {
-        match self.live.get_mut(&actor) {
-            Some(state) => state.queue(request),
-            None => {
-                drop(request);
-                Ok(())
-            }
-        }
+        let Some(state) = self.live.get_mut(&actor) else {
+            drop(request);
+            return Ok(());
+        };
+        self.busy.insert(actor)?;
+        state.queue(request)
     }
 
     /// Takes the newest request that waits for the actor of this name back, if it is there. It
@@ -39,9 +38,11 @@ impl Actors {
         ensures { actors_view self.new
             ≡ with_changed_actor (seat_of actor) without_newest (actors_view self.old) }
     {
-        if let Some(state) = self.live.get_mut(&actor) {
-            state.unqueue();
-        }
+        let Some(state) = self.live.get_mut(&actor) else {
+            return;
+        };
+        state.unqueue();
+        self.rest(actor);
     }
 
     /// Vacates the seat of the actor of this name, if it is there: it is gone, or where it has a
@@ -58,5 +59,6 @@ impl Actors {
             return;
         }
         drop(self.live.remove(&actor));
+        self.busy.remove(&actor);
     }
 }

@@ -3,7 +3,7 @@ ghost use Rattle.std.specs.Prelude.{◌≡◌, Result};
 ghost use Rattle.server_rules.specs.Ground.{Ground};
 ghost use Rattle.tenant_turns.specs.Turns.{opened_lone};
 ghost use Rattle.nrepl_pipe.specs.Failing.{TellsFailures};
-ghost use Rattle.nrepl_pipe.specs.Reads.{ReadsPromptly};
+ghost use Rattle.nrepl_pipe.specs.Reads.{ReadsPromptly, HoldsNothingBack};
 ghost use Rattle.nrepl_pipe.specs.Served.{IsPipeOutcome};
 ghost use Rattle.nrepl_pipe.specs.Status.{status_of};
 ghost use Rattle.nrepl_pipe.specs.declared.ends.PipeEnd.{PipeEnd};
@@ -39,6 +39,9 @@ pub fn pipe<R: Source, W: Sink>(
         (W.contents writer.old) (W.contents writer.new) result }
     ensures prompt { (g : Ground) → IsConfigured g config → ReadsPromptly g (opened_lone g)
         (R.remaining reader.old) (W.contents writer.old) (R.reads reader.old) (R.reads reader.new) }
+    ensures passed { HoldsNothingBack (W.contents writer.old) (W.passed writer.old)
+        (W.contents writer.new) (W.passed writer.new) (R.reads reader.old) (R.reads reader.new)
+        result }
     ensures told { TellsFailures (R.failed reader.old) (R.failed reader.new)
         (W.failed writer.old) (W.failed writer.new) result }
 {
@@ -58,6 +61,9 @@ pub fn pipe_command<R: Source, W: Sink, E: Write>(
     ensures { (outcome : Result PipeEnd PipeError) × (result ≡ status_of outcome)
         × TellsFailures (R.failed reader.old) (R.failed reader.new)
         (W.failed writer.old) (W.failed writer.new) outcome
+        × HoldsNothingBack (W.contents writer.old) (W.passed writer.old)
+        (W.contents writer.new) (W.passed writer.new) (R.reads reader.old) (R.reads reader.new)
+        outcome
         × ((g : Ground) → IsConfigured g config → IsPipeOutcome g (opened_lone g)
         (R.remaining reader.old) (R.remaining reader.new)
         (W.contents writer.old) (W.contents writer.new) outcome

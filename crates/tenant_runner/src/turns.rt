@@ -47,7 +47,7 @@ impl Core for Runner {
 
     fn actors(&self, alloc: Global) -> Result<Vec<Actor>, AllocError> {
         match self.machine.tenant(NUMBER) {
-            Some(tenant) => tenant.actors(alloc),
+            Some(tenant) => tenant.round(alloc),
             None => Ok(Vec::new(alloc)),
         }
     }

@@ -2,3 +2,4 @@
 -- code, and proofs, and none of the rules.
 pub mod Turned
 pub mod Wires
+pub mod Rounds

@@ -4,9 +4,9 @@ ghost use Rattle.std.specs.Prelude.{IfErr, MatchOption};
 ghost use Rattle.server_rules.specs.Ground.{Ground};
 ghost use Rattle.tenant_turns.specs.Grounds.{IsRight};
 ghost use Rattle.tenant_turns.specs.Turns.{Lone, hears, goes, drains, accepted, lone_step};
-ghost use Rattle.tenant_turns.specs.Turns.{actors_of};
 ghost use Rattle.tenant_turns.specs.Inside.Wires.{wire_at};
 ghost use Rattle.tenant_turns.specs.Inside.Turned.{Left, Accepted, IsRefused};
+ghost use Rattle.tenant_turns.specs.Inside.Rounds.{IsEnough};
 
 use bencode_wire::WireFault;
 use bytes::Bytes;
@@ -45,10 +45,11 @@ pub trait Core {
             → IfErr result (λ why. why ≢ Refusal.NoMemory
             → IsRefused why (lone_step g l (hears piece.now)) × stands g self.new l) };
 
-    /// The actors, in the order of their rounds. It fails only for want of memory.
+    /// The actors of the next round, in their order. Those that have nothing to do may be left out.
+    /// It fails only for want of memory.
     fn actors(&self, alloc: Global) -> Result<Vec<Actor>, AllocError>
         ensures { (g : Ground) (l : Lone) → stands g self.now l
-            → IfOk result (λ actors. actors.items ≡ actors_of l) };
+            → IfOk result (λ actors. IsEnough l actors.items) };
 
     /// Does what is next for the actor: begins a form, answers one ask or ends a form.
     fn go(&mut self, actor: Actor) -> Result<(), Refusal>

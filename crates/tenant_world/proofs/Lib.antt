@@ -1,5 +1,7 @@
 pub mod Remembering
 pub mod Begins
+pub mod Enough
+pub mod Lent
 pub mod Standing
 pub mod Draining
 pub mod Answering

@@ -7,7 +7,7 @@ use Rattle.server_rules.specs.Tenant.{ActorData, seat_of}
 use Rattle.server_rules.specs.declared.actor.Actor.{Actor}
 use Rattle.tenant_actors.specs.View.{AreBelow}
 use Rattle.tenant_actors.proofs.EntryLaws.{replaced_first, without_first}
-use Rattle.tenant_world.specs.Acting.{actors_after}
+use Rattle.tenant_world.specs.Acting.{left_after}
 use Rattle.tenant_world.specs.Seats.{are_below}
 
 first-true : (b c : Bool) → (b && c) ≡ true → b ≡ true
@@ -51,10 +51,10 @@ below-without s n (e ∷ es) below =
     by first behind false =
         both-true (nat_lt e.number s) (are_below s (without n es)) first behind
 
-pub below-left : (s : ℕ) (b : Bool) (a : Actor) (x : ActorData) (es : List (Entry ActorData))
-    → are_below s es ≡ true → are_below s (actors_after b a x es) ≡ true
-below-left s true a x es below = below-without s (seat_of a) es below
-below-left s false a x es below = below-with_part s (seat_of a) x es below
+pub below-stays : (s : ℕ) (b : Bool) (a : Actor) (es : List (Entry ActorData))
+    → are_below s es ≡ true → are_below s (left_after b a es) ≡ true
+below-stays s true a es below = below-without s (seat_of a) es below
+below-stays s false a es below = below
 
 -- the same, as it is asked for where an actor is added
 pub seated-below : (s : ℕ) (es : List (Entry ActorData)) → are_below s es ≡ true → AreBelow s es

@@ -1,7 +1,7 @@
 -- The steps of an actor, beside the deeds of the tenant.
 use Rattle.std.proofs.Common.{◌≡◌, ◌<◌, ◌-◌, ◌==◌, ℕ, zero, suc, List, [], ◌∷◌, Bool, true, false}
 use Rattle.std.proofs.Common.{None, Some, refl, sym, ap, subst, ◌∙◌, if◌then◌else◌, arith, ◌≢◌}
-use Rattle.std.proofs.Common.{Result, Ok, Err, IfErr, Option, not, is_some, true≢false}
+use Rattle.std.proofs.Common.{Result, Ok, Err, IfErr, Option, ◌||◌, is_some, true≢false}
 use Rattle.std.specs.Result.{IsErrAnd}
 use Rattle.std.proofs.Math.Dec.{eqb-suc-zero}
 use Rattle.std.proofs.lemmas.Bool.{eqb-true, ne_eqb}
@@ -11,9 +11,9 @@ use Rattle.repl_asks.specs.Exchange.{AskData}
 use Rattle.server_rules.specs.Numbered.{Entry, entry, part_under, with_part}
 use Rattle.server_rules.specs.Ground.{Ground}
 use Rattle.server_rules.specs.Readings.{message_limit}
-use Rattle.server_rules.specs.Machine.Ready.{has_waiting, may_begin}
+use Rattle.server_rules.specs.Machine.Ready.{has_waiting}
 use Rattle.server_rules.specs.Request.{Waiting, Hand}
-use Rattle.server_rules.specs.Starting.{start_waiting, start_in_hand}
+use Rattle.server_rules.specs.Starting.{start_waiting}
 use Rattle.server_rules.specs.Store.{Store}
 use Rattle.server_rules.specs.Tenant.{ActorData, Quiet, seat_of}
 use Rattle.server_rules.specs.Plan as deeds
@@ -25,9 +25,9 @@ use Rattle.server_rules.specs.Asking.{asked_of}
 use Rattle.server_rules.specs.Ending.{end_of}
 use Rattle.server_rules.specs.declared.actor.Actor.{Actor}
 use Rattle.server_rules.specs.declared.refusal.Refusal.{Refusal}
+use Rattle.tenant_actors.specs.Busy.{is_busy}
 use Rattle.tenant_actors.specs.View.{actors_view}
-use Rattle.tenant_actors.proofs.EntryLaws.{found_first, replaced_first, with_part-twice}
-use Rattle.tenant_actors.proofs.EntryLaws.{without-with_part}
+use Rattle.tenant_actors.proofs.EntryLaws.{found_first, replaced_first, without-with_part}
 use Rattle.tenant_turns.specs.DeedResult.{DeedResult, carried_out, deed_result}
 use Rattle.tenant_refs.specs.Attempts.{Reaches}
 use Rattle.tenant_refs.specs.declared.attempts.Attempts.{Attempts}
@@ -37,7 +37,8 @@ use Rattle.tenant_world.specs.declared.memory.Memory.{Memory}
 use Rattle.tenant_world.specs.declared.tenant.Tenant.{Tenant}
 use Rattle.tenant_world.specs.Memories.{Remembers}
 use Rattle.tenant_world.specs.Acting.{AcceptsOutcome, RefusesOutcome, actors_after, is_interruption}
-use Rattle.tenant_world.specs.Acting.{is_accepted}
+use Rattle.tenant_world.specs.Acting.{is_accepted, left_after}
+use Rattle.tenant_world.specs.Lending.{unlent}
 use Rattle.tenant_world.specs.Standing.{QuietStands, Lends, AcceptsDeedBy, RefusesDeed}
 
 -- Deeds of an actor
@@ -87,22 +88,14 @@ pub worn-by : (q : Quiet) (s : Store) (a : Actor) (p : ActorData → Plan) → (
     → (by_actor s q a p).outcome ≡ refuses Refusal.Worn
 worn-by q s a p none = ap (λ (b : Bool). (carried_out s (worn_by q a p b)).outcome) none
 
--- the actor is not there
-pub missing-by : (q : Quiet) (s : Store) (a : Actor) (p : ActorData → Plan)
-    → (q.steps == 0) ≡ false → part_under (seat_of a) q.actors ≡ None
-    → (by_actor s q a p).outcome ≡ refuses Refusal.NoSuchActor
-missing-by q s a p some absent =
-    ap (λ (b : Bool). (carried_out s (worn_by q a p b)).outcome) some
-    ∙ ap (λ it. (carried_out s (for_actor it p)).outcome) absent
-
 pub carried-tenant : (s : Store) (p : Plan) → (carried_out s p).store.tenant ≡ s.tenant
 carried-tenant s p = performed-tenant s p.call
 
--- Starts of an actor that has nothing to begin
+-- An actor that makes no step
 
-flipped : (b : Bool) → not b ≡ false → b ≡ true
-flipped true h = refl
-flipped false h = absurd (true≢false h)
+-- the deed is refused so to an actor that has nothing to do
+abbrev pub RefusesIdle : (ActorData → Plan) → Type 0
+RefusesIdle p = (actor : ActorData) → is_busy actor ≡ false → p actor ≡ quietly (refuses Refusal.Idle)
 
 none-waiting : (g : Ground) (a : Actor) (actor : ActorData) (q : Quiet) (ws : List Waiting)
     → has_waiting ws ≡ false → start_waiting g a actor q ws ≡ refuses Refusal.Idle
@@ -110,19 +103,60 @@ none-waiting g a actor q [] idle = refl
 none-waiting g a actor q (w ∷ ws) idle = absurd (true≢false idle)
 
 none-begins : (g : Ground) (a : Actor) (actor : ActorData) (q : Quiet) (h : Option Hand)
-    → may_begin actor.waiting h ≡ false → start_of g a actor q h ≡ refuses Refusal.Idle
+    → (is_some h || has_waiting actor.waiting) ≡ false
+    → start_of g a actor q h ≡ refuses Refusal.Idle
 none-begins g a actor q None idle = none-waiting g a actor q actor.waiting idle
-none-begins g a actor q (Some h) idle =
-    ap (start_in_hand g a actor h q) (flipped (is_some h.running) idle)
+none-begins g a actor q (Some h) idle = absurd (true≢false idle)
 
--- it is refused so
-pub idle-by : (g : Ground) (q : Quiet) (s : Store) (a : Actor) (actor : ActorData) → 0 < q.steps
-    → part_under (seat_of a) q.actors ≡ Some actor → may_begin actor.waiting actor.hand ≡ false
-    → (deed_result g s q (deeds.starts a)).outcome ≡ refuses Refusal.Idle
-idle-by g q s a actor some there idle =
-    let p : ActorData → Plan = λ it. quietly (start_of g a it q it.hand) in
-    ap (λ d. d.outcome) (starts-by g q s a ∙ done-by q s a p actor some there)
-    ∙ none-begins g a actor q actor.hand idle
+pub starts-idle : (g : Ground) (a : Actor) (q : Quiet)
+    → RefusesIdle (λ actor. quietly (start_of g a actor q actor.hand))
+starts-idle g a q actor idle = ap quietly (none-begins g a actor q actor.hand idle)
+
+none-asks : (g : Ground) (a : Actor) (actor : ActorData) (ask : AskData) (q : Quiet)
+    (h : Option Hand) → (is_some h || has_waiting actor.waiting) ≡ false
+    → asked_of g a actor ask q h ≡ quietly (refuses Refusal.Idle)
+none-asks g a actor ask q None idle = refl
+none-asks g a actor ask q (Some h) idle = absurd (true≢false idle)
+
+pub asks-idle : (g : Ground) (a : Actor) (ask : AskData) (q : Quiet)
+    → RefusesIdle (λ actor. asked_of g a actor ask q actor.hand)
+asks-idle g a ask q actor idle = none-asks g a actor ask q actor.hand idle
+
+none-ends : (g : Ground) (a : Actor) (actor : ActorData) (e : EndingData) (q : Quiet)
+    (h : Option Hand) → (is_some h || has_waiting actor.waiting) ≡ false
+    → end_of g a actor e q h ≡ quietly (refuses Refusal.Idle)
+none-ends g a actor e q None idle = refl
+none-ends g a actor e q (Some h) idle = absurd (true≢false idle)
+
+pub ends-idle : (g : Ground) (a : Actor) (e : EndingData) (q : Quiet)
+    → RefusesIdle (λ actor. end_of g a actor e q actor.hand)
+ends-idle g a e q actor idle = none-ends g a actor e q actor.hand idle
+
+unlent-so : (s : Store) (p : ActorData → Plan) (why : Refusal) → RefusesIdle p → (b : Bool)
+    (o : Option ActorData) → unlent b o ≡ Some why
+    → (carried_out s (if b then quietly (refuses Refusal.Worn) else for_actor o p)).outcome
+    ≡ refuses why
+unlent-so s p why idle true o h = let same : Refusal.Worn ≡ why = cc in ap refuses same
+unlent-so s p why idle false None h =
+    let same : Refusal.NoSuchActor ≡ why = cc in ap refuses same
+unlent-so s p why idle false (Some actor) h = by (is_busy actor) refl h
+  where
+    by : (b : Bool) → is_busy actor ≡ b → (if b then None else Some Refusal.Idle) ≡ Some why
+        → (carried_out s (p actor)).outcome ≡ refuses why
+    by true is h = absurd (cc)
+    by false is h =
+        let same : Refusal.Idle ≡ why = cc in
+        ap (λ it. (carried_out s it).outcome) (idle actor is) ∙ ap refuses same
+
+-- its deed is refused
+pub refused-by : (g : Ground) (q : Quiet) (s : Store) (a : Actor) (p : ActorData → Plan)
+    (code : Tenant) (why : Refusal) → QuietStands g code q s → RefusesIdle p
+    → unlent (code.steps == 0) (part_under (seat_of a) (actors_view code.actors)) ≡ Some why
+    → (by_actor s q a p).outcome ≡ refuses why
+refused-by g q s a p code why stands idle h =
+    unlent-so s p why idle (q.steps == 0) (part_under (seat_of a) q.actors)
+    (sym (ap (λ n. unlent (n == 0) (part_under (seat_of a) (actors_view code.actors))) stands.steps
+    ∙ ap (λ es. unlent (q.steps == 0) (part_under (seat_of a) es)) stands.actors) ∙ h)
 
 -- Entries
 
@@ -160,13 +194,34 @@ part_under-left false a b x es apart = part_under-apart (seat_of b) (seat_of a) 
 
 -- The code
 
+left-again : (b : Bool) (a : Actor) (x : ActorData) (es : List (Entry ActorData))
+    → left_after b a (with_part (seat_of a) x es) ≡ actors_after b a x es
+left-again true a x es = without-with_part (seat_of a) x es
+left-again false a x es = refl
+
+pub lends-from : (g : Ground) (a : Actor) (actor : ActorData) (old new : Tenant) (q : Quiet)
+    (s : Store) → QuietStands g old q s → new.retries ≡ old.retries → new.steps ≡ old.steps
+    → new.decoder ≡ old.decoder
+    → actors_view new.actors ≡ with_part (seat_of a) actor (actors_view old.actors)
+    → Lends g a actor new q
+lends-from g a actor old new q s st tries steps same put =
+    let E : Decoder → Type 0 = λ d.
+    decoder.DecoderStands message_limit d q.heard (g.readings.stream q.heard).messages in
+    record {
+      retries = tries ∙ st.retries;
+      names = st.names;
+      steps = steps ∙ st.steps;
+      stream = subst E (sym same) st.stream;
+      actors = put ∙ ap (with_part (seat_of a) actor) st.actors;
+    }
+
 pub settled : (g : Ground) (a : Actor) (old new : Tenant) (q after : Quiet) (s : Store) (b : Bool)
-    (actor : ActorData) → Lends g a old q → Remembers g s.tenant old.memory after
+    (actor : ActorData) → Lends g a actor old q → Remembers g s.tenant old.memory after
     → Reaches old.attempts s → after.actors ≡ actors_after b a actor q.actors
     → after.steps ≡ q.steps → after.heard ≡ q.heard
     → new.retries ≡ old.retries → new.steps ≡ old.steps - 1 → new.decoder ≡ old.decoder
     → new.memory ≡ old.memory → new.attempts ≡ old.attempts
-    → actors_view new.actors ≡ actors_after b a actor (actors_view old.actors)
+    → actors_view new.actors ≡ left_after b a (actors_view old.actors)
     → QuietStands g new (with_step_spent after) s
 settled g a old new q after s b actor lends r reaches actors steps heard tries less same kept tried put =
     let D : List ℕ → Type 0 = λ all.
@@ -181,7 +236,7 @@ settled g a old new q after s b actor lends r reaches actors steps heard tries l
       names = lends.names;
       steps = less ∙ ap (λ n. n - 1) (lends.steps ∙ sym steps);
       stream = subst E (sym same) (subst D (sym heard) lends.stream);
-      actors = put ∙ ap (actors_after b a actor) lends.actors ∙ left-again b ∙ sym actors;
+      actors = put ∙ ap (left_after b a) lends.actors ∙ left-again b a actor q.actors ∙ sym actors;
       remembers = record {
         sessions = there.sessions;
         bare = there.bare;
@@ -190,34 +245,20 @@ settled g a old new q after s b actor lends r reaches actors steps heard tries l
       };
       attempts = subst A (sym tried) reaches;
     }
-  where
-    left-again : (b : Bool) → actors_after b a actor (with_part (seat_of a) lends.place q.actors)
-        ≡ actors_after b a actor q.actors
-    left-again true = without-with_part (seat_of a) lends.place q.actors
-    left-again false = with_part-twice (seat_of a) actor lends.place q.actors
 
-pub restored : (g : Ground) (a : Actor) (old new : Tenant) (q : Quiet) (s : Store)
-    (actor : ActorData) → Lends g a old q → Remembers g s.tenant old.memory q
-    → Reaches old.attempts s → part_under (seat_of a) q.actors ≡ Some actor
-    → new.retries ≡ old.retries → new.steps ≡ old.steps → new.decoder ≡ old.decoder
-    → new.memory ≡ old.memory → new.attempts ≡ old.attempts
-    → actors_view new.actors ≡ with_part (seat_of a) actor (actors_view old.actors)
-    → QuietStands g new q s
-restored g a old new q s actor lends r reaches there tries less same kept tried put =
-    let E : Decoder → Type 0 = λ d.
-    decoder.DecoderStands message_limit d q.heard (g.readings.stream q.heard).messages in
-    let A : Attempts → Type 0 = λ x. Reaches x s in
-    record {
-      retries = tries ∙ lends.retries;
-      names = lends.names;
-      steps = less ∙ lends.steps;
-      stream = subst E (sym same) lends.stream;
-      actors = put ∙ ap (with_part (seat_of a) actor) lends.actors
-          ∙ with_part-twice (seat_of a) actor lends.place q.actors
-          ∙ with_part-same (seat_of a) actor q.actors there;
-      remembers = subst (λ m. Remembers g s.tenant m q) (sym kept) r;
-      attempts = subst A (sym tried) reaches;
-    }
+-- a refused step left the actor as it was
+pub restored : (g : Ground) (a : Actor) (code : Tenant) (q : Quiet) (s : Store) (actor : ActorData)
+    → Lends g a actor code q → Remembers g s.tenant code.memory q → Reaches code.attempts s
+    → part_under (seat_of a) q.actors ≡ Some actor → QuietStands g code q s
+restored g a code q s actor lends r reaches there = record {
+  retries = lends.retries;
+  names = lends.names;
+  steps = lends.steps;
+  stream = lends.stream;
+  actors = lends.actors ∙ with_part-same (seat_of a) actor q.actors there;
+  remembers = r;
+  attempts = reaches;
+}
 
 -- an actor's step that was accepted is the tenant's deed
 pub does-acted : (g : Ground) (t : ℕ) (a : Actor) (q : Quiet) (s : Store) (p : ActorData → Plan)
@@ -261,22 +302,6 @@ pub accepts-by : (q : Quiet) (s : Store) (a : Actor) (p : ActorData → Plan) (d
 accepts-by q s a p deed actor is some there accepted =
     ap (λ d. is_accepted d.outcome) (is ∙ done-by q s a p actor some there) ∙ accepted
 
--- the memory and the attempts are no part of it
-pub lends-memory : (g : Ground) (a : Actor) (code new : Tenant) (q : Quiet)
-    → new.retries ≡ code.retries → new.steps ≡ code.steps → new.decoder ≡ code.decoder
-    → new.actors ≡ code.actors → Lends g a code q → Lends g a new q
-lends-memory g a code new q tries steps same put lends =
-    let E : Decoder → Type 0 = λ d.
-    decoder.DecoderStands message_limit d q.heard (g.readings.stream q.heard).messages in
-    record {
-      retries = tries ∙ lends.retries;
-      names = lends.names;
-      steps = steps ∙ lends.steps;
-      stream = subst E (sym same) lends.stream;
-      place = lends.place;
-      actors = ap actors_view put ∙ lends.actors;
-    }
-
 pub refuses-so : {X : Type 0} (g : Ground) (q : Quiet) (s : Store) (deed : DeedResult) (new : Tenant)
     (why : Refusal) (r : Result X Refusal) → IsErrAnd r (λ e. e ≡ why)
     → RefusesDeed g q s deed new why → IfErr r (RefusesDeed g q s deed new)
@@ -284,11 +309,11 @@ refuses-so g q s deed new why (Ok x) never told = tt
 refuses-so g q s deed new why (Err e) is told =
     subst (RefusesDeed g q s deed new) (sym is) told
 
-pub stands-same : (g : Ground) (q : Quiet) (s : Store) (old new : Tenant)
+pub stands-seen : (g : Ground) (q : Quiet) (s : Store) (old new : Tenant)
     → new.retries ≡ old.retries → new.steps ≡ old.steps → new.decoder ≡ old.decoder
-    → new.actors ≡ old.actors → new.memory ≡ old.memory → new.attempts ≡ old.attempts
-    → QuietStands g old q s → QuietStands g new q s
-stands-same g q s old new tries steps same put kept tried st =
+    → actors_view new.actors ≡ actors_view old.actors → new.memory ≡ old.memory
+    → new.attempts ≡ old.attempts → QuietStands g old q s → QuietStands g new q s
+stands-seen g q s old new tries steps same put kept tried st =
     let E : Decoder → Type 0 = λ d.
     decoder.DecoderStands message_limit d q.heard (g.readings.stream q.heard).messages in
     let A : Attempts → Type 0 = λ x. Reaches x s in
@@ -297,10 +322,31 @@ stands-same g q s old new tries steps same put kept tried st =
       names = st.names;
       steps = steps ∙ st.steps;
       stream = subst E (sym same) st.stream;
-      actors = ap actors_view put ∙ st.actors;
+      actors = put ∙ st.actors;
       remembers = subst (λ m. Remembers g s.tenant m q) (sym kept) st.remembers;
       attempts = subst A (sym tried) st.attempts;
     }
+
+pub stands-same : (g : Ground) (q : Quiet) (s : Store) (old new : Tenant)
+    → new.retries ≡ old.retries → new.steps ≡ old.steps → new.decoder ≡ old.decoder
+    → new.actors ≡ old.actors → new.memory ≡ old.memory → new.attempts ≡ old.attempts
+    → QuietStands g old q s → QuietStands g new q s
+stands-same g q s old new tries steps same put kept tried st =
+    stands-seen g q s old new tries steps same (ap actors_view put) kept tried st
+
+-- an actor whose state is not lent makes no step
+pub refuses-unlent : (g : Ground) (q : Quiet) (s : Store) (a : Actor) (p : ActorData → Plan)
+    (deed : DeedResult) (old new : Tenant) (why : Refusal) → deed ≡ by_actor s q a p
+    → RefusesIdle p → QuietStands g old q s
+    → new.retries ≡ old.retries → new.steps ≡ old.steps → new.decoder ≡ old.decoder
+    → new.memory ≡ old.memory → new.attempts ≡ old.attempts
+    → actors_view new.actors ≡ actors_view old.actors
+    → unlent (old.steps == 0) (part_under (seat_of a) (actors_view old.actors)) ≡ Some why
+    → RefusesDeed g q s deed new why
+refuses-unlent g q s a p deed old new why is idle st tries steps same kept tried put h = record {
+  refused = λ ne. ap (λ d. d.outcome) is ∙ refused-by g q s a p old why st idle h;
+  stands = stands-seen g q s old new tries steps same put kept tried st;
+}
 
 -- and something else holds
 pub refuses-with : {X : Type 0} (g : Ground) (q : Quiet) (s : Store) (deed : DeedResult) (new : Tenant)

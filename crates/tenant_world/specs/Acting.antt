@@ -28,6 +28,11 @@ abbrev pub actors_after : Bool → Actor → ActorData → List (Entry ActorData
 actors_after true a actor es = without (seat_of a) es
 actors_after false a actor es = with_part (seat_of a) actor es
 
+-- behind its step an actor is gone, or it stays as it is
+abbrev pub left_after : Bool → Actor → List (Entry ActorData) → List (Entry ActorData)
+left_after true a es = without (seat_of a) es
+left_after false a es = es
+
 -- the request that waits longest, and those behind it
 abbrev pub oldest : List Waiting → Option Waiting
 oldest [] = None

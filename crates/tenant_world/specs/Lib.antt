@@ -2,6 +2,7 @@ pub mod Memories
 pub mod Seats
 pub mod Answers
 pub mod Acting
+pub mod Lending
 pub mod Comparing
 pub mod Rooms
 pub mod Asking

@@ -29,15 +29,15 @@ pub record QuietStands (g : Ground) (code : Tenant) (q : Quiet) (s : Store) : Ty
   pub remembers : Remembers g s.tenant code.memory q
   pub attempts : Reaches code.attempts s
 
--- the same but for the memory and the attempts, while the state of this actor is taken out
-pub record Lends (g : Ground) (a : Actor) (code : Tenant) (q : Quiet) : Type 0 where
+-- the same but for the memory and the attempts, where the state of this actor was lent and is this
+pub record Lends (g : Ground) (a : Actor) (state : ActorData) (code : Tenant) (q : Quiet)
+    : Type 0 where
   pub retries : code.retries ≡ g.retries
   pub names : SharesNoNames g
   pub steps : code.steps ≡ q.steps
   pub stream : decoder.DecoderStands message_limit code.decoder q.heard
       (g.readings.stream q.heard).messages
-  pub place : ActorData
-  pub actors : actors_view code.actors ≡ with_part (seat_of a) place q.actors
+  pub actors : actors_view code.actors ≡ with_part (seat_of a) state q.actors
 
 -- the deed is accepted with this answer, and the code stands for the tenant behind it
 pub record AcceptsDeed (g : Ground) (d : DeedResult) (code : Tenant)

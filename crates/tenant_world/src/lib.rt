@@ -7,6 +7,7 @@ mod asking;
 mod ending;
 mod hearing;
 mod keeping;
+mod lending;
 mod memory;
 mod naming;
 mod showing;

@@ -1,5 +1,6 @@
 // What the requests of a tenant share: its sessions, its namespaces and the replies that wait.
-ghost use Rattle.std.specs.Prelude.{◌≡◌, ℕ, List, map, IfOk, OnOk, OnErr};
+ghost use Rattle.std.specs.Prelude.{◌≡◌, ℕ, List, map, option_map, unwrap_or, IfOk, OnOk, OnErr};
+ghost use Rattle.repl_sessions.specs.State.{fresh};
 ghost use Rattle.repl_replies.specs.Replies.{ReplyData, bytes_of};
 ghost use Rattle.repl_sessions.specs.Inside.StateView.{state_view};
 ghost use Rattle.server_rules.specs.Ground.{Ground};
@@ -27,17 +28,26 @@ pub(crate) struct Memory {
 }
 
 impl Memory {
-    /// What the session of an actor remembers.
+    /// What the session of an actor remembers, unless it was closed.
+    pub(crate) fn shown(&self, actor: Actor) -> Option<&SessionState>
+        ensures { (g : Ground) (t : ℕ) (q : Quiet) → Remembers g t self.now q
+            → unwrap_or (option_map (λ state. state_view state.now) result) fresh
+            ≡ actor_state actor q }
+    {
+        match actor {
+            Actor::Bare => Some(&self.bare),
+            Actor::Session(number) => self.sessions.state(number),
+        }
+    }
+
+    /// The same once more. What a closed session remembers is what a fresh one does.
     pub(crate) fn state_of(&self, alloc: Global, actor: Actor) -> Result<SessionState, AllocError>
         ensures { (g : Ground) (t : ℕ) (q : Quiet) → Remembers g t self.now q
             → IfOk result (λ state. state_view state ≡ actor_state actor q) }
     {
-        match actor {
-            Actor::Bare => self.bare.copy(),
-            Actor::Session(number) => match self.sessions.state(number) {
-                Some(state) => state.copy(),
-                None => SessionState::fresh(alloc),
-            },
+        match self.shown(actor) {
+            Some(state) => state.copy(),
+            None => SessionState::fresh(alloc),
         }
     }
 

@@ -54,7 +54,7 @@ fn answer_of(alloc: Global, memory: &Memory, actor: Actor, ask: &Ask) -> Result<
             let found = memory
                 .spaces
                 .resolve(alloc, namespace.as_str(), symbol.as_str())?;
-            Ok(Answer::Resolution(resolution_of(alloc, memory, actor, found)?))
+            Ok(Answer::Resolution(resolution_of(memory, actor, found)?))
         }
         Ask::Define { .. } | Ask::Enter(_) => Ok(Answer::Done),
         // None of these is of names.
@@ -68,22 +68,25 @@ fn answer_of(alloc: Global, memory: &Memory, actor: Actor, ask: &Ask) -> Result<
     }
 }
 
-fn resolution_of(
-    alloc: Global,
-    memory: &Memory,
-    actor: Actor,
-    found: Found,
-) -> Result<Resolution, AllocError>
+fn resolution_of(memory: &Memory, actor: Actor, found: Found) -> Result<Resolution, AllocError>
     ensures { (g : Ground) (t : ℕ) (q : Quiet) → Remembers g t memory.now q
         → IfOk result (λ named. resolution_view named
         ≡ meant.resolution_of (actor_state actor q) (found_view found)) }
 {
     match found {
         Found::Resolution(resolution) => Ok(resolution),
-        Found::Latest(latest) => {
-            let session = memory.state_of(alloc, actor)?;
-            Ok(Resolution::Value(copy(latest_of(&session, latest))?))
-        }
+        Found::Latest(latest) => Ok(Resolution::Value(latest_value(memory, actor, latest)?)),
+    }
+}
+
+// It fails only where 2^63 owners share a part of the value.
+fn latest_value(memory: &Memory, actor: Actor, latest: Latest) -> Result<Value, AllocError>
+    ensures { (g : Ground) (t : ℕ) (q : Quiet) → Remembers g t memory.now q
+        → IfOk result (λ value. view value ≡ meant.latest_of latest (actor_state actor q)) }
+{
+    match memory.shown(actor) {
+        Some(state) => copy(latest_of(state, latest)),
+        None => Ok(Value::Nil),
     }
 }
 

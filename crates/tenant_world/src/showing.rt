@@ -10,7 +10,8 @@ ghost use Rattle.tenant_actors.specs.View.{run_view};
 ghost use Rattle.tenant_turns.specs.Grounds.{IsRight};
 ghost use Rattle.server_rules.specs.Store.{Store};
 ghost use Rattle.tenant_turns.specs.DeedResult.{deed_result};
-ghost use Rattle.tenant_turns.specs.Turns.{Lone, actors_of};
+ghost use Rattle.tenant_turns.specs.Turns.{Lone};
+ghost use Rattle.tenant_turns.specs.Inside.Rounds.{IsEnough};
 ghost use Rattle.tenant_turns.specs.Inside.Wires.{wire_at};
 ghost use Rattle.tenant_world.specs.Acting.{is_accepted};
 ghost use Rattle.tenant_world.specs.Answers.{AreSameReplies};
@@ -112,7 +113,8 @@ impl Tenant {
         }
     }
 
-    /// The first actor that has a form or a request to begin. It takes no memory.
+    /// The first actor that has a form or a request to begin. It takes a step for each that has
+    /// something to do, up to that one, and no memory.
     pub fn ready(&self) -> Option<Actor>
         ensures { (g : Ground) (q : Quiet) (s : Store) → QuietStands g self.now q s
             → result ≡ ready q }
@@ -120,13 +122,19 @@ impl Tenant {
         self.actors.ready()
     }
 
-    /// The actors, in the order of their rounds. It takes a step for each, and fails only for want
-    /// of memory.
-    pub fn actors(&self, alloc: Global) -> Result<Vec<Actor>, AllocError>
+    /// The actors of a round, in order: those that have something to do, or all where there may not
+    /// be a step for each of these. It takes a step for each of them, and fails only for want of
+    /// memory.
+    pub fn round(&self, alloc: Global) -> Result<Vec<Actor>, AllocError>
         ensures { (g : Ground) (l : Lone) → QuietStands g self.now l.quiet l.store
-            → IfOk result (λ actors. actors.items ≡ actors_of l) }
+            → IfOk result (λ actors. IsEnough l actors.items) }
     {
-        self.actors.names(alloc)
+        let busy = self.actors.busy(alloc)?;
+        if busy.len() < self.steps as usize {
+            Ok(busy)
+        } else {
+            self.actors.names(alloc)
+        }
     }
 
     /// The form of an actor that runs, if one does: its job, and what it asked and was answered.

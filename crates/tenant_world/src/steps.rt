@@ -1,20 +1,16 @@
 // The steps of a tenant's actors.
-ghost use Rattle.std.specs.Prelude.{◌≡◌, ◌≢◌, ◌+◌, ◌<◌, ◌≤◌, true, false, Some, Err, IfOk, IfErr};
-ghost use Rattle.std.specs.Prelude.{OnErr};
+ghost use Rattle.std.specs.Prelude.{◌≡◌, ◌+◌, ◌<◌, ◌≤◌, true, false, Err, IfOk, IfErr, OnErr};
 ghost use Rattle.repl_asks.specs.Inside.View.{ask_view};
 ghost use Rattle.repl_jobs.specs.Inside.View.{finished_view};
 ghost use Rattle.server_rules.specs.Ground.{Ground};
 ghost use Rattle.server_rules.specs.Store.{Store};
-ghost use Rattle.server_rules.specs.Tenant.{ActorData, Quiet, seat_of};
+ghost use Rattle.server_rules.specs.Tenant.{ActorData, Quiet};
 ghost use Rattle.server_rules.specs.Plan as deeds;
-ghost use Rattle.server_rules.specs.Plan.{Plan, with_step_spent};
+ghost use Rattle.server_rules.specs.Plan.{with_step_spent};
 ghost use Rattle.repl_jobs.specs.Job.{EndingData};
-ghost use Rattle.server_rules.specs.Deeds.{for_actor, unless_worn};
-ghost use Rattle.server_rules.specs.Numbered.{part_under};
 ghost use Rattle.ref_table.specs.Refs.{Refs, refs_after};
 ghost use Rattle.ref_table.specs.Standing.{counter_of};
-ghost use Rattle.tenant_actors.specs.View.{actor_view, actors_view};
-ghost use Rattle.tenant_turns.specs.DeedResult.{carried_out, deed_result};
+ghost use Rattle.tenant_turns.specs.DeedResult.{deed_result};
 ghost use Rattle.tenant_turns.specs.Grounds.{IsRight};
 ghost use Rattle.tenant_world.specs.Answers.{start_answer_view, ask_answer_view, end_answer_view};
 ghost use Rattle.tenant_world.specs.Answers.{told_ending, AreSameStarts, AreSameAnswers};
@@ -28,6 +24,7 @@ ghost use Rattle.tenant_refs.specs.Telling.{is_commit};
 use crate::answers::{AskAnswer, AskAnswers, EndAnswer, Ending, StartAnswer, StartAnswers};
 use crate::asking::ask;
 use crate::ending::{end, finish};
+use crate::lending::{leave, lend};
 use crate::starting::start;
 use crate::tenant::Tenant;
 use ref_history::ListHistory;
@@ -35,10 +32,9 @@ use ref_table::RefTable;
 use repl_asks::Ask;
 use repl_jobs::Finished;
 use server_rules::{Actor, Refusal};
-use tenant_actors::{ActorState, Actors};
 
 impl Tenant {
-    ghost use Rattle.tenant_world.specs.Standing.{QuietStands, Lends, RefusesDeed, replies_of};
+    ghost use Rattle.tenant_world.specs.Standing.{QuietStands, Lends, RefusesDeed};
     ghost use Rattle.tenant_world.specs.Standing.{CountsStep, AcceptsDeedBy};
 
     /// The actor begins its next form, or takes up its next request.
@@ -75,26 +71,10 @@ impl Tenant {
         ensures same { IfOk result AreSameStarts }
         ensures counted { CountsStep self.old self.new result }
     {
-        if self.is_idle(actor) {
-            return Err(Refusal::Idle);
-        }
-        let mut state = self.lend(actor)?;
-        match start(
-            self.alloc,
-            &mut self.memory,
-            self.retries,
-            actor,
-            &mut state,
-        ) {
-            Ok(started) => {
-                self.settle(actor, state, started.given.is_interrupted());
-                Ok(started)
-            }
-            Err(why) => {
-                self.restore(actor, state);
-                Err(why)
-            }
-        }
+        let state = lend(&mut self.actors, self.steps, actor)?;
+        let started = start(self.alloc, &mut self.memory, self.retries, actor, state)?;
+        self.settle(actor, started.given.is_interrupted());
+        Ok(started)
     }
 
     /// The form of the actor that runs asks this. The answer is kept with its ask. What is asked of
@@ -155,25 +135,18 @@ impl Tenant {
         ensures counter { counter_of refs.new ≤ counter_of refs.old + 1 }
         ensures failed { OnErr result (counter_of refs.new ≡ counter_of refs.old) }
     {
-        let mut state = self.lend(actor)?;
-        match ask(
+        let state = lend(&mut self.actors, self.steps, actor)?;
+        let answered = ask(
             self.alloc,
             &mut self.memory,
             refs,
             &mut self.attempts,
             actor,
-            &mut state,
+            state,
             asked,
-        ) {
-            Ok(answered) => {
-                self.settle(actor, state, answered.given.is_interrupted());
-                Ok(answered)
-            }
-            Err(why) => {
-                self.restore(actor, state);
-                Err(why)
-            }
-        }
+        )?;
+        self.settle(actor, answered.given.is_interrupted());
+        Ok(answered)
     }
 
     /// The form of the actor that runs has ended so.
@@ -194,24 +167,17 @@ impl Tenant {
             ≡ true }
         ensures counted { CountsStep self.old self.new result }
     {
-        let mut state = self.lend(actor)?;
-        match end(
+        let state = lend(&mut self.actors, self.steps, actor)?;
+        let ended = end(
             self.alloc,
             &mut self.memory,
             &mut self.attempts,
             actor,
-            &mut state,
+            state,
             ending,
-        ) {
-            Ok(ended) => {
-                self.settle(actor, state, ended.is_interrupted());
-                Ok(ended)
-            }
-            Err(why) => {
-                self.restore(actor, state);
-                Err(why)
-            }
-        }
+        )?;
+        self.settle(actor, ended.is_interrupted());
+        Ok(ended)
     }
 
     /// The form of the actor that runs is finished so, by the job and the trace that are kept of
@@ -232,98 +198,31 @@ impl Tenant {
             → is_accepted (deed_result g s q (deeds.ends actor e)).outcome ≡ true }
         ensures counted { CountsStep self.old self.new result }
     {
-        let mut state = self.lend(actor)?;
-        match finish(
+        let state = lend(&mut self.actors, self.steps, actor)?;
+        let ended = finish(
             self.alloc,
             &mut self.memory,
             &mut self.attempts,
             actor,
-            &mut state,
+            state,
             finished,
-        ) {
-            Ok(ended) => {
-                self.settle(actor, state, ended.is_interrupted());
-                Ok(ended)
-            }
-            Err(why) => {
-                self.restore(actor, state);
-                Err(why)
-            }
-        }
+        )?;
+        self.settle(actor, ended.is_interrupted());
+        Ok(ended)
     }
 
-    // Whether the actor is there with nothing to begin, and steps are left. Its start is refused
-    // then, as most are that go round the actors; so it is found out before the state is taken out.
-    fn is_idle(&self, actor: Actor) -> bool
-        ensures { result ≡ true → (g : Ground) (q : Quiet) (s : Store) → QuietStands g self.now q s
-            → (deed_result g s q (deeds.starts actor)).outcome ≡ deeds.refuses Refusal.Idle }
-    {
-        match self.actors.get(actor) {
-            Some(state) => self.steps > 0 && !state.has_work(),
-            None => false,
-        }
-    }
-
-    // Takes the state of an actor out, for a step of it.
-    fn lend(&mut self, actor: Actor) -> Result<ActorState, Refusal>
-        ensures steps { self.new.steps ≡ self.old.steps }
-        ensures some { IfOk result (λ _. 0 < self.old.steps) }
-        ensures lent { (g : Ground) (q : Quiet) (s : Store) → QuietStands g self.old q s
-            → IfOk result (λ state. Lends g actor self.new q
-            × (part_under (seat_of actor) q.actors ≡ Some (actor_view state))
-            × Remembers g s.tenant self.new.memory q × Reaches self.new.attempts s) }
-        ensures refused { (g : Ground) (q : Quiet) (s : Store) (p : ActorData → Plan)
-            → QuietStands g self.old q s → IfErr result (λ why. RefusesDeed g q s
-            (carried_out s (unless_worn q (for_actor (part_under (seat_of actor) q.actors) p)))
-            self.new why) }
-        ensures held { result ≢ Err Refusal.Held }
-        ensures free { result ≢ Err Refusal.NoMemory }
-        ensures replies { replies_of self.new ≡ replies_of self.old }
-    {
-        if self.steps == 0 {
-            return Err(Refusal::Worn);
-        }
-        let vacancy = ActorState::unoccupied(self.alloc);
-        match self.actors.replace(actor, vacancy) {
-            Some(state) => Ok(state),
-            None => Err(Refusal::NoSuchActor),
-        }
-    }
-
-    // The step is accepted: its actor is put back, or gone where its request was interrupted.
-    fn settle(&mut self, actor: Actor, state: ActorState, is_interrupted: bool)
+    // The step is accepted: its actor rests, or is gone where its request was interrupted.
+    fn settle(&mut self, actor: Actor, is_interrupted: bool)
         requires { 0 < self.old.steps }
         ensures steps { self.old.steps ≡ self.new.steps + 1 }
-        ensures stands { (g : Ground) (q after : Quiet) (s : Store) → Lends g actor self.old q
+        ensures stands { (g : Ground) (q after : Quiet) (s : Store) (state : ActorData)
+            → Lends g actor state self.old q
             → Remembers g s.tenant self.old.memory after → Reaches self.old.attempts s
-            → after.actors ≡ actors_after is_interrupted actor (actor_view state) q.actors
+            → after.actors ≡ actors_after is_interrupted actor state q.actors
             → after.steps ≡ q.steps → after.heard ≡ q.heard
             → QuietStands g self.new (with_step_spent after) s }
     {
-        put_back(&mut self.actors, actor, state, is_interrupted);
+        leave(&mut self.actors, actor, is_interrupted);
         self.steps -= 1;
-    }
-
-    // The step is refused: its actor is put back as it was.
-    fn restore(&mut self, actor: Actor, state: ActorState)
-        ensures steps { self.new.steps ≡ self.old.steps }
-        ensures stands { (g : Ground) (q : Quiet) (s : Store) → Lends g actor self.old q
-            → Remembers g s.tenant self.old.memory q → Reaches self.old.attempts s
-            → part_under (seat_of actor) q.actors ≡ Some (actor_view state)
-            → QuietStands g self.new q s }
-    {
-        drop(self.actors.replace(actor, state));
-    }
-}
-
-// The actor is as its step left it, or gone.
-fn put_back(actors: &mut Actors, actor: Actor, state: ActorState, is_gone: bool)
-    ensures { actors_view actors.new
-        ≡ actors_after is_gone actor (actor_view state) (actors_view actors.old) }
-{
-    if is_gone {
-        actors.remove(actor);
-    } else {
-        drop(actors.replace(actor, state));
     }
 }

@@ -1,5 +1,5 @@
--- Which actors have something to begin.
-use Rattle.std.specs.Prelude.{List, [], ◌∷◌, Bool, true, false, not, is_some}
+-- Which actors have something to do, and which to begin.
+use Rattle.std.specs.Prelude.{List, [], ◌∷◌, Bool, true, false, not, ◌||◌, is_some}
 use Rattle.std.specs.Prelude.{Option, None, Some, option_map, find}
 use Rattle.server_rules.specs.Numbered.{Entry}
 use Rattle.server_rules.specs.Request.{Waiting, Hand}
@@ -9,6 +9,10 @@ use Rattle.server_rules.specs.declared.actor.Actor.{Actor}
 abbrev pub has_waiting : List Waiting → Bool
 has_waiting [] = false
 has_waiting (w ∷ ws) = true
+
+-- a request is in hand, or one waits
+abbrev pub is_busy : ActorData → Bool
+is_busy actor = is_some actor.hand || has_waiting actor.waiting
 
 abbrev pub may_begin : List Waiting → Option Hand → Bool
 may_begin waiting None = has_waiting waiting

@@ -1,9 +1,12 @@
 use Rattle.std.proofs.Common.{◌≡◌, ◌+◌, ◌<◌, true, List, sym, subst, take, rules}
-use Rattle.std.proofs.lemmas.List.{take_more}
+use Rattle.std.proofs.lemmas.List.{take_all, take_more}
 use Rattle.server_rules.specs.declared.actor.Actor.{Actor}
+use Rattle.tenant_turns.specs.Inside.Rounds.{IsEnough}
+use Rattle.tenant_turns.specs.Turns.{actors_of}
 use Rattle.nrepl_pipe.specs.Inside.Parts.{with_turn}
 use Rattle.nrepl_pipe.specs.declared.actors.Round.{Round}
 use Rattle.nrepl_pipe.specs.declared.actors.Turned.{Turned}
+use Rattle.nrepl_pipe.proofs.Passing.{enough-same, round-same}
 use Rattle.nrepl_pipe.proofs.Taking.{TurnsOn, turns-more, fewer-left}
 use Rattle.nrepl_pipe.proofs.actors.go_each.Goals as goal
 
@@ -34,3 +37,17 @@ loop-actor-preserved g c = record {
       subst (λ (told : Round). TurnsOn h (g.C.Core.stands h c.go_once.new.core) q
       (take (index + 1) actors) told) (sym c.with-round.ensures) at;
 }
+
+pub returns-clause-turned : goal.returns-clause-turned
+returns-clause-turned g c = λ h q right stands.
+    let actors : List Actor = c.deref-actor-items.result.now in
+    let all : take c.loop-actor.actor-index actors ≡ actors =
+    take_all c.loop-actor.actor-index actors c.loop-actor-test.false in
+    let on = subst (λ (taken : List Actor). TurnsOn h (g.C.Core.stands h c.loop-actor.core) q taken
+    c.loop-actor.round) all (c.loop-actor.invariant.turns h q right stands) in
+    let enough = subst (IsEnough q) (sym c.deref-actor-items.ensures.value)
+    (c.in_ok-actors.ensures h q stands) in
+    let same = enough-same h q actors enough in (
+      round-same h q actors (actors_of q) c.loop-actor.round same on.told_so,
+      subst (g.C.Core.stands h c.loop-actor.core) same.run on.stands,
+    )

@@ -10,6 +10,7 @@ pub loop-reply-init : goal.loop-reply-init
 loop-reply-init g c = record {
   steps = refl;
   drains = λ h q stands. drains-none h _ q _ stands;
+  passed = λ was. was;
   writes = marks-none _;
 }
 
@@ -28,6 +29,7 @@ loop-reply-preserved g c = record {
       let d = c.loop-reply.invariant.drains h q stands in
       drains-more h _ _ q _ _ _ _ d (c.in-Some.ensures.drained h d.now d.stands)
       (subst (Appends _ _) c.as_slice.ensures.value c.in_ok-write_reply.ensures.ok);
+  passed = λ was. c.in_ok-write_reply.ensures.passed;
   writes = marks-behind _ _ _ _ c.loop-reply.invariant.writes c.in_ok-write_reply.ensures.told;
 }
 

@@ -2,6 +2,7 @@ use Rattle.std.proofs.Common.{◌≡◌, length, false}
 use Rattle.server_rules.specs.Ground.{Ground}
 use Rattle.tenant_turns.specs.Turns.{Lone}
 use Rattle.nrepl_pipe.specs.Failing.{Marks}
+use Rattle.nrepl_pipe.specs.Reads.{IsPassedOn}
 use Rattle.nrepl_pipe.proofs.Draining.{Drains}
 use Rattle.nrepl_pipe.proofs.replies.write_replies.Given as goal
 
@@ -11,6 +12,8 @@ invariant-loop-reply g l = record {
   drains : (h : Ground) (q : Lone) → g.C.Core.stands h l.initial.core q
       → Drains h (g.C.Core.stands h l.core) q
       (g.W.Sink.contents l.initial.writer) (g.W.Sink.contents l.writer);
+  passed : IsPassedOn (g.W.Sink.contents l.initial.writer) (g.W.Sink.passed l.initial.writer)
+      → IsPassedOn (g.W.Sink.contents l.writer) (g.W.Sink.passed l.writer);
   writes : Marks (g.W.Sink.failed l.initial.writer) (g.W.Sink.failed l.writer) false;
 }
 

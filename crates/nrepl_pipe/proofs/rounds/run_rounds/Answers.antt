@@ -19,6 +19,7 @@ loop-is_last-init g c = record {
       let made = c.in_ok-first.ensures.ok h q right stands in
       rounds-first h (g.C.Core.stands h c.run_round.new.core) q c.in_ok-first.first _ _
       made.0 made.1;
+  passed = λ was. c.in_ok-first.ensures.passed was;
   writes = c.in_ok-first.ensures.told;
 }
 
@@ -43,6 +44,7 @@ loop-is_last-preserved g c = record {
       (g.W.Sink.contents c.args.writer.now)
       (g.W.Sink.contents c.run_round-in-loop-is_last.new.writer))
       (c.in_ok-round.ensures.goes_on h now right on.makes.stands on.empty) more;
+  passed = λ was. c.in_ok-round.ensures.passed (c.loop-is_last.invariant.passed was);
   writes = marks-behind _ _ _ _ c.loop-is_last.invariant.writes c.in_ok-round.ensures.told;
 }
 

@@ -3,6 +3,7 @@ use Rattle.server_rules.specs.Ground.{Ground}
 use Rattle.tenant_turns.specs.Turns.{Lone}
 use Rattle.tenant_turns.specs.Grounds.{IsRight}
 use Rattle.nrepl_pipe.specs.Failing.{Marks}
+use Rattle.nrepl_pipe.specs.Reads.{IsPassedOn}
 use Rattle.nrepl_pipe.proofs.Rounding.{RoundsOn}
 use Rattle.nrepl_pipe.proofs.rounds.run_rounds.Given as goal
 
@@ -12,6 +13,8 @@ invariant-loop-is_last g l = record {
   rounds : (h : Ground) (q : Lone) → IsRight h → g.C.Core.stands h l.fn.core q
       → RoundsOn h (g.C.Core.stands h l.core) q l.is_last l.is_worn
       (g.W.Sink.contents l.fn.writer) (g.W.Sink.contents l.writer);
+  passed : IsPassedOn (g.W.Sink.contents l.fn.writer) (g.W.Sink.passed l.fn.writer)
+      → IsPassedOn (g.W.Sink.contents l.writer) (g.W.Sink.passed l.writer);
   writes : Marks (g.W.Sink.failed l.fn.writer) (g.W.Sink.failed l.writer) false;
 }
 

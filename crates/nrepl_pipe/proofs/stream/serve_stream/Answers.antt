@@ -7,15 +7,16 @@ use Rattle.nrepl_pipe.proofs.Serving.{serving-none, serving-more}
 use Rattle.nrepl_pipe.proofs.Ending.{serves-all, serves-rounds, serves-worn}
 use Rattle.nrepl_pipe.proofs.Telling.{read-up, broken-read_up, wire-clean, ends-worn, ends-broken}
 use Rattle.nrepl_pipe.proofs.Breaking.{begins-lost, begins-unheard, begins-rounds}
-use Rattle.nrepl_pipe.proofs.Outcomes.{outcome-err}
+use Rattle.nrepl_pipe.proofs.Outcomes.{outcome-err, on_ok-err}
 use Rattle.nrepl_pipe.proofs.Marking.{marks-none, marks-behind}
-use Rattle.nrepl_pipe.proofs.Reading.{reads-none, reads-more}
+use Rattle.nrepl_pipe.proofs.Reading.{reads-none, reads-more, passed-none, passed-once}
 use Rattle.nrepl_pipe.proofs.stream.serve_stream.Goals as goal
 
 pub loop-piece-init : goal.loop-piece-init
 loop-piece-init g c = record {
   serving = λ h q right stands fresh. serving-none h _ q _ _ right stands fresh;
   prompt = λ h q right stands fresh. reads-none h q _ _ _;
+  passed = λ was. (was, passed-none _);
   reads = marks-none _;
   writes = marks-none _;
 }
@@ -28,7 +29,7 @@ returns-in_err-piece-clause-served g c = λ h q right stands fresh.
 
 pub returns-in_err-piece-clause-prompt : goal.returns-in_err-piece-clause-prompt
 returns-in_err-piece-clause-prompt g c = λ h q right stands fresh.
-    reads-more h _ q _ _ _ _ _ _ _ (c.loop-piece.invariant.serving h q right stands fresh)
+    reads-more h _ q _ _ _ _ _ _ _ _ (c.loop-piece.invariant.serving h q right stands fresh)
     (c.loop-piece.invariant.prompt h q right stands fresh) c.in_err-piece.ensures.noted
 
 pub returns-in_default-clause-served : goal.returns-in_default-clause-served
@@ -41,7 +42,7 @@ returns-in_default-clause-served g c = λ h q right stands fresh.
 
 pub returns-in_default-clause-prompt : goal.returns-in_default-clause-prompt
 returns-in_default-clause-prompt g c = λ h q right stands fresh.
-    reads-more h _ q _ _ _ _ _ _ _ (c.loop-piece.invariant.serving h q right stands fresh)
+    reads-more h _ q _ _ _ _ _ _ _ _ (c.loop-piece.invariant.serving h q right stands fresh)
     (c.loop-piece.invariant.prompt h q right stands fresh) c.in_ok-piece.ensures.noted
 
 pub returns-in_err-hear_piece-clause-served : goal.returns-in_err-hear_piece-clause-served
@@ -54,7 +55,7 @@ returns-in_err-hear_piece-clause-served g c = λ h q right stands fresh.
 
 pub returns-in_err-hear_piece-clause-prompt : goal.returns-in_err-hear_piece-clause-prompt
 returns-in_err-hear_piece-clause-prompt g c = λ h q right stands fresh.
-    reads-more h _ q _ _ _ _ _ _ _ (c.loop-piece.invariant.serving h q right stands fresh)
+    reads-more h _ q _ _ _ _ _ _ _ _ (c.loop-piece.invariant.serving h q right stands fresh)
     (c.loop-piece.invariant.prompt h q right stands fresh) c.in_ok-piece.ensures.noted
 
 pub returns-in-Worn-clause-served : goal.returns-in-Worn-clause-served
@@ -67,7 +68,7 @@ returns-in-Worn-clause-served g c = λ h q right stands fresh.
 
 pub returns-in-Worn-clause-prompt : goal.returns-in-Worn-clause-prompt
 returns-in-Worn-clause-prompt g c = λ h q right stands fresh.
-    reads-more h _ q _ _ _ _ _ _ _ (c.loop-piece.invariant.serving h q right stands fresh)
+    reads-more h _ q _ _ _ _ _ _ _ _ (c.loop-piece.invariant.serving h q right stands fresh)
     (c.loop-piece.invariant.prompt h q right stands fresh) c.in_ok-piece.ensures.noted
 
 pub returns-in_err-run_rounds-clause-served : goal.returns-in_err-run_rounds-clause-served
@@ -85,7 +86,7 @@ returns-in_err-run_rounds-clause-served g c = λ h q right stands fresh.
 
 pub returns-in_err-run_rounds-clause-prompt : goal.returns-in_err-run_rounds-clause-prompt
 returns-in_err-run_rounds-clause-prompt g c = λ h q right stands fresh.
-    reads-more h _ q _ _ _ _ _ _ _ (c.loop-piece.invariant.serving h q right stands fresh)
+    reads-more h _ q _ _ _ _ _ _ _ _ (c.loop-piece.invariant.serving h q right stands fresh)
     (c.loop-piece.invariant.prompt h q right stands fresh) c.in_ok-piece.ensures.noted
 
 pub returns-in-Worn-2-clause-served : goal.returns-in-Worn-2-clause-served
@@ -110,7 +111,7 @@ returns-in-Worn-2-clause-served g c = λ h q right stands fresh.
 
 pub returns-in-Worn-2-clause-prompt : goal.returns-in-Worn-2-clause-prompt
 returns-in-Worn-2-clause-prompt g c = λ h q right stands fresh.
-    reads-more h _ q _ _ _ _ _ _ _ (c.loop-piece.invariant.serving h q right stands fresh)
+    reads-more h _ q _ _ _ _ _ _ _ _ (c.loop-piece.invariant.serving h q right stands fresh)
     (c.loop-piece.invariant.prompt h q right stands fresh) c.in_ok-piece.ensures.noted
 
 pub returns-in-Broken-clause-served : goal.returns-in-Broken-clause-served
@@ -137,7 +138,7 @@ returns-in-Broken-clause-served g c = λ h q right stands fresh.
 
 pub returns-in-Broken-clause-prompt : goal.returns-in-Broken-clause-prompt
 returns-in-Broken-clause-prompt g c = λ h q right stands fresh.
-    reads-more h _ q _ _ _ _ _ _ _ (c.loop-piece.invariant.serving h q right stands fresh)
+    reads-more h _ q _ _ _ _ _ _ _ _ (c.loop-piece.invariant.serving h q right stands fresh)
     (c.loop-piece.invariant.prompt h q right stands fresh) c.in_ok-piece.ensures.noted
 
 pub loop-piece-preserved-in_default-wire : goal.loop-piece-preserved-in_default-wire
@@ -158,8 +159,13 @@ loop-piece-preserved-in_default-wire g c = record {
       taken made
       (wire-clean c.wire.result _ (c.wire.ensures h _ made.2.stands) c.in_default-wire.not-Broken);
   prompt = λ h q right stands fresh.
-      reads-more h _ q _ _ _ _ _ _ _ (c.loop-piece.invariant.serving h q right stands fresh)
+      reads-more h _ q _ _ _ _ _ _ _ _ (c.loop-piece.invariant.serving h q right stands fresh)
       (c.loop-piece.invariant.prompt h q right stands fresh) c.in_ok-piece.ensures.noted;
+  passed = λ was.
+      let so = c.loop-piece.invariant.passed was in (
+        c.in_ok-run_rounds.ensures.passed so.0,
+        passed-once _ _ _ _ so.1 so.0 c.in_ok-piece.ensures.noted,
+      );
   reads = marks-behind _ _ _ _ c.loop-piece.invariant.reads c.in_ok-piece.ensures.told;
   writes = marks-behind _ _ _ _ c.loop-piece.invariant.writes c.in_ok-run_rounds.ensures.told;
 }
@@ -182,8 +188,62 @@ loop-piece-preserved g c = record {
       taken made
       (wire-clean c.wire.result _ (c.wire.ensures h _ made.2.stands) c.in_default-wire.not-Broken);
   prompt = λ h q right stands fresh.
-      reads-more h _ q _ _ _ _ _ _ _ (c.loop-piece.invariant.serving h q right stands fresh)
+      reads-more h _ q _ _ _ _ _ _ _ _ (c.loop-piece.invariant.serving h q right stands fresh)
       (c.loop-piece.invariant.prompt h q right stands fresh) c.in_ok-piece.ensures.noted;
+  passed = λ was.
+      let so = c.loop-piece.invariant.passed was in (
+        c.in_ok-run_rounds.ensures.passed so.0,
+        passed-once _ _ _ _ so.1 so.0 c.in_ok-piece.ensures.noted,
+      );
   reads = marks-behind _ _ _ _ c.loop-piece.invariant.reads c.in_ok-piece.ensures.told;
   writes = marks-behind _ _ _ _ c.loop-piece.invariant.writes c.in_ok-run_rounds.ensures.told;
 }
+
+pub returns-in_err-piece-clause-passed : goal.returns-in_err-piece-clause-passed
+returns-in_err-piece-clause-passed g c = λ was.
+    let so = c.loop-piece.invariant.passed was in (
+      passed-once _ _ _ _ so.1 so.0 c.in_err-piece.ensures.noted,
+      on_ok-err _ c.from_residual.result c.from_residual.ensures.0,
+    )
+
+pub returns-in_default-clause-passed : goal.returns-in_default-clause-passed
+returns-in_default-clause-passed g c = λ was.
+    let so = c.loop-piece.invariant.passed was in (
+      passed-once _ _ _ _ so.1 so.0 c.in_ok-piece.ensures.noted,
+      so.0,
+    )
+
+pub returns-in_err-hear_piece-clause-passed : goal.returns-in_err-hear_piece-clause-passed
+returns-in_err-hear_piece-clause-passed g c = λ was.
+    let so = c.loop-piece.invariant.passed was in (
+      passed-once _ _ _ _ so.1 so.0 c.in_ok-piece.ensures.noted,
+      on_ok-err _ c.from_residual-in_err-hear_piece.result c.from_residual-in_err-hear_piece.ensures.0,
+    )
+
+pub returns-in-Worn-clause-passed : goal.returns-in-Worn-clause-passed
+returns-in-Worn-clause-passed g c = λ was.
+    let so = c.loop-piece.invariant.passed was in (
+      passed-once _ _ _ _ so.1 so.0 c.in_ok-piece.ensures.noted,
+      so.0,
+    )
+
+pub returns-in_err-run_rounds-clause-passed : goal.returns-in_err-run_rounds-clause-passed
+returns-in_err-run_rounds-clause-passed g c = λ was.
+    let so = c.loop-piece.invariant.passed was in (
+      passed-once _ _ _ _ so.1 so.0 c.in_ok-piece.ensures.noted,
+      on_ok-err _ c.from_residual-in_err-run_rounds.result c.from_residual-in_err-run_rounds.ensures.0,
+    )
+
+pub returns-in-Worn-2-clause-passed : goal.returns-in-Worn-2-clause-passed
+returns-in-Worn-2-clause-passed g c = λ was.
+    let so = c.loop-piece.invariant.passed was in (
+      passed-once _ _ _ _ so.1 so.0 c.in_ok-piece.ensures.noted,
+      c.in_ok-run_rounds.ensures.passed so.0,
+    )
+
+pub returns-in-Broken-clause-passed : goal.returns-in-Broken-clause-passed
+returns-in-Broken-clause-passed g c = λ was.
+    let so = c.loop-piece.invariant.passed was in (
+      passed-once _ _ _ _ so.1 so.0 c.in_ok-piece.ensures.noted,
+      c.in_ok-run_rounds.ensures.passed so.0,
+    )

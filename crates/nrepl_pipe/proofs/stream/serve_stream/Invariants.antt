@@ -3,7 +3,7 @@ use Rattle.server_rules.specs.Ground.{Ground}
 use Rattle.tenant_turns.specs.Turns.{Lone}
 use Rattle.tenant_turns.specs.Grounds.{IsRight}
 use Rattle.nrepl_pipe.specs.Failing.{Marks}
-use Rattle.nrepl_pipe.specs.Reads.{ReadsPromptly}
+use Rattle.nrepl_pipe.specs.Reads.{ReadsPromptly, IsPassedOn, ReadsPassedOn}
 use Rattle.nrepl_pipe.specs.Inside.Fresh.{IsFresh}
 use Rattle.nrepl_pipe.proofs.Serving.{Serving}
 use Rattle.nrepl_pipe.proofs.stream.serve_stream.Given as goal
@@ -18,6 +18,9 @@ invariant-loop-piece g l = record {
       → ReadsPromptly h q (g.R.Source.remaining l.initial.reader)
       (g.W.Sink.contents l.initial.writer) (g.R.Source.reads l.initial.reader)
       (g.R.Source.reads l.reader);
+  passed : IsPassedOn (g.W.Sink.contents l.initial.writer) (g.W.Sink.passed l.initial.writer)
+      → IsPassedOn (g.W.Sink.contents l.writer) (g.W.Sink.passed l.writer)
+      × ReadsPassedOn (g.R.Source.reads l.initial.reader) (g.R.Source.reads l.reader);
   reads : Marks (g.R.Source.failed l.initial.reader) (g.R.Source.failed l.reader) false;
   writes : Marks (g.W.Sink.failed l.initial.writer) (g.W.Sink.failed l.writer) false;
 }

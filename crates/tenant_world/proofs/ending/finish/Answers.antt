@@ -1,4 +1,4 @@
-use Rattle.std.proofs.Common.{◌∙◌, sym, ap, subst, option_map, false}
+use Rattle.std.proofs.Common.{◌∙◌, sym, ap, subst, option_map}
 use Rattle.server_rules.specs.Plan.{Plan, request_interrupted, form_finished}
 use Rattle.tenant_actors.specs.View.{actor_view, hand_view, run_view}
 use Rattle.tenant_turns.specs.DeedResult.{carried_out}

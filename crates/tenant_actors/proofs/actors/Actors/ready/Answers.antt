@@ -1,27 +1,33 @@
 use Rattle.std.proofs.Common.{◌∙◌, ap, sym, option_map, rules, tests}
-use Rattle.std.specs.Map.Iter.{deref_pair}
+use Rattle.std.specs.Map.Iter.{deref}
 use Rattle.std.proofs.lemmas.Iterator.Consumers.{YieldsList-from_rest}
 use Rattle.std.proofs.lemmas.Iterator.Search.{find_from_yields_List}
-use Rattle.tenant_actors.proofs.Seats.{works, ready-seen}
+use Rattle.server_rules.specs.Machine.Ready.{may_begin}
+use Rattle.tenant_actors.proofs.Seats.{seen}
+use Rattle.tenant_actors.proofs.Finding.{passing, first-listed, names-ascend, covers-from, begins-busy}
 use Rattle.tenant_actors.proofs.actors.Actors.ready.Goals as goal
 
-pub returns-in_err-actor : goal.returns-in_err-actor
-returns-in_err-actor c =
-    let all = c.args.self.now.live.entries in
-    let in_order = YieldsList-from_rest all c.iter.ensures.rest in
+pub returns-in_err-first : goal.returns-in_err-first
+returns-in_err-first c =
+    let self = c.args.self.now in
+    let es = seen self.live.entries in
+    let in_order = YieldsList-from_rest self.busy.keys c.iter.ensures.rest in
     c.from_residual.ensures
-    ∙ ap (option_map (λ e. e.0))
-    (ap (option_map deref_pair) (sym c.in_err-actor.was)
-    ∙ find_from_yields_List works _ _ c.find.result c.find.ensures.ran in_order
-    (λ x b q h. search (rules, tests)))
-    ∙ ready-seen all
+    ∙ ap (option_map deref) (sym c.in_err-first.was)
+    ∙ find_from_yields_List (passing (λ it. may_begin it.waiting it.hand) es) _ _ c.find.result c.find.ensures.ran in_order
+    (λ x b q h. search (rules, tests))
+    ∙ first-listed (λ it. may_begin it.waiting it.hand) self.busy.keys es
+    (names-ascend self.busy.keys c.iter.ensures.ordered) c.ascend.ensures
+    (covers-from (λ it. may_begin it.waiting it.hand) self.busy es begins-busy self.listed)
 
 pub returns : goal.returns
 returns c =
-    let all = c.args.self.now.live.entries in
-    let in_order = YieldsList-from_rest all c.iter.ensures.rest in
-    ap (option_map (λ e. e.0))
-    (ap (option_map deref_pair) (sym c.in_ok-actor.was)
-    ∙ find_from_yields_List works _ _ c.find.result c.find.ensures.ran in_order
-    (λ x b q h. search (rules, tests)))
-    ∙ ready-seen all
+    let self = c.args.self.now in
+    let es = seen self.live.entries in
+    let in_order = YieldsList-from_rest self.busy.keys c.iter.ensures.rest in
+    ap (option_map deref) (sym c.in_ok-first.was)
+    ∙ find_from_yields_List (passing (λ it. may_begin it.waiting it.hand) es) _ _ c.find.result c.find.ensures.ran in_order
+    (λ x b q h. search (rules, tests))
+    ∙ first-listed (λ it. may_begin it.waiting it.hand) self.busy.keys es
+    (names-ascend self.busy.keys c.iter.ensures.ordered) c.ascend.ensures
+    (covers-from (λ it. may_begin it.waiting it.hand) self.busy es begins-busy self.listed)

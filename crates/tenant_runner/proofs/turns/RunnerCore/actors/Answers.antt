@@ -5,7 +5,7 @@ use Rattle.tenant_runner.proofs.turns.RunnerCore.actors.Goals as goal
 pub returns-in-Some : goal.returns-in-Some
 returns-in-Some c = λ g l s.
     let there = sym c.tenant.ensures ∙ ap (option_map (λ it. it.now)) c.in-Some.is in
-    c.actors.ensures g l (tenant-of g l c.args.self.now c.in-Some.tenant.now s there)
+    c.round.ensures g l (tenant-of g l c.args.self.now c.in-Some.tenant.now s there)
 
 pub returns-in-None : goal.returns-in-None
 returns-in-None c = λ g l s.
