@@ -6,9 +6,9 @@ import io
 import os
 import tempfile
 import threading
-import time
 import types
 import unittest
+import unittest.mock
 
 import gate
 import quick_rt
@@ -139,13 +139,16 @@ class Record(Tree):
 
 class MinutesForEdits(unittest.TestCase):
     def test_no_crate_begins_when_the_time_is_used(self):
+        seconds = [0]
+
         def must_fail_all(crate, edits, flags):
-            time.sleep(0.02)
+            seconds[0] += 2
             return [(True, edit) for edit in edits]
 
-        tried = quick_rt.for_so_long(must_fail_all, 0.03)
+        tried = quick_rt.for_so_long(must_fail_all, 3)
         crates = [types.SimpleNamespace(name=name) for name in "abc"]
-        given = [tried(it, ["edit"], []) for it in crates]
+        with unittest.mock.patch("quick_rt.time.monotonic", lambda: seconds[0]):
+            given = [tried(it, ["edit"], []) for it in crates]
         self.assertEqual(given, [[(True, "edit")], [(True, "edit")], []])
 
 
