@@ -43,6 +43,12 @@ pub commuted-names : (cs : List Commuted)
 commuted-names [] = refl
 commuted-names (c ∷ cs) = ap (λ names. name_view c.name ∷ names) (commuted-names cs)
 
+-- the refs that change, by what the code has of them
+pub changing_names : (sets : List Change) (commuted : List Commuted)
+    → (map (λ c. c.name) (map change_view sets) ++ map (λ c. c.name) (map commuted_view commuted))
+    ≡ (map (λ c. name_view c.name) sets ++ map (λ c. name_view c.name) commuted)
+changing_names sets commuted = ap₂ (λ xs ys. xs ++ ys) (set-names sets) (commuted-names commuted)
+
 named-append : (d : Directory) (caller : ℕ) (xs ys : List RefNameData)
     → all_named d caller (xs ++ ys) ≡ (all_named d caller xs && all_named d caller ys)
 named-append d caller [] ys = refl

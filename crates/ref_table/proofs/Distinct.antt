@@ -1,5 +1,5 @@
 -- Keys that come one after the other, each of them new.
-use Rattle.std.proofs.Common.{◌≡◌, List, [], ◌∷◌, Bool, true, false, not, ◌&&◌, ◌||◌, cond}
+use Rattle.std.proofs.Common.{◌≡◌, List, [], ◌∷◌, ◌++◌, Bool, true, false, not, ◌&&◌, ◌||◌, cond}
 use Rattle.std.proofs.Common.{ℕ, zero, suc, ◌+◌, ◌<◌, length, drop, get_or, refl, sym, ap, ap₂, ◌∙◌}
 use Rattle.std.proofs.Common.{arith}
 use Rattle.std.specs.List.{list_any}
@@ -47,6 +47,16 @@ all_new-distinct same seen (k ∷ ks) =
       four false true false y = refl
       four false false true y = refl
       four false false false y = refl
+
+-- one of two lists
+pub any-append : {K : Type 0} (f : K → Bool) (xs ys : List K)
+    → list_any f (xs ++ ys) ≡ (list_any f xs || list_any f ys)
+any-append f [] ys = refl
+any-append f (x ∷ xs) ys = ap (λ b. f x || b) (any-append f xs ys)
+    ∙ groups (f x) (list_any f xs) (list_any f ys) where
+      groups : (a b c : Bool) → (a || (b || c)) ≡ ((a || b) || c)
+      groups true b c = refl
+      groups false b c = refl
 
 none-seen : {K : Type 0} (ks : List K) → list_any (λ (k : K). false) ks ≡ false
 none-seen [] = refl

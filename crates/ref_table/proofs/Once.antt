@@ -17,6 +17,7 @@ use Rattle.ref_table.specs.Standing.{AreApart}
 use Rattle.ref_table.specs.declared.directory.Directory.{Directory}
 use Rattle.ref_table.specs.declared.placing.Placed.{Placed}
 use Rattle.ref_table.proofs.Seen.{id-there}
+use Rattle.ref_table.proofs.Distinct.{any-append}
 use Rattle.ref_table.proofs.Rooms.{same_id}
 
 both-ways : (a b : Bool) → (a ≡ true → b ≡ true) → (b ≡ true → a ≡ true) → a ≡ b
@@ -127,6 +128,13 @@ ids-append d caller (x ∷ xs) ys =
           ≡ with_id o (ids_named d caller xs) ++ ids_named d caller ys
       by None = refl
       by (Some id) = refl
+
+-- a ref is named by one of two lists
+pub any_named : (d : Directory) (caller : ℕ) (f : RefId → Bool) (xs ys : List RefNameData)
+    → list_any f (ids_named d caller (xs ++ ys))
+    ≡ (list_any f (ids_named d caller xs) || list_any f (ids_named d caller ys))
+any_named d caller f xs ys = ap (list_any f) (ids-append d caller xs ys)
+    ∙ any-append f (ids_named d caller xs) (ids_named d caller ys)
 
 pub places-append : (d : Directory) (caller : ℕ) (xs ys : List ChangeData)
     → places_of d caller (xs ++ ys) ≡ places_of d caller xs ++ places_of d caller ys

@@ -20,7 +20,7 @@ ghost use Rattle.ref_table.specs.Told.{Performs, outcome_told, is_committed};
 
 use crate::fitting::{all_fit, all_take};
 use crate::outcome::{CommitOutcome, Point};
-use crate::placing::{Placed, add_all, are_distinct, reserve_all};
+use crate::placing::{Placed, add_all, reserve_all};
 use crate::table::RefTable;
 use ref_history::{History, RefId};
 use repl_asks::{Change, Intent};
@@ -33,8 +33,8 @@ impl<H: History> RefTable<H> {
     /// a version from after the attempt's read point. What it commuted is made again, of the values
     /// that the refs have now; where that is a fault, nothing changes. For n refs that it names it
     /// takes about n log n steps, and one for each commute beside those of its function; and it
-    /// reads whole what goes into shared refs. It fails only for want of memory, and then all is as
-    /// it was.
+    /// reads whole what goes into shared refs. It fails only for want of memory where it would not
+    /// be refused, and then all is as it was.
     pub fn commit(
         &mut self,
         alloc: Global,
@@ -50,11 +50,14 @@ impl<H: History> RefTable<H> {
         ensures as_it_was { (r : Refs) → TableStands H.stands self.old r
             → OnErr result (TableStands H.stands self.new r) }
         ensures counter { counter_of self.new ≤ counter_of self.old + 1 }
+        ensures accepted { (r : Refs) (points : List (Entry ℕ)) → TableStands H.stands self.old r
+            → OnErr result ((all_there (touched_refs (intent_view intent.now))
+            (store_of caller points r) && intent_fits (intent_view intent.now)) ≡ true) }
         ensures unmoved { IfOk result (λ outcome. is_committed outcome ≡ false
             → counter_of self.new ≡ counter_of self.old) }
         ensures failed { OnErr result (counter_of self.new ≡ counter_of self.old) }
     {
-        if !self.fits(alloc, caller, intent)? {
+        if !self.fits(alloc, caller, intent) {
             return Ok(CommitOutcome::Refused);
         }
         if self.is_any_guarded_newer(caller, intent, point) {
@@ -71,27 +74,21 @@ impl<H: History> RefTable<H> {
     }
 
     /// Whether a commit of this would not be refused: all refs are there, none changes twice, each
-    /// may hold what it is set to, and what is commuted takes its arguments. It fails only for
-    /// want of memory.
-    pub fn accepts(&self, alloc: Global, caller: u64, intent: &Intent) -> Result<bool, AllocError>
+    /// may hold what it is set to, and what is commuted takes its arguments. For n refs that it
+    /// names it takes about n log n steps, or n² where memory is refused.
+    pub fn accepts(&self, alloc: Global, caller: u64, intent: &Intent) -> bool
         ensures { (r : Refs) (points : List (Entry ℕ)) → TableStands H.stands self.now r
-            → let s = store_of caller points r in IfOk result (λ fit. fit
-            ≡ (all_there (touched_refs (intent_view intent.now)) s
-            && intent_fits (intent_view intent.now))) }
+            → result ≡ (all_there (touched_refs (intent_view intent.now)) (store_of caller points r)
+            && intent_fits (intent_view intent.now)) }
     {
         self.fits(alloc, caller, intent)
     }
 
     // The same, as the directory says it.
-    fn fits(&self, alloc: Global, caller: u64, intent: &Intent) -> Result<bool, AllocError>
-        ensures { IfOk result (λ fit. fit
-            ≡ is_acceptable self.now.directory caller (intent_view intent.now)) }
+    fn fits(&self, alloc: Global, caller: u64, intent: &Intent) -> bool
+        ensures { result ≡ is_acceptable self.now.directory caller (intent_view intent.now) }
     {
-        if !self.may_commit(caller, intent) {
-            return Ok(false);
-        }
-        let ids = self.directory.ids_changing(alloc, caller, intent)?;
-        are_distinct(alloc, &ids)
+        self.may_commit(caller, intent) && self.directory.changes_each_once(alloc, caller, intent)
     }
 
     // The same, but for refs that change twice.

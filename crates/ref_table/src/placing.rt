@@ -1,5 +1,6 @@
 // Where a commit puts its values.
 ghost use Rattle.std.specs.Prelude.{◌≡◌, [], ◌++◌, map, All, IfOk, OnOk};
+ghost use Rattle.std.specs.List.{list_any};
 ghost use Rattle.std.specs.Ordering.{eq_by_cmp};
 ghost use Rattle.repl_asks.specs.Inside.View.{name_view, change_view, intent_view};
 ghost use Rattle.server_rules.specs.Commit.{changing_refs};
@@ -9,7 +10,7 @@ ghost use Rattle.ref_table.specs.Placing.{placed_view, places_of, all_distinct, 
 
 use crate::directory::Directory;
 use ref_history::{History, RefId};
-use repl_asks::{Change, Intent};
+use repl_asks::{Change, Commuted, Intent};
 use repl_values::{RefName, Value, copy};
 use std::alloc::{AllocError, Global};
 use std::collections::BTreeSet;
@@ -59,8 +60,100 @@ impl Directory {
         Ok(())
     }
 
+    // Whether no ref that is there changes twice. It takes n log n steps for n refs; where memory is
+    // refused for that, n².
+    #[tactic(auto, using(crate::proofs::Committing::changing_names))]
+    pub(crate) fn changes_each_once(&self, alloc: Global, caller: u64, intent: &Intent) -> bool
+        ensures { result ≡ all_distinct (eq_by_cmp ⟦<RefId as Ord>⟧.cmp)
+            (ids_named self.now caller (changing_refs (intent_view intent.now))) }
+    {
+        match self.ids_are_distinct(alloc, caller, intent) {
+            Ok(are_distinct) => are_distinct,
+            Err(AllocError) => self.sets_each_once(caller, &intent.sets, &intent.commuted),
+        }
+    }
+
+    fn ids_are_distinct(
+        &self,
+        alloc: Global,
+        caller: u64,
+        intent: &Intent,
+    ) -> Result<bool, AllocError>
+        ensures { IfOk result (λ distinct. distinct ≡ all_distinct (eq_by_cmp ⟦<RefId as Ord>⟧.cmp)
+            (ids_named self.now caller (changing_refs (intent_view intent.now)))) }
+    {
+        let ids = self.ids_changing(alloc, caller, intent)?;
+        are_distinct(alloc, &ids)
+    }
+
+    // The same without memory: each is compared with those behind it.
+    fn sets_each_once(&self, caller: u64, sets: &[Change], commuted: &[Commuted]) -> bool
+        ensures { result ≡ all_distinct (eq_by_cmp ⟦<RefId as Ord>⟧.cmp) (ids_named self.now caller
+            (map (λ c. name_view c.name) sets.now ++ map (λ c. name_view c.name) commuted.now)) }
+    {
+        let mut left = sets;
+        while let Some((change, rest)) = left.split_first() {
+            if let Some(id) = self.id_of(caller, change.name) {
+                if self.any_changes(caller, id, rest, commuted) {
+                    return false;
+                }
+            }
+            left = rest;
+        }
+        self.commutes_each_once(caller, commuted)
+    }
+
+    fn commutes_each_once(&self, caller: u64, commuted: &[Commuted]) -> bool
+        ensures { result ≡ all_distinct (eq_by_cmp ⟦<RefId as Ord>⟧.cmp)
+            (ids_named self.now caller (map (λ c. name_view c.name) commuted.now)) }
+    {
+        let mut left = commuted;
+        while let Some((one, rest)) = left.split_first() {
+            if let Some(id) = self.id_of(caller, one.name) {
+                if self.any_commutes(caller, id, rest) {
+                    return false;
+                }
+            }
+            left = rest;
+        }
+        true
+    }
+
+    // Whether one of them is of the ref with this id.
+    #[tactic(auto, using(crate::proofs::Once::any_named))]
+    fn any_changes(&self, caller: u64, id: RefId, sets: &[Change], commuted: &[Commuted]) -> bool
+        ensures { result ≡ list_any (eq_by_cmp ⟦<RefId as Ord>⟧.cmp id) (ids_named self.now caller
+            (map (λ c. name_view c.name) sets.now ++ map (λ c. name_view c.name) commuted.now)) }
+    {
+        self.any_sets(caller, id, sets) || self.any_commutes(caller, id, commuted)
+    }
+
+    fn any_sets(&self, caller: u64, id: RefId, sets: &[Change]) -> bool
+        ensures { result ≡ list_any (eq_by_cmp ⟦<RefId as Ord>⟧.cmp id)
+            (ids_named self.now caller (map (λ c. name_view c.name) sets.now)) }
+    {
+        for change in sets {
+            if self.id_of(caller, change.name) == Some(id) {
+                return true;
+            }
+        }
+        false
+    }
+
+    fn any_commutes(&self, caller: u64, id: RefId, commuted: &[Commuted]) -> bool
+        ensures { result ≡ list_any (eq_by_cmp ⟦<RefId as Ord>⟧.cmp id)
+            (ids_named self.now caller (map (λ c. name_view c.name) commuted.now)) }
+    {
+        for one in commuted {
+            if self.id_of(caller, one.name) == Some(id) {
+                return true;
+            }
+        }
+        false
+    }
+
     // The ids of the refs that change and are there. It fails only for want of memory.
-    pub(crate) fn ids_changing(
+    fn ids_changing(
         &self,
         alloc: Global,
         caller: u64,
@@ -91,7 +184,7 @@ impl Directory {
 }
 
 // Whether no two ids are the same. It takes n log n steps, and fails only for want of memory.
-pub(crate) fn are_distinct(alloc: Global, ids: &[RefId]) -> Result<bool, AllocError>
+fn are_distinct(alloc: Global, ids: &[RefId]) -> Result<bool, AllocError>
     ensures { IfOk result (λ distinct. distinct
         ≡ all_distinct (eq_by_cmp ⟦<RefId as Ord>⟧.cmp) ids.now) }
 {

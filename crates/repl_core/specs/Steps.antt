@@ -12,7 +12,6 @@ use Rattle.server_rules.specs.Machine.World.{World, opens, does, closes, Stepped
 use Rattle.server_rules.specs.Machine.World.{step}
 use Rattle.server_rules.specs.declared.refusal.Refusal.{Refusal}
 use Rattle.repl_walker.specs.Ends.{ending_view}
-use Rattle.tenant_refs.specs.Telling.{is_commit}
 use Rattle.repl_core.specs.Standing.{MachineStands}
 use Rattle.repl_core.specs.declared.machine.Machine.{Machine}
 use Rattle.repl_core.specs.declared.step.Step.{Step}
@@ -47,11 +46,6 @@ AreSame it = step_answer_view it.noted ≡ step_answer_view it.given
 abbrev pub is_accepted_step : Stepped → Bool
 is_accepted_step (accepted after answer) = true
 is_accepted_step (refused why) = false
-
--- a form asks to commit
-abbrev pub is_commit_step : worlds.Step → Bool
-is_commit_step (does t (rules.asks_for actor ask)) = is_commit ask
-is_commit_step _ = false
 
 -- the step is accepted with this answer, and the machine stands for the server behind it
 pub record AcceptsStep (g : Ground) (w : World) (s : worlds.Step) (m : Machine)

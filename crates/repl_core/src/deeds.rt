@@ -1,5 +1,5 @@
 // What tenants do.
-ghost use Rattle.std.specs.Prelude.{◌≡◌, ◌≢◌, ◌+◌, ◌<◌, ◌∷◌, [], true, false, Err, IfOk, IfErr};
+ghost use Rattle.std.specs.Prelude.{◌≡◌, ◌≢◌, ◌+◌, ◌<◌, ◌∷◌, [], true, Err, IfOk, IfErr};
 ghost use Rattle.std.specs.Prelude.{OnOk, OnErr};
 ghost use Rattle.repl_asks.specs.Inside.View.{ask_view};
 ghost use Rattle.server_rules.specs.Ground.{Ground};
@@ -9,7 +9,6 @@ ghost use Rattle.server_rules.specs.Machine.World.{World, does, step};
 ghost use Rattle.ref_table.specs.Standing.{counter_of};
 ghost use Rattle.tenant_turns.specs.Grounds.{IsRight};
 ghost use Rattle.repl_walker.specs.Ends as endings;
-ghost use Rattle.tenant_refs.specs.Telling.{is_commit};
 ghost use Rattle.tenant_world.specs.Answers.{AreSameStarts, AreSameAnswers, AreSameReplies};
 ghost use Rattle.tenant_world.specs.Answers.{start_answer_view, ask_answer_view, end_answer_view};
 
@@ -84,7 +83,7 @@ impl Machine {
         ensures same { IfOk result AreSameAnswers }
         ensures no_memory { (g : Ground) (w : World) → IsRight g → MachineStands g self.old w
             → counter_of self.old.refs < u128.MAX → result ≡ Err Refusal.NoMemory
-            → is_commit (ask_view ask.now) ≡ false → is_accepted_step
+            → is_accepted_step
             (step g w (does number (deeds.asks_for actor (ask_view ask.now)))) ≡ true }
     {
         if !has_stamps(&self.refs) {

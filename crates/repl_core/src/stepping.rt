@@ -1,5 +1,5 @@
 // The step of the server.
-ghost use Rattle.std.specs.Prelude.{◌≡◌, ◌<◌, true, false, IfOk, IfErr};
+ghost use Rattle.std.specs.Prelude.{◌≡◌, ◌<◌, true, IfOk, IfErr};
 ghost use Rattle.server_rules.specs.Ground.{Ground};
 ghost use Rattle.server_rules.specs.Plan.{reply_given};
 ghost use Rattle.server_rules.specs.Machine.World as worlds;
@@ -18,7 +18,6 @@ use tenant_world::{AskAnswer, AskAnswers, EndAnswer, Replies, StartAnswer, Start
 impl Machine {
     ghost use Rattle.repl_core.specs.Standing.{MachineStands};
     ghost use Rattle.repl_core.specs.Steps.{AcceptsStep, RefusesStep, is_accepted_step};
-    ghost use Rattle.repl_core.specs.Steps.{is_commit_step};
 
     /// Makes a step. A step that is refused changes nothing, and is given back.
     pub fn step(&mut self, step: Step) -> Result<StepAnswer, Refused>
@@ -27,7 +26,7 @@ impl Machine {
         ensures refused { (g : Ground) (w : World) → IsRight g → MachineStands g self.old w
             → IfErr result (λ it. RefusesStep g w (step_view step) self.new it.why) }
         ensures no_memory { (g : Ground) (w : World) → IsRight g → MachineStands g self.old w
-            → counter_of self.old.refs < u128.MAX → is_commit_step (step_view step) ≡ false
+            → counter_of self.old.refs < u128.MAX
             → IfErr result (λ it. it.why ≡ Refusal.NoMemory
             → is_accepted_step (worlds.step g w (step_view step)) ≡ true) }
         ensures handed_back { IfErr result (λ it. it.step ≡ step) }
@@ -42,7 +41,7 @@ impl Machine {
         ensures refused { (g : Ground) (w : World) → IsRight g → MachineStands g self.old w
             → IfErr result (λ it. RefusesStep g w (step_view step) self.new it.why) }
         ensures no_memory { (g : Ground) (w : World) → IsRight g → MachineStands g self.old w
-            → counter_of self.old.refs < u128.MAX → is_commit_step (step_view step) ≡ false
+            → counter_of self.old.refs < u128.MAX
             → IfErr result (λ it. it.why ≡ Refusal.NoMemory
             → is_accepted_step (worlds.step g w (step_view step)) ≡ true) }
         ensures same { IfOk result AreSame }
@@ -62,7 +61,7 @@ impl Machine {
         ensures refused { (g : Ground) (w : World) → IsRight g → MachineStands g self.old w
             → IfErr result (RefusesStep g w (step_view step.now) self.new) }
         ensures no_memory { (g : Ground) (w : World) → IsRight g → MachineStands g self.old w
-            → counter_of self.old.refs < u128.MAX → is_commit_step (step_view step.now) ≡ false
+            → counter_of self.old.refs < u128.MAX
             → IfErr result (λ why. why ≡ Refusal.NoMemory
             → is_accepted_step (worlds.step g w (step_view step.now)) ≡ true) }
         ensures same { IfOk result AreSame }

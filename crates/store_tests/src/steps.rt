@@ -93,7 +93,7 @@ fn told_of(
         }
         Call::Accepts(caller, wants) => {
             let intent = intent_of(rt, alloc, wants)?;
-            Ok(answer(table.accepts(alloc, caller, &intent)?))
+            Ok(answer(table.accepts(alloc, caller, &intent)))
         }
         Call::Read(caller, name) => read(table, caller, name, None),
         Call::ReadAt(caller, name, stamp) => read(table, caller, name, Some(Point { stamp })),

@@ -3,4 +3,3 @@ pub mod Attempts
 pub mod Sound
 pub mod Serving
 pub mod Bounds
-pub mod Telling

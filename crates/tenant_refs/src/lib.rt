@@ -8,5 +8,5 @@ mod thrice;
 
 pub use attempts::Attempts;
 pub use calling::call;
-pub use telling::{is_told, may_be_told};
+pub use telling::is_told;
 pub use thrice::Thrice;

@@ -1,5 +1,5 @@
 // Whether the refs would tell what a form asks.
-ghost use Rattle.std.specs.Prelude.{◌≡◌, ◌||◌, true, is_some, IfOk, OnErr};
+ghost use Rattle.std.specs.Prelude.{◌≡◌, is_some};
 ghost use Rattle.repl_asks.specs.Inside.View.{ask_view, name_view, intent_view};
 ghost use Rattle.server_rules.specs.Asking.{call_of};
 ghost use Rattle.server_rules.specs.Calls.{performed, counts, commits};
@@ -8,7 +8,6 @@ ghost use Rattle.server_rules.specs.Tenant.{seat_of};
 ghost use Rattle.ref_table.specs.Refs.{Refs};
 ghost use Rattle.tenant_refs.specs.Bounds.{is_bounded};
 ghost use Rattle.tenant_refs.specs.Serving.{ServesWithAttempts};
-ghost use Rattle.tenant_refs.specs.Telling.{is_commit};
 
 use crate::attempts::Attempts;
 use ref_history::ListHistory;
@@ -16,46 +15,19 @@ use ref_table::RefTable;
 use repl_asks::{Ask, Intent};
 use repl_values::{Owner, RefName};
 use server_rules::Actor;
-use std::alloc::{AllocError, Global};
+use std::alloc::Global;
 
-/// Whether the refs would tell anything where this is asked. It fails only for want of memory, and
-/// only of a commit.
+/// Whether the refs would tell anything where this is asked. A commit is looked through with memory
+/// where there is some (`RefTable::accepts`).
 pub fn is_told(
     alloc: Global,
     refs: &RefTable<ListHistory>,
     attempts: &Attempts,
     actor: Actor,
     ask: &Ask,
-) -> Result<bool, AllocError>
-    ensures told { (s : Store) (r : Refs) → ServesWithAttempts refs.now attempts.now s r
-        → IfOk result (λ it.
-        it ≡ is_some (performed s (call_of (seat_of actor) (ask_view ask.now))).told) }
-    ensures failed { OnErr result (is_commit (ask_view ask.now) ≡ true) }
-{
-    match ask {
-        Ask::Commit(intent) => is_committed(alloc, refs, attempts, actor, intent),
-        Ask::Resolve { .. }
-        | Ask::Define { .. }
-        | Ask::Enter(_)
-        | Ask::NewRef { .. }
-        | Ask::Begin
-        | Ask::Read(_)
-        | Ask::History(_)
-        | Ask::MinHistory { .. }
-        | Ask::MaxHistory { .. } => Ok(may_be_told(refs, attempts, actor, ask)),
-    }
-}
-
-/// Whether the refs would tell anything where this is asked, or it is a commit. It takes no memory.
-pub fn may_be_told(
-    refs: &RefTable<ListHistory>,
-    attempts: &Attempts,
-    actor: Actor,
-    ask: &Ask,
 ) -> bool
     ensures { (s : Store) (r : Refs) → ServesWithAttempts refs.now attempts.now s r
-        → result ≡ (is_commit (ask_view ask.now)
-        || is_some (performed s (call_of (seat_of actor) (ask_view ask.now))).told) }
+        → result ≡ is_some (performed s (call_of (seat_of actor) (ask_view ask.now))).told }
 {
     match ask {
         Ask::Resolve { .. } | Ask::Define { .. } | Ask::Enter(_) | Ask::NewRef { .. } => true,
@@ -65,7 +37,7 @@ pub fn may_be_told(
         Ask::MinHistory { name, set } | Ask::MaxHistory { name, set } => {
             is_bounded(refs, attempts, *name, set.is_some())
         }
-        Ask::Commit(_) => true,
+        Ask::Commit(intent) => is_committed(alloc, refs, attempts, actor, intent),
     }
 }
 
@@ -113,13 +85,9 @@ fn is_committed(
     attempts: &Attempts,
     actor: Actor,
     intent: &Intent,
-) -> Result<bool, AllocError>
+) -> bool
     ensures { (s : Store) (r : Refs) → ServesWithAttempts refs.now attempts.now s r
-        → IfOk result (λ it. it
-        ≡ is_some (performed s (commits (seat_of actor) (intent_view intent.now))).told) }
+        → result ≡ is_some (performed s (commits (seat_of actor) (intent_view intent.now))).told }
 {
-    if attempts.point(actor).is_none() {
-        return Ok(false);
-    }
-    refs.accepts(alloc, attempts.tenant, intent)
+    attempts.point(actor).is_some() && refs.accepts(alloc, attempts.tenant, intent)
 }

@@ -1,8 +1,7 @@
 -- When an honest deed may be refused for want of memory.
-use Rattle.std.proofs.Common.{◌≡◌, ◌==◌, ◌||◌, Bool, true, false, Option, Some, None, is_some}
+use Rattle.std.proofs.Common.{◌≡◌, ◌==◌, ◌||◌, true, false, Option, Some, None, is_some}
 use Rattle.std.proofs.Common.{sym, ap, ◌∙◌}
-use Rattle.std.proofs.lemmas.Bool.{eq-eqb, false≢true, not-true}
-use Rattle.repl_asks.specs.Exchange.{AskData}
+use Rattle.std.proofs.lemmas.Bool.{eq-eqb, false≢true}
 use Rattle.repl_jobs.specs.InteractionTree.{InteractionTree, finished, asks}
 use Rattle.repl_jobs.specs.Job.{EndingData}
 use Rattle.repl_jobs.specs.Leading.{tree_after}
@@ -19,7 +18,6 @@ use Rattle.server_rules.specs.Honest.{honest_deed, honest_at, honest_of, honest_
 use Rattle.server_rules.specs.declared.actor.Actor.{Actor}
 use Rattle.server_rules.specs.declared.refusal.Refusal.{Refusal}
 use Rattle.ref_table.specs.Refs.{Refs}
-use Rattle.tenant_refs.specs.Telling.{is_commit}
 use Rattle.tenant_turns.specs.Turns.{Lone}
 use Rattle.tenant_world.specs.Running.{running_in}
 use Rattle.tenant_world.proofs.Standing.{worn-by, starts-by, asks-by, ends-by}
@@ -69,13 +67,8 @@ refused-worn g l r a p none s = record {
   stands = s;
 }
 
--- of an ask that is no commit it is seen whether it is refused
-pub seen-asks : (kept : Bool) (a : Actor) (ask : AskData)
-    → is_seen kept (deeds.asks_for a ask) ≡ true → is_commit ask ≡ false
-seen-asks false a ask seen = absurd (false≢true seen)
-seen-asks true a ask seen = not-true (is_commit ask) seen
-
--- and of no deed of a form that runs whose evaluation is neither kept nor made
+-- of no deed is it seen whether it is refused, of a form that runs whose evaluation is neither kept
+-- nor made
 pub unkept-unseen : (g : Ground) (a : Actor) (q : Quiet) (run : Run) (old new : Walks)
     → running_in a q ≡ Some run → walk_at old a ≡ None → walk_at new a ≡ walk_at old a
     → is_seen (is_kept old new a) (honest_deed g a (Some (Some q))) ≡ true → ⊥

@@ -1,5 +1,5 @@
 // An actor goes on as its evaluation says.
-ghost use Rattle.std.specs.Prelude.{◌≡◌, ◌≢◌, ◌+◌, ◌<◌, ◌≤◌, true, false, Some, None, Err, OnOk};
+ghost use Rattle.std.specs.Prelude.{◌≡◌, ◌≢◌, ◌+◌, ◌<◌, ◌≤◌, true, Some, None, Err, OnOk};
 ghost use Rattle.std.specs.Prelude.{IfErr, OnErr};
 ghost use Rattle.repl_asks.specs.Inside.View.{ask_view, answer_view};
 ghost use Rattle.server_rules.specs.Ground.{Ground};
@@ -11,7 +11,6 @@ ghost use Rattle.ref_table.specs.Refs.{Refs};
 ghost use Rattle.ref_table.specs.Standing.{counter_of};
 ghost use Rattle.tenant_turns.specs.Grounds.{IsRight};
 ghost use Rattle.tenant_turns.specs.Turns.{Lone};
-ghost use Rattle.tenant_refs.specs.Telling.{is_commit};
 ghost use Rattle.tenant_world.specs.Acting.{is_accepted};
 ghost use Rattle.tenant_world.specs.Asking.{exchange_from, run_with};
 ghost use Rattle.tenant_world.specs.Running.{running_in};
@@ -124,7 +123,7 @@ impl Walks {
         ensures no_memory { (g : Ground) (l : Lone) (r : Refs) (w : Walk)
             → PartsStand g (parts tenant.old refs.old self.old) l r
             → walk_at self.old actor ≡ Some (Progress.Asks w)
-            → result ≡ Err Refusal.NoMemory → is_commit (ask_view w.ask) ≡ false
+            → result ≡ Err Refusal.NoMemory
             → is_accepted (comes_to g l (deeds.asks_for actor (ask_view w.ask))).outcome ≡ true }
         ensures counted { CountsStep tenant.old tenant.new result }
         ensures counter { counter_of refs.new ≤ counter_of refs.old + 1 }

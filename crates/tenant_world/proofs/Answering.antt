@@ -1,12 +1,11 @@
 -- What a form asks, beside the rules' step.
 use Rattle.std.proofs.Common.{◌≡◌, ◌^◌, ℕ, Bool, true, false, Option, None, Some, refl, sym, ap}
 use Rattle.std.proofs.Common.{◌∙◌, option_map, true≢false, if◌then◌else◌, is_some, nat_lt, ◌≢◌}
-use Rattle.std.proofs.Common.{◌||◌}
 use Rattle.std.proofs.Common.{Result, Ok, Err, IfErr}
 use Rattle.std.specs.Result.{IsErrAnd}
 use Rattle.std.proofs.lemmas.Bool.{and_parts, ltb-true}
 use Rattle.repl_asks.specs.Exchange as exchange
-use Rattle.repl_asks.specs.Exchange.{AskData, AnswerData, done}
+use Rattle.repl_asks.specs.Exchange.{AskData, AnswerData}
 use Rattle.server_rules.specs.Calls.{nothing, gives_up, performed, given_up}
 use Rattle.server_rules.specs.Ground.{Ground}
 use Rattle.server_rules.specs.Request.{Hand, Run}
@@ -202,16 +201,26 @@ answered-accepted g s a actor h run ask q some =
     by None none = absurd (true≢false (sym none))
     by (Some told) some = refl
 
--- whether something is told, where it is no commit
-pub told-so : (told commit : Bool) → true ≡ (commit || told) → commit ≡ false → told ≡ true
-told-so told true is never = absurd (true≢false never)
-told-so told false is other = sym is
+pub untold-so : {A : Type 0} (told : Option A) → false ≡ is_some told → told ≡ None
+untold-so None is = refl
+untold-so (Some answer) never = absurd (true≢false (sym never))
 
-pub untold-so : {A : Type 0} (told : Option A) (commit : Bool) → false ≡ (commit || is_some told)
-    → told ≡ None
-untold-so told true never = absurd (true≢false (sym never))
-untold-so None false is = refl
-untold-so (Some answer) false never = absurd (true≢false (sym never))
+pub refused-so : {A : Type 0} (why so : Refusal)
+    → ◌≡◌ {A = Result A Refusal} (Err why) (Err so) → why ≡ so
+refused-so why so same = cc
+
+-- an ask is refused so for which there was no memory
+pub declined-without : (g : Ground) (s : Store) (a : Actor) (actor : ActorData) (h : Hand) (run : Run)
+    (ask : AskData) (q : Quiet) (m : Memory) (why : Refusal)
+    → (why ≢ Refusal.NoMemory → (why ≡ Refusal.Idle)
+    × ((performed s (call_of (seat_of a) ask)).told ≡ None))
+    → Remembers g s.tenant m q
+    → RefusesOutcome g s.tenant q (carried_out s (answered_plan g a actor h run ask q)).outcome m why
+declined-without g s a actor h run ask q m why idle remembers = record {
+  refused = λ ne. let untold = idle ne in
+      answered-untold g s a actor h run ask q untold.1 ∙ ap refuses (sym untold.0);
+  remembers = remembers;
+}
 
 -- for want of memory nothing is said of the rules
 pub stays-memory : {A : Type 0} (r : Result A Refusal) (T : Refusal → Type 0) (M H : Type 0)

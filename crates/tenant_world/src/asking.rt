@@ -21,8 +21,8 @@ ghost use Rattle.tenant_world.specs.Answers.{ask_answer_view, AreSameAnswers};
 ghost use Rattle.tenant_world.specs.Acting.{AcceptsOutcome, RefusesOutcome, IsActorStep};
 ghost use Rattle.tenant_world.specs.Acting.{is_accepted};
 ghost use Rattle.tenant_world.specs.Asking.{SharesNoNames, Answers, answered_plan, is_of_names};
+ghost use Rattle.tenant_world.specs.Rooms.{ActorHasRoom};
 ghost use Rattle.tenant_refs.specs.Serving.{ServesWithAttempts};
-ghost use Rattle.tenant_refs.specs.Telling.{is_commit};
 ghost use Rattle.tenant_refs.specs.Thrice.{thrice_view, AreThrice};
 
 use crate::acting::interrupt;
@@ -37,7 +37,7 @@ use repl_replies::Origin;
 use server_rules::{Actor, Refusal};
 use std::alloc::{AllocError, Global};
 use tenant_actors::ActorState;
-use tenant_refs::{Attempts, Thrice, call, is_told, may_be_told};
+use tenant_refs::{Attempts, Thrice, call, is_told};
 
 // The first number that is none of the language.
 const END_OF_NUMBERS: u64 = 0x8000_0000_0000_0000;
@@ -67,8 +67,8 @@ pub(crate) fn ask(
         RefusesOutcome g s.tenant q d.outcome memory.new why
         × ServesWithAttempts refs.new attempts.new s r) }
     ensures no_memory { (g : Ground) (q : Quiet) (s : Store) (r : Refs)
-        → ServesWithAttempts refs.old attempts.old s r → result ≡ Err Refusal.NoMemory
-        → is_commit (ask_view ask.now) ≡ false → is_accepted (carried_out s (asked_of g actor
+        → Remembers g s.tenant memory.old q → ServesWithAttempts refs.old attempts.old s r
+        → result ≡ Err Refusal.NoMemory → is_accepted (carried_out s (asked_of g actor
         (actor_view state.old) (ask_view ask.now) q (actor_view state.old).hand)).outcome ≡ true }
     ensures same { IfOk result AreSameAnswers }
     ensures step { IsActorStep memory.old memory.new (actor_view state.old) (actor_view state.new)
@@ -145,12 +145,12 @@ fn give_up(
         × ((performed s (call_of (seat_of actor) (ask_view ask.now))).told ≡ None))
         × Remembers g s.tenant memory.new q × ServesWithAttempts refs.now attempts.new s r) }
     ensures no_memory { (s : Store) (r : Refs) → ServesWithAttempts refs.now attempts.old s r
-        → result ≡ Err Refusal.NoMemory → is_commit (ask_view ask.now) ≡ false
+        → result ≡ Err Refusal.NoMemory
         → is_some (performed s (call_of (seat_of actor) (ask_view ask.now))).told ≡ true }
     ensures opened { opened_by memory.new ≡ opened_by memory.old }
     ensures free { result ≢ Err Refusal.Held }
 {
-    if !is_told(alloc, refs, attempts, actor, ask)? {
+    if !is_told(alloc, refs, attempts, actor, ask) {
         return Err(Refusal::Idle);
     }
     interrupt(alloc, memory, origin)?;
@@ -158,8 +158,8 @@ fn give_up(
     Ok(())
 }
 
-// The answer, which is kept with its ask. Where it is refused nothing has changed. Memory is taken
-// only once something is to be told; of a commit that is found out with memory.
+// The answer, which is kept with its ask. Where it is refused nothing has changed. Whether anything
+// would be told is asked where memory is refused, and only there: elsewhere the answer itself shows.
 fn answer(
     alloc: Global,
     memory: &mut Memory,
@@ -187,8 +187,8 @@ fn answer(
         RefusesOutcome g s.tenant q d.outcome memory.new why
         × ServesWithAttempts refs.new attempts.new s r) }
     ensures no_memory { (g : Ground) (q : Quiet) (s : Store) (r : Refs) (h : rules.Hand)
-        (run : rules.Run) → ServesWithAttempts refs.old attempts.old s r
-        → result ≡ Err Refusal.NoMemory → is_commit (ask_view ask.now) ≡ false
+        (run : rules.Run) → Remembers g s.tenant memory.old q
+        → ServesWithAttempts refs.old attempts.old s r → result ≡ Err Refusal.NoMemory
         → is_accepted (carried_out s (answered_plan g actor (actor_view state.old) h run
         (ask_view ask.now) q)).outcome ≡ true }
     ensures same { IfOk result AreSameAnswers }
@@ -198,12 +198,13 @@ fn answer(
     ensures failed { OnErr result (counter_of refs.new ≡ counter_of refs.old) }
     ensures free { result ≢ Err Refusal.Held }
 {
-    if !may_be_told(refs, attempts, actor, ask) {
-        return Err(Refusal::Idle);
-    }
-    let asked = ask.copy()?;
-    make_room(state)?;
-    let Some(answer) = perform_ask(alloc, memory, refs, attempts, actor, ask)? else {
+    let Ok(asked) = copied_with_room(state, ask) else {
+        return Err(why_refused(alloc, refs, attempts, actor, ask));
+    };
+    let Ok(told) = perform_ask(alloc, memory, refs, attempts, actor, ask) else {
+        return Err(why_refused(alloc, refs, attempts, actor, ask));
+    };
+    let Some(answer) = told else {
         return Err(Refusal::Idle);
     };
     let Thrice { kept, given, noted } = answer;
@@ -218,6 +219,40 @@ fn answer(
         given: AskAnswer::Answer(given),
         noted: AskAnswer::Answer(noted),
     })
+}
+
+// What an ask is refused for to which memory was: nothing may be told of it anyway.
+fn why_refused(
+    alloc: Global,
+    refs: &RefTable<ListHistory>,
+    attempts: &Attempts,
+    actor: Actor,
+    ask: &Ask,
+) -> Refusal
+    ensures idle { (s : Store) (r : Refs) → ServesWithAttempts refs.now attempts.now s r
+        → result ≢ Refusal.NoMemory → (result ≡ Refusal.Idle)
+        × ((performed s (call_of (seat_of actor) (ask_view ask.now))).told ≡ None) }
+    ensures no_memory { (s : Store) (r : Refs) → ServesWithAttempts refs.now attempts.now s r
+        → result ≡ Refusal.NoMemory
+        → is_some (performed s (call_of (seat_of actor) (ask_view ask.now))).told ≡ true }
+    ensures free { result ≢ Refusal.Held }
+{
+    if is_told(alloc, refs, attempts, actor, ask) {
+        Refusal::NoMemory
+    } else {
+        Refusal::Idle
+    }
+}
+
+// The ask as it is kept, and room for it in the trace. It fails only for want of memory.
+fn copied_with_room(state: &mut ActorState, ask: &Ask) -> Result<Ask, AllocError>
+    ensures copied { IfOk result (λ it. ask_view it ≡ ask_view ask.now) }
+    ensures room { OnOk result (ActorHasRoom state.new) }
+    ensures same { actor_view state.new ≡ actor_view state.old }
+{
+    let asked = ask.copy()?;
+    make_room(state)?;
+    Ok(asked)
 }
 
 // What the answer is, if anything is told, and whatever is asked is done. It fails only for want of

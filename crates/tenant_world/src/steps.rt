@@ -1,5 +1,5 @@
 // The steps of a tenant's actors.
-ghost use Rattle.std.specs.Prelude.{◌≡◌, ◌+◌, ◌<◌, ◌≤◌, true, false, Err, IfOk, IfErr, OnErr};
+ghost use Rattle.std.specs.Prelude.{◌≡◌, ◌+◌, ◌<◌, ◌≤◌, true, Err, IfOk, IfErr, OnErr};
 ghost use Rattle.repl_asks.specs.Inside.View.{ask_view};
 ghost use Rattle.repl_jobs.specs.Inside.View.{finished_view};
 ghost use Rattle.server_rules.specs.Ground.{Ground};
@@ -19,7 +19,6 @@ ghost use Rattle.tenant_refs.specs.Attempts.{Reaches};
 ghost use Rattle.tenant_world.specs.Memories.{Remembers};
 ghost use Rattle.tenant_world.specs.Running.{IsEndOfForm, running_in};
 ghost use Rattle.tenant_refs.specs.Serving.{TableServes};
-ghost use Rattle.tenant_refs.specs.Telling.{is_commit};
 
 use crate::answers::{AskAnswer, AskAnswers, EndAnswer, Ending, StartAnswer, StartAnswers};
 use crate::asking::ask;
@@ -78,8 +77,7 @@ impl Tenant {
     }
 
     /// The form of the actor that runs asks this. The answer is kept with its ask. What is asked of
-    /// refs is asked of this table, which serves the tenant. Whether a commit is refused is seen
-    /// only with memory.
+    /// refs is asked of this table, which serves the tenant.
     pub fn answer(
         &mut self,
         refs: &mut RefTable<ListHistory>,
@@ -98,7 +96,7 @@ impl Tenant {
             IfErr result (λ why. RefusesDeed g q s d self.new why × TableServes refs.new s r) }
         ensures no_memory { (g : Ground) (q : Quiet) (s : Store) (r : Refs)
             → QuietStands g self.old q s → TableServes refs.old s r
-            → result ≡ Err Refusal.NoMemory → is_commit (ask_view asked.now) ≡ false
+            → result ≡ Err Refusal.NoMemory
             → is_accepted (deed_result g s q (deeds.asks_for actor (ask_view asked.now))).outcome
             ≡ true }
         ensures counted { CountsStep self.old self.new result }
@@ -127,7 +125,7 @@ impl Tenant {
             IfErr result (λ why. RefusesDeed g q s d self.new why × TableServes refs.new s r) }
         ensures no_memory { (g : Ground) (q : Quiet) (s : Store) (r : Refs)
             → QuietStands g self.old q s → TableServes refs.old s r
-            → result ≡ Err Refusal.NoMemory → is_commit (ask_view asked.now) ≡ false
+            → result ≡ Err Refusal.NoMemory
             → is_accepted (deed_result g s q (deeds.asks_for actor (ask_view asked.now))).outcome
             ≡ true }
         ensures same { IfOk result AreSameAnswers }

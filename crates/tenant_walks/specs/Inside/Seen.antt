@@ -1,8 +1,7 @@
 -- What is seen of a deed of an actor without memory.
-use Rattle.std.specs.Prelude.{Bool, true, ◌&&◌, ◌||◌, not, is_some}
+use Rattle.std.specs.Prelude.{Bool, true, ◌||◌, is_some}
 use Rattle.server_rules.specs.Plan.{Deed, asks_for, ends}
 use Rattle.server_rules.specs.declared.actor.Actor.{Actor}
-use Rattle.tenant_refs.specs.Telling.{is_commit}
 use Rattle.tenant_walks.specs.Inside.WalkAt.{walk_at}
 use Rattle.tenant_walks.specs.declared.walks.Walks.{Walks}
 
@@ -10,9 +9,9 @@ use Rattle.tenant_walks.specs.declared.walks.Walks.{Walks}
 abbrev pub is_kept : Walks → Walks → Actor → Bool
 is_kept old new a = is_some (walk_at old a) || is_some (walk_at new a)
 
--- Whether the deed is refused. Of a commit that takes memory; and what a form does is not known
--- where its evaluation was not kept and could not be made.
+-- Whether the deed is refused. What a form does is not known where its evaluation was not kept and
+-- could not be made.
 abbrev pub is_seen : Bool → Deed → Bool
-is_seen kept (asks_for a ask) = kept && not (is_commit ask)
+is_seen kept (asks_for a ask) = kept
 is_seen kept (ends a e) = kept
 is_seen kept _ = true

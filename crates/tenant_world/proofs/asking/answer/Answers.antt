@@ -1,24 +1,37 @@
-use Rattle.std.proofs.Common.{sym, ap, subst, ◌∙◌}
+use Rattle.std.proofs.Common.{ap, subst, ◌∙◌}
 use Rattle.repl_asks.specs.Inside.View.{ask_view, answer_view}
 use Rattle.server_rules.specs.Plan.{Outcome, ask_answered}
+use Rattle.server_rules.specs.declared.refusal.Refusal.{Refusal}
 use Rattle.tenant_actors.specs.View.{actor_view}
 use Rattle.tenant_world.specs.Acting.{AcceptsOutcome}
 use Rattle.tenant_world.specs.Asking.{exchange_from, with_exchange}
 use Rattle.tenant_world.proofs.Answering.{acted-answer_outcome, answer_outcome-told}
-use Rattle.tenant_world.proofs.Answering.{answered-untold, answered-accepted, told-so, untold-so}
-use Rattle.tenant_world.proofs.Remembering.{declined-memory-with}
+use Rattle.tenant_world.proofs.Answering.{answered-untold, answered-accepted, declined-without}
+use Rattle.tenant_world.proofs.Answering.{refused-so}
 use Rattle.tenant_world.proofs.asking.answer.Goals as goal
 
-pub returns-in_err-answer-clause-declined : goal.returns-in_err-answer-clause-declined
-returns-in_err-answer-clause-declined c = λ g q s r h run shares remembers holds allowed.
-    let stay = c.in_err-answer.ensures.stays g q s r remembers holds in
-    declined-memory-with g s.tenant q _ c.perform_ask.new.memory c.from_residual-in_err-answer.result _
-    c.from_residual-in_err-answer.ensures.1 stay.0 stay.1
+pub returns-in_default-perform_ask-clause-declined
+    : goal.returns-in_default-perform_ask-clause-declined
+returns-in_default-perform_ask-clause-declined c = λ g q s r h run shares remembers holds allowed.
+    let stay = c.in_default-perform_ask.ensures.stays g q s r remembers holds in (
+      declined-without g s c.args.actor (actor_view c.args.state.now) h run (ask_view c.args.ask.now) q
+          c.perform_ask.new.memory c.why_refused-in_default-perform_ask.result
+          (c.why_refused-in_default-perform_ask.ensures.idle s r stay.1) stay.0,
+      stay.1,
+    )
 
-pub returns-in_default-clause-declined : goal.returns-in_default-clause-declined
-returns-in_default-clause-declined c = λ g q s r h run shares remembers holds allowed.
-    let told = rw c.in_default.is at
-    (c.in_ok-answer.ensures.answered g q s r shares remembers holds allowed) in (
+pub returns-in_default-perform_ask-clause-no_memory
+    : goal.returns-in_default-perform_ask-clause-no_memory
+returns-in_default-perform_ask-clause-no_memory c = λ g q s r h run remembers holds none.
+    let stay = c.in_default-perform_ask.ensures.stays g q s r remembers holds in
+    answered-accepted g s c.args.actor (actor_view c.args.state.now) h run (ask_view c.args.ask.now) q
+    (c.why_refused-in_default-perform_ask.ensures.no_memory s r stay.1
+    (refused-so c.why_refused-in_default-perform_ask.result Refusal.NoMemory none))
+
+pub returns-in_default-told-clause-declined : goal.returns-in_default-told-clause-declined
+returns-in_default-told-clause-declined c = λ g q s r h run shares remembers holds allowed.
+    let told = rw c.in_default-told.is at
+    (c.in-Ok-perform_ask.ensures.answered g q s r shares remembers holds allowed) in (
       record {
         refused = λ ne. answered-untold g s c.args.actor (actor_view c.args.state.now) h run
             (ask_view c.args.ask.now) q told.0;
@@ -37,41 +50,15 @@ returns-clause-acted c = λ g q s r h run shares remembers holds allowed hand ru
     let memory = c.perform_ask.new.memory in
     let new = actor_view c.keep.new.state in
     let answers = rw c.in-Some.is at
-    (c.in_ok-answer.ensures.answered g q s r shares remembers holds allowed) in
-    let same = rw c.in-Some.is at c.in_ok-answer.ensures.thrice in
+    (c.in-Ok-perform_ask.ensures.answered g q s r shares remembers holds allowed) in
+    let same = rw c.in-Some.is at c.in-Ok-perform_ask.ensures.thrice in
     let put = c.keep.ensures
-    ∙ ap (λ x. with_exchange (exchange_from x kept) (actor_view c.make_room.new.state))
-    c.in_ok-asked.ensures
-    ∙ ap (with_exchange (exchange_from ask kept)) c.make_room.ensures.same in
+    ∙ ap (λ x. with_exchange (exchange_from x kept) (actor_view c.copied_with_room.new.state))
+    c.in-Ok.ensures.copied
+    ∙ ap (with_exchange (exchange_from ask kept)) c.copied_with_room.ensures.same in
     let P : Outcome → Type 0 = λ x. AcceptsOutcome g s.tenant a q x memory new (ask_answered given) in (
       subst P (answer_outcome-told g s a actor h run ask q answers.told answers.is_told)
           (acted-answer_outcome g s.tenant memory a actor new h run ask q answers.told kept given hand running
           put answers.is same.given answers.remembers),
       answers.holds,
     )
-
-pub returns-then-not-may_be_told-clause-declined : goal.returns-then-not-may_be_told-clause-declined
-returns-then-not-may_be_told-clause-declined c = λ g q s r h run shares remembers holds allowed. (
-  record {
-    refused = λ ne. answered-untold g s c.args.actor (actor_view c.args.state.now) h run
-        (ask_view c.args.ask.now) q
-        (untold-so _ _ (sym c.if-not-may_be_told.true ∙ c.may_be_told.ensures s r holds));
-    remembers = remembers;
-  },
-  holds,
-)
-
-pub returns-in_err-asked-clause-no_memory : goal.returns-in_err-asked-clause-no_memory
-returns-in_err-asked-clause-no_memory c = λ g q s r h run holds none other.
-    answered-accepted g s c.args.actor (actor_view c.args.state.now) h run (ask_view c.args.ask.now) q
-    (told-so _ _ (sym c.if-not-may_be_told.false ∙ c.may_be_told.ensures s r holds) other)
-
-pub returns-in_err-make_room-clause-no_memory : goal.returns-in_err-make_room-clause-no_memory
-returns-in_err-make_room-clause-no_memory c = λ g q s r h run holds none other.
-    answered-accepted g s c.args.actor (actor_view c.args.state.now) h run (ask_view c.args.ask.now) q
-    (told-so _ _ (sym c.if-not-may_be_told.false ∙ c.may_be_told.ensures s r holds) other)
-
-pub returns-in_err-answer-clause-no_memory : goal.returns-in_err-answer-clause-no_memory
-returns-in_err-answer-clause-no_memory c = λ g q s r h run holds none other.
-    answered-accepted g s c.args.actor (actor_view c.args.state.now) h run (ask_view c.args.ask.now) q
-    (told-so _ _ (sym c.if-not-may_be_told.false ∙ c.may_be_told.ensures s r holds) other)

@@ -90,7 +90,7 @@ returns-clause-declined c = λ g q s r shares remembers holds.
     (c.answer.ensures.declined g q s r k run shares remembers holds allowed)
 
 pub returns-in_err-give_up-clause-no_memory : goal.returns-in_err-give_up-clause-no_memory
-returns-in_err-give_up-clause-no_memory c = λ g q s r holds none other.
+returns-in_err-give_up-clause-no_memory c = λ g q s r remembers holds none.
     let a = c.args.actor in
     let actor = actor_view c.args.state.now in
     let ask = ask_view c.args.ask.now in
@@ -103,10 +103,10 @@ returns-in_err-give_up-clause-no_memory c = λ g q s r holds none other.
     c.from_residual.ensures.1 none in
     sym (ap (λ p. is_accepted (carried_out s p).outcome) plan)
     ∙ ap is_accepted (given-told s a k ask q
-    (c.in_err-give_up.ensures.no_memory s r holds (ap (λ e. Err e) why) other)).0
+    (c.in_err-give_up.ensures.no_memory s r holds (ap (λ e. Err e) why))).0
 
 pub returns-clause-no_memory : goal.returns-clause-no_memory
-returns-clause-no_memory c = λ g q s r holds none other.
+returns-clause-no_memory c = λ g q s r remembers holds none.
     let a = c.args.actor in
     let actor = actor_view c.args.state.now in
     let ask = ask_view c.args.ask.now in
@@ -116,4 +116,4 @@ returns-clause-no_memory c = λ g q s r holds none other.
     let plan = asked-open g a actor ask q k run (ap (option_map hand_view) c.in-Some.is)
     (ap (option_map run_view) c.in-Some-running.is) allowed c.if-state.false in
     sym (ap (λ p. is_accepted (carried_out s p).outcome) plan)
-    ∙ c.answer.ensures.no_memory g q s r k run holds none other
+    ∙ c.answer.ensures.no_memory g q s r k run remembers holds none

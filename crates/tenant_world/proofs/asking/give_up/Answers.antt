@@ -1,4 +1,4 @@
-use Rattle.std.proofs.Common.{sym, ◌∙◌, true≢false}
+use Rattle.std.proofs.Common.{sym, ◌∙◌}
 use Rattle.server_rules.specs.Tenant.{seat_of}
 use Rattle.tenant_world.proofs.Answering.{stays-memory}
 use Rattle.tenant_refs.proofs.Serving.{holds-left}
@@ -6,22 +6,18 @@ use Rattle.tenant_world.proofs.asking.give_up.Goals as goal
 
 pub returns-in_err-interrupt-clause-stays : goal.returns-in_err-interrupt-clause-stays
 returns-in_err-interrupt-clause-stays c = λ g q s r remembers holds.
-    stays-memory c.from_residual-in_err-interrupt.result _ _ _
-    c.from_residual-in_err-interrupt.ensures.1
+    stays-memory c.from_residual.result _ _ _
+    c.from_residual.ensures.1
     (c.in_err-interrupt.ensures.stays g s.tenant q remembers) holds
 
 pub returns-clause-gone : goal.returns-clause-gone
 returns-clause-gone c = λ g q s r remembers holds. (
-  sym (c.in_ok-is_told.ensures.told s r holds) ∙ c.if-not-branch.false,
+  sym (c.is_told.ensures s r holds) ∙ c.if-not-is_told.false,
   c.in_ok-interrupt.ensures.told g s.tenant q remembers,
   holds-left c.args.refs.now c.args.attempts.now c.leave.new.self (seat_of c.args.actor) s r holds
       c.leave.ensures.tenant (c.leave.ensures.left s.mine.points holds.reaches.points),
 )
 
-pub returns-in_err-is_told-clause-no_memory : goal.returns-in_err-is_told-clause-no_memory
-returns-in_err-is_told-clause-no_memory c = λ s r holds none other.
-    absurd (true≢false (sym c.in_err-is_told.ensures.failed ∙ other))
-
 pub returns-in_err-interrupt-clause-no_memory : goal.returns-in_err-interrupt-clause-no_memory
-returns-in_err-interrupt-clause-no_memory c = λ s r holds none other.
-    sym (c.in_ok-is_told.ensures.told s r holds) ∙ c.if-not-branch.false
+returns-in_err-interrupt-clause-no_memory c = λ s r holds none.
+    sym (c.is_told.ensures s r holds) ∙ c.if-not-is_told.false

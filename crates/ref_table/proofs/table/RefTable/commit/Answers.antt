@@ -14,15 +14,16 @@ use Rattle.ref_table.proofs.Committing.{acceptable, accepted, checked_commit-per
 use Rattle.ref_table.proofs.Committing.{refused-performs, unchanged-performs, faulted-performs}
 use Rattle.ref_table.proofs.Committing.{committed-performs, given-first, failed-first}
 use Rattle.ref_table.proofs.Committing.{changed-names}
+use Rattle.ref_table.proofs.Telling.{on_err}
 use Rattle.ref_table.proofs.table.RefTable.commit.Goals as goal
 
-pub returns-then-not-branch-clause-committed : goal.returns-then-not-branch-clause-committed
-returns-then-not-branch-clause-committed g c = λ r points seat s runs.
+pub returns-then-not-fits-clause-committed : goal.returns-then-not-fits-clause-committed
+returns-then-not-fits-clause-committed g c = λ r points seat s runs.
     let stands = g.H.History.stands in
     let intent = intent_view c.args.intent.now in
     checked_commit-performs stands c.args.self.now r c.args.caller points seat c.args.point.stamp intent
     (part_under seat points) _ false _ runs
-    (sym c.if-not-branch.true ∙ c.in_ok-fits.ensures
+    (sym c.if-not-fits.true ∙ c.fits.ensures
     ∙ acceptable stands c.args.self.now r c.args.caller points intent s) refl
     (refused-performs stands c.args.self.now r c.args.caller points s)
 
@@ -33,7 +34,7 @@ returns-then-is_any_guarded_newer-clause-committed g c = λ r points seat s runs
     let intent = intent_view c.args.intent.now in
     checked_commit-performs stands c.args.self.now r c.args.caller points seat c.args.point.stamp intent
     (part_under seat points) _ true true runs
-    (sym c.if-not-branch.false ∙ c.in_ok-fits.ensures
+    (sym c.if-not-fits.false ∙ c.fits.ensures
     ∙ acceptable stands c.args.self.now r c.args.caller points intent s)
     (sym c.if-is_any_guarded_newer.true ∙ c.is_any_guarded_newer.ensures r points s)
     (unchanged-performs stands c.args.self.now r c.args.caller points seat (verdict conflict) s)
@@ -46,7 +47,7 @@ returns-in_ok-put_all-in-Ok-clause-committed g c = λ r points seat s runs.
     let d = c.args.self.now.directory in
     let value : RefNameData → Option Datum =
     λ name. newest_value name (store_of c.args.caller points r) in
-    let fit = sym c.if-not-branch.false ∙ c.in_ok-fits.ensures in
+    let fit = sym c.if-not-fits.false ∙ c.fits.ensures in
     let given = given-first (all_folded value intent.commuted)
     (λ changes. places_of d c.args.caller (intent.sets ++ changes)) _
     (c.in-Ok.ensures.placed r points s) in
@@ -70,7 +71,7 @@ returns-in-Err-Fault-clause-committed g c = λ r points seat s runs.
     let told = rw c.in-Err-Fault.field-0-is at c.in-Err-Fault.ensures.placed in
     checked_commit-performs stands c.args.self.now r c.args.caller points seat c.args.point.stamp intent
     (part_under seat points) _ true false runs
-    (sym c.if-not-branch.false ∙ c.in_ok-fits.ensures
+    (sym c.if-not-fits.false ∙ c.fits.ensures
     ∙ acceptable stands c.args.self.now r c.args.caller points intent s)
     (sym c.if-is_any_guarded_newer.false ∙ c.is_any_guarded_newer.ensures r points s)
     (faulted-performs stands c.args.self.now r c.args.caller points seat intent.sets
@@ -78,3 +79,16 @@ returns-in-Err-Fault-clause-committed g c = λ r points seat s runs.
     (failed-first (all_folded value intent.commuted)
     (λ changes. places_of c.args.self.now.directory c.args.caller (intent.sets ++ changes))
     (failure_of c.in-Err-Fault.fault) (told r points s)) s)
+
+pub returns-in_err-put_all-in-Ok-clause-accepted
+    : goal.returns-in_err-put_all-in-Ok-clause-accepted
+returns-in_err-put_all-in-Ok-clause-accepted g c = λ r points s.
+    on_err c.from_residual.result (sym (sym c.if-not-fits.false ∙ c.fits.ensures
+    ∙ acceptable g.H.History.stands c.args.self.now r c.args.caller points
+    (intent_view c.args.intent.now) s))
+
+pub returns-in-Err-NoMemory-clause-accepted : goal.returns-in-Err-NoMemory-clause-accepted
+returns-in-Err-NoMemory-clause-accepted g c = λ r points s.
+    sym (sym c.if-not-fits.false ∙ c.fits.ensures
+    ∙ acceptable g.H.History.stands c.args.self.now r c.args.caller points
+    (intent_view c.args.intent.now) s)

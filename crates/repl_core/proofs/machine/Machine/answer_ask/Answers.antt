@@ -46,9 +46,9 @@ returns-clause-refused c = λ g w right s.
     (left-so c.in-Some.is (c.get_mut.follows.holds c.answer_copied.new.self)).others
 
 pub returns-clause-no_memory : goal.returns-clause-no_memory
-returns-clause-no_memory c = λ g w right s room none other.
+returns-clause-no_memory c = λ g w right s room none.
     let t = c.args.number in
     accepts-so g w t (deeds.asks_for c.args.actor (ask_view c.args.ask.now)) c.args.self.now
     c.in-Some.tenant.now s (sym c.in-Some.ensures.value)
     (λ kept st serves. c.answer_copied.ensures.no_memory g kept.quiet
-    (store_in w.around t kept.mine) s.refs st serves none other)
+    (store_in w.around t kept.mine) s.refs st serves none)

@@ -1,9 +1,8 @@
-use Rattle.std.proofs.Common.{◌≡◌, ◌∙◌, sym, ap, subst, Err, true, false}
+use Rattle.std.proofs.Common.{◌≡◌, ◌∙◌, sym, ap, subst, Err, true}
 use Rattle.repl_asks.specs.Exchange.{AskData}
 use Rattle.repl_asks.specs.Inside.View.{ask_view, answer_view}
 use Rattle.repl_walker.specs.declared.waiting.Progress.{Progress}
 use Rattle.server_rules.specs.Plan as deeds
-use Rattle.tenant_refs.specs.Telling.{is_commit}
 use Rattle.tenant_world.proofs.Remembering.{wanted-memory}
 use Rattle.tenant_world.specs.Acting.{is_accepted}
 use Rattle.tenant_world.specs.Answers.{ask_answer_view}
@@ -77,7 +76,7 @@ returns-in-Interrupted-clause-done c = λ g l r run w right s runs at.
     c.remove.ensures.gone c.remove.ensures.others
 
 pub returns-in_err-answer-clause-no_memory : goal.returns-in_err-answer-clause-no_memory
-returns-in_err-answer-clause-no_memory c = λ g l r w s at none other.
+returns-in_err-answer-clause-no_memory c = λ g l r w s at none.
     let a = c.args.actor in
     let v = c.in-Some-Asks.walk in
     let kept = at-so (λ p. p.now) c.get.result _ (Progress.Asks v) _ c.get.ensures
@@ -86,7 +85,7 @@ returns-in_err-answer-clause-no_memory c = λ g l r w s at none other.
     let asked = ap ask_view c.ask.ensures ∙ ap (λ x. ask_view x.ask) same in
     let why = wanted-memory c.in_err-answer.field-0.0 c.from_residual.result
     c.from_residual.ensures.1 none in
-    let P : AskData → Type 0 = λ x. is_commit x ≡ false
-    → is_accepted (comes_to g l (deeds.asks_for a x)).outcome ≡ true in
-    subst P asked (λ free. c.in_err-answer.ensures.no_memory g l.quiet l.store r s.tenant s.serves
-    (ap (λ e. Err e) why) free) other
+    let P : AskData → Type 0 = λ x.
+    is_accepted (comes_to g l (deeds.asks_for a x)).outcome ≡ true in
+    subst P asked (c.in_err-answer.ensures.no_memory g l.quiet l.store r s.tenant s.serves
+    (ap (λ e. Err e) why))

@@ -5,11 +5,10 @@ use Rattle.server_rules.specs.Plan as deeds
 use Rattle.server_rules.specs.Honest.{honest_deed}
 use Rattle.tenant_actors.specs.View.{run_view}
 use Rattle.tenant_world.specs.Acting.{is_accepted}
-use Rattle.tenant_walks.specs.Inside.Seen.{is_kept, is_seen}
 use Rattle.tenant_walks.specs.Inside.Standing.{parts, comes_to}
 use Rattle.tenant_walks.specs.Inside.Walked.{ending_of}
 use Rattle.tenant_walks.proofs.Honest.{honest_deed-starts, honest_deed-asks, honest_deed-ends}
-use Rattle.tenant_walks.proofs.Memory.{refused-worn, seen-asks, unkept-unseen}
+use Rattle.tenant_walks.proofs.Memory.{refused-worn, unkept-unseen}
 use Rattle.tenant_walks.proofs.Walking.{at-so}
 use Rattle.tenant_walks.proofs.Steps.{does-as, refuses-as, stands-found, refused-memory}
 use Rattle.tenant_walks.proofs.walks.Walks.go.Goals as goal
@@ -139,10 +138,8 @@ returns-in-Some-Asks-clause-no_memory c = λ g l r right s none seen.
     c.in-Some-Asks.is c.in-Some-Asks.field-0-is in
     let same = honest_deed-asks g a l.quiet run w s.ground runs
     (found.walked a run (Progress.Asks w) runs at) in
-    let kept = is_kept c.args.self.now c.ask.new.self a in
     sym (ap (λ d. is_accepted (comes_to g l d).outcome) same)
     ∙ c.ask.ensures.no_memory g l r w found at none
-    (seen-asks kept a (ask_view w.ask) (ap (is_seen kept) same ∙ seen))
 
 pub returns-in-Some-Ends-clause-no_memory : goal.returns-in-Some-Ends-clause-no_memory
 returns-in-Some-Ends-clause-no_memory c = λ g l r right s none seen.

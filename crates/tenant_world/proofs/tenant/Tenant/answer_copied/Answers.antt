@@ -78,7 +78,7 @@ returns-in_err-answered-clause-refused c = λ g q s r right stands serves.
     declined.1.serves
 
 pub returns-in_err-answered-clause-no_memory : goal.returns-in_err-answered-clause-no_memory
-returns-in_err-answered-clause-no_memory c = λ g q s r stands serves none other.
+returns-in_err-answered-clause-no_memory c = λ g q s r stands serves none.
     let a = c.args.actor in
     let ask = ask_view c.args.asked.now in
     let p : ActorData → Plan = λ actor. asked_of g a actor ask q actor.hand in
@@ -88,8 +88,8 @@ returns-in_err-answered-clause-no_memory c = λ g q s r stands serves none other
     c.from_residual-in_err-answered.ensures.1 none in
     accepts-by q s a p (deed_result g s q (deeds.asks_for a ask)) (actor_view c.in_ok-state.state.now)
     (asks-by g q s a ask) some there
-    (c.in_err-answered.ensures.no_memory g q s r
-    (record { serves = serves; reaches = stands.attempts }) (ap (λ e. Err e) why) other)
+    (c.in_err-answered.ensures.no_memory g q s r stands.remembers
+    (record { serves = serves; reaches = stands.attempts }) (ap (λ e. Err e) why))
 
 pub invariant_of-self-2 : goal.invariant_of-self-2
 invariant_of-self-2 c =
