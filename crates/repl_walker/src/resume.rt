@@ -1,5 +1,5 @@
 // An evaluation, from one ask to the next.
-ghost use Rattle.std.specs.Prelude.{◌≡◌, ◌≤◌, [], IfOk};
+ghost use Rattle.std.specs.Prelude.{◌≡◌, ◌≤◌, ◌++◌, ◌∷◌, [], IfOk, OnOk};
 ghost use Rattle.repl_asks.specs.Inside.View.{answer_view, trace_view};
 ghost use Rattle.repl_jobs.specs.Inside.View.{job_view};
 ghost use Rattle.evaluation_rules.specs.Evaluation.{evaluation};
@@ -47,10 +47,22 @@ impl Walk {
             ask,
             waiting,
         } = self;
-        trace.push(Exchange::of(ask, &answer)?)?;
+        add(&mut trace, Exchange::of(ask, &answer)?)?;
         let reached = waiting.go_on(alloc, answer)?;
         Ok(progress(job, trace, reached))
     }
+}
+
+// Most forms ask once, and who journals their endings keeps the room that a trace has: so the first
+// exchange gets no more than it needs.
+fn add(trace: &mut Trace, exchange: Exchange) -> Result<(), AllocError>
+    ensures { OnOk result (trace.new.items ≡ trace.old.items ++ exchange ∷ []) }
+{
+    if trace.is_empty() {
+        trace.reserve_exact(1)?;
+    }
+    trace.push(exchange)?;
+    Ok(())
 }
 
 // How far the job came by this trace.

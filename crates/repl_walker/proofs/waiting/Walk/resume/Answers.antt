@@ -7,6 +7,6 @@ use Rattle.repl_walker.proofs.waiting.Walk.resume.Goals as goal
 pub progress-requires : goal.progress-requires
 progress-requires c =
     let w = c.args.self in
-    let grown = trace-pushed w.trace.items c.push.new.self.items _ _ c.in_ok-push.ensures.items c.in_ok-of.ensures in
-    led-to-answered (job_view w.job) (trace_view w.trace.items) (trace_view c.push.new.self.items) (ask_view w.ask) (answer_view c.args.answer)
+    let grown = trace-pushed w.trace.items c.add.new.trace.items _ _ c.in_ok-add.ensures c.in_ok-of.ensures in
+    led-to-answered (job_view w.job) (trace_view w.trace.items) (trace_view c.add.new.trace.items) (ask_view w.ask) (answer_view c.args.answer)
     (tree_behind w.waiting) _ w.led grown c.in_ok-reached.ensures.meaning
