@@ -8,6 +8,10 @@ struct Signs {
     requests: u64,
     // how often replies were taken out, so that there is room for more
     rooms: u64,
+    // how many threads wait for a request, and how many for room: to notify nobody takes a call of
+    // the system, too
+    wait_for_request: u64,
+    wait_for_room: u64,
     // how many evaluations are under way
     evaluations: u64,
     // whether the peer may send more
@@ -37,6 +41,8 @@ impl Desk {
             signs: Mutex::new(Signs {
                 requests: 0,
                 rooms: 0,
+                wait_for_request: 0,
+                wait_for_room: 0,
                 evaluations: 0,
                 is_reading: true,
                 is_broken: false,
@@ -84,7 +90,11 @@ impl Desk {
     pub(crate) fn note_requests<R: Wait>(&self, rt: &R, count: usize) {
         let mut signs = self.signs.lock(rt);
         signs.requests = signs.requests.wrapping_add(1);
+        let waiting = signs.wait_for_request;
         drop(signs);
+        if waiting == 0 {
+            return;
+        }
         if count == 1 {
             self.requested.notify_one();
         } else {
@@ -99,10 +109,14 @@ impl Desk {
 
     /// Waits until a request came that was not there when they were so many.
     pub(crate) fn wait_for_request<R: Wait>(&self, rt: &R, seen: u64) {
-        let signs = self.signs.lock(rt);
-        drop(
-            self.requested.wait_while(rt, signs, |signs| signs.requests == seen && !signs.is_over),
+        let mut signs = self.signs.lock(rt);
+        signs.wait_for_request = signs.wait_for_request.saturating_add(1);
+        let mut signs = self.requested.wait_while(
+            rt,
+            signs,
+            |signs| signs.requests == seen && !signs.is_over,
         );
+        signs.wait_for_request = signs.wait_for_request.saturating_sub(1);
     }
 
     /// How often replies were taken out until now.
@@ -112,11 +126,12 @@ impl Desk {
 
     /// Waits until replies were taken out since then.
     pub(crate) fn wait_for_room<R: Wait>(&self, rt: &R, seen: u64) {
-        let signs = self.signs.lock(rt);
-        drop(
-            self.emptied
-                .wait_while(rt, signs, |signs| signs.rooms == seen && !signs.is_over),
-        );
+        let mut signs = self.signs.lock(rt);
+        signs.wait_for_room = signs.wait_for_room.saturating_add(1);
+        let mut signs = self
+            .emptied
+            .wait_while(rt, signs, |signs| signs.rooms == seen && !signs.is_over);
+        signs.wait_for_room = signs.wait_for_room.saturating_sub(1);
     }
 
     /// An evaluation is under way.
@@ -168,8 +183,11 @@ impl Desk {
     pub(crate) fn note_room<R: Wait>(&self, rt: &R) {
         let mut signs = self.signs.lock(rt);
         signs.rooms = signs.rooms.wrapping_add(1);
+        let waiting = signs.wait_for_room;
         drop(signs);
-        self.emptied.notify_all();
+        if 0 < waiting {
+            self.emptied.notify_all();
+        }
     }
 
     /// Waits until the writer is to look, and nobody writes.

@@ -73,7 +73,8 @@ pub(crate) enum Told {
 /// What came of an ending.
 #[derive(Drop)]
 pub(crate) enum Ended {
-    Taken(Vec<Vec<u8>>),
+    // its replies; and where no actor has anything to begin now, how often a request came
+    Taken(Vec<Vec<u8>>, Option<u64>),
     Held(Ending, u64),
     Refused,
 }
@@ -172,7 +173,13 @@ impl<'a, L: Ledger, G: Gate> Connection<'a, L, G> {
         let tenant = seat.tenant();
         let mut book = locked(rt, self.book);
         match book.act(seat, Step::Ended(tenant, actor, ending)) {
-            Ok(_) => Ended::Taken(self.replies(rt, &mut *book, seat)),
+            Ok(_) => {
+                let replies = self.replies(rt, &mut *book, seat);
+                match book.ready(tenant) {
+                    Some(_) => Ended::Taken(replies, None),
+                    None => Ended::Taken(replies, Some(self.desk.requests(rt))),
+                }
+            }
             Err(
                 Refused {
                     why: Refusal::Held,

@@ -20,10 +20,14 @@ pub(crate) fn work<L: Ledger, R: Wait, G: Gate>(
         }
         match connection.begin(rt, &mut seat) {
             Found::Form(actor, job) => {
-                if !evaluate(rt, connection, &mut seat, actor, &job) {
+                let next = evaluate(rt, connection, &mut seat, actor, &job);
+                if matches!(next, Next::Cut) {
                     connection.cut(rt);
                 }
                 connection.desk.end_evaluation(rt);
+                if let Next::Wait(seen) = next {
+                    connection.desk.wait_for_request(rt, seen);
+                }
             }
             Found::Answered(replies) => connection.write(rt, replies),
             Found::Nothing(seen) => connection.desk.wait_for_request(rt, seen),
@@ -34,29 +38,39 @@ pub(crate) fn work<L: Ledger, R: Wait, G: Gate>(
     seat
 }
 
-// Evaluates a form to its end. Tells whether the connection goes on.
+// What a worker does behind an evaluation.
+#[derive(Drop)]
+enum Next {
+    Begin,
+    // Nobody had anything to begin when so many requests had come.
+    Wait(u64),
+    // The connection cannot go on.
+    Cut,
+}
+
+// Evaluates a form to its end.
 fn evaluate<L: Ledger, R: Wait, G: Gate>(
     rt: &R,
     connection: &Connection<'_, L, G>,
     seat: &mut Seat<L>,
     actor: Actor,
     job: &Job,
-) -> bool {
+) -> Next {
     let Ok(mut progress) = start(connection.alloc, job) else {
-        return false;
+        return Next::Cut;
     };
     for _ in rt.forever() {
         match progress {
             Progress::Asks(walk) => match ask(rt, connection, seat, actor, &walk) {
                 Told::Answer(answer) => match walk.resume(connection.alloc, answer) {
                     Ok(later) => progress = later,
-                    Err(_) => return false,
+                    Err(_) => return Next::Cut,
                 },
                 Told::Interrupted(replies) => {
                     connection.write(rt, replies);
-                    return true;
+                    return Next::Begin;
                 }
-                Told::Refused => return false,
+                Told::Refused => return Next::Cut,
             },
             Progress::Ends(ending) => return end(rt, connection, seat, actor, ending),
         }
@@ -79,29 +93,31 @@ fn ask<L: Ledger, R: Wait, G: Gate>(
     }
 }
 
-// Hands in an ending, as soon as there is room for its replies. Tells whether the connection goes
-// on.
+// Hands in an ending, as soon as there is room for its replies.
 fn end<L: Ledger, R: Wait, G: Gate>(
     rt: &R,
     connection: &Connection<'_, L, G>,
     seat: &mut Seat<L>,
     actor: Actor,
     mut ending: Ending,
-) -> bool {
+) -> Next {
     for _ in rt.forever() {
         match connection.end_form(rt, seat, actor, ending) {
-            Ended::Taken(replies) => {
+            Ended::Taken(replies, seen) => {
                 connection.write(rt, replies);
-                return true;
+                return match seen {
+                    Some(seen) => Next::Wait(seen),
+                    None => Next::Begin,
+                };
             }
             Ended::Held(back, seen) => {
                 connection.desk.wait_for_room(rt, seen);
                 if connection.desk.is_over(rt) {
-                    return false;
+                    return Next::Cut;
                 }
                 ending = back;
             }
-            Ended::Refused => return false,
+            Ended::Refused => return Next::Cut,
         }
     }
     unreachable!()
