@@ -1,7 +1,7 @@
 -- A decoder that stands for some bytes stands for more after a feed.
-use Rattle.std.proofs.Common.{◌≡◌, ℕ, ◌+◌, ◌-◌, List, [], ◌∷◌, ◌++◌, length, drop, Option, Some}
-use Rattle.std.proofs.Common.{None, MatchOption, Err, refl, sym, ap, ◌∙◌, subst, arith}
-use Rattle.std.proofs.lemmas.List.{drop_all}
+use Rattle.std.proofs.Common.{◌≡◌, ℕ, ◌+◌, ◌-◌, List, [], ◌∷◌, ◌++◌, length, take, drop, Option, Some}
+use Rattle.std.proofs.Common.{None, MatchOption, refl, sym, ap, ◌∙◌, subst, arith}
+use Rattle.std.proofs.lemmas.List.{drop_all, take_all}
 use Rattle.bencode_wire.specs.Tree.{Tree}
 use Rattle.bencode_wire.specs.Spelling.{put_sorted}
 use Rattle.bencode_wire.specs.Inside.Cut.{Cut}
@@ -9,7 +9,7 @@ use Rattle.bencode_wire.specs.Fault.{StreamRule, counted_place, fault_at}
 use Rattle.bencode_wire.specs.Inside.ByteSteps.{StreamReading, rests, ended_reading, stream_reading, start}
 use Rattle.bencode_wire.specs.Inside.Reader.{cut_view}
 use Rattle.bencode_wire.specs.Stream.{StreamEnding, rest, fault, IsRest, Streams}
-use Rattle.bencode_wire.specs.Inside.Course.{fault_of_end, ahead, ready_view, Advances, Continues}
+use Rattle.bencode_wire.specs.Inside.Course.{fault_of_end, ahead, ready_view, Advances, Stops}
 use Rattle.bencode_wire.specs.Inside.Decoder.{ready_of, rest_of, rest_place, fault_of, Shows, IsUnchanged}
 use Rattle.bencode_wire.specs.Inside.Decoder.{DecoderStands}
 use Rattle.bencode_wire.specs.Inside.Held.{Holds}
@@ -24,10 +24,12 @@ use Rattle.bencode_wire.proofs.Streams.{streams_stay}
 
 -- a course at the end has nothing ahead
 pub ahead_done : (limit : ℕ) (bytes : List ℕ) (next : Course) → next.at ≡ length bytes
-    → ahead limit bytes next ≡ ended_reading (rests (next.at - next.begin) (cut_view next.reader))
+    → ahead limit bytes next ≡ ended_reading (rests (next.at - next.begin) (cut_view (drop next.begin bytes) next.reader))
 ahead_done limit bytes next e =
     let none : drop next.at bytes ≡ [] = drop_all next.at bytes (omega arith) in
-    ap (λ bs. stream_reading limit put_sorted (next.at - next.begin) (cut_view next.reader) next.at bs) none
+    let all : take next.at bytes ≡ bytes = take_all next.at bytes (omega arith) in
+    ap (λ bs. stream_reading limit put_sorted (next.at - next.begin) (cut_view (drop next.begin (take next.at bytes)) next.reader) next.at bs) none
+    ∙ ap (λ bs. ended_reading (rests (next.at - next.begin) (cut_view (drop next.begin bs) next.reader))) all
 
 pub same_cut : (a b : ℕ) (c d : Cut) (r : StreamReading) → r ≡ ended_reading (rests a c) → r ≡ ended_reading (rests b d) → c ≡ d
 same_cut a b c d r e f = let g : rests a c ≡ rests b d = ap (λ r. r.end) (sym e ∙ f) in cc
@@ -40,7 +42,7 @@ not_fault place n c now f e h = none_some f (fault_of_end place now.end) (ap (λ
 
 -- where what is ahead is part of a message, no rule is met
 pub only_memory : (limit place : ℕ) (bytes : List ℕ) (course : Course) (old new : List Ben) (n : ℕ) (c : Cut) (f : WireFault)
-    → ahead limit bytes course ≡ ended_reading (rests n c) → Continues limit place bytes course old new (Err f) → f ≡ wire.NoMemory
+    → ahead limit bytes course ≡ ended_reading (rests n c) → Stops limit place bytes course old new f → f ≡ wire.NoMemory
 only_memory limit place bytes course old new n c wire.NoMemory e h = refl
 only_memory limit place bytes course old new n c (wire.Malformed p) e h = absurd (not_fault place n c (ahead limit bytes course) (wire.Malformed p) e h.end)
 only_memory limit place bytes course old new n c (wire.TooLong p) e h = absurd (not_fault place n c (ahead limit bytes course) (wire.TooLong p) e h.end)
@@ -101,30 +103,36 @@ stands_same limit old new all taken same s = record {
 -- what is kept is read as its cut
 pub resumed : (d : Decoder) (o old : Option Reader) (bytes : List ℕ) (reader : Reader) → o ≡ old → bytes ≡ d.rest → MatchOption old (Unit {0}) (Holds d.rest)
     → (part : IsRest d.limit d.rest)
-    → ((c : Cut) → MatchOption o (Unit {0}) (Holds bytes) → IsRest d.limit bytes → stream_reading d.limit put_sorted 0 start 0 bytes ≡ ended_reading (rests (length bytes) c) → cut_view reader ≡ c)
-    → cut_view reader ≡ (rest_kept d.limit d.rest part).0
+    → ((c : Cut) → MatchOption o (Unit {0}) (Holds bytes) → IsRest d.limit bytes → stream_reading d.limit put_sorted 0 start 0 bytes ≡ ended_reading (rests (length bytes) c) → cut_view bytes reader ≡ c)
+    → cut_view d.rest reader ≡ (rest_kept d.limit d.rest part).0
 resumed d o old bytes reader e f held part reads =
     let k = rest_kept d.limit d.rest part in
-    reads k.0 (subst (λ x. MatchOption x (Unit {0}) (Holds bytes)) (sym e) (subst (λ x. MatchOption old (Unit {0}) (Holds x)) (sym f) held))
+    ap (λ x. cut_view x reader) (sym f) ∙ reads k.0 (subst (λ x. MatchOption x (Unit {0}) (Holds bytes)) (sym e) (subst (λ x. MatchOption old (Unit {0}) (Holds x)) (sym f) held))
     (subst (λ x. IsRest d.limit x) (sym f) part) (subst (λ x. stream_reading d.limit put_sorted 0 start 0 x ≡ ended_reading (rests (length x) k.0)) (sym f) k.1.reads)
 
 -- a reading from a message's start is what it was
 pub resumes : (limit place : ℕ) (bytes : List ℕ) (course next : Course) (old new : List Ben) (c : Cut)
-    → cut_view course.reader ≡ start → course.begin ≡ 0 → course.at ≡ 0 → next.at ≡ length bytes
+    → ((read : List ℕ) → cut_view read course.reader ≡ start) → course.begin ≡ 0 → course.at ≡ 0 → next.at ≡ length bytes
     → Advances (ahead limit bytes course) (ahead limit bytes next) old new
-    → stream_reading limit put_sorted 0 start 0 bytes ≡ ended_reading (rests (length bytes) c) → cut_view next.reader ≡ c
+    → stream_reading limit put_sorted 0 start 0 bytes ≡ ended_reading (rests (length bytes) c)
+    → (cut_view bytes next.reader ≡ c) × (next.begin ≡ 0)
 resumes limit place bytes course next old new c fresh begin at done adv read =
     let before : course.at - course.begin ≡ 0 = omega arith in
+    let none = drop course.begin (take course.at bytes) in
     let now : ahead limit bytes course ≡ stream_reading limit put_sorted 0 start 0 bytes =
-    ap (λ k. stream_reading limit put_sorted k (cut_view course.reader) course.at (drop course.at bytes)) before
-    ∙ ap (λ x. stream_reading limit put_sorted 0 x course.at (drop course.at bytes)) fresh
+    ap (λ k. stream_reading limit put_sorted k (cut_view none course.reader) course.at (drop course.at bytes)) before
+    ∙ ap (λ x. stream_reading limit put_sorted 0 x course.at (drop course.at bytes)) (fresh none)
     ∙ ap (λ k. stream_reading limit put_sorted 0 start k (drop k bytes)) at in
-    let e : rests (next.at - next.begin) (cut_view next.reader) ≡ rests (length bytes) c =
+    let e : rests (next.at - next.begin) (cut_view (drop next.begin bytes) next.reader) ≡ rests (length bytes) c =
     sym (ap (λ r. r.end) (ahead_done limit bytes next done)) ∙ adv.end ∙ ap (λ r. r.end) (now ∙ read) in
-    cc
+    let sizes : next.at - next.begin ≡ length bytes = cc in
+    let cuts : cut_view (drop next.begin bytes) next.reader ≡ c = cc in
+    let begun = next.begun in
+    let whole : next.begin ≡ 0 = omega arith in
+    (ap (λ k. cut_view (drop k bytes) next.reader) (sym whole) ∙ cuts, whole)
 
 -- what the reader holds is what the machine makes of the bytes
-pub held : (limit : ℕ) (m : List ℕ) (r : Reader) (c : Cut) → Holds m r → IsRest limit m → stream_reading limit put_sorted 0 start 0 m ≡ ended_reading (rests (length m) c) → cut_view r ≡ c
+pub held : (limit : ℕ) (m : List ℕ) (r : Reader) (c : Cut) → Holds m r → IsRest limit m → stream_reading limit put_sorted 0 start 0 m ≡ ended_reading (rests (length m) c) → cut_view m r ≡ c
 held limit m r c h part e =
     let k = rest_kept limit m part in
     let same : k.0 ≡ c = same_cut _ _ k.0 c _ k.1.reads e in

@@ -1,16 +1,17 @@
 -- A feed reads on from what is kept, and the decoder then stands for the piece too.
-use Rattle.std.proofs.Common.{◌≡◌, ℕ, ◌+◌, ◌-◌, ◌^◌, min, List, ◌++◌, length, drop, Some, None, Err}
+use Rattle.std.proofs.Common.{◌≡◌, ℕ, ◌+◌, ◌-◌, ◌^◌, min, ◌≤◌, List, ◌++◌, length, take, drop, length-drop, Some, None}
 use Rattle.std.proofs.Common.{refl, sym, ap, ◌∙◌, subst, append_assoc, append-nil, length-append}
 use Rattle.std.proofs.Common.{arith}
 use Rattle.std.proofs.Math.Seq.{drop-append_seam}
+use Rattle.std.proofs.lemmas.List.{take_at}
 use Rattle.bencode_wire.specs.Tree.{Tree}
 use Rattle.bencode_wire.specs.Spelling.{put_sorted}
 use Rattle.bencode_wire.specs.Inside.Cut.{Cut}
 use Rattle.bencode_wire.specs.Fault.{counted_place, fault_at}
 use Rattle.bencode_wire.specs.Inside.ByteSteps.{ReadingEnd, rests, faults, stream_reading}
-use Rattle.bencode_wire.specs.Inside.Reader.{cut_view}
+use Rattle.bencode_wire.specs.Inside.Reader.{cut_view, come_of}
 use Rattle.bencode_wire.specs.Stream.{rest, fault, IsRest, Streams}
-use Rattle.bencode_wire.specs.Inside.Course.{fault_of_end, ahead, ready_view, Advances, Faults, Continues}
+use Rattle.bencode_wire.specs.Inside.Course.{fault_of_end, ahead, ready_view, Advances, Faults, Stops}
 use Rattle.bencode_wire.specs.Inside.Decoder.{ready_of, rest_of, rest_place, fault_of, DecoderStands}
 use Rattle.bencode_wire.specs.Inside.Held.{Holds}
 use Rattle.bencode_wire.specs.declared.ben.Ben.{Ben}
@@ -29,7 +30,7 @@ pub record Fed (limit : ℕ) (d : Decoder) (m piece : List ℕ) (course : Course
   pub within : d.limit ≡ limit
   pub shown : rest_of d ≡ m
   pub read : Kept limit m c
-  pub reader : cut_view course.reader ≡ c
+  pub reader : cut_view (rest_of d) course.reader ≡ c
   pub begin : course.begin ≡ 0
   pub at : course.at ≡ length (rest_of d)
 
@@ -40,9 +41,13 @@ fed_ahead limit d m piece course c f =
     let before : course.at - course.begin ≡ length m = let b = f.begin in omega arith in
     let at : course.at ≡ 0 + length m = omega arith in
     let left : drop course.at (rest_of d ++ piece) ≡ piece = ap (λ k. drop k (rest_of d ++ piece)) f.at ∙ drop-append_seam (rest_of d) piece in
-    ap (λ l. stream_reading l put_sorted (course.at - course.begin) (cut_view course.reader) course.at (drop course.at (rest_of d ++ piece))) f.within
-    ∙ ap (λ bs. stream_reading limit put_sorted (course.at - course.begin) (cut_view course.reader) course.at bs) left
-    ∙ ap (λ k. stream_reading limit put_sorted k (cut_view course.reader) course.at piece) before
+    let read = drop course.begin (take course.at (rest_of d ++ piece)) in
+    let front : read ≡ rest_of d =
+    ap (λ k. drop k (take course.at (rest_of d ++ piece))) f.begin ∙ take_at (rest_of d) piece course.at (sym f.at) in
+    ap (λ l. stream_reading l put_sorted (course.at - course.begin) (cut_view read course.reader) course.at (drop course.at (rest_of d ++ piece))) f.within
+    ∙ ap (λ bs. stream_reading limit put_sorted (course.at - course.begin) (cut_view read course.reader) course.at bs) left
+    ∙ ap (λ k. stream_reading limit put_sorted k (cut_view read course.reader) course.at piece) before
+    ∙ ap (λ x. stream_reading limit put_sorted (length m) (cut_view x course.reader) course.at piece) front
     ∙ ap (λ x. stream_reading limit put_sorted (length m) x course.at piece) f.reader
     ∙ ap (λ k. stream_reading limit put_sorted (length m) c k piece) at
 
@@ -66,8 +71,8 @@ pub feed_rest : (limit : ℕ) (old new : Decoder) (all : List ℕ) (taken : List
 feed_rest limit old new all taken m piece course next c streams place fed adv is =
     let now = ahead old.limit (rest_of old ++ piece) course in
     let over = ahead_done old.limit (rest_of old ++ piece) next is.done in
-    let end : now.end ≡ rests (next.at - next.begin) (cut_view next.reader) = sym adv.end ∙ ap (λ r. r.end) over in
-    let found : Found limit 0 (m ++ piece) now.messages (rests (next.at - next.begin) (cut_view next.reader)) =
+    let end : now.end ≡ rests (next.at - next.begin) (cut_view (drop next.begin (rest_of old ++ piece)) next.reader) = sym adv.end ∙ ap (λ r. r.end) over in
+    let found : Found limit 0 (m ++ piece) now.messages (rests (next.at - next.begin) (cut_view (drop next.begin (rest_of old ++ piece)) next.reader)) =
     subst (λ e. Found limit 0 (m ++ piece) now.messages e) end (fed_found limit old m piece course c fed) in
     let front = found.0 in
     let left = found.1 in
@@ -99,14 +104,15 @@ feed_rest limit old new all taken m piece course next c streams place fed adv is
 -- what is kept after it is part of a message, which the reader holds
 pub feed_held : (old : Decoder) (piece : List ℕ) (course next : Course) (c : Cut) (was now : List Ben) → Fed old.limit old old.rest piece course c
     → Advances (ahead old.limit (old.rest ++ piece) course) (ahead old.limit (old.rest ++ piece) next) was now → next.at ≡ length (old.rest ++ piece)
+    → come_of next.reader.token ≤ next.at - next.begin
     → IsRest old.limit (drop next.begin (old.rest ++ piece)) × Holds (drop next.begin (old.rest ++ piece)) next.reader
-feed_held old piece course next c was new fed adv done =
+feed_held old piece course next c was new fed adv done come =
     let limit = old.limit in
     let m = old.rest in
     let now = ahead limit (m ++ piece) course in
     let over = ahead_done limit (m ++ piece) next done in
-    let end : now.end ≡ rests (next.at - next.begin) (cut_view next.reader) = sym adv.end ∙ ap (λ r. r.end) over in
-    let found : Found limit 0 (m ++ piece) now.messages (rests (next.at - next.begin) (cut_view next.reader)) =
+    let end : now.end ≡ rests (next.at - next.begin) (cut_view (drop next.begin (m ++ piece)) next.reader) = sym adv.end ∙ ap (λ r. r.end) over in
+    let found : Found limit 0 (m ++ piece) now.messages (rests (next.at - next.begin) (cut_view (drop next.begin (m ++ piece)) next.reader)) =
     subst (λ e. Found limit 0 (m ++ piece) now.messages e) end (fed_found limit old m piece course c fed) in
     let front = found.0 in
     let left = found.1 in
@@ -117,9 +123,10 @@ feed_held old piece course next c was new fed adv done =
     let now_rest : drop next.begin (m ++ piece) ≡ left = ap (λ k. drop k (m ++ piece)) cutting ∙ ap (λ x. drop (length front) x) found.2 ∙ drop-append_seam front left in
     let part = rest_is limit 0 (m ++ piece) left now.messages found.5 in
     let k = rest_kept limit left part in
-    let same : k.0 ≡ cut_view next.reader = same_cut _ _ k.0 (cut_view next.reader) _ k.1.reads found.4 in
+    let same : k.0 ≡ cut_view (drop next.begin (m ++ piece)) next.reader = same_cut _ _ k.0 (cut_view (drop next.begin (m ++ piece)) next.reader) _ k.1.reads found.4 in
     let held = kept_cut limit left k.0 k.1 in
-    (subst (λ x. IsRest limit x) (sym now_rest) part, (held.0, held.1, held.2 ∙ sym now_rest, sym same ∙ held.3))
+    let long : length (drop next.begin (m ++ piece)) ≡ next.at - next.begin = length-drop next.begin (m ++ piece) ∙ ap (λ n. n - next.begin) (sym done) in
+    (subst (λ x. IsRest limit x) (sym now_rest) part, (held.0, held.1, held.2 ∙ sym now_rest, sym same ∙ held.3, omega arith))
 
 -- the decoder after a feed that met a rule
 pub record IsBroken (old new : Decoder) (f : WireFault) : Type 0 where
@@ -156,7 +163,7 @@ feed_breaks limit old new all taken m piece course c f streams place fed met b =
 
 pub feed_broken : (limit : ℕ) (old new : Decoder) (all : List ℕ) (taken : List Tree) (m piece : List ℕ) (course : Course) (c : Cut) (f : WireFault)
     → Streams limit 0 all (taken ++ ready_of old) (rest m) → rest_place old ≡ counted_place (length all - length m)
-    → Fed limit old m piece course c → Continues old.limit (rest_place old) (rest_of old ++ piece) course old.ready new.ready (Err f)
+    → Fed limit old m piece course c → Stops old.limit (rest_place old) (rest_of old ++ piece) course old.ready new.ready f
     → (f ≡ wire.NoMemory → ⊥) → IsBroken old new f → DecoderStands limit new (all ++ piece) taken
 feed_broken limit old new all taken m piece course c wire.NoMemory streams place fed met other b = absurd (other refl)
 feed_broken limit old new all taken m piece course c (wire.Malformed p) streams place fed met other b = feed_breaks limit old new all taken m piece course c (wire.Malformed p) streams place fed met b
@@ -164,13 +171,13 @@ feed_broken limit old new all taken m piece course c (wire.TooLong p) streams pl
 feed_broken limit old new all taken m piece course c (wire.TooDeep p) streams place fed met other b = feed_breaks limit old new all taken m piece course c (wire.TooDeep p) streams place fed met b
 
 -- the course of a feed
-pub fed_by : (d : Decoder) (reader : Reader) (piece : List ℕ) (course : Course) (part : IsRest d.limit d.rest) → cut_view reader ≡ (rest_kept d.limit d.rest part).0
+pub fed_by : (d : Decoder) (reader : Reader) (piece : List ℕ) (course : Course) (part : IsRest d.limit d.rest) → cut_view d.rest reader ≡ (rest_kept d.limit d.rest part).0
     → course.reader ≡ reader → course.begin ≡ 0 → course.at ≡ length d.rest → Fed d.limit d d.rest piece course (rest_kept d.limit d.rest part).0
 fed_by d reader piece course part is same begin at = record {
   within = refl;
   shown = refl;
   read = (rest_kept d.limit d.rest part).1;
-  reader = ap cut_view same ∙ is;
+  reader = ap (cut_view d.rest) same ∙ is;
   begin = begin;
   at = at;
 }

@@ -1,4 +1,6 @@
 pub mod Views
+pub mod Tokens
+pub mod Frames
 pub mod Lookups
 pub mod Rules
 pub mod Runs

@@ -15,14 +15,18 @@ pub(crate) struct Reader {
 #[derive(Drop)]
 pub(crate) enum Frame {
     List(Vec<Ben>),
-    // A key may come, or the end.
-    Keys(Dictionary),
-    // The value of this key has to come.
-    Value(Dictionary, Vec<u8>),
+    Dictionary(OpenDictionary),
+}
+
+#[derive(Drop)]
+pub(crate) struct OpenDictionary {
+    pub(crate) pairs: Dictionary,
+    // The key whose value has to come. Without one a key may come, or the end.
+    pub(crate) key: Option<Vec<u8>>,
 }
 
 // The part of a token that has come.
-#[derive(Drop)]
+#[derive(Clone, Copy)]
 pub(crate) enum Token {
     // Nothing: the last byte ended a token.
     Between,
@@ -33,7 +37,7 @@ pub(crate) enum Token {
     IntegerDigits(PartOfInteger),
     // The digits of a string's length.
     Length(usize),
-    Text(PartOfString),
+    String(PartOfString),
 }
 
 // Digits of an integer, behind a minus or not.
@@ -44,18 +48,20 @@ pub(crate) struct PartOfInteger {
     ghost in_range: { value ≤ greatest is_negative },
 }
 
-// A string of which at least one byte is still to come.
-#[derive(Drop)]
+// A string of which at least one byte is still to come. Those that have come are the last ones that
+// were read.
+#[derive(Clone, Copy)]
 pub(crate) struct PartOfString {
+    pub(crate) length: usize,
     pub(crate) left: usize,
-    pub(crate) bytes: Vec<u8>,
     ghost is_partial: { 0 < left },
+    ghost within: { left ≤ length },
 }
 
-// What a step comes to.
+// What a byte comes to.
 #[derive(Drop)]
 pub(crate) enum Progress {
-    Partial(Reader),
+    Partial(Token),
     Whole(Ben),
 }
 

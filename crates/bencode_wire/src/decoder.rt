@@ -16,11 +16,12 @@ use std::marker::Model;
 
 /// Reads a stream of messages.
 ///
-/// The bytes of the unfinished message are kept beside what they were read as. So a piece costs the
-/// reading of its own bytes, however the stream is cut; only after want of memory are the kept
-/// bytes read once more. Until the next piece those of the messages that became whole are kept too,
-/// so that the last piece can be taken back. Contracts see what it shows, a `DecoderState`, and not
-/// how it is kept.
+/// The bytes of the unfinished message are kept, beside the values that they were read as. A string
+/// becomes a value when all its bytes have come, so one that has come in part is kept once. A piece
+/// costs the reading of its own bytes, however the stream is cut; only after want of memory are the
+/// kept bytes read once more. Until the next piece those of the messages that became whole are kept
+/// too, so that the last piece can be taken back. Contracts see what it shows, a `DecoderState`, and
+/// not how it is kept.
 #[derive(Drop)]
 pub struct Decoder {
     pub(crate) alloc: Global,
@@ -183,14 +184,21 @@ impl Decoder {
         if self.tail.bytes.extend_from_slice(piece).is_err() {
             return Err(WireFault::NoMemory);
         }
-        let begin = Course {
+        let mut course = Course {
             reader,
             begin: 0,
             at: kept,
         };
         let bytes = self.tail.bytes.as_slice();
-        match read_on(self.alloc, self.limit, start, bytes, begin, &mut self.ready) {
-            Ok(course) => {
+        match read_on(
+            self.alloc,
+            self.limit,
+            start,
+            bytes,
+            &mut course,
+            &mut self.ready,
+        ) {
+            Ok(()) => {
                 self.tail.begin = course.begin;
                 self.reader = Some(course.reader);
                 self.before = (ready == 0).then_some(kept);

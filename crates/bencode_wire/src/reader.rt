@@ -1,24 +1,30 @@
-// One message, read byte by byte. A `Reader` is what has come of it: the lists and dictionaries
-// that are open, and the part of the token that the last byte stands in. Each step takes the
-// reader by value and gives the next one.
-ghost use Rattle.std.specs.Prelude.{◌≡◌, ℕ, ◌<◌, ◌≤◌, ◌+◌, ◌*◌, ◌^◌, length, nat_le, if◌then◌else◌};
-ghost use Rattle.std.specs.Prelude.{MatchOption, IfOk, IfErr, Some, None, [], ◌∷◌};
+// One message, read token by token. A `Reader` is what has come of it: the lists and dictionaries
+// that are open, and the part of the token that the last byte stands in. Both are changed in place.
+// After a refusal a reader is not read on.
+ghost use Rattle.std.specs.Prelude.{◌≡◌, ℕ, ◌<◌, ◌≤◌, ◌+◌, ◌-◌, ◌*◌, ◌^◌, List, [], ◌∷◌, length};
+ghost use Rattle.std.specs.Prelude.{take, drop, nat_le, if◌then◌else◌, MatchOption, IfSome};
+ghost use Rattle.std.specs.Prelude.{Some, None, OnOk, IfErr};
 ghost use Rattle.bencode_wire.specs.Inside.Cut as cuts;
 ghost use Rattle.bencode_wire.specs.Inside.Beginnings as beginnings;
 ghost use Rattle.bencode_wire.specs.Inside.ByteEffects as effects;
 ghost use Rattle.bencode_wire.specs.Inside.ByteSteps as steps;
 ghost use Rattle.bencode_wire.specs.Inside.ByteSteps.{judged};
 ghost use Rattle.bencode_wire.specs.Tree as tree;
-ghost use Rattle.bencode_wire.specs.Inside.Cut.{in_list, at_key, at_value};
+ghost use Rattle.bencode_wire.specs.Inside.Cut.{in_list};
 ghost use Rattle.bencode_wire.specs.Spelling.{put_sorted};
 ghost use Rattle.bencode_wire.specs.Inside.View.{tree_view, trees_view, entries_view};
 ghost use Rattle.bencode_wire.specs.Inside.Sign.{sign_of};
-ghost use Rattle.bencode_wire.specs.Inside.Reader.{frame_view, frames_view, token_view, cut_view};
-ghost use Rattle.bencode_wire.specs.Inside.Gives.{Yields};
+ghost use Rattle.bencode_wire.specs.Inside.Reader.{frame_view, frames_view, dictionary_view};
+ghost use Rattle.bencode_wire.specs.Inside.Reader.{begun_view, token_view, cut_view, come_of};
+ghost use Rattle.bencode_wire.specs.Inside.Reader.{last_bytes, BeginsShort};
+ghost use Rattle.bencode_wire.specs.Inside.Gives.{Puts, Yields, Steps};
 
 use crate::ben::{Ben, Dictionary};
-use crate::cut::{Expected, Frame, PartOfInteger, PartOfString, Progress, Reader, Token};
+use crate::cut::{
+    Expected, Frame, OpenDictionary, PartOfInteger, PartOfString, Progress, Reader, Token,
+};
 use crate::fault::Refusal;
+use crate::fields::put_field;
 use crate::sign::Sign;
 use std::alloc::Global;
 
@@ -27,7 +33,8 @@ const MAX_NESTING: usize = 64;
 
 impl Reader {
     pub(crate) fn new(alloc: Global) -> Reader
-        ensures { cut_view result ≡ steps.start }
+        ensures start { (read : List ℕ) → cut_view read result ≡ steps.start }
+        ensures none { come_of result.token ≡ 0 }
     {
         Reader {
             frames: Vec::new(alloc),
@@ -40,57 +47,160 @@ impl Reader {
         requires { 0 < available }
         ensures some { 0 < result }
         ensures within { result ≤ available }
-        ensures run { steps.TakesRun (token_view self.now.token) result }
+        ensures run { (read : List ℕ) → steps.TakesRun (token_view read self.now.token) result }
     {
-        match &self.token {
-            Token::Text(part) => part.left.min(available),
-            _ => 1,
+        match self.token {
+            Token::String(part) => part.left.min(available),
+            Token::Between | Token::IntegerOpen | Token::IntegerMinus => 1,
+            Token::IntegerDigits(_) | Token::Length(_) => 1,
         }
     }
 
-    // Reads one run of bytes, whose length `run_len` gave.
-    pub(crate) fn step(self, alloc: Global, run: &[u8]) -> Result<Progress, Refusal>
-        requires { 0 < length run.now }
-        ensures { Yields (judged (steps.step_run put_sorted (frames_view self.frames.items)
-            (token_view self.token) run.now)) result }
+    // Reads a run, whose length `run_len` gave. It ends the bytes of the message that were read.
+    // Gives the message if it is whole.
+    pub(crate) fn step(
+        &mut self,
+        alloc: Global,
+        limit: usize,
+        read: &[u8],
+        run: usize,
+    ) -> Result<Option<Ben>, Refusal>
+        requires some { 0 < run }
+        requires come { come_of self.old.token + run ≤ length read.now }
+        requires run { steps.TakesRun
+            (token_view (take (length read.now - run) read.now) self.old.token) run }
+        ensures { Steps (steps.within_limit limit (judged (steps.step_run put_sorted
+            (frames_view self.old.frames.items)
+            (token_view (take (length read.now - run) read.now) self.old.token)
+            (drop (length read.now - run) read.now)))) read.now self.new result }
     {
-        let Reader { frames, token } = self;
-        let sign = Sign::of(run[0]);
-        match token {
-            Token::Between => begin(alloc, frames, sign),
-            Token::IntegerOpen => integer_open(frames, sign),
-            Token::IntegerMinus => integer_minus(frames, sign),
-            Token::IntegerDigits(part) => integer_digits(frames, part, sign),
-            Token::Length(len) => length_digits(alloc, frames, len, sign),
-            Token::Text(part) => text(frames, part, run),
+        let sign = Sign::of(read[read.len() - run]);
+        match self.token {
+            Token::String(part) => self.read_string(alloc, limit, part, read, run),
+            Token::Between => {
+                let progress = begin(alloc, &mut self.frames, sign);
+                self.keep(limit, progress)
+            }
+            Token::IntegerOpen => self.keep(limit, integer_open(sign)),
+            Token::IntegerMinus => self.keep(limit, integer_minus(sign)),
+            Token::IntegerDigits(part) => {
+                let progress = integer_digits(&mut self.frames, part, sign);
+                self.keep(limit, progress)
+            }
+            Token::Length(len) => {
+                let progress = length_digits(alloc, &mut self.frames, len, sign);
+                self.keep(limit, progress)
+            }
+        }
+    }
+
+    // Reads a run of a string. Its bytes are copied once, when all have come.
+    fn read_string(
+        &mut self,
+        alloc: Global,
+        limit: usize,
+        part: PartOfString,
+        read: &[u8],
+        run: usize,
+    ) -> Result<Option<Ben>, Refusal>
+        requires some { 0 < run }
+        requires run { run ≤ part.left }
+        requires come { part.length - part.left + run ≤ length read.now }
+        ensures { Steps (steps.within_limit limit (judged (effects.text_bytes put_sorted
+            (frames_view self.old.frames.items)
+            (last_bytes (part.length - part.left) (take (length read.now - run) read.now)) part.left
+            (drop (length read.now - run) read.now)))) read.now self.new result }
+    {
+        let PartOfString { length, left } = part;
+        if run < left {
+            let left = left - run;
+            self.token = Token::String(PartOfString { length, left });
+            return Ok(None);
+        }
+        let string = Vec::from_slice(alloc, &read[read.len() - length..])?;
+        let progress = put(&mut self.frames, Ben::String(string));
+        self.keep(limit, progress)
+    }
+
+    // How long a string of fewer than ten bytes is that begins at `at`, where there is one and all
+    // of it has come.
+    pub(crate) fn short_len(&self, bytes: &[u8], at: usize, available: usize) -> Option<usize>
+        requires { at + available ≤ length bytes.now }
+        ensures begins { IfSome result (λ n. BeginsShort self.now bytes.now at n) }
+        ensures within { IfSome result (λ n. 2 + n ≤ available) }
+    {
+        if available < 2 || self.frames.is_empty() || bytes[at + 1] != b':' {
+            return None;
+        }
+        match self.token {
+            Token::Between => short_len_of(Sign::of(bytes[at]), available - 2),
+            Token::IntegerOpen | Token::IntegerMinus | Token::IntegerDigits(_) => None,
+            Token::Length(_) | Token::String(_) => None,
+        }
+    }
+
+    // Reads the bytes of such a string.
+    pub(crate) fn read_short(&mut self, alloc: Global, string: &[u8]) -> Result<(), Refusal>
+        requires { 0 < length self.old.frames.items }
+        ensures put { Puts (judged (beginnings.put put_sorted (frames_view self.old.frames.items)
+            (tree.string string.now))) (frames_view self.new.frames.items) result }
+        ensures token { self.new.token ≡ self.old.token }
+    {
+        let string = Vec::from_slice(alloc, string)?;
+        match self.frames.last_mut() {
+            Some(innermost) => put_into(innermost, Ben::String(string)),
+            None => unreachable!(),
+        }
+    }
+
+    // Goes on with a token, unless it is the digits of a length that is above the limit.
+    fn keep(
+        &mut self,
+        limit: usize,
+        progress: Result<Progress, Refusal>,
+    ) -> Result<Option<Ben>, Refusal>
+        ensures { (j : steps.Judged) (read : List ℕ)
+            → Yields j (frames_view self.old.frames.items) progress
+            → Steps (steps.within_limit limit j) read self.new result }
+    {
+        match progress {
+            Ok(Progress::Partial(token)) => {
+                self.token = token;
+                if is_large(limit, token) {
+                    Err(Refusal::TooLong)
+                } else {
+                    Ok(None)
+                }
+            }
+            Ok(Progress::Whole(message)) => {
+                self.token = Token::Between;
+                Ok(Some(message))
+            }
+            Err(refusal) => Err(refusal),
         }
     }
 }
 
-fn partial(frames: Vec<Frame>, token: Token) -> Result<Progress, Refusal>
-    ensures { Yields
-        (judged (beginnings.goes (frames_view frames.items) (token_view token))) result }
+fn short_len_of(sign: Sign, available: usize) -> Option<usize>
+    ensures some { IfSome result (λ n. 0 < n) }
+    ensures digit { IfSome result (λ n. sign ≡ Sign.Digit n) }
+    ensures within { IfSome result (λ n. n ≤ available) }
 {
-    Ok(Progress::Partial(Reader { frames, token }))
+    let Sign::Digit(digit) = sign else {
+        return None;
+    };
+    let len = usize::from(digit);
+    (0 < len && len <= available).then_some(len)
 }
 
-// The frames with one more.
-fn push(mut frames: Vec<Frame>, frame: Frame) -> Result<Vec<Frame>, Refusal>
-    ensures ok { IfOk result (λ fs. frames_view fs.items
-        ≡ frame_view frame ∷ frames_view frames.items) }
-    ensures err { IfErr result (λ e. e ≡ Refusal.NoMemory) }
+fn is_large(limit: usize, token: Token) -> bool
+    ensures { result ≡ steps.is_large_token limit (begun_view token) }
 {
-    frames.push(frame)?;
-    Ok(frames)
-}
-
-// The outer frames and the innermost.
-fn pop(mut frames: Vec<Frame>) -> (Vec<Frame>, Option<Frame>)
-    ensures { MatchOption result.1 (frames_view frames.items ≡ [])
-        (λ frame. frames_view frames.items ≡ frame_view frame ∷ frames_view result.0.items) }
-{
-    let innermost = frames.pop();
-    (frames, innermost)
+    match token {
+        Token::Length(len) => limit < len,
+        Token::Between | Token::IntegerOpen | Token::IntegerMinus => false,
+        Token::IntegerDigits(_) | Token::String(_) => false,
+    }
 }
 
 fn expected_in(frames: &[Frame]) -> Expected
@@ -99,16 +209,26 @@ fn expected_in(frames: &[Frame]) -> Expected
     match frames.last() {
         None => Expected::Message,
         Some(Frame::List(_)) => Expected::ItemOrEnd,
-        Some(Frame::Keys(_)) => Expected::KeyOrEnd,
-        Some(Frame::Value(_, _)) => Expected::Value,
+        Some(Frame::Dictionary(dictionary)) => expected_in_dictionary(dictionary),
+    }
+}
+
+fn expected_in_dictionary(dictionary: &OpenDictionary) -> Expected
+    ensures { (fs : List cuts.Frame) → result ≡ beginnings.expected_in
+        (dictionary_view (entries_view dictionary.now.pairs.entries) dictionary.now.key ∷ fs) }
+{
+    match dictionary.key {
+        None => Expected::KeyOrEnd,
+        Some(_) => Expected::Value,
     }
 }
 
 // The first byte of a token.
-fn begin(alloc: Global, frames: Vec<Frame>, sign: Sign) -> Result<Progress, Refusal>
-    ensures { Yields (judged (beginnings.begin put_sorted (frames_view frames.items) sign)) result }
+fn begin(alloc: Global, frames: &mut Vec<Frame>, sign: Sign) -> Result<Progress, Refusal>
+    ensures { Yields (judged (beginnings.begin put_sorted (frames_view frames.old.items) sign))
+        (frames_view frames.new.items) result }
 {
-    match expected_in(&frames) {
+    match expected_in(frames) {
         Expected::Message => begin_message(alloc, frames, sign),
         Expected::Value => begin_value(alloc, frames, sign),
         Expected::ItemOrEnd => begin_item(alloc, frames, sign),
@@ -116,11 +236,12 @@ fn begin(alloc: Global, frames: Vec<Frame>, sign: Sign) -> Result<Progress, Refu
     }
 }
 
-fn begin_message(alloc: Global, frames: Vec<Frame>, sign: Sign) -> Result<Progress, Refusal>
-    ensures { Yields (judged (beginnings.begin_message (frames_view frames.items) sign)) result }
+fn begin_message(alloc: Global, frames: &mut Vec<Frame>, sign: Sign) -> Result<Progress, Refusal>
+    ensures { Yields (judged (beginnings.begin_message (frames_view frames.old.items) sign))
+        (frames_view frames.new.items) result }
 {
     match sign {
-        Sign::Dictionary => open(frames, Frame::Keys(Dictionary::new(alloc))),
+        Sign::Dictionary => open_dictionary(alloc, frames),
         Sign::Integer | Sign::List | Sign::End | Sign::Minus | Sign::Colon => {
             Err(Refusal::Malformed)
         }
@@ -128,21 +249,23 @@ fn begin_message(alloc: Global, frames: Vec<Frame>, sign: Sign) -> Result<Progre
     }
 }
 
-fn begin_value(alloc: Global, frames: Vec<Frame>, sign: Sign) -> Result<Progress, Refusal>
-    ensures { Yields (judged (beginnings.begin_value (frames_view frames.items) sign)) result }
+fn begin_value(alloc: Global, frames: &mut Vec<Frame>, sign: Sign) -> Result<Progress, Refusal>
+    ensures { Yields (judged (beginnings.begin_value (frames_view frames.old.items) sign))
+        (frames_view frames.new.items) result }
 {
     match sign {
-        Sign::Integer => partial(frames, Token::IntegerOpen),
+        Sign::Integer => Ok(Progress::Partial(Token::IntegerOpen)),
         Sign::List => open(frames, Frame::List(Vec::new(alloc))),
-        Sign::Dictionary => open(frames, Frame::Keys(Dictionary::new(alloc))),
-        Sign::Digit(digit) => partial(frames, Token::Length(usize::from(digit))),
+        Sign::Dictionary => open_dictionary(alloc, frames),
+        Sign::Digit(digit) => Ok(Progress::Partial(Token::Length(usize::from(digit)))),
         Sign::End | Sign::Minus | Sign::Colon | Sign::Other => Err(Refusal::Malformed),
     }
 }
 
-fn begin_item(alloc: Global, frames: Vec<Frame>, sign: Sign) -> Result<Progress, Refusal>
+fn begin_item(alloc: Global, frames: &mut Vec<Frame>, sign: Sign) -> Result<Progress, Refusal>
     ensures { Yields
-        (judged (beginnings.begin_item put_sorted (frames_view frames.items) sign)) result }
+        (judged (beginnings.begin_item put_sorted (frames_view frames.old.items) sign))
+        (frames_view frames.new.items) result }
 {
     match sign {
         Sign::End => close(frames),
@@ -153,90 +276,168 @@ fn begin_item(alloc: Global, frames: Vec<Frame>, sign: Sign) -> Result<Progress,
     }
 }
 
-fn begin_key(frames: Vec<Frame>, sign: Sign) -> Result<Progress, Refusal>
+fn begin_key(frames: &mut Vec<Frame>, sign: Sign) -> Result<Progress, Refusal>
     ensures { Yields
-        (judged (beginnings.begin_key put_sorted (frames_view frames.items) sign)) result }
+        (judged (beginnings.begin_key put_sorted (frames_view frames.old.items) sign))
+        (frames_view frames.new.items) result }
 {
     match sign {
         Sign::End => close(frames),
-        Sign::Digit(digit) => partial(frames, Token::Length(usize::from(digit))),
+        Sign::Digit(digit) => Ok(Progress::Partial(Token::Length(usize::from(digit)))),
         Sign::Integer | Sign::List | Sign::Dictionary => Err(Refusal::Malformed),
         Sign::Minus | Sign::Colon | Sign::Other => Err(Refusal::Malformed),
     }
 }
 
-fn open(frames: Vec<Frame>, frame: Frame) -> Result<Progress, Refusal>
+fn open_dictionary(alloc: Global, frames: &mut Vec<Frame>) -> Result<Progress, Refusal>
     ensures { Yields
-        (judged (beginnings.opens (frame_view frame) (frames_view frames.items))) result }
+        (judged (beginnings.opens (cuts.at_key tree.no_pairs) (frames_view frames.old.items)))
+        (frames_view frames.new.items) result }
+{
+    let pairs = Dictionary::new(alloc);
+    open(
+        frames,
+        Frame::Dictionary(OpenDictionary { pairs, key: None }),
+    )
+}
+
+fn open(frames: &mut Vec<Frame>, frame: Frame) -> Result<Progress, Refusal>
+    ensures { Yields
+        (judged (beginnings.opens (frame_view frame) (frames_view frames.old.items)))
+        (frames_view frames.new.items) result }
 {
     if frames.len() < MAX_NESTING {
-        let frames = push(frames, frame)?;
-        partial(frames, Token::Between)
+        frames.push(frame)?;
+        Ok(Progress::Partial(Token::Between))
     } else {
         Err(Refusal::TooDeep)
     }
 }
 
 // The end of the innermost list or dictionary.
-fn close(frames: Vec<Frame>) -> Result<Progress, Refusal>
-    ensures { Yields (judged (beginnings.close put_sorted (frames_view frames.items))) result }
+fn close(frames: &mut Vec<Frame>) -> Result<Progress, Refusal>
+    ensures { Yields (judged (beginnings.close put_sorted (frames_view frames.old.items)))
+        (frames_view frames.new.items) result }
 {
-    let (outer, innermost) = pop(frames);
-    match innermost {
-        Some(Frame::List(items)) => put(outer, Ben::List(items)),
-        Some(Frame::Keys(pairs)) => put(outer, Ben::Dictionary(pairs)),
-        Some(Frame::Value(_, _)) => Err(Refusal::Malformed),
+    match pop(frames) {
+        Some(Frame::List(items)) => put(frames, Ben::List(items)),
+        Some(Frame::Dictionary(dictionary)) => close_dictionary(frames, dictionary),
         None => Err(Refusal::Malformed),
     }
 }
 
-// A value that is whole goes into the innermost list or dictionary, or is the message.
-fn put(frames: Vec<Frame>, value: Ben) -> Result<Progress, Refusal>
-    ensures { Yields
-        (judged (beginnings.put put_sorted (frames_view frames.items) (tree_view value))) result }
+// The innermost leaves.
+fn pop(frames: &mut Vec<Frame>) -> Option<Frame>
+    ensures { MatchOption result (frames_view frames.old.items ≡ [])
+        (λ frame. frames_view frames.old.items ≡ frame_view frame ∷ frames_view frames.new.items) }
 {
-    let (outer, innermost) = pop(frames);
-    match innermost {
+    frames.pop()
+}
+
+fn close_dictionary(
+    frames: &mut Vec<Frame>,
+    dictionary: OpenDictionary,
+) -> Result<Progress, Refusal>
+    ensures { Yields (judged (beginnings.close put_sorted
+        (dictionary_view (entries_view dictionary.pairs.entries) dictionary.key
+        ∷ frames_view frames.old.items)))
+        (frames_view frames.new.items) result }
+{
+    let OpenDictionary { pairs, key } = dictionary;
+    match key {
+        None => put(frames, Ben::Dictionary(pairs)),
+        Some(_) => Err(Refusal::Malformed),
+    }
+}
+
+// A value that is whole goes into the innermost list or dictionary, or is the message.
+fn put(frames: &mut Vec<Frame>, value: Ben) -> Result<Progress, Refusal>
+    ensures { Yields
+        (judged (beginnings.put put_sorted (frames_view frames.old.items) (tree_view value)))
+        (frames_view frames.new.items) result }
+{
+    match frames.last_mut() {
         None => Ok(Progress::Whole(value)),
-        Some(Frame::List(items)) => put_item(outer, items, value),
-        Some(Frame::Keys(pairs)) => put_key(outer, pairs, value),
-        Some(Frame::Value(pairs, key)) => put_value(outer, pairs, key, value),
+        Some(innermost) => behind(put_into(innermost, value)),
+    }
+}
+
+// Behind a value that was put into the innermost.
+fn behind(put: Result<(), Refusal>) -> Result<Progress, Refusal>
+    ensures { (j : steps.Judged) (fs : List cuts.Frame) → Puts j fs put → Yields j fs result }
+{
+    match put {
+        Ok(()) => Ok(Progress::Partial(Token::Between)),
+        Err(refusal) => Err(refusal),
+    }
+}
+
+fn put_into(innermost: &mut Frame, value: Ben) -> Result<(), Refusal>
+    ensures { (fs : List cuts.Frame) → Puts
+        (judged (beginnings.put put_sorted (frame_view innermost.old ∷ fs) (tree_view value)))
+        (frame_view innermost.new ∷ fs) result }
+{
+    match innermost {
+        Frame::List(items) => put_item(items, value),
+        Frame::Dictionary(dictionary) => put_pair(dictionary, value),
     }
 }
 
 #[tactic(auto, using(crate::proofs::Rules::item_steps))]
-fn put_item(outer: Vec<Frame>, mut items: Vec<Ben>, item: Ben) -> Result<Progress, Refusal>
-    ensures { Yields (judged (beginnings.put put_sorted
-        (in_list (trees_view items.items) ∷ frames_view outer.items) (tree_view item))) result }
+fn put_item(items: &mut Vec<Ben>, item: Ben) -> Result<(), Refusal>
+    ensures { (fs : List cuts.Frame) → Puts (judged (beginnings.put put_sorted
+        (in_list (trees_view items.old.items) ∷ fs) (tree_view item)))
+        (in_list (trees_view items.new.items) ∷ fs) result }
 {
     items.push(item)?;
-    let frames = push(outer, Frame::List(items))?;
-    partial(frames, Token::Between)
+    Ok(())
+}
+
+// A key, or the value of the key that stands before it.
+fn put_pair(dictionary: &mut OpenDictionary, value: Ben) -> Result<(), Refusal>
+    ensures { (fs : List cuts.Frame) → Puts (judged (beginnings.put put_sorted
+        (dictionary_view (entries_view dictionary.old.pairs.entries) dictionary.old.key ∷ fs)
+        (tree_view value)))
+        (dictionary_view (entries_view dictionary.new.pairs.entries) dictionary.new.key ∷ fs)
+        result }
+{
+    match dictionary.key.take() {
+        None => put_key(dictionary, value),
+        Some(key) => {
+            insert(&mut dictionary.pairs, key, value)?;
+            Ok(())
+        }
+    }
 }
 
 // A key has to be a string, and a key that stood before in its dictionary is refused at its last
 // byte.
-fn put_key(outer: Vec<Frame>, pairs: Dictionary, key: Ben) -> Result<Progress, Refusal>
-    ensures { Yields (judged (beginnings.put put_sorted
-        (at_key (entries_view pairs.entries) ∷ frames_view outer.items) (tree_view key))) result }
+fn put_key(dictionary: &mut OpenDictionary, key: Ben) -> Result<(), Refusal>
+    requires { dictionary.old.key ≡ None }
+    ensures { (fs : List cuts.Frame) → Puts (judged (beginnings.put put_sorted
+        (cuts.at_key (entries_view dictionary.old.pairs.entries) ∷ fs) (tree_view key)))
+        (dictionary_view (entries_view dictionary.new.pairs.entries) dictionary.new.key ∷ fs)
+        result }
 {
     match key {
-        Ben::String(key) => put_name(outer, pairs, key),
+        Ben::String(key) => put_name(dictionary, key),
         Ben::Integer(_) => Err(Refusal::Malformed),
         Ben::List(_) => Err(Refusal::Malformed),
         Ben::Dictionary(_) => Err(Refusal::Malformed),
     }
 }
 
-fn put_name(outer: Vec<Frame>, pairs: Dictionary, key: Vec<u8>) -> Result<Progress, Refusal>
-    ensures { Yields (judged (beginnings.names (entries_view pairs.entries) key.items
-        (frames_view outer.items))) result }
+fn put_name(dictionary: &mut OpenDictionary, key: Vec<u8>) -> Result<(), Refusal>
+    ensures { (fs : List cuts.Frame) → Puts (judged (beginnings.names
+        (entries_view dictionary.old.pairs.entries) key.items fs))
+        (dictionary_view (entries_view dictionary.new.pairs.entries) dictionary.new.key ∷ fs)
+        result }
 {
-    if has_key(&pairs, &key) {
+    if has_key(&dictionary.pairs, &key) {
         return Err(Refusal::Malformed);
     }
-    let frames = push(outer, Frame::Value(pairs, key))?;
-    partial(frames, Token::Between)
+    dictionary.key = Some(key);
+    Ok(())
 }
 
 fn has_key(pairs: &Dictionary, key: &Vec<u8>) -> bool
@@ -245,53 +446,37 @@ fn has_key(pairs: &Dictionary, key: &Vec<u8>) -> bool
     pairs.contains_key(key)
 }
 
-fn put_value(
-    outer: Vec<Frame>,
-    pairs: Dictionary,
-    key: Vec<u8>,
-    value: Ben,
-) -> Result<Progress, Refusal>
-    ensures { Yields (judged (beginnings.put put_sorted
-        (at_value (entries_view pairs.entries) key.items ∷ frames_view outer.items)
-        (tree_view value)))
-        result }
-{
-    let pairs = with_pair(pairs, key, value)?;
-    let frames = push(outer, Frame::Keys(pairs))?;
-    partial(frames, Token::Between)
-}
-
-fn with_pair(mut pairs: Dictionary, key: Vec<u8>, value: Ben) -> Result<Dictionary, Refusal>
-    ensures ok { IfOk result (λ with. entries_view with.entries
-        ≡ put_sorted (entries_view pairs.entries) key.items (tree_view value)) }
+fn insert(pairs: &mut Dictionary, key: Vec<u8>, value: Ben) -> Result<(), Refusal>
+    ensures ok { OnOk result (entries_view pairs.new.entries
+        ≡ put_sorted (entries_view pairs.old.entries) key.items (tree_view value)) }
     ensures err { IfErr result (λ e. e ≡ Refusal.NoMemory) }
 {
-    drop(pairs.insert(key, value)?);
-    Ok(pairs)
+    put_field(pairs, key, value)?;
+    Ok(())
 }
 
 // Behind `i`: a minus or the first digit.
-fn integer_open(frames: Vec<Frame>, sign: Sign) -> Result<Progress, Refusal>
-    ensures { Yields (judged (effects.integer_open (frames_view frames.items) sign)) result }
+fn integer_open(sign: Sign) -> Result<Progress, Refusal>
+    ensures { (fs : List cuts.Frame) → Yields (judged (effects.integer_open fs sign)) fs result }
 {
     match sign {
-        Sign::Minus => partial(frames, Token::IntegerMinus),
-        Sign::Digit(digit) => partial(frames, integer_part(false, u64::from(digit))),
+        Sign::Minus => Ok(Progress::Partial(Token::IntegerMinus)),
+        Sign::Digit(digit) => Ok(Progress::Partial(integer_part(false, u64::from(digit)))),
         Sign::Integer | Sign::List | Sign::Dictionary => Err(Refusal::Malformed),
         Sign::End | Sign::Colon | Sign::Other => Err(Refusal::Malformed),
     }
 }
 
 // Behind `i-`: a digit that is not zero.
-fn integer_minus(frames: Vec<Frame>, sign: Sign) -> Result<Progress, Refusal>
-    ensures { Yields (judged (effects.integer_minus (frames_view frames.items) sign)) result }
+fn integer_minus(sign: Sign) -> Result<Progress, Refusal>
+    ensures { (fs : List cuts.Frame) → Yields (judged (effects.integer_minus fs sign)) fs result }
 {
     match sign {
         Sign::Digit(digit) => {
             if digit == 0 {
                 Err(Refusal::Malformed)
             } else {
-                partial(frames, integer_part(true, u64::from(digit)))
+                Ok(Progress::Partial(integer_part(true, u64::from(digit))))
             }
         }
         Sign::Integer | Sign::List | Sign::Dictionary => Err(Refusal::Malformed),
@@ -300,40 +485,41 @@ fn integer_minus(frames: Vec<Frame>, sign: Sign) -> Result<Progress, Refusal>
 }
 
 // Behind a digit of an integer: another digit, unless the number is zero, or the end.
-fn integer_digits(frames: Vec<Frame>, part: PartOfInteger, sign: Sign) -> Result<Progress, Refusal>
+fn integer_digits(
+    frames: &mut Vec<Frame>,
+    part: PartOfInteger,
+    sign: Sign,
+) -> Result<Progress, Refusal>
     ensures { Yields (judged (effects.integer_digits put_sorted
-        (frames_view frames.items) part.is_negative part.value sign)) result }
+        (frames_view frames.old.items) part.is_negative part.value sign))
+        (frames_view frames.new.items) result }
 {
     let PartOfInteger { is_negative, value } = part;
     match sign {
         Sign::End => put(frames, Ben::Integer(integer_with_sign(is_negative, value))),
-        Sign::Digit(digit) => more_digits(frames, is_negative, value, digit),
+        Sign::Digit(digit) => more_digits(is_negative, value, digit),
         Sign::Integer | Sign::List | Sign::Dictionary => Err(Refusal::Malformed),
         Sign::Minus | Sign::Colon | Sign::Other => Err(Refusal::Malformed),
     }
 }
 
-fn more_digits(
-    frames: Vec<Frame>,
-    is_negative: bool,
-    value: u64,
-    digit: u8,
-) -> Result<Progress, Refusal>
-    ensures { Yields (judged (effects.more_digits
-        (frames_view frames.items) is_negative value digit)) result }
+fn more_digits(is_negative: bool, value: u64, digit: u8) -> Result<Progress, Refusal>
+    ensures { (fs : List cuts.Frame) → Yields
+        (judged (effects.more_digits fs is_negative value digit)) fs result }
 {
     if value == 0 {
         return Err(Refusal::Malformed);
     }
     match with_digit(value, digit, greatest(is_negative)) {
         None => Err(Refusal::Malformed),
-        Some(value) => partial(frames, integer_part(is_negative, value)),
+        Some(value) => Ok(Progress::Partial(integer_part(is_negative, value))),
     }
 }
 
 fn integer_part(is_negative: bool, value: u64) -> Token
     requires { value ≤ cuts.greatest is_negative }
-    ensures { token_view result ≡ cuts.digits is_negative value }
+    ensures view { begun_view result ≡ cuts.digits is_negative value }
+    ensures none { come_of result ≡ 0 }
 {
     Token::IntegerDigits(PartOfInteger { is_negative, value })
 }
@@ -377,57 +563,45 @@ fn integer_with_sign(is_negative: bool, value: u64) -> i64
 // Behind a digit of a string's length: another digit, unless the length is zero, or the colon.
 fn length_digits(
     alloc: Global,
-    frames: Vec<Frame>,
+    frames: &mut Vec<Frame>,
     len: usize,
     sign: Sign,
 ) -> Result<Progress, Refusal>
-    ensures { Yields (judged (effects.length_digits put_sorted (frames_view frames.items) len sign))
-        result }
+    ensures { Yields (judged (effects.length_digits put_sorted
+        (frames_view frames.old.items) len sign)) (frames_view frames.new.items) result }
 {
     match sign {
         Sign::Colon => open_string(alloc, frames, len),
-        Sign::Digit(digit) => more_length(frames, len, digit),
+        Sign::Digit(digit) => more_length(len, digit),
         Sign::Integer | Sign::List | Sign::Dictionary => Err(Refusal::Malformed),
         Sign::End | Sign::Minus | Sign::Other => Err(Refusal::Malformed),
     }
 }
 
-fn more_length(frames: Vec<Frame>, len: usize, digit: u8) -> Result<Progress, Refusal>
-    ensures { Yields (judged (effects.more_length (frames_view frames.items) len digit)) result }
+fn more_length(len: usize, digit: u8) -> Result<Progress, Refusal>
+    ensures { (fs : List cuts.Frame) → Yields (judged (effects.more_length fs len digit)) fs
+        result }
 {
     if len == 0 {
         return Err(Refusal::Malformed);
     }
     match with_digit(len as u64, digit, u64::MAX) {
-        Some(len) => partial(frames, Token::Length(len as usize)),
+        Some(len) => Ok(Progress::Partial(Token::Length(len as usize))),
         // It is above each limit.
         None => Err(Refusal::TooLong),
     }
 }
 
-fn open_string(alloc: Global, frames: Vec<Frame>, len: usize) -> Result<Progress, Refusal>
-    ensures { Yields (judged (effects.open_string put_sorted (frames_view frames.items) len))
-        result }
+fn open_string(alloc: Global, frames: &mut Vec<Frame>, len: usize) -> Result<Progress, Refusal>
+    ensures { Yields (judged (effects.open_string put_sorted (frames_view frames.old.items) len))
+        (frames_view frames.new.items) result }
 {
-    let bytes = Vec::new(alloc);
     if len == 0 {
-        put(frames, Ben::String(bytes))
+        put(frames, Ben::String(Vec::new(alloc)))
     } else {
-        partial(frames, Token::Text(PartOfString { left: len, bytes }))
-    }
-}
-
-// More bytes of a string, at most those that are left.
-fn text(frames: Vec<Frame>, part: PartOfString, run: &[u8]) -> Result<Progress, Refusal>
-    ensures { Yields (judged (effects.text_bytes put_sorted
-        (frames_view frames.items) part.bytes.items part.left run.now)) result }
-{
-    let PartOfString { left, mut bytes } = part;
-    bytes.extend_from_slice(run)?;
-    if run.len() < left {
-        let left = left - run.len();
-        partial(frames, Token::Text(PartOfString { left, bytes }))
-    } else {
-        put(frames, Ben::String(bytes))
+        Ok(Progress::Partial(Token::String(PartOfString {
+            length: len,
+            left: len,
+        })))
     }
 }

@@ -51,8 +51,10 @@ impl Tail {
         ensures begin { self.new.begin ≡ 0 }
     {
         self.start = self.place();
-        drop(self.bytes.drain(..self.begin));
-        self.begin = 0;
+        if 0 < self.begin {
+            drop(self.bytes.drain(..self.begin));
+            self.begin = 0;
+        }
     }
 
     // The unfinished message alone.

@@ -1,6 +1,6 @@
 -- What a byte does that begins a value, or ends the innermost frame. `add` puts a pair into a
 -- dictionary: behind the others, as they are read, or by its key.
-use Rattle.std.specs.Prelude.{ℕ, ◌-◌, List, [], ◌∷◌}
+use Rattle.std.specs.Prelude.{ℕ, List, [], ◌∷◌}
 use Rattle.bencode_wire.specs.Tree.{Tree, integer, string, list, dictionary, no_trees, Pairs}
 use Rattle.bencode_wire.specs.Tree.{no_pairs, add_tree}
 use Rattle.bencode_wire.specs.Inside.Cut.{Frame, in_list, at_key, at_value, Token, between, after_i, count}

@@ -1,7 +1,7 @@
 -- Reading byte by byte: what a byte makes of a cut. No public clause speaks of it.
-use Rattle.std.specs.Prelude.{◌≡◌, ℕ, ◌≤◌, ◌+◌, ◌-◌, Bool, false, cond, nat_lt, nat_le, List, []}
+use Rattle.std.specs.Prelude.{◌≡◌, ℕ, ◌≤◌, ◌+◌, Bool, false, cond, nat_lt, nat_le, List, []}
 use Rattle.std.specs.Prelude.{◌∷◌, length}
-use Rattle.bencode_wire.specs.Tree.{Tree, string, holds_key}
+use Rattle.bencode_wire.specs.Tree.{Tree, holds_key}
 use Rattle.bencode_wire.specs.Inside.Cut.{Frame, at_value, Token, between, after_i, after_minus, digits}
 use Rattle.bencode_wire.specs.Inside.Cut.{count, part, Cut, cut}
 use Rattle.bencode_wire.specs.Inside.Sign.{sign_of}

@@ -1,7 +1,7 @@
 -- What the calls that read bytes ensure: what was read and what is ahead are one reading, wherever
 -- reading stands.
-use Rattle.std.specs.Prelude.{◌≡◌, ℕ, ◌+◌, ◌-◌, List, ◌++◌, map, drop, Option, Some, None, Result}
-use Rattle.std.specs.Prelude.{Ok, Err}
+use Rattle.std.specs.Prelude.{◌≡◌, ℕ, ◌+◌, ◌-◌, List, ◌++◌, map, take, drop, Option, Some, None}
+use Rattle.std.specs.Prelude.{Result, Ok, Err}
 use Rattle.bencode_wire.specs.Tree.{Tree}
 use Rattle.bencode_wire.specs.Spelling.{put_sorted}
 use Rattle.bencode_wire.specs.Fault.{counted_place, fault_at}
@@ -20,7 +20,8 @@ fault_of_end place (faults rule at) = Some (fault_at rule (counted_place (place 
 -- what is ahead on a course
 abbrev pub ahead : ℕ → List ℕ → Course → StreamReading
 ahead limit bytes course = stream_reading limit put_sorted (course.at - course.begin)
-    (cut_view course.reader) course.at (drop course.at bytes)
+    (cut_view (drop course.begin (take course.at bytes)) course.reader) course.at
+    (drop course.at bytes)
 
 abbrev pub ready_view : List Ben → List Tree
 ready_view vs = map tree_view vs
@@ -34,15 +35,19 @@ pub record Faults (place : ℕ) (now : StreamReading) (old new : List Ben)
   pub messages : ready_view new ≡ ready_view old ++ now.messages
   pub end : fault_of_end place now.end ≡ Some fault
 
--- bytes were read from `course` on, `old` having been ready and `new` being so now
-abbrev pub Continues : ℕ → ℕ → List ℕ → Course → List Ben → List Ben → Result Course WireFault
-    → Type 0
-Continues limit place bytes course old new (Ok next) =
-    Advances (ahead limit bytes course) (ahead limit bytes next) old new
-Continues limit place bytes course old new (Err WireFault.NoMemory) = Unit {0}
-Continues limit place bytes course old new (Err (WireFault.Malformed p)) =
+-- reading from a course stops with this, `old` having been ready and `new` being so now
+abbrev pub Stops : ℕ → ℕ → List ℕ → Course → List Ben → List Ben → WireFault → Type 0
+Stops limit place bytes course old new WireFault.NoMemory = Unit {0}
+Stops limit place bytes course old new (WireFault.Malformed p) =
     Faults place (ahead limit bytes course) old new (WireFault.Malformed p)
-Continues limit place bytes course old new (Err (WireFault.TooLong p)) =
+Stops limit place bytes course old new (WireFault.TooLong p) =
     Faults place (ahead limit bytes course) old new (WireFault.TooLong p)
-Continues limit place bytes course old new (Err (WireFault.TooDeep p)) =
+Stops limit place bytes course old new (WireFault.TooDeep p) =
     Faults place (ahead limit bytes course) old new (WireFault.TooDeep p)
+
+-- bytes were read from a course to another
+abbrev pub Continues : ℕ → ℕ → List ℕ → Course → Course → List Ben → List Ben
+    → Result (Unit {0}) WireFault → Type 0
+Continues limit place bytes from to old new (Ok done) =
+    Advances (ahead limit bytes from) (ahead limit bytes to) old new
+Continues limit place bytes from to old new (Err f) = Stops limit place bytes from old new f

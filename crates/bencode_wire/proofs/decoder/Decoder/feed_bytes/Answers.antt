@@ -1,6 +1,6 @@
 use Rattle.std.proofs.Common.{◌≡◌, ℕ, ◌+◌, ◌^◌, ◌-◌, min, List, [], ◌++◌, length, drop, take, None}
 use Rattle.std.proofs.Common.{Some, Err, refl, sym, ap, subst, ◌∙◌, arith, rules}
-use Rattle.bencode_wire.specs.Inside.Course.{Advances, ahead, Continues}
+use Rattle.bencode_wire.specs.Inside.Course.{Advances, ahead, Stops}
 use Rattle.bencode_wire.specs.Inside.Decoder.{fault_of, ready_of, DecoderStands}
 use Rattle.std.proofs.lemmas.Grind.{common_steps}
 use Rattle.std.proofs.lemmas.List.{take_at}
@@ -26,18 +26,18 @@ invariant_of-self-in-Ok c =
     let k = rest_kept d.limit d.rest part in
     let course : Course = record { reader = c.in-Some.reader; begin = 0; at = c.len-kept.result; begun = omega arith } in
     let same : c.deref.result.now ≡ d.rest = c.deref.ensures.value ∙ c.settle.ensures.bytes in
-    let is = resumed d c.take-cached.result c.self.inside.reader c.deref.result.now c.in-Some.reader c.take-cached.ensures.value same c.self.invariant.held part c.in-Some.ensures in
+    let is = resumed d c.take-cached.result c.self.inside.reader c.deref.result.now c.in-Some.reader c.take-cached.ensures.value same c.self.invariant.held part c.in-Some.ensures.reads in
     let kept : c.len-kept.result ≡ length d.rest = search rules in
     let fed = fed_by d c.in-Some.reader piece course part is refl refl kept in
     let bytes : c.extend_from_slice.new.self.items ≡ d.rest ++ piece = grind (arith, c.extend_from_slice.ensures.items, c.if-is_err.ensures.negation, c.settle.ensures.bytes) in
     let now : c.as_slice-bytes.result.now ≡ d.rest ++ piece = c.as_slice-bytes.ensures.value ∙ bytes in
-    let next = c.in-Ok.course in
+    let next = c.read_on.new.course in
     let adv : Advances (ahead d.limit (d.rest ++ piece) course) (ahead d.limit (d.rest ++ piece) next) d.ready c.read_on.new.ready.items =
     subst (λ (b : List ℕ). Advances (ahead d.limit b course) (ahead d.limit b next) d.ready c.read_on.new.ready.items) now c.in-Ok.ensures.continues in
     let rest : drop next.begin c.extend_from_slice.new.self.items ≡ drop next.begin (d.rest ++ piece) = ap (λ (x : List ℕ). drop next.begin x) bytes in
     let done = c.in-Ok.ensures.all ∙ ap length (now ∙ sym bytes) in
     let begun = next.begun in
-    let h = feed_held d piece course next k.0 d.ready c.read_on.new.ready.items fed adv (c.in-Ok.ensures.all ∙ ap length now) in
+    let h = feed_held d piece course next k.0 d.ready c.read_on.new.ready.items fed adv (c.in-Ok.ensures.all ∙ ap length now) c.in-Ok.ensures.come in
     record {
       begun = omega arith;
       rests = λ e. subst (λ (x : List ℕ). IsRest d.limit x) (sym rest) h.0;
@@ -54,12 +54,12 @@ returns-in-Ok-clause-stands c = λ limit all taken s other.
     let k = rest_kept d.limit d.rest part in
     let course : Course = record { reader = c.in-Some.reader; begin = 0; at = c.len-kept.result; begun = omega arith } in
     let same : c.deref.result.now ≡ d.rest = c.deref.ensures.value ∙ c.settle.ensures.bytes in
-    let is = resumed d c.take-cached.result c.self.inside.reader c.deref.result.now c.in-Some.reader c.take-cached.ensures.value same c.self.invariant.held part c.in-Some.ensures in
+    let is = resumed d c.take-cached.result c.self.inside.reader c.deref.result.now c.in-Some.reader c.take-cached.ensures.value same c.self.invariant.held part c.in-Some.ensures.reads in
     let kept : c.len-kept.result ≡ length d.rest = search rules in
     let fed = fed_by d c.in-Some.reader piece course part is refl refl kept in
     let bytes : c.extend_from_slice.new.self.items ≡ d.rest ++ piece = grind (arith, c.extend_from_slice.ensures.items, c.if-is_err.ensures.negation, c.settle.ensures.bytes) in
     let now : c.as_slice-bytes.result.now ≡ d.rest ++ piece = c.as_slice-bytes.ensures.value ∙ bytes in
-    let next = c.in-Ok.course in
+    let next = c.read_on.new.course in
     let adv : Advances (ahead d.limit (d.rest ++ piece) course) (ahead d.limit (d.rest ++ piece) next) d.ready c.read_on.new.ready.items =
     subst (λ (b : List ℕ). Advances (ahead d.limit b course) (ahead d.limit b next) d.ready c.read_on.new.ready.items) now c.in-Ok.ensures.continues in
     let rest : drop next.begin c.extend_from_slice.new.self.items ≡ drop next.begin (d.rest ++ piece) = ap (λ (x : List ℕ). drop next.begin x) bytes in
@@ -131,8 +131,8 @@ invariant_of-self-in-Err c =
           (front_kept d.limit _ d.rest piece c.len-kept.result bytes kept (c.self.invariant.rests none));
     }
 
-pub returns-in-Err-clause-stands : goal.returns-in-Err-clause-stands
-returns-in-Err-clause-stands c = λ limit all taken s other.
+pub returns-clause-stands : goal.returns-clause-stands
+returns-clause-stands c = λ limit all taken s other.
     let d : Decoder = shown_state c.self.inside in
     let piece = c.args.piece.now in
     let none : d.fault ≡ None = ap fault_of c.self.view_is ∙ c.requires in
@@ -140,21 +140,21 @@ returns-in-Err-clause-stands c = λ limit all taken s other.
     let k = rest_kept d.limit d.rest part in
     let course : Course = record { reader = c.in-Some.reader; begin = 0; at = c.len-kept.result; begun = omega arith } in
     let same : c.deref.result.now ≡ d.rest = c.deref.ensures.value ∙ c.settle.ensures.bytes in
-    let is = resumed d c.take-cached.result c.self.inside.reader c.deref.result.now c.in-Some.reader c.take-cached.ensures.value same c.self.invariant.held part c.in-Some.ensures in
+    let is = resumed d c.take-cached.result c.self.inside.reader c.deref.result.now c.in-Some.reader c.take-cached.ensures.value same c.self.invariant.held part c.in-Some.ensures.reads in
     let kept : c.len-kept.result ≡ length d.rest = search rules in
     let fed = fed_by d c.in-Some.reader piece course part is refl refl kept in
     let bytes : c.extend_from_slice.new.self.items ≡ d.rest ++ piece = grind (arith, c.extend_from_slice.ensures.items, c.if-is_err.ensures.negation, c.settle.ensures.bytes) in
     let now : c.as_slice-bytes.result.now ≡ d.rest ++ piece = c.as_slice-bytes.ensures.value ∙ bytes in
     let stood : DecoderStands limit d all taken = subst (λ (x : Decoder). DecoderStands limit x all taken) (sym c.self.view_is) s in
     let r = rests_of limit d all taken none stood in
-    let met : Continues d.limit d.place (d.rest ++ piece) course d.ready c.read_on.new.ready.items (Err c.in-Err.fault) =
-    subst (λ (p : ℕ). Continues d.limit p (d.rest ++ piece) course d.ready c.read_on.new.ready.items (Err c.in-Err.fault)) c.settle.ensures.start
-    (subst (λ (b : List ℕ). Continues d.limit c.settle.new.self.start b course d.ready c.read_on.new.ready.items (Err c.in-Err.fault)) now c.in-Err.ensures.continues) in
+    let met : Stops d.limit d.place (d.rest ++ piece) course d.ready c.read_on.new.ready.items c.in-Err.fault =
+    subst (λ (p : ℕ). Stops d.limit p (d.rest ++ piece) course d.ready c.read_on.new.ready.items c.in-Err.fault) c.settle.ensures.start
+    (subst (λ (b : List ℕ). Stops d.limit c.settle.new.self.start b course d.ready c.read_on.new.ready.items c.in-Err.fault) now c.in-Err.ensures.continues) in
     feed_broken limit d _ all taken r.m piece course k.0 c.in-Err.fault r.streams r.place (fed_for limit d r.m piece course k.0 stood.within r.shown fed) met
     (λ e. other (ap Err e)) (record { limit = refl; fault = refl })
 
-pub returns-in-Err-clause-returns : goal.returns-in-Err-clause-returns
-returns-in-Err-clause-returns c = λ limit all taken s nothing other.
+pub returns-clause-returns : goal.returns-clause-returns
+returns-clause-returns c = λ limit all taken s nothing other.
     let d : Decoder = shown_state c.self.inside in
     let piece = c.args.piece.now in
     let none : d.fault ≡ None = ap fault_of c.self.view_is ∙ c.requires in
