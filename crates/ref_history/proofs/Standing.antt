@@ -18,7 +18,7 @@ use Rattle.ref_history.specs.declared.kept_ref.KeptRef.{KeptRef}
 
 -- A ref for which it stands: one that never had more versions
 
-plain-faults : (b : Bool) → b ≡ nat_lt 0 (cond b 1 0)
+pub plain-faults : (b : Bool) → b ≡ nat_lt 0 (cond b 1 0)
 plain-faults true = refl
 plain-faults false = refl
 
@@ -39,7 +39,7 @@ some-ref k = (
   },
 )
 
-one-more : (n : ℕ) → n + 1 ≡ suc n
+pub one-more : (n : ℕ) → n + 1 ≡ suc n
 one-more n = omega arith
 
 -- Reading
@@ -124,7 +124,7 @@ some-there k point i some =
 
 -- Adding
 
-take-fewer : {A : Type 0} (n : ℕ) (vs : List A) → take n (take (suc n) vs) ≡ take n vs
+pub take-fewer : {A : Type 0} (n : ℕ) (vs : List A) → take n (take (suc n) vs) ≡ take n vs
 take-fewer zero vs = refl
 take-fewer (suc n) [] = refl
 take-fewer (suc n) (v ∷ vs) = ap (λ rest. v ∷ rest) (take-fewer n vs)

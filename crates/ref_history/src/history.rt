@@ -17,8 +17,8 @@ use value_data::Value;
 /// Keeps the versions of refs, each ref under the id that it got when it was made. Where no ref
 /// has an id, there is nothing to tell of it or to change.
 ///
-/// `reserve` is for one ref: what is kept of each ref lies in a list of its own, and only the
-/// lists that are to grow need room. So all growth can come before the first of many changes.
+/// `reserve` is for one ref, and takes no room from another. So all growth can come before the first
+/// of many changes, and costs nothing for the refs that do not change.
 pub trait History: Drop {
     /// The ref that has an id, with all its versions. What is stored forgets the oldest, so it
     /// stands for many refs; none where no ref has the id.

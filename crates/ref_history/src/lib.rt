@@ -6,7 +6,10 @@ mod history;
 mod kept_ref;
 mod list_history;
 mod ref_id;
+mod ring_history;
+mod ring_ref;
 
 pub use history::History;
 pub use list_history::ListHistory;
 pub use ref_id::{Bounds, RefId};
+pub use ring_history::RingHistory;

@@ -1,0 +1,13 @@
+pub mod Places
+pub mod Writes
+pub mod Paths
+pub mod Totals
+pub mod Becoming
+pub mod Turning
+pub mod Filling
+pub mod Growing
+pub mod Adding
+pub mod Freeing
+pub mod Seeing
+pub mod Calls
+pub mod Falling

@@ -1,0 +1,147 @@
+use Rattle.std.proofs.Common.{sym, ap, ◌∙◌, arith, Bool, true, false}
+use Rattle.value_data.specs.Inside.View.{view}
+use Rattle.version_rings.specs.Versions.{version, pushed, is_kept}
+use Rattle.version_rings.specs.Rings.{versions}
+use Rattle.version_rings.specs.Inside.Seen.{space, room}
+use Rattle.version_rings.proofs.Calls.{grew, overwrote, seen-here, seen-others, seen-some}
+use Rattle.version_rings.proofs.Calls.{seen-kept}
+use Rattle.version_rings.proofs.Calls.{not-absent, takes-node, nodes-after}
+use Rattle.version_rings.proofs.Falling.{falls-on}
+use Rattle.version_rings.proofs.Seeing.{newest-within, oldest-within, count-fits}
+use Rattle.version_rings.proofs.rings.Rings.push.Goals as goal
+
+pub put_before-requires-clause-newest : goal.put_before-requires-clause-newest
+put_before-requires-clause-newest c =
+    newest-within (space c.self.inside.nodes) c.self.inside.rings.slots c.args.id.place
+    c.in-Some.ring.now c.self.invariant (sym c.in-Some.ensures.value)
+
+pub put_before-requires-clause-oldest : goal.put_before-requires-clause-oldest
+put_before-requires-clause-oldest c =
+    oldest-within (space c.self.inside.nodes) c.self.inside.rings.slots c.args.id.place
+    c.in-Some.ring.now c.self.invariant (sym c.in-Some.ensures.value)
+
+pub overwrite_oldest-ring-requires-clause-newest : goal.overwrite_oldest-ring-requires-clause-newest
+overwrite_oldest-ring-requires-clause-newest c =
+    newest-within (space c.self.inside.nodes) c.self.inside.rings.slots c.args.id.place
+    c.in-Some.ring.now c.self.invariant (sym c.in-Some.ensures.value)
+
+pub overwrite_oldest-ring-requires-clause-oldest : goal.overwrite_oldest-ring-requires-clause-oldest
+overwrite_oldest-ring-requires-clause-oldest c =
+    oldest-within (space c.self.inside.nodes) c.self.inside.rings.slots c.args.id.place
+    c.in-Some.ring.now c.self.invariant (sym c.in-Some.ensures.value)
+
+pub overflow_add-ring : goal.overflow_add-ring
+overflow_add-ring c =
+    let few = count-fits (space c.self.inside.nodes) c.self.inside.rings.slots c.args.id.place
+    c.in-Some.ring.now c.self.invariant (sym c.in-Some.ensures.value) in
+    omega (arith, few, c.self.inside.nodes.list.ok, c.self.inside.nodes.list.small)
+
+-- Where one version more is kept
+
+pub invariant_of-self-then-grow : goal.invariant_of-self-then-grow
+invariant_of-self-then-grow c =
+    (grew (space c.self.inside.nodes) (space c.put_before.new.self) c.self.inside.rings.slots
+    c.args.id.place
+    c.in_ok-ring.field-0 c.args.stamp c.args.value c.in-Some.ring.now c.self.invariant
+    (sym c.in-Some.ensures.value) c.in_ok-ring.ensures.place c.in_ok-ring.ensures.put).sound
+
+pub returns-in_ok-ring-clause-pushed : goal.returns-in_ok-ring-clause-pushed
+returns-in_ok-ring-clause-pushed c =
+    let v = version c.args.stamp (view c.args.value) in
+    seen-here (room c.put_before.new.self) (space c.self.inside.nodes) (space c.put_before.new.self)
+    c.self.inside.rings.slots _ c.args.id _
+    (grew (space c.self.inside.nodes) (space c.put_before.new.self) c.self.inside.rings.slots
+    c.args.id.place
+    c.in_ok-ring.field-0 c.args.stamp c.args.value c.in-Some.ring.now c.self.invariant
+    (sym c.in-Some.ensures.value) c.in_ok-ring.ensures.place c.in_ok-ring.ensures.put)
+    ∙ ap (λ vs. pushed true v vs)
+    (sym (seen-some (room c.self.inside.nodes) (space c.self.inside.nodes) c.self.inside.rings.slots
+    c.args.self.now c.args.id c.in-Some.ring.now c.self.view_is (sym c.in-Some.ensures.value)))
+    ∙ ap (λ (b : Bool). pushed b v (versions c.args.self.now c.args.id)) (sym c.if-grow.true)
+
+pub returns-in_ok-ring-clause-falling : goal.returns-in_ok-ring-clause-falling
+returns-in_ok-ring-clause-falling c =
+    falls-on c.args.grow (version c.args.stamp (view c.args.value))
+    (versions c.args.self.now c.args.id) _ (returns-in_ok-ring-clause-pushed c)
+
+pub returns-in_ok-ring-clause-others : goal.returns-in_ok-ring-clause-others
+returns-in_ok-ring-clause-others c =
+    seen-others (room c.self.inside.nodes) (room c.put_before.new.self) (space c.self.inside.nodes)
+    (space c.put_before.new.self) c.self.inside.rings.slots _
+    c.args.self.now c.args.id _ c.self.view_is
+    (grew (space c.self.inside.nodes) (space c.put_before.new.self) c.self.inside.rings.slots
+    c.args.id.place
+    c.in_ok-ring.field-0 c.args.stamp c.args.value c.in-Some.ring.now c.self.invariant
+    (sym c.in-Some.ensures.value) c.in_ok-ring.ensures.place c.in_ok-ring.ensures.put)
+
+pub returns-in_ok-ring-clause-nodes : goal.returns-in_ok-ring-clause-nodes
+returns-in_ok-ring-clause-nodes c =
+    nodes-after c.args.grow (is_kept (versions c.args.self.now c.args.id)) c.args.self.now _
+    c.if-grow.true
+    (seen-kept (room c.self.inside.nodes) (space c.self.inside.nodes) c.self.inside.rings.slots
+    c.args.self.now c.args.id
+    c.in-Some.ring.now c.self.invariant c.self.view_is (sym c.in-Some.ensures.value))
+    (takes-node (room c.self.inside.nodes) (room c.put_before.new.self) (space c.self.inside.nodes)
+    (space c.put_before.new.self) c.self.inside.rings.slots _
+    c.args.self.now c.in-Some.ring.now.newest c.args.stamp c.args.value c.self.view_is
+    c.in_ok-ring.ensures.put c.in_ok-ring.ensures.takes)
+
+pub returns-in_ok-ring-clause-absent : goal.returns-in_ok-ring-clause-absent
+returns-in_ok-ring-clause-absent c = λ none. absurd
+    (not-absent (room c.self.inside.nodes) (space c.self.inside.nodes) c.self.inside.rings.slots
+    c.args.self.now c.args.id
+    c.in-Some.ring.now c.self.invariant c.self.view_is (sym c.in-Some.ensures.value) none)
+
+pub returns-in_err-ring-clause-absent : goal.returns-in_err-ring-clause-absent
+returns-in_err-ring-clause-absent c = λ none. absurd
+    (not-absent (room c.self.inside.nodes) (space c.self.inside.nodes) c.self.inside.rings.slots
+    c.args.self.now c.args.id
+    c.in-Some.ring.now c.self.invariant c.self.view_is (sym c.in-Some.ensures.value) none)
+
+-- Where the oldest gives way
+
+pub invariant_of-self-else-grow : goal.invariant_of-self-else-grow
+invariant_of-self-else-grow c =
+    (overwrote (space c.self.inside.nodes) (space c.overwrite_oldest-ring.new.self)
+    c.self.inside.rings.slots
+    c.args.id.place c.overwrite_oldest-ring.result c.args.stamp c.args.value
+    c.in-Some.ring.now c.self.invariant (sym c.in-Some.ensures.value)
+    c.overwrite_oldest-ring.ensures.oldest c.overwrite_oldest-ring.ensures.written).sound
+
+pub returns-else-grow-clause-pushed : goal.returns-else-grow-clause-pushed
+returns-else-grow-clause-pushed c =
+    let v = version c.args.stamp (view c.args.value) in
+    seen-here (room c.overwrite_oldest-ring.new.self) (space c.self.inside.nodes)
+    (space c.overwrite_oldest-ring.new.self) c.self.inside.rings.slots _
+    c.args.id _
+    (overwrote (space c.self.inside.nodes) (space c.overwrite_oldest-ring.new.self)
+    c.self.inside.rings.slots
+    c.args.id.place c.overwrite_oldest-ring.result c.args.stamp c.args.value
+    c.in-Some.ring.now c.self.invariant (sym c.in-Some.ensures.value)
+    c.overwrite_oldest-ring.ensures.oldest c.overwrite_oldest-ring.ensures.written)
+    ∙ ap (λ vs. pushed false v vs)
+    (sym (seen-some (room c.self.inside.nodes) (space c.self.inside.nodes) c.self.inside.rings.slots
+    c.args.self.now c.args.id c.in-Some.ring.now c.self.view_is (sym c.in-Some.ensures.value)))
+    ∙ ap (λ (b : Bool). pushed b v (versions c.args.self.now c.args.id)) (sym c.if-grow.false)
+
+pub returns-else-grow-clause-falling : goal.returns-else-grow-clause-falling
+returns-else-grow-clause-falling c =
+    falls-on c.args.grow (version c.args.stamp (view c.args.value))
+    (versions c.args.self.now c.args.id) _ (returns-else-grow-clause-pushed c)
+
+pub returns-else-grow-clause-others : goal.returns-else-grow-clause-others
+returns-else-grow-clause-others c =
+    seen-others (room c.self.inside.nodes) (room c.overwrite_oldest-ring.new.self)
+    (space c.self.inside.nodes) (space c.overwrite_oldest-ring.new.self) c.self.inside.rings.slots _
+    c.args.self.now c.args.id _ c.self.view_is
+    (overwrote (space c.self.inside.nodes) (space c.overwrite_oldest-ring.new.self)
+    c.self.inside.rings.slots
+    c.args.id.place c.overwrite_oldest-ring.result c.args.stamp c.args.value
+    c.in-Some.ring.now c.self.invariant (sym c.in-Some.ensures.value)
+    c.overwrite_oldest-ring.ensures.oldest c.overwrite_oldest-ring.ensures.written)
+
+pub returns-else-grow-clause-absent : goal.returns-else-grow-clause-absent
+returns-else-grow-clause-absent c = λ none. absurd
+    (not-absent (room c.self.inside.nodes) (space c.self.inside.nodes) c.self.inside.rings.slots
+    c.args.self.now c.args.id
+    c.in-Some.ring.now c.self.invariant c.self.view_is (sym c.in-Some.ensures.value) none)

@@ -1,0 +1,10 @@
+//! The versions of many values, each value's in a ring of its own. All rings stand in one vector of
+//! nodes, and what one ring gives back another takes.
+#![tactic(auto)]
+
+mod node;
+mod nodes;
+mod rings;
+
+pub use node::RingId;
+pub use rings::Rings;
