@@ -1,0 +1,6 @@
+pub mod Places
+pub mod Atoms
+pub mod Actions
+pub mod Agents
+pub mod Numbers
+pub mod Inside
