@@ -1,12 +1,18 @@
-//! Times layers of the server alone: the decoder of messages, the walker, and the table of refs.
+//! Times layers of the server alone: the decoder of messages, the walker, the table of refs, and
+//! atoms and agents.
 //! Each line of standard input names a layer and gives numbers; what stands behind the line `wire`
 //! is a bencode stream.
 #![tactic(auto)]
 
+ghost use Rattle.ref_history.specs.Changes.{IsAbsent};
+ghost use Rattle.ref_history.specs.declared.ref_id.RefId.{RefId};
+
+mod cells;
 mod refs;
 mod walker;
 mod wire;
 
+use ref_history::{History, ListHistory, RingHistory};
 use std::io::{self, Read};
 use std::str::SplitWhitespace;
 
@@ -18,14 +24,26 @@ fn number_of(word: Option<&str>) -> u64 {
     }
 }
 
-fn time_refs(rt: &HostRuntime, words: &mut SplitWhitespace<'_>) -> io::Result<()> {
-    let counts = refs::run(rt.alloc(), refs::size_of(words))?;
+fn time_refs<H: History>(
+    rt: &HostRuntime,
+    history: H,
+    words: &mut SplitWhitespace<'_>,
+) -> io::Result<()>
+    requires { (id : RefId) → IsAbsent (H.stands history) id }
+{
+    let counts = refs::run(rt.alloc(), history, refs::size_of(words))?;
     let refs::Counts {
         committed,
         found,
         to_retry,
     } = counts;
     println!(rt; "{committed} committed, {found} found, {to_retry} to retry")
+}
+
+fn time_cells(rt: &HostRuntime, words: &mut SplitWhitespace<'_>) -> io::Result<()> {
+    let counts = cells::run(rt.alloc(), cells::size_of(words))?;
+    let cells::Counts { ran, kept } = counts;
+    println!(rt; "{ran} ran, {kept} kept")
 }
 
 fn time_walker(rt: &HostRuntime, words: &mut SplitWhitespace<'_>) -> io::Result<()> {
@@ -47,7 +65,9 @@ fn time_wire(rt: &HostRuntime) -> io::Result<()> {
 fn time_layer(rt: &HostRuntime, line: &str) -> io::Result<bool> {
     let mut words = line.split_whitespace();
     match words.next() {
-        Some("refs") => time_refs(rt, &mut words)?,
+        Some("refs") => time_refs(rt, ListHistory::new(rt.alloc()), &mut words)?,
+        Some("rings") => time_refs(rt, RingHistory::new(rt.alloc()), &mut words)?,
+        Some("cells") => time_cells(rt, &mut words)?,
         Some("walker") => time_walker(rt, &mut words)?,
         Some("wire") => {
             time_wire(rt)?;

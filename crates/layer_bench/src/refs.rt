@@ -1,8 +1,11 @@
 // Makes refs, sets each of them in rounds, reads each as it was at every round, and commutes one
 // more ref in one transaction, so that the table of refs can be timed alone.
+ghost use Rattle.ref_history.specs.Changes.{IsAbsent};
+ghost use Rattle.ref_history.specs.declared.ref_id.RefId.{RefId};
+
 use crate::number_of;
 use function_names::CoreFunction;
-use ref_history::{Bounds, ListHistory};
+use ref_history::{Bounds, History};
 use ref_table::{CommitOutcome, Point, RefTable};
 use repl_asks::{Change, Commute, Commuted, Intent, Reading};
 use repl_values::{Owner, RefName, Value};
@@ -11,8 +14,6 @@ use std::str::SplitWhitespace;
 
 // The refs are of so many tenants.
 const TENANTS: u64 = 100;
-
-type Table = RefTable<ListHistory>;
 
 #[derive(Clone, Copy, Debug)]
 pub(crate) struct Size {
@@ -45,7 +46,11 @@ fn tenant_of(name: RefName) -> u64 {
 }
 
 // Each ref keeps the versions of all rounds.
-fn make_all(alloc: Global, table: &mut Table, size: Size) -> Result<Vec<RefName>, AllocError> {
+fn make_all<H: History>(
+    alloc: Global,
+    table: &mut RefTable<H>,
+    size: Size,
+) -> Result<Vec<RefName>, AllocError> {
     let bounds = Bounds {
         least: size.rounds,
         most: size.rounds,
@@ -59,7 +64,11 @@ fn make_all(alloc: Global, table: &mut Table, size: Size) -> Result<Vec<RefName>
 }
 
 // A commit that sets one ref. Answers whether it was done.
-fn set(alloc: Global, table: &mut Table, name: RefName) -> Result<bool, AllocError> {
+fn set<H: History>(
+    alloc: Global,
+    table: &mut RefTable<H>,
+    name: RefName,
+) -> Result<bool, AllocError> {
     let mut sets = Vec::new(alloc);
     sets.push(Change {
         name,
@@ -79,9 +88,9 @@ fn set(alloc: Global, table: &mut Table, name: RefName) -> Result<bool, AllocErr
 }
 
 // Sets each ref once.
-fn set_all(
+fn set_all<H: History>(
     alloc: Global,
-    table: &mut Table,
+    table: &mut RefTable<H>,
     names: &[RefName],
     counts: &mut Counts,
 ) -> Result<(), AllocError> {
@@ -94,8 +103,8 @@ fn set_all(
 }
 
 // Reads each ref as it was at a point.
-fn read_all(
-    table: &mut Table,
+fn read_all<H: History>(
+    table: &mut RefTable<H>,
     names: &[RefName],
     point: Point,
     counts: &mut Counts,
@@ -126,7 +135,11 @@ fn increments(alloc: Global, name: RefName, times: u64) -> Result<Commuted, Allo
 }
 
 // A commit that commutes one new ref so many times. Answers whether it was done.
-fn commute(alloc: Global, table: &mut Table, times: u64) -> Result<bool, AllocError> {
+fn commute<H: History>(
+    alloc: Global,
+    table: &mut RefTable<H>,
+    times: u64,
+) -> Result<bool, AllocError> {
     let bounds = Bounds { least: 0, most: 0 };
     let name = table.make(alloc, Owner::Tenant(0), Value::Int(0), bounds)?;
     let mut commuted = Vec::new(alloc);
@@ -144,8 +157,11 @@ fn commute(alloc: Global, table: &mut Table, times: u64) -> Result<bool, AllocEr
     Ok(matches!(outcome, CommitOutcome::Committed))
 }
 
-pub(crate) fn run(alloc: Global, size: Size) -> Result<Counts, AllocError> {
-    let mut table = RefTable::new(alloc, ListHistory::new(alloc));
+/// The versions of the refs are kept in this history, in which no ref is yet.
+pub(crate) fn run<H: History>(alloc: Global, history: H, size: Size) -> Result<Counts, AllocError>
+    requires { (id : RefId) → IsAbsent (H.stands history) id }
+{
+    let mut table = RefTable::new(alloc, history);
     let mut counts = Counts::default();
     let names = make_all(alloc, &mut table, size)?;
     let mut points = Vec::new(alloc);
