@@ -1,3 +1,4 @@
 pub mod Journals
+pub mod Alone
 pub mod Keeping
 pub mod Counting

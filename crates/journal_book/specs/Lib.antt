@@ -2,3 +2,4 @@ pub mod Journal
 pub mod View
 pub mod Standing
 pub mod Rows
+pub mod Alone

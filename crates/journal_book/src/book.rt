@@ -6,11 +6,12 @@ ghost use Rattle.server_rules.specs.Ground.{Ground};
 ghost use Rattle.server_rules.specs.Plan.{tenant_opened};
 ghost use Rattle.server_rules.specs.Machine.Ready.{ready};
 ghost use Rattle.server_rules.specs.Machine.World.{World, new_world, opens};
-ghost use Rattle.server_rules.specs.Machine.Turns.{whose_step};
+ghost use Rattle.server_rules.specs.Machine.Turns.{whose_step, serve};
 ghost use Rattle.repl_core.specs.Configured.{IsConfigured};
 ghost use Rattle.tenant_turns.specs.Inside.Wires.{wire_at};
 ghost use Rattle.repl_core.specs.Standing.{open_in};
 ghost use Rattle.repl_core.specs.Steps.{step_view, step_answer_view};
+ghost use Rattle.journal_book.specs.Alone.{bytes_to, NamesNoSharedIn, IsHonest, steps_of, turns_of};
 ghost use Rattle.journal_book.specs.Journal.{IsJournal};
 ghost use Rattle.journal_book.specs.View.{entries, seat_with};
 ghost use Rattle.journal_book.specs.Rows.{row, row_of, entries_of, counted_of, all_counted};
@@ -122,6 +123,21 @@ impl<L: Ledger> Book<L> {
     pub fn replays(&self)
         ensures { (g : Ground) → IsConfigured g self.now.config
             → (w : World) × IsJournal g (new_world []) (entries self.now.journal) w }
+    {
+        let _ = &self.config;
+    }
+
+    /// What the journal says that a tenant was given is what a server of its own gives it by its
+    /// steps alone, if it names no shared ref. Where its starts, asks and ends are those of its
+    /// evaluations, so do its turns alone, as `drive` makes them.
+    pub fn serves_as_if_alone(&self)
+        ensures steps { (g : Ground) (t : ℕ) → IsConfigured g self.now.config
+            → let journal = entries self.now.journal in NamesNoSharedIn t journal
+            → bytes_to t journal ≡ serve g (new_world []) (steps_of t journal) t }
+        ensures turns { (g : Ground) (t : ℕ) → IsConfigured g self.now.config
+            → let journal = entries self.now.journal in NamesNoSharedIn t journal
+            → IsHonest g (new_world []) t journal
+            → bytes_to t journal ≡ serve g (new_world []) (turns_of t journal) t }
     {
         let _ = &self.config;
     }

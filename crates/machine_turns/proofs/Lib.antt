@@ -1,3 +1,4 @@
 pub mod Walking
 pub mod Turning
 pub mod Giving
+pub mod Alone

@@ -2,3 +2,4 @@ pub mod AllWalks
 pub mod Driver
 pub mod Turns
 pub mod Driven
+pub mod Alone

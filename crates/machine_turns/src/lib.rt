@@ -4,6 +4,7 @@
 
 mod all_walks;
 mod driver;
+pub mod laws;
 mod lists;
 mod outputs;
 mod turn;

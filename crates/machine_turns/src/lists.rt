@@ -3,6 +3,7 @@ ghost use Rattle.std.specs.Prelude.{[], map, IfOk, OnOk};
 ghost use Rattle.server_rules.specs.Ground.{Ground};
 ghost use Rattle.server_rules.specs.Machine.World.{World, new_world};
 ghost use Rattle.repl_core.specs.Configured.{IsConfigured};
+ghost use Rattle.machine_turns.specs.Alone.{IsServedAlone};
 ghost use Rattle.machine_turns.specs.Driver.{DriverStands};
 ghost use Rattle.machine_turns.specs.Driven.{IsDriven, MakesTurn};
 ghost use Rattle.machine_turns.specs.Turns.{turn_view};
@@ -15,10 +16,13 @@ use server_rules::Refusal;
 use std::alloc::{AllocError, Global};
 
 /// Makes each turn of a list, on a server to which nobody came: gives what it serves each tenant,
-/// and the turns that were refused. It fails only for want of memory.
+/// and the turns that were refused. A tenant that names no shared ref is given what its own turns
+/// alone serve. It fails only for want of memory.
 pub fn drive(alloc: Global, config: Config, turns: &[Turn]) -> Result<Outputs, AllocError>
-    ensures { (g : Ground) → IsConfigured g config → IfOk result
+    ensures driven { (g : Ground) → IsConfigured g config → IfOk result
         (IsDriven g (new_world []) (map turn_view turns.now)) }
+    ensures alone { (g : Ground) → IsConfigured g config → IfOk result
+        (IsServedAlone g (new_world []) (map turn_view turns.now)) }
 {
     let mut driver = Driver::new(alloc, config);
     let mut outputs = Outputs::new(alloc);

@@ -5,6 +5,7 @@ use Rattle.server_rules.specs.Machine.World.{new_world}
 use Rattle.machine_turns.specs.Driven.{IsDriven, Drives}
 use Rattle.machine_turns.specs.Turns.{turn_view}
 use Rattle.machine_turns.specs.declared.turn.Turn.{Turn}
+use Rattle.machine_turns.proofs.Alone.{driven-alone}
 use Rattle.machine_turns.proofs.Turning.{drives-none, drives-more}
 use Rattle.machine_turns.proofs.lists.drive.Goals as goal
 
@@ -40,10 +41,14 @@ loop-turn-preserved c = record {
       (c.in_ok-make_turn.ensures g _ on.stands));
 }
 
-pub returns : goal.returns
-returns c = λ g it.
+pub returns-clause-driven : goal.returns-clause-driven
+returns-clause-driven c = λ g it.
     let xs = c.args.turns.now in
     let all : take c.loop-turn.turn-index xs ≡ xs =
     take_all c.loop-turn.turn-index xs c.loop-turn-test.false in
     subst (λ ts. IsDriven g (new_world []) (map turn_view ts) c.loop-turn.outputs) all
     (c.loop-turn.invariant.drives g it).is
+
+pub returns-clause-alone : goal.returns-clause-alone
+returns-clause-alone c = λ g it. driven-alone g (map turn_view c.args.turns.now) c.loop-turn.outputs
+    (returns-clause-driven c g it)
