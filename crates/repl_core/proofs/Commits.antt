@@ -35,14 +35,14 @@ use Rattle.repl_core.proofs.CommitSteps.{closed_plan, open_plan, asked-by, step-
 
 -- A commit that is answered so
 
-never-refused : (why : Refusal) (w : World) (answer : StepAnswer)
+pub never-refused : (why : Refusal) (w : World) (answer : StepAnswer)
     → refused why ≡ accepted w answer → ⊥
 never-refused why w answer e = cc
 
-same-answer : (v w : World) (x y : StepAnswer) → accepted v x ≡ accepted w y → x ≡ y
+pub same-answer : (v w : World) (x y : StepAnswer) → accepted v x ≡ accepted w y → x ≡ y
 same-answer v w x y e = cc
 
-ref-near : (name : RefNameData) (w : World) (t : ℕ) (kept : TenantData) → open_in t w ≡ Some kept
+pub ref-near : (name : RefNameData) (w : World) (t : ℕ) (kept : TenantData) → open_in t w ≡ Some kept
     → is_some (ref_named name (store_in w.around t kept.mine)) ≡ true
     → ref_in_world name w ≡ ref_named name (store_in w.around t kept.mine)
 ref-near name w t kept there = by name.owner

@@ -10,3 +10,4 @@ pub mod CommitFolds
 pub mod CommitCalls
 pub mod CommitSteps
 pub mod Commits
+pub mod Points

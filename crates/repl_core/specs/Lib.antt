@@ -7,3 +7,4 @@ pub mod Steps
 pub mod Going
 pub mod Driving
 pub mod Commits
+pub mod Points

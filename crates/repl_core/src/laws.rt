@@ -4,6 +4,7 @@ ghost use Rattle.server_rules.specs.Ground.{Ground};
 ghost use Rattle.repl_core.specs.Configured.{IsConfigured};
 ghost use Rattle.repl_core.specs.declared.machine.Config.{Config};
 ghost use Rattle.repl_core.specs.Commits.{CommittedMetNoNewer, NewestIsTheFoldOfWhatWasCommitted};
+ghost use Rattle.repl_core.specs.Points.{ReadsAreOfTheirPoint, WhatWasHeldStays};
 
 use tenant_turns::laws::{exact_comparisons_exist, there_is_one_right_reading};
 
@@ -30,4 +31,16 @@ pub fn committed_met_no_newer()
 /// tenant that goes are gone.
 pub fn newest_is_the_fold_of_what_was_committed()
     ensures { NewestIsTheFoldOfWhatWasCommitted }
+{}
+
+/// In an attempt each read is answered by what the ref held at the attempt's read point, whatever
+/// its history has lost since, or the attempt is to be made again.
+pub fn reads_are_of_their_point()
+    ensures { ReadsAreOfTheirPoint }
+{}
+
+/// What a shared ref held at a point that the commits have come to, it has held there after any
+/// steps: so two attempts with one read point are told the same of it, however long they take.
+pub fn what_was_held_stays()
+    ensures { WhatWasHeldStays }
 {}

@@ -13,14 +13,14 @@ use Rattle.repl_walker.specs.Standing.{Standing, attempt_of, standing_after}
 use Rattle.repl_walker.specs.Values.{values_after}
 
 -- the one list begins as the other
-abbrev Begins : List AccessData → List AccessData → Type 0
+abbrev pub Begins : List AccessData → List AccessData → Type 0
 Begins xs ys = (rest : List AccessData) × (xs ≡ ys ++ rest)
 
-same : (xs : List AccessData) → Begins xs xs
+pub same : (xs : List AccessData) → Begins xs xs
 same xs = ([], sym (append-nil xs))
 
 -- the accesses so far are the first
-grows : (text : List ℕ) (ops : List AccessData) (d : Doing) (answers : List AnswerData)
+pub grows : (text : List ℕ) (ops : List AccessData) (d : Doing) (answers : List AnswerData)
     → Begins (standing_after text ops d answers).accesses ops
 grows text ops (left exit kept) answers = same ops
 grows text ops (asking ask behind) [] = same ops
@@ -84,7 +84,7 @@ stays less before ops (noting op d) answers more few =
     stays less before (ops ++ op ∷ []) d answers more few
 stays less before ops (trying body d) answers more few = stays less before ops d answers more few
 
-abbrev change_in : AccessData → ChangeData
+abbrev pub change_in : AccessData → ChangeData
 change_in op = record { name = named_in op; now = accessed_value op }
 
 pub values-stay

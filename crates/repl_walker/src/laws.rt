@@ -13,6 +13,7 @@ ghost use Rattle.evaluation_rules.specs.Evaluation.{value_at};
 ghost use Rattle.tx_attempt.specs.Accesses.{AccessData};
 ghost use Rattle.repl_walker.specs.Standing.{standing_after, on_from};
 ghost use Rattle.repl_walker.specs.Attempts.{IsUnderWay, IsDivided};
+ghost use Rattle.repl_walker.specs.Agreeing.{AgreeingAttempts};
 ghost use Rattle.repl_walker.specs.Values.{ValuesStay};
 ghost use Rattle.repl_walker.specs.Retries.{RetriesLeave};
 
@@ -42,6 +43,13 @@ pub fn a_transaction_is_its_attempts()
 /// first. So two runs of it agree up to the first answer in which they differ.
 pub fn more_answers_keep_the_values()
     ensures { ValuesStay }
+{}
+
+/// Two attempts at one `dosync` with the same setting, in whatever runs: where shared refs told both
+/// the same, and their own answers are equal one by one as far as both have one, the values that
+/// one saw begin those that the other saw.
+pub fn agreeing_attempts_see_the_same()
+    ensures { AgreeingAttempts }
 {}
 
 /// With more answers a body goes on from where it stands. Where it is left, it takes no more: what

@@ -1,0 +1,41 @@
+-- What an attempt reads, whatever others commit meanwhile.
+use Rattle.std.specs.Prelude.{◌≡◌, ◌⊎◌, ◌≤◌, ℕ, List, Option, Some, option_and_then}
+use Rattle.value_data.specs.Datum.{Datum, shared}
+use Rattle.repl_asks.specs.Transactions.{RefNameData}
+use Rattle.repl_asks.specs.Exchange.{AnswerData, read, reading, found, retry}
+use Rattle.server_rules.specs.Versions.{Ref, at_point}
+use Rattle.server_rules.specs.Ground.{Ground}
+use Rattle.server_rules.specs.Plan.{asks_for, ask_answered}
+use Rattle.server_rules.specs.Machine.World.{World, Step, does, accepted, step, run}
+use Rattle.server_rules.specs.declared.actor.Actor.{Actor}
+use Rattle.repl_core.specs.Commits.{ref_in_world, point_in}
+
+-- what a ref held at a point: its newest version at or before it
+abbrev pub held_at : ℕ → Option Ref → Option Datum
+held_at point = option_and_then (λ r. at_point point r.versions)
+
+-- to read again, or what the ref held at the point
+abbrev pub IsOfPoint : ℕ → Option Ref → AnswerData → Type 0
+IsOfPoint point r answer =
+    (answer ≡ reading retry)
+    ⊎ ((d : Datum) × (answer ≡ reading (found d)) × (held_at point r ≡ Some d))
+
+-- In an attempt each read is answered by what the ref held at the attempt's read point, or the
+-- attempt is to be made again: whatever its history has lost since.
+abbrev pub ReadsAreOfTheirPoint : Type 0
+ReadsAreOfTheirPoint =
+    (g : Ground) (w after : World) (t : ℕ) (a : Actor) (name : RefNameData) (answer : AnswerData)
+    (point : ℕ) → point_in t a w ≡ Some point
+    → step g w (does t (asks_for a (read name))) ≡ accepted after (ask_answered answer)
+    → IsOfPoint point (ref_in_world name w) answer
+
+abbrev pub shared_ref : ℕ → RefNameData
+shared_ref number = record { owner = shared; number = number }
+
+-- What a shared ref held at a point that the commits have come to, it has held there after any
+-- steps.
+abbrev pub WhatWasHeldStays : Type 0
+WhatWasHeldStays =
+    (g : Ground) (w : World) (steps : List Step) (number point : ℕ) → point ≤ w.around.counter
+    → held_at point (ref_in_world (shared_ref number) (run g w steps))
+    ≡ held_at point (ref_in_world (shared_ref number) w)
