@@ -19,9 +19,13 @@ pub enum StoreFunction {
     HistoryCount,
     MinHistory,
     MaxHistory,
+    Atom,
+    Swap,
+    Reset,
+    CompareAndSet,
 }
 
-const STORE_FUNCTIONS: [StoreFunction; 9] = [
+const STORE_FUNCTIONS: [StoreFunction; 13] = [
     StoreFunction::Ref,
     StoreFunction::Deref,
     StoreFunction::RefSet,
@@ -31,6 +35,10 @@ const STORE_FUNCTIONS: [StoreFunction; 9] = [
     StoreFunction::HistoryCount,
     StoreFunction::MinHistory,
     StoreFunction::MaxHistory,
+    StoreFunction::Atom,
+    StoreFunction::Swap,
+    StoreFunction::Reset,
+    StoreFunction::CompareAndSet,
 ];
 
 impl HasRow for StoreFunction {
@@ -53,6 +61,10 @@ impl HasRow for StoreFunction {
             StoreFunction::HistoryCount => FunctionRow::new("ref-history-count", Arity::Exactly(1)),
             StoreFunction::MinHistory => FunctionRow::new("ref-min-history", Arity::FromTo(1, 2)),
             StoreFunction::MaxHistory => FunctionRow::new("ref-max-history", Arity::FromTo(1, 2)),
+            StoreFunction::Atom => FunctionRow::new("atom", Arity::Exactly(1)),
+            StoreFunction::Swap => FunctionRow::new("swap!", Arity::AtLeast(2)),
+            StoreFunction::Reset => FunctionRow::new("reset!", Arity::Exactly(2)),
+            StoreFunction::CompareAndSet => FunctionRow::new("compare-and-set!", Arity::Exactly(3)),
         }
     }
 }

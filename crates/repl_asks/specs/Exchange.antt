@@ -33,6 +33,14 @@ pub data AskData : Type 0 where
   max_history : RefNameData → Option ℕ → AskData
   -- what the attempt changed is to stand for all
   commit : IntentData → AskData
+  -- an atom with this value
+  new_atom : Datum → AskData
+  -- the value of the atom with this number
+  read_atom : ℕ → AskData
+  -- the atom gets this value
+  set_atom : ℕ → Datum → AskData
+  -- the atom gets its next value if it equals what was seen of it: the number, and both
+  try_atom : ℕ → Datum → Datum → AskData
 
 -- a function that has a name: one of the language, which needs no store or asks it, or one of the
 -- program
@@ -90,6 +98,10 @@ kind_wanted (history name) = AnswerKind.Value
 kind_wanted (min_history name set) = AnswerKind.Value
 kind_wanted (max_history name set) = AnswerKind.Value
 kind_wanted (commit intent) = AnswerKind.Verdict
+kind_wanted (new_atom d) = AnswerKind.Value
+kind_wanted (read_atom n) = AnswerKind.Value
+kind_wanted (set_atom n d) = AnswerKind.Value
+kind_wanted (try_atom n seen next) = AnswerKind.Value
 
 abbrev pub kind_of : AnswerData → AnswerKind
 kind_of (resolution r) = AnswerKind.Resolution

@@ -50,6 +50,22 @@ pub enum Ask {
     },
     /// What the attempt changed is to stand for all. Answered by a verdict.
     Commit(Arc<Intent>),
+    /// Makes an atom with this value. Answered by a value, the atom.
+    NewAtom(Value),
+    /// The value of the atom with this number. Answered by a value.
+    ReadAtom(u64),
+    /// The atom gets this value, whatever it was. Answered by a value, this one.
+    SetAtom {
+        number: u64,
+        value: Value,
+    },
+    /// The atom gets its next value if it equals what was seen of it. Answered by a value: whether
+    /// it did.
+    TryAtom {
+        number: u64,
+        seen: Value,
+        next: Value,
+    },
 }
 
 /// What a name is bound to.
@@ -84,6 +100,9 @@ impl Ask {
             Ask::History(_) => AnswerKind::Value,
             Ask::MinHistory { .. } | Ask::MaxHistory { .. } => AnswerKind::Value,
             Ask::Commit(_) => AnswerKind::Verdict,
+            Ask::NewAtom(_) => AnswerKind::Value,
+            Ask::ReadAtom(_) => AnswerKind::Value,
+            Ask::SetAtom { .. } | Ask::TryAtom { .. } => AnswerKind::Value,
         }
     }
 
@@ -128,6 +147,17 @@ impl Ask {
                 set: *set,
             }),
             Ask::Commit(intent) => Ok(Ask::Commit(Arc::try_clone(intent)?)),
+            Ask::NewAtom(value) => Ok(Ask::NewAtom(copy(value)?)),
+            Ask::ReadAtom(number) => Ok(Ask::ReadAtom(*number)),
+            Ask::SetAtom { number, value } => Ok(Ask::SetAtom {
+                number: *number,
+                value: copy(value)?,
+            }),
+            Ask::TryAtom { number, seen, next } => Ok(Ask::TryAtom {
+                number: *number,
+                seen: copy(seen)?,
+                next: copy(next)?,
+            }),
         }
     }
 }

@@ -2,7 +2,7 @@
 ghost use Rattle.std.specs.Prelude.{◌≡◌, ◌↔◌, IsTrue};
 ghost use Rattle.std.specs.Arc.{arc_str_bytes};
 ghost use Rattle.value_data.specs.Inside.View.{view};
-ghost use Rattle.repl_asks.specs.Exchange.{resolve, define, new_ref};
+ghost use Rattle.repl_asks.specs.Exchange.{resolve, define, new_ref, set_atom, try_atom};
 ghost use Rattle.repl_asks.specs.Inside.View.{ask_view, binding_view, exchange_view};
 
 use crate::answers::same_answer;
@@ -57,6 +57,10 @@ pub fn same_ask(left: &Ask, right: &Ask) -> bool
             m == n && same_name(a, b)
         }
         (Ask::Commit(a), Ask::Commit(b)) => same_intent(a, b),
+        (Ask::NewAtom(a), Ask::NewAtom(b)) => same_value(a, b),
+        (Ask::ReadAtom(a), Ask::ReadAtom(b)) => a == b,
+        (Ask::SetAtom { number, value }, _) => sets_atom(right, *number, value),
+        (Ask::TryAtom { number, seen, next }, _) => tries_atom(right, *number, seen, next),
         _ => false,
     }
 }
@@ -103,6 +107,29 @@ fn makes_ref(ask: &Ask, with: &Value, least: u64, most: u64) -> bool
             min_history,
             max_history,
         } => { same_value(with, value) && least == *min_history && most == *max_history }
+        _ => false,
+    }
+}
+
+// Whether the ask gives this value to the atom of this number.
+fn sets_atom(ask: &Ask, atom: u64, given: &Value) -> bool
+    ensures { IsTrue result ↔ (set_atom atom (view given.now) ≡ ask_view ask.now) }
+{
+    match ask {
+        Ask::SetAtom { number, value } => atom == *number && same_value(given, value),
+        _ => false,
+    }
+}
+
+// Whether the ask is the try to put this value in the place of that one.
+fn tries_atom(ask: &Ask, atom: u64, expected: &Value, replacement: &Value) -> bool
+    ensures { IsTrue result ↔ (try_atom atom (view expected.now) (view replacement.now)
+        ≡ ask_view ask.now) }
+{
+    match ask {
+        Ask::TryAtom { number, seen, next } => {
+            atom == *number && same_value(expected, seen) && same_value(replacement, next)
+        }
         _ => false,
     }
 }

@@ -9,7 +9,8 @@ use Rattle.repl_asks.specs.Transactions.{RefNameData, ChangeData, CommuteData, C
 use Rattle.repl_asks.specs.Transactions.{IntentData}
 use Rattle.repl_asks.specs.Exchange.{BindingData, bound_value, bound_function, AskData, resolve}
 use Rattle.repl_asks.specs.Exchange.{define, enter, new_ref, begin, read, history, min_history}
-use Rattle.repl_asks.specs.Exchange.{max_history, commit, NamedFunctionData, core_function}
+use Rattle.repl_asks.specs.Exchange.{max_history, commit, new_atom, read_atom, set_atom, try_atom}
+use Rattle.repl_asks.specs.Exchange.{NamedFunctionData, core_function}
 use Rattle.repl_asks.specs.Exchange.{store_function, program_function, ResolutionData, names_value}
 use Rattle.repl_asks.specs.Exchange.{names_function, names_nothing, ReadingData, found, retry}
 use Rattle.repl_asks.specs.Exchange.{VerdictData, committed, conflict, faulted, AnswerData}
@@ -62,6 +63,10 @@ ask_view (Ask.History name) = history (name_view name)
 ask_view (Ask.MinHistory name set) = min_history (name_view name) set
 ask_view (Ask.MaxHistory name set) = max_history (name_view name) set
 ask_view (Ask.Commit intent) = commit (intent_view (arc_value intent))
+ask_view (Ask.NewAtom v) = new_atom (view v)
+ask_view (Ask.ReadAtom n) = read_atom n
+ask_view (Ask.SetAtom n v) = set_atom n (view v)
+ask_view (Ask.TryAtom n seen next) = try_atom n (view seen) (view next)
 
 abbrev pub named_view : NamedFunction → NamedFunctionData
 named_view (NamedFunction.Core f) = core_function f
