@@ -1,5 +1,7 @@
 // The asks.
 ghost use Rattle.std.specs.Prelude.{◌≡◌, IfOk};
+ghost use Rattle.value_data.specs.Inside.View.{view};
+ghost use Rattle.repl_asks.specs.Exchange as asked;
 ghost use Rattle.repl_asks.specs.Exchange.{kind_wanted};
 ghost use Rattle.repl_asks.specs.Inside.View.{ask_view, binding_view};
 
@@ -130,11 +132,7 @@ impl Ask {
                 value,
                 min_history,
                 max_history,
-            } => Ok(Ask::NewRef {
-                value: copy(value)?,
-                min_history: *min_history,
-                max_history: *max_history,
-            }),
+            } => new_ref(value, *min_history, *max_history),
             Ask::Begin => Ok(Ask::Begin),
             Ask::Read(name) => Ok(Ask::Read(*name)),
             Ask::History(name) => Ok(Ask::History(*name)),
@@ -149,17 +147,41 @@ impl Ask {
             Ask::Commit(intent) => Ok(Ask::Commit(Arc::try_clone(intent)?)),
             Ask::NewAtom(value) => Ok(Ask::NewAtom(copy(value)?)),
             Ask::ReadAtom(number) => Ok(Ask::ReadAtom(*number)),
-            Ask::SetAtom { number, value } => Ok(Ask::SetAtom {
-                number: *number,
-                value: copy(value)?,
-            }),
-            Ask::TryAtom { number, seen, next } => Ok(Ask::TryAtom {
-                number: *number,
-                seen: copy(seen)?,
-                next: copy(next)?,
-            }),
+            Ask::SetAtom { number, value } => set_atom(*number, value),
+            Ask::TryAtom { number, seen, next } => try_atom(*number, seen, next),
         }
     }
+}
+
+fn new_ref(value: &Value, min_history: u64, max_history: u64) -> Result<Ask, AllocError>
+    ensures { IfOk result (λ ask. ask_view ask
+        ≡ asked.new_ref (view value.now) min_history max_history) }
+{
+    Ok(Ask::NewRef {
+        value: copy(value)?,
+        min_history,
+        max_history,
+    })
+}
+
+fn set_atom(number: u64, value: &Value) -> Result<Ask, AllocError>
+    ensures { IfOk result (λ ask. ask_view ask ≡ asked.set_atom number (view value.now)) }
+{
+    Ok(Ask::SetAtom {
+        number,
+        value: copy(value)?,
+    })
+}
+
+fn try_atom(number: u64, seen: &Value, next: &Value) -> Result<Ask, AllocError>
+    ensures { IfOk result (λ ask. ask_view ask
+        ≡ asked.try_atom number (view seen.now) (view next.now)) }
+{
+    Ok(Ask::TryAtom {
+        number,
+        seen: copy(seen)?,
+        next: copy(next)?,
+    })
 }
 
 impl Binding {
