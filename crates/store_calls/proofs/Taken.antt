@@ -8,7 +8,8 @@ use Rattle.special_forms.specs.Inside.Seen.{views}
 use Rattle.function_names.specs.StoreNames.{store_fits}
 use Rattle.function_names.specs.declared.store.StoreFunction.{StoreFunction}
 use Rattle.store_calls.specs.Calling.{call_with, ref_call, deref_call, ref_set_call, ensure_call}
-use Rattle.store_calls.specs.Calling.{history_count_call, alter_by_value}
+use Rattle.store_calls.specs.Calling.{history_count_call, alter_by_value, atom_call, swap_by_value}
+use Rattle.store_calls.specs.Calling.{reset_call, compare_and_set_call}
 use Rattle.store_calls.specs.Inside.Parts.{bound_call}
 use Rattle.store_calls.specs.declared.altering.Alteration.{Alteration}
 use Rattle.store_calls.specs.declared.bounds.HistoryBound.{HistoryBound}
@@ -86,6 +87,48 @@ greatest-called running (y ∷ []) x fits is = let same : x ≡ y = is in cc
 greatest-called running (y ∷ z ∷ []) x fits is = let same : x ≡ y = is in cc
 greatest-called running (y ∷ z ∷ w ∷ xs) x fits is = absurd (grind (arith, nat_tests))
 
+pub atom-called : (running : Bool) (xs : List Value) (x : Value)
+    → store_fits StoreFunction.Atom (length xs) ≡ true → x ≡ get_or xs 0 x
+    → call_with StoreFunction.Atom running (views xs) ≡ atom_call (view x)
+atom-called running [] x fits is = absurd (grind (arith, nat_tests))
+atom-called running (y ∷ []) x fits is = let same : x ≡ y = is in cc
+atom-called running (y ∷ z ∷ xs) x fits is = absurd (grind (arith, nat_tests))
+
+pub swap-called : (running : Bool) (xs : List Value) (x y : Value)
+    → store_fits StoreFunction.Swap (length xs) ≡ true → x ≡ get_or xs 0 x → y ≡ get_or xs 1 y
+    → call_with StoreFunction.Swap running (views xs) ≡ swap_by_value (view x) (view y)
+swap-called running [] x y fits first is = absurd (grind (arith, nat_tests))
+swap-called running (u ∷ []) x y fits first is = absurd (grind (arith, nat_tests))
+swap-called running (u ∷ v ∷ xs) x y fits first is =
+    let one : x ≡ u = first in let other : y ≡ v = is in cc
+
+pub reset-called : (running : Bool) (xs ys : List Value) (x y : Value)
+    → store_fits StoreFunction.Reset (length xs) ≡ true → y ≡ get_or xs 1 y
+    → ys ≡ take 1 xs ++ drop 2 xs → x ≡ get_or ys 0 x
+    → call_with StoreFunction.Reset running (views xs) ≡ reset_call (view x) (view y)
+reset-called running [] ys x y fits is left first = absurd (grind (arith, nat_tests))
+reset-called running (u ∷ []) ys x y fits is left first = absurd (grind (arith, nat_tests))
+reset-called running (u ∷ v ∷ []) ys x y fits is left first =
+    let one : ys ≡ u ∷ [] = left in
+    let same : x ≡ u = rw one at first in
+    let other : y ≡ v = is in cc
+reset-called running (u ∷ v ∷ w ∷ xs) ys x y fits is left first = absurd (grind (arith, nat_tests))
+
+pub compare-called : (running : Bool) (xs ys zs : List Value) (x y z : Value)
+    → store_fits StoreFunction.CompareAndSet (length xs) ≡ true → z ≡ get_or xs 2 z
+    → ys ≡ take 2 xs ++ drop 3 xs → y ≡ get_or ys 1 y → zs ≡ take 1 ys ++ drop 2 ys → x ≡ get_or zs 0 x
+    → call_with StoreFunction.CompareAndSet running (views xs) ≡ compare_and_set_call (view x) (view y) (view z)
+compare-called running [] ys zs x y z fits is left seen rest first = absurd (grind (arith, nat_tests))
+compare-called running (u ∷ []) ys zs x y z fits is left seen rest first = absurd (grind (arith, nat_tests))
+compare-called running (u ∷ v ∷ []) ys zs x y z fits is left seen rest first = absurd (grind (arith, nat_tests))
+compare-called running (u ∷ v ∷ w ∷ []) ys zs x y z fits is left seen rest first =
+    let two : ys ≡ u ∷ v ∷ [] = left in
+    let middle : y ≡ v = rw two at seen in
+    let one : zs ≡ u ∷ [] = rw two at rest in
+    let same : x ≡ u = rw one at first in
+    let last : z ≡ w = is in cc
+compare-called running (u ∷ v ∷ w ∷ t ∷ xs) ys zs x y z fits is left seen rest first = absurd (grind (arith, nat_tests))
+
 -- the calls of all functions
 pub ruleset calls = (
   ref-called,
@@ -97,4 +140,8 @@ pub ruleset calls = (
   count-called,
   least-called,
   greatest-called,
+  atom-called,
+  swap-called,
+  reset-called,
+  compare-called,
 )

@@ -2,7 +2,7 @@
 use Rattle.std.specs.Prelude.{ℕ, ℤ, pos, negsuc, List, [], ◌∷◌, Bool, true, false, Option, Some}
 use Rattle.std.specs.Prelude.{None, ok_or, Result, Ok, Err, if◌then◌else◌, codes}
 use Rattle.std.specs.Str.{bytes_eq}
-use Rattle.value_data.specs.Datum.{Datum, OwnerData, shared, tenant, integer, keyword, ref}
+use Rattle.value_data.specs.Datum.{Datum, OwnerData, shared, tenant, integer, keyword, ref, atom}
 use Rattle.repl_faults.specs.Failure.{Failure, ◌>>=◌, wrong_argument, broken_rule}
 use Rattle.repl_faults.specs.declared.rule.Rule.{Rule}
 use Rattle.function_names.specs.StoreNames.{store_name_of}
@@ -17,6 +17,11 @@ abbrev pub as_ref : Datum → Option RefNameData
 as_ref (ref owner n) = Some (record { owner = owner; number = n })
 as_ref d = None
 
+-- the number of an atom
+abbrev pub as_atom : Datum → Option ℕ
+as_atom (atom n) = Some n
+as_atom d = None
+
 abbrev pub from_zero : ℤ → Option ℕ
 from_zero (pos n) = Some n
 from_zero (negsuc n) = None
@@ -28,6 +33,9 @@ as_count d = None
 
 abbrev pub ref_in : StoreFunction → Datum → Result RefNameData Failure
 ref_in f d = ok_or (as_ref d) (wrong_argument (store_name_of f) d)
+
+abbrev pub atom_in : StoreFunction → Datum → Result ℕ Failure
+atom_in f d = ok_or (as_atom d) (wrong_argument (store_name_of f) d)
 
 abbrev pub count_in : StoreFunction → Datum → Result ℕ Failure
 count_in f d = ok_or (as_count d) (wrong_argument (store_name_of f) d)

@@ -1,20 +1,22 @@
 -- What a call of a function that asks the store comes to, before anybody is asked (the Clojure
--- reference, Refs and Transactions). The number of arguments is looked at first, then the kinds of
--- all of them, from the left; then whether a transaction runs; then what is forbidden for a ref
--- that all tenants share.
+-- reference, Refs and Transactions, and Atoms). The number of arguments is looked at first, then
+-- the kinds of all of them, from the left; then whether a transaction runs; then what is forbidden
+-- for a ref that all tenants share. Of atoms a call asks the same within transactions and outside.
 use Rattle.std.specs.Prelude.{List, [], ◌∷◌, Bool, ◌||◌, not, Some, None, Result, Ok, Err}
 use Rattle.std.specs.Prelude.{if◌then◌else◌, length}
-use Rattle.value_data.specs.Datum.{Datum}
+use Rattle.value_data.specs.Datum.{Datum, atom}
 use Rattle.repl_faults.specs.Failure.{Failure, ◌>>=◌, wrong_argument, wrong_arity}
 use Rattle.repl_faults.specs.declared.rule.Rule.{Rule}
 use Rattle.function_names.specs.StoreNames.{store_name_of, store_fits}
 use Rattle.function_names.specs.declared.store.StoreFunction.{StoreFunction}
 use Rattle.repl_asks.specs.Transactions.{RefNameData, may_hold}
-use Rattle.repl_asks.specs.Exchange.{AskData, new_ref, history}
+use Rattle.repl_asks.specs.Exchange.{AskData, new_ref, history, new_atom, read_atom, set_atom}
+use Rattle.repl_asks.specs.Exchange.{try_atom}
 use Rattle.store_calls.specs.declared.altering.Alteration.{Alteration}
 use Rattle.store_calls.specs.declared.bounds.HistoryBound.{HistoryBound}
-use Rattle.store_calls.specs.Arguments.{ref_in, count_in, is_shared, kept_to, usual_bounds}
-use Rattle.store_calls.specs.Arguments.{bounds_in, function_of, ask_for}
+use Rattle.store_calls.specs.declared.updating.Update.{Update}
+use Rattle.store_calls.specs.Arguments.{ref_in, atom_in, count_in, is_shared, kept_to}
+use Rattle.store_calls.specs.Arguments.{usual_bounds, bounds_in, function_of, ask_for}
 
 pub data CallData : Type 0 where
   refused : Failure → CallData
@@ -35,8 +37,9 @@ ref_call [] = Err (wrong_arity (store_name_of StoreFunction.Ref) 0)
 ref_call (d ∷ ds) =
     bounds_in usual_bounds ds >>= λ bounds. Ok (asks_value (new_ref d bounds.least bounds.most))
 
--- `(deref ref)`
+-- `(deref ref)`, `(deref atom)`
 abbrev pub deref_call : Datum → Result CallData Failure
+deref_call (atom n) = Ok (asks_value (read_atom n))
 deref_call d = ref_in StoreFunction.Deref d >>= λ name. Ok (reads name)
 
 -- `(ref-set ref value)`
@@ -86,6 +89,29 @@ abbrev pub alter_by_value : Alteration → Datum → Datum → Result CallData F
 alter_by_value by d e =
     ref_in (altering by) d >>= λ _. Err (wrong_argument (store_name_of (altering by)) e)
 
+-- `(atom value)`
+abbrev pub atom_call : Datum → Result CallData Failure
+atom_call d = Ok (asks_value (new_atom d))
+
+-- `(reset! atom value)`
+abbrev pub reset_call : Datum → Datum → Result CallData Failure
+reset_call d e = atom_in StoreFunction.Reset d >>= λ n. Ok (asks_value (set_atom n e))
+
+-- `(compare-and-set! atom seen next)`
+abbrev pub compare_and_set_call : Datum → Datum → Datum → Result CallData Failure
+compare_and_set_call d seen next =
+    atom_in StoreFunction.CompareAndSet d >>= λ n. Ok (asks_value (try_atom n seen next))
+
+-- `swap!` where its function is a value, likewise
+abbrev pub swap_by_value : Datum → Datum → Result CallData Failure
+swap_by_value d e = atom_in StoreFunction.Swap d
+    >>= λ _. Err (wrong_argument (store_name_of StoreFunction.Swap) e)
+
+-- the function that updates so
+abbrev pub updating : Update → StoreFunction
+updating (Update.Ref by) = altering by
+updating Update.Atom = StoreFunction.Swap
+
 abbrev pub call_with : StoreFunction → Bool → List Datum → Result CallData Failure
 call_with StoreFunction.Ref running ds = ref_call ds
 call_with StoreFunction.Deref running (d ∷ []) = deref_call d
@@ -98,6 +124,11 @@ call_with StoreFunction.MinHistory running (d ∷ []) = tell_bound_call HistoryB
 call_with StoreFunction.MinHistory running (d ∷ e ∷ []) = set_bound_call HistoryBound.Least d e
 call_with StoreFunction.MaxHistory running (d ∷ []) = tell_bound_call HistoryBound.Greatest d
 call_with StoreFunction.MaxHistory running (d ∷ e ∷ []) = set_bound_call HistoryBound.Greatest d e
+call_with StoreFunction.Atom running (d ∷ []) = atom_call d
+call_with StoreFunction.Swap running (d ∷ e ∷ ds) = swap_by_value d e
+call_with StoreFunction.Reset running (d ∷ e ∷ []) = reset_call d e
+call_with StoreFunction.CompareAndSet running (d ∷ seen ∷ next ∷ []) =
+    compare_and_set_call d seen next
 call_with f running ds = Err (wrong_arity (store_name_of f) (length ds))
 
 abbrev pub called_for : Result CallData Failure → CallData

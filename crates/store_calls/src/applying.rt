@@ -9,7 +9,7 @@ ghost use Rattle.store_calls.specs.Inside.Parts.{bound_call};
 ghost use Rattle.store_calls.specs.Inside.View.{call_view};
 
 use crate::altering::Alteration;
-use crate::arguments::{count_of, ref_of};
+use crate::arguments::{atom_of, count_of, ref_of};
 use crate::bounds::{HistoryBound, bounds_in};
 use crate::outcome::Call;
 use crate::rules::{is_shared, keep_to, may_hold};
@@ -65,7 +65,7 @@ fn call_with(
             let value = values.remove(1);
             ref_set_call(alloc, in_transaction, &values[0], value)
         }
-        StoreFunction::Alter => { alter_by_value(alloc, Alteration::Alter, &values[0], &values[1]) }
+        StoreFunction::Alter => alter_by_value(alloc, Alteration::Alter, &values[0], &values[1]),
         StoreFunction::Commute => {
             alter_by_value(alloc, Alteration::Commute, &values[0], &values[1])
         }
@@ -76,6 +76,12 @@ fn call_with(
         }
         StoreFunction::MaxHistory => {
             bound_call(alloc, HistoryBound::Greatest, &values[0], values.get(1))
+        }
+        StoreFunction::Atom => atom_call(values.remove(0)),
+        StoreFunction::Swap => swap_by_value(alloc, &values[0], &values[1]),
+        StoreFunction::Reset => reset_call(alloc, values.remove(1), &values[0]),
+        StoreFunction::CompareAndSet => {
+            compare_and_set_call(alloc, values.remove(2), values.remove(1), &values[0])
         }
     }
 }
@@ -92,12 +98,18 @@ fn ref_call(alloc: Global, value: Value, options: &[Value]) -> Result<Call, Appl
     }))
 }
 
-// `(deref ref)`
+// `(deref ref)` or `(deref atom)`
+#[tactic(auto, using(value_data::proofs::Views::value_views))]
 fn deref_call(alloc: Global, target: &Value) -> Result<Call, ApplyError>
     ensures { Gives call_view result (meant.deref_call (view target.now)) }
 {
-    let name = ref_of(alloc, StoreFunction::Deref, target)?;
-    Ok(Call::Reads(name))
+    match target {
+        Value::Atom(number) => Ok(Call::AsksValue(Ask::ReadAtom(*number))),
+        other => {
+            let name = ref_of(alloc, StoreFunction::Deref, other)?;
+            Ok(Call::Reads(name))
+        }
+    }
 }
 
 // `(ref-set ref value)`
@@ -187,8 +199,48 @@ fn set_bound_call(
     ensures { Gives call_view result
         (meant.set_bound_call bound (view target.now) (view count.now)) }
 {
-    let name = ref_of(alloc, bound.function(), target)?;
-    let count = count_of(alloc, bound.function(), count)?;
+    let function = bound.function();
+    let name = ref_of(alloc, function, target)?;
+    let count = count_of(alloc, function, count)?;
     keep_to(alloc, Rule::SharedBoundsStay, !is_shared(name))?;
     Ok(Call::AsksValue(bound.ask(name, Some(count))))
+}
+
+// `(atom value)`
+fn atom_call(value: Value) -> Result<Call, ApplyError>
+    ensures { Gives call_view result (meant.atom_call (view value)) }
+{
+    Ok(Call::AsksValue(Ask::NewAtom(value)))
+}
+
+// `(swap! atom value ..)`, where no function stands: one of the two is a wrong argument.
+fn swap_by_value(alloc: Global, target: &Value, function: &Value) -> Result<Call, ApplyError>
+    ensures { Gives call_view result
+        (meant.swap_by_value (view target.now) (view function.now)) }
+{
+    let _number = atom_of(alloc, StoreFunction::Swap, target)?;
+    let name = StoreFunction::Swap.name();
+    Err(ApplyError::Fault(wrong_argument(alloc, name, function)?))
+}
+
+// `(reset! atom value)`
+fn reset_call(alloc: Global, value: Value, target: &Value) -> Result<Call, ApplyError>
+    ensures { Gives call_view result (meant.reset_call (view target.now) (view value)) }
+{
+    let number = atom_of(alloc, StoreFunction::Reset, target)?;
+    Ok(Call::AsksValue(Ask::SetAtom { number, value }))
+}
+
+// `(compare-and-set! atom seen next)`
+fn compare_and_set_call(
+    alloc: Global,
+    next: Value,
+    seen: Value,
+    target: &Value,
+) -> Result<Call, ApplyError>
+    ensures { Gives call_view result
+        (meant.compare_and_set_call (view target.now) (view seen) (view next)) }
+{
+    let number = atom_of(alloc, StoreFunction::CompareAndSet, target)?;
+    Ok(Call::AsksValue(Ask::TryAtom { number, seen, next }))
 }

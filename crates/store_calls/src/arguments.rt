@@ -25,6 +25,20 @@ pub(crate) fn ref_of(
     }
 }
 
+// The number of an atom.
+pub(crate) fn atom_of(
+    alloc: Global,
+    function: StoreFunction,
+    argument: &Value,
+) -> Result<u64, ApplyError>
+    ensures { Gives (λ n. n) result (meant.atom_in function (view argument.now)) }
+{
+    match argument {
+        Value::Atom(number) => Ok(*number),
+        other => Err(ApplyError::Fault(wrong_argument(alloc, function.name(), other)?)),
+    }
+}
+
 // A whole number from 0.
 pub(crate) fn count_of(
     alloc: Global,

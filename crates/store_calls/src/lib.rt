@@ -11,8 +11,10 @@ mod arguments;
 mod bounds;
 mod outcome;
 mod rules;
+mod updating;
 
 pub use altering::{Alteration, ref_to_alter};
 pub use applying::call;
-pub use outcome::{Altered, Call};
+pub use outcome::{Altered, Call, Swapped};
 pub use rules::may_hold;
+pub use updating::{Update, atom_to_swap};

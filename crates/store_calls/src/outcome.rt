@@ -23,3 +23,11 @@ pub enum Altered {
     Ref(RefName),
     Refused(Fault),
 }
+
+/// What a call of `swap!` begins with.
+#[derive(Debug, Drop)]
+pub enum Swapped {
+    /// The atom of this number gets what the function makes of its value.
+    Atom(u64),
+    Refused(Fault),
+}

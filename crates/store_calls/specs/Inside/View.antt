@@ -1,5 +1,5 @@
 -- Calls, seen as data.
-use Rattle.std.specs.Prelude.{Result, Ok, Err}
+use Rattle.std.specs.Prelude.{ℕ, Result, Ok, Err}
 use Rattle.value_data.specs.Inside.View.{view}
 use Rattle.repl_faults.specs.Failure.{Failure}
 use Rattle.repl_faults.specs.Inside.View.{failure_of}
@@ -10,6 +10,7 @@ use Rattle.store_calls.specs.Arguments.{BoundsData}
 use Rattle.store_calls.specs.declared.bounds.Bounds.{Bounds}
 use Rattle.store_calls.specs.declared.outcome.Altered.{Altered}
 use Rattle.store_calls.specs.declared.outcome.Call.{Call}
+use Rattle.store_calls.specs.declared.outcome.Swapped.{Swapped}
 
 abbrev pub call_view : Call → CallData
 call_view (Call.Refused f) = refused (failure_of f)
@@ -22,6 +23,11 @@ call_view (Call.AsksValue ask) = asks_value (ask_view ask)
 abbrev pub altered_view : Altered → Result RefNameData Failure
 altered_view (Altered.Ref name) = Ok (name_view name)
 altered_view (Altered.Refused f) = Err (failure_of f)
+
+-- the number of the atom that is swapped, or why none is
+abbrev pub swapped_view : Swapped → Result ℕ Failure
+swapped_view (Swapped.Atom n) = Ok n
+swapped_view (Swapped.Refused f) = Err (failure_of f)
 
 abbrev pub bounds_view : Bounds → BoundsData
 bounds_view b = record { least = b.least; most = b.most }
