@@ -14,7 +14,7 @@ use Rattle.repl_asks.specs.Exchange.{NamedFunctionData, core_function, store_fun
 use Rattle.repl_asks.specs.Exchange.{program_function}
 use Rattle.special_forms.specs.Functions.{FunctionData}
 use Rattle.local_names.specs.Locals.{LocalData}
-use Rattle.store_calls.specs.declared.altering.Alteration.{Alteration}
+use Rattle.store_calls.specs.declared.updating.Update.{Update}
 use Rattle.evaluation_rules.specs.Doing.{failed, left, printing, Part, fails}
 use Rattle.evaluation_rules.specs.Places.{PlaceData, Evaluator}
 use Rattle.evaluation_rules.specs.Rows.{last_of}
@@ -24,8 +24,8 @@ use Rattle.evaluation_rules.specs.Refs.{store_call}
 pub data CalleeData : Type 0 where
   named_callee : NamedFunctionData → CalleeData
   keyword_callee : List ℕ → CalleeData
-  -- `alter` or `commute`, with the function that it was given
-  alter_callee : Alteration → NamedFunctionData → CalleeData
+  -- `alter`, `commute` or `swap!`, with the function that it was given
+  update_callee : Update → NamedFunctionData → CalleeData
 
 unfoldable pub printed_value : List ℕ → Datum → Part Datum
 printed_value text d next kept = printing text kept (next d kept)

@@ -12,6 +12,7 @@ use Rattle.repl_asks.specs.Exchange.{program_function}
 use Rattle.tx_attempt.specs.Accesses.{commuted}
 use Rattle.store_calls.specs.Calling.{altered_in, altering}
 use Rattle.store_calls.specs.declared.altering.Alteration.{Alteration}
+use Rattle.store_calls.specs.declared.updating.Update.{Update}
 use Rattle.evaluation_rules.specs.Doing.{failed, left, noting, Part, ◌>>=◌, fails}
 use Rattle.evaluation_rules.specs.Places.{PlaceData, Evaluator}
 use Rattle.evaluation_rules.specs.Rows.{row}
@@ -19,7 +20,8 @@ use Rattle.evaluation_rules.specs.Naming.{function_value}
 use Rattle.evaluation_rules.specs.Refs.{held_value, altered_value}
 use Rattle.evaluation_rules.specs.Applying.{CalleeData, core_call, keyword_call, full_name}
 use Rattle.evaluation_rules.specs.Applying.{function_applied, with_calls, function_called}
-use Rattle.evaluation_rules.specs.Applying.{named_callee, keyword_callee, alter_callee}
+use Rattle.evaluation_rules.specs.Applying.{named_callee, keyword_callee, update_callee}
+use Rattle.evaluation_rules.specs.Atoms.{swap_call}
 
 -- `alter` calls its function with the value of a ref and these arguments, and sets what that gives.
 abbrev pub altering_value : Evaluator → NamedFunctionData → List Datum → RefNameData → Datum
@@ -61,10 +63,14 @@ alter_call walk by f [] next kept =
 alter_call walk by f (d ∷ args) next kept =
     altered_value (altered_in by kept.running d) (alteration_value walk by f args) next kept
 
+abbrev pub update_call : Evaluator → Update → NamedFunctionData → List Datum → Part Datum
+update_call walk (Update.Ref by) f args = alter_call walk by f args
+update_call walk Update.Atom f args = swap_call walk f args
+
 abbrev pub applied_value : Evaluator → CalleeData → List Datum → Part Datum
 applied_value walk (named_callee f) args = function_applied walk f args
 applied_value walk (keyword_callee s) args = keyword_call s args
-applied_value walk (alter_callee by f) args = alter_call walk by f args
+applied_value walk (update_callee by f) args = update_call walk by f args
 
 unfoldable pub counted_call : Evaluator → CalleeData → List Datum → Part Datum
 counted_call walk callee args next kept =
@@ -74,18 +80,19 @@ counted_call walk callee args next kept =
 abbrev pub call_value : Evaluator → PlaceData → List Datum → CalleeData → Part Datum
 call_value walk p forms callee = row (walk p) forms >>= counted_call walk callee
 
--- `alter` and `commute` take a function by its name, between the first argument and those behind
--- it.
-abbrev pub altering_call : Evaluator → PlaceData → Alteration → Datum → Datum → List Datum
-    → Part Datum
-altering_call walk p by d e ds =
+-- `alter`, `commute` and `swap!` take a function by its name, between the first argument and those
+-- behind it.
+abbrev pub updating_call : Evaluator → PlaceData → Update → Datum → Datum → List Datum → Part Datum
+updating_call walk p by d e ds =
     walk p d >>= λ v. (function_value p e
-    >>= λ f. (row (walk p) ds >>= λ vs. counted_call walk (alter_callee by f) (v ∷ vs)))
+    >>= λ f. (row (walk p) ds >>= λ vs. counted_call walk (update_callee by f) (v ∷ vs)))
 
 -- A call of a function that is named at the head of a list.
 abbrev pub named_call : Evaluator → PlaceData → List Datum → NamedFunctionData → Part Datum
 named_call walk p (d ∷ e ∷ ds) (store_function StoreFunction.Alter) =
-    altering_call walk p Alteration.Alter d e ds
+    updating_call walk p (Update.Ref Alteration.Alter) d e ds
 named_call walk p (d ∷ e ∷ ds) (store_function StoreFunction.Commute) =
-    altering_call walk p Alteration.Commute d e ds
+    updating_call walk p (Update.Ref Alteration.Commute) d e ds
+named_call walk p (d ∷ e ∷ ds) (store_function StoreFunction.Swap) =
+    updating_call walk p Update.Atom d e ds
 named_call walk p forms f = call_value walk p forms (named_callee f)

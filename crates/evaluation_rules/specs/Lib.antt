@@ -5,6 +5,7 @@ pub mod Rows
 pub mod Naming
 pub mod Refs
 pub mod Applying
+pub mod Atoms
 pub mod Calls
 pub mod Transactions
 pub mod SpecialForms

@@ -1,5 +1,5 @@
 -- Reads and sets of refs, and what else is asked of the store (the Clojure reference, Refs and
--- Transactions).
+-- Transactions, and Atoms).
 use Rattle.std.specs.Prelude.{List, Bool, true, false, Option, Some, None, Result, Ok, Err}
 use Rattle.std.specs.Prelude.{if◌then◌else◌}
 use Rattle.value_data.specs.Datum.{Datum}
