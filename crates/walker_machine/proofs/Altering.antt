@@ -1,15 +1,12 @@
--- `alter`, and what stands where a function is named.
-use Rattle.std.proofs.Common.{◌≡◌, ◌∙◌, ap, arith, ℕ, zero, suc, Bool, true, false, length, get_or}
-use Rattle.std.proofs.Common.{drop, Option, Some, None, Result, Ok, Err, List, [], ◌∷◌, refl, sym}
-use Rattle.std.specs.Prelude.{string_bytes, ◌==◌, is_some, Box}
-use Rattle.std.proofs.lemmas.Bool.Decides.{nat_tests}
-use Rattle.std.proofs.lemmas.List.{length-map}
+-- `alter`, `commute` and `swap!`, and what stands where a function is named.
+use Rattle.std.proofs.Common.{◌≡◌, ◌∙◌, ap, ℕ, zero, suc, Bool, Option, Some, None, Result, Ok, Err}
+use Rattle.std.proofs.Common.{List, [], ◌∷◌, refl, sym}
+use Rattle.std.specs.Prelude.{string_bytes, is_some, Box}
 use Rattle.std.specs.Global.{Global}
 use Rattle.value_data.specs.Datum.{Datum, symbol}
 use Rattle.value_data.specs.Inside.View.{view}
 use Rattle.value_data.specs.declared.value.Value.{Value}
-use Rattle.repl_faults.specs.Failure.{Failure, broken_rule, wrong_arity, not_a_function}
-use Rattle.repl_faults.specs.declared.rule.Rule.{Rule}
+use Rattle.repl_faults.specs.Failure.{Failure, too_many_calls, wrong_arity, not_a_function}
 use Rattle.function_names.specs.declared.function.CoreFunction.{CoreFunction}
 use Rattle.function_names.specs.StoreNames.{store_name_of}
 use Rattle.function_names.specs.declared.store.StoreFunction.{StoreFunction}
@@ -18,8 +15,9 @@ use Rattle.repl_asks.specs.Exchange.{NamedFunctionData, core_function, store_fun
 use Rattle.repl_asks.specs.Inside.View.{named_view}
 use Rattle.repl_asks.specs.declared.answer.NamedFunction.{NamedFunction}
 use Rattle.special_forms.specs.Inside.Seen.{views}
-use Rattle.store_calls.specs.Calling.{altered_in, altering}
+use Rattle.store_calls.specs.Calling.{altered_in, altering, updating}
 use Rattle.store_calls.specs.declared.altering.Alteration.{Alteration}
+use Rattle.store_calls.specs.declared.updating.Update.{Update}
 use Rattle.store_calls.specs.Inside.View.{altered_view}
 use Rattle.store_calls.specs.declared.outcome.Altered.{Altered}
 use Rattle.evaluation_rules.specs.Doing.{Kept, Doing, fails}
@@ -28,53 +26,60 @@ use Rattle.evaluation_rules.specs.Places.{PlaceData, Evaluator}
 use Rattle.evaluation_rules.specs.Naming.{function_value, symbol_value}
 use Rattle.evaluation_rules.specs.Refs.{held_value, ref_value}
 use Rattle.evaluation_rules.specs.Calls.{call_value, alter_call, named_call, commute_applied}
-use Rattle.evaluation_rules.specs.Applying.{core_call, function_called, named_callee, alter_callee}
-use Rattle.evaluation_rules.specs.Calls.{commute_noted, commuting_value, not_of_core}
+use Rattle.evaluation_rules.specs.Applying.{core_call, function_called, named_callee, update_callee}
+use Rattle.evaluation_rules.specs.Calls.{commute_noted, commuting_value}
+use Rattle.evaluation_rules.specs.Atoms.{tried_value, seen_value}
 use Rattle.evaluation_rules.specs.Evaluation.{value_at}
 use Rattle.walker_state.specs.Pending.{from_state, kept_of, next_of, place_of}
 use Rattle.walker_state.specs.UnderWay.{is_running}
-use Rattle.walker_state.specs.Frames.{call_behind, alter_with, alter_behind, alter_step, bottom}
+use Rattle.walker_state.specs.Frames.{call_behind, update_with, update_behind, alter_step, bottom}
+use Rattle.walker_state.specs.Frames.{swap_again, swap_step}
 use Rattle.walker_state.specs.declared.frames.State.{State}
+use Rattle.walker_state.specs.declared.frames.Swap.{Swap}
 use Rattle.walker_state.specs.declared.frames.Transaction.{Transaction}
-use Rattle.walker_state.proofs.Stepping.{fails-at}
+use Rattle.walker_state.proofs.Stepping.{fails-at, inside_attempt-failed}
 
--- A list with `alter` at its head
+-- A list with one of them at its head
 
-pub alter-none : (by : Alteration) (room : ℕ) (ds es : List Datum) (s : State) → ds ≡ [] → es ≡ []
-    → from_state (call_behind room (place_of s) (named_callee (store_function (altering by))) [] es) s
-    ≡ from_state (named_call (value_at room) (place_of s) ds (store_function (altering by))) s
+pub update-none : (by : Update) (room : ℕ) (ds es : List Datum) (s : State) → ds ≡ [] → es ≡ []
+    → from_state (call_behind room (place_of s) (named_callee (store_function (updating by))) [] es) s
+    ≡ from_state (named_call (value_at room) (place_of s) ds (store_function (updating by))) s
 unfolding call_behind
-alter-none by room ds es s none nothing = rw (none, nothing) refl
+update-none by room ds es s none nothing = rw (none, nothing) refl
 
 pub named_call-other : (walk : Evaluator) (p : PlaceData) (ds : List Datum) (f : NamedFunction) → (f ≡ NamedFunction.Store StoreFunction.Alter → ⊥)
-    → (f ≡ NamedFunction.Store StoreFunction.Commute → ⊥)
+    → (f ≡ NamedFunction.Store StoreFunction.Commute → ⊥) → (f ≡ NamedFunction.Store StoreFunction.Swap → ⊥)
     → named_call walk p ds (named_view f) ≡ call_value walk p ds (named_callee (named_view f))
-named_call-other walk p [] f other apart = refl
-named_call-other walk p (d ∷ []) f other apart = refl
-named_call-other walk p (d ∷ e ∷ ds) (NamedFunction.Core f) other apart = refl
-named_call-other walk p (d ∷ e ∷ ds) (NamedFunction.Program f) other apart = refl
-named_call-other walk p (d ∷ e ∷ ds) (NamedFunction.Store StoreFunction.Ref) other apart = refl
-named_call-other walk p (d ∷ e ∷ ds) (NamedFunction.Store StoreFunction.Deref) other apart = refl
-named_call-other walk p (d ∷ e ∷ ds) (NamedFunction.Store StoreFunction.RefSet) other apart = refl
-named_call-other walk p (d ∷ e ∷ ds) (NamedFunction.Store StoreFunction.Alter) other apart = absurd (other refl)
-named_call-other walk p (d ∷ e ∷ ds) (NamedFunction.Store StoreFunction.Commute) other apart = absurd (apart refl)
-named_call-other walk p (d ∷ e ∷ ds) (NamedFunction.Store StoreFunction.Ensure) other apart = refl
-named_call-other walk p (d ∷ e ∷ ds) (NamedFunction.Store StoreFunction.HistoryCount) other apart = refl
-named_call-other walk p (d ∷ e ∷ ds) (NamedFunction.Store StoreFunction.MinHistory) other apart = refl
-named_call-other walk p (d ∷ e ∷ ds) (NamedFunction.Store StoreFunction.MaxHistory) other apart = refl
+named_call-other walk p [] f other apart away = refl
+named_call-other walk p (d ∷ []) f other apart away = refl
+named_call-other walk p (d ∷ e ∷ ds) (NamedFunction.Core f) other apart away = refl
+named_call-other walk p (d ∷ e ∷ ds) (NamedFunction.Program f) other apart away = refl
+named_call-other walk p (d ∷ e ∷ ds) (NamedFunction.Store StoreFunction.Ref) other apart away = refl
+named_call-other walk p (d ∷ e ∷ ds) (NamedFunction.Store StoreFunction.Deref) other apart away = refl
+named_call-other walk p (d ∷ e ∷ ds) (NamedFunction.Store StoreFunction.RefSet) other apart away = refl
+named_call-other walk p (d ∷ e ∷ ds) (NamedFunction.Store StoreFunction.Alter) other apart away = absurd (other refl)
+named_call-other walk p (d ∷ e ∷ ds) (NamedFunction.Store StoreFunction.Commute) other apart away = absurd (apart refl)
+named_call-other walk p (d ∷ e ∷ ds) (NamedFunction.Store StoreFunction.Ensure) other apart away = refl
+named_call-other walk p (d ∷ e ∷ ds) (NamedFunction.Store StoreFunction.HistoryCount) other apart away = refl
+named_call-other walk p (d ∷ e ∷ ds) (NamedFunction.Store StoreFunction.MinHistory) other apart away = refl
+named_call-other walk p (d ∷ e ∷ ds) (NamedFunction.Store StoreFunction.MaxHistory) other apart away = refl
+named_call-other walk p (d ∷ e ∷ ds) (NamedFunction.Store StoreFunction.Atom) other apart away = refl
+named_call-other walk p (d ∷ e ∷ ds) (NamedFunction.Store StoreFunction.Swap) other apart away = absurd (away refl)
+named_call-other walk p (d ∷ e ∷ ds) (NamedFunction.Store StoreFunction.Reset) other apart away = refl
+named_call-other walk p (d ∷ e ∷ ds) (NamedFunction.Store StoreFunction.CompareAndSet) other apart away = refl
 
 -- Its function
 
-pub function_value-other : (s : State) (by : Alteration) (room : ℕ) (v d : Datum) (ds : List Datum) (told : Failure)
+pub function_value-other : (s : State) (by : Update) (room : ℕ) (v d : Datum) (ds : List Datum) (told : Failure)
     → function_value (place_of s) d ≡ fails (not_a_function d) → told ≡ not_a_function d
-    → ends (Err told) (string_bytes s.text) (kept_of s) ≡ from_state (alter_behind room (place_of s) by v d ds) s
-unfolding alter_behind
+    → ends (Err told) (string_bytes s.text) (kept_of s) ≡ from_state (update_behind room (place_of s) by v d ds) s
+unfolding update_behind
 function_value-other s by room v d ds told other is = rw (other, is) (sym (fails-at (not_a_function d) s))
 
-pub alter_with-start : (by : Alteration) (room : ℕ) (p : PlaceData) (f : NamedFunctionData) (v : Value) (vs : List Value) (ds : List Datum) (next : Datum → Kept → Doing)
-    → vs ≡ v ∷ [] → call_behind room p (alter_callee by f) (views vs) ds next ≡ alter_with room p by (view v) ds f next
+pub update_with-start : (by : Update) (room : ℕ) (p : PlaceData) (f : NamedFunctionData) (v : Value) (vs : List Value) (ds : List Datum) (next : Datum → Kept → Doing)
+    → vs ≡ v ∷ [] → call_behind room p (update_callee by f) (views vs) ds next ≡ update_with room p by (view v) ds f next
 unfolding call_behind
-alter_with-start by room p f v vs ds next is = rw is refl
+update_with-start by room p f v vs ds next is = rw is refl
 
 -- Its call
 
@@ -116,41 +121,43 @@ pub alter_step-commutes : (s : State) (f : NamedFunctionData) (name : RefNameDat
 unfolding alter_step
 alter_step-commutes s f name room d ds = refl
 
+-- the function is called, and its value is tried
+pub swap_step-calls : (s u : State) (w : Swap) (d : Datum) (vs : List Value)
+    → IsPushed s u (λ (v : Datum) (kept : Kept). tried_value w.atom d (swap_again w) v (next_of s) kept)
+    → views vs ≡ d ∷ views w.arguments.items
+    → from_state (function_called (value_at w.room) (named_view w.function) (views vs)) u ≡ from_state (swap_step w d) s
+unfolding swap_step seen_value
+swap_step-calls s u w d vs same given = rw (same.0, same.1, same.3, same.4, same.5, same.6, given) refl
+
+-- but where no call is left
+pub swap_step-none : (s : State) (w : Swap) (d : Datum) (told : Failure) → s.calls ≡ 0 → told ≡ too_many_calls
+    → ends (Err told) (string_bytes s.text) (kept_of s) ≡ from_state (swap_step w d) s
+unfolding swap_step seen_value function_called
+swap_step-none s w d told none is =
+    rw (none, is) (sym (inside_attempt-failed s.retries s.transaction (bottom s.frames.items (place_of s)) too_many_calls _ (string_bytes s.text)))
+
 pub commute-applied : (s u : State) (f : CoreFunction) (name : RefNameData) (d : Datum) (ds : List Datum) (vs : List Value)
     → IsPushed s u (λ (v : Datum) (kept : Kept). commute_noted name (record { function = f; arguments = ds }) v (next_of s) kept)
     → views vs ≡ d ∷ ds
     → from_state (core_call f (views vs)) u ≡ from_state (commute_applied (core_function f) ds name d) s
 commute-applied s u f name d ds vs same given = rw (same.0, same.1, same.3, same.4, same.5, same.6, given) refl
 
--- as many parameters as there are names
-pub ruleset lengths = (length-map)
-
--- a function that is none of the language
-pub not_of_core-takes : (takes : Bool) (name : List ℕ) (n : ℕ) (told : Failure) (s : State) → takes ≡ true
-    → told ≡ broken_rule Rule.CommutesAreOfCore
-    → ends (Err told) (string_bytes s.text) (kept_of s) ≡ from_state (not_of_core takes name n) s
-not_of_core-takes takes name n told s fits is = rw (fits, is) (sym (fails-at (broken_rule Rule.CommutesAreOfCore) s))
-
-pub not_of_core-misfits : (takes : Bool) (name : List ℕ) (n : ℕ) (told : Failure) (s : State) → takes ≡ false
-    → told ≡ wrong_arity name n
-    → ends (Err told) (string_bytes s.text) (kept_of s) ≡ from_state (not_of_core takes name n) s
-not_of_core-misfits takes name n told s misfits is = rw (misfits, is) (sym (fails-at (wrong_arity name n) s))
-
--- the ref is evaluated, with a function behind it
-pub alter-ref : (s u : State) (by : Alteration) (room : ℕ) (d e : Datum) (ds whole : List Datum)
-    → IsPushed s u (λ (v : Datum) (kept : Kept). alter_behind room (place_of s) by v e ds (next_of s) kept) → whole ≡ d ∷ e ∷ ds
-    → from_state (value_at room (place_of u) d) u ≡ from_state (named_call (value_at room) (place_of s) whole (store_function (altering by))) s
-unfolding alter_behind
-alter-ref s u Alteration.Alter room d e ds whole same given = rw (same.0, same.1, same.2, same.3, same.4, same.5, same.6, given) refl
-alter-ref s u Alteration.Commute room d e ds whole same given = rw (same.0, same.1, same.2, same.3, same.4, same.5, same.6, given) refl
+-- the first argument is evaluated, with a function behind it
+pub update-target : (s u : State) (by : Update) (room : ℕ) (d e : Datum) (ds whole : List Datum)
+    → IsPushed s u (λ (v : Datum) (kept : Kept). update_behind room (place_of s) by v e ds (next_of s) kept) → whole ≡ d ∷ e ∷ ds
+    → from_state (value_at room (place_of u) d) u ≡ from_state (named_call (value_at room) (place_of s) whole (store_function (updating by))) s
+unfolding update_behind
+update-target s u (Update.Ref Alteration.Alter) room d e ds whole same given = rw (same.0, same.1, same.2, same.3, same.4, same.5, same.6, given) refl
+update-target s u (Update.Ref Alteration.Commute) room d e ds whole same given = rw (same.0, same.1, same.2, same.3, same.4, same.5, same.6, given) refl
+update-target s u Update.Atom room d e ds whole same given = rw (same.0, same.1, same.2, same.3, same.4, same.5, same.6, given) refl
 
 -- with nothing behind it
-pub alter-alone : (s u : State) (by : Alteration) (room : ℕ) (d : Datum) (whole : List Datum)
-    → IsPushed s u (λ (v : Datum) (kept : Kept). call_behind room (place_of s) (named_callee (store_function (altering by))) (v ∷ []) [] (next_of s) kept)
+pub update-alone : (s u : State) (by : Update) (room : ℕ) (d : Datum) (whole : List Datum)
+    → IsPushed s u (λ (v : Datum) (kept : Kept). call_behind room (place_of s) (named_callee (store_function (updating by))) (v ∷ []) [] (next_of s) kept)
     → whole ≡ d ∷ []
-    → from_state (value_at room (place_of u) d) u ≡ from_state (named_call (value_at room) (place_of s) whole (store_function (altering by))) s
+    → from_state (value_at room (place_of u) d) u ≡ from_state (named_call (value_at room) (place_of s) whole (store_function (updating by))) s
 unfolding call_behind
-alter-alone s u by room d whole same given = rw (same.0, same.1, same.2, same.3, same.4, same.5, same.6, given) refl
+update-alone s u by room d whole same given = rw (same.0, same.1, same.2, same.3, same.4, same.5, same.6, given) refl
 
 -- a symbol in a value's place
 pub symbol-at : (room : ℕ) (p : PlaceData) (s : List ℕ) → value_at room p (symbol s) ≡ symbol_value p s
@@ -173,22 +180,6 @@ function_value-of p (Value.Atom n) other = refl
 function_value-of p (Value.Agent n) other = refl
 function_value-of p (Value.Var space name) other = refl
 function_value-of p (Value.Fault class text) other = refl
-
--- the arguments of a call, of which the first was taken out
-pub no_items : (vs : List Value) (n : ℕ) → n ≡ length vs → true ≡ (n == 0) → vs ≡ []
-no_items [] n same test = refl
-no_items (v ∷ vs) n same test =
-    let none : n ≡ 0 = grind (arith, nat_tests, test) in
-    absurd (omega (arith, same, none))
-
-pub first-removed : (vs ws : List Value) (v : Value) (n : ℕ) → n ≡ length vs → false ≡ (n == 0) → v ≡ get_or vs 0 v → ws ≡ drop 1 vs
-    → views vs ≡ view v ∷ views ws
-first-removed [] ws v n same test is rest =
-    let none : n ≡ 0 = same in absurd (grind (arith, nat_tests, test, none))
-first-removed (u ∷ us) ws v n same test is rest =
-    let first : v ≡ u = is in
-    let others : ws ≡ us = rest in
-    rw (first, others) refl
 
 pub running-some : (t : Option (Box Transaction Global)) → is_running t ≡ is_some t
 running-some None = refl

@@ -1,11 +1,15 @@
 -- An evaluation that went on.
-use Rattle.std.proofs.Common.{◌≡◌, ◌∙◌, ap, arith, false, ℕ, ◌+◌, ◌≤◌, Result, Ok, Err, IfOk}
+use Rattle.std.proofs.Common.{◌≡◌, ◌∙◌, ap, arith, false, ℕ, ◌+◌, ◌<◌, ◌≤◌, Result, Ok, Err, IfOk}
 use Rattle.walker_state.specs.Size.{frames_size}
 use Rattle.walker_state.specs.Position.{TransactionPosition, around, IsLater}
 use Rattle.walker_state.specs.Position.{IsOn, control_position, Position, outer_calls, LeadsOnWithin}
+use Rattle.walker_state.specs.Position.{wanted_position, control_around, control_calls}
+use Rattle.walker_state.specs.Position.{entered_calls}
 use Rattle.walker_state.specs.declared.frames.Control.{Control}
 use Rattle.walker_state.specs.declared.frames.State.{State}
-use Rattle.walker_state.proofs.Laters.{later_smaller}
+use Rattle.walker_state.specs.declared.frames.Swap.{Swap}
+use Rattle.walker_state.specs.declared.frames.Wanted.{Wanted}
+use Rattle.walker_state.proofs.Laters.{later_smaller, later_fewer}
 
 -- an answer that leads on in the same attempt
 pub leads-later : {E : Type 0} (r : Result Control E) (work : ℕ) (before new : State) (old : Position)
@@ -28,3 +32,14 @@ pub leads-within : {E : Type 0} (r : Result Control E) (m n : ℕ) (old new : St
 leads-within (Ok control) m n old new more on =
     record { size = omega arith; calls = on.calls; around = on.around }
 leads-within (Err e) m n old new more on = tt
+
+-- the function of `swap!` was called, and its body entered if it has one
+pub seen-later : {E : Type 0} (r : Result Control E) (control : Control) (w : Swap) (old pushed middle new : State)
+    → pushed.transaction ≡ old.transaction → pushed.calls ≡ old.calls
+    → LeadsOnWithin 3 pushed middle control → entered_calls control middle < pushed.calls
+    → IfOk r (λ k. control_calls k new ≤ entered_calls control middle)
+    → IfOk r (λ k. control_around k new ≡ control_around control middle)
+    → IfOk r (λ k. IsLater (control_position k new) (wanted_position (Wanted.Seen w) old))
+seen-later (Ok k) control w old pushed middle new same calls on fewer entered around' =
+    later_fewer _ _ _ _ _ _ (around' ∙ on.around ∙ ap around same) (omega (arith, entered, fewer, calls))
+seen-later (Err e) control w old pushed middle new same calls on fewer entered around' = tt

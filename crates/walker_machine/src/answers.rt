@@ -18,8 +18,9 @@ ghost use Rattle.walker_state.specs.Size.{use_size};
 ghost use Rattle.walker_state.specs.Position.{IsLater, LeadsOnWithin, control_position};
 ghost use Rattle.walker_state.specs.Position.{wanted_position};
 
-use crate::alter::begin_alter;
 use crate::rows::next_argument;
+use crate::swap::call_seen;
+use crate::update::begin_update;
 use function_names::StoreFunction;
 use repl_asks::{Answer, NamedFunction, Resolution};
 use repl_faults::{not_a_function, not_a_value};
@@ -27,10 +28,10 @@ use repl_values::Value;
 use special_forms::Forms;
 use std::alloc::{AllocError, Global};
 use std::sync::ArcStr;
-use store_calls::Alteration;
+use store_calls::{Alteration, Update};
 use walker_state::{
     Callee, Control, State, SymbolUse, Wanted, begin_attempt, ensure_or_retry, go_on_in,
-    note_or_retry, settle,
+    note_or_retry, settle, settle_swap,
 };
 
 pub(crate) fn use_answer(
@@ -53,6 +54,8 @@ pub(crate) fn use_answer(
         Wanted::Value => Ok(Control::Return(answer.into_value())),
         Wanted::Reading(name) => note_or_retry(alloc, state, name, answer.into_reading()),
         Wanted::Ensuring(name) => ensure_or_retry(alloc, state, name, answer.into_reading()),
+        Wanted::Seen(swap) => call_seen(alloc, state, swap, answer.into_value()),
+        Wanted::Tried(swap, next) => settle_swap(alloc, swap, next, answer.into_value()),
         Wanted::Begin(transaction) => begin_attempt(alloc, state, transaction),
         Wanted::Verdict(value, transaction) => {
             settle(alloc, state, value, transaction, answer.into_verdict())
@@ -74,8 +77,8 @@ pub(crate) fn use_resolution(
     match purpose {
         SymbolUse::Value(symbol) => use_as_value(alloc, symbol, resolution),
         SymbolUse::Head(forms, room) => use_as_head(alloc, state, forms, room, resolution),
-        SymbolUse::Alter(by, target, forms, room) => {
-            use_in_alter(alloc, state, by, target, forms, room, resolution)
+        SymbolUse::Update(by, target, forms, room) => {
+            use_in_update(alloc, state, by, target, forms, room, resolution)
         }
     }
 }
@@ -118,12 +121,12 @@ fn use_as_head(
     }
 }
 
-// The symbol stands in the place of the function of `alter` or `commute`, behind this value and
-// before these forms.
-fn use_in_alter(
+// The symbol stands in the place of the function of `alter`, `commute` or `swap!`, behind this
+// value and before these forms.
+fn use_in_update(
     alloc: Global,
     state: &mut State,
-    by: Alteration,
+    by: Update,
     target: Value,
     forms: Forms,
     room: u32,
@@ -132,14 +135,14 @@ fn use_in_alter(
     ensures on { IfOk result
         (LeadsOnWithin (6 + forms_size (forms_view forms)) state.old state.new) }
     ensures meaning { IfOk result (λ control. tree control state.new
-        ≡ from_state (value_for_use (place_of state.old) (SymbolUse.Alter by target forms room)
+        ≡ from_state (value_for_use (place_of state.old) (SymbolUse.Update by target forms room)
         (resolution_view resolution)) state.old) }
 {
     match resolution {
         Resolution::Function(function) => {
             let mut values = Vec::new(alloc);
             values.push(target)?;
-            let callee = Callee::Alter(by, function);
+            let callee = Callee::Update(by, function);
             next_argument(alloc, state, callee, values, forms, room)
         }
         Resolution::Value(value) => Ok(Control::Fault(not_a_function(alloc, &value)?)),
@@ -163,10 +166,13 @@ fn begin_call(
 {
     match function {
         NamedFunction::Store(StoreFunction::Alter) => {
-            begin_alter(alloc, state, Alteration::Alter, forms, room)
+            begin_update(alloc, state, Update::Ref(Alteration::Alter), forms, room)
         }
         NamedFunction::Store(StoreFunction::Commute) => {
-            begin_alter(alloc, state, Alteration::Commute, forms, room)
+            begin_update(alloc, state, Update::Ref(Alteration::Commute), forms, room)
+        }
+        NamedFunction::Store(StoreFunction::Swap) => {
+            begin_update(alloc, state, Update::Atom, forms, room)
         }
         other => {
             let callee = Callee::Named(other);

@@ -7,9 +7,9 @@ ghost use Rattle.walker_state.specs.Pending.{tree_with_value, tree};
 ghost use Rattle.walker_state.specs.Size.{frame_size};
 ghost use Rattle.walker_state.specs.Position.{LeadsOnWithin};
 
-use crate::alter::give_to_store;
 use crate::rows::{next_argument, next_binding, next_in_logic, next_item};
 use crate::special::define;
+use crate::update::give_to_store;
 use repl_asks::Binding;
 use repl_values::Value;
 use special_forms::chosen_body;

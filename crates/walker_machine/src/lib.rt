@@ -13,5 +13,7 @@ mod position;
 mod rows;
 mod special;
 mod steps;
+mod swap;
+mod update;
 
 pub use steps::{Reached, WaitingEvaluation, begin};

@@ -11,7 +11,7 @@ use Rattle.walker_state.specs.Size.{frames_size}
 use Rattle.walker_state.specs.Position.{TransactionPosition, no_attempt, attempt_around, around}
 use Rattle.walker_state.specs.Position.{IsRetried, IsOn, IsLater, IsLess, control_position}
 use Rattle.walker_state.specs.Position.{wanted_position, Position, LeadsOnWithin, control_calls}
-use Rattle.walker_state.specs.Position.{control_around}
+use Rattle.walker_state.specs.Position.{control_around, entered_calls}
 use Rattle.walker_state.specs.Position.{begun_around}
 use Rattle.walker_state.specs.declared.frames.Transaction.{Transaction}
 use Rattle.walker_state.specs.declared.frames.State.{State}
@@ -30,6 +30,17 @@ later_smaller r r' calls size calls' size' same fewer smaller =
     by_runs : (b : Bool) (c s l : ℕ) → IsLater (at (record { runs = b; calls = c; size = s; turn = l }) calls' size') (at (record { runs = b; calls = c; size = s; turn = l }) calls size)
     by_runs true c s l = (omega arith, (omega arith, λ _. inr (omega arith, inr (fewer, smaller))))
     by_runs false c s l = (fewer, inr smaller)
+
+-- or with fewer calls
+pub later_fewer : (r r' : TransactionPosition) (calls size calls' size' : ℕ) → r' ≡ r → calls' < calls
+    → IsLater (record { transaction = r'; calls = calls'; size = size' }) (record { transaction = r; calls = calls; size = size })
+unfolding IsLater
+later_fewer r r' calls size calls' size' same fewer =
+    subst (λ (q : TransactionPosition). IsLater (at q calls' size') (at r calls size)) (sym same) (by_runs r.runs r.calls r.size r.turn)
+  where
+    by_runs : (b : Bool) (c s l : ℕ) → IsLater (at (record { runs = b; calls = c; size = s; turn = l }) calls' size') (at (record { runs = b; calls = c; size = s; turn = l }) calls size)
+    by_runs true c s l = (omega arith, (omega arith, λ _. inr (omega arith, inl fewer)))
+    by_runs false c s l = (omega arith, inl fewer)
 
 -- an attempt was begun
 pub later_begun : (first : Bool) (t : Transaction) (r : TransactionPosition) (calls size size' : ℕ) → r ≡ attempt_around (2 * t.left) t
@@ -133,3 +144,16 @@ conflict-later (Err e) new s t v h = tt
 pub if_ok-for : {A B E : Type 0} (F : A → B → Type 0) (b : B) (r : Result A E) → IfOk r (λ a. (c : B) → F a c) → IfOk r (λ a. F a b)
 if_ok-for F b (Ok a) h = h b
 if_ok-for F b (Err e) h = tt
+
+-- once a body is entered, not more calls are left
+pub entered-below : (c : Control) (s : State) → entered_calls c s ≤ control_calls c s
+entered-below (Control.Evaluate form room) s = omega arith
+entered-below (Control.Return v) s = omega arith
+entered-below (Control.Fault f) s = omega arith
+entered-below (Control.Ask ask wanted) s = omega arith
+entered-below (Control.Enter f values room) s = omega arith
+
+pub entered-within : {E : Type 0} (r : Result Control E) (work : ℕ) (old new : State)
+    → IfOk r (LeadsOnWithin work old new) → IfOk r (λ c. entered_calls c new ≤ old.calls)
+entered-within (Ok c) work old new on = omega (arith, on.calls, entered-below c new)
+entered-within (Err e) work old new on = tt

@@ -3,3 +3,5 @@ pub mod Laters
 pub mod Noting
 pub mod Collecting
 pub mod Printing
+pub mod Swapping
+pub mod Taking

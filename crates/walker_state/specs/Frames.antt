@@ -13,12 +13,15 @@ use Rattle.special_forms.specs.Inside.Bindings.{bindings_in}
 use Rattle.special_forms.specs.Truth.{is_truthy}
 use Rattle.special_forms.specs.Inside.Seen.{views, forms_view}
 use Rattle.store_calls.specs.declared.altering.Alteration.{Alteration}
+use Rattle.store_calls.specs.declared.updating.Update.{Update}
 use Rattle.evaluation_rules.specs.Doing.{Kept, Doing, gave, left, Part, ◌>>=◌, pure_part, fails}
 use Rattle.evaluation_rules.specs.Places.{PlaceData, with_local}
 use Rattle.evaluation_rules.specs.Rows.{row, last_of}
 use Rattle.evaluation_rules.specs.Naming.{function_value}
 use Rattle.evaluation_rules.specs.Refs.{held_value}
-use Rattle.evaluation_rules.specs.Applying.{CalleeData, named_callee, keyword_callee, alter_callee}
+use Rattle.evaluation_rules.specs.Applying.{CalleeData, named_callee, keyword_callee}
+use Rattle.evaluation_rules.specs.Applying.{update_callee}
+use Rattle.evaluation_rules.specs.Atoms.{tried_value, seen_value, swapped_value}
 use Rattle.evaluation_rules.specs.Calls.{alteration_value, commute_noted, counted_call}
 use Rattle.evaluation_rules.specs.SpecialForms.{logic_value, let_value, definition_value}
 use Rattle.evaluation_rules.specs.SpecialForms.{thrown_value, computed_entry_value}
@@ -29,6 +32,7 @@ use Rattle.walker_state.specs.declared.frames.Callee.{Callee}
 use Rattle.walker_state.specs.declared.frames.Collection.{Collection}
 use Rattle.walker_state.specs.declared.frames.Frame.{Frame}
 use Rattle.walker_state.specs.declared.frames.StoreFrame.{StoreFrame}
+use Rattle.walker_state.specs.declared.frames.Swap.{Swap}
 
 abbrev pub place_view : Place → PlaceData
 place_view p = record { locals = p.locals; home = option_map arc_str_bytes p.home }
@@ -39,7 +43,7 @@ known_view = option_map resolution_view
 abbrev pub callee_view : Callee → CalleeData
 callee_view (Callee.Named f) = named_callee (named_view f)
 callee_view (Callee.Keyword s) = keyword_callee (arc_str_bytes s)
-callee_view (Callee.Alter by f) = alter_callee by (named_view f)
+callee_view (Callee.Update by f) = update_callee by (named_view f)
 
 abbrev pub collection_value : Collection → List Datum → Part Datum
 collection_value Collection.Vector = vector_value
@@ -68,30 +72,41 @@ unfoldable pub items_behind : ℕ → PlaceData → Collection → List Datum �
 items_behind room p kind values forms next =
     row (value_at room p) forms (λ vs. collection_value kind (values ++ vs) next)
 
--- the arguments of `alter` or `commute` behind the function, and the call
-abbrev pub alter_with : ℕ → PlaceData → Alteration → Datum → List Datum → NamedFunctionData
-    → Part Datum
-alter_with room p by d forms f =
-    row (value_at room p) forms >>= λ vs. counted_call (value_at room) (alter_callee by f) (d ∷ vs)
+-- the arguments of `alter`, `commute` or `swap!` behind the function, and the call
+abbrev pub update_with : ℕ → PlaceData → Update → Datum → List Datum → NamedFunctionData → Part Datum
+update_with room p by d forms f =
+    row (value_at room p) forms >>= λ vs. counted_call (value_at room) (update_callee by f) (d ∷ vs)
 
--- either of them behind its first argument
-unfoldable pub alter_behind : ℕ → PlaceData → Alteration → Datum → Datum → List Datum → Part Datum
-alter_behind room p by d function forms = function_value p function >>= alter_with room p by d forms
+-- one of them behind its first argument
+unfoldable pub update_behind : ℕ → PlaceData → Update → Datum → Datum → List Datum → Part Datum
+update_behind room p by d function forms =
+    function_value p function >>= update_with room p by d forms
 
--- either of them behind the value of its ref
+-- `alter` or `commute` behind the value of its ref
 unfoldable pub alter_step : ℕ → Alteration → RefNameData → NamedFunctionData → List Datum → Datum
     → Part Datum
 alter_step room by name f args d = alteration_value (value_at room) by f args name d
 
+-- the tries of `swap!` that are left
+unfoldable pub swap_again : Swap → Part Datum
+swap_again w = swapped_value w.left (value_at w.room) (named_view w.function)
+    (views w.arguments.items) w.atom
+
+-- `swap!` behind the value of its atom
+unfoldable pub swap_step : Swap → Datum → Part Datum
+swap_step w seen = seen_value (value_at w.room) (named_view w.function) (views w.arguments.items)
+    w.atom (swap_again w) seen
+
 -- what a function that asks the store does with the value
 abbrev pub store_next : StoreFrame → PlaceData → Datum → Part Datum
-store_next (StoreFrame.AlterRef by function forms room) p v =
-    alter_behind room p by v (view function) (forms_view forms)
+store_next (StoreFrame.UpdateTarget by function forms room) p v =
+    update_behind room p by v (view function) (forms_view forms)
 store_next (StoreFrame.AlterCall by name f values room) p v =
     alter_step room by (name_view name) (named_view f) (views values.items) v
 store_next (StoreFrame.Held name) p v = held_value (name_view name) v
 store_next (StoreFrame.Commuted name commute) p v =
     commute_noted (name_view name) (commute_view commute) v
+store_next (StoreFrame.Swapped w seen) p v = tried_value w.atom (view seen) (swap_again w) v
 
 -- what is done with the value of the innermost form
 abbrev pub frames_next : List Frame → PlaceData → Datum → Kept → Doing

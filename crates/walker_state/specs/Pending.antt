@@ -16,6 +16,7 @@ use Rattle.evaluation_rules.specs.Tree.{with_attempt, ends, written_tree}
 use Rattle.evaluation_rules.specs.Places.{PlaceData}
 use Rattle.evaluation_rules.specs.Naming.{resolution, as_value, as_function}
 use Rattle.evaluation_rules.specs.Refs.{read_value, ensured_read}
+use Rattle.evaluation_rules.specs.Atoms.{settled_value}
 use Rattle.evaluation_rules.specs.Calls.{named_call}
 use Rattle.evaluation_rules.specs.Applying.{body_value}
 use Rattle.evaluation_rules.specs.Transactions.{with_running, after_verdict, after_body}
@@ -26,7 +27,8 @@ use Rattle.walker_state.specs.declared.frames.State.{State}
 use Rattle.walker_state.specs.declared.frames.SymbolUse.{SymbolUse}
 use Rattle.walker_state.specs.declared.frames.Wanted.{Wanted}
 use Rattle.walker_state.specs.declared.frames.Control.{Control}
-use Rattle.walker_state.specs.Frames.{place_view, alter_with, frames_next, bottom}
+use Rattle.walker_state.specs.Frames.{place_view, update_with, frames_next, bottom, swap_again}
+use Rattle.walker_state.specs.Frames.{swap_step}
 use Rattle.walker_state.specs.UnderWay.{body_at, again, inside_attempt, is_running}
 
 -- The state
@@ -69,8 +71,8 @@ resolved_call room p forms r = as_function r >>= λ f. named_call (value_at room
 abbrev pub value_for_use : PlaceData → SymbolUse → ResolutionData → Part Datum
 value_for_use p (SymbolUse.Value name) r = as_value (arc_str_bytes name) r
 value_for_use p (SymbolUse.Head forms room) r = resolved_call room p (forms_view forms) r
-value_for_use p (SymbolUse.Alter by v forms room) r = as_function r
-    >>= alter_with room p by (view v) (forms_view forms)
+value_for_use p (SymbolUse.Update by v forms room) r = as_function r
+    >>= update_with room p by (view v) (forms_view forms)
 
 -- a symbol in its place
 abbrev pub symbol_for_use : PlaceData → List ℕ → SymbolUse → Part Datum
@@ -105,6 +107,9 @@ tree_with_answer (Wanted.Reading name) answer s =
     from_state (read_value (name_view name) (reading_in answer)) s
 tree_with_answer (Wanted.Ensuring name) answer s =
     from_state (ensured_read (name_view name) (reading_in answer)) s
+tree_with_answer (Wanted.Seen w) answer s = from_state (swap_step w (value_in answer)) s
+tree_with_answer (Wanted.Tried w v) answer s =
+    from_state (settled_value (swap_again w) (view v) (value_in answer)) s
 tree_with_answer (Wanted.Begin t) answer s = begun_tree t.value s
 tree_with_answer (Wanted.Verdict v t) answer s = settled_tree t.value (view v) (verdict_in answer) s
 

@@ -45,6 +45,8 @@ wanted_around (Wanted.Namespace name) s = around s.transaction
 wanted_around Wanted.Value s = around s.transaction
 wanted_around (Wanted.Reading name) s = around s.transaction
 wanted_around (Wanted.Ensuring name) s = around s.transaction
+wanted_around (Wanted.Seen w) s = around s.transaction
+wanted_around (Wanted.Tried w v) s = around s.transaction
 wanted_around (Wanted.Begin t) s = begun_around t.value.is_first t.value
 wanted_around (Wanted.Verdict v t) s = attempt_around (2 * t.value.left) t.value
 
@@ -55,6 +57,8 @@ wanted_calls (Wanted.Namespace name) s = s.calls
 wanted_calls Wanted.Value s = s.calls
 wanted_calls (Wanted.Reading name) s = s.calls
 wanted_calls (Wanted.Ensuring name) s = s.calls
+wanted_calls (Wanted.Seen w) s = s.calls
+wanted_calls (Wanted.Tried w v) s = s.calls
 wanted_calls (Wanted.Begin t) s = t.value.calls
 wanted_calls (Wanted.Verdict v t) s = s.calls
 
@@ -72,6 +76,14 @@ control_calls (Control.Return v) s = s.calls
 control_calls (Control.Fault f) s = s.calls
 control_calls (Control.Ask ask wanted) s = wanted_calls wanted s
 control_calls (Control.Enter f values room) s = 1 + s.calls
+
+-- once that body is entered
+abbrev pub entered_calls : Control → State → ℕ
+entered_calls (Control.Evaluate form room) s = s.calls
+entered_calls (Control.Return v) s = s.calls
+entered_calls (Control.Fault f) s = s.calls
+entered_calls (Control.Ask ask wanted) s = wanted_calls wanted s
+entered_calls (Control.Enter f values room) s = s.calls
 
 pub record Position : Type 0 where
   pub transaction : TransactionPosition

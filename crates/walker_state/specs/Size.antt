@@ -11,11 +11,12 @@ use Rattle.walker_state.specs.declared.frames.Wanted.{Wanted}
 use Rattle.walker_state.specs.declared.frames.Control.{Control}
 
 abbrev pub store_frame_size : StoreFrame → ℕ
-store_frame_size (StoreFrame.AlterRef by function forms room) =
+store_frame_size (StoreFrame.UpdateTarget by function forms room) =
     6 + (3 * datum_size (view function) + forms_size (forms_view forms))
 store_frame_size (StoreFrame.AlterCall by name f values room) = 3
 store_frame_size (StoreFrame.Held name) = 1
 store_frame_size (StoreFrame.Commuted name commute) = 1
+store_frame_size (StoreFrame.Swapped w seen) = 3
 
 abbrev pub frame_size : Frame → ℕ
 frame_size (Frame.Arguments callee values forms room) = 5 + forms_size (forms_view forms)
@@ -39,7 +40,7 @@ frames_size = sum_by frame_size
 abbrev pub use_size : SymbolUse → ℕ
 use_size (SymbolUse.Value name) = 2
 use_size (SymbolUse.Head forms room) = 6 + forms_size (forms_view forms)
-use_size (SymbolUse.Alter by v forms room) = 6 + forms_size (forms_view forms)
+use_size (SymbolUse.Update by v forms room) = 6 + forms_size (forms_view forms)
 
 abbrev pub wanted_size : Wanted → ℕ
 wanted_size (Wanted.Resolution purpose) = use_size purpose
@@ -48,6 +49,8 @@ wanted_size (Wanted.Namespace name) = 2
 wanted_size Wanted.Value = 2
 wanted_size (Wanted.Reading name) = 2
 wanted_size (Wanted.Ensuring name) = 2
+wanted_size (Wanted.Seen w) = 2
+wanted_size (Wanted.Tried w v) = 3
 wanted_size (Wanted.Begin t) = 2 + frames_size t.value.frames.items
 wanted_size (Wanted.Verdict v t) = 0
 

@@ -6,7 +6,7 @@ use special_forms::{Forms, Function, Logic};
 use std::boxed::Box;
 use std::collections::VecDeque;
 use std::sync::ArcStr;
-use store_calls::Alteration;
+use store_calls::{Alteration, Update};
 use tx_attempt::Attempt;
 
 /// What is called.
@@ -15,8 +15,8 @@ pub enum Callee {
     Named(NamedFunction),
     // A keyword looks itself up in its argument.
     Keyword(ArcStr),
-    // `alter` or `commute`, with the function that it was given.
-    Alter(Alteration, NamedFunction),
+    // `alter`, `commute` or `swap!`, with the function that it was given.
+    Update(Update, NamedFunction),
 }
 
 /// What is made of values in a row.
@@ -60,15 +60,28 @@ pub enum Frame {
 /// What of a function that asks the store waits for a value.
 #[derive(Drop)]
 pub enum StoreFrame {
-    // `alter` or `commute`, for its ref: the form of its function, and the forms of the arguments
-    // behind that, with their room.
-    AlterRef(Alteration, Value, Forms, u32),
-    // Either of them, for the value of this ref: its function, and the arguments behind it.
+    // `alter`, `commute` or `swap!`, for its ref or its atom: the form of its function, and the forms
+    // of the arguments behind that, with their room.
+    UpdateTarget(Update, Value, Forms, u32),
+    // `alter` or `commute`, for the value of this ref: its function, and the arguments behind it.
     AlterCall(Alteration, RefName, NamedFunction, Vec<Value>, u32),
     // What goes into this ref.
     Held(RefName),
     // What a function gave that is applied to this ref's value, and is to be applied again.
     Commuted(RefName, Commute),
+    // What the function of `swap!` gives for this value, which the atom had.
+    Swapped(Swap, Value),
+}
+
+/// A call of `swap!`: the number of its atom, its function and the arguments behind it, with its
+/// room, and how many tries are left behind this one.
+#[derive(Drop)]
+pub struct Swap {
+    pub atom: u64,
+    pub function: NamedFunction,
+    pub arguments: Vec<Value>,
+    pub room: u32,
+    pub left: u32,
 }
 
 /// Where a form stands: the locals, and the namespace in which the function was defined
@@ -115,9 +128,9 @@ pub enum SymbolUse {
     Value(ArcStr),
     // The function at the head of a list, with the forms of its arguments.
     Head(Forms, u32),
-    // The function of `alter` or `commute`, with the value before it and the forms of the arguments
-    // behind it.
-    Alter(Alteration, Value, Forms, u32),
+    // The function of `alter`, `commute` or `swap!`, with the value before it and the forms of the
+    // arguments behind it.
+    Update(Update, Value, Forms, u32),
 }
 
 /// What an answer is wanted for, by its kind.
@@ -135,6 +148,10 @@ pub enum Wanted {
     Reading(RefName),
     // The same, of a ref that is ensured.
     Ensuring(RefName),
+    // The value of an atom, which goes to the function of `swap!`.
+    Seen(Swap),
+    // Whether the atom got this value.
+    Tried(Swap, Value),
     // That an attempt has begun. The state has no transaction and no frames.
     Begin(Box<Transaction>),
     // What comes of the commit of a body with this value. The state has no transaction and no

@@ -4,6 +4,7 @@
 #![tactic(auto)]
 
 mod applying;
+mod arguments;
 mod attempts;
 mod collect;
 mod commits;
@@ -11,20 +12,26 @@ mod frames;
 mod names;
 mod namespaces;
 mod refs;
+mod refused;
 mod rows;
 mod store;
+mod swaps;
 mod thrown;
 
 pub use applying::call_core;
+pub use arguments::{bind_parameters, full_name, get_arguments};
 pub use attempts::{begin_again, begin_attempt, begin_transaction, retry};
 pub use collect::make_collection;
 pub use commits::{EndOrCommit, leave, settle};
 pub use frames::{
-    Callee, Collection, Control, Frame, Place, State, StoreFrame, SymbolUse, Transaction, Wanted,
+    Callee, Collection, Control, Frame, Place, State, StoreFrame, Swap, SymbolUse, Transaction,
+    Wanted,
 };
 pub use names::{look_up, names_function, resolve, space};
 pub use namespaces::{enter_named, enter_namespace, go_on_in};
 pub use refs::read;
+pub use refused::{refuse_program, refuse_store};
 pub use rows::{bind, next_in_body};
 pub use store::{call_store, commute, ensure_or_retry, hold, note_or_retry};
+pub use swaps::{call_swap, settle_swap, try_swap};
 pub use thrown::throw;

@@ -5,8 +5,9 @@ use Rattle.repl_asks.specs.Inside.View.{name_view, named_view}
 use Rattle.special_forms.specs.Inside.Seen.{views}
 use Rattle.store_calls.specs.Inside.View.{altered_view}
 use Rattle.evaluation_rules.specs.Evaluation.{value_at}
+use Rattle.walker_state.proofs.Taking.{no_items, first-removed}
 use Rattle.walker_machine.proofs.Evaluating.{if_ok-turned}
-use Rattle.walker_machine.proofs.Altering.{no_items, first-removed, altered-told, alter_call-empty, alter_call-refused, alter_call-reads}
+use Rattle.walker_machine.proofs.Altering.{altered-told, alter_call-empty, alter_call-refused, alter_call-reads}
 use Rattle.walker_machine.proofs.alter.call_alter.Goals as goal
 
 pub returns-then-is_empty-clause-meaning : goal.returns-then-is_empty-clause-meaning

@@ -1,5 +1,6 @@
 use Rattle.std.proofs.Common.{arith, refl}
-use Rattle.walker_state.proofs.Laters.{later_smaller}
+use Rattle.walker_state.proofs.Laters.{later_smaller, if_ok-for}
+use Rattle.walker_state.specs.Position.{LeadsOnWithin}
 use Rattle.walker_machine.proofs.Going.{leads-later}
 use Rattle.walker_machine.proofs.answers.use_answer.Goals as goal
 
@@ -18,3 +19,8 @@ returns-in-Namespace-clause-later c =
 
 pub returns-in-Value-clause-later : goal.returns-in-Value-clause-later
 returns-in-Value-clause-later c = rw c.in-Value.is (later_smaller _ _ _ _ _ _ refl (omega arith) (omega arith))
+
+pub returns-in-Tried-clause-later : goal.returns-in-Tried-clause-later
+returns-in-Tried-clause-later c =
+    let s = c.args.state.now in
+    rw c.in-Tried.is (leads-later _ 3 s s _ refl (omega arith) (omega arith) (if_ok-for (λ k u. LeadsOnWithin 3 u u k) s _ c.settle_swap.ensures.on))

@@ -3,7 +3,7 @@ use Rattle.value_data.specs.Inside.View.{view}
 use Rattle.special_forms.specs.Inside.Seen.{forms_view}
 use Rattle.walker_state.specs.Pending.{place_of}
 use Rattle.walker_machine.proofs.Altering.{function_value-of, function_value-other}
-use Rattle.walker_machine.proofs.alter.name_function.Goals as goal
+use Rattle.walker_machine.proofs.update.name_function.Goals as goal
 
 pub returns-in_ok-not_a_function-in_default : goal.returns-in_ok-not_a_function-in_default
 returns-in_ok-not_a_function-in_default c = record {
