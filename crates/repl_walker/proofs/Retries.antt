@@ -24,6 +24,7 @@ use Rattle.repl_asks.specs.Exchange.{AskData, AnswerData, read, ReadingData, fou
 use Rattle.repl_asks.specs.Exchange.{reading_in, ResolutionData, names_value, names_function}
 use Rattle.repl_asks.specs.Exchange.{names_nothing, BindingData, NamedFunctionData, core_function}
 use Rattle.repl_asks.specs.Exchange.{store_function, program_function, resolution_in, value_in}
+use Rattle.repl_asks.specs.Exchange.{read_atom, try_atom}
 use Rattle.special_forms.specs.Rows.{BoundForm, in_a_row}
 use Rattle.special_forms.specs.Names.{special_named, special_name}
 use Rattle.special_forms.specs.Truth.{is_truthy, decides, before}
@@ -35,7 +36,9 @@ use Rattle.special_forms.specs.declared.special.SpecialForm.{SpecialForm}
 use Rattle.tx_attempt.specs.Accesses.{AttemptData, commuted, attempt_value, is_commuted}
 use Rattle.store_calls.specs.Calling.{CallData, refused, reads, puts, ensures, asks_value}
 use Rattle.store_calls.specs.Calling.{call_data_of, altered_in}
+use Rattle.store_calls.specs.Arguments.{atom_in}
 use Rattle.store_calls.specs.declared.altering.Alteration.{Alteration}
+use Rattle.store_calls.specs.declared.updating.Update.{Update}
 use Rattle.evaluation_rules.specs.Doing.{Kept, Doing, gave, failed, left, retried, asking, printing}
 use Rattle.evaluation_rules.specs.Doing.{looking, noting, trying, Part, ◌>>=◌, pure_part, fails}
 use Rattle.evaluation_rules.specs.Places.{PlaceData, Evaluator, with_local, space_of}
@@ -44,15 +47,18 @@ use Rattle.evaluation_rules.specs.Naming.{known_or_asked, known_resolution, reso
 use Rattle.evaluation_rules.specs.Naming.{as_function, function_value}
 use Rattle.evaluation_rules.specs.Refs.{read_value, known_or_read, ref_value, put_by, put_value}
 use Rattle.evaluation_rules.specs.Refs.{held_value, ensure_noted, ensured_value, called_value}
-use Rattle.evaluation_rules.specs.Refs.{store_call, altered_value}
-use Rattle.evaluation_rules.specs.Applying.{CalleeData, named_callee, keyword_callee, alter_callee}
+use Rattle.evaluation_rules.specs.Refs.{store_call, altered_value, asked_value}
+use Rattle.evaluation_rules.specs.Applying.{CalleeData, named_callee, keyword_callee}
+use Rattle.evaluation_rules.specs.Applying.{update_callee}
+use Rattle.evaluation_rules.specs.Atoms.{settled_value, tried_value, seen_value, swapped_value}
+use Rattle.evaluation_rules.specs.Atoms.{swap_of, swap_call}
 use Rattle.evaluation_rules.specs.Applying.{outcome, printed_value, core_call, keyword_call}
 use Rattle.evaluation_rules.specs.Applying.{body_place, program_call, function_applied}
 use Rattle.evaluation_rules.specs.Applying.{with_calls, function_called, get_arguments, full_name}
 use Rattle.evaluation_rules.specs.Calls.{commute_noted, not_of_core}
 use Rattle.evaluation_rules.specs.Calls.{commute_applied, commuting_value, alteration_value}
-use Rattle.evaluation_rules.specs.Calls.{alter_call, applied_value, counted_call, call_value}
-use Rattle.evaluation_rules.specs.Calls.{altering_call, named_call}
+use Rattle.evaluation_rules.specs.Calls.{alter_call, update_call, applied_value, counted_call}
+use Rattle.evaluation_rules.specs.Calls.{call_value, updating_call, named_call}
 use Rattle.evaluation_rules.specs.Transactions.{with_running, body_of, transacted_value}
 use Rattle.evaluation_rules.specs.Transactions.{transaction_value, effects_value}
 use Rattle.evaluation_rules.specs.SpecialForms.{logic_value, let_value, definition_value}
@@ -228,15 +234,18 @@ ensured-passes : (name : RefNameData) → Passes Datum (ensured_value name)
 unfolding ensured_value
 ensured-passes name = then-passes (refs name) (ensure-passes name)
 
+asked-passes : (ask : AskData) → IsNoRead ask → Passes Datum (asked_value ask)
+asked-passes ask apart = record {
+  leaves = λ next kept runs on answer.
+      (not-read ask apart answer (next (value_in answer) kept), on (value_in answer) kept runs);
+}
+
 called-passes : (call : CallData) → AsksNoRead call → Passes Datum (called_value call)
 called-passes (refused f) apart = record { leaves = λ next kept runs on. tt }
 called-passes (reads name) apart = refs name
 called-passes (puts name d) apart = put-passes name d
 called-passes (ensures name) apart = ensured-passes name
-called-passes (asks_value ask) apart = record {
-  leaves = λ next kept runs on answer.
-      (not-read ask apart answer (next (value_in answer) kept), on (value_in answer) kept runs);
-}
+called-passes (asks_value ask) apart = asked-passes ask apart
 
 store-passes : (f : StoreFunction) (args : List Datum) → Passes Datum (store_call f args)
 unfolding store_call
@@ -353,11 +362,57 @@ alter-passes walk w by f (d ∷ args) = record {
       (alteration walk w by f args)).leaves next kept runs on;
 }
 
+settles : (again : Part Datum) → Passes Datum again → (next done : Datum)
+    → Passes Datum (settled_value again next done)
+settles again h next done = if-passes (is_truthy done) (pures next) h
+
+tries : (n : ℕ) (seen : Datum) (again : Part Datum) → Passes Datum again → (next : Datum)
+    → Passes Datum (tried_value n seen again next)
+unfolding tried_value
+tries n seen again h next =
+    then-passes (asked-passes (try_atom n seen next) tt) (settles again h next)
+
+sees : (walk : Evaluator) → WalkPasses walk
+    → (f : NamedFunctionData) (args : List Datum) (n : ℕ) (again : Part Datum)
+    → Passes Datum again → (seen : Datum) → Passes Datum (seen_value walk f args n again seen)
+unfolding seen_value
+sees walk w f args n again h seen =
+    then-passes (called walk w f (seen ∷ args)) (tries n seen again h)
+
+swaps : (left : ℕ) (walk : Evaluator) → WalkPasses walk
+    → (f : NamedFunctionData) (args : List Datum) (n : ℕ)
+    → Passes Datum (swapped_value left walk f args n)
+unfolding swapped_value
+swaps zero walk w f args n = faults failures.too_many_calls
+swaps (suc more) walk w f args n =
+    then-passes (asked-passes (read_atom n) tt)
+    (sees walk w f args n (swapped_value more walk f args n) (swaps more walk w f args n))
+
+swap-of : (walk : Evaluator) → WalkPasses walk
+    → (f : NamedFunctionData) (args : List Datum) (r : Result ℕ Failure)
+    → Passes Datum (swap_of walk f args r)
+swap-of walk w f args (Ok n) = record {
+  leaves = λ next kept runs on. (swaps (suc kept.calls) walk w f args n).leaves next kept runs on;
+}
+swap-of walk w g args (Err f) = record { leaves = λ next kept runs on. tt }
+
+swap-passes : (walk : Evaluator) → WalkPasses walk
+    → (f : NamedFunctionData) (args : List Datum) → Passes Datum (swap_call walk f args)
+unfolding swap_call
+swap-passes walk w f [] = record { leaves = λ next kept runs on. tt }
+swap-passes walk w f (d ∷ args) = swap-of walk w f args (atom_in StoreFunction.Swap d)
+
+updates : (walk : Evaluator) → WalkPasses walk
+    → (by : Update) (f : NamedFunctionData) (args : List Datum)
+    → Passes Datum (update_call walk by f args)
+updates walk w (Update.Ref by) f args = alter-passes walk w by f args
+updates walk w Update.Atom f args = swap-passes walk w f args
+
 callees : (walk : Evaluator) → WalkPasses walk → (callee : CalleeData) (args : List Datum)
     → Passes Datum (applied_value walk callee args)
 callees walk w (named_callee f) args = applied walk w f args
 callees walk w (keyword_callee s) args = keyword-passes s args
-callees walk w (alter_callee by f) args = alter-passes walk w by f args
+callees walk w (update_callee by f) args = updates walk w by f args
 
 counted : (walk : Evaluator) → WalkPasses walk → (callee : CalleeData) (args : List Datum)
     → Passes Datum (counted_call walk callee args)
@@ -372,20 +427,22 @@ calls : (walk : Evaluator) → WalkPasses walk
     → Passes Datum (call_value walk p forms callee)
 calls walk w p forms callee = then-passes (row-passes (walk p) (w p) forms) (counted walk w callee)
 
-altering-passes : (walk : Evaluator) → WalkPasses walk
-    → (p : PlaceData) (by : Alteration) (d e : Datum) (ds : List Datum)
-    → Passes Datum (altering_call walk p by d e ds)
-altering-passes walk w p by d e ds =
+updating-passes : (walk : Evaluator) → WalkPasses walk
+    → (p : PlaceData) (by : Update) (d e : Datum) (ds : List Datum)
+    → Passes Datum (updating_call walk p by d e ds)
+updating-passes walk w p by d e ds =
     then-passes (w p d) (λ v. then-passes (function-passes p e) (λ f.
-    then-passes (row-passes (walk p) (w p) ds) (λ vs. counted walk w (alter_callee by f) (v ∷ vs))))
+    then-passes (row-passes (walk p) (w p) ds) (λ vs. counted walk w (update_callee by f) (v ∷ vs))))
 
 named : (walk : Evaluator) → WalkPasses walk
     → (p : PlaceData) (forms : List Datum) (f : NamedFunctionData)
     → Passes Datum (named_call walk p forms f)
 named walk w p (d ∷ e ∷ ds) (store_function StoreFunction.Alter) =
-    altering-passes walk w p Alteration.Alter d e ds
+    updating-passes walk w p (Update.Ref Alteration.Alter) d e ds
 named walk w p (d ∷ e ∷ ds) (store_function StoreFunction.Commute) =
-    altering-passes walk w p Alteration.Commute d e ds
+    updating-passes walk w p (Update.Ref Alteration.Commute) d e ds
+named walk w p (d ∷ e ∷ ds) (store_function StoreFunction.Swap) =
+    updating-passes walk w p Update.Atom d e ds
 named walk w p forms f = calls walk w p forms (named_callee f)
 
 -- Special forms

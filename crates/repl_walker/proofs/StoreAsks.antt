@@ -2,7 +2,7 @@
 use Rattle.std.proofs.Common.{ℕ, List, [], ◌∷◌, Bool, true, false, Some, Result, Ok, Err}
 use Rattle.std.proofs.Common.{if◌then◌else◌, length}
 use Rattle.std.specs.Prelude.{⊤, not, ◌||◌}
-use Rattle.value_data.specs.Datum.{Datum}
+use Rattle.value_data.specs.Datum.{Datum, atom}
 use Rattle.repl_faults.specs.Failure.{Failure, ◌>>=◌, wrong_arity}
 use Rattle.repl_faults.specs.declared.rule.Rule.{Rule}
 use Rattle.function_names.specs.StoreNames.{store_name_of, store_fits}
@@ -10,10 +10,10 @@ use Rattle.function_names.specs.declared.store.StoreFunction.{StoreFunction}
 use Rattle.repl_asks.specs.Transactions.{RefNameData, may_hold}
 use Rattle.repl_asks.specs.Exchange.{AskData, read, min_history, max_history}
 use Rattle.store_calls.specs.declared.altering.Alteration.{Alteration}
-use Rattle.store_calls.specs.Arguments.{ref_in, count_in, is_shared, kept_to, usual_bounds}
-use Rattle.store_calls.specs.Arguments.{bounds_in}
-use Rattle.store_calls.specs.Calling.{CallData, refused, asks_value}
-use Rattle.store_calls.specs.Calling.{altering, call_with, called_for, call_data_of}
+use Rattle.store_calls.specs.Arguments.{ref_in, atom_in, count_in, is_shared, kept_to}
+use Rattle.store_calls.specs.Arguments.{usual_bounds, bounds_in}
+use Rattle.store_calls.specs.Calling.{CallData, refused, reads, asks_value}
+use Rattle.store_calls.specs.Calling.{altering, deref_call, call_with, called_for, call_data_of}
 
 abbrev pub IsNoRead : AskData → Type 0
 IsNoRead (read name) = ⊥
@@ -42,12 +42,15 @@ no-read-bound f d e behind gives =
     gives-then (kept_to Rule.SharedBoundsStay (not (is_shared name.owner))) _ (λ holds.
     gives name n)))
 
+no-read-deref : (d : Datum) → GivesNoRead (deref_call d)
+no-read-deref (atom n) = tt
+no-read-deref d = gives-then (ref_in StoreFunction.Deref d) (λ name. Ok (reads name)) (λ name. tt)
+
 no-read : (f : StoreFunction) (running : Bool) (ds : List Datum)
     → GivesNoRead (call_with f running ds)
 no-read StoreFunction.Ref running [] = tt
 no-read StoreFunction.Ref running (d ∷ ds) = gives-then (bounds_in usual_bounds ds) _ (λ bounds. tt)
-no-read StoreFunction.Deref running (d ∷ []) =
-    gives-then (ref_in StoreFunction.Deref d) _ (λ name. tt)
+no-read StoreFunction.Deref running (d ∷ []) = no-read-deref d
 no-read StoreFunction.RefSet running (d ∷ e ∷ []) =
     gives-then (ref_in StoreFunction.RefSet d) _ (λ name.
     gives-then (kept_to Rule.ATransactionRuns running) _ (λ runs.
@@ -73,6 +76,13 @@ no-read StoreFunction.MaxHistory running (d ∷ []) =
 no-read StoreFunction.MaxHistory running (d ∷ e ∷ []) =
     no-read-bound StoreFunction.MaxHistory d e
     (λ name n. Ok (asks_value (max_history name (Some n)))) (λ name n. tt)
+no-read StoreFunction.Atom running (d ∷ []) = tt
+no-read StoreFunction.Swap running (d ∷ e ∷ ds) =
+    gives-then (atom_in StoreFunction.Swap d) _ (λ n. tt)
+no-read StoreFunction.Reset running (d ∷ e ∷ []) =
+    gives-then (atom_in StoreFunction.Reset d) _ (λ n. tt)
+no-read StoreFunction.CompareAndSet running (d ∷ seen ∷ next ∷ []) =
+    gives-then (atom_in StoreFunction.CompareAndSet d) _ (λ n. tt)
 no-read f running ds = tt
 
 called : (r : Result CallData Failure) → GivesNoRead r → AsksNoRead (called_for r)
