@@ -85,6 +85,51 @@ const CALLS: &[(StoreFunction, bool, &[Given], &str)] = &[
         &[Ref(FIRST), Int(1)],
         "Wrong argument to commute: 1",
     ),
+    (StoreFunction::Atom, true, &[Atom], GOES_ON),
+    (StoreFunction::Deref, true, &[Atom], GOES_ON),
+    (
+        StoreFunction::Deref,
+        false,
+        &[Int(1)],
+        "Wrong argument to deref: 1",
+    ),
+    (StoreFunction::Reset, true, &[Atom, Ref(OURS)], GOES_ON),
+    (
+        StoreFunction::Reset,
+        false,
+        &[Int(0), Atom],
+        "Wrong argument to reset!: 0",
+    ),
+    (
+        StoreFunction::CompareAndSet,
+        false,
+        &[Atom, Int(0), Int(1)],
+        GOES_ON,
+    ),
+    (
+        StoreFunction::CompareAndSet,
+        false,
+        &[Int(0), Atom, Int(1)],
+        "Wrong argument to compare-and-set!: 0",
+    ),
+    (
+        StoreFunction::Swap,
+        false,
+        &[Int(0), Int(1)],
+        "Wrong argument to swap!: 0",
+    ),
+    (
+        StoreFunction::Swap,
+        true,
+        &[Atom, Int(1)],
+        "Wrong argument to swap!: 1",
+    ),
+    (
+        StoreFunction::Swap,
+        false,
+        &[Atom],
+        "Wrong number of args (1) passed to: swap!",
+    ),
 ];
 
 fn told_of(

@@ -14,6 +14,12 @@ pub(crate) enum Given {
     Int(i64),
     /// The symbol names this ref.
     Ref(RefName),
+    /// The symbol names an atom.
+    Atom,
+    /// The atom has this integer.
+    Has(i64),
+    /// Whether the try went through.
+    Tried(bool),
     Done,
     /// The ref holds this integer.
     Found(i64),
@@ -24,6 +30,9 @@ fn answer(given: Given) -> Answer {
     match given {
         Given::Int(number) => Answer::Resolution(Resolution::Value(Value::Int(number))),
         Given::Ref(name) => Answer::Resolution(Resolution::Value(Value::Ref(name))),
+        Given::Atom => Answer::Resolution(Resolution::Value(Value::Atom(0))),
+        Given::Has(number) => Answer::Value(Value::Int(number)),
+        Given::Tried(done) => Answer::Value(Value::Bool(done)),
         Given::Done => Answer::Done,
         Given::Found(number) => Answer::Reading(Reading::Found(Value::Int(number))),
         Given::Committed => Answer::Verdict(Verdict::Committed),

@@ -1,6 +1,6 @@
 // Evaluations over answers that are known beforehand: what they come to, or where they stop.
 use crate::given::{FIRST, OURS};
-use crate::replays::Given::{Committed, Done, Found, Int, Ref};
+use crate::replays::Given::{Atom, Committed, Done, Found, Has, Int, Ref, Tried};
 use crate::replays::Told::{NotPlain, Other, Stopped};
 use crate::replays::{Given, Told, answers_of};
 use repl_asks::{AnswerKind, Replay};
@@ -83,6 +83,23 @@ const WALKS: &[(&str, &[Given], Told)] = &[
         &[Done, Ref(OURS), Ref(FIRST), Found(1)],
         NotPlain,
     ),
+    (
+        "(clojure.core/swap! t clojure.core/+ 2)",
+        &[Atom, Has(1), Tried(true)],
+        Told::Int(3),
+    ),
+    (
+        "(clojure.core/swap! t clojure.core/+ 2)",
+        &[Atom, Has(1), Tried(false), Has(5), Tried(true)],
+        Told::Int(7),
+    ),
+    (
+        "(clojure.core/swap! t clojure.core/+ 2)",
+        &[Atom, Has(1), Tried(false)],
+        Stopped(AnswerKind::Value),
+    ),
+    ("(clojure.core/swap! x clojure.core/+ 2)", &[Int(1)], Other),
+    ("(clojure.core/deref t)", &[Atom, Has(6)], Told::Int(6)),
 ];
 
 // Where a walk is refused memory it is made once more, and comes to the same.
