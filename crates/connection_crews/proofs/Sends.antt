@@ -62,6 +62,7 @@ use Rattle.tenant_actors.specs.contracts.actors.Actors as actors
 use Rattle.repl_sessions.specs.contracts.sessions.Sessions as sessions
 use Rattle.repl_sessions.specs.contracts.state.SessionState as session_state
 use Rattle.name_spaces.specs.contracts.spaces.Spaces as spaces
+use Rattle.private_cells.specs.contracts.atoms.Atoms as atoms
 use Rattle.tenant_replies.specs.contracts.outbox.Outbox as outbox
 use Rattle.tenant_refs.specs.contracts.attempts.Attempts as attempts
 use Rattle.tenant_world.specs.contracts.tenant.Tenant as tenant
@@ -399,6 +400,9 @@ attempts-send = search all depth 40 fits 20000
 spaces-send : IsSend spaces.the_row
 spaces-send = search (sendable, crosses, maps.crosses, binding-send) depth 40 fits 20000
 
+atoms-send : IsSend atoms.the_row
+atoms-send = search (made, value-send, heap.Vec-send) depth 30 fits 20000
+
 sessions-send : IsSend sessions.the_row
 sessions-send = search (sendable, crosses, maps.crosses, session_state-send) depth 40 fits 20000
 
@@ -443,10 +447,7 @@ memory-send =
         session_state-send,
         (
           spaces-send,
-          (
-            outbox-send,
-            tt,
-          ),
+          (atoms-send, (outbox-send, tt)),
         ),
       ),
     )

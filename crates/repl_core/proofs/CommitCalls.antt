@@ -338,6 +338,10 @@ asked-newest name seat (exchange.max_history other (Some n)) answer s told =
     bound-newest name other other.owner (with_most n) s (ref_named other s) (λ r. refl)
 asked-newest name seat (exchange.commit intent) answer s told =
     commit-newest name seat intent answer s (numbered.part_under seat s.mine.points) told
+asked-newest name seat (exchange.new_atom d) answer s told = refl
+asked-newest name seat (exchange.read_atom n) answer s told = refl
+asked-newest name seat (exchange.set_atom n d) answer s told = refl
+asked-newest name seat (exchange.try_atom n seen next) answer s told = refl
 
 -- What is given to a ref that has no value
 

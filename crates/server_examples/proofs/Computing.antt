@@ -21,7 +21,7 @@ use Rattle.server_rules.specs.Moves.{form_ended}
 use Rattle.server_rules.specs.Machine.World.{step}
 use Rattle.server_examples.specs.Examples.{ReadIsRetried, TwoAreApart, CloseInterrupts}
 use Rattle.server_examples.specs.Examples.{OtherTraceIsRefused, PlaceIsFreed, NothingIsLeft}
-use Rattle.server_examples.specs.Examples.{IdleCostsNothing, BothCommute}
+use Rattle.server_examples.specs.Examples.{IdleCostsNothing, BothCommute, TryIsMadeAgain}
 
 pub read-is-retried : ReadIsRetried
 unfolding step form_ended taken_in with_message operation_or_reply is_fixed is_there at_start with_entered_namespace with_definition resolved is_utf8 chars encode_utf8 id_text session_id by_index u32_at quarter_round column_round diagonal_round double_rounds block_word
@@ -34,6 +34,10 @@ two-are-apart = (refl, refl)
 pub both-commute : BothCommute
 unfolding step form_ended taken_in with_message operation_or_reply is_fixed is_there at_start with_entered_namespace with_definition resolved is_utf8 chars encode_utf8 id_text session_id by_index u32_at quarter_round column_round diagonal_round double_rounds block_word apply_outcome limited_outcome integer_meaning arithmetic or_overflow
 both-commute = refl
+
+pub try-is-made-again : TryIsMadeAgain
+unfolding step form_ended taken_in with_message operation_or_reply is_fixed is_there at_start with_entered_namespace with_definition resolved is_utf8 chars encode_utf8 id_text session_id by_index u32_at quarter_round column_round diagonal_round double_rounds block_word
+try-is-made-again = refl
 
 pub close-interrupts : CloseInterrupts
 unfolding step form_ended taken_in with_message operation_or_reply is_fixed is_there at_start with_entered_namespace with_definition resolved is_utf8 chars encode_utf8 id_text session_id by_index u32_at quarter_round column_round diagonal_round double_rounds block_word

@@ -1,6 +1,6 @@
 -- Runs with one tenant and with two.
 use Rattle.std.specs.Prelude.{◌≡◌, ℕ, List, [], ◌∷◌, ◌++◌, Some, None, Ok, Err, codes}
-use Rattle.value_data.specs.Datum.{nil}
+use Rattle.value_data.specs.Datum.{nil, atom}
 use Rattle.function_names.specs.declared.store.StoreFunction.{StoreFunction}
 use Rattle.repl_asks.specs.Exchange as exchange
 use Rattle.repl_jobs.specs.Job as jobs
@@ -59,6 +59,20 @@ BothCommute =
     ++ second_reply 0 (codes "9") (value_body nil) ∷ second_reply 0 (codes "9") replies.done
     ∷ first_reply 0 (codes "8") (value_body nil) ∷ first_reply 0 (codes "8") replies.done
     ∷ first_reply 0 (codes "2") (value_body (number 2)) ∷ first_reply 0 (codes "2") replies.done
+    ∷ [])
+
+-- One session begins to add one to an atom, and has read it when the other sets it. So its try
+-- changes nothing: it reads again, and what it adds to is what was set.
+abbrev pub TryIsMadeAgain : Type 0
+TryIsMadeAgain =
+    given_to 0 (given (opens 0) ∷ opening_turns 0 ++ message_turn 0 9 ∷ turns_of 0 0 5
+    ++ message_turn 0 10 ∷ message_turn 0 11 ∷ turns_of 0 0 5 ++ turns_of 0 1 5 ++ turns_of 0 0 4
+    ++ drain_turns 0 10)
+    ≡ spellings_joined (begun_replies 0
+    ++ first_reply 0 (codes "10") (value_body (atom 0)) ∷ first_reply 0 (codes "10") replies.done
+    ∷ second_reply 0 (codes "12") (value_body (number 5))
+    ∷ second_reply 0 (codes "12") replies.done
+    ∷ first_reply 0 (codes "11") (value_body (number 6)) ∷ first_reply 0 (codes "11") replies.done
     ∷ [])
 
 -- A session is closed while one request is in hand and another waits. The one that waits is

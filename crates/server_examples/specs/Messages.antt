@@ -32,7 +32,7 @@ closing_of id session = wire.dictionary (pair (codes "op") (text_tree (codes "cl
     (pair (codes "id") (text_tree id) (pair (codes "session") (text_tree session) no_pairs)))
 
 -- what a tenant sends: a clone, evals of the forms `d`, `r`, `s`, `h` and `t` in one of its
--- sessions, a close, and evals of the form `c` in both
+-- sessions, a close, evals of the form `c` in both, and evals of the forms `a`, `w` and `x`
 abbrev pub messages : ℕ → List wire.Tree
 messages t =
     cloning
@@ -43,7 +43,10 @@ messages t =
     ∷ eval_of (codes "5") (second_id t) (codes "t")
     ∷ closing_of (codes "7") (first_id t)
     ∷ eval_of (codes "8") (first_id t) (codes "c")
-    ∷ eval_of (codes "9") (second_id t) (codes "c") ∷ []
+    ∷ eval_of (codes "9") (second_id t) (codes "c")
+    ∷ eval_of (codes "10") (first_id t) (codes "a")
+    ∷ eval_of (codes "11") (first_id t) (codes "w")
+    ∷ eval_of (codes "12") (second_id t) (codes "x") ∷ []
 
 -- the message at this place among those of the tenants 0 and 1
 abbrev pub message_of : ℕ → wire.Tree

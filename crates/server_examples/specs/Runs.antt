@@ -13,9 +13,9 @@ use Rattle.server_rules.specs.declared.actor.Actor.{Actor}
 use Rattle.server_examples.specs.Tables.{ground}
 use Rattle.server_examples.specs.Messages.{first_id, second_id, text_tree}
 
--- the tenant 0 or 1 sends one of its nine messages
+-- the tenant 0 or 1 sends one of its twelve messages
 abbrev pub message_turn : ℕ → ℕ → Turn
-message_turn t message = given (does t (hears ((t * 9 + message) ∷ [])))
+message_turn t message = given (does t (hears ((t * 12 + message) ∷ [])))
 
 abbrev pub drain_turns : ℕ → ℕ → List Turn
 drain_turns t zero = []

@@ -95,14 +95,54 @@ abbrev pub counting_tree : InteractionTree
 counting_tree = asks (symbol (codes "ref-history-count")) (λ f. asks (symbol (codes "r")) (λ r.
     asks (exchange.history (ref_answered r)) (λ a. ends_with (value_told a))))
 
--- the forms `d`, `r`, `s`, `h`, `c` and `t`
+-- `(def a (atom 0))`
+abbrev pub making_tree : InteractionTree
+making_tree = asks (symbol (codes "atom")) (λ f. asks (exchange.new_atom (number 0)) (λ a.
+    asks (exchange.define (codes "user") (codes "a") (bound_value (value_told a)))
+    (λ b. ends_with (value_told a))))
+
+-- what a symbol names, where that is an atom
+abbrev pub atom_answered : AnswerData → ℕ
+atom_answered (exchange.resolution (exchange.names_value (datum.atom n))) = n
+atom_answered _ = 9
+
+abbrev pub one_more : Datum → Datum
+one_more (datum.integer (pos n)) = number (n + 1)
+one_more _ = datum.nil
+
+abbrev pub when_true : AnswerData → InteractionTree → InteractionTree → InteractionTree
+when_true (exchange.value (datum.boolean true)) behind again = behind
+when_true _ behind again = again
+
+-- the atom is read, and gets one more where it still has what was read; or again, so many times
+abbrev pub trying_tree : ℕ → ℕ → InteractionTree
+trying_tree n zero = ends_with datum.nil
+trying_tree n (suc k) = asks (exchange.read_atom n) (λ r.
+    let seen = value_told r in
+    asks (exchange.try_atom n seen (one_more seen))
+    (λ a. when_true a (ends_with (one_more seen)) (trying_tree n k)))
+
+-- `(swap! a + 1)`
+abbrev pub swapping_tree : InteractionTree
+swapping_tree = asks (symbol (codes "swap!")) (λ f. asks (symbol (codes "a")) (λ a.
+    asks (symbol (codes "+")) (λ g. trying_tree (atom_answered a) 3)))
+
+-- `(reset! a 5)`
+abbrev pub resetting_tree : InteractionTree
+resetting_tree = asks (symbol (codes "reset!")) (λ f. asks (symbol (codes "a")) (λ a.
+    asks (exchange.set_atom (atom_answered a) (number 5)) (λ b. ends_with (value_told b))))
+
+-- the forms `d`, `r`, `s`, `h`, `c`, `a`, `w`, `x` and `t`
 abbrev pub form_named : ℕ → InteractionTree
 form_named n =
     if n == 100 then defining_tree else (
     if n == 114 then reading_tree 3 else (
     if n == 115 then setting_tree 5 3 else (
     if n == 104 then counting_tree else (
-    if n == 99 then commuting_tree 3 else setting_tree 6 3))))
+    if n == 99 then commuting_tree 3 else (
+    if n == 97 then making_tree else (
+    if n == 119 then swapping_tree else (
+    if n == 120 then resetting_tree else setting_tree 6 3)))))))
 
 abbrev pub work_tree : WorkData → InteractionTree
 work_tree (jobs.form (datum.integer (pos n))) = form_named n

@@ -1,7 +1,7 @@
 //! The runs. The functions do nothing: what they ensure is proved by computing it.
 ghost use Rattle.server_examples.specs.Examples.{ReadIsRetried, TwoAreApart, CloseInterrupts};
 ghost use Rattle.server_examples.specs.Examples.{OtherTraceIsRefused, PlaceIsFreed, NothingIsLeft};
-ghost use Rattle.server_examples.specs.Examples.{IdleCostsNothing, BothCommute};
+ghost use Rattle.server_examples.specs.Examples.{IdleCostsNothing, BothCommute, TryIsMadeAgain};
 
 /// A read whose version is kept no longer is made again, and a ref of which a read failed keeps one
 /// version more from its next commit on.
@@ -17,6 +17,11 @@ pub fn two_are_apart()
 /// Two sessions commute one ref, and both commits stand.
 pub fn both_commute()
     ensures { BothCommute }
+{}
+
+/// A session that has read an atom tries again where another session set it meanwhile.
+pub fn try_is_made_again()
+    ensures { TryIsMadeAgain }
 {}
 
 /// A close answers what waits, then itself, and interrupts what is in hand.

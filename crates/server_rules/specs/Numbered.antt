@@ -1,11 +1,6 @@
 -- Lists as finite maps from numbers.
-use Rattle.std.specs.Prelude.{ℕ, zero, suc, ◌==◌, List, [], ◌∷◌, Option, None, Some, if◌then◌else◌}
-
--- the element at a place is changed; where there is none, nothing is
-abbrev pub changed_at : {A : Type 0} → ℕ → (A → A) → List A → List A
-changed_at n f [] = []
-changed_at zero f (x ∷ xs) = f x ∷ xs
-changed_at (suc n) f (x ∷ xs) = x ∷ changed_at n f xs
+use Rattle.std.specs.Prelude.{ℕ, ◌==◌, List, [], ◌∷◌, Option, None, Some, if◌then◌else◌}
+pub use Rattle.private_cells.specs.Places.{changed_at}
 
 -- what is kept under a number
 pub record Entry (A : Type 0) : Type 0 where

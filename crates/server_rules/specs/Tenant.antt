@@ -5,6 +5,7 @@ use Rattle.repl_sessions.specs.State.{StateData, fresh}
 use Rattle.repl_sessions.specs.Sessions as sessions
 use Rattle.repl_sessions.specs.Sessions.{SessionsData, none_open, with_change}
 use Rattle.name_spaces.specs.Namespaces.{Namespaces, at_start}
+use Rattle.private_cells.specs.Atoms.{AtomsData, no_atoms}
 use Rattle.repl_replies.specs.Replies.{ReplyData}
 use Rattle.server_rules.specs.Numbered.{Entry, entry, with_part}
 use Rattle.server_rules.specs.Request.{Waiting, Hand}
@@ -41,6 +42,8 @@ pub record Quiet : Type 0 where
   -- what a request without a session remembers
   pub bare : StateData
   pub spaces : Namespaces
+  -- the atoms that its programs made; no other tenant has them
+  pub atoms : AtomsData
   -- by their seats: first the one without a session, then those of sessions in order of creation
   pub actors : List (Entry ActorData)
   -- the replies that wait, oldest first
@@ -53,6 +56,7 @@ opened_quiet g = record {
   sessions = none_open;
   bare = fresh;
   spaces = at_start;
+  atoms = no_atoms;
   actors = entry (seat_of Actor.Bare) unoccupied ∷ [];
   replies = [];
 }

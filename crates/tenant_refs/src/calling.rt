@@ -5,7 +5,7 @@ ghost use Rattle.value_data.specs.Inside.View.{view};
 ghost use Rattle.server_rules.specs.Asking.{call_of, is_allowed, may_be_set};
 ghost use Rattle.server_rules.specs.Calls.{performed, makes, begins, reads, counts, commits};
 ghost use Rattle.server_rules.specs.Store.{Store};
-ghost use Rattle.server_rules.specs.Tenant.{seat_of};
+ghost use Rattle.server_rules.specs.Tenant.{Quiet, seat_of};
 ghost use Rattle.ref_table.specs.Refs.{Refs};
 ghost use Rattle.ref_table.specs.Standing.{counter_of};
 ghost use Rattle.ref_table.specs.Told.{setting_told};
@@ -33,8 +33,8 @@ pub fn call(
     ask: &Ask,
 ) -> Result<Option<Thrice>, AllocError>
     requires { counter_of refs.old < u128.MAX }
-    ensures called { (s : Store) (r : Refs) → ServesWithAttempts refs.old attempts.old s r
-        → is_allowed (ask_view ask.now) ≡ true
+    ensures called { (q : Quiet) (s : Store) (r : Refs)
+        → ServesWithAttempts refs.old attempts.old s r → is_allowed (ask_view ask.now) q ≡ true
         → IfOk result (λ it. PerformsCall refs.new attempts.new r (told_answer it)
         (performed s (call_of (seat_of actor) (ask_view ask.now)))) }
     ensures stays { (s : Store) (r : Refs) → ServesWithAttempts refs.old attempts.old s r
@@ -46,6 +46,8 @@ pub fn call(
 {
     match ask {
         Ask::Resolve { .. } | Ask::Define { .. } | Ask::Enter(_) => Ok(Some(Thrice::done())),
+        Ask::NewAtom(_) | Ask::ReadAtom(_) => Ok(Some(Thrice::done())),
+        Ask::SetAtom { .. } | Ask::TryAtom { .. } => Ok(Some(Thrice::done())),
         Ask::NewRef {
             value,
             min_history,

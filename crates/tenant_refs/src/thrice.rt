@@ -1,6 +1,6 @@
 // An answer, three times.
 ghost use Rattle.std.specs.Prelude.{◌≡◌, ◌<◌, ◌^◌, IfOk};
-ghost use Rattle.value_data.specs.Datum.{ref};
+ghost use Rattle.value_data.specs.Datum.{ref, atom, boolean};
 ghost use Rattle.value_data.specs.Inside.View.{view, owner_view};
 ghost use Rattle.repl_asks.specs.Exchange.{done, value, reading, found, retry, verdict};
 ghost use Rattle.repl_faults.specs.Inside.View.{failure_of};
@@ -48,6 +48,30 @@ impl Thrice {
             given,
             noted,
         })
+    }
+
+    /// It takes no memory.
+    pub fn of_atom(number: u64) -> Thrice
+        ensures view { thrice_view result ≡ value (atom number) }
+        ensures thrice { IsThrice result }
+    {
+        Thrice {
+            kept: Answer::Value(Value::Atom(number)),
+            given: Answer::Value(Value::Atom(number)),
+            noted: Answer::Value(Value::Atom(number)),
+        }
+    }
+
+    /// It takes no memory.
+    pub fn of_boolean(holds: bool) -> Thrice
+        ensures view { thrice_view result ≡ value (boolean holds) }
+        ensures thrice { IsThrice result }
+    {
+        Thrice {
+            kept: Answer::Value(Value::Bool(holds)),
+            given: Answer::Value(Value::Bool(holds)),
+            noted: Answer::Value(Value::Bool(holds)),
+        }
     }
 
     pub(crate) fn of_name(name: RefName) -> Thrice

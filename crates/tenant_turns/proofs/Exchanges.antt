@@ -33,7 +33,8 @@ use Rattle.core_predicates.specs.declared.function.PredicateFunction.{PredicateF
 use Rattle.function_names.specs.declared.function.CoreFunction.{CoreFunction}
 use Rattle.repl_asks.specs.Exchange.{BindingData, bound_value, bound_function, AskData, resolve}
 use Rattle.repl_asks.specs.Exchange.{define, enter, new_ref, begin, read, history, min_history}
-use Rattle.repl_asks.specs.Exchange.{max_history, commit, NamedFunctionData, core_function}
+use Rattle.repl_asks.specs.Exchange.{max_history, commit, new_atom, read_atom, set_atom, try_atom}
+use Rattle.repl_asks.specs.Exchange.{NamedFunctionData, core_function}
 use Rattle.repl_asks.specs.Exchange.{store_function, program_function, ResolutionData, names_value}
 use Rattle.repl_asks.specs.Exchange.{names_function, names_nothing, ReadingData, found, retry}
 use Rattle.repl_asks.specs.Exchange.{VerdictData, committed, conflict, faulted, AnswerData}
@@ -196,10 +197,23 @@ binding = by_parts (Datum ⊎ FunctionData) (either datum function) parts whole 
   back (bound_value d) = refl
   back (bound_function f) = refl
 
+-- the asks of atoms
+abbrev AtomAskParts : Type 0
+AtomAskParts = Datum ⊎ (ℕ ⊎ ((ℕ × Datum) ⊎ (ℕ × (Datum × Datum))))
+
+abbrev atom_whole : AtomAskParts → AskData
+atom_whole (inl d) = new_atom d
+atom_whole (inr (inl n)) = read_atom n
+atom_whole (inr (inr (inl p))) = set_atom p.0 p.1
+atom_whole (inr (inr (inr p))) = try_atom p.0 p.1.0 p.1.1
+
 abbrev AskParts : Type 0
 AskParts = (Text × Text) ⊎ ((Text × (Text × BindingData)) ⊎ (Text ⊎ ((Datum × (ℕ × ℕ))
     ⊎ (Unit {0} ⊎ (RefNameData ⊎ (RefNameData ⊎ ((RefNameData × Option ℕ)
-    ⊎ ((RefNameData × Option ℕ) ⊎ IntentData))))))))
+    ⊎ ((RefNameData × Option ℕ) ⊎ (IntentData ⊎ AtomAskParts)))))))))
+
+abbrev of_atoms : AtomAskParts → AskParts
+of_atoms x = inr (inr (inr (inr (inr (inr (inr (inr (inr (inr x)))))))))
 
 abbrev ask_parts : AskData → AskParts
 ask_parts (resolve s t) = inl (s, t)
@@ -211,7 +225,11 @@ ask_parts (read r) = inr (inr (inr (inr (inr (inl r)))))
 ask_parts (history r) = inr (inr (inr (inr (inr (inr (inl r))))))
 ask_parts (min_history r n) = inr (inr (inr (inr (inr (inr (inr (inl (r, n))))))))
 ask_parts (max_history r n) = inr (inr (inr (inr (inr (inr (inr (inr (inl (r, n)))))))))
-ask_parts (commit i) = inr (inr (inr (inr (inr (inr (inr (inr (inr i))))))))
+ask_parts (commit i) = inr (inr (inr (inr (inr (inr (inr (inr (inr (inl i)))))))))
+ask_parts (new_atom d) = of_atoms (inl d)
+ask_parts (read_atom n) = of_atoms (inr (inl n))
+ask_parts (set_atom n d) = of_atoms (inr (inr (inl (n, d))))
+ask_parts (try_atom n seen next) = of_atoms (inr (inr (inr (n, (seen, next)))))
 
 abbrev ask_whole : AskParts → AskData
 ask_whole (inl p) = resolve p.0 p.1
@@ -223,7 +241,8 @@ ask_whole (inr (inr (inr (inr (inr (inl x)))))) = read x
 ask_whole (inr (inr (inr (inr (inr (inr (inl x))))))) = history x
 ask_whole (inr (inr (inr (inr (inr (inr (inr (inl p)))))))) = min_history p.0 p.1
 ask_whole (inr (inr (inr (inr (inr (inr (inr (inr (inl p))))))))) = max_history p.0 p.1
-ask_whole (inr (inr (inr (inr (inr (inr (inr (inr (inr x))))))))) = commit x
+ask_whole (inr (inr (inr (inr (inr (inr (inr (inr (inr (inl x)))))))))) = commit x
+ask_whole (inr (inr (inr (inr (inr (inr (inr (inr (inr (inr x)))))))))) = atom_whole x
 
 ask_back : (x : AskData) → ask_whole (ask_parts x) ≡ x
 ask_back (resolve s t) = refl
@@ -236,12 +255,19 @@ ask_back (history r) = refl
 ask_back (min_history r n) = refl
 ask_back (max_history r n) = refl
 ask_back (commit i) = refl
+ask_back (new_atom d) = refl
+ask_back (read_atom n) = refl
+ask_back (set_atom n d) = refl
+ask_back (try_atom n seen next) = refl
+
+atom_ask : Tells AtomAskParts
+atom_ask = either datum (either number (either (pair number datum) (pair number (pair datum datum))))
 
 ask : Tells AskData
 ask = by_parts AskParts
     (either (pair text text) (either (pair text (pair text binding)) (either text
     (either (pair datum (pair number number)) (either nothing (either ref_name (either ref_name
-    (either (pair ref_name bound) (either (pair ref_name bound) intent)))))))))
+    (either (pair ref_name bound) (either (pair ref_name bound) (either intent atom_ask))))))))))
     ask_parts ask_whole ask_back
 
 abbrev NamedParts : Type 0

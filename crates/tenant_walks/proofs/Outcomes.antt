@@ -15,7 +15,7 @@ use Rattle.server_rules.specs.Plan.{Plan, Outcome, StepAnswer, refuses, leaves, 
 use Rattle.server_rules.specs.Plan.{quietly, messages_heard, ask_answered}
 use Rattle.server_rules.specs.Deeds.{for_actor}
 use Rattle.server_rules.specs.Asking.{asked_of, asked_running, asked_allowed, answer_outcome}
-use Rattle.server_rules.specs.Asking.{answer_to, with_recorded_answer, spaces_after, call_of}
+use Rattle.server_rules.specs.Asking.{answer_to, with_recorded_answer, quiet_after, call_of}
 use Rattle.server_rules.specs.Asking.{is_allowed, when_told}
 use Rattle.server_rules.specs.Starting.{interrupted_in}
 use Rattle.server_rules.specs.declared.actor.Actor.{Actor}
@@ -72,7 +72,7 @@ answered-after g q s a ask after ans run is runs =
         let more = run_with (exchange_from ask answer) run in
         let new = record actor { hand = Some (record h { running = Some more }) } in
         let behind : after ≡ with_step_spent (with_recorded_answer a actor h run ask answer
-        (record q { spaces = spaces_after ask q.spaces })) = sym (ap (left_of q) same) in
+        (quiet_after ask q)) = sym (ap (left_of q) same) in
         let equal : answer ≡ ans = cc in
         ap (running_in a) behind
         ∙ ap running_of ((part_under-put (seat_of a) (seat_of a) new actor q.actors there).0 refl)
@@ -108,7 +108,7 @@ answered-after g q s a ask after ans run is runs =
         → (r : Option Run) → r ≡ Some run
         → (carried_out s (asked_running g a actor h ask q r)).outcome ≡ leaves after (ask_answered ans)
         → running_in a after ≡ Some (run_with (exchange_from ask ans) run)
-    of_run actor h there r some same = allowed actor h there (is_allowed ask)
+    of_run actor h there r some same = allowed actor h there (is_allowed ask q)
         (sym (ap (λ x. (carried_out s (asked_running g a actor h ask q x)).outcome) some) ∙ same)
 
     in_hand : (actor : ActorData) → part_under (seat_of a) q.actors ≡ Some actor → (h : Option Hand)

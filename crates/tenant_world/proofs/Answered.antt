@@ -2,37 +2,37 @@
 use Rattle.std.proofs.Common.{◌≡◌, ℕ, true, false, Option, None, Some, MatchOption, Result, Ok, Err}
 use Rattle.std.proofs.Common.{IfOk, refl, sym, ap, subst, ◌∙◌}
 use Rattle.repl_asks.specs.Exchange.{AskData, AnswerData, done}
-use Rattle.server_rules.specs.Calls.{Call, performed}
+use Rattle.server_rules.specs.Calls.{Call, nothing, performed}
 use Rattle.server_rules.specs.Ground.{Ground}
 use Rattle.server_rules.specs.Store.{Store}
 use Rattle.server_rules.specs.Tenant.{Quiet, seat_of}
-use Rattle.server_rules.specs.Asking.{answer_to, spaces_after, call_of, is_allowed}
+use Rattle.server_rules.specs.Asking.{answer_to, quiet_after, call_of, is_allowed}
 use Rattle.server_rules.specs.declared.actor.Actor.{Actor}
 use Rattle.ref_history.specs.Histories.{ListStands}
 use Rattle.ref_table.specs.Refs.{Refs, refs_after}
 use Rattle.ref_table.specs.Standing as refs
 use Rattle.tenant_refs.specs.Attempts.{Reaches}
-use Rattle.tenant_world.specs.Asking.{is_of_names, Answers}
+use Rattle.tenant_world.specs.Asking.{is_of_names, is_of_atoms, Answers}
 use Rattle.tenant_world.specs.Memories.{Remembers}
 use Rattle.tenant_refs.specs.Serving.{ListRefTable, ServesWithAttempts, PerformsCall}
 use Rattle.tenant_refs.specs.Thrice.{thrice_view, told_answer}
 use Rattle.tenant_refs.specs.declared.attempts.Attempts.{Attempts}
 use Rattle.tenant_world.specs.declared.memory.Memory.{Memory}
 use Rattle.tenant_refs.specs.declared.thrice.Thrice.{Thrice}
-use Rattle.tenant_world.proofs.Answering.{names-nothing, refs-told, allowed-may}
+use Rattle.tenant_world.proofs.Answering.{refs-told, allowed-may}
 use Rattle.tenant_refs.proofs.Calls.{untold-stays}
 use Rattle.tenant_refs.proofs.Serving.{refs_after-seen, holds-refs_after}
 
--- an ask of names needs none of them
-pub names-answered : (g : Ground) (t : ℕ) (a : Actor) (q : Quiet) (ask : AskData) (s : Store)
+-- an ask of names or of atoms needs none of them
+pub alone-answered : (g : Ground) (t : ℕ) (a : Actor) (q : Quiet) (ask : AskData) (s : Store)
     (r : Refs) (m : Memory) (table : ListRefTable) (attempts : Attempts) (answer : AnswerData)
-    → ServesWithAttempts table attempts s r → is_of_names ask ≡ true → answer ≡ answer_to g a q ask done
-    → Remembers g t m (record q { spaces = spaces_after ask q.spaces })
+    → ServesWithAttempts table attempts s r → call_of (seat_of a) ask ≡ nothing
+    → answer ≡ answer_to g a q ask done → Remembers g t m (quiet_after ask q)
     → Answers g t a q ask (performed s (call_of (seat_of a) ask)) m table attempts r answer
-names-answered g t a q ask s r m table attempts answer holds names is remembers =
+alone-answered g t a q ask s r m table attempts answer holds alone is remembers =
     let P : Call → Type 0 = λ call.
     Answers g t a q ask (performed s call) m table attempts r answer in
-    subst P (sym (names-nothing (seat_of a) ask names)) (record {
+    subst P (sym alone) (record {
       told = done;
       is_told = refl;
       is = is;
@@ -58,30 +58,31 @@ holds-untold new old attempts later s r call holds comes =
 pub refs-answered : {E : Type 0} (g : Ground) (t : ℕ) (a : Actor) (q : Quiet) (ask : AskData)
     (s : Store) (r : Refs) (m : Memory) (new old : ListRefTable) (attempts later : Attempts)
     (result : Result (Option Thrice) E) → ServesWithAttempts old attempts s r → is_of_names ask ≡ false
-    → is_allowed ask ≡ true → Remembers g t m q
+    → is_of_atoms ask ≡ false → is_allowed ask q ≡ true → Remembers g t m q
     → IfOk result (λ it. PerformsCall new later r (told_answer it) (performed s (call_of (seat_of a) ask)))
     → IfOk result (λ it. MatchOption it
     (((performed s (call_of (seat_of a) ask)).told ≡ None) × Remembers g t m q × ServesWithAttempts new later s r)
     (λ answer. Answers g t a q ask (performed s (call_of (seat_of a) ask)) m new later r
     (thrice_view answer)))
-refs-answered g t a q ask s r m new old attempts later (Err e) holds refs allowed remembers comes = tt
-refs-answered g t a q ask s r m new old attempts later (Ok None) holds refs allowed remembers comes = (
+refs-answered g t a q ask s r m new old attempts later (Err e) holds names atoms allowed remembers comes = tt
+refs-answered g t a q ask s r m new old attempts later (Ok None) holds names atoms allowed remembers comes = (
   sym comes.called.told,
   remembers,
   holds-untold new old attempts later s r (call_of (seat_of a) ask) holds comes,
 )
-refs-answered g t a q ask s r m new old attempts later (Ok (Some it)) holds refs allowed remembers comes =
-    let still = refs-told g a q ask (thrice_view it) refs in
+refs-answered g t a q ask s r m new old attempts later (Ok (Some it)) holds names atoms allowed remembers comes =
+    let still = refs-told g a q ask (thrice_view it) names atoms in
     record {
       told = thrice_view it;
       is_told = sym comes.called.told;
-      is = still.0;
+      is = still.is;
       remembers = record {
         sessions = remembers.sessions;
         bare = remembers.bare;
-        spaces = remembers.spaces ∙ still.1;
+        spaces = remembers.spaces ∙ still.spaces;
+        atoms = remembers.atoms ∙ still.atoms;
         replies = remembers.replies;
       };
       holds = holds-refs_after new old attempts later s r (Some (thrice_view it))
-          (call_of (seat_of a) ask) holds (allowed-may (seat_of a) ask allowed) comes;
+          (call_of (seat_of a) ask) holds (allowed-may (seat_of a) ask q allowed) comes;
     }

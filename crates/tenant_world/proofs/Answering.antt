@@ -13,7 +13,8 @@ use Rattle.server_rules.specs.Store.{Store, left_attempt}
 use Rattle.server_rules.specs.Tenant.{ActorData, Quiet, seat_of}
 use Rattle.server_rules.specs.Numbered.{with_part}
 use Rattle.server_rules.specs.Asking.{asked_of, asked_running, asked_allowed, answer_outcome}
-use Rattle.server_rules.specs.Asking.{answer_to, spaces_after, with_recorded_answer, call_of}
+use Rattle.server_rules.specs.Asking.{answer_to, spaces_after, atoms_after, quiet_after}
+use Rattle.server_rules.specs.Asking.{with_recorded_answer, call_of}
 use Rattle.server_rules.specs.Asking.{is_allowed, when_told}
 use Rattle.server_rules.specs.Starting.{interrupted_in}
 use Rattle.server_rules.specs.Plan.{Plan, refuses, leaves, with_step_spent, ask_answered, quietly}
@@ -23,11 +24,11 @@ use Rattle.tenant_turns.specs.DeedResult.{carried_out}
 use Rattle.tenant_world.specs.declared.memory.Memory.{Memory}
 use Rattle.tenant_world.specs.Memories.{Remembers}
 use Rattle.tenant_world.specs.Acting.{AcceptsOutcome, RefusesOutcome, is_accepted}
-use Rattle.tenant_world.specs.Asking.{is_of_names, answered_plan, exchange_from, run_with}
+use Rattle.tenant_world.specs.Asking.{is_of_names, is_of_atoms, answered_plan, exchange_from, run_with}
 use Rattle.tenant_world.specs.Asking.{hand_with, with_exchange}
 use Rattle.tenant_refs.proofs.Soundness.{MayBe}
 
--- Asks of names and asks of refs
+-- Asks of names, of atoms and of refs
 
 pub names-nothing : (seat : ℕ) (ask : AskData) → is_of_names ask ≡ true → call_of seat ask ≡ nothing
 names-nothing seat (exchange.resolve namespace symbol) names = refl
@@ -40,38 +41,80 @@ names-nothing seat (exchange.history name) names = absurd (true≢false (sym nam
 names-nothing seat (exchange.min_history name set) names = absurd (true≢false (sym names))
 names-nothing seat (exchange.max_history name set) names = absurd (true≢false (sym names))
 names-nothing seat (exchange.commit intent) names = absurd (true≢false (sym names))
+names-nothing seat (exchange.new_atom d) names = absurd (true≢false (sym names))
+names-nothing seat (exchange.read_atom n) names = absurd (true≢false (sym names))
+names-nothing seat (exchange.set_atom n d) names = absurd (true≢false (sym names))
+names-nothing seat (exchange.try_atom n seen next) names = absurd (true≢false (sym names))
 
--- of refs the answer is what they told, and no namespace changes
+pub atoms-nothing : (seat : ℕ) (ask : AskData) → is_of_atoms ask ≡ true → call_of seat ask ≡ nothing
+atoms-nothing seat (exchange.new_atom d) atoms = refl
+atoms-nothing seat (exchange.read_atom n) atoms = refl
+atoms-nothing seat (exchange.set_atom n d) atoms = refl
+atoms-nothing seat (exchange.try_atom n seen next) atoms = refl
+atoms-nothing seat _ atoms = absurd (true≢false (sym atoms))
+
+-- no namespace changes with an atom
+pub atoms-spaces : (ask : AskData) (q : Quiet) → is_of_atoms ask ≡ true
+    → q.spaces ≡ spaces_after ask q.spaces
+atoms-spaces (exchange.new_atom d) q atoms = refl
+atoms-spaces (exchange.read_atom n) q atoms = refl
+atoms-spaces (exchange.set_atom n d) q atoms = refl
+atoms-spaces (exchange.try_atom n seen next) q atoms = refl
+atoms-spaces _ q atoms = absurd (true≢false (sym atoms))
+
+-- of refs the answer is what they told, and no namespace or atom changes
+pub record AreRefs (g : Ground) (a : Actor) (q : Quiet) (ask : AskData) (told : AnswerData)
+    : Type 0 where
+  pub is : told ≡ answer_to g a q ask told
+  pub spaces : q.spaces ≡ spaces_after ask q.spaces
+  pub atoms : q.atoms ≡ atoms_after ask q.atoms
+
 pub refs-told : (g : Ground) (a : Actor) (q : Quiet) (ask : AskData) (told : AnswerData)
-    → is_of_names ask ≡ false
-    → (told ≡ answer_to g a q ask told) × (q.spaces ≡ spaces_after ask q.spaces)
-refs-told g a q (exchange.resolve namespace symbol) told refs = absurd (true≢false refs)
-refs-told g a q (exchange.define namespace name binding) told refs = absurd (true≢false refs)
-refs-told g a q (exchange.enter name) told refs = absurd (true≢false refs)
-refs-told g a q (exchange.new_ref d least most) told refs = (refl, refl)
-refs-told g a q exchange.begin told refs = (refl, refl)
-refs-told g a q (exchange.read name) told refs = (refl, refl)
-refs-told g a q (exchange.history name) told refs = (refl, refl)
-refs-told g a q (exchange.min_history name set) told refs = (refl, refl)
-refs-told g a q (exchange.max_history name set) told refs = (refl, refl)
-refs-told g a q (exchange.commit intent) told refs = (refl, refl)
+    → is_of_names ask ≡ false → is_of_atoms ask ≡ false → AreRefs g a q ask told
+refs-told g a q (exchange.resolve namespace symbol) told names atoms = absurd (true≢false names)
+refs-told g a q (exchange.define namespace name binding) told names atoms =
+    absurd (true≢false names)
+refs-told g a q (exchange.enter name) told names atoms = absurd (true≢false names)
+refs-told g a q (exchange.new_atom d) told names atoms = absurd (true≢false atoms)
+refs-told g a q (exchange.read_atom n) told names atoms = absurd (true≢false atoms)
+refs-told g a q (exchange.set_atom n d) told names atoms = absurd (true≢false atoms)
+refs-told g a q (exchange.try_atom n seen next) told names atoms = absurd (true≢false atoms)
+refs-told g a q (exchange.new_ref d least most) told names atoms =
+    record { is = refl; spaces = refl; atoms = refl }
+refs-told g a q exchange.begin told names atoms =
+    record { is = refl; spaces = refl; atoms = refl }
+refs-told g a q (exchange.read name) told names atoms =
+    record { is = refl; spaces = refl; atoms = refl }
+refs-told g a q (exchange.history name) told names atoms =
+    record { is = refl; spaces = refl; atoms = refl }
+refs-told g a q (exchange.min_history name set) told names atoms =
+    record { is = refl; spaces = refl; atoms = refl }
+refs-told g a q (exchange.max_history name set) told names atoms =
+    record { is = refl; spaces = refl; atoms = refl }
+refs-told g a q (exchange.commit intent) told names atoms =
+    record { is = refl; spaces = refl; atoms = refl }
 
 -- the bounds of what is allowed are numbers of the language
-pub allowed-may : (seat : ℕ) (ask : AskData) → is_allowed ask ≡ true → MayBe (call_of seat ask)
-allowed-may seat (exchange.resolve namespace symbol) allowed = tt
-allowed-may seat (exchange.define namespace name binding) allowed = tt
-allowed-may seat (exchange.enter name) allowed = tt
-allowed-may seat (exchange.new_ref d least most) allowed =
+pub allowed-may : (seat : ℕ) (ask : AskData) (q : Quiet) → is_allowed ask q ≡ true
+    → MayBe (call_of seat ask)
+allowed-may seat (exchange.resolve namespace symbol) q allowed = tt
+allowed-may seat (exchange.define namespace name binding) q allowed = tt
+allowed-may seat (exchange.enter name) q allowed = tt
+allowed-may seat (exchange.new_ref d least most) q allowed =
     let both = and_parts (nat_lt least (2 ^ 63)) (nat_lt most (2 ^ 63)) allowed in
     (ltb-true least (2 ^ 63) both.0, ltb-true most (2 ^ 63) both.1)
-allowed-may seat exchange.begin allowed = tt
-allowed-may seat (exchange.read name) allowed = tt
-allowed-may seat (exchange.history name) allowed = tt
-allowed-may seat (exchange.min_history name None) allowed = tt
-allowed-may seat (exchange.min_history name (Some n)) allowed = ltb-true n (2 ^ 63) allowed
-allowed-may seat (exchange.max_history name None) allowed = tt
-allowed-may seat (exchange.max_history name (Some n)) allowed = ltb-true n (2 ^ 63) allowed
-allowed-may seat (exchange.commit intent) allowed = tt
+allowed-may seat exchange.begin q allowed = tt
+allowed-may seat (exchange.read name) q allowed = tt
+allowed-may seat (exchange.history name) q allowed = tt
+allowed-may seat (exchange.min_history name None) q allowed = tt
+allowed-may seat (exchange.min_history name (Some n)) q allowed = ltb-true n (2 ^ 63) allowed
+allowed-may seat (exchange.max_history name None) q allowed = tt
+allowed-may seat (exchange.max_history name (Some n)) q allowed = ltb-true n (2 ^ 63) allowed
+allowed-may seat (exchange.commit intent) q allowed = tt
+allowed-may seat (exchange.new_atom d) q allowed = tt
+allowed-may seat (exchange.read_atom n) q allowed = tt
+allowed-may seat (exchange.set_atom n d) q allowed = tt
+allowed-may seat (exchange.try_atom n seen next) q allowed = tt
 
 -- An answer that is kept
 
@@ -79,11 +122,11 @@ pub acted-answer_outcome : (g : Ground) (t : ℕ) (m : Memory) (a : Actor) (acto
     (run : Run) (ask : AskData) (q : Quiet) (told kept given : AnswerData)
     → actor.hand ≡ Some h → h.running ≡ Some run
     → new ≡ with_exchange (exchange_from ask kept) actor → kept ≡ answer_to g a q ask told
-    → given ≡ kept → Remembers g t m (record q { spaces = spaces_after ask q.spaces })
+    → given ≡ kept → Remembers g t m (quiet_after ask q)
     → AcceptsOutcome g t a q (answer_outcome g a actor h run ask q told) m new (ask_answered given)
 acted-answer_outcome g t m a actor new h run ask q told kept given hand running put is same r =
     let answer = answer_to g a q ask told in
-    let after = with_recorded_answer a actor h run ask answer (record q { spaces = spaces_after ask q.spaces }) in
+    let after = with_recorded_answer a actor h run ask answer (quiet_after ask q) in
     record {
       after = after;
       accepted = ap (λ x. leaves (with_step_spent after) (ask_answered x)) (sym (same ∙ is));
@@ -91,6 +134,7 @@ acted-answer_outcome g t m a actor new h run ask q told kept given hand running 
         sessions = r.sessions;
         bare = r.bare;
         spaces = r.spaces;
+        atoms = r.atoms;
         replies = r.replies;
       };
       actors = ap (λ x. with_part (seat_of a) x q.actors) (sym (put
@@ -107,7 +151,7 @@ acted-answer_outcome g t m a actor new h run ask q told kept given hand running 
 -- The plan of an ask of a form that runs
 
 pub runs-so : (g : Ground) (a : Actor) (actor : ActorData) (ask : AskData) (q : Quiet) (h : Hand)
-    (run : Run) → actor.hand ≡ Some h → h.running ≡ Some run → is_allowed ask ≡ true
+    (run : Run) → actor.hand ≡ Some h → h.running ≡ Some run → is_allowed ask q ≡ true
     → asked_of g a actor ask q actor.hand ≡ asked_allowed g a actor h run ask q
 runs-so g a actor ask q h run hand running allowed =
     ap (asked_of g a actor ask q) hand
@@ -119,7 +163,7 @@ runs-so g a actor ask q h run hand running allowed =
         else quietly (refuses Refusal.Idle)
 
 pub asked-forbidden : (g : Ground) (a : Actor) (actor : ActorData) (ask : AskData) (q : Quiet)
-    (h : Hand) (run : Run) → actor.hand ≡ Some h → h.running ≡ Some run → is_allowed ask ≡ false
+    (h : Hand) (run : Run) → actor.hand ≡ Some h → h.running ≡ Some run → is_allowed ask q ≡ false
     → asked_of g a actor ask q actor.hand ≡ quietly (refuses Refusal.Idle)
 asked-forbidden g a actor ask q h run hand running forbidden =
     ap (asked_of g a actor ask q) hand
@@ -138,7 +182,7 @@ given_up_plan a h ask q = record {
 }
 
 pub asked-open : (g : Ground) (a : Actor) (actor : ActorData) (ask : AskData) (q : Quiet) (h : Hand)
-    (run : Run) → actor.hand ≡ Some h → h.running ≡ Some run → is_allowed ask ≡ true
+    (run : Run) → actor.hand ≡ Some h → h.running ≡ Some run → is_allowed ask q ≡ true
     → actor.is_closed ≡ false
     → answered_plan g a actor h run ask q ≡ asked_of g a actor ask q actor.hand
 asked-open g a actor ask q h run hand running allowed open_still = sym (
@@ -147,7 +191,7 @@ asked-open g a actor ask q h run hand running allowed open_still = sym (
     open_still)
 
 pub asked-closed : (g : Ground) (a : Actor) (actor : ActorData) (ask : AskData) (q : Quiet) (h : Hand)
-    (run : Run) → actor.hand ≡ Some h → h.running ≡ Some run → is_allowed ask ≡ true
+    (run : Run) → actor.hand ≡ Some h → h.running ≡ Some run → is_allowed ask q ≡ true
     → actor.is_closed ≡ true
     → given_up_plan a h ask q ≡ asked_of g a actor ask q actor.hand
 asked-closed g a actor ask q h run hand running allowed closed = sym (

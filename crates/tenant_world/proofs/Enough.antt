@@ -1,6 +1,6 @@
 -- The actors that have something to do, found by their names.
 use Rattle.std.proofs.Common.{◌≡◌, ℕ, ◌<◌, ◌==◌, List, [], ◌∷◌, Bool, true, false, if◌then◌else◌}
-use Rattle.std.proofs.Common.{Option, Some, None, inr, filter, map, length, refl, sym, ap, ◌∙◌}
+use Rattle.std.proofs.Common.{Some, inr, filter, map, length, refl, sym, ap, ◌∙◌}
 use Rattle.std.proofs.Common.{subst, arith}
 use Rattle.std.specs.Prelude.{⊤}
 use Rattle.std.proofs.lemmas.Bool.{ne_eqb, eq-eqb}
@@ -8,7 +8,7 @@ use Rattle.server_rules.specs.Machine.Ready.{is_busy}
 use Rattle.server_rules.specs.Numbered.{Entry, part_under}
 use Rattle.server_rules.specs.Tenant.{ActorData, seat_of, actor_at}
 use Rattle.server_rules.specs.declared.actor.Actor.{Actor}
-use Rattle.tenant_turns.specs.Turns.{Lone, actors_of}
+use Rattle.tenant_turns.specs.Turns.{Lone}
 use Rattle.tenant_turns.specs.Inside.Rounds.{is_some_busy, busy_actors, IsEnough}
 use Rattle.tenant_actors.specs.Busy.{busy_of}
 use Rattle.tenant_actors.specs.Lent.{AreAbove, Ascend}

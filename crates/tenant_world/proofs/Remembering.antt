@@ -31,6 +31,7 @@ with-actors g t m q es r = record {
   sessions = r.sessions;
   bare = r.bare;
   spaces = r.spaces;
+  atoms = r.atoms;
   replies = r.replies;
 }
 
@@ -42,12 +43,14 @@ remembers-after_move g t m Actor.Bare actor move q r = record {
   sessions = r.sessions;
   bare = r.bare;
   spaces = r.spaces;
+  atoms = r.atoms;
   replies = r.replies;
 }
 remembers-after_move g t m (Actor.Session n) actor move q r = record {
   sessions = r.sessions;
   bare = r.bare;
   spaces = r.spaces;
+  atoms = r.atoms;
   replies = r.replies;
 }
 
@@ -101,6 +104,7 @@ acted-interrupted g t m a new h q r = record {
     sessions = r.sessions;
     bare = r.bare;
     spaces = r.spaces;
+    atoms = r.atoms;
     replies = r.replies;
   };
   actors = refl;

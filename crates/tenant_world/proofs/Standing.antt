@@ -241,6 +241,7 @@ settled g a old new q after s b actor lends r reaches actors steps heard tries l
         sessions = there.sessions;
         bare = there.bare;
         spaces = there.spaces;
+        atoms = there.atoms;
         replies = there.replies;
       };
       attempts = subst A (sym tried) reaches;

@@ -8,7 +8,7 @@ use Rattle.server_rules.specs.Store.{Store}
 use Rattle.server_rules.specs.Ground.{Ground}
 use Rattle.server_rules.specs.Request.{Hand, Run}
 use Rattle.server_rules.specs.Tenant.{ActorData, Quiet, seat_of}
-use Rattle.server_rules.specs.Asking.{answer_to, spaces_after, answer_outcome, call_of, when_told}
+use Rattle.server_rules.specs.Asking.{answer_to, quiet_after, answer_outcome, call_of, when_told}
 use Rattle.server_rules.specs.Plan.{Plan}
 use Rattle.server_rules.specs.declared.actor.Actor.{Actor}
 use Rattle.ref_table.specs.Refs.{Refs, refs_after}
@@ -21,12 +21,20 @@ use Rattle.tenant_world.specs.declared.memory.Memory.{Memory}
 abbrev pub SharesNoNames : Ground → Type 0
 SharesNoNames g = g.shared_names ≡ nothing_bound
 
--- the ask is none of refs
+-- the ask is one of names
 abbrev pub is_of_names : AskData → Bool
 is_of_names (exchange.resolve namespace symbol) = true
 is_of_names (exchange.define namespace name binding) = true
 is_of_names (exchange.enter name) = true
 is_of_names _ = false
+
+-- the ask is one of atoms
+abbrev pub is_of_atoms : AskData → Bool
+is_of_atoms (exchange.new_atom d) = true
+is_of_atoms (exchange.read_atom n) = true
+is_of_atoms (exchange.set_atom n d) = true
+is_of_atoms (exchange.try_atom n seen next) = true
+is_of_atoms _ = false
 
 -- the plan of an ask that breaks no rule of its own, of a session that is open
 abbrev pub answered_plan : Ground → Actor → ActorData → Hand → Run → AskData → Quiet → Plan
@@ -42,7 +50,7 @@ pub record Answers (g : Ground) (t : ℕ) (a : Actor) (q : Quiet) (ask : AskData
   pub told : AnswerData
   pub is_told : p.told ≡ Some told
   pub is : answer ≡ answer_to g a q ask told
-  pub remembers : Remembers g t m (record q { spaces = spaces_after ask q.spaces })
+  pub remembers : Remembers g t m (quiet_after ask q)
   pub holds : ServesWithAttempts table attempts p.store (refs_after p.store r)
 
 abbrev pub exchange_from : AskData → AnswerData → Exchanged

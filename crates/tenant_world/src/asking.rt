@@ -21,15 +21,19 @@ ghost use Rattle.tenant_world.specs.Answers.{ask_answer_view, AreSameAnswers};
 ghost use Rattle.tenant_world.specs.Acting.{AcceptsOutcome, RefusesOutcome, IsActorStep};
 ghost use Rattle.tenant_world.specs.Acting.{is_accepted};
 ghost use Rattle.tenant_world.specs.Asking.{SharesNoNames, Answers, answered_plan, is_of_names};
+ghost use Rattle.tenant_world.specs.Asking.{is_of_atoms};
+ghost use Rattle.private_cells.specs.Inside.View.{atoms_view};
 ghost use Rattle.tenant_world.specs.Rooms.{ActorHasRoom};
 ghost use Rattle.tenant_refs.specs.Serving.{ServesWithAttempts};
 ghost use Rattle.tenant_refs.specs.Thrice.{thrice_view, AreThrice};
 
 use crate::acting::interrupt;
 use crate::answers::{AskAnswer, AskAnswers};
+use crate::atoms::{ask_atoms, has_atom};
 use crate::keeping::{keep, make_room};
 use crate::memory::Memory;
 use crate::naming::name;
+use private_cells::Atoms;
 use ref_history::ListHistory;
 use ref_table::RefTable;
 use repl_asks::{Ask, Exchange, is_fixed};
@@ -82,7 +86,7 @@ pub(crate) fn ask(
     let Some(_run) = &hand.running else {
         return Err(Refusal::Idle);
     };
-    if !is_allowed(ask) {
+    if !is_allowed(&memory.atoms, ask) {
         return Err(Refusal::Idle);
     }
     if state.is_closed {
@@ -93,9 +97,10 @@ pub(crate) fn ask(
 }
 
 // Whether the ask breaks no rule of its own: nothing is defined in a namespace that is fixed, nor
-// is it entered, and the bounds of a history are numbers of the language.
-fn is_allowed(ask: &Ask) -> bool
-    ensures { result ≡ meant.is_allowed (ask_view ask.now) }
+// is it entered, the bounds of a history are numbers of the language, and atoms are there.
+fn is_allowed(atoms: &Atoms, ask: &Ask) -> bool
+    ensures { (q : Quiet) → atoms_view atoms.now ≡ q.atoms
+        → result ≡ meant.is_allowed (ask_view ask.now) q }
 {
     match ask {
         Ask::Define { namespace, .. } => !is_fixed(namespace.as_str()),
@@ -107,7 +112,11 @@ fn is_allowed(ask: &Ask) -> bool
         } => *min_history < END_OF_NUMBERS && *max_history < END_OF_NUMBERS,
         Ask::MinHistory { set, .. } => may_be_set(*set),
         Ask::MaxHistory { set, .. } => may_be_set(*set),
+        Ask::ReadAtom(number) => has_atom(atoms, *number),
+        Ask::SetAtom { number, .. } => has_atom(atoms, *number),
+        Ask::TryAtom { number, .. } => has_atom(atoms, *number),
         Ask::Resolve { .. } | Ask::Begin | Ask::Read(_) | Ask::History(_) | Ask::Commit(_) => true,
+        Ask::NewAtom(_) => true,
     }
 }
 
@@ -172,7 +181,7 @@ fn answer(
     requires { counter_of refs.old < u128.MAX }
     ensures acted { (g : Ground) (q : Quiet) (s : Store) (r : Refs) (h : rules.Hand)
         (run : rules.Run) → SharesNoNames g → Remembers g s.tenant memory.old q
-        → ServesWithAttempts refs.old attempts.old s r → meant.is_allowed (ask_view ask.now) ≡ true
+        → ServesWithAttempts refs.old attempts.old s r → meant.is_allowed (ask_view ask.now) q ≡ true
         → (actor_view state.old).hand ≡ Some h → h.running ≡ Some run
         → let d = carried_out s (answered_plan g actor (actor_view state.old) h run
         (ask_view ask.now) q) in IfOk result
@@ -181,7 +190,7 @@ fn answer(
         × ServesWithAttempts refs.new attempts.new d.store (refs_after d.store r)) }
     ensures declined { (g : Ground) (q : Quiet) (s : Store) (r : Refs) (h : rules.Hand)
         (run : rules.Run) → SharesNoNames g → Remembers g s.tenant memory.old q
-        → ServesWithAttempts refs.old attempts.old s r → meant.is_allowed (ask_view ask.now) ≡ true
+        → ServesWithAttempts refs.old attempts.old s r → meant.is_allowed (ask_view ask.now) q ≡ true
         → let d = carried_out s (answered_plan g actor (actor_view state.old) h run
         (ask_view ask.now) q) in IfErr result (λ why.
         RefusesOutcome g s.tenant q d.outcome memory.new why
@@ -268,7 +277,7 @@ fn perform_ask(
     requires { counter_of refs.old < u128.MAX }
     ensures answered { (g : Ground) (q : Quiet) (s : Store) (r : Refs) → SharesNoNames g
         → Remembers g s.tenant memory.old q → ServesWithAttempts refs.old attempts.old s r
-        → meant.is_allowed (ask_view ask.now) ≡ true
+        → meant.is_allowed (ask_view ask.now) q ≡ true
         → let p = performed s (call_of (seat_of actor) (ask_view ask.now)) in
         IfOk result (λ it. MatchOption it
         ((p.told ≡ None) × Remembers g s.tenant memory.new q
@@ -288,21 +297,26 @@ fn perform_ask(
     if is_of_names(ask) {
         return Ok(Some(name(alloc, memory, actor, ask)?));
     }
+    if is_of_atoms(ask) {
+        return Ok(Some(ask_atoms(&mut memory.atoms, ask)?));
+    }
     call(alloc, refs, attempts, actor, ask)
 }
 
-// Whether the ask is none of refs.
 fn is_of_names(ask: &Ask) -> bool
     ensures { result ≡ is_of_names (ask_view ask.now) }
 {
-    match ask {
-        Ask::Resolve { .. } | Ask::Define { .. } | Ask::Enter(_) => true,
-        Ask::NewRef { .. }
-        | Ask::Begin
-        | Ask::Read(_)
-        | Ask::History(_)
-        | Ask::MinHistory { .. }
-        | Ask::MaxHistory { .. }
-        | Ask::Commit(_) => false,
-    }
+    matches!(
+        ask,
+        Ask::Resolve { .. } | Ask::Define { .. } | Ask::Enter(_)
+    )
+}
+
+fn is_of_atoms(ask: &Ask) -> bool
+    ensures { result ≡ is_of_atoms (ask_view ask.now) }
+{
+    matches!(
+        ask,
+        Ask::NewAtom(_) | Ask::ReadAtom(_) | Ask::SetAtom { .. } | Ask::TryAtom { .. }
+    )
 }

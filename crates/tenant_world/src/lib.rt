@@ -4,6 +4,7 @@
 mod acting;
 mod answers;
 mod asking;
+mod atoms;
 mod ending;
 mod hearing;
 mod keeping;

@@ -1,5 +1,5 @@
 // What a form asks of names.
-ghost use Rattle.std.specs.Prelude.{◌≡◌, ℕ, IfOk, OnOk, OnErr};
+ghost use Rattle.std.specs.Prelude.{◌≡◌, ℕ, true, IfOk, OnOk, OnErr};
 ghost use Rattle.value_data.specs.Inside.View.{view};
 ghost use Rattle.repl_asks.specs.Exchange.{done};
 ghost use Rattle.repl_asks.specs.Inside.View.{ask_view, answer_view, resolution_view};
@@ -7,10 +7,10 @@ ghost use Rattle.repl_sessions.specs.Inside.StateView.{state_view};
 ghost use Rattle.name_spaces.specs.Inside.Seen.{found_view};
 ghost use Rattle.server_rules.specs.Ground.{Ground};
 ghost use Rattle.server_rules.specs.Tenant.{Quiet, actor_state};
-ghost use Rattle.server_rules.specs.Asking.{answer_to, spaces_after};
+ghost use Rattle.server_rules.specs.Asking.{answer_to, quiet_after};
 ghost use Rattle.server_rules.specs.Asking as meant;
 ghost use Rattle.tenant_world.specs.Memories.{Remembers, opened_by};
-ghost use Rattle.tenant_world.specs.Asking.{SharesNoNames};
+ghost use Rattle.tenant_world.specs.Asking.{SharesNoNames, is_of_names};
 ghost use Rattle.tenant_refs.specs.Thrice.{thrice_view, IsThrice};
 
 use crate::memory::Memory;
@@ -30,11 +30,11 @@ pub(crate) fn name(
     actor: Actor,
     ask: &Ask,
 ) -> Result<Thrice, AllocError>
+    requires { is_of_names (ask_view ask.now) ≡ true }
     ensures answered { (g : Ground) (t : ℕ) (q : Quiet) → SharesNoNames g
         → Remembers g t memory.old q → IfOk result (λ it.
         (thrice_view it ≡ answer_to g actor q (ask_view ask.now) done)
-        × Remembers g t memory.new
-        (record q { spaces = spaces_after (ask_view ask.now) q.spaces })) }
+        × Remembers g t memory.new (quiet_after (ask_view ask.now) q)) }
     ensures stays { (g : Ground) (t : ℕ) (q : Quiet) → Remembers g t memory.old q
         → OnErr result (Remembers g t memory.new q) }
     ensures opened { opened_by memory.new ≡ opened_by memory.old }
@@ -46,6 +46,7 @@ pub(crate) fn name(
 }
 
 fn answer_of(alloc: Global, memory: &Memory, actor: Actor, ask: &Ask) -> Result<Answer, AllocError>
+    requires { is_of_names (ask_view ask.now) ≡ true }
     ensures { (g : Ground) (t : ℕ) (q : Quiet) → SharesNoNames g → Remembers g t memory.now q
         → IfOk result (λ a. answer_view a ≡ answer_to g actor q (ask_view ask.now) done) }
 {
@@ -57,14 +58,7 @@ fn answer_of(alloc: Global, memory: &Memory, actor: Actor, ask: &Ask) -> Result<
             Ok(Answer::Resolution(resolution_of(memory, actor, found)?))
         }
         Ask::Define { .. } | Ask::Enter(_) => Ok(Answer::Done),
-        // None of these is of names.
-        Ask::NewRef { .. }
-        | Ask::Begin
-        | Ask::Read(_)
-        | Ask::History(_)
-        | Ask::MinHistory { .. }
-        | Ask::MaxHistory { .. }
-        | Ask::Commit(_) => Ok(Answer::Done),
+        _ => unreachable!(),
     }
 }
 
@@ -103,9 +97,9 @@ fn latest_of(state: &SessionState, latest: Latest) -> &Value
 
 // A name is bound, or a namespace made. It fails only for want of memory, and then changes nothing.
 fn change(alloc: Global, memory: &mut Memory, ask: &Ask) -> Result<(), AllocError>
+    requires { is_of_names (ask_view ask.now) ≡ true }
     ensures changed { (g : Ground) (t : ℕ) (q : Quiet) → Remembers g t memory.old q
-        → OnOk result (Remembers g t memory.new
-        (record q { spaces = spaces_after (ask_view ask.now) q.spaces })) }
+        → OnOk result (Remembers g t memory.new (quiet_after (ask_view ask.now) q)) }
     ensures stays { (g : Ground) (t : ℕ) (q : Quiet) → Remembers g t memory.old q
         → OnErr result (Remembers g t memory.new q) }
     ensures opened { opened_by memory.new ≡ opened_by memory.old }
@@ -122,13 +116,7 @@ fn change(alloc: Global, memory: &mut Memory, ask: &Ask) -> Result<(), AllocErro
                 .define(alloc, namespace.as_str(), name, binding)
         }
         Ask::Enter(name) => memory.spaces.enter(alloc, name.as_str()),
-        Ask::Resolve { .. }
-        | Ask::NewRef { .. }
-        | Ask::Begin
-        | Ask::Read(_)
-        | Ask::History(_)
-        | Ask::MinHistory { .. }
-        | Ask::MaxHistory { .. }
-        | Ask::Commit(_) => Ok(()),
+        Ask::Resolve { .. } => Ok(()),
+        _ => unreachable!(),
     }
 }

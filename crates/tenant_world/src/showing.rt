@@ -24,6 +24,7 @@ use crate::tenant::Tenant;
 use bencode_wire::Decoder;
 use bencode_wire::laws::a_stream_has_one_reading;
 use name_spaces::Spaces;
+use private_cells::Atoms;
 use repl_sessions::{IdStream, SessionState, Sessions};
 use server_rules::{Actor, MESSAGE_LIMIT, Refusal};
 use std::alloc::{AllocError, Global};
@@ -54,6 +55,7 @@ impl Tenant {
             sessions: Sessions::new(alloc, IdStream::new(seed, number)),
             bare: SessionState::fresh(alloc)?,
             spaces: Spaces::new(alloc)?,
+            atoms: Atoms::new(alloc),
             outbox: Outbox::new(alloc),
         };
         Ok(Tenant {

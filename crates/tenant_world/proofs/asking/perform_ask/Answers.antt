@@ -1,8 +1,11 @@
-use Rattle.std.proofs.Common.{sym, ◌∙◌}
+use Rattle.std.proofs.Common.{sym, ap, ◌∙◌}
 use Rattle.repl_asks.specs.Inside.View.{ask_view}
+use Rattle.server_rules.specs.Asking.{atoms_after}
+use Rattle.server_rules.specs.Tenant.{seat_of}
 use Rattle.ref_table.proofs.Telling.{on_err}
 use Rattle.tenant_refs.specs.Thrice.{thrice_view}
-use Rattle.tenant_world.proofs.Answered.{names-answered, refs-answered}
+use Rattle.tenant_world.proofs.Answered.{alone-answered, refs-answered}
+use Rattle.tenant_world.proofs.Answering.{names-nothing, atoms-nothing, atoms-spaces}
 use Rattle.tenant_world.proofs.asking.perform_ask.Goals as goal
 
 pub returns-in_err-name-clause-stays : goal.returns-in_err-name-clause-stays
@@ -12,13 +15,44 @@ returns-in_err-name-clause-stays c = λ g q s r remembers holds.
 pub returns-then-is_of_names-clause-answered : goal.returns-then-is_of_names-clause-answered
 returns-then-is_of_names-clause-answered c = λ g q s r shares remembers holds allowed.
     let named = c.in_ok-name.ensures.answered g s.tenant q shares remembers in
-    names-answered g s.tenant c.args.actor q (ask_view c.args.ask.now) s r c.name.new.memory
-    c.args.refs.now c.args.attempts.now (thrice_view c.in_ok-name.field-0) holds
-    (sym c.is_of_names.ensures ∙ c.if-is_of_names.true) named.0 named.1
+    let names = names-nothing (seat_of c.args.actor) (ask_view c.args.ask.now)
+    (sym c.is_of_names.ensures ∙ c.if-is_of_names.true) in
+    alone-answered g s.tenant c.args.actor q (ask_view c.args.ask.now) s r c.name.new.memory
+    c.args.refs.now c.args.attempts.now (thrice_view c.in_ok-name.field-0) holds names named.0 named.1
+
+pub returns-then-is_of_atoms-clause-answered : goal.returns-then-is_of_atoms-clause-answered
+returns-then-is_of_atoms-clause-answered c = λ g q s r shares remembers holds allowed.
+    let ask = ask_view c.args.ask.now in
+    let of_atoms = sym c.is_of_atoms.ensures ∙ c.if-is_of_atoms.true in
+    alone-answered g s.tenant c.args.actor q ask s r _
+    c.args.refs.now c.args.attempts.now (thrice_view c.in_ok-ask_atoms.field-0) holds
+    (atoms-nothing (seat_of c.args.actor) ask of_atoms)
+    (c.in_ok-ask_atoms.ensures.answered g c.args.actor q remembers.atoms)
+    (record {
+      sessions = remembers.sessions;
+      bare = remembers.bare;
+      spaces = remembers.spaces ∙ atoms-spaces ask q of_atoms;
+      atoms = c.in_ok-ask_atoms.ensures.changed ∙ ap (atoms_after ask) remembers.atoms;
+      replies = remembers.replies;
+    })
+
+pub returns-in_err-ask_atoms-clause-stays : goal.returns-in_err-ask_atoms-clause-stays
+returns-in_err-ask_atoms-clause-stays c = λ g q s r remembers holds.
+    on_err c.from_residual-in_err-ask_atoms.result (
+      record {
+        sessions = remembers.sessions;
+        bare = remembers.bare;
+        spaces = remembers.spaces;
+        atoms = c.in_err-ask_atoms.ensures.stays ∙ remembers.atoms;
+        replies = remembers.replies;
+      },
+      holds,
+    )
 
 pub returns-clause-answered : goal.returns-clause-answered
 returns-clause-answered c = λ g q s r shares remembers holds allowed.
     refs-answered g s.tenant c.args.actor q (ask_view c.args.ask.now) s r c.args.memory.now
     c.call.new.refs c.args.refs.now c.args.attempts.now c.call.new.attempts c.call.result holds
-    (sym c.is_of_names.ensures ∙ c.if-is_of_names.false) allowed remembers
-    (c.call.ensures.called s r holds allowed)
+    (sym c.is_of_names.ensures ∙ c.if-is_of_names.false)
+    (sym c.is_of_atoms.ensures ∙ c.if-is_of_atoms.false) allowed remembers
+    (c.call.ensures.called q s r holds allowed)

@@ -81,7 +81,7 @@ returns-clause-done c = λ g q s right st.
     } in
     does-hear g q s c.args.self.now _ c.args.piece.now c.in_ok-count.count st
     (not-zero q.steps (λ none. c.if-self-eq0.false (st.steps ∙ none))) sound free
-    refl refl refl refl refl
+    refl refl refl refl refl refl
     (c.in_ok-count.ensures.heard g s.tenant q right.readings reads held)
 
 pub returns-in_err-count-clause-no_memory : goal.returns-in_err-count-clause-no_memory
