@@ -1,16 +1,17 @@
-// Calls of a history whose refs hold integers. How many versions it keeps is worked out by hand
-// from the Clojure reference.
+// Calls of a history whose refs hold integers, of both kinds. How many versions it keeps is worked
+// out by hand from the Clojure reference.
 use crate::histories::Call::{
     Add, BoundsOf, Count, DropRef, IsNewer, Make, Newest, Read, SetLeast, SetMost,
 };
 use crate::histories::Told::{Done, Kept, No, Nothing, Number, Yes};
-use ref_history::{Bounds, History, ListHistory, RefId};
+use ref_history::{Bounds, History, ListHistory, RefId, RingHistory};
 use std::alloc::AllocError;
+use std::process::Abort;
 use std::test::Fail;
 use value_data::Value;
 
-#[derive(Clone, Copy)]
-enum Call {
+#[derive(Clone, Copy, Debug)]
+pub(crate) enum Call {
     /// A ref is made with this integer, and these bounds. The calls behind it are of this ref.
     Make(i64, u64, u64),
     /// It gets a version with this stamp and this integer, and tells how many it then keeps.
@@ -26,7 +27,7 @@ enum Call {
 }
 
 #[derive(Clone, Copy, Debug, PartialEq, Eq)]
-enum Told {
+pub(crate) enum Told {
     Done,
     Number(i64),
     Kept(u64),
@@ -36,8 +37,8 @@ enum Told {
     Nothing,
 }
 
-fn make(
-    history: &mut ListHistory,
+pub(crate) fn make<H: History>(
+    history: &mut H,
     number: i64,
     least: u64,
     most: u64,
@@ -45,7 +46,11 @@ fn make(
     history.make(Value::Int(number), Bounds { least, most })
 }
 
-fn told_of(history: &mut ListHistory, id: RefId, call: Call) -> Result<Told, AllocError> {
+pub(crate) fn told_of<H: History>(
+    history: &mut H,
+    id: RefId,
+    call: Call,
+) -> Result<Told, AllocError> {
     match call {
         Call::Add(stamp, number) => return add(history, id, stamp, number),
         Call::Read(point) => return Ok(number(history.read_at(id, point))),
@@ -61,7 +66,12 @@ fn told_of(history: &mut ListHistory, id: RefId, call: Call) -> Result<Told, All
     Ok(Told::Done)
 }
 
-fn add(history: &mut ListHistory, id: RefId, stamp: u128, number: i64) -> Result<Told, AllocError> {
+fn add<H: History>(
+    history: &mut H,
+    id: RefId,
+    stamp: u128,
+    number: i64,
+) -> Result<Told, AllocError> {
     history.reserve(id)?;
     history.add_version(id, stamp, Value::Int(number));
     Ok(count(history, id))
@@ -78,14 +88,14 @@ fn answer(is_so: bool) -> Told {
     if is_so { Told::Yes } else { Told::No }
 }
 
-fn count(history: &ListHistory, id: RefId) -> Told {
+fn count<H: History>(history: &H, id: RefId) -> Told {
     match history.count(id) {
         Some(count) => Told::Kept(count),
         None => Told::Nothing,
     }
 }
 
-fn bounds(history: &ListHistory, id: RefId) -> Told {
+fn bounds<H: History>(history: &H, id: RefId) -> Told {
     match history.bounds(id) {
         Some(bounds) => Told::Bounds(bounds.least, bounds.most),
         None => Told::Nothing,
@@ -122,13 +132,19 @@ const STEPS: &[(Call, Told)] = &[
     (Make(5, 0, 0), Done),
     (Newest, Number(5)),
     (Count, Kept(0)),
+    (Make(1, 0, 10), Done),
+    (Add(4, 2), Kept(0)),
+    (Read(3), Nothing),
+    (Add(6, 3), Kept(1)),
+    (Read(5), Number(2)),
+    (Add(7, 4), Kept(1)),
+    (Read(5), Nothing),
+    (Read(6), Number(3)),
 ];
 
-#[test]
-fn histories_keep_what_their_bounds_say(rt: HostRuntime) -> Result<(), Fail> {
-    let mut history = ListHistory::new(rt.alloc());
+fn take<H: History>(rt: &impl Abort, mut history: H, steps: &[(Call, Told)]) -> Result<(), Fail> {
     let mut id = make(&mut history, 0, 0, 0)?;
-    for (place, (call, wanted)) in STEPS.iter().enumerate() {
+    for (place, (call, wanted)) in steps.iter().enumerate() {
         if let Make(number, least, most) = *call {
             id = make(&mut history, number, least, most)?;
         }
@@ -136,4 +152,10 @@ fn histories_keep_what_their_bounds_say(rt: HostRuntime) -> Result<(), Fail> {
         assert_eq!(rt; told, *wanted, "at step {place}");
     }
     Ok(())
+}
+
+#[test]
+fn histories_keep_what_their_bounds_say(rt: HostRuntime) -> Result<(), Fail> {
+    take(&rt, ListHistory::new(rt.alloc()), STEPS)?;
+    take(&rt, RingHistory::new(rt.alloc()), STEPS)
 }

@@ -5,6 +5,8 @@
 #[cfg(test)]
 mod attempts;
 #[cfg(test)]
+mod both_histories;
+#[cfg(test)]
 mod calls;
 #[cfg(test)]
 mod given;
@@ -14,6 +16,8 @@ mod histories;
 mod intents;
 #[cfg(test)]
 mod replays;
+#[cfg(test)]
+mod rings;
 #[cfg(test)]
 mod steps;
 #[cfg(test)]

@@ -12,11 +12,12 @@ use Rattle.version_rings.specs.Inside.Nodes.{Space, newer_at, ring_versions}
 use Rattle.version_rings.specs.Inside.Nodes.{vacant, filled, with_newest, with_content, with_newer}
 use Rattle.version_rings.specs.Inside.Nodes.{node_at, all_emptied}
 use Rattle.version_rings.specs.Inside.Seen.{seen_rings}
-use Rattle.version_rings.specs.Inside.Sound.{IsSound}
+use Rattle.version_rings.specs.Inside.Sound.{IsSound, nodes_in}
 use Rattle.version_rings.specs.declared.node.Node.{Node}
 use Rattle.version_rings.specs.declared.node.Ring.{Ring}
 use Rattle.version_rings.specs.declared.node.RingId.{RingId}
-use Rattle.version_rings.proofs.Totals.{ring_at}
+use Rattle.version_rings.proofs.Totals.{ring_at, one-of-total}
+use Rattle.version_rings.proofs.Filling.{fills}
 use Rattle.version_rings.proofs.Becoming.{Becomes}
 use Rattle.version_rings.proofs.Turning.{overwritten}
 use Rattle.version_rings.proofs.Adding.{ring-made, ring-grown, takes-at}
@@ -169,6 +170,28 @@ takes-node room after s t rings later now newest stamp content is t-is less =
           ap (λ (x : Space). x.free) t-is ∙ took.1 ∙ ap (λ (r : Rings). r.free - 1) is;
       room = omega (arith, less, ap (λ (r : Rings). r.room) is);
     }
+
+-- a ring that is to grow has fewer versions than there are nodes then
+pub fewer-than-nodes : (s t : Space) (rings : List (Option Ring)) (id : ℕ) (ring : Ring)
+    (newest stamp : ℕ) (content : Value) → IsSound s rings → ring_at rings id ≡ Some ring
+    → t ≡ with_newest newest stamp content s → ring.count < length t.nodes
+fewer-than-nodes s t rings id ring newest stamp content sound there t-is =
+    let oldest = newer_at s.nodes newest in
+    let node : Node = record { stamp = stamp; content = content; older = newest; newer = oldest } in
+    let mid = (filled s node).nodes in
+    let two = with_newer newest (vacant s) mid in
+    let many : length t.nodes ≡ length mid =
+    ap (λ (x : Space). length x.nodes) t-is
+    ∙ length-set two oldest (record (node_at two oldest) { older = vacant s })
+    ∙ length-set mid newest (record (node_at mid newest) { newer = vacant s }) in
+    omega (
+      arith,
+      many,
+      (fills s node sound.marks sound.now sound.chain).counted,
+      sound.counted,
+      one-of-total rings id,
+      ap nodes_in there,
+    )
 
 pub same-nodes : (room after : ℕ) (s t : Space) (rings later : List (Option Ring)) (now : Rings)
     (place stamp : ℕ)

@@ -1,22 +1,21 @@
 -- What is seen of a ring, from the invariant of all.
-use Rattle.std.proofs.Common.{◌≡◌, ◌<◌, ◌≤◌, ◌+◌, ℕ, zero, suc, List, [], ◌∷◌, length, map}
-use Rattle.std.proofs.Common.{Option, None, Some, refl, sym, ap, ap₂, ◌∙◌, subst, arith, get_or}
+use Rattle.std.proofs.Common.{◌≡◌, ◌<◌, ◌+◌, ℕ, zero, suc, List, [], ◌∷◌, length, map}
+use Rattle.std.proofs.Common.{Option, None, Some, refl, sym, ap, ap₂, ◌∙◌, subst, arith}
 use Rattle.std.proofs.Math.ListN.{get_or-map}
 use Rattle.std.specs.Prelude.{true}
-use Rattle.value_data.specs.Inside.View.{view}
-use Rattle.version_rings.specs.Versions.{Version, version, is_kept}
+use Rattle.version_rings.specs.Versions.{Version, is_kept}
 use Rattle.version_rings.specs.Rings.{Rings, versions, all_kept}
-use Rattle.version_rings.specs.Inside.Nodes.{Space, node_at, newer_at, versions_from, ring_versions}
+use Rattle.version_rings.specs.Inside.Nodes.{Space, older_at, newer_at, version_at, versions_from}
+use Rattle.version_rings.specs.Inside.Nodes.{ring_versions}
 use Rattle.version_rings.specs.Inside.Nodes.{IsWithin}
 use Rattle.version_rings.specs.Inside.Seen.{seen_rings}
 use Rattle.version_rings.specs.Inside.Sound.{Path, IsSound, IsLinked, step_older}
-use Rattle.version_rings.specs.Inside.Sound.{IsEmptied, nodes_in, total}
+use Rattle.version_rings.specs.Inside.Sound.{IsEmptied, total}
 use Rattle.version_rings.specs.declared.node.Node.{Node}
 use Rattle.version_rings.specs.declared.node.Ring.{Ring}
 use Rattle.version_rings.specs.declared.node.RingId.{RingId}
 use Rattle.version_rings.proofs.Paths.{path-within, versions-length, last-of}
-use Rattle.version_rings.proofs.Places.{node-there}
-use Rattle.version_rings.proofs.Totals.{ring_at, one-of-total}
+use Rattle.version_rings.proofs.Totals.{ring_at}
 
 -- the versions under an id are those of the ring at its place
 pub seen : (room : ℕ) (s : Space) (rings : List (Option Ring)) (id : RingId)
@@ -51,17 +50,14 @@ oldest-within s rings id ring sound there =
     (step_older s.nodes c.behind ring.newest) c.path).within
 
 -- the newest of the versions
-pub newest-first : (s : Space) (rings : List (Option Ring)) (id : ℕ) (ring : Ring) (node : Node)
-    → IsSound s rings → ring_at rings id ≡ Some ring → node ≡ get_or s.nodes ring.newest node
+pub newest-first : (s : Space) (rings : List (Option Ring)) (id : ℕ) (ring : Ring)
+    → IsSound s rings → ring_at rings id ≡ Some ring
     → (rest : List Version) × (versions_from s.nodes ring.count ring.newest
-    ≡ version node.stamp (view node.content) ∷ rest)
-newest-first s rings id ring node sound there is =
-    let c = sound.circles id ring there in
-    let behind = versions_from s.nodes c.behind (node_at s.nodes ring.newest).older in (
-      behind,
-      ap (λ (n : ℕ). versions_from s.nodes n ring.newest) c.many
-          ∙ ap (λ (x : Node). version x.stamp (view x.content) ∷ behind)
-          (node-there s.nodes ring.newest node is c.path.0),
+    ≡ version_at s.nodes ring.newest ∷ rest)
+newest-first s rings id ring sound there =
+    let c = sound.circles id ring there in (
+      versions_from s.nodes c.behind (older_at s.nodes ring.newest),
+      ap (λ (n : ℕ). versions_from s.nodes n ring.newest) c.many,
     )
 
 pub as-many-versions : (s : Space) (ring : Ring)
@@ -74,12 +70,6 @@ pub kept-ring : (s : Space) (rings : List (Option Ring)) (id : ℕ) (ring : Ring
 kept-ring s rings id ring sound there =
     ap (λ (n : ℕ). is_kept (versions_from s.nodes n ring.newest))
     (sound.circles id ring there).many
-
-pub count-fits : (s : Space) (rings : List (Option Ring)) (id : ℕ) (ring : Ring)
-    → IsSound s rings → ring_at rings id ≡ Some ring → ring.count ≤ length s.nodes
-count-fits s rings id ring sound there =
-    let one = one-of-total rings id in
-    omega (arith, sound.counted, one, ap nodes_in there)
 
 pub first-within : (s : Space) (rings : List (Option Ring)) → IsSound s rings → 0 < s.free
     → s.first < length s.nodes

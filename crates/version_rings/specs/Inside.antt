@@ -1,3 +1,5 @@
 pub mod Nodes
+pub mod Parts
+pub mod Listed
 pub mod Sound
 pub mod Seen

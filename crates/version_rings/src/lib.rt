@@ -2,7 +2,9 @@
 //! nodes, and what one ring gives back another takes.
 #![tactic(auto)]
 
+mod halves;
 mod node;
+mod node_list;
 mod nodes;
 mod rings;
 

@@ -15,13 +15,21 @@ pub struct RingId {
 pub(crate) struct Node {
     pub(crate) stamp: u128,
     pub(crate) content: Value,
-    pub(crate) older: usize,
-    pub(crate) newer: usize,
+    pub(crate) older: u32,
+    pub(crate) newer: u32,
+}
+
+// What a walk over a ring passes: the lower half of a stamp, and the places of the neighbours.
+#[derive(Clone, Copy)]
+pub(crate) struct Joint {
+    pub(crate) lower: u64,
+    pub(crate) older: u32,
+    pub(crate) newer: u32,
 }
 
 // Where the newest version stands, and how many there are: one at the least.
 #[derive(Clone, Copy)]
 pub(crate) struct Ring {
-    pub(crate) newest: usize,
-    pub(crate) count: usize,
+    pub(crate) newest: u32,
+    pub(crate) count: u32,
 }

@@ -6,17 +6,19 @@ ghost use Rattle.version_rings.specs.Versions.{at_point};
 ghost use Rattle.version_rings.specs.Inside.Nodes.{vacant, filled, linked, with_newest};
 ghost use Rattle.version_rings.specs.Inside.Nodes.{with_content, newer_at, versions_from};
 ghost use Rattle.version_rings.specs.Inside.Nodes.{all_emptied, CanEmpty, IsWithin, emptied};
+ghost use Rattle.version_rings.specs.Inside.Listed.{listed};
 ghost use Rattle.version_rings.specs.Inside.Seen.{space, room};
 
 use crate::node::Node;
+use crate::node_list::NodeList;
 use std::alloc::{AllocError, Global};
 use value_data::Value;
 
 #[derive(Drop)]
 pub(crate) struct Nodes {
-    pub(crate) list: Vec<Node>,
+    pub(crate) list: NodeList,
     // where there is one
-    pub(crate) first_free: usize,
+    pub(crate) first_free: u32,
     pub(crate) free: usize,
 }
 
@@ -26,14 +28,14 @@ impl Nodes {
         ensures room { room result ≡ 0 }
     {
         Nodes {
-            list: Vec::new(alloc),
+            list: NodeList::new(alloc),
             first_free: 0,
             free: 0,
         }
     }
 
     // Where the next node will stand.
-    pub(crate) fn vacant(&self) -> usize
+    pub(crate) fn vacant(&self) -> u32
         ensures { result ≡ vacant (space self.now) }
     {
         if self.free == 0 {
@@ -45,7 +47,7 @@ impl Nodes {
 
     // Only where no node is free there is one more.
     pub(crate) fn put(&mut self, node: Node) -> Result<(), AllocError>
-        requires { 0 < self.old.free → self.old.first_free < length self.old.list.items }
+        requires { 0 < self.old.free → self.old.first_free < length (listed self.old.list) }
         ensures put { OnOk result (space self.new ≡ filled (space self.old) node) }
         ensures takes { OnOk result (room self.old ≤ room self.new + 1) }
         ensures room { 0 < room self.old → IsOk result }
@@ -58,8 +60,8 @@ impl Nodes {
             return Ok(());
         }
         let place = self.first_free;
-        self.first_free = self.list[place].older;
-        self.list[place] = node;
+        self.first_free = self.list.older(place);
+        self.list.set(place, node);
         self.free -= 1;
         Ok(())
     }
@@ -67,13 +69,13 @@ impl Nodes {
     // Puts a node before the newest of a ring, and gives its place.
     pub(crate) fn put_before(
         &mut self,
-        newest: usize,
+        newest: u32,
         stamp: u128,
         content: Value,
-    ) -> Result<usize, AllocError>
-        requires vacant { 0 < self.old.free → self.old.first_free < length self.old.list.items }
-        requires newest { newest < length self.old.list.items }
-        requires oldest { newer_at self.old.list.items newest < length self.old.list.items }
+    ) -> Result<u32, AllocError>
+        requires vacant { 0 < self.old.free → self.old.first_free < length (listed self.old.list) }
+        requires newest { newest < length (listed self.old.list) }
+        requires oldest { newer_at (listed self.old.list) newest < length (listed self.old.list) }
         ensures place { IfOk result (λ place. place ≡ vacant (space self.old)) }
         ensures put { OnOk result
             (space self.new ≡ with_newest newest stamp content (space self.old)) }
@@ -82,7 +84,7 @@ impl Nodes {
         ensures same { OnErr result (space self.new ≡ space self.old) }
         ensures same_room { OnErr result (room self.new ≡ room self.old) }
     {
-        let oldest = self.list[newest].newer;
+        let oldest = self.list.newer(newest);
         let place = self.vacant();
         self.put(Node {
             stamp,
@@ -95,29 +97,27 @@ impl Nodes {
     }
 
     // The newest and the oldest of a ring link to a node between them.
-    fn link(&mut self, place: usize, newest: usize, oldest: usize)
-        requires newest { newest < length self.old.list.items }
-        requires oldest { oldest < length self.old.list.items }
+    fn link(&mut self, place: u32, newest: u32, oldest: u32)
+        requires newest { newest < length (listed self.old.list) }
+        requires oldest { oldest < length (listed self.old.list) }
         ensures linked { space self.new ≡ linked place newest oldest (space self.old) }
         ensures room { room self.new ≡ room self.old }
     {
-        self.list[newest].newer = place;
-        self.list[oldest].older = place;
+        self.list.set_newer(newest, place);
+        self.list.set_older(oldest, place);
     }
 
     // The oldest of a ring becomes its newest: all links stay.
-    pub(crate) fn overwrite_oldest(&mut self, newest: usize, stamp: u128, content: Value) -> usize
-        requires newest { newest < length self.old.list.items }
-        requires oldest { newer_at self.old.list.items newest < length self.old.list.items }
-        ensures oldest { result ≡ newer_at self.old.list.items newest }
+    pub(crate) fn overwrite_oldest(&mut self, newest: u32, stamp: u128, content: Value) -> u32
+        requires newest { newest < length (listed self.old.list) }
+        requires oldest { newer_at (listed self.old.list) newest < length (listed self.old.list) }
+        ensures oldest { result ≡ newer_at (listed self.old.list) newest }
         ensures room { room self.new ≡ room self.old }
         ensures written { space self.new
             ≡ with_content result stamp content (space self.old) }
     {
-        let oldest = self.list[newest].newer;
-        let node = &mut self.list[oldest];
-        node.stamp = stamp;
-        node.content = content;
+        let oldest = self.list.newer(newest);
+        self.list.set_version(oldest, stamp, content);
         oldest
     }
 
@@ -133,47 +133,49 @@ impl Nodes {
         Ok(())
     }
 
-    fn empty(&mut self, place: usize)
-        requires within { place < length self.old.list.items }
-        requires fits { self.old.free < length self.old.list.items }
+    fn empty(&mut self, place: u32)
+        requires within { place < length (listed self.old.list) }
+        requires fits { self.old.free < length (listed self.old.list) }
         ensures { space self.new ≡ emptied place (space self.old) }
     {
-        self.list[place] = Node {
-            stamp: 0,
-            content: Value::Nil,
-            older: self.first_free,
-            newer: place,
-        };
+        self.list.set(
+            place,
+            Node {
+                stamp: 0,
+                content: Value::Nil,
+                older: self.first_free,
+                newer: place,
+            },
+        );
         self.first_free = place;
         self.free += 1;
     }
 
     // Frees so many nodes, from a place on to older ones.
-    pub(crate) fn empty_all(&mut self, newest: usize, count: usize)
+    pub(crate) fn empty_all(&mut self, newest: u32, count: u32)
         requires { CanEmpty count newest (space self.old) }
         ensures { space self.new ≡ all_emptied count newest (space self.old) }
     {
         let mut place = newest;
         for _done in 0..count {
-            let older = self.list[place].older;
+            let older = self.list.older(place);
             self.empty(place);
             place = older;
         }
     }
 
     // Of so many versions, from a place on to older ones, the first that is old enough.
-    pub(crate) fn read_at(&self, newest: usize, count: usize, point: u128) -> Option<&Value>
-        requires { IsWithin self.now.list.items count newest }
+    pub(crate) fn read_at(&self, newest: u32, count: u32, point: u128) -> Option<&Value>
+        requires { IsWithin (listed self.now.list) count newest }
         ensures { option_map (λ v. view v.now) result
-            ≡ at_point point (versions_from self.now.list.items count newest) }
+            ≡ at_point point (versions_from (listed self.now.list) count newest) }
     {
         let mut place = newest;
         for _passed in 0..count {
-            let node = &self.list[place];
-            if node.stamp <= point {
-                return Some(&node.content);
+            if self.list.stamp(place) <= point {
+                return Some(self.list.content(place));
             }
-            place = node.older;
+            place = self.list.older(place);
         }
         None
     }

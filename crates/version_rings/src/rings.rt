@@ -128,7 +128,7 @@ impl Rings {
         ensures { option_map (λ v. view v.now) result ≡ newest (versions self.now id) }
     {
         let ring = self.rings.get(id.place)?;
-        Some(&self.nodes.list[ring.newest].content)
+        Some(self.nodes.list.content(ring.newest))
     }
 
     /// Whether the newest version has a stamp above the point.
@@ -136,7 +136,7 @@ impl Rings {
         ensures { result ≡ is_newer point (versions self.now id) }
     {
         match self.rings.get(id.place) {
-            Some(ring) => point < self.nodes.list[ring.newest].stamp,
+            Some(ring) => point < self.nodes.list.stamp(ring.newest),
             None => false,
         }
     }
@@ -146,7 +146,7 @@ impl Rings {
         ensures { result ≡ length (versions self.now id) }
     {
         match self.rings.get(id.place) {
-            Some(ring) => ring.count,
+            Some(ring) => ring.count as usize,
             None => 0,
         }
     }
@@ -175,7 +175,7 @@ impl Rings {
         ensures slots { result ≡ self.now.slots }
         ensures counted { result ≡ self.now.free + all_kept self.now.lists }
     {
-        self.nodes.list.len()
+        self.nodes.list.len() as usize
     }
 
     /// Makes room for so many nodes: as long as there is any, a ring that grows takes no memory.

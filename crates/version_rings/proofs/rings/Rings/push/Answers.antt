@@ -4,10 +4,11 @@ use Rattle.version_rings.specs.Versions.{version, pushed, is_kept}
 use Rattle.version_rings.specs.Rings.{versions}
 use Rattle.version_rings.specs.Inside.Seen.{space, room}
 use Rattle.version_rings.proofs.Calls.{grew, overwrote, seen-here, seen-others, seen-some}
-use Rattle.version_rings.proofs.Calls.{seen-kept}
+use Rattle.version_rings.proofs.Calls.{seen-kept, fewer-than-nodes}
 use Rattle.version_rings.proofs.Calls.{not-absent, takes-node, nodes-after}
 use Rattle.version_rings.proofs.Falling.{falls-on}
-use Rattle.version_rings.proofs.Seeing.{newest-within, oldest-within, count-fits}
+use Rattle.version_rings.proofs.Seeing.{newest-within, oldest-within}
+use Rattle.version_rings.proofs.Parts.{nodes-length}
 use Rattle.version_rings.proofs.rings.Rings.push.Goals as goal
 
 pub put_before-requires-clause-newest : goal.put_before-requires-clause-newest
@@ -32,9 +33,18 @@ overwrite_oldest-ring-requires-clause-oldest c =
 
 pub overflow_add-ring : goal.overflow_add-ring
 overflow_add-ring c =
-    let few = count-fits (space c.self.inside.nodes) c.self.inside.rings.slots c.args.id.place
-    c.in-Some.ring.now c.self.invariant (sym c.in-Some.ensures.value) in
-    omega (arith, few, c.self.inside.nodes.list.ok, c.self.inside.nodes.list.small)
+    let after = c.put_before.new.self.list in
+    let fewer = fewer-than-nodes (space c.self.inside.nodes) (space c.put_before.new.self)
+    c.self.inside.rings.slots c.args.id.place c.in-Some.ring.now c.in-Some.ring.now.newest
+    c.args.stamp c.args.value c.self.invariant (sym c.in-Some.ensures.value)
+    c.in_ok-ring.ensures.put in
+    omega (
+      arith,
+      fewer,
+      after.few,
+      after.fits,
+      nodes-length after.joints.items after.contents.items after.uppers.items,
+    )
 
 -- Where one version more is kept
 

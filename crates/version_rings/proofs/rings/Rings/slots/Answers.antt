@@ -1,11 +1,12 @@
 use Rattle.std.proofs.Common.{ap, ◌∙◌, ◌+◌, arith}
 use Rattle.version_rings.specs.Rings.{Rings, all_kept}
+use Rattle.version_rings.specs.Inside.Listed.{listed}
 use Rattle.version_rings.proofs.Seeing.{versions-counted}
 use Rattle.version_rings.proofs.rings.Rings.slots.Goals as goal
 
 pub returns-clause-counted : goal.returns-clause-counted
 returns-clause-counted c =
     let nodes = c.self.inside.nodes in
-    let kept = versions-counted nodes.list.items c.self.inside.rings.slots in
-    (omega (arith, c.len.ensures, nodes.list.ok, c.self.invariant.counted, kept))
+    let kept = versions-counted (listed nodes.list) c.self.inside.rings.slots in
+    omega (arith, c.len.ensures, c.self.invariant.counted, kept)
     ∙ ap (λ (r : Rings). r.free + all_kept r.lists) c.self.view_is

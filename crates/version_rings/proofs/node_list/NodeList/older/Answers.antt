@@ -1,0 +1,21 @@
+use Rattle.std.proofs.Common.{arith}
+use Rattle.version_rings.specs.declared.node.Node.{Node}
+use Rattle.version_rings.proofs.Parts.{nodes-length, joint-part}
+use Rattle.version_rings.proofs.node_list.NodeList.older.Goals as goal
+
+pub index-requires : goal.index-requires
+index-requires c =
+    let l = c.args.self.now in
+    let js = l.joints.items in
+    let cs = l.contents.items in
+    let us = l.uppers.items in
+    omega (arith, c.requires, nodes-length js cs us, l.joints.ok)
+
+pub returns : goal.returns
+returns c =
+    let l = c.args.self.now in
+    let js = l.joints.items in
+    let cs = l.contents.items in
+    let us = l.uppers.items in
+    joint-part (λ (x : Node). x.older) js cs us c.args.place c.index.result.now c.requires
+    c.index.ensures

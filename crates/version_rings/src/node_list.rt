@@ -1,0 +1,160 @@
+// Nodes by their parts: what a walk passes stands close together, apart from the values.
+ghost use Rattle.std.specs.Prelude.{◌≡◌, ◌<◌, ◌≤◌, ◌^◌, length, vec_capacity};
+
+use crate::halves::{joined, lower_half, put_upper, upper_at, upper_half};
+use crate::node::{Joint, Node};
+use std::alloc::{AllocError, Global};
+use value_data::Value;
+
+// More nodes have no places.
+const MOST: usize = u32::MAX as usize;
+
+#[derive(Drop)]
+pub(crate) struct NodeList {
+    pub(crate) joints: Vec<Joint>,
+    pub(crate) contents: Vec<Value>,
+    // the upper halves of the stamps, up to the last that had one; those behind it are 0
+    pub(crate) uppers: Vec<u64>,
+    // each of the three has room for so many
+    pub(crate) fitting: usize,
+    ghost few: { fitting < 2 ^ 32 },
+    ghost even: { length contents.items ≡ length joints.items },
+    ghost fewer: { length uppers.items ≤ length joints.items },
+    ghost fits: { length joints.items ≤ fitting },
+    ghost joints_fit: { fitting ≤ vec_capacity joints },
+    ghost contents_fit: { fitting ≤ vec_capacity contents },
+    ghost uppers_fit: { fitting ≤ vec_capacity uppers },
+}
+
+impl NodeList {
+    ghost use Rattle.std.specs.Prelude.{◌+◌, ◌++◌, ◌∷◌, [], IsOk, OnOk, OnErr, slice_set};
+    ghost use Rattle.version_rings.specs.Inside.Nodes.{node_at, older_at, newer_at};
+    ghost use Rattle.version_rings.specs.Inside.Nodes.{with_older, with_newer, new_content};
+    ghost use Rattle.version_rings.specs.Inside.Listed.{listed, room_in};
+
+    pub(crate) fn new(alloc: Global) -> NodeList
+        ensures none { listed result ≡ [] }
+        ensures room { room_in result ≡ 0 }
+    {
+        NodeList {
+            joints: Vec::new(alloc),
+            contents: Vec::new(alloc),
+            uppers: Vec::new(alloc),
+            fitting: 0,
+        }
+    }
+
+    pub(crate) fn len(&self) -> u32
+        ensures { result ≡ length (listed self.now) }
+    {
+        self.joints.len() as u32
+    }
+
+    // Makes room for so many more. A failure also means that they would have no places.
+    pub(crate) fn reserve(&mut self, count: usize) -> Result<(), AllocError>
+        ensures room { OnOk result (count ≤ room_in self.new) }
+        ensures more { room_in self.old ≤ room_in self.new }
+        ensures succeeds { count ≤ room_in self.old → IsOk result }
+        ensures as_before { OnErr result (room_in self.new ≡ room_in self.old) }
+        ensures same { listed self.new ≡ listed self.old }
+    {
+        let len = self.joints.len();
+        if count <= self.fitting - len {
+            return Ok(());
+        }
+        if count > MOST - len {
+            return Err(AllocError);
+        }
+        self.joints.reserve(count)?;
+        self.contents.reserve(count)?;
+        self.uppers.reserve(len - self.uppers.len() + count)?;
+        self.fitting = len + count;
+        Ok(())
+    }
+
+    pub(crate) fn push_reserved(&mut self, node: Node)
+        requires { 0 < room_in self.old }
+        ensures nodes { listed self.new ≡ listed self.old ++ node ∷ [] }
+        ensures room { room_in self.new + 1 ≡ room_in self.old }
+    {
+        let place = self.joints.len();
+        put_upper(&mut self.uppers, place, upper_half(node.stamp));
+        self.joints.push_reserved(Joint {
+            lower: lower_half(node.stamp),
+            older: node.older,
+            newer: node.newer,
+        });
+        self.contents.push_reserved(node.content);
+    }
+
+    pub(crate) fn set(&mut self, place: u32, node: Node)
+        requires { place < length (listed self.old) }
+        ensures nodes { listed self.new ≡ slice_set (listed self.old) place node }
+        ensures room { room_in self.new ≡ room_in self.old }
+    {
+        let place = place as usize;
+        put_upper(&mut self.uppers, place, upper_half(node.stamp));
+        self.joints[place] = Joint {
+            lower: lower_half(node.stamp),
+            older: node.older,
+            newer: node.newer,
+        };
+        self.contents[place] = node.content;
+    }
+
+    pub(crate) fn set_version(&mut self, place: u32, stamp: u128, content: Value)
+        requires { place < length (listed self.old) }
+        ensures nodes { listed self.new ≡ new_content place stamp content (listed self.old) }
+        ensures room { room_in self.new ≡ room_in self.old }
+    {
+        let place = place as usize;
+        put_upper(&mut self.uppers, place, upper_half(stamp));
+        self.joints[place].lower = lower_half(stamp);
+        self.contents[place] = content;
+    }
+
+    pub(crate) fn set_older(&mut self, place: u32, older: u32)
+        requires { place < length (listed self.old) }
+        ensures nodes { listed self.new ≡ with_older place older (listed self.old) }
+        ensures room { room_in self.new ≡ room_in self.old }
+    {
+        self.joints[place as usize].older = older;
+    }
+
+    pub(crate) fn set_newer(&mut self, place: u32, newer: u32)
+        requires { place < length (listed self.old) }
+        ensures nodes { listed self.new ≡ with_newer place newer (listed self.old) }
+        ensures room { room_in self.new ≡ room_in self.old }
+    {
+        self.joints[place as usize].newer = newer;
+    }
+
+    pub(crate) fn older(&self, place: u32) -> u32
+        requires { place < length (listed self.now) }
+        ensures { result ≡ older_at (listed self.now) place }
+    {
+        self.joints[place as usize].older
+    }
+
+    pub(crate) fn newer(&self, place: u32) -> u32
+        requires { place < length (listed self.now) }
+        ensures { result ≡ newer_at (listed self.now) place }
+    {
+        self.joints[place as usize].newer
+    }
+
+    pub(crate) fn stamp(&self, place: u32) -> u128
+        requires { place < length (listed self.now) }
+        ensures { result ≡ (node_at (listed self.now) place).stamp }
+    {
+        let place = place as usize;
+        joined(upper_at(&self.uppers, place), self.joints[place].lower)
+    }
+
+    pub(crate) fn content(&self, place: u32) -> &Value
+        requires { place < length (listed self.now) }
+        ensures { result.now ≡ (node_at (listed self.now) place).content }
+    {
+        &self.contents[place as usize]
+    }
+}
