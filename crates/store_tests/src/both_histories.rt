@@ -1,5 +1,7 @@
 // The same calls of both kinds of history, which have to tell the same. The calls come from a fixed
 // generator, so each run makes the same.
+ghost use Rattle.std.specs.Prelude.{◌<◌};
+
 use crate::histories::{Call, Told, make, told_of};
 use ref_history::{History, ListHistory, RefId, RingHistory};
 use std::alloc::{AllocError, Global};
@@ -14,10 +16,12 @@ struct Numbers {
 }
 
 impl Numbers {
-    // Below a bound, or 0 where there is none.
-    fn below(&mut self, bound: u64) -> u64 {
+    fn below(&mut self, bound: u64) -> u64
+        requires { 0 < bound }
+        ensures { result < bound }
+    {
         self.last = (self.last % 2_147_483_647) * 48_271 % 2_147_483_647;
-        if bound == 0 { 0 } else { self.last % bound }
+        self.last % bound
     }
 }
 
@@ -28,7 +32,7 @@ struct Side<H: History> {
     refs: Vec<RefId>,
 }
 
-fn side<H: History>(alloc: Global, history: H) -> Side<H> {
+fn with_no_refs<H: History>(alloc: Global, history: H) -> Side<H> {
     Side {
         history,
         refs: Vec::new(alloc),
@@ -68,8 +72,8 @@ fn call(numbers: &mut Numbers, stamp: u64) -> Call {
 
 #[test]
 fn both_histories_tell_the_same(rt: HostRuntime) -> Result<(), Fail> {
-    let mut lists = side(rt.alloc(), ListHistory::new(rt.alloc()));
-    let mut rings = side(rt.alloc(), RingHistory::new(rt.alloc()));
+    let mut lists = with_no_refs(rt.alloc(), ListHistory::new(rt.alloc()));
+    let mut rings = with_no_refs(rt.alloc(), RingHistory::new(rt.alloc()));
     let mut numbers = Numbers { last: 1 };
     for stamp in 1..CALLS {
         let call = call(&mut numbers, stamp);
