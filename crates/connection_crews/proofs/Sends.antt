@@ -66,16 +66,20 @@ use Rattle.private_cells.specs.contracts.atoms.Atoms as atoms
 use Rattle.tenant_replies.specs.contracts.outbox.Outbox as outbox
 use Rattle.tenant_refs.specs.contracts.attempts.Attempts as attempts
 use Rattle.tenant_world.specs.contracts.tenant.Tenant as tenant
-use Rattle.ref_history.specs.contracts.list_history.ListHistory as history
+use Rattle.ref_history.specs.contracts.ring_history.RingHistory as history
 use Rattle.ref_table.specs.contracts.table.RefTable as ref_table
 use Rattle.repl_core.specs.contracts.machine.Machine as machine
 use Rattle.repl_core.specs.contracts.machine.Config as config
 use Rattle.journal_book.specs.contracts.book.Book as book
 use Rattle.slab.specs.contracts.Slab as slab
 use Rattle.tenant_world.specs.contracts.memory.Memory as memory
-use Rattle.ref_history.specs.contracts.kept_ref.KeptRef as kept_ref
-use Rattle.ref_history.specs.contracts.kept_ref.KeptVersion as kept_version
-use Rattle.ref_history.specs.contracts.ref_id.Bounds as bounds
+use Rattle.ref_history.specs.contracts.ring_ref.RingRef as ring_ref
+use Rattle.version_rings.specs.contracts.rings.Rings as rings
+use Rattle.version_rings.specs.contracts.rings.Rings.TheInside as rings_inside
+use Rattle.version_rings.specs.contracts.nodes.Nodes as nodes
+use Rattle.version_rings.specs.contracts.node_list.NodeList as node_list
+use Rattle.version_rings.specs.contracts.node.Joint as joint
+use Rattle.version_rings.specs.contracts.node.Ring as ring
 use Rattle.ref_table.specs.contracts.directory.Directory as directory
 use Rattle.repl_core.specs.contracts.tenants.Tenants as tenants
 use Rattle.journal_book.specs.contracts.book.Book.TheInside as book_inside
@@ -409,19 +413,47 @@ sessions-send = search (sendable, crosses, maps.crosses, session_state-send) dep
 slab-send : (R : RattleType) → IsSend R → IsSend (slab.the_row R Heap.the_row ghosts)
 slab-send R s = search (sendable, crosses) depth 40 fits 20000
 
-kept_version-send : IsSend kept_version.the_row
-kept_version-send = declared_send kept_version.the_type (search sendable, (value-send, tt))
+number32 : IsSend denote.Builtin.u32
+number32 = search sendable
 
-bounds-send : IsSend bounds.the_row
-bounds-send = search sendable depth 20
+joint-send : IsSend joint.the_row
+joint-send = search sendable depth 20
 
-kept_ref-send : IsSend kept_ref.the_row
-kept_ref-send = declared_send kept_ref.the_type
-    (kept_version-send, (heap.Deque-send _ kept_version-send, (search sendable, (bounds-send, tt))))
+node_list-send : IsSend node_list.the_row
+node_list-send =
+    declared_send node_list.the_type (
+      heap.Vec-send _ joint-send,
+      (
+        heap.Vec-send _ value-send,
+        (heap.Vec-send _ number, (search sendable, tt)),
+      ),
+    )
+
+nodes-send : IsSend nodes.the_row
+nodes-send = declared_send nodes.the_type (node_list-send, (number32, (search sendable, tt)))
+
+ring-send : IsSend ring.the_row
+ring-send = search sendable depth 20
+
+rings-inside-send : IsSend rings_inside.the_row
+rings-inside-send =
+    declared_send rings_inside.the_type (nodes-send, (slab-send ring.the_row ring-send, tt))
+
+rings-send : IsSend rings.the_row
+rings-send = search (view_send, rings-inside-send)
+
+ring_ref-send : IsSend ring_ref.the_row
+ring_ref-send = search sendable depth 20
 
 history-send : IsSend history.the_row
 history-send =
-    declared_send history.the_type (heap.send, (slab-send kept_ref.the_row kept_ref-send, tt))
+    declared_send history.the_type (
+      rings-send,
+      (
+        heap.Vec-send _ (option-send ring_ref.the_row ring_ref-send),
+        (search sendable, tt),
+      ),
+    )
 
 directory-send : IsSend directory.the_row
 directory-send = search (sendable, crosses, maps.crosses) depth 40 fits 20000
@@ -435,9 +467,6 @@ table-send =
         (history-send, tt),
       ),
     )
-
-number32 : IsSend denote.Builtin.u32
-number32 = search sendable
 
 memory-send : IsSend memory.the_row
 memory-send =

@@ -13,7 +13,7 @@ use Rattle.server_rules.specs.Machine.World.{step}
 use Rattle.server_rules.specs.declared.actor.Actor.{Actor}
 use Rattle.server_rules.specs.declared.refusal.Refusal.{Refusal}
 use Rattle.ref_table.specs.Refs.{refs_after}
-use Rattle.tenant_refs.specs.Serving.{ListRefTable, TableServes}
+use Rattle.tenant_refs.specs.Serving.{RingRefTable, TableServes}
 use Rattle.tenant_refs.proofs.Calls.{performed-tenant}
 use Rattle.tenant_turns.specs.DeedResult.{DeedResult, deed_result}
 use Rattle.tenant_world.specs.Acting.{is_accepted}
@@ -45,7 +45,7 @@ err-map P Q (Err e) f p = f e p
 -- The same tenants
 
 -- the machine with these tenants and this table
-abbrev pub machine_with : Machine → Tenants → ListRefTable → Machine
+abbrev pub machine_with : Machine → Tenants → RingRefTable → Machine
 machine_with m ts table = record m { tenants = ts; refs = table }
 
 pub stands-with : (g : Ground) (old : Machine) (w : World) (ts : Tenants) → MachineStands g old w
@@ -103,7 +103,7 @@ world_behind g w t kept d q =
     with_tenant t (Some (record { quiet = q; mine = e.store.mine })) e.store.around w
 
 pub stands-one : (g : Ground) (w : World) (t : ℕ) (d : Deed) (old : Machine) (ts : Tenants)
-    (table : ListRefTable) (code : Tenant) (kept : TenantData) (q : Quiet) (s : MachineStands g old w)
+    (table : RingRefTable) (code : Tenant) (kept : TenantData) (q : Quiet) (s : MachineStands g old w)
     → open_in t w ≡ Some kept
     → world.QuietStands g code q (deed_of g w t kept d).store
     → TableServes table (deed_of g w t kept d).store (refs_after (deed_of g w t kept d).store s.refs)
@@ -142,7 +142,7 @@ stands-one g w t d old ts table code kept q s there stands serves put others =
     }
 
 does-one : (g : Ground) (w : World) (t : ℕ) (d : Deed) (old : Machine) (ts : Tenants)
-    (table : ListRefTable) (code : Tenant) (answer : StepAnswer) (kept : TenantData) (s : MachineStands g old w)
+    (table : RingRefTable) (code : Tenant) (answer : StepAnswer) (kept : TenantData) (s : MachineStands g old w)
     → open_in t w ≡ Some kept
     → world.AcceptsDeed g (deed_of g w t kept d) code answer
     → TableServes table (deed_of g w t kept d).store (refs_after (deed_of g w t kept d).store s.refs)
@@ -158,7 +158,7 @@ does-one g w t d old ts table code answer kept s there did serves put others = r
 }
 
 pub does-so : {X : Type 0} (g : Ground) (w : World) (t : ℕ) (d : Deed) (old : Machine)
-    (ts : Tenants) (table : ListRefTable) (was code : Tenant) (answer : X → StepAnswer)
+    (ts : Tenants) (table : RingRefTable) (was code : Tenant) (answer : X → StepAnswer)
     (res : Result X Refusal) (s : MachineStands g old w) → tenant_at old.tenants t ≡ Some was
     → ((kept : TenantData) → world.QuietStands g was kept.quiet (store_in w.around t kept.mine)
     → TableServes old.refs (store_in w.around t kept.mine) s.refs
@@ -177,7 +177,7 @@ does-so g w t d old ts table was code answer res s there did put others =
 
 -- A deed that is refused
 
-pub stays-one : (g : Ground) (w : World) (t : ℕ) (old : Machine) (ts : Tenants) (table : ListRefTable)
+pub stays-one : (g : Ground) (w : World) (t : ℕ) (old : Machine) (ts : Tenants) (table : RingRefTable)
     (code : Tenant) (kept : TenantData) (s : MachineStands g old w)
     → open_in t w ≡ Some kept → kept.mine.refs ≡ s.refs.owned (tenant t)
     → world.QuietStands g code kept.quiet (store_in w.around t kept.mine)
@@ -206,7 +206,7 @@ stays-one g w t old ts table code kept s there refs stands serves put others = r
 }
 
 refuses-one : (g : Ground) (w : World) (t : ℕ) (d : Deed) (old : Machine) (ts : Tenants)
-    (table : ListRefTable) (code : Tenant) (why : Refusal) (kept : TenantData) (s : MachineStands g old w)
+    (table : RingRefTable) (code : Tenant) (why : Refusal) (kept : TenantData) (s : MachineStands g old w)
     → open_in t w ≡ Some kept → kept.mine.refs ≡ s.refs.owned (tenant t)
     → world.RefusesDeed g kept.quiet (store_in w.around t kept.mine) (deed_of g w t kept d) code why
     → TableServes table (store_in w.around t kept.mine) s.refs
@@ -220,7 +220,7 @@ refuses-one g w t d old ts table code why kept s there refs told serves put othe
 }
 
 pub refuses-so : {X : Type 0} (g : Ground) (w : World) (t : ℕ) (d : Deed) (old : Machine)
-    (ts : Tenants) (table : ListRefTable) (was code : Tenant) (res : Result X Refusal)
+    (ts : Tenants) (table : RingRefTable) (was code : Tenant) (res : Result X Refusal)
     (s : MachineStands g old w) → tenant_at old.tenants t ≡ Some was
     → ((kept : TenantData) → world.QuietStands g was kept.quiet (store_in w.around t kept.mine)
     → TableServes old.refs (store_in w.around t kept.mine) s.refs

@@ -16,11 +16,11 @@ use Rattle.server_rules.specs.Machine.World.{TenantData, World, opens, closes, o
 use Rattle.server_rules.specs.Machine.World as worlds
 use Rattle.server_rules.specs.Machine.World.{is_used, open_count, open_step, step, accepted, refused}
 use Rattle.server_rules.specs.declared.refusal.Refusal.{Refusal}
-use Rattle.ref_history.specs.Histories.{ListStands}
+use Rattle.ref_history.specs.RingHistories.{RingStands}
 use Rattle.ref_table.specs.Refs.{Refs, without_refs}
 use Rattle.ref_table.specs.Standing as refs
 use Rattle.tenant_actors.proofs.EntryLaws.{found_first}
-use Rattle.tenant_refs.specs.Serving.{ListRefTable}
+use Rattle.tenant_refs.specs.Serving.{RingRefTable}
 use Rattle.tenant_refs.specs.Sound.{AreSound, IsSound}
 use Rattle.std.specs.List.{AllByRecursion}
 use Rattle.tenant_world.specs.Standing as world
@@ -156,14 +156,14 @@ sound-without r t sound = λ owner. by owner (same_owner owner (tenant t))
     by owner false = sound owner
 
 -- the machine with one tenant less
-abbrev pub machine_less : Machine → Tenants → ListRefTable → ℕ → Machine
+abbrev pub machine_less : Machine → Tenants → RingRefTable → ℕ → Machine
 machine_less m ts table n = record m { tenants = ts; refs = table; places_taken = n }
 
-pub does-close : (g : Ground) (w : World) (t n : ℕ) (old : Machine) (ts : Tenants) (table : ListRefTable)
+pub does-close : (g : Ground) (w : World) (t n : ℕ) (old : Machine) (ts : Tenants) (table : RingRefTable)
     (was : Tenant) (s : MachineStands g old w) → tenant_at old.tenants t ≡ Some was
     → tenant_at ts t ≡ None → ((u : ℕ) → u ≢ t → tenant_at ts u ≡ tenant_at old.tenants u)
-    → ((r : Refs) → refs.TableStands ListStands old.refs r
-    → refs.TableStands ListStands table (without_refs (tenant t) r))
+    → ((r : Refs) → refs.TableStands RingStands old.refs r
+    → refs.TableStands RingStands table (without_refs (tenant t) r))
     → n ≡ old.places_taken - 1
     → AcceptsStep g w (closes t) (machine_less old ts table n) tenant_gone
 does-close g w t n old ts table was s there gone others released less =

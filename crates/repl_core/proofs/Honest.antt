@@ -9,7 +9,7 @@ use Rattle.server_rules.specs.Machine.Turns.{goes, step_of, turn_step, quiet_of}
 use Rattle.server_rules.specs.Machine.World.{TenantData, World, step, does, ended_as}
 use Rattle.server_rules.specs.declared.actor.Actor.{Actor}
 use Rattle.server_rules.specs.declared.refusal.Refusal.{Refusal}
-use Rattle.tenant_refs.specs.Serving.{ListRefTable}
+use Rattle.tenant_refs.specs.Serving.{RingRefTable}
 use Rattle.tenant_turns.specs.Grounds.{IsRight}
 use Rattle.tenant_turns.specs.Turns.{Lone}
 use Rattle.tenant_walks.specs.Grounds.{Evaluates}
@@ -60,7 +60,7 @@ lone-stands g w t old was walks kept s right ground there is walked =
     }
 
 pub goes-so : {X : Type 0} (g : Ground) (w : World) (t : ℕ) (a : Actor) (old : Machine)
-    (ts : Tenants) (table : ListRefTable) (was code : Tenant) (before walks : Walks)
+    (ts : Tenants) (table : RingRefTable) (was code : Tenant) (before walks : Walks)
     (res : Result X Refusal) (s : MachineStands g old w) → IsRight g → Evaluates g
     → tenant_at old.tenants t ≡ Some was → AreWalkedIn before (open_in t w)
     → ((l : Lone) → walked.PartsStand g (parts was old.refs before) l s.refs
@@ -92,7 +92,7 @@ goes-so g w t a old ts table was code before walks (Ok x) s right ground there w
     }
 
 pub halts-so : {X : Type 0} (g : Ground) (w : World) (t : ℕ) (a : Actor) (old : Machine)
-    (ts : Tenants) (table : ListRefTable) (was code : Tenant) (before walks : Walks)
+    (ts : Tenants) (table : RingRefTable) (was code : Tenant) (before walks : Walks)
     (res : Result X Refusal) (s : MachineStands g old w) → IsRight g → Evaluates g
     → tenant_at old.tenants t ≡ Some was → AreWalkedIn before (open_in t w)
     → ((l : Lone) → walked.PartsStand g (parts was old.refs before) l s.refs

@@ -5,7 +5,7 @@ use Rattle.server_rules.specs.Ground.{Ground}
 use Rattle.server_rules.specs.Numbered.{part_under}
 use Rattle.server_rules.specs.Store.{Around, Own, Store}
 use Rattle.server_rules.specs.Machine.World.{TenantData, World, is_used, open_count}
-use Rattle.ref_history.specs.Histories.{ListStands}
+use Rattle.ref_history.specs.RingHistories.{RingStands}
 use Rattle.ref_table.specs.Refs.{Refs}
 use Rattle.ref_table.specs.Standing as table
 use Rattle.tenant_refs.specs.Sound.{AreSound}
@@ -52,7 +52,7 @@ pub record MachineStands (g : Ground) (m : Machine) (w : World) : Type 0 where
   pub retries : g.retries ≡ m.config.retries
   pub places : g.places ≡ m.places
   pub refs : Refs
-  pub table : table.TableStands ListStands m.refs refs
+  pub table : table.TableStands RingStands m.refs refs
   pub sound : AreSound refs
   pub around : w.around ≡ around_in refs
   pub tenants : (t : ℕ) → PlaceStands g refs t (tenant_at m.tenants t) (open_in t w)

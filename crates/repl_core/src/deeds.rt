@@ -14,7 +14,7 @@ ghost use Rattle.tenant_world.specs.Answers.{start_answer_view, ask_answer_view,
 
 use crate::machine::Machine;
 use bytes::Bytes;
-use ref_history::ListHistory;
+use ref_history::RingHistory;
 use ref_table::RefTable;
 use repl_asks::Ask;
 use repl_walker::Ending;
@@ -170,7 +170,7 @@ impl Machine {
 }
 
 // Whether there is a stamp for one more commit. There always is: no run has 2^128 commits.
-pub(crate) fn has_stamps(refs: &RefTable<ListHistory>) -> bool
+pub(crate) fn has_stamps(refs: &RefTable<RingHistory>) -> bool
     ensures enough { result ≡ true → counter_of refs.now < u128.MAX }
     ensures all { counter_of refs.now < u128.MAX → result ≡ true }
 {

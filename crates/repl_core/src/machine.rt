@@ -8,7 +8,7 @@ ghost use Rattle.repl_core.specs.Standing.{open_in};
 ghost use Rattle.repl_core.specs.TenantAt.{tenant_at};
 
 use crate::tenants::Tenants;
-use ref_history::ListHistory;
+use ref_history::RingHistory;
 use ref_table::RefTable;
 use server_rules::Actor;
 use std::alloc::Global;
@@ -53,7 +53,7 @@ pub struct Machine {
     pub(crate) places_taken: usize,
     // the greatest number of all that were ever opened
     pub(crate) newest: Option<u64>,
-    pub(crate) refs: RefTable<ListHistory>,
+    pub(crate) refs: RefTable<RingHistory>,
     pub(crate) tenants: Tenants,
 }
 
@@ -70,7 +70,7 @@ impl Machine {
             places: PLACES,
             places_taken: 0,
             newest: None,
-            refs: RefTable::new(alloc, ListHistory::new(alloc)),
+            refs: RefTable::new(alloc, RingHistory::new(alloc)),
             tenants: Tenants::new(alloc),
         }
     }

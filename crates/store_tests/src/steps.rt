@@ -1,6 +1,6 @@
 // Calls of a table of refs, one after the other, and what each should tell.
 use crate::intents::{Want, intent_of};
-use ref_history::{Bounds, ListHistory};
+use ref_history::{Bounds, RingHistory};
 use ref_table::{CommitOutcome, Point, RefTable};
 use repl_asks::{Intent, Reading};
 use repl_values::{Owner, RefName, Value};
@@ -49,10 +49,10 @@ pub(crate) enum Told {
 
 pub(crate) type Step = (Call, Told);
 
-type Table = RefTable<ListHistory>;
+type Table = RefTable<RingHistory>;
 
 pub(crate) fn new_table(alloc: Global) -> Table {
-    RefTable::new(alloc, ListHistory::new(alloc))
+    RefTable::new(alloc, RingHistory::new(alloc))
 }
 
 /// Takes these steps with a new table.

@@ -13,7 +13,7 @@ use Rattle.ref_history.specs.Effects.{bounds_of}
 use Rattle.ref_history.specs.declared.ref_id.Bounds.{Bounds}
 use Rattle.ref_table.specs.Refs.{Refs, store_of}
 use Rattle.tenant_refs.specs.Bounds.{least_call, most_call}
-use Rattle.tenant_refs.specs.Serving.{ListRefTable, ServesWithAttempts, PerformsCall}
+use Rattle.tenant_refs.specs.Serving.{RingRefTable, ServesWithAttempts, PerformsCall}
 use Rattle.tenant_refs.specs.declared.attempts.Attempts.{Attempts}
 use Rattle.tenant_refs.proofs.Calls.{none-some}
 use Rattle.tenant_refs.proofs.Serving.{seen-so, comes-told}
@@ -21,7 +21,7 @@ use Rattle.tenant_refs.proofs.Soundness.{reaches-sound, ref_named-sound}
 
 -- one number of a ref that is there
 module _ (part : Ref → ℕ) (of : Bounds → ℕ) (is : (r : Ref) → of (bounds_of r) ≡ part r) where
-  number-comes : (table : ListRefTable) (attempts : Attempts) (s : Store) (r : Refs) (name : RefNameData)
+  number-comes : (table : RingRefTable) (attempts : Attempts) (s : Store) (r : Refs) (name : RefNameData)
       (b : Bounds) (given : AnswerData) → ServesWithAttempts table attempts s r
       → ((ref : Ref) → ref_named name s ≡ Some ref → part ref < 2 ^ 63)
       → Some b ≡ option_map bounds_of (ref_named name s)
@@ -44,7 +44,7 @@ module _ (part : Ref → ℕ) (of : Bounds → ℕ) (is : (r : Ref) → of (boun
           (ap (λ o. as_was s (option_map (λ ref. number_told (part ref)) o)) there
           ∙ ap (λ x. as_was s (Some x)) (sym answer))
 
-pub least-comes : (table : ListRefTable) (attempts : Attempts) (s : Store) (r : Refs) (name : RefNameData)
+pub least-comes : (table : RingRefTable) (attempts : Attempts) (s : Store) (r : Refs) (name : RefNameData)
     (set : Option ℕ) (b : Bounds) (given : AnswerData) → ServesWithAttempts table attempts s r → set ≡ None
     → Some b ≡ option_map bounds_of (ref_named name (store_of attempts.tenant s.mine.points r))
     → (b.least < 2 ^ 63 → given ≡ number_told b.least)
@@ -56,7 +56,7 @@ least-comes table attempts s r name set b given holds none some told =
     holds (λ ref there. (ref_named-sound s name ref sound there).least)
     (some ∙ ap (λ x. option_map bounds_of (ref_named name x)) (seen-so table attempts s r holds)) told)
 
-pub most-comes : (table : ListRefTable) (attempts : Attempts) (s : Store) (r : Refs) (name : RefNameData)
+pub most-comes : (table : RingRefTable) (attempts : Attempts) (s : Store) (r : Refs) (name : RefNameData)
     (set : Option ℕ) (b : Bounds) (given : AnswerData) → ServesWithAttempts table attempts s r → set ≡ None
     → Some b ≡ option_map bounds_of (ref_named name (store_of attempts.tenant s.mine.points r))
     → (b.most < 2 ^ 63 → given ≡ number_told b.most)

@@ -10,13 +10,13 @@ use Rattle.server_rules.specs.Versions.{Ref}
 use Rattle.server_rules.specs.Store.{Store, left_attempt}
 use Rattle.server_rules.specs.Performed.{Performed, as_was}
 use Rattle.server_rules.specs.Calls.{Call, performed}
-use Rattle.ref_history.specs.Histories.{ListStands}
+use Rattle.ref_history.specs.RingHistories.{RingStands}
 use Rattle.ref_table.specs.Refs.{Refs, store_of, refs_after}
 use Rattle.ref_table.specs.Standing as refs
 use Rattle.ref_table.specs.Told.{Performs}
 use Rattle.ref_table.proofs.Seen.{owned-seen}
 use Rattle.tenant_refs.specs.Attempts.{ArePoints, Reaches}
-use Rattle.tenant_refs.specs.Serving.{ListRefTable, ServesWithAttempts, PerformsCall}
+use Rattle.tenant_refs.specs.Serving.{RingRefTable, ServesWithAttempts, PerformsCall}
 use Rattle.tenant_refs.specs.declared.attempts.Attempts.{Attempts}
 use Rattle.tenant_refs.proofs.Calls.{performed-tenant, untold-stays}
 use Rattle.tenant_refs.proofs.Soundness.{MayBe, performed-sound, reaches-sound, refs_after-sound}
@@ -45,7 +45,7 @@ pub refs_after-seen : (s : Store) (r : Refs) → s ≡ store_of s.tenant s.mine.
 refs_after-seen s r is =
     ap (λ x. refs_after x r) is ∙ refs_after-store s.tenant s.mine.points r
 
-pub seen-so : (table : ListRefTable) (attempts : Attempts) (s : Store) (r : Refs)
+pub seen-so : (table : RingRefTable) (attempts : Attempts) (s : Store) (r : Refs)
     → ServesWithAttempts table attempts s r → store_of attempts.tenant s.mine.points r ≡ s
 seen-so table attempts s r holds =
     ap (λ t. store_of t s.mine.points r) holds.reaches.tenant ∙ sym holds.serves.reached
@@ -53,18 +53,18 @@ seen-so table attempts s r holds =
 -- What a call comes to
 
 -- the table did what the rules say for what it sees of this tenant
-pub performs-so : (new : ListRefTable) (old : ListRefTable) (attempts : Attempts) (s : Store) (r : Refs)
+pub performs-so : (new : RingRefTable) (old : RingRefTable) (attempts : Attempts) (s : Store) (r : Refs)
     (answer : Option AnswerData) (call : Call) → ServesWithAttempts old attempts s r
-    → Performs ListStands new r answer
+    → Performs RingStands new r answer
     (performed (store_of attempts.tenant s.mine.points r) call)
-    → Performs ListStands new r answer (performed s call)
+    → Performs RingStands new r answer (performed s call)
 performs-so new old attempts s r answer call holds told =
-    subst (λ x. Performs ListStands new r answer (performed x call))
+    subst (λ x. Performs RingStands new r answer (performed x call))
     (seen-so old attempts s r holds) told
 
-pub comes-with : (new old : ListRefTable) (attempts later : Attempts) (s : Store) (r : Refs)
+pub comes-with : (new old : RingRefTable) (attempts later : Attempts) (s : Store) (r : Refs)
     (answer : Option AnswerData) (call : Call) → ServesWithAttempts old attempts s r
-    → Performs ListStands new r answer
+    → Performs RingStands new r answer
     (performed (store_of attempts.tenant s.mine.points r) call)
     → later.tenant ≡ attempts.tenant → ArePoints later (performed s call).store.mine.points
     → PerformsCall new later r answer (performed s call)
@@ -77,9 +77,9 @@ comes-with new old attempts later s r answer call holds told same points = recor
 }
 
 -- the attempts stay
-pub comes-still : (new old : ListRefTable) (attempts : Attempts) (s : Store) (r : Refs)
+pub comes-still : (new old : RingRefTable) (attempts : Attempts) (s : Store) (r : Refs)
     (answer : Option AnswerData) (call : Call) → ServesWithAttempts old attempts s r
-    → Performs ListStands new r answer
+    → Performs RingStands new r answer
     (performed (store_of attempts.tenant s.mine.points r) call)
     → (performed s call).store.mine.points ≡ s.mine.points
     → PerformsCall new attempts r answer (performed s call)
@@ -88,9 +88,9 @@ comes-still new old attempts s r answer call holds told same =
     (subst (ArePoints attempts) (sym same) holds.reaches.points)
 
 -- the attempt is over
-pub comes-left : (new old : ListRefTable) (attempts later : Attempts) (seat : ℕ) (s : Store) (r : Refs)
+pub comes-left : (new old : RingRefTable) (attempts later : Attempts) (seat : ℕ) (s : Store) (r : Refs)
     (answer : Option AnswerData) (call : Call) → ServesWithAttempts old attempts s r
-    → Performs ListStands new r answer
+    → Performs RingStands new r answer
     (performed (store_of attempts.tenant s.mine.points r) call)
     → (performed s call).store.mine.points ≡ without seat s.mine.points
     → later.tenant ≡ attempts.tenant
@@ -101,9 +101,9 @@ comes-left new old attempts later seat s r answer call holds told is same left =
     (subst (ArePoints later) (sym is) (left s.mine.points holds.reaches.points))
 
 -- nothing is told, and all stays
-pub comes-untold : (new old : ListRefTable) (attempts : Attempts) (s : Store) (r : Refs) (call : Call)
+pub comes-untold : (new old : RingRefTable) (attempts : Attempts) (s : Store) (r : Refs) (call : Call)
     → ServesWithAttempts old attempts s r
-    → Performs ListStands new r None
+    → Performs RingStands new r None
     (performed (store_of attempts.tenant s.mine.points r) call)
     → PerformsCall new attempts r None (performed s call)
 comes-untold new old attempts s r call holds told =
@@ -112,27 +112,27 @@ comes-untold new old attempts s r call holds told =
     (ap (λ x. x.mine.points) (untold-stays s call none))
 
 -- all stays, and this is told
-pub comes-told : (table : ListRefTable) (attempts : Attempts) (s : Store) (r : Refs)
+pub comes-told : (table : RingRefTable) (attempts : Attempts) (s : Store) (r : Refs)
     (answer : Option AnswerData) (p : Performed Store) → ServesWithAttempts table attempts s r
     → p ≡ as_was s answer → PerformsCall table attempts r answer p
 comes-told table attempts s r answer p holds is =
     subst (PerformsCall table attempts r answer) (sym is) (record {
       called = record {
         told = refl;
-        left = subst (refs.TableStands ListStands table)
+        left = subst (refs.TableStands RingStands table)
             (sym (refs_after-seen s r holds.serves.reached)) holds.serves.stands;
       };
       reaches = holds.reaches;
     })
 
 -- nothing became of it
-pub holds-still : (new old : ListRefTable) (attempts later : Attempts) (s : Store) (r : Refs)
+pub holds-still : (new old : RingRefTable) (attempts later : Attempts) (s : Store) (r : Refs)
     (answer : Option AnswerData) (p : Performed Store) → ServesWithAttempts old attempts s r
-    → Performs ListStands new r answer p → p.store ≡ s → later ≡ attempts
+    → Performs RingStands new r answer p → p.store ≡ s → later ≡ attempts
     → ServesWithAttempts new later s r
 holds-still new old attempts later s r answer p holds told same is = record {
   serves = record {
-    stands = subst (refs.TableStands ListStands new)
+    stands = subst (refs.TableStands RingStands new)
         (ap (λ x. refs_after x r) same ∙ refs_after-seen s r holds.serves.reached) told.left;
     sound = holds.serves.sound;
     reached = holds.serves.reached;
@@ -141,13 +141,13 @@ holds-still new old attempts later s r answer p holds told same is = record {
 }
 
 -- an attempt that would be over goes on
-pub holds-unended : (new old : ListRefTable) (attempts : Attempts) (seat : ℕ) (s : Store) (r : Refs)
+pub holds-unended : (new old : RingRefTable) (attempts : Attempts) (seat : ℕ) (s : Store) (r : Refs)
     (answer : Option AnswerData) (p : Performed Store) → ServesWithAttempts old attempts s r
-    → Performs ListStands new r answer p → p.store ≡ left_attempt seat s
+    → Performs RingStands new r answer p → p.store ≡ left_attempt seat s
     → ServesWithAttempts new attempts s r
 holds-unended new old attempts seat s r answer p holds told left = record {
   serves = record {
-    stands = subst (refs.TableStands ListStands new)
+    stands = subst (refs.TableStands RingStands new)
         (ap (λ x. refs_after x r) left ∙ refs_after-seen s r holds.serves.reached) told.left;
     sound = holds.serves.sound;
     reached = holds.serves.reached;
@@ -155,8 +155,8 @@ holds-unended new old attempts seat s r answer p holds told left = record {
   reaches = holds.reaches;
 }
 
-pub holds-new : (new old : ListRefTable) (attempts : Attempts) (s : Store) (r : Refs)
-    → ServesWithAttempts old attempts s r → refs.TableStands ListStands new r → ServesWithAttempts new attempts s r
+pub holds-new : (new old : RingRefTable) (attempts : Attempts) (s : Store) (r : Refs)
+    → ServesWithAttempts old attempts s r → refs.TableStands RingStands new r → ServesWithAttempts new attempts s r
 holds-new new old attempts s r holds stands = record {
   serves = record {
     stands = stands;
@@ -167,7 +167,7 @@ holds-new new old attempts s r holds stands = record {
 }
 
 -- what a call leaves
-pub holds-refs_after : (new old : ListRefTable) (attempts later : Attempts) (s : Store) (r : Refs)
+pub holds-refs_after : (new old : RingRefTable) (attempts later : Attempts) (s : Store) (r : Refs)
     (answer : Option AnswerData) (call : Call) → ServesWithAttempts old attempts s r → MayBe call
     → PerformsCall new later r answer (performed s call)
     → ServesWithAttempts new later (performed s call).store (refs_after (performed s call).store r)
@@ -185,13 +185,13 @@ holds-refs_after new old attempts later s r answer call holds may comes =
     }
 
 -- an attempt is over
-pub holds-left : (table : ListRefTable) (attempts later : Attempts) (seat : ℕ) (s : Store) (r : Refs)
+pub holds-left : (table : RingRefTable) (attempts later : Attempts) (seat : ℕ) (s : Store) (r : Refs)
     → ServesWithAttempts table attempts s r → later.tenant ≡ attempts.tenant
     → ArePoints later (left_attempt seat s).mine.points
     → ServesWithAttempts table later (left_attempt seat s) (refs_after (left_attempt seat s) r)
 holds-left table attempts later seat s r holds same points = record {
   serves = record {
-    stands = subst (refs.TableStands ListStands table)
+    stands = subst (refs.TableStands RingStands table)
         (sym (refs_after-seen s r holds.serves.reached)) holds.serves.stands;
     sound = refs_after-sound (left_attempt seat s) r
         (reaches-sound s.tenant s r holds.serves.reached holds.serves.sound) holds.serves.sound;

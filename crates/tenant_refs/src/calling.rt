@@ -15,7 +15,7 @@ ghost use Rattle.tenant_refs.specs.Thrice.{told_answer, AreThrice};
 
 use crate::attempts::Attempts;
 use crate::thrice::Thrice;
-use ref_history::{Bounds, ListHistory};
+use ref_history::{Bounds, RingHistory};
 use ref_table::{CommitOutcome, RefTable};
 use repl_asks::{Ask, Intent, Reading};
 use repl_values::{Owner, RefName, Value, copy};
@@ -27,7 +27,7 @@ use std::alloc::{AllocError, Global};
 /// has changed.
 pub fn call(
     alloc: Global,
-    refs: &mut RefTable<ListHistory>,
+    refs: &mut RefTable<RingHistory>,
     attempts: &mut Attempts,
     actor: Actor,
     ask: &Ask,
@@ -71,7 +71,7 @@ pub fn call(
 // A ref is made.
 fn make(
     alloc: Global,
-    refs: &mut RefTable<ListHistory>,
+    refs: &mut RefTable<RingHistory>,
     attempts: &Attempts,
     value: &Value,
     bounds: Bounds,
@@ -91,7 +91,7 @@ fn make(
 
 // An attempt begins.
 fn begin(
-    refs: &RefTable<ListHistory>,
+    refs: &RefTable<RingHistory>,
     attempts: &mut Attempts,
     actor: Actor,
 ) -> Result<Option<Thrice>, AllocError>
@@ -111,7 +111,7 @@ fn begin(
 
 // A ref is read. The attempt that is to be made again is over.
 fn read(
-    refs: &mut RefTable<ListHistory>,
+    refs: &mut RefTable<RingHistory>,
     attempts: &mut Attempts,
     actor: Actor,
     name: RefName,
@@ -137,7 +137,7 @@ fn read(
 
 // How long a ref's history is. In an attempt that of a shared ref is not told.
 fn count(
-    refs: &RefTable<ListHistory>,
+    refs: &RefTable<RingHistory>,
     attempts: &Attempts,
     actor: Actor,
     name: RefName,
@@ -156,7 +156,7 @@ fn count(
 
 // The lower bound of a ref's history, or the ref where it is set.
 fn tell_or_set_least(
-    refs: &mut RefTable<ListHistory>,
+    refs: &mut RefTable<RingHistory>,
     attempts: &Attempts,
     name: RefName,
     set: Option<u64>,
@@ -175,7 +175,7 @@ fn tell_or_set_least(
 
 // The upper bound, likewise.
 fn tell_or_set_most(
-    refs: &mut RefTable<ListHistory>,
+    refs: &mut RefTable<RingHistory>,
     attempts: &Attempts,
     name: RefName,
     set: Option<u64>,
@@ -206,7 +206,7 @@ fn ref_if_set(name: RefName, is_set: bool) -> Option<Thrice>
 // What an attempt changed is to stand for all. The attempt is over.
 fn commit(
     alloc: Global,
-    refs: &mut RefTable<ListHistory>,
+    refs: &mut RefTable<RingHistory>,
     attempts: &mut Attempts,
     actor: Actor,
     intent: &Intent,

@@ -10,7 +10,7 @@ ghost use Rattle.tenant_refs.specs.Bounds.{is_bounded};
 ghost use Rattle.tenant_refs.specs.Serving.{ServesWithAttempts};
 
 use crate::attempts::Attempts;
-use ref_history::ListHistory;
+use ref_history::RingHistory;
 use ref_table::RefTable;
 use repl_asks::{Ask, Intent};
 use repl_values::{Owner, RefName};
@@ -21,7 +21,7 @@ use std::alloc::Global;
 /// where there is some (`RefTable::accepts`).
 pub fn is_told(
     alloc: Global,
-    refs: &RefTable<ListHistory>,
+    refs: &RefTable<RingHistory>,
     attempts: &Attempts,
     actor: Actor,
     ask: &Ask,
@@ -43,7 +43,7 @@ pub fn is_told(
 }
 
 // Whether the tenant reaches a ref.
-fn is_there(refs: &RefTable<ListHistory>, attempts: &Attempts, name: RefName) -> bool
+fn is_there(refs: &RefTable<RingHistory>, attempts: &Attempts, name: RefName) -> bool
     ensures { (s : Store) (r : Refs) → ServesWithAttempts refs.now attempts.now s r
         → result ≡ is_some (ref_named (name_view name) s) }
 {
@@ -51,7 +51,7 @@ fn is_there(refs: &RefTable<ListHistory>, attempts: &Attempts, name: RefName) ->
 }
 
 fn is_counted(
-    refs: &RefTable<ListHistory>,
+    refs: &RefTable<RingHistory>,
     attempts: &Attempts,
     actor: Actor,
     name: RefName,
@@ -66,7 +66,7 @@ fn is_counted(
 }
 
 fn is_bounded(
-    refs: &RefTable<ListHistory>,
+    refs: &RefTable<RingHistory>,
     attempts: &Attempts,
     name: RefName,
     is_set: bool,
@@ -82,7 +82,7 @@ fn is_bounded(
 
 fn is_committed(
     alloc: Global,
-    refs: &RefTable<ListHistory>,
+    refs: &RefTable<RingHistory>,
     attempts: &Attempts,
     actor: Actor,
     intent: &Intent,

@@ -15,7 +15,7 @@ use Rattle.server_rules.specs.Deeds.{drain_outcome}
 use Rattle.server_rules.specs.declared.actor.Actor.{Actor}
 use Rattle.server_rules.specs.declared.refusal.Refusal.{Refusal}
 use Rattle.ref_table.specs.Refs.{Refs, refs_after}
-use Rattle.tenant_refs.specs.Serving.{ListRefTable, TableServes}
+use Rattle.tenant_refs.specs.Serving.{RingRefTable, TableServes}
 use Rattle.tenant_turns.specs.DeedResult.{deed_result}
 use Rattle.tenant_turns.specs.Turns.{Lone}
 use Rattle.tenant_world.specs.declared.tenant.Tenant.{Tenant}
@@ -56,7 +56,7 @@ does-removed g l r deed a old new answer s does serves gone others = record {
 }
 
 -- the evaluations are others, and walked as well
-pub stands-found : (g : Ground) (l : Lone) (r : Refs) (tenant : Tenant) (table : ListRefTable)
+pub stands-found : (g : Ground) (l : Lone) (r : Refs) (tenant : Tenant) (table : RingRefTable)
     (old new : Walks) → PartsStand g (parts tenant table old) l r
     → (AreWalked (walk_at old) l.quiet → AreWalked (walk_at new) l.quiet)
     → PartsStand g (parts tenant table new) l r
@@ -87,7 +87,7 @@ serves-same g l r deed old s reached =
 
 -- a refused step
 pub refused-parts : {X : Type 0} (g : Ground) (l : Lone) (r : Refs) (deed : Deed) (old : Parts)
-    (tenant : Tenant) (table : ListRefTable) (why : Refusal) (res : Result X Refusal) (s : PartsStand g old l r)
+    (tenant : Tenant) (table : RingRefTable) (why : Refusal) (res : Result X Refusal) (s : PartsStand g old l r)
     → IsErrAnd res (λ e. e ≡ why)
     → world.RefusesDeed g l.quiet l.store (comes_to g l deed) tenant why
     → TableServes table l.store r

@@ -22,7 +22,7 @@ ghost use Rattle.repl_walker.specs.declared.waiting.Walk.{Walk};
 ghost use Rattle.repl_walker.specs.declared.ending.Ending as endings;
 
 use crate::walks::Walks;
-use ref_history::ListHistory;
+use ref_history::RingHistory;
 use ref_table::RefTable;
 use repl_asks::Answer;
 use repl_walker::Progress;
@@ -39,7 +39,7 @@ impl Walks {
     pub fn go(
         &mut self,
         tenant: &mut Tenant,
-        refs: &mut RefTable<ListHistory>,
+        refs: &mut RefTable<RingHistory>,
         actor: Actor,
     ) -> Result<(), Refusal>
         requires { counter_of refs.old < u128.MAX }
@@ -80,7 +80,7 @@ impl Walks {
     fn begin(
         &mut self,
         tenant: &mut Tenant,
-        refs: &RefTable<ListHistory>,
+        refs: &RefTable<RingHistory>,
         actor: Actor,
     ) -> Result<(), Refusal>
         ensures done { (g : Ground) (l : Lone) (r : Refs) → IsRight g
@@ -104,7 +104,7 @@ impl Walks {
     fn ask(
         &mut self,
         tenant: &mut Tenant,
-        refs: &mut RefTable<ListHistory>,
+        refs: &mut RefTable<RingHistory>,
         actor: Actor,
     ) -> Result<(), Refusal>
         requires asks { IsAsking (walk_at self.old actor) }
@@ -143,7 +143,7 @@ impl Walks {
     fn end(
         &mut self,
         tenant: &mut Tenant,
-        refs: &RefTable<ListHistory>,
+        refs: &RefTable<RingHistory>,
         actor: Actor,
     ) -> Result<(), Refusal>
         requires { IsEnded (walk_at self.old actor) }

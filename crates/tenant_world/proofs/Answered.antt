@@ -8,13 +8,13 @@ use Rattle.server_rules.specs.Store.{Store}
 use Rattle.server_rules.specs.Tenant.{Quiet, seat_of}
 use Rattle.server_rules.specs.Asking.{answer_to, quiet_after, call_of, is_allowed}
 use Rattle.server_rules.specs.declared.actor.Actor.{Actor}
-use Rattle.ref_history.specs.Histories.{ListStands}
+use Rattle.ref_history.specs.RingHistories.{RingStands}
 use Rattle.ref_table.specs.Refs.{Refs, refs_after}
 use Rattle.ref_table.specs.Standing as refs
 use Rattle.tenant_refs.specs.Attempts.{Reaches}
 use Rattle.tenant_world.specs.Asking.{is_of_names, is_of_atoms, Answers}
 use Rattle.tenant_world.specs.Memories.{Remembers}
-use Rattle.tenant_refs.specs.Serving.{ListRefTable, ServesWithAttempts, PerformsCall}
+use Rattle.tenant_refs.specs.Serving.{RingRefTable, ServesWithAttempts, PerformsCall}
 use Rattle.tenant_refs.specs.Thrice.{thrice_view, told_answer}
 use Rattle.tenant_refs.specs.declared.attempts.Attempts.{Attempts}
 use Rattle.tenant_world.specs.declared.memory.Memory.{Memory}
@@ -25,7 +25,7 @@ use Rattle.tenant_refs.proofs.Serving.{refs_after-seen, holds-refs_after}
 
 -- an ask of names or of atoms needs none of them
 pub alone-answered : (g : Ground) (t : ℕ) (a : Actor) (q : Quiet) (ask : AskData) (s : Store)
-    (r : Refs) (m : Memory) (table : ListRefTable) (attempts : Attempts) (answer : AnswerData)
+    (r : Refs) (m : Memory) (table : RingRefTable) (attempts : Attempts) (answer : AnswerData)
     → ServesWithAttempts table attempts s r → call_of (seat_of a) ask ≡ nothing
     → answer ≡ answer_to g a q ask done → Remembers g t m (quiet_after ask q)
     → Answers g t a q ask (performed s (call_of (seat_of a) ask)) m table attempts r answer
@@ -41,13 +41,13 @@ alone-answered g t a q ask s r m table attempts answer holds alone is remembers 
     })
 
 -- nothing was told
-holds-untold : (new old : ListRefTable) (attempts later : Attempts) (s : Store) (r : Refs) (call : Call)
+holds-untold : (new old : RingRefTable) (attempts later : Attempts) (s : Store) (r : Refs) (call : Call)
     → ServesWithAttempts old attempts s r → PerformsCall new later r None (performed s call) → ServesWithAttempts new later s r
 holds-untold new old attempts later s r call holds comes =
     let same = untold-stays s call comes.called.told in
     record {
       serves = record {
-        stands = subst (refs.TableStands ListStands new)
+        stands = subst (refs.TableStands RingStands new)
             (ap (λ x. refs_after x r) same ∙ refs_after-seen s r holds.serves.reached) comes.called.left;
         sound = holds.serves.sound;
         reached = holds.serves.reached;
@@ -56,7 +56,7 @@ holds-untold new old attempts later s r call holds comes =
     }
 
 pub refs-answered : {E : Type 0} (g : Ground) (t : ℕ) (a : Actor) (q : Quiet) (ask : AskData)
-    (s : Store) (r : Refs) (m : Memory) (new old : ListRefTable) (attempts later : Attempts)
+    (s : Store) (r : Refs) (m : Memory) (new old : RingRefTable) (attempts later : Attempts)
     (result : Result (Option Thrice) E) → ServesWithAttempts old attempts s r → is_of_names ask ≡ false
     → is_of_atoms ask ≡ false → is_allowed ask q ≡ true → Remembers g t m q
     → IfOk result (λ it. PerformsCall new later r (told_answer it) (performed s (call_of (seat_of a) ask)))

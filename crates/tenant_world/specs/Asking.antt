@@ -13,7 +13,7 @@ use Rattle.server_rules.specs.Plan.{Plan}
 use Rattle.server_rules.specs.declared.actor.Actor.{Actor}
 use Rattle.ref_table.specs.Refs.{Refs, refs_after}
 use Rattle.tenant_world.specs.Memories.{Remembers}
-use Rattle.tenant_refs.specs.Serving.{ListRefTable, ServesWithAttempts}
+use Rattle.tenant_refs.specs.Serving.{RingRefTable, ServesWithAttempts}
 use Rattle.tenant_refs.specs.declared.attempts.Attempts.{Attempts}
 use Rattle.tenant_world.specs.declared.memory.Memory.{Memory}
 
@@ -45,7 +45,7 @@ answered_plan g a actor h run ask q = record {
 
 -- the refs told something, of which this answer is made, and all is as the rules leave it
 pub record Answers (g : Ground) (t : ℕ) (a : Actor) (q : Quiet) (ask : AskData)
-    (p : Performed Store) (m : Memory) (table : ListRefTable) (attempts : Attempts) (r : Refs)
+    (p : Performed Store) (m : Memory) (table : RingRefTable) (attempts : Attempts) (r : Refs)
     (answer : AnswerData) : Type 0 where
   pub told : AnswerData
   pub is_told : p.told ≡ Some told

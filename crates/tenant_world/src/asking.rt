@@ -34,7 +34,7 @@ use crate::keeping::{keep, make_room};
 use crate::memory::Memory;
 use crate::naming::name;
 use private_cells::Atoms;
-use ref_history::ListHistory;
+use ref_history::RingHistory;
 use ref_table::RefTable;
 use repl_asks::{Ask, Exchange, is_fixed};
 use repl_replies::Origin;
@@ -50,7 +50,7 @@ const END_OF_NUMBERS: u64 = 0x8000_0000_0000_0000;
 pub(crate) fn ask(
     alloc: Global,
     memory: &mut Memory,
-    refs: &mut RefTable<ListHistory>,
+    refs: &mut RefTable<RingHistory>,
     attempts: &mut Attempts,
     actor: Actor,
     state: &mut ActorState,
@@ -134,7 +134,7 @@ fn may_be_set(bound: Option<u64>) -> bool
 fn give_up(
     alloc: Global,
     memory: &mut Memory,
-    refs: &RefTable<ListHistory>,
+    refs: &RefTable<RingHistory>,
     attempts: &mut Attempts,
     actor: Actor,
     origin: &Origin,
@@ -172,7 +172,7 @@ fn give_up(
 fn answer(
     alloc: Global,
     memory: &mut Memory,
-    refs: &mut RefTable<ListHistory>,
+    refs: &mut RefTable<RingHistory>,
     attempts: &mut Attempts,
     actor: Actor,
     state: &mut ActorState,
@@ -233,7 +233,7 @@ fn answer(
 // What an ask is refused for to which memory was: nothing may be told of it anyway.
 fn why_refused(
     alloc: Global,
-    refs: &RefTable<ListHistory>,
+    refs: &RefTable<RingHistory>,
     attempts: &Attempts,
     actor: Actor,
     ask: &Ask,
@@ -269,7 +269,7 @@ fn copied_with_room(state: &mut ActorState, ask: &Ask) -> Result<Ask, AllocError
 fn perform_ask(
     alloc: Global,
     memory: &mut Memory,
-    refs: &mut RefTable<ListHistory>,
+    refs: &mut RefTable<RingHistory>,
     attempts: &mut Attempts,
     actor: Actor,
     ask: &Ask,

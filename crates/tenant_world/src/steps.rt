@@ -26,7 +26,7 @@ use crate::ending::{end, finish};
 use crate::lending::{leave, lend};
 use crate::starting::start;
 use crate::tenant::Tenant;
-use ref_history::ListHistory;
+use ref_history::RingHistory;
 use ref_table::RefTable;
 use repl_asks::Ask;
 use repl_jobs::Finished;
@@ -80,7 +80,7 @@ impl Tenant {
     /// refs is asked of this table, which serves the tenant.
     pub fn answer(
         &mut self,
-        refs: &mut RefTable<ListHistory>,
+        refs: &mut RefTable<RingHistory>,
         actor: Actor,
         asked: &Ask,
     ) -> Result<AskAnswer, Refusal>
@@ -109,7 +109,7 @@ impl Tenant {
     /// The same, with its answer twice.
     pub fn answer_copied(
         &mut self,
-        refs: &mut RefTable<ListHistory>,
+        refs: &mut RefTable<RingHistory>,
         actor: Actor,
         asked: &Ask,
     ) -> Result<AskAnswers, Refusal>

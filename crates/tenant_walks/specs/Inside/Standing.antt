@@ -5,7 +5,7 @@ use Rattle.server_rules.specs.Plan.{Deed, StepAnswer, refuses, leaves}
 use Rattle.server_rules.specs.Tenant.{Quiet}
 use Rattle.server_rules.specs.declared.refusal.Refusal.{Refusal}
 use Rattle.ref_table.specs.Refs.{Refs, refs_after}
-use Rattle.tenant_refs.specs.Serving.{ListRefTable, TableServes}
+use Rattle.tenant_refs.specs.Serving.{RingRefTable, TableServes}
 use Rattle.tenant_turns.specs.DeedResult.{DeedResult, deed_result}
 use Rattle.tenant_turns.specs.Grounds.{IsRight}
 use Rattle.tenant_turns.specs.Turns.{Lone}
@@ -19,10 +19,10 @@ use Rattle.tenant_walks.specs.declared.walks.Walks.{Walks}
 -- a tenant of the code, the table of all refs, and the evaluations of the tenant's forms
 pub record Parts : Type 0 where
   pub tenant : Tenant
-  pub table : ListRefTable
+  pub table : RingRefTable
   pub walks : Walks
 
-abbrev pub parts : Tenant → ListRefTable → Walks → Parts
+abbrev pub parts : Tenant → RingRefTable → Walks → Parts
 parts tenant table walks = record { tenant = tenant; table = table; walks = walks }
 
 -- the table stands for these refs, which are those of all tenants

@@ -4,7 +4,7 @@ use Rattle.repl_asks.specs.Exchange.{AnswerData, verdict, committed, faulted}
 use Rattle.repl_asks.specs.Inside.View.{intent_view}
 use Rattle.server_rules.specs.Calls.{performed, commits}
 use Rattle.server_rules.specs.Tenant.{seat_of}
-use Rattle.ref_history.specs.Histories.{ListStands}
+use Rattle.ref_history.specs.RingHistories.{RingStands}
 use Rattle.ref_table.specs.Refs.{store_of}
 use Rattle.ref_table.specs.Told.{Performs, outcome_told}
 use Rattle.ref_table.specs.declared.outcome.CommitOutcome.{CommitOutcome}
@@ -28,7 +28,7 @@ returns-in-Committed-clause-called c = λ s r holds.
     let call = commits seat intent in
     let runs = c.point.ensures s.mine.points holds.reaches.points
     ∙ ap (option_map (λ p. p.stamp)) c.in-Some.is in
-    let P : CommitOutcome → Type 0 = λ o. Performs ListStands c.commit.new.self r (outcome_told o)
+    let P : CommitOutcome → Type 0 = λ o. Performs RingStands c.commit.new.self r (outcome_told o)
     (performed (store_of attempts.tenant s.mine.points r) call) in
     let did = subst P c.in-Committed.is
     (c.in_ok-commit.ensures.committed r s.mine.points seat holds.serves.stands runs) in
@@ -50,7 +50,7 @@ returns-in_err-told-in-Faulted-clause-stays c = λ s r holds.
     let f = failure_of c.in-Faulted.fault in
     let runs = c.point.ensures s.mine.points holds.reaches.points
     ∙ ap (option_map (λ p. p.stamp)) c.in-Some.is in
-    let P : CommitOutcome → Type 0 = λ o. Performs ListStands c.commit.new.self r (outcome_told o)
+    let P : CommitOutcome → Type 0 = λ o. Performs RingStands c.commit.new.self r (outcome_told o)
     (performed (store_of attempts.tenant s.mine.points r) call) in
     let did = performs-so c.commit.new.self c.args.refs.now attempts s r
     (Some (verdict (faulted f))) call holds (subst P c.in-Faulted.is

@@ -3,7 +3,7 @@ use Rattle.value_data.specs.Datum.{Datum}
 use Rattle.value_data.specs.Inside.View.{view}
 use Rattle.repl_asks.specs.Exchange.{AnswerData}
 use Rattle.server_rules.specs.Calls.{performed, makes}
-use Rattle.ref_history.specs.Histories.{ListStands}
+use Rattle.ref_history.specs.RingHistories.{RingStands}
 use Rattle.ref_table.specs.Refs.{store_of}
 use Rattle.ref_table.specs.Told.{Performs}
 use Rattle.ref_table.proofs.Telling.{on_err}
@@ -22,9 +22,9 @@ returns-clause-called c = λ s r holds.
     let attempts = c.args.attempts.now in
     let bounds = c.args.bounds in
     let store = store_of attempts.tenant s.mine.points r in
-    let P : AnswerData → Type 0 = λ answer. Performs ListStands c.make.new.self r (Some answer)
+    let P : AnswerData → Type 0 = λ answer. Performs RingStands c.make.new.self r (Some answer)
     (performed store (makes (view c.in_ok-copy.field-0) bounds.least bounds.most)) in
-    let Q : Datum → Type 0 = λ d. Performs ListStands c.make.new.self r
+    let Q : Datum → Type 0 = λ d. Performs RingStands c.make.new.self r
     (Some (thrice_view c.of_name.result)) (performed store (makes d bounds.least bounds.most)) in
     comes-still c.make.new.self c.args.refs.now attempts s r (Some (thrice_view c.of_name.result))
     (makes (view c.args.value.now) bounds.least bounds.most) holds

@@ -3,7 +3,7 @@ use Rattle.repl_asks.specs.Exchange.{AnswerData}
 use Rattle.repl_asks.specs.Inside.View.{name_view}
 use Rattle.tenant_refs.specs.Thrice.{thrice_view}
 use Rattle.server_rules.specs.Calls.{performed, sets_least}
-use Rattle.ref_history.specs.Histories.{ListStands}
+use Rattle.ref_history.specs.RingHistories.{RingStands}
 use Rattle.ref_table.specs.Refs.{store_of}
 use Rattle.ref_table.specs.Told.{Performs}
 use Rattle.tenant_refs.specs.Bounds.{least_call}
@@ -26,7 +26,7 @@ returns-in-Some-clause-called c = λ s r holds.
     let name = name_view c.args.name in
     let n = c.in-Some.least in
     let told = told_answer c.ref_if_set.result in
-    let P : Option AnswerData → Type 0 = λ answer. Performs ListStands c.set_least.new.self r answer
+    let P : Option AnswerData → Type 0 = λ answer. Performs RingStands c.set_least.new.self r answer
     (performed (store_of attempts.tenant s.mine.points r) (sets_least name n)) in
     let Q : Option _ → Type 0 = λ set. PerformsCall c.set_least.new.self attempts r told
     (performed s (least_call name set)) in
