@@ -10,7 +10,7 @@ import workspace
 ROW = re.compile(r"^\| `(\w+)` \| ([\d,]+) \| ([\d,]+) \|", re.MULTILINE)
 # What of specs/ holds nothing to believe for `pipe`, and crates of which it needs a file alone.
 APART = {"Lib", "Inside", "Isolation", "Machine"}
-PARTLY = {"repl_core": {"Configured"}}
+PARTLY = {"repl_core": {"Configured"}, "private_cells": {"Atoms", "Places"}}
 
 
 class Believed(unittest.TestCase):
