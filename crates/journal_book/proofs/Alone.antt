@@ -71,11 +71,12 @@ private-follows g t w now [] es leads follows private = tt
 private-follows g t w now (turn ∷ turns) [] leads follows private = absurd follows
 private-follows g t w now (turn ∷ turns) (e ∷ es) leads follows private =
     let after = leads.0 in
-    let is = made g w after turn e follows.0 leads.1 in
-    (subst (IsPrivateFor t) (sym follows.0) private.0,
-    subst (λ v. Private g v turns t) (sym (ap (world_or w) is))
-    (private-follows g t after now turns es leads.2
-    (subst (λ v. Follows g v turns es) (ap (world_or w) leads.1) follows.2) private.1))
+    let is = made g w after turn e follows.0 leads.1 in (
+      subst (IsPrivateFor t) (sym follows.0) private.0,
+      subst (λ v. Private g v turns t) (sym (ap (world_or w) is))
+          (private-follows g t after now turns es leads.2
+          (subst (λ v. Follows g v turns es) (ap (world_or w) leads.1) follows.2) private.1),
+    )
 
 follows-alone : (g : Ground) (t : ℕ) (now : World) (turns : List Turn) (es : List EntryData)
     → IsJournal g (new_world []) es now → Follows g (new_world []) turns es → NamesNoSharedIn t es
@@ -137,10 +138,11 @@ step-honest g w false s is = refl
 honest-follows : (g : Ground) (t : ℕ) (w : World) (es : List EntryData) → IsHonest g w t es
     → Follows g w (map (honest-by t) es) es
 honest-follows g t w [] honest = tt
-honest-follows g t w (e ∷ es) honest =
-    (step-honest g w (t == whose_step e.step) e.step honest.0,
-    whose-honest (t == whose_step e.step) e.step,
-    honest-follows g t (world_or w (step g w e.step)) es honest.1)
+honest-follows g t w (e ∷ es) honest = (
+  step-honest g w (t == whose_step e.step) e.step honest.0,
+  whose-honest (t == whose_step e.step) e.step,
+  honest-follows g t (world_or w (step g w e.step)) es honest.1,
+)
 
 own-honest : (b : Bool) (s : Step) (ts : List Turn)
     → (if b then honest-or-given b s ∷ ts else ts) ≡ (if b then turn_by s ∷ ts else ts)

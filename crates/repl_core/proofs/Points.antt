@@ -97,8 +97,11 @@ module _ (g : Ground) (w after : World) (t : ℕ) (a : Actor) (name : RefNameDat
       at r is (Some d) is_kept e =
           let same = same-answer _ _ _ _ e in
           let here : ref_in_world name w ≡ Some r = ref-near name w t kept there (ap is_some is) ∙ is in
-          inr (d, cc,
-          ap (held_at point) here ∙ kept-held point (r.kept + 1) r.versions d is_kept)
+          inr (
+            d,
+            cc,
+            ap (held_at point) here ∙ kept-held point (r.kept + 1) r.versions d is_kept,
+          )
 
       by : (o : Option Ref) → ref_named name s ≡ o
           → Comes (read_by (seat_of a) name s (Some point) o)
