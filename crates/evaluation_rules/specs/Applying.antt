@@ -1,6 +1,6 @@
 -- What functions give for their arguments (the Clojure reference, Evaluation, and `defn` of
 -- clojure.core). `walk` evaluates a form one level further down.
-use Rattle.std.specs.Prelude.{ℕ, zero, suc, List, [], ◌∷◌, ◌++◌, Some}
+use Rattle.std.specs.Prelude.{ℕ, zero, suc, List, [], ◌∷◌, ◌++◌, Bool, true, false, Some}
 use Rattle.std.specs.Prelude.{if◌then◌else◌, ◌==◌, ◌||◌, length, codes}
 use Rattle.value_data.specs.Datum.{Datum, nil, keyword}
 use Rattle.repl_faults.specs.Failure as failures
@@ -19,6 +19,7 @@ use Rattle.evaluation_rules.specs.Doing.{failed, left, printing, Part, fails}
 use Rattle.evaluation_rules.specs.Places.{PlaceData, Evaluator}
 use Rattle.evaluation_rules.specs.Rows.{last_of}
 use Rattle.evaluation_rules.specs.Refs.{store_call}
+use Rattle.evaluation_rules.specs.SharedText.{outside_shared_text}
 
 -- what is called: a function, or a keyword, which looks itself up
 pub data CalleeData : Type 0 where
@@ -34,8 +35,17 @@ abbrev pub outcome : ApplyOutcome → Part Datum
 outcome (outcomes.gives d text) = printed_value text d
 outcome (outcomes.fails f) = fails f
 
+abbrev pub prints : CoreFunction → Bool
+prints (CoreFunction.Print f) = true
+prints f = false
+
+-- what is printed, others see
+unfoldable pub core_applied : CoreFunction → List Datum → Part Datum
+core_applied f args = if prints f then outside_shared_text (outcome (meaning f args))
+    else outcome (meaning f args)
+
 unfoldable pub core_call : CoreFunction → List Datum → Part Datum
-core_call f args = if fits f (length args) then outcome (meaning f args)
+core_call f args = if fits f (length args) then core_applied f args
     else fails (failures.wrong_arity (name_of f) (length args))
 
 abbrev pub get_arguments : List ℕ → List Datum → List Datum

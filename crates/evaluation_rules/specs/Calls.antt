@@ -22,6 +22,7 @@ use Rattle.evaluation_rules.specs.Applying.{CalleeData, core_call, keyword_call,
 use Rattle.evaluation_rules.specs.Applying.{function_applied, with_calls, function_called}
 use Rattle.evaluation_rules.specs.Applying.{named_callee, keyword_callee, update_callee}
 use Rattle.evaluation_rules.specs.Atoms.{swap_call}
+use Rattle.evaluation_rules.specs.SharedText.{outside_shared_text}
 
 -- `alter` calls its function with the value of a ref and these arguments, and sets what that gives.
 abbrev pub altering_value : Evaluator → NamedFunctionData → List Datum → RefNameData → Datum
@@ -63,9 +64,12 @@ alter_call walk by f [] next kept =
 alter_call walk by f (d ∷ args) next kept =
     altered_value (altered_in by kept.running d) (alteration_value walk by f args) next kept
 
+abbrev pub updated_value : Evaluator → Update → NamedFunctionData → List Datum → Part Datum
+updated_value walk (Update.Ref by) f args = alter_call walk by f args
+updated_value walk Update.Atom f args = swap_call walk f args
+
 abbrev pub update_call : Evaluator → Update → NamedFunctionData → List Datum → Part Datum
-update_call walk (Update.Ref by) f args = alter_call walk by f args
-update_call walk Update.Atom f args = swap_call walk f args
+update_call walk by f args = outside_shared_text (updated_value walk by f args)
 
 abbrev pub applied_value : Evaluator → CalleeData → List Datum → Part Datum
 applied_value walk (named_callee f) args = function_applied walk f args

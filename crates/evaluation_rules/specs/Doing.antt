@@ -5,14 +5,17 @@ use Rattle.value_data.specs.Datum.{Datum}
 use Rattle.repl_faults.specs.Failure.{Failure}
 use Rattle.repl_asks.specs.Exchange.{AskData, AnswerData, ResolutionData, resolution_in}
 use Rattle.tx_attempt.specs.Accesses.{AccessData, AttemptData}
+use Rattle.evaluation_rules.specs.declared.occasion.Occasion.{Occasion}
 
 -- What an evaluation carries from form to form: the calls that it may still make, its namespace,
--- whether a transaction runs, and how many attempts a transaction may make.
+-- whether a transaction runs, how many attempts a transaction may make, and on which occasion it is
+-- made.
 pub record Kept : Type 0 where
   pub calls : ℕ
   pub namespace : List ℕ
   pub running : Bool
   pub retries : ℕ
+  pub occasion : Occasion
 
 -- how a part is left
 pub data Exit : Type 0 where

@@ -1,6 +1,7 @@
 -- Evaluation, by cases on the form (the Clojure reference, Evaluation). A form stands in a place,
 -- and has room for so many lists, vectors and maps inside one another.
 use Rattle.std.specs.Prelude.{ℕ, zero, suc, List, [], false, Option, Some, None}
+use Rattle.std.specs.Prelude.{if◌then◌else◌, codes}
 use Rattle.value_data.specs.Datum.{Datum, keyword, symbol, list, vector, map, no_items, item}
 use Rattle.value_data.specs.Listed.{listed}
 use Rattle.repl_faults.specs.Failure as failures
@@ -20,6 +21,7 @@ use Rattle.evaluation_rules.specs.Calls.{call_value, named_call}
 use Rattle.evaluation_rules.specs.Applying.{keyword_callee}
 use Rattle.evaluation_rules.specs.SpecialForms.{special_value}
 use Rattle.evaluation_rules.specs.Collections.{vector_value, map_value}
+use Rattle.evaluation_rules.specs.SharedText.{occasion_of, is_definition}
 use Rattle.evaluation_rules.specs.declared.limits.TheConstants.{CALLS, ROOM}
 
 -- a special form's name at the head always is that form
@@ -46,9 +48,15 @@ value_at zero p (map ps) = fails failures.too_deep
 value_at (suc room) p (map ps) = row (value_at room p) (in_a_row ps) >>= map_value
 value_at room p d = pure_part d
 
+-- of the shared text, what is no definition is not evaluated at all
+unfoldable pub shared_form_value : Datum → Part Datum
+shared_form_value d = if is_definition d then value_at ROOM outside d
+    else fails (failures.bad_form (codes "shared"))
+
 -- what there is to evaluate
 abbrev pub work_value : WorkData → Part Datum
 work_value (jobs.form d) = value_at ROOM outside d
+work_value (jobs.shared_form d) = shared_form_value d
 
 -- 10,000 calls, and no transaction runs
 abbrev pub at_first : JobData → Kept
@@ -58,6 +66,7 @@ at_first job = record {
   running = false;
   retries =
       job.retries;
+  occasion = occasion_of job.work;
 }
 
 -- The whole evaluation of a job.

@@ -1,4 +1,5 @@
 pub mod Doing
+pub mod SharedText
 pub mod Tree
 pub mod Places
 pub mod Rows

@@ -10,7 +10,8 @@ use Rattle.repl_asks.specs.Transactions.{RefNameData, may_hold}
 use Rattle.repl_asks.specs.Exchange.{AskData, read, ReadingData, found, retry, reading_in, value_in}
 use Rattle.tx_attempt.specs.Accesses.{got, put, ensured, attempt_value, is_commuted}
 use Rattle.store_calls.specs.Calling.{CallData, refused, reads, puts, ensures, asks_value}
-use Rattle.store_calls.specs.Calling.{call_data_of}
+use Rattle.store_calls.specs.Calling.{call_data_of, shared_call_data_of}
+use Rattle.evaluation_rules.specs.declared.occasion.Occasion.{Occasion}
 use Rattle.evaluation_rules.specs.Doing.{left, failed, retried, asking, looking, noting, Part}
 use Rattle.evaluation_rules.specs.Doing.{◌>>=◌, fails}
 
@@ -62,9 +63,14 @@ called_value (puts name d) = put_value name d
 called_value (ensures name) = ensured_value name
 called_value (asks_value ask) = asked_value ask
 
+abbrev pub call_data_at : Occasion → StoreFunction → Bool → List Datum → CallData
+call_data_at Occasion.Form f running args = call_data_of f running args
+call_data_at Occasion.SharedText f running args = shared_call_data_of f args
+
 -- a call of a function that asks the store
 unfoldable pub store_call : StoreFunction → List Datum → Part Datum
-store_call f args next kept = called_value (call_data_of f kept.running args) next kept
+store_call f args next kept =
+    called_value (call_data_at kept.occasion f kept.running args) next kept
 
 -- `alter` and `commute` read a ref and go on with its value
 abbrev pub altered_value : Result RefNameData Failure → (RefNameData → Datum → Part Datum)

@@ -17,9 +17,10 @@ use Rattle.special_forms.specs.Shapes.{bindings, logic, definition, function_def
 use Rattle.special_forms.specs.Shapes.{entry, computed_entry}
 use Rattle.special_forms.specs.declared.shapes.Logic.{Logic}
 use Rattle.special_forms.specs.declared.special.SpecialForm.{SpecialForm}
-use Rattle.evaluation_rules.specs.Doing.{asking, Part, ◌>>=◌, pure_part, fails}
+use Rattle.evaluation_rules.specs.Doing.{failed, left, asking, Part, ◌>>=◌, pure_part, fails}
 use Rattle.evaluation_rules.specs.Places.{PlaceData, Evaluator, with_local, space_of}
 use Rattle.evaluation_rules.specs.Rows.{last_of}
+use Rattle.evaluation_rules.specs.SharedText.{outside_shared_text, refused_definition}
 use Rattle.evaluation_rules.specs.Transactions.{transaction_value, effects_value}
 
 -- the value of `and` or `or` from here on; `last` is that of the form before
@@ -35,9 +36,15 @@ let_value walk p (b ∷ bs) forms = walk p b.form
     >>= λ v. let_value walk (with_local p b.name v) bs forms
 
 -- the name is bound in the namespace; the form's value is the var
-abbrev pub definition_value : PlaceData → List ℕ → BindingData → Part Datum
+abbrev pub defined_value : Option Failure → List ℕ → List ℕ → BindingData → Part Datum
+defined_value (Some f) space s binding next kept = left (failed f) kept
+defined_value None space s binding next kept =
+    asking (define space s binding) (λ answer. next (var space s) kept)
+
+unfoldable pub definition_value : PlaceData → List ℕ → BindingData → Part Datum
 definition_value p s binding next kept =
-    asking (define (space_of p kept) s binding) (λ answer. next (var (space_of p kept) s) kept)
+    defined_value (refused_definition kept.occasion (space_of p kept) binding) (space_of p kept) s
+    binding next kept
 
 abbrev pub function_defined : PlaceData → List ℕ → List (List ℕ) → List Datum → Part Datum
 function_defined p s params forms next kept =
@@ -71,8 +78,10 @@ thrown_value d = fails (thrown_failure (shown_text d))
 abbrev pub shape_value : Evaluator → PlaceData → ShapeData → Part Datum
 shape_value walk p (quoted d) = pure_part d
 shape_value walk p (body forms) = last_of (walk p) nil forms
-shape_value walk p (transaction forms) = transaction_value (last_of (walk p) nil forms)
-shape_value walk p (effects forms) = effects_value (last_of (walk p) nil forms)
+shape_value walk p (transaction forms) =
+    outside_shared_text (transaction_value (last_of (walk p) nil forms))
+shape_value walk p (effects forms) =
+    outside_shared_text (effects_value (last_of (walk p) nil forms))
 shape_value walk p (choice c consequent alternative) = walk p c
     >>= λ v. last_of (walk p) nil (if is_truthy v then consequent else alternative)
 shape_value walk p (bindings bs forms) = let_value walk p bs forms
@@ -80,8 +89,8 @@ shape_value walk p (logic which forms) = logic_value (walk p) which (before whic
 shape_value walk p (definition s d) = walk p d >>= λ v. definition_value p s (bound_value v)
 shape_value walk p (function_definition s params forms) = function_defined p s params forms
 shape_value walk p (thrown d) = walk p d >>= thrown_value
-shape_value walk p (entry s) = entry_value s
-shape_value walk p (computed_entry d) = walk p d >>= computed_entry_value
+shape_value walk p (entry s) = outside_shared_text (entry_value s)
+shape_value walk p (computed_entry d) = outside_shared_text (walk p d >>= computed_entry_value)
 
 abbrev pub special_value : Evaluator → PlaceData → SpecialForm → Option ShapeData → Part Datum
 special_value walk p special (Some shape) = shape_value walk p shape

@@ -4,9 +4,11 @@ use Rattle.value_data.specs.Datum.{Datum}
 use Rattle.repl_faults.specs.Failure.{Failure}
 use Rattle.repl_asks.specs.Exchange.{Exchanged}
 
--- what there is to evaluate: a form; actions of agents and forms of the shared text come later
+-- what there is to evaluate; actions of agents come later
 pub data WorkData : Type 0 where
   form : Datum → WorkData
+  -- a form of the text of the namespace that all tenants share
+  shared_form : Datum → WorkData
 
 -- what is evaluated, where, and how many attempts a transaction has
 pub record JobData : Type 0 where

@@ -1,7 +1,5 @@
 // What is evaluated, and how it ends.
 ghost use Rattle.std.specs.Prelude.{◌≡◌, string_bytes, IfOk};
-ghost use Rattle.value_data.specs.Inside.View.{view};
-ghost use Rattle.repl_jobs.specs.Job as jobs;
 ghost use Rattle.repl_jobs.specs.Inside.View.{work_view, job_view, end_view, finished_view};
 
 use repl_values::{Fault, Value, copy, copy_text};
@@ -12,6 +10,8 @@ use std::sync::ArcStr;
 #[derive(Debug, Drop)]
 pub enum Work {
     Form(Value),
+    /// A form of the text of the namespace that all tenants share.
+    SharedForm(Value),
 }
 
 /// An evaluation: its work, the namespace in which it begins, and how many attempts a transaction
@@ -39,20 +39,15 @@ pub struct Finished {
 }
 
 impl Work {
-    /// The form that there is to evaluate.
-    pub fn form(&self) -> &Value
-        ensures { jobs.form (view result.now) ≡ work_view self.now }
-    {
-        let Work::Form(form) = self;
-        form
-    }
-
     /// The same work once more. It takes one step, and fails only where 2^63 owners share a part of
     /// it.
     pub fn copy(&self) -> Result<Work, AllocError>
         ensures { IfOk result (λ copied. work_view copied ≡ work_view self.now) }
     {
-        Ok(Work::Form(copy(self.form())?))
+        match self {
+            Work::Form(form) => Ok(Work::Form(copy(form)?)),
+            Work::SharedForm(form) => Ok(Work::SharedForm(copy(form)?)),
+        }
     }
 }
 

@@ -35,7 +35,7 @@ use Rattle.special_forms.specs.declared.shapes.Logic.{Logic}
 use Rattle.special_forms.specs.declared.special.SpecialForm.{SpecialForm}
 use Rattle.tx_attempt.specs.Accesses.{AttemptData, commuted, attempt_value, is_commuted}
 use Rattle.store_calls.specs.Calling.{CallData, refused, reads, puts, ensures, asks_value}
-use Rattle.store_calls.specs.Calling.{call_data_of, altered_in}
+use Rattle.store_calls.specs.Calling.{altered_in}
 use Rattle.store_calls.specs.Arguments.{atom_in}
 use Rattle.store_calls.specs.declared.altering.Alteration.{Alteration}
 use Rattle.store_calls.specs.declared.updating.Update.{Update}
@@ -47,21 +47,26 @@ use Rattle.evaluation_rules.specs.Naming.{known_or_asked, known_resolution, reso
 use Rattle.evaluation_rules.specs.Naming.{as_function, function_value}
 use Rattle.evaluation_rules.specs.Refs.{read_value, known_or_read, ref_value, put_by, put_value}
 use Rattle.evaluation_rules.specs.Refs.{held_value, ensure_noted, ensured_value, called_value}
-use Rattle.evaluation_rules.specs.Refs.{store_call, altered_value, asked_value}
+use Rattle.evaluation_rules.specs.Refs.{store_call, altered_value, asked_value, call_data_at}
+use Rattle.evaluation_rules.specs.SharedText.{is_shared_text, outside_shared_text}
+use Rattle.evaluation_rules.specs.SharedText.{refused_definition}
 use Rattle.evaluation_rules.specs.Applying.{CalleeData, named_callee, keyword_callee}
 use Rattle.evaluation_rules.specs.Applying.{update_callee}
 use Rattle.evaluation_rules.specs.Atoms.{settled_value, tried_value, seen_value, swapped_value}
 use Rattle.evaluation_rules.specs.Atoms.{swap_of, swap_call}
-use Rattle.evaluation_rules.specs.Applying.{outcome, printed_value, core_call, keyword_call}
+use Rattle.evaluation_rules.specs.Applying.{outcome, printed_value, prints, core_applied}
+use Rattle.evaluation_rules.specs.Applying.{core_call, keyword_call}
 use Rattle.evaluation_rules.specs.Applying.{body_place, program_call, function_applied}
 use Rattle.evaluation_rules.specs.Applying.{with_calls, function_called, get_arguments, full_name}
 use Rattle.evaluation_rules.specs.Calls.{commute_noted, not_of_core}
 use Rattle.evaluation_rules.specs.Calls.{commute_applied, commuting_value, alteration_value}
-use Rattle.evaluation_rules.specs.Calls.{alter_call, update_call, applied_value, counted_call}
+use Rattle.evaluation_rules.specs.Calls.{alter_call, updated_value, update_call, applied_value}
+use Rattle.evaluation_rules.specs.Calls.{counted_call}
 use Rattle.evaluation_rules.specs.Calls.{call_value, updating_call, named_call}
 use Rattle.evaluation_rules.specs.Transactions.{with_running, body_of, transacted_value}
 use Rattle.evaluation_rules.specs.Transactions.{transaction_value, effects_value}
-use Rattle.evaluation_rules.specs.SpecialForms.{logic_value, let_value, definition_value}
+use Rattle.evaluation_rules.specs.SpecialForms.{logic_value, let_value, defined_value}
+use Rattle.evaluation_rules.specs.SpecialForms.{definition_value}
 use Rattle.evaluation_rules.specs.SpecialForms.{function_defined, goes_on_in, entry_value}
 use Rattle.evaluation_rules.specs.SpecialForms.{computed_entry_value, thrown_value, shape_value}
 use Rattle.evaluation_rules.specs.SpecialForms.{special_value, thrown_failure}
@@ -139,6 +144,16 @@ last-passes : (walk : Datum → Part Datum) → ((d : Datum) → Passes Datum (w
     → (last : Datum) (ds : List Datum) → Passes Datum (last_of walk last ds)
 last-passes walk w last [] = pures last
 last-passes walk w last (d ∷ ds) = then-passes (w d) (λ v. last-passes walk w v ds)
+
+-- what is refused in the text of the shared namespace
+outside-passes : {A : Type 0} (part : Part A) → Passes A part → Passes A (outside_shared_text part)
+unfolding outside_shared_text
+outside-passes part h = record {
+  leaves = λ next kept runs on.
+      if-leaves (is_shared_text kept.occasion)
+      (left (failed (failures.broken_rule Rule.SharedTextDefinesAlone)) kept) (part next kept)
+      tt (h.leaves next kept runs on);
+}
 
 -- Names
 
@@ -251,7 +266,8 @@ store-passes : (f : StoreFunction) (args : List Datum) → Passes Datum (store_c
 unfolding store_call
 store-passes f args = record {
   leaves = λ next kept runs on.
-      (called-passes (call_data_of f kept.running args) (calls-no-read f kept.running args)).leaves
+      (called-passes (call_data_at kept.occasion f kept.running args)
+      (calls-no-read kept.occasion f kept.running args)).leaves
       next kept runs on;
 }
 
@@ -271,10 +287,16 @@ outcomes-pass : (o : ApplyOutcome) → Passes Datum (outcome o)
 outcomes-pass (outcomes.gives d text) = printed-passes text d
 outcomes-pass (outcomes.fails f) = faults f
 
+applied-passes : (f : CoreFunction) (args : List Datum) → Passes Datum (core_applied f args)
+unfolding core_applied
+applied-passes f args =
+    let gives = outcomes-pass (meaning f args) in
+    if-passes (prints f) (outside-passes (outcome (meaning f args)) gives) gives
+
 core-passes : (f : CoreFunction) (args : List Datum) → Passes Datum (core_call f args)
 unfolding core_call
 core-passes f args =
-    if-passes (fits f (length args)) (outcomes-pass (meaning f args))
+    if-passes (fits f (length args)) (applied-passes f args)
     (faults (failures.wrong_arity (name_of f) (length args)))
 
 keyword-passes : (s : List ℕ) (args : List Datum) → Passes Datum (keyword_call s args)
@@ -402,11 +424,16 @@ unfolding swap_call
 swap-passes walk w f [] = record { leaves = λ next kept runs on. tt }
 swap-passes walk w f (d ∷ args) = swap-of walk w f args (atom_in StoreFunction.Swap d)
 
+updated : (walk : Evaluator) → WalkPasses walk
+    → (by : Update) (f : NamedFunctionData) (args : List Datum)
+    → Passes Datum (updated_value walk by f args)
+updated walk w (Update.Ref by) f args = alter-passes walk w by f args
+updated walk w Update.Atom f args = swap-passes walk w f args
+
 updates : (walk : Evaluator) → WalkPasses walk
     → (by : Update) (f : NamedFunctionData) (args : List Datum)
     → Passes Datum (update_call walk by f args)
-updates walk w (Update.Ref by) f args = alter-passes walk w by f args
-updates walk w Update.Atom f args = swap-passes walk w f args
+updates walk w by f args = outside-passes (updated_value walk by f args) (updated walk w by f args)
 
 callees : (walk : Evaluator) → WalkPasses walk → (callee : CalleeData) (args : List Datum)
     → Passes Datum (applied_value walk callee args)
@@ -461,14 +488,26 @@ lets walk w p [] forms = last-passes (walk p) (w p) nil forms
 lets walk w p (b ∷ bs) forms =
     then-passes (w p b.form) (λ v. lets walk w (with_local p b.name v) bs forms)
 
+defined : (refused : Option Failure) (space s : List ℕ) (b : BindingData)
+    → Passes Datum (defined_value refused space s b)
+defined (Some f) space s b = record { leaves = λ next kept runs on. tt }
+defined None space s b = record { leaves = λ next kept runs on answer. (tt, on (var space s) kept runs) }
+
 defines : (p : PlaceData) (s : List ℕ) (b : BindingData) → Passes Datum (definition_value p s b)
-defines p s b = record { leaves = λ next kept runs on answer. (tt, on (var (space_of p kept) s) kept runs) }
+unfolding definition_value
+defines p s b = record {
+  leaves = λ next kept runs on.
+      (defined (refused_definition kept.occasion (space_of p kept) b) (space_of p kept) s b).leaves
+      next kept runs on;
+}
 
 function-defines : (p : PlaceData) (s : List ℕ) (params : List (List ℕ)) (forms : List Datum)
     → Passes Datum (function_defined p s params forms)
 function-defines p s params forms = record {
-  leaves = λ next kept runs on answer.
-      (tt, on (var (space_of p kept) s) kept runs);
+  leaves = λ next kept runs on.
+      (defines p s (exchange.bound_function
+      (record { space = space_of p kept; name = s; params = params; body = forms }))).leaves
+      next kept runs on;
 }
 
 enters-on : (s : List ℕ) → Passes Datum (goes_on_in s)
@@ -507,9 +546,11 @@ shapes-pass : (walk : Evaluator) → WalkPasses walk → (p : PlaceData) (shape 
 shapes-pass walk w p (shapes.quoted d) = pures d
 shapes-pass walk w p (shapes.body forms) = last-passes (walk p) (w p) nil forms
 shapes-pass walk w p (shapes.transaction forms) =
-    transacts (last_of (walk p) nil forms) (last-passes (walk p) (w p) nil forms)
+    outside-passes (transaction_value (last_of (walk p) nil forms))
+    (transacts (last_of (walk p) nil forms) (last-passes (walk p) (w p) nil forms))
 shapes-pass walk w p (shapes.effects forms) =
-    effects-pass (last_of (walk p) nil forms) (last-passes (walk p) (w p) nil forms)
+    outside-passes (effects_value (last_of (walk p) nil forms))
+    (effects-pass (last_of (walk p) nil forms) (last-passes (walk p) (w p) nil forms))
 shapes-pass walk w p (shapes.choice c consequent alternative) =
     then-passes (w p c) (λ v. last-passes (walk p) (w p) nil
     (if is_truthy v then consequent else alternative))
@@ -519,8 +560,9 @@ shapes-pass walk w p (shapes.definition s d) =
     then-passes (w p d) (λ v. defines p s (exchange.bound_value v))
 shapes-pass walk w p (shapes.function_definition s params forms) = function-defines p s params forms
 shapes-pass walk w p (shapes.thrown d) = then-passes (w p d) throws
-shapes-pass walk w p (shapes.entry s) = enters s
-shapes-pass walk w p (shapes.computed_entry d) = then-passes (w p d) computed-enters
+shapes-pass walk w p (shapes.entry s) = outside-passes (entry_value s) (enters s)
+shapes-pass walk w p (shapes.computed_entry d) =
+    outside-passes (walk p d >>= computed_entry_value) (then-passes (w p d) computed-enters)
 
 specials : (walk : Evaluator) → WalkPasses walk
     → (p : PlaceData) (special : SpecialForm) (shape : Option ShapeData)

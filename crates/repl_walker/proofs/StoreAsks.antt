@@ -3,6 +3,7 @@ use Rattle.std.proofs.Common.{ℕ, List, [], ◌∷◌, Bool, true, false, Some,
 use Rattle.std.proofs.Common.{if◌then◌else◌, length}
 use Rattle.std.specs.Prelude.{⊤, not, ◌||◌}
 use Rattle.value_data.specs.Datum.{Datum, atom}
+use Rattle.value_data.specs.Measures.{is_plain}
 use Rattle.repl_faults.specs.Failure.{Failure, ◌>>=◌, wrong_arity}
 use Rattle.repl_faults.specs.declared.rule.Rule.{Rule}
 use Rattle.function_names.specs.StoreNames.{store_name_of, store_fits}
@@ -14,6 +15,9 @@ use Rattle.store_calls.specs.Arguments.{ref_in, atom_in, count_in, is_shared, ke
 use Rattle.store_calls.specs.Arguments.{usual_bounds, bounds_in}
 use Rattle.store_calls.specs.Calling.{CallData, refused, reads, asks_value}
 use Rattle.store_calls.specs.Calling.{altering, deref_call, call_with, called_for, call_data_of}
+use Rattle.store_calls.specs.Calling.{shared_call_with, shared_call_data_of}
+use Rattle.evaluation_rules.specs.Refs.{call_data_at}
+use Rattle.evaluation_rules.specs.declared.occasion.Occasion.{Occasion}
 
 abbrev pub IsNoRead : AskData → Type 0
 IsNoRead (read name) = ⊥
@@ -89,12 +93,33 @@ called : (r : Result CallData Failure) → GivesNoRead r → AsksNoRead (called_
 called (Ok call) gives = gives
 called (Err f) gives = tt
 
-pub calls-no-read : (f : StoreFunction) (running : Bool) (ds : List Datum)
+outside-no-read : (f : StoreFunction) (running : Bool) (ds : List Datum)
     → AsksNoRead (call_data_of f running ds)
 unfolding call_data_of
-calls-no-read f running ds = at (store_fits f (length ds))
+outside-no-read f running ds = at (store_fits f (length ds))
   where
     at : (b : Bool) → AsksNoRead (if b then called_for (call_with f running ds)
         else refused (wrong_arity (store_name_of f) (length ds)))
     at true = called (call_with f running ds) (no-read f running ds)
     at false = tt
+
+-- the text of the shared namespace reads by no ask either
+no-shared-read : (f : StoreFunction) (ds : List Datum) → GivesNoRead (shared_call_with f ds)
+no-shared-read StoreFunction.Ref (d ∷ []) =
+    gives-then (kept_to Rule.SharedRefsArePlain (is_plain d)) _ (λ holds. tt)
+no-shared-read StoreFunction.Deref (d ∷ []) = no-read-deref d
+no-shared-read f ds = tt
+
+shared-no-read : (f : StoreFunction) (ds : List Datum) → AsksNoRead (shared_call_data_of f ds)
+unfolding shared_call_data_of
+shared-no-read f ds = at (store_fits f (length ds))
+  where
+    at : (b : Bool) → AsksNoRead (if b then called_for (shared_call_with f ds)
+        else refused (wrong_arity (store_name_of f) (length ds)))
+    at true = called (shared_call_with f ds) (no-shared-read f ds)
+    at false = tt
+
+pub calls-no-read : (occasion : Occasion) (f : StoreFunction) (running : Bool) (ds : List Datum)
+    → AsksNoRead (call_data_at occasion f running ds)
+calls-no-read Occasion.Form f running ds = outside-no-read f running ds
+calls-no-read Occasion.SharedText f running ds = shared-no-read f ds

@@ -1,15 +1,18 @@
 -- Values of a call, by their places.
-use Rattle.std.proofs.Common.{◌≡◌, List, [], ◌∷◌, ◌++◌, get_or, take, drop, length, Bool, true}
-use Rattle.std.proofs.Common.{option_map, slice_get, arith}
+use Rattle.std.proofs.Common.{◌≡◌, ◌≢◌, List, [], ◌∷◌, ◌++◌, get_or, take, drop, length, Bool}
+use Rattle.std.proofs.Common.{true, Err, option_map, slice_get, arith, refl}
 use Rattle.std.proofs.lemmas.Bool.Decides.{nat_tests}
 use Rattle.value_data.specs.Inside.View.{view}
 use Rattle.value_data.specs.declared.value.Value.{Value}
 use Rattle.special_forms.specs.Inside.Seen.{views}
+use Rattle.repl_faults.specs.Failure.{broken_rule}
+use Rattle.repl_faults.specs.declared.rule.Rule.{Rule}
 use Rattle.function_names.specs.StoreNames.{store_fits}
 use Rattle.function_names.specs.declared.store.StoreFunction.{StoreFunction}
 use Rattle.store_calls.specs.Calling.{call_with, ref_call, deref_call, ref_set_call, ensure_call}
 use Rattle.store_calls.specs.Calling.{history_count_call, alter_by_value, atom_call, swap_by_value}
-use Rattle.store_calls.specs.Calling.{reset_call, compare_and_set_call}
+use Rattle.store_calls.specs.Calling.{reset_call, compare_and_set_call, shared_call_with}
+use Rattle.store_calls.specs.Calling.{plain_ref_call}
 use Rattle.store_calls.specs.Inside.Parts.{bound_call}
 use Rattle.store_calls.specs.declared.altering.Alteration.{Alteration}
 use Rattle.store_calls.specs.declared.bounds.HistoryBound.{HistoryBound}
@@ -145,3 +148,26 @@ pub ruleset calls = (
   reset-called,
   compare-called,
 )
+
+-- In the text of the shared namespace
+
+pub plain-ref-called : (xs : List Value) (x : Value) → length xs ≡ 1 → x ≡ get_or xs 0 x
+    → shared_call_with StoreFunction.Ref (views xs) ≡ plain_ref_call (view x)
+plain-ref-called [] x one is = absurd (omega (arith, one))
+plain-ref-called (y ∷ []) x one is = let same : x ≡ y = is in cc
+plain-ref-called (y ∷ z ∷ xs) x one is = absurd (omega (arith, one))
+
+pub options-refused : (xs : List Value) → store_fits StoreFunction.Ref (length xs) ≡ true → length xs ≢ 1
+    → shared_call_with StoreFunction.Ref (views xs) ≡ Err (broken_rule Rule.SharedTextDefinesAlone)
+options-refused [] fits other = absurd (grind (arith, nat_tests))
+options-refused (y ∷ []) fits other = absurd (other refl)
+options-refused (y ∷ z ∷ xs) fits other = refl
+
+pub shared-deref-called : (xs : List Value) (x : Value)
+    → store_fits StoreFunction.Deref (length xs) ≡ true → x ≡ get_or xs 0 x
+    → shared_call_with StoreFunction.Deref (views xs) ≡ deref_call (view x)
+shared-deref-called [] x fits is = absurd (grind (arith, nat_tests))
+shared-deref-called (y ∷ []) x fits is = let same : x ≡ y = is in cc
+shared-deref-called (y ∷ z ∷ xs) x fits is = absurd (grind (arith, nat_tests))
+
+pub ruleset shared_calls = (plain-ref-called, options-refused, shared-deref-called)

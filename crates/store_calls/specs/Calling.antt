@@ -5,7 +5,8 @@
 use Rattle.std.specs.Prelude.{List, [], ◌∷◌, Bool, ◌||◌, not, Some, None, Result, Ok, Err}
 use Rattle.std.specs.Prelude.{if◌then◌else◌, length}
 use Rattle.value_data.specs.Datum.{Datum, atom}
-use Rattle.repl_faults.specs.Failure.{Failure, ◌>>=◌, wrong_argument, wrong_arity}
+use Rattle.value_data.specs.Measures.{is_plain}
+use Rattle.repl_faults.specs.Failure.{Failure, ◌>>=◌, wrong_argument, wrong_arity, broken_rule}
 use Rattle.repl_faults.specs.declared.rule.Rule.{Rule}
 use Rattle.function_names.specs.StoreNames.{store_name_of, store_fits}
 use Rattle.function_names.specs.declared.store.StoreFunction.{StoreFunction}
@@ -139,4 +140,23 @@ called_for (Err f) = refused f
 unfoldable pub call_data_of : StoreFunction → Bool → List Datum → CallData
 call_data_of f running ds =
     if store_fits f (length ds) then called_for (call_with f running ds)
+    else refused (wrong_arity (store_name_of f) (length ds))
+
+-- In the text of the namespace that all tenants share
+
+-- `(ref value)` there
+abbrev pub plain_ref_call : Datum → Result CallData Failure
+plain_ref_call d = kept_to Rule.SharedRefsArePlain (is_plain d) >>= λ _. ref_call (d ∷ [])
+
+-- A ref is made of plain data, without options, and its value is read. All else is refused before
+-- the kinds of the arguments are looked at.
+abbrev pub shared_call_with : StoreFunction → List Datum → Result CallData Failure
+shared_call_with StoreFunction.Ref (d ∷ []) = plain_ref_call d
+shared_call_with StoreFunction.Deref (d ∷ []) = deref_call d
+shared_call_with f ds = Err (broken_rule Rule.SharedTextDefinesAlone)
+
+-- a call of the function with these values in that text
+unfoldable pub shared_call_data_of : StoreFunction → List Datum → CallData
+shared_call_data_of f ds =
+    if store_fits f (length ds) then called_for (shared_call_with f ds)
     else refused (wrong_arity (store_name_of f) (length ds))

@@ -87,7 +87,7 @@ fn call_with(
 }
 
 // `(ref value option count ..)`
-fn ref_call(alloc: Global, value: Value, options: &[Value]) -> Result<Call, ApplyError>
+pub(crate) fn ref_call(alloc: Global, value: Value, options: &[Value]) -> Result<Call, ApplyError>
     ensures { Gives call_view result (meant.ref_call (view value ∷ views options.now)) }
 {
     let bounds = bounds_in(alloc, options)?;
@@ -100,7 +100,7 @@ fn ref_call(alloc: Global, value: Value, options: &[Value]) -> Result<Call, Appl
 
 // `(deref ref)` or `(deref atom)`
 #[tactic(auto, using(value_data::proofs::Views::value_views))]
-fn deref_call(alloc: Global, target: &Value) -> Result<Call, ApplyError>
+pub(crate) fn deref_call(alloc: Global, target: &Value) -> Result<Call, ApplyError>
     ensures { Gives call_view result (meant.deref_call (view target.now)) }
 {
     match target {

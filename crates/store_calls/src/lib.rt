@@ -11,10 +11,12 @@ mod arguments;
 mod bounds;
 mod outcome;
 mod rules;
+mod shared;
 mod updating;
 
 pub use altering::{Alteration, ref_to_alter};
 pub use applying::call;
 pub use outcome::{Altered, Call, Swapped};
 pub use rules::may_hold;
+pub use shared::call_in_shared_text;
 pub use updating::{Update, atom_to_swap};

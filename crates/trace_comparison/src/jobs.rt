@@ -9,8 +9,11 @@ use repl_jobs::{Job, Work};
 pub fn same_work(left: &Work, right: &Work) -> bool
     ensures { IsTrue result ↔ (work_view left.now ≡ work_view right.now) }
 {
-    let (Work::Form(form), Work::Form(other)) = (left, right);
-    same_value(form, other)
+    match (left, right) {
+        (Work::Form(a), Work::Form(b)) => same_value(a, b),
+        (Work::SharedForm(a), Work::SharedForm(b)) => same_value(a, b),
+        _ => false,
+    }
 }
 
 /// Whether the jobs have the same work, namespace and number of attempts.

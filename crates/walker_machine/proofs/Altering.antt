@@ -99,7 +99,7 @@ alter_call-refused walk by f d ds vs told s given refused = rw (given, refused) 
 -- A state that differs from another in its frames alone: with this done with the value of the innermost form
 abbrev pub IsPushed : State → State → (Datum → Kept → Doing) → Type 0
 IsPushed s u next = (next_of u ≡ next) × (bottom u.frames.items (place_of u) ≡ bottom s.frames.items (place_of s)) × (place_of u ≡ place_of s)
-    × (kept_of u ≡ kept_of s) × (string_bytes u.text ≡ string_bytes s.text) × (u.retries ≡ s.retries) × (u.transaction ≡ s.transaction)
+    × (kept_of u ≡ kept_of s) × (string_bytes u.text ≡ string_bytes s.text) × (u.setting ≡ s.setting) × (u.transaction ≡ s.transaction)
 
 -- the ref is read, and then its function called
 pub alter_call-reads : (s u : State) (by : Alteration) (f : NamedFunctionData) (name : RefNameData) (room : ℕ) (d : Datum) (ds : List Datum) (vs : List Value)
@@ -134,7 +134,7 @@ pub swap_step-none : (s : State) (w : Swap) (d : Datum) (told : Failure) → s.c
     → ends (Err told) (string_bytes s.text) (kept_of s) ≡ from_state (swap_step w d) s
 unfolding swap_step seen_value function_called
 swap_step-none s w d told none is =
-    rw (none, is) (sym (inside_attempt-failed s.retries s.transaction (bottom s.frames.items (place_of s)) too_many_calls _ (string_bytes s.text)))
+    rw (none, is) (sym (inside_attempt-failed s.setting s.transaction (bottom s.frames.items (place_of s)) too_many_calls _ (string_bytes s.text)))
 
 pub commute-applied : (s u : State) (f : CoreFunction) (name : RefNameData) (d : Datum) (ds : List Datum) (vs : List Value)
     → IsPushed s u (λ (v : Datum) (kept : Kept). commute_noted name (record { function = f; arguments = ds }) v (next_of s) kept)

@@ -1,3 +1,4 @@
 pub mod Evaluating
 pub mod Altering
+pub mod Beginning
 pub mod Going

@@ -7,8 +7,8 @@ ghost use Rattle.walker_state.specs.Pending.{tree_with_value, tree};
 ghost use Rattle.walker_state.specs.Size.{frame_size};
 ghost use Rattle.walker_state.specs.Position.{LeadsOnWithin};
 
+use crate::define::define;
 use crate::rows::{next_argument, next_binding, next_in_logic, next_item};
-use crate::special::define;
 use crate::update::give_to_store;
 use repl_asks::Binding;
 use repl_values::Value;
@@ -45,7 +45,7 @@ pub(crate) fn give(
             bind(state, name, value)?;
             next_binding(alloc, state, bindings, body, room)
         }
-        Frame::Define(name) => define(state, name, Binding::Value(value)),
+        Frame::Define(name) => define(alloc, state, name, Binding::Value(value)),
         Frame::Throw => throw(alloc, value),
         Frame::Namespace => enter_named(alloc, value),
         Frame::Store(frame) => give_to_store(alloc, state, frame, value),

@@ -7,6 +7,7 @@
 mod alter;
 mod answers;
 mod calls;
+mod define;
 mod evaluate;
 mod give;
 mod position;
@@ -15,5 +16,6 @@ mod special;
 mod steps;
 mod swap;
 mod update;
+mod work;
 
 pub use steps::{Reached, WaitingEvaluation, begin};

@@ -1,36 +1,33 @@
 // The special forms.
 #![tactic(auto, using(walker_state::proofs::Stepping::steps))]
 
-ghost use Rattle.std.specs.Prelude.{◌≡◌, ◌+◌, ◌*◌, ◌<◌, ◌≤◌, ◌∷◌, map, IfOk};
+ghost use Rattle.std.specs.Prelude.{◌≡◌, ◌+◌, ◌*◌, ◌<◌, ◌≤◌, ◌∷◌, IfOk};
 ghost use Rattle.std.specs.Arc.{arc_str_bytes};
 ghost use Rattle.value_data.specs.Datum.{nil};
 ghost use Rattle.value_data.specs.Inside.View.{view};
 ghost use Rattle.evaluation_rules.specs.Rows.{last_of};
 ghost use Rattle.evaluation_rules.specs.Transactions.{transaction_value, effects_value};
-ghost use Rattle.repl_asks.specs.Inside.View.{binding_view};
 ghost use Rattle.walker_state.specs.Pending.{whole_at, place_of, kept_of};
 ghost use Rattle.walker_state.specs.Frames.{frames_next, bottom};
 ghost use Rattle.walker_state.specs.Pending.{from_state, tree};
 ghost use Rattle.special_forms.specs.Inside.Seen.{forms_view, shape_view};
-ghost use Rattle.special_forms.specs.Shapes.{shape_of};
+ghost use Rattle.special_forms.specs.Shapes.{computed_entry, shape_of};
 ghost use Rattle.special_forms.specs.Inside.Size.{datum_size, forms_size, shape_size};
 ghost use Rattle.walker_state.specs.Size.{frame_size, control_size, frames_size};
 ghost use Rattle.walker_state.specs.Position.{around, control_around, control_calls, LeadsOnWithin};
 ghost use Rattle.evaluation_rules.specs.Evaluation.{value_at};
-ghost use Rattle.evaluation_rules.specs.SpecialForms.{definition_value, function_defined};
+ghost use Rattle.evaluation_rules.specs.SharedText.{outside_shared_text};
+ghost use Rattle.evaluation_rules.specs.SpecialForms.{entry_value};
 ghost use Rattle.evaluation_rules.specs.SpecialForms.{shape_value, special_value};
-ghost use Rattle.walker_state.specs.declared.frames.State.{State};
 
+use crate::define::define_function;
 use crate::rows::{next_binding, next_in_logic};
-use repl_asks::{Ask, Binding};
 use repl_faults::{Rule, bad_form, broken_rule};
-use repl_values::{Value, copy_text};
-use special_forms::{Forms, Function, Shape, SpecialForm, shape_of};
+use repl_values::Value;
+use special_forms::{Forms, Shape, SpecialForm, shape_of};
 use std::alloc::{AllocError, Global};
-use std::sync::{Arc, ArcStr};
-use walker_state::{
-    Control, Frame, State, Wanted, begin_transaction, enter_namespace, next_in_body, space,
-};
+use std::sync::ArcStr;
+use walker_state::{Control, Frame, State, begin_transaction, enter_namespace, next_in_body};
 
 pub(crate) fn evaluate_special(
     alloc: Global,
@@ -78,20 +75,23 @@ fn begin(alloc: Global, state: &mut State, shape: Shape, room: u32) -> Result<Co
             define_function(alloc, state, name, params, body)
         }
         Shape::Throw(form) => evaluate_for(state, Frame::Throw, form, room),
-        Shape::Enter(name) => enter_namespace(alloc, name),
-        Shape::EnterComputed(form) => evaluate_for(state, Frame::Namespace, form, room),
+        Shape::Enter(name) => enter(alloc, state, name),
+        Shape::EnterComputed(form) => enter_computed(alloc, state, form, room),
     }
 }
 
-// A transaction within another joins it.
-#[tactic(auto, using(walker_state::proofs::Stepping::steps), unfolding(evaluation_rules::specs::Transactions::transaction_value))]
+// A transaction within another joins it. None runs while the text of the shared namespace is read.
+#[tactic(auto, using(walker_state::proofs::Stepping::steps), unfolding(evaluation_rules::specs::Transactions::transaction_value, evaluation_rules::specs::SharedText::outside_shared_text))]
 fn transact(alloc: Global, state: &mut State, body: Forms, room: u32) -> Result<Control, AllocError>
     ensures on { IfOk result
         (LeadsOnWithin (3 + forms_size (forms_view body)) state.old state.new) }
     ensures meaning { IfOk result (λ control. tree control state.new
-        ≡ from_state (transaction_value (last_of (value_at room (place_of state.old)) nil
-        (forms_view body))) state.old) }
+        ≡ from_state (outside_shared_text (transaction_value
+        (last_of (value_at room (place_of state.old)) nil (forms_view body)))) state.old) }
 {
+    if state.setting.occasion.is_shared_text() {
+        return Ok(Control::Fault(broken_rule(alloc, Rule::SharedTextDefinesAlone)?));
+    }
     if state.transaction.is_some() {
         return next_in_body(state, Value::Nil, body, room);
     }
@@ -99,18 +99,54 @@ fn transact(alloc: Global, state: &mut State, body: Forms, room: u32) -> Result<
 }
 
 // What may not be done twice does not stand in a transaction.
-#[tactic(auto, using(walker_state::proofs::Stepping::steps), unfolding(evaluation_rules::specs::Transactions::effects_value))]
+#[tactic(auto, using(walker_state::proofs::Stepping::steps), unfolding(evaluation_rules::specs::Transactions::effects_value, evaluation_rules::specs::SharedText::outside_shared_text))]
 fn affect(alloc: Global, state: &mut State, body: Forms, room: u32) -> Result<Control, AllocError>
     ensures on { IfOk result
         (LeadsOnWithin (3 + forms_size (forms_view body)) state.old state.new) }
     ensures meaning { IfOk result (λ control. tree control state.new
-        ≡ from_state (effects_value (last_of (value_at room (place_of state.old)) nil
-        (forms_view body))) state.old) }
+        ≡ from_state (outside_shared_text (effects_value
+        (last_of (value_at room (place_of state.old)) nil (forms_view body)))) state.old) }
 {
+    if state.setting.occasion.is_shared_text() {
+        return Ok(Control::Fault(broken_rule(alloc, Rule::SharedTextDefinesAlone)?));
+    }
     if state.transaction.is_some() {
         return Ok(Control::Fault(broken_rule(alloc, Rule::NoIoInTransaction)?));
     }
     next_in_body(state, Value::Nil, body, room)
+}
+
+// The text of the shared namespace stays in it.
+#[tactic(auto, using(walker_state::proofs::Stepping::steps), unfolding(evaluation_rules::specs::SharedText::outside_shared_text))]
+fn enter(alloc: Global, state: &State, name: ArcStr) -> Result<Control, AllocError>
+    ensures on { IfOk result (LeadsOnWithin 3 state.now state.now) }
+    ensures meaning { IfOk result (λ control. tree control state.now
+        ≡ from_state (outside_shared_text (entry_value (arc_str_bytes name))) state.now) }
+{
+    if state.setting.occasion.is_shared_text() {
+        return Ok(Control::Fault(broken_rule(alloc, Rule::SharedTextDefinesAlone)?));
+    }
+    enter_namespace(alloc, name)
+}
+
+// The same where the namespace is what a form gives, which is not evaluated in that text.
+#[tactic(auto, using(walker_state::proofs::Stepping::steps), unfolding(evaluation_rules::specs::SharedText::outside_shared_text))]
+fn enter_computed(
+    alloc: Global,
+    state: &mut State,
+    form: Value,
+    room: u32,
+) -> Result<Control, AllocError>
+    ensures on { IfOk result
+        (LeadsOnWithin (3 + 3 * datum_size (view form)) state.old state.new) }
+    ensures meaning { IfOk result (λ control. tree control state.new
+        ≡ from_state (shape_value (value_at room) (place_of state.old)
+        (computed_entry (view form))) state.old) }
+{
+    if state.setting.occasion.is_shared_text() {
+        return Ok(Control::Fault(broken_rule(alloc, Rule::SharedTextDefinesAlone)?));
+    }
+    evaluate_for(state, Frame::Namespace, form, room)
 }
 
 // The form is evaluated, and its value goes to the frame.
@@ -132,46 +168,4 @@ fn evaluate_for(
 {
     state.frames.push_front(frame)?;
     Ok(Control::Evaluate(form, room))
-}
-
-fn define_function(
-    alloc: Global,
-    state: &State,
-    name: ArcStr,
-    params: Vec<ArcStr>,
-    body: Forms,
-) -> Result<Control, AllocError>
-    ensures on { IfOk result (λ control. (s : State) → LeadsOnWithin 3 s s control) }
-    ensures meaning { IfOk result (λ control. tree control state.now
-        ≡ from_state (function_defined (place_of state.now) (arc_str_bytes name)
-        (map arc_str_bytes params.items) (forms_view body)) state.now) }
-{
-    let function = Function {
-        space: space(state)?,
-        name: copy_text(&name)?,
-        params: Arc::new(alloc, params)?,
-        body,
-    };
-    define(state, name, Binding::Function(function))
-}
-
-// Binds the name in the form's namespace. The form's value is the var.
-#[tactic(auto, using(value_data::proofs::Views::value_views, walker_state::proofs::Stepping::steps))]
-pub(crate) fn define(state: &State, name: ArcStr, binding: Binding) -> Result<Control, AllocError>
-    ensures on { IfOk result (λ control. (s : State) → LeadsOnWithin 3 s s control) }
-    ensures meaning { IfOk result (λ control. tree control state.now
-        ≡ from_state (definition_value (place_of state.now) (arc_str_bytes name)
-        (binding_view binding)) state.now) }
-{
-    let namespace = space(state)?;
-    let var = Value::Var {
-        space: copy_text(&namespace)?,
-        name: copy_text(&name)?,
-    };
-    let ask = Ask::Define {
-        namespace,
-        name,
-        binding,
-    };
-    Ok(Control::Ask(ask, Wanted::Completion(var)))
 }

@@ -19,16 +19,17 @@ use crate::answers::use_answer;
 use crate::calls::enter;
 use crate::evaluate::evaluate;
 use crate::give::give;
-use evaluation_rules::{CALLS, ROOM};
+use crate::work::begin_work;
+use evaluation_rules::{CALLS, Occasion};
 use local_names::Locals;
 use repl_asks::{Answer, Ask};
 use repl_jobs::{End, Finished, Job};
-use repl_values::{Value, copy, copy_text};
+use repl_values::{Value, copy_text};
 use special_forms::Function;
 use std::alloc::{AllocError, Global};
 use std::boxed::Box;
 use std::collections::VecDeque;
-use walker_state::{Control, EndOrCommit, Place, State, Wanted, leave};
+use walker_state::{Control, EndOrCommit, Place, Setting, State, Wanted, leave};
 
 /// An evaluation that waits for the answer to its last ask. Whoever hands it on moves a few words:
 /// its state stays where it was put at the first ask.
@@ -75,11 +76,14 @@ pub fn begin(alloc: Global, job: &Job) -> Result<Reached, AllocError>
         calls: CALLS,
         namespace: copy_text(&job.namespace)?,
         text: String::new(alloc),
-        retries: job.retries,
+        setting: Setting {
+            retries: job.retries,
+            occasion: Occasion::of(&job.work),
+        },
         transaction: None,
     };
-    let form = copy(job.work.form())?;
-    match go_on(alloc, &mut state, Control::Evaluate(form, ROOM))? {
+    let control = begin_work(alloc, &job.work)?;
+    match go_on(alloc, &mut state, control)? {
         Stop::Ends(end) => Ok(end_reached(state, end)),
         Stop::Asks(ask, wanted) => {
             let state = Box::new(alloc, state)?;

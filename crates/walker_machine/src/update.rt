@@ -20,7 +20,7 @@ use crate::alter::{call_alter, call_altering};
 use crate::evaluate::evaluate_symbol;
 use crate::rows::next_argument;
 use repl_asks::NamedFunction;
-use repl_faults::not_a_function;
+use repl_faults::{Rule, broken_rule, not_a_function};
 use repl_values::Value;
 use special_forms::Forms;
 use std::alloc::{AllocError, Global};
@@ -114,7 +114,8 @@ fn name_function(
     }
 }
 
-// A call of one of them with this function.
+// A call of one of them with this function. The text of the shared namespace makes none.
+#[tactic(auto, using(walker_state::proofs::Stepping::steps), unfolding(evaluation_rules::specs::SharedText::outside_shared_text))]
 pub(crate) fn call_update(
     alloc: Global,
     state: &mut State,
@@ -128,6 +129,9 @@ pub(crate) fn call_update(
         ≡ from_state (update_call (value_at room) by (named_view function) (views values.items))
         state.old) }
 {
+    if state.setting.occasion.is_shared_text() {
+        return Ok(Control::Fault(broken_rule(alloc, Rule::SharedTextDefinesAlone)?));
+    }
     match by {
         Update::Ref(by) => call_alter(alloc, state, by, function, values, room),
         Update::Atom => call_swap(alloc, state, function, values, room),

@@ -51,7 +51,7 @@ put-at : (s : State) (name : RefNameData) (v : Datum) (b : Bool) → is_commuted
     → from_state (put_value name v) s ≡ from_state (put_by name v b) s
 unfolding put_value
 put-at s name v b is =
-    inside_attempt-looking s.retries s.transaction _ _ (string_bytes s.text)
+    inside_attempt-looking s.setting s.transaction _ _ (string_bytes s.text)
     ∙ ap (λ c. whole s (put_by name v c (next_of s) (kept_of s))) is
 
 kept-inside : (s : State) (t u : Box Transaction Global) → s.transaction ≡ Some t

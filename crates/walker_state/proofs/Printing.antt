@@ -22,7 +22,7 @@ use Rattle.core_texts.specs.Limits.{most_text}
 use Rattle.special_forms.specs.Inside.Seen.{views}
 use Rattle.evaluation_rules.specs.Doing.{Part}
 use Rattle.evaluation_rules.specs.Tree.{ends}
-use Rattle.evaluation_rules.specs.Applying.{printed_value, outcome, core_call}
+use Rattle.evaluation_rules.specs.Applying.{printed_value, outcome, core_applied, core_call}
 use Rattle.walker_state.specs.Pending.{place_of, kept_of, next_of, from_state, tree}
 use Rattle.walker_state.specs.Frames.{bottom}
 use Rattle.walker_state.specs.declared.frames.Control.{Control}
@@ -35,7 +35,7 @@ printed_value-long : (text : List ℕ) (d : Datum) (s : State) → most_text < l
 unfolding printed_value
 printed_value-long text d s h =
     let test : nat_lt most_text (length (string_bytes s.text) + length text) ≡ true = grind (arith, nat_tests, h) in
-    inside_attempt-printing s.retries s.transaction (bottom s.frames.items (place_of s)) text (kept_of s) (next_of s d (kept_of s)) (string_bytes s.text)
+    inside_attempt-printing s.setting s.transaction (bottom s.frames.items (place_of s)) text (kept_of s) (next_of s d (kept_of s)) (string_bytes s.text)
     ∙ rw test refl
 
 pub outcome-bounded_outcome : (o : ApplyOutcome) (s : State) → from_state (outcome (bounded_outcome o)) s ≡ from_state (outcome o) s
@@ -63,7 +63,7 @@ pub if_ok-here : {E : Type 0} (r : Result Control E) (p q : Part Datum) (s : Sta
 if_ok-here (Ok control) p q s same h = h s ∙ ap (λ (part : Part Datum). from_state part s) same
 if_ok-here (Err e) p q s same h = tt
 
-pub core_call-fits : (f : CoreFunction) (vs : List value.Value) → true ≡ fits f (length vs) → outcome (meaning f (views vs)) ≡ core_call f (views vs)
+pub core_call-fits : (f : CoreFunction) (vs : List value.Value) → true ≡ fits f (length vs) → core_applied f (views vs) ≡ core_call f (views vs)
 unfolding core_call
 core_call-fits f vs h = let takes : fits f (length (views vs)) ≡ true = ap (fits f) (length-map vs view) ∙ sym h in rw takes refl
 

@@ -29,32 +29,33 @@ use Rattle.walker_state.specs.Pending.{begun_tree, from_state, kept_of, next_of,
 use Rattle.walker_state.specs.UnderWay.{body_at, again, inside_attempt, so_far}
 use Rattle.walker_state.specs.Frames.{frames_next, bottom}
 use Rattle.walker_state.specs.Pending.{settled_tree, whole}
+use Rattle.walker_state.specs.declared.frames.Setting.{Setting}
 use Rattle.walker_state.specs.declared.frames.State.{State}
 use Rattle.walker_state.specs.declared.frames.Transaction.{Transaction}
 
 abbrev Running : Type 0
 Running = Option (Box Transaction Global)
 
-pub inside_attempt-failed : (r : ℕ) (t : Running) (p : PlaceData) (f : Failure) (kept : Kept) (text : List ℕ)
+pub inside_attempt-failed : (r : Setting) (t : Running) (p : PlaceData) (f : Failure) (kept : Kept) (text : List ℕ)
     → written_tree text (inside_attempt r t p (left (failed f) kept)) ≡ ends (Err f) text kept
 unfolding inside_attempt
 inside_attempt-failed r None p f kept text = refl
 inside_attempt-failed r (Some t) p f kept text = refl
 
-pub inside_attempt-asking : (r : ℕ) (t : Running) (p : PlaceData) (ask : AskData) (behind : AnswerData → Doing) (text : List ℕ)
+pub inside_attempt-asking : (r : Setting) (t : Running) (p : PlaceData) (ask : AskData) (behind : AnswerData → Doing) (text : List ℕ)
     → written_tree text (inside_attempt r t p (asking ask behind)) ≡ asks ask (λ answer. written_tree text (inside_attempt r t p (behind answer)))
 unfolding inside_attempt
 inside_attempt-asking r None p ask behind text = refl
 inside_attempt-asking r (Some t) p ask behind text = refl
 
-pub inside_attempt-printing : (r : ℕ) (t : Running) (p : PlaceData) (more : List ℕ) (kept : Kept) (d : Doing) (text : List ℕ)
+pub inside_attempt-printing : (r : Setting) (t : Running) (p : PlaceData) (more : List ℕ) (kept : Kept) (d : Doing) (text : List ℕ)
     → written_tree text (inside_attempt r t p (printing more kept d))
     ≡ (if nat_lt most_text (length text + length more) then ends (Err output_too_long) text kept else written_tree (text ++ more) (inside_attempt r t p d))
 unfolding inside_attempt
 inside_attempt-printing r None p more kept d text = refl
 inside_attempt-printing r (Some t) p more kept d text = refl
 
-pub inside_attempt-looking : (r : ℕ) (t : Running) (p : PlaceData) (behind : AttemptData → Doing) (text : List ℕ)
+pub inside_attempt-looking : (r : Setting) (t : Running) (p : PlaceData) (behind : AttemptData → Doing) (text : List ℕ)
     → written_tree text (inside_attempt r t p (looking behind)) ≡ written_tree text (inside_attempt r t p (behind (so_far t)))
 unfolding inside_attempt
 inside_attempt-looking r None p behind text = refl
@@ -62,7 +63,7 @@ inside_attempt-looking r (Some t) p behind text = refl
 
 -- a fault ends the evaluation, wherever it stands
 pub fails-at : (f : Failure) (s : State) → from_state (fails f) s ≡ ends (Err f) (string_bytes s.text) (kept_of s)
-fails-at f s = inside_attempt-failed s.retries s.transaction (bottom s.frames.items (place_of s)) f (kept_of s) (string_bytes s.text)
+fails-at f s = inside_attempt-failed s.setting s.transaction (bottom s.frames.items (place_of s)) f (kept_of s) (string_bytes s.text)
 
 pub ruleset steps = (inside_attempt-failed, inside_attempt-asking, inside_attempt-printing, inside_attempt-looking)
 
@@ -80,13 +81,13 @@ attempts-left (suc n) body next last some =
     ap (λ (m : ℕ). asking begin (λ answer. trying body (with_attempt (after_body (attempts m body next) next) nothing_noted body))) (sym e)
 
 -- no attempt is left
-pub again-none : (r : ℕ) (t : Transaction) (p : PlaceData) (last : Kept) (text : List ℕ) → t.left ≡ 0
+pub again-none : (r : Setting) (t : Transaction) (p : PlaceData) (last : Kept) (text : List ℕ) → t.left ≡ 0
     → written_tree text (again r t p last) ≡ ends (Err (broken_rule Rule.AttemptsAreLimited)) text last
 unfolding again
 again-none r t p last text none = rw none refl
 
 -- one is, and it begins
-pub again-left : (r : ℕ) (t u : Transaction) (p : PlaceData) (last : Kept) (text : List ℕ) → t.left ≢ 0
+pub again-left : (r : Setting) (t u : Transaction) (p : PlaceData) (last : Kept) (text : List ℕ) → t.left ≢ 0
     → u ≡ record t { left = t.left - 1; is_first = false }
     → asks begin (λ answer. written_tree text (with_attempt (after_body (again r u p) (frames_next u.frames.items p)) nothing_noted (body_at r u p)))
     ≡ written_tree text (again r t p last)
@@ -95,32 +96,32 @@ again-left r t u p last text some is =
     rw is (ap (written_tree text) (sym (attempts-left t.left (body_at r t p) (frames_next t.frames.items p) last some)))
 
 -- where no transaction runs
-pub outside : (r : ℕ) (t : Running) (p : PlaceData) (d : Doing) → t ≡ None → inside_attempt r t p d ≡ d
+pub outside : (r : Setting) (t : Running) (p : PlaceData) (d : Doing) → t ≡ None → inside_attempt r t p d ≡ d
 unfolding inside_attempt
 outside r t p d none = rw none refl
 
-pub transaction-none : (s : State) (body : Part Datum) → s.transaction ≡ None → s.retries ≡ 0
+pub transaction-none : (s : State) (body : Part Datum) → s.transaction ≡ None → s.setting.retries ≡ 0
     → ends (Err (broken_rule Rule.AttemptsAreLimited)) (string_bytes s.text) (kept_of s) ≡ from_state (transacted_value false body) s
 transaction-none s body none nothing =
-    sym (ap (written_tree (string_bytes s.text)) (outside s.retries s.transaction _ (transacted_value false body (next_of s) (kept_of s)) none) ∙ rw nothing refl)
+    sym (ap (written_tree (string_bytes s.text)) (outside s.setting s.transaction _ (transacted_value false body (next_of s) (kept_of s)) none) ∙ rw nothing refl)
 
 -- the first attempt is asked for
-pub transaction-begun : (s u : State) (t : Transaction) (forms : Forms) (room : ℕ) → s.transaction ≡ None → s.retries ≢ 0
-    → (place_of u ≡ place_of s) × (string_bytes u.text ≡ string_bytes s.text) × (u.retries ≡ s.retries)
+pub transaction-begun : (s u : State) (t : Transaction) (forms : Forms) (room : ℕ) → s.transaction ≡ None → s.setting.retries ≢ 0
+    → (place_of u ≡ place_of s) × (string_bytes u.text ≡ string_bytes s.text) × (u.setting ≡ s.setting)
     → (t.body ≡ forms) × (t.room ≡ room) × (t.calls ≡ s.calls) × (arc_str_bytes t.namespace ≡ arc_str_bytes s.namespace)
-    → (t.left ≡ s.retries - 1) × (t.frames ≡ s.frames)
+    → (t.left ≡ s.setting.retries - 1) × (t.frames ≡ s.frames)
     → asks begin (λ answer. begun_tree t u) ≡ from_state (transacted_value false (last_of (value_at room (place_of s)) nil (forms_view forms))) s
 unfolding again
 transaction-begun s u t forms room none some same entered around =
     let body : Part Datum = last_of (value_at room (place_of s)) nil (forms_view forms) in
     rw (same.0, same.1, same.2, entered.0, entered.1, entered.2, entered.3, around.0, around.1)
-    (sym (ap (written_tree (string_bytes s.text)) (outside s.retries s.transaction _ (transacted_value false body (next_of s) (kept_of s)) none
-    ∙ attempts-left s.retries (body_of body (kept_of s)) (next_of s) (kept_of s) some)))
+    (sym (ap (written_tree (string_bytes s.text)) (outside s.setting s.transaction _ (transacted_value false body (next_of s) (kept_of s)) none
+    ∙ attempts-left s.setting.retries (body_of body (kept_of s)) (next_of s) (kept_of s) some)))
 
 -- an attempt that is left for another
 pub retried-at : (s : State) (t : Box Transaction Global) → s.transaction ≡ Some t
     → whole s (left retried (kept_of s))
-    ≡ written_tree (string_bytes s.text) (again s.retries t.value (bottom s.frames.items (place_of s)) (with_running true (kept_of s)))
+    ≡ written_tree (string_bytes s.text) (again s.setting t.value (bottom s.frames.items (place_of s)) (with_running true (kept_of s)))
 unfolding inside_attempt
 retried-at s t runs = rw runs refl
 
@@ -137,7 +138,7 @@ left-inside s t u a v intent empty runs is wants = rw (empty, runs, is, wants) r
 
 -- an attempt that has begun
 pub begun-at : (s u : State) (b : Box Transaction Global) (t : Transaction) (a : Attempt) (forms : Forms) (room : ℕ) (v : Datum)
-    → (place_of u ≡ place_of s) × (string_bytes u.text ≡ string_bytes s.text) × (u.retries ≡ s.retries)
+    → (place_of u ≡ place_of s) × (string_bytes u.text ≡ string_bytes s.text) × (u.setting ≡ s.setting)
     → (u.frames.items ≡ []) × (u.calls ≡ t.calls) × (arc_str_bytes u.namespace ≡ arc_str_bytes t.namespace) × (u.transaction ≡ Some b)
     → (b.value ≡ record t { attempt = a }) × (attempt_view a ≡ nothing_noted)
     → (forms_view forms ≡ forms_view t.body) × (room ≡ t.room) × (v ≡ nil)
@@ -154,14 +155,14 @@ retried-outside s none = rw none refl
 
 -- the attempt is over, and its frames are unwound
 pub retried-from : (s u : State) (t : Box Transaction Global) → s.transaction ≡ Some t
-    → (place_of u ≡ bottom s.frames.items (place_of s)) × (u.text ≡ s.text) × (u.retries ≡ s.retries) × (u.calls ≡ s.calls)
+    → (place_of u ≡ bottom s.frames.items (place_of s)) × (u.text ≡ s.text) × (u.setting ≡ s.setting) × (u.calls ≡ s.calls)
     → arc_str_bytes u.namespace ≡ arc_str_bytes s.namespace
-    → written_tree (string_bytes u.text) (again u.retries t.value (place_of u) (with_running true (kept_of u))) ≡ whole s (left retried (kept_of s))
+    → written_tree (string_bytes u.text) (again u.setting t.value (place_of u) (with_running true (kept_of u))) ≡ whole s (left retried (kept_of s))
 retried-from s u t runs same named = rw (same.0, same.1, same.2, same.3, named) (sym (retried-at s t runs))
 
 -- the transaction is over, and its value goes on
 pub committed-at : (s u : State) (t : Transaction) (v : Datum)
-    → (place_of u ≡ place_of s) × (u.text ≡ s.text) × (u.retries ≡ s.retries) × (u.calls ≡ s.calls) × (u.namespace ≡ s.namespace)
+    → (place_of u ≡ place_of s) × (u.text ≡ s.text) × (u.setting ≡ s.setting) × (u.calls ≡ s.calls) × (u.namespace ≡ s.namespace)
     → (u.frames ≡ t.frames) × (u.transaction ≡ None)
     → from_state (pure_part v) u ≡ settled_tree t v committed s
 unfolding inside_attempt

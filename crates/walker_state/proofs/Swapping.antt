@@ -32,7 +32,7 @@ use Rattle.walker_state.proofs.Stepping.{inside_attempt-asking, fails-at}
 asked-at : (s : State) (ask : AskData) (behind : AnswerData → Doing)
     → asks ask (λ answer. whole s (behind answer)) ≡ whole s (asking ask behind)
 asked-at s ask behind =
-    sym (inside_attempt-asking s.retries s.transaction (bottom s.frames.items (place_of s)) ask behind (string_bytes s.text))
+    sym (inside_attempt-asking s.setting s.transaction (bottom s.frames.items (place_of s)) ask behind (string_bytes s.text))
 
 -- Its call
 

@@ -44,11 +44,12 @@ kept_of s = record {
   calls = s.calls;
   namespace = arc_str_bytes s.namespace;
   running = is_running s.transaction;
-  retries = s.retries;
+  retries = s.setting.retries;
+  occasion = s.setting.occasion;
 }
 
 abbrev pub whole_at : State → PlaceData → Doing → InteractionTree
-whole_at s p d = written_tree (string_bytes s.text) (inside_attempt s.retries s.transaction p d)
+whole_at s p d = written_tree (string_bytes s.text) (inside_attempt s.setting s.transaction p d)
 
 -- the whole, of which this is still done where the state stands
 abbrev pub whole : State → Doing → InteractionTree
@@ -81,8 +82,8 @@ symbol_for_use p s purpose = resolution p s >>= value_for_use p purpose
 -- what is done once an attempt of this transaction has begun, and its place is this one
 abbrev pub begun_tree : Transaction → State → InteractionTree
 begun_tree t s = written_tree (string_bytes s.text)
-    (with_attempt (after_body (again s.retries t (place_of s))
-    (frames_next t.frames.items (place_of s))) nothing_noted (body_at s.retries t (place_of s)))
+    (with_attempt (after_body (again s.setting t (place_of s))
+    (frames_next t.frames.items (place_of s))) nothing_noted (body_at s.setting t (place_of s)))
 
 abbrev pub kept_inside : State → Kept
 kept_inside s = with_running true (kept_of s)
@@ -93,7 +94,7 @@ kept_outside s = with_running false (kept_of s)
 -- what is done with the verdict on a body's value
 abbrev pub settled_tree : Transaction → Datum → VerdictData → State → InteractionTree
 settled_tree t d verdict s = written_tree (string_bytes s.text)
-    (after_verdict (again s.retries t (place_of s) (kept_inside s)) d verdict
+    (after_verdict (again s.setting t (place_of s) (kept_inside s)) d verdict
     (frames_next t.frames.items (place_of s)) (kept_outside s))
 
 abbrev pub tree_with_answer : Wanted → AnswerData → State → InteractionTree

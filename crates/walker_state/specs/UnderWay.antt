@@ -1,5 +1,5 @@
 -- A transaction that is under way, in the words of the definition.
-use Rattle.std.specs.Prelude.{ℕ, Bool, true, false, Option, Some, None, Box}
+use Rattle.std.specs.Prelude.{Bool, true, false, Option, Some, None, Box}
 use Rattle.std.specs.Global.{Global}
 use Rattle.std.specs.Arc.{arc_str_bytes}
 use Rattle.value_data.specs.Datum.{nil}
@@ -12,34 +12,35 @@ use Rattle.evaluation_rules.specs.Places.{PlaceData}
 use Rattle.evaluation_rules.specs.Rows.{last_of}
 use Rattle.evaluation_rules.specs.Transactions.{body_of, after_body, attempts}
 use Rattle.evaluation_rules.specs.Evaluation.{value_at}
+use Rattle.walker_state.specs.declared.frames.Setting.{Setting}
 use Rattle.walker_state.specs.declared.frames.Transaction.{Transaction}
 use Rattle.walker_state.specs.Frames.{frames_next}
 
 -- Transactions
 
 -- on entering a transaction
-abbrev pub kept_at : ℕ → Transaction → Kept
-kept_at retries t = record {
+abbrev pub kept_at : Setting → Transaction → Kept
+kept_at setting t = record {
   calls = t.calls;
   namespace = arc_str_bytes t.namespace;
-  running =
-      false;
-  retries = retries;
+  running = false;
+  retries = setting.retries;
+  occasion = setting.occasion;
 }
 
-abbrev pub body_at : ℕ → Transaction → PlaceData → Doing
-body_at retries t p = body_of (last_of (value_at t.room p) nil (forms_view t.body))
-    (kept_at retries t)
+abbrev pub body_at : Setting → Transaction → PlaceData → Doing
+body_at setting t p = body_of (last_of (value_at t.room p) nil (forms_view t.body))
+    (kept_at setting t)
 
 -- the attempts that are left
-unfoldable pub again : ℕ → Transaction → PlaceData → Kept → Doing
-again retries t p = attempts t.left (body_at retries t p) (frames_next t.frames.items p)
+unfoldable pub again : Setting → Transaction → PlaceData → Kept → Doing
+again setting t p = attempts t.left (body_at setting t p) (frames_next t.frames.items p)
 
 -- in the attempt, if a transaction runs
-unfoldable pub inside_attempt : ℕ → Option (Box Transaction Global) → PlaceData → Doing → Doing
-inside_attempt retries None p d = d
-inside_attempt retries (Some t) p d =
-    with_attempt (after_body (again retries t.value p) (frames_next t.value.frames.items p))
+unfoldable pub inside_attempt : Setting → Option (Box Transaction Global) → PlaceData → Doing → Doing
+inside_attempt setting None p d = d
+inside_attempt setting (Some t) p d =
+    with_attempt (after_body (again setting t.value p) (frames_next t.value.frames.items p))
     (attempt_view t.value.attempt) d
 
 -- what the attempt that runs has so far

@@ -42,7 +42,7 @@ pub fn begin_transaction(
         ≡ from_state (transacted_value false
         (last_of (value_at room (place_of state.old)) nil (forms_view body))) state.old) }
 {
-    if state.retries == 0 {
+    if state.setting.retries == 0 {
         return Ok(Control::Fault(broken_rule(alloc, Rule::AttemptsAreLimited)?));
     }
     let namespace = copy_text(&state.namespace)?;
@@ -52,7 +52,7 @@ pub fn begin_transaction(
         room,
         calls: state.calls,
         namespace,
-        left: state.retries - 1,
+        left: state.setting.retries - 1,
         is_first: true,
         frames,
         attempt: Attempt::new(alloc),
@@ -106,7 +106,7 @@ fn unwind(state: &mut State)
     ensures place { place_of state.new ≡ bottom state.old.frames.items (place_of state.old) }
     ensures kept { kept_of state.new ≡ kept_of state.old }
     ensures text { state.new.text ≡ state.old.text }
-    ensures retries { state.new.retries ≡ state.old.retries }
+    ensures setting { state.new.setting ≡ state.old.setting }
     ensures calls { state.new.calls ≡ state.old.calls }
     ensures transaction { state.new.transaction ≡ state.old.transaction }
 {
@@ -143,7 +143,7 @@ pub fn begin_again(
 ) -> Result<Control, AllocError>
     ensures meaning { IfOk result (λ control. tree control state.new
         ≡ written_tree (string_bytes state.old.text)
-        (again state.old.retries transaction.value (place_of state.old)
+        (again state.old.setting transaction.value (place_of state.old)
         (machine.kept_inside state.old))) }
     ensures retried { IfOk result (λ control.
         IsRetried control state.new transaction.value state.old.calls) }

@@ -1,4 +1,5 @@
 // What an evaluation has still to do, from the inside out.
+use evaluation_rules::Occasion;
 use local_names::Locals;
 use repl_asks::{Ask, Commute, NamedFunction};
 use repl_values::{Fault, RefName, Value};
@@ -92,9 +93,17 @@ pub struct Place {
     pub home: Option<ArcStr>,
 }
 
+/// What stays the same in an evaluation: how many attempts a transaction may make, and on which
+/// occasion it is made.
+#[derive(Clone, Copy)]
+pub struct Setting {
+    pub retries: u32,
+    pub occasion: Occasion,
+}
+
 /// The frames of an evaluation up to its transaction, innermost first, where it stands, and what it
 /// carries from form to form: how many calls it may still make, its namespace, the text that it
-/// printed, how many attempts a transaction may make, and the transaction that runs.
+/// printed, what stays the same, and the transaction that runs.
 #[derive(Drop)]
 pub struct State {
     pub frames: VecDeque<Frame>,
@@ -102,7 +111,7 @@ pub struct State {
     pub calls: u32,
     pub namespace: ArcStr,
     pub text: String,
-    pub retries: u32,
+    pub setting: Setting,
     pub transaction: Option<Box<Transaction>>,
 }
 

@@ -8,6 +8,7 @@ mod arguments;
 mod attempts;
 mod collect;
 mod commits;
+mod definitions;
 mod frames;
 mod names;
 mod namespaces;
@@ -23,9 +24,10 @@ pub use arguments::{bind_parameters, full_name, get_arguments};
 pub use attempts::{begin_again, begin_attempt, begin_transaction, retry};
 pub use collect::make_collection;
 pub use commits::{EndOrCommit, leave, settle};
+pub use definitions::{is_definition, refuse_definition};
 pub use frames::{
-    Callee, Collection, Control, Frame, Place, State, StoreFrame, Swap, SymbolUse, Transaction,
-    Wanted,
+    Callee, Collection, Control, Frame, Place, Setting, State, StoreFrame, Swap, SymbolUse,
+    Transaction, Wanted,
 };
 pub use names::{look_up, names_function, resolve, space};
 pub use namespaces::{enter_named, enter_namespace, go_on_in};

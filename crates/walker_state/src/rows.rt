@@ -46,7 +46,7 @@ pub fn bind(state: &mut State, name: ArcStr, value: Value) -> Result<(), AllocEr
         ≡ 1 + frames_size state.old.frames.items) }
     ensures calls { state.new.calls ≡ state.old.calls }
     ensures transaction { state.new.transaction ≡ state.old.transaction }
-    ensures retries { state.new.retries ≡ state.old.retries }
+    ensures setting { state.new.setting ≡ state.old.setting }
     ensures bottom { IfOk result (λ _. bottom state.new.frames.items (place_of state.new)
         ≡ bottom state.old.frames.items (place_of state.old)) }
     ensures place { IfOk result (λ _. place_of state.new

@@ -8,7 +8,9 @@ ghost use Rattle.repl_asks.specs.Inside.View.{commute_view, name_view, reading_v
 ghost use Rattle.special_forms.specs.Inside.Seen.{views};
 ghost use Rattle.evaluation_rules.specs.Calls.{commute_noted};
 ghost use Rattle.evaluation_rules.specs.Refs.{ensured_read, held_value, put_value, read_value};
-ghost use Rattle.evaluation_rules.specs.Refs.{store_call};
+ghost use Rattle.evaluation_rules.specs.Refs.{call_data_at, store_call};
+ghost use Rattle.store_calls.specs.Inside.View.{call_view};
+ghost use Rattle.walker_state.specs.UnderWay.{is_running};
 ghost use Rattle.walker_state.specs.Pending.{from_state, tree};
 ghost use Rattle.walker_state.specs.Position.{IsLater, LeadsOnWithin, control_position};
 ghost use Rattle.walker_state.specs.Position.{wanted_position};
@@ -17,12 +19,13 @@ ghost use Rattle.walker_state.specs.declared.frames.Wanted.{Wanted};
 use crate::attempts::retry;
 use crate::frames::{Control, State, Wanted};
 use crate::refs::{ensure, note_commuted, note_ensured, note_read, read};
+use evaluation_rules::Occasion;
 use function_names::StoreFunction;
 use repl_asks::{Commute, Reading};
 use repl_faults::{Rule, broken_rule};
 use repl_values::{RefName, Value, copy};
 use std::alloc::{AllocError, Global};
-use store_calls::{Call, may_hold};
+use store_calls::{Call, call_in_shared_text, may_hold};
 use tx_attempt::SetError;
 
 /// A call of a function that asks the store.
@@ -37,13 +40,31 @@ pub fn call_store(
     ensures meaning { IfOk result (λ control. tree control state.new
         ≡ from_state (store_call function (views values.items)) state.old) }
 {
-    let in_transaction = state.transaction.is_some();
-    match store_calls::call(alloc, function, in_transaction, values)? {
+    match take_apart(alloc, state, function, values)? {
         Call::Refused(fault) => Ok(Control::Fault(fault)),
         Call::Reads(name) => read(state, name),
         Call::Puts(name, value) => put(alloc, state, name, value),
         Call::Ensures(name) => ensure(state, name),
         Call::AsksValue(ask) => Ok(Control::Ask(ask, Wanted::Value)),
+    }
+}
+
+// What the call comes to, before anybody is asked.
+fn take_apart(
+    alloc: Global,
+    state: &State,
+    function: StoreFunction,
+    values: Vec<Value>,
+) -> Result<Call, AllocError>
+    ensures { IfOk result (λ call. call_view call ≡ call_data_at state.now.setting.occasion function
+        (is_running state.now.transaction) (views values.items)) }
+{
+    match state.setting.occasion {
+        Occasion::Form => {
+            let in_transaction = state.transaction.is_some();
+            store_calls::call(alloc, function, in_transaction, values)
+        }
+        Occasion::SharedText => call_in_shared_text(alloc, function, values),
     }
 }
 

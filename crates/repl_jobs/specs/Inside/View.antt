@@ -14,6 +14,7 @@ use Rattle.repl_jobs.specs.declared.job.Finished.{Finished}
 
 abbrev pub work_view : Work → WorkData
 work_view (Work.Form form) = jobs.form (view form)
+work_view (Work.SharedForm form) = jobs.shared_form (view form)
 
 abbrev pub job_view : Job → JobData
 job_view job = record {

@@ -38,7 +38,7 @@ returns-in-Choice-clause-meaning c =
 pub returns-in_ok-bind-in-Let-clause-meaning : goal.returns-in_ok-bind-in-Let-clause-meaning
 returns-in_ok-bind-in-Let-clause-meaning c =
     let e = c.in_ok-bind-in-Let.ensures in
-    if_ok-turned _ _ (rw (c.in-Let.is, e.bottom, e.next, e.kept, e.place, e.text, e.retries, e.transaction) refl) c.next_binding.ensures.meaning
+    if_ok-turned _ _ (rw (c.in-Let.is, e.bottom, e.next, e.kept, e.place, e.text, e.setting, e.transaction) refl) c.next_binding.ensures.meaning
 
 pub returns-in-Define-clause-meaning : goal.returns-in-Define-clause-meaning
 returns-in-Define-clause-meaning c = if_ok-turned _ _ (rw c.in-Define.is refl) c.define.ensures.meaning

@@ -9,7 +9,7 @@ pub returns-in-Some-clause-meaning : goal.returns-in-Some-clause-meaning
 returns-in-Some-clause-meaning c =
     let e = c.unwind.ensures in
     if_ok-turned _ _
-    (retried-from c.args.state.now c.unwind.new.state c.in-Some.transaction (sym c.in-Some.ensures.value) (e.place, e.text, e.retries, e.calls)
+    (retried-from c.args.state.now c.unwind.new.state c.in-Some.transaction (sym c.in-Some.ensures.value) (e.place, e.text, e.setting, e.calls)
     (ap (λ (k : Kept). k.namespace) e.kept))
     c.begin_again.ensures.meaning
 

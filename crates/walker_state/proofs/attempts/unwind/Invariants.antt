@@ -8,7 +8,7 @@ invariant-loop-frame l = record {
   place : bottom l.state.frames.items (place_of l.state) ≡ bottom l.initial.state.frames.items (place_of l.initial.state);
   kept : kept_of l.state ≡ kept_of l.initial.state;
   text : l.state.text ≡ l.initial.state.text;
-  retries : l.state.retries ≡ l.initial.state.retries;
+  setting : l.state.setting ≡ l.initial.state.setting;
   calls : l.state.calls ≡ l.initial.state.calls;
   transaction : l.state.transaction ≡ l.initial.state.transaction;
 }

@@ -1,0 +1,90 @@
+// Calls in the text of the namespace that all tenants share, which makes refs and reads them.
+ghost use Rattle.std.specs.Prelude.{◌≡◌, true, vec_len, IfOk};
+ghost use Rattle.value_data.specs.Inside.View.{view};
+ghost use Rattle.special_forms.specs.Inside.Seen.{views};
+ghost use Rattle.function_names.specs.StoreNames.{store_fits};
+ghost use Rattle.function_names.specs.declared.store.StoreFunction.{StoreFunction};
+ghost use Rattle.repl_faults.specs.Inside.View.{Gives};
+ghost use Rattle.store_calls.specs.Calling as meant;
+ghost use Rattle.store_calls.specs.Inside.View.{call_view};
+
+use crate::applying::{deref_call, ref_call};
+use crate::outcome::Call;
+use crate::rules::keep_to;
+use function_names::StoreFunction;
+use repl_faults::{ApplyError, Rule, broken_rule, wrong_arity};
+use repl_values::{Value, is_plain};
+use std::alloc::{AllocError, Global};
+
+/// What a call of the function with these values comes to in the text of the namespace that all
+/// tenants share. The number of values is checked first. A ref is made of plain data, without
+/// options, and its value is read; all else is refused, whatever the values are. It fails only for
+/// want of memory.
+#[tactic(auto, unfolding(crate::specs::Calling::shared_call_data_of))]
+pub fn call_in_shared_text(
+    alloc: Global,
+    function: StoreFunction,
+    values: Vec<Value>,
+) -> Result<Call, AllocError>
+    ensures { IfOk result (λ call. call_view call
+        ≡ meant.shared_call_data_of function (views values.items)) }
+{
+    if !function.takes(values.len()) {
+        let fault = wrong_arity(alloc, function.name(), values.len())?;
+        return Ok(Call::Refused(fault));
+    }
+    match shared_call_with(alloc, function, values) {
+        Ok(call) => Ok(call),
+        Err(ApplyError::Fault(fault)) => Ok(Call::Refused(fault)),
+        Err(ApplyError::NoMemory) => Err(AllocError),
+    }
+}
+
+#[tactic(auto, using(crate::proofs::Taken::shared_calls))]
+fn shared_call_with(
+    alloc: Global,
+    function: StoreFunction,
+    values: Vec<Value>,
+) -> Result<Call, ApplyError>
+    requires { store_fits function (vec_len values) ≡ true }
+    ensures { Gives call_view result (meant.shared_call_with function (views values.items)) }
+{
+    match function {
+        StoreFunction::Ref => shared_ref_call(alloc, values),
+        StoreFunction::Deref => deref_call(alloc, &values[0]),
+        StoreFunction::RefSet
+        | StoreFunction::Alter
+        | StoreFunction::Commute
+        | StoreFunction::Ensure
+        | StoreFunction::HistoryCount
+        | StoreFunction::MinHistory
+        | StoreFunction::MaxHistory
+        | StoreFunction::Atom
+        | StoreFunction::Swap
+        | StoreFunction::Reset
+        | StoreFunction::CompareAndSet => {
+            Err(ApplyError::Fault(broken_rule(alloc, Rule::SharedTextDefinesAlone)?))
+        }
+    }
+}
+
+// `(ref value)`, with no options
+#[tactic(auto, using(crate::proofs::Taken::shared_calls))]
+fn shared_ref_call(alloc: Global, values: Vec<Value>) -> Result<Call, ApplyError>
+    requires { store_fits StoreFunction.Ref (vec_len values) ≡ true }
+    ensures { Gives call_view result
+        (meant.shared_call_with StoreFunction.Ref (views values.items)) }
+{
+    if values.len() == 1 {
+        let mut values = values;
+        return plain_ref_call(alloc, values.remove(0));
+    }
+    Err(ApplyError::Fault(broken_rule(alloc, Rule::SharedTextDefinesAlone)?))
+}
+
+fn plain_ref_call(alloc: Global, value: Value) -> Result<Call, ApplyError>
+    ensures { Gives call_view result (meant.plain_ref_call (view value)) }
+{
+    keep_to(alloc, Rule::SharedRefsArePlain, is_plain(&value))?;
+    ref_call(alloc, value, &[])
+}

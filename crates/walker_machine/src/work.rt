@@ -1,0 +1,47 @@
+// What the work of a job begins with.
+#![tactic(auto, using(walker_state::proofs::Stepping::steps))]
+
+ghost use Rattle.std.specs.Prelude.{◌≡◌, ◌≤◌, IfOk};
+ghost use Rattle.value_data.specs.Inside.View.{view};
+ghost use Rattle.repl_jobs.specs.Inside.View.{work_view};
+ghost use Rattle.evaluation_rules.specs.Evaluation.{shared_form_value, work_value};
+ghost use Rattle.evaluation_rules.specs.Places.{outside};
+ghost use Rattle.walker_state.specs.Pending.{from_state, place_of, tree};
+ghost use Rattle.walker_state.specs.Position.{around, control_around, control_calls};
+ghost use Rattle.walker_state.specs.declared.frames.State.{State};
+
+use evaluation_rules::ROOM;
+use repl_faults::bad_form;
+use repl_jobs::Work;
+use repl_values::{Value, copy};
+use std::alloc::{AllocError, Global};
+use walker_state::{Control, is_definition};
+
+// The work begins outside of functions.
+pub(crate) fn begin_work(alloc: Global, work: &Work) -> Result<Control, AllocError>
+    ensures calls { IfOk result (λ control. (s : State) → control_calls control s ≤ s.calls) }
+    ensures around { IfOk result (λ control. (s : State)
+        → control_around control s ≡ around s.transaction) }
+    ensures meaning { IfOk result (λ control. (s : State) → place_of s ≡ outside
+        → tree control s ≡ from_state (work_value (work_view work.now)) s) }
+{
+    match work {
+        Work::Form(form) => Ok(Control::Evaluate(copy(form)?, ROOM)),
+        Work::SharedForm(form) => begin_shared_form(alloc, form),
+    }
+}
+
+// The text of the shared namespace consists of definitions.
+#[tactic(auto, using(walker_state::proofs::Stepping::steps), unfolding(evaluation_rules::specs::Evaluation::shared_form_value))]
+fn begin_shared_form(alloc: Global, form: &Value) -> Result<Control, AllocError>
+    ensures calls { IfOk result (λ control. (s : State) → control_calls control s ≤ s.calls) }
+    ensures around { IfOk result (λ control. (s : State)
+        → control_around control s ≡ around s.transaction) }
+    ensures meaning { IfOk result (λ control. (s : State) → place_of s ≡ outside
+        → tree control s ≡ from_state (shared_form_value (view form.now)) s) }
+{
+    if !is_definition(form) {
+        return Ok(Control::Fault(bad_form(alloc, "shared")?));
+    }
+    Ok(Control::Evaluate(copy(form)?, ROOM))
+}
