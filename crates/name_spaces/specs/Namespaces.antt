@@ -9,6 +9,10 @@ use Rattle.name_spaces.specs.Bindings.{Bindings, nothing_bound, rebound}
 abbrev pub Namespaces : Type 0
 Namespaces = List ℕ → Option Bindings
 
+-- none is there
+abbrev pub no_namespaces : Namespaces
+no_namespaces name = None
+
 unfoldable pub is_there : Namespaces → List ℕ → Bool
 is_there namespaces name = is_some (namespaces name)
 

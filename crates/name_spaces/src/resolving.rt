@@ -1,24 +1,27 @@
-// How symbols are resolved in the namespaces of a tenant.
+// How symbols are resolved in the namespaces of a tenant, and in the text of the shared one.
 ghost use Rattle.std.specs.Prelude.{◌≡◌, IfOk, option_map};
 ghost use Rattle.repl_faults.specs.Inside.View.{failure_of};
 ghost use Rattle.function_names.specs.StoreNames.{store_function_named};
 ghost use Rattle.repl_asks.specs.Exchange.{names_function, names_nothing};
 ghost use Rattle.repl_asks.specs.Inside.View.{binding_view, named_view, resolution_view};
-ghost use Rattle.name_spaces.specs.Bindings.{nothing_bound};
 ghost use Rattle.name_spaces.specs.Latest.{latest_named};
-ghost use Rattle.name_spaces.specs.Resolving.{resolved, simple_symbol, qualified_symbol};
+ghost use Rattle.name_spaces.specs.Namespaces.{bindings_of};
+ghost use Rattle.name_spaces.specs.Resolving.{resolved, simple_symbol, namespace_named, var_in};
 ghost use Rattle.name_spaces.specs.Resolving.{unbound_symbol, resolution_outside_core};
 ghost use Rattle.name_spaces.specs.Resolving.{bound_resolution, found_resolution};
-ghost use Rattle.name_spaces.specs.Inside.Seen.{namespaces_of, bindings_named, found_view};
+ghost use Rattle.name_spaces.specs.Inside.Seen.{bound_in, bound_among, found_view};
+ghost use Rattle.name_spaces.specs.Inside.Seen.{namespaces_of, shared_in};
 
 use crate::found::Found;
 use crate::latest::Latest;
 use crate::spaces::Spaces;
+use crate::vars::Vars;
 use function_names::{CoreFunction, StoreFunction};
 use repl_asks::{Binding, NamedFunction, Resolution};
 use repl_faults::{no_such_namespace, no_such_var, unresolved_symbol};
 use repl_values::{Fault, copy};
 use std::alloc::{AllocError, Global};
+use std::collections::BTreeMap;
 
 // The namespace that every tenant sees beside its own.
 const SHARED: &str = "shared";
@@ -30,65 +33,91 @@ impl Spaces {
     /// and nowhere else: `clojure.core` is not found here, since evaluation asks for none of its
     /// symbols. It takes about the logarithm of the number of namespaces and of names, and fails
     /// only for want of memory.
-    #[tactic(auto, unfolding(crate::specs::Resolving::resolved))]
+    #[tactic(auto, unfolding(crate::specs::Inside::Seen::namespaces_of))]
     pub fn resolve(&self, alloc: Global, namespace: &str, symbol: &str) -> Result<Found, AllocError>
         ensures { IfOk result (λ found. found_view found
-            ≡ resolved nothing_bound (namespaces_of self.now) namespace.now symbol.now) }
+            ≡ resolved (shared_in self.now) (namespaces_of self.now) namespace.now symbol.now) }
     {
-        if symbol == "/" {
-            return self.resolve_simple(alloc, namespace, symbol);
-        }
-        match symbol.split_once('/') {
-            Some((space, name)) => self.resolve_qualified(alloc, symbol, space, name),
-            None => self.resolve_simple(alloc, namespace, symbol),
-        }
+        resolve_among(
+            alloc,
+            self.shared.vars(),
+            &self.namespaces,
+            namespace,
+            symbol,
+        )
     }
+}
 
-    fn resolve_simple(
-        &self,
-        alloc: Global,
-        namespace: &str,
-        symbol: &str,
-    ) -> Result<Found, AllocError>
-        ensures { IfOk result (λ found. found_view found
-            ≡ simple_symbol symbol.now (bindings_named self.now namespace.now symbol.now)) }
-    {
-        match self.binding_in(namespace, symbol) {
-            Some(binding) => find_bound(binding),
-            None => find_unbound(alloc, symbol),
-        }
+// What a symbol names for one who sees what `shared` binds, and these namespaces of its own.
+#[tactic(auto, unfolding(crate::specs::Resolving::resolved))]
+pub(crate) fn resolve_among(
+    alloc: Global,
+    shared: &Vars,
+    own: &BTreeMap<String, Vars>,
+    namespace: &str,
+    symbol: &str,
+) -> Result<Found, AllocError>
+    ensures { IfOk result (λ found. found_view found
+        ≡ resolved (bound_in shared.now) (bound_among own.now) namespace.now symbol.now) }
+{
+    if symbol == "/" {
+        return resolve_simple(alloc, named(shared, own, namespace), symbol);
     }
+    match symbol.split_once('/') {
+        Some((space, name)) => {
+            resolve_qualified(alloc, named(shared, own, space), symbol, space, name)
+        }
+        None => resolve_simple(alloc, named(shared, own, namespace), symbol),
+    }
+}
 
-    #[tactic(auto, unfolding(crate::specs::Inside::Seen::namespaces_of))]
-    fn resolve_qualified(
-        &self,
-        alloc: Global,
-        symbol: &str,
-        space: &str,
-        name: &str,
-    ) -> Result<Found, AllocError>
-        ensures { IfOk result (λ found. found_view found
-            ≡ found_resolution (qualified_symbol nothing_bound (namespaces_of self.now)
-            symbol.now space.now name.now)) }
-    {
-        if space == SHARED {
-            return Ok(nothing(no_such_var(alloc, symbol)?));
-        }
-        let Some(vars) = self.namespaces.get(space) else {
-            return Ok(nothing(no_such_namespace(alloc, space)?));
-        };
-        match vars.binding(name) {
-            Some(binding) => find_bound(binding),
-            None => Ok(nothing(no_such_var(alloc, symbol)?)),
-        }
+// The namespace of this name.
+fn named<'a>(shared: &'a Vars, own: &'a BTreeMap<String, Vars>, space: &str) -> Option<&'a Vars>
+    ensures { option_map (λ v. bound_in v.now) result
+        ≡ namespace_named (bound_in shared.now) (bound_among own.now) space.now }
+{
+    if space == SHARED {
+        return Some(shared);
     }
+    own.get(space)
+}
 
-    fn binding_in(&self, namespace: &str, name: &str) -> Option<&Binding>
-        ensures { option_map (λ b. binding_view b.now) result
-            ≡ bindings_named self.now namespace.now name.now }
-    {
-        self.namespaces.get(namespace)?.binding(name)
+// A symbol without a slash, in what was found of its namespace.
+fn resolve_simple(alloc: Global, vars: Option<&Vars>, symbol: &str) -> Result<Found, AllocError>
+    ensures { IfOk result (λ found. found_view found ≡ simple_symbol symbol.now
+        (bindings_of (option_map (λ v. bound_in v.now) vars.entry) symbol.now)) }
+{
+    match binding_in(vars, symbol) {
+        Some(binding) => find_bound(binding),
+        None => find_unbound(alloc, symbol),
     }
+}
+
+// A symbol with a slash, in what was found of the namespace that it names.
+fn resolve_qualified(
+    alloc: Global,
+    vars: Option<&Vars>,
+    symbol: &str,
+    space: &str,
+    name: &str,
+) -> Result<Found, AllocError>
+    ensures { IfOk result (λ found. found_view found ≡ found_resolution
+        (var_in (option_map (λ v. bound_in v.now) vars.entry) symbol.now space.now name.now)) }
+{
+    let Some(vars) = vars else {
+        return Ok(nothing(no_such_namespace(alloc, space)?));
+    };
+    match vars.binding(name) {
+        Some(binding) => find_bound(binding),
+        None => Ok(nothing(no_such_var(alloc, symbol)?)),
+    }
+}
+
+fn binding_in<'a>(vars: Option<&'a Vars>, name: &str) -> Option<&'a Binding>
+    ensures { option_map (λ b. binding_view b.now) result
+        ≡ bindings_of (option_map (λ v. bound_in v.now) vars.entry) name.now }
+{
+    vars?.binding(name)
 }
 
 // What a symbol names that is bound to this.

@@ -7,6 +7,7 @@ ghost use Rattle.repl_asks.specs.Namespaces.{is_fixed};
 ghost use Rattle.name_spaces.specs.Namespaces.{is_there, at_start, with_entered_namespace};
 ghost use Rattle.name_spaces.specs.Namespaces.{with_definition, with_namespace};
 
+use crate::shared::SharedNames;
 use crate::vars::Vars;
 use repl_asks::{Binding, is_fixed};
 use std::alloc::{AllocError, Global};
@@ -16,30 +17,34 @@ use std::sync::ArcStr;
 /// The namespace that is there from the start.
 pub const USER: &str = "user";
 
-/// The namespaces of one tenant, by their names. None is ever removed.
+/// The namespaces of one tenant, by their names, and the shared one. None is ever removed.
 ///
 /// The fixed ones, `shared` and `clojure.core`, are no tenant's own: nobody enters them or defines
 /// in them.
 #[derive(Drop)]
 pub struct Spaces {
     pub(crate) namespaces: BTreeMap<String, Vars>,
+    pub(crate) shared: SharedNames,
     // None of them is fixed.
     ghost own: { (name : List ℕ) → is_fixed name ≡ true
         → is_some (get_by_text namespaces name) ≡ false },
 }
 
 impl Spaces {
-    ghost use Rattle.name_spaces.specs.Inside.Seen.{bound_in, namespaces_of};
+    ghost use Rattle.name_spaces.specs.Inside.Seen.{bound_in, namespaces_of, shared_in};
+    ghost use Rattle.name_spaces.specs.Inside.Seen.{shared_bindings};
 
-    /// The namespace `user` alone, which binds nothing. It fails only for want of memory.
+    /// The namespace `user` alone, which binds nothing, beside the shared one. It fails only for
+    /// want of memory.
     #[tactic(auto, unfolding(repl_asks::specs::Namespaces::is_fixed))]
-    pub fn new(alloc: Global) -> Result<Spaces, AllocError>
-        ensures { IfOk result (λ made. namespaces_of made ≡ at_start) }
+    pub fn new(alloc: Global, shared: SharedNames) -> Result<Spaces, AllocError>
+        ensures namespaces { IfOk result (λ made. namespaces_of made ≡ at_start) }
+        ensures shared { IfOk result (λ made. shared_in made ≡ shared_bindings shared) }
     {
         let mut namespaces = BTreeMap::new(alloc);
         let user = String::from_str(alloc, USER)?;
         drop(namespaces.insert(user, Vars::new(alloc))?);
-        Ok(Spaces { namespaces })
+        Ok(Spaces { namespaces, shared })
     }
 
     /// Whether the namespace of this name is one of the tenant's own. Bytes that are no text name
@@ -62,6 +67,7 @@ impl Spaces {
         ensures entered { OnOk result (namespaces_of self.new
             ≡ with_entered_namespace (namespaces_of self.old) name.now) }
         ensures kept { OnErr result (namespaces_of self.new ≡ namespaces_of self.old) }
+        ensures shared { shared_in self.new ≡ shared_in self.old }
     {
         if is_fixed(name) || self.namespaces.contains_key(name) {
             return Ok(());
@@ -84,6 +90,7 @@ impl Spaces {
             ≡ with_definition (namespaces_of self.old)
             namespace.now (arc_str_bytes name) (binding_view binding)) }
         ensures kept { OnErr result (namespaces_of self.new ≡ namespaces_of self.old) }
+        ensures shared { shared_in self.new ≡ shared_in self.old }
     {
         if is_fixed(namespace) {
             return Ok(());
@@ -105,6 +112,7 @@ impl Spaces {
         ensures placed { OnOk result (namespaces_of self.new
             ≡ with_namespace (namespaces_of self.old) name.now (bound_in vars)) }
         ensures kept { OnErr result (namespaces_of self.new ≡ namespaces_of self.old) }
+        ensures shared { shared_in self.new ≡ shared_in self.old }
     {
         let key = String::from_str(alloc, name)?;
         drop(self.namespaces.insert(key, vars)?);

@@ -80,6 +80,7 @@ refs-answered g t a q ask s r m new old attempts later (Ok (Some it)) holds name
         sessions = remembers.sessions;
         bare = remembers.bare;
         spaces = remembers.spaces ∙ still.spaces;
+        names = remembers.names;
         atoms = remembers.atoms ∙ still.atoms;
         replies = remembers.replies;
       };

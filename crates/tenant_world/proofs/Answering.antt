@@ -134,6 +134,7 @@ acted-answer_outcome g t m a actor new h run ask q told kept given hand running 
         sessions = r.sessions;
         bare = r.bare;
         spaces = r.spaces;
+        names = r.names;
         atoms = r.atoms;
         replies = r.replies;
       };

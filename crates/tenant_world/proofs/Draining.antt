@@ -3,7 +3,7 @@ use Rattle.std.proofs.Common.{◌≡◌, ℕ, List, [], ◌∷◌, Option, None,
 use Rattle.std.proofs.Common.{subst, ◌∙◌, ◌≢◌, map, true}
 use Rattle.bencode_wire.specs.Inside.Decoder as decoder
 use Rattle.bencode_wire.specs.declared.decoder.Decoder.{Decoder}
-use Rattle.name_spaces.specs.Inside.Seen.{namespaces_of}
+use Rattle.name_spaces.specs.Inside.Seen.{namespaces_of, shared_in}
 use Rattle.private_cells.specs.Inside.View.{atoms_view}
 use Rattle.repl_sessions.specs.Inside.StateView.{state_view}
 use Rattle.server_rules.specs.Readings.{message_limit}
@@ -55,7 +55,6 @@ stands-with g q s code new replies same st waits =
     let A : Attempts → Type 0 = λ x. Reaches x s in
     record {
       retries = same.retries ∙ st.retries;
-      names = st.names;
       steps = same.steps ∙ st.steps;
       stream = subst E (sym same.decoder) st.stream;
       actors = ap actors_view same.actors ∙ st.actors;
@@ -63,6 +62,7 @@ stands-with g q s code new replies same st waits =
         sessions = same.sessions ∙ st.remembers.sessions;
         bare = ap state_view same.bare ∙ st.remembers.bare;
         spaces = ap namespaces_of same.spaces ∙ st.remembers.spaces;
+        names = st.remembers.names ∙ ap shared_in (sym same.spaces);
         atoms = ap atoms_view same.atoms ∙ st.remembers.atoms;
         replies = waits;
       };

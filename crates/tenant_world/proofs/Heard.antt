@@ -9,7 +9,7 @@ use Rattle.repl_replies.specs.Operations as operations
 use Rattle.repl_replies.specs.Operations.{AskedData, OperationData}
 use Rattle.repl_replies.specs.Replies.{OriginData, ReplyData}
 use Rattle.repl_sessions.specs.Inside.StateView.{state_view}
-use Rattle.name_spaces.specs.Inside.Seen.{namespaces_of}
+use Rattle.name_spaces.specs.Inside.Seen.{namespaces_of, shared_in}
 use Rattle.private_cells.specs.Inside.View.{atoms_view}
 use Rattle.server_rules.specs.Ground.{Ground}
 use Rattle.server_rules.specs.Hearing.{stream_fault, with_messages, new_messages, taken_in}
@@ -156,7 +156,6 @@ does-hear g q s old new piece count st some sound free tries less bare spaces at
     let A : Attempts → Type 0 = λ x. Reaches x s in
     let stands : QuietStands g new (with_step_spent after) s = record {
       retries = tries ∙ st.retries;
-      names = st.names;
       steps = less ∙ ap (λ n. n - 1) (st.steps ∙ sym kept.steps);
       stream = heard.reads.stands;
       actors = heard.holds.actors;
@@ -164,6 +163,7 @@ does-hear g q s old new piece count st some sound free tries less bare spaces at
         sessions = heard.holds.sessions;
         bare = ap state_view bare ∙ st.remembers.bare ∙ sym kept.bare;
         spaces = ap namespaces_of spaces ∙ st.remembers.spaces ∙ sym kept.spaces;
+        names = st.remembers.names ∙ ap shared_in (sym spaces);
         atoms = ap atoms_view atoms ∙ st.remembers.atoms ∙ sym kept.atoms;
         replies = heard.holds.replies;
       };

@@ -31,6 +31,7 @@ with-actors g t m q es r = record {
   sessions = r.sessions;
   bare = r.bare;
   spaces = r.spaces;
+  names = r.names;
   atoms = r.atoms;
   replies = r.replies;
 }
@@ -43,6 +44,7 @@ remembers-after_move g t m Actor.Bare actor move q r = record {
   sessions = r.sessions;
   bare = r.bare;
   spaces = r.spaces;
+  names = r.names;
   atoms = r.atoms;
   replies = r.replies;
 }
@@ -50,6 +52,7 @@ remembers-after_move g t m (Actor.Session n) actor move q r = record {
   sessions = r.sessions;
   bare = r.bare;
   spaces = r.spaces;
+  names = r.names;
   atoms = r.atoms;
   replies = r.replies;
 }
@@ -104,6 +107,7 @@ acted-interrupted g t m a new h q r = record {
     sessions = r.sessions;
     bare = r.bare;
     spaces = r.spaces;
+    names = r.names;
     atoms = r.atoms;
     replies = r.replies;
   };

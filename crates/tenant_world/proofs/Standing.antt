@@ -209,7 +209,6 @@ lends-from g a actor old new q s st tries steps same put =
     decoder.DecoderStands message_limit d q.heard (g.readings.stream q.heard).messages in
     record {
       retries = tries ∙ st.retries;
-      names = st.names;
       steps = steps ∙ st.steps;
       stream = subst E (sym same) st.stream;
       actors = put ∙ ap (with_part (seat_of a) actor) st.actors;
@@ -233,7 +232,6 @@ settled g a old new q after s b actor lends r reaches actors steps heard tries l
     let there = subst M (sym kept) r in
     record {
       retries = tries ∙ lends.retries;
-      names = lends.names;
       steps = less ∙ ap (λ n. n - 1) (lends.steps ∙ sym steps);
       stream = subst E (sym same) (subst D (sym heard) lends.stream);
       actors = put ∙ ap (left_after b a) lends.actors ∙ left-again b a actor q.actors ∙ sym actors;
@@ -241,6 +239,7 @@ settled g a old new q after s b actor lends r reaches actors steps heard tries l
         sessions = there.sessions;
         bare = there.bare;
         spaces = there.spaces;
+        names = there.names;
         atoms = there.atoms;
         replies = there.replies;
       };
@@ -253,7 +252,6 @@ pub restored : (g : Ground) (a : Actor) (code : Tenant) (q : Quiet) (s : Store) 
     → part_under (seat_of a) q.actors ≡ Some actor → QuietStands g code q s
 restored g a code q s actor lends r reaches there = record {
   retries = lends.retries;
-  names = lends.names;
   steps = lends.steps;
   stream = lends.stream;
   actors = lends.actors ∙ with_part-same (seat_of a) actor q.actors there;
@@ -320,7 +318,6 @@ stands-seen g q s old new tries steps same put kept tried st =
     let A : Attempts → Type 0 = λ x. Reaches x s in
     record {
       retries = tries ∙ st.retries;
-      names = st.names;
       steps = steps ∙ st.steps;
       stream = subst E (sym same) st.stream;
       actors = put ∙ st.actors;

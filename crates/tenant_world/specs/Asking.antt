@@ -2,7 +2,6 @@
 use Rattle.std.specs.Prelude.{◌≡◌, ℕ, Bool, true, false, Some, [], ◌∷◌, ◌++◌, option_map}
 use Rattle.repl_asks.specs.Exchange as exchange
 use Rattle.repl_asks.specs.Exchange.{AskData, AnswerData, Exchanged}
-use Rattle.name_spaces.specs.Bindings.{nothing_bound}
 use Rattle.server_rules.specs.Performed.{Performed}
 use Rattle.server_rules.specs.Store.{Store}
 use Rattle.server_rules.specs.Ground.{Ground}
@@ -16,10 +15,6 @@ use Rattle.tenant_world.specs.Memories.{Remembers}
 use Rattle.tenant_refs.specs.Serving.{RingRefTable, ServesWithAttempts}
 use Rattle.tenant_refs.specs.declared.attempts.Attempts.{Attempts}
 use Rattle.tenant_world.specs.declared.memory.Memory.{Memory}
-
--- nothing is bound in the namespace that all share
-abbrev pub SharesNoNames : Ground → Type 0
-SharesNoNames g = g.shared_names ≡ nothing_bound
 
 -- the ask is one of names
 abbrev pub is_of_names : AskData → Bool

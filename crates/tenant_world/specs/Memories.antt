@@ -2,7 +2,7 @@
 use Rattle.std.specs.Prelude.{◌≡◌, ℕ, map}
 use Rattle.repl_replies.specs.Replies.{bytes_of}
 use Rattle.repl_sessions.specs.Inside.StateView.{state_view}
-use Rattle.name_spaces.specs.Inside.Seen.{namespaces_of}
+use Rattle.name_spaces.specs.Inside.Seen.{namespaces_of, shared_in}
 use Rattle.private_cells.specs.Inside.View.{atoms_view}
 use Rattle.server_rules.specs.Ground.{Ground}
 use Rattle.server_rules.specs.Tenant.{Quiet}
@@ -15,6 +15,7 @@ pub record Remembers (g : Ground) (t : ℕ) (m : Memory) (q : Quiet) : Type 0 wh
   pub sessions : m.sessions ≡ named_sessions g t q
   pub bare : state_view m.bare ≡ q.bare
   pub spaces : namespaces_of m.spaces ≡ q.spaces
+  pub names : g.shared.names ≡ shared_in m.spaces
   pub atoms : atoms_view m.atoms ≡ q.atoms
   pub replies : waiting_bytes m.outbox ≡ map bytes_of q.replies
 

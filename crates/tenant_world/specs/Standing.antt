@@ -12,7 +12,6 @@ use Rattle.server_rules.specs.declared.refusal.Refusal.{Refusal}
 use Rattle.tenant_actors.specs.View.{actors_view}
 use Rattle.tenant_replies.specs.View.{waiting_bytes}
 use Rattle.tenant_turns.specs.DeedResult.{DeedResult}
-use Rattle.tenant_world.specs.Asking.{SharesNoNames}
 use Rattle.tenant_refs.specs.Attempts.{Reaches}
 use Rattle.tenant_world.specs.Memories.{Remembers}
 use Rattle.tenant_world.specs.declared.tenant.Tenant.{Tenant}
@@ -20,7 +19,6 @@ use Rattle.tenant_world.specs.declared.tenant.Tenant.{Tenant}
 -- the tenant whose store this is
 pub record QuietStands (g : Ground) (code : Tenant) (q : Quiet) (s : Store) : Type 0 where
   pub retries : code.retries ≡ g.retries
-  pub names : SharesNoNames g
   pub steps : code.steps ≡ q.steps
   -- the decoder has read all that was heard, and its messages were taken
   pub stream : decoder.DecoderStands message_limit code.decoder q.heard
@@ -33,7 +31,6 @@ pub record QuietStands (g : Ground) (code : Tenant) (q : Quiet) (s : Store) : Ty
 pub record Lends (g : Ground) (a : Actor) (state : ActorData) (code : Tenant) (q : Quiet)
     : Type 0 where
   pub retries : code.retries ≡ g.retries
-  pub names : SharesNoNames g
   pub steps : code.steps ≡ q.steps
   pub stream : decoder.DecoderStands message_limit code.decoder q.heard
       (g.readings.stream q.heard).messages

@@ -20,7 +20,7 @@ ghost use Rattle.tenant_world.specs.Memories.{Remembers, opened_by};
 ghost use Rattle.tenant_world.specs.Answers.{ask_answer_view, AreSameAnswers};
 ghost use Rattle.tenant_world.specs.Acting.{AcceptsOutcome, RefusesOutcome, IsActorStep};
 ghost use Rattle.tenant_world.specs.Acting.{is_accepted};
-ghost use Rattle.tenant_world.specs.Asking.{SharesNoNames, Answers, answered_plan, is_of_names};
+ghost use Rattle.tenant_world.specs.Asking.{Answers, answered_plan, is_of_names};
 ghost use Rattle.tenant_world.specs.Asking.{is_of_atoms};
 ghost use Rattle.private_cells.specs.Inside.View.{atoms_view};
 ghost use Rattle.tenant_world.specs.Rooms.{ActorHasRoom};
@@ -57,14 +57,14 @@ pub(crate) fn ask(
     ask: &Ask,
 ) -> Result<AskAnswers, Refusal>
     requires { counter_of refs.old < u128.MAX }
-    ensures acted { (g : Ground) (q : Quiet) (s : Store) (r : Refs) → SharesNoNames g
+    ensures acted { (g : Ground) (q : Quiet) (s : Store) (r : Refs)
         → Remembers g s.tenant memory.old q → ServesWithAttempts refs.old attempts.old s r
         → let d = carried_out s (asked_of g actor (actor_view state.old) (ask_view ask.now) q
         (actor_view state.old).hand) in IfOk result (λ x.
         AcceptsOutcome g s.tenant actor q d.outcome memory.new (actor_view state.new)
         (ask_answer_view x.given)
         × ServesWithAttempts refs.new attempts.new d.store (refs_after d.store r)) }
-    ensures declined { (g : Ground) (q : Quiet) (s : Store) (r : Refs) → SharesNoNames g
+    ensures declined { (g : Ground) (q : Quiet) (s : Store) (r : Refs)
         → Remembers g s.tenant memory.old q → ServesWithAttempts refs.old attempts.old s r
         → let d = carried_out s (asked_of g actor (actor_view state.old) (ask_view ask.now) q
         (actor_view state.old).hand) in IfErr result (λ why.
@@ -180,7 +180,7 @@ fn answer(
 ) -> Result<AskAnswers, Refusal>
     requires { counter_of refs.old < u128.MAX }
     ensures acted { (g : Ground) (q : Quiet) (s : Store) (r : Refs) (h : rules.Hand)
-        (run : rules.Run) → SharesNoNames g → Remembers g s.tenant memory.old q
+        (run : rules.Run) → Remembers g s.tenant memory.old q
         → ServesWithAttempts refs.old attempts.old s r → meant.is_allowed (ask_view ask.now) q ≡ true
         → (actor_view state.old).hand ≡ Some h → h.running ≡ Some run
         → let d = carried_out s (answered_plan g actor (actor_view state.old) h run
@@ -189,7 +189,7 @@ fn answer(
         (actor_view state.new) (ask_answer_view x.given)
         × ServesWithAttempts refs.new attempts.new d.store (refs_after d.store r)) }
     ensures declined { (g : Ground) (q : Quiet) (s : Store) (r : Refs) (h : rules.Hand)
-        (run : rules.Run) → SharesNoNames g → Remembers g s.tenant memory.old q
+        (run : rules.Run) → Remembers g s.tenant memory.old q
         → ServesWithAttempts refs.old attempts.old s r → meant.is_allowed (ask_view ask.now) q ≡ true
         → let d = carried_out s (answered_plan g actor (actor_view state.old) h run
         (ask_view ask.now) q) in IfErr result (λ why.
@@ -275,7 +275,7 @@ fn perform_ask(
     ask: &Ask,
 ) -> Result<Option<Thrice>, AllocError>
     requires { counter_of refs.old < u128.MAX }
-    ensures answered { (g : Ground) (q : Quiet) (s : Store) (r : Refs) → SharesNoNames g
+    ensures answered { (g : Ground) (q : Quiet) (s : Store) (r : Refs)
         → Remembers g s.tenant memory.old q → ServesWithAttempts refs.old attempts.old s r
         → meant.is_allowed (ask_view ask.now) q ≡ true
         → let p = performed s (call_of (seat_of actor) (ask_view ask.now)) in

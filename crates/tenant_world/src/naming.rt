@@ -10,7 +10,7 @@ ghost use Rattle.server_rules.specs.Tenant.{Quiet, actor_state};
 ghost use Rattle.server_rules.specs.Asking.{answer_to, quiet_after};
 ghost use Rattle.server_rules.specs.Asking as meant;
 ghost use Rattle.tenant_world.specs.Memories.{Remembers, opened_by};
-ghost use Rattle.tenant_world.specs.Asking.{SharesNoNames, is_of_names};
+ghost use Rattle.tenant_world.specs.Asking.{is_of_names};
 ghost use Rattle.tenant_refs.specs.Thrice.{thrice_view, IsThrice};
 
 use crate::memory::Memory;
@@ -31,7 +31,7 @@ pub(crate) fn name(
     ask: &Ask,
 ) -> Result<Thrice, AllocError>
     requires { is_of_names (ask_view ask.now) ≡ true }
-    ensures answered { (g : Ground) (t : ℕ) (q : Quiet) → SharesNoNames g
+    ensures answered { (g : Ground) (t : ℕ) (q : Quiet)
         → Remembers g t memory.old q → IfOk result (λ it.
         (thrice_view it ≡ answer_to g actor q (ask_view ask.now) done)
         × Remembers g t memory.new (quiet_after (ask_view ask.now) q)) }
@@ -47,7 +47,7 @@ pub(crate) fn name(
 
 fn answer_of(alloc: Global, memory: &Memory, actor: Actor, ask: &Ask) -> Result<Answer, AllocError>
     requires { is_of_names (ask_view ask.now) ≡ true }
-    ensures { (g : Ground) (t : ℕ) (q : Quiet) → SharesNoNames g → Remembers g t memory.now q
+    ensures { (g : Ground) (t : ℕ) (q : Quiet) → Remembers g t memory.now q
         → IfOk result (λ a. answer_view a ≡ answer_to g actor q (ask_view ask.now) done) }
 {
     match ask {

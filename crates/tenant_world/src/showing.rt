@@ -1,6 +1,7 @@
 // A tenant as it begins, and what it shows.
 ghost use Rattle.std.specs.Prelude.{◌≡◌, ◌≢◌, ◌+◌, ◌<◌, ℕ, List, [], ◌∷◌, map, option_map, IfOk};
 ghost use Rattle.std.specs.Prelude.{OnErr, MatchOption, IfSome, true, false};
+ghost use Rattle.name_spaces.specs.Inside.Seen.{shared_bindings};
 ghost use Rattle.server_rules.specs.Ground.{Ground};
 ghost use Rattle.server_rules.specs.Tenant.{Quiet, opened_quiet};
 ghost use Rattle.server_rules.specs.Machine.Ready.{ready};
@@ -15,7 +16,6 @@ ghost use Rattle.tenant_turns.specs.Inside.Rounds.{IsEnough};
 ghost use Rattle.tenant_turns.specs.Inside.Wires.{wire_at};
 ghost use Rattle.tenant_world.specs.Acting.{is_accepted};
 ghost use Rattle.tenant_world.specs.Answers.{AreSameReplies};
-ghost use Rattle.tenant_world.specs.Asking.{SharesNoNames};
 ghost use Rattle.tenant_world.specs.Running.{running_in};
 
 use crate::answers::Replies;
@@ -23,7 +23,7 @@ use crate::memory::Memory;
 use crate::tenant::Tenant;
 use bencode_wire::Decoder;
 use bencode_wire::laws::a_stream_has_one_reading;
-use name_spaces::Spaces;
+use name_spaces::{SharedNames, Spaces};
 use private_cells::Atoms;
 use repl_sessions::{IdStream, SessionState, Sessions};
 use server_rules::{Actor, MESSAGE_LIMIT, Refusal};
@@ -38,23 +38,25 @@ impl Tenant {
     ghost use Rattle.tenant_world.specs.Standing.{replies_of};
 
     /// A tenant that has heard nothing. Its number chooses the ids of its sessions, under the
-    /// server's seed. It fails only for want of memory.
+    /// server's seed. It sees these shared names. It fails only for want of memory.
     pub fn new(
         alloc: Global,
         seed: [u8; 32],
         number: u64,
         steps: u32,
         retries: u32,
+        shared: SharedNames,
     ) -> Result<Tenant, AllocError>
-        ensures { (g : Ground) → IsRight g → SharesNoNames g → g.seed ≡ seed → g.steps ≡ steps
-            → g.retries ≡ retries → (s : Store) → s.tenant ≡ number → s.mine.points ≡ []
+        ensures { (g : Ground) → IsRight g → g.shared.names ≡ shared_bindings shared
+            → g.seed ≡ seed → g.steps ≡ steps → g.retries ≡ retries
+            → (s : Store) → s.tenant ≡ number → s.mine.points ≡ []
             → IfOk result (λ made. QuietStands g made (opened_quiet g) s) }
     {
         a_stream_has_one_reading();
         let memory = Memory {
             sessions: Sessions::new(alloc, IdStream::new(seed, number)),
             bare: SessionState::fresh(alloc)?,
-            spaces: Spaces::new(alloc)?,
+            spaces: Spaces::new(alloc, shared)?,
             atoms: Atoms::new(alloc),
             outbox: Outbox::new(alloc),
         };

@@ -12,7 +12,7 @@ use Rattle.tenant_world.proofs.asking.answer.Goals as goal
 
 pub returns-in_default-perform_ask-clause-declined
     : goal.returns-in_default-perform_ask-clause-declined
-returns-in_default-perform_ask-clause-declined c = λ g q s r h run shares remembers holds allowed.
+returns-in_default-perform_ask-clause-declined c = λ g q s r h run remembers holds allowed.
     let stay = c.in_default-perform_ask.ensures.stays g q s r remembers holds in (
       declined-without g s c.args.actor (actor_view c.args.state.now) h run (ask_view c.args.ask.now) q
           c.perform_ask.new.memory c.why_refused-in_default-perform_ask.result
@@ -29,9 +29,9 @@ returns-in_default-perform_ask-clause-no_memory c = λ g q s r h run remembers h
     (refused-so c.why_refused-in_default-perform_ask.result Refusal.NoMemory none))
 
 pub returns-in_default-told-clause-declined : goal.returns-in_default-told-clause-declined
-returns-in_default-told-clause-declined c = λ g q s r h run shares remembers holds allowed.
+returns-in_default-told-clause-declined c = λ g q s r h run remembers holds allowed.
     let told = rw c.in_default-told.is at
-    (c.in-Ok-perform_ask.ensures.answered g q s r shares remembers holds allowed) in (
+    (c.in-Ok-perform_ask.ensures.answered g q s r remembers holds allowed) in (
       record {
         refused = λ ne. answered-untold g s c.args.actor (actor_view c.args.state.now) h run
             (ask_view c.args.ask.now) q told.0;
@@ -41,7 +41,7 @@ returns-in_default-told-clause-declined c = λ g q s r h run shares remembers ho
     )
 
 pub returns-clause-acted : goal.returns-clause-acted
-returns-clause-acted c = λ g q s r h run shares remembers holds allowed hand running.
+returns-clause-acted c = λ g q s r h run remembers holds allowed hand running.
     let a = c.args.actor in
     let actor = actor_view c.args.state.now in
     let ask = ask_view c.args.ask.now in
@@ -50,7 +50,7 @@ returns-clause-acted c = λ g q s r h run shares remembers holds allowed hand ru
     let memory = c.perform_ask.new.memory in
     let new = actor_view c.keep.new.state in
     let answers = rw c.in-Some.is at
-    (c.in-Ok-perform_ask.ensures.answered g q s r shares remembers holds allowed) in
+    (c.in-Ok-perform_ask.ensures.answered g q s r remembers holds allowed) in
     let same = rw c.in-Some.is at c.in-Ok-perform_ask.ensures.thrice in
     let put = c.keep.ensures
     ∙ ap (λ x. with_exchange (exchange_from x kept) (actor_view c.copied_with_room.new.state))

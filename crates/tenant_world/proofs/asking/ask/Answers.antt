@@ -14,7 +14,7 @@ use Rattle.tenant_world.proofs.Answering.{asked-open, asked-closed, given-told, 
 use Rattle.tenant_world.proofs.asking.ask.Goals as goal
 
 pub returns-in_err-give_up-clause-declined : goal.returns-in_err-give_up-clause-declined
-returns-in_err-give_up-clause-declined c = λ g q s r shares remembers holds.
+returns-in_err-give_up-clause-declined c = λ g q s r remembers holds.
     let a = c.args.actor in
     let actor = actor_view c.args.state.now in
     let ask = ask_view c.args.ask.now in
@@ -28,7 +28,7 @@ returns-in_err-give_up-clause-declined c = λ g q s r shares remembers holds.
     c.from_residual.result plan c.from_residual.ensures.1 stay.0 stay.1 stay.2
 
 pub returns-then-state-clause-acted : goal.returns-then-state-clause-acted
-returns-then-state-clause-acted c = λ g q s r shares remembers holds.
+returns-then-state-clause-acted c = λ g q s r remembers holds.
     let a = c.args.actor in
     let actor = actor_view c.args.state.now in
     let ask = ask_view c.args.ask.now in
@@ -57,7 +57,7 @@ returns-then-state-clause-acted c = λ g q s r shares remembers holds.
     )
 
 pub returns-clause-acted : goal.returns-clause-acted
-returns-clause-acted c = λ g q s r shares remembers holds.
+returns-clause-acted c = λ g q s r remembers holds.
     let a = c.args.actor in
     let actor = actor_view c.args.state.now in
     let ask = ask_view c.args.ask.now in
@@ -72,10 +72,10 @@ returns-clause-acted c = λ g q s r shares remembers holds.
     × ServesWithAttempts c.answer.new.refs c.answer.new.attempts (carried_out s p).store
     (refs_after (carried_out s p).store r)) in
     subst P (asked-open g a actor ask q k run hand running allowed c.if-state.false)
-    (c.answer.ensures.acted g q s r k run shares remembers holds allowed hand running)
+    (c.answer.ensures.acted g q s r k run remembers holds allowed hand running)
 
 pub returns-clause-declined : goal.returns-clause-declined
-returns-clause-declined c = λ g q s r shares remembers holds.
+returns-clause-declined c = λ g q s r remembers holds.
     let a = c.args.actor in
     let actor = actor_view c.args.state.now in
     let ask = ask_view c.args.ask.now in
@@ -87,7 +87,7 @@ returns-clause-declined c = λ g q s r shares remembers holds.
     × ServesWithAttempts c.answer.new.refs c.answer.new.attempts s r) in
     subst P (asked-open g a actor ask q k run (ap (option_map hand_view) c.in-Some.is)
     (ap (option_map run_view) c.in-Some-running.is) allowed c.if-state.false)
-    (c.answer.ensures.declined g q s r k run shares remembers holds allowed)
+    (c.answer.ensures.declined g q s r k run remembers holds allowed)
 
 pub returns-in_err-give_up-clause-no_memory : goal.returns-in_err-give_up-clause-no_memory
 returns-in_err-give_up-clause-no_memory c = λ g q s r remembers holds none.

@@ -13,15 +13,15 @@ returns-in_err-name-clause-stays c = λ g q s r remembers holds.
     on_err c.from_residual.result (c.in_err-name.ensures.stays g s.tenant q remembers, holds)
 
 pub returns-then-is_of_names-clause-answered : goal.returns-then-is_of_names-clause-answered
-returns-then-is_of_names-clause-answered c = λ g q s r shares remembers holds allowed.
-    let named = c.in_ok-name.ensures.answered g s.tenant q shares remembers in
+returns-then-is_of_names-clause-answered c = λ g q s r remembers holds allowed.
+    let named = c.in_ok-name.ensures.answered g s.tenant q remembers in
     let names = names-nothing (seat_of c.args.actor) (ask_view c.args.ask.now)
     (sym c.is_of_names.ensures ∙ c.if-is_of_names.true) in
     alone-answered g s.tenant c.args.actor q (ask_view c.args.ask.now) s r c.name.new.memory
     c.args.refs.now c.args.attempts.now (thrice_view c.in_ok-name.field-0) holds names named.0 named.1
 
 pub returns-then-is_of_atoms-clause-answered : goal.returns-then-is_of_atoms-clause-answered
-returns-then-is_of_atoms-clause-answered c = λ g q s r shares remembers holds allowed.
+returns-then-is_of_atoms-clause-answered c = λ g q s r remembers holds allowed.
     let ask = ask_view c.args.ask.now in
     let of_atoms = sym c.is_of_atoms.ensures ∙ c.if-is_of_atoms.true in
     alone-answered g s.tenant c.args.actor q ask s r _
@@ -32,6 +32,7 @@ returns-then-is_of_atoms-clause-answered c = λ g q s r shares remembers holds a
       sessions = remembers.sessions;
       bare = remembers.bare;
       spaces = remembers.spaces ∙ atoms-spaces ask q of_atoms;
+      names = remembers.names;
       atoms = c.in_ok-ask_atoms.ensures.changed ∙ ap (atoms_after ask) remembers.atoms;
       replies = remembers.replies;
     })
@@ -43,6 +44,7 @@ returns-in_err-ask_atoms-clause-stays c = λ g q s r remembers holds.
         sessions = remembers.sessions;
         bare = remembers.bare;
         spaces = remembers.spaces;
+        names = remembers.names;
         atoms = c.in_err-ask_atoms.ensures.stays ∙ remembers.atoms;
         replies = remembers.replies;
       },
@@ -50,7 +52,7 @@ returns-in_err-ask_atoms-clause-stays c = λ g q s r remembers holds.
     )
 
 pub returns-clause-answered : goal.returns-clause-answered
-returns-clause-answered c = λ g q s r shares remembers holds allowed.
+returns-clause-answered c = λ g q s r remembers holds allowed.
     refs-answered g s.tenant c.args.actor q (ask_view c.args.ask.now) s r c.args.memory.now
     c.call.new.refs c.args.refs.now c.args.attempts.now c.call.new.attempts c.call.result holds
     (sym c.is_of_names.ensures ∙ c.if-is_of_names.false)

@@ -18,9 +18,9 @@ alone : (same : Bool) (vars : Vars) → bound_in vars ≡ nothing_bound
 alone true vars empty = ap Some empty
 alone false vars empty = refl
 
-pub returns : goal.returns
+pub returns-clause-namespaces : goal.returns-clause-namespaces
 unfolding namespaces_of at_start
-returns c =
+returns-clause-namespaces c =
     let new = get_by_text c.insert.new.self in
     let vars = c.new.result in
     let user : Updates (λ q. None) new (codes "user") vars = λ q. grind (arith, text_keys) in

@@ -41,7 +41,7 @@ returns-clause-done c = λ g q s refs right stands serves.
     let some = subst (λ n. 0 < n) stands.steps c.in_ok-state.ensures.some in
     let before = actor_view c.in_ok-state.state.now in
     let d = carried_out s (p before) in
-    let acted = c.in_ok-answered.ensures.acted g q s refs stands.names stands.remembers
+    let acted = c.in_ok-answered.ensures.acted g q s refs stands.remembers
     (record { serves = serves; reaches = stands.attempts }) in
     let actor = actor_view c.ask.new.state in
     let lends = lends-from g a actor c.args.self.now _ q s stands refl refl refl (c.lend.follows.holds c.ask.new.state (ap is_ok c.in_ok-state.was)) in
@@ -68,7 +68,7 @@ returns-in_err-answered-clause-refused c = λ g q s r right stands serves.
     let actor = actor_view c.ask.new.state in
     let deed = deed_result g s q (deeds.asks_for a ask) in
     let why = c.in_err-answered.field-0.0 in
-    let declined = c.in_err-answered.ensures.declined g q s r stands.names stands.remembers
+    let declined = c.in_err-answered.ensures.declined g q s r stands.remembers
     (record { serves = serves; reaches = stands.attempts }) in
     let lends = lends-from g a actor c.args.self.now _ q s stands refl refl refl (c.lend.follows.holds c.ask.new.state (ap is_ok c.in_ok-state.was)) in
     refuses-with g q s deed _ why (TableServes c.ask.new.refs s r)
