@@ -1,0 +1,4 @@
+pub mod Results
+pub mod Traces
+pub mod Holding
+pub mod Leading

@@ -1,0 +1,4 @@
+pub mod Told
+pub mod Holding
+pub mod Telling
+pub mod Loaded
