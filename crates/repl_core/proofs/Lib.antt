@@ -10,4 +10,14 @@ pub mod CommitFolds
 pub mod CommitCalls
 pub mod CommitSteps
 pub mod Commits
+pub mod SharedRefs
 pub mod Points
+pub mod Starting
+pub mod AskedPoints
+pub mod ActorSteps
+pub mod WorldSteps
+pub mod AttemptTraces
+pub mod HonestTraces
+pub mod AttemptBodies
+pub mod DosyncSettings
+pub mod AttemptsInRuns

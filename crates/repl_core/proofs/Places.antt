@@ -31,7 +31,6 @@ pub world-stands : (g : Ground) (code : Tenant) (q : Quiet) (s new : Store)
     → world.QuietStands g code q new
 world-stands g code q s new same points st = record {
   retries = st.retries;
-  names = st.names;
   steps = st.steps;
   stream = st.stream;
   actors = st.actors;

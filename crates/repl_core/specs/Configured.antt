@@ -1,12 +1,25 @@
 -- What a server with a configuration stands on.
-use Rattle.std.specs.Prelude.{◌≡◌}
+use Rattle.std.specs.Prelude.{◌≡◌, List, ℕ, [], Ok, Err}
+use Rattle.std.specs.Arc.{arc_str_bytes}
+use Rattle.repl_faults.specs.Failure.{Failure}
+use Rattle.repl_jobs.specs.Job.{JobData}
+use Rattle.repl_jobs.specs.InteractionTree.{InteractionTree}
+use Rattle.evaluation_rules.specs.Evaluation.{evaluation}
+use Rattle.server_rules.specs.Readings.{Readings, AreRight}
+use Rattle.server_rules.specs.Shared.{shared_by_text}
 use Rattle.server_rules.specs.Ground.{Ground}
 use Rattle.tenant_turns.specs.Grounds.{IsRight}
 use Rattle.tenant_walks.specs.Grounds.{Evaluates}
 use Rattle.repl_core.specs.declared.machine.Config.{Config}
+use Rattle.repl_core.specs.declared.machine.SharedText.{SharedText}
 use Rattle.repl_core.specs.declared.machine.TheConstants.{PLACES}
 
--- it reads, compares and evaluates as it is to, and has the numbers of the configuration
+abbrev pub text_of : SharedText → List ℕ
+text_of SharedText.Empty = []
+text_of (SharedText.Text text) = arc_str_bytes text
+
+-- it reads, compares and evaluates as it is to, has the numbers of the configuration, and shares
+-- what the configuration's text comes to
 pub record IsConfigured (g : Ground) (config : Config) : Type 0 where
   pub right : IsRight g
   pub evaluates : Evaluates g
@@ -14,3 +27,11 @@ pub record IsConfigured (g : Ground) (config : Config) : Type 0 where
   pub steps : g.steps ≡ config.steps
   pub retries : g.retries ≡ config.retries
   pub places : g.places ≡ PLACES
+  pub shared : shared_by_text g.readings g.evaluation (text_of config.shared) ≡ Ok g.shared
+
+-- that text has this fault, as it is to be read and evaluated: then there is no server
+abbrev pub TextFaults : Config → Failure → Type 0
+TextFaults config f =
+    (r : Readings) (e : JobData → InteractionTree) → AreRight r
+    → ((job : JobData) → e job ≡ evaluation job)
+    → shared_by_text r e (text_of config.shared) ≡ Err f

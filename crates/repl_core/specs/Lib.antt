@@ -1,4 +1,5 @@
 pub mod Configured
+pub mod Starting
 pub mod TenantAt
 pub mod Lending
 pub mod Standing
@@ -8,3 +9,7 @@ pub mod Going
 pub mod Driving
 pub mod Commits
 pub mod Points
+pub mod AttemptsUnderWay
+pub mod HonestRuns
+pub mod DosyncSettings
+pub mod AttemptsInRuns

@@ -1,9 +1,12 @@
 -- What an attempt reads, whatever others commit meanwhile.
-use Rattle.std.specs.Prelude.{◌≡◌, ◌⊎◌, ◌≤◌, ℕ, List, Option, Some, option_and_then}
+use Rattle.std.specs.Prelude.{◌≡◌, ◌⊎◌, ◌≤◌, ℕ, List, Option, Some, None, option_map}
+use Rattle.std.specs.Prelude.{option_and_then, unwrap_or}
 use Rattle.value_data.specs.Datum.{Datum, shared}
 use Rattle.repl_asks.specs.Transactions.{RefNameData}
-use Rattle.repl_asks.specs.Exchange.{AnswerData, read, reading, found, retry}
+use Rattle.repl_asks.specs.Exchange.{AskData, AnswerData, read, min_history, max_history, done}
+use Rattle.repl_asks.specs.Exchange.{reading, ReadingData, found, retry}
 use Rattle.server_rules.specs.Versions.{Ref, at_point}
+use Rattle.server_rules.specs.Calls.{number_told}
 use Rattle.server_rules.specs.Ground.{Ground}
 use Rattle.server_rules.specs.Plan.{asks_for, ask_answered}
 use Rattle.server_rules.specs.Machine.World.{World, Step, does, accepted, step, run}
@@ -39,3 +42,18 @@ WhatWasHeldStays =
     (g : Ground) (w : World) (steps : List Step) (number point : ℕ) → point ≤ w.around.counter
     → held_at point (ref_in_world (shared_ref number) (run g w steps))
     ≡ held_at point (ref_in_world (shared_ref number) w)
+
+abbrev pub reading_of : Option Datum → ReadingData
+reading_of (Some d) = found d
+reading_of None = retry
+
+abbrev pub bound_told : (Ref → ℕ) → Option Ref → AnswerData
+bound_told bound r = number_told (unwrap_or (option_map bound r) 0)
+
+-- What a shared ref tells an attempt with this read point: the value that it held then, and its
+-- bounds, which nobody sets. It does not tell its history.
+abbrev pub told_at : ℕ → World → AskData → AnswerData
+told_at point w (read name) = reading (reading_of (held_at point (ref_in_world name w)))
+told_at point w (min_history name set) = bound_told (λ r. r.least) (ref_in_world name w)
+told_at point w (max_history name set) = bound_told (λ r. r.most) (ref_in_world name w)
+told_at point w ask = done

@@ -1,6 +1,7 @@
 -- The machine stands for the server of the rules.
 use Rattle.std.specs.Prelude.{◌≡◌, ℕ, [], Bool, false, nat_le, Option, None, Some, option_and_then}
 use Rattle.value_data.specs.Datum.{shared, tenant}
+use Rattle.name_spaces.specs.Inside.Seen.{shared_bindings}
 use Rattle.server_rules.specs.Ground.{Ground}
 use Rattle.server_rules.specs.Numbered.{part_under}
 use Rattle.server_rules.specs.Store.{Around, Own, Store}
@@ -9,7 +10,6 @@ use Rattle.ref_history.specs.RingHistories.{RingStands}
 use Rattle.ref_table.specs.Refs.{Refs}
 use Rattle.ref_table.specs.Standing as table
 use Rattle.tenant_refs.specs.Sound.{AreSound}
-use Rattle.tenant_world.specs.Asking.{SharesNoNames}
 use Rattle.tenant_world.specs.Standing as world
 use Rattle.tenant_world.specs.declared.tenant.Tenant.{Tenant}
 use Rattle.repl_core.specs.TenantAt.{tenant_at}
@@ -46,10 +46,10 @@ is_reached None t = false
 is_reached (Some newest) t = nat_le t newest
 
 pub record MachineStands (g : Ground) (m : Machine) (w : World) : Type 0 where
-  pub names : SharesNoNames g
-  pub seed : g.seed ≡ m.config.seed
-  pub steps : g.steps ≡ m.config.steps
-  pub retries : g.retries ≡ m.config.retries
+  pub names : g.shared.names ≡ shared_bindings m.names
+  pub seed : g.seed ≡ m.seed
+  pub steps : g.steps ≡ m.steps
+  pub retries : g.retries ≡ m.retries
   pub places : g.places ≡ m.places
   pub refs : Refs
   pub table : table.TableStands RingStands m.refs refs

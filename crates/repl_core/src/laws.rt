@@ -1,17 +1,23 @@
 //! Laws of what a server stands on, and of transactions, over any run of its steps. The functions
 //! do nothing: what they ensure is proved.
+ghost use Rattle.std.specs.Prelude.{◌⊎◌};
 ghost use Rattle.server_rules.specs.Ground.{Ground};
 ghost use Rattle.repl_core.specs.Configured.{IsConfigured};
+ghost use Rattle.repl_core.specs.Starting.{HasFault};
 ghost use Rattle.repl_core.specs.declared.machine.Config.{Config};
 ghost use Rattle.repl_core.specs.Commits.{CommittedMetNoNewer, NewestIsTheFoldOfWhatWasCommitted};
 ghost use Rattle.repl_core.specs.Points.{ReadsAreOfTheirPoint, WhatWasHeldStays};
+ghost use Rattle.repl_core.specs.AttemptsUnderWay.{PointsAreOfAttempts, AttemptsAreToldTheirPoint};
+ghost use Rattle.repl_core.specs.HonestRuns.{HonestFormsAskAsEvaluated};
+ghost use Rattle.repl_core.specs.DosyncSettings.{DosyncsAreAttempts};
+ghost use Rattle.repl_core.specs.AttemptsInRuns.{AttemptsInRunsAgree};
 
 use tenant_turns::laws::{exact_comparisons_exist, there_is_one_right_reading};
 
-/// Whatever a server begins with, there is something that it can stand on: what is promised of all
-/// that is right is promised of something.
+/// Whatever a server begins with, there is something that it can stand on, unless the text that all
+/// share has a fault: what is promised of all that is right is promised of something.
 pub fn every_configuration_has_a_ground()
-    ensures { (config : Config) → (g : Ground) × IsConfigured g config }
+    ensures { (config : Config) → ((g : Ground) × IsConfigured g config) ⊎ HasFault config }
 {
     there_is_one_right_reading();
     exact_comparisons_exist();
@@ -43,4 +49,30 @@ pub fn reads_are_of_their_point()
 /// steps: so two attempts with one read point are told the same of it, however long they take.
 pub fn what_was_held_stays()
     ensures { WhatWasHeldStays }
+{}
+
+/// Whatever steps were made: an actor with a read point has an attempt under way, and all that
+/// shared refs told it since it began is of that point, which the commits have come to.
+pub fn attempts_are_told_their_point()
+    ensures under_way { PointsAreOfAttempts }
+    ensures told { AttemptsAreToldTheirPoint }
+{}
+
+/// Whatever others did: each ask of an honest actor's form that runs is what its evaluation asked
+/// next, after the answers before it.
+pub fn honest_forms_ask_as_evaluated()
+    ensures { HonestFormsAskAsEvaluated }
+{}
+
+/// A `dosync` of a form, that stands in no other, is up to so many attempts at its body.
+pub fn dosyncs_are_attempts()
+    ensures { DosyncsAreAttempts }
+{}
+
+/// Two runs of one server, by whatever steps of whatever tenants, and in each an attempt under way
+/// of an actor that was honest; both at one `dosync` with the same setting. Where their own answers
+/// are equal one by one as far as both have one, and each shared ref that both name held the same
+/// at the two read points, the values that one saw begin those that the other saw.
+pub fn attempts_in_runs_agree()
+    ensures { AttemptsInRunsAgree }
 {}

@@ -11,4 +11,5 @@ mod stepping;
 mod tenants;
 
 pub use machine::{Config, Machine, PLACES, RETRIES, STEPS, SharedText};
+pub use shared_space::LoadError;
 pub use step::{Refused, Step, StepAnswer, StepAnswers};

@@ -1,17 +1,22 @@
 // The machine as it begins, and what it shows.
-ghost use Rattle.std.specs.Prelude.{◌≡◌, [], option_and_then, option_map};
+ghost use Rattle.std.specs.Prelude.{◌≡◌, option_and_then, option_map, IfOk, IfErr};
 ghost use Rattle.server_rules.specs.Ground.{Ground};
 ghost use Rattle.server_rules.specs.Machine.Ready.{ready};
-ghost use Rattle.server_rules.specs.Machine.World.{World, new_world};
-ghost use Rattle.repl_core.specs.Configured.{IsConfigured};
+ghost use Rattle.server_rules.specs.Machine.World.{World, opened_world};
+ghost use Rattle.repl_core.specs.Configured.{IsConfigured, text_of};
+ghost use Rattle.repl_core.specs.Starting.{TellsFault};
 ghost use Rattle.repl_core.specs.Standing.{open_in};
 ghost use Rattle.repl_core.specs.TenantAt.{tenant_at};
 
 use crate::tenants::Tenants;
+use name_spaces::SharedNames;
 use ref_history::RingHistory;
 use ref_table::RefTable;
+use repl_values::copy_text;
 use server_rules::Actor;
-use std::alloc::Global;
+use shared_space::{LoadError, load};
+use std::alloc::{AllocError, Global};
+use std::sync::ArcStr;
 use tenant_world::Tenant;
 
 /// How many tenants may be open at once.
@@ -23,15 +28,17 @@ pub const STEPS: u32 = 4_194_304;
 /// How many attempts a transaction has unless told otherwise.
 pub const RETRIES: u32 = 10_000;
 
-/// What the namespace that all tenants share holds.
-#[derive(Clone, Copy, Debug, PartialEq, Eq)]
+/// The text of the namespace that all tenants share.
+#[derive(Debug, Drop)]
 pub enum SharedText {
-    /// It is there, and nothing is defined in it.
+    /// There is none: nothing is defined in it.
     Empty,
+    /// Forms of `def` and `defn`, which are evaluated when the server is made.
+    Text(ArcStr),
 }
 
 /// What a server begins with.
-#[derive(Clone, Copy)]
+#[derive(Debug, Drop)]
 pub struct Config {
     /// From it come the ids of all sessions.
     pub seed: [u8; 32],
@@ -43,16 +50,41 @@ pub struct Config {
     pub shared: SharedText,
 }
 
+impl SharedText {
+    /// The text once more. It takes one step, and fails only where 2^63 owners share it.
+    pub fn copy(&self) -> Result<SharedText, AllocError>
+        ensures { IfOk result (λ copied. text_of copied ≡ text_of self.now) }
+    {
+        match self {
+            SharedText::Empty => Ok(SharedText::Empty),
+            SharedText::Text(text) => Ok(SharedText::Text(copy_text(text)?)),
+        }
+    }
+
+    fn as_str(&self) -> &str
+        ensures { result.now ≡ text_of self.now }
+    {
+        match self {
+            SharedText::Empty => "",
+            SharedText::Text(text) => text.as_str(),
+        }
+    }
+}
+
 /// The tenants of a server, and the refs of all. Each step is that of the rules.
 #[derive(Drop)]
 pub struct Machine {
     pub(crate) alloc: Global,
-    pub(crate) config: Config,
+    pub(crate) seed: [u8; 32],
+    pub(crate) retries: u32,
+    pub(crate) steps: u32,
     pub(crate) places: usize,
     // how many tenants are open
     pub(crate) places_taken: usize,
     // the greatest number of all that were ever opened
     pub(crate) newest: Option<u64>,
+    // what the shared namespace binds
+    pub(crate) names: SharedNames,
     pub(crate) refs: RefTable<RingHistory>,
     pub(crate) tenants: Tenants,
 }
@@ -60,19 +92,26 @@ pub struct Machine {
 impl Machine {
     ghost use Rattle.repl_core.specs.Standing.{MachineStands};
 
-    /// A server to which nobody came. It takes no memory.
-    pub fn new(alloc: Global, config: Config) -> Machine
-        ensures { (g : Ground) → IsConfigured g config → MachineStands g result (new_world []) }
+    /// A server to which nobody came. The text that all share is evaluated; the first fault of it is
+    /// the error.
+    pub fn new(alloc: Global, config: &Config) -> Result<Machine, LoadError>
+        ensures stands { (g : Ground) → IsConfigured g config.now
+            → IfOk result (λ made. MachineStands g made (opened_world g)) }
+        ensures fault { IfErr result (TellsFault config.now) }
     {
-        Machine {
+        let shared = load(alloc, config.shared.as_str())?;
+        Ok(Machine {
             alloc,
-            config,
+            seed: config.seed,
+            retries: config.retries,
+            steps: config.steps,
             places: PLACES,
             places_taken: 0,
             newest: None,
-            refs: RefTable::new(alloc, RingHistory::new(alloc)),
+            names: shared.names,
+            refs: shared.refs,
             tenants: Tenants::new(alloc),
-        }
+        })
     }
 
     /// A tenant, if it is open.

@@ -6,7 +6,7 @@ ghost use Rattle.server_rules.specs.Machine.World.{World, opens, closes, step};
 ghost use Rattle.tenant_turns.specs.Grounds.{IsRight};
 ghost use Rattle.repl_core.specs.Standing.{is_reached};
 
-use crate::machine::{Config, Machine};
+use crate::machine::Machine;
 use server_rules::Refusal;
 use tenant_world::Tenant;
 
@@ -29,13 +29,9 @@ impl Machine {
         if self.places_taken >= self.places {
             return Err(Refusal::Full);
         }
-        let Config {
-            seed,
-            retries,
-            steps,
-            shared: _,
-        } = self.config;
-        let tenant = Tenant::new(self.alloc, seed, number, steps, retries)?;
+        let (steps, retries) = (self.steps, self.retries);
+        let names = self.names.copy()?;
+        let tenant = Tenant::new(self.alloc, self.seed, number, steps, retries, names)?;
         self.tenants.add(number, tenant)?;
         self.newest = Some(number);
         self.places_taken += 1;

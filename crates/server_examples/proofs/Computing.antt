@@ -16,12 +16,14 @@ use Rattle.name_spaces.specs.Resolving.{resolved}
 use Rattle.repl_asks.specs.Namespaces.{is_fixed}
 use Rattle.repl_replies.specs.Operations.{operation_or_reply}
 use Rattle.server_rules.specs.Operating.{with_message}
+use Rattle.server_rules.specs.Shared.{shared_by_text}
 use Rattle.server_rules.specs.Hearing.{taken_in}
 use Rattle.server_rules.specs.Moves.{form_ended}
 use Rattle.server_rules.specs.Machine.World.{step}
 use Rattle.server_examples.specs.Examples.{ReadIsRetried, TwoAreApart, CloseInterrupts}
 use Rattle.server_examples.specs.Examples.{OtherTraceIsRefused, PlaceIsFreed, NothingIsLeft}
 use Rattle.server_examples.specs.Examples.{IdleCostsNothing, BothCommute, TryIsMadeAgain}
+use Rattle.server_examples.specs.Examples.{SharedRefIsRead}
 
 pub read-is-retried : ReadIsRetried
 unfolding step form_ended taken_in with_message operation_or_reply is_fixed is_there at_start with_entered_namespace with_definition resolved is_utf8 chars encode_utf8 id_text session_id by_index u32_at quarter_round column_round diagonal_round double_rounds block_word
@@ -38,6 +40,10 @@ both-commute = refl
 pub try-is-made-again : TryIsMadeAgain
 unfolding step form_ended taken_in with_message operation_or_reply is_fixed is_there at_start with_entered_namespace with_definition resolved is_utf8 chars encode_utf8 id_text session_id by_index u32_at quarter_round column_round diagonal_round double_rounds block_word
 try-is-made-again = refl
+
+pub shared-ref-is-read : SharedRefIsRead
+unfolding step form_ended taken_in with_message operation_or_reply is_fixed is_there at_start with_entered_namespace with_definition resolved is_utf8 chars encode_utf8 id_text session_id by_index u32_at quarter_round column_round diagonal_round double_rounds block_word shared_by_text
+shared-ref-is-read = refl
 
 pub close-interrupts : CloseInterrupts
 unfolding step form_ended taken_in with_message operation_or_reply is_fixed is_there at_start with_entered_namespace with_definition resolved is_utf8 chars encode_utf8 id_text session_id by_index u32_at quarter_round column_round diagonal_round double_rounds block_word

@@ -16,7 +16,8 @@ use Rattle.server_rules.specs.declared.refusal.Refusal.{Refusal}
 use Rattle.server_examples.specs.Tables.{number, symbol, ground}
 use Rattle.server_examples.specs.Runs.{message_turn, drain_turns, turns_of, opening_turns}
 use Rattle.server_examples.specs.Runs.{interleaving, after_all, given_to, first_reply, second_reply}
-use Rattle.server_examples.specs.Runs.{value_body}
+use Rattle.server_examples.specs.Runs.{value_body, session_reply, given_with_shared}
+use Rattle.server_examples.specs.Messages.{first_id}
 use Rattle.bencode_wire.specs.Spelling.{spellings_joined}
 use Rattle.server_examples.specs.Runs.{begun_replies, steps_of}
 
@@ -73,6 +74,17 @@ TryIsMadeAgain =
     ∷ second_reply 0 (codes "12") (value_body (number 5))
     ∷ second_reply 0 (codes "12") replies.done
     ∷ first_reply 0 (codes "11") (value_body (number 6)) ∷ first_reply 0 (codes "11") replies.done
+    ∷ [])
+
+-- A ref that all tenants share: one tenant sets it, and another reads it before and behind that.
+abbrev pub SharedRefIsRead : Type 0
+SharedRefIsRead =
+    given_with_shared 1 (given (opens 0) ∷ given (opens 1) ∷ message_turn 0 0 ∷ message_turn 1 0
+    ∷ message_turn 1 12 ∷ turns_of 1 0 4 ++ message_turn 0 13 ∷ turns_of 0 0 6
+    ++ message_turn 1 12 ∷ turns_of 1 0 4 ++ drain_turns 1 5)
+    ≡ spellings_joined (session_reply (first_id 1)
+    ∷ first_reply 1 (codes "13") (value_body (number 0)) ∷ first_reply 1 (codes "13") replies.done
+    ∷ first_reply 1 (codes "13") (value_body (number 7)) ∷ first_reply 1 (codes "13") replies.done
     ∷ [])
 
 -- A session is closed while one request is in hand and another waits. The one that waits is

@@ -1,8 +1,7 @@
 -- What the tenants of the tables send.
-use Rattle.std.specs.Prelude.{ℕ, zero, suc, ◌+◌, List, [], ◌∷◌, ◌++◌, codes, slice_get, unwrap_or}
+use Rattle.std.specs.Prelude.{ℕ, zero, suc, List, [], ◌∷◌, ◌++◌, codes, slice_get, unwrap_or}
 use Rattle.bencode_wire.specs.Tree as wire
 use Rattle.bencode_wire.specs.Tree.{no_pairs, pair}
-use Rattle.value_data.specs.Datum.{tenant}
 
 -- Messages
 
@@ -32,7 +31,8 @@ closing_of id session = wire.dictionary (pair (codes "op") (text_tree (codes "cl
     (pair (codes "id") (text_tree id) (pair (codes "session") (text_tree session) no_pairs)))
 
 -- what a tenant sends: a clone, evals of the forms `d`, `r`, `s`, `h` and `t` in one of its
--- sessions, a close, evals of the form `c` in both, and evals of the forms `a`, `w` and `x`
+-- sessions, a close, evals of the form `c` in both, and evals of the forms `a`, `w`, `x`, `g` and
+-- `p`
 abbrev pub messages : ℕ → List wire.Tree
 messages t =
     cloning
@@ -46,7 +46,9 @@ messages t =
     ∷ eval_of (codes "9") (second_id t) (codes "c")
     ∷ eval_of (codes "10") (first_id t) (codes "a")
     ∷ eval_of (codes "11") (first_id t) (codes "w")
-    ∷ eval_of (codes "12") (second_id t) (codes "x") ∷ []
+    ∷ eval_of (codes "12") (second_id t) (codes "x")
+    ∷ eval_of (codes "13") (first_id t) (codes "g")
+    ∷ eval_of (codes "14") (first_id t) (codes "p") ∷ []
 
 -- the message at this place among those of the tenants 0 and 1
 abbrev pub message_of : ℕ → wire.Tree

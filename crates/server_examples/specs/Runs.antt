@@ -7,15 +7,15 @@ use Rattle.repl_replies.specs.Replies as replies
 use Rattle.repl_replies.specs.Replies.{BodyData, bytes_of}
 use Rattle.server_rules.specs.Numbered.{part_under}
 use Rattle.server_rules.specs.Plan.{hears, drains}
-use Rattle.server_rules.specs.Machine.World.{TenantData, World, does, new_world}
+use Rattle.server_rules.specs.Machine.World.{TenantData, World, does, opened_world}
 use Rattle.server_rules.specs.Machine.Turns.{Turn, given, goes, world_after, serve}
 use Rattle.server_rules.specs.declared.actor.Actor.{Actor}
-use Rattle.server_examples.specs.Tables.{ground}
+use Rattle.server_examples.specs.Tables.{ground, sharing_ground}
 use Rattle.server_examples.specs.Messages.{first_id, second_id, text_tree}
 
--- the tenant 0 or 1 sends one of its twelve messages
+-- the tenant 0 or 1 sends one of its fourteen messages
 abbrev pub message_turn : ℕ → ℕ → Turn
-message_turn t message = given (does t (hears ((t * 12 + message) ∷ [])))
+message_turn t message = given (does t (hears ((t * 14 + message) ∷ [])))
 
 abbrev pub drain_turns : ℕ → ℕ → List Turn
 drain_turns t zero = []
@@ -41,11 +41,15 @@ after_turns w [] = w
 after_turns w (turn ∷ turns) = after_turns (world_after ground w turn) turns
 
 abbrev pub after_all : List Turn → World
-after_all turns = after_turns (new_world []) turns
+after_all turns = after_turns (opened_world ground) turns
 
 -- what is given to a tenant in these turns of a new server
 abbrev pub given_to : ℕ → List Turn → List ℕ
-given_to t turns = serve ground (new_world []) turns t
+given_to t turns = serve ground (opened_world ground) turns t
+
+-- the same of a server that shares a ref
+abbrev pub given_with_shared : ℕ → List Turn → List ℕ
+given_with_shared t turns = serve sharing_ground (opened_world sharing_ground) turns t
 
 -- Replies
 

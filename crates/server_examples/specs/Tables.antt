@@ -2,7 +2,8 @@
 -- stream stands for a message, and each byte of a text for a form, of which a table says what it
 -- asks.
 use Rattle.std.specs.Prelude.{ℕ, zero, suc, ◌+◌, ◌==◌, List, [], ◌∷◌, true, Some, None, map, length}
-use Rattle.std.specs.Prelude.{codes, replicate, if◌then◌else◌, pos, Ok}
+use Rattle.std.specs.Prelude.{codes, replicate, if◌then◌else◌, pos, Result, Ok}
+use Rattle.std.specs.Prelude.{Err}
 use Rattle.bencode_wire.specs.Stream as streams
 use Rattle.value_data.specs.Datum as datum
 use Rattle.value_data.specs.Datum.{Datum, tenant}
@@ -17,7 +18,8 @@ use Rattle.repl_jobs.specs.Job as jobs
 use Rattle.repl_jobs.specs.Job.{WorkData}
 use Rattle.repl_jobs.specs.InteractionTree.{InteractionTree, finished, asks}
 use Rattle.server_rules.specs.Ground.{Ground}
-use Rattle.server_examples.specs.Messages.{messages, message_of}
+use Rattle.server_rules.specs.Shared.{SharedData, nothing_shared, shared_by_text}
+use Rattle.server_examples.specs.Messages.{message_of}
 
 -- Forms
 
@@ -62,13 +64,13 @@ reading_tree (suc n) = asks exchange.begin (λ b. asks (symbol (codes "r"))
     (λ r. asks (exchange.read (ref_answered r)) (λ a.
     when_found a (λ d. committing [] [] (ends_with d) (reading_tree n)) (reading_tree n))))
 
--- `(dosync (ref-set r n))`
-abbrev pub setting_tree : ℕ → ℕ → InteractionTree
-setting_tree n zero = ends_with datum.nil
-setting_tree n (suc k) = asks exchange.begin (λ b. asks (symbol (codes "ref-set"))
-    (λ f. asks (symbol (codes "r")) (λ r.
+-- `(dosync (ref-set name n))`
+abbrev pub setting_tree : List ℕ → ℕ → ℕ → InteractionTree
+setting_tree name n zero = ends_with datum.nil
+setting_tree name n (suc k) = asks exchange.begin (λ b. asks (symbol (codes "ref-set"))
+    (λ f. asks (symbol name) (λ r.
     committing (record { name = ref_answered r; now = number n } ∷ []) [] (ends_with (number n))
-    (setting_tree n k))))
+    (setting_tree name n k))))
 
 abbrev pub adding : CoreFunction
 adding = CoreFunction.Integer (IntegerFunction.Arithmetic ArithmeticFunction.Add)
@@ -84,10 +86,15 @@ commuting_tree (suc n) = asks exchange.begin (λ b. asks (symbol (codes "commute
       commutes = record { function = adding; arguments = number 1 ∷ [] } ∷ [];
     } ∷ []) (ends_with datum.nil) (commuting_tree n)) (commuting_tree n))))))
 
+-- `@shared/r`
+abbrev pub looking_tree : InteractionTree
+looking_tree = asks (symbol (codes "shared/r"))
+    (λ r. asks (exchange.read (ref_answered r)) (λ a. when_found a ends_with (ends_with datum.nil)))
+
 -- `(def r (ref 0))`
-abbrev pub defining_tree : InteractionTree
-defining_tree = asks (symbol (codes "ref")) (λ f. asks (exchange.new_ref (number 0) 0 10) (λ a.
-    asks (exchange.define (codes "user") (codes "r") (bound_value (value_told a)))
+abbrev pub defining_tree : List ℕ → InteractionTree
+defining_tree space = asks (symbol (codes "ref")) (λ f. asks (exchange.new_ref (number 0) 0 10) (λ a.
+    asks (exchange.define space (codes "r") (bound_value (value_told a)))
     (λ b. ends_with (value_told a))))
 
 -- `(ref-history-count r)`
@@ -132,20 +139,23 @@ abbrev pub resetting_tree : InteractionTree
 resetting_tree = asks (symbol (codes "reset!")) (λ f. asks (symbol (codes "a")) (λ a.
     asks (exchange.set_atom (atom_answered a) (number 5)) (λ b. ends_with (value_told b))))
 
--- the forms `d`, `r`, `s`, `h`, `c`, `a`, `w`, `x` and `t`
+-- the forms `d`, `r`, `s`, `h`, `c`, `a`, `w`, `x`, `g`, `p` and `t`
 abbrev pub form_named : ℕ → InteractionTree
 form_named n =
-    if n == 100 then defining_tree else (
+    if n == 100 then defining_tree (codes "user") else (
     if n == 114 then reading_tree 3 else (
-    if n == 115 then setting_tree 5 3 else (
+    if n == 115 then setting_tree (codes "r") 5 3 else (
     if n == 104 then counting_tree else (
     if n == 99 then commuting_tree 3 else (
     if n == 97 then making_tree else (
     if n == 119 then swapping_tree else (
-    if n == 120 then resetting_tree else setting_tree 6 3)))))))
+    if n == 120 then resetting_tree else (
+    if n == 103 then looking_tree else (
+    if n == 112 then setting_tree (codes "shared/r") 7 3 else setting_tree (codes "r") 6 3)))))))))
 
 abbrev pub work_tree : WorkData → InteractionTree
 work_tree (jobs.form (datum.integer (pos n))) = form_named n
+work_tree (jobs.shared_form d) = defining_tree (codes "shared")
 work_tree w = ends_with datum.nil
 
 -- jobs are all the same to this server, and traces where they are of one length
@@ -164,5 +174,15 @@ ground = record {
   steps = 1000;
   retries = 10000;
   places = 2;
-  shared_names = λ name. None;
+  shared = nothing_shared;
+}
+
+abbrev pub shared_or_nothing : {E : Type 0} → Result SharedData E → SharedData
+shared_or_nothing (Ok s) = s
+shared_or_nothing (Err f) = nothing_shared
+
+-- the same with what the text `d` defines for all tenants
+abbrev pub sharing_ground : Ground
+sharing_ground = record ground {
+  shared = shared_or_nothing (shared_by_text ground.readings ground.evaluation (codes "d"));
 }

@@ -2,6 +2,7 @@
 ghost use Rattle.server_examples.specs.Examples.{ReadIsRetried, TwoAreApart, CloseInterrupts};
 ghost use Rattle.server_examples.specs.Examples.{OtherTraceIsRefused, PlaceIsFreed, NothingIsLeft};
 ghost use Rattle.server_examples.specs.Examples.{IdleCostsNothing, BothCommute, TryIsMadeAgain};
+ghost use Rattle.server_examples.specs.Examples.{SharedRefIsRead};
 
 /// A read whose version is kept no longer is made again, and a ref of which a read failed keeps one
 /// version more from its next commit on.
@@ -22,6 +23,11 @@ pub fn both_commute()
 /// A session that has read an atom tries again where another session set it meanwhile.
 pub fn try_is_made_again()
     ensures { TryIsMadeAgain }
+{}
+
+/// A tenant reads a ref that all share, and then what another tenant set it to.
+pub fn shared_ref_is_read()
+    ensures { SharedRefIsRead }
 {}
 
 /// A close answers what waits, then itself, and interrupts what is in hand.

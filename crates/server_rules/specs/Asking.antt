@@ -73,7 +73,7 @@ resolution_of state (found_latest latest) = names_value (latest_of latest state)
 
 abbrev pub symbol_resolution : Ground → Actor → Quiet → List ℕ → List ℕ → ResolutionData
 symbol_resolution g a q namespace symbol =
-    resolution_of (actor_state a q) (names.resolved g.shared_names q.spaces namespace symbol)
+    resolution_of (actor_state a q) (names.resolved g.shared.names q.spaces namespace symbol)
 
 -- of an atom that is there
 abbrev pub value_of_atom : ℕ → Quiet → Datum

@@ -2,9 +2,9 @@
 use Rattle.std.specs.Prelude.{ℕ, List}
 use Rattle.repl_jobs.specs.Job.{JobData}
 use Rattle.repl_jobs.specs.InteractionTree.{InteractionTree}
-use Rattle.name_spaces.specs.Bindings.{Bindings}
 use Rattle.server_rules.specs.Readings.{Readings}
 use Rattle.server_rules.specs.Comparisons.{Comparisons}
+use Rattle.server_rules.specs.Shared.{SharedData}
 
 pub record Ground : Type 0 where
   pub readings : Readings
@@ -18,5 +18,5 @@ pub record Ground : Type 0 where
   pub retries : ℕ
   -- how many tenants may be open at once
   pub places : ℕ
-  -- what the names of the shared namespace are bound to
-  pub shared_names : Bindings
+  -- what all tenants share from the start
+  pub shared : SharedData

@@ -6,6 +6,7 @@ pub mod Commit
 pub mod Calls
 pub mod Readings
 pub mod Comparisons
+pub mod Shared
 pub mod Ground
 pub mod Request
 pub mod Tenant

@@ -5,7 +5,8 @@ use Rattle.std.specs.Prelude.{ℕ, List, Option}
 use Rattle.bencode_wire.specs.Tree.{Tree}
 use Rattle.bencode_wire.specs.Stream.{StreamEnding, Streams}
 use Rattle.value_data.specs.Datum.{Items}
-use Rattle.repl_reader.specs.Fault.{FaultData}
+use Rattle.repl_faults.specs.Failure.{Failure}
+use Rattle.repl_reader.specs.Fault.{FaultData, class_of}
 use Rattle.repl_reader.specs.Grammar.{IsReading}
 use Rattle.server_rules.specs.declared.limits.TheConstants.{MESSAGE_LIMIT}
 
@@ -18,6 +19,10 @@ pub record StreamData : Type 0 where
 pub record ProgramData : Type 0 where
   pub forms : Items
   pub fault : Option FaultData
+
+-- the fault of a program's text, as a fault of evaluation is told
+abbrev pub text_failure : FaultData → Failure
+text_failure f = record { class = class_of f.kind; text = f.text }
 
 pub record Readings : Type 0 where
   pub stream : List ℕ → StreamData

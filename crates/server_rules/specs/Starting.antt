@@ -3,8 +3,6 @@ use Rattle.std.specs.Prelude.{ℕ, List, [], ◌∷◌, Bool, true, false, Optio
 use Rattle.std.specs.Prelude.{option_and_then, if◌then◌else◌}
 use Rattle.bencode_wire.specs.Tree.{Tree}
 use Rattle.value_data.specs.Datum.{nil, Items, no_items, item}
-use Rattle.repl_faults.specs.Failure.{Failure}
-use Rattle.repl_reader.specs.Fault.{FaultData, class_of}
 use Rattle.repl_jobs.specs.Job as jobs
 use Rattle.repl_jobs.specs.Job.{JobData}
 use Rattle.repl_sessions.specs.State.{StateData, fresh}
@@ -12,7 +10,7 @@ use Rattle.name_spaces.specs.Namespaces.{Namespaces, is_there}
 use Rattle.repl_replies.specs.Fields.{text_of}
 use Rattle.repl_replies.specs.Replies.{OriginData, namespace_not_found, interrupted}
 use Rattle.server_rules.specs.Numbered.{without}
-use Rattle.server_rules.specs.Readings.{ProgramData}
+use Rattle.server_rules.specs.Readings.{ProgramData, text_failure}
 use Rattle.server_rules.specs.Ground.{Ground}
 use Rattle.server_rules.specs.Request.{Waiting, ProgramText, code, file, Manner, Hand, each_form}
 use Rattle.server_rules.specs.Request.{each_form_elsewhere, last_form}
@@ -41,10 +39,6 @@ next_begun g h state (item d ds) =
     let job = form_job g h (jobs.form d) in
     let begun : Hand = record h { running = Some (record { job = job; trace = [] }); forms = ds } in
     record { move = in_hand begun state; answer = form_begun job }
-
--- the fault of a program's text, as a fault of evaluation is told
-abbrev pub text_failure : FaultData → Failure
-text_failure f = record { class = class_of f.kind; text = f.text }
 
 abbrev pub hand_of : OriginData → Manner → List ℕ → ProgramData → Hand
 hand_of origin manner namespace p = record {

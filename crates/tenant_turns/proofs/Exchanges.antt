@@ -41,7 +41,7 @@ use Rattle.repl_asks.specs.Exchange.{VerdictData, committed, conflict, faulted, 
 use Rattle.repl_asks.specs.Exchange.{resolution, done, value, reading, verdict, Exchanged}
 use Rattle.repl_asks.specs.Transactions.{RefNameData, ChangeData, CommuteData, CommutedData}
 use Rattle.repl_asks.specs.Transactions.{IntentData}
-use Rattle.repl_jobs.specs.Job.{WorkData, form, JobData}
+use Rattle.repl_jobs.specs.Job.{WorkData, form, shared_form, JobData}
 use Rattle.tenant_turns.proofs.Telling.{Tells, coded, items, pair, either, by_parts}
 
 abbrev Text : Type 0
@@ -393,12 +393,18 @@ exchange = by_parts (AskData × AnswerData) (pair ask answer) (λ e. (e.ask, e.a
     (λ p. record { ask = p.0; answer = p.1 }) (λ _. refl)
 
 work : Tells WorkData
-work = by_parts Datum datum parts form back where
-  parts : WorkData → Datum
-  parts (form d) = d
+work = by_parts (Datum ⊎ Datum) (either datum datum) parts whole back where
+  parts : WorkData → Datum ⊎ Datum
+  parts (form d) = inl d
+  parts (shared_form d) = inr d
 
-  back : (w : WorkData) → form (parts w) ≡ w
+  whole : Datum ⊎ Datum → WorkData
+  whole (inl d) = form d
+  whole (inr d) = shared_form d
+
+  back : (w : WorkData) → whole (parts w) ≡ w
   back (form d) = refl
+  back (shared_form d) = refl
 
 pub job : Tells JobData
 job = by_parts (WorkData × (Text × ℕ)) (pair work (pair text number))

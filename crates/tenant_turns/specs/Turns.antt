@@ -24,10 +24,10 @@ pub record Lone : Type 0 where
   pub quiet : Quiet
   pub store : Store
 
--- it begins as the tenant with the first number, and there are no refs
+-- it begins as the tenant with the first number, and has no refs of its own
 abbrev pub opened_lone : Ground → Lone
 opened_lone g =
-    let around : Around = record { counter = 0; refs = [] } in
+    let around : Around = record { counter = 0; refs = g.shared.refs } in
     let mine : Own = record { refs = []; points = [] } in
     record { quiet = opened_quiet g; store = record { around = around; tenant = 0; mine = mine } }
 

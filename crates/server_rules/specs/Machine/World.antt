@@ -39,6 +39,10 @@ new_world shared_refs = record {
   tenants = [];
 }
 
+-- a server to which nobody came
+abbrev pub opened_world : Ground → World
+opened_world g = new_world g.shared.refs
+
 abbrev pub opened_tenant : Ground → TenantData
 opened_tenant g = record { quiet = opened_quiet g; mine = record { refs = []; points = [] } }
 

@@ -16,8 +16,8 @@ returns-then-self-clause-refused c = λ g w right s.
 
 pub returns-in_err-tenant-clause-refused : goal.returns-in_err-tenant-clause-refused
 returns-in_err-tenant-clause-refused c = λ g w right s.
-    refuses-memory g w c.args.number c.args.self.now c.from_residual.result
-    c.from_residual.ensures.1 s
+    refuses-memory g w c.args.number c.args.self.now
+    c.from_residual-in_err-tenant.result c.from_residual-in_err-tenant.ensures.1 s
 
 pub returns-in_err-add-clause-refused : goal.returns-in_err-add-clause-refused
 returns-in_err-add-clause-refused c = λ g w right s.
@@ -31,8 +31,13 @@ returns-clause-done c = λ g w right s.
     does-open g w c.args.number c.args.self.now c.add.new.self c.in_ok-tenant.tenant s
     (sym c.is_reached.ensures ∙ c.if-is_reached.false) (lt-false _ _ c.if-self.false)
     (λ st same points.
-    c.in_ok-tenant.ensures g right s.names s.seed s.steps s.retries st same points)
+    c.in_ok-tenant.ensures g right (s.names ∙ sym c.in_ok-names.ensures) s.seed s.steps s.retries st same points)
     c.in_ok-add.ensures.added c.in_ok-add.ensures.others
+
+pub returns-in_err-names-clause-no_memory : goal.returns-in_err-names-clause-no_memory
+returns-in_err-names-clause-no_memory c = λ g w right s none.
+    accepts-open g w c.args.number c.args.self.now s
+    (sym c.is_reached.ensures ∙ c.if-is_reached.false) (lt-false _ _ c.if-self.false)
 
 pub returns-in_err-tenant-clause-no_memory : goal.returns-in_err-tenant-clause-no_memory
 returns-in_err-tenant-clause-no_memory c = λ g w right s none.

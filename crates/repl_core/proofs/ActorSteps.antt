@@ -1,0 +1,470 @@
+-- What a step makes of an actor's form and of its read point.
+use Rattle.std.proofs.Common.{◌≡◌, ◌≢◌, ◌∙◌, ◌⊎◌, inl, inr, ℕ, ◌==◌, List, [], ◌∷◌, Bool, true}
+use Rattle.std.proofs.Common.{false, Option, Some, None, is_some, option_and_then, refl, sym, ap}
+use Rattle.std.proofs.Common.{subst, arith, if◌then◌else◌}
+use Rattle.std.specs.Prelude.{⊤, Result, Ok, Err}
+use Rattle.std.proofs.lemmas.Bool.{cases_eq}
+use Rattle.repl_faults.specs.Failure.{Failure}
+use Rattle.bencode_wire.specs.declared.fault.WireFault.{WireFault}
+use Rattle.repl_asks.specs.Exchange.{AskData, AnswerData}
+use Rattle.repl_jobs.specs.Job.{EndData, EndingData}
+use Rattle.repl_replies.specs.Replies.{OriginData, ReplyData}
+use Rattle.repl_sessions.specs.State.{StateData, in_namespace}
+use Rattle.value_data.specs.Datum.{Datum, nil, Items, no_items, item}
+use Rattle.repl_replies.specs.Fields.{text_of}
+use Rattle.server_rules.specs.Numbered.{Entry, part_under, with_part, without}
+use Rattle.server_rules.specs.Store.{Store, left_attempt}
+use Rattle.server_rules.specs.Calls.{performed, given_up}
+use Rattle.server_rules.specs.Ground.{Ground}
+use Rattle.server_rules.specs.Request.{Waiting, Manner, each_form, each_form_elsewhere, last_form}
+use Rattle.server_rules.specs.Request.{ProgramText, code, file, Hand, Run}
+use Rattle.server_rules.specs.Tenant.{ActorData, seat_of, Quiet, is_held, with_actor, with_state}
+use Rattle.server_rules.specs.Tenant.{actor_state}
+use Rattle.server_rules.specs.Moves.{Move, closing_move, going_on, result_noted, form_loaded}
+use Rattle.server_rules.specs.Moves.{form_ended_as, form_ended}
+use Rattle.server_rules.specs.Plan.{Deed, hears, starts, asks_for, ends, drains, Outcome, refuses}
+use Rattle.server_rules.specs.Plan.{leaves, Plan, quietly, with_step_spent}
+use Rattle.server_rules.specs.Hearing.{stream_fault, hears_more}
+use Rattle.server_rules.specs.Starting.{Started, next_begun, hand_of, program_begun}
+use Rattle.server_rules.specs.Starting.{namespace_there, elsewhere_begun, text_begun, first_state}
+use Rattle.server_rules.specs.Starting.{after_move, start_outcome, interrupted_in, held_or}
+use Rattle.server_rules.specs.Starting.{start_in_hand, start_waiting}
+use Rattle.server_rules.specs.Asking.{call_of, is_allowed, answer_to, answer_outcome, when_told}
+use Rattle.server_rules.specs.Asking.{asked_allowed, asked_running, asked_of}
+use Rattle.server_rules.specs.Ending.{with_left_attempt, end_accepted, end_compared, end_running}
+use Rattle.server_rules.specs.Ending.{end_of}
+use Rattle.server_rules.specs.Deeds.{start_of, for_actor, unless_worn, drain_outcome, plan}
+use Rattle.server_rules.specs.declared.actor.Actor.{Actor}
+use Rattle.server_rules.specs.declared.refusal.Refusal.{Refusal}
+use Rattle.tenant_refs.proofs.Points.{part_under-without}
+use Rattle.tenant_walks.proofs.Runs.{runs_at, part_under-put, heard-runs}
+use Rattle.tenant_world.specs.Asking.{exchange_from, run_with}
+use Rattle.tenant_world.specs.Running.{running_of, running_in}
+use Rattle.repl_core.proofs.CommitSteps.{closed_plan, open_plan}
+use Rattle.repl_core.proofs.AskedPoints.{gone, asked-others}
+
+-- What comes of a deed of a tenant
+
+-- no form, or one that has asked nothing
+abbrev pub IsFresh : Option Run → Type 0
+IsFresh None = ⊤
+IsFresh (Some form) = form.trace ≡ []
+
+-- The actor's form asked, and has this form and this read point then.
+pub record AskedBy (g : Ground) (a : Actor) (q : Quiet) (s : Store) (d : Deed) (f : Option Run)
+    (p : Option ℕ) : Type 0 where
+  pub form : Run
+  pub runs : running_in a q ≡ Some form
+  pub ask : AskData
+  pub told : AnswerData
+  pub is : d ≡ asks_for a ask
+  pub tells : (performed s (call_of (seat_of a) ask)).told ≡ Some told
+  pub form_after : f ≡ Some (run_with (exchange_from ask (answer_to g a q ask told)) form)
+  pub point_after
+      : p ≡ part_under (seat_of a) (performed s (call_of (seat_of a) ask)).store.mine.points
+
+-- the form and the point are as they were, or a form begins, or the form is over, or it asked
+abbrev pub Moves : Ground → Actor → Quiet → Store → Deed → Option Run → Option ℕ → Type 0
+Moves g a q s d f p =
+    ((f ≡ running_in a q) × (p ≡ part_under (seat_of a) s.mine.points))
+    ⊎ (((running_in a q ≡ None) × IsFresh f × (p ≡ part_under (seat_of a) s.mine.points))
+    ⊎ (((f ≡ None) × (p ≡ None)) ⊎ AskedBy g a q s d f p))
+
+-- so an outcome leaves the actor
+abbrev pub Leaves : (Option Run → Option ℕ → Type 0) → Actor → Store → Outcome → Type 0
+Leaves P a new (refuses why) = ⊤
+Leaves P a new (leaves q answer) = P (running_in a q) (part_under (seat_of a) new.mine.points)
+
+abbrev Comes : Ground → Actor → Quiet → Store → Deed → Plan → Type 0
+Comes g a q s d p =
+    Leaves (Moves g a q s d) a (performed s p.call).store (p.next (performed s p.call).told)
+
+-- Finite maps
+
+put-mine : (n : ℕ) (new old : ActorData) (es : List (Entry ActorData)) → part_under n es ≡ Some old
+    → runs_at n (with_part n new es) ≡ option_and_then (λ h. h.running) new.hand
+put-mine n new old es there = ap running_of ((part_under-put n n new old es there).0 refl)
+
+put-other : (m n : ℕ) (new old : ActorData) (es : List (Entry ActorData)) → m ≢ n
+    → part_under n es ≡ Some old → runs_at m (with_part n new es) ≡ runs_at m es
+put-other m n new old es apart there = ap running_of ((part_under-put m n new old es there).1 apart)
+
+gone-mine : (n : ℕ) (es : List (Entry ActorData)) → runs_at n (without n es) ≡ None
+gone-mine n es = ap running_of (gone n es)
+
+gone-other : (m n : ℕ) (es : List (Entry ActorData)) → m ≢ n
+    → runs_at m (without n es) ≡ runs_at m es
+gone-other m n es apart = ap running_of (part_under-without m n es apart)
+
+with_state-actors : (a : Actor) (state : StateData) (q : Quiet)
+    → (with_state a state q).actors ≡ q.actors
+with_state-actors Actor.Bare state q = refl
+with_state-actors (Actor.Session n) state q = refl
+
+-- what an actor runs behind a move of another or of itself
+moved-runs : (a b : Actor) (actor : ActorData) (m : Move) (q : Quiet)
+    → running_in a (with_step_spent (after_move b actor m q))
+    ≡ runs_at (seat_of a) (with_part (seat_of b) (record actor { hand = m.hand }) q.actors)
+moved-runs a b actor m q = ap (λ es. runs_at (seat_of a) es)
+    (with_state-actors b m.state (with_actor b (record actor { hand = m.hand }) q))
+
+-- Moves
+
+abbrev HasFresh : Move → Type 0
+HasFresh m = IsFresh (option_and_then (λ h. h.running) m.hand)
+
+closing-none : (origin : OriginData) (manner : Manner) (fault : Option Failure) (state : StateData)
+    → option_and_then (λ h. h.running) (closing_move origin manner fault state).hand ≡ None
+closing-none origin manner (Some f) state = refl
+closing-none origin (last_form d) None state = refl
+closing-none origin each_form None state = refl
+closing-none origin each_form_elsewhere None state = refl
+
+none-fresh : (f : Option Run) → f ≡ None → IsFresh f
+none-fresh f is = subst IsFresh (sym is) tt
+
+next-fresh : (g : Ground) (h : Hand) (state : StateData) (forms : Items)
+    → HasFresh (next_begun g h state forms).move
+next-fresh g h state no_items = none-fresh _ (closing-none h.origin h.manner h.fault state)
+next-fresh g h state (item d ds) = refl
+
+program-fresh : (g : Ground) (origin : OriginData) (manner : Manner) (namespace : List ℕ)
+    (state : StateData) (text : List ℕ)
+    → HasFresh (program_begun g origin manner namespace state (g.readings.program text)).move
+program-fresh g origin manner namespace state text =
+    next-fresh g (hand_of origin manner namespace (g.readings.program text)) state
+    (g.readings.program text).forms
+
+text-fresh : (g : Ground) (q : Quiet) (origin : OriginData) (state : StateData) (text : ProgramText)
+    → HasFresh (text_begun g q.spaces origin state text).move
+text-fresh g q origin state (file text) =
+    program-fresh g origin (last_form nil) state.namespace state text
+text-fresh g q origin state (code text None) =
+    program-fresh g origin each_form state.namespace state text
+text-fresh g q origin state (code text (Some ns)) =
+    by (option_and_then (namespace_there q.spaces) (text_of (Some ns)))
+  where
+    by : (name : Option (List ℕ)) → HasFresh (elsewhere_begun g origin text state name).move
+    by None = tt
+    by (Some name) = program-fresh g origin each_form_elsewhere name state text
+
+going-none : (h : Hand) (forms : Items) (state : StateData)
+    → option_and_then (λ x. x.running) (going_on h forms state).hand ≡ None
+going-none h no_items state = closing-none h.origin h.manner h.fault state
+going-none h (item d ds) state = refl
+
+ended-none : (h : Hand) (e : EndData) (state : StateData)
+    → option_and_then (λ x. x.running) (form_ended h e state).hand ≡ None
+unfolding form_ended
+ended-none h e state = by h.manner
+  where
+    loaded : (r : Result Datum Failure)
+        → option_and_then (λ x. x.running) (form_loaded h e r state).hand ≡ None
+    loaded (Ok d) =
+        going-none (record h { manner = last_form d; namespace = e.namespace }) h.forms state
+    loaded (Err f) = refl
+
+    by : (m : Manner) → option_and_then (λ x. x.running) (form_ended_as h e state m).hand ≡ None
+    by each_form = going-none (record h { namespace = e.namespace }) h.forms
+        (in_namespace e.namespace (result_noted e.result state))
+    by each_form_elsewhere = going-none (record h { namespace = e.namespace }) h.forms
+        (result_noted e.result state)
+    by (last_form d) = loaded e.result
+
+-- Plans by cases
+
+either : {A : Type 0} (P : A → Type 0) (b : Bool) (x y : A) → P x → P y → P (if b then x else y)
+either P true x y h k = h
+either P false x y h k = k
+
+found-by : (P : Plan → Type 0) (o : Option ActorData) (p : ActorData → Plan)
+    → P (quietly (refuses Refusal.NoSuchActor))
+    → ((actor : ActorData) → o ≡ Some actor → P (p actor)) → P (for_actor o p)
+found-by P None p none all = none
+found-by P (Some actor) p none all = all actor refl
+
+abbrev Refused : (Plan → Type 0) → Type 0
+Refused P = (why : Refusal) → P (quietly (refuses why))
+
+abbrev There : Actor → Quiet → ActorData → Type 0
+There b q actor = part_under (seat_of b) q.actors ≡ Some actor
+
+module _ (P : Plan → Type 0) (g : Ground) (b : Actor) (q : Quiet) (none : Refused P) where
+  held-by : (o : Outcome) → P (quietly o) → P (quietly (held_or q o))
+  held-by o h = either (λ x. P (quietly x)) (is_held q) (refuses Refusal.Held) o
+      (none Refusal.Held) h
+
+  actor-by : (p : ActorData → Plan) → ((actor : ActorData) → There b q actor → P (p actor))
+      → P (unless_worn q (for_actor (part_under (seat_of b) q.actors) p))
+  actor-by p all = either P (q.steps == 0) _ _ (none Refusal.Worn)
+      (found-by P (part_under (seat_of b) q.actors) p (none Refusal.NoSuchActor) all)
+
+  module _ (begun : (actor old : ActorData) → There b q old
+      → option_and_then (λ h. h.running) old.hand ≡ None → (st : Started) → HasFresh st.move
+      → P (quietly (start_outcome b actor st q)))
+      (interrupted : (actor : ActorData) → There b q actor
+      → option_and_then (λ h. h.running) actor.hand ≡ None → (h : Hand)
+      → P (quietly (interrupted_in b h q))) where
+    waiting-by : (actor : ActorData) → There b q actor → actor.hand ≡ None → (ws : List Waiting)
+        → P (quietly (start_waiting g b actor q ws))
+    waiting-by actor there idle [] = none Refusal.Idle
+    waiting-by actor there idle (x ∷ ws) =
+        let left : ActorData = record actor { waiting = ws } in
+        let st : Started = text_begun g q.spaces x.origin (first_state b q) x.text in
+        held-by (start_outcome b left st q) (begun left actor there
+        (ap (option_and_then (λ h. h.running)) idle) st
+        (text-fresh g q x.origin (first_state b q) x.text))
+
+    in_hand-by : (actor : ActorData) → There b q actor → (h : Hand) → actor.hand ≡ Some h
+        → (runs : Bool) → is_some h.running ≡ runs → P (quietly (start_in_hand g b actor h q runs))
+    in_hand-by actor there h in_hand true runs = none Refusal.Idle
+    in_hand-by actor there h in_hand false idle =
+        let not_running : option_and_then (λ x. x.running) actor.hand ≡ None =
+        ap (option_and_then (λ x. x.running)) in_hand ∙ none-there h.running idle in
+        let st : Started = next_begun g h (actor_state b q) h.forms in
+        let outcome : Outcome = start_outcome b actor st q in
+        either (λ o. P (quietly o)) actor.is_closed (interrupted_in b h q) (held_or q outcome)
+        (interrupted actor there not_running h)
+        (held-by outcome (begun actor actor there not_running st
+        (next-fresh g h (actor_state b q) h.forms)))
+      where
+        none-there : (o : Option Run) → is_some o ≡ false → o ≡ None
+        none-there None e = refl
+        none-there (Some form) e = absurd (cc)
+
+    start-by : (actor : ActorData) → There b q actor → (h : Option Hand) → actor.hand ≡ h
+        → P (quietly (start_of g b actor q h))
+    start-by actor there None is = waiting-by actor there is actor.waiting
+    start-by actor there (Some h) is = in_hand-by actor there h is (is_some h.running) refl
+
+    starts-by : (t : ℕ) → P (plan g t q (starts b))
+    starts-by t = actor-by (λ actor. quietly (start_of g b actor q actor.hand))
+        (λ actor there. start-by actor there actor.hand refl)
+
+  module _ (ask : AskData) (closed : (actor : ActorData) → There b q actor → (h : Hand)
+      → P (closed_plan b h ask q))
+      (open_for : (actor : ActorData) → There b q actor → (h : Hand) → actor.hand ≡ Some h
+      → (form : Run) → h.running ≡ Some form → P (open_plan g b actor h form ask q)) where
+    allowed-by : (actor : ActorData) → There b q actor → (h : Hand) → actor.hand ≡ Some h
+        → (form : Run) → h.running ≡ Some form → P (asked_allowed g b actor h form ask q)
+    allowed-by actor there h in_hand form runs = either P actor.is_closed (closed_plan b h ask q)
+        (open_plan g b actor h form ask q) (closed actor there h)
+        (open_for actor there h in_hand form runs)
+
+    running-by : (actor : ActorData) → There b q actor → (h : Hand) → actor.hand ≡ Some h
+        → (form : Option Run) → h.running ≡ form → P (asked_running g b actor h ask q form)
+    running-by actor there h in_hand None runs = none Refusal.Idle
+    running-by actor there h in_hand (Some form) runs = either P (is_allowed ask q) _ _
+        (allowed-by actor there h in_hand form runs) (none Refusal.Idle)
+
+    hand-by : (actor : ActorData) → There b q actor → (h : Option Hand) → actor.hand ≡ h
+        → P (asked_of g b actor ask q h)
+    hand-by actor there None is = none Refusal.Idle
+    hand-by actor there (Some h) is = running-by actor there h is h.running refl
+
+    asks-by : (t : ℕ) → P (plan g t q (asks_for b ask))
+    asks-by t = actor-by (λ actor. asked_of g b actor ask q actor.hand)
+        (λ actor there. hand-by actor there actor.hand refl)
+
+  module _ (e : EndingData) (over : (actor : ActorData) → There b q actor → (h : Hand)
+      → P (with_left_attempt b (interrupted_in b h q)))
+      (ended : (actor : ActorData) → There b q actor → (h : Hand)
+      → P (end_accepted b actor h e q)) where
+    compared-by : (actor : ActorData) → There b q actor → (h : Hand) (same : Bool)
+        (difference : Option ℕ) → P (end_compared b actor h e q same difference)
+    compared-by actor there h false difference = none (Refusal.TraceMismatch 0)
+    compared-by actor there h true (Some place) = none (Refusal.TraceMismatch place)
+    compared-by actor there h true None = ended actor there h
+
+    ending-by : (actor : ActorData) → There b q actor → (h : Hand) (form : Option Run)
+        → P (end_running g b actor h e q form)
+    ending-by actor there h None = none Refusal.Idle
+    ending-by actor there h (Some form) = either P actor.is_closed _ _ (over actor there h)
+        (either P (is_held q) _ _ (none Refusal.Held)
+        (compared-by actor there h (g.comparisons.is_same_job e.job form.job)
+        (g.comparisons.difference e.trace form.trace)))
+
+    end-by : (actor : ActorData) → There b q actor → (h : Option Hand)
+        → P (end_of g b actor e q h)
+    end-by actor there None = none Refusal.Idle
+    end-by actor there (Some h) = ending-by actor there h h.running
+
+    ends-by : (t : ℕ) → P (plan g t q (ends b e))
+    ends-by t = actor-by (λ actor. end_of g b actor e q actor.hand)
+        (λ actor there. end-by actor there actor.hand)
+
+-- Deeds of the actor
+
+module _ (g : Ground) (a : Actor) (q : Quiet) (s : Store) where
+  stays : (d : Deed) (f : Option Run) (p : Option ℕ) → f ≡ running_in a q
+      → p ≡ part_under (seat_of a) s.mine.points → Moves g a q s d f p
+  stays d f p same here = inl (same, here)
+
+  is_over : (d : Deed) (f : Option Run) (p : Option ℕ) → f ≡ None → p ≡ None → Moves g a q s d f p
+  is_over d f p none left = inr (inr (inl (none, left)))
+
+  idle : (actor : ActorData) → There a q actor
+      → option_and_then (λ h. h.running) actor.hand ≡ None → running_in a q ≡ None
+  idle actor there none = ap running_of there ∙ none
+
+  start-mine : (t : ℕ) → Comes g a q s (starts a) (plan g t q (starts a))
+  start-mine t = starts-by (Comes g a q s (starts a)) g a q (λ why. tt)
+      (λ actor old there none st fresh.
+      let new : ActorData = record actor { hand = st.move.hand } in
+      inr (inl (
+        idle old there none,
+        subst IsFresh (sym (moved-runs a a actor st.move q
+            ∙ put-mine (seat_of a) new old q.actors there)) fresh,
+        refl,
+      )))
+      (λ actor there none h. stays (starts a) _ _
+      (gone-mine (seat_of a) q.actors ∙ sym (idle actor there none)) refl)
+      t
+
+  interrupted-mine : (d : Deed) (h : Hand)
+      → Leaves (Moves g a q s d) a (left_attempt (seat_of a) s) (interrupted_in a h q)
+  interrupted-mine d h =
+      is_over d _ _ (gone-mine (seat_of a) q.actors) (gone (seat_of a) s.mine.points)
+
+  end-mine : (e : EndingData) (t : ℕ) → Comes g a q s (ends a e) (plan g t q (ends a e))
+  end-mine e t = ends-by (Comes g a q s (ends a e)) g a q (λ why. tt) e
+      (λ actor there h. interrupted-mine (ends a e) h)
+      (λ actor there h.
+      let m : Move = form_ended h e.end (actor_state a q) in
+      is_over (ends a e) _ _ (moved-runs a a actor m q
+      ∙ put-mine (seat_of a) (record actor { hand = m.hand }) actor q.actors there
+      ∙ ended-none h e.end (actor_state a q)) (gone (seat_of a) s.mine.points))
+      t
+
+  ask-mine : (ask : AskData) (t : ℕ) → Comes g a q s (asks_for a ask) (plan g t q (asks_for a ask))
+  ask-mine ask t = asks-by (Comes g a q s (asks_for a ask)) g a q (λ why. tt) ask
+      (λ actor there h. closed h (performed s (call_of (seat_of a) ask)).told)
+      (λ actor there h in_hand form runs.
+      asked actor there h in_hand form runs (performed s (call_of (seat_of a) ask)).told refl)
+      t
+    where
+      closed : (h : Hand) (o : Option AnswerData)
+          → Leaves (Moves g a q s (asks_for a ask)) a (given_up (seat_of a) s o).store
+          (when_told (given_up (seat_of a) s o).told (λ _. interrupted_in a h q))
+      closed h None = tt
+      closed h (Some v) = interrupted-mine (asks_for a ask) h
+
+      asked : (actor : ActorData) → There a q actor → (h : Hand) → actor.hand ≡ Some h
+          → (form : Run) → h.running ≡ Some form → (o : Option AnswerData)
+          → (performed s (call_of (seat_of a) ask)).told ≡ o
+          → Leaves (Moves g a q s (asks_for a ask)) a (performed s (call_of (seat_of a) ask)).store
+          (when_told o (answer_outcome g a actor h form ask q))
+      asked actor there h in_hand form runs None told = tt
+      asked actor there h in_hand form runs (Some v) told =
+          let more : Run = run_with (exchange_from ask (answer_to g a q ask v)) form in
+          let new : ActorData = record actor { hand = Some (record h { running = Some more }) } in
+          inr (inr (inr (record {
+            form = form;
+            runs = ap running_of there ∙ ap (option_and_then (λ x. x.running)) in_hand ∙ runs;
+            ask = ask;
+            told = v;
+            is = refl;
+            tells = told;
+            form_after = put-mine (seat_of a) new actor q.actors there;
+            point_after = refl;
+          })))
+
+-- Deeds of others
+
+module _ (g : Ground) (a b : Actor) (q : Quiet) (s : Store) (apart : seat_of a ≢ seat_of b) where
+  moved-other : (d : Deed) (actor old : ActorData) (m : Move) → There b q old → (p : Option ℕ)
+      → p ≡ part_under (seat_of a) s.mine.points
+      → Moves g a q s d (running_in a (with_step_spent (after_move b actor m q))) p
+  moved-other d actor old m there p here = stays g a q s d _ _ (moved-runs a b actor m q
+      ∙ put-other (seat_of a) (seat_of b) (record actor { hand = m.hand }) old q.actors apart there)
+      here
+
+  left-other : part_under (seat_of a) (left_attempt (seat_of b) s).mine.points
+      ≡ part_under (seat_of a) s.mine.points
+  left-other = part_under-without (seat_of a) (seat_of b) s.mine.points apart
+
+  interrupted-other : (d : Deed) (h : Hand) (new : Store)
+      → part_under (seat_of a) new.mine.points ≡ part_under (seat_of a) s.mine.points
+      → Leaves (Moves g a q s d) a new (interrupted_in b h q)
+  interrupted-other d h new here =
+      stays g a q s d _ _ (gone-other (seat_of a) (seat_of b) q.actors apart) here
+
+  start-other : (t : ℕ) → Comes g a q s (starts b) (plan g t q (starts b))
+  start-other t = starts-by (Comes g a q s (starts b)) g b q (λ why. tt)
+      (λ actor old there none st fresh. moved-other (starts b) actor old st.move there _ refl)
+      (λ actor there none h. interrupted-other (starts b) h s refl) t
+
+  end-other : (e : EndingData) (t : ℕ) → Comes g a q s (ends b e) (plan g t q (ends b e))
+  end-other e t = ends-by (Comes g a q s (ends b e)) g b q (λ why. tt) e
+      (λ actor there h. interrupted-other (ends b e) h (left_attempt (seat_of b) s) left-other)
+      (λ actor there h. moved-other (ends b e) actor actor
+      (form_ended h e.end (actor_state b q)) there _ left-other)
+      t
+
+  ask-other : (ask : AskData) (t : ℕ) → Comes g a q s (asks_for b ask) (plan g t q (asks_for b ask))
+  ask-other ask t = asks-by (Comes g a q s (asks_for b ask)) g b q (λ why. tt) ask
+      (λ actor there h. closed h (performed s (call_of (seat_of b) ask)).told)
+      (λ actor there h in_hand form runs.
+      asked actor there h form (performed s (call_of (seat_of b) ask)).told refl)
+      t
+    where
+      closed : (h : Hand) (o : Option AnswerData)
+          → Leaves (Moves g a q s (asks_for b ask)) a (given_up (seat_of b) s o).store
+          (when_told (given_up (seat_of b) s o).told (λ _. interrupted_in b h q))
+      closed h None = tt
+      closed h (Some v) =
+          interrupted-other (asks_for b ask) h (left_attempt (seat_of b) s) left-other
+
+      asked : (actor : ActorData) → There b q actor → (h : Hand) (form : Run)
+          (o : Option AnswerData) → (performed s (call_of (seat_of b) ask)).told ≡ o
+          → Leaves (Moves g a q s (asks_for b ask)) a (performed s (call_of (seat_of b) ask)).store
+          (when_told o (answer_outcome g b actor h form ask q))
+      asked actor there h form None told = tt
+      asked actor there h form (Some v) told =
+          let more : Run = run_with (exchange_from ask (answer_to g b q ask v)) form in
+          let new : ActorData = record actor { hand = Some (record h { running = Some more }) } in
+          stays g a q s (asks_for b ask) _ _
+          (put-other (seat_of a) (seat_of b) new actor q.actors apart there)
+          (asked-others (seat_of a) (seat_of b) ask v s apart told)
+
+-- Each deed
+
+seat-same : (a b : Actor) → seat_of a ≡ seat_of b → a ≡ b
+seat-same Actor.Bare Actor.Bare e = refl
+seat-same Actor.Bare (Actor.Session n) e = absurd (omega (arith, e))
+seat-same (Actor.Session n) Actor.Bare e = absurd (omega (arith, e))
+seat-same (Actor.Session n) (Actor.Session m) e =
+    let same : n ≡ m = omega (arith, e) in ap (λ k. Actor.Session k) same
+
+pub plan-moves : (g : Ground) (a : Actor) (q : Quiet) (s : Store) (t : ℕ) (d : Deed)
+    → Comes g a q s d (plan g t q d)
+plan-moves g a q s t (hears piece) =
+    either (Leaves (Moves g a q s (hears piece)) a s) (q.steps == 0) _ _ tt
+    (heard (stream_fault g.readings q.heard))
+  where
+    heard : (fault : Option WireFault)
+        → Leaves (Moves g a q s (hears piece)) a s (hears_more g t piece q fault)
+    heard (Some f) = tt
+    heard None = either (Leaves (Moves g a q s (hears piece)) a s) (is_held q) _ _ tt
+        (stays g a q s (hears piece) _ _ (heard-runs g t piece q a) refl)
+plan-moves g a q s t (starts b) = elim (cases_eq (seat_of a) (seat_of b)) [
+  | inl same ↦ subst (λ c. Comes g a q s (starts c) (plan g t q (starts c)))
+      (seat-same a b same) (start-mine g a q s t)
+  | inr apart ↦ start-other g a b q s apart t
+]
+plan-moves g a q s t (asks_for b ask) = elim (cases_eq (seat_of a) (seat_of b)) [
+  | inl same ↦ subst (λ c. Comes g a q s (asks_for c ask) (plan g t q (asks_for c ask)))
+      (seat-same a b same) (ask-mine g a q s ask t)
+  | inr apart ↦ ask-other g a b q s apart ask t
+]
+plan-moves g a q s t (ends b e) = elim (cases_eq (seat_of a) (seat_of b)) [
+  | inl same ↦ subst (λ c. Comes g a q s (ends c e) (plan g t q (ends c e)))
+      (seat-same a b same) (end-mine g a q s e t)
+  | inr apart ↦ end-other g a b q s apart e t
+]
+plan-moves g a q s t drains = by q.replies
+  where
+    by : (replies : List ReplyData)
+        → Leaves (Moves g a q s drains) a s (drain_outcome q replies)
+    by [] = tt
+    by (oldest ∷ more) = stays g a q s drains _ _ refl refl
