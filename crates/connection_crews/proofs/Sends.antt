@@ -61,6 +61,8 @@ use Rattle.tenant_actors.specs.contracts.actor.ActorState as actor_state
 use Rattle.tenant_actors.specs.contracts.actors.Actors as actors
 use Rattle.repl_sessions.specs.contracts.sessions.Sessions as sessions
 use Rattle.repl_sessions.specs.contracts.state.SessionState as session_state
+use Rattle.name_spaces.specs.contracts.vars.Vars as vars
+use Rattle.name_spaces.specs.contracts.shared.SharedNames as shared_names
 use Rattle.name_spaces.specs.contracts.spaces.Spaces as spaces
 use Rattle.private_cells.specs.contracts.atoms.Atoms as atoms
 use Rattle.tenant_replies.specs.contracts.outbox.Outbox as outbox
@@ -70,6 +72,7 @@ use Rattle.ref_history.specs.contracts.ring_history.RingHistory as history
 use Rattle.ref_table.specs.contracts.table.RefTable as ref_table
 use Rattle.repl_core.specs.contracts.machine.Machine as machine
 use Rattle.repl_core.specs.contracts.machine.Config as config
+use Rattle.repl_core.specs.contracts.machine.SharedText as shared_text
 use Rattle.journal_book.specs.contracts.book.Book as book
 use Rattle.slab.specs.contracts.Slab as slab
 use Rattle.tenant_world.specs.contracts.memory.Memory as memory
@@ -401,8 +404,20 @@ outbox-send = search all depth 40 fits 20000
 attempts-send : IsSend attempts.the_row
 attempts-send = search all depth 40 fits 20000
 
+vars-send : IsSend vars.the_row
+vars-send = search (sendable, crosses, maps.crosses, binding-send) depth 40 fits 20000
+
+vars-sync : IsSync vars.the_row
+vars-sync = search (sendable, crosses, maps.crosses, binding-sync) depth 40 fits 20000
+
+shared_names-send : IsSend shared_names.the_row
+shared_names-send = search (made, vars-send, vars-sync, heap.Arc-send) depth 30 fits 20000
+
 spaces-send : IsSend spaces.the_row
-spaces-send = search (sendable, crosses, maps.crosses, binding-send) depth 40 fits 20000
+spaces-send = declared_send spaces.the_type (
+  search (sendable, crosses, maps.crosses, vars-send) depth 40 fits 20000,
+  (shared_names-send, tt),
+)
 
 atoms-send : IsSend atoms.the_row
 atoms-send = search (made, value-send, heap.Vec-send) depth 30 fits 20000
@@ -502,8 +517,17 @@ tenant-send = declared_send tenant.the_type (
 tenants-send : IsSend tenants.the_row
 tenants-send = search (sendable, crosses, maps.crosses, tenant-send) depth 40 fits 20000
 
+shared_text-send : IsSend shared_text.the_row
+shared_text-send = search (made, text-send) depth 30 fits 20000
+
 config-send : IsSend config.the_row
-config-send = search sendable depth 20
+config-send = declared_send config.the_type (
+  search sendable depth 20,
+  (
+    number32,
+    (number32, (shared_text-send, tt)),
+  ),
+)
 
 newest-send : IsSend (option.the_row denote.Builtin.u64)
 newest-send = option-send denote.Builtin.u64 number
@@ -512,16 +536,25 @@ machine-send : IsSend machine.the_row
 machine-send = declared_send machine.the_type (
   heap.send,
   (
-    config-send,
+    search sendable depth 20,
     (
-      search sendable,
+      number32,
       (
-        search sendable,
+        number32,
         (
-          newest-send,
+          search sendable,
           (
-            table-send,
-            (tenants-send, tt),
+            search sendable,
+            (
+              newest-send,
+              (
+                shared_names-send,
+                (
+                  table-send,
+                  (tenants-send, tt),
+                ),
+              ),
+            ),
           ),
         ),
       ),

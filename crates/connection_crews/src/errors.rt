@@ -1,4 +1,6 @@
 // Why a server does not end as it should.
+use repl_core::LoadError;
+use repl_values::Fault;
 use std::alloc::AllocError;
 use thiserror::Error;
 
@@ -10,6 +12,18 @@ pub enum ServeError {
     /// No connection could be accepted any more.
     #[error("read failed")]
     AcceptFailed,
+    /// The text that all tenants share has this fault, so that nobody was served.
+    #[error("the shared text has a fault")]
+    SharedText(Fault),
+}
+
+impl From<LoadError> for ServeError {
+    fn from(error: LoadError) -> ServeError {
+        match error {
+            LoadError::NoMemory => ServeError::NoMemory,
+            LoadError::Fault(fault) => ServeError::SharedText(fault),
+        }
+    }
 }
 
 impl From<AllocError> for ServeError {

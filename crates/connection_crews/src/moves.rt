@@ -282,13 +282,15 @@ fn drain<L: Ledger>(book: &mut Book<L>, seat: &mut Seat<L>) -> Option<Vec<u8>>
     ensures { seat.new.tenant ≡ seat.old.tenant }
 {
     let tenant = seat.tenant();
-    match book.act(seat, Step::Drain(tenant)) {
-        Ok(
-            Receipt {
-                place: _,
-                answer: StepAnswer::Bytes(reply),
-            },
-        ) => Some(reply),
+    let Ok(receipt) = book.act(seat, Step::Drain(tenant)) else {
+        return None;
+    };
+    bytes_in(receipt.answer)
+}
+
+fn bytes_in(answer: StepAnswer) -> Option<Vec<u8>> {
+    match answer {
+        StepAnswer::Bytes(reply) => Some(reply),
         _ => None,
     }
 }

@@ -50,7 +50,7 @@ pub fn serve<
     requires parts { (blank.parts ≡ L.parts) × (blank.parts ≡ 5000001) }
     ensures { IfOk result (λ r. IsReportOf r.0 r.1) }
 {
-    let book = shared(alloc, Mutex::new(Book::<L>::new(blank, alloc, config)))?;
+    let book = shared(alloc, Mutex::new(Book::<L>::new(blank, alloc, config)?))?;
     let gate = shared(alloc, gate)?;
     let seats = served(rt, alloc, &book, &gate, listener, options)?;
     // no crew holds it any more

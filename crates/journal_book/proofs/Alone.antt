@@ -7,7 +7,7 @@ use Rattle.server_rules.specs.Isolation.Privacy.{IsPrivateFor, Private, IsAccept
 use Rattle.server_rules.specs.Machine.Turns.{Turn, given, goes, whose, whose_step, step_of, turn_step}
 use Rattle.server_rules.specs.Machine.Turns.{world_after, bytes_given, serve, turns_of_tenant}
 use Rattle.server_rules.specs.Machine.World.{World, Step, opens, does, closes, accepted, step, world_or}
-use Rattle.server_rules.specs.Machine.World.{new_world}
+use Rattle.server_rules.specs.Machine.World.{opened_world}
 use Rattle.server_rules.specs.Plan.{Deed, hears, starts, asks_for, ends, drains, StepAnswer}
 use Rattle.server_rules.proofs.Alone.{before-alone}
 use Rattle.journal_book.specs.Journal.{EntryData, IsJournal}
@@ -79,10 +79,10 @@ private-follows g t w now (turn ∷ turns) (e ∷ es) leads follows private =
     )
 
 follows-alone : (g : Ground) (t : ℕ) (now : World) (turns : List Turn) (es : List EntryData)
-    → IsJournal g (new_world []) es now → Follows g (new_world []) turns es → NamesNoSharedIn t es
-    → bytes_to t es ≡ serve g (new_world []) (turns_of_tenant t turns) t
+    → IsJournal g (opened_world g) es now → Follows g (opened_world g) turns es → NamesNoSharedIn t es
+    → bytes_to t es ≡ serve g (opened_world g) (turns_of_tenant t turns) t
 follows-alone g t now turns es leads follows private =
-    let w = new_world [] in
+    let w = opened_world g in
     sym (serve-follows g t w now turns es leads follows)
     ∙ before-alone g t turns w w (λ n. tt) (λ n. tt) refl refl
     (first-follows g t w now turns es leads follows)
@@ -103,11 +103,11 @@ given-own t (e ∷ es) =
     ap (λ ts. if t == whose_step e.step then given e.step ∷ ts else ts) (given-own t es)
 
 pub steps-alone : (g : Ground) (t : ℕ) (now : World) (es : List EntryData)
-    → IsJournal g (new_world []) es now → NamesNoSharedIn t es
-    → bytes_to t es ≡ serve g (new_world []) (steps_of t es) t
+    → IsJournal g (opened_world g) es now → NamesNoSharedIn t es
+    → bytes_to t es ≡ serve g (opened_world g) (steps_of t es) t
 steps-alone g t now es leads private =
-    follows-alone g t now (map given-by es) es leads (given-follows g (new_world []) es) private
-    ∙ ap (λ ts. serve g (new_world []) ts t) (given-own t es)
+    follows-alone g t now (map given-by es) es leads (given-follows g (opened_world g) es) private
+    ∙ ap (λ ts. serve g (opened_world g) ts t) (given-own t es)
 
 -- The turns of a tenant that is honest
 
@@ -159,9 +159,9 @@ honest-own t (e ∷ es) =
     ∙ ap (λ ts. if b then turn_by e.step ∷ ts else ts) (honest-own t es)
 
 pub turns-alone : (g : Ground) (t : ℕ) (now : World) (es : List EntryData)
-    → IsJournal g (new_world []) es now → NamesNoSharedIn t es → IsHonest g (new_world []) t es
-    → bytes_to t es ≡ serve g (new_world []) (turns_of t es) t
+    → IsJournal g (opened_world g) es now → NamesNoSharedIn t es → IsHonest g (opened_world g) t es
+    → bytes_to t es ≡ serve g (opened_world g) (turns_of t es) t
 turns-alone g t now es leads private honest =
-    follows-alone g t now (map (honest-by t) es) es leads (honest-follows g t (new_world []) es honest)
+    follows-alone g t now (map (honest-by t) es) es leads (honest-follows g t (opened_world g) es honest)
     private
-    ∙ ap (λ ts. serve g (new_world []) ts t) (honest-own t es)
+    ∙ ap (λ ts. serve g (opened_world g) ts t) (honest-own t es)

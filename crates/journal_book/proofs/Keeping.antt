@@ -6,7 +6,7 @@ use Rattle.server_rules.specs.Ground.{Ground}
 use Rattle.server_rules.specs.Plan.{StepAnswer}
 use Rattle.server_rules.specs.Store.{Store}
 use Rattle.server_rules.specs.Tenant.{Quiet}
-use Rattle.server_rules.specs.Machine.World.{World, Step, new_world, accepted, refused, step}
+use Rattle.server_rules.specs.Machine.World.{World, Step, opened_world, accepted, refused, step}
 use Rattle.server_rules.specs.declared.refusal.Refusal.{Refusal}
 use Rattle.tenant_world.specs.Standing as world
 use Rattle.tenant_world.specs.declared.tenant.Tenant.{Tenant}
@@ -24,8 +24,8 @@ pub keeps-on : (g : Ground) (old new : Machine) (before after : List EntryData) 
     → noted ≡ given → after ≡ before ++ entry s noted ∷ [] → Keeps g new after
 keeps-on g old new before after s given noted k made same is = record {
   world = made.after;
-  leads = subst (λ js. IsJournal g (new_world []) js made.after) (sym is)
-      (join g (new_world []) k.world made.after before (entry s noted ∷ []) k.leads
+  leads = subst (λ js. IsJournal g (opened_world g) js made.after) (sym is)
+      (join g (opened_world g) k.world made.after before (entry s noted ∷ []) k.leads
       (made.after, made.accepted ∙ ap (accepted made.after) (sym same), refl));
   stands = made.stands;
 }
@@ -40,18 +40,18 @@ keeps-still g old new before s why k left = record {
 
 pub answered-so : (g : Ground) (old new : Machine) (before : List EntryData) (s : Step)
     (given : StepAnswer) (k : Keeps g old before) → AcceptsStep g k.world s new given
-    → (w : World) → IsJournal g (new_world []) before w
+    → (w : World) → IsJournal g (opened_world g) before w
     → (after : World) × (step g w s ≡ accepted after given)
 answered-so g old new before s given k made w leads =
-    let same : k.world ≡ w = leads-to-one g (new_world []) k.world w before k.leads leads in
+    let same : k.world ≡ w = leads-to-one g (opened_world g) k.world w before k.leads leads in
     (made.after, subst (λ x. step g x s ≡ accepted made.after given) same made.accepted)
 
 pub refused-so : (g : Ground) (old new : Machine) (before : List EntryData) (s : Step)
     (why : Refusal) (k : Keeps g old before) → RefusesStep g k.world s new why
-    → why ≢ Refusal.NoMemory → (w : World) → IsJournal g (new_world []) before w
+    → why ≢ Refusal.NoMemory → (w : World) → IsJournal g (opened_world g) before w
     → step g w s ≡ refused why
 refused-so g old new before s why k left other w leads =
-    let same : k.world ≡ w = leads-to-one g (new_world []) k.world w before k.leads leads in
+    let same : k.world ≡ w = leads-to-one g (opened_world g) k.world w before k.leads leads in
     subst (λ x. step g x s ≡ refused why) same (left.refused other)
 
 pub err-so : {A E : Type 0} (P : E → Type 0) (r : Result A E) (e : E) → IsErrAnd r (λ x. x ≡ e)
@@ -61,9 +61,9 @@ err-so P (Err x) e is p = subst P (sym is) p
 
 -- what is so of the server that the machine stands for is so of the one to which the journal leads
 pub told-so : (g : Ground) (m : Machine) (journal : List EntryData) (k : Keeps g m journal)
-    (w : World) → IsJournal g (new_world []) journal w → (P : World → Type 0) → P k.world → P w
+    (w : World) → IsJournal g (opened_world g) journal w → (P : World → Type 0) → P k.world → P w
 told-so g m journal k w leads P is =
-    subst P (leads-to-one g (new_world []) k.world w journal k.leads leads) is
+    subst P (leads-to-one g (opened_world g) k.world w journal k.leads leads) is
 
 -- a tenant that is open shows what its code shows
 pub shown-some : {X : Type 0} (g : Ground) (m : Machine) (w : World) (t : ℕ) (code : Tenant)

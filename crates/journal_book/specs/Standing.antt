@@ -2,7 +2,7 @@
 use Rattle.std.specs.Prelude.{◌≡◌, ◌≢◌, List, [], ◌∷◌, ◌++◌}
 use Rattle.server_rules.specs.Ground.{Ground}
 use Rattle.server_rules.specs.Plan.{StepAnswer}
-use Rattle.server_rules.specs.Machine.World.{World, Step, new_world, accepted, refused, step}
+use Rattle.server_rules.specs.Machine.World.{World, Step, opened_world, accepted, refused, step}
 use Rattle.server_rules.specs.declared.refusal.Refusal.{Refusal}
 use Rattle.repl_core.specs.Configured.{IsConfigured}
 use Rattle.repl_core.specs.Standing.{MachineStands}
@@ -14,7 +14,7 @@ use Rattle.journal_book.specs.View.{entries, BookData}
 -- the machine stands for the server to which the journal leads, from one to which nobody came
 pub record Keeps (g : Ground) (m : Machine) (journal : List EntryData) : Type 0 where
   pub world : World
-  pub leads : IsJournal g (new_world []) journal world
+  pub leads : IsJournal g (opened_world g) journal world
   pub stands : MachineStands g m world
 
 abbrev pub KeepsFor : Config → Machine → List EntryData → Type 0
@@ -23,12 +23,12 @@ KeepsFor config m journal = (g : Ground) → IsConfigured g config → Keeps g m
 -- the server to which the journal leads accepts the step, and answers so
 abbrev pub IsAnswered : Config → List EntryData → Step → StepAnswer → Type 0
 IsAnswered config journal s answer = (g : Ground) (w : World) → IsConfigured g config
-    → IsJournal g (new_world []) journal w → (after : World) × (step g w s ≡ accepted after answer)
+    → IsJournal g (opened_world g) journal w → (after : World) × (step g w s ≡ accepted after answer)
 
 -- the server to which the journal leads refuses the step so, unless for want of memory
 abbrev pub IsRefused : Config → List EntryData → Step → Refusal → Type 0
 IsRefused config journal s why = why ≢ Refusal.NoMemory → (g : Ground) (w : World)
-    → IsConfigured g config → IsJournal g (new_world []) journal w → step g w s ≡ refused why
+    → IsConfigured g config → IsJournal g (opened_world g) journal w → step g w s ≡ refused why
 
 abbrev pub entry : Step → StepAnswer → EntryData
 entry s answer = record { step = s; answer = answer }

@@ -5,9 +5,10 @@ ghost use Rattle.std.specs.Prelude.{option_and_then, option_map};
 ghost use Rattle.server_rules.specs.Ground.{Ground};
 ghost use Rattle.server_rules.specs.Plan.{tenant_opened};
 ghost use Rattle.server_rules.specs.Machine.Ready.{ready};
-ghost use Rattle.server_rules.specs.Machine.World.{World, new_world, opens};
+ghost use Rattle.server_rules.specs.Machine.World.{World, opened_world, opens};
 ghost use Rattle.server_rules.specs.Machine.Turns.{whose_step, serve};
 ghost use Rattle.repl_core.specs.Configured.{IsConfigured};
+ghost use Rattle.repl_core.specs.Starting.{TellsFault};
 ghost use Rattle.tenant_turns.specs.Inside.Wires.{wire_at};
 ghost use Rattle.repl_core.specs.Standing.{open_in};
 ghost use Rattle.repl_core.specs.Steps.{step_view, step_answer_view};
@@ -20,7 +21,7 @@ ghost use Rattle.journal_book.specs.Standing.{KeepsFor, IsAnswered, IsRefused, N
 use crate::entry::Entry;
 use crate::report::Report;
 use crate::seat::Seat;
-use repl_core::{Config, Machine, Refused, Step, StepAnswer};
+use repl_core::{Config, LoadError, Machine, Refused, Step, StepAnswer};
 use server_rules::{Actor, Refusal};
 use std::alloc::Global;
 use std::marker::Model;
@@ -100,29 +101,33 @@ pub struct Unclosed<L: Ledger> {
 }
 
 impl<L: Ledger> Book<L> {
-    /// An empty book of a server to which nobody came.
-    pub fn new(blank: Blank, alloc: Global, config: Config) -> Book<L>
+    /// An empty book of a server to which nobody came. There is none where the text that all share
+    /// has a fault.
+    pub fn new(blank: Blank, alloc: Global, config: Config) -> Result<Book<L>, LoadError>
         requires name { blank.name ≡ L.name }
         requires parts { (blank.parts ≡ L.parts) × (blank.parts ≡ 5000001) }
-        ensures { result ≡ record { config = config; journal = []; tenants = 0 } }
+        ensures made { IfOk result (λ book.
+            book ≡ record { config = config; journal = []; tenants = 0 }) }
+        ensures fault { IfErr result (TellsFault config) }
     {
+        let machine = Machine::new(alloc, &config)?;
         let (counts, rest) = blank.open::<L>();
-        Book {
+        Ok(Book {
             alloc,
             config,
             journal: Vec::new(alloc),
-            machine: Machine::new(alloc, config),
+            machine,
             counts,
             rest,
             tenants: 0,
-        }
+        })
     }
 
     /// The journal of a book replays: its steps are accepted one behind another by a server of its
     /// configuration, and answered so.
     pub fn replays(&self)
         ensures { (g : Ground) → IsConfigured g self.now.config
-            → (w : World) × IsJournal g (new_world []) (entries self.now.journal) w }
+            → (w : World) × IsJournal g (opened_world g) (entries self.now.journal) w }
     {
         let _ = &self.config;
     }
@@ -133,11 +138,11 @@ impl<L: Ledger> Book<L> {
     pub fn serves_as_if_alone(&self)
         ensures steps { (g : Ground) (t : ℕ) → IsConfigured g self.now.config
             → let journal = entries self.now.journal in NamesNoSharedIn t journal
-            → bytes_to t journal ≡ serve g (new_world []) (steps_of t journal) t }
+            → bytes_to t journal ≡ serve g (opened_world g) (steps_of t journal) t }
         ensures turns { (g : Ground) (t : ℕ) → IsConfigured g self.now.config
             → let journal = entries self.now.journal in NamesNoSharedIn t journal
-            → IsHonest g (new_world []) t journal
-            → bytes_to t journal ≡ serve g (new_world []) (turns_of t journal) t }
+            → IsHonest g (opened_world g) t journal
+            → bytes_to t journal ≡ serve g (opened_world g) (turns_of t journal) t }
     {
         let _ = &self.config;
     }
@@ -161,7 +166,7 @@ impl<L: Ledger> Book<L> {
     /// has one. It takes a step for each actor, and no memory.
     pub fn ready(&self, tenant: u64) -> Option<Actor>
         ensures { (g : Ground) (w : World) → IsConfigured g self.now.config
-            → IsJournal g (new_world []) (entries self.now.journal) w
+            → IsJournal g (opened_world g) (entries self.now.journal) w
             → result ≡ option_and_then (λ it. ready it.quiet) (open_in tenant w) }
     {
         self.machine.ready(tenant)
@@ -170,7 +175,7 @@ impl<L: Ledger> Book<L> {
     /// What has come of a tenant's stream, if the tenant is open. It takes no memory.
     pub fn wire(&self, tenant: u64) -> Option<Wire>
         ensures { (g : Ground) (w : World) → IsConfigured g self.now.config
-            → IsJournal g (new_world []) (entries self.now.journal) w
+            → IsJournal g (opened_world g) (entries self.now.journal) w
             → result ≡ option_map (λ it. wire_at (g.readings.stream it.quiet.heard).ending)
             (open_in tenant w) }
     {

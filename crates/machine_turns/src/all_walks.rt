@@ -45,4 +45,12 @@ impl AllWalks {
         drop(self.live.insert(number, walks)?);
         Ok(())
     }
+
+    /// Those of a tenant go. It takes no memory.
+    pub(crate) fn forget(&mut self, number: u64)
+        ensures gone { walks_at self.new number ≡ None }
+        ensures others { (u : ℕ) → u ≢ number → walks_at self.new u ≡ walks_at self.old u }
+    {
+        drop(self.live.remove(&number));
+    }
 }

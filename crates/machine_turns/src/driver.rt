@@ -1,17 +1,18 @@
 // A server that makes turns.
-ghost use Rattle.std.specs.Prelude.{◌≡◌, ◌≢◌, [], IfOk, IfErr, OnOk};
+ghost use Rattle.std.specs.Prelude.{◌≡◌, ◌≢◌, IfOk, IfErr, OnOk};
 ghost use Rattle.server_rules.specs.Ground.{Ground};
 ghost use Rattle.server_rules.specs.Machine.Turns.{given, goes};
 ghost use Rattle.server_rules.specs.Plan.{bytes_in};
-ghost use Rattle.server_rules.specs.Machine.World.{World, new_world};
+ghost use Rattle.server_rules.specs.Machine.World.{World, closes, opened_world};
 ghost use Rattle.repl_core.specs.Going.{StepKeepsForms};
 ghost use Rattle.repl_core.specs.Steps.{step_view, step_answer_view};
 ghost use Rattle.repl_core.specs.Configured.{IsConfigured};
+ghost use Rattle.repl_core.specs.Starting.{TellsFault};
 ghost use Rattle.machine_turns.specs.Turns.{turn_view, piece_given};
 
 use crate::all_walks::AllWalks;
 use crate::turn::Turn;
-use repl_core::{Config, Machine, Step, StepAnswer};
+use repl_core::{Config, LoadError, Machine, Step, StepAnswer};
 use server_rules::{Actor, Refusal};
 use std::alloc::Global;
 
@@ -26,14 +27,18 @@ pub(crate) struct Driver {
 impl Driver {
     ghost use Rattle.machine_turns.specs.Driver.{DriverStands, AcceptsTurn, RefusesTurn};
 
-    pub(crate) fn new(alloc: Global, config: Config) -> Driver
-        ensures { (g : Ground) → IsConfigured g config → DriverStands g result (new_world []) }
+    pub(crate) fn new(alloc: Global, config: &Config) -> Result<Driver, LoadError>
+        ensures stands { (g : Ground) → IsConfigured g config.now
+            → IfOk result (λ made. DriverStands g made (opened_world g)) }
+        ensures fault { IfErr result (TellsFault config.now) }
     {
-        Driver {
+        let machine = Machine::new(alloc, config)?;
+        let kept = AllWalks::new(alloc);
+        Ok(Driver {
             alloc,
-            machine: Machine::new(alloc, config),
-            kept: AllWalks::new(alloc),
-        }
+            machine,
+            kept,
+        })
     }
 
     /// Makes a turn, and gives the reply where one was taken out. Where memory is refused, the
@@ -49,8 +54,21 @@ impl Driver {
             Turn::Bytes(number, piece) => self.step(Step::Hear(*number, piece.slice(..)?)),
             Turn::Go(number, actor) => self.go(*number, *actor),
             Turn::Drain(number) => self.step(Step::Drain(*number)),
-            Turn::Bye(number) => self.step(Step::Bye(*number)),
+            Turn::Bye(number) => self.bye(*number),
         }
+    }
+
+    // A tenant goes, and the evaluations of its forms with it.
+    fn bye(&mut self, number: u64) -> Result<Option<Vec<u8>>, Refusal>
+        ensures done { (g : Ground) (w : World) → DriverStands g self.old w → IfOk result
+            (λ it. AcceptsTurn g w (given (closes number)) self.new (piece_given it)) }
+        ensures refused { (g : Ground) (w : World) → DriverStands g self.old w → IfErr result
+            (λ why. why ≢ Refusal.NoMemory
+            → RefusesTurn g w (given (closes number)) self.new why) }
+    {
+        let nothing = self.step(Step::Bye(number))?;
+        self.kept.forget(number);
+        Ok(nothing)
     }
 
     // Makes a step by which no form goes on.

@@ -1,8 +1,9 @@
 // Lists of turns.
-ghost use Rattle.std.specs.Prelude.{[], map, IfOk, OnOk};
+ghost use Rattle.std.specs.Prelude.{map, IfOk, IfErr, OnOk};
 ghost use Rattle.server_rules.specs.Ground.{Ground};
-ghost use Rattle.server_rules.specs.Machine.World.{World, new_world};
+ghost use Rattle.server_rules.specs.Machine.World.{World, opened_world};
 ghost use Rattle.repl_core.specs.Configured.{IsConfigured};
+ghost use Rattle.repl_core.specs.Starting.{TellsFault};
 ghost use Rattle.machine_turns.specs.Alone.{IsServedAlone};
 ghost use Rattle.machine_turns.specs.Driver.{DriverStands};
 ghost use Rattle.machine_turns.specs.Driven.{IsDriven, MakesTurn};
@@ -11,20 +12,21 @@ ghost use Rattle.machine_turns.specs.Turns.{turn_view};
 use crate::driver::Driver;
 use crate::outputs::{Outputs, RefusedTurn};
 use crate::turn::Turn;
-use repl_core::Config;
+use repl_core::{Config, LoadError};
 use server_rules::Refusal;
 use std::alloc::{AllocError, Global};
 
 /// Makes each turn of a list, on a server to which nobody came: gives what it serves each tenant,
 /// and the turns that were refused. A tenant that names no shared ref is given what its own turns
-/// alone serve. It fails only for want of memory.
-pub fn drive(alloc: Global, config: Config, turns: &[Turn]) -> Result<Outputs, AllocError>
+/// alone serve. It fails where the text that all share has a fault, or for want of memory.
+pub fn drive(alloc: Global, config: Config, turns: &[Turn]) -> Result<Outputs, LoadError>
     ensures driven { (g : Ground) → IsConfigured g config → IfOk result
-        (IsDriven g (new_world []) (map turn_view turns.now)) }
+        (IsDriven g (opened_world g) (map turn_view turns.now)) }
     ensures alone { (g : Ground) → IsConfigured g config → IfOk result
-        (IsServedAlone g (new_world []) (map turn_view turns.now)) }
+        (IsServedAlone g (opened_world g) (map turn_view turns.now)) }
+    ensures fault { IfErr result (TellsFault config) }
 {
-    let mut driver = Driver::new(alloc, config);
+    let mut driver = Driver::new(alloc, &config)?;
     let mut outputs = Outputs::new(alloc);
     let mut place = 0;
     for turn in turns {

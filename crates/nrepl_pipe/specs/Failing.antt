@@ -28,6 +28,11 @@ abbrev pub is_write_failed : {A : Type 0} → Result A PipeError → Bool
 is_write_failed (Err PipeError.WriteFailed) = true
 is_write_failed _ = false
 
+-- the shared text has a fault: no stream was begun
+abbrev pub is_text_fault : {A : Type 0} → Result A PipeError → Bool
+is_text_fault (Err (PipeError.SharedText fault)) = true
+is_text_fault _ = false
+
 -- `ReadFailed` is answered where a read failed, `WriteFailed` where a write failed, and neither
 -- elsewhere
 abbrev pub TellsFailures : {A : Type 0} → Option Bool → Option Bool → Option Bool → Option Bool

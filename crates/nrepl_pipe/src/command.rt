@@ -4,10 +4,11 @@ ghost use Rattle.nrepl_pipe.specs.Status.{status_of};
 
 use crate::ends::{PipeEnd, PipeError};
 use bencode_wire::WireFault;
+use repl_values::Fault;
 use std::io::Write;
 
-/// The exit status: 0 where the input was whole messages and all was answered, else 1 with one line
-/// on `errors` that says why.
+/// The exit status: 0 where the input was whole messages and all was answered, else one line on
+/// `errors` that says why and 2 for a fault of the shared text, 1 for all else.
 pub fn exit_status<E: Write>(outcome: Result<PipeEnd, PipeError>, errors: &mut E) -> u8
     ensures { result ≡ status_of outcome }
 {
@@ -16,7 +17,8 @@ pub fn exit_status<E: Write>(outcome: Result<PipeEnd, PipeError>, errors: &mut E
         Ok(PipeEnd::Truncated) => complain(errors, "truncated input"),
         Ok(PipeEnd::Worn) => complain(errors, "step limit reached"),
         Ok(PipeEnd::Broken(fault)) => complain_of_fault(errors, fault),
-        Err(error) => complain_of_error(errors, error),
+        Err(PipeError::SharedText(fault)) => faulty_text(errors, &fault),
+        Err(error) => complain_of_error(errors, &error),
     }
 }
 
@@ -35,11 +37,28 @@ fn complain_of_fault<E: Write>(errors: &mut E, fault: WireFault) -> u8
     1
 }
 
-fn complain_of_error<E: Write>(errors: &mut E, error: PipeError) -> u8
+fn complain_of_error<E: Write>(errors: &mut E, error: &PipeError) -> u8
     ensures { result ≡ 1 }
 {
     let _ = writeln!(errors, "nrepl: {error}");
     1
+}
+
+/// Tells `errors` the fault of the text that all tenants share, and gives the exit status.
+pub fn faulty_text<E: Write>(errors: &mut E, fault: &Fault) -> u8
+    ensures { result ≡ 2 }
+{
+    let (class, text) = (fault.class.as_str(), fault.text.as_str());
+    let _ = writeln!(errors, "nrepl: shared file: {class}: {text}");
+    2
+}
+
+/// Tells `errors` that a file cannot be read as a text, and gives the exit status.
+pub fn unreadable_file<E: Write>(errors: &mut E, path: &str) -> u8
+    ensures { result ≡ 2 }
+{
+    let _ = writeln!(errors, "nrepl: cannot read {path}");
+    2
 }
 
 /// Tells `errors` that the command line is none that the program knows, and gives the exit status.

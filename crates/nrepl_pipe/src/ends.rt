@@ -1,5 +1,6 @@
 // How the serving of a stream ends.
 use bencode_wire::WireFault;
+use repl_values::Fault;
 use std::alloc::AllocError;
 use thiserror::Error;
 
@@ -20,7 +21,7 @@ pub enum PipeEnd {
 ///
 /// A failed read or write is told, and nothing else is told as one. A write that takes nothing has
 /// failed; a flush is no write.
-#[derive(Clone, Copy, Debug, PartialEq, Eq, Error)]
+#[derive(Debug, Drop, Error)]
 pub enum PipeError {
     #[error("out of memory")]
     NoMemory,
@@ -28,6 +29,9 @@ pub enum PipeError {
     ReadFailed,
     #[error("write failed")]
     WriteFailed,
+    /// The text that all tenants share has this fault, so that nobody was served.
+    #[error("the shared text has a fault")]
+    SharedText(Fault),
 }
 
 impl From<AllocError> for PipeError {

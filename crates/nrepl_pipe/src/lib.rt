@@ -12,7 +12,7 @@ mod replies;
 mod rounds;
 mod stream;
 
-pub use command::{bad_options, exit_status, out_of_memory};
+pub use command::{bad_options, exit_status, faulty_text, out_of_memory, unreadable_file};
 pub use ends::{PipeEnd, PipeError};
 pub use ports::{Sink, Source};
 pub use stream::serve_stream;

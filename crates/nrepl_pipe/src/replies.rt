@@ -4,7 +4,7 @@ ghost use Rattle.std.specs.Io.KnownBytes.{Appends};
 ghost use Rattle.server_rules.specs.Ground.{Ground};
 ghost use Rattle.tenant_turns.specs.Turns.{Lone};
 ghost use Rattle.nrepl_pipe.specs.Schedule.{drain_all};
-ghost use Rattle.nrepl_pipe.specs.Failing.{Marks, is_read_failed, is_write_failed};
+ghost use Rattle.nrepl_pipe.specs.Failing.{Marks, is_read_failed, is_text_fault, is_write_failed};
 ghost use Rattle.nrepl_pipe.specs.Reads.{IsPassedOn};
 ghost use Rattle.nrepl_pipe.specs.Inside.Parts.{Makes, Begins};
 
@@ -25,6 +25,7 @@ pub(crate) fn write_replies<C: Core, W: Sink>(core: &mut C, writer: &mut W) -> R
         → OnOk result (IsPassedOn (W.contents writer.new) (W.passed writer.new)) }
     ensures told { Marks (W.failed writer.old) (W.failed writer.new) (is_write_failed result) }
     ensures no_read { is_read_failed result ≡ false }
+    ensures no_text { is_text_fault result ≡ false }
 {
     while let Some(reply) = core.drain() {
         write_reply(reply.as_slice(), writer)?;
@@ -41,6 +42,7 @@ fn write_reply<W: Sink>(reply: &[u8], writer: &mut W) -> Result<(), PipeError>
     ensures passed { OnOk result (IsPassedOn (W.contents writer.new) (W.passed writer.new)) }
     ensures told { Marks (W.failed writer.old) (W.failed writer.new) (is_write_failed result) }
     ensures no_read { is_read_failed result ≡ false }
+    ensures no_text { is_text_fault result ≡ false }
 {
     let mut rest = reply;
     while !rest.is_empty() {

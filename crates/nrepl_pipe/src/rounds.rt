@@ -4,7 +4,7 @@ ghost use Rattle.server_rules.specs.Ground.{Ground};
 ghost use Rattle.tenant_turns.specs.Grounds.{IsRight};
 ghost use Rattle.tenant_turns.specs.Turns.{Lone, actors_of};
 ghost use Rattle.nrepl_pipe.specs.Schedule.{go_each, round};
-ghost use Rattle.nrepl_pipe.specs.Failing.{Marks, is_read_failed, is_write_failed};
+ghost use Rattle.nrepl_pipe.specs.Failing.{Marks, is_read_failed, is_text_fault, is_write_failed};
 ghost use Rattle.nrepl_pipe.specs.Reads.{IsPassedOn};
 ghost use Rattle.nrepl_pipe.specs.Inside.Parts.{IsRound, Makes, Begins, MakesRounds, BeginsRounds};
 
@@ -39,6 +39,7 @@ pub(crate) fn run_rounds<C: Core, W: Sink>(
         → OnOk result (IsPassedOn (W.contents writer.new) (W.passed writer.new)) }
     ensures told { Marks (W.failed writer.old) (W.failed writer.new) (is_write_failed result) }
     ensures no_read { is_read_failed result ≡ false }
+    ensures no_text { is_text_fault result ≡ false }
 {
     let first = run_round(alloc, core, writer)?;
     let mut is_last = first.is_last;
@@ -49,7 +50,10 @@ pub(crate) fn run_rounds<C: Core, W: Sink>(
         is_last = !round.uses_step;
         is_worn |= round.is_worn;
     }
-    Ok(if is_worn { Rounds::Worn } else { Rounds::Idle })
+    if is_worn {
+        return Ok(Rounds::Worn);
+    }
+    Ok(Rounds::Idle)
 }
 
 // Each actor goes on once, and then the replies that wait are written.
@@ -73,6 +77,7 @@ fn run_round<C: Core, W: Sink>(
         → OnOk result (IsPassedOn (W.contents writer.new) (W.passed writer.new)) }
     ensures told { Marks (W.failed writer.old) (W.failed writer.new) (is_write_failed result) }
     ensures no_read { is_read_failed result ≡ false }
+    ensures no_text { is_text_fault result ≡ false }
 {
     let round = go_each(alloc, core)?;
     write_replies(core, writer)?;

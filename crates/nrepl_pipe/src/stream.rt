@@ -9,7 +9,8 @@ ghost use Rattle.nrepl_pipe.specs.Schedule.{stream_end};
 ghost use Rattle.nrepl_pipe.specs.Served.{IsPipeOutcome};
 ghost use Rattle.nrepl_pipe.specs.Reads.{ReadsSince, ReadsPromptly, HoldsNothingBack};
 ghost use Rattle.nrepl_pipe.specs.Inside.Fresh.{IsFresh, IsReady};
-ghost use Rattle.nrepl_pipe.specs.Failing.{Marks, TellsFailures, is_read_failed, is_write_failed};
+ghost use Rattle.nrepl_pipe.specs.Failing.{Marks, TellsFailures, is_read_failed, is_text_fault};
+ghost use Rattle.nrepl_pipe.specs.Failing.{is_write_failed};
 ghost use Rattle.nrepl_pipe.specs.Inside.Parts.{IsPiece, LosesPiece, HearsSo};
 ghost use Rattle.nrepl_pipe.specs.declared.stream.TheConstants.{PIECE};
 
@@ -53,6 +54,7 @@ pub fn serve_stream<C: Core, R: Source, W: Sink>(
         result }
     ensures told { TellsFailures (R.failed reader.old) (R.failed reader.new)
         (W.failed writer.old) (W.failed writer.new) result }
+    ensures no_text { is_text_fault result ≡ false }
 {
     loop {
         let Some(piece) = next_piece(alloc, reader, writer)? else {
@@ -95,6 +97,7 @@ fn next_piece<R: Source, W: Sink>(
     ensures err { OnErr result (LosesPiece (R.remaining reader.old) (R.remaining reader.new)) }
     ensures told { Marks (R.failed reader.old) (R.failed reader.new) (is_read_failed result) }
     ensures no_write { is_write_failed result ≡ false }
+    ensures no_text { is_text_fault result ≡ false }
     ensures noted { ReadsSince (R.reads reader.old) (R.reads reader.new) (record {
       room = PIECE;
       unread = R.remaining reader.old;

@@ -20,7 +20,9 @@ fn expect_places<L: Ledger>(rt: &impl Abort, alloc: Global, blank: Blank) -> Res
     requires name { blank.name ≡ L.name }
     requires parts { (blank.parts ≡ L.parts) × (blank.parts ≡ 5000001) }
 {
-    let mut book = Book::<L>::new(blank, alloc, fresh_config());
+    let Ok(mut book) = Book::<L>::new(blank, alloc, fresh_config()) else {
+        panic!(rt; "there is no book");
+    };
     for number in 0..64 {
         match book.admit() {
             Ok(places) => assert_eq!(rt; places.tenant, number, "the number"),
@@ -103,7 +105,9 @@ fn expect_counts<L: Ledger>(rt: &impl Abort, alloc: Global, blank: Blank) -> Res
     requires name { blank.name ≡ L.name }
     requires parts { (blank.parts ≡ L.parts) × (blank.parts ≡ 5000001) }
 {
-    let mut book = Book::<L>::new(blank, alloc, fresh_config());
+    let Ok(mut book) = Book::<L>::new(blank, alloc, fresh_config()) else {
+        panic!(rt; "there is no book");
+    };
     let Ok(mut places) = book.admit() else {
         panic!(rt; "the tenant is refused");
     };

@@ -13,7 +13,7 @@ use std::test::Fail;
 
 #[test]
 fn tenant_with_work_is_ready(rt: HostRuntime) -> Result<(), Fail> {
-    let mut machine = fresh_machine(rt.alloc());
+    let mut machine = fresh_machine(rt.alloc())?;
     assert!(rt; machine.tenant(0).is_none(), "nobody came");
     expect_heard(&rt, rt.alloc(), &mut machine, &[])?;
     assert!(rt; machine.tenant(0).is_some(), "somebody came");

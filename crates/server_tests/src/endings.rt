@@ -89,7 +89,7 @@ fn expect_mismatch(
 #[test]
 fn endings_are_compared(rt: HostRuntime) -> Result<(), Fail> {
     let alloc = rt.alloc();
-    let mut machine = fresh_machine(alloc);
+    let mut machine = fresh_machine(alloc)?;
     expect_heard(&rt, alloc, &mut machine, &[FORMS])?;
     let job = begun(&rt, &mut machine);
     let first = honest_ending(&rt, alloc, &mut machine, &job)?;

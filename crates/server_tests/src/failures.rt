@@ -160,13 +160,22 @@ fn served<R: Read, W: Write>(
     pipe(alloc, server(), reader, writer)
 }
 
+fn told(outcome: &Result<PipeEnd, PipeError>) -> &'static str {
+    match outcome {
+        Ok(PipeEnd::Whole) => "whole",
+        Err(PipeError::ReadFailed) => "read failed",
+        Err(PipeError::WriteFailed) => "write failed",
+        _ => "something else",
+    }
+}
+
 // The last write fails, and then the last read.
 #[test]
 fn failures_that_are_remembered(rt: HostRuntime) -> Result<(), Fail> {
     for (reads, writes, expected) in [
-        (6usize, 7usize, Err(PipeError::WriteFailed)),
-        (5, 8, Err(PipeError::ReadFailed)),
-        (6, 8, Ok(PipeEnd::Whole)),
+        (6usize, 7usize, "write failed"),
+        (5, 8, "read failed"),
+        (6, 8, "whole"),
     ] {
         let mut reader = Remembering {
             inner: FailingReader { input: SUM, reads },
@@ -181,7 +190,7 @@ fn failures_that_are_remembered(rt: HostRuntime) -> Result<(), Fail> {
             has_failed: false,
         };
         let outcome = served(rt.alloc(), &mut reader, &mut writer);
-        assert!(&rt; outcome == expected, "{reads} {writes}");
+        assert_eq!(&rt; told(&outcome), expected, "{reads} {writes}");
     }
     Ok(())
 }

@@ -55,7 +55,7 @@ fn expect_ended(rt: &impl Abort, alloc: Global, machine: &mut Machine) -> Result
 
 #[test]
 fn what_is_refused_memory_is_done_again(rt: HostRuntime) -> Result<(), Fail> {
-    let mut machine = fresh_machine(rt.alloc());
+    let mut machine = fresh_machine(rt.alloc())?;
     expect_heard(&rt, rt.alloc(), &mut machine, PIECES)?;
     expect_ended(&rt, rt.alloc(), &mut machine)?;
     expect_replies(&rt, &mut machine, REPLIES)

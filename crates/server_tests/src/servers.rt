@@ -17,8 +17,11 @@ pub(crate) fn fresh_config() -> Config {
     }
 }
 
-pub(crate) fn fresh_machine(alloc: Global) -> Machine {
-    Machine::new(alloc, fresh_config())
+pub(crate) fn fresh_machine(alloc: Global) -> Result<Machine, AllocError> {
+    match Machine::new(alloc, &fresh_config()) {
+        Ok(machine) => Ok(machine),
+        Err(_error) => Err(AllocError),
+    }
 }
 
 // A step that is refused for want of memory changes nothing, and is made once more.

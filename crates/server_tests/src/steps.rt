@@ -65,7 +65,7 @@ fn expect_given_back(
 
 #[test]
 fn refused_steps_are_given_back(rt: HostRuntime) -> Result<(), Fail> {
-    let mut machine = fresh_machine(rt.alloc());
+    let mut machine = fresh_machine(rt.alloc())?;
     expect_accepted(&rt, &mut machine, Step::Open(0))?;
     for step in &refused_steps(rt.alloc())? {
         expect_given_back(&rt, rt.alloc(), &mut machine, step)?;

@@ -7,7 +7,7 @@ use Rattle.server_rules.specs.Numbered.{entry}
 use Rattle.server_rules.specs.Plan.{Deed, Outcome, refuses, leaves, tenant_opened, bytes_in}
 use Rattle.server_rules.specs.Machine.Turns.{turn_step, world_after, given, serve, bytes_given, whose}
 use Rattle.server_rules.specs.Machine.World.{TenantData, World, Stepped, accepted, refused, step}
-use Rattle.server_rules.specs.Machine.World.{opens, does, new_world, opened_tenant, world_or}
+use Rattle.server_rules.specs.Machine.World.{opens, does, opened_world, opened_tenant, world_or}
 use Rattle.server_rules.specs.Machine.World.{with_tenant, ended_as}
 use Rattle.tenant_turns.specs.DeedResult.{DeedResult}
 use Rattle.tenant_turns.specs.Turns as lone
@@ -109,15 +109,15 @@ none-below : (n : ℕ) → 1 ≤ n → nat_le n 0 ≡ false
 none-below n some = grind (arith, nat_tests)
 
 pub served-first : (g : Ground) (turns : List LoneTurn) → 1 ≤ g.places
-    → serve g (new_world []) (given (opens 0) ∷ map turn_of turns) 0
+    → serve g (opened_world g) (given (opens 0) ∷ map turn_of turns) 0
     ≡ lone_served g (opened_lone g) turns
 served-first g turns some =
     let first : World = record {
-      around = (new_world []).around;
+      around = (opened_world g).around;
       tenants = entry 0 (Some (opened_tenant g)) ∷ [];
     } in
-    let opened : step g (new_world []) (opens 0) ≡ accepted first tenant_opened =
-    open-tested g (new_world []) 0 false false refl (none-below g.places some) in
-    ap (λ (s : Stepped). bytes_given s ++ serve g (world_or (new_world []) s) (map turn_of turns) 0)
+    let opened : step g (opened_world g) (opens 0) ≡ accepted first tenant_opened =
+    open-tested g (opened_world g) 0 false false refl (none-below g.places some) in
+    ap (λ (s : Stepped). bytes_given s ++ serve g (world_or (opened_world g) s) (map turn_of turns) 0)
     opened
     ∙ served-alike g first (opened_lone g) turns (record { there = refl; store = refl })

@@ -11,7 +11,7 @@ use Rattle.server_rules.specs.Tenant.{Quiet}
 use Rattle.server_rules.specs.Honest.{honest_deed}
 use Rattle.server_rules.specs.Plan.{bytes_in}
 use Rattle.server_rules.specs.Machine.World as worlds
-use Rattle.server_rules.specs.Machine.World.{TenantData, World, new_world, opened_tenant, opens, does}
+use Rattle.server_rules.specs.Machine.World.{TenantData, World, opened_world, opened_tenant, opens, does}
 use Rattle.server_rules.specs.Machine.World.{with_tenant}
 use Rattle.server_rules.specs.declared.actor.Actor.{Actor}
 use Rattle.server_rules.specs.declared.refusal.Refusal.{Refusal}
@@ -234,15 +234,15 @@ tenant-there g l r s gone =
 -- as it begins
 pub opened-stands : (g : Ground) (made : Runner) → IsRight g → Evaluates g → g.places ≡ PLACES
     → ((a : Actor) → walk_at made.walks a ≡ None)
-    → core.AcceptsStep g (new_world []) (opens 0) made.machine tenant_opened
+    → core.AcceptsStep g (opened_world g) (opens 0) made.machine tenant_opened
     → RunnerStands g made (opened_lone g)
 opened-stands g made right ground places none did =
     let first : World = record {
-      around = (new_world []).around;
+      around = (opened_world g).around;
       tenants = entry 0 (Some (opened_tenant g)) ∷ [];
     } in
-    let by : worlds.step g (new_world []) (opens 0) ≡ worlds.accepted first tenant_opened =
-    open-tested g (new_world []) 0 false false refl (ap (λ n. nat_le n 0) places) in
+    let by : worlds.step g (opened_world g) (opens 0) ≡ worlds.accepted first tenant_opened =
+    open-tested g (opened_world g) 0 false false refl (ap (λ n. nat_le n 0) places) in
     let same : first ≡ did.after =
     same-world first did.after tenant_opened tenant_opened (sym by ∙ did.accepted) in
     record {

@@ -2,7 +2,7 @@
 ghost use Rattle.std.specs.Prelude.{◌≡◌, ◌≤◌, List, [], ◌∷◌, map};
 ghost use Rattle.server_rules.specs.Ground.{Ground};
 ghost use Rattle.server_rules.specs.Machine.Turns.{given, serve};
-ghost use Rattle.server_rules.specs.Machine.World.{new_world, opens};
+ghost use Rattle.server_rules.specs.Machine.World.{opened_world, opens};
 ghost use Rattle.tenant_turns.specs.Turns.{LoneTurn, opened_lone, lone_served};
 ghost use Rattle.tenant_runner.specs.Alone.{turn_of};
 
@@ -10,6 +10,6 @@ ghost use Rattle.tenant_runner.specs.Alone.{turn_of};
 /// there is a place, its first tenant is served the same by the same turns.
 pub fn served_alone_is_served()
     ensures { (g : Ground) (turns : List LoneTurn) → 1 ≤ g.places
-        → serve g (new_world []) (given (opens 0) ∷ map turn_of turns) 0
+        → serve g (opened_world g) (given (opens 0) ∷ map turn_of turns) 0
         ≡ lone_served g (opened_lone g) turns }
 {}

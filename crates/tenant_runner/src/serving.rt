@@ -1,5 +1,5 @@
 // One stream, served by a server that was just made.
-ghost use Rattle.std.specs.Prelude.{◌≡◌, Result};
+ghost use Rattle.std.specs.Prelude.{◌≡◌, Result, Err};
 ghost use Rattle.server_rules.specs.Ground.{Ground};
 ghost use Rattle.tenant_turns.specs.Turns.{opened_lone};
 ghost use Rattle.nrepl_pipe.specs.Failing.{TellsFailures};
@@ -8,11 +8,14 @@ ghost use Rattle.nrepl_pipe.specs.Served.{IsPipeOutcome};
 ghost use Rattle.nrepl_pipe.specs.Status.{status_of};
 ghost use Rattle.nrepl_pipe.specs.declared.ends.PipeEnd.{PipeEnd};
 ghost use Rattle.nrepl_pipe.specs.declared.ends.PipeError.{PipeError};
-ghost use Rattle.repl_core.specs.Configured.{IsConfigured};
+ghost use Rattle.repl_core.specs.Configured.{IsConfigured, TextFaults};
+ghost use Rattle.repl_faults.specs.Failure.{Failure};
+ghost use Rattle.repl_faults.specs.Inside.View.{failure_of};
+ghost use Rattle.repl_values.specs.declared.fault.Fault.{Fault};
 
 use crate::runner::Runner;
 use nrepl_pipe::{PipeEnd, PipeError, Sink, Source, exit_status, serve_stream};
-use repl_core::Config;
+use repl_core::{Config, LoadError};
 use std::alloc::Global;
 use std::io::Write;
 
@@ -44,13 +47,18 @@ pub fn pipe<R: Source, W: Sink>(
         result }
     ensures told { TellsFailures (R.failed reader.old) (R.failed reader.new)
         (W.failed writer.old) (W.failed writer.new) result }
+    ensures fault { (fault : Fault) → result ≡ Err (PipeError.SharedText fault)
+        → TextFaults config (failure_of fault) }
 {
-    let mut runner = Runner::new(alloc, config)?;
-    serve_stream(alloc, &mut runner, reader, writer)
+    match Runner::new(alloc, &config) {
+        Ok(mut runner) => serve_stream(alloc, &mut runner, reader, writer),
+        Err(LoadError::Fault(fault)) => Err(PipeError::SharedText(fault)),
+        Err(LoadError::NoMemory) => Err(PipeError::NoMemory),
+    }
 }
 
-/// The same, as a command: 0 where the input was whole messages and all was answered, else 1 with
-/// one line on `errors` that says why.
+/// The same, as a command: 0 where the input was whole messages and all was answered, else one line
+/// on `errors` that says why, and 2 for a fault of the text that all share, 1 for all else.
 pub fn pipe_command<R: Source, W: Sink, E: Write>(
     alloc: Global,
     config: Config,
@@ -64,6 +72,8 @@ pub fn pipe_command<R: Source, W: Sink, E: Write>(
         × HoldsNothingBack (W.contents writer.old) (W.passed writer.old)
         (W.contents writer.new) (W.passed writer.new) (R.reads reader.old) (R.reads reader.new)
         outcome
+        × ((fault : Fault) → outcome ≡ Err (PipeError.SharedText fault)
+        → (failure : Failure) × TextFaults config failure)
         × ((g : Ground) → IsConfigured g config → IsPipeOutcome g (opened_lone g)
         (R.remaining reader.old) (R.remaining reader.new)
         (W.contents writer.old) (W.contents writer.new) outcome

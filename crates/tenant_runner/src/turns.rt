@@ -1,12 +1,13 @@
 // The turns of a tenant that is served alone.
-ghost use Rattle.std.specs.Prelude.{◌≡◌, IfOk};
+ghost use Rattle.std.specs.Prelude.{◌≡◌, IfOk, IfErr};
 ghost use Rattle.server_rules.specs.Ground.{Ground};
 ghost use Rattle.tenant_turns.specs.Turns.{opened_lone};
 ghost use Rattle.repl_core.specs.Configured.{IsConfigured};
+ghost use Rattle.repl_core.specs.Starting.{TellsFault};
 
 use crate::runner::{NUMBER, Runner};
 use bytes::Bytes;
-use repl_core::{Config, Machine};
+use repl_core::{Config, LoadError, Machine};
 use server_rules::{Actor, Refusal};
 use std::alloc::{AllocError, Global};
 use tenant_turns::{Core, Wire};
@@ -15,18 +16,17 @@ use tenant_walks::Walks;
 impl Runner {
     ghost use Rattle.tenant_runner.specs.Inside.Standing.{RunnerStands};
 
-    /// A server whose first tenant has heard nothing. It fails only for want of memory.
-    pub fn new(alloc: Global, config: Config) -> Result<Runner, AllocError>
-        ensures { (g : Ground) → IsConfigured g config
+    /// A server whose first tenant has heard nothing.
+    pub fn new(alloc: Global, config: &Config) -> Result<Runner, LoadError>
+        ensures stands { (g : Ground) → IsConfigured g config.now
             → IfOk result (λ made. RunnerStands g made (opened_lone g)) }
+        ensures fault { IfErr result (TellsFault config.now) }
     {
-        let mut machine = Machine::new(alloc, config);
+        let walks = Walks::new(alloc);
+        let mut machine = Machine::new(alloc, config)?;
         match machine.open(NUMBER) {
-            Ok(()) => Ok(Runner {
-                machine,
-                walks: Walks::new(alloc),
-            }),
-            Err(_) => Err(AllocError),
+            Ok(()) => Ok(Runner { machine, walks }),
+            Err(_) => Err(LoadError::NoMemory),
         }
     }
 }

@@ -1,7 +1,7 @@
 use Rattle.std.proofs.Common.{◌≡◌, ◌∙◌, ◌+◌, ◌<◌, ◌≤◌, ap, refl, sym, subst, ℕ, List, [], ◌∷◌, ◌++◌}
 use Rattle.std.proofs.Common.{take, map, length, arith}
 use Rattle.std.proofs.lemmas.List.{map_more, length-map, length-take-le, take_all}
-use Rattle.server_rules.specs.Machine.World.{new_world}
+use Rattle.server_rules.specs.Machine.World.{opened_world}
 use Rattle.machine_turns.specs.Driven.{IsDriven, Drives}
 use Rattle.machine_turns.specs.Turns.{turn_view}
 use Rattle.machine_turns.specs.declared.turn.Turn.{Turn}
@@ -18,8 +18,9 @@ count xs n place below is =
 pub loop-turn-init : goal.loop-turn-init
 loop-turn-init c = record {
   place = refl;
-  drives = λ g it. drives-none g (new_world []) c.new-driver.result c.new-outputs.result
-      (c.new-driver.ensures g it) c.new-outputs.ensures.drained c.new-outputs.ensures.refused;
+  drives = λ g it. drives-none g (opened_world g) c.in_ok-driver.driver c.new-outputs.result
+      (c.in_ok-driver.ensures.stands g it) c.new-outputs.ensures.drained
+      c.new-outputs.ensures.refused;
 }
 
 pub loop-turn-preserved : goal.loop-turn-preserved
@@ -33,9 +34,9 @@ loop-turn-preserved c = record {
       let more : map turn_view (take (i + 1) xs) ≡ before ++ turn_view c.turn-item.result ∷ [] =
       map_more turn_view xs i c.turn-item.result c.loop-turn-test.true
       ∙ ap (λ x. before ++ turn_view x ∷ []) (sym c.turn-item.is) in
-      subst (λ ts. Drives g (new_world []) ts c.make_turn.new.driver c.make_turn.new.outputs)
+      subst (λ ts. Drives g (opened_world g) ts c.make_turn.new.driver c.make_turn.new.outputs)
       (sym more)
-      (drives-more g (new_world []) c.loop-turn.place before (turn_view c.turn-item.result)
+      (drives-more g (opened_world g) c.loop-turn.place before (turn_view c.turn-item.result)
       c.loop-turn.driver c.make_turn.new.driver c.loop-turn.outputs c.make_turn.new.outputs on
       (count xs i c.loop-turn.place c.loop-turn-test.true c.loop-turn.invariant.place)
       (c.in_ok-make_turn.ensures g _ on.stands));
@@ -46,7 +47,7 @@ returns-clause-driven c = λ g it.
     let xs = c.args.turns.now in
     let all : take c.loop-turn.turn-index xs ≡ xs =
     take_all c.loop-turn.turn-index xs c.loop-turn-test.false in
-    subst (λ ts. IsDriven g (new_world []) (map turn_view ts) c.loop-turn.outputs) all
+    subst (λ ts. IsDriven g (opened_world g) (map turn_view ts) c.loop-turn.outputs) all
     (c.loop-turn.invariant.drives g it).is
 
 pub returns-clause-alone : goal.returns-clause-alone

@@ -53,7 +53,7 @@ returns-then-is_worn-clause-ok g c = λ h q right stands.
     rounds-worn h _ q _ _ _ _ (c.loop-is_last.invariant.rounds h q right stands)
     c.loop-is_last-test.false c.if-is_worn.true
 
-pub returns-else-is_worn-clause-ok : goal.returns-else-is_worn-clause-ok
-returns-else-is_worn-clause-ok g c = λ h q right stands.
+pub returns-clause-ok : goal.returns-clause-ok
+returns-clause-ok g c = λ h q right stands.
     rounds-idle h _ q _ _ _ _ (c.loop-is_last.invariant.rounds h q right stands)
     c.loop-is_last-test.false c.if-is_worn.false

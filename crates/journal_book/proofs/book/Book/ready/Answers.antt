@@ -1,7 +1,7 @@
 use Rattle.std.proofs.Common.{◌≡◌, [], option_and_then, subst}
 use Rattle.server_rules.specs.Ground.{Ground}
 use Rattle.server_rules.specs.Machine.Ready as rules
-use Rattle.server_rules.specs.Machine.World.{World, new_world}
+use Rattle.server_rules.specs.Machine.World.{World, opened_world}
 use Rattle.repl_core.specs.Configured.{IsConfigured}
 use Rattle.repl_core.specs.Standing.{open_in}
 use Rattle.journal_book.specs.Journal.{IsJournal}
@@ -13,7 +13,7 @@ pub returns : goal.returns
 returns g c =
     let book = c.self.inside in
     let P : BookData → Type 0 = λ b. (ground : Ground) (w : World) → IsConfigured ground b.config
-    → IsJournal ground (new_world []) (entries b.journal) w
+    → IsJournal ground (opened_world ground) (entries b.journal) w
     → c.ready.result ≡ option_and_then (λ it. rules.ready it.quiet) (open_in c.args.tenant w) in
     subst P c.self.view_is (λ ground w conf leads.
     let k = c.self.invariant.0 ground conf in

@@ -1,7 +1,7 @@
 use Rattle.std.proofs.Common.{◌≡◌, ℕ, [], subst}
 use Rattle.server_rules.specs.Ground.{Ground}
 use Rattle.server_rules.specs.Machine.Turns.{serve}
-use Rattle.server_rules.specs.Machine.World.{new_world}
+use Rattle.server_rules.specs.Machine.World.{opened_world}
 use Rattle.repl_core.specs.Configured.{IsConfigured}
 use Rattle.journal_book.specs.Alone.{bytes_to, NamesNoSharedIn, steps_of, turns_of, IsHonest}
 use Rattle.journal_book.specs.View.{BookData, entries}
@@ -14,7 +14,7 @@ returns-clause-steps g c =
     let P : BookData → Type 0 = λ b. (ground : Ground) (t : ℕ) → IsConfigured ground b.config
     → NamesNoSharedIn t (entries b.journal)
     → bytes_to t (entries b.journal)
-    ≡ serve ground (new_world []) (steps_of t (entries b.journal)) t in
+    ≡ serve ground (opened_world ground) (steps_of t (entries b.journal)) t in
     subst P c.self.view_is (λ ground t conf private.
     let k = c.self.invariant.0 ground conf in
     steps-alone ground t k.world journal k.leads private)
@@ -24,9 +24,9 @@ returns-clause-turns g c =
     let journal = entries c.self.inside.journal.items in
     let P : BookData → Type 0 = λ b. (ground : Ground) (t : ℕ) → IsConfigured ground b.config
     → NamesNoSharedIn t (entries b.journal)
-    → IsHonest ground (new_world []) t (entries b.journal)
+    → IsHonest ground (opened_world ground) t (entries b.journal)
     → bytes_to t (entries b.journal)
-    ≡ serve ground (new_world []) (turns_of t (entries b.journal)) t in
+    ≡ serve ground (opened_world ground) (turns_of t (entries b.journal)) t in
     subst P c.self.view_is (λ ground t conf private honest.
     let k = c.self.invariant.0 ground conf in
     turns-alone ground t k.world journal k.leads private honest)

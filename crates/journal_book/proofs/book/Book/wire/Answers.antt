@@ -1,7 +1,7 @@
 use Rattle.std.proofs.Common.{◌≡◌, ◌∙◌, [], ap, sym, subst, Some, None, option_map}
 use Rattle.server_rules.specs.Ground.{Ground}
 use Rattle.server_rules.specs.Tenant.{Quiet}
-use Rattle.server_rules.specs.Machine.World.{World, new_world}
+use Rattle.server_rules.specs.Machine.World.{World, opened_world}
 use Rattle.tenant_turns.specs.Inside.Wires.{wire_at}
 use Rattle.tenant_turns.specs.declared.turns.Wire.{Wire}
 use Rattle.repl_core.specs.Configured.{IsConfigured}
@@ -19,7 +19,7 @@ returns-in_err-tenant g c =
     let book = c.self.inside in
     let t = c.args.tenant in
     let P : BookData → Type 0 = λ b. (ground : Ground) (w : World) → IsConfigured ground b.config
-    → IsJournal ground (new_world []) (entries b.journal) w
+    → IsJournal ground (opened_world ground) (entries b.journal) w
     → None ≡ option_map (λ it. shows ground it.quiet) (open_in t w) in
     let gone = sym c.tenant.ensures ∙ ap (option_map (λ it. it.now)) c.in_err-tenant.was in
     let told = subst P c.self.view_is (λ ground w conf leads.
@@ -34,7 +34,7 @@ returns g c =
     let book = c.self.inside in
     let t = c.args.tenant in
     let P : BookData → Type 0 = λ b. (ground : Ground) (w : World) → IsConfigured ground b.config
-    → IsJournal ground (new_world []) (entries b.journal) w
+    → IsJournal ground (opened_world ground) (entries b.journal) w
     → Some c.wire.result ≡ option_map (λ it. shows ground it.quiet) (open_in t w) in
     let there = sym c.tenant.ensures ∙ ap (option_map (λ it. it.now)) c.in_ok-tenant.was in
     subst P c.self.view_is (λ ground w conf leads.
