@@ -4,7 +4,8 @@ ghost use Rattle.std.specs.Prelude.{◌≡◌};
 use crate::options::Service;
 use connection_crews::{OpenGate, Options, ServeError, serve};
 use journal_book::{PARTS, Report};
-use repl_core::Config;
+use nrepl_pipe::{faulty_text, out_of_memory};
+use repl_core::{Config, LoadError, Machine};
 use std::alloc::Global;
 use std::io;
 use std::io::Write;
@@ -39,12 +40,24 @@ pub(crate) fn serve_command<
     W: Write,
     E: Write,
 >(rt: R, alloc: Global, config: Config, service: Service, writer: &mut W, errors: &mut E) -> u8 {
+    // A fault of the text comes before any of listening.
+    if let Err(error) = Machine::new(alloc, &config) {
+        return unloaded(error, errors);
+    }
     match listen_and_serve(rt, alloc, config, service, writer) {
         Ok(()) => 0,
+        Err(Failure::Serve(ServeError::SharedText(fault))) => faulty_text(errors, &fault),
         Err(failure) => {
             let _ = writeln!(errors, "nrepl: {failure}");
             1
         }
+    }
+}
+
+fn unloaded<E: Write>(error: LoadError, errors: &mut E) -> u8 {
+    match error {
+        LoadError::Fault(fault) => faulty_text(errors, &fault),
+        LoadError::NoMemory => out_of_memory(errors),
     }
 }
 

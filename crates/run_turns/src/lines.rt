@@ -4,6 +4,7 @@ use hex::{FromHex, FromHexError};
 use machine_turns::Turn;
 use server_rules::Actor;
 use std::alloc::{AllocError, Global};
+use std::sync::ArcStr;
 
 // A line: a part of the configuration, or a turn.
 #[derive(Drop)]
@@ -11,6 +12,8 @@ pub(crate) enum Line {
     Seed([u8; 32]),
     Retries(u32),
     Steps(u32),
+    // the text of the shared namespace
+    Shared(ArcStr),
     // the version of the lines themselves, which is 1
     Version,
     Turn(Turn),
@@ -19,7 +22,6 @@ pub(crate) enum Line {
 // What a line may ask for that the server does not have yet.
 #[derive(Clone, Copy)]
 pub(crate) enum Missing {
-    SharedText,
     Agents,
 }
 
@@ -52,7 +54,7 @@ pub(crate) fn read_line(alloc: Global, line: &str) -> Result<Line, LineError> {
         "retries" => Ok(Line::Retries(read_count(rest)?)),
         "steps" => Ok(Line::Steps(read_count(rest)?)),
         "version" => read_version(rest),
-        "shared" => Err(LineError::Missing(Missing::SharedText)),
+        "shared" => Ok(Line::Shared(read_text(alloc, rest)?)),
         _ => Ok(Line::Turn(read_turn(alloc, word, rest)?)),
     }
 }
@@ -119,10 +121,22 @@ fn read_seed(digits: &str) -> Result<[u8; 32], LineError> {
     }
 }
 
-// The bytes of a piece, two digits each.
+// A text as its bytes, two digits each.
+fn read_text(alloc: Global, digits: &str) -> Result<ArcStr, LineError> {
+    match String::from_utf8(read_bytes(alloc, digits)?) {
+        Ok(text) => Ok(ArcStr::from_string(text)?),
+        Err(_) => Err(LineError::Malformed),
+    }
+}
+
 fn read_piece(alloc: Global, digits: &str) -> Result<Bytes, LineError> {
+    Ok(Bytes::copy_from_slice(alloc, &read_bytes(alloc, digits)?)?)
+}
+
+// Bytes, two digits each.
+fn read_bytes(alloc: Global, digits: &str) -> Result<Vec<u8>, LineError> {
     match hex::decode(alloc, digits) {
-        Ok(bytes) => Ok(Bytes::copy_from_slice(alloc, &bytes)?),
+        Ok(bytes) => Ok(bytes),
         Err(FromHexError::OutOfMemory) => Err(LineError::NoMemory),
         Err(_) => Err(LineError::Malformed),
     }

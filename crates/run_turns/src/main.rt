@@ -6,7 +6,8 @@ mod lines;
 
 use crate::lines::{Line, LineError, Missing, read_line};
 use machine_turns::{Outputs, RefusedTurn, Turn, drive};
-use repl_core::{Config, RETRIES, STEPS, SharedText};
+use repl_core::{Config, LoadError, RETRIES, STEPS, SharedText};
+use repl_values::Fault;
 use server_rules::Refusal;
 use std::alloc::{AllocError, Global};
 use std::io::{self, Read, Write};
@@ -61,6 +62,7 @@ fn read_script(alloc: Global, text: &str) -> Result<Script, ScriptError> {
             Ok(Line::Seed(seed)) => config.seed = seed,
             Ok(Line::Retries(retries)) => config.retries = retries,
             Ok(Line::Steps(steps)) => config.steps = steps,
+            Ok(Line::Shared(text)) => config.shared = SharedText::Text(text),
             Ok(Line::Version) => {}
             Ok(Line::Turn(turn)) => add_turn(&mut turns, turn)?,
             Err(LineError::NoMemory) => return Err(ScriptError::NoMemory),
@@ -100,11 +102,21 @@ fn run<R: Read, W: Write>(
         return Err(ScriptError::Failed);
     };
     let script = read_script(alloc, &text)?;
-    let outputs = drive(alloc, script.config, &script.turns)?;
-    match write_outputs(alloc, &outputs, writer) {
+    let written = match drive(alloc, script.config, &script.turns) {
+        Ok(outputs) => write_outputs(alloc, &outputs, writer),
+        Err(LoadError::Fault(fault)) => write_fault(&fault, writer),
+        Err(LoadError::NoMemory) => return Err(ScriptError::NoMemory),
+    };
+    match written {
         Ok(()) => Ok(()),
         Err(_) => Err(ScriptError::Failed),
     }
+}
+
+// The fault of the text that all share, for which nobody was served.
+fn write_fault<W: Write>(fault: &Fault, writer: &mut W) -> io::Result<()> {
+    writeln!(writer, "error {}", fault.text.as_str())?;
+    writer.flush()
 }
 
 // A line that cannot be written is no new cause of failure.
@@ -124,7 +136,6 @@ fn complain<W: Write>(errors: &mut W, error: ScriptError) -> u8 {
         }
         ScriptError::Missing(number, what) => {
             let what = match what {
-                Missing::SharedText => "shared text is not supported",
                 Missing::Agents => "agents are not supported",
             };
             let _ = writeln!(errors, "run_turns: line {number}: {what}");
