@@ -7,6 +7,9 @@ import bencode
 SECONDS = 20
 
 
+SHARED = "shared.clj"
+
+
 class Case:
     """What stands in the lines of a case: where, its first words, and what has to come of it."""
 
@@ -18,6 +21,15 @@ class Case:
         self.lines = [it for it in lines if not it.startswith(";")]
         self.title = notes[0] if notes else self.lines[0] if self.lines else ""
         self.read()
+
+
+def sharing(folder, text):
+    """The words for a program whose tenants share this text, which is put into the folder."""
+    if not text:
+        return []
+    with open(f"{folder}/{SHARED}", "wb") as file:
+        file.write(text)
+    return ["--shared", SHARED]
 
 
 def messages_of(content):

@@ -4,8 +4,9 @@
 
    Each connection is a thread with a session of its own. It evaluates SETUP, waits until all have
    done so, and evaluates CODE so many times, of which at most WINDOW are unanswered. Each gives
-   VALUE or, where that is `counted`, its own number from 1. Where ACKNOWLEDGES is 1 what comes is
-   acknowledged at once; else the system does it, which waits up to 40 ms with it.
+   VALUE or, where that is `counted`, its own number from 1, or where it is `rising` a number above
+   those before it on its connection. Where ACKNOWLEDGES is 1 what comes is acknowledged at once; else
+   the system does it, which waits up to 40 ms with it.
 
    It prints the seconds that all took, and how many evals were done behind a later one of their
    connection; then for each eval, a line each, the microseconds from its request to its `done`.
@@ -45,7 +46,7 @@ struct client {
     char input[ROOM];
     size_t from, to; /* what of the input was not taken yet */
     char *requests;
-    long asked, done, last, overtaken;
+    long asked, done, last, overtaken, highest;
     char *told; /* how many replies came to each eval */
     double *times; /* when an eval was asked for, and then how long it took */
     double began, ended;
@@ -175,6 +176,18 @@ static void ask(struct client *client)
     transmit(client, client->requests, end);
 }
 
+/* The number that a reply has as its value, if it is above those before it; else none is as it is
+   wanted. */
+static long risen(struct client *client, struct text reply)
+{
+    const char *found = memmem(reply.at, reply.length, "5:value", 7);
+    const char *colon = found ? memchr(found + 7, ':', reply.at + reply.length - found - 7) : NULL;
+    long number = colon ? atol(colon + 1) : 0;
+    if (number <= client->highest)
+        fail("no number above those before it", reply);
+    return client->highest = number;
+}
+
 /* Takes a reply. An eval has two, its value and then `done`, and each of them has one spelling. */
 static void take(struct client *client, struct text reply)
 {
@@ -190,8 +203,9 @@ static void take(struct client *client, struct text reply)
         client->overtaken += number < client->last;
         client->last = number > client->last ? number : client->last;
     } else if (told == 0) {
-        sprintf(counted, "%ld", number + 1);
-        const char *text = strcmp(value, "counted") ? value : counted;
+        int rises = !strcmp(value, "rising");
+        sprintf(counted, "%ld", rises ? risen(client, reply) : number + 1);
+        const char *text = rises || !strcmp(value, "counted") ? counted : value;
         sprintf(wanted, "d2:id8:%08ld2:ns4:user7:session%s5:value%zu:%se", number, client->session,
                 strlen(text), text);
     }

@@ -1,7 +1,7 @@
 #!/usr/bin/env python3
 """Measures how fast nREPL servers answer evals over sockets, and prints a table for each.
 
-    tools/load.py                    the built program, as `serve`
+    tools/load.py                    the built program, as `serve` with a shared ref
     tools/load.py --command COMMAND  the server that this command starts, which prints its port
     tools/load.py --idle COMMAND     the same for one that answers 3 to whatever it is asked: it
                                      shows what sockets and the load allow, and is asked for no ref
@@ -28,8 +28,10 @@ from sockets import Server
 
 PROGRAM = f"{workspace.TOP}/crates/nrepl_server/out/nrepl_server"
 BUILT = f"{shlex.quote(PROGRAM)} serve --port 0 --connections 1000 --crews 32"
-MANY, LATE, SIXTEEN = 100, 200, 16
+MANY, LATE, FOUR, SIXTEEN = 100, 200, 4, 16
 ADD, ALTER = ("nil", "(+ 1 2)", "3"), ("(def r (ref 0))", "(dosync (alter r inc))", "counted")
+SHARED = ("nil", "(dosync (alter shared/c inc))", "rising")
+TEXT = "(def c (ref 0))"
 HEAD = """
 | Evals | A second | Median, ms | 99 in 100, ms | Slowest, ms | Out of order |
 |---|---|---|---|---|---|"""
@@ -61,8 +63,12 @@ def main(words):
         program, source = f"{room}/load", f"{workspace.TOP}/tools/load.c"
         subprocess.run(["gcc", "-O2", "-pthread", "-o", program, source], check=True)
         try:
-            for command, is_idle in servers or [(BUILT, False)]:
-                measure(program, command, rows(evals)[: -1 if is_idle else None])
+            with open(f"{room}/shared.clj", "w", encoding="utf-8") as file:
+                file.write(TEXT)
+            built = f"{BUILT} --shared {shlex.quote(file.name)}"
+            for command, is_idle in servers or [(built, False)]:
+                its_rows = rows(evals) + sharing(evals) * (command == built)
+                measure(program, command, [it for it in its_rows if not is_idle or it.work == ADD])
         except (OSError, EOFError, ValueError) as error:
             print(f"load: {error}", file=sys.stderr)
             return 1
@@ -79,6 +85,12 @@ def rows(evals):
         Row(f"`(+ 1 2)`, one after another on {SIXTEEN} connections", evals, connections=SIXTEEN),
         Row("`(dosync (alter r inc))`, one after another", evals, ALTER),
     )
+
+
+def sharing(evals):
+    """Those with a shared ref, of which no update may be lost."""
+    name = f"`(dosync (alter shared/c inc))`, one after another on {FOUR} connections"
+    return (Row(name, evals, SHARED, FOUR), Row("", 1, ("nil", "@shared/c", str(evals))))
 
 
 def measure(program, command, its_rows):

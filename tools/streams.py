@@ -5,7 +5,7 @@ import json
 import os
 import subprocess
 
-from case import SECONDS, Case, messages_of, unescaped
+from case import SECONDS, Case, messages_of, sharing, unescaped
 
 
 class Stream(Case):
@@ -13,6 +13,7 @@ class Stream(Case):
 
     def read(self):
         self.input, self.words, output, self.wanted = b"", ["pipe"], b"", []
+        self.shared = b""
         end = {"exit": "0", "err": ""}
         for line in self.lines:
             word, _, text = line.partition(": ")
@@ -22,6 +23,8 @@ class Stream(Case):
                 self.input += content
             elif word == "out":
                 output += content
+            elif word == "shared":
+                self.shared += content + b"\n"
             elif word == "args":
                 self.words = text.split()
             elif word in end:
@@ -31,7 +34,8 @@ class Stream(Case):
         self.wanted = told(output, int(end["exit"]), end["err"])
 
     def given(self, program, folder):
-        return served(program, folder, self.words, self.input)
+        words = self.words + sharing(folder, self.shared)
+        return served(program, folder, words, self.input)
 
 
 def served(program, folder, words, content):
@@ -65,6 +69,7 @@ class Outside(Case):
     def given(self, program, folder):
         if not self.is_of_turns:
             words = ["pipe", *self.case["args"]]
+            sharing(folder, self.case.get("shared", "").encode())
             return served(program, folder, words, base64.b64decode(self.case["in"]))
         ran = subprocess.run(
             ["timeout", str(SECONDS), program],

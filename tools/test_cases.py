@@ -94,6 +94,17 @@ class Cases(unittest.TestCase):
         value = f"d2:id1:72:ns4:user7:session36:{first}5:value1:3e"
         self.assertEqual(case.wanted[0], f"tenant 0: {value}")
 
+    def test_text_that_all_share_is_given(self):
+        text = "shared: 1\nuser=> 3\n3\n"
+        self.assertEqual(self.run_on_three("a.repl", text), ((1, 0), ""))
+        case = case_files.read(self.write("a.repl", text))[0]
+        self.assertEqual((case.shared, case.wanted), (b"1", ["user=> 3", "3"]))
+        case = case_files.read(self.write("a.turns", "shared (é)\nopen 0\nerror No\n"))[0]
+        self.assertEqual(case.text, f"shared {'(é)'.encode().hex()}\nopen 0\n")
+        self.assertEqual(case.wanted, ["error No"])
+        text = "shared: 1\nin: d4:code1:32:op4:evale\nout: d2:ns4:user5:value1:3ed6:statusl4:doneee\n"
+        self.assertEqual(self.run_on_three("a.stream", text)[0], (1, 0))
+
     def test_escapes(self):
         for content in (b"a\nb\\n\xff\tc", "é\u200b".encode(), b""):
             self.assertEqual(unescaped(escaped(content)), content)

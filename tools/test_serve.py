@@ -7,15 +7,19 @@ Each function whose name begins with `that_` is a test, and the name says what h
 connect one after another, and leave in the end of the `with`. Then the program has to end, as
 serving.py says. The last line is `N passed, M failed`."""
 
+import concurrent.futures
 import contextlib
 import os
+import re
 import select
 import socket
 import sys
+import tempfile
 import threading
 import time
 
 import clients
+import workspace
 from bencode import encoded
 from peers import GARBAGE, MALFORMED, REPLIES, REQUEST, answers, evaluates, expect, made_session
 from peers import reset, values
@@ -40,6 +44,10 @@ serve --port 0 --connections 1 --connections 1
 serve --port 0 --connections 1 --colour red
 serve --port 0 --connections 1 more
 pipe --port 0""".splitlines()
+
+
+TEAMS = re.compile(r"^    (one|other): +user=> (.*)\n((?:           .*\n)*)", re.MULTILINE)
+COUNTER = re.compile(r"With `counter.clj` as\n\n((?:    .*\n)*)")
 
 
 def that_an_eval_gives_the_bytes_of_the_rules(program):
@@ -185,6 +193,65 @@ def that_an_eval_takes_far_less_than_40_ms_where_it_is_acknowledged_late(program
     middle = sorted(times)[len(times) // 2]
     if middle > 0.02:
         raise ValueError(f"the middle one of {len(times)} takes {1000 * middle:.0f} ms")
+
+
+@contextlib.contextmanager
+def shared_file(text):
+    """The path of a file with this text."""
+    with tempfile.NamedTemporaryFile("w", suffix=".clj", encoding="utf-8") as file:
+        file.write(text)
+        file.flush()
+        yield file.name
+
+
+def that_two_teams_share_what_readme_says(program):
+    readme = workspace.content(f"{workspace.TOP}/README.md").decode()
+    lines = TEAMS.findall(readme)
+    expect(len(lines), 6)
+    with contextlib.ExitStack() as stack:
+        path = stack.enter_context(shared_file(COUNTER.search(readme)[1]))
+        address = stack.enter_context(serving(program, 2, "--shared", path))
+        teams = {it: stack.enter_context(Connection(address)) for it in ("one", "other")}
+        sessions = {it: made_session(peer) for it, peer in teams.items()}
+        for team, code, wanted in lines:
+            request = {"code": code, "id": "7", "op": "eval", "session": sessions[team]}
+            replies = teams[team].asked(request)
+            shown = [it.get("value") or it.get("err") for it in replies]
+            shown = [it.removesuffix("\n") for it in shown if it]
+            expect([code, shown], [code, [it.strip() for it in wanted.splitlines()]])
+
+
+def that_no_commit_to_a_shared_ref_is_lost(program):
+    commits, connections = 500, 4
+    text = "(def c (ref 0)) (defn add [] (dosync (alter c inc)))"
+
+    def commit(peer):
+        for _ in range(commits // 2):
+            expect(len(values(peer.asked({"code": "(shared/add)", "id": "7", "op": "eval"}))), 1)
+            code = "(dosync (commute shared/c inc))"
+            expect(len(values(peer.asked({"code": code, "id": "7", "op": "eval"}))), 1)
+
+    with contextlib.ExitStack() as stack:
+        path = stack.enter_context(shared_file(text))
+        address = stack.enter_context(serving(program, connections + 1, "--shared", path))
+        peers = [stack.enter_context(Connection(address)) for _ in range(connections)]
+        with concurrent.futures.ThreadPoolExecutor(connections) as pool:
+            for done in [pool.submit(commit, it) for it in peers]:
+                done.result()
+        for peer in peers:
+            peer.end()
+        last = stack.enter_context(Connection(address))
+        evaluates(last, "@shared/c", commits * connections)
+        last.end()
+
+
+def that_a_faulty_shared_text_comes_before_listening(program):
+    with shared_file("(def a (atom 1))") as path:
+        words = f"serve --port 1 --connections 1 --shared {path}"
+        line = "java.lang.IllegalStateException: Not allowed in the shared namespace"
+        expect(refused(program, words), [2, f"nrepl: shared file: {line}\n"])
+    words = "serve --port 1 --connections 1 --shared nowhere.clj"
+    expect(refused(program, words), [2, "nrepl: cannot read nowhere.clj\n"])
 
 
 def that_recorded_clients_are_answered_whole(program):

@@ -5,18 +5,21 @@ import re
 import subprocess
 
 import bencode
-from case import SECONDS, Case, escaped
+from case import SECONDS, Case, escaped, sharing
 
 PROMPT = re.compile(r"(?:\((bare|ns (\S+))\) )?(\S+)=> (.*)")
 GO_ON = "#_=> "
+SHARES = "shared: "
 
 
 class Transcript(Case):
     """What a person types, and what is printed for it."""
 
     def read(self):
-        self.wanted, self.requests = self.lines, []
-        for line in self.lines:
+        shared = [it for it in self.lines if it.startswith(SHARES)]
+        self.shared = "\n".join(it[len(SHARES) :] for it in shared).encode()
+        self.wanted, self.requests = [it for it in self.lines if it not in shared], []
+        for line in self.wanted:
             prompt = PROMPT.fullmatch(line)
             if line.startswith(GO_ON):
                 self.requests[-1][2] += "\n" + line[len(GO_ON) :]
@@ -24,7 +27,7 @@ class Transcript(Case):
                 self.requests.append([prompt[1], prompt[2], prompt[4]])
 
     def given(self, program, folder):
-        with Server(program, folder) as server:
+        with Server(program, folder, sharing(folder, self.shared)) as server:
             shown, namespace = [], "user"
             session = server.asked({"id": "0", "op": "clone"})[0]["new-session"]
             for number, (how, named, code) in enumerate(self.requests, start=1):
@@ -45,16 +48,16 @@ class Transcript(Case):
 class Server:
     """The program, as a client has it: it sends a request when the one before is done."""
 
-    def __init__(self, program, folder):
+    def __init__(self, program, folder, words):
         self.pipes = {
             "stdin": subprocess.PIPE,
             "stdout": subprocess.PIPE,
             "stderr": subprocess.PIPE,
         }
-        self.program, self.folder, self.end = program, folder, []
+        self.program, self.folder, self.words, self.end = program, folder, words, []
 
     def __enter__(self):
-        words = ["timeout", str(SECONDS), self.program, "pipe"]
+        words = ["timeout", str(SECONDS), self.program, "pipe", *self.words]
         self.process = subprocess.Popen(words, cwd=self.folder, **self.pipes)
         return self
 

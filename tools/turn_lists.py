@@ -33,6 +33,12 @@ class Turns(Case):
         times = TIMES.fullmatch(turn)
         turn, count = (times[1], int(times[2])) if times else (turn, 1)
         word, _, rest = turn.partition(" ")
+        if word == "shared":
+            self.text += f"shared {rest.encode().hex()}\n"
+            return
+        if word == "error":
+            self.refused.append(turn)
+            return
         if word in ("seed", "retries", "steps", "version"):
             self.text += f"{turn}\n"
             return
