@@ -2,3 +2,4 @@ pub mod Walking
 pub mod Turning
 pub mod Giving
 pub mod Alone
+pub mod Attempts

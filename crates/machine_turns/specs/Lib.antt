@@ -3,3 +3,4 @@ pub mod Driver
 pub mod Turns
 pub mod Driven
 pub mod Alone
+pub mod Attempts

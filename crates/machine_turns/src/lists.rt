@@ -5,6 +5,7 @@ ghost use Rattle.server_rules.specs.Machine.World.{World, opened_world};
 ghost use Rattle.repl_core.specs.Configured.{IsConfigured};
 ghost use Rattle.repl_core.specs.Starting.{TellsFault};
 ghost use Rattle.machine_turns.specs.Alone.{IsServedAlone};
+ghost use Rattle.machine_turns.specs.Attempts.{AgreesWithAnyRun};
 ghost use Rattle.machine_turns.specs.Driver.{DriverStands};
 ghost use Rattle.machine_turns.specs.Driven.{IsDriven, MakesTurn};
 ghost use Rattle.machine_turns.specs.Turns.{turn_view};
@@ -18,12 +19,14 @@ use std::alloc::{AllocError, Global};
 
 /// Makes each turn of a list, on a server to which nobody came: gives what it serves each tenant,
 /// and the turns that were refused. A tenant that names no shared ref is given what its own turns
-/// alone serve. It fails where the text that all share has a fault, or for want of memory.
+/// alone serve. Attempts at transactions see what attempts in any other run see that agree with
+/// them. It fails where the text that all share has a fault, or for want of memory.
 pub fn drive(alloc: Global, config: Config, turns: &[Turn]) -> Result<Outputs, LoadError>
     ensures driven { (g : Ground) → IsConfigured g config → IfOk result
         (IsDriven g (opened_world g) (map turn_view turns.now)) }
     ensures alone { (g : Ground) → IsConfigured g config → IfOk result
         (IsServedAlone g (opened_world g) (map turn_view turns.now)) }
+    ensures attempts { (g : Ground) → AgreesWithAnyRun g (map turn_view turns.now) }
     ensures fault { IfErr result (TellsFault config) }
 {
     let mut driver = Driver::new(alloc, &config)?;

@@ -145,8 +145,8 @@ body_in-asks g steps t a d printed honest x at =
     (asks-behind tree x.before (begun ∷ x.since) all)) x.within
 
 pub attempts-agree : AttemptsInRunsAgree
-attempts-agree g steps other_steps t u a b d printed other honest other_honest x y at
-    other_at own held =
+attempts-agree g steps other_steps t u a b honest other_honest d printed other x y at other_at own
+    held =
     let w = run g (opened_world g) steps in
     let v = run g (opened_world g) other_steps in
     let named : ℕ → Bool = λ n. is_named_in x.since (shared_ref n) in

@@ -21,3 +21,4 @@ pub mod HonestTraces
 pub mod AttemptBodies
 pub mod DosyncSettings
 pub mod AttemptsInRuns
+pub mod SharedBounds

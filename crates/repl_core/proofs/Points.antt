@@ -18,8 +18,8 @@ use Rattle.server_rules.specs.Plan.{asks_for, ask_answered, Plan}
 use Rattle.server_rules.specs.Starting.{interrupted_in}
 use Rattle.server_rules.specs.Asking.{answer_outcome, when_told}
 use Rattle.server_rules.specs.Deeds.{plan}
-use Rattle.server_rules.specs.Machine.World.{TenantData, World, accepted, ended_as, planned_step}
-use Rattle.server_rules.specs.Machine.World.{deed_step, step, run}
+use Rattle.server_rules.specs.Machine.World.{TenantData, World, does, accepted, ended_as}
+use Rattle.server_rules.specs.Machine.World.{planned_step, deed_step, step, run}
 use Rattle.server_rules.specs.declared.actor.Actor.{Actor}
 use Rattle.repl_core.specs.Standing.{open_in, store_in}
 use Rattle.repl_core.specs.Commits.{ref_in_world, point_in}
@@ -106,9 +106,12 @@ module _ (g : Ground) (w after : World) (t : ℕ) (a : Actor) (name : RefNameDat
   reads-planned = asked-by Reads g a (read name) kept.quiet
       (λ why e. absurd (never-refused _ _ _ e)) reads-closed reads-open t
 
-pub reads-of-point : ReadsAreOfTheirPoint
+asked-of-point : (g : Ground) (w after : World) (t : ℕ) (a : Actor) (name : RefNameData)
+    (answer : AnswerData) (point : ℕ) → point_in t a w ≡ Some point
+    → step g w (does t (asks_for a (read name))) ≡ accepted after (ask_answered answer)
+    → IsOfPoint point (ref_in_world name w) answer
 unfolding step
-reads-of-point g w after t a name answer point = by (part_under t w.tenants) refl
+asked-of-point g w after t a name answer point = by (part_under t w.tenants) refl
   where
     by : (o : Option (Option TenantData)) → part_under t w.tenants ≡ o
         → point_in t a w ≡ Some point
@@ -120,6 +123,11 @@ reads-of-point g w after t a name answer point = by (part_under t w.tenants) ref
         let there : open_in t w ≡ Some kept = ap (option_and_then (λ part. part)) is in
         reads-planned g w after t a name answer point kept there
         (sym (ap (option_and_then (λ part. part_under (seat_of a) part.mine.points)) there) ∙ began) e
+
+pub reads-of-point : ReadsAreOfTheirPoint
+reads-of-point g w after s answer e t a name told point is tells began =
+    asked-of-point g w after t a name told point began
+    (ap (step g w) (sym is) ∙ e ∙ ap (accepted after) tells)
 
 -- What was held stays
 

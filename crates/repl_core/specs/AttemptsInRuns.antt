@@ -34,22 +34,24 @@ HeldTheSame w point xs v other ys =
     → held_at point (ref_in_world (shared_ref number) w)
     ≡ held_at other (ref_in_world (shared_ref number) v)
 
--- Two runs of one server, by whatever steps of whatever tenants, and in each an attempt under way
--- of an actor that was honest; both at one `dosync` with the same setting, whatever was printed
--- before. Where their own answers are equal one by one as far as both have one, and each shared ref
--- that both name held the same at the two read points, the values that one saw begin those that the
--- other saw.
-abbrev pub AttemptsInRunsAgree : Type 0
-AttemptsInRunsAgree =
-    (g : Ground) (steps other_steps : List Step) (t u : ℕ) (a b : Actor)
-    (d : Setting) (printed other : List ℕ)
-    → let start = opened_world g in
-    let w = run g start steps in
-    let v = run g start other_steps in
-    AreHonest g start t a steps → AreHonest g start u b other_steps
-    → (x : UnderWay w t a) (y : UnderWay v u b)
+-- An attempt under way in each of two servers, both at one `dosync` with the same setting, whatever
+-- was printed before. Where their own answers are equal one by one as far as both have one, and each
+-- shared ref that both name held the same at the two read points, the values that one saw begin
+-- those that the other saw.
+abbrev pub AttemptsAgree : Ground → World → ℕ → Actor → World → ℕ → Actor → Type 0
+AttemptsAgree g w t a v u b =
+    (d : Setting) (printed other : List ℕ) (x : UnderWay w t a) (y : UnderWay v u b)
     → IsAttemptAt g x.form x.before d printed → IsAttemptAt g y.form y.before d other
     → OneBegins (own_answers x.since) (own_answers y.since)
     → HeldTheSame w x.point x.since v y.point y.since
     → OneBegins (values_after printed (body_in d) (answers_in x.since))
     (values_after other (body_in d) (answers_in y.since))
+
+-- so it is in any two runs of one server, by whatever steps of whatever tenants, of actors that were
+-- honest
+abbrev pub AttemptsInRunsAgree : Type 0
+AttemptsInRunsAgree =
+    (g : Ground) (steps other_steps : List Step) (t u : ℕ) (a b : Actor)
+    → let start = opened_world g in
+    AreHonest g start t a steps → AreHonest g start u b other_steps
+    → AttemptsAgree g (run g start steps) t a (run g start other_steps) u b

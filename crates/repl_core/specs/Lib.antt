@@ -13,3 +13,4 @@ pub mod AttemptsUnderWay
 pub mod HonestRuns
 pub mod DosyncSettings
 pub mod AttemptsInRuns
+pub mod SharedBounds

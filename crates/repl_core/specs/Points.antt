@@ -8,7 +8,7 @@ use Rattle.repl_asks.specs.Exchange.{reading, ReadingData, found, retry}
 use Rattle.server_rules.specs.Versions.{Ref, at_point}
 use Rattle.server_rules.specs.Calls.{number_told}
 use Rattle.server_rules.specs.Ground.{Ground}
-use Rattle.server_rules.specs.Plan.{asks_for, ask_answered}
+use Rattle.server_rules.specs.Plan.{StepAnswer, asks_for, ask_answered}
 use Rattle.server_rules.specs.Machine.World.{World, Step, does, accepted, step, run}
 use Rattle.server_rules.specs.declared.actor.Actor.{Actor}
 use Rattle.repl_core.specs.Commits.{ref_in_world, point_in}
@@ -23,14 +23,18 @@ IsOfPoint point r answer =
     (answer ≡ reading retry)
     ⊎ ((d : Datum) × (answer ≡ reading (found d)) × (held_at point r ≡ Some d))
 
--- In an attempt each read is answered by what the ref held at the attempt's read point, or the
--- attempt is to be made again: whatever its history has lost since.
+-- Where a step is a read in an attempt, its answer is what the ref held at the attempt's read point,
+-- or that the attempt is to be made again: whatever its history has lost since.
+abbrev pub IsReadOfItsPoint : World → Step → StepAnswer → Type 0
+IsReadOfItsPoint w s answer =
+    (t : ℕ) (a : Actor) (name : RefNameData) (told : AnswerData) (point : ℕ)
+    → s ≡ does t (asks_for a (read name)) → answer ≡ ask_answered told
+    → point_in t a w ≡ Some point → IsOfPoint point (ref_in_world name w) told
+
 abbrev pub ReadsAreOfTheirPoint : Type 0
 ReadsAreOfTheirPoint =
-    (g : Ground) (w after : World) (t : ℕ) (a : Actor) (name : RefNameData) (answer : AnswerData)
-    (point : ℕ) → point_in t a w ≡ Some point
-    → step g w (does t (asks_for a (read name))) ≡ accepted after (ask_answered answer)
-    → IsOfPoint point (ref_in_world name w) answer
+    (g : Ground) (w after : World) (s : Step) (answer : StepAnswer)
+    → step g w s ≡ accepted after answer → IsReadOfItsPoint w s answer
 
 abbrev pub shared_ref : ℕ → RefNameData
 shared_ref number = record { owner = shared; number = number }

@@ -7,6 +7,7 @@ ghost use Rattle.repl_core.specs.Starting.{HasFault};
 ghost use Rattle.repl_core.specs.declared.machine.Config.{Config};
 ghost use Rattle.repl_core.specs.Commits.{CommittedMetNoNewer, NewestIsTheFoldOfWhatWasCommitted};
 ghost use Rattle.repl_core.specs.Points.{ReadsAreOfTheirPoint, WhatWasHeldStays};
+ghost use Rattle.repl_core.specs.SharedBounds.{SharedBoundsAreFixed};
 ghost use Rattle.repl_core.specs.AttemptsUnderWay.{PointsAreOfAttempts, AttemptsAreToldTheirPoint};
 ghost use Rattle.repl_core.specs.HonestRuns.{HonestFormsAskAsEvaluated};
 ghost use Rattle.repl_core.specs.DosyncSettings.{DosyncsAreAttempts};
@@ -49,6 +50,11 @@ pub fn reads_are_of_their_point()
 /// steps: so two attempts with one read point are told the same of it, however long they take.
 pub fn what_was_held_stays()
     ensures { WhatWasHeldStays }
+{}
+
+/// Whatever steps were made: the history of each shared ref has the bounds 0 and 10.
+pub fn shared_bounds_are_fixed()
+    ensures { SharedBoundsAreFixed }
 {}
 
 /// Whatever steps were made: an actor with a read point has an attempt under way, and all that

@@ -17,9 +17,11 @@ use tenant_world::{AskAnswer, AskAnswers, EndAnswer, Replies, StartAnswer, Start
 
 impl Machine {
     ghost use Rattle.repl_core.specs.Standing.{MachineStands};
+    ghost use Rattle.repl_core.specs.Points.{IsReadOfItsPoint};
     ghost use Rattle.repl_core.specs.Steps.{AcceptsStep, RefusesStep, is_accepted_step};
 
-    /// Makes a step. A step that is refused changes nothing, and is given back.
+    /// Makes a step. A step that is refused changes nothing, and is given back. In an attempt the
+    /// answer to a read is what the ref held at the attempt's read point, or to read again.
     pub fn step(&mut self, step: Step) -> Result<StepAnswer, Refused>
         ensures done { (g : Ground) (w : World) → IsRight g → MachineStands g self.old w
             → IfOk result (λ x. AcceptsStep g w (step_view step) self.new (step_answer_view x)) }
@@ -29,6 +31,8 @@ impl Machine {
             → counter_of self.old.refs < u128.MAX
             → IfErr result (λ it. it.why ≡ Refusal.NoMemory
             → is_accepted_step (worlds.step g w (step_view step)) ≡ true) }
+        ensures reads { (g : Ground) (w : World) → IsRight g → MachineStands g self.old w
+            → IfOk result (λ x. IsReadOfItsPoint w (step_view step) (step_answer_view x)) }
         ensures handed_back { IfErr result (λ it. it.step ≡ step) }
     {
         Ok(self.step_copied(step)?.given)

@@ -6,6 +6,7 @@ use Rattle.machine_turns.specs.Driven.{IsDriven, Drives}
 use Rattle.machine_turns.specs.Turns.{turn_view}
 use Rattle.machine_turns.specs.declared.turn.Turn.{Turn}
 use Rattle.machine_turns.proofs.Alone.{driven-alone}
+use Rattle.machine_turns.proofs.Attempts.{agrees-with-any}
 use Rattle.machine_turns.proofs.Turning.{drives-none, drives-more}
 use Rattle.machine_turns.proofs.lists.drive.Goals as goal
 
@@ -53,3 +54,12 @@ returns-clause-driven c = λ g it.
 pub returns-clause-alone : goal.returns-clause-alone
 returns-clause-alone c = λ g it. driven-alone g (map turn_view c.args.turns.now) c.loop-turn.outputs
     (returns-clause-driven c g it)
+
+pub returns-in_err-driver-clause-attempts : goal.returns-in_err-driver-clause-attempts
+returns-in_err-driver-clause-attempts c = λ g. agrees-with-any g c.args.turns.now
+
+pub returns-in_err-make_turn-clause-attempts : goal.returns-in_err-make_turn-clause-attempts
+returns-in_err-make_turn-clause-attempts c = λ g. agrees-with-any g c.args.turns.now
+
+pub returns-clause-attempts : goal.returns-clause-attempts
+returns-clause-attempts c = λ g. agrees-with-any g c.args.turns.now
