@@ -24,9 +24,14 @@ class Case:
 
 
 def sharing(folder, text):
-    """The words for a program whose tenants share this text, which is put into the folder."""
+    """The words for a program whose tenants share this text, if there is one. It is put into the
+    folder."""
     if not text:
         return []
+    return put_shared(folder, text)
+
+
+def put_shared(folder, text):
     with open(f"{folder}/{SHARED}", "wb") as file:
         file.write(text)
     return ["--shared", SHARED]

@@ -5,7 +5,7 @@ import json
 import os
 import subprocess
 
-from case import SECONDS, Case, messages_of, sharing, unescaped
+from case import SECONDS, Case, messages_of, put_shared, sharing, unescaped
 
 
 class Stream(Case):
@@ -69,7 +69,8 @@ class Outside(Case):
     def given(self, program, folder):
         if not self.is_of_turns:
             words = ["pipe", *self.case["args"]]
-            sharing(folder, self.case.get("shared", "").encode())
+            if "shared" in self.case:
+                put_shared(folder, self.case["shared"].encode())
             return served(program, folder, words, base64.b64decode(self.case["in"]))
         ran = subprocess.run(
             ["timeout", str(SECONDS), program],
