@@ -3,11 +3,13 @@
 
     tools/costs.py [WORD ..]          all rows, or those in whose names one of the words stands
     tools/costs.py --stream ROW COUNT writes the stream of a row, by its number, for so many
+    tools/costs.py --shared ROW COUNT writes the text that all tenants share, where the row has one
 
 Counted are instructions, by `valgrind --tool=callgrind`, so what else the machine does makes no
 difference; and memory at its peak, by the system. Each row is measured at three sizes, each twice
 the one before: where the cost is a straight line, it doubles."""
 
+import contextlib
 import re
 import subprocess
 import sys
@@ -88,11 +90,15 @@ def added(count):
     return " ".join(f"(alter r assoc {it} 1)" for it in range(count))
 
 
+def shared_refs(count):
+    return "".join(f"(def r{it} (ref 0))\n" for it in range(count))
+
+
 REF = "(def r (ref 0))"
 DOUBLING = "(defn f [n] (if (zero? n) 0 (do (f (dec n)) (f (dec n)))))"
 SKIPPING = f"(defn f [] (if true 1 (do {times('1', 20000)})))"
 
-# What is measured, the stream for a count, and the least count.
+# What is measured, the stream for a count, the least count, and maybe the shared text for a count.
 ROWS = (
     ("requests `(+ 1 2)`", lambda n: evaluated(*["(+ 1 2)"] * n), 1000),
     ("the same over ten sessions, by turns", lambda n: over(10, ["(+ 1 2)"] * n), 1000),
@@ -172,23 +178,43 @@ ROWS = (
         lambda n: evaluated(REF, *["(dosync (commute r inc))"] * n),
         1000,
     ),
+    ("shared refs that a text defines", lambda n: [], 5000, shared_refs),
+    (
+        "the same, and 1,000 requests `(dosync (alter shared/r0 inc))`",
+        lambda n: evaluated(*["(dosync (alter shared/r0 inc))"] * 1000),
+        5000,
+        shared_refs,
+    ),
 )
 
 
-def instructions(stream):
+@contextlib.contextmanager
+def pipe_over(text):
+    """The words of the command, for a server with this shared text."""
+    if not text:
+        yield [SERVER, "pipe"]
+        return
+    with tempfile.NamedTemporaryFile("w", encoding="utf-8", suffix=".clj") as file:
+        file.write(text)
+        file.flush()
+        yield [SERVER, "pipe", "--shared", file.name]
+
+
+def instructions(stream, text):
     """Millions of instructions that the server takes for a stream."""
-    words = ["valgrind", "--tool=callgrind", "--callgrind-out-file=/dev/null", SERVER, "pipe"]
-    with tempfile.TemporaryFile() as told:
+    with tempfile.TemporaryFile() as told, pipe_over(text) as pipe:
+        words = ["valgrind", "--tool=callgrind", "--callgrind-out-file=/dev/null", *pipe]
         subprocess.run(words, input=stream, stdout=subprocess.DEVNULL, stderr=told, check=True)
         told.seek(0)
         return int(re.search(rb"refs:\s+([0-9,]+)", told.read()).group(1).replace(b",", b"")) / 1e6
 
 
-def megabytes(stream):
+def megabytes(stream, text):
     """The memory that the server takes at its peak for a stream."""
-    words = ["/usr/bin/time", "-f", "%M", SERVER, "pipe"]
-    pipes = {"stdout": subprocess.DEVNULL, "stderr": subprocess.PIPE}
-    ran = subprocess.run(words, input=stream, check=True, **pipes)
+    with pipe_over(text) as pipe:
+        pipes = {"stdout": subprocess.DEVNULL, "stderr": subprocess.PIPE}
+        words = ["/usr/bin/time", "-f", "%M", *pipe]
+        ran = subprocess.run(words, input=stream, check=True, **pipes)
     return round(int(ran.stderr.split()[-1]) / 1000, 1)
 
 
@@ -196,14 +222,19 @@ def main(words):
     if words[:1] == ["--stream"]:
         sys.stdout.buffer.write(b"".join(ROWS[int(words[1])][1](int(words[2]))))
         return
+    if words[:1] == ["--shared"]:
+        sys.stdout.write("".join(it(int(words[2])) for it in ROWS[int(words[1])][3:]))
+        return
     print("| So many | Counts | Millions of instructions | MB at the last |\n|---|---|---|---|")
-    for name, stream, least in ROWS:
+    for name, stream, least, *texts in ROWS:
         if not words or any(word in name for word in words):
             counts = [least, 2 * least, 4 * least]
             streams = [b"".join(stream(it)) for it in counts]
-            costs = ", ".join(f"{instructions(it):,.1f}" for it in streams)
+            shared = ["".join(text(it) for text in texts) for it in counts]
+            costs = ", ".join(f"{instructions(*it):,.1f}" for it in zip(streams, shared))
             told = ", ".join(f"{it:,}" for it in counts)
-            print(f"| {name} | {told} | {costs} | {megabytes(streams[2])} |", flush=True)
+            most = megabytes(streams[2], shared[2])
+            print(f"| {name} | {told} | {costs} | {most} |", flush=True)
 
 
 if __name__ == "__main__":
