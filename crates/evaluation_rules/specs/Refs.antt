@@ -1,5 +1,5 @@
 -- Reads and sets of refs, and what else is asked of the store (the Clojure reference, Refs and
--- Transactions, and Atoms).
+-- Transactions, Atoms, and Agents).
 use Rattle.std.specs.Prelude.{List, Bool, true, false, Option, Some, None, Result, Ok, Err}
 use Rattle.std.specs.Prelude.{if◌then◌else◌}
 use Rattle.value_data.specs.Datum.{Datum}
@@ -7,9 +7,11 @@ use Rattle.repl_faults.specs.Failure.{Failure, broken_rule}
 use Rattle.repl_faults.specs.declared.rule.Rule.{Rule}
 use Rattle.function_names.specs.declared.store.StoreFunction.{StoreFunction}
 use Rattle.repl_asks.specs.Transactions.{RefNameData, may_hold}
-use Rattle.repl_asks.specs.Exchange.{AskData, read, ReadingData, found, retry, reading_in, value_in}
+use Rattle.repl_asks.specs.Exchange.{AskData, read, ReadingData, found, retry, PermissionData}
+use Rattle.repl_asks.specs.Exchange.{granted, denied, value_in, reading_in, permission_in}
 use Rattle.tx_attempt.specs.Accesses.{got, put, ensured, attempt_value, is_commuted}
 use Rattle.store_calls.specs.Calling.{CallData, refused, reads, puts, ensures, asks_value}
+use Rattle.store_calls.specs.Calling.{asks_permission}
 use Rattle.store_calls.specs.Calling.{call_data_of, shared_call_data_of}
 use Rattle.evaluation_rules.specs.declared.occasion.Occasion.{Occasion}
 use Rattle.evaluation_rules.specs.Doing.{left, failed, retried, asking, looking, noting, Part}
@@ -56,12 +58,22 @@ ensured_read name r = read_value name r >>= ensure_noted name
 abbrev pub asked_value : AskData → Part Datum
 asked_value ask next kept = asking ask (λ answer. next (value_in answer) kept)
 
+-- what is denied fails
+abbrev pub permitted_value : Datum → PermissionData → Part Datum
+permitted_value d granted next kept = next d kept
+permitted_value d (denied f) next kept = left (failed f) kept
+
+abbrev pub granted_value : AskData → Datum → Part Datum
+granted_value ask d next kept =
+    asking ask (λ answer. permitted_value d (permission_in answer) next kept)
+
 abbrev pub called_value : CallData → Part Datum
 called_value (refused f) = fails f
 called_value (reads name) = ref_value name
 called_value (puts name d) = put_value name d
 called_value (ensures name) = ensured_value name
 called_value (asks_value ask) = asked_value ask
+called_value (asks_permission ask d) = granted_value ask d
 
 abbrev pub call_data_at : Occasion → StoreFunction → Bool → List Datum → CallData
 call_data_at Occasion.Form f running args = call_data_of f running args

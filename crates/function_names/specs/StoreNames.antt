@@ -1,5 +1,5 @@
 -- The functions that ask the store, each with its name and the numbers of arguments that it takes
--- (the Clojure reference, Refs and Transactions, and Atoms).
+-- (the Clojure reference, Refs and Transactions, Atoms, and Agents).
 use Rattle.std.specs.Prelude.{ℕ, List, [], ◌∷◌, Bool, Option, codes}
 use Rattle.function_rows.specs.Rows.{Row, takes, first_named}
 use Rattle.function_rows.specs.declared.row.Arity.{Arity}
@@ -24,13 +24,18 @@ store_row StoreFunction.Swap = record { name = codes "swap!"; arity = Arity.AtLe
 store_row StoreFunction.Reset = record { name = codes "reset!"; arity = Arity.Exactly 2 }
 store_row StoreFunction.CompareAndSet =
     record { name = codes "compare-and-set!"; arity = Arity.Exactly 3 }
+store_row StoreFunction.Agent = record { name = codes "agent"; arity = Arity.Exactly 1 }
+store_row StoreFunction.AgentError = record { name = codes "agent-error"; arity = Arity.Exactly 1 }
+store_row StoreFunction.RestartAgent =
+    record { name = codes "restart-agent"; arity = Arity.Exactly 2 }
 
 abbrev pub store_functions : List StoreFunction
 store_functions =
     StoreFunction.Ref ∷ StoreFunction.Deref ∷ StoreFunction.RefSet ∷ StoreFunction.Alter
     ∷ StoreFunction.Commute ∷ StoreFunction.Ensure ∷ StoreFunction.HistoryCount
     ∷ StoreFunction.MinHistory ∷ StoreFunction.MaxHistory ∷ StoreFunction.Atom ∷ StoreFunction.Swap
-    ∷ StoreFunction.Reset ∷ StoreFunction.CompareAndSet ∷ []
+    ∷ StoreFunction.Reset ∷ StoreFunction.CompareAndSet ∷ StoreFunction.Agent
+    ∷ StoreFunction.AgentError ∷ StoreFunction.RestartAgent ∷ []
 
 abbrev pub store_function_named : List ℕ → Option StoreFunction
 store_function_named name = first_named store_row store_functions name

@@ -23,9 +23,12 @@ pub enum StoreFunction {
     Swap,
     Reset,
     CompareAndSet,
+    Agent,
+    AgentError,
+    RestartAgent,
 }
 
-const STORE_FUNCTIONS: [StoreFunction; 13] = [
+const STORE_FUNCTIONS: [StoreFunction; 16] = [
     StoreFunction::Ref,
     StoreFunction::Deref,
     StoreFunction::RefSet,
@@ -39,6 +42,9 @@ const STORE_FUNCTIONS: [StoreFunction; 13] = [
     StoreFunction::Swap,
     StoreFunction::Reset,
     StoreFunction::CompareAndSet,
+    StoreFunction::Agent,
+    StoreFunction::AgentError,
+    StoreFunction::RestartAgent,
 ];
 
 impl HasRow for StoreFunction {
@@ -65,6 +71,9 @@ impl HasRow for StoreFunction {
             StoreFunction::Swap => FunctionRow::new("swap!", Arity::AtLeast(2)),
             StoreFunction::Reset => FunctionRow::new("reset!", Arity::Exactly(2)),
             StoreFunction::CompareAndSet => FunctionRow::new("compare-and-set!", Arity::Exactly(3)),
+            StoreFunction::Agent => FunctionRow::new("agent", Arity::Exactly(1)),
+            StoreFunction::AgentError => FunctionRow::new("agent-error", Arity::Exactly(1)),
+            StoreFunction::RestartAgent => FunctionRow::new("restart-agent", Arity::Exactly(2)),
         }
     }
 }

@@ -22,6 +22,7 @@ use repl_faults::{no_such_namespace, no_such_var, unresolved_symbol};
 use repl_values::{Fault, copy};
 use std::alloc::{AllocError, Global};
 use std::collections::BTreeMap;
+use std::sync::Arc;
 
 // The namespace that every tenant sees beside its own.
 const SHARED: &str = "shared";
@@ -128,7 +129,7 @@ fn find_bound(binding: &Binding) -> Result<Found, AllocError>
     let resolution = match binding {
         Binding::Value(value) => Resolution::Value(copy(value)?),
         Binding::Function(function) => {
-            Resolution::Function(NamedFunction::Program(function.copy()?))
+            Resolution::Function(NamedFunction::Program(Arc::try_clone(function)?))
         }
     };
     Ok(Found::Resolution(resolution))

@@ -44,7 +44,7 @@ allowed-so g a actor h run ask q told = by actor.is_closed where
 asking-so : (g : Ground) (a : Actor) (actor : ActorData) (h : Hand) (ask : AskData) (q : Quiet)
     (run : Option Run) → PlansSo a q (asked_running g a actor h ask q run)
 asking-so g a actor h ask q None told = λ e. cc
-asking-so g a actor h ask q (Some run) told = by (is_allowed ask q) where
+asking-so g a actor h ask q (Some run) told = by (is_allowed ask q.cells) where
   by : (allowed : Bool) → GoesSo a q (let p : Plan = (if allowed
       then asked_allowed g a actor h run ask q
       else quietly (refuses Refusal.Idle)) in p.next told)

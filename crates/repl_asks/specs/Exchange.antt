@@ -41,6 +41,14 @@ pub data AskData : Type 0 where
   set_atom : ℕ → Datum → AskData
   -- the atom gets its next value if it equals what was seen of it: the number, and both
   try_atom : ℕ → Datum → Datum → AskData
+  -- an agent with this state
+  new_agent : Datum → AskData
+  -- the state of the agent with this number
+  read_agent : ℕ → AskData
+  -- what that agent failed with, or nil
+  agent_fault : ℕ → AskData
+  -- that agent, which is failed, gets this state and goes on
+  restart_agent : ℕ → Datum → AskData
 
 -- a function that has a name: one of the language, which needs no store or asks it, or one of the
 -- program
@@ -69,6 +77,11 @@ pub data VerdictData : Type 0 where
   conflict : VerdictData
   faulted : Failure → VerdictData
 
+-- what comes of what may be refused
+pub data PermissionData : Type 0 where
+  granted : PermissionData
+  denied : Failure → PermissionData
+
 pub data AnswerData : Type 0 where
   resolution : ResolutionData → AnswerData
   -- what was asked for is done, and gives no value
@@ -76,6 +89,7 @@ pub data AnswerData : Type 0 where
   value : Datum → AnswerData
   reading : ReadingData → AnswerData
   verdict : VerdictData → AnswerData
+  permission : PermissionData → AnswerData
 
 pub record Exchanged : Type 0 where
   pub ask : AskData
@@ -102,6 +116,10 @@ kind_wanted (new_atom d) = AnswerKind.Value
 kind_wanted (read_atom n) = AnswerKind.Value
 kind_wanted (set_atom n d) = AnswerKind.Value
 kind_wanted (try_atom n seen next) = AnswerKind.Value
+kind_wanted (new_agent d) = AnswerKind.Value
+kind_wanted (read_agent n) = AnswerKind.Value
+kind_wanted (agent_fault n) = AnswerKind.Value
+kind_wanted (restart_agent n d) = AnswerKind.Permission
 
 abbrev pub kind_of : AnswerData → AnswerKind
 kind_of (resolution r) = AnswerKind.Resolution
@@ -109,6 +127,7 @@ kind_of done = AnswerKind.Completion
 kind_of (value d) = AnswerKind.Value
 kind_of (reading r) = AnswerKind.Reading
 kind_of (verdict v) = AnswerKind.Verdict
+kind_of (permission p) = AnswerKind.Permission
 
 abbrev pub Fits : AskData → AnswerData → Type 0
 Fits ask answer = kind_of answer ≡ kind_wanted ask
@@ -121,9 +140,11 @@ resolution_in done = names_value nil
 resolution_in (value d) = names_value nil
 resolution_in (reading r) = names_value nil
 resolution_in (verdict v) = names_value nil
+resolution_in (permission p) = names_value nil
 
--- What the answer says of a value, of the value of a ref in an attempt, and of a commit, each to an
--- ask that it fits. Any other answer counts as nil, and as committed.
+-- What the answer says of a value, of the value of a ref in an attempt, of a commit, and of what
+-- may be refused, each to an ask that it fits. Any other answer counts as nil, as committed, and as
+-- granted.
 abbrev pub value_in : AnswerData → Datum
 value_in (value d) = d
 value_in answer = nil
@@ -135,6 +156,10 @@ reading_in answer = found nil
 abbrev pub verdict_in : AnswerData → VerdictData
 verdict_in (verdict v) = v
 verdict_in answer = committed
+
+abbrev pub permission_in : AnswerData → PermissionData
+permission_in (permission p) = p
+permission_in answer = granted
 
 -- no answer is left for the ask: there is none, or the next is of another kind
 abbrev pub NoneFits : AskData → List AnswerData → Type 0

@@ -1,16 +1,17 @@
 // The answers, by their kinds.
 ghost use Rattle.std.specs.Prelude.{◌≡◌, IfOk};
 ghost use Rattle.repl_asks.specs.Exchange.{kind_of, resolution_in, value_in, reading_in};
-ghost use Rattle.repl_asks.specs.Exchange.{verdict_in};
+ghost use Rattle.repl_asks.specs.Exchange.{verdict_in, permission_in};
 ghost use Rattle.value_data.specs.Inside.View.{view};
 ghost use Rattle.repl_asks.specs.Inside.View.{answer_view, named_view, resolution_view, reading_view};
-ghost use Rattle.repl_asks.specs.Inside.View.{verdict_view};
+ghost use Rattle.repl_asks.specs.Inside.View.{verdict_view, permission_view};
 
 use crate::ask::AnswerKind;
 use function_names::{CoreFunction, StoreFunction};
 use repl_values::{Fault, Value, copy};
 use special_forms::Function;
 use std::alloc::AllocError;
+use std::sync::Arc;
 
 /// A function that has a name.
 #[derive(Debug, Drop)]
@@ -20,7 +21,7 @@ pub enum NamedFunction {
     /// One of the language that asks the store.
     Store(StoreFunction),
     /// One that the program defined.
-    Program(Function),
+    Program(Arc<Function>),
 }
 
 /// What a symbol names.
@@ -49,6 +50,13 @@ pub enum Verdict {
     Faulted(Fault),
 }
 
+/// What comes of what may be refused.
+#[derive(Debug, Drop)]
+pub enum Permission {
+    Granted,
+    Denied(Fault),
+}
+
 /// What the store answers.
 #[derive(Debug, Drop)]
 pub enum Answer {
@@ -58,6 +66,7 @@ pub enum Answer {
     Value(Value),
     Reading(Reading),
     Verdict(Verdict),
+    Permission(Permission),
 }
 
 impl NamedFunction {
@@ -69,7 +78,9 @@ impl NamedFunction {
         match self {
             NamedFunction::Core(function) => Ok(NamedFunction::Core(*function)),
             NamedFunction::Store(function) => Ok(NamedFunction::Store(*function)),
-            NamedFunction::Program(function) => Ok(NamedFunction::Program(function.copy()?)),
+            NamedFunction::Program(function) => {
+                Ok(NamedFunction::Program(Arc::try_clone(function)?))
+            }
         }
     }
 }
@@ -112,6 +123,18 @@ impl Verdict {
     }
 }
 
+impl Permission {
+    /// The same once more. It takes one step, and fails only where 2^63 owners share a part of it.
+    pub fn copy(&self) -> Result<Permission, AllocError>
+        ensures { IfOk result (λ copied. permission_view copied ≡ permission_view self.now) }
+    {
+        match self {
+            Permission::Granted => Ok(Permission::Granted),
+            Permission::Denied(fault) => Ok(Permission::Denied(fault.copy()?)),
+        }
+    }
+}
+
 impl Answer {
     /// What kind of answer it is.
     pub fn kind(&self) -> AnswerKind
@@ -123,6 +146,7 @@ impl Answer {
             Answer::Value(_) => AnswerKind::Value,
             Answer::Reading(_) => AnswerKind::Reading,
             Answer::Verdict(_) => AnswerKind::Verdict,
+            Answer::Permission(_) => AnswerKind::Permission,
         }
     }
 
@@ -133,9 +157,11 @@ impl Answer {
     {
         match self {
             Answer::Resolution(resolution) => resolution,
-            Answer::Done | Answer::Value(_) | Answer::Reading(_) | Answer::Verdict(_) => {
-                Resolution::Value(Value::Nil)
-            }
+            Answer::Done
+            | Answer::Value(_)
+            | Answer::Reading(_)
+            | Answer::Verdict(_)
+            | Answer::Permission(_) => Resolution::Value(Value::Nil),
         }
     }
 
@@ -146,8 +172,11 @@ impl Answer {
     {
         match self {
             Answer::Value(value) => value,
-            Answer::Done | Answer::Resolution(_) | Answer::Reading(_) | Answer::Verdict(_) =>
-                Value::Nil,
+            Answer::Done
+            | Answer::Resolution(_)
+            | Answer::Reading(_)
+            | Answer::Verdict(_)
+            | Answer::Permission(_) => Value::Nil,
         }
     }
 
@@ -158,9 +187,11 @@ impl Answer {
     {
         match self {
             Answer::Reading(reading) => reading,
-            Answer::Done | Answer::Resolution(_) | Answer::Value(_) | Answer::Verdict(_) => {
-                Reading::Found(Value::Nil)
-            }
+            Answer::Done
+            | Answer::Resolution(_)
+            | Answer::Value(_)
+            | Answer::Verdict(_)
+            | Answer::Permission(_) => Reading::Found(Value::Nil),
         }
     }
 
@@ -171,9 +202,26 @@ impl Answer {
     {
         match self {
             Answer::Verdict(verdict) => verdict,
-            Answer::Done | Answer::Resolution(_) | Answer::Value(_) | Answer::Reading(_) => {
-                Verdict::Committed
-            }
+            Answer::Done
+            | Answer::Resolution(_)
+            | Answer::Value(_)
+            | Answer::Reading(_)
+            | Answer::Permission(_) => Verdict::Committed,
+        }
+    }
+
+    /// What it says of what may be refused. An answer of another kind, which fits no such ask,
+    /// counts as granted.
+    pub fn into_permission(self) -> Permission
+        ensures { permission_view result ≡ permission_in (answer_view self) }
+    {
+        match self {
+            Answer::Permission(permission) => permission,
+            Answer::Done
+            | Answer::Resolution(_)
+            | Answer::Value(_)
+            | Answer::Reading(_)
+            | Answer::Verdict(_) => Permission::Granted,
         }
     }
 
@@ -188,6 +236,7 @@ impl Answer {
             Answer::Value(value) => Ok(Answer::Value(copy(value)?)),
             Answer::Reading(reading) => Ok(Answer::Reading(reading.copy()?)),
             Answer::Verdict(verdict) => Ok(Answer::Verdict(verdict.copy()?)),
+            Answer::Permission(permission) => Ok(Answer::Permission(permission.copy()?)),
         }
     }
 }

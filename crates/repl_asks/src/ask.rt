@@ -68,13 +68,25 @@ pub enum Ask {
         seen: Value,
         next: Value,
     },
+    /// Makes an agent with this state. Answered by a value, the agent.
+    NewAgent(Value),
+    /// The state of the agent with this number. Answered by a value.
+    ReadAgent(u64),
+    /// What the agent with this number failed with. Answered by a value, which is nil where it is
+    /// not failed.
+    AgentFault(u64),
+    /// The agent, which is failed, gets this state and goes on. Answered by a permission.
+    RestartAgent {
+        number: u64,
+        state: Value,
+    },
 }
 
 /// What a name is bound to.
 #[derive(Debug, Drop)]
 pub enum Binding {
     Value(Value),
-    Function(Function),
+    Function(Arc<Function>),
 }
 
 /// What an answer can be.
@@ -85,6 +97,7 @@ pub enum AnswerKind {
     Value,
     Reading,
     Verdict,
+    Permission,
 }
 
 impl Ask {
@@ -105,6 +118,9 @@ impl Ask {
             Ask::NewAtom(_) => AnswerKind::Value,
             Ask::ReadAtom(_) => AnswerKind::Value,
             Ask::SetAtom { .. } | Ask::TryAtom { .. } => AnswerKind::Value,
+            Ask::NewAgent(_) => AnswerKind::Value,
+            Ask::ReadAgent(_) | Ask::AgentFault(_) => AnswerKind::Value,
+            Ask::RestartAgent { .. } => AnswerKind::Permission,
         }
     }
 
@@ -149,6 +165,10 @@ impl Ask {
             Ask::ReadAtom(number) => Ok(Ask::ReadAtom(*number)),
             Ask::SetAtom { number, value } => set_atom(*number, value),
             Ask::TryAtom { number, seen, next } => try_atom(*number, seen, next),
+            Ask::NewAgent(state) => Ok(Ask::NewAgent(copy(state)?)),
+            Ask::ReadAgent(number) => Ok(Ask::ReadAgent(*number)),
+            Ask::AgentFault(number) => Ok(Ask::AgentFault(*number)),
+            Ask::RestartAgent { number, state } => restart_agent(*number, state),
         }
     }
 }
@@ -184,6 +204,15 @@ fn try_atom(number: u64, seen: &Value, next: &Value) -> Result<Ask, AllocError>
     })
 }
 
+fn restart_agent(number: u64, state: &Value) -> Result<Ask, AllocError>
+    ensures { IfOk result (λ ask. ask_view ask ≡ asked.restart_agent number (view state.now)) }
+{
+    Ok(Ask::RestartAgent {
+        number,
+        state: copy(state)?,
+    })
+}
+
 impl Binding {
     /// The same binding once more. It takes one step, and fails only where 2^63 owners share a part
     /// of it.
@@ -192,7 +221,7 @@ impl Binding {
     {
         match self {
             Binding::Value(value) => Ok(Binding::Value(copy(value)?)),
-            Binding::Function(function) => Ok(Binding::Function(function.copy()?)),
+            Binding::Function(function) => Ok(Binding::Function(Arc::try_clone(function)?)),
         }
     }
 }

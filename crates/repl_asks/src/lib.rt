@@ -13,7 +13,7 @@ mod namespaces;
 mod refs;
 mod replay;
 
-pub use answer::{Answer, NamedFunction, Reading, Resolution, Verdict};
+pub use answer::{Answer, NamedFunction, Permission, Reading, Resolution, Verdict};
 pub use ask::{AnswerKind, Ask, Binding};
 pub use exchange::{Exchange, Trace, copy_trace};
 pub use intent::{Change, Commute, Commuted, Intent};

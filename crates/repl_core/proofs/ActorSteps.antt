@@ -254,7 +254,7 @@ module _ (P : Plan → Type 0) (g : Ground) (b : Actor) (q : Quiet) (none : Refu
     running-by : (actor : ActorData) → There b q actor → (h : Hand) → actor.hand ≡ Some h
         → (form : Option Run) → h.running ≡ form → P (asked_running g b actor h ask q form)
     running-by actor there h in_hand None runs = none Refusal.Idle
-    running-by actor there h in_hand (Some form) runs = either P (is_allowed ask q) _ _
+    running-by actor there h in_hand (Some form) runs = either P (is_allowed ask q.cells) _ _
         (allowed-by actor there h in_hand form runs) (none Refusal.Idle)
 
     hand-by : (actor : ActorData) → There b q actor → (h : Option Hand) → actor.hand ≡ h

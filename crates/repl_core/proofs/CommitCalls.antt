@@ -342,6 +342,10 @@ asked-newest name seat (exchange.new_atom d) answer s told = refl
 asked-newest name seat (exchange.read_atom n) answer s told = refl
 asked-newest name seat (exchange.set_atom n d) answer s told = refl
 asked-newest name seat (exchange.try_atom n seen next) answer s told = refl
+asked-newest name seat (exchange.new_agent d) answer s told = refl
+asked-newest name seat (exchange.read_agent n) answer s told = refl
+asked-newest name seat (exchange.agent_fault n) answer s told = refl
+asked-newest name seat (exchange.restart_agent n d) answer s told = refl
 
 -- What is given to a ref that has no value
 

@@ -87,7 +87,7 @@ module _ (P : Plan → Type 0) (g : Ground) (a : Actor) (ask : AskData) (q : Qui
       → P (asked_running g a actor h ask q form)
   running-by actor h None = none Refusal.Idle
   running-by actor h (Some form) =
-      elim (is_allowed ask q)
+      elim (is_allowed ask q.cells)
       as (λ b. P (if b then asked_allowed g a actor h form ask q
       else quietly (refuses Refusal.Idle))) [
         | true ↦ allowed-by actor h form

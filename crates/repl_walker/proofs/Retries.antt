@@ -24,7 +24,8 @@ use Rattle.repl_asks.specs.Exchange.{AskData, AnswerData, read, ReadingData, fou
 use Rattle.repl_asks.specs.Exchange.{reading_in, ResolutionData, names_value, names_function}
 use Rattle.repl_asks.specs.Exchange.{names_nothing, BindingData, NamedFunctionData, core_function}
 use Rattle.repl_asks.specs.Exchange.{store_function, program_function, resolution_in, value_in}
-use Rattle.repl_asks.specs.Exchange.{read_atom, try_atom}
+use Rattle.repl_asks.specs.Exchange.{read_atom, try_atom, PermissionData, granted, denied}
+use Rattle.repl_asks.specs.Exchange.{permission_in}
 use Rattle.special_forms.specs.Rows.{BoundForm, in_a_row}
 use Rattle.special_forms.specs.Names.{special_named, special_name}
 use Rattle.special_forms.specs.Truth.{is_truthy, decides, before}
@@ -35,6 +36,7 @@ use Rattle.special_forms.specs.declared.shapes.Logic.{Logic}
 use Rattle.special_forms.specs.declared.special.SpecialForm.{SpecialForm}
 use Rattle.tx_attempt.specs.Accesses.{AttemptData, commuted, attempt_value, is_commuted}
 use Rattle.store_calls.specs.Calling.{CallData, refused, reads, puts, ensures, asks_value}
+use Rattle.store_calls.specs.Calling.{asks_permission}
 use Rattle.store_calls.specs.Calling.{altered_in}
 use Rattle.store_calls.specs.Arguments.{atom_in}
 use Rattle.store_calls.specs.declared.altering.Alteration.{Alteration}
@@ -47,6 +49,7 @@ use Rattle.evaluation_rules.specs.Naming.{known_or_asked, known_resolution, reso
 use Rattle.evaluation_rules.specs.Naming.{as_function, function_value}
 use Rattle.evaluation_rules.specs.Refs.{read_value, known_or_read, ref_value, put_by, put_value}
 use Rattle.evaluation_rules.specs.Refs.{held_value, ensure_noted, ensured_value, called_value}
+use Rattle.evaluation_rules.specs.Refs.{permitted_value, granted_value}
 use Rattle.evaluation_rules.specs.Refs.{store_call, altered_value, asked_value, call_data_at}
 use Rattle.evaluation_rules.specs.SharedText.{is_shared_text, outside_shared_text}
 use Rattle.evaluation_rules.specs.SharedText.{refused_definition}
@@ -255,12 +258,26 @@ asked-passes ask apart = record {
       (not-read ask apart answer (next (value_in answer) kept), on (value_in answer) kept runs);
 }
 
+permits : (d : Datum) (p : PermissionData) → Passes Datum (permitted_value d p)
+permits d granted = record { leaves = λ next kept runs on. on d kept runs }
+permits d (denied f) = record { leaves = λ next kept runs on. tt }
+
+granted-passes : (ask : AskData) (d : Datum) → IsNoRead ask → Passes Datum (granted_value ask d)
+granted-passes ask d apart = record {
+  leaves = λ next kept runs on answer.
+      let p = permission_in answer in (
+        not-read ask apart answer (permitted_value d p next kept),
+        (permits d p).leaves next kept runs on,
+      );
+}
+
 called-passes : (call : CallData) → AsksNoRead call → Passes Datum (called_value call)
 called-passes (refused f) apart = record { leaves = λ next kept runs on. tt }
 called-passes (reads name) apart = refs name
 called-passes (puts name d) apart = put-passes name d
 called-passes (ensures name) apart = ensured-passes name
 called-passes (asks_value ask) apart = asked-passes ask apart
+called-passes (asks_permission ask d) apart = granted-passes ask d apart
 
 store-passes : (f : StoreFunction) (args : List Datum) → Passes Datum (store_call f args)
 unfolding store_call

@@ -2,7 +2,7 @@
 use Rattle.std.proofs.Common.{ℕ, List, [], ◌∷◌, Bool, true, false, Some, Result, Ok, Err}
 use Rattle.std.proofs.Common.{if◌then◌else◌, length}
 use Rattle.std.specs.Prelude.{⊤, not, ◌||◌}
-use Rattle.value_data.specs.Datum.{Datum, atom}
+use Rattle.value_data.specs.Datum.{Datum, atom, agent}
 use Rattle.value_data.specs.Measures.{is_plain}
 use Rattle.repl_faults.specs.Failure.{Failure, ◌>>=◌, wrong_arity}
 use Rattle.repl_faults.specs.declared.rule.Rule.{Rule}
@@ -11,9 +11,9 @@ use Rattle.function_names.specs.declared.store.StoreFunction.{StoreFunction}
 use Rattle.repl_asks.specs.Transactions.{RefNameData, may_hold}
 use Rattle.repl_asks.specs.Exchange.{AskData, read, min_history, max_history}
 use Rattle.store_calls.specs.declared.altering.Alteration.{Alteration}
-use Rattle.store_calls.specs.Arguments.{ref_in, atom_in, count_in, is_shared, kept_to}
+use Rattle.store_calls.specs.Arguments.{ref_in, atom_in, agent_in, count_in, is_shared, kept_to}
 use Rattle.store_calls.specs.Arguments.{usual_bounds, bounds_in}
-use Rattle.store_calls.specs.Calling.{CallData, refused, reads, asks_value}
+use Rattle.store_calls.specs.Calling.{CallData, refused, reads, asks_value, asks_permission}
 use Rattle.store_calls.specs.Calling.{altering, deref_call, call_with, called_for, call_data_of}
 use Rattle.store_calls.specs.Calling.{shared_call_with, shared_call_data_of}
 use Rattle.evaluation_rules.specs.Refs.{call_data_at}
@@ -25,6 +25,7 @@ IsNoRead ask = ⊤
 
 abbrev pub AsksNoRead : CallData → Type 0
 AsksNoRead (asks_value ask) = IsNoRead ask
+AsksNoRead (asks_permission ask d) = IsNoRead ask
 AsksNoRead call = ⊤
 
 abbrev GivesNoRead : Result CallData Failure → Type 0
@@ -48,6 +49,7 @@ no-read-bound f d e behind gives =
 
 no-read-deref : (d : Datum) → GivesNoRead (deref_call d)
 no-read-deref (atom n) = tt
+no-read-deref (agent n) = tt
 no-read-deref d = gives-then (ref_in StoreFunction.Deref d) (λ name. Ok (reads name)) (λ name. tt)
 
 no-read : (f : StoreFunction) (running : Bool) (ds : List Datum)
@@ -87,6 +89,11 @@ no-read StoreFunction.Reset running (d ∷ e ∷ []) =
     gives-then (atom_in StoreFunction.Reset d) _ (λ n. tt)
 no-read StoreFunction.CompareAndSet running (d ∷ seen ∷ next ∷ []) =
     gives-then (atom_in StoreFunction.CompareAndSet d) _ (λ n. tt)
+no-read StoreFunction.Agent running (d ∷ []) = tt
+no-read StoreFunction.AgentError running (d ∷ []) =
+    gives-then (agent_in StoreFunction.AgentError d) _ (λ n. tt)
+no-read StoreFunction.RestartAgent running (d ∷ e ∷ []) =
+    gives-then (agent_in StoreFunction.RestartAgent d) _ (λ n. tt)
 no-read f running ds = tt
 
 called : (r : Result CallData Failure) → GivesNoRead r → AsksNoRead (called_for r)

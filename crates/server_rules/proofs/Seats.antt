@@ -235,7 +235,7 @@ running-seated
     (run : Option Run) → IsSeated q → SeatedPlan (asked_running g a actor hand ask q run)
 running-seated g a actor hand ask q None h = λ told. tt
 running-seated g a actor hand ask q (Some run) h =
-    either_plan (is_allowed ask q) (asked_allowed g a actor hand run ask q)
+    either_plan (is_allowed ask q.cells) (asked_allowed g a actor hand run ask q)
     (quietly (refuses Refusal.Idle)) (allowed-seated g a actor hand run ask q h) (λ told. tt)
 
 asked_of-seated

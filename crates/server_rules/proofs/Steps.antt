@@ -95,6 +95,10 @@ call-private seat (exchange.new_atom d) h = tt
 call-private seat (exchange.read_atom n) h = tt
 call-private seat (exchange.set_atom n d) h = tt
 call-private seat (exchange.try_atom n seen next) h = tt
+call-private seat (exchange.new_agent d) h = tt
+call-private seat (exchange.read_agent n) h = tt
+call-private seat (exchange.agent_fault n) h = tt
+call-private seat (exchange.restart_agent n d) h = tt
 
 allowed-private
     : (g : Ground) (a : Actor) (actor : ActorData) (h : Hand) (run : Run) (ask : AskData)
@@ -117,7 +121,7 @@ running-private
     (run : Option Run) → IsPrivate ask → IsPrivateCall (asked_running g a actor h ask q run).call
 running-private g a actor h ask q None private = tt
 running-private g a actor h ask q (Some run) private =
-    elim (is_allowed ask q)
+    elim (is_allowed ask q.cells)
     as (λ b. IsPrivateCall
     (if b then asked_allowed g a actor h run ask q else quietly (refuses Refusal.Idle)).call) [
       | true ↦ allowed-private g a actor h run ask q private

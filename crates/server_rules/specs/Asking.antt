@@ -1,7 +1,6 @@
 -- Asking: the ask of a form that runs is answered, and the pair recorded.
 use Rattle.std.specs.Prelude.{ℕ, List, [], ◌∷◌, ◌++◌, Bool, true, not, Option, None, Some, ◌&&◌}
-use Rattle.std.specs.Prelude.{◌^◌, nat_lt, if◌then◌else◌, is_some, length, unwrap_or}
-use Rattle.value_data.specs.Datum as datum
+use Rattle.std.specs.Prelude.{◌^◌, nat_lt, if◌then◌else◌}
 use Rattle.value_data.specs.Datum.{Datum}
 use Rattle.repl_asks.specs.Namespaces.{is_fixed}
 use Rattle.repl_asks.specs.Exchange as exchange
@@ -11,10 +10,9 @@ use Rattle.name_spaces.specs.Namespaces.{Namespaces, with_entered_namespace, wit
 use Rattle.name_spaces.specs.Resolving as names
 use Rattle.name_spaces.specs.Resolving.{FoundData, found_resolution, found_latest}
 use Rattle.name_spaces.specs.declared.latest.Latest.{Latest}
-use Rattle.private_cells.specs.Atoms.{AtomsData, atom_value, with_atom, with_atom_value}
-use Rattle.private_cells.specs.Atoms.{is_unchanged, with_try}
 use Rattle.server_rules.specs.Calls.{Call, nothing, makes, begins, reads, counts, tells_least}
 use Rattle.server_rules.specs.Calls.{tells_most, sets_least, sets_most, commits, gives_up}
+use Rattle.server_rules.specs.Cells.{CellsData, has_named, cell_answer, cells_after}
 use Rattle.server_rules.specs.Ground.{Ground}
 use Rattle.server_rules.specs.Request.{Hand, Run}
 use Rattle.server_rules.specs.Tenant.{ActorData, seat_of, Quiet, with_actor, actor_state}
@@ -45,21 +43,15 @@ abbrev pub may_be_set : Option ℕ → Bool
 may_be_set None = true
 may_be_set (Some n) = is_bound n
 
-abbrev pub has_atom : ℕ → Quiet → Bool
-has_atom n q = is_some (atom_value n q.atoms)
-
 -- nothing is defined in a namespace that is fixed, and nobody enters it; a tenant asks of its own
--- atoms alone
-abbrev pub is_allowed : AskData → Quiet → Bool
-is_allowed (exchange.define namespace name binding) q = not (is_fixed namespace)
-is_allowed (exchange.enter name) q = not (is_fixed name)
-is_allowed (exchange.new_ref d least most) q = is_bound least && is_bound most
-is_allowed (exchange.min_history name set) q = may_be_set set
-is_allowed (exchange.max_history name set) q = may_be_set set
-is_allowed (exchange.read_atom n) q = has_atom n q
-is_allowed (exchange.set_atom n d) q = has_atom n q
-is_allowed (exchange.try_atom n seen next) q = has_atom n q
-is_allowed _ q = true
+-- atoms and agents alone
+abbrev pub is_allowed : AskData → CellsData → Bool
+is_allowed (exchange.define namespace name binding) cells = not (is_fixed namespace)
+is_allowed (exchange.enter name) cells = not (is_fixed name)
+is_allowed (exchange.new_ref d least most) cells = is_bound least && is_bound most
+is_allowed (exchange.min_history name set) cells = may_be_set set
+is_allowed (exchange.max_history name set) cells = may_be_set set
+is_allowed ask cells = has_named ask cells
 
 abbrev pub latest_of : Latest → StateData → Datum
 latest_of Latest.One state = state.one
@@ -75,23 +67,12 @@ abbrev pub symbol_resolution : Ground → Actor → Quiet → List ℕ → List 
 symbol_resolution g a q namespace symbol =
     resolution_of (actor_state a q) (names.resolved g.shared.names q.spaces namespace symbol)
 
--- of an atom that is there
-abbrev pub value_of_atom : ℕ → Quiet → Datum
-value_of_atom n q = unwrap_or (atom_value n q.atoms) datum.nil
-
--- The answer is what the refs told, but for symbols and atoms; to a definition and to an entered
--- namespace they told `done`. A new atom's number is how many there were; a set is answered by what
--- the atom then has, and a try by whether the atom had what was seen of it.
+-- The answer is what the refs told, but for symbols, atoms and agents; to a definition and to an
+-- entered namespace they told `done`.
 abbrev pub answer_to : Ground → Actor → Quiet → AskData → AnswerData → AnswerData
 answer_to g a q (exchange.resolve namespace symbol) told =
     exchange.resolution (symbol_resolution g a q namespace symbol)
-answer_to g a q (exchange.new_atom d) told =
-    exchange.value (datum.atom (length q.atoms.values))
-answer_to g a q (exchange.read_atom n) told = exchange.value (value_of_atom n q)
-answer_to g a q (exchange.set_atom n d) told = exchange.value d
-answer_to g a q (exchange.try_atom n seen next) told =
-    exchange.value (datum.boolean (is_unchanged n seen q.atoms))
-answer_to g a q _ told = told
+answer_to g a q ask told = cell_answer ask q.cells told
 
 abbrev pub spaces_after : AskData → Namespaces → Namespaces
 spaces_after (exchange.define namespace name binding) spaces =
@@ -99,16 +80,10 @@ spaces_after (exchange.define namespace name binding) spaces =
 spaces_after (exchange.enter name) spaces = with_entered_namespace spaces name
 spaces_after _ spaces = spaces
 
-abbrev pub atoms_after : AskData → AtomsData → AtomsData
-atoms_after (exchange.new_atom d) atoms = with_atom d atoms
-atoms_after (exchange.set_atom n d) atoms = with_atom_value n d atoms
-atoms_after (exchange.try_atom n seen next) atoms = with_try n seen next atoms
-atoms_after _ atoms = atoms
-
 -- what an ask makes of the tenant, beside its refs
 abbrev pub quiet_after : AskData → Quiet → Quiet
 quiet_after ask q =
-    record q { spaces = spaces_after ask q.spaces; atoms = atoms_after ask q.atoms }
+    record q { spaces = spaces_after ask q.spaces; cells = cells_after ask q.cells }
 
 abbrev pub with_recorded_answer : Actor → ActorData → Hand → Run → AskData → AnswerData → Quiet
     → Quiet
@@ -141,7 +116,7 @@ asked_allowed g a actor h run ask q =
 abbrev pub asked_running : Ground → Actor → ActorData → Hand → AskData → Quiet → Option Run → Plan
 asked_running g a actor h ask q None = quietly (refuses Refusal.Idle)
 asked_running g a actor h ask q (Some run) =
-    if is_allowed ask q then asked_allowed g a actor h run ask q else quietly (refuses Refusal.Idle)
+    if is_allowed ask q.cells then asked_allowed g a actor h run ask q else quietly (refuses Refusal.Idle)
 
 abbrev pub asked_of : Ground → Actor → ActorData → AskData → Quiet → Option Hand → Plan
 asked_of g a actor ask q None = quietly (refuses Refusal.Idle)

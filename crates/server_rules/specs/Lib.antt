@@ -7,6 +7,7 @@ pub mod Calls
 pub mod Readings
 pub mod Comparisons
 pub mod Shared
+pub mod Cells
 pub mod Ground
 pub mod Request
 pub mod Tenant

@@ -5,9 +5,9 @@ use Rattle.repl_sessions.specs.State.{StateData, fresh}
 use Rattle.repl_sessions.specs.Sessions as sessions
 use Rattle.repl_sessions.specs.Sessions.{SessionsData, none_open, with_change}
 use Rattle.name_spaces.specs.Namespaces.{Namespaces, at_start}
-use Rattle.private_cells.specs.Atoms.{AtomsData, no_atoms}
 use Rattle.repl_replies.specs.Replies.{ReplyData}
 use Rattle.server_rules.specs.Numbered.{Entry, entry, with_part}
+use Rattle.server_rules.specs.Cells.{CellsData, no_cells}
 use Rattle.server_rules.specs.Request.{Waiting, Hand}
 use Rattle.server_rules.specs.Ground.{Ground}
 use Rattle.server_rules.specs.declared.actor.Actor.{Actor}
@@ -42,8 +42,8 @@ pub record Quiet : Type 0 where
   -- what a request without a session remembers
   pub bare : StateData
   pub spaces : Namespaces
-  -- the atoms that its programs made; no other tenant has them
-  pub atoms : AtomsData
+  -- its atoms and agents
+  pub cells : CellsData
   -- by their seats: first the one without a session, then those of sessions in order of creation
   pub actors : List (Entry ActorData)
   -- the replies that wait, oldest first
@@ -56,7 +56,7 @@ opened_quiet g = record {
   sessions = none_open;
   bare = fresh;
   spaces = at_start;
-  atoms = no_atoms;
+  cells = no_cells;
   actors = entry (seat_of Actor.Bare) unoccupied ∷ [];
   replies = [];
 }

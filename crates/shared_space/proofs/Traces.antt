@@ -75,6 +75,10 @@ told-fits (exchange.new_atom d) s answer is = absurd (cc)
 told-fits (exchange.read_atom n) s answer is = absurd (cc)
 told-fits (exchange.set_atom n d) s answer is = absurd (cc)
 told-fits (exchange.try_atom n seen next) s answer is = absurd (cc)
+told-fits (exchange.new_agent d) s answer is = absurd (cc)
+told-fits (exchange.read_agent n) s answer is = absurd (cc)
+told-fits (exchange.agent_fault n) s answer is = absurd (cc)
+told-fits (exchange.restart_agent n d) s answer is = absurd (cc)
 
 view-added : (xs : List Exchange) (x : Exchange)
     → trace_view (xs ++ x ∷ []) ≡ trace_view xs ++ exchange_view x ∷ []

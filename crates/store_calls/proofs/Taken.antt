@@ -11,7 +11,8 @@ use Rattle.function_names.specs.StoreNames.{store_fits}
 use Rattle.function_names.specs.declared.store.StoreFunction.{StoreFunction}
 use Rattle.store_calls.specs.Calling.{call_with, ref_call, deref_call, ref_set_call, ensure_call}
 use Rattle.store_calls.specs.Calling.{history_count_call, alter_by_value, atom_call, swap_by_value}
-use Rattle.store_calls.specs.Calling.{reset_call, compare_and_set_call, shared_call_with}
+use Rattle.store_calls.specs.Calling.{reset_call, compare_and_set_call, agent_call}
+use Rattle.store_calls.specs.Calling.{agent_error_call, restart_agent_call, shared_call_with}
 use Rattle.store_calls.specs.Calling.{plain_ref_call}
 use Rattle.store_calls.specs.Inside.Parts.{bound_call}
 use Rattle.store_calls.specs.declared.altering.Alteration.{Alteration}
@@ -132,6 +133,32 @@ compare-called running (u ∷ v ∷ w ∷ []) ys zs x y z fits is left seen rest
     let last : z ≡ w = is in cc
 compare-called running (u ∷ v ∷ w ∷ t ∷ xs) ys zs x y z fits is left seen rest first = absurd (grind (arith, nat_tests))
 
+pub agent-called : (running : Bool) (xs : List Value) (x : Value)
+    → store_fits StoreFunction.Agent (length xs) ≡ true → x ≡ get_or xs 0 x
+    → call_with StoreFunction.Agent running (views xs) ≡ agent_call (view x)
+agent-called running [] x fits is = absurd (grind (arith, nat_tests))
+agent-called running (y ∷ []) x fits is = let same : x ≡ y = is in cc
+agent-called running (y ∷ z ∷ xs) x fits is = absurd (grind (arith, nat_tests))
+
+pub error-called : (running : Bool) (xs : List Value) (x : Value)
+    → store_fits StoreFunction.AgentError (length xs) ≡ true → x ≡ get_or xs 0 x
+    → call_with StoreFunction.AgentError running (views xs) ≡ agent_error_call (view x)
+error-called running [] x fits is = absurd (grind (arith, nat_tests))
+error-called running (y ∷ []) x fits is = let same : x ≡ y = is in cc
+error-called running (y ∷ z ∷ xs) x fits is = absurd (grind (arith, nat_tests))
+
+pub restart-called : (running : Bool) (xs ys : List Value) (x y : Value)
+    → store_fits StoreFunction.RestartAgent (length xs) ≡ true → y ≡ get_or xs 1 y
+    → ys ≡ take 1 xs ++ drop 2 xs → x ≡ get_or ys 0 x
+    → call_with StoreFunction.RestartAgent running (views xs) ≡ restart_agent_call (view x) (view y)
+restart-called running [] ys x y fits is left first = absurd (grind (arith, nat_tests))
+restart-called running (u ∷ []) ys x y fits is left first = absurd (grind (arith, nat_tests))
+restart-called running (u ∷ v ∷ []) ys x y fits is left first =
+    let one : ys ≡ u ∷ [] = left in
+    let same : x ≡ u = rw one at first in
+    let other : y ≡ v = is in cc
+restart-called running (u ∷ v ∷ w ∷ xs) ys x y fits is left first = absurd (grind (arith, nat_tests))
+
 -- the calls of all functions
 pub ruleset calls = (
   ref-called,
@@ -147,6 +174,9 @@ pub ruleset calls = (
   swap-called,
   reset-called,
   compare-called,
+  agent-called,
+  error-called,
+  restart-called,
 )
 
 -- In the text of the shared namespace

@@ -3,6 +3,7 @@ use Rattle.std.specs.Prelude.{ℕ, ℤ, pos, negsuc, List, [], ◌∷◌, Bool, 
 use Rattle.std.specs.Prelude.{None, ok_or, Result, Ok, Err, if◌then◌else◌, codes}
 use Rattle.std.specs.Str.{bytes_eq}
 use Rattle.value_data.specs.Datum.{Datum, OwnerData, shared, tenant, integer, keyword, ref, atom}
+use Rattle.value_data.specs.Datum.{agent}
 use Rattle.repl_faults.specs.Failure.{Failure, ◌>>=◌, wrong_argument, broken_rule}
 use Rattle.repl_faults.specs.declared.rule.Rule.{Rule}
 use Rattle.function_names.specs.StoreNames.{store_name_of}
@@ -22,6 +23,11 @@ abbrev pub as_atom : Datum → Option ℕ
 as_atom (atom n) = Some n
 as_atom d = None
 
+-- the number of an agent
+abbrev pub as_agent : Datum → Option ℕ
+as_agent (agent n) = Some n
+as_agent d = None
+
 abbrev pub from_zero : ℤ → Option ℕ
 from_zero (pos n) = Some n
 from_zero (negsuc n) = None
@@ -36,6 +42,9 @@ ref_in f d = ok_or (as_ref d) (wrong_argument (store_name_of f) d)
 
 abbrev pub atom_in : StoreFunction → Datum → Result ℕ Failure
 atom_in f d = ok_or (as_atom d) (wrong_argument (store_name_of f) d)
+
+abbrev pub agent_in : StoreFunction → Datum → Result ℕ Failure
+agent_in f d = ok_or (as_agent d) (wrong_argument (store_name_of f) d)
 
 abbrev pub count_in : StoreFunction → Datum → Result ℕ Failure
 count_in f d = ok_or (as_count d) (wrong_argument (store_name_of f) d)

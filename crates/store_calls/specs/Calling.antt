@@ -1,10 +1,11 @@
 -- What a call of a function that asks the store comes to, before anybody is asked (the Clojure
--- reference, Refs and Transactions, and Atoms). The number of arguments is looked at first, then
--- the kinds of all of them, from the left; then whether a transaction runs; then what is forbidden
--- for a ref that all tenants share. Of atoms a call asks the same within transactions and outside.
+-- reference, Refs and Transactions, Atoms, and Agents). The number of arguments is looked at first,
+-- then the kinds of all of them, from the left; then whether a transaction runs; then what is
+-- forbidden for a ref that all tenants share. Of atoms and agents a call asks the same within
+-- transactions and outside.
 use Rattle.std.specs.Prelude.{List, [], ◌∷◌, Bool, ◌||◌, not, Some, None, Result, Ok, Err}
 use Rattle.std.specs.Prelude.{if◌then◌else◌, length}
-use Rattle.value_data.specs.Datum.{Datum, atom}
+use Rattle.value_data.specs.Datum.{Datum, atom, agent}
 use Rattle.value_data.specs.Measures.{is_plain}
 use Rattle.repl_faults.specs.Failure.{Failure, ◌>>=◌, wrong_argument, wrong_arity, broken_rule}
 use Rattle.repl_faults.specs.declared.rule.Rule.{Rule}
@@ -12,11 +13,11 @@ use Rattle.function_names.specs.StoreNames.{store_name_of, store_fits}
 use Rattle.function_names.specs.declared.store.StoreFunction.{StoreFunction}
 use Rattle.repl_asks.specs.Transactions.{RefNameData, may_hold}
 use Rattle.repl_asks.specs.Exchange.{AskData, new_ref, history, new_atom, read_atom, set_atom}
-use Rattle.repl_asks.specs.Exchange.{try_atom}
+use Rattle.repl_asks.specs.Exchange.{try_atom, new_agent, read_agent, agent_fault, restart_agent}
 use Rattle.store_calls.specs.declared.altering.Alteration.{Alteration}
 use Rattle.store_calls.specs.declared.bounds.HistoryBound.{HistoryBound}
 use Rattle.store_calls.specs.declared.updating.Update.{Update}
-use Rattle.store_calls.specs.Arguments.{ref_in, atom_in, count_in, is_shared, kept_to}
+use Rattle.store_calls.specs.Arguments.{ref_in, atom_in, agent_in, count_in, is_shared, kept_to}
 use Rattle.store_calls.specs.Arguments.{usual_bounds, bounds_in, function_of, ask_for}
 
 pub data CallData : Type 0 where
@@ -29,6 +30,8 @@ pub data CallData : Type 0 where
   ensures : RefNameData → CallData
   -- the answer to an ask is the value
   asks_value : AskData → CallData
+  -- this is the value, if what is asked is granted
+  asks_permission : AskData → Datum → CallData
 
 -- Calls
 
@@ -38,9 +41,10 @@ ref_call [] = Err (wrong_arity (store_name_of StoreFunction.Ref) 0)
 ref_call (d ∷ ds) =
     bounds_in usual_bounds ds >>= λ bounds. Ok (asks_value (new_ref d bounds.least bounds.most))
 
--- `(deref ref)`, `(deref atom)`
+-- `(deref ref)`, `(deref atom)`, `(deref agent)`
 abbrev pub deref_call : Datum → Result CallData Failure
 deref_call (atom n) = Ok (asks_value (read_atom n))
+deref_call (agent n) = Ok (asks_value (read_agent n))
 deref_call d = ref_in StoreFunction.Deref d >>= λ name. Ok (reads name)
 
 -- `(ref-set ref value)`
@@ -108,6 +112,19 @@ abbrev pub swap_by_value : Datum → Datum → Result CallData Failure
 swap_by_value d e = atom_in StoreFunction.Swap d
     >>= λ _. Err (wrong_argument (store_name_of StoreFunction.Swap) e)
 
+-- `(agent state)`
+abbrev pub agent_call : Datum → Result CallData Failure
+agent_call d = Ok (asks_value (new_agent d))
+
+-- `(agent-error agent)`
+abbrev pub agent_error_call : Datum → Result CallData Failure
+agent_error_call d = agent_in StoreFunction.AgentError d >>= λ n. Ok (asks_value (agent_fault n))
+
+-- `(restart-agent agent state)`
+abbrev pub restart_agent_call : Datum → Datum → Result CallData Failure
+restart_agent_call d e =
+    agent_in StoreFunction.RestartAgent d >>= λ n. Ok (asks_permission (restart_agent n e) e)
+
 -- the function that updates so
 abbrev pub updating : Update → StoreFunction
 updating (Update.Ref by) = altering by
@@ -130,6 +147,9 @@ call_with StoreFunction.Swap running (d ∷ e ∷ ds) = swap_by_value d e
 call_with StoreFunction.Reset running (d ∷ e ∷ []) = reset_call d e
 call_with StoreFunction.CompareAndSet running (d ∷ seen ∷ next ∷ []) =
     compare_and_set_call d seen next
+call_with StoreFunction.Agent running (d ∷ []) = agent_call d
+call_with StoreFunction.AgentError running (d ∷ []) = agent_error_call d
+call_with StoreFunction.RestartAgent running (d ∷ e ∷ []) = restart_agent_call d e
 call_with f running ds = Err (wrong_arity (store_name_of f) (length ds))
 
 abbrev pub called_for : Result CallData Failure → CallData

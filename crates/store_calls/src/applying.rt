@@ -1,13 +1,19 @@
 // Calls, by the functions that are called.
-ghost use Rattle.std.specs.Prelude.{◌≡◌, ◌∷◌, true, option_map, vec_len, IfOk};
+ghost use Rattle.std.specs.Prelude.{◌≡◌, ◌∷◌, true, not, option_map, vec_len, IfOk, Ok, Some};
 ghost use Rattle.value_data.specs.Inside.View.{view};
 ghost use Rattle.special_forms.specs.Inside.Seen.{views};
 ghost use Rattle.function_names.specs.StoreNames.{store_fits};
+ghost use Rattle.repl_asks.specs.Inside.View.{name_view};
+ghost use Rattle.repl_faults.specs.Failure.{◌>>=◌};
 ghost use Rattle.repl_faults.specs.Inside.View.{Gives};
+ghost use Rattle.repl_faults.specs.declared.rule.Rule.{Rule};
+ghost use Rattle.store_calls.specs.Arguments.{ask_for, is_shared, kept_to};
 ghost use Rattle.store_calls.specs.Calling as meant;
+ghost use Rattle.store_calls.specs.Calling.{asks_value};
 ghost use Rattle.store_calls.specs.Inside.Parts.{bound_call};
 ghost use Rattle.store_calls.specs.Inside.View.{call_view};
 
+use crate::agents::{agent_call, agent_error_call, restart_agent_call};
 use crate::altering::Alteration;
 use crate::arguments::{atom_of, count_of, ref_of};
 use crate::bounds::{HistoryBound, bounds_in};
@@ -16,7 +22,7 @@ use crate::rules::{is_shared, keep_to, may_hold};
 use function_names::StoreFunction;
 use repl_asks::Ask;
 use repl_faults::{ApplyError, Rule, wrong_argument, wrong_arity};
-use repl_values::Value;
+use repl_values::{RefName, Value};
 use std::alloc::{AllocError, Global};
 
 /// What a call of the function with these values comes to, while a transaction runs or none does.
@@ -83,6 +89,9 @@ fn call_with(
         StoreFunction::CompareAndSet => {
             compare_and_set_call(alloc, values.remove(2), values.remove(1), &values[0])
         }
+        StoreFunction::Agent => agent_call(values.remove(0)),
+        StoreFunction::AgentError => agent_error_call(alloc, &values[0]),
+        StoreFunction::RestartAgent => restart_agent_call(alloc, values.remove(1), &values[0]),
     }
 }
 
@@ -98,13 +107,14 @@ pub(crate) fn ref_call(alloc: Global, value: Value, options: &[Value]) -> Result
     }))
 }
 
-// `(deref ref)` or `(deref atom)`
+// `(deref ref)`, `(deref atom)` or `(deref agent)`
 #[tactic(auto, using(value_data::proofs::Views::value_views))]
 pub(crate) fn deref_call(alloc: Global, target: &Value) -> Result<Call, ApplyError>
     ensures { Gives call_view result (meant.deref_call (view target.now)) }
 {
     match target {
         Value::Atom(number) => Ok(Call::AsksValue(Ask::ReadAtom(*number))),
+        Value::Agent(number) => Ok(Call::AsksValue(Ask::ReadAgent(*number))),
         other => {
             let name = ref_of(alloc, StoreFunction::Deref, other)?;
             Ok(Call::Reads(name))
@@ -202,6 +212,20 @@ fn set_bound_call(
     let function = bound.function();
     let name = ref_of(alloc, function, target)?;
     let count = count_of(alloc, function, count)?;
+    set_bound_of(alloc, bound, name, count)
+}
+
+// The bounds of a shared ref stay as they are.
+fn set_bound_of(
+    alloc: Global,
+    bound: HistoryBound,
+    name: RefName,
+    count: u64,
+) -> Result<Call, ApplyError>
+    ensures { Gives call_view result
+        (kept_to Rule.SharedBoundsStay (not (is_shared (name_view name).owner))
+        >>= λ _. Ok (asks_value (ask_for bound (name_view name) (Some count)))) }
+{
     keep_to(alloc, Rule::SharedBoundsStay, !is_shared(name))?;
     Ok(Call::AsksValue(bound.ask(name, Some(count))))
 }

@@ -39,6 +39,20 @@ pub(crate) fn atom_of(
     }
 }
 
+// The number of an agent.
+pub(crate) fn agent_of(
+    alloc: Global,
+    function: StoreFunction,
+    argument: &Value,
+) -> Result<u64, ApplyError>
+    ensures { Gives (λ n. n) result (meant.agent_in function (view argument.now)) }
+{
+    match argument {
+        Value::Agent(number) => Ok(*number),
+        other => Err(ApplyError::Fault(wrong_argument(alloc, function.name(), other)?)),
+    }
+}
+
 // A whole number from 0.
 pub(crate) fn count_of(
     alloc: Global,

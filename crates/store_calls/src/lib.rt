@@ -5,6 +5,7 @@
 //! then what a shared ref forbids.
 #![tactic(auto)]
 
+mod agents;
 mod altering;
 mod applying;
 mod arguments;

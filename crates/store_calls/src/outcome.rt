@@ -14,6 +14,8 @@ pub enum Call {
     Ensures(RefName),
     /// The answer to this ask is the value.
     AsksValue(Ask),
+    /// This is the value, if what is asked is granted.
+    AsksPermission(Ask, Value),
 }
 
 /// What a call of `alter` or `commute` begins with.

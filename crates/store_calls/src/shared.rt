@@ -62,7 +62,10 @@ fn shared_call_with(
         | StoreFunction::Atom
         | StoreFunction::Swap
         | StoreFunction::Reset
-        | StoreFunction::CompareAndSet => {
+        | StoreFunction::CompareAndSet
+        | StoreFunction::Agent
+        | StoreFunction::AgentError
+        | StoreFunction::RestartAgent => {
             Err(ApplyError::Fault(broken_rule(alloc, Rule::SharedTextDefinesAlone)?))
         }
     }

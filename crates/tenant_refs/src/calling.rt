@@ -34,7 +34,8 @@ pub fn call(
 ) -> Result<Option<Thrice>, AllocError>
     requires { counter_of refs.old < u128.MAX }
     ensures called { (q : Quiet) (s : Store) (r : Refs)
-        → ServesWithAttempts refs.old attempts.old s r → is_allowed (ask_view ask.now) q ≡ true
+        → ServesWithAttempts refs.old attempts.old s r
+        → is_allowed (ask_view ask.now) q.cells ≡ true
         → IfOk result (λ it. PerformsCall refs.new attempts.new r (told_answer it)
         (performed s (call_of (seat_of actor) (ask_view ask.now)))) }
     ensures stays { (s : Store) (r : Refs) → ServesWithAttempts refs.old attempts.old s r
@@ -48,6 +49,8 @@ pub fn call(
         Ask::Resolve { .. } | Ask::Define { .. } | Ask::Enter(_) => Ok(Some(Thrice::done())),
         Ask::NewAtom(_) | Ask::ReadAtom(_) => Ok(Some(Thrice::done())),
         Ask::SetAtom { .. } | Ask::TryAtom { .. } => Ok(Some(Thrice::done())),
+        Ask::NewAgent(_) | Ask::ReadAgent(_) => Ok(Some(Thrice::done())),
+        Ask::AgentFault(_) | Ask::RestartAgent { .. } => Ok(Some(Thrice::done())),
         Ask::NewRef {
             value,
             min_history,

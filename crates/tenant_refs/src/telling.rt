@@ -32,6 +32,8 @@ pub fn is_told(
     match ask {
         Ask::Resolve { .. } | Ask::Define { .. } | Ask::Enter(_) | Ask::NewRef { .. } => true,
         Ask::NewAtom(_) | Ask::ReadAtom(_) | Ask::SetAtom { .. } | Ask::TryAtom { .. } => true,
+        Ask::NewAgent(_) | Ask::ReadAgent(_) => true,
+        Ask::AgentFault(_) | Ask::RestartAgent { .. } => true,
         Ask::Begin => attempts.point(actor).is_none(),
         Ask::Read(name) => is_there(refs, attempts, *name),
         Ask::History(name) => is_counted(refs, attempts, actor, *name),

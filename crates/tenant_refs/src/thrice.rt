@@ -1,14 +1,15 @@
 // An answer, three times.
 ghost use Rattle.std.specs.Prelude.{◌≡◌, ◌<◌, ◌^◌, IfOk};
-ghost use Rattle.value_data.specs.Datum.{ref, atom, boolean};
+ghost use Rattle.value_data.specs.Datum.{ref, atom, agent, boolean};
 ghost use Rattle.value_data.specs.Inside.View.{view, owner_view};
 ghost use Rattle.repl_asks.specs.Exchange.{done, value, reading, found, retry, verdict};
+ghost use Rattle.repl_asks.specs.Exchange.{permission, granted};
 ghost use Rattle.repl_faults.specs.Inside.View.{failure_of};
 ghost use Rattle.repl_asks.specs.Exchange.{committed, conflict, faulted};
 ghost use Rattle.repl_asks.specs.Inside.View.{answer_view};
 ghost use Rattle.server_rules.specs.Calls.{number_told};
 
-use repl_asks::{Answer, Reading, Verdict};
+use repl_asks::{Answer, Permission, Reading, Verdict};
 use repl_values::{Fault, RefName, Value, copy};
 use std::alloc::AllocError;
 
@@ -59,6 +60,30 @@ impl Thrice {
             kept: Answer::Value(Value::Atom(number)),
             given: Answer::Value(Value::Atom(number)),
             noted: Answer::Value(Value::Atom(number)),
+        }
+    }
+
+    /// It takes no memory.
+    pub fn of_agent(number: u64) -> Thrice
+        ensures view { thrice_view result ≡ value (agent number) }
+        ensures thrice { IsThrice result }
+    {
+        Thrice {
+            kept: Answer::Value(Value::Agent(number)),
+            given: Answer::Value(Value::Agent(number)),
+            noted: Answer::Value(Value::Agent(number)),
+        }
+    }
+
+    /// What is asked is granted. It takes no memory.
+    pub fn granted() -> Thrice
+        ensures view { thrice_view result ≡ permission granted }
+        ensures thrice { IsThrice result }
+    {
+        Thrice {
+            kept: Answer::Permission(Permission::Granted),
+            given: Answer::Permission(Permission::Granted),
+            noted: Answer::Permission(Permission::Granted),
         }
     }
 

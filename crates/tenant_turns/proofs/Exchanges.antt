@@ -34,11 +34,13 @@ use Rattle.function_names.specs.declared.function.CoreFunction.{CoreFunction}
 use Rattle.repl_asks.specs.Exchange.{BindingData, bound_value, bound_function, AskData, resolve}
 use Rattle.repl_asks.specs.Exchange.{define, enter, new_ref, begin, read, history, min_history}
 use Rattle.repl_asks.specs.Exchange.{max_history, commit, new_atom, read_atom, set_atom, try_atom}
+use Rattle.repl_asks.specs.Exchange.{new_agent, read_agent, agent_fault, restart_agent}
 use Rattle.repl_asks.specs.Exchange.{NamedFunctionData, core_function}
 use Rattle.repl_asks.specs.Exchange.{store_function, program_function, ResolutionData, names_value}
 use Rattle.repl_asks.specs.Exchange.{names_function, names_nothing, ReadingData, found, retry}
-use Rattle.repl_asks.specs.Exchange.{VerdictData, committed, conflict, faulted, AnswerData}
-use Rattle.repl_asks.specs.Exchange.{resolution, done, value, reading, verdict, Exchanged}
+use Rattle.repl_asks.specs.Exchange.{VerdictData, committed, conflict, faulted, PermissionData}
+use Rattle.repl_asks.specs.Exchange.{granted, denied, AnswerData, resolution, done, value, reading}
+use Rattle.repl_asks.specs.Exchange.{verdict, permission, Exchanged}
 use Rattle.repl_asks.specs.Transactions.{RefNameData, ChangeData, CommuteData, CommutedData}
 use Rattle.repl_asks.specs.Transactions.{IntentData}
 use Rattle.repl_jobs.specs.Job.{WorkData, form, shared_form, JobData}
@@ -207,13 +209,26 @@ atom_whole (inr (inl n)) = read_atom n
 atom_whole (inr (inr (inl p))) = set_atom p.0 p.1
 atom_whole (inr (inr (inr p))) = try_atom p.0 p.1.0 p.1.1
 
+-- the asks of agents
+abbrev AgentAskParts : Type 0
+AgentAskParts = Datum ⊎ (ℕ ⊎ (ℕ ⊎ (ℕ × Datum)))
+
+abbrev agent_whole : AgentAskParts → AskData
+agent_whole (inl d) = new_agent d
+agent_whole (inr (inl n)) = read_agent n
+agent_whole (inr (inr (inl n))) = agent_fault n
+agent_whole (inr (inr (inr p))) = restart_agent p.0 p.1
+
 abbrev AskParts : Type 0
 AskParts = (Text × Text) ⊎ ((Text × (Text × BindingData)) ⊎ (Text ⊎ ((Datum × (ℕ × ℕ))
     ⊎ (Unit {0} ⊎ (RefNameData ⊎ (RefNameData ⊎ ((RefNameData × Option ℕ)
-    ⊎ ((RefNameData × Option ℕ) ⊎ (IntentData ⊎ AtomAskParts)))))))))
+    ⊎ ((RefNameData × Option ℕ) ⊎ (IntentData ⊎ (AtomAskParts ⊎ AgentAskParts))))))))))
 
 abbrev of_atoms : AtomAskParts → AskParts
-of_atoms x = inr (inr (inr (inr (inr (inr (inr (inr (inr (inr x)))))))))
+of_atoms x = inr (inr (inr (inr (inr (inr (inr (inr (inr (inr (inl x))))))))))
+
+abbrev of_agents : AgentAskParts → AskParts
+of_agents x = inr (inr (inr (inr (inr (inr (inr (inr (inr (inr (inr x))))))))))
 
 abbrev ask_parts : AskData → AskParts
 ask_parts (resolve s t) = inl (s, t)
@@ -230,6 +245,10 @@ ask_parts (new_atom d) = of_atoms (inl d)
 ask_parts (read_atom n) = of_atoms (inr (inl n))
 ask_parts (set_atom n d) = of_atoms (inr (inr (inl (n, d))))
 ask_parts (try_atom n seen next) = of_atoms (inr (inr (inr (n, (seen, next)))))
+ask_parts (new_agent d) = of_agents (inl d)
+ask_parts (read_agent n) = of_agents (inr (inl n))
+ask_parts (agent_fault n) = of_agents (inr (inr (inl n)))
+ask_parts (restart_agent n d) = of_agents (inr (inr (inr (n, d))))
 
 abbrev ask_whole : AskParts → AskData
 ask_whole (inl p) = resolve p.0 p.1
@@ -242,7 +261,8 @@ ask_whole (inr (inr (inr (inr (inr (inr (inl x))))))) = history x
 ask_whole (inr (inr (inr (inr (inr (inr (inr (inl p)))))))) = min_history p.0 p.1
 ask_whole (inr (inr (inr (inr (inr (inr (inr (inr (inl p))))))))) = max_history p.0 p.1
 ask_whole (inr (inr (inr (inr (inr (inr (inr (inr (inr (inl x)))))))))) = commit x
-ask_whole (inr (inr (inr (inr (inr (inr (inr (inr (inr (inr x)))))))))) = atom_whole x
+ask_whole (inr (inr (inr (inr (inr (inr (inr (inr (inr (inr (inl x))))))))))) = atom_whole x
+ask_whole (inr (inr (inr (inr (inr (inr (inr (inr (inr (inr (inr x))))))))))) = agent_whole x
 
 ask_back : (x : AskData) → ask_whole (ask_parts x) ≡ x
 ask_back (resolve s t) = refl
@@ -259,15 +279,23 @@ ask_back (new_atom d) = refl
 ask_back (read_atom n) = refl
 ask_back (set_atom n d) = refl
 ask_back (try_atom n seen next) = refl
+ask_back (new_agent d) = refl
+ask_back (read_agent n) = refl
+ask_back (agent_fault n) = refl
+ask_back (restart_agent n d) = refl
 
 atom_ask : Tells AtomAskParts
 atom_ask = either datum (either number (either (pair number datum) (pair number (pair datum datum))))
+
+agent_ask : Tells AgentAskParts
+agent_ask = either datum (either number (either number (pair number datum)))
 
 ask : Tells AskData
 ask = by_parts AskParts
     (either (pair text text) (either (pair text (pair text binding)) (either text
     (either (pair datum (pair number number)) (either nothing (either ref_name (either ref_name
-    (either (pair ref_name bound) (either (pair ref_name bound) (either intent atom_ask))))))))))
+    (either (pair ref_name bound) (either (pair ref_name bound) (either intent
+    (either atom_ask agent_ask)))))))))))
     ask_parts ask_whole ask_back
 
 abbrev NamedParts : Type 0
@@ -359,22 +387,43 @@ said = by_parts VerdictParts
     (either nothing (either nothing failure))
     said_parts said_whole said_back
 
+abbrev PermissionParts : Type 0
+PermissionParts = Unit {0} ⊎ Failure
+
+abbrev permitted_parts : PermissionData → PermissionParts
+permitted_parts granted = inl tt
+permitted_parts (denied f) = inr f
+
+abbrev permitted_whole : PermissionParts → PermissionData
+permitted_whole (inl _) = granted
+permitted_whole (inr x) = denied x
+
+permitted_back : (x : PermissionData) → permitted_whole (permitted_parts x) ≡ x
+permitted_back granted = refl
+permitted_back (denied f) = refl
+
+permitted : Tells PermissionData
+permitted = by_parts PermissionParts (either nothing failure)
+    permitted_parts permitted_whole permitted_back
+
 abbrev AnswerParts : Type 0
-AnswerParts = ResolutionData ⊎ (Unit {0} ⊎ (Datum ⊎ (ReadingData ⊎ VerdictData)))
+AnswerParts = ResolutionData ⊎ (Unit {0} ⊎ (Datum ⊎ (ReadingData ⊎ (VerdictData ⊎ PermissionData))))
 
 abbrev answer_parts : AnswerData → AnswerParts
 answer_parts (resolution r) = inl r
 answer_parts done = inr (inl tt)
 answer_parts (value d) = inr (inr (inl d))
 answer_parts (reading r) = inr (inr (inr (inl r)))
-answer_parts (verdict v) = inr (inr (inr (inr v)))
+answer_parts (verdict v) = inr (inr (inr (inr (inl v))))
+answer_parts (permission p) = inr (inr (inr (inr (inr p))))
 
 abbrev answer_whole : AnswerParts → AnswerData
 answer_whole (inl x) = resolution x
 answer_whole (inr (inl _)) = done
 answer_whole (inr (inr (inl x))) = value x
 answer_whole (inr (inr (inr (inl x)))) = reading x
-answer_whole (inr (inr (inr (inr x)))) = verdict x
+answer_whole (inr (inr (inr (inr (inl x))))) = verdict x
+answer_whole (inr (inr (inr (inr (inr x))))) = permission x
 
 answer_back : (x : AnswerData) → answer_whole (answer_parts x) ≡ x
 answer_back (resolution r) = refl
@@ -382,10 +431,11 @@ answer_back done = refl
 answer_back (value d) = refl
 answer_back (reading r) = refl
 answer_back (verdict v) = refl
+answer_back (permission p) = refl
 
 answer : Tells AnswerData
 answer = by_parts AnswerParts
-    (either told (either nothing (either datum (either in_attempt said))))
+    (either told (either nothing (either datum (either in_attempt (either said permitted)))))
     answer_parts answer_whole answer_back
 
 pub exchange : Tells Exchanged

@@ -108,7 +108,7 @@ answered-after g q s a ask after ans run is runs =
         → (r : Option Run) → r ≡ Some run
         → (carried_out s (asked_running g a actor h ask q r)).outcome ≡ leaves after (ask_answered ans)
         → running_in a after ≡ Some (run_with (exchange_from ask ans) run)
-    of_run actor h there r some same = allowed actor h there (is_allowed ask q)
+    of_run actor h there r some same = allowed actor h there (is_allowed ask q.cells)
         (sym (ap (λ x. (carried_out s (asked_running g a actor h ask q x)).outcome) some) ∙ same)
 
     in_hand : (actor : ActorData) → part_under (seat_of a) q.actors ≡ Some actor → (h : Option Hand)

@@ -12,7 +12,7 @@ use Rattle.ref_history.specs.RingHistories.{RingStands}
 use Rattle.ref_table.specs.Refs.{Refs, refs_after}
 use Rattle.ref_table.specs.Standing as refs
 use Rattle.tenant_refs.specs.Attempts.{Reaches}
-use Rattle.tenant_world.specs.Asking.{is_of_names, is_of_atoms, Answers}
+use Rattle.tenant_world.specs.Asking.{is_of_names, is_of_cells, Answers}
 use Rattle.tenant_world.specs.Memories.{Remembers}
 use Rattle.tenant_refs.specs.Serving.{RingRefTable, ServesWithAttempts, PerformsCall}
 use Rattle.tenant_refs.specs.Thrice.{thrice_view, told_answer}
@@ -23,7 +23,7 @@ use Rattle.tenant_world.proofs.Answering.{refs-told, allowed-may}
 use Rattle.tenant_refs.proofs.Calls.{untold-stays}
 use Rattle.tenant_refs.proofs.Serving.{refs_after-seen, holds-refs_after}
 
--- an ask of names or of atoms needs none of them
+-- an ask of names, of atoms or of agents needs none of them
 pub alone-answered : (g : Ground) (t : ℕ) (a : Actor) (q : Quiet) (ask : AskData) (s : Store)
     (r : Refs) (m : Memory) (table : RingRefTable) (attempts : Attempts) (answer : AnswerData)
     → ServesWithAttempts table attempts s r → call_of (seat_of a) ask ≡ nothing
@@ -58,20 +58,20 @@ holds-untold new old attempts later s r call holds comes =
 pub refs-answered : {E : Type 0} (g : Ground) (t : ℕ) (a : Actor) (q : Quiet) (ask : AskData)
     (s : Store) (r : Refs) (m : Memory) (new old : RingRefTable) (attempts later : Attempts)
     (result : Result (Option Thrice) E) → ServesWithAttempts old attempts s r → is_of_names ask ≡ false
-    → is_of_atoms ask ≡ false → is_allowed ask q ≡ true → Remembers g t m q
+    → is_of_cells ask ≡ false → is_allowed ask q.cells ≡ true → Remembers g t m q
     → IfOk result (λ it. PerformsCall new later r (told_answer it) (performed s (call_of (seat_of a) ask)))
     → IfOk result (λ it. MatchOption it
     (((performed s (call_of (seat_of a) ask)).told ≡ None) × Remembers g t m q × ServesWithAttempts new later s r)
     (λ answer. Answers g t a q ask (performed s (call_of (seat_of a) ask)) m new later r
     (thrice_view answer)))
-refs-answered g t a q ask s r m new old attempts later (Err e) holds names atoms allowed remembers comes = tt
-refs-answered g t a q ask s r m new old attempts later (Ok None) holds names atoms allowed remembers comes = (
+refs-answered g t a q ask s r m new old attempts later (Err e) holds names cells allowed remembers comes = tt
+refs-answered g t a q ask s r m new old attempts later (Ok None) holds names cells allowed remembers comes = (
   sym comes.called.told,
   remembers,
   holds-untold new old attempts later s r (call_of (seat_of a) ask) holds comes,
 )
-refs-answered g t a q ask s r m new old attempts later (Ok (Some it)) holds names atoms allowed remembers comes =
-    let still = refs-told g a q ask (thrice_view it) names atoms in
+refs-answered g t a q ask s r m new old attempts later (Ok (Some it)) holds names cells allowed remembers comes =
+    let still = refs-told g a q ask (thrice_view it) names cells in
     record {
       told = thrice_view it;
       is_told = sym comes.called.told;
@@ -81,7 +81,7 @@ refs-answered g t a q ask s r m new old attempts later (Ok (Some it)) holds name
         bare = remembers.bare;
         spaces = remembers.spaces ∙ still.spaces;
         names = remembers.names;
-        atoms = remembers.atoms ∙ still.atoms;
+        cells = remembers.cells ∙ still.cells;
         replies = remembers.replies;
       };
       holds = holds-refs_after new old attempts later s r (Some (thrice_view it))

@@ -13,9 +13,10 @@ use Rattle.server_rules.specs.Store.{Store, left_attempt}
 use Rattle.server_rules.specs.Tenant.{ActorData, Quiet, seat_of}
 use Rattle.server_rules.specs.Numbered.{with_part}
 use Rattle.server_rules.specs.Asking.{asked_of, asked_running, asked_allowed, answer_outcome}
-use Rattle.server_rules.specs.Asking.{answer_to, spaces_after, atoms_after, quiet_after}
+use Rattle.server_rules.specs.Asking.{answer_to, spaces_after, quiet_after}
 use Rattle.server_rules.specs.Asking.{with_recorded_answer, call_of}
 use Rattle.server_rules.specs.Asking.{is_allowed, when_told}
+use Rattle.server_rules.specs.Cells.{CellsData, cell_answer, cells_after}
 use Rattle.server_rules.specs.Starting.{interrupted_in}
 use Rattle.server_rules.specs.Plan.{Plan, refuses, leaves, with_step_spent, ask_answered, quietly}
 use Rattle.server_rules.specs.declared.actor.Actor.{Actor}
@@ -24,11 +25,11 @@ use Rattle.tenant_turns.specs.DeedResult.{carried_out}
 use Rattle.tenant_world.specs.declared.memory.Memory.{Memory}
 use Rattle.tenant_world.specs.Memories.{Remembers}
 use Rattle.tenant_world.specs.Acting.{AcceptsOutcome, RefusesOutcome, is_accepted}
-use Rattle.tenant_world.specs.Asking.{is_of_names, is_of_atoms, answered_plan, exchange_from, run_with}
+use Rattle.tenant_world.specs.Asking.{is_of_names, is_of_cells, answered_plan, exchange_from, run_with}
 use Rattle.tenant_world.specs.Asking.{hand_with, with_exchange}
 use Rattle.tenant_refs.proofs.Soundness.{MayBe}
 
--- Asks of names, of atoms and of refs
+-- Asks of names, of atoms and agents, and of refs
 
 pub names-nothing : (seat : ℕ) (ask : AskData) → is_of_names ask ≡ true → call_of seat ask ≡ nothing
 names-nothing seat (exchange.resolve namespace symbol) names = refl
@@ -45,57 +46,93 @@ names-nothing seat (exchange.new_atom d) names = absurd (true≢false (sym names
 names-nothing seat (exchange.read_atom n) names = absurd (true≢false (sym names))
 names-nothing seat (exchange.set_atom n d) names = absurd (true≢false (sym names))
 names-nothing seat (exchange.try_atom n seen next) names = absurd (true≢false (sym names))
+names-nothing seat (exchange.new_agent d) names = absurd (true≢false (sym names))
+names-nothing seat (exchange.read_agent n) names = absurd (true≢false (sym names))
+names-nothing seat (exchange.agent_fault n) names = absurd (true≢false (sym names))
+names-nothing seat (exchange.restart_agent n d) names = absurd (true≢false (sym names))
 
-pub atoms-nothing : (seat : ℕ) (ask : AskData) → is_of_atoms ask ≡ true → call_of seat ask ≡ nothing
-atoms-nothing seat (exchange.new_atom d) atoms = refl
-atoms-nothing seat (exchange.read_atom n) atoms = refl
-atoms-nothing seat (exchange.set_atom n d) atoms = refl
-atoms-nothing seat (exchange.try_atom n seen next) atoms = refl
-atoms-nothing seat _ atoms = absurd (true≢false (sym atoms))
+pub cells-nothing : (seat : ℕ) (ask : AskData) → is_of_cells ask ≡ true → call_of seat ask ≡ nothing
+cells-nothing seat (exchange.new_atom d) cells = refl
+cells-nothing seat (exchange.read_atom n) cells = refl
+cells-nothing seat (exchange.set_atom n d) cells = refl
+cells-nothing seat (exchange.try_atom n seen next) cells = refl
+cells-nothing seat (exchange.new_agent d) cells = refl
+cells-nothing seat (exchange.read_agent n) cells = refl
+cells-nothing seat (exchange.agent_fault n) cells = refl
+cells-nothing seat (exchange.restart_agent n d) cells = refl
+cells-nothing seat _ cells = absurd (true≢false (sym cells))
 
--- no namespace changes with an atom
-pub atoms-spaces : (ask : AskData) (q : Quiet) → is_of_atoms ask ≡ true
+-- no namespace changes with an atom or an agent
+pub cells-spaces : (ask : AskData) (q : Quiet) → is_of_cells ask ≡ true
     → q.spaces ≡ spaces_after ask q.spaces
-atoms-spaces (exchange.new_atom d) q atoms = refl
-atoms-spaces (exchange.read_atom n) q atoms = refl
-atoms-spaces (exchange.set_atom n d) q atoms = refl
-atoms-spaces (exchange.try_atom n seen next) q atoms = refl
-atoms-spaces _ q atoms = absurd (true≢false (sym atoms))
+cells-spaces (exchange.new_atom d) q cells = refl
+cells-spaces (exchange.read_atom n) q cells = refl
+cells-spaces (exchange.set_atom n d) q cells = refl
+cells-spaces (exchange.try_atom n seen next) q cells = refl
+cells-spaces (exchange.new_agent d) q cells = refl
+cells-spaces (exchange.read_agent n) q cells = refl
+cells-spaces (exchange.agent_fault n) q cells = refl
+cells-spaces (exchange.restart_agent n d) q cells = refl
+cells-spaces _ q cells = absurd (true≢false (sym cells))
 
--- of refs the answer is what they told, and no namespace or atom changes
+pub cells-answer : (g : Ground) (a : Actor) (q : Quiet) (ask : AskData) (c : CellsData)
+    (told : AnswerData) → is_of_cells ask ≡ true → c ≡ q.cells
+    → cell_answer ask c told ≡ answer_to g a q ask told
+cells-answer g a q (exchange.new_atom d) c told cells same =
+    ap (λ x. cell_answer (exchange.new_atom d) x told) same
+cells-answer g a q (exchange.read_atom n) c told cells same =
+    ap (λ x. cell_answer (exchange.read_atom n) x told) same
+cells-answer g a q (exchange.set_atom n d) c told cells same = refl
+cells-answer g a q (exchange.try_atom n seen next) c told cells same =
+    ap (λ x. cell_answer (exchange.try_atom n seen next) x told) same
+cells-answer g a q (exchange.new_agent d) c told cells same =
+    ap (λ x. cell_answer (exchange.new_agent d) x told) same
+cells-answer g a q (exchange.read_agent n) c told cells same =
+    ap (λ x. cell_answer (exchange.read_agent n) x told) same
+cells-answer g a q (exchange.agent_fault n) c told cells same =
+    ap (λ x. cell_answer (exchange.agent_fault n) x told) same
+cells-answer g a q (exchange.restart_agent n d) c told cells same =
+    ap (λ x. cell_answer (exchange.restart_agent n d) x told) same
+cells-answer g a q _ c told cells same = absurd (true≢false (sym cells))
+
+-- of refs the answer is what they told, and no namespace, atom or agent changes
 pub record AreRefs (g : Ground) (a : Actor) (q : Quiet) (ask : AskData) (told : AnswerData)
     : Type 0 where
   pub is : told ≡ answer_to g a q ask told
   pub spaces : q.spaces ≡ spaces_after ask q.spaces
-  pub atoms : q.atoms ≡ atoms_after ask q.atoms
+  pub cells : q.cells ≡ cells_after ask q.cells
 
 pub refs-told : (g : Ground) (a : Actor) (q : Quiet) (ask : AskData) (told : AnswerData)
-    → is_of_names ask ≡ false → is_of_atoms ask ≡ false → AreRefs g a q ask told
-refs-told g a q (exchange.resolve namespace symbol) told names atoms = absurd (true≢false names)
-refs-told g a q (exchange.define namespace name binding) told names atoms =
+    → is_of_names ask ≡ false → is_of_cells ask ≡ false → AreRefs g a q ask told
+refs-told g a q (exchange.resolve namespace symbol) told names cells = absurd (true≢false names)
+refs-told g a q (exchange.define namespace name binding) told names cells =
     absurd (true≢false names)
-refs-told g a q (exchange.enter name) told names atoms = absurd (true≢false names)
-refs-told g a q (exchange.new_atom d) told names atoms = absurd (true≢false atoms)
-refs-told g a q (exchange.read_atom n) told names atoms = absurd (true≢false atoms)
-refs-told g a q (exchange.set_atom n d) told names atoms = absurd (true≢false atoms)
-refs-told g a q (exchange.try_atom n seen next) told names atoms = absurd (true≢false atoms)
-refs-told g a q (exchange.new_ref d least most) told names atoms =
-    record { is = refl; spaces = refl; atoms = refl }
-refs-told g a q exchange.begin told names atoms =
-    record { is = refl; spaces = refl; atoms = refl }
-refs-told g a q (exchange.read name) told names atoms =
-    record { is = refl; spaces = refl; atoms = refl }
-refs-told g a q (exchange.history name) told names atoms =
-    record { is = refl; spaces = refl; atoms = refl }
-refs-told g a q (exchange.min_history name set) told names atoms =
-    record { is = refl; spaces = refl; atoms = refl }
-refs-told g a q (exchange.max_history name set) told names atoms =
-    record { is = refl; spaces = refl; atoms = refl }
-refs-told g a q (exchange.commit intent) told names atoms =
-    record { is = refl; spaces = refl; atoms = refl }
+refs-told g a q (exchange.enter name) told names cells = absurd (true≢false names)
+refs-told g a q (exchange.new_atom d) told names cells = absurd (true≢false cells)
+refs-told g a q (exchange.read_atom n) told names cells = absurd (true≢false cells)
+refs-told g a q (exchange.set_atom n d) told names cells = absurd (true≢false cells)
+refs-told g a q (exchange.try_atom n seen next) told names cells = absurd (true≢false cells)
+refs-told g a q (exchange.new_agent d) told names cells = absurd (true≢false cells)
+refs-told g a q (exchange.read_agent n) told names cells = absurd (true≢false cells)
+refs-told g a q (exchange.agent_fault n) told names cells = absurd (true≢false cells)
+refs-told g a q (exchange.restart_agent n d) told names cells = absurd (true≢false cells)
+refs-told g a q (exchange.new_ref d least most) told names cells =
+    record { is = refl; spaces = refl; cells = refl }
+refs-told g a q exchange.begin told names cells =
+    record { is = refl; spaces = refl; cells = refl }
+refs-told g a q (exchange.read name) told names cells =
+    record { is = refl; spaces = refl; cells = refl }
+refs-told g a q (exchange.history name) told names cells =
+    record { is = refl; spaces = refl; cells = refl }
+refs-told g a q (exchange.min_history name set) told names cells =
+    record { is = refl; spaces = refl; cells = refl }
+refs-told g a q (exchange.max_history name set) told names cells =
+    record { is = refl; spaces = refl; cells = refl }
+refs-told g a q (exchange.commit intent) told names cells =
+    record { is = refl; spaces = refl; cells = refl }
 
 -- the bounds of what is allowed are numbers of the language
-pub allowed-may : (seat : ℕ) (ask : AskData) (q : Quiet) → is_allowed ask q ≡ true
+pub allowed-may : (seat : ℕ) (ask : AskData) (q : Quiet) → is_allowed ask q.cells ≡ true
     → MayBe (call_of seat ask)
 allowed-may seat (exchange.resolve namespace symbol) q allowed = tt
 allowed-may seat (exchange.define namespace name binding) q allowed = tt
@@ -115,6 +152,15 @@ allowed-may seat (exchange.new_atom d) q allowed = tt
 allowed-may seat (exchange.read_atom n) q allowed = tt
 allowed-may seat (exchange.set_atom n d) q allowed = tt
 allowed-may seat (exchange.try_atom n seen next) q allowed = tt
+allowed-may seat (exchange.new_agent d) q allowed = tt
+allowed-may seat (exchange.read_agent n) q allowed = tt
+allowed-may seat (exchange.agent_fault n) q allowed = tt
+allowed-may seat (exchange.restart_agent n d) q allowed = tt
+
+-- what the code says of an ask, where it remembers these atoms and agents
+pub allowed-so : {b v : Bool} (ask : AskData) {c d : CellsData} → c ≡ d → b ≡ is_allowed ask c → b ≡ v
+    → is_allowed ask d ≡ v
+allowed-so ask same says is = sym (ap (is_allowed ask) same) ∙ sym says ∙ is
 
 -- An answer that is kept
 
@@ -135,7 +181,7 @@ acted-answer_outcome g t m a actor new h run ask q told kept given hand running 
         bare = r.bare;
         spaces = r.spaces;
         names = r.names;
-        atoms = r.atoms;
+        cells = r.cells;
         replies = r.replies;
       };
       actors = ap (λ x. with_part (seat_of a) x q.actors) (sym (put
@@ -152,7 +198,7 @@ acted-answer_outcome g t m a actor new h run ask q told kept given hand running 
 -- The plan of an ask of a form that runs
 
 pub runs-so : (g : Ground) (a : Actor) (actor : ActorData) (ask : AskData) (q : Quiet) (h : Hand)
-    (run : Run) → actor.hand ≡ Some h → h.running ≡ Some run → is_allowed ask q ≡ true
+    (run : Run) → actor.hand ≡ Some h → h.running ≡ Some run → is_allowed ask q.cells ≡ true
     → asked_of g a actor ask q actor.hand ≡ asked_allowed g a actor h run ask q
 runs-so g a actor ask q h run hand running allowed =
     ap (asked_of g a actor ask q) hand
@@ -164,7 +210,7 @@ runs-so g a actor ask q h run hand running allowed =
         else quietly (refuses Refusal.Idle)
 
 pub asked-forbidden : (g : Ground) (a : Actor) (actor : ActorData) (ask : AskData) (q : Quiet)
-    (h : Hand) (run : Run) → actor.hand ≡ Some h → h.running ≡ Some run → is_allowed ask q ≡ false
+    (h : Hand) (run : Run) → actor.hand ≡ Some h → h.running ≡ Some run → is_allowed ask q.cells ≡ false
     → asked_of g a actor ask q actor.hand ≡ quietly (refuses Refusal.Idle)
 asked-forbidden g a actor ask q h run hand running forbidden =
     ap (asked_of g a actor ask q) hand
@@ -183,7 +229,7 @@ given_up_plan a h ask q = record {
 }
 
 pub asked-open : (g : Ground) (a : Actor) (actor : ActorData) (ask : AskData) (q : Quiet) (h : Hand)
-    (run : Run) → actor.hand ≡ Some h → h.running ≡ Some run → is_allowed ask q ≡ true
+    (run : Run) → actor.hand ≡ Some h → h.running ≡ Some run → is_allowed ask q.cells ≡ true
     → actor.is_closed ≡ false
     → answered_plan g a actor h run ask q ≡ asked_of g a actor ask q actor.hand
 asked-open g a actor ask q h run hand running allowed open_still = sym (
@@ -192,7 +238,7 @@ asked-open g a actor ask q h run hand running allowed open_still = sym (
     open_still)
 
 pub asked-closed : (g : Ground) (a : Actor) (actor : ActorData) (ask : AskData) (q : Quiet) (h : Hand)
-    (run : Run) → actor.hand ≡ Some h → h.running ≡ Some run → is_allowed ask q ≡ true
+    (run : Run) → actor.hand ≡ Some h → h.running ≡ Some run → is_allowed ask q.cells ≡ true
     → actor.is_closed ≡ true
     → given_up_plan a h ask q ≡ asked_of g a actor ask q actor.hand
 asked-closed g a actor ask q h run hand running allowed closed = sym (

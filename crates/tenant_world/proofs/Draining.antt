@@ -4,7 +4,7 @@ use Rattle.std.proofs.Common.{subst, ◌∙◌, ◌≢◌, map, true}
 use Rattle.bencode_wire.specs.Inside.Decoder as decoder
 use Rattle.bencode_wire.specs.declared.decoder.Decoder.{Decoder}
 use Rattle.name_spaces.specs.Inside.Seen.{namespaces_of, shared_in}
-use Rattle.private_cells.specs.Inside.View.{atoms_view}
+use Rattle.tenant_world.specs.Cells.{cells_data}
 use Rattle.repl_sessions.specs.Inside.StateView.{state_view}
 use Rattle.server_rules.specs.Readings.{message_limit}
 use Rattle.tenant_actors.specs.View.{actors_view}
@@ -42,7 +42,7 @@ pub record OnlyDrains (code new : Tenant) : Type 0 where
   pub sessions : new.memory.sessions ≡ code.memory.sessions
   pub bare : new.memory.bare ≡ code.memory.bare
   pub spaces : new.memory.spaces ≡ code.memory.spaces
-  pub atoms : new.memory.atoms ≡ code.memory.atoms
+  pub cells : new.memory.cells ≡ code.memory.cells
   pub attempts : new.attempts ≡ code.attempts
 
 stands-with : (g : Ground) (q : Quiet) (s : Store) (code new : Tenant) (replies : List ReplyData)
@@ -63,7 +63,7 @@ stands-with g q s code new replies same st waits =
         bare = ap state_view same.bare ∙ st.remembers.bare;
         spaces = ap namespaces_of same.spaces ∙ st.remembers.spaces;
         names = st.remembers.names ∙ ap shared_in (sym same.spaces);
-        atoms = ap atoms_view same.atoms ∙ st.remembers.atoms;
+        cells = ap cells_data same.cells ∙ st.remembers.cells;
         replies = waits;
       };
       attempts = subst A (sym same.attempts) st.attempts;

@@ -10,7 +10,7 @@ use Rattle.repl_replies.specs.Operations.{AskedData, OperationData}
 use Rattle.repl_replies.specs.Replies.{OriginData, ReplyData}
 use Rattle.repl_sessions.specs.Inside.StateView.{state_view}
 use Rattle.name_spaces.specs.Inside.Seen.{namespaces_of, shared_in}
-use Rattle.private_cells.specs.Inside.View.{atoms_view}
+use Rattle.tenant_world.specs.Cells.{cells_data}
 use Rattle.server_rules.specs.Ground.{Ground}
 use Rattle.server_rules.specs.Hearing.{stream_fault, with_messages, new_messages, taken_in}
 use Rattle.server_rules.specs.Hearing.{hears_more}
@@ -38,31 +38,31 @@ record Keeps (old new : Quiet) : Type 0 where
   pub steps : new.steps ≡ old.steps
   pub bare : new.bare ≡ old.bare
   pub spaces : new.spaces ≡ old.spaces
-  pub atoms : new.atoms ≡ old.atoms
+  pub cells : new.cells ≡ old.cells
 
 keeps-all : (q : Quiet) → Keeps q q
-keeps-all q = record { steps = refl; bare = refl; spaces = refl; atoms = refl }
+keeps-all q = record { steps = refl; bare = refl; spaces = refl; cells = refl }
 
 closed-keeps : (o : OriginData) (n : ℕ) (q : Quiet) (a : Option ActorData)
     → Keeps q (closed_by o n q a)
 closed-keeps o n q None = keeps-all q
-closed-keeps o n q (Some a) = record { steps = refl; bare = refl; spaces = refl; atoms = refl }
+closed-keeps o n q (Some a) = record { steps = refl; bare = refl; spaces = refl; cells = refl }
 
 queued-keeps : (a : Actor) (w : Waiting) (q : Quiet) (o : Option ActorData)
     → Keeps q (queued_for a w q o)
 queued-keeps a w q None = keeps-all q
-queued-keeps a w q (Some actor) = record { steps = refl; bare = refl; spaces = refl; atoms = refl }
+queued-keeps a w q (Some actor) = record { steps = refl; bare = refl; spaces = refl; cells = refl }
 
 after_operation-keeps : (g : Ground) (t : ℕ) (o : OriginData) (op : OperationData) (q : Quiet)
     → Keeps q (after_operation g t o op q)
 after_operation-keeps g t o (operations.clone original) q =
-    record { steps = refl; bare = refl; spaces = refl; atoms = refl }
+    record { steps = refl; bare = refl; spaces = refl; cells = refl }
 after_operation-keeps g t o (operations.close n) q =
     closed-keeps o n q (part_under (seat_of (Actor.Session n)) q.actors)
 after_operation-keeps g t o (operations.describe session) q =
-    record { steps = refl; bare = refl; spaces = refl; atoms = refl }
+    record { steps = refl; bare = refl; spaces = refl; cells = refl }
 after_operation-keeps g t o (operations.list_sessions session) q =
-    record { steps = refl; bare = refl; spaces = refl; atoms = refl }
+    record { steps = refl; bare = refl; spaces = refl; cells = refl }
 after_operation-keeps g t o (operations.eval session text ns) q =
     queued-keeps (asker session) _ q (part_under (seat_of (asker session)) q.actors)
 after_operation-keeps g t o (operations.load_file session text) q =
@@ -71,7 +71,7 @@ after_operation-keeps g t o (operations.load_file session text) q =
 asked-keeps : (g : Ground) (t : ℕ) (r : Result AskedData ReplyData) (q : Quiet)
     → Keeps q (with_asked g t r q)
 asked-keeps g t (Ok a) q = after_operation-keeps g t a.origin a.operation q
-asked-keeps g t (Err refusal) q = record { steps = refl; bare = refl; spaces = refl; atoms = refl }
+asked-keeps g t (Err refusal) q = record { steps = refl; bare = refl; spaces = refl; cells = refl }
 
 message-keeps : (g : Ground) (t : ℕ) (m : Tree) (q : Quiet) → Keeps q (with_message g t m q)
 unfolding with_message
@@ -91,7 +91,7 @@ messages-keep g t (m ∷ ms) q =
       steps = more.steps ∙ first.steps;
       bare = more.bare ∙ first.bare;
       spaces = more.spaces ∙ first.spaces;
-      atoms = more.atoms ∙ first.atoms;
+      cells = more.cells ∙ first.cells;
     }
 
 taken-keeps : (g : Ground) (t : ℕ) (piece : List ℕ) (q : Quiet) → Keeps q (taken_in g t piece q)
@@ -99,7 +99,7 @@ unfolding taken_in
 taken-keeps g t piece q =
     let kept = messages-keep g t (new_messages g.readings q.heard piece)
     (record q { heard = q.heard ++ piece }) in
-    record { steps = kept.steps; bare = kept.bare; spaces = kept.spaces; atoms = kept.atoms }
+    record { steps = kept.steps; bare = kept.bare; spaces = kept.spaces; cells = kept.cells }
 
 -- The step
 
@@ -145,12 +145,12 @@ pub does-hear : (g : Ground) (q : Quiet) (s : Store) (old new : Tenant) (piece :
     → is_held q ≡ false
     → new.retries ≡ old.retries → new.steps ≡ old.steps - 1
     → new.memory.bare ≡ old.memory.bare → new.memory.spaces ≡ old.memory.spaces
-    → new.memory.atoms ≡ old.memory.atoms
+    → new.memory.cells ≡ old.memory.cells
     → new.attempts ≡ old.attempts
     → IsHeard g s.tenant q piece count new.decoder new.memory.sessions (actors_view new.actors)
     (waiting_bytes new.memory.outbox)
     → AcceptsDeed g (deed_result g s q (deeds.hears piece)) new (messages_heard count)
-does-hear g q s old new piece count st some sound free tries less bare spaces atoms tried heard =
+does-hear g q s old new piece count st some sound free tries less bare spaces cells tried heard =
     let after = taken_in g s.tenant piece q in
     let kept = taken-keeps g s.tenant piece q in
     let A : Attempts → Type 0 = λ x. Reaches x s in
@@ -164,7 +164,7 @@ does-hear g q s old new piece count st some sound free tries less bare spaces at
         bare = ap state_view bare ∙ st.remembers.bare ∙ sym kept.bare;
         spaces = ap namespaces_of spaces ∙ st.remembers.spaces ∙ sym kept.spaces;
         names = st.remembers.names ∙ ap shared_in (sym spaces);
-        atoms = ap atoms_view atoms ∙ st.remembers.atoms ∙ sym kept.atoms;
+        cells = ap cells_data cells ∙ st.remembers.cells ∙ sym kept.cells;
         replies = heard.holds.replies;
       };
       attempts = subst A (sym tried) st.attempts;

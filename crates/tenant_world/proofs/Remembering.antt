@@ -32,7 +32,7 @@ with-actors g t m q es r = record {
   bare = r.bare;
   spaces = r.spaces;
   names = r.names;
-  atoms = r.atoms;
+  cells = r.cells;
   replies = r.replies;
 }
 
@@ -45,7 +45,7 @@ remembers-after_move g t m Actor.Bare actor move q r = record {
   bare = r.bare;
   spaces = r.spaces;
   names = r.names;
-  atoms = r.atoms;
+  cells = r.cells;
   replies = r.replies;
 }
 remembers-after_move g t m (Actor.Session n) actor move q r = record {
@@ -53,7 +53,7 @@ remembers-after_move g t m (Actor.Session n) actor move q r = record {
   bare = r.bare;
   spaces = r.spaces;
   names = r.names;
-  atoms = r.atoms;
+  cells = r.cells;
   replies = r.replies;
 }
 
@@ -108,7 +108,7 @@ acted-interrupted g t m a new h q r = record {
     bare = r.bare;
     spaces = r.spaces;
     names = r.names;
-    atoms = r.atoms;
+    cells = r.cells;
     replies = r.replies;
   };
   actors = refl;

@@ -240,7 +240,7 @@ settled g a old new q after s b actor lends r reaches actors steps heard tries l
         bare = there.bare;
         spaces = there.spaces;
         names = there.names;
-        atoms = there.atoms;
+        cells = there.cells;
         replies = there.replies;
       };
       attempts = subst A (sym tried) reaches;

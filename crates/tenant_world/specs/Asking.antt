@@ -23,13 +23,17 @@ is_of_names (exchange.define namespace name binding) = true
 is_of_names (exchange.enter name) = true
 is_of_names _ = false
 
--- the ask is one of atoms
-abbrev pub is_of_atoms : AskData → Bool
-is_of_atoms (exchange.new_atom d) = true
-is_of_atoms (exchange.read_atom n) = true
-is_of_atoms (exchange.set_atom n d) = true
-is_of_atoms (exchange.try_atom n seen next) = true
-is_of_atoms _ = false
+-- the ask is one of atoms or agents
+abbrev pub is_of_cells : AskData → Bool
+is_of_cells (exchange.new_atom d) = true
+is_of_cells (exchange.read_atom n) = true
+is_of_cells (exchange.set_atom n d) = true
+is_of_cells (exchange.try_atom n seen next) = true
+is_of_cells (exchange.new_agent d) = true
+is_of_cells (exchange.read_agent n) = true
+is_of_cells (exchange.agent_fault n) = true
+is_of_cells (exchange.restart_agent n d) = true
+is_of_cells _ = false
 
 -- the plan of an ask that breaks no rule of its own, of a session that is open
 abbrev pub answered_plan : Ground → Actor → ActorData → Hand → Run → AskData → Quiet → Plan

@@ -1,3 +1,4 @@
+pub mod Cells
 pub mod Memories
 pub mod Seats
 pub mod Answers

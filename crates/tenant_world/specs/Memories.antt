@@ -3,11 +3,11 @@ use Rattle.std.specs.Prelude.{◌≡◌, ℕ, map}
 use Rattle.repl_replies.specs.Replies.{bytes_of}
 use Rattle.repl_sessions.specs.Inside.StateView.{state_view}
 use Rattle.name_spaces.specs.Inside.Seen.{namespaces_of, shared_in}
-use Rattle.private_cells.specs.Inside.View.{atoms_view}
 use Rattle.server_rules.specs.Ground.{Ground}
 use Rattle.server_rules.specs.Tenant.{Quiet}
 use Rattle.server_rules.specs.Operating.{named_sessions}
 use Rattle.tenant_replies.specs.View.{waiting_bytes}
+use Rattle.tenant_world.specs.Cells.{cells_data}
 use Rattle.tenant_world.specs.declared.memory.Memory.{Memory}
 
 -- the code remembers what the tenant of the rules does
@@ -16,7 +16,7 @@ pub record Remembers (g : Ground) (t : ℕ) (m : Memory) (q : Quiet) : Type 0 wh
   pub bare : state_view m.bare ≡ q.bare
   pub spaces : namespaces_of m.spaces ≡ q.spaces
   pub names : g.shared.names ≡ shared_in m.spaces
-  pub atoms : atoms_view m.atoms ≡ q.atoms
+  pub cells : cells_data m.cells ≡ q.cells
   pub replies : waiting_bytes m.outbox ≡ map bytes_of q.replies
 
 -- how many sessions were ever made

@@ -21,19 +21,18 @@ ghost use Rattle.tenant_world.specs.Answers.{ask_answer_view, AreSameAnswers};
 ghost use Rattle.tenant_world.specs.Acting.{AcceptsOutcome, RefusesOutcome, IsActorStep};
 ghost use Rattle.tenant_world.specs.Acting.{is_accepted};
 ghost use Rattle.tenant_world.specs.Asking.{Answers, answered_plan, is_of_names};
-ghost use Rattle.tenant_world.specs.Asking.{is_of_atoms};
-ghost use Rattle.private_cells.specs.Inside.View.{atoms_view};
+ghost use Rattle.tenant_world.specs.Asking.{is_of_cells};
+ghost use Rattle.tenant_world.specs.Cells.{cells_data};
 ghost use Rattle.tenant_world.specs.Rooms.{ActorHasRoom};
 ghost use Rattle.tenant_refs.specs.Serving.{ServesWithAttempts};
 ghost use Rattle.tenant_refs.specs.Thrice.{thrice_view, AreThrice};
 
 use crate::acting::interrupt;
 use crate::answers::{AskAnswer, AskAnswers};
-use crate::atoms::{ask_atoms, has_atom};
+use crate::cells::Cells;
 use crate::keeping::{keep, make_room};
 use crate::memory::Memory;
 use crate::naming::name;
-use private_cells::Atoms;
 use ref_history::RingHistory;
 use ref_table::RefTable;
 use repl_asks::{Ask, Exchange, is_fixed};
@@ -86,7 +85,7 @@ pub(crate) fn ask(
     let Some(_run) = &hand.running else {
         return Err(Refusal::Idle);
     };
-    if !is_allowed(&memory.atoms, ask) {
+    if !is_allowed(&memory.cells, ask) {
         return Err(Refusal::Idle);
     }
     if state.is_closed {
@@ -97,10 +96,10 @@ pub(crate) fn ask(
 }
 
 // Whether the ask breaks no rule of its own: nothing is defined in a namespace that is fixed, nor
-// is it entered, the bounds of a history are numbers of the language, and atoms are there.
-fn is_allowed(atoms: &Atoms, ask: &Ask) -> bool
-    ensures { (q : Quiet) → atoms_view atoms.now ≡ q.atoms
-        → result ≡ meant.is_allowed (ask_view ask.now) q }
+// is it entered, the bounds of a history are numbers of the language, and atoms and agents are
+// there.
+fn is_allowed(cells: &Cells, ask: &Ask) -> bool
+    ensures { result ≡ meant.is_allowed (ask_view ask.now) (cells_data cells.now) }
 {
     match ask {
         Ask::Define { namespace, .. } => !is_fixed(namespace.as_str()),
@@ -112,11 +111,14 @@ fn is_allowed(atoms: &Atoms, ask: &Ask) -> bool
         } => *min_history < END_OF_NUMBERS && *max_history < END_OF_NUMBERS,
         Ask::MinHistory { set, .. } => may_be_set(*set),
         Ask::MaxHistory { set, .. } => may_be_set(*set),
-        Ask::ReadAtom(number) => has_atom(atoms, *number),
-        Ask::SetAtom { number, .. } => has_atom(atoms, *number),
-        Ask::TryAtom { number, .. } => has_atom(atoms, *number),
+        Ask::ReadAtom(number) | Ask::SetAtom { number, .. } | Ask::TryAtom { number, .. } => {
+            cells.has_atom(*number)
+        }
+        Ask::ReadAgent(number) | Ask::AgentFault(number) | Ask::RestartAgent { number, .. } => {
+            cells.has_agent(*number)
+        }
         Ask::Resolve { .. } | Ask::Begin | Ask::Read(_) | Ask::History(_) | Ask::Commit(_) => true,
-        Ask::NewAtom(_) => true,
+        Ask::NewAtom(_) | Ask::NewAgent(_) => true,
     }
 }
 
@@ -181,7 +183,8 @@ fn answer(
     requires { counter_of refs.old < u128.MAX }
     ensures acted { (g : Ground) (q : Quiet) (s : Store) (r : Refs) (h : rules.Hand)
         (run : rules.Run) → Remembers g s.tenant memory.old q
-        → ServesWithAttempts refs.old attempts.old s r → meant.is_allowed (ask_view ask.now) q ≡ true
+        → ServesWithAttempts refs.old attempts.old s r
+        → meant.is_allowed (ask_view ask.now) q.cells ≡ true
         → (actor_view state.old).hand ≡ Some h → h.running ≡ Some run
         → let d = carried_out s (answered_plan g actor (actor_view state.old) h run
         (ask_view ask.now) q) in IfOk result
@@ -190,7 +193,8 @@ fn answer(
         × ServesWithAttempts refs.new attempts.new d.store (refs_after d.store r)) }
     ensures declined { (g : Ground) (q : Quiet) (s : Store) (r : Refs) (h : rules.Hand)
         (run : rules.Run) → Remembers g s.tenant memory.old q
-        → ServesWithAttempts refs.old attempts.old s r → meant.is_allowed (ask_view ask.now) q ≡ true
+        → ServesWithAttempts refs.old attempts.old s r
+        → meant.is_allowed (ask_view ask.now) q.cells ≡ true
         → let d = carried_out s (answered_plan g actor (actor_view state.old) h run
         (ask_view ask.now) q) in IfErr result (λ why.
         RefusesOutcome g s.tenant q d.outcome memory.new why
@@ -277,7 +281,7 @@ fn perform_ask(
     requires { counter_of refs.old < u128.MAX }
     ensures answered { (g : Ground) (q : Quiet) (s : Store) (r : Refs)
         → Remembers g s.tenant memory.old q → ServesWithAttempts refs.old attempts.old s r
-        → meant.is_allowed (ask_view ask.now) q ≡ true
+        → meant.is_allowed (ask_view ask.now) q.cells ≡ true
         → let p = performed s (call_of (seat_of actor) (ask_view ask.now)) in
         IfOk result (λ it. MatchOption it
         ((p.told ≡ None) × Remembers g s.tenant memory.new q
@@ -297,8 +301,8 @@ fn perform_ask(
     if is_of_names(ask) {
         return Ok(Some(name(alloc, memory, actor, ask)?));
     }
-    if is_of_atoms(ask) {
-        return Ok(Some(ask_atoms(&mut memory.atoms, ask)?));
+    if is_of_cells(ask) {
+        return Ok(Some(memory.cells.ask(alloc, ask)?));
     }
     call(alloc, refs, attempts, actor, ask)
 }
@@ -312,11 +316,18 @@ fn is_of_names(ask: &Ask) -> bool
     )
 }
 
-fn is_of_atoms(ask: &Ask) -> bool
-    ensures { result ≡ is_of_atoms (ask_view ask.now) }
+fn is_of_cells(ask: &Ask) -> bool
+    ensures { result ≡ is_of_cells (ask_view ask.now) }
 {
     matches!(
         ask,
-        Ask::NewAtom(_) | Ask::ReadAtom(_) | Ask::SetAtom { .. } | Ask::TryAtom { .. }
+        Ask::NewAtom(_)
+            | Ask::ReadAtom(_)
+            | Ask::SetAtom { .. }
+            | Ask::TryAtom { .. }
+            | Ask::NewAgent(_)
+            | Ask::ReadAgent(_)
+            | Ask::AgentFault(_)
+            | Ask::RestartAgent { .. }
     )
 }

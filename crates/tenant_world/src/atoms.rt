@@ -1,55 +1,21 @@
 // What a form asks of atoms.
-ghost use Rattle.std.specs.Prelude.{◌≡◌, true, length, is_some, unwrap_or, IfOk, OnOk, OnErr};
+ghost use Rattle.std.specs.Prelude.{◌≡◌, length, unwrap_or, IfOk, OnOk, OnErr};
 ghost use Rattle.value_data.specs.Datum.{nil, atom, boolean};
 ghost use Rattle.value_data.specs.Inside.View.{view};
 ghost use Rattle.repl_asks.specs.Exchange as told;
-ghost use Rattle.repl_asks.specs.Exchange.{done};
-ghost use Rattle.repl_asks.specs.Inside.View.{ask_view};
 ghost use Rattle.private_cells.specs.Atoms.{atom_value, with_atom, with_atom_value, is_unchanged};
 ghost use Rattle.private_cells.specs.Atoms.{with_try};
 ghost use Rattle.private_cells.specs.Inside.View.{atoms_view};
-ghost use Rattle.server_rules.specs.Ground.{Ground};
-ghost use Rattle.server_rules.specs.Tenant.{Quiet};
-ghost use Rattle.server_rules.specs.Asking.{answer_to, atoms_after};
-ghost use Rattle.server_rules.specs.declared.actor.Actor.{Actor};
-ghost use Rattle.tenant_world.specs.Asking.{is_of_atoms};
 ghost use Rattle.tenant_refs.specs.Thrice.{thrice_view, IsThrice};
 
 use private_cells::Atoms;
-use repl_asks::{Answer, Ask};
+use repl_asks::Answer;
 use repl_values::{Value, copy};
 use std::alloc::AllocError;
 use tenant_refs::Thrice;
 
-/// Whether there is an atom of this number.
-pub(crate) fn has_atom(atoms: &Atoms, number: u64) -> bool
-    ensures { result ≡ is_some (atom_value number (atoms_view atoms.now)) }
-{
-    atoms.read(number).is_some()
-}
-
-/// Answers an ask of atoms, and does what is asked. It fails only for want of memory, and has then
-/// changed nothing.
-pub(crate) fn ask_atoms(atoms: &mut Atoms, ask: &Ask) -> Result<Thrice, AllocError>
-    requires { is_of_atoms (ask_view ask.now) ≡ true }
-    ensures answered { (g : Ground) (a : Actor) (q : Quiet) → atoms_view atoms.old ≡ q.atoms
-        → IfOk result (λ it. thrice_view it ≡ answer_to g a q (ask_view ask.now) done) }
-    ensures changed { OnOk result (atoms_view atoms.new
-        ≡ atoms_after (ask_view ask.now) (atoms_view atoms.old)) }
-    ensures stays { OnErr result (atoms_view atoms.new ≡ atoms_view atoms.old) }
-    ensures thrice { IfOk result IsThrice }
-{
-    match ask {
-        Ask::NewAtom(value) => make(atoms, value),
-        Ask::ReadAtom(number) => read(atoms, *number),
-        Ask::SetAtom { number, value } => set(atoms, *number, value),
-        Ask::TryAtom { number, seen, next } => swap(atoms, *number, seen, next),
-        _ => unreachable!(),
-    }
-}
-
-// The answer is the atom.
-fn make(atoms: &mut Atoms, value: &Value) -> Result<Thrice, AllocError>
+/// The answer is the atom.
+pub(crate) fn make(atoms: &mut Atoms, value: &Value) -> Result<Thrice, AllocError>
     ensures answered { IfOk result (λ it. thrice_view it
         ≡ told.value (atom (length (atoms_view atoms.old).values))) }
     ensures made { OnOk result (atoms_view atoms.new
@@ -61,8 +27,8 @@ fn make(atoms: &mut Atoms, value: &Value) -> Result<Thrice, AllocError>
     Ok(Thrice::of_atom(number))
 }
 
-// It fails only where 2^63 owners share a part of the value.
-fn read(atoms: &Atoms, number: u64) -> Result<Thrice, AllocError>
+/// It fails only where 2^63 owners share a part of the value.
+pub(crate) fn read(atoms: &Atoms, number: u64) -> Result<Thrice, AllocError>
     ensures answered { IfOk result (λ it. thrice_view it
         ≡ told.value (unwrap_or (atom_value number (atoms_view atoms.now)) nil)) }
     ensures thrice { IfOk result IsThrice }
@@ -73,8 +39,8 @@ fn read(atoms: &Atoms, number: u64) -> Result<Thrice, AllocError>
     }
 }
 
-// The answer is the new value, whatever the atom had.
-fn set(atoms: &mut Atoms, number: u64, value: &Value) -> Result<Thrice, AllocError>
+/// The answer is the new value, whatever the atom had.
+pub(crate) fn set(atoms: &mut Atoms, number: u64, value: &Value) -> Result<Thrice, AllocError>
     ensures answered { IfOk result (λ it. thrice_view it ≡ told.value (view value.now)) }
     ensures set { OnOk result (atoms_view atoms.new
         ≡ with_atom_value number (view value.now) (atoms_view atoms.old)) }
@@ -86,8 +52,13 @@ fn set(atoms: &mut Atoms, number: u64, value: &Value) -> Result<Thrice, AllocErr
     Ok(answer)
 }
 
-// The answer is whether the atom had what was seen of it.
-fn swap(atoms: &mut Atoms, number: u64, seen: &Value, next: &Value) -> Result<Thrice, AllocError>
+/// The answer is whether the atom had what was seen of it.
+pub(crate) fn swap(
+    atoms: &mut Atoms,
+    number: u64,
+    seen: &Value,
+    next: &Value,
+) -> Result<Thrice, AllocError>
     ensures answered { IfOk result (λ it. thrice_view it
         ≡ told.value (boolean (is_unchanged number (view seen.now) (atoms_view atoms.old)))) }
     ensures tried { OnOk result (atoms_view atoms.new

@@ -2,9 +2,11 @@
 #![tactic(auto)]
 
 mod acting;
+mod agents;
 mod answers;
 mod asking;
 mod atoms;
+mod cells;
 mod ending;
 mod hearing;
 mod keeping;

@@ -1,4 +1,4 @@
-// What the requests of a tenant share: its sessions, namespaces and atoms, and the replies
+// What the requests of a tenant share: its sessions, namespaces, atoms and agents, and the replies
 // that wait.
 ghost use Rattle.std.specs.Prelude.{◌≡◌, ℕ, List, map, option_map, unwrap_or, IfOk, OnOk, OnErr};
 ghost use Rattle.repl_sessions.specs.State.{fresh};
@@ -12,8 +12,8 @@ ghost use Rattle.tenant_replies.specs.View.{made_bytes};
 ghost use Rattle.tenant_moves.specs.Told.{Tells};
 ghost use Rattle.tenant_world.specs.Memories.{Remembers, opened_by};
 
+use crate::cells::Cells;
 use name_spaces::Spaces;
-use private_cells::Atoms;
 use repl_sessions::{SessionState, Sessions};
 use server_rules::Actor;
 use std::alloc::{AllocError, Global};
@@ -26,7 +26,7 @@ pub(crate) struct Memory {
     // what a request without a session remembers
     pub(crate) bare: SessionState,
     pub(crate) spaces: Spaces,
-    pub(crate) atoms: Atoms,
+    pub(crate) cells: Cells,
     pub(crate) outbox: Outbox,
 }
 

@@ -19,12 +19,13 @@ ghost use Rattle.tenant_world.specs.Answers.{AreSameReplies};
 ghost use Rattle.tenant_world.specs.Running.{running_in};
 
 use crate::answers::Replies;
+use crate::cells::Cells;
 use crate::memory::Memory;
 use crate::tenant::Tenant;
 use bencode_wire::Decoder;
 use bencode_wire::laws::a_stream_has_one_reading;
 use name_spaces::{SharedNames, Spaces};
-use private_cells::Atoms;
+use private_cells::{Agents, Atoms};
 use repl_sessions::{IdStream, SessionState, Sessions};
 use server_rules::{Actor, MESSAGE_LIMIT, Refusal};
 use std::alloc::{AllocError, Global};
@@ -57,7 +58,10 @@ impl Tenant {
             sessions: Sessions::new(alloc, IdStream::new(seed, number)),
             bare: SessionState::fresh(alloc)?,
             spaces: Spaces::new(alloc, shared)?,
-            atoms: Atoms::new(alloc),
+            cells: Cells {
+                atoms: Atoms::new(alloc),
+                agents: Agents::new(alloc),
+            },
             outbox: Outbox::new(alloc),
         };
         Ok(Tenant {

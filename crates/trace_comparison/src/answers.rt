@@ -1,11 +1,11 @@
 // When two answers are the same.
 ghost use Rattle.std.specs.Prelude.{◌≡◌, ◌↔◌, IsTrue};
 ghost use Rattle.repl_asks.specs.Inside.View.{answer_view, named_view, resolution_view};
-ghost use Rattle.repl_asks.specs.Inside.View.{reading_view, verdict_view};
+ghost use Rattle.repl_asks.specs.Inside.View.{reading_view, verdict_view, permission_view};
 
 use crate::functions::{same_fault, same_function};
 use crate::values::same_value;
-use repl_asks::{Answer, NamedFunction, Reading, Resolution, Verdict};
+use repl_asks::{Answer, NamedFunction, Permission, Reading, Resolution, Verdict};
 
 /// Whether both are one function of the language, or the same function of the program.
 pub fn same_named_function(left: &NamedFunction, right: &NamedFunction) -> bool
@@ -54,6 +54,17 @@ pub fn same_verdict(left: &Verdict, right: &Verdict) -> bool
     }
 }
 
+/// Whether both were granted, or denied for the same reason.
+pub fn same_permission(left: &Permission, right: &Permission) -> bool
+    ensures { IsTrue result ↔ (permission_view left.now ≡ permission_view right.now) }
+{
+    match (left, right) {
+        (Permission::Granted, Permission::Granted) => true,
+        (Permission::Denied(a), Permission::Denied(b)) => same_fault(a, b),
+        _ => false,
+    }
+}
+
 /// Whether the answers are of one kind and say the same.
 pub fn same_answer(left: &Answer, right: &Answer) -> bool
     ensures { IsTrue result ↔ (answer_view left.now ≡ answer_view right.now) }
@@ -64,6 +75,7 @@ pub fn same_answer(left: &Answer, right: &Answer) -> bool
         (Answer::Value(a), Answer::Value(b)) => same_value(a, b),
         (Answer::Reading(a), Answer::Reading(b)) => same_reading(a, b),
         (Answer::Verdict(a), Answer::Verdict(b)) => same_verdict(a, b),
+        (Answer::Permission(a), Answer::Permission(b)) => same_permission(a, b),
         _ => false,
     }
 }

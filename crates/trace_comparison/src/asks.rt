@@ -3,6 +3,7 @@ ghost use Rattle.std.specs.Prelude.{◌≡◌, ◌↔◌, IsTrue};
 ghost use Rattle.std.specs.Arc.{arc_str_bytes};
 ghost use Rattle.value_data.specs.Inside.View.{view};
 ghost use Rattle.repl_asks.specs.Exchange.{resolve, define, new_ref, set_atom, try_atom};
+ghost use Rattle.repl_asks.specs.Exchange.{restart_agent};
 ghost use Rattle.repl_asks.specs.Inside.View.{ask_view, binding_view, exchange_view};
 
 use crate::answers::same_answer;
@@ -61,6 +62,10 @@ pub fn same_ask(left: &Ask, right: &Ask) -> bool
         (Ask::ReadAtom(a), Ask::ReadAtom(b)) => a == b,
         (Ask::SetAtom { number, value }, _) => sets_atom(right, *number, value),
         (Ask::TryAtom { number, seen, next }, _) => tries_atom(right, *number, seen, next),
+        (Ask::NewAgent(a), Ask::NewAgent(b)) => same_value(a, b),
+        (Ask::ReadAgent(a), Ask::ReadAgent(b)) => a == b,
+        (Ask::AgentFault(a), Ask::AgentFault(b)) => a == b,
+        (Ask::RestartAgent { number, state }, _) => restarts_agent(right, *number, state),
         _ => false,
     }
 }
@@ -130,6 +135,16 @@ fn tries_atom(ask: &Ask, atom: u64, expected: &Value, replacement: &Value) -> bo
         Ask::TryAtom { number, seen, next } => {
             atom == *number && same_value(expected, seen) && same_value(replacement, next)
         }
+        _ => false,
+    }
+}
+
+// Whether the ask restarts the agent of this number with this state.
+fn restarts_agent(ask: &Ask, agent: u64, given: &Value) -> bool
+    ensures { IsTrue result ↔ (restart_agent agent (view given.now) ≡ ask_view ask.now) }
+{
+    match ask {
+        Ask::RestartAgent { number, state } => agent == *number && same_value(given, state),
         _ => false,
     }
 }

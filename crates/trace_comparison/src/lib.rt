@@ -16,7 +16,9 @@ pub mod laws;
 mod traces;
 mod values;
 
-pub use answers::{same_answer, same_named_function, same_reading, same_resolution, same_verdict};
+pub use answers::{
+    same_answer, same_named_function, same_permission, same_reading, same_resolution, same_verdict,
+};
 pub use asks::{same_ask, same_binding, same_exchange};
 pub use functions::{same_fault, same_function};
 pub use intents::same_intent;

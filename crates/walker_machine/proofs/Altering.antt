@@ -67,6 +67,9 @@ named_call-other walk p (d ∷ e ∷ ds) (NamedFunction.Store StoreFunction.Atom
 named_call-other walk p (d ∷ e ∷ ds) (NamedFunction.Store StoreFunction.Swap) other apart away = absurd (away refl)
 named_call-other walk p (d ∷ e ∷ ds) (NamedFunction.Store StoreFunction.Reset) other apart away = refl
 named_call-other walk p (d ∷ e ∷ ds) (NamedFunction.Store StoreFunction.CompareAndSet) other apart away = refl
+named_call-other walk p (d ∷ e ∷ ds) (NamedFunction.Store StoreFunction.Agent) other apart away = refl
+named_call-other walk p (d ∷ e ∷ ds) (NamedFunction.Store StoreFunction.AgentError) other apart away = refl
+named_call-other walk p (d ∷ e ∷ ds) (NamedFunction.Store StoreFunction.RestartAgent) other apart away = refl
 
 -- Its function
 

@@ -7,7 +7,6 @@ use Rattle.walker_state.specs.Position.{wanted_position, control_around, control
 use Rattle.walker_state.specs.Position.{entered_calls}
 use Rattle.walker_state.specs.declared.frames.Control.{Control}
 use Rattle.walker_state.specs.declared.frames.State.{State}
-use Rattle.walker_state.specs.declared.frames.Swap.{Swap}
 use Rattle.walker_state.specs.declared.frames.Wanted.{Wanted}
 use Rattle.walker_state.proofs.Laters.{later_smaller, later_fewer}
 
@@ -34,12 +33,12 @@ leads-within (Ok control) m n old new more on =
 leads-within (Err e) m n old new more on = tt
 
 -- the function of `swap!` was called, and its body entered if it has one
-pub seen-later : {E : Type 0} (r : Result Control E) (control : Control) (w : Swap) (old pushed middle new : State)
+pub seen-later : {E : Type 0} (r : Result Control E) (control : Control) (old pushed middle new : State)
     → pushed.transaction ≡ old.transaction → pushed.calls ≡ old.calls
     → LeadsOnWithin 3 pushed middle control → entered_calls control middle < pushed.calls
     → IfOk r (λ k. control_calls k new ≤ entered_calls control middle)
     → IfOk r (λ k. control_around k new ≡ control_around control middle)
-    → IfOk r (λ k. IsLater (control_position k new) (wanted_position (Wanted.Seen w) old))
-seen-later (Ok k) control w old pushed middle new same calls on fewer entered around' =
+    → IfOk r (λ k. IsLater (control_position k new) (wanted_position Wanted.Value old))
+seen-later (Ok k) control old pushed middle new same calls on fewer entered around' =
     later_fewer _ _ _ _ _ _ (around' ∙ on.around ∙ ap around same) (omega (arith, entered, fewer, calls))
-seen-later (Err e) control w old pushed middle new same calls on fewer entered around' = tt
+seen-later (Err e) control old pushed middle new same calls on fewer entered around' = tt

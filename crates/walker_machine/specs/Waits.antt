@@ -1,5 +1,6 @@
 -- How far an evaluation came: to its next ask, or to its end; and how much it has still to do.
 use Rattle.std.specs.Prelude.{◌≡◌, ℕ, ◌+◌, ◌≤◌, ⊤, string_bytes}
+use Rattle.std.specs.Arc.{arc_value}
 use Rattle.repl_asks.specs.Exchange.{AnswerData}
 use Rattle.repl_asks.specs.Inside.View.{ask_view}
 use Rattle.repl_jobs.specs.InteractionTree.{InteractionTree, finished, asks}
@@ -21,7 +22,7 @@ use Rattle.walker_machine.specs.declared.steps.Reached.{Reached}
 abbrev pub leg_tree : Leg → State → InteractionTree
 leg_tree (Leg.Asks ask wanted) s = asks (ask_view ask) (λ answer. tree_with_answer wanted answer s)
 leg_tree (Leg.Enters f values room) s =
-    from_state (body_value (value_at room) (function_view f) (views values.items)) s
+    from_state (body_value (value_at room) (function_view (arc_value f)) (views values.items)) s
 leg_tree (Leg.Ends end) s = ends (end_view end) (string_bytes s.text) (kept_of s)
 
 abbrev pub stop_tree : Stop → State → InteractionTree

@@ -27,11 +27,12 @@ use repl_faults::{not_a_function, not_a_value};
 use repl_values::Value;
 use special_forms::Forms;
 use std::alloc::{AllocError, Global};
+use std::boxed::Box;
 use std::sync::ArcStr;
 use store_calls::{Alteration, Update};
 use walker_state::{
     Callee, Control, State, SymbolUse, Wanted, begin_attempt, ensure_or_retry, go_on_in,
-    note_or_retry, settle, settle_swap,
+    note_or_retry, permit, settle, settle_swap,
 };
 
 pub(crate) fn use_answer(
@@ -52,10 +53,13 @@ pub(crate) fn use_answer(
         Wanted::Completion(value) => Ok(Control::Return(value)),
         Wanted::Namespace(name) => Ok(go_on_in(state, name)),
         Wanted::Value => Ok(Control::Return(answer.into_value())),
+        Wanted::Permission(value) => Ok(permit(value, answer.into_permission())),
         Wanted::Reading(name) => note_or_retry(alloc, state, name, answer.into_reading()),
         Wanted::Ensuring(name) => ensure_or_retry(alloc, state, name, answer.into_reading()),
-        Wanted::Seen(swap) => call_seen(alloc, state, swap, answer.into_value()),
-        Wanted::Tried(swap, next) => settle_swap(alloc, swap, next, answer.into_value()),
+        Wanted::Seen(swap) => call_seen(alloc, state, Box::into_inner(swap), answer.into_value()),
+        Wanted::Tried(swap, next) => {
+            settle_swap(alloc, Box::into_inner(swap), next, answer.into_value())
+        }
         Wanted::Begin(transaction) => begin_attempt(alloc, state, transaction),
         Wanted::Verdict(value, transaction) => {
             settle(alloc, state, value, transaction, answer.into_verdict())

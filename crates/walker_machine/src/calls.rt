@@ -3,7 +3,7 @@
 #![tactic(auto, using(walker_state::proofs::Stepping::steps))]
 
 ghost use Rattle.std.specs.Prelude.{◌≡◌, ◌+◌, ◌<◌, ◌≤◌, IfOk};
-ghost use Rattle.std.specs.Arc.{arc_str_bytes};
+ghost use Rattle.std.specs.Arc.{arc_str_bytes, arc_value};
 ghost use Rattle.walker_state.specs.Pending.{from_state, tree};
 ghost use Rattle.walker_state.specs.Frames.{callee_view};
 ghost use Rattle.walker_state.specs.declared.frames.State.{State};
@@ -23,11 +23,11 @@ use core_functions::CoreFunction;
 use core_maps::MapFunction;
 use repl_asks::NamedFunction;
 use repl_faults::{too_many_calls, wrong_arity};
-use repl_values::Value;
+use repl_values::{Value, copy_text};
 use special_forms::Function;
 use std::alloc::{AllocError, Global};
 use std::mem;
-use std::sync::ArcStr;
+use std::sync::{Arc, ArcStr};
 use walker_state::{
     Callee, Control, Frame, Place, State, bind_parameters, call_core, call_store, full_name,
     get_arguments, next_in_body,
@@ -132,7 +132,7 @@ fn call_keyword(
 #[tactic(auto, using(walker_state::proofs::Stepping::steps), unfolding(evaluation_rules::specs::Applying::program_call))]
 fn call_function(
     alloc: Global,
-    function: Function,
+    function: Arc<Function>,
     values: Vec<Value>,
     room: u32,
 ) -> Result<Control, AllocError>
@@ -142,8 +142,8 @@ fn call_function(
     ensures around { IfOk result (λ control. (s : State)
         → control_around control s ≡ around s.transaction) }
     ensures meaning { IfOk result (λ control. (s : State)
-        → tree control s ≡ from_state (program_call (value_at room) (function_view function)
-        (views values.items)) s) }
+        → tree control s ≡ from_state (program_call (value_at room)
+        (function_view (arc_value function)) (views values.items)) s) }
 {
     if function.params.len() == values.len() {
         return Ok(Control::Enter(function, values, room));
@@ -157,7 +157,7 @@ fn call_function(
 pub(crate) fn enter(
     alloc: Global,
     state: &mut State,
-    function: Function,
+    function: Arc<Function>,
     values: Vec<Value>,
     room: u32,
 ) -> Result<Control, AllocError>
@@ -165,17 +165,12 @@ pub(crate) fn enter(
     ensures around { IfOk result (λ control. control_around control state.new
         ≡ around state.old.transaction) }
     ensures meaning { IfOk result (λ control. tree control state.new
-        ≡ from_state (body_value (value_at room) (function_view function) (views values.items))
-        state.old) }
+        ≡ from_state (body_value (value_at room) (function_view (arc_value function))
+        (views values.items)) state.old) }
 {
-    let Function {
-        space,
-        name: _,
-        params,
-        body,
-    } = function;
-    let locals = bind_parameters(alloc, &params, values)?;
-    let home = Some(space);
+    let locals = bind_parameters(alloc, &function.params, values)?;
+    let home = Some(copy_text(&function.space)?);
+    let body = function.body.copy()?;
     let place = mem::replace(&mut state.place, Place { locals, home });
     state.frames.push_front(Frame::Leave(place))?;
     next_in_body(state, Value::Nil, body, room)

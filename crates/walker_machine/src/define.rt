@@ -32,9 +32,10 @@ pub(crate) fn define_function(
     let function = Function {
         space: space(state)?,
         name: copy_text(&name)?,
-        params: Arc::new(alloc, params)?,
+        params,
         body,
     };
+    let function = Arc::new(alloc, function)?;
     define(alloc, state, name, Binding::Function(function))
 }
 

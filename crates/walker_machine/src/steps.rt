@@ -29,6 +29,7 @@ use special_forms::Function;
 use std::alloc::{AllocError, Global};
 use std::boxed::Box;
 use std::collections::VecDeque;
+use std::sync::Arc;
 use walker_state::{Control, EndOrCommit, Place, Setting, State, Wanted, leave};
 
 /// An evaluation that waits for the answer to its last ask. Whoever hands it on moves a few words:
@@ -57,7 +58,7 @@ enum Stop {
 #[derive(Drop)]
 enum Leg {
     Asks(Ask, Wanted),
-    Enters(Function, Vec<Value>, u32),
+    Enters(Arc<Function>, Vec<Value>, u32),
     Ends(End),
 }
 

@@ -13,6 +13,7 @@ use crate::calls::{call_named, enter};
 use repl_faults::too_many_calls;
 use repl_values::{Value, copy, copy_items};
 use std::alloc::{AllocError, Global};
+use std::boxed::Box;
 use walker_state::{Control, Frame, State, StoreFrame, Swap};
 
 // The value that was seen goes to the function, in front of the other arguments. One call is taken
@@ -24,7 +25,7 @@ pub(crate) fn call_seen(
     seen: Value,
 ) -> Result<Control, AllocError>
     ensures later { IfOk result (λ control. IsLater (control_position control state.new)
-        (wanted_position (Wanted.Seen swap) state.old)) }
+        (wanted_position Wanted.Value state.old)) }
     ensures meaning { IfOk result (λ control. tree control state.new
         ≡ from_state (swap_step swap (view seen)) state.old) }
 {
@@ -35,6 +36,7 @@ pub(crate) fn call_seen(
     values.insert(0, copy(&seen)?)?;
     let function = swap.function.copy()?;
     let room = swap.room;
+    let swap = Box::new(alloc, swap)?;
     state
         .frames
         .push_front(Frame::Store(StoreFrame::Swapped(swap, seen)))?;

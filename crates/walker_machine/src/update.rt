@@ -24,6 +24,7 @@ use repl_faults::{Rule, broken_rule, not_a_function};
 use repl_values::Value;
 use special_forms::Forms;
 use std::alloc::{AllocError, Global};
+use std::boxed::Box;
 use store_calls::Update;
 use walker_state::{
     Callee, Control, Frame, State, StoreFrame, SymbolUse, call_swap, commute, hold, try_swap,
@@ -84,7 +85,7 @@ pub(crate) fn give_to_store(
         }
         StoreFrame::Held(name) => hold(alloc, state, name, value),
         StoreFrame::Commuted(name, applied) => commute(alloc, state, name, applied, value),
-        StoreFrame::Swapped(swap, seen) => try_swap(swap, seen, value),
+        StoreFrame::Swapped(swap, seen) => try_swap(alloc, Box::into_inner(swap), seen, value),
     }
 }
 

@@ -106,7 +106,8 @@ store_next (StoreFrame.AlterCall by name f values room) p v =
 store_next (StoreFrame.Held name) p v = held_value (name_view name) v
 store_next (StoreFrame.Commuted name commute) p v =
     commute_noted (name_view name) (commute_view commute) v
-store_next (StoreFrame.Swapped w seen) p v = tried_value w.atom (view seen) (swap_again w) v
+store_next (StoreFrame.Swapped w seen) p v =
+    tried_value w.value.atom (view seen) (swap_again w.value) v
 
 -- what is done with the value of the innermost form
 abbrev pub frames_next : List Frame → PlaceData → Datum → Kept → Doing

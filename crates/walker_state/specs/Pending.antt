@@ -1,11 +1,11 @@
 -- What an evaluation has still to do, in the words of the definition.
 use Rattle.std.specs.Prelude.{ℕ, List, ◌∷◌, true, false, Err, string_bytes}
-use Rattle.std.specs.Arc.{arc_str_bytes}
+use Rattle.std.specs.Arc.{arc_str_bytes, arc_value}
 use Rattle.value_data.specs.Datum.{Datum, nil}
 use Rattle.value_data.specs.Inside.View.{view}
 use Rattle.repl_faults.specs.Inside.View.{failure_of}
 use Rattle.repl_asks.specs.Exchange.{AnswerData, ResolutionData, resolution_in, value_in}
-use Rattle.repl_asks.specs.Exchange.{reading_in, VerdictData, verdict_in}
+use Rattle.repl_asks.specs.Exchange.{reading_in, VerdictData, verdict_in, permission_in}
 use Rattle.repl_asks.specs.Inside.View.{ask_view, name_view}
 use Rattle.repl_asks.specs.declared.answer.Resolution.{Resolution}
 use Rattle.repl_jobs.specs.InteractionTree.{InteractionTree, asks}
@@ -15,7 +15,7 @@ use Rattle.evaluation_rules.specs.Doing.{Kept, Doing, Part, ◌>>=◌, pure_part
 use Rattle.evaluation_rules.specs.Tree.{with_attempt, ends, written_tree}
 use Rattle.evaluation_rules.specs.Places.{PlaceData}
 use Rattle.evaluation_rules.specs.Naming.{resolution, as_value, as_function}
-use Rattle.evaluation_rules.specs.Refs.{read_value, ensured_read}
+use Rattle.evaluation_rules.specs.Refs.{read_value, ensured_read, permitted_value}
 use Rattle.evaluation_rules.specs.Atoms.{settled_value}
 use Rattle.evaluation_rules.specs.Calls.{named_call}
 use Rattle.evaluation_rules.specs.Applying.{body_value}
@@ -104,13 +104,15 @@ tree_with_answer (Wanted.Completion v) answer s = from_state (pure_part (view v)
 tree_with_answer (Wanted.Namespace name) answer s =
     whole s (next_of s nil (record (kept_of s) { namespace = arc_str_bytes name }))
 tree_with_answer Wanted.Value answer s = from_state (pure_part (value_in answer)) s
+tree_with_answer (Wanted.Permission v) answer s =
+    from_state (permitted_value (view v) (permission_in answer)) s
 tree_with_answer (Wanted.Reading name) answer s =
     from_state (read_value (name_view name) (reading_in answer)) s
 tree_with_answer (Wanted.Ensuring name) answer s =
     from_state (ensured_read (name_view name) (reading_in answer)) s
-tree_with_answer (Wanted.Seen w) answer s = from_state (swap_step w (value_in answer)) s
+tree_with_answer (Wanted.Seen w) answer s = from_state (swap_step w.value (value_in answer)) s
 tree_with_answer (Wanted.Tried w v) answer s =
-    from_state (settled_value (swap_again w) (view v) (value_in answer)) s
+    from_state (settled_value (swap_again w.value) (view v) (value_in answer)) s
 tree_with_answer (Wanted.Begin t) answer s = begun_tree t.value s
 tree_with_answer (Wanted.Verdict v t) answer s = settled_tree t.value (view v) (verdict_in answer) s
 
@@ -121,4 +123,4 @@ tree (Control.Return v) s = from_state (pure_part (view v)) s
 tree (Control.Fault f) s = ends (Err (failure_of f)) (string_bytes s.text) (kept_of s)
 tree (Control.Ask ask wanted) s = asks (ask_view ask) (λ answer. tree_with_answer wanted answer s)
 tree (Control.Enter f values room) s =
-    from_state (body_value (value_at room) (function_view f) (views values.items)) s
+    from_state (body_value (value_at room) (function_view (arc_value f)) (views values.items)) s

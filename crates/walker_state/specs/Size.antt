@@ -47,6 +47,7 @@ wanted_size (Wanted.Resolution purpose) = use_size purpose
 wanted_size (Wanted.Completion v) = 2
 wanted_size (Wanted.Namespace name) = 2
 wanted_size Wanted.Value = 2
+wanted_size (Wanted.Permission v) = 2
 wanted_size (Wanted.Reading name) = 2
 wanted_size (Wanted.Ensuring name) = 2
 wanted_size (Wanted.Seen w) = 2

@@ -6,7 +6,7 @@ use repl_values::{Fault, RefName, Value};
 use special_forms::{Forms, Function, Logic};
 use std::boxed::Box;
 use std::collections::VecDeque;
-use std::sync::ArcStr;
+use std::sync::{Arc, ArcStr};
 use store_calls::{Alteration, Update};
 use tx_attempt::Attempt;
 
@@ -71,7 +71,7 @@ pub enum StoreFrame {
     // What a function gave that is applied to this ref's value, and is to be applied again.
     Commuted(RefName, Commute),
     // What the function of `swap!` gives for this value, which the atom had.
-    Swapped(Swap, Value),
+    Swapped(Box<Swap>, Value),
 }
 
 /// A call of `swap!`: the number of its atom, its function and the arguments behind it, with its
@@ -153,14 +153,16 @@ pub enum Wanted {
     Namespace(ArcStr),
     // The form's value.
     Value,
+    // Whether this may be the form's value.
+    Permission(Value),
     // The value of this ref, which is noted.
     Reading(RefName),
     // The same, of a ref that is ensured.
     Ensuring(RefName),
     // The value of an atom, which goes to the function of `swap!`.
-    Seen(Swap),
+    Seen(Box<Swap>),
     // Whether the atom got this value.
-    Tried(Swap, Value),
+    Tried(Box<Swap>, Value),
     // That an attempt has begun. The state has no transaction and no frames.
     Begin(Box<Transaction>),
     // What comes of the commit of a body with this value. The state has no transaction and no
@@ -176,5 +178,5 @@ pub enum Control {
     Fault(Fault),
     Ask(Ask, Wanted),
     // The body of this function, at these arguments.
-    Enter(Function, Vec<Value>, u32),
+    Enter(Arc<Function>, Vec<Value>, u32),
 }

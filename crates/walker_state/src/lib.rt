@@ -34,6 +34,6 @@ pub use namespaces::{enter_named, enter_namespace, go_on_in};
 pub use refs::read;
 pub use refused::{refuse_program, refuse_store};
 pub use rows::{bind, next_in_body};
-pub use store::{call_store, commute, ensure_or_retry, hold, note_or_retry};
+pub use store::{call_store, commute, ensure_or_retry, hold, note_or_retry, permit};
 pub use swaps::{call_swap, settle_swap, try_swap};
 pub use thrown::throw;

@@ -4,16 +4,19 @@
 
 ghost use Rattle.std.specs.Prelude.{◌≡◌, ◌<◌, IfOk};
 ghost use Rattle.value_data.specs.Inside.View.{view};
-ghost use Rattle.repl_asks.specs.Inside.View.{commute_view, name_view, reading_view};
+ghost use Rattle.repl_asks.specs.Inside.View.{commute_view, name_view, permission_view};
+ghost use Rattle.repl_asks.specs.Inside.View.{reading_view};
 ghost use Rattle.special_forms.specs.Inside.Seen.{views};
 ghost use Rattle.evaluation_rules.specs.Calls.{commute_noted};
-ghost use Rattle.evaluation_rules.specs.Refs.{ensured_read, held_value, put_value, read_value};
+ghost use Rattle.evaluation_rules.specs.Refs.{ensured_read, held_value, permitted_value};
+ghost use Rattle.evaluation_rules.specs.Refs.{put_value, read_value};
 ghost use Rattle.evaluation_rules.specs.Refs.{call_data_at, store_call};
 ghost use Rattle.store_calls.specs.Inside.View.{call_view};
 ghost use Rattle.walker_state.specs.UnderWay.{is_running};
 ghost use Rattle.walker_state.specs.Pending.{from_state, tree};
 ghost use Rattle.walker_state.specs.Position.{IsLater, LeadsOnWithin, control_position};
 ghost use Rattle.walker_state.specs.Position.{wanted_position};
+ghost use Rattle.walker_state.specs.declared.frames.State.{State};
 ghost use Rattle.walker_state.specs.declared.frames.Wanted.{Wanted};
 
 use crate::attempts::retry;
@@ -21,7 +24,7 @@ use crate::frames::{Control, State, Wanted};
 use crate::refs::{ensure, note_commuted, note_ensured, note_read, read};
 use evaluation_rules::Occasion;
 use function_names::StoreFunction;
-use repl_asks::{Commute, Reading};
+use repl_asks::{Commute, Permission, Reading};
 use repl_faults::{Rule, broken_rule};
 use repl_values::{RefName, Value, copy};
 use std::alloc::{AllocError, Global};
@@ -46,6 +49,7 @@ pub fn call_store(
         Call::Puts(name, value) => put(alloc, state, name, value),
         Call::Ensures(name) => ensure(state, name),
         Call::AsksValue(ask) => Ok(Control::Ask(ask, Wanted::Value)),
+        Call::AsksPermission(ask, value) => Ok(Control::Ask(ask, Wanted::Permission(value))),
     }
 }
 
@@ -172,5 +176,17 @@ pub fn ensure_or_retry(
             note_ensured(state, name, &found)?;
             Ok(Control::Return(found))
         }
+    }
+}
+
+/// The value, where what was asked is granted; else the fault for which it is denied.
+pub fn permit(value: Value, permission: Permission) -> Control
+    ensures on { (s : State) → LeadsOnWithin 2 s s result }
+    ensures meaning { (s : State) → tree result s
+        ≡ from_state (permitted_value (view value) (permission_view permission)) s }
+{
+    match permission {
+        Permission::Granted => Control::Return(value),
+        Permission::Denied(fault) => Control::Fault(fault),
     }
 }

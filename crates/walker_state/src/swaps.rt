@@ -20,6 +20,7 @@ use repl_faults::{too_many_calls, wrong_arity};
 use repl_values::{Value, copy};
 use special_forms::is_truthy;
 use std::alloc::{AllocError, Global};
+use std::boxed::Box;
 use store_calls::{Swapped, atom_to_swap};
 
 /// A call of `swap!` with this function: the value of its atom is asked for, which goes to the
@@ -52,14 +53,15 @@ pub fn call_swap(
                 room,
                 left: state.calls,
             };
-            Ok(Control::Ask(Ask::ReadAtom(atom), Wanted::Seen(swap)))
+            let wanted = Wanted::Seen(Box::new(alloc, swap)?);
+            Ok(Control::Ask(Ask::ReadAtom(atom), wanted))
         }
     }
 }
 
 /// What the function gave is tried: the atom gets it, if it still has the value that was seen. It
 /// fails only for want of memory.
-pub fn try_swap(swap: Swap, seen: Value, next: Value) -> Result<Control, AllocError>
+pub fn try_swap(alloc: Global, swap: Swap, seen: Value, next: Value) -> Result<Control, AllocError>
     ensures on { IfOk result (λ control. (s : State) → LeadsOnWithin 4 s s control) }
     ensures meaning { IfOk result (λ control. (s : State) → tree control s
         ≡ from_state (tried_value swap.atom (view seen) (swap_again swap) (view next)) s) }
@@ -69,6 +71,7 @@ pub fn try_swap(swap: Swap, seen: Value, next: Value) -> Result<Control, AllocEr
         next: copy(&next)?,
         seen,
     };
+    let swap = Box::new(alloc, swap)?;
     Ok(Control::Ask(ask, Wanted::Tried(swap, next)))
 }
 
@@ -101,5 +104,7 @@ fn swap_once_more(alloc: Global, swap: Swap) -> Result<Control, AllocError>
     }
     let mut swap = swap;
     swap.left -= 1;
-    Ok(Control::Ask(Ask::ReadAtom(swap.atom), Wanted::Seen(swap)))
+    let ask = Ask::ReadAtom(swap.atom);
+    let wanted = Wanted::Seen(Box::new(alloc, swap)?);
+    Ok(Control::Ask(ask, wanted))
 }

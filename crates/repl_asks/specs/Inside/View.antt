@@ -10,17 +10,20 @@ use Rattle.repl_asks.specs.Transactions.{IntentData}
 use Rattle.repl_asks.specs.Exchange.{BindingData, bound_value, bound_function, AskData, resolve}
 use Rattle.repl_asks.specs.Exchange.{define, enter, new_ref, begin, read, history, min_history}
 use Rattle.repl_asks.specs.Exchange.{max_history, commit, new_atom, read_atom, set_atom, try_atom}
+use Rattle.repl_asks.specs.Exchange.{new_agent, read_agent, agent_fault, restart_agent}
 use Rattle.repl_asks.specs.Exchange.{NamedFunctionData, core_function}
 use Rattle.repl_asks.specs.Exchange.{store_function, program_function, ResolutionData, names_value}
 use Rattle.repl_asks.specs.Exchange.{names_function, names_nothing, ReadingData, found, retry}
-use Rattle.repl_asks.specs.Exchange.{VerdictData, committed, conflict, faulted, AnswerData}
-use Rattle.repl_asks.specs.Exchange.{resolution, done, value, reading, verdict, Exchanged}
+use Rattle.repl_asks.specs.Exchange.{VerdictData, committed, conflict, faulted, PermissionData}
+use Rattle.repl_asks.specs.Exchange.{granted, denied, AnswerData, resolution, done, value, reading}
+use Rattle.repl_asks.specs.Exchange.{verdict, permission, Exchanged}
 use Rattle.repl_asks.specs.declared.intent.Change.{Change}
 use Rattle.repl_asks.specs.declared.intent.Commute.{Commute}
 use Rattle.repl_asks.specs.declared.intent.Commuted.{Commuted}
 use Rattle.repl_asks.specs.declared.intent.Intent.{Intent}
 use Rattle.repl_asks.specs.declared.answer.Reading.{Reading}
 use Rattle.repl_asks.specs.declared.answer.Verdict.{Verdict}
+use Rattle.repl_asks.specs.declared.answer.Permission.{Permission}
 use Rattle.repl_asks.specs.declared.ask.Ask.{Ask}
 use Rattle.repl_asks.specs.declared.ask.Binding.{Binding}
 use Rattle.repl_asks.specs.declared.answer.NamedFunction.{NamedFunction}
@@ -30,7 +33,7 @@ use Rattle.repl_asks.specs.declared.exchange.Exchange.{Exchange}
 
 abbrev pub binding_view : Binding → BindingData
 binding_view (Binding.Value v) = bound_value (view v)
-binding_view (Binding.Function f) = bound_function (function_view f)
+binding_view (Binding.Function f) = bound_function (function_view (arc_value f))
 
 abbrev pub name_view : RefName → RefNameData
 name_view r = record { owner = owner_view r.owner; number = r.number }
@@ -67,11 +70,15 @@ ask_view (Ask.NewAtom v) = new_atom (view v)
 ask_view (Ask.ReadAtom n) = read_atom n
 ask_view (Ask.SetAtom n v) = set_atom n (view v)
 ask_view (Ask.TryAtom n seen next) = try_atom n (view seen) (view next)
+ask_view (Ask.NewAgent v) = new_agent (view v)
+ask_view (Ask.ReadAgent n) = read_agent n
+ask_view (Ask.AgentFault n) = agent_fault n
+ask_view (Ask.RestartAgent n v) = restart_agent n (view v)
 
 abbrev pub named_view : NamedFunction → NamedFunctionData
 named_view (NamedFunction.Core f) = core_function f
 named_view (NamedFunction.Store f) = store_function f
-named_view (NamedFunction.Program f) = program_function (function_view f)
+named_view (NamedFunction.Program f) = program_function (function_view (arc_value f))
 
 abbrev pub resolution_view : Resolution → ResolutionData
 resolution_view (Resolution.Value v) = names_value (view v)
@@ -87,12 +94,17 @@ verdict_view Verdict.Committed = committed
 verdict_view Verdict.Conflict = conflict
 verdict_view (Verdict.Faulted f) = faulted (failure_of f)
 
+abbrev pub permission_view : Permission → PermissionData
+permission_view Permission.Granted = granted
+permission_view (Permission.Denied f) = denied (failure_of f)
+
 abbrev pub answer_view : Answer → AnswerData
 answer_view (Answer.Resolution r) = resolution (resolution_view r)
 answer_view Answer.Done = done
 answer_view (Answer.Value v) = value (view v)
 answer_view (Answer.Reading r) = reading (reading_view r)
 answer_view (Answer.Verdict v) = verdict (verdict_view v)
+answer_view (Answer.Permission p) = permission (permission_view p)
 
 abbrev pub exchange_view : Exchange → Exchanged
 exchange_view e = record { ask = ask_view e.ask; answer = answer_view e.answer }

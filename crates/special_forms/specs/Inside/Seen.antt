@@ -1,6 +1,6 @@
 -- What the code's parts of a form stand for.
 use Rattle.std.specs.Prelude.{List, map, drop, take}
-use Rattle.std.specs.Arc.{arc_value, arc_str_bytes}
+use Rattle.std.specs.Arc.{arc_str_bytes}
 use Rattle.value_data.specs.Datum.{Datum}
 use Rattle.value_data.specs.Listed.{listed}
 use Rattle.value_data.specs.Inside.View.{view}
@@ -51,6 +51,6 @@ abbrev pub function_view : Function → FunctionData
 function_view f = record {
   space = arc_str_bytes f.space;
   name = arc_str_bytes f.name;
-  params = map arc_str_bytes (arc_value f.params).items;
+  params = map arc_str_bytes f.params.items;
   body = forms_view f.body;
 }

@@ -6,6 +6,7 @@ use Rattle.repl_faults.specs.Inside.View.{failure_of}
 use Rattle.repl_asks.specs.Transactions.{RefNameData}
 use Rattle.repl_asks.specs.Inside.View.{name_view, ask_view}
 use Rattle.store_calls.specs.Calling.{CallData, refused, reads, puts, ensures, asks_value}
+use Rattle.store_calls.specs.Calling.{asks_permission}
 use Rattle.store_calls.specs.Arguments.{BoundsData}
 use Rattle.store_calls.specs.declared.bounds.Bounds.{Bounds}
 use Rattle.store_calls.specs.declared.outcome.Altered.{Altered}
@@ -18,6 +19,7 @@ call_view (Call.Reads name) = reads (name_view name)
 call_view (Call.Puts name v) = puts (name_view name) (view v)
 call_view (Call.Ensures name) = ensures (name_view name)
 call_view (Call.AsksValue ask) = asks_value (ask_view ask)
+call_view (Call.AsksPermission ask v) = asks_permission (ask_view ask) (view v)
 
 -- the ref that is altered, or why none is
 abbrev pub altered_view : Altered → Result RefNameData Failure

@@ -10,7 +10,7 @@ use Rattle.tenant_world.specs.Answers.{ask_answer_view}
 use Rattle.tenant_world.specs.Acting.{AcceptsOutcome, RefusesOutcome, is_accepted}
 use Rattle.tenant_refs.specs.Serving.{ServesWithAttempts}
 use Rattle.tenant_world.proofs.Remembering.{acted-interrupted, wanted-memory}
-use Rattle.tenant_world.proofs.Answering.{asked-open, asked-closed, given-told, given-declined}
+use Rattle.tenant_world.proofs.Answering.{allowed-so, asked-open, asked-closed, given-told, given-declined}
 use Rattle.tenant_world.proofs.asking.ask.Goals as goal
 
 pub returns-in_err-give_up-clause-declined : goal.returns-in_err-give_up-clause-declined
@@ -20,7 +20,7 @@ returns-in_err-give_up-clause-declined c = λ g q s r remembers holds.
     let ask = ask_view c.args.ask.now in
     let k = hand_view c.in-Some.hand in
     let run = run_view c.in-Some-running._run in
-    let allowed = sym (c.is_allowed.ensures q remembers.atoms) ∙ c.if-not-is_allowed.false in
+    let allowed = allowed-so ask remembers.cells c.is_allowed.ensures c.if-not-is_allowed.false in
     let plan = asked-closed g a actor ask q k run (ap (option_map hand_view) c.in-Some.is)
     (ap (option_map run_view) c.in-Some-running.is) allowed c.if-state.true in
     let stay = c.in_err-give_up.ensures.stays g q s r remembers holds in
@@ -37,7 +37,7 @@ returns-then-state-clause-acted c = λ g q s r remembers holds.
     let memory = c.give_up.new.memory in
     let refs = c.args.refs.now in
     let attempts = c.give_up.new.attempts in
-    let allowed = sym (c.is_allowed.ensures q remembers.atoms) ∙ c.if-not-is_allowed.false in
+    let allowed = allowed-so ask remembers.cells c.is_allowed.ensures c.if-not-is_allowed.false in
     let plan = asked-closed g a actor ask q k run (ap (option_map hand_view) c.in-Some.is)
     (ap (option_map run_view) c.in-Some-running.is) allowed c.if-state.true in
     let gone = c.in_ok-give_up.ensures.gone g q s r remembers holds in
@@ -63,7 +63,7 @@ returns-clause-acted c = λ g q s r remembers holds.
     let ask = ask_view c.args.ask.now in
     let k = hand_view c.in-Some.hand in
     let run = run_view c.in-Some-running._run in
-    let allowed = sym (c.is_allowed.ensures q remembers.atoms) ∙ c.if-not-is_allowed.false in
+    let allowed = allowed-so ask remembers.cells c.is_allowed.ensures c.if-not-is_allowed.false in
     let hand = ap (option_map hand_view) c.in-Some.is in
     let running = ap (option_map run_view) c.in-Some-running.is in
     let P : Plan → Type 0 = λ p. IfOk c.answer.result (λ x.
@@ -81,7 +81,7 @@ returns-clause-declined c = λ g q s r remembers holds.
     let ask = ask_view c.args.ask.now in
     let k = hand_view c.in-Some.hand in
     let run = run_view c.in-Some-running._run in
-    let allowed = sym (c.is_allowed.ensures q remembers.atoms) ∙ c.if-not-is_allowed.false in
+    let allowed = allowed-so ask remembers.cells c.is_allowed.ensures c.if-not-is_allowed.false in
     let P : Plan → Type 0 = λ p. IfErr c.answer.result (λ why.
     RefusesOutcome g s.tenant q (carried_out s p).outcome c.answer.new.memory why
     × ServesWithAttempts c.answer.new.refs c.answer.new.attempts s r) in
@@ -95,7 +95,7 @@ returns-in_err-give_up-clause-no_memory c = λ g q s r remembers holds none.
     let actor = actor_view c.args.state.now in
     let ask = ask_view c.args.ask.now in
     let k = hand_view c.in-Some.hand in
-    let allowed = sym (c.is_allowed.ensures q remembers.atoms) ∙ c.if-not-is_allowed.false in
+    let allowed = allowed-so ask remembers.cells c.is_allowed.ensures c.if-not-is_allowed.false in
     let plan = asked-closed g a actor ask q k (run_view c.in-Some-running._run)
     (ap (option_map hand_view) c.in-Some.is) (ap (option_map run_view) c.in-Some-running.is)
     allowed c.if-state.true in
@@ -112,7 +112,7 @@ returns-clause-no_memory c = λ g q s r remembers holds none.
     let ask = ask_view c.args.ask.now in
     let k = hand_view c.in-Some.hand in
     let run = run_view c.in-Some-running._run in
-    let allowed = sym (c.is_allowed.ensures q remembers.atoms) ∙ c.if-not-is_allowed.false in
+    let allowed = allowed-so ask remembers.cells c.is_allowed.ensures c.if-not-is_allowed.false in
     let plan = asked-open g a actor ask q k run (ap (option_map hand_view) c.in-Some.is)
     (ap (option_map run_view) c.in-Some-running.is) allowed c.if-state.false in
     sym (ap (λ p. is_accepted (carried_out s p).outcome) plan)

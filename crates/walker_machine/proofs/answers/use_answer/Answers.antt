@@ -24,3 +24,8 @@ pub returns-in-Tried-clause-later : goal.returns-in-Tried-clause-later
 returns-in-Tried-clause-later c =
     let s = c.args.state.now in
     rw c.in-Tried.is (leads-later _ 3 s s _ refl (omega arith) (omega arith) (if_ok-for (λ k u. LeadsOnWithin 3 u u k) s _ c.settle_swap.ensures.on))
+
+pub returns-in-Permission-clause-later : goal.returns-in-Permission-clause-later
+returns-in-Permission-clause-later c =
+    let s = c.args.state.now in
+    rw c.in-Permission.is (leads-later _ 2 s s _ refl (omega arith) (omega arith) (c.permit.ensures.on s))

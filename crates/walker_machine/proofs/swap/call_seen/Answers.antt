@@ -24,7 +24,7 @@ pub returns-clause-later : goal.returns-clause-later
 returns-clause-later c =
     let s = c.args.state.now in
     let called = c.in_ok-control.ensures in
-    seen-later _ c.in_ok-control.control c.args.swap s (record s { frames = c.push_front.new.self }) c.call_named.new.state _
+    seen-later _ c.in_ok-control.control s (record s { frames = c.push_front.new.self }) c.call_named.new.state _
     refl refl called.on (called.entered (omega (arith, c.if-state-eq0.false))) c.enter_body.ensures.calls c.enter_body.ensures.around
 
 pub returns-clause-meaning : goal.returns-clause-meaning

@@ -30,4 +30,4 @@ returns-in-Atom-clause-meaning c =
     let taken = c.remove-target in
     let given = first-removed vs.items taken.new.self.items taken.result vs.len (omega (arith, vs.ok)) c.if-is_empty.ensures taken.ensures.value taken.ensures.items in
     let told = swapped-told _ (Ok c.in-Atom.atom) (view taken.result) c.in_ok-fault-2.ensures (ap swapped_view c.in-Atom.is) in
-    swap_call-asks _ (view taken.result) vs.items c.args.state.now given told refl
+    rw c.in_ok-new.ensures.ok (swap_call-asks _ (view taken.result) vs.items c.args.state.now given told refl)

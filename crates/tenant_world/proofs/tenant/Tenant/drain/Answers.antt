@@ -12,6 +12,6 @@ returns-clause-drained c = λ g q s stands.
       sessions = refl;
       bare = refl;
       spaces = refl;
-      atoms = refl;
+      cells = refl;
       attempts = refl;
     }) stands c.take.ensures

@@ -1,0 +1,63 @@
+// The atoms and agents of a tenant, and what a form asks of them.
+ghost use Rattle.std.specs.Prelude.{◌≡◌, true, is_some, IfOk, OnOk, OnErr};
+ghost use Rattle.repl_asks.specs.Exchange.{done};
+ghost use Rattle.repl_asks.specs.Inside.View.{ask_view};
+ghost use Rattle.server_rules.specs.Cells as meant;
+ghost use Rattle.server_rules.specs.Cells.{cell_answer, cells_after};
+ghost use Rattle.tenant_refs.specs.Thrice.{thrice_view, IsThrice};
+ghost use Rattle.tenant_world.specs.Asking.{is_of_cells};
+ghost use Rattle.tenant_world.specs.Cells.{cells_data};
+
+use crate::{agents, atoms};
+use private_cells::{Agents, Atoms};
+use repl_asks::Ask;
+use std::alloc::{AllocError, Global};
+use tenant_refs::Thrice;
+
+#[derive(Drop)]
+pub(crate) struct Cells {
+    pub(crate) atoms: Atoms,
+    pub(crate) agents: Agents,
+}
+
+impl Cells {
+    pub(crate) fn has_atom(&self, number: u64) -> bool
+        ensures { result ≡ meant.has_atom number (cells_data self.now) }
+    {
+        self.atoms.read(number).is_some()
+    }
+
+    pub(crate) fn has_agent(&self, number: u64) -> bool
+        ensures { result ≡ meant.has_agent number (cells_data self.now) }
+    {
+        self.agents.read(number).is_some()
+    }
+
+    /// Answers an ask of atoms or agents, and does what is asked. It fails only for want of memory,
+    /// and has then changed nothing.
+    pub(crate) fn ask(&mut self, alloc: Global, ask: &Ask) -> Result<Thrice, AllocError>
+        requires { is_of_cells (ask_view ask.now) ≡ true }
+        ensures answered { IfOk result (λ it. thrice_view it
+            ≡ cell_answer (ask_view ask.now) (cells_data self.old) done) }
+        ensures changed { OnOk result (cells_data self.new
+            ≡ cells_after (ask_view ask.now) (cells_data self.old)) }
+        ensures stays { OnErr result (cells_data self.new ≡ cells_data self.old) }
+        ensures thrice { IfOk result IsThrice }
+    {
+        match ask {
+            Ask::NewAtom(value) => atoms::make(&mut self.atoms, value),
+            Ask::ReadAtom(number) => atoms::read(&self.atoms, *number),
+            Ask::SetAtom { number, value } => atoms::set(&mut self.atoms, *number, value),
+            Ask::TryAtom { number, seen, next } => {
+                atoms::swap(&mut self.atoms, *number, seen, next)
+            }
+            Ask::NewAgent(state) => agents::make(&mut self.agents, state),
+            Ask::ReadAgent(number) => agents::read(&self.agents, *number),
+            Ask::AgentFault(number) => agents::fault(&self.agents, *number),
+            Ask::RestartAgent { number, state } => {
+                agents::restart(alloc, &mut self.agents, *number, state)
+            }
+            _ => unreachable!(),
+        }
+    }
+}
