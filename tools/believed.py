@@ -20,7 +20,7 @@ NO_RULE = re.compile(r"\s*(--|use |pub use |pub mod |mod |$)")
 NAMED = re.compile(r"^ghost use Rattle\.(\w+)\.specs\.([\w.]+)\.\{([^}]*)\};$", re.MULTILINE)
 SERVER = {
     "repl_sessions", "name_spaces", "server_rules", "trace_comparison", "tenant_turns",
-    "tenant_walks", "nrepl_pipe", "repl_core",
+    "nrepl_pipe", "repl_core",
 }  # fmt: skip
 
 

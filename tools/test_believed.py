@@ -8,9 +8,12 @@ import believed
 import workspace
 
 ROW = re.compile(r"^\| `(\w+)` \| ([\d,]+) \| ([\d,]+) \|", re.MULTILINE)
-# What of specs/ holds nothing to believe for `pipe`, and crates of which it needs a file alone.
-APART = {"Lib", "Inside", "Isolation", "Machine"}
-PARTLY = {"repl_core": {"Configured"}, "private_cells": {"Atoms", "Places"}}
+# What of specs/ holds nothing to believe for `pipe`, and crates of which it needs some files alone.
+APART = {"Lib", "Inside", "Isolation", "Machine", "Examples"}
+PARTLY = {
+    "repl_core": {"Configured", "Grounds"},
+    "private_cells": {"Actions", "Agents", "Atoms", "Places"},
+}
 
 
 class Believed(unittest.TestCase):

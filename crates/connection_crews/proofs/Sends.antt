@@ -10,6 +10,9 @@ use denote.Param.SendFields.{variants_send, variants_sync, as_row_send}
 use Rattle.std.proofs.Crossing.{crosses}
 use Rattle.std.proofs.Crossing as heap
 use Rattle.std.proofs.MapsCrossing as maps
+use Rattle.std_collections.proofs.linked_list.nodes.Nodes.TheSendSync as linked_nodes
+use Rattle.std_collections.specs.contracts.linked_list.LinkedList as linked
+use Rattle.std_collections.specs.contracts.linked_list.LinkedList.TheInside as linked_inside
 use Rattle.std.specs.contracts.alloc.Global as Heap
 use Rattle.std.specs.contracts.impls.GlobalAllocator.TheImpl.{ghosts}
 use Rattle.std.specs.contracts.sync.ArcStr as text
@@ -37,15 +40,16 @@ use Rattle.repl_asks.specs.contracts.answer.NamedFunction as named
 use Rattle.repl_asks.specs.contracts.answer.Resolution as resolution
 use Rattle.repl_asks.specs.contracts.answer.Reading as reading
 use Rattle.repl_asks.specs.contracts.answer.Verdict as verdict
+use Rattle.repl_asks.specs.contracts.answer.Permission as permission
 use Rattle.repl_asks.specs.contracts.answer.Answer as answer
 use Rattle.repl_asks.specs.contracts.exchange.Exchange as exchange
 use Rattle.bytes.specs.contracts.shared.Bytes as bytes
 use Rattle.server_rules.specs.contracts.actor.Actor as actor
 use Rattle.bencode_wire.specs.contracts.ben.Ben as ben
-use Rattle.repl_jobs.specs.contracts.job.Work as work
-use Rattle.repl_jobs.specs.contracts.job.Job as job
-use Rattle.repl_jobs.specs.contracts.job.End as end
-use Rattle.repl_jobs.specs.contracts.job.Finished as finished
+use Rattle.repl_asks.specs.contracts.job.Work as work
+use Rattle.repl_asks.specs.contracts.job.Job as job
+use Rattle.repl_asks.specs.contracts.job.End as end
+use Rattle.repl_asks.specs.contracts.job.Finished as finished
 use Rattle.repl_walker.specs.contracts.ending.Ending as ending
 use Rattle.repl_core.specs.contracts.step.Step as step
 use Rattle.repl_core.specs.contracts.step.StepAnswer as step_answer
@@ -65,7 +69,14 @@ use Rattle.name_spaces.specs.contracts.vars.Vars as vars
 use Rattle.name_spaces.specs.contracts.shared.SharedNames as shared_names
 use Rattle.name_spaces.specs.contracts.spaces.Spaces as spaces
 use Rattle.private_cells.specs.contracts.atoms.Atoms as atoms
-use Rattle.tenant_replies.specs.contracts.outbox.Outbox as outbox
+use Rattle.private_cells.specs.contracts.action.Action as action
+use Rattle.private_cells.specs.contracts.action.Sent as sending
+use Rattle.private_cells.specs.contracts.cells.Cell as cell
+use Rattle.private_cells.specs.contracts.turns.Turns as turns
+use Rattle.private_cells.specs.contracts.counts.Counts as action_counts
+use Rattle.private_cells.specs.contracts.spare.Spare as spare
+use Rattle.private_cells.specs.contracts.agents.Agents as agents
+use Rattle.tenant_actors.specs.contracts.outbox.Outbox as outbox
 use Rattle.tenant_refs.specs.contracts.attempts.Attempts as attempts
 use Rattle.tenant_world.specs.contracts.tenant.Tenant as tenant
 use Rattle.ref_history.specs.contracts.ring_history.RingHistory as history
@@ -75,6 +86,7 @@ use Rattle.repl_core.specs.contracts.machine.Config as config
 use Rattle.repl_core.specs.contracts.machine.SharedText as shared_text
 use Rattle.journal_book.specs.contracts.book.Book as book
 use Rattle.slab.specs.contracts.Slab as slab
+use Rattle.tenant_world.specs.contracts.cells.Cells as cells
 use Rattle.tenant_world.specs.contracts.memory.Memory as memory
 use Rattle.ref_history.specs.contracts.ring_ref.RingRef as ring_ref
 use Rattle.version_rings.specs.contracts.rings.Rings as rings
@@ -200,14 +212,10 @@ fault-sync : IsSync fault.the_row
 fault-sync = search all depth 40 fits 20000
 
 function-send : IsSend function.the_row
-function-send =
-    search (made, text-send, text-sync, forms-send, heap.Vec-send, heap.Vec-sync, heap.Arc-send)
-    depth 30 fits 20000
+function-send = search (made, text-send, forms-send, heap.Vec-send) depth 30 fits 20000
 
 function-sync : IsSync function.the_row
-function-sync =
-    search (made, text-send, text-sync, forms-sync, heap.Vec-send, heap.Vec-sync, heap.Arc-sync)
-    depth 30 fits 20000
+function-sync = search (made, text-sync, forms-sync, heap.Vec-sync) depth 30 fits 20000
 
 change-send : IsSend change.the_row
 change-send = search (made, ref_name-send, value-send) depth 30 fits 20000
@@ -236,10 +244,12 @@ intent-sync =
     search (made, change-sync, ref_name-sync, commuted-sync, heap.Vec-sync) depth 30 fits 20000
 
 binding-send : IsSend binding.the_row
-binding-send = search (made, value-send, function-send) depth 30 fits 20000
+binding-send =
+    search (made, value-send, function-send, function-sync, heap.Arc-send) depth 30 fits 20000
 
 binding-sync : IsSync binding.the_row
-binding-sync = search (made, value-sync, function-sync) depth 30 fits 20000
+binding-sync =
+    search (made, value-sync, function-send, function-sync, heap.Arc-sync) depth 30 fits 20000
 
 ask-send : IsSend ask.the_row
 ask-send =
@@ -270,10 +280,14 @@ ask-sync =
     ) depth 30 fits 20000
 
 named-send : IsSend named.the_row
-named-send = search (made, core-send, store-send, function-send) depth 30 fits 20000
+named-send =
+    search (made, core-send, store-send, function-send, function-sync, heap.Arc-send) depth 30 fits
+    20000
 
 named-sync : IsSync named.the_row
-named-sync = search (made, core-sync, store-sync, function-sync) depth 30 fits 20000
+named-sync =
+    search (made, core-sync, store-sync, function-send, function-sync, heap.Arc-sync) depth 30 fits
+    20000
 
 resolution-send : IsSend resolution.the_row
 resolution-send = search (made, value-send, named-send, fault-send) depth 30 fits 20000
@@ -293,13 +307,21 @@ verdict-send = search (made, fault-send) depth 30 fits 20000
 verdict-sync : IsSync verdict.the_row
 verdict-sync = search (made, fault-sync) depth 30 fits 20000
 
+permission-send : IsSend permission.the_row
+permission-send = search all depth 40 fits 20000
+
+permission-sync : IsSync permission.the_row
+permission-sync = search all depth 40 fits 20000
+
 answer-send : IsSend answer.the_row
 answer-send =
-    search (made, resolution-send, value-send, reading-send, verdict-send) depth 30 fits 20000
+    search (made, resolution-send, value-send, reading-send, verdict-send, permission-send) depth 30
+    fits 20000
 
 answer-sync : IsSync answer.the_row
 answer-sync =
-    search (made, resolution-sync, value-sync, reading-sync, verdict-sync) depth 30 fits 20000
+    search (made, resolution-sync, value-sync, reading-sync, verdict-sync, permission-sync) depth 30
+    fits 20000
 
 exchange-send : IsSend exchange.the_row
 exchange-send = search (made, ask-send, answer-send) depth 30 fits 20000
@@ -422,6 +444,54 @@ spaces-send = declared_send spaces.the_type (
 atoms-send : IsSend atoms.the_row
 atoms-send = search (made, value-send, heap.Vec-send) depth 30 fits 20000
 
+action-send : IsSend action.the_row
+action-send =
+    search (made, named-send, value-send, origin-send, number-send, heap.Vec-send) depth 30 fits
+    20000
+
+sending-send : IsSend sending.the_row
+sending-send = search (made, sendable, action-send) depth 30 fits 20000
+
+list-inside-send : (R : RattleType) → IsSend R
+    → IsSend (linked_inside.the_row R Heap.the_row ghosts)
+list-inside-send R s = declared_send (linked_inside.the_type R Heap.the_row ghosts)
+    (linked_nodes.the_send R Heap.the_row ghosts s heap.send heap.frees, (heap.send, tt))
+
+list-send : (R : RattleType) → IsSend R → IsSend (linked.the_row R Heap.the_row ghosts)
+list-send R s = search (view_send, list-inside-send)
+
+cell-send : IsSend cell.the_row
+cell-send =
+    search (made, sendable, value-send, fault-send, option-send, sending-send, list-send) depth 30
+    fits 20000
+
+turns-send : IsSend turns.the_row
+turns-send = search (sendable, crosses) depth 40 fits 20000
+
+action_counts-send : IsSend action_counts.the_row
+action_counts-send = search (sendable, crosses, maps.crosses) depth 40 fits 20000
+
+spare-send : IsSend spare.the_row
+spare-send = search (sendable, crosses, sending-send, list-send) depth 40 fits 20000
+
+agents-send : IsSend agents.the_row
+agents-send = declared_send agents.the_type (
+  heap.send,
+  (
+    heap.Vec-send _ cell-send,
+    (
+      turns-send,
+      (
+        action_counts-send,
+        (spare-send, (number-send, (search sendable, tt))),
+      ),
+    ),
+  ),
+)
+
+cells-send : IsSend cells.the_row
+cells-send = declared_send cells.the_type (atoms-send, (agents-send, tt))
+
 sessions-send : IsSend sessions.the_row
 sessions-send = search (sendable, crosses, maps.crosses, session_state-send) depth 40 fits 20000
 
@@ -491,7 +561,7 @@ memory-send =
         session_state-send,
         (
           spaces-send,
-          (atoms-send, (outbox-send, tt)),
+          (cells-send, (outbox-send, tt)),
         ),
       ),
     )

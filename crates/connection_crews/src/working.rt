@@ -2,7 +2,7 @@
 use crate::gate::Gate;
 use crate::moves::{Connection, Ended, Found, Told};
 use journal_book::Seat;
-use repl_jobs::Job;
+use repl_asks::Job;
 use repl_walker::{Ending, Progress, Walk, start};
 use server_rules::Actor;
 use std::sync::Wait;

@@ -13,7 +13,7 @@ use Rattle.core_functions.specs.Meaning.{meaning}
 use Rattle.repl_asks.specs.Exchange.{NamedFunctionData, core_function, store_function}
 use Rattle.repl_asks.specs.Exchange.{program_function}
 use Rattle.special_forms.specs.Functions.{FunctionData}
-use Rattle.local_names.specs.Locals.{LocalData}
+use Rattle.special_forms.specs.Locals.{LocalData}
 use Rattle.store_calls.specs.declared.updating.Update.{Update}
 use Rattle.evaluation_rules.specs.Doing.{failed, left, printing, Part, fails}
 use Rattle.evaluation_rules.specs.Places.{PlaceData, Evaluator}

@@ -5,14 +5,14 @@ use Rattle.std.specs.Prelude.{if◌then◌else◌, codes}
 use Rattle.value_data.specs.Datum.{Datum, keyword, symbol, list, vector, map, no_items, item}
 use Rattle.value_data.specs.Listed.{listed}
 use Rattle.repl_faults.specs.Failure as failures
-use Rattle.repl_jobs.specs.Job as jobs
-use Rattle.repl_jobs.specs.Job.{WorkData, JobData}
+use Rattle.repl_asks.specs.Job as jobs
+use Rattle.repl_asks.specs.Job.{WorkData, JobData}
 use Rattle.special_forms.specs.Rows.{in_a_row}
 use Rattle.special_forms.specs.Names.{special_named}
 use Rattle.special_forms.specs.Shapes.{shape_of}
 use Rattle.special_forms.specs.declared.special.SpecialForm.{SpecialForm}
 use Rattle.evaluation_rules.specs.Doing.{Kept, gave, left, Part, ◌>>=◌, pure_part, fails}
-use Rattle.repl_jobs.specs.InteractionTree.{InteractionTree}
+use Rattle.repl_asks.specs.InteractionTree.{InteractionTree}
 use Rattle.evaluation_rules.specs.Tree.{written_tree}
 use Rattle.evaluation_rules.specs.Places.{PlaceData, Evaluator, outside}
 use Rattle.evaluation_rules.specs.Naming.{resolution, symbol_value, as_function}

@@ -11,7 +11,7 @@ use Rattle.function_names.specs.declared.function.CoreFunction.{CoreFunction}
 use Rattle.function_names.specs.declared.store.StoreFunction.{StoreFunction}
 use Rattle.repl_asks.specs.Exchange.{resolve, NamedFunctionData, core_function, store_function}
 use Rattle.repl_asks.specs.Exchange.{ResolutionData, names_value, names_function, names_nothing}
-use Rattle.local_names.specs.Locals.{local_value}
+use Rattle.special_forms.specs.Locals.{local_value}
 use Rattle.repl_values.specs.Slash.{is_slash}
 use Rattle.evaluation_rules.specs.Doing.{Part, ◌>>=◌, pure_part, fails, resolving}
 use Rattle.evaluation_rules.specs.Places.{PlaceData, space_of}

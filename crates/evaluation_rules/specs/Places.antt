@@ -1,7 +1,7 @@
 -- Where a form stands.
 use Rattle.std.specs.Prelude.{ℕ, List, [], ◌∷◌, Option, Some, None}
 use Rattle.value_data.specs.Datum.{Datum}
-use Rattle.local_names.specs.Locals.{LocalData}
+use Rattle.special_forms.specs.Locals.{LocalData}
 use Rattle.evaluation_rules.specs.Doing.{Kept, Part}
 
 -- the locals, newest first, and the namespace of the function in whose body the form is

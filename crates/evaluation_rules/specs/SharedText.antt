@@ -8,8 +8,8 @@ use Rattle.repl_faults.specs.Failure.{Failure, broken_rule}
 use Rattle.repl_faults.specs.declared.rule.Rule.{Rule}
 use Rattle.repl_asks.specs.Exchange.{BindingData, bound_value, bound_function}
 use Rattle.repl_asks.specs.Namespaces.{is_fixed}
-use Rattle.repl_jobs.specs.Job as jobs
-use Rattle.repl_jobs.specs.Job.{WorkData}
+use Rattle.repl_asks.specs.Job as jobs
+use Rattle.repl_asks.specs.Job.{WorkData}
 use Rattle.special_forms.specs.Names.{special_named}
 use Rattle.special_forms.specs.declared.special.SpecialForm.{SpecialForm}
 use Rattle.evaluation_rules.specs.declared.occasion.Occasion.{Occasion}

@@ -6,7 +6,7 @@ use Rattle.core_texts.specs.Limits.{most_text}
 use Rattle.repl_faults.specs.Failure as failures
 use Rattle.repl_faults.specs.Failure.{Failure}
 use Rattle.repl_faults.specs.declared.rule.Rule.{Rule}
-use Rattle.repl_jobs.specs.InteractionTree.{InteractionTree, finished, asks}
+use Rattle.repl_asks.specs.InteractionTree.{InteractionTree, finished, asks}
 use Rattle.tx_attempt.specs.Accesses.{AttemptData, noted, nothing_noted}
 use Rattle.evaluation_rules.specs.Doing.{Kept, Exit, gave, failed, retried, Doing, left, asking}
 use Rattle.evaluation_rules.specs.Doing.{printing, looking, noting, trying}

@@ -1,9 +1,9 @@
 // On which occasions forms are evaluated. The definitions name them.
 ghost use Rattle.std.specs.Prelude.{◌≡◌};
-ghost use Rattle.repl_jobs.specs.Inside.View.{work_view};
+ghost use Rattle.repl_asks.specs.Inside.Jobs.{work_view};
 ghost use Rattle.evaluation_rules.specs.SharedText.{is_shared_text, occasion_of};
 
-use repl_jobs::Work;
+use repl_asks::Work;
 
 /// On which occasion a form is evaluated.
 #[derive(Clone, Copy, Debug, PartialEq, Eq)]

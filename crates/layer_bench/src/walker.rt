@@ -1,7 +1,6 @@
 // Evaluates one transaction over answers that are made up, so that the walker can be timed alone.
 use crate::number_of;
-use repl_asks::{Answer, Ask, Reading, Resolution, Verdict};
-use repl_jobs::{End, Job, Work};
+use repl_asks::{Answer, Ask, End, Job, Reading, Resolution, Verdict, Work};
 use repl_reader::read_all;
 use repl_values::{Owner, RefName, Value};
 use std::alloc::{AllocError, Global};

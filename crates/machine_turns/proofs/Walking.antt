@@ -15,12 +15,12 @@ use Rattle.server_rules.specs.declared.actor.Actor.{Actor}
 use Rattle.server_rules.specs.declared.refusal.Refusal.{Refusal}
 use Rattle.server_rules.proofs.Steps.{step-other}
 use Rattle.tenant_actors.proofs.EntryLaws.{found_first}
-use Rattle.tenant_walks.specs.declared.walks.Walks.{Walks}
+use Rattle.repl_core.specs.declared.walks.Walks.{Walks}
 use Rattle.tenant_world.specs.Running.{running_of, running_in}
 use Rattle.repl_core.specs.Going.{KeepsForms, StepKeepsForms}
 use Rattle.repl_core.specs.Standing.{open_in}
 use Rattle.repl_core.proofs.Worlds.{close-none, close-some}
-use Rattle.repl_core.proofs.Walking.{same-world, deed-walked}
+use Rattle.repl_core.proofs.GoingOn.{same-world, deed-walked}
 use Rattle.repl_core.proofs.Places.{all-places, open-mine}
 use Rattle.machine_turns.specs.AllWalks.{IsWalkedAt}
 

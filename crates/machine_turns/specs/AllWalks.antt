@@ -3,7 +3,7 @@ use Rattle.std.specs.Prelude.{ℕ, Option, None, Some, ⊤}
 use Rattle.std.specs.BTreeMap.{get}
 use Rattle.std.specs.Ordering.{nat_cmp}
 use Rattle.server_rules.specs.Machine.World.{TenantData}
-use Rattle.tenant_walks.specs.declared.walks.Walks.{Walks}
+use Rattle.repl_core.specs.declared.walks.Walks.{Walks}
 use Rattle.repl_core.specs.Going.{AreWalkedIn}
 use Rattle.machine_turns.specs.declared.all_walks.AllWalks.{AllWalks}
 

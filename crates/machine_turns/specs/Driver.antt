@@ -7,7 +7,7 @@ use Rattle.server_rules.specs.Plan.{bytes_in}
 use Rattle.server_rules.specs.Machine.World.{World, accepted, refused}
 use Rattle.server_rules.specs.declared.refusal.Refusal.{Refusal}
 use Rattle.tenant_turns.specs.Grounds.{IsRight}
-use Rattle.tenant_walks.specs.Grounds.{Evaluates}
+use Rattle.repl_core.specs.Grounds.{Evaluates}
 use Rattle.repl_core.specs.Standing as machine
 use Rattle.repl_core.specs.Standing.{open_in}
 use Rattle.machine_turns.specs.declared.driver.Driver.{Driver}

@@ -4,9 +4,9 @@ ghost use Rattle.server_rules.specs.Machine.World.{TenantData};
 ghost use Rattle.repl_core.specs.Going.{AreWalkedIn};
 ghost use Rattle.machine_turns.specs.AllWalks.{walks_at, IsWalkedAt};
 
+use repl_core::Walks;
 use std::alloc::{AllocError, Global};
 use std::collections::BTreeMap;
-use tenant_walks::Walks;
 
 /// The evaluations of the forms that run, by the numbers of their tenants.
 #[derive(Drop)]

@@ -6,7 +6,7 @@ use Rattle.server_rules.specs.Request.{Hand, Run}
 use Rattle.server_rules.specs.Tenant.{ActorData, seat_of, Quiet, is_held, actor_state}
 use Rattle.server_rules.specs.Calls.{gives_up}
 use Rattle.server_rules.specs.Plan.{Outcome, refuses, leaves, form_finished, Plan}
-use Rattle.repl_jobs.specs.Job.{EndingData}
+use Rattle.repl_asks.specs.Job.{EndingData}
 use Rattle.server_rules.specs.Plan.{quietly, with_step_spent}
 use Rattle.server_rules.specs.Moves.{Move, form_ended}
 use Rattle.server_rules.specs.Starting.{interrupted_in, after_move}

@@ -2,3 +2,4 @@
 -- code, and proofs, and none of the rules.
 pub mod View
 pub mod Replay
+pub mod Jobs

@@ -1,4 +1,7 @@
 pub mod Namespaces
 pub mod Transactions
 pub mod Exchange
+pub mod Job
+pub mod InteractionTree
+pub mod Leading
 pub mod Inside

@@ -9,6 +9,7 @@ mod answer;
 mod ask;
 mod exchange;
 mod intent;
+mod job;
 mod namespaces;
 mod refs;
 mod replay;
@@ -17,6 +18,7 @@ pub use answer::{Answer, NamedFunction, Permission, Reading, Resolution, Verdict
 pub use ask::{AnswerKind, Ask, Binding};
 pub use exchange::{Exchange, Trace, copy_trace};
 pub use intent::{Change, Commute, Commuted, Intent};
+pub use job::{End, Finished, Job, Work};
 pub use namespaces::is_fixed;
 pub use refs::{Refs, Stop, StopReason};
 pub use replay::Replay;

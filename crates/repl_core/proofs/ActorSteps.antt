@@ -7,7 +7,7 @@ use Rattle.std.proofs.lemmas.Bool.{cases_eq}
 use Rattle.repl_faults.specs.Failure.{Failure}
 use Rattle.bencode_wire.specs.declared.fault.WireFault.{WireFault}
 use Rattle.repl_asks.specs.Exchange.{AskData, AnswerData}
-use Rattle.repl_jobs.specs.Job.{EndData, EndingData}
+use Rattle.repl_asks.specs.Job.{EndData, EndingData}
 use Rattle.repl_replies.specs.Replies.{OriginData, ReplyData}
 use Rattle.repl_sessions.specs.State.{StateData, in_namespace}
 use Rattle.value_data.specs.Datum.{Datum, nil, Items, no_items, item}
@@ -37,7 +37,7 @@ use Rattle.server_rules.specs.Deeds.{start_of, for_actor, unless_worn, drain_out
 use Rattle.server_rules.specs.declared.actor.Actor.{Actor}
 use Rattle.server_rules.specs.declared.refusal.Refusal.{Refusal}
 use Rattle.tenant_refs.proofs.Points.{part_under-without}
-use Rattle.tenant_walks.proofs.Runs.{runs_at, part_under-put, heard-runs}
+use Rattle.repl_core.proofs.Runs.{runs_at, part_under-put, heard-runs}
 use Rattle.tenant_world.specs.Asking.{exchange_from, run_with}
 use Rattle.tenant_world.specs.Running.{running_of, running_in}
 use Rattle.repl_core.proofs.CommitSteps.{closed_plan, open_plan}

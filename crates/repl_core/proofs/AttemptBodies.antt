@@ -4,8 +4,8 @@ use Rattle.std.proofs.Common.{false, refl, sym, ap, subst, append-nil, true≢fa
 use Rattle.std.specs.List.{AllByRecursion}
 use Rattle.value_data.specs.Datum.{Datum}
 use Rattle.repl_asks.specs.Exchange.{AskData, Exchanged, begin}
-use Rattle.repl_jobs.specs.InteractionTree.{InteractionTree, finished, asks}
-use Rattle.repl_jobs.specs.Leading.{Leads, tree_after, AreItsAsks}
+use Rattle.repl_asks.specs.InteractionTree.{InteractionTree, finished, asks}
+use Rattle.repl_asks.specs.Leading.{Leads, tree_after, AreItsAsks}
 use Rattle.evaluation_rules.specs.Doing.{Kept, Exit, gave, failed, retried, Doing}
 use Rattle.evaluation_rules.specs.Transactions.{after_body, attempts}
 use Rattle.evaluation_rules.specs.Tree.{with_attempt, written_tree}

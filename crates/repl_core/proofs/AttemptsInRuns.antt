@@ -9,7 +9,7 @@ use Rattle.value_data.specs.Same.{same_owner}
 use Rattle.repl_asks.specs.Transactions.{RefNameData, same_name}
 use Rattle.repl_asks.specs.Exchange as exchange
 use Rattle.repl_asks.specs.Exchange.{AskData, AnswerData, Exchanged, read}
-use Rattle.repl_jobs.specs.Leading.{AreItsAsks}
+use Rattle.repl_asks.specs.Leading.{AreItsAsks}
 use Rattle.store_calls.specs.Arguments.{is_shared}
 use Rattle.repl_walker.specs.Agreeing.{names_shared, IsToldBy, AreToldBy}
 use Rattle.repl_walker.specs.Attempts.{AsksThese}

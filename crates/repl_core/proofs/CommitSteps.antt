@@ -14,7 +14,7 @@ use Rattle.server_rules.specs.Ground.{Ground}
 use Rattle.server_rules.specs.Request.{Hand, Run}
 use Rattle.server_rules.specs.Tenant.{ActorData, seat_of, Quiet, is_held, actor_state}
 use Rattle.server_rules.specs.Plan.{Deed, hears, starts, asks_for, ends, drains}
-use Rattle.repl_jobs.specs.Job.{EndingData}
+use Rattle.repl_asks.specs.Job.{EndingData}
 use Rattle.server_rules.specs.Plan.{StepAnswer, ask_answered, form_finished, Outcome, refuses}
 use Rattle.server_rules.specs.Plan.{leaves, Plan, quietly, with_step_spent}
 use Rattle.server_rules.specs.Hearing.{hearing_plan}

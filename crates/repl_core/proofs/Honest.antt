@@ -12,11 +12,11 @@ use Rattle.server_rules.specs.declared.refusal.Refusal.{Refusal}
 use Rattle.tenant_refs.specs.Serving.{RingRefTable}
 use Rattle.tenant_turns.specs.Grounds.{IsRight}
 use Rattle.tenant_turns.specs.Turns.{Lone}
-use Rattle.tenant_walks.specs.Grounds.{Evaluates}
-use Rattle.tenant_walks.specs.Inside.Seen.{is_seen}
-use Rattle.tenant_walks.specs.Inside.Standing as walked
-use Rattle.tenant_walks.specs.Inside.Standing.{parts}
-use Rattle.tenant_walks.specs.declared.walks.Walks.{Walks}
+use Rattle.repl_core.specs.Grounds.{Evaluates}
+use Rattle.repl_core.specs.Inside.Seen.{is_seen}
+use Rattle.repl_core.specs.Inside.Standing as walked
+use Rattle.repl_core.specs.Inside.Standing.{parts}
+use Rattle.repl_core.specs.declared.walks.Walks.{Walks}
 use Rattle.tenant_world.specs.Acting.{is_accepted}
 use Rattle.tenant_world.specs.declared.tenant.Tenant.{Tenant}
 use Rattle.repl_core.specs.TenantAt.{tenant_at}

@@ -3,8 +3,8 @@ use Rattle.std.proofs.Common.{◌≡◌, ◌∙◌, inl, inr, ℕ, List, [], ◌
 use Rattle.std.proofs.Common.{option_and_then, refl, sym, ap, subst}
 use Rattle.std.specs.Prelude.{⊤, option_map}
 use Rattle.repl_asks.specs.Exchange.{AskData, AnswerData, Exchanged}
-use Rattle.repl_jobs.specs.InteractionTree.{InteractionTree, finished, asks}
-use Rattle.repl_jobs.specs.Leading.{tree_after, AreItsAsks}
+use Rattle.repl_asks.specs.InteractionTree.{InteractionTree, finished, asks}
+use Rattle.repl_asks.specs.Leading.{tree_after, AreItsAsks}
 use Rattle.server_rules.specs.Numbered.{part_under}
 use Rattle.server_rules.specs.Ground.{Ground}
 use Rattle.server_rules.specs.Honest.{honest_at, honest_of, honest_in, honest_by, honest_deed}

@@ -3,7 +3,7 @@ pub mod Places
 pub mod Behind
 pub mod Comings
 pub mod Honest
-pub mod Walking
+pub mod GoingOn
 pub mod Left
 pub mod Driving
 pub mod CommitFolds
@@ -22,3 +22,11 @@ pub mod AttemptBodies
 pub mod DosyncSettings
 pub mod AttemptsInRuns
 pub mod SharedBounds
+pub mod WalkDeeds
+pub mod Runs
+pub mod Outcomes
+pub mod WalkSteps
+pub mod Stores
+pub mod Steps
+pub mod Ending
+pub mod Memory

@@ -13,7 +13,7 @@ use Rattle.server_rules.specs.Machine.World.{TenantData, World}
 use Rattle.ref_table.specs.Refs.{Refs, refs_after}
 use Rattle.tenant_refs.specs.Attempts.{ArePoints}
 use Rattle.tenant_refs.specs.Serving.{TableServes}
-use Rattle.tenant_walks.proofs.Runs.{part_under-put}
+use Rattle.repl_core.proofs.Runs.{part_under-put}
 use Rattle.tenant_world.specs.Memories.{Remembers}
 use Rattle.tenant_world.specs.Standing as world
 use Rattle.tenant_world.specs.declared.tenant.Tenant.{Tenant}

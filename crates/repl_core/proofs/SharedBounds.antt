@@ -8,8 +8,8 @@ use Rattle.repl_faults.specs.Failure.{Failure, ◌>>=◌}
 use Rattle.repl_reader.specs.Fault.{FaultData}
 use Rattle.repl_asks.specs.Exchange as exchange
 use Rattle.repl_asks.specs.Exchange.{AskData, AnswerData}
-use Rattle.repl_jobs.specs.Job.{JobData}
-use Rattle.repl_jobs.specs.InteractionTree.{InteractionTree, finished, asks}
+use Rattle.repl_asks.specs.Job.{JobData}
+use Rattle.repl_asks.specs.InteractionTree.{InteractionTree, finished, asks}
 use Rattle.server_rules.specs.Readings.{Readings}
 use Rattle.server_rules.specs.Versions.{Ref}
 use Rattle.server_rules.specs.Shared.{SharedData, nothing_shared, told_in_text, shared_after}

@@ -3,7 +3,7 @@ use Rattle.std.specs.Prelude.{◌≡◌, ℕ, suc, List, false, codes}
 use Rattle.value_data.specs.Datum.{Datum, symbol, list, Items, item}
 use Rattle.value_data.specs.Listed.{listed}
 use Rattle.repl_asks.specs.Exchange.{Exchanged}
-use Rattle.repl_jobs.specs.Leading.{tree_after}
+use Rattle.repl_asks.specs.Leading.{tree_after}
 use Rattle.evaluation_rules.specs.Doing.{Kept, Doing}
 use Rattle.evaluation_rules.specs.Places.{PlaceData}
 use Rattle.evaluation_rules.specs.Transactions.{attempts}

@@ -8,10 +8,10 @@ use Rattle.server_rules.specs.Machine.World.{TenantData, World, opens, does, clo
 use Rattle.server_rules.specs.Machine.World.{refused}
 use Rattle.server_rules.specs.declared.actor.Actor.{Actor}
 use Rattle.server_rules.specs.declared.refusal.Refusal.{Refusal}
-use Rattle.tenant_walks.specs.Inside.Seen.{is_seen}
-use Rattle.tenant_walks.specs.Inside.WalkAt.{walk_at}
-use Rattle.tenant_walks.specs.Inside.Walked.{AreWalked}
-use Rattle.tenant_walks.specs.declared.walks.Walks.{Walks}
+use Rattle.repl_core.specs.Inside.Seen.{is_seen}
+use Rattle.repl_core.specs.Inside.WalkAt.{walk_at}
+use Rattle.repl_core.specs.Inside.Walked.{AreWalked}
+use Rattle.repl_core.specs.declared.walks.Walks.{Walks}
 use Rattle.repl_core.specs.Standing.{open_in, MachineStands}
 use Rattle.repl_core.specs.declared.machine.Machine.{Machine}
 

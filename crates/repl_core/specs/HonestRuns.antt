@@ -1,7 +1,7 @@
 -- An honest actor in a run of a server: what its forms ask is what their evaluations ask.
 use Rattle.std.specs.Prelude.{◌≡◌, ℕ, List, [], ◌∷◌, ⊤, Some}
 use Rattle.repl_asks.specs.Exchange.{AskData}
-use Rattle.repl_jobs.specs.Leading.{AreItsAsks}
+use Rattle.repl_asks.specs.Leading.{AreItsAsks}
 use Rattle.server_rules.specs.Ground.{Ground}
 use Rattle.server_rules.specs.Request.{Run}
 use Rattle.server_rules.specs.Plan.{asks_for}

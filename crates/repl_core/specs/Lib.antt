@@ -14,3 +14,5 @@ pub mod HonestRuns
 pub mod DosyncSettings
 pub mod AttemptsInRuns
 pub mod SharedBounds
+pub mod Grounds
+pub mod Inside

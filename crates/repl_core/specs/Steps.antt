@@ -1,7 +1,7 @@
 -- A step and its answer, as the rules have them.
 use Rattle.std.specs.Prelude.{◌≡◌, ◌≢◌, Bool, true, false}
 use Rattle.repl_asks.specs.Inside.View.{ask_view, answer_view}
-use Rattle.repl_jobs.specs.Inside.View.{job_view}
+use Rattle.repl_asks.specs.Inside.Jobs.{job_view}
 use Rattle.server_rules.specs.Ground.{Ground}
 use Rattle.server_rules.specs.Plan as rules
 use Rattle.server_rules.specs.Plan.{tenant_opened, messages_heard, form_begun, request_answered}

@@ -5,16 +5,16 @@ ghost use Rattle.server_rules.specs.Machine.Turns.{goes, step_of, turn_step};
 ghost use Rattle.server_rules.specs.Machine.World.{World};
 ghost use Rattle.ref_table.specs.Standing.{counter_of};
 ghost use Rattle.tenant_turns.specs.Grounds.{IsRight};
-ghost use Rattle.tenant_walks.specs.Grounds.{Evaluates};
-ghost use Rattle.tenant_walks.specs.Inside.Seen.{is_kept};
+ghost use Rattle.repl_core.specs.Grounds.{Evaluates};
+ghost use Rattle.repl_core.specs.Inside.Seen.{is_kept};
 ghost use Rattle.repl_core.specs.Standing.{open_in};
 ghost use Rattle.repl_core.specs.Going.{AreWalkedIn, is_seen_step};
 ghost use Rattle.repl_core.specs.Steps.{is_accepted_step};
 
 use crate::deeds::has_stamps;
 use crate::machine::Machine;
+use crate::walks::Walks;
 use server_rules::{Actor, Refusal};
-use tenant_walks::Walks;
 
 impl Machine {
     ghost use Rattle.repl_core.specs.Left.{left_at};

@@ -2,6 +2,7 @@
 #![tactic(auto)]
 
 mod deeds;
+mod finding;
 mod going;
 pub mod laws;
 mod machine;
@@ -9,7 +10,10 @@ mod opening;
 mod step;
 mod stepping;
 mod tenants;
+mod walking;
+mod walks;
 
 pub use machine::{Config, Machine, PLACES, RETRIES, STEPS, SharedText};
 pub use shared_space::LoadError;
 pub use step::{Refused, Step, StepAnswer, StepAnswers};
+pub use walks::Walks;

@@ -4,8 +4,7 @@ ghost use Rattle.server_rules.specs.Machine.Turns.{whose_step};
 ghost use Rattle.repl_core.specs.Steps.{step_view, step_answer_view};
 
 use bytes::Bytes;
-use repl_asks::{Answer, Ask};
-use repl_jobs::Job;
+use repl_asks::{Answer, Ask, Job};
 use repl_walker::Ending;
 use server_rules::{Actor, Refusal};
 use std::alloc::{AllocError, Global};

@@ -6,8 +6,8 @@ use Rattle.std.specs.Prelude.{nat_lt}
 use Rattle.std.specs.List.{fold}
 use Rattle.core_texts.specs.Limits.{most_text}
 use Rattle.repl_asks.specs.Exchange.{AskData, AnswerData, Exchanged}
-use Rattle.repl_jobs.specs.InteractionTree.{InteractionTree}
-use Rattle.repl_jobs.specs.Leading.{Leads}
+use Rattle.repl_asks.specs.InteractionTree.{InteractionTree}
+use Rattle.repl_asks.specs.Leading.{Leads}
 use Rattle.tx_attempt.specs.Accesses.{AccessData, AttemptData, nothing_noted, noted}
 use Rattle.evaluation_rules.specs.Doing.{Kept, Exit, Doing, left, asking, printing, looking, noting}
 use Rattle.evaluation_rules.specs.Doing.{trying}

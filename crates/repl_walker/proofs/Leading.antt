@@ -6,9 +6,9 @@ use Rattle.repl_asks.specs.Exchange.{AskData, AnswerData, Exchanged}
 use Rattle.repl_asks.specs.Inside.View.{ask_view, exchange_view, trace_view}
 use Rattle.repl_asks.specs.declared.exchange.Exchange.{Exchange}
 use Rattle.std.proofs.lemmas.List.{map-append}
-use Rattle.repl_jobs.specs.Job.{JobData, EndData, EndingData}
-use Rattle.repl_jobs.specs.InteractionTree.{InteractionTree, finished, asks}
-use Rattle.repl_jobs.specs.Leading.{Leads, tree_after, AreItsAsks}
+use Rattle.repl_asks.specs.Job.{JobData, EndData, EndingData}
+use Rattle.repl_asks.specs.InteractionTree.{InteractionTree, finished, asks}
+use Rattle.repl_asks.specs.Leading.{Leads, tree_after, AreItsAsks}
 use Rattle.evaluation_rules.specs.Evaluation.{evaluation}
 use Rattle.repl_walker.specs.Led.{LedTo, Led, Recorded}
 use Rattle.repl_walker.specs.Ends.{IsEndOf}

@@ -2,8 +2,8 @@
 -- these answers, and `after` what is done when it is left.
 use Rattle.std.specs.Prelude.{◌≡◌, List, ◌∷◌, ◌++◌, map, ⊤}
 use Rattle.repl_asks.specs.Exchange.{AnswerData, Exchanged}
-use Rattle.repl_jobs.specs.InteractionTree.{InteractionTree}
-use Rattle.repl_jobs.specs.Leading.{Leads}
+use Rattle.repl_asks.specs.InteractionTree.{InteractionTree}
+use Rattle.repl_asks.specs.Leading.{Leads}
 use Rattle.tx_attempt.specs.Accesses.{AttemptData}
 use Rattle.evaluation_rules.specs.Doing.{Kept, Exit, Doing, left, asking, printing, looking, noting}
 use Rattle.evaluation_rules.specs.Doing.{trying}

@@ -2,10 +2,10 @@
 use Rattle.std.specs.Prelude.{◌≡◌, List, ◌++◌}
 use Rattle.repl_asks.specs.Exchange.{Exchanged}
 use Rattle.repl_asks.specs.Inside.View.{trace_view}
-use Rattle.repl_jobs.specs.Job.{JobData, EndingData}
-use Rattle.repl_jobs.specs.Inside.View.{job_view, finished_view}
-use Rattle.repl_jobs.specs.InteractionTree.{finished}
-use Rattle.repl_jobs.specs.Leading.{Leads}
+use Rattle.repl_asks.specs.Job.{JobData, EndingData}
+use Rattle.repl_asks.specs.Inside.Jobs.{job_view, finished_view}
+use Rattle.repl_asks.specs.InteractionTree.{finished}
+use Rattle.repl_asks.specs.Leading.{Leads}
 use Rattle.evaluation_rules.specs.Evaluation.{evaluation}
 use Rattle.repl_walker.specs.declared.ending.Ending.{Ending}
 

@@ -1,9 +1,9 @@
 -- How far a trace led an evaluation.
 use Rattle.std.specs.Prelude.{◌≡◌, List, ◌++◌}
 use Rattle.repl_asks.specs.Exchange.{Exchanged}
-use Rattle.repl_jobs.specs.Job.{JobData}
-use Rattle.repl_jobs.specs.InteractionTree.{InteractionTree}
-use Rattle.repl_jobs.specs.Leading.{Leads}
+use Rattle.repl_asks.specs.Job.{JobData}
+use Rattle.repl_asks.specs.InteractionTree.{InteractionTree}
+use Rattle.repl_asks.specs.Leading.{Leads}
 use Rattle.evaluation_rules.specs.Evaluation.{evaluation}
 
 -- the evaluation of a job was led by this trace to what is still done

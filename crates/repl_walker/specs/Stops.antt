@@ -2,7 +2,7 @@
 use Rattle.std.specs.Prelude.{◌≡◌, true, false, List}
 use Rattle.repl_asks.specs.Exchange.{AnswerData, Exchanged, Heard}
 use Rattle.repl_asks.specs.Inside.View.{ask_view}
-use Rattle.repl_jobs.specs.InteractionTree.{InteractionTree, asks}
+use Rattle.repl_asks.specs.InteractionTree.{InteractionTree, asks}
 use Rattle.repl_walker.specs.Led.{Led}
 use Rattle.repl_walker.specs.declared.run.WalkError.{WalkError}
 

@@ -1,12 +1,11 @@
 // An evaluation that ended, with its job and its trace.
 ghost use Rattle.std.specs.Prelude.{◌≡◌, IfOk};
 ghost use Rattle.repl_asks.specs.Inside.View.{trace_view};
-ghost use Rattle.repl_jobs.specs.Inside.View.{job_view, finished_view};
-ghost use Rattle.repl_jobs.specs.InteractionTree as tree;
+ghost use Rattle.repl_asks.specs.Inside.Jobs.{job_view, finished_view};
+ghost use Rattle.repl_asks.specs.InteractionTree as tree;
 ghost use Rattle.repl_walker.specs.Led.{LedTo};
 
-use repl_asks::{Exchange, Trace, copy_trace};
-use repl_jobs::{Finished, Job};
+use repl_asks::{Exchange, Finished, Job, Trace, copy_trace};
 use std::alloc::{AllocError, Global};
 
 /// An evaluation that ended: its job, what was asked and answered, and how it ended. Only the

@@ -2,8 +2,8 @@
 ghost use Rattle.std.specs.Prelude.{◌≡◌, ◌↔◌, ◌⊎◌, ℕ, suc, List, [], ◌∷◌, ◌++◌};
 ghost use Rattle.value_data.specs.Datum.{Datum, nil};
 ghost use Rattle.repl_asks.specs.Exchange.{AnswerData, begin, Exchanged};
-ghost use Rattle.repl_jobs.specs.InteractionTree.{InteractionTree};
-ghost use Rattle.repl_jobs.specs.Leading.{Leads, tree_after, AreItsAsks};
+ghost use Rattle.repl_asks.specs.InteractionTree.{InteractionTree};
+ghost use Rattle.repl_asks.specs.Leading.{Leads, tree_after, AreItsAsks};
 ghost use Rattle.evaluation_rules.specs.Doing.{Kept, Exit, Doing, left};
 ghost use Rattle.evaluation_rules.specs.Tree.{written_tree};
 ghost use Rattle.evaluation_rules.specs.Places.{PlaceData};

@@ -12,7 +12,7 @@ mod run;
 mod waiting;
 
 pub use ending::Ending;
-pub use repl_jobs::{End, Finished, Job, Work};
+pub use repl_asks::{End, Finished, Job, Work};
 pub use resume::start;
 pub use run::{WalkError, walk};
 pub use waiting::{Progress, Walk};

@@ -1,7 +1,7 @@
 // An evaluation, from one ask to the next.
 ghost use Rattle.std.specs.Prelude.{◌≡◌, ◌≤◌, ◌++◌, ◌∷◌, [], IfOk, OnOk};
 ghost use Rattle.repl_asks.specs.Inside.View.{answer_view, trace_view};
-ghost use Rattle.repl_jobs.specs.Inside.View.{job_view};
+ghost use Rattle.repl_asks.specs.Inside.Jobs.{job_view};
 ghost use Rattle.evaluation_rules.specs.Evaluation.{evaluation};
 ghost use Rattle.walker_machine.specs.Waits.{reached_tree, most_calls_of, IsLaterReached};
 ghost use Rattle.walker_state.specs.Position.{Position};
@@ -13,8 +13,7 @@ ghost use Rattle.repl_walker.specs.Positions.{walk_position, most_calls, IsLater
 use crate::ending::Ending;
 use crate::waiting::{Progress, Walk};
 use evaluation_rules::CALLS;
-use repl_asks::{Answer, Exchange, Trace};
-use repl_jobs::Job;
+use repl_asks::{Answer, Exchange, Job, Trace};
 use std::alloc::{AllocError, Global};
 use walker_machine::{Reached, begin};
 

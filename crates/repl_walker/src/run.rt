@@ -1,7 +1,7 @@
 // An evaluation over somebody who answers.
 ghost use Rattle.std.specs.Prelude.{◌≡◌, ◌++◌, [], ◌∷◌, true, false, OnOk, IfOk, IfErr};
 ghost use Rattle.repl_asks.specs.Inside.View.{ask_view, answer_view};
-ghost use Rattle.repl_jobs.specs.Inside.View.{job_view};
+ghost use Rattle.repl_asks.specs.Inside.Jobs.{job_view};
 ghost use Rattle.evaluation_rules.specs.Evaluation.{evaluation};
 ghost use Rattle.repl_walker.specs.Ends.{ending_view, IsEndOf};
 ghost use Rattle.repl_walker.specs.Waits.{walk_tree, WentOn};
@@ -12,8 +12,7 @@ ghost use Rattle.repl_walker.specs.Stops.{IsStoppedBy, LeftAt};
 use crate::ending::Ending;
 use crate::resume::start;
 use crate::waiting::{Progress, Walk};
-use repl_asks::{Answer, Ask, Refs};
-use repl_jobs::Job;
+use repl_asks::{Answer, Ask, Job, Refs};
 use std::alloc::{AllocError, Global};
 use thiserror::Error;
 

@@ -1,14 +1,13 @@
 // An evaluation that waits for an answer.
 ghost use Rattle.std.specs.Prelude.{◌≡◌};
 ghost use Rattle.repl_asks.specs.Inside.View.{ask_view, trace_view};
-ghost use Rattle.repl_jobs.specs.Inside.View.{job_view};
-ghost use Rattle.repl_jobs.specs.InteractionTree.{asks};
+ghost use Rattle.repl_asks.specs.Inside.Jobs.{job_view};
+ghost use Rattle.repl_asks.specs.InteractionTree.{asks};
 ghost use Rattle.walker_machine.specs.Waits.{tree_behind};
 ghost use Rattle.repl_walker.specs.Led.{LedTo};
 
 use crate::ending::Ending;
-use repl_asks::{Ask, Exchange, Trace};
-use repl_jobs::Job;
+use repl_asks::{Ask, Exchange, Job, Trace};
 use walker_machine::WaitingEvaluation;
 
 /// An evaluation that waits for the answer to its ask: its job, and what was asked and answered

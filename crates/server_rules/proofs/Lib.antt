@@ -9,3 +9,4 @@ pub mod Alike
 pub mod Rising
 pub mod Seats
 pub mod Starts
+pub mod Computing

@@ -7,7 +7,7 @@ use Rattle.std.proofs.lemmas.Bool.{cases_eq}
 use Rattle.bencode_wire.specs.Tree as wire
 use Rattle.bencode_wire.specs.declared.fault.WireFault.{WireFault}
 use Rattle.repl_asks.specs.Exchange.{AskData, AnswerData}
-use Rattle.repl_jobs.specs.Job.{EndingData}
+use Rattle.repl_asks.specs.Job.{EndingData}
 use Rattle.repl_sessions.specs.State.{StateData}
 use Rattle.repl_replies.specs.Replies.{OriginData, ReplyData}
 use Rattle.repl_replies.specs.Operations as operations

@@ -16,7 +16,7 @@ use Rattle.server_rules.specs.Ground.{Ground}
 use Rattle.server_rules.specs.Request.{Hand, Run}
 use Rattle.server_rules.specs.Tenant.{ActorData, seat_of, Quiet, is_held}
 use Rattle.server_rules.specs.Plan.{Deed, hears, starts, asks_for, ends, drains}
-use Rattle.repl_jobs.specs.Job.{EndingData}
+use Rattle.repl_asks.specs.Job.{EndingData}
 use Rattle.server_rules.specs.Plan.{StepAnswer, tenant_opened, Outcome, refuses, leaves, Plan}
 use Rattle.server_rules.specs.Plan.{quietly}
 use Rattle.server_rules.specs.Starting.{interrupted_in}

@@ -2,7 +2,7 @@
 -- the values of functions.
 use Rattle.std.specs.Prelude.{◌≡◌, ◌↔◌, ℕ, List, Bool, true, Option, None, Some}
 use Rattle.repl_asks.specs.Exchange.{Exchanged}
-use Rattle.repl_jobs.specs.Job.{JobData}
+use Rattle.repl_asks.specs.Job.{JobData}
 use Rattle.trace_comparison.specs.Difference.{DiffersFirstAt}
 
 pub record Comparisons : Type 0 where

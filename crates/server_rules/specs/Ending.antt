@@ -7,7 +7,7 @@ use Rattle.server_rules.specs.Tenant.{ActorData, seat_of, Quiet, is_held, actor_
 use Rattle.server_rules.specs.Moves.{form_ended}
 use Rattle.server_rules.specs.Starting.{after_move, interrupted_in}
 use Rattle.server_rules.specs.Plan.{Outcome, refuses, leaves, form_finished}
-use Rattle.repl_jobs.specs.Job.{EndingData}
+use Rattle.repl_asks.specs.Job.{EndingData}
 use Rattle.server_rules.specs.Plan.{Plan, quietly, with_step_spent}
 use Rattle.server_rules.specs.declared.actor.Actor.{Actor}
 use Rattle.server_rules.specs.declared.refusal.Refusal.{Refusal}

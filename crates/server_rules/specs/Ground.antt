@@ -1,7 +1,7 @@
 -- What is the same for all tenants, and stays.
 use Rattle.std.specs.Prelude.{ℕ, List}
-use Rattle.repl_jobs.specs.Job.{JobData}
-use Rattle.repl_jobs.specs.InteractionTree.{InteractionTree}
+use Rattle.repl_asks.specs.Job.{JobData}
+use Rattle.repl_asks.specs.InteractionTree.{InteractionTree}
 use Rattle.server_rules.specs.Readings.{Readings}
 use Rattle.server_rules.specs.Comparisons.{Comparisons}
 use Rattle.server_rules.specs.Shared.{SharedData}

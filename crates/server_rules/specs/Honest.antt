@@ -1,7 +1,7 @@
 -- The honest deed of an actor: what its evaluation goes on with.
 use Rattle.std.specs.Prelude.{Option, None, Some}
-use Rattle.repl_jobs.specs.InteractionTree.{InteractionTree, finished, asks}
-use Rattle.repl_jobs.specs.Leading.{tree_after}
+use Rattle.repl_asks.specs.InteractionTree.{InteractionTree, finished, asks}
+use Rattle.repl_asks.specs.Leading.{tree_after}
 use Rattle.server_rules.specs.Numbered.{part_under}
 use Rattle.server_rules.specs.Ground.{Ground}
 use Rattle.server_rules.specs.Request.{Hand, Run}

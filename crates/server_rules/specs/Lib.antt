@@ -23,3 +23,4 @@ pub mod Deeds
 pub mod Honest
 pub mod Machine
 pub mod Isolation
+pub mod Examples

@@ -1,7 +1,7 @@
 -- A tenant's deeds as plans: each calls the refs at most once, and goes on with what they tell.
 use Rattle.std.specs.Prelude.{ℕ, ◌-◌, List, [], Option}
 use Rattle.repl_asks.specs.Exchange.{AskData, AnswerData}
-use Rattle.repl_jobs.specs.Job.{JobData, EndingData}
+use Rattle.repl_asks.specs.Job.{JobData, EndingData}
 use Rattle.server_rules.specs.Calls.{Call, nothing}
 use Rattle.server_rules.specs.Tenant.{Quiet}
 use Rattle.server_rules.specs.declared.actor.Actor.{Actor}

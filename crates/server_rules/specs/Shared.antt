@@ -9,9 +9,9 @@ use Rattle.repl_faults.specs.declared.rule.Rule.{Rule}
 use Rattle.repl_reader.specs.Fault.{FaultData}
 use Rattle.repl_asks.specs.Exchange as exchange
 use Rattle.repl_asks.specs.Exchange.{AskData, AnswerData, ResolutionData, names_value, found}
-use Rattle.repl_jobs.specs.Job as jobs
-use Rattle.repl_jobs.specs.Job.{JobData}
-use Rattle.repl_jobs.specs.InteractionTree.{InteractionTree, finished, asks}
+use Rattle.repl_asks.specs.Job as jobs
+use Rattle.repl_asks.specs.Job.{JobData}
+use Rattle.repl_asks.specs.InteractionTree.{InteractionTree, finished, asks}
 use Rattle.name_spaces.specs.Bindings.{Bindings, nothing_bound, rebound}
 use Rattle.name_spaces.specs.Namespaces.{no_namespaces}
 use Rattle.name_spaces.specs.Resolving as names

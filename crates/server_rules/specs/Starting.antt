@@ -3,8 +3,8 @@ use Rattle.std.specs.Prelude.{ℕ, List, [], ◌∷◌, Bool, true, false, Optio
 use Rattle.std.specs.Prelude.{option_and_then, if◌then◌else◌}
 use Rattle.bencode_wire.specs.Tree.{Tree}
 use Rattle.value_data.specs.Datum.{nil, Items, no_items, item}
-use Rattle.repl_jobs.specs.Job as jobs
-use Rattle.repl_jobs.specs.Job.{JobData}
+use Rattle.repl_asks.specs.Job as jobs
+use Rattle.repl_asks.specs.Job.{JobData}
 use Rattle.repl_sessions.specs.State.{StateData, fresh}
 use Rattle.name_spaces.specs.Namespaces.{Namespaces, is_there}
 use Rattle.repl_replies.specs.Fields.{text_of}

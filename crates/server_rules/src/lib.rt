@@ -6,6 +6,7 @@
 #![tactic(auto)]
 
 mod actor;
+pub mod examples;
 pub mod laws;
 mod limits;
 mod refusal;

@@ -2,9 +2,8 @@
 use crate::servers::{
     answer_of, begun, expect_accepted, expect_heard, expect_replies, fresh_machine,
 };
-use repl_asks::{Answer, Reading, Replay, Resolution};
+use repl_asks::{Answer, Job, Reading, Replay, Resolution};
 use repl_core::{Machine, Step, StepAnswer};
-use repl_jobs::Job;
 use repl_values::{Owner, RefName, Value};
 use repl_walker::{Ending, Progress, start, walk};
 use server_rules::{Actor, Refusal};

@@ -1,9 +1,8 @@
 // Memory that is refused to a step: it changes nothing, and the step is made once more. This test
 // passes where any one allocation is refused (`rt try --test --fail-alloc N`).
 use crate::servers::{answer_of, begun, expect_heard, expect_replies, fresh_machine};
-use repl_asks::Replay;
+use repl_asks::{Job, Replay};
 use repl_core::{Machine, Step};
-use repl_jobs::Job;
 use repl_walker::{Ending, walk};
 use server_rules::Actor;
 use std::alloc::Global;

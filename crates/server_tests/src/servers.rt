@@ -1,7 +1,7 @@
 // A server to which nobody came, and steps of it that are accepted.
 use bytes::Bytes;
+use repl_asks::Job;
 use repl_core::{Config, Machine, Refused, SharedText, Step, StepAnswer};
-use repl_jobs::Job;
 use server_rules::{Actor, Refusal};
 use std::alloc::{AllocError, Global};
 use std::process::Abort;

@@ -12,9 +12,9 @@ use Rattle.repl_faults.specs.Inside.View.{failure_of}
 use Rattle.repl_asks.specs.Exchange.{AskData, AnswerData, Exchanged}
 use Rattle.repl_asks.specs.Inside.View.{ask_view}
 use Rattle.repl_asks.specs.declared.ask.Ask.{Ask}
-use Rattle.repl_jobs.specs.Job.{JobData, EndData}
-use Rattle.repl_jobs.specs.InteractionTree.{InteractionTree, finished, asks}
-use Rattle.repl_jobs.specs.Leading.{Leads}
+use Rattle.repl_asks.specs.Job.{JobData, EndData}
+use Rattle.repl_asks.specs.InteractionTree.{InteractionTree, finished, asks}
+use Rattle.repl_asks.specs.Leading.{Leads}
 use Rattle.evaluation_rules.specs.Evaluation.{evaluation}
 use Rattle.repl_walker.specs.Led.{Led}
 use Rattle.repl_walker.specs.Stops.{LeftAt}

@@ -8,8 +8,8 @@ use Rattle.repl_asks.specs.Inside.View.{ask_view, answer_view, exchange_view, tr
 use Rattle.repl_asks.specs.declared.answer.Answer.{Answer}
 use Rattle.repl_asks.specs.declared.ask.Ask.{Ask}
 use Rattle.repl_asks.specs.declared.exchange.Exchange.{Exchange}
-use Rattle.repl_jobs.specs.InteractionTree.{InteractionTree, finished, asks}
-use Rattle.repl_jobs.specs.Leading.{Leads}
+use Rattle.repl_asks.specs.InteractionTree.{InteractionTree, finished, asks}
+use Rattle.repl_asks.specs.Leading.{Leads}
 use Rattle.name_spaces.specs.Bindings.{Bindings}
 use Rattle.server_rules.specs.Shared.{SharedData, nothing_shared, shared_by, shared_after}
 use Rattle.server_rules.specs.Shared.{told_in_text, when_told_in_text, value_in_ref}

@@ -4,8 +4,8 @@ use Rattle.repl_faults.specs.Failure.{Failure, broken_rule}
 use Rattle.repl_faults.specs.declared.rule.Rule.{Rule}
 use Rattle.repl_faults.specs.Inside.View.{failure_of}
 use Rattle.repl_asks.specs.Exchange.{AskData}
-use Rattle.repl_jobs.specs.Job.{JobData}
-use Rattle.repl_jobs.specs.InteractionTree.{InteractionTree}
+use Rattle.repl_asks.specs.Job.{JobData}
+use Rattle.repl_asks.specs.InteractionTree.{InteractionTree}
 use Rattle.evaluation_rules.specs.Evaluation.{evaluation}
 use Rattle.name_spaces.specs.Inside.Seen.{shared_bindings}
 use Rattle.server_rules.specs.Readings.{Readings, AreRight}

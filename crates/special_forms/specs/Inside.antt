@@ -3,3 +3,4 @@
 pub mod Bindings
 pub mod Seen
 pub mod Size
+pub mod Naming

@@ -5,4 +5,5 @@ pub mod Parameters
 pub mod Shapes
 pub mod Functions
 pub mod Truth
+pub mod Locals
 pub mod Inside

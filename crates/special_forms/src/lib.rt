@@ -4,6 +4,9 @@
 
 mod forms;
 mod function;
+mod local;
+mod locals;
+mod lookup;
 mod names;
 mod shapes;
 mod special;
@@ -11,6 +14,7 @@ mod truth;
 
 pub use forms::{Forms, LetBinding};
 pub use function::Function;
+pub use locals::Locals;
 pub use shapes::{Logic, Shape, shape_of};
 pub use special::SpecialForm;
 pub use truth::{chosen_body, is_truthy};

@@ -1,16 +1,12 @@
 // Calls, by the functions that are called.
-ghost use Rattle.std.specs.Prelude.{◌≡◌, ◌∷◌, true, not, option_map, vec_len, IfOk, Ok, Some};
+ghost use Rattle.std.specs.Prelude.{◌≡◌, ◌∷◌, true, option_map, vec_len, IfOk};
 ghost use Rattle.value_data.specs.Inside.View.{view};
 ghost use Rattle.special_forms.specs.Inside.Seen.{views};
 ghost use Rattle.function_names.specs.StoreNames.{store_fits};
 ghost use Rattle.repl_asks.specs.Inside.View.{name_view};
-ghost use Rattle.repl_faults.specs.Failure.{◌>>=◌};
 ghost use Rattle.repl_faults.specs.Inside.View.{Gives};
-ghost use Rattle.repl_faults.specs.declared.rule.Rule.{Rule};
-ghost use Rattle.store_calls.specs.Arguments.{ask_for, is_shared, kept_to};
 ghost use Rattle.store_calls.specs.Calling as meant;
-ghost use Rattle.store_calls.specs.Calling.{asks_value};
-ghost use Rattle.store_calls.specs.Inside.Parts.{bound_call};
+ghost use Rattle.store_calls.specs.Inside.Parts.{bound_call, bound_set};
 ghost use Rattle.store_calls.specs.Inside.View.{call_view};
 
 use crate::agents::{agent_call, agent_error_call, restart_agent_call};
@@ -223,8 +219,7 @@ fn set_bound_of(
     count: u64,
 ) -> Result<Call, ApplyError>
     ensures { Gives call_view result
-        (kept_to Rule.SharedBoundsStay (not (is_shared (name_view name).owner))
-        >>= λ _. Ok (asks_value (ask_for bound (name_view name) (Some count)))) }
+        (bound_set bound (name_view name) count) }
 {
     keep_to(alloc, Rule::SharedBoundsStay, !is_shared(name))?;
     Ok(Call::AsksValue(bound.ask(name, Some(count))))

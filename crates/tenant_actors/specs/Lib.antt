@@ -4,3 +4,4 @@ pub mod Listed
 pub mod View
 pub mod Queues
 pub mod Lent
+pub mod Replies

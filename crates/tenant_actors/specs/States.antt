@@ -4,7 +4,7 @@ use Rattle.std.specs.Arc.{arc_str_bytes}
 use Rattle.value_data.specs.Inside.View.{view, items_view}
 use Rattle.repl_faults.specs.Inside.View.{failure_of}
 use Rattle.repl_asks.specs.Inside.View.{trace_view}
-use Rattle.repl_jobs.specs.Inside.View.{job_view}
+use Rattle.repl_asks.specs.Inside.Jobs.{job_view}
 use Rattle.repl_replies.specs.Inside.View.{field_view, origin_view}
 use Rattle.server_rules.specs.Numbered.{Entry, entry}
 use Rattle.server_rules.specs.Request as rules

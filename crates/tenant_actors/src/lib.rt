@@ -3,9 +3,13 @@
 
 mod actor;
 mod actors;
+mod batch;
+mod outbox;
 mod queues;
 mod request;
 
 pub use actor::ActorState;
 pub use actors::Actors;
+pub use batch::Batch;
+pub use outbox::Outbox;
 pub use request::{Hand, Manner, ProgramText, Run, Waiting};

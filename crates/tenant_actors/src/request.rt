@@ -1,7 +1,6 @@
 // A request to evaluate: while it waits, and while it is in hand.
 use bencode_wire::Ben;
-use repl_asks::Trace;
-use repl_jobs::Job;
+use repl_asks::{Job, Trace};
 use repl_replies::Origin;
 use repl_values::{Fault, Value};
 use std::collections::VecDeque;

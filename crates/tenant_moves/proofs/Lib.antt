@@ -1,3 +1,9 @@
 pub mod Behind
 pub mod Begins
 pub mod Texts
+pub mod Apart
+pub mod Vacating
+pub mod Remaining
+pub mod Drafting
+pub mod Undoing
+pub mod Hearings

@@ -2,3 +2,11 @@ pub mod Told
 pub mod Endings
 pub mod Starts
 pub mod Opening
+pub mod Holds
+pub mod Undone
+pub mod Scene
+pub mod Served
+pub mod Requested
+pub mod Handled
+pub mod HasReadAll
+pub mod Heard

@@ -2,9 +2,9 @@
 use Rattle.std.specs.Prelude.{◌≡◌, [], ◌∷◌, Option, None, Some, option_map}
 use Rattle.value_data.specs.Datum.{Datum, Items, no_items, item}
 use Rattle.value_data.specs.Inside.Ends.{behind_first}
-use Rattle.repl_jobs.specs.Job.{JobData, form}
-use Rattle.repl_jobs.specs.Inside.View.{job_view}
-use Rattle.repl_jobs.specs.declared.job.Job.{Job}
+use Rattle.repl_asks.specs.Job.{JobData, form}
+use Rattle.repl_asks.specs.Inside.Jobs.{job_view}
+use Rattle.repl_asks.specs.declared.job.Job.{Job}
 use Rattle.repl_replies.specs.Replies.{OriginData, namespace_not_found}
 use Rattle.repl_sessions.specs.State.{StateData}
 use Rattle.server_rules.specs.Ground.{Ground}

@@ -2,7 +2,7 @@
 ghost use Rattle.std.specs.Prelude.{◌≡◌, Some, option_map, Ok, Err, IfOk};
 ghost use Rattle.repl_faults.specs.Inside.View.{failure_of};
 ghost use Rattle.value_data.specs.Inside.View.{view};
-ghost use Rattle.repl_jobs.specs.Inside.View.{finished_view};
+ghost use Rattle.repl_asks.specs.Inside.Jobs.{finished_view};
 ghost use Rattle.repl_sessions.specs.Inside.StateView.{state_view};
 ghost use Rattle.server_rules.specs.Request.{each_form, each_form_elsewhere};
 ghost use Rattle.server_rules.specs.Moves.{form_ended, form_ended_as, form_loaded, going_on};
@@ -11,7 +11,7 @@ ghost use Rattle.tenant_moves.specs.Told.{told_state};
 ghost use Rattle.tenant_moves.specs.Endings.{are_none, last_kept, hand_after, EndsForm, EndsFormBy};
 
 use crate::news::News;
-use repl_jobs::{End, Finished};
+use repl_asks::{End, Finished};
 use repl_sessions::SessionState;
 use repl_values::{Fault, Value, copy, copy_text};
 use std::alloc::{AllocError, Global};

@@ -2,12 +2,21 @@
 //! what its session then remembers and what is still to do. All is made before anything changes.
 #![tactic(auto)]
 
+mod changes;
+mod draft;
 mod ending;
+mod handling;
+mod hearing;
 mod news;
+mod operations;
 mod request;
 mod starting;
+mod staying;
+mod telling;
 
 pub use ending::{After, form_end, go_on};
+pub use handling::handle_messages;
+pub use hearing::hear;
 pub use news::News;
 pub use request::{Opened, open_request};
 pub use starting::{Begun, BegunRequest, NextForm, begin, begin_request, next_form};

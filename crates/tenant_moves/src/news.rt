@@ -1,20 +1,19 @@
 // What is told of a request.
 ghost use Rattle.std.specs.Prelude.{◌≡◌, [], None, option_map, OnOk};
 ghost use Rattle.repl_faults.specs.Inside.View.{failure_of};
-ghost use Rattle.repl_jobs.specs.Inside.View.{end_view};
+ghost use Rattle.repl_asks.specs.Inside.Jobs.{end_view};
 ghost use Rattle.repl_replies.specs.Inside.View.{origin_view};
 ghost use Rattle.repl_sessions.specs.Inside.StateView.{state_view};
 ghost use Rattle.server_rules.specs.Moves.{over_by, closing_move, result_noted};
 ghost use Rattle.tenant_actors.specs.View.{manner_view};
 ghost use Rattle.tenant_moves.specs.Told.{told_bytes, told_state, Adds};
 
-use repl_jobs::End;
+use repl_asks::End;
 use repl_replies::{Body, Origin};
 use repl_sessions::SessionState;
 use repl_values::{Fault, Value, copy, copy_text};
 use std::alloc::{AllocError, Global};
-use tenant_actors::Manner;
-use tenant_replies::Batch;
+use tenant_actors::{Batch, Manner};
 
 /// The replies to a request, and what its session then remembers.
 #[derive(Drop)]

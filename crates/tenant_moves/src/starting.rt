@@ -1,12 +1,12 @@
 // A form of a request begins.
 ghost use Rattle.std.specs.Prelude.{◌≡◌, option_map, IfOk};
-ghost use Rattle.repl_jobs.specs.Inside.View.{job_view};
+ghost use Rattle.repl_asks.specs.Inside.Jobs.{job_view};
 ghost use Rattle.repl_sessions.specs.Inside.StateView.{state_view};
 ghost use Rattle.name_spaces.specs.Inside.Seen.{namespaces_of};
 ghost use Rattle.server_rules.specs.Ground.{Ground};
 ghost use Rattle.server_rules.specs.Readings.{AreRight};
 ghost use Rattle.server_rules.specs.Starting.{form_job, next_begun, text_begun};
-ghost use Rattle.repl_jobs.specs.Job as jobs;
+ghost use Rattle.repl_asks.specs.Job as jobs;
 ghost use Rattle.value_data.specs.Inside.View.{view};
 ghost use Rattle.repl_replies.specs.Inside.View.{origin_view};
 ghost use Rattle.tenant_actors.specs.View.{hand_view, waiting_view};
@@ -16,7 +16,7 @@ ghost use Rattle.tenant_moves.specs.Starts.{not_found, GoesOn, BeginsRequest};
 use crate::news::News;
 use crate::request::{Opened, open_request};
 use name_spaces::Spaces;
-use repl_jobs::{Job, Work};
+use repl_asks::{Job, Work};
 use repl_replies::{Body, Origin};
 use repl_sessions::SessionState;
 use repl_values::{Value, copy, copy_text};

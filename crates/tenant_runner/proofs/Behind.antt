@@ -20,8 +20,8 @@ use Rattle.tenant_turns.specs.Grounds.{IsRight}
 use Rattle.tenant_turns.specs.Turns.{LoneTurn, Lone, goes, drains, accepted, deed_of, lone_step}
 use Rattle.tenant_turns.specs.Turns.{stepped_as, lone_ended, opened_lone}
 use Rattle.tenant_turns.specs.Inside.Turned.{Accepted, IsRefused}
-use Rattle.tenant_walks.specs.Grounds.{Evaluates}
-use Rattle.tenant_walks.specs.Inside.WalkAt.{walk_at}
+use Rattle.repl_core.specs.Grounds.{Evaluates}
+use Rattle.repl_core.specs.Inside.WalkAt.{walk_at}
 use Rattle.tenant_world.specs.Standing as tenants
 use Rattle.tenant_world.specs.declared.tenant.Tenant.{Tenant}
 use Rattle.repl_core.specs.declared.machine.TheConstants.{PLACES}
@@ -36,7 +36,7 @@ use Rattle.repl_core.proofs.Places.{open-mine, kept-at, none-at}
 use Rattle.repl_core.proofs.Behind.{deed_result-tenant}
 use Rattle.repl_core.proofs.Comings.{open-tested}
 use Rattle.repl_core.proofs.Honest.{honest_deed-turn}
-use Rattle.repl_core.proofs.Walking.{same-world, deed-walked, fresh-walked}
+use Rattle.repl_core.proofs.GoingOn.{same-world, deed-walked, fresh-walked}
 use Rattle.tenant_runner.specs.Inside.Standing.{tenant_data_of, RunnerStands}
 use Rattle.tenant_runner.specs.declared.runner.Runner.{Runner}
 

@@ -1,6 +1,5 @@
 // The first tenant of a server, with the evaluations of its forms.
-use repl_core::Machine;
-use tenant_walks::Walks;
+use repl_core::{Machine, Walks};
 
 // The number of the tenant.
 pub(crate) const NUMBER: u64 = 0;

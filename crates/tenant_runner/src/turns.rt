@@ -7,11 +7,10 @@ ghost use Rattle.repl_core.specs.Starting.{TellsFault};
 
 use crate::runner::{NUMBER, Runner};
 use bytes::Bytes;
-use repl_core::{Config, LoadError, Machine};
+use repl_core::{Config, LoadError, Machine, Walks};
 use server_rules::{Actor, Refusal};
 use std::alloc::{AllocError, Global};
 use tenant_turns::{Core, Wire};
-use tenant_walks::Walks;
 
 impl Runner {
     ghost use Rattle.tenant_runner.specs.Inside.Standing.{RunnerStands};

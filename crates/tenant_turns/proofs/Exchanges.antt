@@ -43,7 +43,7 @@ use Rattle.repl_asks.specs.Exchange.{granted, denied, AnswerData, resolution, do
 use Rattle.repl_asks.specs.Exchange.{verdict, permission, Exchanged}
 use Rattle.repl_asks.specs.Transactions.{RefNameData, ChangeData, CommuteData, CommutedData}
 use Rattle.repl_asks.specs.Transactions.{IntentData}
-use Rattle.repl_jobs.specs.Job.{WorkData, form, shared_form, JobData}
+use Rattle.repl_asks.specs.Job.{WorkData, form, shared_form, JobData}
 use Rattle.tenant_turns.proofs.Telling.{Tells, coded, items, pair, either, by_parts}
 
 abbrev Text : Type 0

@@ -1,7 +1,7 @@
 -- A form that begins, and a request that is taken up, beside the rules' steps.
 use Rattle.std.proofs.Common.{◌≡◌, ℕ, List, [], ◌∷◌, Bool, true, false, Option, None, Some, refl}
 use Rattle.std.proofs.Common.{sym, ap, subst, ◌∙◌, if◌then◌else◌, is_some, option_map, true≢false}
-use Rattle.repl_jobs.specs.declared.job.Job.{Job}
+use Rattle.repl_asks.specs.declared.job.Job.{Job}
 use Rattle.server_rules.specs.Ground.{Ground}
 use Rattle.server_rules.specs.Request.{Hand, Waiting}
 use Rattle.server_rules.specs.Tenant.{ActorData, Quiet, is_held, actor_state, with_replies, with_state}

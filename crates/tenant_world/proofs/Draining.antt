@@ -16,7 +16,7 @@ use Rattle.server_rules.specs.Plan as deeds
 use Rattle.server_rules.specs.Plan.{Outcome, leaves, refuses, reply_given}
 use Rattle.server_rules.specs.Deeds.{drain_outcome}
 use Rattle.server_rules.specs.declared.refusal.Refusal.{Refusal}
-use Rattle.tenant_replies.specs.View.{waiting_bytes}
+use Rattle.tenant_actors.specs.Replies.{waiting_bytes}
 use Rattle.tenant_turns.specs.DeedResult.{deed_result}
 use Rattle.tenant_world.specs.declared.tenant.Tenant.{Tenant}
 use Rattle.tenant_refs.specs.declared.attempts.Attempts.{Attempts}

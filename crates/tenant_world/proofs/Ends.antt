@@ -3,7 +3,7 @@ use Rattle.std.proofs.Common.{◌≡◌, ℕ, List, Bool, true, false, Option, N
 use Rattle.std.proofs.Common.{◌∙◌, if◌then◌else◌, option_and_then, subst, unwrap_or}
 use Rattle.std.proofs.Common.{Result, Ok, Err, OnOk, IfErr}
 use Rattle.repl_asks.specs.Exchange.{Exchanged}
-use Rattle.repl_jobs.specs.Job.{EndData, EndingData}
+use Rattle.repl_asks.specs.Job.{EndData, EndingData}
 use Rattle.server_rules.specs.Ground.{Ground}
 use Rattle.server_rules.specs.Request.{Hand, Run}
 use Rattle.server_rules.specs.Tenant.{ActorData, Quiet, is_held}

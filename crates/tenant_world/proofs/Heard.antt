@@ -25,8 +25,8 @@ use Rattle.server_rules.specs.Tenant.{ActorData, seat_of, Quiet, is_held}
 use Rattle.server_rules.specs.declared.actor.Actor.{Actor}
 use Rattle.server_rules.specs.declared.refusal.Refusal.{Refusal}
 use Rattle.tenant_actors.specs.View.{actors_view}
-use Rattle.tenant_replies.specs.View.{waiting_bytes}
-use Rattle.tenant_hearing.specs.Heard.{IsHeard}
+use Rattle.tenant_actors.specs.Replies.{waiting_bytes}
+use Rattle.tenant_moves.specs.Heard.{IsHeard}
 use Rattle.tenant_turns.specs.DeedResult.{deed_result}
 use Rattle.tenant_world.specs.declared.tenant.Tenant.{Tenant}
 use Rattle.tenant_refs.specs.declared.attempts.Attempts.{Attempts}

@@ -18,7 +18,7 @@ use Rattle.server_rules.specs.Plan.{StepAnswer, Outcome, leaves, with_step_spent
 use Rattle.server_rules.specs.Plan.{request_interrupted}
 use Rattle.server_rules.specs.declared.actor.Actor.{Actor}
 use Rattle.server_rules.specs.declared.refusal.Refusal.{Refusal}
-use Rattle.tenant_replies.specs.View.{waiting_bytes}
+use Rattle.tenant_actors.specs.Replies.{waiting_bytes}
 use Rattle.tenant_world.specs.declared.memory.Memory.{Memory}
 use Rattle.tenant_world.specs.Memories.{Remembers, opened_by}
 use Rattle.tenant_world.specs.Acting.{AcceptsOutcome, RefusesOutcome, actors_after, is_interruption}

@@ -1,10 +1,10 @@
 -- What the steps of the code are given and answered, as the rules have it.
 use Rattle.std.specs.Prelude.{◌≡◌}
 use Rattle.repl_asks.specs.Inside.View.{answer_view, trace_view}
-use Rattle.repl_jobs.specs.Inside.View.{job_view, finished_view}
+use Rattle.repl_asks.specs.Inside.Jobs.{job_view, finished_view}
 use Rattle.server_rules.specs.Plan.{StepAnswer, form_begun, request_answered, ask_answered}
 use Rattle.server_rules.specs.Plan.{form_finished, request_interrupted}
-use Rattle.repl_jobs.specs.Job.{EndingData}
+use Rattle.repl_asks.specs.Job.{EndingData}
 use Rattle.tenant_world.specs.declared.answers.StartAnswer.{StartAnswer}
 use Rattle.tenant_world.specs.declared.answers.AskAnswer.{AskAnswer}
 use Rattle.tenant_world.specs.declared.answers.StartAnswers.{StartAnswers}

@@ -6,7 +6,7 @@ use Rattle.name_spaces.specs.Inside.Seen.{namespaces_of, shared_in}
 use Rattle.server_rules.specs.Ground.{Ground}
 use Rattle.server_rules.specs.Tenant.{Quiet}
 use Rattle.server_rules.specs.Operating.{named_sessions}
-use Rattle.tenant_replies.specs.View.{waiting_bytes}
+use Rattle.tenant_actors.specs.Replies.{waiting_bytes}
 use Rattle.tenant_world.specs.Cells.{cells_data}
 use Rattle.tenant_world.specs.declared.memory.Memory.{Memory}
 

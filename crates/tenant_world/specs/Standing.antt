@@ -10,7 +10,7 @@ use Rattle.server_rules.specs.Store.{Store}
 use Rattle.server_rules.specs.declared.actor.Actor.{Actor}
 use Rattle.server_rules.specs.declared.refusal.Refusal.{Refusal}
 use Rattle.tenant_actors.specs.View.{actors_view}
-use Rattle.tenant_replies.specs.View.{waiting_bytes}
+use Rattle.tenant_actors.specs.Replies.{waiting_bytes}
 use Rattle.tenant_turns.specs.DeedResult.{DeedResult}
 use Rattle.tenant_refs.specs.Attempts.{Reaches}
 use Rattle.tenant_world.specs.Memories.{Remembers}

@@ -10,7 +10,7 @@ ghost use Rattle.tenant_world.specs.Memories.{Remembers, opened_by};
 use crate::memory::Memory;
 use repl_replies::{Body, Origin};
 use std::alloc::{AllocError, Global};
-use tenant_replies::Batch;
+use tenant_actors::Batch;
 
 /// Answers a request that its session was closed. It fails only for want of memory, and then
 /// changes nothing.

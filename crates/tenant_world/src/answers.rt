@@ -6,8 +6,7 @@ ghost use Rattle.tenant_world.specs.declared.answers.AskAnswer as AskAnswer;
 ghost use Rattle.tenant_world.specs.Answers.{AreSameStarts, AreSameAnswers};
 ghost use Rattle.tenant_world.specs.Answers.{start_answer_view, ask_answer_view, end_answer_view};
 
-use repl_asks::{Answer, Exchange};
-use repl_jobs::{Finished, Job};
+use repl_asks::{Answer, Exchange, Finished, Job};
 use std::alloc::AllocError;
 
 /// What comes of a start.

@@ -1,7 +1,7 @@
 // An evaluation comes back at its end.
 ghost use Rattle.std.specs.Prelude.{◌≡◌, ◌≢◌, ℕ, Some, IfOk, OnOk, IfErr, OnErr, ◌<◌, Err};
 ghost use Rattle.std.specs.Prelude.{true, option_map};
-ghost use Rattle.repl_jobs.specs.Inside.View.{finished_view};
+ghost use Rattle.repl_asks.specs.Inside.Jobs.{finished_view};
 ghost use Rattle.server_rules.specs.Ground.{Ground};
 ghost use Rattle.server_rules.specs.Request as rules;
 ghost use Rattle.server_rules.specs.Store.{Store};
@@ -18,13 +18,13 @@ ghost use Rattle.tenant_world.specs.Acting.{is_accepted};
 ghost use Rattle.tenant_world.specs.Comparing.{ending_refusal, refusal_in, compared_run};
 ghost use Rattle.tenant_world.specs.Comparing.{PassesComparison, FailsComparison};
 ghost use Rattle.server_rules.specs.Plan.{form_finished};
-ghost use Rattle.repl_jobs.specs.Job.{EndingData};
+ghost use Rattle.repl_asks.specs.Job.{EndingData};
 ghost use Rattle.tenant_moves.specs.Endings.{hand_after};
 
 use crate::acting::interrupt;
 use crate::answers::{EndAnswer, Ending};
 use crate::memory::Memory;
-use repl_jobs::Finished;
+use repl_asks::Finished;
 use server_rules::{Actor, Refusal};
 use std::alloc::{AllocError, Global};
 use tenant_actors::{ActorState, Run};

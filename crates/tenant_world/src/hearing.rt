@@ -13,7 +13,7 @@ use crate::tenant::Tenant;
 use bencode_wire::laws::a_stream_has_one_reading;
 use bytes::Bytes;
 use server_rules::Refusal;
-use tenant_hearing::hear;
+use tenant_moves::hear;
 
 impl Tenant {
     ghost use Rattle.tenant_world.specs.Standing.{QuietStands, AcceptsDeed, RefusesDeed};

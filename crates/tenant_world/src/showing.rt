@@ -29,9 +29,8 @@ use private_cells::{Agents, Atoms};
 use repl_sessions::{IdStream, SessionState, Sessions};
 use server_rules::{Actor, MESSAGE_LIMIT, Refusal};
 use std::alloc::{AllocError, Global};
-use tenant_actors::{Actors, Run};
+use tenant_actors::{Actors, Outbox, Run};
 use tenant_refs::Attempts;
-use tenant_replies::Outbox;
 use tenant_turns::Wire;
 
 impl Tenant {

@@ -16,7 +16,7 @@ ghost use Rattle.tenant_world.specs.Acting.{with_next_in_hand, is_accepted};
 use crate::acting::interrupt;
 use crate::answers::{StartAnswer, StartAnswers};
 use crate::memory::Memory;
-use repl_jobs::Job;
+use repl_asks::Job;
 use server_rules::{Actor, Refusal};
 use std::alloc::{AllocError, Global};
 use tenant_actors::{ActorState, Hand, Waiting};

@@ -1,13 +1,13 @@
 // The steps of a tenant's actors.
 ghost use Rattle.std.specs.Prelude.{◌≡◌, ◌+◌, ◌<◌, ◌≤◌, true, Err, IfOk, IfErr, OnErr};
 ghost use Rattle.repl_asks.specs.Inside.View.{ask_view};
-ghost use Rattle.repl_jobs.specs.Inside.View.{finished_view};
+ghost use Rattle.repl_asks.specs.Inside.Jobs.{finished_view};
 ghost use Rattle.server_rules.specs.Ground.{Ground};
 ghost use Rattle.server_rules.specs.Store.{Store};
 ghost use Rattle.server_rules.specs.Tenant.{ActorData, Quiet};
 ghost use Rattle.server_rules.specs.Plan as deeds;
 ghost use Rattle.server_rules.specs.Plan.{with_step_spent};
-ghost use Rattle.repl_jobs.specs.Job.{EndingData};
+ghost use Rattle.repl_asks.specs.Job.{EndingData};
 ghost use Rattle.ref_table.specs.Refs.{Refs, refs_after};
 ghost use Rattle.ref_table.specs.Standing.{counter_of};
 ghost use Rattle.tenant_turns.specs.DeedResult.{deed_result};
@@ -28,8 +28,7 @@ use crate::starting::start;
 use crate::tenant::Tenant;
 use ref_history::RingHistory;
 use ref_table::RefTable;
-use repl_asks::Ask;
-use repl_jobs::Finished;
+use repl_asks::{Ask, Finished};
 use server_rules::{Actor, Refusal};
 
 impl Tenant {

@@ -1,9 +1,9 @@
 // When two jobs are the same.
 ghost use Rattle.std.specs.Prelude.{◌≡◌, ◌↔◌, IsTrue};
-ghost use Rattle.repl_jobs.specs.Inside.View.{work_view, job_view};
+ghost use Rattle.repl_asks.specs.Inside.Jobs.{work_view, job_view};
 
 use crate::values::{same_text, same_value};
-use repl_jobs::{Job, Work};
+use repl_asks::{Job, Work};
 
 /// Whether there is the same to evaluate.
 pub fn same_work(left: &Work, right: &Work) -> bool

@@ -5,10 +5,10 @@ use Rattle.std.specs.Prelude.{string_bytes, codes}
 use Rattle.std.specs.Arc.{arc_str_bytes}
 use Rattle.value_data.specs.Datum.{Datum}
 use Rattle.repl_faults.specs.Failure.{Failure, bad_form}
-use Rattle.repl_jobs.specs.Job as jobs
-use Rattle.repl_jobs.specs.Job.{WorkData}
-use Rattle.repl_jobs.specs.Inside.View.{work_view, job_view}
-use Rattle.repl_jobs.specs.declared.job.Job.{Job}
+use Rattle.repl_asks.specs.Job as jobs
+use Rattle.repl_asks.specs.Job.{WorkData}
+use Rattle.repl_asks.specs.Inside.Jobs.{work_view, job_view}
+use Rattle.repl_asks.specs.declared.job.Job.{Job}
 use Rattle.evaluation_rules.specs.Doing.{Part, fails}
 use Rattle.evaluation_rules.specs.Tree.{ends}
 use Rattle.evaluation_rules.specs.Evaluation.{evaluation, value_at, shared_form_value, work_value}

@@ -23,7 +23,7 @@ use Rattle.special_forms.specs.declared.forms.LetBinding.{LetBinding}
 use Rattle.special_forms.specs.declared.forms.Forms.{Forms}
 use Rattle.evaluation_rules.specs.Doing.{Kept, Doing, Part}
 use Rattle.walker_state.proofs.Stepping.{fails-at}
-use Rattle.repl_jobs.specs.InteractionTree.{InteractionTree}
+use Rattle.repl_asks.specs.InteractionTree.{InteractionTree}
 use Rattle.evaluation_rules.specs.Tree.{ends}
 use Rattle.evaluation_rules.specs.Places.{PlaceData, Evaluator}
 use Rattle.evaluation_rules.specs.Calls.{call_value, counted_call}

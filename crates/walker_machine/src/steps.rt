@@ -3,7 +3,7 @@
 
 ghost use Rattle.std.specs.Prelude.{◌≡◌, ◌≤◌, [], string_bytes, IfOk};
 ghost use Rattle.repl_asks.specs.Inside.View.{answer_view};
-ghost use Rattle.repl_jobs.specs.Inside.View.{end_view, job_view};
+ghost use Rattle.repl_asks.specs.Inside.Jobs.{end_view, job_view};
 ghost use Rattle.evaluation_rules.specs.Tree.{ends};
 ghost use Rattle.evaluation_rules.specs.Evaluation.{evaluation};
 ghost use Rattle.walker_state.specs.Pending.{from_state, tree, kept_of};
@@ -21,11 +21,9 @@ use crate::evaluate::evaluate;
 use crate::give::give;
 use crate::work::begin_work;
 use evaluation_rules::{CALLS, Occasion};
-use local_names::Locals;
-use repl_asks::{Answer, Ask};
-use repl_jobs::{End, Finished, Job};
+use repl_asks::{Answer, Ask, End, Finished, Job};
 use repl_values::{Value, copy_text};
-use special_forms::Function;
+use special_forms::{Function, Locals};
 use std::alloc::{AllocError, Global};
 use std::boxed::Box;
 use std::collections::VecDeque;

@@ -3,7 +3,7 @@
 
 ghost use Rattle.std.specs.Prelude.{◌≡◌, ◌≤◌, IfOk};
 ghost use Rattle.value_data.specs.Inside.View.{view};
-ghost use Rattle.repl_jobs.specs.Inside.View.{work_view};
+ghost use Rattle.repl_asks.specs.Inside.Jobs.{work_view};
 ghost use Rattle.evaluation_rules.specs.Evaluation.{shared_form_value, work_value};
 ghost use Rattle.evaluation_rules.specs.Places.{outside};
 ghost use Rattle.walker_state.specs.Pending.{from_state, place_of, tree};
@@ -11,8 +11,8 @@ ghost use Rattle.walker_state.specs.Position.{around, control_around, control_ca
 ghost use Rattle.walker_state.specs.declared.frames.State.{State};
 
 use evaluation_rules::ROOM;
+use repl_asks::Work;
 use repl_faults::bad_form;
-use repl_jobs::Work;
 use repl_values::{Value, copy};
 use std::alloc::{AllocError, Global};
 use walker_state::{Control, is_definition};

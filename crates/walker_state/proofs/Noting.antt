@@ -9,7 +9,7 @@ use Rattle.repl_faults.specs.declared.rule.Rule.{Rule}
 use Rattle.repl_asks.specs.Transactions.{RefNameData}
 use Rattle.repl_asks.specs.Exchange.{read}
 use Rattle.repl_asks.specs.Inside.View.{name_view}
-use Rattle.repl_jobs.specs.InteractionTree.{asks}
+use Rattle.repl_asks.specs.InteractionTree.{asks}
 use Rattle.value_data.specs.declared.value.RefName.{RefName}
 use Rattle.tx_attempt.specs.Accesses.{AccessData, put, noted, attempt_value, is_commuted}
 use Rattle.tx_attempt.specs.Inside.Seen.{attempt_view}

@@ -11,7 +11,7 @@ use Rattle.repl_faults.specs.declared.rule.Rule.{Rule}
 use Rattle.core_texts.specs.Limits.{most_text}
 use Rattle.repl_asks.specs.Transactions.{IntentData}
 use Rattle.repl_asks.specs.Exchange.{AskData, AnswerData, begin, commit, committed, verdict_in}
-use Rattle.repl_jobs.specs.InteractionTree.{InteractionTree, asks}
+use Rattle.repl_asks.specs.InteractionTree.{InteractionTree, asks}
 use Rattle.special_forms.specs.Inside.Seen.{forms_view}
 use Rattle.special_forms.specs.declared.forms.Forms.{Forms}
 use Rattle.tx_attempt.specs.Accesses.{AttemptData, intent_of, nothing_noted}

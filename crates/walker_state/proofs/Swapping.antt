@@ -10,7 +10,7 @@ use Rattle.function_names.specs.declared.store.StoreFunction.{StoreFunction}
 use Rattle.repl_asks.specs.Exchange.{AskData, NamedFunctionData, AnswerData, read_atom, try_atom}
 use Rattle.repl_asks.specs.Exchange.{value_in}
 use Rattle.repl_asks.specs.Inside.View.{named_view}
-use Rattle.repl_jobs.specs.InteractionTree.{asks}
+use Rattle.repl_asks.specs.InteractionTree.{asks}
 use Rattle.special_forms.specs.Inside.Seen.{views}
 use Rattle.store_calls.specs.Arguments.{atom_in}
 use Rattle.store_calls.specs.Inside.View.{swapped_view}

@@ -2,7 +2,7 @@
 use Rattle.std.specs.Prelude.{◌≡◌, ◌+◌, ◌≤◌, Ok, string_bytes, ⊤}
 use Rattle.value_data.specs.Inside.View.{view}
 use Rattle.repl_asks.specs.Inside.View.{ask_view}
-use Rattle.repl_jobs.specs.InteractionTree.{InteractionTree, asks}
+use Rattle.repl_asks.specs.InteractionTree.{InteractionTree, asks}
 use Rattle.evaluation_rules.specs.Tree.{ends}
 use Rattle.walker_state.specs.Pending.{tree_with_answer, kept_of}
 use Rattle.walker_state.specs.Size.{wanted_size, frames_size}

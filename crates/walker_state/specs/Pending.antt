@@ -8,7 +8,7 @@ use Rattle.repl_asks.specs.Exchange.{AnswerData, ResolutionData, resolution_in, 
 use Rattle.repl_asks.specs.Exchange.{reading_in, VerdictData, verdict_in, permission_in}
 use Rattle.repl_asks.specs.Inside.View.{ask_view, name_view}
 use Rattle.repl_asks.specs.declared.answer.Resolution.{Resolution}
-use Rattle.repl_jobs.specs.InteractionTree.{InteractionTree, asks}
+use Rattle.repl_asks.specs.InteractionTree.{InteractionTree, asks}
 use Rattle.special_forms.specs.Inside.Seen.{views, forms_view, function_view}
 use Rattle.tx_attempt.specs.Accesses.{nothing_noted}
 use Rattle.evaluation_rules.specs.Doing.{Kept, Doing, Part, ◌>>=◌, pure_part}

@@ -4,9 +4,8 @@ ghost use Rattle.std.specs.Arc.{arc_str_bytes};
 ghost use Rattle.special_forms.specs.Inside.Seen.{views, function_view};
 ghost use Rattle.evaluation_rules.specs.Applying.{bound_to, full_name, get_arguments};
 
-use local_names::Locals;
 use repl_values::{Value, copy_text};
-use special_forms::Function;
+use special_forms::{Function, Locals};
 use std::alloc::{AllocError, Global};
 use std::collections::VecDeque;
 use std::sync::ArcStr;

@@ -1,9 +1,8 @@
 // What an evaluation has still to do, from the inside out.
 use evaluation_rules::Occasion;
-use local_names::Locals;
 use repl_asks::{Ask, Commute, NamedFunction};
 use repl_values::{Fault, RefName, Value};
-use special_forms::{Forms, Function, Logic};
+use special_forms::{Forms, Function, Locals, Logic};
 use std::boxed::Box;
 use std::collections::VecDeque;
 use std::sync::{Arc, ArcStr};

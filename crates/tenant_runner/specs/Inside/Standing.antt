@@ -5,7 +5,7 @@ use Rattle.server_rules.specs.Machine.World.{TenantData, World}
 use Rattle.tenant_turns.specs.Grounds.{IsRight}
 use Rattle.tenant_turns.specs.Inside.Turned.{Left}
 use Rattle.tenant_turns.specs.Turns.{Lone}
-use Rattle.tenant_walks.specs.Grounds.{Evaluates}
+use Rattle.repl_core.specs.Grounds.{Evaluates}
 use Rattle.repl_core.specs.Going.{AreWalkedIn}
 use Rattle.repl_core.specs.Left.{left_at}
 use Rattle.repl_core.specs.Standing as machine

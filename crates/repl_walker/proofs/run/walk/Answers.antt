@@ -1,5 +1,5 @@
 use Rattle.std.proofs.Common.{◌≡◌, ◌<◌, ◌∙◌, [], refl, sym, ap, subst}
-use Rattle.repl_jobs.specs.Inside.View.{job_view}
+use Rattle.repl_asks.specs.Inside.Jobs.{job_view}
 use Rattle.repl_asks.specs.Inside.View.{trace_view}
 use Rattle.evaluation_rules.specs.Evaluation.{evaluation}
 use Rattle.repl_walker.specs.Led.{Recorded}

@@ -1,6 +1,6 @@
 use Rattle.std.proofs.Common.{◌≡◌, IfErr, refl, sym, subst, ◌∙◌}
 use Rattle.value_data.specs.Inside.View.{view}
-use Rattle.repl_jobs.specs.Inside.View.{job_view}
+use Rattle.repl_asks.specs.Inside.Jobs.{job_view}
 use Rattle.evaluation_rules.specs.Evaluation.{evaluation}
 use Rattle.repl_walker.specs.Ends.{ending_view}
 use Rattle.repl_walker.specs.Stops.{LeftAt}

@@ -1,7 +1,7 @@
 use Rattle.std.proofs.Common.{◌≡◌, false, drop}
 use Rattle.value_data.specs.Inside.View.{items_view}
-use Rattle.repl_jobs.specs.Job.{JobData}
-use Rattle.repl_jobs.specs.InteractionTree.{InteractionTree}
+use Rattle.repl_asks.specs.Job.{JobData}
+use Rattle.repl_asks.specs.InteractionTree.{InteractionTree}
 use Rattle.server_rules.specs.Shared.{shared_by_forms}
 use Rattle.shared_space.specs.Loaded.{EvaluatesJobs}
 use Rattle.shared_space.specs.Told.{shared_so_far}

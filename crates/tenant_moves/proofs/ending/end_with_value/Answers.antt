@@ -2,7 +2,7 @@ use Rattle.std.proofs.Common.{◌≡◌, ◌∙◌, ◌++◌, ℕ, List, map, re
 use Rattle.repl_replies.specs.Replies.{bytes_of}
 use Rattle.value_data.specs.Datum.{Datum}
 use Rattle.value_data.specs.Inside.View.{view}
-use Rattle.repl_jobs.specs.Inside.View.{finished_view}
+use Rattle.repl_asks.specs.Inside.Jobs.{finished_view}
 use Rattle.repl_sessions.specs.State.{StateData}
 use Rattle.server_rules.specs.Request.{Hand, last_form}
 use Rattle.server_rules.specs.Moves.{Move, closing_move, going_on}

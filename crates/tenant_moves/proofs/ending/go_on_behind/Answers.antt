@@ -1,5 +1,5 @@
 use Rattle.std.proofs.Common.{◌∙◌, sym}
-use Rattle.repl_jobs.specs.Inside.View.{finished_view}
+use Rattle.repl_asks.specs.Inside.Jobs.{finished_view}
 use Rattle.tenant_actors.specs.View.{hand_view}
 use Rattle.tenant_moves.specs.Told.{told_state}
 use Rattle.tenant_moves.proofs.Behind.{ends-over}

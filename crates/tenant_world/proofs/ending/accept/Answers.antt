@@ -1,6 +1,6 @@
 use Rattle.std.proofs.Common.{◌≡◌, ◌∙◌, refl, sym, ap, subst, option_map}
-use Rattle.repl_jobs.specs.Job.{EndData}
-use Rattle.repl_jobs.specs.Inside.View.{finished_view}
+use Rattle.repl_asks.specs.Job.{EndData}
+use Rattle.repl_asks.specs.Inside.Jobs.{finished_view}
 use Rattle.repl_sessions.specs.State.{StateData}
 use Rattle.repl_sessions.specs.Inside.StateView.{state_view}
 use Rattle.server_rules.specs.Request.{Hand}

@@ -27,5 +27,5 @@ returns-in-Tried-clause-later c =
 
 pub returns-in-Permission-clause-later : goal.returns-in-Permission-clause-later
 returns-in-Permission-clause-later c =
-    let s = c.args.state.now in
-    rw c.in-Permission.is (leads-later _ 2 s s _ refl (omega arith) (omega arith) (c.permit.ensures.on s))
+    let e = c.permit.ensures.on c.args.state.now in
+    rw c.in-Permission.is (later_smaller _ _ _ _ _ _ e.around (omega (arith, e.calls)) (omega (arith, e.size)))

@@ -11,6 +11,10 @@ returns-clause-meaning c =
       c.replace-place.ensures.value,
       c.replace-place.ensures.after,
       c.in_ok-locals.ensures,
+      c.in_ok-body.ensures,
+      c.in_ok-copy_text.ensures,
+      c.deref-4.ensures,
+      c.deref-3.ensures,
       c.deref-2.ensures.value,
       c.deref.ensures,
     ) refl)

@@ -1,7 +1,7 @@
 use Rattle.std.proofs.Common.{◌≡◌, refl, sym, ap, subst, ◌∙◌, None, arith}
 use Rattle.repl_asks.specs.Inside.View.{ask_view}
-use Rattle.repl_jobs.specs.Inside.View.{job_view}
-use Rattle.repl_jobs.specs.InteractionTree.{InteractionTree, asks}
+use Rattle.repl_asks.specs.Inside.Jobs.{job_view}
+use Rattle.repl_asks.specs.InteractionTree.{InteractionTree, asks}
 use Rattle.evaluation_rules.specs.Evaluation.{evaluation}
 use Rattle.evaluation_rules.specs.declared.limits.TheConstants.{CALLS}
 use Rattle.walker_state.specs.Pending.{tree, tree_with_answer}

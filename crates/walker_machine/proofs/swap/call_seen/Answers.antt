@@ -37,5 +37,5 @@ returns-clause-meaning c =
     let given : views vs ≡ view c.args.seen ∷ views w.arguments.items = search (rules, value_views) in
     let same = ap (λ (f : NamedFunctionData). from_state (function_called (value_at w.room) f (views vs)) u) c.in_ok-function.ensures in
     if_ok-turned _ _ (c.in_ok-control.ensures.meaning ∙ same
-    ∙ swap_step-calls s u w (view c.args.seen) vs (rw pushed refl, rw pushed refl, refl, refl, refl, refl, refl) given)
+    ∙ swap_step-calls s u w (view c.args.seen) vs (rw (pushed, c.in_ok-swap.ensures.ok) refl, rw pushed refl, refl, refl, refl, refl, refl) given)
     c.enter_body.ensures.meaning

@@ -1,6 +1,6 @@
 use Rattle.std.proofs.Common.{ap}
 use Rattle.value_data.specs.Inside.View.{view}
-use Rattle.repl_jobs.specs.Inside.View.{work_view}
+use Rattle.repl_asks.specs.Inside.Jobs.{work_view}
 use Rattle.walker_machine.proofs.Beginning.{begun-form}
 use Rattle.walker_machine.proofs.work.begin_work.Goals as goal
 

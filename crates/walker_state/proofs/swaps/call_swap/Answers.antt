@@ -24,10 +24,10 @@ returns-in-Refused-clause-meaning c =
     let told = swapped-told _ (Err (failure_of c.in-Refused.fault)) (view taken.result) c.in_ok-fault-2.ensures (ap swapped_view c.in-Refused.is) in
     swap_call-refused (value_at c.args.room) (named_view c.args.function) (view taken.result) (views taken.new.self.items) vs.items _ c.args.state.now given told
 
-pub returns-in-Atom-clause-meaning : goal.returns-in-Atom-clause-meaning
-returns-in-Atom-clause-meaning c =
+pub returns-in_ok-new-in-Atom-clause-meaning : goal.returns-in_ok-new-in-Atom-clause-meaning
+returns-in_ok-new-in-Atom-clause-meaning c =
     let vs = c.args.values in
     let taken = c.remove-target in
     let given = first-removed vs.items taken.new.self.items taken.result vs.len (omega (arith, vs.ok)) c.if-is_empty.ensures taken.ensures.value taken.ensures.items in
     let told = swapped-told _ (Ok c.in-Atom.atom) (view taken.result) c.in_ok-fault-2.ensures (ap swapped_view c.in-Atom.is) in
-    rw c.in_ok-new.ensures.ok (swap_call-asks _ (view taken.result) vs.items c.args.state.now given told refl)
+    rw c.in_ok-new-in-Atom.ensures.ok (swap_call-asks _ (view taken.result) vs.items c.args.state.now given told refl)

@@ -7,4 +7,5 @@ returns-then-swap-eq0-clause-meaning c = λ s.
     swap_again-none c.args.swap _ s (search rules) (search rules)
 
 pub returns-clause-meaning : goal.returns-clause-meaning
-returns-clause-meaning c = λ s. swap_again-left c.args.swap _ s (search rules) (search rules)
+returns-clause-meaning c = λ s.
+    rw c.in_ok-new.ensures.ok (swap_again-left c.args.swap _ s (search rules) (search rules))

@@ -1,6 +1,6 @@
 use Rattle.std.proofs.Common.{subst, sym}
 use Rattle.machine_turns.specs.AllWalks.{IsWalkedAt}
-use Rattle.repl_core.proofs.Walking.{fresh-walked}
+use Rattle.repl_core.proofs.GoingOn.{fresh-walked}
 use Rattle.machine_turns.proofs.all_walks.AllWalks.take.Goals as goal
 
 pub returns-in-Some-clause-walked : goal.returns-in-Some-clause-walked

@@ -2,7 +2,7 @@ use Rattle.std.proofs.Common.{◌≡◌, ℕ, ◌∙◌, ap, sym, Some, Ok, Err}
 use Rattle.server_rules.specs.Plan as deeds
 use Rattle.server_rules.specs.Plan.{reply_given}
 use Rattle.server_rules.specs.declared.refusal.Refusal.{Refusal}
-use Rattle.tenant_walks.proofs.Stores.{serves-all-still, drains-reached}
+use Rattle.repl_core.proofs.Stores.{serves-all-still, drains-reached}
 use Rattle.repl_core.specs.Standing.{store_in}
 use Rattle.server_rules.specs.Machine.World.{does}
 use Rattle.repl_core.specs.TenantAt.{tenant_at}

@@ -1,11 +1,11 @@
 use Rattle.std.proofs.Common.{◌≡◌, ◌∙◌, sym, ap, subst, IfOk, IfErr, true}
 use Rattle.repl_asks.specs.Inside.View.{trace_view}
-use Rattle.repl_jobs.specs.Inside.View.{job_view, finished_view}
+use Rattle.repl_asks.specs.Inside.Jobs.{job_view, finished_view}
 use Rattle.server_rules.specs.Plan as deeds
-use Rattle.repl_jobs.specs.Job.{EndingData}
+use Rattle.repl_asks.specs.Job.{EndingData}
 use Rattle.tenant_turns.specs.DeedResult.{deed_result}
 use Rattle.repl_walker.specs.Ends.{ending_view}
-use Rattle.tenant_walks.proofs.Stores.{serves-all-still, ends-reached}
+use Rattle.repl_core.proofs.Stores.{serves-all-still, ends-reached}
 use Rattle.tenant_world.specs.Acting.{is_accepted}
 use Rattle.tenant_world.specs.Answers.{end_answer_view}
 use Rattle.tenant_world.specs.Standing as world

@@ -1,5 +1,5 @@
 use Rattle.std.proofs.Common.{◌∙◌, sym}
-use Rattle.tenant_walks.specs.Inside.Seen.{is_kept}
+use Rattle.repl_core.specs.Inside.Seen.{is_kept}
 use Rattle.repl_core.proofs.Honest.{goes-so, halts-so, halts-none, accepts-goes}
 use Rattle.repl_core.proofs.Left.{left-less, left-kept, left-none, some-waits, some-left}
 use Rattle.repl_core.proofs.Places.{left-so}

@@ -1,7 +1,7 @@
 use Rattle.std.proofs.Common.{◌∙◌, sym}
 use Rattle.server_rules.specs.Plan as deeds
 use Rattle.server_rules.specs.Plan.{messages_heard}
-use Rattle.tenant_walks.proofs.Stores.{serves-all-still, hears-reached}
+use Rattle.repl_core.proofs.Stores.{serves-all-still, hears-reached}
 use Rattle.repl_core.specs.Standing.{store_in}
 use Rattle.repl_core.proofs.Behind.{does-so, refuses-so, refuses-none, ok-with, err-with}
 use Rattle.repl_core.proofs.Behind.{accepts-so}

@@ -1,6 +1,6 @@
 use Rattle.std.proofs.Common.{◌∙◌, sym}
 use Rattle.server_rules.specs.Plan as deeds
-use Rattle.tenant_walks.proofs.Stores.{serves-all-still, starts-reached}
+use Rattle.repl_core.proofs.Stores.{serves-all-still, starts-reached}
 use Rattle.tenant_world.specs.Answers.{start_answer_view}
 use Rattle.repl_core.specs.Standing.{store_in}
 use Rattle.repl_core.proofs.Behind.{does-so, refuses-so, refuses-none, of-actor, err-with}

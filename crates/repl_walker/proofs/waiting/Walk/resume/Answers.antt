@@ -1,5 +1,5 @@
 use Rattle.repl_asks.specs.Inside.View.{ask_view, answer_view, trace_view}
-use Rattle.repl_jobs.specs.Inside.View.{job_view}
+use Rattle.repl_asks.specs.Inside.Jobs.{job_view}
 use Rattle.walker_machine.specs.Waits.{tree_behind}
 use Rattle.repl_walker.proofs.Leading.{led-to-answered, trace-pushed}
 use Rattle.repl_walker.proofs.waiting.Walk.resume.Goals as goal

@@ -1,6 +1,6 @@
 use Rattle.std.specs.Result.{is_ok}
 use Rattle.std.proofs.Common.{◌<◌, ◌∙◌, refl, Some, Err, sym, ap, subst}
-use Rattle.repl_jobs.specs.Inside.View.{finished_view}
+use Rattle.repl_asks.specs.Inside.Jobs.{finished_view}
 use Rattle.server_rules.specs.Numbered.{part_under}
 use Rattle.server_rules.specs.Plan as deeds
 use Rattle.server_rules.specs.Plan.{Plan}

@@ -2,8 +2,8 @@ use Rattle.std.proofs.Common.{◌∙◌, length, refl, sym, ap}
 use Rattle.std.proofs.lemmas.Bool.{eq-eqb}
 use Rattle.bencode_wire.specs.Inside.Decoder.{ready_of}
 use Rattle.server_rules.specs.Hearing.{stream_fault, hears_more}
-use Rattle.tenant_hearing.specs.Holds.{PartsStandFor}
-use Rattle.tenant_hearing.specs.HasReadAll.{HasReadAll}
+use Rattle.tenant_moves.specs.Holds.{PartsStandFor}
+use Rattle.tenant_moves.specs.HasReadAll.{HasReadAll}
 use Rattle.tenant_world.proofs.Remembering.{held-so}
 use Rattle.tenant_world.proofs.Standing.{not-zero, stands-same}
 use Rattle.tenant_world.proofs.Seating.{seated-below, below-seated}

@@ -1,6 +1,0 @@
-use Rattle.std.proofs.Common.{arith}
-use Rattle.local_names.proofs.Places.{bound-at}
-use Rattle.local_names.proofs.lookup.value_at.Goals as goal
-
-pub returns : goal.returns
-returns c s e = bound-at c.args.locals.now.items s c.args.place _ _ e (omega (arith, c.requires)) c.index.ensures

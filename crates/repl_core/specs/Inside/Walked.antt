@@ -1,0 +1,26 @@
+-- How far the evaluations of the forms that run have come.
+use Rattle.std.specs.Prelude.{◌≡◌, Option, Some}
+use Rattle.repl_asks.specs.Inside.Jobs.{finished_view}
+use Rattle.repl_asks.specs.Job.{EndingData}
+use Rattle.repl_asks.specs.Leading.{tree_after}
+use Rattle.repl_walker.specs.Waits.{progress_tree}
+use Rattle.repl_walker.specs.declared.ending.Ending.{Ending}
+use Rattle.repl_walker.specs.declared.waiting.Progress.{Progress}
+use Rattle.server_rules.specs.Request.{Run}
+use Rattle.server_rules.specs.Tenant.{Quiet}
+use Rattle.server_rules.specs.declared.actor.Actor.{Actor}
+use Rattle.evaluation_rules.specs.Evaluation.{evaluation}
+use Rattle.tenant_world.specs.Running.{running_in}
+
+-- it came as far as the answers in the trace of the run take it
+abbrev pub IsWalkOf : Run → Progress → Type 0
+IsWalkOf run p = progress_tree p ≡ tree_after (evaluation run.job) run.trace
+
+-- each that is kept of a form that runs is that form's
+abbrev pub AreWalked : (Actor → Option Progress) → Quiet → Type 0
+AreWalked walk q = (a : Actor) (run : Run) (p : Progress) → running_in a q ≡ Some run
+    → walk a ≡ Some p → IsWalkOf run p
+
+-- the ending of a form that runs, where its evaluation ended so
+abbrev pub ending_of : Run → Ending → EndingData
+ending_of run e = record { job = run.job; trace = run.trace; end = finished_view e.finished }

@@ -1,0 +1,196 @@
+// An actor goes on as its evaluation says.
+ghost use Rattle.std.specs.Prelude.{◌≡◌, ◌≢◌, ◌+◌, ◌<◌, ◌≤◌, true, Some, None, Err, OnOk};
+ghost use Rattle.std.specs.Prelude.{IfErr, OnErr};
+ghost use Rattle.repl_asks.specs.Inside.View.{ask_view, answer_view};
+ghost use Rattle.server_rules.specs.Ground.{Ground};
+ghost use Rattle.server_rules.specs.Tenant.{seat_of};
+ghost use Rattle.server_rules.specs.Plan as deeds;
+ghost use Rattle.server_rules.specs.Request as rules;
+ghost use Rattle.server_rules.specs.Honest.{honest_deed};
+ghost use Rattle.ref_table.specs.Refs.{Refs};
+ghost use Rattle.ref_table.specs.Standing.{counter_of};
+ghost use Rattle.tenant_turns.specs.Grounds.{IsRight};
+ghost use Rattle.tenant_turns.specs.Turns.{Lone};
+ghost use Rattle.tenant_world.specs.Acting.{is_accepted};
+ghost use Rattle.tenant_world.specs.Asking.{exchange_from, run_with};
+ghost use Rattle.tenant_world.specs.Running.{running_in};
+ghost use Rattle.tenant_world.specs.Standing.{CountsStep};
+ghost use Rattle.repl_core.specs.Inside.Seen.{is_kept, is_seen};
+ghost use Rattle.repl_core.specs.Inside.Walked.{IsWalkOf, ending_of};
+ghost use Rattle.repl_core.specs.Inside.WalkAt.{walk_at, IsAsking, IsEnded};
+ghost use Rattle.repl_walker.specs.declared.waiting.Walk.{Walk};
+ghost use Rattle.repl_walker.specs.declared.ending.Ending as endings;
+
+use crate::walks::Walks;
+use ref_history::RingHistory;
+use ref_table::RefTable;
+use repl_asks::Answer;
+use repl_walker::Progress;
+use server_rules::{Actor, Refusal};
+use std::alloc::AllocError;
+use tenant_world::{AskAnswer, Tenant};
+
+impl Walks {
+    ghost use Rattle.repl_core.specs.Inside.Standing.{parts, PartsStand, AcceptsHonestDeed};
+    ghost use Rattle.repl_core.specs.Inside.Standing.{RefusesHonestDeed, comes_to};
+
+    /// Does what is next for an actor of the tenant whose evaluations these are: begins a form,
+    /// answers one ask of it or ends it. What a form asks of refs is asked of this table.
+    pub fn go(
+        &mut self,
+        tenant: &mut Tenant,
+        refs: &mut RefTable<RingHistory>,
+        actor: Actor,
+    ) -> Result<(), Refusal>
+        requires { counter_of refs.old < u128.MAX }
+        ensures done { (g : Ground) (l : Lone) (r : Refs) → IsRight g
+            → PartsStand g (parts tenant.old refs.old self.old) l r → OnOk result
+            (AcceptsHonestDeed g l r (honest_deed g actor (Some (Some l.quiet)))
+            (parts tenant.new refs.new self.new)) }
+        ensures refused { (g : Ground) (l : Lone) (r : Refs) → IsRight g
+            → PartsStand g (parts tenant.old refs.old self.old) l r → IfErr result
+            (RefusesHonestDeed g l r (honest_deed g actor (Some (Some l.quiet)))
+            (parts tenant.new refs.new self.new)) }
+        ensures no_memory { (g : Ground) (l : Lone) (r : Refs) → IsRight g
+            → PartsStand g (parts tenant.old refs.old self.old) l r
+            → result ≡ Err Refusal.NoMemory
+            → let d = honest_deed g actor (Some (Some l.quiet)) in
+            is_seen (is_kept self.old self.new actor) d ≡ true
+            → is_accepted (comes_to g l d).outcome ≡ true }
+        ensures unworn { result ≡ Err Refusal.NoMemory → 0 < tenant.old.steps }
+        ensures counted { CountsStep tenant.old tenant.new result }
+        ensures counter { counter_of refs.new ≤ counter_of refs.old + 1 }
+        ensures failed { OnErr result (counter_of refs.new ≡ counter_of refs.old) }
+    {
+        if tenant.is_worn() {
+            return Err(Refusal::Worn);
+        }
+        let Some(run) = tenant.running(actor) else {
+            return self.begin(tenant, refs, actor);
+        };
+        self.find(actor, run)?;
+        match self.get(actor) {
+            Some(Progress::Asks(_walk)) => self.ask(tenant, refs, actor),
+            Some(Progress::Ends(_ending)) => self.end(tenant, refs, actor),
+            None => unreachable!(),
+        }
+    }
+
+    // No form of the actor runs: it begins one, or takes up a request.
+    fn begin(
+        &mut self,
+        tenant: &mut Tenant,
+        refs: &RefTable<RingHistory>,
+        actor: Actor,
+    ) -> Result<(), Refusal>
+        ensures done { (g : Ground) (l : Lone) (r : Refs) → IsRight g
+            → PartsStand g (parts tenant.old refs.now self.old) l r → OnOk result
+            (AcceptsHonestDeed g l r (deeds.starts actor) (parts tenant.new refs.now self.new)) }
+        ensures refused { (g : Ground) (l : Lone) (r : Refs) → IsRight g
+            → PartsStand g (parts tenant.old refs.now self.old) l r → IfErr result
+            (RefusesHonestDeed g l r (deeds.starts actor) (parts tenant.new refs.now self.new)) }
+        ensures no_memory { (g : Ground) (l : Lone) (r : Refs) → IsRight g
+            → PartsStand g (parts tenant.old refs.now self.old) l r
+            → result ≡ Err Refusal.NoMemory
+            → is_accepted (comes_to g l (deeds.starts actor)).outcome ≡ true }
+        ensures counted { CountsStep tenant.old tenant.new result }
+    {
+        tenant.start(actor)?;
+        self.remove(actor);
+        Ok(())
+    }
+
+    // Its form asks what its evaluation asks.
+    fn ask(
+        &mut self,
+        tenant: &mut Tenant,
+        refs: &mut RefTable<RingHistory>,
+        actor: Actor,
+    ) -> Result<(), Refusal>
+        requires asks { IsAsking (walk_at self.old actor) }
+        requires counter { counter_of refs.old < u128.MAX }
+        ensures done { (g : Ground) (l : Lone) (r : Refs) (run : rules.Run) (w : Walk) → IsRight g
+            → PartsStand g (parts tenant.old refs.old self.old) l r
+            → running_in actor l.quiet ≡ Some run
+            → walk_at self.old actor ≡ Some (Progress.Asks w)
+            → OnOk result (AcceptsHonestDeed g l r (deeds.asks_for actor (ask_view w.ask))
+            (parts tenant.new refs.new self.new)) }
+        ensures refused { (g : Ground) (l : Lone) (r : Refs) (w : Walk) → IsRight g
+            → PartsStand g (parts tenant.old refs.old self.old) l r
+            → walk_at self.old actor ≡ Some (Progress.Asks w)
+            → IfErr result (RefusesHonestDeed g l r (deeds.asks_for actor (ask_view w.ask))
+            (parts tenant.new refs.new self.new)) }
+        ensures no_memory { (g : Ground) (l : Lone) (r : Refs) (w : Walk)
+            → PartsStand g (parts tenant.old refs.old self.old) l r
+            → walk_at self.old actor ≡ Some (Progress.Asks w)
+            → result ≡ Err Refusal.NoMemory
+            → is_accepted (comes_to g l (deeds.asks_for actor (ask_view w.ask))).outcome ≡ true }
+        ensures counted { CountsStep tenant.old tenant.new result }
+        ensures counter { counter_of refs.new ≤ counter_of refs.old + 1 }
+        ensures failed { OnErr result (counter_of refs.new ≡ counter_of refs.old) }
+    {
+        let Some(Progress::Asks(walk)) = self.get(actor) else {
+            unreachable!();
+        };
+        match tenant.answer(refs, actor, walk.ask())? {
+            AskAnswer::Answer(answer) => drop(self.resume(actor, answer)),
+            AskAnswer::Interrupted => self.remove(actor),
+        }
+        Ok(())
+    }
+
+    // Its form ends as its evaluation ends.
+    fn end(
+        &mut self,
+        tenant: &mut Tenant,
+        refs: &RefTable<RingHistory>,
+        actor: Actor,
+    ) -> Result<(), Refusal>
+        requires { IsEnded (walk_at self.old actor) }
+        ensures done { (g : Ground) (l : Lone) (r : Refs) (run : rules.Run) (e : endings.Ending)
+            → IsRight g → PartsStand g (parts tenant.old refs.now self.old) l r
+            → running_in actor l.quiet ≡ Some run
+            → walk_at self.old actor ≡ Some (Progress.Ends e) → OnOk result
+            (AcceptsHonestDeed g l r (deeds.ends actor (ending_of run e))
+            (parts tenant.new refs.now self.new)) }
+        ensures refused { (g : Ground) (l : Lone) (r : Refs) (run : rules.Run) (e : endings.Ending)
+            → IsRight g → PartsStand g (parts tenant.old refs.now self.old) l r
+            → running_in actor l.quiet ≡ Some run
+            → walk_at self.old actor ≡ Some (Progress.Ends e) → IfErr result
+            (RefusesHonestDeed g l r (deeds.ends actor (ending_of run e))
+            (parts tenant.new refs.now self.new)) }
+        ensures no_memory { (g : Ground) (l : Lone) (r : Refs) (run : rules.Run)
+            (e : endings.Ending) → IsRight g → PartsStand g (parts tenant.old refs.now self.old) l r
+            → running_in actor l.quiet ≡ Some run
+            → walk_at self.old actor ≡ Some (Progress.Ends e)
+            → result ≡ Err Refusal.NoMemory
+            → is_accepted (comes_to g l (deeds.ends actor (ending_of run e))).outcome ≡ true }
+        ensures counted { CountsStep tenant.old tenant.new result }
+    {
+        let Some(Progress::Ends(ending)) = self.get(actor) else {
+            unreachable!();
+        };
+        tenant.finish(actor, ending.end())?;
+        self.remove(actor);
+        Ok(())
+    }
+
+    // The evaluation goes on with its answer. It fails only for want of memory: then the evaluation
+    // is lost, and made again when its actor goes on.
+    fn resume(&mut self, actor: Actor, answer: Answer) -> Result<(), AllocError>
+        requires { IsAsking (walk_at self.old actor) }
+        ensures kept { OnOk result (walk_at self.new actor ≢ None) }
+        ensures resumed { (run : rules.Run) (w : Walk) (p : Progress)
+            → walk_at self.old actor ≡ Some (Progress.Asks w)
+            → IsWalkOf run (Progress.Asks w) → walk_at self.new actor ≡ Some p
+            → IsWalkOf (run_with (exchange_from (ask_view w.ask) (answer_view answer)) run) p }
+        ensures others { (b : Actor) → seat_of b ≢ seat_of actor
+            → walk_at self.new b ≡ walk_at self.old b }
+    {
+        let Some(Progress::Asks(walk)) = self.take(actor) else {
+            unreachable!();
+        };
+        let later = walk.resume(self.alloc, answer)?;
+        self.put(actor, later)
+    }
+}

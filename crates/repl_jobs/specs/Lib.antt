@@ -1,4 +1,0 @@
-pub mod Job
-pub mod InteractionTree
-pub mod Leading
-pub mod Inside

@@ -1,5 +1,0 @@
-use Rattle.server_examples.proofs.Computing.{idle-costs-nothing}
-use Rattle.server_examples.proofs.examples.idle_costs_nothing.Goals as goal
-
-pub returns : goal.returns
-returns c = idle-costs-nothing

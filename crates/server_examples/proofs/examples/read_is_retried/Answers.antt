@@ -1,5 +1,0 @@
-use Rattle.server_examples.proofs.Computing.{read-is-retried}
-use Rattle.server_examples.proofs.examples.read_is_retried.Goals as goal
-
-pub returns : goal.returns
-returns c = read-is-retried

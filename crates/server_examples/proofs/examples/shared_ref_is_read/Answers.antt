@@ -1,5 +1,0 @@
-use Rattle.server_examples.proofs.Computing.{shared-ref-is-read}
-use Rattle.server_examples.proofs.examples.shared_ref_is_read.Goals as goal
-
-pub returns : goal.returns
-returns c = shared-ref-is-read

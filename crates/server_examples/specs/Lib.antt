@@ -1,4 +1,0 @@
-pub mod Messages
-pub mod Tables
-pub mod Runs
-pub mod Examples
