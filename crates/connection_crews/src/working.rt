@@ -2,9 +2,10 @@
 use crate::gate::Gate;
 use crate::moves::{Connection, Ended, Found, Told};
 use journal_book::Seat;
-use repl_asks::Job;
+use repl_asks::{Answer, Job};
 use repl_walker::{Ending, Progress, Walk, start};
 use server_rules::Actor;
+use std::alloc::Global;
 use std::sync::Wait;
 use std::sync::ledger::Ledger;
 
@@ -60,22 +61,48 @@ fn evaluate<L: Ledger, R: Wait, G: Gate>(
         return Next::Cut;
     };
     for _ in rt.forever() {
-        match progress {
-            Progress::Asks(walk) => match ask(rt, connection, seat, actor, &walk) {
-                Told::Answer(answer) => match walk.resume(connection.alloc, answer) {
-                    Ok(later) => progress = later,
-                    Err(_) => return Next::Cut,
-                },
-                Told::Interrupted(replies) => {
-                    connection.write(rt, replies);
-                    return Next::Begin;
-                }
-                Told::Refused => return Next::Cut,
-            },
-            Progress::Ends(ending) => return end(rt, connection, seat, actor, ending),
+        match go_on(rt, connection, seat, actor, progress) {
+            Ok(later) => progress = later,
+            Err(next) => return next,
         }
     }
     unreachable!()
+}
+
+// How far an evaluation comes by the answer to its ask, or what is done behind it.
+fn go_on<L: Ledger, R: Wait, G: Gate>(
+    rt: &R,
+    connection: &Connection<'_, L, G>,
+    seat: &mut Seat<L>,
+    actor: Actor,
+    progress: Progress,
+) -> Result<Progress, Next> {
+    match progress {
+        Progress::Asks(walk) => {
+            let answered = ask(rt, connection, seat, actor, &walk);
+            step(connection.alloc, walk, answered)
+        }
+        Progress::Ends(ending) => Err(end(rt, connection, seat, actor, ending)),
+    }
+}
+
+fn step(alloc: Global, walk: Walk, answered: Result<Answer, Next>) -> Result<Progress, Next> {
+    match answered {
+        Ok(answer) => resume(alloc, walk, answer),
+        Err(next) => leave(walk, next),
+    }
+}
+
+// The evaluation behind this answer. It is cut off where memory is refused.
+fn resume(alloc: Global, walk: Walk, answer: Answer) -> Result<Progress, Next> {
+    match walk.resume(alloc, answer) {
+        Ok(later) => Ok(later),
+        Err(_) => Err(Next::Cut),
+    }
+}
+
+fn leave(_walk: Walk, next: Next) -> Result<Progress, Next> {
+    Err(next)
 }
 
 // Passes the gate, and has the ask of an evaluation answered.
@@ -85,11 +112,18 @@ fn ask<L: Ledger, R: Wait, G: Gate>(
     seat: &mut Seat<L>,
     actor: Actor,
     walk: &Walk,
-) -> Told {
+) -> Result<Answer, Next> {
     connection.gate.pass(seat.tenant(), actor, walk.ask());
-    match walk.ask().copy() {
-        Ok(asked) => connection.ask(rt, seat, actor, asked),
-        Err(_) => Told::Refused,
+    let Ok(asked) = walk.ask().copy() else {
+        return Err(Next::Cut);
+    };
+    match connection.ask(rt, seat, actor, asked) {
+        Told::Answer(answer) => Ok(answer),
+        Told::Interrupted(replies) => {
+            connection.write(rt, replies);
+            Err(Next::Begin)
+        }
+        Told::Refused => Err(Next::Cut),
     }
 }
 

@@ -4,6 +4,7 @@ ghost use Rattle.std.specs.Prelude.{◌≡◌};
 use crate::servers::fresh_config;
 use bytes::Bytes;
 use journal_book::{Book, PARTS, Places, Row, Seat};
+use repl_asks::{Answer, Ask};
 use repl_core::{Step, StepAnswer};
 use repl_walker::{Ending, Progress, start};
 use server_rules::{Actor, Refusal};
@@ -72,13 +73,23 @@ fn ending<L: Ledger>(
             Progress::Asks(walk) => walk,
             Progress::Ends(ending) => return Ok(ending),
         };
-        let asked = Step::Asked(0, Actor::Bare, walk.ask().copy()?);
-        let StepAnswer::Answer(answer) = act(rt, book, seat, asked) else {
-            panic!(rt; "no answer");
-        };
+        let answer = answered(rt, book, seat, walk.ask())?;
         progress = walk.resume(alloc, answer)?;
     }
     panic!(rt; "the form does not end");
+}
+
+fn answered<L: Ledger>(
+    rt: &impl Abort,
+    book: &mut Book<L>,
+    seat: &mut Seat<L>,
+    ask: &Ask,
+) -> Result<Answer, AllocError> {
+    let asked = Step::Asked(0, Actor::Bare, ask.copy()?);
+    let StepAnswer::Answer(answer) = act(rt, book, seat, asked) else {
+        panic!(rt; "no answer");
+    };
+    Ok(answer)
 }
 
 fn given_back<L: Ledger>(alloc: Global, places: Places<L>) -> Result<Vec<Seat<L>>, AllocError> {
