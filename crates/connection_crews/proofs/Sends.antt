@@ -34,6 +34,8 @@ use Rattle.repl_asks.specs.contracts.intent.Change as change
 use Rattle.repl_asks.specs.contracts.intent.Commute as commute
 use Rattle.repl_asks.specs.contracts.intent.Commuted as commuted
 use Rattle.repl_asks.specs.contracts.intent.Intent as intent
+use Rattle.repl_asks.specs.contracts.sends.Task as task
+use Rattle.repl_asks.specs.contracts.sends.Sending as to_agent
 use Rattle.repl_asks.specs.contracts.ask.Binding as binding
 use Rattle.repl_asks.specs.contracts.ask.Ask as ask
 use Rattle.repl_asks.specs.contracts.answer.NamedFunction as named
@@ -235,13 +237,37 @@ commuted-send = search (made, ref_name-send, commute-send, heap.Vec-send) depth 
 commuted-sync : IsSync commuted.the_row
 commuted-sync = search (made, ref_name-sync, commute-sync, heap.Vec-sync) depth 30 fits 20000
 
+named-send : IsSend named.the_row
+named-send =
+    search (made, core-send, store-send, function-send, function-sync, heap.Arc-send) depth 30 fits
+    20000
+
+named-sync : IsSync named.the_row
+named-sync =
+    search (made, core-sync, store-sync, function-send, function-sync, heap.Arc-sync) depth 30 fits
+    20000
+
+task-send : IsSend task.the_row
+task-send = search (made, named-send, value-send, heap.Vec-send) depth 30 fits 20000
+
+task-sync : IsSync task.the_row
+task-sync = search (made, named-sync, value-sync, heap.Vec-sync) depth 30 fits 20000
+
+to_agent-send : IsSend to_agent.the_row
+to_agent-send = search (made, task-send, task-sync, heap.Arc-send) depth 30 fits 20000
+
+to_agent-sync : IsSync to_agent.the_row
+to_agent-sync = search (made, task-send, task-sync, heap.Arc-sync) depth 30 fits 20000
+
 intent-send : IsSend intent.the_row
 intent-send =
-    search (made, change-send, ref_name-send, commuted-send, heap.Vec-send) depth 30 fits 20000
+    search (made, change-send, ref_name-send, commuted-send, to_agent-send, heap.Vec-send) depth 30
+    fits 20000
 
 intent-sync : IsSync intent.the_row
 intent-sync =
-    search (made, change-sync, ref_name-sync, commuted-sync, heap.Vec-sync) depth 30 fits 20000
+    search (made, change-sync, ref_name-sync, commuted-sync, to_agent-sync, heap.Vec-sync) depth 30
+    fits 20000
 
 binding-send : IsSend binding.the_row
 binding-send =
@@ -261,7 +287,10 @@ ask-send =
       ref_name-send,
       intent-send,
       intent-sync,
+      to_agent-send,
       number-send,
+      heap.Vec-send,
+      heap.Vec-sync,
       heap.Arc-send,
     ) depth 30 fits 20000
 
@@ -275,19 +304,12 @@ ask-sync =
       ref_name-sync,
       intent-send,
       intent-sync,
+      to_agent-sync,
       number-sync,
+      heap.Vec-send,
+      heap.Vec-sync,
       heap.Arc-sync,
     ) depth 30 fits 20000
-
-named-send : IsSend named.the_row
-named-send =
-    search (made, core-send, store-send, function-send, function-sync, heap.Arc-send) depth 30 fits
-    20000
-
-named-sync : IsSync named.the_row
-named-sync =
-    search (made, core-sync, store-sync, function-send, function-sync, heap.Arc-sync) depth 30 fits
-    20000
 
 resolution-send : IsSend resolution.the_row
 resolution-send = search (made, value-send, named-send, fault-send) depth 30 fits 20000
@@ -351,7 +373,7 @@ decoder-send : IsSend decoder.the_row
 decoder-send = search (sendable, crosses, maps.crosses, bens.crosses) depth 40 fits 20000
 
 work-send : IsSend work.the_row
-work-send = search (made, value-send) depth 30 fits 20000
+work-send = search (made, value-send, task-send, task-sync, heap.Arc-send) depth 30 fits 20000
 
 job-send : IsSend job.the_row
 job-send = search (made, work-send, text-send) depth 30 fits 20000
@@ -446,7 +468,7 @@ atoms-send = search (made, value-send, heap.Vec-send) depth 30 fits 20000
 
 action-send : IsSend action.the_row
 action-send =
-    search (made, named-send, value-send, origin-send, number-send, heap.Vec-send) depth 30 fits
+    search (made, task-send, task-sync, origin-send, number-send, heap.Arc-send) depth 30 fits
     20000
 
 sending-send : IsSend sending.the_row

@@ -25,7 +25,7 @@ use Rattle.evaluation_rules.specs.SharedText.{outside_shared_text}
 pub data CalleeData : Type 0 where
   named_callee : NamedFunctionData → CalleeData
   keyword_callee : List ℕ → CalleeData
-  -- `alter`, `commute` or `swap!`, with the function that it was given
+  -- `alter`, `commute`, `swap!`, `send` or `send-off`, with the function that it was given
   update_callee : Update → NamedFunctionData → CalleeData
 
 unfoldable pub printed_value : List ℕ → Datum → Part Datum

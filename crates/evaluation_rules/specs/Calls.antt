@@ -12,6 +12,7 @@ use Rattle.repl_asks.specs.Exchange.{program_function}
 use Rattle.tx_attempt.specs.Accesses.{commuted}
 use Rattle.store_calls.specs.Calling.{altered_in, altering}
 use Rattle.store_calls.specs.declared.altering.Alteration.{Alteration}
+use Rattle.store_calls.specs.declared.sending.Dispatch.{Dispatch}
 use Rattle.store_calls.specs.declared.updating.Update.{Update}
 use Rattle.evaluation_rules.specs.Doing.{failed, left, noting, Part, ◌>>=◌, fails}
 use Rattle.evaluation_rules.specs.Places.{PlaceData, Evaluator}
@@ -22,6 +23,7 @@ use Rattle.evaluation_rules.specs.Applying.{CalleeData, core_call, keyword_call,
 use Rattle.evaluation_rules.specs.Applying.{function_applied, with_calls, function_called}
 use Rattle.evaluation_rules.specs.Applying.{named_callee, keyword_callee, update_callee}
 use Rattle.evaluation_rules.specs.Atoms.{swap_call}
+use Rattle.evaluation_rules.specs.Agents.{send_call}
 use Rattle.evaluation_rules.specs.SharedText.{outside_shared_text}
 
 -- `alter` calls its function with the value of a ref and these arguments, and sets what that gives.
@@ -67,6 +69,7 @@ alter_call walk by f (d ∷ args) next kept =
 abbrev pub updated_value : Evaluator → Update → NamedFunctionData → List Datum → Part Datum
 updated_value walk (Update.Ref by) f args = alter_call walk by f args
 updated_value walk Update.Atom f args = swap_call walk f args
+updated_value walk (Update.Agent by) f args = send_call by f args
 
 abbrev pub update_call : Evaluator → Update → NamedFunctionData → List Datum → Part Datum
 update_call walk by f args = outside_shared_text (updated_value walk by f args)
@@ -84,8 +87,8 @@ counted_call walk callee args next kept =
 abbrev pub call_value : Evaluator → PlaceData → List Datum → CalleeData → Part Datum
 call_value walk p forms callee = row (walk p) forms >>= counted_call walk callee
 
--- `alter`, `commute` and `swap!` take a function by its name, between the first argument and those
--- behind it.
+-- `alter`, `commute`, `swap!`, `send` and `send-off` take a function by its name, between the first
+-- argument and those behind it.
 abbrev pub updating_call : Evaluator → PlaceData → Update → Datum → Datum → List Datum → Part Datum
 updating_call walk p by d e ds =
     walk p d >>= λ v. (function_value p e
@@ -99,4 +102,8 @@ named_call walk p (d ∷ e ∷ ds) (store_function StoreFunction.Commute) =
     updating_call walk p (Update.Ref Alteration.Commute) d e ds
 named_call walk p (d ∷ e ∷ ds) (store_function StoreFunction.Swap) =
     updating_call walk p Update.Atom d e ds
+named_call walk p (d ∷ e ∷ ds) (store_function StoreFunction.Send) =
+    updating_call walk p (Update.Agent Dispatch.Send) d e ds
+named_call walk p (d ∷ e ∷ ds) (store_function StoreFunction.SendOff) =
+    updating_call walk p (Update.Agent Dispatch.SendOff) d e ds
 named_call walk p forms f = call_value walk p forms (named_callee f)

@@ -1,12 +1,13 @@
 -- Evaluation, by cases on the form (the Clojure reference, Evaluation). A form stands in a place,
 -- and has room for so many lists, vectors and maps inside one another.
-use Rattle.std.specs.Prelude.{ℕ, zero, suc, List, [], false, Option, Some, None}
+use Rattle.std.specs.Prelude.{ℕ, zero, suc, List, [], ◌∷◌, false, Option, Some, None}
 use Rattle.std.specs.Prelude.{if◌then◌else◌, codes}
 use Rattle.value_data.specs.Datum.{Datum, keyword, symbol, list, vector, map, no_items, item}
 use Rattle.value_data.specs.Listed.{listed}
 use Rattle.repl_faults.specs.Failure as failures
 use Rattle.repl_asks.specs.Job as jobs
 use Rattle.repl_asks.specs.Job.{WorkData, JobData}
+use Rattle.repl_asks.specs.Sends.{TaskData}
 use Rattle.special_forms.specs.Rows.{in_a_row}
 use Rattle.special_forms.specs.Names.{special_named}
 use Rattle.special_forms.specs.Shapes.{shape_of}
@@ -18,7 +19,7 @@ use Rattle.evaluation_rules.specs.Places.{PlaceData, Evaluator, outside}
 use Rattle.evaluation_rules.specs.Naming.{resolution, symbol_value, as_function}
 use Rattle.evaluation_rules.specs.Rows.{row}
 use Rattle.evaluation_rules.specs.Calls.{call_value, named_call}
-use Rattle.evaluation_rules.specs.Applying.{keyword_callee}
+use Rattle.evaluation_rules.specs.Applying.{keyword_callee, function_called}
 use Rattle.evaluation_rules.specs.SpecialForms.{special_value}
 use Rattle.evaluation_rules.specs.Collections.{vector_value, map_value}
 use Rattle.evaluation_rules.specs.SharedText.{occasion_of, is_definition}
@@ -53,10 +54,15 @@ unfoldable pub shared_form_value : Datum → Part Datum
 shared_form_value d = if is_definition d then value_at ROOM outside d
     else fails (failures.bad_form (codes "shared"))
 
+-- an action calls its function with the agent's state, in front of what was sent with it
+unfoldable pub action_value : Datum → TaskData → Part Datum
+action_value d task = function_called (value_at ROOM) task.function (d ∷ task.arguments)
+
 -- what there is to evaluate
 abbrev pub work_value : WorkData → Part Datum
 work_value (jobs.form d) = value_at ROOM outside d
 work_value (jobs.shared_form d) = shared_form_value d
+work_value (jobs.action d task) = action_value d task
 
 -- 10,000 calls, and no transaction runs
 abbrev pub at_first : JobData → Kept

@@ -7,6 +7,7 @@ pub mod Naming
 pub mod Refs
 pub mod Applying
 pub mod Atoms
+pub mod Agents
 pub mod Calls
 pub mod Transactions
 pub mod SpecialForms

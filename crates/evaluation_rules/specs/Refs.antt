@@ -12,7 +12,7 @@ use Rattle.repl_asks.specs.Exchange.{granted, denied, value_in, reading_in, perm
 use Rattle.tx_attempt.specs.Accesses.{got, put, ensured, attempt_value, is_commuted}
 use Rattle.store_calls.specs.Calling.{CallData, refused, reads, puts, ensures, asks_value}
 use Rattle.store_calls.specs.Calling.{asks_permission}
-use Rattle.store_calls.specs.Calling.{call_data_of, shared_call_data_of}
+use Rattle.store_calls.specs.Calling.{call_data_of, shared_call_data_of, action_call_data_of}
 use Rattle.evaluation_rules.specs.declared.occasion.Occasion.{Occasion}
 use Rattle.evaluation_rules.specs.Doing.{left, failed, retried, asking, looking, noting, Part}
 use Rattle.evaluation_rules.specs.Doing.{◌>>=◌, fails}
@@ -78,6 +78,7 @@ called_value (asks_permission ask d) = granted_value ask d
 abbrev pub call_data_at : Occasion → StoreFunction → Bool → List Datum → CallData
 call_data_at Occasion.Form f running args = call_data_of f running args
 call_data_at Occasion.SharedText f running args = shared_call_data_of f args
+call_data_at Occasion.Action f running args = action_call_data_of f running args
 
 -- a call of a function that asks the store
 unfoldable pub store_call : StoreFunction → List Datum → Part Datum

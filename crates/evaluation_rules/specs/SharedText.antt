@@ -18,10 +18,12 @@ use Rattle.evaluation_rules.specs.Doing.{failed, left, Part}
 abbrev pub is_shared_text : Occasion → Bool
 is_shared_text Occasion.Form = false
 is_shared_text Occasion.SharedText = true
+is_shared_text Occasion.Action = false
 
 abbrev pub occasion_of : WorkData → Occasion
 occasion_of (jobs.form d) = Occasion.Form
 occasion_of (jobs.shared_form d) = Occasion.SharedText
+occasion_of (jobs.action d task) = Occasion.Action
 
 -- what that text may not do
 unfoldable pub outside_shared_text : {A : Type 0} → Part A → Part A
@@ -52,7 +54,7 @@ may_be_shared (bound_function f) = true
 -- Why a name is not bound in this namespace. Only that text defines in one that is the same for
 -- all.
 abbrev pub refused_definition : Occasion → List ℕ → BindingData → Option Failure
-refused_definition Occasion.Form space binding =
-    if is_fixed space then Some (failures.namespace_is_fixed space) else None
 refused_definition Occasion.SharedText space binding =
     if may_be_shared binding then None else Some (broken_rule Rule.SharedTextDefinesAlone)
+refused_definition occasion space binding =
+    if is_fixed space then Some (failures.namespace_is_fixed space) else None

@@ -1,8 +1,9 @@
 // Which functions ask the store, and how many arguments each takes.
-ghost use Rattle.std.specs.Prelude.{◌≡◌, Some, None};
+ghost use Rattle.std.specs.Prelude.{◌≡◌, Some, None, if◌then◌else◌};
 ghost use Rattle.function_rows.specs.Inside.View.{function_row_view};
 ghost use Rattle.function_names.specs.Names.{function_named};
-ghost use Rattle.function_names.specs.StoreNames.{store_row, store_functions};
+ghost use Rattle.function_rows.specs.Rows.{first_named};
+ghost use Rattle.function_names.specs.StoreNames.{can_be_named, store_row, store_functions};
 ghost use Rattle.function_names.specs.StoreNames.{store_function_named, store_name_of, store_fits};
 
 use function_rows::{Arity, FunctionRow, HasRow, first_named};
@@ -26,9 +27,12 @@ pub enum StoreFunction {
     Agent,
     AgentError,
     RestartAgent,
+    Send,
+    SendOff,
+    Await,
 }
 
-const STORE_FUNCTIONS: [StoreFunction; 16] = [
+const STORE_FUNCTIONS: [StoreFunction; 19] = [
     StoreFunction::Ref,
     StoreFunction::Deref,
     StoreFunction::RefSet,
@@ -45,6 +49,9 @@ const STORE_FUNCTIONS: [StoreFunction; 16] = [
     StoreFunction::Agent,
     StoreFunction::AgentError,
     StoreFunction::RestartAgent,
+    StoreFunction::Send,
+    StoreFunction::SendOff,
+    StoreFunction::Await,
 ];
 
 impl HasRow for StoreFunction {
@@ -54,7 +61,7 @@ impl HasRow for StoreFunction {
 
     fn row(self) -> FunctionRow
         ensures meant { function_row_view result ≡ store_row self }
-        ensures known { store_function_named result.name.now ≡ Some self }
+        ensures known { first_named store_row store_functions result.name.now ≡ Some self }
         ensures apart { function_named result.name.now ≡ None }
     {
         match self {
@@ -74,22 +81,56 @@ impl HasRow for StoreFunction {
             StoreFunction::Agent => FunctionRow::new("agent", Arity::Exactly(1)),
             StoreFunction::AgentError => FunctionRow::new("agent-error", Arity::Exactly(1)),
             StoreFunction::RestartAgent => FunctionRow::new("restart-agent", Arity::Exactly(2)),
+            StoreFunction::Send => FunctionRow::new("send", Arity::AtLeast(2)),
+            StoreFunction::SendOff => FunctionRow::new("send-off", Arity::AtLeast(2)),
+            StoreFunction::Await => FunctionRow::new("await", Arity::AtLeast(1)),
         }
     }
 }
 
 impl StoreFunction {
-    /// The function of this name, without a namespace. It takes no memory.
+    /// The function of this name, without a namespace, if programs can name it. It takes no memory.
     pub fn named(name: &str) -> Option<StoreFunction>
         ensures { result ≡ store_function_named name.now }
     {
-        first_named(&STORE_FUNCTIONS, name)
+        let function = first_named(&STORE_FUNCTIONS, name)?;
+        if function.can_be_named() {
+            Some(function)
+        } else {
+            None
+        }
+    }
+
+    // The server sends nothing to agents yet, so programs cannot name what sends.
+    fn can_be_named(self) -> bool
+        ensures { result ≡ can_be_named self }
+    {
+        match self {
+            StoreFunction::Send | StoreFunction::SendOff | StoreFunction::Await => false,
+            StoreFunction::Ref
+            | StoreFunction::Deref
+            | StoreFunction::RefSet
+            | StoreFunction::Alter
+            | StoreFunction::Commute
+            | StoreFunction::Ensure
+            | StoreFunction::HistoryCount
+            | StoreFunction::MinHistory
+            | StoreFunction::MaxHistory
+            | StoreFunction::Atom
+            | StoreFunction::Swap
+            | StoreFunction::Reset
+            | StoreFunction::CompareAndSet
+            | StoreFunction::Agent
+            | StoreFunction::AgentError
+            | StoreFunction::RestartAgent => true,
+        }
     }
 
     /// Its name in `clojure.core`. No function without a store has this name.
     pub fn name(self) -> &'static str
         ensures text { result.now ≡ store_name_of self }
-        ensures known { store_function_named result.now ≡ Some self }
+        ensures known { store_function_named result.now
+            ≡ (if can_be_named self then Some self else None) }
         ensures apart { function_named result.now ≡ None }
     {
         self.row().name

@@ -2,11 +2,12 @@
 use crate::number_of;
 use function_names::StoreFunction;
 use private_cells::{Action, Agents, Atoms};
-use repl_asks::NamedFunction;
+use repl_asks::{NamedFunction, Task};
 use repl_replies::Origin;
 use repl_values::Value;
 use std::alloc::{AllocError, Global};
 use std::str::SplitWhitespace;
+use std::sync::Arc;
 
 // The actions come from so many sessions.
 const SESSIONS: u64 = 8;
@@ -36,13 +37,16 @@ pub(crate) fn size_of(words: &mut SplitWhitespace<'_>) -> Size {
     }
 }
 
-fn action(alloc: Global, number: u64) -> Action {
-    Action {
+fn action(alloc: Global, number: u64) -> Result<Action, AllocError> {
+    let task = Task {
         function: NamedFunction::Store(StoreFunction::Deref),
         arguments: Vec::new(alloc),
+    };
+    Ok(Action {
+        task: Arc::new(alloc, task)?,
         origin: Origin::none(),
         session: Some(number % SESSIONS),
-    }
+    })
 }
 
 fn send(agents: &mut Agents, number: u64, action: Action) -> Result<(), AllocError> {
@@ -60,7 +64,7 @@ fn send_all(alloc: Global, agents: &mut Agents, size: Size) -> Result<(), AllocE
         return Ok(());
     }
     for number in 0..size.sends {
-        send(agents, number % size.agents, action(alloc, number))?;
+        send(agents, number % size.agents, action(alloc, number)?)?;
     }
     Ok(())
 }

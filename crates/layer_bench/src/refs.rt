@@ -78,6 +78,7 @@ fn set<H: History>(
         sets,
         ensured: Vec::new(alloc),
         commuted: Vec::new(alloc),
+        sends: Vec::new(alloc),
     };
     let point = table.begin();
     if point.stamp == u128::MAX {
@@ -148,6 +149,7 @@ fn commute<H: History>(
         sets: Vec::new(alloc),
         ensured: Vec::new(alloc),
         commuted,
+        sends: Vec::new(alloc),
     };
     let point = table.begin();
     if point.stamp == u128::MAX {

@@ -1,16 +1,12 @@
 -- What is sent to an agent.
-use Rattle.std.specs.Prelude.{ℕ, nat_eq, List, Bool, Option}
+use Rattle.std.specs.Prelude.{ℕ, nat_eq, Bool, Option}
 use Rattle.std.specs.Option.{option_eq}
-use Rattle.value_data.specs.Datum.{Datum}
-use Rattle.repl_asks.specs.Exchange.{NamedFunctionData}
+use Rattle.repl_asks.specs.Sends.{TaskData}
 use Rattle.repl_replies.specs.Replies.{OriginData}
 
--- An action is a function, which is applied to the state of the agent and these arguments. Its
--- value is the next state.
+-- An action is a task that was sent. The value of its function is the agent's next state.
 pub record ActionData : Type 0 where
-  -- as the symbol was resolved when it was sent
-  pub function : NamedFunctionData
-  pub arguments : List Datum
+  pub task : TaskData
   -- what the replies to the request carry from which it came
   pub origin : OriginData
   -- the number of the session of that request; none where it was bare

@@ -4,11 +4,12 @@ ghost use Rattle.std.specs.Prelude.{◌≡◌, ℕ, ◌+◌, ◌<◌, ◌≤◌,
 
 use crate::action::{Action, Sent};
 use function_names::StoreFunction;
-use repl_asks::NamedFunction;
+use repl_asks::{NamedFunction, Task};
 use repl_replies::Origin;
 use std::alloc::{AllocError, Global};
 use std::collections::LinkedList;
 use std::mem;
+use std::sync::Arc;
 
 // So many actions can be sent to the agents of a tenant, and no more.
 const MOST_SENT: u128 = 1 << 63;
@@ -38,11 +39,15 @@ impl Spare {
         ensures grows { length self.old.nodes ≤ length self.new.nodes }
         ensures fits { sent + length self.new.nodes < 2 ^ 63 }
     {
+        if self.nodes.len() >= sends {
+            return Ok(());
+        }
+        let task = blank_task(self.alloc)?;
         while self.nodes.len() < sends {
             if sent + self.nodes.len() as u128 + 1 >= MOST_SENT {
                 return Err(AllocError);
             }
-            self.nodes.push_back(blank(self.alloc))?;
+            self.nodes.push_back(blank(Arc::try_clone(&task)?))?;
         }
         Ok(())
     }
@@ -72,14 +77,22 @@ fn fill(place: &mut Sent, sent: Sent)
 }
 
 // What stands in a node that waits to be filled.
-fn blank(alloc: Global) -> Sent {
+fn blank(task: Arc<Task>) -> Sent {
     Sent {
         number: 0,
         action: Action {
-            function: NamedFunction::Store(StoreFunction::Deref),
-            arguments: Vec::new(alloc),
+            task,
             origin: Origin::none(),
             session: None,
         },
     }
+}
+
+// Which one it is, nobody sees.
+fn blank_task(alloc: Global) -> Result<Arc<Task>, AllocError> {
+    let task = Task {
+        function: NamedFunction::Store(StoreFunction::Deref),
+        arguments: Vec::new(alloc),
+    };
+    Ok(Arc::new(alloc, task)?)
 }

@@ -3,8 +3,9 @@ use Rattle.std.specs.Prelude.{◌≡◌, ℕ, List, [], ◌∷◌, Bool, Option,
 use Rattle.value_data.specs.Datum.{Datum, nil}
 use Rattle.repl_faults.specs.Failure.{Failure}
 use Rattle.special_forms.specs.Functions.{FunctionData}
-use Rattle.function_names.specs.declared.function.CoreFunction.{CoreFunction}
-use Rattle.function_names.specs.declared.store.StoreFunction.{StoreFunction}
+pub use Rattle.repl_asks.specs.Sends.{NamedFunctionData, core_function, store_function}
+pub use Rattle.repl_asks.specs.Sends.{program_function}
+use Rattle.repl_asks.specs.Sends.{SendingData}
 use Rattle.repl_asks.specs.Transactions.{RefNameData, IntentData}
 use Rattle.repl_asks.specs.declared.ask.AnswerKind.{AnswerKind}
 
@@ -49,13 +50,12 @@ pub data AskData : Type 0 where
   agent_fault : ℕ → AskData
   -- that agent, which is failed, gets this state and goes on
   restart_agent : ℕ → Datum → AskData
-
--- a function that has a name: one of the language, which needs no store or asks it, or one of the
--- program
-pub data NamedFunctionData : Type 0 where
-  core_function : CoreFunction → NamedFunctionData
-  store_function : StoreFunction → NamedFunctionData
-  program_function : FunctionData → NamedFunctionData
+  -- this is sent to an agent
+  send : SendingData → AskData
+  -- this is to be sent to an agent, once the attempt is committed or the action has ended well
+  may_send : SendingData → AskData
+  -- the agents with these numbers have done what was sent to them from here
+  await : List ℕ → AskData
 
 -- what a symbol names
 pub data ResolutionData : Type 0 where
@@ -120,6 +120,9 @@ kind_wanted (new_agent d) = AnswerKind.Value
 kind_wanted (read_agent n) = AnswerKind.Value
 kind_wanted (agent_fault n) = AnswerKind.Value
 kind_wanted (restart_agent n d) = AnswerKind.Permission
+kind_wanted (send s) = AnswerKind.Permission
+kind_wanted (may_send s) = AnswerKind.Permission
+kind_wanted (await ns) = AnswerKind.Permission
 
 abbrev pub kind_of : AnswerData → AnswerKind
 kind_of (resolution r) = AnswerKind.Resolution

@@ -2,13 +2,16 @@
 use Rattle.std.specs.Prelude.{ℕ, List, Result}
 use Rattle.value_data.specs.Datum.{Datum}
 use Rattle.repl_faults.specs.Failure.{Failure}
+use Rattle.repl_asks.specs.Sends.{TaskData}
 use Rattle.repl_asks.specs.Exchange.{Exchanged}
 
--- what there is to evaluate; actions of agents come later
+-- what there is to evaluate
 pub data WorkData : Type 0 where
   form : Datum → WorkData
   -- a form of the text of the namespace that all tenants share
   shared_form : Datum → WorkData
+  -- an action of an agent: the agent's state, and what was sent
+  action : Datum → TaskData → WorkData
 
 -- what is evaluated, where, and how many attempts a transaction has
 pub record JobData : Type 0 where

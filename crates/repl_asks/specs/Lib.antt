@@ -1,4 +1,5 @@
 pub mod Namespaces
+pub mod Sends
 pub mod Transactions
 pub mod Exchange
 pub mod Job

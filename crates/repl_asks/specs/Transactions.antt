@@ -4,6 +4,7 @@ use Rattle.value_data.specs.Datum.{Datum, OwnerData, shared, tenant}
 use Rattle.value_data.specs.Measures.{is_plain}
 use Rattle.value_data.specs.Same.{same_owner}
 use Rattle.function_names.specs.declared.function.CoreFunction.{CoreFunction}
+use Rattle.repl_asks.specs.Sends.{SendingData}
 
 -- a ref, by who made it and its number among those
 pub record RefNameData : Type 0 where
@@ -33,7 +34,7 @@ pub record CommutedData : Type 0 where
   pub name : RefNameData
   pub commutes : List CommuteData
 
--- What an attempt changed. Sends come later.
+-- What an attempt changed, and what it sends.
 pub record IntentData : Type 0 where
   -- the refs that were set, each with its last value
   pub sets : List ChangeData
@@ -41,3 +42,5 @@ pub record IntentData : Type 0 where
   pub ensured : List RefNameData
   -- the refs that were commuted and not set, in the order in which they were first commuted
   pub commuted : List CommutedData
+  -- what is sent to agents once all that stands, in order
+  pub sends : List SendingData

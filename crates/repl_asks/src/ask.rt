@@ -6,6 +6,7 @@ ghost use Rattle.repl_asks.specs.Exchange.{kind_wanted};
 ghost use Rattle.repl_asks.specs.Inside.View.{ask_view, binding_view};
 
 use crate::intent::Intent;
+use crate::sends::Sending;
 use repl_values::{RefName, Value, copy, copy_text};
 use special_forms::Function;
 use std::alloc::AllocError;
@@ -80,6 +81,14 @@ pub enum Ask {
         number: u64,
         state: Value,
     },
+    /// This is sent to an agent. Answered by a permission.
+    Send(Sending),
+    /// This is to be sent to an agent, once the attempt is committed, or the action has ended well.
+    /// Answered by a permission.
+    MaySend(Sending),
+    /// The agents with these numbers have done all that was sent to them from here. Answered by a
+    /// permission.
+    Await(Arc<Vec<u64>>),
 }
 
 /// What a name is bound to.
@@ -121,6 +130,7 @@ impl Ask {
             Ask::NewAgent(_) => AnswerKind::Value,
             Ask::ReadAgent(_) | Ask::AgentFault(_) => AnswerKind::Value,
             Ask::RestartAgent { .. } => AnswerKind::Permission,
+            Ask::Send(_) | Ask::MaySend(_) | Ask::Await(_) => AnswerKind::Permission,
         }
     }
 
@@ -169,6 +179,9 @@ impl Ask {
             Ask::ReadAgent(number) => Ok(Ask::ReadAgent(*number)),
             Ask::AgentFault(number) => Ok(Ask::AgentFault(*number)),
             Ask::RestartAgent { number, state } => restart_agent(*number, state),
+            Ask::Send(sending) => Ok(Ask::Send(sending.copy()?)),
+            Ask::MaySend(sending) => Ok(Ask::MaySend(sending.copy()?)),
+            Ask::Await(numbers) => Ok(Ask::Await(Arc::try_clone(numbers)?)),
         }
     }
 }

@@ -1,8 +1,9 @@
 // What an attempt at a transaction changed.
+use crate::sends::Sending;
 use function_names::CoreFunction;
 use repl_values::{RefName, Value};
 
-/// What an attempt wants committed. Sends come later.
+/// What an attempt wants committed.
 #[derive(Debug, Drop)]
 pub struct Intent {
     /// The refs that were set, each once, with its last value.
@@ -12,6 +13,8 @@ pub struct Intent {
     /// The refs that were commuted and not set, each once, in the order in which they were first
     /// commuted.
     pub commuted: Vec<Commuted>,
+    /// What is sent to agents where it is committed, in order.
+    pub sends: Vec<Sending>,
 }
 
 /// A ref, and the value that it gets.

@@ -2,9 +2,10 @@
 ghost use Rattle.std.specs.Prelude.{◌≡◌, string_bytes, IfOk};
 ghost use Rattle.repl_asks.specs.Inside.Jobs.{work_view, job_view, end_view, finished_view};
 
+use crate::sends::Task;
 use repl_values::{Fault, Value, copy, copy_text};
 use std::alloc::{AllocError, Global};
-use std::sync::ArcStr;
+use std::sync::{Arc, ArcStr};
 
 /// What there is to evaluate.
 #[derive(Debug, Drop)]
@@ -12,6 +13,8 @@ pub enum Work {
     Form(Value),
     /// A form of the text of the namespace that all tenants share.
     SharedForm(Value),
+    /// An action of an agent, which has this state.
+    Action(Value, Arc<Task>),
 }
 
 /// An evaluation: its work, the namespace in which it begins, and how many attempts a transaction
@@ -47,6 +50,7 @@ impl Work {
         match self {
             Work::Form(form) => Ok(Work::Form(copy(form)?)),
             Work::SharedForm(form) => Ok(Work::SharedForm(copy(form)?)),
+            Work::Action(state, task) => Ok(Work::Action(copy(state)?, Arc::try_clone(task)?)),
         }
     }
 }

@@ -13,6 +13,7 @@ mod job;
 mod namespaces;
 mod refs;
 mod replay;
+mod sends;
 
 pub use answer::{Answer, NamedFunction, Permission, Reading, Resolution, Verdict};
 pub use ask::{AnswerKind, Ask, Binding};
@@ -22,3 +23,4 @@ pub use job::{End, Finished, Job, Work};
 pub use namespaces::is_fixed;
 pub use refs::{Refs, Stop, StopReason};
 pub use replay::Replay;
+pub use sends::{Sending, Task};

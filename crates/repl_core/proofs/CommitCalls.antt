@@ -346,6 +346,9 @@ asked-newest name seat (exchange.new_agent d) answer s told = refl
 asked-newest name seat (exchange.read_agent n) answer s told = refl
 asked-newest name seat (exchange.agent_fault n) answer s told = refl
 asked-newest name seat (exchange.restart_agent n d) answer s told = refl
+asked-newest name seat (exchange.send x) answer s told = refl
+asked-newest name seat (exchange.may_send x) answer s told = refl
+asked-newest name seat (exchange.await ns) answer s told = refl
 
 -- What is given to a ref that has no value
 

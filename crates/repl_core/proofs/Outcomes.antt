@@ -16,6 +16,7 @@ use Rattle.server_rules.specs.Plan.{quietly, messages_heard, ask_answered}
 use Rattle.server_rules.specs.Deeds.{for_actor}
 use Rattle.server_rules.specs.Asking.{asked_of, asked_running, asked_allowed, answer_outcome}
 use Rattle.server_rules.specs.Asking.{answer_to, with_recorded_answer, quiet_after, call_of}
+use Rattle.server_rules.specs.Asking.{sender_of}
 use Rattle.server_rules.specs.Asking.{is_allowed, when_told}
 use Rattle.server_rules.specs.Starting.{interrupted_in}
 use Rattle.server_rules.specs.declared.actor.Actor.{Actor}
@@ -71,8 +72,9 @@ answered-after g q s a ask after ans run is runs =
         let answer = answer_to g a q ask x in
         let more = run_with (exchange_from ask answer) run in
         let new = record actor { hand = Some (record h { running = Some more }) } in
-        let behind : after ≡ with_step_spent (with_recorded_answer a actor h run ask answer
-        (quiet_after ask q)) = sym (ap (left_of q) same) in
+        let later = quiet_after (sender_of a h) ask answer q in
+        let behind : after ≡ with_step_spent (with_recorded_answer a actor h run ask answer later) =
+        sym (ap (left_of q) same) in
         let equal : answer ≡ ans = cc in
         ap (running_in a) behind
         ∙ ap running_of ((part_under-put (seat_of a) (seat_of a) new actor q.actors there).0 refl)

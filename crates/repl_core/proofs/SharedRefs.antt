@@ -17,6 +17,7 @@ use Rattle.server_rules.specs.Commit.{guarded_refs, touched_refs, all_there, int
 use Rattle.server_rules.specs.Commit.{all_folded, with_changes, with_raised_counter, with_all}
 use Rattle.server_rules.specs.Commit.{concluded_commit, checked_commit, commit_by}
 use Rattle.server_rules.specs.Calls.{Call, nothing, makes, begins, leaves_attempt, reads, counts}
+use Rattle.server_rules.specs.Calls.{inside, outside}
 use Rattle.server_rules.specs.Calls.{tells_least, tells_most, sets_least, sets_most, commits}
 use Rattle.server_rules.specs.Calls.{gives_up, performed_begin, read_at, read_by, bound_set}
 use Rattle.server_rules.specs.Calls.{given_up, performed}
@@ -164,6 +165,8 @@ call-shows point s (leaves_attempt seat) reached = shows-same point s.around
 call-shows point s (reads seat name) reached =
     read-shows point seat name s (part_under seat s.mine.points) (ref_named name s)
 call-shows point s (counts seat name) reached = shows-same point s.around
+call-shows point s (inside seat) reached = shows-same point s.around
+call-shows point s (outside seat) reached = shows-same point s.around
 call-shows point s (tells_least name) reached = shows-same point s.around
 call-shows point s (tells_most name) reached = shows-same point s.around
 call-shows point s (sets_least name n) reached =

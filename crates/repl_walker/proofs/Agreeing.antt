@@ -1,11 +1,11 @@
 -- Attempts at one body that are told the same see the same.
-use Rattle.std.proofs.Common.{◌≡◌, ◌∙◌, ℕ, ◌+◌, List, [], ◌∷◌, ◌++◌, length, map, drop, nat_lt, Bool}
+use Rattle.std.proofs.Common.{◌≡◌, ◌∙◌, ℕ, ◌+◌, List, [], ◌∷◌, ◌++◌, length, filter_map, drop, nat_lt, Bool}
 use Rattle.std.proofs.Common.{true, false, if◌then◌else◌, refl, sym, ap, subst, ◌⊎◌, inl, inr}
-use Rattle.std.proofs.lemmas.List.{map-append}
+use Rattle.std.proofs.lemmas.List.Elements.{filter_map-append}
 use Rattle.core_texts.specs.Limits.{most_text}
 use Rattle.repl_asks.specs.Transactions.{RefNameData, ChangeData}
 use Rattle.repl_asks.specs.Exchange.{AskData, AnswerData, read, reading, retry, Exchanged}
-use Rattle.tx_attempt.specs.Accesses.{AccessData}
+use Rattle.tx_attempt.specs.Accesses.{AccessData, value_accessed}
 use Rattle.evaluation_rules.specs.Doing.{Kept, Doing, left, retried, asking, printing, looking, noting}
 use Rattle.evaluation_rules.specs.Doing.{trying}
 use Rattle.repl_walker.specs.Agreeing.{names_shared, own_answers, IsToReadAgain, IsToldBy, AreToldBy}
@@ -13,7 +13,7 @@ use Rattle.repl_walker.specs.Agreeing.{OneBegins, dosync_body, AgreeingAttempts}
 use Rattle.repl_walker.specs.Attempts.{AsksThese, answers_in}
 use Rattle.repl_walker.specs.Standing.{Standing, attempt_of, standing_after}
 use Rattle.repl_walker.proofs.Retries.{Leaves, body-leaves}
-use Rattle.repl_walker.proofs.Values.{Begins, same, grows, change_in}
+use Rattle.repl_walker.proofs.Values.{Begins, same, grows}
 
 -- Lists
 
@@ -209,11 +209,18 @@ agrees told (noting op d) ops text other xs ys leaves h k tx ty own =
 agrees told (trying body d) ops text other xs ys leaves h k tx ty own =
     agrees told d ops text other xs ys leaves h k tx ty own
 
-mapped : (xs ys : List AccessData) → OneBegins xs ys → OneBegins (map change_in xs) (map change_in ys)
-mapped xs ys (inl b) = inl (map change_in b.0, ap (map change_in) b.1 ∙ map-append change_in ys b.0)
-mapped xs ys (inr b) = inr (map change_in b.0, ap (map change_in) b.1 ∙ map-append change_in xs b.0)
+values-begin : (xs ys : List AccessData) → OneBegins xs ys
+    → OneBegins (filter_map value_accessed xs) (filter_map value_accessed ys)
+values-begin xs ys (inl b) = inl (
+  filter_map value_accessed b.0,
+  ap (filter_map value_accessed) b.1 ∙ filter_map-append value_accessed ys b.0,
+)
+values-begin xs ys (inr b) = inr (
+  filter_map value_accessed b.0,
+  ap (filter_map value_accessed) b.1 ∙ filter_map-append value_accessed xs b.0,
+)
 
 pub attempts-agree : AgreeingAttempts
 attempts-agree room p forms begun told printed other xs ys h k tx ty own =
-    mapped _ _ (agrees told (dosync_body room p forms begun) [] printed other xs ys
+    values-begin _ _ (agrees told (dosync_body room p forms begun) [] printed other xs ys
     (body-leaves room p forms begun) h k tx ty own)

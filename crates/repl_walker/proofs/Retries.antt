@@ -4,7 +4,7 @@ use Rattle.std.proofs.Common.{Some, None, Result, Ok, Err, if◌then◌else◌, 
 use Rattle.std.proofs.Common.{subst}
 use Rattle.std.specs.Prelude.{⊤, ◌==◌, ◌||◌, codes, zip}
 use Rattle.value_data.specs.Datum.{Datum, nil, keyword, symbol, list, vector, map, var, fault}
-use Rattle.value_data.specs.Datum.{no_items, item}
+use Rattle.value_data.specs.Datum.{no_items, item, agent}
 use Rattle.value_data.specs.Listed.{listed, items_of, pairs_of}
 use Rattle.repl_faults.specs.Failure as failures
 use Rattle.repl_faults.specs.Failure.{Failure}
@@ -26,6 +26,7 @@ use Rattle.repl_asks.specs.Exchange.{names_nothing, BindingData, NamedFunctionDa
 use Rattle.repl_asks.specs.Exchange.{store_function, program_function, resolution_in, value_in}
 use Rattle.repl_asks.specs.Exchange.{read_atom, try_atom, PermissionData, granted, denied}
 use Rattle.repl_asks.specs.Exchange.{permission_in}
+use Rattle.repl_asks.specs.Sends.{SendingData}
 use Rattle.special_forms.specs.Rows.{BoundForm, in_a_row}
 use Rattle.special_forms.specs.Names.{special_named, special_name}
 use Rattle.special_forms.specs.Truth.{is_truthy, decides, before}
@@ -37,10 +38,12 @@ use Rattle.special_forms.specs.declared.special.SpecialForm.{SpecialForm}
 use Rattle.tx_attempt.specs.Accesses.{AttemptData, commuted, attempt_value, is_commuted}
 use Rattle.store_calls.specs.Calling.{CallData, refused, reads, puts, ensures, asks_value}
 use Rattle.store_calls.specs.Calling.{asks_permission}
-use Rattle.store_calls.specs.Calling.{altered_in}
-use Rattle.store_calls.specs.Arguments.{atom_in}
+use Rattle.store_calls.specs.Calling.{altered_in, dispatching}
+use Rattle.store_calls.specs.Arguments.{atom_in, agent_in}
 use Rattle.store_calls.specs.declared.altering.Alteration.{Alteration}
+use Rattle.store_calls.specs.declared.sending.Dispatch.{Dispatch}
 use Rattle.store_calls.specs.declared.updating.Update.{Update}
+use Rattle.evaluation_rules.specs.declared.occasion.Occasion.{Occasion}
 use Rattle.evaluation_rules.specs.Doing.{Kept, Doing, gave, failed, left, retried, asking, printing}
 use Rattle.evaluation_rules.specs.Doing.{looking, noting, trying, Part, ◌>>=◌, pure_part, fails}
 use Rattle.evaluation_rules.specs.Places.{PlaceData, Evaluator, with_local, space_of}
@@ -57,6 +60,7 @@ use Rattle.evaluation_rules.specs.Applying.{CalleeData, named_callee, keyword_ca
 use Rattle.evaluation_rules.specs.Applying.{update_callee}
 use Rattle.evaluation_rules.specs.Atoms.{settled_value, tried_value, seen_value, swapped_value}
 use Rattle.evaluation_rules.specs.Atoms.{swap_of, swap_call}
+use Rattle.evaluation_rules.specs.Agents.{permitted_send, send_ask, sent_value, sent_to, send_call}
 use Rattle.evaluation_rules.specs.Applying.{outcome, printed_value, prints, core_applied}
 use Rattle.evaluation_rules.specs.Applying.{core_call, keyword_call}
 use Rattle.evaluation_rules.specs.Applying.{body_place, program_call, function_applied}
@@ -441,11 +445,45 @@ unfolding swap_call
 swap-passes walk w f [] = record { leaves = λ next kept runs on. tt }
 swap-passes walk w f (d ∷ args) = swap-of walk w f args (atom_in StoreFunction.Swap d)
 
+held-back : (running : Bool) (occasion : Occasion) (x : SendingData)
+    → IsNoRead (send_ask running occasion x)
+held-back true occasion x = tt
+held-back false Occasion.Form x = tt
+held-back false Occasion.SharedText x = tt
+held-back false Occasion.Action x = tt
+
+sends-on : (x : SendingData) (p : PermissionData) → Passes Datum (permitted_send x p)
+sends-on x granted = record { leaves = λ next kept runs on. on (agent x.agent) kept runs }
+sends-on x (denied f) = record { leaves = λ next kept runs on. tt }
+
+sends : (x : SendingData) → Passes Datum (sent_value x)
+sends x = record {
+  leaves = λ next kept runs on answer.
+      let p = permission_in answer in (
+        not-read (send_ask kept.running kept.occasion x) (held-back kept.running kept.occasion x)
+            answer (permitted_send x p next kept),
+        (sends-on x p).leaves next kept runs on,
+      );
+}
+
+sends-to : (f : NamedFunctionData) (args : List Datum) (r : Result ℕ Failure)
+    → Passes Datum (sent_to f args r)
+sends-to f args (Ok n) =
+    sends (record { agent = n; task = record { function = f; arguments = args } })
+sends-to g args (Err f) = faults f
+
+send-passes : (by : Dispatch) (f : NamedFunctionData) (args : List Datum)
+    → Passes Datum (send_call by f args)
+unfolding send_call
+send-passes by f [] = faults (failures.wrong_arity (store_name_of (dispatching by)) 1)
+send-passes by f (d ∷ args) = sends-to f args (agent_in (dispatching by) d)
+
 updated : (walk : Evaluator) → WalkPasses walk
     → (by : Update) (f : NamedFunctionData) (args : List Datum)
     → Passes Datum (updated_value walk by f args)
 updated walk w (Update.Ref by) f args = alter-passes walk w by f args
 updated walk w Update.Atom f args = swap-passes walk w f args
+updated walk w (Update.Agent by) f args = send-passes by f args
 
 updates : (walk : Evaluator) → WalkPasses walk
     → (by : Update) (f : NamedFunctionData) (args : List Datum)
@@ -487,6 +525,10 @@ named walk w p (d ∷ e ∷ ds) (store_function StoreFunction.Commute) =
     updating-passes walk w p (Update.Ref Alteration.Commute) d e ds
 named walk w p (d ∷ e ∷ ds) (store_function StoreFunction.Swap) =
     updating-passes walk w p Update.Atom d e ds
+named walk w p (d ∷ e ∷ ds) (store_function StoreFunction.Send) =
+    updating-passes walk w p (Update.Agent Dispatch.Send) d e ds
+named walk w p (d ∷ e ∷ ds) (store_function StoreFunction.SendOff) =
+    updating-passes walk w p (Update.Agent Dispatch.SendOff) d e ds
 named walk w p forms f = calls walk w p forms (named_callee f)
 
 -- Special forms

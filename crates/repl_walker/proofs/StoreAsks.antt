@@ -9,11 +9,14 @@ use Rattle.repl_faults.specs.declared.rule.Rule.{Rule}
 use Rattle.function_names.specs.StoreNames.{store_name_of, store_fits}
 use Rattle.function_names.specs.declared.store.StoreFunction.{StoreFunction}
 use Rattle.repl_asks.specs.Transactions.{RefNameData, may_hold}
-use Rattle.repl_asks.specs.Exchange.{AskData, read, min_history, max_history}
+use Rattle.repl_asks.specs.Exchange.{AskData, read, min_history, max_history, await}
 use Rattle.store_calls.specs.declared.altering.Alteration.{Alteration}
+use Rattle.store_calls.specs.declared.sending.Dispatch.{Dispatch}
 use Rattle.store_calls.specs.Arguments.{ref_in, atom_in, agent_in, count_in, is_shared, kept_to}
 use Rattle.store_calls.specs.Arguments.{usual_bounds, bounds_in}
-use Rattle.store_calls.specs.Calling.{CallData, refused, reads, asks_value, asks_permission}
+use Rattle.store_calls.specs.Calling.{CallData, refused, reads, puts, ensures, asks_value}
+use Rattle.store_calls.specs.Calling.{asks_permission, agents_in, dispatching, unless_awaited}
+use Rattle.store_calls.specs.Calling.{action_call_data_of}
 use Rattle.store_calls.specs.Calling.{altering, deref_call, call_with, called_for, call_data_of}
 use Rattle.store_calls.specs.Calling.{shared_call_with, shared_call_data_of}
 use Rattle.evaluation_rules.specs.Refs.{call_data_at}
@@ -94,6 +97,13 @@ no-read StoreFunction.AgentError running (d ∷ []) =
     gives-then (agent_in StoreFunction.AgentError d) _ (λ n. tt)
 no-read StoreFunction.RestartAgent running (d ∷ e ∷ []) =
     gives-then (agent_in StoreFunction.RestartAgent d) _ (λ n. tt)
+no-read StoreFunction.Send running (d ∷ e ∷ ds) =
+    gives-then (agent_in (dispatching Dispatch.Send) d) _ (λ n. tt)
+no-read StoreFunction.SendOff running (d ∷ e ∷ ds) =
+    gives-then (agent_in (dispatching Dispatch.SendOff) d) _ (λ n. tt)
+no-read StoreFunction.Await running ds =
+    gives-then (agents_in ds) _ (λ ns.
+    gives-then (kept_to Rule.NoAwaitInTransaction (not running)) _ (λ holds. tt))
 no-read f running ds = tt
 
 called : (r : Result CallData Failure) → GivesNoRead r → AsksNoRead (called_for r)
@@ -126,7 +136,23 @@ shared-no-read f ds = at (store_fits f (length ds))
     at true = called (shared_call_with f ds) (no-shared-read f ds)
     at false = tt
 
+awaited-no-read : (call : CallData) → AsksNoRead call → AsksNoRead (unless_awaited call)
+awaited-no-read (asks_permission (await ns) d) apart = tt
+awaited-no-read (asks_permission ask d) apart = apart
+awaited-no-read (refused f) apart = tt
+awaited-no-read (reads name) apart = tt
+awaited-no-read (puts name d) apart = tt
+awaited-no-read (ensures name) apart = tt
+awaited-no-read (asks_value ask) apart = apart
+
+action-no-read : (f : StoreFunction) (running : Bool) (ds : List Datum)
+    → AsksNoRead (action_call_data_of f running ds)
+unfolding action_call_data_of
+action-no-read f running ds =
+    awaited-no-read (call_data_of f running ds) (outside-no-read f running ds)
+
 pub calls-no-read : (occasion : Occasion) (f : StoreFunction) (running : Bool) (ds : List Datum)
     → AsksNoRead (call_data_at occasion f running ds)
 calls-no-read Occasion.Form f running ds = outside-no-read f running ds
 calls-no-read Occasion.SharedText f running ds = shared-no-read f ds
+calls-no-read Occasion.Action f running ds = action-no-read f running ds

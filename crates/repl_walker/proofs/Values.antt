@@ -1,13 +1,14 @@
 -- What an attempt did stays, whatever more it is answered.
-use Rattle.std.proofs.Common.{◌≡◌, ◌≤◌, ℕ, ◌+◌, List, [], ◌∷◌, ◌++◌, length, map, nat_lt, Bool}
+use Rattle.std.proofs.Common.{◌≡◌, ◌≤◌, ℕ, ◌+◌, List, [], ◌∷◌, ◌++◌, length, filter_map, nat_lt, Bool}
 use Rattle.std.proofs.Common.{true, false, if◌then◌else◌, refl, sym, ap, ◌∙◌, append_assoc}
 use Rattle.std.proofs.Common.{append-nil, arith}
 use Rattle.std.proofs.lemmas.Bool.Decides.{nat_tests}
-use Rattle.std.proofs.lemmas.List.{map-append, length-append}
+use Rattle.std.proofs.lemmas.List.{length-append}
+use Rattle.std.proofs.lemmas.List.Elements.{filter_map-append}
 use Rattle.core_texts.specs.Limits.{most_text}
 use Rattle.repl_asks.specs.Transactions.{ChangeData}
 use Rattle.repl_asks.specs.Exchange.{AnswerData}
-use Rattle.tx_attempt.specs.Accesses.{AccessData, named_in, accessed_value}
+use Rattle.tx_attempt.specs.Accesses.{AccessData, value_accessed}
 use Rattle.evaluation_rules.specs.Doing.{Doing, left, asking, printing, looking, noting, trying}
 use Rattle.repl_walker.specs.Standing.{Standing, attempt_of, standing_after}
 use Rattle.repl_walker.specs.Values.{values_after}
@@ -84,9 +85,6 @@ stays less before ops (noting op d) answers more few =
     stays less before (ops ++ op ∷ []) d answers more few
 stays less before ops (trying body d) answers more few = stays less before ops d answers more few
 
-abbrev pub change_in : AccessData → ChangeData
-change_in op = record { name = named_in op; now = accessed_value op }
-
 pub values-stay
     : (body : Doing) (before less : List ℕ) (answers more : List AnswerData)
     → length less ≤ length before
@@ -94,5 +92,7 @@ pub values-stay
     × (values_after less body (answers ++ more) ≡ values_after before body answers ++ rest)
 values-stay body before less answers more few =
     let it = stays less before [] body answers more few in
-    let first = (standing_after before [] body answers).accesses in
-    (map change_in it.0, ap (map change_in) it.1 ∙ map-append change_in first it.0)
+    let first = (standing_after before [] body answers).accesses in (
+      filter_map value_accessed it.0,
+      ap (filter_map value_accessed) it.1 ∙ filter_map-append value_accessed first it.0,
+    )

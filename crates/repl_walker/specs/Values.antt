@@ -1,8 +1,8 @@
 -- What an attempt at a transaction saw by the time that it was given some answers.
-use Rattle.std.specs.Prelude.{◌≡◌, ◌≤◌, ℕ, List, [], ◌++◌, length, map}
+use Rattle.std.specs.Prelude.{◌≡◌, ◌≤◌, ℕ, List, [], ◌++◌, length, filter_map}
 use Rattle.repl_asks.specs.Transactions.{ChangeData}
 use Rattle.repl_asks.specs.Exchange.{AnswerData}
-use Rattle.tx_attempt.specs.Accesses.{named_in, accessed_value}
+use Rattle.tx_attempt.specs.Accesses.{value_accessed}
 use Rattle.evaluation_rules.specs.Doing.{Doing}
 use Rattle.repl_walker.specs.Standing.{standing_after}
 
@@ -10,8 +10,7 @@ use Rattle.repl_walker.specs.Standing.{standing_after}
 -- stands. This text was printed before it.
 abbrev pub values_after : List ℕ → Doing → List AnswerData → List ChangeData
 values_after before body answers =
-    map (λ op. record { name = named_in op; now = accessed_value op })
-    (standing_after before [] body answers).accesses
+    filter_map value_accessed (standing_after before [] body answers).accesses
 
 -- With more answers, or with less text printed before, an attempt's body has the same values first.
 abbrev pub ValuesStay : Type 0

@@ -24,6 +24,7 @@ use Rattle.server_rules.specs.Commit.{with_changes, with_raised_counter, with_al
 use Rattle.server_rules.specs.Commit.{checked_commit, commit_by}
 use Rattle.server_rules.specs.Calls.{Call, nothing, makes, begins, leaves_attempt, reads, counts}
 use Rattle.server_rules.specs.Calls.{tells_least, tells_most, sets_least, sets_most, commits}
+use Rattle.server_rules.specs.Calls.{inside, outside, told_inside, told_outside}
 use Rattle.server_rules.specs.Calls.{gives_up, performed_begin, read_at, read_by, number_told}
 use Rattle.server_rules.specs.Calls.{count_told, bound_set, given_up, performed}
 use Rattle.server_rules.specs.Isolation.View.{map_ref, content_of, count_at, counts_at, Seen, seen_of}
@@ -427,6 +428,16 @@ given_up-seen_of : (seat : ℕ) (s : Store) (told : Option AnswerData)
 given_up-seen_of seat s None = refl
 given_up-seen_of seat s (Some answer) = ap (tells exchange.done) (sym (left-seen_of seat s))
 
+told_inside-map : {A B : Type 0} (f : A → B) (found : Option A)
+    → told_inside (option_map f found) ≡ told_inside found
+told_inside-map f None = refl
+told_inside-map f (Some a) = refl
+
+told_outside-map : {A B : Type 0} (f : A → B) (found : Option A)
+    → told_outside (option_map f found) ≡ told_outside found
+told_outside-map f None = refl
+told_outside-map f (Some a) = refl
+
 pub performed-seen_of
     : (s : Store) (call : Call) → Sound s.around.counter s.mine → IsPrivateCall call
     → performed_seen s.tenant (seen_of s.mine) call ≡ seen_performed (performed s call)
@@ -478,6 +489,16 @@ performed-seen_of s (commits seat intent) sound private =
     ap (commit_seen s.tenant seat intent (seen_of s.mine))
     (part_under-map (counts_at s.mine.refs) seat s.mine.points)
     ∙ commit-seen_of seat intent s (part_under seat s.mine.points) sound private
+performed-seen_of s (inside seat) sound private =
+    ap (λ found. as_was (seen_of s.mine) (told_inside found))
+    (part_under-map (counts_at s.mine.refs) seat s.mine.points)
+    ∙ ap (as_was (seen_of s.mine))
+    (told_inside-map (counts_at s.mine.refs) (part_under seat s.mine.points))
+performed-seen_of s (outside seat) sound private =
+    ap (λ found. as_was (seen_of s.mine) (told_outside found))
+    (part_under-map (counts_at s.mine.refs) seat s.mine.points)
+    ∙ ap (as_was (seen_of s.mine))
+    (told_outside-map (counts_at s.mine.refs) (part_under seat s.mine.points))
 performed-seen_of s (gives_up seat call) sound private =
     ap (λ p. let q : Performed Seen = p in given_up_seen seat (seen_of s.mine) q.told)
     (performed-seen_of s call sound private)

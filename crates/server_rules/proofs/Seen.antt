@@ -19,6 +19,7 @@ use Rattle.server_rules.specs.Performed.{Performed, as_was, tells}
 use Rattle.server_rules.specs.Commit.{guarded_refs, touched_refs, intent_fits, all_folded}
 use Rattle.server_rules.specs.Calls.{Call, nothing, makes, begins, leaves_attempt, reads, counts}
 use Rattle.server_rules.specs.Calls.{tells_least, tells_most, sets_least, sets_most, commits}
+use Rattle.server_rules.specs.Calls.{inside, outside, told_inside, told_outside}
 use Rattle.server_rules.specs.Calls.{gives_up, number_told}
 use Rattle.server_rules.specs.Isolation.View.{Seen}
 use Rattle.server_rules.specs.Isolation.Privacy.{IsOwned, AreOwned}
@@ -156,6 +157,10 @@ performed_seen t s (sets_most name n) =
     bound_seen t name name.owner (with_most n) s (named_seen t name s)
 performed_seen t s (commits seat intent) =
     commit_seen t seat intent s (numbered.part_under seat s.attempts)
+performed_seen t s (inside seat) =
+    as_was s (told_inside (numbered.part_under seat s.attempts))
+performed_seen t s (outside seat) =
+    as_was s (told_outside (numbered.part_under seat s.attempts))
 performed_seen t s (gives_up seat call) = given_up_seen seat s (performed_seen t s call).told
 
 -- the call names no shared ref
@@ -171,4 +176,6 @@ IsPrivateCall (gives_up seat call) = IsPrivateCall call
 IsPrivateCall nothing = ⊤
 IsPrivateCall (makes d least most) = ⊤
 IsPrivateCall (begins seat) = ⊤
+IsPrivateCall (inside seat) = ⊤
+IsPrivateCall (outside seat) = ⊤
 IsPrivateCall (leaves_attempt seat) = ⊤

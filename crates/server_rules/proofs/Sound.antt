@@ -15,6 +15,7 @@ use Rattle.server_rules.specs.Commit.{all_folded, with_changes, with_raised_coun
 use Rattle.server_rules.specs.Commit.{concluded_commit, checked_commit, commit_by}
 use Rattle.server_rules.specs.Calls.{Call, nothing, makes, begins, leaves_attempt, reads, counts}
 use Rattle.server_rules.specs.Calls.{tells_least, tells_most, sets_least, sets_most, commits}
+use Rattle.server_rules.specs.Calls.{inside, outside}
 use Rattle.server_rules.specs.Calls.{gives_up, performed_begin, read_at, read_by, bound_set}
 use Rattle.server_rules.specs.Calls.{given_up, performed}
 use Rattle.repl_asks.specs.Exchange.{AnswerData}
@@ -226,5 +227,7 @@ performed-rises counter s (sets_most name n) h =
     bound-rises counter name name.owner (with_most n) s (ref_named name s) (λ r fall. fall) h
 performed-rises counter s (commits seat intent) h =
     commit-rises counter seat intent s (part_under seat s.mine.points) h
+performed-rises counter s (inside seat) h = h
+performed-rises counter s (outside seat) h = h
 performed-rises counter s (gives_up seat call) h =
     given_up-rises counter seat s (performed s call).told h

@@ -99,6 +99,9 @@ call-private seat (exchange.new_agent d) h = tt
 call-private seat (exchange.read_agent n) h = tt
 call-private seat (exchange.agent_fault n) h = tt
 call-private seat (exchange.restart_agent n d) h = tt
+call-private seat (exchange.send s) h = tt
+call-private seat (exchange.may_send s) h = tt
+call-private seat (exchange.await ns) h = tt
 
 allowed-private
     : (g : Ground) (a : Actor) (actor : ActorData) (h : Hand) (run : Run) (ask : AskData)

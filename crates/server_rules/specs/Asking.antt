@@ -1,5 +1,6 @@
 -- Asking: the ask of a form that runs is answered, and the pair recorded.
-use Rattle.std.specs.Prelude.{ℕ, List, [], ◌∷◌, ◌++◌, Bool, true, not, Option, None, Some, ◌&&◌}
+use Rattle.std.specs.Prelude.{ℕ, List, [], ◌∷◌, ◌++◌, Bool, true, false, not, Option, None}
+use Rattle.std.specs.Prelude.{Some, ◌&&◌}
 use Rattle.std.specs.Prelude.{◌^◌, nat_lt, if◌then◌else◌}
 use Rattle.value_data.specs.Datum.{Datum}
 use Rattle.repl_asks.specs.Namespaces.{is_fixed}
@@ -11,8 +12,9 @@ use Rattle.name_spaces.specs.Resolving as names
 use Rattle.name_spaces.specs.Resolving.{FoundData, found_resolution, found_latest}
 use Rattle.name_spaces.specs.declared.latest.Latest.{Latest}
 use Rattle.server_rules.specs.Calls.{Call, nothing, makes, begins, reads, counts, tells_least}
-use Rattle.server_rules.specs.Calls.{tells_most, sets_least, sets_most, commits, gives_up}
-use Rattle.server_rules.specs.Cells.{CellsData, has_named, cell_answer, cells_after}
+use Rattle.server_rules.specs.Calls.{tells_most, sets_least, sets_most, commits, inside, outside}
+use Rattle.server_rules.specs.Calls.{gives_up}
+use Rattle.server_rules.specs.Cells.{CellsData, has_named, cell_answer, SenderData, cells_after}
 use Rattle.server_rules.specs.Ground.{Ground}
 use Rattle.server_rules.specs.Request.{Hand, Run}
 use Rattle.server_rules.specs.Tenant.{ActorData, seat_of, Quiet, with_actor, actor_state}
@@ -33,6 +35,8 @@ call_of seat (exchange.min_history name (Some n)) = sets_least name n
 call_of seat (exchange.max_history name None) = tells_most name
 call_of seat (exchange.max_history name (Some n)) = sets_most name n
 call_of seat (exchange.commit intent) = commits seat intent
+call_of seat (exchange.send s) = outside seat
+call_of seat (exchange.may_send s) = inside seat
 call_of seat _ = nothing
 
 -- a bound of a history is a number of the language
@@ -44,13 +48,14 @@ may_be_set None = true
 may_be_set (Some n) = is_bound n
 
 -- nothing is defined in a namespace that is fixed, and nobody enters it; a tenant asks of its own
--- atoms and agents alone
+-- atoms and agents alone; no agent is awaited yet
 abbrev pub is_allowed : AskData → CellsData → Bool
 is_allowed (exchange.define namespace name binding) cells = not (is_fixed namespace)
 is_allowed (exchange.enter name) cells = not (is_fixed name)
 is_allowed (exchange.new_ref d least most) cells = is_bound least && is_bound most
 is_allowed (exchange.min_history name set) cells = may_be_set set
 is_allowed (exchange.max_history name set) cells = may_be_set set
+is_allowed (exchange.await ns) cells = false
 is_allowed ask cells = has_named ask cells
 
 abbrev pub latest_of : Latest → StateData → Datum
@@ -80,10 +85,19 @@ spaces_after (exchange.define namespace name binding) spaces =
 spaces_after (exchange.enter name) spaces = with_entered_namespace spaces name
 spaces_after _ spaces = spaces
 
--- what an ask makes of the tenant, beside its refs
-abbrev pub quiet_after : AskData → Quiet → Quiet
-quiet_after ask q =
-    record q { spaces = spaces_after ask q.spaces; cells = cells_after ask q.cells }
+abbrev pub session_of : Actor → Option ℕ
+session_of Actor.Bare = None
+session_of (Actor.Session n) = Some n
+
+abbrev pub sender_of : Actor → Hand → SenderData
+sender_of a h = record { origin = h.origin; session = session_of a }
+
+-- what an ask that is answered so makes of the tenant, beside its refs
+abbrev pub quiet_after : SenderData → AskData → AnswerData → Quiet → Quiet
+quiet_after sender ask answer q = record q {
+  spaces = spaces_after ask q.spaces;
+  cells = cells_after sender ask answer q.cells;
+}
 
 abbrev pub with_recorded_answer : Actor → ActorData → Hand → Run → AskData → AnswerData → Quiet
     → Quiet
@@ -96,7 +110,8 @@ abbrev pub answer_outcome : Ground → Actor → ActorData → Hand → Run → 
     → Outcome
 answer_outcome g a actor h run ask q told =
     let answer = answer_to g a q ask told in
-    leaves (with_step_spent (with_recorded_answer a actor h run ask answer (quiet_after ask q)))
+    let after = quiet_after (sender_of a h) ask answer q in
+    leaves (with_step_spent (with_recorded_answer a actor h run ask answer after))
     (ask_answered answer)
 
 -- an ask that breaks a rule is none of an evaluation's

@@ -28,6 +28,9 @@ pub data Call : Type 0 where
   sets_least : RefNameData → ℕ → Call
   sets_most : RefNameData → ℕ → Call
   commits : ℕ → IntentData → Call
+  -- nothing, where an attempt runs; and where none does
+  inside : ℕ → Call
+  outside : ℕ → Call
   -- the attempt is left, where this could be asked
   gives_up : ℕ → Call → Call
 
@@ -74,6 +77,16 @@ bound_set name shared f s (Some r) = as_was s None
 bound_set name (tenant t) f s (Some r) =
     tells (value (datum.ref (tenant t) name.number)) (with_changed_ref name f s)
 
+-- Standing in an attempt, or in none
+
+abbrev pub told_inside : {A : Type 0} → Option A → Option AnswerData
+told_inside None = None
+told_inside (Some point) = Some done
+
+abbrev pub told_outside : {A : Type 0} → Option A → Option AnswerData
+told_outside None = Some done
+told_outside (Some point) = None
+
 -- Giving up
 
 abbrev pub given_up : ℕ → Store → Option AnswerData → Performed Store
@@ -96,4 +109,6 @@ performed s (tells_most name) = as_was s (option_map (λ r. number_told r.most) 
 performed s (sets_least name n) = bound_set name name.owner (with_least n) s (ref_named name s)
 performed s (sets_most name n) = bound_set name name.owner (with_most n) s (ref_named name s)
 performed s (commits seat intent) = commit_by seat intent s (numbered.part_under seat s.mine.points)
+performed s (inside seat) = as_was s (told_inside (numbered.part_under seat s.mine.points))
+performed s (outside seat) = as_was s (told_outside (numbered.part_under seat s.mine.points))
 performed s (gives_up seat call) = given_up seat s (performed s call).told

@@ -1,17 +1,21 @@
 -- The atoms and agents of a tenant, and what its forms ask of them (the Clojure reference, Atoms, and
 -- Agents and Asynchronous Actions).
-use Rattle.std.specs.Prelude.{ℕ, length, Bool, true, Option, None, Some, is_some, unwrap_or}
-use Rattle.std.specs.Prelude.{if◌then◌else◌}
+use Rattle.std.specs.Prelude.{ℕ, List, [], ◌∷◌, length, Bool, true, false, Option, None, Some}
+use Rattle.std.specs.Prelude.{is_some, unwrap_or, if◌then◌else◌}
+use Rattle.std.specs.List.{list_all}
 use Rattle.value_data.specs.Datum as datum
 use Rattle.value_data.specs.Datum.{Datum}
 use Rattle.repl_faults.specs.Failure.{Failure, broken_rule}
 use Rattle.repl_faults.specs.declared.rule.Rule.{Rule}
+use Rattle.repl_asks.specs.Sends.{TaskData, SendingData}
 use Rattle.repl_asks.specs.Exchange as exchange
 use Rattle.repl_asks.specs.Exchange.{AskData, AnswerData, PermissionData, granted, denied}
+use Rattle.repl_replies.specs.Replies.{OriginData}
 use Rattle.private_cells.specs.Atoms.{AtomsData, no_atoms, atom_value, with_atom, with_atom_value}
 use Rattle.private_cells.specs.Atoms.{is_unchanged, with_try}
+use Rattle.private_cells.specs.Actions.{ActionData}
 use Rattle.private_cells.specs.Agents.{AgentsData, no_agents, agent_state, agent_fault, is_failed}
-use Rattle.private_cells.specs.Agents.{with_agent, with_restart}
+use Rattle.private_cells.specs.Agents.{with_agent, with_restart, with_send}
 
 -- what its programs made; no other tenant has them
 pub record CellsData : Type 0 where
@@ -27,7 +31,10 @@ has_atom n c = is_some (atom_value n c.atoms)
 abbrev pub has_agent : ℕ → CellsData → Bool
 has_agent n c = is_some (agent_state n c.agents)
 
--- the atom or agent that an ask names, if it names one, is there
+abbrev pub has_receivers : List SendingData → CellsData → Bool
+has_receivers sends c = list_all (λ s. has_agent s.agent c) sends
+
+-- the atoms and agents that an ask names are there
 abbrev pub has_named : AskData → CellsData → Bool
 has_named (exchange.read_atom n) c = has_atom n c
 has_named (exchange.set_atom n d) c = has_atom n c
@@ -35,6 +42,9 @@ has_named (exchange.try_atom n seen next) c = has_atom n c
 has_named (exchange.read_agent n) c = has_agent n c
 has_named (exchange.agent_fault n) c = has_agent n c
 has_named (exchange.restart_agent n d) c = has_agent n c
+has_named (exchange.send s) c = has_agent s.agent c
+has_named (exchange.may_send s) c = has_agent s.agent c
+has_named (exchange.commit intent) c = has_receivers intent.sends c
 has_named _ c = true
 
 -- Answers
@@ -47,6 +57,11 @@ fault_or_nil (Some f) = datum.fault f.class f.text
 abbrev pub restart_permission : ℕ → AgentsData → PermissionData
 restart_permission n agents =
     if is_failed n agents then granted else denied (broken_rule Rule.AgentHasFailed)
+
+-- nothing is sent to an agent that is failed
+abbrev pub send_permission : ℕ → AgentsData → PermissionData
+send_permission n agents =
+    if is_failed n agents then denied (broken_rule Rule.AgentHasNotFailed) else granted
 
 -- A new atom's number is how many there were, and so is a new agent's. A set is answered by what
 -- the atom then has, and a try by whether the atom had what was seen of it. What is asked of no
@@ -65,6 +80,8 @@ cell_answer (exchange.agent_fault n) c told =
     exchange.value (fault_or_nil (agent_fault n c.agents))
 cell_answer (exchange.restart_agent n d) c told =
     exchange.permission (restart_permission n c.agents)
+cell_answer (exchange.send s) c told = exchange.permission (send_permission s.agent c.agents)
+cell_answer (exchange.may_send s) c told = exchange.permission (send_permission s.agent c.agents)
 cell_answer _ c told = told
 
 -- Changes
@@ -75,10 +92,39 @@ with_atoms atoms c = record c { atoms = atoms }
 abbrev pub with_agents : AgentsData → CellsData → CellsData
 with_agents agents c = record c { agents = agents }
 
-abbrev pub cells_after : AskData → CellsData → CellsData
-cells_after (exchange.new_atom d) c = with_atoms (with_atom d c.atoms) c
-cells_after (exchange.set_atom n d) c = with_atoms (with_atom_value n d c.atoms) c
-cells_after (exchange.try_atom n seen next) c = with_atoms (with_try n seen next c.atoms) c
-cells_after (exchange.new_agent d) c = with_agents (with_agent d c.agents) c
-cells_after (exchange.restart_agent n d) c = with_agents (with_restart n d c.agents) c
-cells_after _ c = c
+-- who asks: what the replies to its request carry, and the number of its session, if it has one
+pub record SenderData : Type 0 where
+  pub origin : OriginData
+  pub session : Option ℕ
+
+abbrev pub action_from : SenderData → TaskData → ActionData
+action_from sender task =
+    record { task = task; origin = sender.origin; session = sender.session }
+
+-- what is sent waits for its agents, in order
+abbrev pub with_sends : SenderData → List SendingData → AgentsData → AgentsData
+with_sends sender [] agents = agents
+with_sends sender (s ∷ ss) agents =
+    with_sends sender ss (with_send s.agent (action_from sender s.task) agents)
+
+-- what was asked for is granted, or was committed
+abbrev pub is_yes : AnswerData → Bool
+is_yes (exchange.permission granted) = true
+is_yes (exchange.verdict exchange.committed) = true
+is_yes _ = false
+
+abbrev pub with_sends_if : Bool → SenderData → List SendingData → CellsData → CellsData
+with_sends_if true sender sends c = with_agents (with_sends sender sends c.agents) c
+with_sends_if false sender sends c = c
+
+abbrev pub cells_after : SenderData → AskData → AnswerData → CellsData → CellsData
+cells_after sender (exchange.new_atom d) answer c = with_atoms (with_atom d c.atoms) c
+cells_after sender (exchange.set_atom n d) answer c = with_atoms (with_atom_value n d c.atoms) c
+cells_after sender (exchange.try_atom n seen next) answer c =
+    with_atoms (with_try n seen next c.atoms) c
+cells_after sender (exchange.new_agent d) answer c = with_agents (with_agent d c.agents) c
+cells_after sender (exchange.restart_agent n d) answer c = with_agents (with_restart n d c.agents) c
+cells_after sender (exchange.send s) answer c = with_sends_if (is_yes answer) sender (s ∷ []) c
+cells_after sender (exchange.commit intent) answer c =
+    with_sends_if (is_yes answer) sender intent.sends c
+cells_after sender _ answer c = c

@@ -6,7 +6,7 @@ use bytes::Bytes;
 use journal_book::{Book, PARTS, Places, Row, Seat};
 use repl_asks::{Answer, Ask};
 use repl_core::{Step, StepAnswer};
-use repl_walker::{Ending, Progress, start};
+use repl_walker::{Ending, Job, Progress, Walk, start};
 use server_rules::{Actor, Refusal};
 use std::alloc::{AllocError, Global};
 use std::marker::Brand;
@@ -64,19 +64,34 @@ fn ending<L: Ledger>(
     book: &mut Book<L>,
     seat: &mut Seat<L>,
 ) -> Result<Ending, AllocError> {
-    let StepAnswer::Begun(job) = act(rt, book, seat, Step::Start(0, Actor::Bare)) else {
-        panic!(rt; "no form begins");
-    };
+    let job = begun(rt, book, seat);
     let mut progress = start(alloc, &job)?;
     for _ in 0..10 {
         let walk = match progress {
             Progress::Asks(walk) => walk,
             Progress::Ends(ending) => return Ok(ending),
         };
-        let answer = answered(rt, book, seat, walk.ask())?;
-        progress = walk.resume(alloc, answer)?;
+        progress = gone_on(rt, alloc, book, seat, walk)?;
     }
     panic!(rt; "the form does not end");
+}
+
+fn begun<L: Ledger>(rt: &impl Abort, book: &mut Book<L>, seat: &mut Seat<L>) -> Job {
+    let StepAnswer::Begun(job) = act(rt, book, seat, Step::Start(0, Actor::Bare)) else {
+        panic!(rt; "no form begins");
+    };
+    job
+}
+
+fn gone_on<L: Ledger>(
+    rt: &impl Abort,
+    alloc: Global,
+    book: &mut Book<L>,
+    seat: &mut Seat<L>,
+    walk: Walk,
+) -> Result<Progress, AllocError> {
+    let answer = answered(rt, book, seat, walk.ask())?;
+    walk.resume(alloc, answer)
 }
 
 fn answered<L: Ledger>(

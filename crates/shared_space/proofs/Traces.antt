@@ -79,6 +79,9 @@ told-fits (exchange.new_agent d) s answer is = absurd (cc)
 told-fits (exchange.read_agent n) s answer is = absurd (cc)
 told-fits (exchange.agent_fault n) s answer is = absurd (cc)
 told-fits (exchange.restart_agent n d) s answer is = absurd (cc)
+told-fits (exchange.send sending) s answer is = absurd (cc)
+told-fits (exchange.may_send sending) s answer is = absurd (cc)
+told-fits (exchange.await ns) s answer is = absurd (cc)
 
 view-added : (xs : List Exchange) (x : Exchange)
     → trace_view (xs ++ x ∷ []) ≡ trace_view xs ++ exchange_view x ∷ []

@@ -2,6 +2,7 @@
 use Rattle.std.proofs.Common.{◌≡◌, ◌≢◌, List, [], ◌∷◌, ◌++◌, get_or, take, drop, length, Bool}
 use Rattle.std.proofs.Common.{true, Err, option_map, slice_get, arith, refl}
 use Rattle.std.proofs.lemmas.Bool.Decides.{nat_tests}
+use Rattle.value_data.specs.Datum.{Datum}
 use Rattle.value_data.specs.Inside.View.{view}
 use Rattle.value_data.specs.declared.value.Value.{Value}
 use Rattle.special_forms.specs.Inside.Seen.{views}
@@ -12,11 +13,13 @@ use Rattle.function_names.specs.declared.store.StoreFunction.{StoreFunction}
 use Rattle.store_calls.specs.Calling.{call_with, ref_call, deref_call, ref_set_call, ensure_call}
 use Rattle.store_calls.specs.Calling.{history_count_call, alter_by_value, atom_call, swap_by_value}
 use Rattle.store_calls.specs.Calling.{reset_call, compare_and_set_call, agent_call}
-use Rattle.store_calls.specs.Calling.{agent_error_call, restart_agent_call, shared_call_with}
+use Rattle.store_calls.specs.Calling.{agent_error_call, restart_agent_call, send_by_value, await_call}
+use Rattle.store_calls.specs.Calling.{shared_call_with}
 use Rattle.store_calls.specs.Calling.{plain_ref_call}
 use Rattle.store_calls.specs.Inside.Parts.{bound_call}
 use Rattle.store_calls.specs.declared.altering.Alteration.{Alteration}
 use Rattle.store_calls.specs.declared.bounds.HistoryBound.{HistoryBound}
+use Rattle.store_calls.specs.declared.sending.Dispatch.{Dispatch}
 
 pub ref-called : (running : Bool) (xs : List Value) (x : Value)
     → store_fits StoreFunction.Ref (length xs) ≡ true → x ≡ get_or xs 0 x
@@ -159,6 +162,26 @@ restart-called running (u ∷ v ∷ []) ys x y fits is left first =
     let other : y ≡ v = is in cc
 restart-called running (u ∷ v ∷ w ∷ xs) ys x y fits is left first = absurd (grind (arith, nat_tests))
 
+pub send-called : (running : Bool) (xs : List Value) (x y : Value)
+    → store_fits StoreFunction.Send (length xs) ≡ true → x ≡ get_or xs 0 x → y ≡ get_or xs 1 y
+    → call_with StoreFunction.Send running (views xs) ≡ send_by_value Dispatch.Send (view x) (view y)
+send-called running [] x y fits first is = absurd (grind (arith, nat_tests))
+send-called running (u ∷ []) x y fits first is = absurd (grind (arith, nat_tests))
+send-called running (u ∷ v ∷ xs) x y fits first is =
+    let one : x ≡ u = first in let other : y ≡ v = is in cc
+
+pub send-off-called : (running : Bool) (xs : List Value) (x y : Value)
+    → store_fits StoreFunction.SendOff (length xs) ≡ true → x ≡ get_or xs 0 x → y ≡ get_or xs 1 y
+    → call_with StoreFunction.SendOff running (views xs) ≡ send_by_value Dispatch.SendOff (view x) (view y)
+send-off-called running [] x y fits first is = absurd (grind (arith, nat_tests))
+send-off-called running (u ∷ []) x y fits first is = absurd (grind (arith, nat_tests))
+send-off-called running (u ∷ v ∷ xs) x y fits first is =
+    let one : x ≡ u = first in let other : y ≡ v = is in cc
+
+pub await-called : (running : Bool) (ds : List Datum)
+    → call_with StoreFunction.Await running ds ≡ await_call running ds
+await-called running ds = refl
+
 -- the calls of all functions
 pub ruleset calls = (
   ref-called,
@@ -177,6 +200,9 @@ pub ruleset calls = (
   agent-called,
   error-called,
   restart-called,
+  send-called,
+  send-off-called,
+  await-called,
 )
 
 -- In the text of the shared namespace

@@ -2,10 +2,10 @@
 -- reference, Refs and Transactions, Atoms, and Agents). The number of arguments is looked at first,
 -- then the kinds of all of them, from the left; then whether a transaction runs; then what is
 -- forbidden for a ref that all tenants share. Of atoms and agents a call asks the same within
--- transactions and outside.
-use Rattle.std.specs.Prelude.{List, [], ◌∷◌, Bool, ◌||◌, not, Some, None, Result, Ok, Err}
+-- transactions and outside, but that nothing is awaited there.
+use Rattle.std.specs.Prelude.{ℕ, List, [], ◌∷◌, Bool, ◌||◌, not, Some, None, Result, Ok, Err}
 use Rattle.std.specs.Prelude.{if◌then◌else◌, length}
-use Rattle.value_data.specs.Datum.{Datum, atom, agent}
+use Rattle.value_data.specs.Datum.{Datum, nil, atom, agent}
 use Rattle.value_data.specs.Measures.{is_plain}
 use Rattle.repl_faults.specs.Failure.{Failure, ◌>>=◌, wrong_argument, wrong_arity, broken_rule}
 use Rattle.repl_faults.specs.declared.rule.Rule.{Rule}
@@ -14,8 +14,10 @@ use Rattle.function_names.specs.declared.store.StoreFunction.{StoreFunction}
 use Rattle.repl_asks.specs.Transactions.{RefNameData, may_hold}
 use Rattle.repl_asks.specs.Exchange.{AskData, new_ref, history, new_atom, read_atom, set_atom}
 use Rattle.repl_asks.specs.Exchange.{try_atom, new_agent, read_agent, agent_fault, restart_agent}
+use Rattle.repl_asks.specs.Exchange.{await}
 use Rattle.store_calls.specs.declared.altering.Alteration.{Alteration}
 use Rattle.store_calls.specs.declared.bounds.HistoryBound.{HistoryBound}
+use Rattle.store_calls.specs.declared.sending.Dispatch.{Dispatch}
 use Rattle.store_calls.specs.declared.updating.Update.{Update}
 use Rattle.store_calls.specs.Arguments.{ref_in, atom_in, agent_in, count_in, is_shared, kept_to}
 use Rattle.store_calls.specs.Arguments.{usual_bounds, bounds_in, function_of, ask_for}
@@ -125,10 +127,31 @@ abbrev pub restart_agent_call : Datum → Datum → Result CallData Failure
 restart_agent_call d e =
     agent_in StoreFunction.RestartAgent d >>= λ n. Ok (asks_permission (restart_agent n e) e)
 
+abbrev pub agents_in : List Datum → Result (List ℕ) Failure
+agents_in [] = Ok []
+agents_in (d ∷ ds) =
+    agent_in StoreFunction.Await d >>= λ n. (agents_in ds >>= λ ns. Ok (n ∷ ns))
+
+-- `(await agent ..)`; not in a transaction
+abbrev pub await_call : Bool → List Datum → Result CallData Failure
+await_call running ds = agents_in ds
+    >>= λ ns. (kept_to Rule.NoAwaitInTransaction (not running)
+    >>= λ _. Ok (asks_permission (await ns) nil))
+
+abbrev pub dispatching : Dispatch → StoreFunction
+dispatching Dispatch.Send = StoreFunction.Send
+dispatching Dispatch.SendOff = StoreFunction.SendOff
+
+-- `send` or `send-off` where its function is a value, likewise
+abbrev pub send_by_value : Dispatch → Datum → Datum → Result CallData Failure
+send_by_value by d e = agent_in (dispatching by) d
+    >>= λ _. Err (wrong_argument (store_name_of (dispatching by)) e)
+
 -- the function that updates so
 abbrev pub updating : Update → StoreFunction
 updating (Update.Ref by) = altering by
 updating Update.Atom = StoreFunction.Swap
+updating (Update.Agent by) = dispatching by
 
 abbrev pub call_with : StoreFunction → Bool → List Datum → Result CallData Failure
 call_with StoreFunction.Ref running ds = ref_call ds
@@ -150,6 +173,9 @@ call_with StoreFunction.CompareAndSet running (d ∷ seen ∷ next ∷ []) =
 call_with StoreFunction.Agent running (d ∷ []) = agent_call d
 call_with StoreFunction.AgentError running (d ∷ []) = agent_error_call d
 call_with StoreFunction.RestartAgent running (d ∷ e ∷ []) = restart_agent_call d e
+call_with StoreFunction.Send running (d ∷ e ∷ ds) = send_by_value Dispatch.Send d e
+call_with StoreFunction.SendOff running (d ∷ e ∷ ds) = send_by_value Dispatch.SendOff d e
+call_with StoreFunction.Await running ds = await_call running ds
 call_with f running ds = Err (wrong_arity (store_name_of f) (length ds))
 
 abbrev pub called_for : Result CallData Failure → CallData
@@ -161,6 +187,16 @@ unfoldable pub call_data_of : StoreFunction → Bool → List Datum → CallData
 call_data_of f running ds =
     if store_fits f (length ds) then called_for (call_with f running ds)
     else refused (wrong_arity (store_name_of f) (length ds))
+
+-- In an action of an agent nothing is awaited
+
+abbrev pub unless_awaited : CallData → CallData
+unless_awaited (asks_permission (await ns) d) = refused (broken_rule Rule.NoAwaitInAction)
+unless_awaited call = call
+
+-- a call of the function with these values in an action
+unfoldable pub action_call_data_of : StoreFunction → Bool → List Datum → CallData
+action_call_data_of f running ds = unless_awaited (call_data_of f running ds)
 
 -- In the text of the namespace that all tenants share
 

@@ -9,15 +9,16 @@ ghost use Rattle.store_calls.specs.Calling as meant;
 ghost use Rattle.store_calls.specs.Inside.Parts.{bound_call, bound_set};
 ghost use Rattle.store_calls.specs.Inside.View.{call_view};
 
-use crate::agents::{agent_call, agent_error_call, restart_agent_call};
+use crate::agents::{agent_call, agent_error_call, await_call, restart_agent_call, send_by_value};
 use crate::altering::Alteration;
 use crate::arguments::{atom_of, count_of, ref_of};
 use crate::bounds::{HistoryBound, bounds_in};
 use crate::outcome::Call;
 use crate::rules::{is_shared, keep_to, may_hold};
+use crate::sending::Dispatch;
 use function_names::StoreFunction;
 use repl_asks::Ask;
-use repl_faults::{ApplyError, Rule, wrong_argument, wrong_arity};
+use repl_faults::{ApplyError, Rule, broken_rule, wrong_argument, wrong_arity};
 use repl_values::{RefName, Value};
 use std::alloc::{AllocError, Global};
 
@@ -43,6 +44,33 @@ pub fn call(
         Ok(call) => Ok(call),
         Err(ApplyError::Fault(fault)) => Ok(Call::Refused(fault)),
         Err(ApplyError::NoMemory) => Err(AllocError),
+    }
+}
+
+/// What it comes to in an action of an agent, where nothing is awaited. It fails only for want of
+/// memory.
+#[tactic(auto, unfolding(crate::specs::Calling::action_call_data_of))]
+pub fn call_in_action(
+    alloc: Global,
+    function: StoreFunction,
+    in_transaction: bool,
+    values: Vec<Value>,
+) -> Result<Call, AllocError>
+    ensures { IfOk result (λ call. call_view call
+        ≡ meant.action_call_data_of function in_transaction (views values.items)) }
+{
+    let call = call(alloc, function, in_transaction, values)?;
+    refuse_awaiting(alloc, call)
+}
+
+fn refuse_awaiting(alloc: Global, call: Call) -> Result<Call, AllocError>
+    ensures { IfOk result (λ allowed. call_view allowed ≡ meant.unless_awaited (call_view call)) }
+{
+    match call {
+        Call::AsksPermission(Ask::Await(_), _) => {
+            Ok(Call::Refused(broken_rule(alloc, Rule::NoAwaitInAction)?))
+        }
+        other => Ok(other),
     }
 }
 
@@ -88,6 +116,9 @@ fn call_with(
         StoreFunction::Agent => agent_call(values.remove(0)),
         StoreFunction::AgentError => agent_error_call(alloc, &values[0]),
         StoreFunction::RestartAgent => restart_agent_call(alloc, values.remove(1), &values[0]),
+        StoreFunction::Send => send_by_value(alloc, Dispatch::Send, &values[0], &values[1]),
+        StoreFunction::SendOff => send_by_value(alloc, Dispatch::SendOff, &values[0], &values[1]),
+        StoreFunction::Await => await_call(alloc, in_transaction, values.as_slice()),
     }
 }
 

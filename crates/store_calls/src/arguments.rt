@@ -1,16 +1,18 @@
 // Arguments by their kinds. Each is refused by the function of the call.
 #![tactic(auto, using(value_data::proofs::Views::value_views))]
 
-ghost use Rattle.std.specs.Prelude.{◌≡◌};
+ghost use Rattle.std.specs.Prelude.{◌≡◌, IfOk};
 ghost use Rattle.value_data.specs.Inside.View.{view};
 ghost use Rattle.repl_asks.specs.Inside.View.{name_view};
-ghost use Rattle.repl_faults.specs.Inside.View.{Gives};
+ghost use Rattle.repl_faults.specs.Failure as faults;
+ghost use Rattle.repl_faults.specs.Inside.View.{Gives, failure_of};
+ghost use Rattle.function_names.specs.StoreNames.{store_name_of};
 ghost use Rattle.store_calls.specs.Arguments as meant;
 
 use function_names::StoreFunction;
 use repl_faults::{ApplyError, wrong_argument};
-use repl_values::{RefName, Value};
-use std::alloc::Global;
+use repl_values::{Fault, RefName, Value};
+use std::alloc::{AllocError, Global};
 
 pub(crate) fn ref_of(
     alloc: Global,
@@ -21,7 +23,7 @@ pub(crate) fn ref_of(
 {
     match argument {
         Value::Ref(name) => Ok(*name),
-        other => Err(ApplyError::Fault(wrong_argument(alloc, function.name(), other)?)),
+        other => Err(ApplyError::Fault(not_taken(alloc, function, other)?)),
     }
 }
 
@@ -35,7 +37,7 @@ pub(crate) fn atom_of(
 {
     match argument {
         Value::Atom(number) => Ok(*number),
-        other => Err(ApplyError::Fault(wrong_argument(alloc, function.name(), other)?)),
+        other => Err(ApplyError::Fault(not_taken(alloc, function, other)?)),
     }
 }
 
@@ -49,7 +51,7 @@ pub(crate) fn agent_of(
 {
     match argument {
         Value::Agent(number) => Ok(*number),
-        other => Err(ApplyError::Fault(wrong_argument(alloc, function.name(), other)?)),
+        other => Err(ApplyError::Fault(not_taken(alloc, function, other)?)),
     }
 }
 
@@ -63,7 +65,7 @@ pub(crate) fn count_of(
 {
     match count(argument) {
         Some(count) => Ok(count),
-        None => Err(ApplyError::Fault(wrong_argument(alloc, function.name(), argument)?)),
+        None => Err(ApplyError::Fault(not_taken(alloc, function, argument)?)),
     }
 }
 
@@ -83,4 +85,12 @@ fn from_zero(number: i64) -> Option<u64>
         return None;
     }
     Some(number as u64)
+}
+
+// The fault of an argument of a kind that the function does not take.
+fn not_taken(alloc: Global, function: StoreFunction, argument: &Value) -> Result<Fault, AllocError>
+    ensures { IfOk result (λ f. failure_of f
+        ≡ faults.wrong_argument (store_name_of function) (view argument.now)) }
+{
+    wrong_argument(alloc, function.name(), argument)
 }

@@ -12,12 +12,14 @@ mod arguments;
 mod bounds;
 mod outcome;
 mod rules;
+mod sending;
 mod shared;
 mod updating;
 
 pub use altering::{Alteration, ref_to_alter};
-pub use applying::call;
-pub use outcome::{Altered, Call, Swapped};
+pub use applying::{call, call_in_action};
+pub use outcome::{Addressed, Altered, Call, Swapped};
 pub use rules::may_hold;
+pub use sending::{Dispatch, agent_to_send};
 pub use shared::call_in_shared_text;
 pub use updating::{Update, atom_to_swap};

@@ -33,3 +33,11 @@ pub enum Swapped {
     Atom(u64),
     Refused(Fault),
 }
+
+/// What a call of `send` or `send-off` begins with.
+#[derive(Debug, Drop)]
+pub enum Addressed {
+    /// The function is sent to the agent of this number.
+    Agent(u64),
+    Refused(Fault),
+}

@@ -65,7 +65,10 @@ fn shared_call_with(
         | StoreFunction::CompareAndSet
         | StoreFunction::Agent
         | StoreFunction::AgentError
-        | StoreFunction::RestartAgent => {
+        | StoreFunction::RestartAgent
+        | StoreFunction::Send
+        | StoreFunction::SendOff
+        | StoreFunction::Await => {
             Err(ApplyError::Fault(broken_rule(alloc, Rule::SharedTextDefinesAlone)?))
         }
     }

@@ -9,19 +9,22 @@ ghost use Rattle.store_calls.specs.Inside.View.{swapped_view};
 use crate::altering::Alteration;
 use crate::arguments::atom_of;
 use crate::outcome::Swapped;
+use crate::sending::Dispatch;
 use function_names::StoreFunction;
 use repl_faults::ApplyError;
 use repl_values::Value;
 use std::alloc::{AllocError, Global};
 
-/// Whose value goes to a function, and becomes what the function gives. In a call the function
-/// stands between the first argument and those behind it.
+/// Whose value goes to a function, and becomes what the function gives: at once, or when an agent
+/// comes to it. In a call the function stands between the first argument and those behind it.
 #[derive(Clone, Copy, Debug, PartialEq, Eq)]
 pub enum Update {
     /// A ref's, within a transaction.
     Ref(Alteration),
     /// An atom's. It is tried again where the atom has got another value in between.
     Atom,
+    /// An agent's, later, in an action.
+    Agent(Dispatch),
 }
 
 impl Update {
@@ -32,6 +35,7 @@ impl Update {
         match self {
             Update::Ref(by) => by.function(),
             Update::Atom => StoreFunction::Swap,
+            Update::Agent(by) => by.function(),
         }
     }
 }

@@ -26,6 +26,7 @@ pub(crate) fn intent_of(
         sets: Vec::new(alloc),
         ensured: Vec::new(alloc),
         commuted: Vec::new(alloc),
+        sends: Vec::new(alloc),
     };
     for want in wants {
         add(rt, alloc, &mut intent, *want)?;

@@ -17,6 +17,7 @@ use Rattle.server_rules.specs.Commit.{guarded_refs, touched_refs, all_there, int
 use Rattle.server_rules.specs.Commit.{all_folded, with_changes, with_raised_counter, with_all}
 use Rattle.server_rules.specs.Commit.{concluded_commit, checked_commit, commit_by}
 use Rattle.server_rules.specs.Calls.{Call, nothing, makes, begins, leaves_attempt, reads, counts}
+use Rattle.server_rules.specs.Calls.{inside, outside}
 use Rattle.server_rules.specs.Calls.{tells_least, tells_most, sets_least, sets_most, commits}
 use Rattle.server_rules.specs.Calls.{gives_up, performed_begin, read_at, read_by, bound_set}
 use Rattle.server_rules.specs.Calls.{given_up, performed}
@@ -108,6 +109,8 @@ performed-tenant s (leaves_attempt seat) = refl
 performed-tenant s (reads seat name) =
     read-tenant seat name s (numbered.part_under seat s.mine.points) (ref_named name s)
 performed-tenant s (counts seat name) = refl
+performed-tenant s (inside seat) = refl
+performed-tenant s (outside seat) = refl
 performed-tenant s (tells_least name) = refl
 performed-tenant s (tells_most name) = refl
 performed-tenant s (sets_least name n) = bound-tenant name name.owner (with_least n) s (ref_named name s)
@@ -176,6 +179,8 @@ untold-stays s (leaves_attempt seat) e = absurd (none-some e)
 untold-stays s (reads seat name) e =
     read-untold seat name s (numbered.part_under seat s.mine.points) (ref_named name s) e
 untold-stays s (counts seat name) e = refl
+untold-stays s (inside seat) e = refl
+untold-stays s (outside seat) e = refl
 untold-stays s (tells_least name) e = refl
 untold-stays s (tells_most name) e = refl
 untold-stays s (sets_least name n) e = bound-untold name name.owner (with_least n) s (ref_named name s) e

@@ -19,6 +19,7 @@ use Rattle.server_rules.specs.Commit.{guarded_refs, touched_refs, all_there, int
 use Rattle.server_rules.specs.Commit.{all_folded, with_changes, with_raised_counter, with_all}
 use Rattle.server_rules.specs.Commit.{concluded_commit, checked_commit, commit_by}
 use Rattle.server_rules.specs.Calls.{Call, nothing, makes, begins, leaves_attempt, reads, counts}
+use Rattle.server_rules.specs.Calls.{inside, outside}
 use Rattle.server_rules.specs.Calls.{tells_least, tells_most, sets_least, sets_most, commits}
 use Rattle.server_rules.specs.Calls.{gives_up, performed_begin, read_at, read_by, bound_set}
 use Rattle.server_rules.specs.Calls.{given_up, performed}
@@ -185,6 +186,8 @@ performed-sound s (leaves_attempt seat) may sound = sound
 performed-sound s (reads seat name) may sound =
     read-sound seat name s (numbered.part_under seat s.mine.points) (ref_named name s) sound
 performed-sound s (counts seat name) may sound = sound
+performed-sound s (inside seat) may sound = sound
+performed-sound s (outside seat) may sound = sound
 performed-sound s (tells_least name) may sound = sound
 performed-sound s (tells_most name) may sound = sound
 performed-sound s (sets_least name n) may sound =

@@ -4,11 +4,13 @@ ghost use Rattle.repl_asks.specs.Inside.View.{ask_view, name_view, intent_view};
 ghost use Rattle.value_data.specs.Inside.View.{view};
 ghost use Rattle.server_rules.specs.Asking.{call_of, is_allowed, may_be_set};
 ghost use Rattle.server_rules.specs.Calls.{performed, makes, begins, reads, counts, commits};
+ghost use Rattle.server_rules.specs.Calls.{inside, outside};
 ghost use Rattle.server_rules.specs.Store.{Store};
 ghost use Rattle.server_rules.specs.Tenant.{Quiet, seat_of};
 ghost use Rattle.ref_table.specs.Refs.{Refs};
 ghost use Rattle.ref_table.specs.Standing.{counter_of};
 ghost use Rattle.ref_table.specs.Told.{setting_told};
+ghost use Rattle.tenant_refs.specs.Attempts.{Reaches};
 ghost use Rattle.tenant_refs.specs.Bounds.{least_call, most_call};
 ghost use Rattle.tenant_refs.specs.Serving.{TableServes, ServesWithAttempts, PerformsCall};
 ghost use Rattle.tenant_refs.specs.Thrice.{told_answer, AreThrice};
@@ -51,6 +53,9 @@ pub fn call(
         Ask::SetAtom { .. } | Ask::TryAtom { .. } => Ok(Some(Thrice::done())),
         Ask::NewAgent(_) | Ask::ReadAgent(_) => Ok(Some(Thrice::done())),
         Ask::AgentFault(_) | Ask::RestartAgent { .. } => Ok(Some(Thrice::done())),
+        Ask::Await(_) => Ok(Some(Thrice::done())),
+        Ask::Send(_) => Ok(stand_outside(attempts, actor)),
+        Ask::MaySend(_) => Ok(stand_inside(attempts, actor)),
         Ask::NewRef {
             value,
             min_history,
@@ -110,6 +115,28 @@ fn begin(
     }
     attempts.begin(actor, refs.begin())?;
     Ok(Some(Thrice::done()))
+}
+
+// An attempt has to run.
+fn stand_inside(attempts: &Attempts, actor: Actor) -> Option<Thrice>
+    ensures told { (s : Store) → Reaches attempts.now s
+        → told_answer result ≡ (performed s (inside (seat_of actor))).told }
+    ensures thrice { AreThrice result }
+{
+    let _point = attempts.point(actor)?;
+    Some(Thrice::done())
+}
+
+// None may run.
+fn stand_outside(attempts: &Attempts, actor: Actor) -> Option<Thrice>
+    ensures told { (s : Store) → Reaches attempts.now s
+        → told_answer result ≡ (performed s (outside (seat_of actor))).told }
+    ensures thrice { AreThrice result }
+{
+    match attempts.point(actor) {
+        Some(_) => None,
+        None => Some(Thrice::done()),
+    }
 }
 
 // A ref is read. The attempt that is to be made again is over.

@@ -34,7 +34,8 @@ use Rattle.function_names.specs.declared.function.CoreFunction.{CoreFunction}
 use Rattle.repl_asks.specs.Exchange.{BindingData, bound_value, bound_function, AskData, resolve}
 use Rattle.repl_asks.specs.Exchange.{define, enter, new_ref, begin, read, history, min_history}
 use Rattle.repl_asks.specs.Exchange.{max_history, commit, new_atom, read_atom, set_atom, try_atom}
-use Rattle.repl_asks.specs.Exchange.{new_agent, read_agent, agent_fault, restart_agent}
+use Rattle.repl_asks.specs.Exchange.{new_agent, read_agent, agent_fault, restart_agent, send}
+use Rattle.repl_asks.specs.Exchange.{may_send, await}
 use Rattle.repl_asks.specs.Exchange.{NamedFunctionData, core_function}
 use Rattle.repl_asks.specs.Exchange.{store_function, program_function, ResolutionData, names_value}
 use Rattle.repl_asks.specs.Exchange.{names_function, names_nothing, ReadingData, found, retry}
@@ -43,7 +44,8 @@ use Rattle.repl_asks.specs.Exchange.{granted, denied, AnswerData, resolution, do
 use Rattle.repl_asks.specs.Exchange.{verdict, permission, Exchanged}
 use Rattle.repl_asks.specs.Transactions.{RefNameData, ChangeData, CommuteData, CommutedData}
 use Rattle.repl_asks.specs.Transactions.{IntentData}
-use Rattle.repl_asks.specs.Job.{WorkData, form, shared_form, JobData}
+use Rattle.repl_asks.specs.Job.{WorkData, form, shared_form, action, JobData}
+use Rattle.repl_asks.specs.Sends.{TaskData, SendingData}
 use Rattle.tenant_turns.proofs.Telling.{Tells, coded, items, pair, either, by_parts}
 
 abbrev Text : Type 0
@@ -173,17 +175,48 @@ commuted_ref : Tells CommutedData
 commuted_ref = by_parts (RefNameData × List CommuteData) (pair ref_name (items commute))
     (λ c. (c.name, c.commutes)) (λ p. record { name = p.0; commutes = p.1 }) (λ _. refl)
 
-intent : Tells IntentData
-intent = by_parts (List ChangeData × (List RefNameData × List CommutedData))
-    (pair (items change) (pair (items ref_name) (items commuted_ref)))
-    (λ i. (i.sets, (i.ensured, i.commuted)))
-    (λ p. record { sets = p.0; ensured = p.1.0; commuted = p.1.1 }) (λ _. refl)
-
 function : Tells FunctionData
 function = by_parts (Text × (Text × (List Text × List Datum)))
     (pair text (pair text (pair (items text) (items datum))))
     (λ f. (f.space, (f.name, (f.params, f.body))))
     (λ p. record { space = p.0; name = p.1.0; params = p.1.1.0; body = p.1.1.1 }) (λ _. refl)
+
+abbrev NamedParts : Type 0
+NamedParts = CoreFunction ⊎ (StoreFunction ⊎ FunctionData)
+
+abbrev named_parts : NamedFunctionData → NamedParts
+named_parts (core_function f) = inl f
+named_parts (store_function f) = inr (inl f)
+named_parts (program_function f) = inr (inr f)
+
+abbrev named_whole : NamedParts → NamedFunctionData
+named_whole (inl x) = core_function x
+named_whole (inr (inl x)) = store_function x
+named_whole (inr (inr x)) = program_function x
+
+named_back : (x : NamedFunctionData) → named_whole (named_parts x) ≡ x
+named_back (core_function f) = refl
+named_back (store_function f) = refl
+named_back (program_function f) = refl
+
+named : Tells NamedFunctionData
+named = by_parts NamedParts
+    (either core (either (bare storing tt) function))
+    named_parts named_whole named_back
+
+task : Tells TaskData
+task = by_parts (NamedFunctionData × List Datum) (pair named (items datum))
+    (λ t. (t.function, t.arguments)) (λ p. record { function = p.0; arguments = p.1 }) (λ _. refl)
+
+sending : Tells SendingData
+sending = by_parts (ℕ × TaskData) (pair number task) (λ x. (x.agent, x.task))
+    (λ p. record { agent = p.0; task = p.1 }) (λ _. refl)
+
+intent : Tells IntentData
+intent = by_parts (List ChangeData × (List RefNameData × (List CommutedData × List SendingData)))
+    (pair (items change) (pair (items ref_name) (pair (items commuted_ref) (items sending))))
+    (λ i. (i.sets, (i.ensured, (i.commuted, i.sends))))
+    (λ p. record { sets = p.0; ensured = p.1.0; commuted = p.1.1.0; sends = p.1.1.1 }) (λ _. refl)
 
 binding : Tells BindingData
 binding = by_parts (Datum ⊎ FunctionData) (either datum function) parts whole back where
@@ -211,13 +244,16 @@ atom_whole (inr (inr (inr p))) = try_atom p.0 p.1.0 p.1.1
 
 -- the asks of agents
 abbrev AgentAskParts : Type 0
-AgentAskParts = Datum ⊎ (ℕ ⊎ (ℕ ⊎ (ℕ × Datum)))
+AgentAskParts = Datum ⊎ (ℕ ⊎ (ℕ ⊎ ((ℕ × Datum) ⊎ (SendingData ⊎ (SendingData ⊎ List ℕ)))))
 
 abbrev agent_whole : AgentAskParts → AskData
 agent_whole (inl d) = new_agent d
 agent_whole (inr (inl n)) = read_agent n
 agent_whole (inr (inr (inl n))) = agent_fault n
-agent_whole (inr (inr (inr p))) = restart_agent p.0 p.1
+agent_whole (inr (inr (inr (inl p)))) = restart_agent p.0 p.1
+agent_whole (inr (inr (inr (inr (inl x))))) = send x
+agent_whole (inr (inr (inr (inr (inr (inl x)))))) = may_send x
+agent_whole (inr (inr (inr (inr (inr (inr x)))))) = await x
 
 abbrev AskParts : Type 0
 AskParts = (Text × Text) ⊎ ((Text × (Text × BindingData)) ⊎ (Text ⊎ ((Datum × (ℕ × ℕ))
@@ -248,7 +284,10 @@ ask_parts (try_atom n seen next) = of_atoms (inr (inr (inr (n, (seen, next)))))
 ask_parts (new_agent d) = of_agents (inl d)
 ask_parts (read_agent n) = of_agents (inr (inl n))
 ask_parts (agent_fault n) = of_agents (inr (inr (inl n)))
-ask_parts (restart_agent n d) = of_agents (inr (inr (inr (n, d))))
+ask_parts (restart_agent n d) = of_agents (inr (inr (inr (inl (n, d)))))
+ask_parts (send x) = of_agents (inr (inr (inr (inr (inl x)))))
+ask_parts (may_send x) = of_agents (inr (inr (inr (inr (inr (inl x))))))
+ask_parts (await x) = of_agents (inr (inr (inr (inr (inr (inr x))))))
 
 abbrev ask_whole : AskParts → AskData
 ask_whole (inl p) = resolve p.0 p.1
@@ -283,12 +322,16 @@ ask_back (new_agent d) = refl
 ask_back (read_agent n) = refl
 ask_back (agent_fault n) = refl
 ask_back (restart_agent n d) = refl
+ask_back (send x) = refl
+ask_back (may_send x) = refl
+ask_back (await x) = refl
 
 atom_ask : Tells AtomAskParts
 atom_ask = either datum (either number (either (pair number datum) (pair number (pair datum datum))))
 
 agent_ask : Tells AgentAskParts
-agent_ask = either datum (either number (either number (pair number datum)))
+agent_ask = either datum (either number (either number (either (pair number datum)
+    (either sending (either sending (items number))))))
 
 ask : Tells AskData
 ask = by_parts AskParts
@@ -297,29 +340,6 @@ ask = by_parts AskParts
     (either (pair ref_name bound) (either (pair ref_name bound) (either intent
     (either atom_ask agent_ask)))))))))))
     ask_parts ask_whole ask_back
-
-abbrev NamedParts : Type 0
-NamedParts = CoreFunction ⊎ (StoreFunction ⊎ FunctionData)
-
-abbrev named_parts : NamedFunctionData → NamedParts
-named_parts (core_function f) = inl f
-named_parts (store_function f) = inr (inl f)
-named_parts (program_function f) = inr (inr f)
-
-abbrev named_whole : NamedParts → NamedFunctionData
-named_whole (inl x) = core_function x
-named_whole (inr (inl x)) = store_function x
-named_whole (inr (inr x)) = program_function x
-
-named_back : (x : NamedFunctionData) → named_whole (named_parts x) ≡ x
-named_back (core_function f) = refl
-named_back (store_function f) = refl
-named_back (program_function f) = refl
-
-named : Tells NamedFunctionData
-named = by_parts NamedParts
-    (either core (either (bare storing tt) function))
-    named_parts named_whole named_back
 
 abbrev ToldParts : Type 0
 ToldParts = Datum ⊎ (NamedFunctionData ⊎ Failure)
@@ -442,19 +462,25 @@ pub exchange : Tells Exchanged
 exchange = by_parts (AskData × AnswerData) (pair ask answer) (λ e. (e.ask, e.answer))
     (λ p. record { ask = p.0; answer = p.1 }) (λ _. refl)
 
-work : Tells WorkData
-work = by_parts (Datum ⊎ Datum) (either datum datum) parts whole back where
-  parts : WorkData → Datum ⊎ Datum
-  parts (form d) = inl d
-  parts (shared_form d) = inr d
+abbrev WorkParts : Type 0
+WorkParts = Datum ⊎ (Datum ⊎ (Datum × TaskData))
 
-  whole : Datum ⊎ Datum → WorkData
+work : Tells WorkData
+work = by_parts WorkParts (either datum (either datum (pair datum task))) parts whole back where
+  parts : WorkData → WorkParts
+  parts (form d) = inl d
+  parts (shared_form d) = inr (inl d)
+  parts (action d x) = inr (inr (d, x))
+
+  whole : WorkParts → WorkData
   whole (inl d) = form d
-  whole (inr d) = shared_form d
+  whole (inr (inl d)) = shared_form d
+  whole (inr (inr p)) = action p.0 p.1
 
   back : (w : WorkData) → whole (parts w) ≡ w
   back (form d) = refl
   back (shared_form d) = refl
+  back (action d x) = refl
 
 pub job : Tells JobData
 job = by_parts (WorkData × (Text × ℕ)) (pair work (pair text number))

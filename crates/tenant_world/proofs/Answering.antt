@@ -1,22 +1,26 @@
 -- What a form asks, beside the rules' step.
 use Rattle.std.proofs.Common.{◌≡◌, ◌^◌, ℕ, Bool, true, false, Option, None, Some, refl, sym, ap}
 use Rattle.std.proofs.Common.{◌∙◌, option_map, true≢false, if◌then◌else◌, is_some, nat_lt, ◌≢◌}
-use Rattle.std.proofs.Common.{Result, Ok, Err, IfErr}
+use Rattle.std.proofs.Common.{Result, Ok, Err, IfErr, []}
 use Rattle.std.specs.Result.{IsErrAnd}
 use Rattle.std.proofs.lemmas.Bool.{and_parts, ltb-true}
 use Rattle.repl_asks.specs.Exchange as exchange
 use Rattle.repl_asks.specs.Exchange.{AskData, AnswerData}
-use Rattle.server_rules.specs.Calls.{nothing, gives_up, performed, given_up}
+use Rattle.server_rules.specs.Calls.{nothing, gives_up, performed, given_up, told_inside}
+use Rattle.server_rules.specs.Calls.{told_outside}
 use Rattle.server_rules.specs.Ground.{Ground}
 use Rattle.server_rules.specs.Request.{Hand, Run}
 use Rattle.server_rules.specs.Store.{Store, left_attempt}
 use Rattle.server_rules.specs.Tenant.{ActorData, Quiet, seat_of}
+use Rattle.server_rules.specs.Numbered as numbered
 use Rattle.server_rules.specs.Numbered.{with_part}
+use Rattle.server_rules.specs.Performed.{as_was, tells}
 use Rattle.server_rules.specs.Asking.{asked_of, asked_running, asked_allowed, answer_outcome}
 use Rattle.server_rules.specs.Asking.{answer_to, spaces_after, quiet_after}
-use Rattle.server_rules.specs.Asking.{with_recorded_answer, call_of}
+use Rattle.server_rules.specs.Asking.{with_recorded_answer, call_of, sender_of}
 use Rattle.server_rules.specs.Asking.{is_allowed, when_told}
-use Rattle.server_rules.specs.Cells.{CellsData, cell_answer, cells_after}
+use Rattle.server_rules.specs.Cells.{CellsData, cell_answer, SenderData, is_yes, with_sends_if}
+use Rattle.server_rules.specs.Cells.{cells_after}
 use Rattle.server_rules.specs.Starting.{interrupted_in}
 use Rattle.server_rules.specs.Plan.{Plan, refuses, leaves, with_step_spent, ask_answered, quietly}
 use Rattle.server_rules.specs.declared.actor.Actor.{Actor}
@@ -27,6 +31,7 @@ use Rattle.tenant_world.specs.Memories.{Remembers}
 use Rattle.tenant_world.specs.Acting.{AcceptsOutcome, RefusesOutcome, is_accepted}
 use Rattle.tenant_world.specs.Asking.{is_of_names, is_of_cells, answered_plan, exchange_from, run_with}
 use Rattle.tenant_world.specs.Asking.{hand_with, with_exchange}
+use Rattle.tenant_world.specs.Sends.{committed_sends}
 use Rattle.tenant_refs.proofs.Soundness.{MayBe}
 
 -- Asks of names, of atoms and agents, and of refs
@@ -50,17 +55,37 @@ names-nothing seat (exchange.new_agent d) names = absurd (true≢false (sym name
 names-nothing seat (exchange.read_agent n) names = absurd (true≢false (sym names))
 names-nothing seat (exchange.agent_fault n) names = absurd (true≢false (sym names))
 names-nothing seat (exchange.restart_agent n d) names = absurd (true≢false (sym names))
+names-nothing seat (exchange.send s) names = absurd (true≢false (sym names))
+names-nothing seat (exchange.may_send s) names = absurd (true≢false (sym names))
+names-nothing seat (exchange.await ns) names = absurd (true≢false (sym names))
 
-pub cells-nothing : (seat : ℕ) (ask : AskData) → is_of_cells ask ≡ true → call_of seat ask ≡ nothing
-cells-nothing seat (exchange.new_atom d) cells = refl
-cells-nothing seat (exchange.read_atom n) cells = refl
-cells-nothing seat (exchange.set_atom n d) cells = refl
-cells-nothing seat (exchange.try_atom n seen next) cells = refl
-cells-nothing seat (exchange.new_agent d) cells = refl
-cells-nothing seat (exchange.read_agent n) cells = refl
-cells-nothing seat (exchange.agent_fault n) cells = refl
-cells-nothing seat (exchange.restart_agent n d) cells = refl
-cells-nothing seat _ cells = absurd (true≢false (sym cells))
+stands-outside : (s : Store) (found : Option ℕ) → is_some (told_outside found) ≡ true
+    → as_was s (told_outside found) ≡ tells exchange.done s
+stands-outside s None told = refl
+stands-outside s (Some point) told = absurd (true≢false (sym told))
+
+stands-inside : (s : Store) (found : Option ℕ) → is_some (told_inside found) ≡ true
+    → as_was s (told_inside found) ≡ tells exchange.done s
+stands-inside s None told = absurd (true≢false (sym told))
+stands-inside s (Some point) told = refl
+
+-- of atoms and agents the refs tell no more than that the ask may stand where it does
+pub cells-told : (seat : ℕ) (ask : AskData) (s : Store) → is_of_cells ask ≡ true
+    → is_some (performed s (call_of seat ask)).told ≡ true
+    → performed s (call_of seat ask) ≡ tells exchange.done s
+cells-told seat (exchange.new_atom d) s cells told = refl
+cells-told seat (exchange.read_atom n) s cells told = refl
+cells-told seat (exchange.set_atom n d) s cells told = refl
+cells-told seat (exchange.try_atom n seen next) s cells told = refl
+cells-told seat (exchange.new_agent d) s cells told = refl
+cells-told seat (exchange.read_agent n) s cells told = refl
+cells-told seat (exchange.agent_fault n) s cells told = refl
+cells-told seat (exchange.restart_agent n d) s cells told = refl
+cells-told seat (exchange.send x) s cells told =
+    stands-outside s (numbered.part_under seat s.mine.points) told
+cells-told seat (exchange.may_send x) s cells told =
+    stands-inside s (numbered.part_under seat s.mine.points) told
+cells-told seat _ s cells told = absurd (true≢false (sym cells))
 
 -- no namespace changes with an atom or an agent
 pub cells-spaces : (ask : AskData) (q : Quiet) → is_of_cells ask ≡ true
@@ -73,6 +98,8 @@ cells-spaces (exchange.new_agent d) q cells = refl
 cells-spaces (exchange.read_agent n) q cells = refl
 cells-spaces (exchange.agent_fault n) q cells = refl
 cells-spaces (exchange.restart_agent n d) q cells = refl
+cells-spaces (exchange.send s) q cells = refl
+cells-spaces (exchange.may_send s) q cells = refl
 cells-spaces _ q cells = absurd (true≢false (sym cells))
 
 pub cells-answer : (g : Ground) (a : Actor) (q : Quiet) (ask : AskData) (c : CellsData)
@@ -93,43 +120,57 @@ cells-answer g a q (exchange.agent_fault n) c told cells same =
     ap (λ x. cell_answer (exchange.agent_fault n) x told) same
 cells-answer g a q (exchange.restart_agent n d) c told cells same =
     ap (λ x. cell_answer (exchange.restart_agent n d) x told) same
+cells-answer g a q (exchange.send s) c told cells same =
+    ap (λ x. cell_answer (exchange.send s) x told) same
+cells-answer g a q (exchange.may_send s) c told cells same =
+    ap (λ x. cell_answer (exchange.may_send s) x told) same
 cells-answer g a q _ c told cells same = absurd (true≢false (sym cells))
 
--- of refs the answer is what they told, and no namespace, atom or agent changes
-pub record AreRefs (g : Ground) (a : Actor) (q : Quiet) (ask : AskData) (told : AnswerData)
-    : Type 0 where
+-- of refs the answer is what they told, no namespace changes, and a commit sends
+pub record AreRefs (g : Ground) (a : Actor) (sender : SenderData) (q : Quiet) (ask : AskData)
+    (told : AnswerData) : Type 0 where
   pub is : told ≡ answer_to g a q ask told
   pub spaces : q.spaces ≡ spaces_after ask q.spaces
-  pub cells : q.cells ≡ cells_after ask q.cells
+  pub cells : with_sends_if (is_yes told) sender (committed_sends ask) q.cells
+      ≡ cells_after sender ask told q.cells
 
-pub refs-told : (g : Ground) (a : Actor) (q : Quiet) (ask : AskData) (told : AnswerData)
-    → is_of_names ask ≡ false → is_of_cells ask ≡ false → AreRefs g a q ask told
-refs-told g a q (exchange.resolve namespace symbol) told names cells = absurd (true≢false names)
-refs-told g a q (exchange.define namespace name binding) told names cells =
+nothing-sent : (b : Bool) (sender : SenderData) (c : CellsData) → with_sends_if b sender [] c ≡ c
+nothing-sent true sender c = refl
+nothing-sent false sender c = refl
+
+pub refs-told : (g : Ground) (a : Actor) (sender : SenderData) (q : Quiet) (ask : AskData)
+    (told : AnswerData) → is_of_names ask ≡ false → is_of_cells ask ≡ false
+    → AreRefs g a sender q ask told
+refs-told g a sender q (exchange.resolve namespace symbol) told names cells = absurd (true≢false names)
+refs-told g a sender q (exchange.define namespace name binding) told names cells =
     absurd (true≢false names)
-refs-told g a q (exchange.enter name) told names cells = absurd (true≢false names)
-refs-told g a q (exchange.new_atom d) told names cells = absurd (true≢false cells)
-refs-told g a q (exchange.read_atom n) told names cells = absurd (true≢false cells)
-refs-told g a q (exchange.set_atom n d) told names cells = absurd (true≢false cells)
-refs-told g a q (exchange.try_atom n seen next) told names cells = absurd (true≢false cells)
-refs-told g a q (exchange.new_agent d) told names cells = absurd (true≢false cells)
-refs-told g a q (exchange.read_agent n) told names cells = absurd (true≢false cells)
-refs-told g a q (exchange.agent_fault n) told names cells = absurd (true≢false cells)
-refs-told g a q (exchange.restart_agent n d) told names cells = absurd (true≢false cells)
-refs-told g a q (exchange.new_ref d least most) told names cells =
+refs-told g a sender q (exchange.enter name) told names cells = absurd (true≢false names)
+refs-told g a sender q (exchange.new_atom d) told names cells = absurd (true≢false cells)
+refs-told g a sender q (exchange.read_atom n) told names cells = absurd (true≢false cells)
+refs-told g a sender q (exchange.set_atom n d) told names cells = absurd (true≢false cells)
+refs-told g a sender q (exchange.try_atom n seen next) told names cells = absurd (true≢false cells)
+refs-told g a sender q (exchange.new_agent d) told names cells = absurd (true≢false cells)
+refs-told g a sender q (exchange.read_agent n) told names cells = absurd (true≢false cells)
+refs-told g a sender q (exchange.agent_fault n) told names cells = absurd (true≢false cells)
+refs-told g a sender q (exchange.restart_agent n d) told names cells = absurd (true≢false cells)
+refs-told g a sender q (exchange.new_ref d least most) told names cells =
+    record { is = refl; spaces = refl; cells = nothing-sent (is_yes told) sender q.cells }
+refs-told g a sender q exchange.begin told names cells =
+    record { is = refl; spaces = refl; cells = nothing-sent (is_yes told) sender q.cells }
+refs-told g a sender q (exchange.read name) told names cells =
+    record { is = refl; spaces = refl; cells = nothing-sent (is_yes told) sender q.cells }
+refs-told g a sender q (exchange.history name) told names cells =
+    record { is = refl; spaces = refl; cells = nothing-sent (is_yes told) sender q.cells }
+refs-told g a sender q (exchange.min_history name set) told names cells =
+    record { is = refl; spaces = refl; cells = nothing-sent (is_yes told) sender q.cells }
+refs-told g a sender q (exchange.max_history name set) told names cells =
+    record { is = refl; spaces = refl; cells = nothing-sent (is_yes told) sender q.cells }
+refs-told g a sender q (exchange.commit intent) told names cells =
     record { is = refl; spaces = refl; cells = refl }
-refs-told g a q exchange.begin told names cells =
-    record { is = refl; spaces = refl; cells = refl }
-refs-told g a q (exchange.read name) told names cells =
-    record { is = refl; spaces = refl; cells = refl }
-refs-told g a q (exchange.history name) told names cells =
-    record { is = refl; spaces = refl; cells = refl }
-refs-told g a q (exchange.min_history name set) told names cells =
-    record { is = refl; spaces = refl; cells = refl }
-refs-told g a q (exchange.max_history name set) told names cells =
-    record { is = refl; spaces = refl; cells = refl }
-refs-told g a q (exchange.commit intent) told names cells =
-    record { is = refl; spaces = refl; cells = refl }
+refs-told g a sender q (exchange.send s) told names cells = absurd (true≢false cells)
+refs-told g a sender q (exchange.may_send s) told names cells = absurd (true≢false cells)
+refs-told g a sender q (exchange.await ns) told names cells =
+    record { is = refl; spaces = refl; cells = nothing-sent (is_yes told) sender q.cells }
 
 -- the bounds of what is allowed are numbers of the language
 pub allowed-may : (seat : ℕ) (ask : AskData) (q : Quiet) → is_allowed ask q.cells ≡ true
@@ -156,6 +197,9 @@ allowed-may seat (exchange.new_agent d) q allowed = tt
 allowed-may seat (exchange.read_agent n) q allowed = tt
 allowed-may seat (exchange.agent_fault n) q allowed = tt
 allowed-may seat (exchange.restart_agent n d) q allowed = tt
+allowed-may seat (exchange.send s) q allowed = tt
+allowed-may seat (exchange.may_send s) q allowed = tt
+allowed-may seat (exchange.await ns) q allowed = tt
 
 -- what the code says of an ask, where it remembers these atoms and agents
 pub allowed-so : {b v : Bool} (ask : AskData) {c d : CellsData} → c ≡ d → b ≡ is_allowed ask c → b ≡ v
@@ -168,11 +212,12 @@ pub acted-answer_outcome : (g : Ground) (t : ℕ) (m : Memory) (a : Actor) (acto
     (run : Run) (ask : AskData) (q : Quiet) (told kept given : AnswerData)
     → actor.hand ≡ Some h → h.running ≡ Some run
     → new ≡ with_exchange (exchange_from ask kept) actor → kept ≡ answer_to g a q ask told
-    → given ≡ kept → Remembers g t m (quiet_after ask q)
+    → given ≡ kept → Remembers g t m (quiet_after (sender_of a h) ask kept q)
     → AcceptsOutcome g t a q (answer_outcome g a actor h run ask q told) m new (ask_answered given)
 acted-answer_outcome g t m a actor new h run ask q told kept given hand running put is same r =
     let answer = answer_to g a q ask told in
-    let after = with_recorded_answer a actor h run ask answer (quiet_after ask q) in
+    let later = quiet_after (sender_of a h) ask answer q in
+    let after = with_recorded_answer a actor h run ask answer later in
     record {
       after = after;
       accepted = ap (λ x. leaves (with_step_spent after) (ask_answered x)) (sym (same ∙ is));
@@ -181,7 +226,7 @@ acted-answer_outcome g t m a actor new h run ask q told kept given hand running 
         bare = r.bare;
         spaces = r.spaces;
         names = r.names;
-        cells = r.cells;
+        cells = r.cells ∙ ap (λ x. cells_after (sender_of a h) ask x q.cells) is;
         replies = r.replies;
       };
       actors = ap (λ x. with_part (seat_of a) x q.actors) (sym (put
@@ -299,6 +344,9 @@ untold-so (Some answer) never = absurd (true≢false (sym never))
 pub refused-so : {A : Type 0} (why so : Refusal)
     → ◌≡◌ {A = Result A Refusal} (Err why) (Err so) → why ≡ so
 refused-so why so same = cc
+
+pub held-so : (x y : Hand) → ◌≡◌ {A = Option Hand} (Some x) (Some y) → x ≡ y
+held-so x y same = cc
 
 -- an ask is refused so for which there was no memory
 pub declined-without : (g : Ground) (s : Store) (a : Actor) (actor : ActorData) (h : Hand) (run : Run)

@@ -4,6 +4,7 @@ pub mod Enough
 pub mod Lent
 pub mod Standing
 pub mod Draining
+pub mod Sending
 pub mod Answering
 pub mod Answered
 pub mod Ends

@@ -4,6 +4,7 @@ use Rattle.repl_asks.specs.Exchange as exchange
 use Rattle.repl_asks.specs.Exchange.{AskData, AnswerData, Exchanged}
 use Rattle.server_rules.specs.Performed.{Performed}
 use Rattle.server_rules.specs.Store.{Store}
+use Rattle.server_rules.specs.Cells.{SenderData}
 use Rattle.server_rules.specs.Ground.{Ground}
 use Rattle.server_rules.specs.Request.{Hand, Run}
 use Rattle.server_rules.specs.Tenant.{ActorData, Quiet, seat_of}
@@ -33,6 +34,8 @@ is_of_cells (exchange.new_agent d) = true
 is_of_cells (exchange.read_agent n) = true
 is_of_cells (exchange.agent_fault n) = true
 is_of_cells (exchange.restart_agent n d) = true
+is_of_cells (exchange.send s) = true
+is_of_cells (exchange.may_send s) = true
 is_of_cells _ = false
 
 -- the plan of an ask that breaks no rule of its own, of a session that is open
@@ -43,13 +46,13 @@ answered_plan g a actor h run ask q = record {
 }
 
 -- the refs told something, of which this answer is made, and all is as the rules leave it
-pub record Answers (g : Ground) (t : ℕ) (a : Actor) (q : Quiet) (ask : AskData)
+pub record Answers (g : Ground) (t : ℕ) (a : Actor) (sender : SenderData) (q : Quiet) (ask : AskData)
     (p : Performed Store) (m : Memory) (table : RingRefTable) (attempts : Attempts) (r : Refs)
     (answer : AnswerData) : Type 0 where
   pub told : AnswerData
   pub is_told : p.told ≡ Some told
   pub is : answer ≡ answer_to g a q ask told
-  pub remembers : Remembers g t m (quiet_after ask q)
+  pub remembers : Remembers g t m (quiet_after sender ask answer q)
   pub holds : ServesWithAttempts table attempts p.store (refs_after p.store r)
 
 abbrev pub exchange_from : AskData → AnswerData → Exchanged

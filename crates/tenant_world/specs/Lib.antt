@@ -9,3 +9,4 @@ pub mod Rooms
 pub mod Asking
 pub mod Running
 pub mod Standing
+pub mod Sends

@@ -1,7 +1,7 @@
 // A form asks.
 ghost use Rattle.std.specs.Prelude.{◌≡◌, ◌≢◌, ◌<◌, ◌≤◌, ◌+◌, ◌∷◌, [], true, false, None, Some, Err};
-ghost use Rattle.std.specs.Prelude.{IfOk, OnOk, IfErr, OnErr, MatchOption, is_some, IsNone};
-ghost use Rattle.repl_asks.specs.Inside.View.{ask_view};
+ghost use Rattle.std.specs.Prelude.{IfOk, OnOk, IfErr, OnErr, MatchOption, is_some, map, IsNone};
+ghost use Rattle.repl_asks.specs.Inside.View.{ask_view, sending_view};
 ghost use Rattle.repl_replies.specs.Replies.{interrupted};
 ghost use Rattle.repl_replies.specs.Inside.View.{origin_view};
 ghost use Rattle.server_rules.specs.Ground.{Ground};
@@ -9,12 +9,13 @@ ghost use Rattle.server_rules.specs.Request as rules;
 ghost use Rattle.server_rules.specs.Tenant.{Quiet, seat_of, with_replies};
 ghost use Rattle.server_rules.specs.Replying.{reply};
 ghost use Rattle.server_rules.specs.Calls.{performed};
+ghost use Rattle.server_rules.specs.Cells.{with_sends_if};
 ghost use Rattle.server_rules.specs.Store.{Store, left_attempt};
-ghost use Rattle.server_rules.specs.Asking.{asked_of, call_of};
+ghost use Rattle.server_rules.specs.Asking.{asked_of, call_of, sender_of};
 ghost use Rattle.server_rules.specs.Asking as meant;
 ghost use Rattle.ref_table.specs.Refs.{Refs, refs_after};
 ghost use Rattle.ref_table.specs.Standing.{counter_of};
-ghost use Rattle.tenant_actors.specs.View.{actor_view};
+ghost use Rattle.tenant_actors.specs.View.{actor_view, hand_view};
 ghost use Rattle.tenant_turns.specs.DeedResult.{carried_out};
 ghost use Rattle.tenant_world.specs.Memories.{Remembers, opened_by};
 ghost use Rattle.tenant_world.specs.Answers.{ask_answer_view, AreSameAnswers};
@@ -22,10 +23,11 @@ ghost use Rattle.tenant_world.specs.Acting.{AcceptsOutcome, RefusesOutcome, IsAc
 ghost use Rattle.tenant_world.specs.Acting.{is_accepted};
 ghost use Rattle.tenant_world.specs.Asking.{Answers, answered_plan, is_of_names};
 ghost use Rattle.tenant_world.specs.Asking.{is_of_cells};
+ghost use Rattle.tenant_world.specs.Sends.{committed_sends, is_told_yes, sender_view};
 ghost use Rattle.tenant_world.specs.Cells.{cells_data};
 ghost use Rattle.tenant_world.specs.Rooms.{ActorHasRoom};
-ghost use Rattle.tenant_refs.specs.Serving.{ServesWithAttempts};
-ghost use Rattle.tenant_refs.specs.Thrice.{thrice_view, AreThrice};
+ghost use Rattle.tenant_refs.specs.Serving.{PerformsCall, ServesWithAttempts};
+ghost use Rattle.tenant_refs.specs.Thrice.{thrice_view, told_answer, AreThrice};
 
 use crate::acting::interrupt;
 use crate::answers::{AskAnswer, AskAnswers};
@@ -33,13 +35,15 @@ use crate::cells::Cells;
 use crate::keeping::{keep, make_room};
 use crate::memory::Memory;
 use crate::naming::name;
+use crate::sends;
+use crate::sends::Sender;
 use ref_history::RingHistory;
 use ref_table::RefTable;
-use repl_asks::{Ask, Exchange, is_fixed};
+use repl_asks::{Ask, Exchange, Sending, is_fixed};
 use repl_replies::Origin;
 use server_rules::{Actor, Refusal};
 use std::alloc::{AllocError, Global};
-use tenant_actors::ActorState;
+use tenant_actors::{ActorState, Hand};
 use tenant_refs::{Attempts, Thrice, call, is_told};
 
 // The first number that is none of the language.
@@ -97,7 +101,7 @@ pub(crate) fn ask(
 
 // Whether the ask breaks no rule of its own: nothing is defined in a namespace that is fixed, nor
 // is it entered, the bounds of a history are numbers of the language, and atoms and agents are
-// there.
+// there. No agent is awaited yet.
 fn is_allowed(cells: &Cells, ask: &Ask) -> bool
     ensures { result ≡ meant.is_allowed (ask_view ask.now) (cells_data cells.now) }
 {
@@ -117,7 +121,10 @@ fn is_allowed(cells: &Cells, ask: &Ask) -> bool
         Ask::ReadAgent(number) | Ask::AgentFault(number) | Ask::RestartAgent { number, .. } => {
             cells.has_agent(*number)
         }
-        Ask::Resolve { .. } | Ask::Begin | Ask::Read(_) | Ask::History(_) | Ask::Commit(_) => true,
+        Ask::Send(sending) | Ask::MaySend(sending) => cells.has_agent(sending.agent),
+        Ask::Commit(intent) => cells.has_receivers(intent.sends.as_slice()),
+        Ask::Await(_) => false,
+        Ask::Resolve { .. } | Ask::Begin | Ask::Read(_) | Ask::History(_) => true,
         Ask::NewAtom(_) | Ask::NewAgent(_) => true,
     }
 }
@@ -180,7 +187,8 @@ fn answer(
     state: &mut ActorState,
     ask: &Ask,
 ) -> Result<AskAnswers, Refusal>
-    requires { counter_of refs.old < u128.MAX }
+    requires counted { counter_of refs.old < u128.MAX }
+    requires hand { is_some state.old.hand ≡ true }
     ensures acted { (g : Ground) (q : Quiet) (s : Store) (r : Refs) (h : rules.Hand)
         (run : rules.Run) → Remembers g s.tenant memory.old q
         → ServesWithAttempts refs.old attempts.old s r
@@ -214,7 +222,10 @@ fn answer(
     let Ok(asked) = copied_with_room(state, ask) else {
         return Err(why_refused(alloc, refs, attempts, actor, ask));
     };
-    let Ok(told) = perform_ask(alloc, memory, refs, attempts, actor, ask) else {
+    let Some(hand) = &state.hand else {
+        unreachable!()
+    };
+    let Ok(told) = perform_ask(alloc, memory, refs, attempts, actor, hand, ask) else {
         return Err(why_refused(alloc, refs, attempts, actor, ask));
     };
     let Some(answer) = told else {
@@ -276,6 +287,7 @@ fn perform_ask(
     refs: &mut RefTable<RingHistory>,
     attempts: &mut Attempts,
     actor: Actor,
+    hand: &Hand,
     ask: &Ask,
 ) -> Result<Option<Thrice>, AllocError>
     requires { counter_of refs.old < u128.MAX }
@@ -286,8 +298,8 @@ fn perform_ask(
         IfOk result (λ it. MatchOption it
         ((p.told ≡ None) × Remembers g s.tenant memory.new q
         × ServesWithAttempts refs.new attempts.new s r)
-        (λ answer. Answers g s.tenant actor q (ask_view ask.now) p memory.new refs.new attempts.new
-        r (thrice_view answer))) }
+        (λ answer. Answers g s.tenant actor (sender_of actor (hand_view hand.now)) q
+        (ask_view ask.now) p memory.new refs.new attempts.new r (thrice_view answer))) }
     ensures stays { (g : Ground) (q : Quiet) (s : Store) (r : Refs)
         → Remembers g s.tenant memory.old q → ServesWithAttempts refs.old attempts.old s r
         → OnErr result (Remembers g s.tenant memory.new q
@@ -301,10 +313,58 @@ fn perform_ask(
     if is_of_names(ask) {
         return Ok(Some(name(alloc, memory, actor, ask)?));
     }
+    let sender = Sender::of(actor, hand);
     if is_of_cells(ask) {
-        return Ok(Some(memory.cells.ask(alloc, ask)?));
+        if !is_told(alloc, refs, attempts, actor, ask) {
+            return Ok(None);
+        }
+        return Ok(Some(memory.cells.ask(alloc, sender, ask)?));
     }
-    call(alloc, refs, attempts, actor, ask)
+    call_and_send(alloc, &mut memory.cells, refs, attempts, actor, sender, ask)
+}
+
+// What the refs tell; where a commit is told to be made, also what it sends is sent. It fails only
+// for want of memory. Then, and where nothing is told, nothing has changed.
+fn call_and_send(
+    alloc: Global,
+    cells: &mut Cells,
+    refs: &mut RefTable<RingHistory>,
+    attempts: &mut Attempts,
+    actor: Actor,
+    sender: Sender<'_>,
+    ask: &Ask,
+) -> Result<Option<Thrice>, AllocError>
+    requires { counter_of refs.old < u128.MAX }
+    ensures called { (q : Quiet) (s : Store) (r : Refs)
+        → ServesWithAttempts refs.old attempts.old s r
+        → meant.is_allowed (ask_view ask.now) q.cells ≡ true
+        → IfOk result (λ it. PerformsCall refs.new attempts.new r (told_answer it)
+        (performed s (call_of (seat_of actor) (ask_view ask.now)))) }
+    ensures sent { IfOk result (λ it. cells_data cells.new
+        ≡ with_sends_if (is_told_yes (told_answer it)) (sender_view sender.entry)
+        (committed_sends (ask_view ask.now)) (cells_data cells.old)) }
+    ensures stays { (s : Store) (r : Refs) → ServesWithAttempts refs.old attempts.old s r
+        → OnErr result (ServesWithAttempts refs.new attempts.new s r) }
+    ensures unsent { OnErr result (cells_data cells.new ≡ cells_data cells.old) }
+    ensures counter { counter_of refs.new ≤ counter_of refs.old + 1 }
+    ensures untold { IfOk result (λ it. IsNone it → counter_of refs.new ≡ counter_of refs.old) }
+    ensures failed { OnErr result (counter_of refs.new ≡ counter_of refs.old) }
+    ensures thrice { IfOk result AreThrice }
+{
+    let prepared = sends::prepare(alloc, &mut cells.agents, sender, sends_of(ask))?;
+    let told = call(alloc, refs, attempts, actor, ask)?;
+    sends::settle(&mut cells.agents, &told, prepared);
+    Ok(told)
+}
+
+// What is sent where a commit is told to be made. Nothing else that the refs tell sends.
+fn sends_of(ask: &Ask) -> &[Sending]
+    ensures { map sending_view result.now ≡ committed_sends (ask_view ask.now) }
+{
+    match ask {
+        Ask::Commit(intent) => intent.sends.as_slice(),
+        _ => &[],
+    }
 }
 
 fn is_of_names(ask: &Ask) -> bool
@@ -329,5 +389,7 @@ fn is_of_cells(ask: &Ask) -> bool
             | Ask::ReadAgent(_)
             | Ask::AgentFault(_)
             | Ask::RestartAgent { .. }
+            | Ask::Send(_)
+            | Ask::MaySend(_)
     )
 }

@@ -1,16 +1,18 @@
 // The atoms and agents of a tenant, and what a form asks of them.
-ghost use Rattle.std.specs.Prelude.{◌≡◌, true, is_some, IfOk, OnOk, OnErr};
+ghost use Rattle.std.specs.Prelude.{◌≡◌, true, is_some, map, IfOk, OnErr};
 ghost use Rattle.repl_asks.specs.Exchange.{done};
-ghost use Rattle.repl_asks.specs.Inside.View.{ask_view};
+ghost use Rattle.repl_asks.specs.Inside.View.{ask_view, sending_view};
 ghost use Rattle.server_rules.specs.Cells as meant;
 ghost use Rattle.server_rules.specs.Cells.{cell_answer, cells_after};
 ghost use Rattle.tenant_refs.specs.Thrice.{thrice_view, IsThrice};
 ghost use Rattle.tenant_world.specs.Asking.{is_of_cells};
 ghost use Rattle.tenant_world.specs.Cells.{cells_data};
+ghost use Rattle.tenant_world.specs.Sends.{sender_view};
 
-use crate::{agents, atoms};
+use crate::sends::Sender;
+use crate::{agents, atoms, sends};
 use private_cells::{Agents, Atoms};
-use repl_asks::Ask;
+use repl_asks::{Ask, Sending};
 use std::alloc::{AllocError, Global};
 use tenant_refs::Thrice;
 
@@ -33,14 +35,32 @@ impl Cells {
         self.agents.read(number).is_some()
     }
 
+    pub(crate) fn has_receivers(&self, sends: &[Sending]) -> bool
+        ensures { result
+            ≡ meant.has_receivers (map sending_view sends.now) (cells_data self.now) }
+    {
+        for sending in sends {
+            if !self.has_agent(sending.agent) {
+                return false;
+            }
+        }
+        true
+    }
+
     /// Answers an ask of atoms or agents, and does what is asked. It fails only for want of memory,
     /// and has then changed nothing.
-    pub(crate) fn ask(&mut self, alloc: Global, ask: &Ask) -> Result<Thrice, AllocError>
+    pub(crate) fn ask(
+        &mut self,
+        alloc: Global,
+        sender: Sender<'_>,
+        ask: &Ask,
+    ) -> Result<Thrice, AllocError>
         requires { is_of_cells (ask_view ask.now) ≡ true }
         ensures answered { IfOk result (λ it. thrice_view it
             ≡ cell_answer (ask_view ask.now) (cells_data self.old) done) }
-        ensures changed { OnOk result (cells_data self.new
-            ≡ cells_after (ask_view ask.now) (cells_data self.old)) }
+        ensures changed { IfOk result (λ it. cells_data self.new
+            ≡ cells_after (sender_view sender.entry) (ask_view ask.now) (thrice_view it)
+            (cells_data self.old)) }
         ensures stays { OnErr result (cells_data self.new ≡ cells_data self.old) }
         ensures thrice { IfOk result IsThrice }
     {
@@ -57,6 +77,8 @@ impl Cells {
             Ask::RestartAgent { number, state } => {
                 agents::restart(alloc, &mut self.agents, *number, state)
             }
+            Ask::Send(sending) => sends::send(alloc, &mut self.agents, sender, sending),
+            Ask::MaySend(sending) => sends::permission(alloc, &self.agents, sending.agent),
             _ => unreachable!(),
         }
     }

@@ -13,6 +13,7 @@ mod keeping;
 mod lending;
 mod memory;
 mod naming;
+mod sends;
 mod showing;
 mod starting;
 mod steps;

@@ -1,10 +1,11 @@
 // What a form asks of names.
 ghost use Rattle.std.specs.Prelude.{◌≡◌, ℕ, true, IfOk, OnOk, OnErr};
 ghost use Rattle.value_data.specs.Inside.View.{view};
-ghost use Rattle.repl_asks.specs.Exchange.{done};
+ghost use Rattle.repl_asks.specs.Exchange.{AnswerData, done};
 ghost use Rattle.repl_asks.specs.Inside.View.{ask_view, answer_view, resolution_view};
 ghost use Rattle.repl_sessions.specs.Inside.StateView.{state_view};
 ghost use Rattle.name_spaces.specs.Inside.Seen.{found_view};
+ghost use Rattle.server_rules.specs.Cells.{SenderData};
 ghost use Rattle.server_rules.specs.Ground.{Ground};
 ghost use Rattle.server_rules.specs.Tenant.{Quiet, actor_state};
 ghost use Rattle.server_rules.specs.Asking.{answer_to, quiet_after};
@@ -31,10 +32,10 @@ pub(crate) fn name(
     ask: &Ask,
 ) -> Result<Thrice, AllocError>
     requires { is_of_names (ask_view ask.now) ≡ true }
-    ensures answered { (g : Ground) (t : ℕ) (q : Quiet)
+    ensures answered { (g : Ground) (t : ℕ) (sender : SenderData) (q : Quiet)
         → Remembers g t memory.old q → IfOk result (λ it.
         (thrice_view it ≡ answer_to g actor q (ask_view ask.now) done)
-        × Remembers g t memory.new (quiet_after (ask_view ask.now) q)) }
+        × Remembers g t memory.new (quiet_after sender (ask_view ask.now) (thrice_view it) q)) }
     ensures stays { (g : Ground) (t : ℕ) (q : Quiet) → Remembers g t memory.old q
         → OnErr result (Remembers g t memory.new q) }
     ensures opened { opened_by memory.new ≡ opened_by memory.old }
@@ -98,8 +99,9 @@ fn latest_of(state: &SessionState, latest: Latest) -> &Value
 // A name is bound, or a namespace made. It fails only for want of memory, and then changes nothing.
 fn change(alloc: Global, memory: &mut Memory, ask: &Ask) -> Result<(), AllocError>
     requires { is_of_names (ask_view ask.now) ≡ true }
-    ensures changed { (g : Ground) (t : ℕ) (q : Quiet) → Remembers g t memory.old q
-        → OnOk result (Remembers g t memory.new (quiet_after (ask_view ask.now) q)) }
+    ensures changed { (g : Ground) (t : ℕ) (sender : SenderData) (answer : AnswerData)
+        (q : Quiet) → Remembers g t memory.old q
+        → OnOk result (Remembers g t memory.new (quiet_after sender (ask_view ask.now) answer q)) }
     ensures stays { (g : Ground) (t : ℕ) (q : Quiet) → Remembers g t memory.old q
         → OnErr result (Remembers g t memory.new q) }
     ensures opened { opened_by memory.new ≡ opened_by memory.old }

@@ -9,6 +9,7 @@ ghost use Rattle.repl_asks.specs.Inside.View.{ask_view, binding_view, exchange_v
 use crate::answers::same_answer;
 use crate::functions::same_function;
 use crate::intents::{same_intent, same_name};
+use crate::sends::same_sending;
 use crate::values::{same_text, same_value};
 use repl_asks::{Ask, Binding, Exchange};
 use repl_values::Value;
@@ -66,6 +67,9 @@ pub fn same_ask(left: &Ask, right: &Ask) -> bool
         (Ask::ReadAgent(a), Ask::ReadAgent(b)) => a == b,
         (Ask::AgentFault(a), Ask::AgentFault(b)) => a == b,
         (Ask::RestartAgent { number, state }, _) => restarts_agent(right, *number, state),
+        (Ask::Send(a), Ask::Send(b)) => same_sending(a, b),
+        (Ask::MaySend(a), Ask::MaySend(b)) => same_sending(a, b),
+        (Ask::Await(a), Ask::Await(b)) => a.as_slice() == b.as_slice(),
         _ => false,
     }
 }

@@ -6,18 +6,20 @@ ghost use Rattle.value_data.specs.Inside.View.{view};
 ghost use Rattle.repl_asks.specs.Inside.View.{name_view, change_view, intent_view};
 ghost use Rattle.repl_asks.specs.Inside.View.{commute_view, commuted_view};
 
+use crate::sends::same_sends;
 use crate::values::same_value;
 use repl_asks::{Change, Commute, Commuted, Intent};
 use repl_values::{RefName, Value};
 
-/// Whether the same refs get the same values, the same refs are ensured, and the same is applied to
-/// the same refs, in the same order.
+/// Whether the same refs get the same values, the same refs are ensured, the same is applied to the
+/// same refs, and the same is sent to the same agents, in the same order.
 pub fn same_intent(left: &Intent, right: &Intent) -> bool
     ensures { IsTrue result ↔ (intent_view left.now ≡ intent_view right.now) }
 {
     same_changes(left.sets.as_slice(), right.sets.as_slice())
         && same_names(left.ensured.as_slice(), right.ensured.as_slice())
         && same_commuted(left.commuted.as_slice(), right.commuted.as_slice())
+        && same_sends(left.sends.as_slice(), right.sends.as_slice())
 }
 
 fn same_change(left: &Change, right: &Change) -> bool
@@ -102,7 +104,7 @@ fn same_commute(left: &Commute, right: &Commute) -> bool
 }
 
 // Whether the arguments are the same, in order.
-fn same_arguments(left: &[Value], right: &[Value]) -> bool
+pub(crate) fn same_arguments(left: &[Value], right: &[Value]) -> bool
     ensures { IsTrue result ↔ (map view left.now ≡ map view right.now) }
 {
     if left.len() != right.len() {

@@ -2,6 +2,7 @@
 ghost use Rattle.std.specs.Prelude.{◌≡◌, ◌↔◌, IsTrue};
 ghost use Rattle.repl_asks.specs.Inside.Jobs.{work_view, job_view};
 
+use crate::sends::same_task;
 use crate::values::{same_text, same_value};
 use repl_asks::{Job, Work};
 
@@ -12,6 +13,7 @@ pub fn same_work(left: &Work, right: &Work) -> bool
     match (left, right) {
         (Work::Form(a), Work::Form(b)) => same_value(a, b),
         (Work::SharedForm(a), Work::SharedForm(b)) => same_value(a, b),
+        (Work::Action(a, s), Work::Action(b, t)) => same_value(a, b) && same_task(s, t),
         _ => false,
     }
 }

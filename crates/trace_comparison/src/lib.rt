@@ -13,6 +13,7 @@ mod functions;
 mod intents;
 mod jobs;
 pub mod laws;
+mod sends;
 mod traces;
 mod values;
 
@@ -23,5 +24,6 @@ pub use asks::{same_ask, same_binding, same_exchange};
 pub use functions::{same_fault, same_function};
 pub use intents::same_intent;
 pub use jobs::{same_job, same_work};
+pub use sends::{same_sending, same_task};
 pub use traces::{first_difference, same_trace};
 pub use values::same_value;

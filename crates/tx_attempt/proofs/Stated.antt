@@ -9,6 +9,7 @@ use Rattle.std.specs.BTreeMap.{BTreeMap, get, Updates}
 use Rattle.value_data.specs.Datum.{Datum}
 use Rattle.value_data.specs.declared.value.RefName.{RefName}
 use Rattle.repl_asks.specs.Transactions.{RefNameData, CommuteData, same_name}
+use Rattle.repl_asks.specs.Sends.{SendingData}
 use Rattle.repl_asks.specs.Inside.View.{name_view}
 use Rattle.tx_attempt.specs.contracts.key.KeyOrd.TheImpl as order
 use Rattle.tx_attempt.specs.declared.key.Key.{Key}
@@ -75,20 +76,22 @@ commuted-known s name e = at (get (order.ghosts).cmp s.by_key (key_of name)) e
 
 -- what an attempt has, by what is kept
 
-abbrev pub data_of : States → List RefName → List RefName → List RefName → AttemptData
-data_of all sets ensured commuted = record {
+abbrev pub data_of : List SendingData → States → List RefName → List RefName → List RefName → AttemptData
+data_of sends all sets ensured commuted = record {
   value = λ n. (all n).value;
   commutes = λ n. (all n).commutes;
   sets = map name_view sets;
   ensured = map name_view ensured;
   commuted = map name_view commuted;
+  sends = sends;
 }
 
-pub same-data : (f g : States) (s t e d c b : List RefName) → ((n : RefNameData) → g n ≡ f n)
-    → t ≡ s → d ≡ e → b ≡ c → data_of g t d b ≡ data_of f s e c
-same-data f g s t e d c b alike sets ensured commuted =
-    ap₂ (λ (all : States) (names : List RefName). data_of all names d b) (fun_ext alike) sets
-    ∙ ap₂ (λ (xs ys : List RefName). data_of f s xs ys) ensured commuted
+pub same-data : (sends : List SendingData) (f g : States) (s t e d c b : List RefName)
+    → ((n : RefNameData) → g n ≡ f n) → t ≡ s → d ≡ e → b ≡ c
+    → data_of sends g t d b ≡ data_of sends f s e c
+same-data sends f g s t e d c b alike sets ensured commuted =
+    ap₂ (λ (all : States) (names : List RefName). data_of sends all names d b) (fun_ext alike) sets
+    ∙ ap₂ (λ (xs ys : List RefName). data_of sends f s xs ys) ensured commuted
 
 -- A ref has a new state.
 pub record Restated (f g : States) (name : RefNameData) (new : StateData) : Type 0 where

@@ -2,7 +2,7 @@
 use Rattle.std.proofs.Common.{◌≡◌, List, true, map, filter_map, is_some, ap₂, ◌∙◌}
 use Rattle.std.specs.List.{list_all}
 use Rattle.repl_asks.specs.Transactions.{ChangeData, CommutedData}
-use Rattle.repl_asks.specs.Inside.View.{name_view}
+use Rattle.repl_asks.specs.Inside.View.{name_view, sending_view}
 use Rattle.tx_attempt.specs.contracts.key.KeyOrd.TheImpl as order
 use Rattle.tx_attempt.specs.declared.attempt.Attempt.{Attempt}
 use Rattle.tx_attempt.specs.Accesses.{intent_of}
@@ -17,8 +17,12 @@ pub wanted : (a : Attempt) (left : States) (sets : List ChangeData) (commuted : 
     LeftOut f left (map name_view a.sets.items)
     → sets ≡ filter_map (change_in f) (map name_view a.sets.items)
     → commuted ≡ filter_map (commuted_in left) (map name_view a.commuted.items)
-    → record { sets = sets; ensured = map name_view a.ensured.items; commuted = commuted }
-    ≡ intent_of (attempt_view a)
+    → record {
+      sets = sets;
+      ensured = map name_view a.ensured.items;
+      commuted = commuted;
+      sends = map sending_view a.sends.items;
+    } ≡ intent_of (attempt_view a)
 unfolding intent_of attempt_view
 wanted a left sets commuted out is_sets is_commuted =
     let f = states_of (order.ghosts).cmp a.states in
@@ -29,6 +33,7 @@ wanted a left sets commuted out is_sets is_commuted =
       sets = s;
       ensured = map name_view a.ensured.items;
       commuted = c;
+      sends = map sending_view a.sends.items;
     })
     is_sets
     (is_commuted ∙ groups f left (map name_view a.sets.items) (map name_view a.commuted.items) out known)

@@ -6,6 +6,7 @@ use Rattle.std.specs.List.{list_any}
 use Rattle.value_data.specs.Datum.{Datum}
 use Rattle.repl_asks.specs.Transactions.{RefNameData, ChangeData, CommuteData, CommutedData}
 use Rattle.repl_asks.specs.Transactions.{IntentData, same_name}
+use Rattle.repl_asks.specs.Sends.{SendingData}
 
 pub data AccessData : Type 0 where
   -- a ref was read, and this was its value
@@ -16,19 +17,19 @@ pub data AccessData : Type 0 where
   commuted : RefNameData → CommuteData → Datum → AccessData
   -- nobody else is to change a ref, and this was its value
   ensured : RefNameData → Datum → AccessData
+  -- this is sent to an agent, once the attempt is committed
+  sent : SendingData → AccessData
 
--- the ref that an access names, and its value
-abbrev pub named_in : AccessData → RefNameData
-named_in (got n d) = n
-named_in (put n d) = n
-named_in (commuted n c d) = n
-named_in (ensured n d) = n
+abbrev pub with_now : RefNameData → Datum → Option ChangeData
+with_now name d = Some (record { name = name; now = d })
 
-abbrev pub accessed_value : AccessData → Datum
-accessed_value (got n d) = d
-accessed_value (put n d) = d
-accessed_value (commuted n c d) = d
-accessed_value (ensured n d) = d
+-- the ref that an access names, with its value; what is sent names none
+abbrev pub value_accessed : AccessData → Option ChangeData
+value_accessed (got n d) = with_now n d
+value_accessed (put n d) = with_now n d
+value_accessed (commuted n c d) = with_now n d
+value_accessed (ensured n d) = with_now n d
+value_accessed (sent s) = None
 
 -- What an attempt has.
 pub record AttemptData : Type 0 where
@@ -41,6 +42,8 @@ pub record AttemptData : Type 0 where
   -- those that it ensured, and those that it commuted, likewise
   pub ensured : List RefNameData
   pub commuted : List RefNameData
+  -- what it sends, in order
+  pub sends : List SendingData
 
 -- before its first access
 abbrev pub nothing_noted : AttemptData
@@ -50,6 +53,7 @@ nothing_noted = record {
   sets = [];
   ensured = [];
   commuted = [];
+  sends = [];
 }
 
 abbrev pub is_among : RefNameData → List RefNameData → Bool
@@ -75,6 +79,7 @@ noted (got n d) a = with_value n d a
 noted (put n d) a = with_value n d (record a { sets = with_name n a.sets })
 noted (commuted n c d) a = with_value n d (with_commute n c a)
 noted (ensured n d) a = with_value n d (record a { ensured = with_name n a.ensured })
+noted (sent s) a = record a { sends = a.sends ++ s ∷ [] }
 
 unfoldable pub attempt_value : RefNameData → AttemptData → Option Datum
 attempt_value name a = a.value name
@@ -91,10 +96,11 @@ abbrev pub commutes_of : AttemptData → RefNameData → CommutedData
 commutes_of a name = record { name = name; commutes = a.commutes name }
 
 -- What the attempt wants committed: each ref that was set, with its value; those that were ensured;
--- and what was applied to each that was commuted and not set.
+-- what was applied to each that was commuted and not set; and what it sends.
 unfoldable pub intent_of : AttemptData → IntentData
 intent_of a = record {
   sets = filter_map (change_of a) a.sets;
   ensured = a.ensured;
   commuted = map (commutes_of a) (filter (λ name. not (is_among name a.sets)) a.commuted);
+  sends = a.sends;
 }

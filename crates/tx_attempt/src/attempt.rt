@@ -1,4 +1,4 @@
-// What an attempt has of the refs that it read, set, commuted and ensured.
+// What an attempt has of the refs that it read, set, commuted and ensured, and what it sends.
 ghost use Rattle.tx_attempt.specs.Inside.States.{states_of};
 ghost use Rattle.tx_attempt.specs.Inside.Marks.{SetsAre, EnsuredAre, CommutedAre, NamesOnce};
 ghost use Rattle.std.specs.Prelude.{◌≡◌, ◌<◌, ◌++◌, [], ◌∷◌, if◌then◌else◌, vec_len};
@@ -8,7 +8,7 @@ use crate::error::SetError;
 use crate::key::Key;
 use crate::state::Mark;
 use crate::states::RefStates;
-use repl_asks::Commute;
+use repl_asks::{Commute, Sending};
 use repl_values::{RefName, Value};
 use std::alloc::{AllocError, Global};
 
@@ -21,6 +21,8 @@ pub struct Attempt {
     pub(crate) sets: Vec<RefName>,
     pub(crate) ensured: Vec<RefName>,
     pub(crate) commuted: Vec<RefName>,
+    // In the order in which they were sent.
+    pub(crate) sends: Vec<Sending>,
     ghost set_marks: { SetsAre (states_of ⟦<Key as Ord>⟧.cmp states) sets.items },
     ghost ensured_marks: { EnsuredAre (states_of ⟦<Key as Ord>⟧.cmp states) ensured.items },
     ghost commuted_marks: { CommutedAre (states_of ⟦<Key as Ord>⟧.cmp states) commuted.items },
@@ -31,8 +33,8 @@ pub struct Attempt {
 impl Attempt {
     ghost use Rattle.std.specs.Prelude.{◌≡◌, option_map, OnOk, OnErr};
     ghost use Rattle.value_data.specs.Inside.View.{view};
-    ghost use Rattle.repl_asks.specs.Inside.View.{name_view, commute_view};
-    ghost use Rattle.tx_attempt.specs.Accesses.{got, put, commuted, ensured};
+    ghost use Rattle.repl_asks.specs.Inside.View.{name_view, commute_view, sending_view};
+    ghost use Rattle.tx_attempt.specs.Accesses.{got, put, commuted, ensured, sent};
     ghost use Rattle.tx_attempt.specs.Accesses.{nothing_noted, noted, attempt_value, is_commuted};
     ghost use Rattle.tx_attempt.specs.Inside.Parts.{is_refused};
     ghost use Rattle.tx_attempt.specs.Inside.Seen.{attempt_view};
@@ -47,6 +49,7 @@ impl Attempt {
             sets: Vec::new(alloc),
             ensured: Vec::new(alloc),
             commuted: Vec::new(alloc),
+            sends: Vec::new(alloc),
         }
     }
 
@@ -117,6 +120,17 @@ impl Attempt {
         self.ensured.reserve(1)?;
         let is_first = self.states.note(name, value, Mark::Ensure)?;
         list(&mut self.ensured, name, is_first);
+        Ok(())
+    }
+
+    /// Holds what is sent to an agent until the attempt is committed. It fails only for want of
+    /// memory; then all stays as it was.
+    pub fn hold_send(&mut self, sending: Sending) -> Result<(), AllocError>
+        ensures noted { OnOk result (attempt_view self.new
+            ≡ noted (sent (sending_view sending)) (attempt_view self.old)) }
+        ensures stays { OnErr result (attempt_view self.new ≡ attempt_view self.old) }
+    {
+        self.sends.push(sending)?;
         Ok(())
     }
 }

@@ -22,9 +22,9 @@ impl From<Unmade> for AllocError {
 
 impl Attempt {
     /// What is to be committed: each ref that was set, with its last value; each that was ensured;
-    /// and each that was commuted and not set, with its commutes. Each list has its refs once, in
-    /// the order in which that was first done to them. It takes about n log n steps for n refs, and
-    /// fails only for want of memory.
+    /// each that was commuted and not set, with its commutes; and what is sent. Each list has its
+    /// refs once, in the order in which that was first done to them. It takes about n log n steps
+    /// for n refs, and fails only for want of memory.
     pub fn into_intent(self) -> Result<Intent, Unmade>
         ensures made { IfOk result (λ intent.
             intent_view intent ≡ intent_of (attempt_view self)) }
@@ -42,6 +42,7 @@ impl Attempt {
             sets,
             ensured,
             commuted,
+            sends,
             ..
         } = self;
         let sets = states.take_values(&sets, changes);
@@ -50,6 +51,7 @@ impl Attempt {
             sets,
             ensured,
             commuted,
+            sends,
         })
     }
 }

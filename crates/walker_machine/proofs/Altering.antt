@@ -1,4 +1,4 @@
--- `alter`, `commute` and `swap!`, and what stands where a function is named.
+-- What takes a function between its arguments, and what stands where a function is named.
 use Rattle.std.proofs.Common.{◌≡◌, ◌∙◌, ap, ℕ, zero, suc, Bool, Option, Some, None, Result, Ok, Err}
 use Rattle.std.proofs.Common.{List, [], ◌∷◌, refl, sym}
 use Rattle.std.specs.Prelude.{string_bytes, is_some, Box}
@@ -17,6 +17,7 @@ use Rattle.repl_asks.specs.declared.answer.NamedFunction.{NamedFunction}
 use Rattle.special_forms.specs.Inside.Seen.{views}
 use Rattle.store_calls.specs.Calling.{altered_in, altering, updating}
 use Rattle.store_calls.specs.declared.altering.Alteration.{Alteration}
+use Rattle.store_calls.specs.declared.sending.Dispatch.{Dispatch}
 use Rattle.store_calls.specs.declared.updating.Update.{Update}
 use Rattle.store_calls.specs.Inside.View.{altered_view}
 use Rattle.store_calls.specs.declared.outcome.Altered.{Altered}
@@ -49,27 +50,31 @@ update-none by room ds es s none nothing = rw (none, nothing) refl
 
 pub named_call-other : (walk : Evaluator) (p : PlaceData) (ds : List Datum) (f : NamedFunction) → (f ≡ NamedFunction.Store StoreFunction.Alter → ⊥)
     → (f ≡ NamedFunction.Store StoreFunction.Commute → ⊥) → (f ≡ NamedFunction.Store StoreFunction.Swap → ⊥)
+    → (f ≡ NamedFunction.Store StoreFunction.Send → ⊥) → (f ≡ NamedFunction.Store StoreFunction.SendOff → ⊥)
     → named_call walk p ds (named_view f) ≡ call_value walk p ds (named_callee (named_view f))
-named_call-other walk p [] f other apart away = refl
-named_call-other walk p (d ∷ []) f other apart away = refl
-named_call-other walk p (d ∷ e ∷ ds) (NamedFunction.Core f) other apart away = refl
-named_call-other walk p (d ∷ e ∷ ds) (NamedFunction.Program f) other apart away = refl
-named_call-other walk p (d ∷ e ∷ ds) (NamedFunction.Store StoreFunction.Ref) other apart away = refl
-named_call-other walk p (d ∷ e ∷ ds) (NamedFunction.Store StoreFunction.Deref) other apart away = refl
-named_call-other walk p (d ∷ e ∷ ds) (NamedFunction.Store StoreFunction.RefSet) other apart away = refl
-named_call-other walk p (d ∷ e ∷ ds) (NamedFunction.Store StoreFunction.Alter) other apart away = absurd (other refl)
-named_call-other walk p (d ∷ e ∷ ds) (NamedFunction.Store StoreFunction.Commute) other apart away = absurd (apart refl)
-named_call-other walk p (d ∷ e ∷ ds) (NamedFunction.Store StoreFunction.Ensure) other apart away = refl
-named_call-other walk p (d ∷ e ∷ ds) (NamedFunction.Store StoreFunction.HistoryCount) other apart away = refl
-named_call-other walk p (d ∷ e ∷ ds) (NamedFunction.Store StoreFunction.MinHistory) other apart away = refl
-named_call-other walk p (d ∷ e ∷ ds) (NamedFunction.Store StoreFunction.MaxHistory) other apart away = refl
-named_call-other walk p (d ∷ e ∷ ds) (NamedFunction.Store StoreFunction.Atom) other apart away = refl
-named_call-other walk p (d ∷ e ∷ ds) (NamedFunction.Store StoreFunction.Swap) other apart away = absurd (away refl)
-named_call-other walk p (d ∷ e ∷ ds) (NamedFunction.Store StoreFunction.Reset) other apart away = refl
-named_call-other walk p (d ∷ e ∷ ds) (NamedFunction.Store StoreFunction.CompareAndSet) other apart away = refl
-named_call-other walk p (d ∷ e ∷ ds) (NamedFunction.Store StoreFunction.Agent) other apart away = refl
-named_call-other walk p (d ∷ e ∷ ds) (NamedFunction.Store StoreFunction.AgentError) other apart away = refl
-named_call-other walk p (d ∷ e ∷ ds) (NamedFunction.Store StoreFunction.RestartAgent) other apart away = refl
+named_call-other walk p [] f other apart away sent sent_off = refl
+named_call-other walk p (d ∷ []) f other apart away sent sent_off = refl
+named_call-other walk p (d ∷ e ∷ ds) (NamedFunction.Core f) other apart away sent sent_off = refl
+named_call-other walk p (d ∷ e ∷ ds) (NamedFunction.Program f) other apart away sent sent_off = refl
+named_call-other walk p (d ∷ e ∷ ds) (NamedFunction.Store StoreFunction.Ref) other apart away sent sent_off = refl
+named_call-other walk p (d ∷ e ∷ ds) (NamedFunction.Store StoreFunction.Deref) other apart away sent sent_off = refl
+named_call-other walk p (d ∷ e ∷ ds) (NamedFunction.Store StoreFunction.RefSet) other apart away sent sent_off = refl
+named_call-other walk p (d ∷ e ∷ ds) (NamedFunction.Store StoreFunction.Alter) other apart away sent sent_off = absurd (other refl)
+named_call-other walk p (d ∷ e ∷ ds) (NamedFunction.Store StoreFunction.Commute) other apart away sent sent_off = absurd (apart refl)
+named_call-other walk p (d ∷ e ∷ ds) (NamedFunction.Store StoreFunction.Ensure) other apart away sent sent_off = refl
+named_call-other walk p (d ∷ e ∷ ds) (NamedFunction.Store StoreFunction.HistoryCount) other apart away sent sent_off = refl
+named_call-other walk p (d ∷ e ∷ ds) (NamedFunction.Store StoreFunction.MinHistory) other apart away sent sent_off = refl
+named_call-other walk p (d ∷ e ∷ ds) (NamedFunction.Store StoreFunction.MaxHistory) other apart away sent sent_off = refl
+named_call-other walk p (d ∷ e ∷ ds) (NamedFunction.Store StoreFunction.Atom) other apart away sent sent_off = refl
+named_call-other walk p (d ∷ e ∷ ds) (NamedFunction.Store StoreFunction.Swap) other apart away sent sent_off = absurd (away refl)
+named_call-other walk p (d ∷ e ∷ ds) (NamedFunction.Store StoreFunction.Reset) other apart away sent sent_off = refl
+named_call-other walk p (d ∷ e ∷ ds) (NamedFunction.Store StoreFunction.CompareAndSet) other apart away sent sent_off = refl
+named_call-other walk p (d ∷ e ∷ ds) (NamedFunction.Store StoreFunction.Agent) other apart away sent sent_off = refl
+named_call-other walk p (d ∷ e ∷ ds) (NamedFunction.Store StoreFunction.AgentError) other apart away sent sent_off = refl
+named_call-other walk p (d ∷ e ∷ ds) (NamedFunction.Store StoreFunction.RestartAgent) other apart away sent sent_off = refl
+named_call-other walk p (d ∷ e ∷ ds) (NamedFunction.Store StoreFunction.Send) other apart away sent sent_off = absurd (sent refl)
+named_call-other walk p (d ∷ e ∷ ds) (NamedFunction.Store StoreFunction.SendOff) other apart away sent sent_off = absurd (sent_off refl)
+named_call-other walk p (d ∷ e ∷ ds) (NamedFunction.Store StoreFunction.Await) other apart away sent sent_off = refl
 
 -- Its function
 
@@ -153,6 +158,8 @@ unfolding update_behind
 update-target s u (Update.Ref Alteration.Alter) room d e ds whole same given = rw (same.0, same.1, same.2, same.3, same.4, same.5, same.6, given) refl
 update-target s u (Update.Ref Alteration.Commute) room d e ds whole same given = rw (same.0, same.1, same.2, same.3, same.4, same.5, same.6, given) refl
 update-target s u Update.Atom room d e ds whole same given = rw (same.0, same.1, same.2, same.3, same.4, same.5, same.6, given) refl
+update-target s u (Update.Agent Dispatch.Send) room d e ds whole same given = rw (same.0, same.1, same.2, same.3, same.4, same.5, same.6, given) refl
+update-target s u (Update.Agent Dispatch.SendOff) room d e ds whole same given = rw (same.0, same.1, same.2, same.3, same.4, same.5, same.6, given) refl
 
 -- with nothing behind it
 pub update-alone : (s u : State) (by : Update) (room : ℕ) (d : Datum) (whole : List Datum)

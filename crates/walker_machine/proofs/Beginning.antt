@@ -1,25 +1,23 @@
 -- Where the work of a job begins.
-use Rattle.std.proofs.Common.{◌≡◌, ◌∙◌, [], Bool, true, false, None, Err, if◌then◌else◌, refl}
+use Rattle.std.proofs.Common.{◌≡◌, ◌∙◌, [], Bool, true, None, if◌then◌else◌, refl}
 use Rattle.std.proofs.Common.{sym, ap}
 use Rattle.std.specs.Prelude.{string_bytes, codes}
 use Rattle.std.specs.Arc.{arc_str_bytes}
 use Rattle.value_data.specs.Datum.{Datum}
-use Rattle.repl_faults.specs.Failure.{Failure, bad_form}
+use Rattle.repl_faults.specs.Failure.{bad_form}
 use Rattle.repl_asks.specs.Job as jobs
 use Rattle.repl_asks.specs.Job.{WorkData}
 use Rattle.repl_asks.specs.Inside.Jobs.{work_view, job_view}
 use Rattle.repl_asks.specs.declared.job.Job.{Job}
 use Rattle.evaluation_rules.specs.Doing.{Part, fails}
-use Rattle.evaluation_rules.specs.Tree.{ends}
 use Rattle.evaluation_rules.specs.Evaluation.{evaluation, value_at, shared_form_value, work_value}
 use Rattle.evaluation_rules.specs.Places.{PlaceData, outside}
 use Rattle.evaluation_rules.specs.SharedText.{occasion_of, is_definition}
 use Rattle.evaluation_rules.specs.declared.limits.TheConstants.{CALLS, ROOM}
-use Rattle.walker_state.specs.Pending.{from_state, kept_of, place_of, tree}
+use Rattle.walker_state.specs.Pending.{from_state, place_of, tree}
 use Rattle.walker_state.specs.UnderWay.{inside_attempt}
 use Rattle.walker_state.specs.declared.frames.Control.{Control}
 use Rattle.walker_state.specs.declared.frames.State.{State}
-use Rattle.walker_state.proofs.Stepping.{fails-at}
 
 begun-at : (s : State) (job : Job) → s.frames.items ≡ [] → place_of s ≡ outside
     → string_bytes s.text ≡ [] → arc_str_bytes s.namespace ≡ arc_str_bytes job.namespace
@@ -31,16 +29,16 @@ begun-at s job none placed empty named occasion fresh =
     rw (none, placed, empty, named, occasion, fresh.0, fresh.1, fresh.2) refl
 
 -- what comes first is the evaluation of the job
-pub begun-work : (s : State) (job : Job) (control : Control) → s.frames.items ≡ []
+pub begun-work : (s now : State) (job : Job) (control : Control) → s.frames.items ≡ []
     → s.place.locals ≡ [] → string_bytes s.text ≡ []
     → arc_str_bytes s.namespace ≡ arc_str_bytes job.namespace
     → s.setting.occasion ≡ occasion_of (work_view job.work)
     → (s.place.home ≡ None) × (s.calls ≡ CALLS) × (s.setting.retries ≡ job.retries) × (s.transaction ≡ None)
-    → ((t : State) → place_of t ≡ outside → tree control t ≡ from_state (work_value (work_view job.work)) t)
-    → tree control s ≡ evaluation (job_view job)
-begun-work s job control none locals empty named occasion fresh meaning =
+    → (place_of s ≡ outside → tree control now ≡ from_state (work_value (work_view job.work)) s)
+    → tree control now ≡ evaluation (job_view job)
+begun-work s now job control none locals empty named occasion fresh meaning =
     let placed : place_of s ≡ outside = rw (locals, fresh.0) refl in
-    meaning s placed ∙ begun-at s job none placed empty named occasion (fresh.1, fresh.2, fresh.3)
+    meaning placed ∙ begun-at s job none placed empty named occasion (fresh.1, fresh.2, fresh.3)
 
 -- a form is evaluated
 pub begun-form : (w : WorkData) (form given : Datum) (s : State) → w ≡ jobs.form form → given ≡ form
@@ -64,14 +62,3 @@ begun-shared form given s defines same placed =
     ap (λ (p : PlaceData). from_state (value_at ROOM p given) s) placed
     ∙ ap (λ (d : Datum). from_state (value_at ROOM outside d) s) same
     ∙ ap (λ (b : Bool). from_state (if b then meant else other) s) defines
-
--- what is none is not
-pub refused-shared : (form : Datum) (s : State) (told : Failure) → is_definition form ≡ false
-    → told ≡ bad_form (codes "shared")
-    → ends (Err told) (string_bytes s.text) (kept_of s) ≡ from_state (shared_form_value form) s
-unfolding shared_form_value
-refused-shared form s told is same =
-    let meant : Part Datum = value_at ROOM outside form in
-    let other : Part Datum = fails (bad_form (codes "shared")) in
-    rw same (sym (fails-at (bad_form (codes "shared")) s)
-    ∙ ap (λ (b : Bool). from_state (if b then meant else other) s) (sym is))

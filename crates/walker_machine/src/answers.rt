@@ -29,10 +29,10 @@ use special_forms::Forms;
 use std::alloc::{AllocError, Global};
 use std::boxed::Box;
 use std::sync::ArcStr;
-use store_calls::{Alteration, Update};
+use store_calls::{Alteration, Dispatch, Update};
 use walker_state::{
     Callee, Control, State, SymbolUse, Wanted, begin_attempt, ensure_or_retry, go_on_in,
-    note_or_retry, permit, settle, settle_swap,
+    note_or_retry, permit, settle, settle_send, settle_swap,
 };
 
 pub(crate) fn use_answer(
@@ -54,6 +54,7 @@ pub(crate) fn use_answer(
         Wanted::Namespace(name) => Ok(go_on_in(state, name)),
         Wanted::Value => Ok(Control::Return(answer.into_value())),
         Wanted::Permission(value) => Ok(permit(value, answer.into_permission())),
+        Wanted::Sending(sending) => settle_send(state, sending, answer.into_permission()),
         Wanted::Reading(name) => note_or_retry(alloc, state, name, answer.into_reading()),
         Wanted::Ensuring(name) => ensure_or_retry(alloc, state, name, answer.into_reading()),
         Wanted::Seen(swap) => call_seen(alloc, state, Box::into_inner(swap), answer.into_value()),
@@ -125,8 +126,8 @@ fn use_as_head(
     }
 }
 
-// The symbol stands in the place of the function of `alter`, `commute` or `swap!`, behind this
-// value and before these forms.
+// The symbol stands in the place of the function of `alter`, `commute`, `swap!`, `send` or
+// `send-off`, behind this value and before these forms.
 fn use_in_update(
     alloc: Global,
     state: &mut State,
@@ -177,6 +178,12 @@ fn begin_call(
         }
         NamedFunction::Store(StoreFunction::Swap) => {
             begin_update(alloc, state, Update::Atom, forms, room)
+        }
+        NamedFunction::Store(StoreFunction::Send) => {
+            begin_update(alloc, state, Update::Agent(Dispatch::Send), forms, room)
+        }
+        NamedFunction::Store(StoreFunction::SendOff) => {
+            begin_update(alloc, state, Update::Agent(Dispatch::SendOff), forms, room)
         }
         other => {
             let callee = Callee::Named(other);

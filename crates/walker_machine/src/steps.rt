@@ -81,7 +81,7 @@ pub fn begin(alloc: Global, job: &Job) -> Result<Reached, AllocError>
         },
         transaction: None,
     };
-    let control = begin_work(alloc, &job.work)?;
+    let control = begin_work(alloc, &mut state, &job.work)?;
     match go_on(alloc, &mut state, control)? {
         Stop::Ends(end) => Ok(end_reached(state, end)),
         Stop::Asks(ask, wanted) => {

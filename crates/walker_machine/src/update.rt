@@ -1,5 +1,5 @@
-// `alter`, `commute` and `swap!`, whose function stands between the first argument and those behind
-// it; and what waits for the value of one of their parts.
+// `alter`, `commute`, `swap!`, `send` and `send-off`, whose function stands between the first
+// argument and those behind it; and what waits for the value of one of their parts.
 #![tactic(auto, using(walker_state::proofs::Stepping::steps))]
 
 ghost use Rattle.std.specs.Prelude.{◌≡◌, ◌+◌, ◌<◌, IfOk};
@@ -27,11 +27,12 @@ use std::alloc::{AllocError, Global};
 use std::boxed::Box;
 use store_calls::Update;
 use walker_state::{
-    Callee, Control, Frame, State, StoreFrame, SymbolUse, call_swap, commute, hold, try_swap,
+    Callee, Control, Frame, State, StoreFrame, SymbolUse, call_send, call_swap, commute, hold,
+    try_swap,
 };
 
-// A list with `alter`, `commute` or `swap!` at its head, and these forms behind it: a function
-// stands between the first argument and those behind it.
+// A list with one of them at its head, and these forms behind it: a function stands between the
+// first argument and those behind it.
 pub(crate) fn begin_update(
     alloc: Global,
     state: &mut State,
@@ -136,5 +137,6 @@ pub(crate) fn call_update(
     match by {
         Update::Ref(by) => call_alter(alloc, state, by, function, values, room),
         Update::Atom => call_swap(alloc, state, function, values, room),
+        Update::Agent(by) => call_send(alloc, state, by, function, values),
     }
 }

@@ -4,4 +4,5 @@ pub mod Noting
 pub mod Collecting
 pub mod Printing
 pub mod Swapping
+pub mod Sent
 pub mod Taking

@@ -29,7 +29,7 @@ use Rattle.walker_state.specs.declared.frames.Swap.{Swap}
 use Rattle.walker_state.proofs.Stepping.{inside_attempt-asking, fails-at}
 
 -- an ask, wherever it stands
-asked-at : (s : State) (ask : AskData) (behind : AnswerData → Doing)
+pub asked-at : (s : State) (ask : AskData) (behind : AnswerData → Doing)
     → asks ask (λ answer. whole s (behind answer)) ≡ whole s (asking ask behind)
 asked-at s ask behind =
     sym (inside_attempt-asking s.setting s.transaction (bottom s.frames.items (place_of s)) ask behind (string_bytes s.text))

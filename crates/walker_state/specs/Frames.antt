@@ -72,7 +72,8 @@ unfoldable pub items_behind : ℕ → PlaceData → Collection → List Datum �
 items_behind room p kind values forms next =
     row (value_at room p) forms (λ vs. collection_value kind (values ++ vs) next)
 
--- the arguments of `alter`, `commute` or `swap!` behind the function, and the call
+-- the arguments of `alter`, `commute`, `swap!`, `send` or `send-off` behind the function, and the
+-- call
 abbrev pub update_with : ℕ → PlaceData → Update → Datum → List Datum → NamedFunctionData → Part Datum
 update_with room p by d forms f =
     row (value_at room p) forms >>= λ vs. counted_call (value_at room) (update_callee by f) (d ∷ vs)

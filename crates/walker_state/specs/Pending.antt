@@ -6,7 +6,7 @@ use Rattle.value_data.specs.Inside.View.{view}
 use Rattle.repl_faults.specs.Inside.View.{failure_of}
 use Rattle.repl_asks.specs.Exchange.{AnswerData, ResolutionData, resolution_in, value_in}
 use Rattle.repl_asks.specs.Exchange.{reading_in, VerdictData, verdict_in, permission_in}
-use Rattle.repl_asks.specs.Inside.View.{ask_view, name_view}
+use Rattle.repl_asks.specs.Inside.View.{ask_view, name_view, sending_view}
 use Rattle.repl_asks.specs.declared.answer.Resolution.{Resolution}
 use Rattle.repl_asks.specs.InteractionTree.{InteractionTree, asks}
 use Rattle.special_forms.specs.Inside.Seen.{views, forms_view, function_view}
@@ -17,6 +17,7 @@ use Rattle.evaluation_rules.specs.Places.{PlaceData}
 use Rattle.evaluation_rules.specs.Naming.{resolution, as_value, as_function}
 use Rattle.evaluation_rules.specs.Refs.{read_value, ensured_read, permitted_value}
 use Rattle.evaluation_rules.specs.Atoms.{settled_value}
+use Rattle.evaluation_rules.specs.Agents.{permitted_send}
 use Rattle.evaluation_rules.specs.Calls.{named_call}
 use Rattle.evaluation_rules.specs.Applying.{body_value}
 use Rattle.evaluation_rules.specs.Transactions.{with_running, after_verdict, after_body}
@@ -106,6 +107,8 @@ tree_with_answer (Wanted.Namespace name) answer s =
 tree_with_answer Wanted.Value answer s = from_state (pure_part (value_in answer)) s
 tree_with_answer (Wanted.Permission v) answer s =
     from_state (permitted_value (view v) (permission_in answer)) s
+tree_with_answer (Wanted.Sending sending) answer s =
+    from_state (permitted_send (sending_view sending) (permission_in answer)) s
 tree_with_answer (Wanted.Reading name) answer s =
     from_state (read_value (name_view name) (reading_in answer)) s
 tree_with_answer (Wanted.Ensuring name) answer s =

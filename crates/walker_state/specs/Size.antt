@@ -48,6 +48,7 @@ wanted_size (Wanted.Completion v) = 2
 wanted_size (Wanted.Namespace name) = 2
 wanted_size Wanted.Value = 2
 wanted_size (Wanted.Permission v) = 2
+wanted_size (Wanted.Sending sending) = 2
 wanted_size (Wanted.Reading name) = 2
 wanted_size (Wanted.Ensuring name) = 2
 wanted_size (Wanted.Seen w) = 2

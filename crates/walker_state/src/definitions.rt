@@ -28,7 +28,7 @@ pub fn refuse_definition(
         ≡ meant.refused_definition occasion namespace.now (binding_view binding.now)) }
 {
     match occasion {
-        Occasion::Form => refuse_fixed(alloc, namespace),
+        Occasion::Form | Occasion::Action => refuse_fixed(alloc, namespace),
         Occasion::SharedText => refuse_unshared(alloc, binding),
     }
 }

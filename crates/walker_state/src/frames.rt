@@ -1,6 +1,6 @@
 // What an evaluation has still to do, from the inside out.
 use evaluation_rules::Occasion;
-use repl_asks::{Ask, Commute, NamedFunction};
+use repl_asks::{Ask, Commute, NamedFunction, Sending};
 use repl_values::{Fault, RefName, Value};
 use special_forms::{Forms, Function, Locals, Logic};
 use std::boxed::Box;
@@ -15,7 +15,7 @@ pub enum Callee {
     Named(NamedFunction),
     // A keyword looks itself up in its argument.
     Keyword(ArcStr),
-    // `alter`, `commute` or `swap!`, with the function that it was given.
+    // `alter`, `commute`, `swap!`, `send` or `send-off`, with the function that it was given.
     Update(Update, NamedFunction),
 }
 
@@ -60,8 +60,8 @@ pub enum Frame {
 /// What of a function that asks the store waits for a value.
 #[derive(Drop)]
 pub enum StoreFrame {
-    // `alter`, `commute` or `swap!`, for its ref or its atom: the form of its function, and the forms
-    // of the arguments behind that, with their room.
+    // `alter`, `commute`, `swap!`, `send` or `send-off`, for its ref, atom or agent: the form of its
+    // function, and the forms of the arguments behind that, with their room.
     UpdateTarget(Update, Value, Forms, u32),
     // `alter` or `commute`, for the value of this ref: its function, and the arguments behind it.
     AlterCall(Alteration, RefName, NamedFunction, Vec<Value>, u32),
@@ -136,8 +136,8 @@ pub enum SymbolUse {
     Value(ArcStr),
     // The function at the head of a list, with the forms of its arguments.
     Head(Forms, u32),
-    // The function of `alter`, `commute` or `swap!`, with the value before it and the forms of the
-    // arguments behind it.
+    // The function of `alter`, `commute`, `swap!`, `send` or `send-off`, with the value before it and
+    // the forms of the arguments behind it.
     Update(Update, Value, Forms, u32),
 }
 
@@ -154,6 +154,8 @@ pub enum Wanted {
     Value,
     // Whether this may be the form's value.
     Permission(Value),
+    // Whether this may be sent. The form's value is the agent.
+    Sending(Sending),
     // The value of this ref, which is noted.
     Reading(RefName),
     // The same, of a ref that is ensured.

@@ -1,8 +1,8 @@
-// Refs in the attempt that runs: what it knows of them, and what it notes.
+// The attempt that runs: what it knows of refs, and what it notes.
 ghost use Rattle.std.specs.Prelude.{◌≡◌, ◌<◌, ◌≤◌, IfOk, option_map};
 ghost use Rattle.value_data.specs.Inside.View.{view};
-ghost use Rattle.repl_asks.specs.Inside.View.{commute_view, name_view};
-ghost use Rattle.tx_attempt.specs.Accesses.{got, commuted, ensured, attempt_value};
+ghost use Rattle.repl_asks.specs.Inside.View.{commute_view, name_view, sending_view};
+ghost use Rattle.tx_attempt.specs.Accesses.{got, commuted, ensured, sent, attempt_value};
 ghost use Rattle.evaluation_rules.specs.Doing.{Doing, noting};
 ghost use Rattle.evaluation_rules.specs.Refs.{ref_value, ensured_value};
 ghost use Rattle.walker_state.specs.Pending as machine;
@@ -12,7 +12,7 @@ ghost use Rattle.walker_state.specs.Size.{control_size};
 ghost use Rattle.walker_state.specs.Position.{around, control_around, control_calls, LeadsOnWithin};
 
 use crate::frames::{Control, State, Wanted};
-use repl_asks::{Ask, Commute};
+use repl_asks::{Ask, Commute, Sending};
 use repl_values::{RefName, Value, copy};
 use std::alloc::AllocError;
 
@@ -137,6 +137,28 @@ pub(crate) fn note_commuted(
         None => Ok(()),
         Some(mut transaction) => {
             transaction.attempt.commute(name, commute, copy(value)?)?;
+            state.transaction = Some(transaction);
+            Ok(())
+        }
+    }
+}
+
+/// Notes what is sent to an agent, if an attempt runs.
+#[tactic(auto, using(crate::proofs::Stepping::steps))]
+pub(crate) fn note_sent(state: &mut State, sending: Sending) -> Result<(), AllocError>
+    ensures frames { IfOk result (λ _. state.new.frames ≡ state.old.frames) }
+    ensures place { IfOk result (λ _. machine.place_of state.new ≡ machine.place_of state.old) }
+    ensures calls { IfOk result (λ _. state.new.calls ≡ state.old.calls) }
+    ensures around { IfOk result (λ _. around state.new.transaction
+        ≡ around state.old.transaction) }
+    ensures kept { IfOk result (λ _. machine.kept_of state.new ≡ machine.kept_of state.old) }
+    ensures noted { IfOk result (λ _. (d : Doing) → machine.whole state.new d
+        ≡ machine.whole state.old (noting (sent (sending_view sending)) d)) }
+{
+    match state.transaction.take() {
+        None => Ok(()),
+        Some(mut transaction) => {
+            transaction.attempt.hold_send(sending)?;
             state.transaction = Some(transaction);
             Ok(())
         }

@@ -28,7 +28,7 @@ use repl_asks::{Commute, Permission, Reading};
 use repl_faults::{Rule, broken_rule};
 use repl_values::{RefName, Value, copy};
 use std::alloc::{AllocError, Global};
-use store_calls::{Call, call_in_shared_text, may_hold};
+use store_calls::{Call, call_in_action, call_in_shared_text, may_hold};
 use tx_attempt::SetError;
 
 /// A call of a function that asks the store.
@@ -63,12 +63,11 @@ fn take_apart(
     ensures { IfOk result (λ call. call_view call ≡ call_data_at state.now.setting.occasion function
         (is_running state.now.transaction) (views values.items)) }
 {
+    let in_transaction = state.transaction.is_some();
     match state.setting.occasion {
-        Occasion::Form => {
-            let in_transaction = state.transaction.is_some();
-            store_calls::call(alloc, function, in_transaction, values)
-        }
+        Occasion::Form => store_calls::call(alloc, function, in_transaction, values),
         Occasion::SharedText => call_in_shared_text(alloc, function, values),
+        Occasion::Action => call_in_action(alloc, function, in_transaction, values),
     }
 }
 

@@ -1,8 +1,9 @@
 -- What actions and agents stand for.
 use Rattle.std.specs.Prelude.{List, map, option_map}
+use Rattle.std.specs.Arc.{arc_value}
 use Rattle.value_data.specs.Inside.View.{view}
 use Rattle.repl_faults.specs.Inside.View.{failure_of}
-use Rattle.repl_asks.specs.Inside.View.{named_view}
+use Rattle.repl_asks.specs.Inside.View.{task_view}
 use Rattle.repl_replies.specs.Inside.View.{origin_view}
 use Rattle.private_cells.specs.Actions.{ActionData}
 use Rattle.private_cells.specs.Agents.{SentAction, AgentData}
@@ -12,8 +13,7 @@ use Rattle.private_cells.specs.declared.cells.Cell.{Cell}
 
 abbrev pub action_view : Action → ActionData
 action_view a = record {
-  function = named_view a.function;
-  arguments = map view a.arguments.items;
+  task = task_view (arc_value a.task);
   origin = origin_view a.origin;
   session = a.session;
 }

@@ -10,9 +10,11 @@ use Rattle.repl_asks.specs.Transactions.{IntentData}
 use Rattle.repl_asks.specs.Exchange.{BindingData, bound_value, bound_function, AskData, resolve}
 use Rattle.repl_asks.specs.Exchange.{define, enter, new_ref, begin, read, history, min_history}
 use Rattle.repl_asks.specs.Exchange.{max_history, commit, new_atom, read_atom, set_atom, try_atom}
-use Rattle.repl_asks.specs.Exchange.{new_agent, read_agent, agent_fault, restart_agent}
-use Rattle.repl_asks.specs.Exchange.{NamedFunctionData, core_function}
-use Rattle.repl_asks.specs.Exchange.{store_function, program_function, ResolutionData, names_value}
+use Rattle.repl_asks.specs.Exchange.{new_agent, read_agent, agent_fault, restart_agent, send}
+use Rattle.repl_asks.specs.Exchange.{may_send, await}
+use Rattle.repl_asks.specs.Sends.{NamedFunctionData, core_function, store_function}
+use Rattle.repl_asks.specs.Sends.{program_function, TaskData, SendingData}
+use Rattle.repl_asks.specs.Exchange.{ResolutionData, names_value}
 use Rattle.repl_asks.specs.Exchange.{names_function, names_nothing, ReadingData, found, retry}
 use Rattle.repl_asks.specs.Exchange.{VerdictData, committed, conflict, faulted, PermissionData}
 use Rattle.repl_asks.specs.Exchange.{granted, denied, AnswerData, resolution, done, value, reading}
@@ -21,6 +23,8 @@ use Rattle.repl_asks.specs.declared.intent.Change.{Change}
 use Rattle.repl_asks.specs.declared.intent.Commute.{Commute}
 use Rattle.repl_asks.specs.declared.intent.Commuted.{Commuted}
 use Rattle.repl_asks.specs.declared.intent.Intent.{Intent}
+use Rattle.repl_asks.specs.declared.sends.Task.{Task}
+use Rattle.repl_asks.specs.declared.sends.Sending.{Sending}
 use Rattle.repl_asks.specs.declared.answer.Reading.{Reading}
 use Rattle.repl_asks.specs.declared.answer.Verdict.{Verdict}
 use Rattle.repl_asks.specs.declared.answer.Permission.{Permission}
@@ -38,6 +42,17 @@ binding_view (Binding.Function f) = bound_function (function_view (arc_value f))
 abbrev pub name_view : RefName → RefNameData
 name_view r = record { owner = owner_view r.owner; number = r.number }
 
+abbrev pub named_view : NamedFunction → NamedFunctionData
+named_view (NamedFunction.Core f) = core_function f
+named_view (NamedFunction.Store f) = store_function f
+named_view (NamedFunction.Program f) = program_function (function_view (arc_value f))
+
+abbrev pub task_view : Task → TaskData
+task_view t = record { function = named_view t.function; arguments = views t.arguments.items }
+
+abbrev pub sending_view : Sending → SendingData
+sending_view s = record { agent = s.agent; task = task_view (arc_value s.task) }
+
 abbrev pub change_view : Change → ChangeData
 change_view c = record { name = name_view c.name; now = view c.now }
 
@@ -52,6 +67,7 @@ intent_view i = record {
   sets = map change_view i.sets.items;
   ensured = map name_view i.ensured.items;
   commuted = map commuted_view i.commuted.items;
+  sends = map sending_view i.sends.items;
 }
 
 abbrev pub ask_view : Ask → AskData
@@ -74,11 +90,9 @@ ask_view (Ask.NewAgent v) = new_agent (view v)
 ask_view (Ask.ReadAgent n) = read_agent n
 ask_view (Ask.AgentFault n) = agent_fault n
 ask_view (Ask.RestartAgent n v) = restart_agent n (view v)
-
-abbrev pub named_view : NamedFunction → NamedFunctionData
-named_view (NamedFunction.Core f) = core_function f
-named_view (NamedFunction.Store f) = store_function f
-named_view (NamedFunction.Program f) = program_function (function_view (arc_value f))
+ask_view (Ask.Send s) = send (sending_view s)
+ask_view (Ask.MaySend s) = may_send (sending_view s)
+ask_view (Ask.Await ns) = await (arc_value ns).items
 
 abbrev pub resolution_view : Resolution → ResolutionData
 resolution_view (Resolution.Value v) = names_value (view v)

@@ -54,7 +54,7 @@ when_committed _ behind again = again
 abbrev pub committing : List ChangeData → List CommutedData → InteractionTree → InteractionTree
     → InteractionTree
 committing sets commuted behind again =
-    asks (exchange.commit (record { sets = sets; ensured = []; commuted = commuted }))
+    asks (exchange.commit (record { sets = sets; ensured = []; commuted = commuted; sends = [] }))
     (λ a. when_committed a behind again)
 
 -- `(dosync @r)`, with so many attempts

@@ -9,6 +9,7 @@ use Rattle.store_calls.specs.Calling.{CallData, refused, reads, puts, ensures, a
 use Rattle.store_calls.specs.Calling.{asks_permission}
 use Rattle.store_calls.specs.Arguments.{BoundsData}
 use Rattle.store_calls.specs.declared.bounds.Bounds.{Bounds}
+use Rattle.store_calls.specs.declared.outcome.Addressed.{Addressed}
 use Rattle.store_calls.specs.declared.outcome.Altered.{Altered}
 use Rattle.store_calls.specs.declared.outcome.Call.{Call}
 use Rattle.store_calls.specs.declared.outcome.Swapped.{Swapped}
@@ -30,6 +31,11 @@ altered_view (Altered.Refused f) = Err (failure_of f)
 abbrev pub swapped_view : Swapped → Result ℕ Failure
 swapped_view (Swapped.Atom n) = Ok n
 swapped_view (Swapped.Refused f) = Err (failure_of f)
+
+-- the number of the agent to which something is sent, or why it is not
+abbrev pub addressed_view : Addressed → Result ℕ Failure
+addressed_view (Addressed.Agent n) = Ok n
+addressed_view (Addressed.Refused f) = Err (failure_of f)
 
 abbrev pub bounds_view : Bounds → BoundsData
 bounds_view b = record { least = b.least; most = b.most }

@@ -1,6 +1,6 @@
 -- What an attempt has, seen as data.
 use Rattle.std.specs.Prelude.{map}
-use Rattle.repl_asks.specs.Inside.View.{name_view}
+use Rattle.repl_asks.specs.Inside.View.{name_view, sending_view}
 use Rattle.tx_attempt.specs.Accesses.{AttemptData}
 use Rattle.tx_attempt.specs.Inside.States.{states_of}
 use Rattle.tx_attempt.specs.contracts.key.KeyOrd.TheImpl as order
@@ -13,4 +13,5 @@ attempt_view a = record {
   sets = map name_view a.sets.items;
   ensured = map name_view a.ensured.items;
   commuted = map name_view a.commuted.items;
+  sends = map sending_view a.sends.items;
 }

@@ -1,13 +1,17 @@
-use Rattle.std.proofs.Common.{ap, subst, ◌∙◌}
+use Rattle.std.proofs.Common.{ap, subst, sym, ◌∙◌, option_map}
 use Rattle.repl_asks.specs.Inside.View.{ask_view, answer_view}
+use Rattle.server_rules.specs.Asking.{quiet_after, sender_of}
+use Rattle.server_rules.specs.Request.{Hand}
+use Rattle.server_rules.specs.Tenant.{ActorData}
 use Rattle.server_rules.specs.Plan.{Outcome, ask_answered}
 use Rattle.server_rules.specs.declared.refusal.Refusal.{Refusal}
-use Rattle.tenant_actors.specs.View.{actor_view}
+use Rattle.tenant_actors.specs.View.{actor_view, hand_view}
 use Rattle.tenant_world.specs.Acting.{AcceptsOutcome}
 use Rattle.tenant_world.specs.Asking.{exchange_from, with_exchange}
 use Rattle.tenant_world.proofs.Answering.{acted-answer_outcome, answer_outcome-told}
 use Rattle.tenant_world.proofs.Answering.{answered-untold, answered-accepted, declined-without}
-use Rattle.tenant_world.proofs.Answering.{refused-so}
+use Rattle.tenant_world.specs.Memories.{Remembers}
+use Rattle.tenant_world.proofs.Answering.{refused-so, held-so}
 use Rattle.tenant_world.proofs.asking.answer.Goals as goal
 
 pub returns-in_default-perform_ask-clause-declined
@@ -45,20 +49,23 @@ returns-clause-acted c = λ g q s r h run remembers holds allowed hand running.
     let a = c.args.actor in
     let actor = actor_view c.args.state.now in
     let ask = ask_view c.args.ask.now in
-    let kept = answer_view c.in-Some.answer.kept in
-    let given = answer_view c.in-Some.answer.given in
+    let kept = answer_view c.in-Some-told.answer.kept in
+    let given = answer_view c.in-Some-told.answer.given in
     let memory = c.perform_ask.new.memory in
     let new = actor_view c.keep.new.state in
-    let answers = rw c.in-Some.is at
+    let answers = rw c.in-Some-told.is at
     (c.in-Ok-perform_ask.ensures.answered g q s r remembers holds allowed) in
-    let same = rw c.in-Some.is at c.in-Ok-perform_ask.ensures.thrice in
+    let same = rw c.in-Some-told.is at c.in-Ok-perform_ask.ensures.thrice in
     let put = c.keep.ensures
     ∙ ap (λ x. with_exchange (exchange_from x kept) (actor_view c.copied_with_room.new.state))
     c.in-Ok.ensures.copied
     ∙ ap (with_exchange (exchange_from ask kept)) c.copied_with_room.ensures.same in
+    let held = held-so (hand_view c.in-Some.hand) h (ap (option_map hand_view) (sym c.in-Some.is)
+    ∙ ap (λ (x : ActorData). x.hand) c.copied_with_room.ensures.same ∙ hand) in
+    let R : Hand → Type 0 = λ x. Remembers g s.tenant memory (quiet_after (sender_of a x) ask kept q) in
     let P : Outcome → Type 0 = λ x. AcceptsOutcome g s.tenant a q x memory new (ask_answered given) in (
       subst P (answer_outcome-told g s a actor h run ask q answers.told answers.is_told)
           (acted-answer_outcome g s.tenant memory a actor new h run ask q answers.told kept given hand running
-          put answers.is same.given answers.remembers),
+          put answers.is same.given (subst R held answers.remembers)),
       answers.holds,
     )

@@ -16,7 +16,7 @@ returns-in_default-clause-meaning c =
     let f = c.args.function in
     let ds = forms_view c.args.forms in
     let start = call_start c.args.room (place_of s) (named_callee (named_view f)) ds (next_of s) in
-    let other = named_call-other (value_at c.args.room) (place_of s) ds f (search rules) (search rules) (search rules) in
+    let other = named_call-other (value_at c.args.room) (place_of s) ds f (search rules) (search rules) (search rules) (search rules) (search rules) in
     if_ok-turned _ _ (rw c.new.ensures.items
     (ap (λ (part : Kept → Doing). whole s (part (kept_of s))) start ∙ ap (λ (part : Part Datum). from_state part s) (sym other)))
     c.next_argument.ensures.meaning

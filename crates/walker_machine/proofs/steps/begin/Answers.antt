@@ -25,10 +25,11 @@ returns-in-Ends-clause-meaning c =
       setting = record { retries = c.args.job.now.retries; occasion = c.of.result };
       transaction = None;
     } in
-    let start : tree control s ≡ evaluation (job_view c.args.job.now) =
-    begun-work s c.args.job.now control c.new.ensures.items c.none.ensures c.new-2.ensures.bytes
+    let now = c.begin_work.new.state in
+    let start : tree control now ≡ evaluation (job_view c.args.job.now) =
+    begun-work s now c.args.job.now control c.new.ensures.items c.none.ensures c.new-2.ensures.bytes
     c.in_ok-copy_text.ensures c.of.ensures (refl, refl, refl, refl) c.in_ok-control.ensures.meaning in
-    let P : Stop → Type 0 = λ stop. stop_tree stop c.go_on.new.state ≡ tree control s in
+    let P : Stop → Type 0 = λ stop. stop_tree stop c.go_on.new.state ≡ tree control now in
     let ended : P (Stop.Ends c.in-Ends.end) = subst P c.in-Ends.is c.in_ok-end.ensures.meaning in
     c.end_reached.ensures.meaning ∙ ended ∙ start
 
@@ -44,10 +45,11 @@ returns-in_ok-state-in-Asks-clause-meaning c =
       setting = record { retries = c.args.job.now.retries; occasion = c.of.result };
       transaction = None;
     } in
-    let start : tree control s ≡ evaluation (job_view c.args.job.now) =
-    begun-work s c.args.job.now control c.new.ensures.items c.none.ensures c.new-2.ensures.bytes
+    let now = c.begin_work.new.state in
+    let start : tree control now ≡ evaluation (job_view c.args.job.now) =
+    begun-work s now c.args.job.now control c.new.ensures.items c.none.ensures c.new-2.ensures.bytes
     c.in_ok-copy_text.ensures c.of.ensures (refl, refl, refl, refl) c.in_ok-control.ensures.meaning in
-    let P : Stop → Type 0 = λ stop. stop_tree stop c.go_on.new.state ≡ tree control s in
+    let P : Stop → Type 0 = λ stop. stop_tree stop c.go_on.new.state ≡ tree control now in
     let asked : P (Stop.Asks c.in-Asks.ask c.in-Asks.wanted) = subst P c.in-Asks.is c.in_ok-end.ensures.meaning in
     let behind : State → InteractionTree =
     λ now. asks (ask_view c.in-Asks.ask) (λ answer. tree_with_answer c.in-Asks.wanted answer now) in
@@ -56,20 +58,11 @@ returns-in_ok-state-in-Asks-clause-meaning c =
 pub returns-in_ok-state-in-Asks-clause-calls : goal.returns-in_ok-state-in-Asks-clause-calls
 returns-in_ok-state-in-Asks-clause-calls c =
     let control = c.in_ok-control.control in
-    let s : State = record {
-      frames = c.new.result;
-      place = record { locals = c.none.result; home = None };
-      calls = CALLS;
-      namespace = c.in_ok-copy_text.field-0;
-      text = c.new-2.result;
-      setting = record { retries = c.args.job.now.retries; occasion = c.of.result };
-      transaction = None;
-    } in
-    let old = control_position control s in
+    let old = control_position control c.begin_work.new.state in
     let P : Stop → Type 0 = λ stop. IsOnStop stop c.go_on.new.state old in
     let on : P (Stop.Asks c.in-Asks.ask c.in-Asks.wanted) = subst P c.in-Asks.is c.in_ok-end.ensures.on in
     let Q : State → Type 0 = λ now. IsOn (wanted_position c.in-Asks.wanted now) old in
     let begun = begun-calls (wanted_position c.in-Asks.wanted c.in_ok-state-in-Asks.state.value) old
-    (ap (λ (t : TransactionPosition). t.runs) (c.in_ok-control.ensures.around s))
+    (ap (λ (t : TransactionPosition). t.runs) c.in_ok-control.ensures.around)
     (subst Q (sym c.in_ok-state-in-Asks.ensures.ok) on) in
-    omega (arith, begun, c.in_ok-control.ensures.calls s)
+    omega (arith, begun, c.in_ok-control.ensures.calls)

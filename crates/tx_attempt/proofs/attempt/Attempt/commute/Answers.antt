@@ -1,6 +1,6 @@
-use Rattle.std.proofs.Common.{◌≡◌, refl, ap, ◌∙◌, cond, ◌++◌, ◌∷◌, []}
+use Rattle.std.proofs.Common.{◌≡◌, refl, ap, ◌∙◌, cond, ◌++◌, ◌∷◌, [], map}
 use Rattle.value_data.specs.Inside.View.{view}
-use Rattle.repl_asks.specs.Inside.View.{name_view, commute_view}
+use Rattle.repl_asks.specs.Inside.View.{name_view, commute_view, sending_view}
 use Rattle.tx_attempt.specs.contracts.key.KeyOrd.TheImpl as order
 use Rattle.tx_attempt.specs.Inside.States.{states_of, has_value, has_commute}
 use Rattle.tx_attempt.specs.Inside.Seen.{attempt_view}
@@ -14,7 +14,7 @@ returns-in_err-reserve-clause-stays c =
     let a = c.args.self.now in
     let f = states_of (order.ghosts).cmp a.states in
     on-err c.from_residual.result
-    (same-data f f a.sets.items a.sets.items a.ensured.items a.ensured.items a.commuted.items c.reserve.new.self.items
+    (same-data (map sending_view a.sends.items) f f a.sets.items a.sets.items a.ensured.items a.ensured.items a.commuted.items c.reserve.new.self.items
     (λ n. refl) refl refl c.in_err-reserve.ensures.items)
 
 pub returns-in_err-is_first-clause-stays : goal.returns-in_err-is_first-clause-stays
@@ -22,7 +22,7 @@ unfolding attempt_view
 returns-in_err-is_first-clause-stays c =
     let a = c.args.self.now in
     on-err c.from_residual-in_err-is_first.result
-    (same-data (states_of (order.ghosts).cmp a.states) (states_of (order.ghosts).cmp c.commute.new.self)
+    (same-data (map sending_view a.sends.items) (states_of (order.ghosts).cmp a.states) (states_of (order.ghosts).cmp c.commute.new.self)
     a.sets.items a.sets.items a.ensured.items a.ensured.items a.commuted.items c.reserve.new.self.items
     c.in_err-is_first.ensures.stays refl refl c.in_ok-reserve.ensures.items)
 
@@ -54,7 +54,7 @@ pub returns-clause-noted : goal.returns-clause-noted
 unfolding attempt_view
 returns-clause-noted c =
     let a = c.args.self.now in
-    commuted-noted (states_of (order.ghosts).cmp a.states) (states_of (order.ghosts).cmp c.commute.new.self)
+    commuted-noted (map sending_view a.sends.items) (states_of (order.ghosts).cmp a.states) (states_of (order.ghosts).cmp c.commute.new.self)
     c.args.name (commute_view c.args.commute) (view c.args.value) c.in_ok-is_first.is_first a.sets.items
     a.ensured.items a.commuted.items c.list.new.names.items (record { at = c.in_ok-is_first.ensures.noted })
     c.in_ok-is_first.ensures.first

@@ -1,6 +1,6 @@
-use Rattle.std.proofs.Common.{◌≡◌, refl, ap, rules, ◌∙◌, cond, ◌++◌, ◌∷◌, []}
+use Rattle.std.proofs.Common.{◌≡◌, refl, ap, rules, ◌∙◌, cond, ◌++◌, ◌∷◌, [], map}
 use Rattle.value_data.specs.Inside.View.{view}
-use Rattle.repl_asks.specs.Inside.View.{name_view}
+use Rattle.repl_asks.specs.Inside.View.{name_view, sending_view}
 use Rattle.tx_attempt.specs.contracts.key.KeyOrd.TheImpl as order
 use Rattle.tx_attempt.specs.declared.state.Mark.{Mark}
 use Rattle.tx_attempt.specs.Inside.States.{states_of, marked, has_value}
@@ -16,7 +16,7 @@ returns-in_err-reserve-clause-stays c =
     let a = c.args.self.now in
     let f = states_of (order.ghosts).cmp a.states in
     on-err c.from_residual.result
-    (same-data f f a.sets.items c.reserve.new.self.items a.ensured.items a.ensured.items a.commuted.items a.commuted.items
+    (same-data (map sending_view a.sends.items) f f a.sets.items c.reserve.new.self.items a.ensured.items a.ensured.items a.commuted.items a.commuted.items
     (λ n. refl) c.in_err-reserve.ensures.items refl refl)
 
 pub returns-in_err-is_first-clause-stays : goal.returns-in_err-is_first-clause-stays
@@ -24,7 +24,7 @@ unfolding attempt_view
 returns-in_err-is_first-clause-stays c =
     let a = c.args.self.now in
     on-err c.from_residual-in_err-is_first.result
-    (same-data (states_of (order.ghosts).cmp a.states) (states_of (order.ghosts).cmp c.note.new.self)
+    (same-data (map sending_view a.sends.items) (states_of (order.ghosts).cmp a.states) (states_of (order.ghosts).cmp c.note.new.self)
     a.sets.items c.reserve.new.self.items a.ensured.items a.ensured.items a.commuted.items a.commuted.items
     c.in_err-is_first.ensures.stays c.in_ok-reserve.ensures.items refl refl)
 
@@ -55,7 +55,7 @@ pub returns-clause-set : goal.returns-clause-set
 unfolding attempt_view
 returns-clause-set c =
     let a = c.args.self.now in
-    put-noted (states_of (order.ghosts).cmp a.states) (states_of (order.ghosts).cmp c.note.new.self)
+    put-noted (map sending_view a.sends.items) (states_of (order.ghosts).cmp a.states) (states_of (order.ghosts).cmp c.note.new.self)
     c.args.name (view c.args.value) c.in_ok-is_first.is_first a.sets.items
     c.list.new.names.items a.ensured.items a.commuted.items (record { at = c.in_ok-is_first.ensures.noted })
     c.in_ok-is_first.ensures.first

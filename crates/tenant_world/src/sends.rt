@@ -1,0 +1,169 @@
+// What a form sends to agents.
+ghost use Rattle.std.specs.Prelude.{◌≡◌, ◌≤◌, length, map};
+ghost use Rattle.std.specs.Prelude.{IfOk, OnErr};
+ghost use Rattle.repl_asks.specs.Exchange as told;
+ghost use Rattle.repl_asks.specs.Inside.View.{sending_view};
+ghost use Rattle.private_cells.specs.Inside.View.{agents_view, room_of};
+ghost use Rattle.server_rules.specs.Asking.{sender_of, session_of};
+ghost use Rattle.server_rules.specs.Cells.{is_yes, send_permission};
+ghost use Rattle.tenant_actors.specs.View.{hand_view};
+ghost use Rattle.tenant_refs.specs.Thrice.{thrice_view, told_answer, IsThrice};
+ghost use Rattle.tenant_world.specs.Sends.{all_sent, all_sent_if, is_told_yes, outgoing_from, outgoing_view};
+ghost use Rattle.tenant_world.specs.Sends.{sender_view, sent_if};
+
+use private_cells::{Action, Agents};
+use repl_asks::{Answer, Permission, Sending, Verdict};
+use repl_faults::{Rule, broken_rule};
+use repl_replies::Origin;
+use server_rules::Actor;
+use std::alloc::{AllocError, Global};
+use std::collections::VecDeque;
+use std::sync::Arc;
+use tenant_actors::Hand;
+use tenant_refs::Thrice;
+
+/// Who sends: what the replies to its request carry, and the number of its session, if it has one.
+#[derive(Clone, Copy)]
+pub(crate) struct Sender<'a> {
+    origin: &'a Origin,
+    session: Option<u64>,
+}
+
+/// An action, and the number of the agent to which it is sent.
+#[derive(Drop)]
+pub(crate) struct Outgoing {
+    agent: u64,
+    action: Action,
+}
+
+impl<'a> Sender<'a> {
+    /// An actor, with the request that it has in hand.
+    pub(crate) fn of(actor: Actor, hand: &'a Hand) -> Sender<'a>
+        ensures { sender_view result ≡ sender_of actor (hand_view hand.now) }
+    {
+        Sender {
+            origin: &hand.origin,
+            session: session_of(actor),
+        }
+    }
+}
+
+fn session_of(actor: Actor) -> Option<u64>
+    ensures { result ≡ session_of actor }
+{
+    match actor {
+        Actor::Bare => None,
+        Actor::Session(number) => Some(number),
+    }
+}
+
+// It takes as many steps as the origin is long, and fails only for want of memory.
+fn to_send(alloc: Global, sender: Sender<'_>, sending: &Sending) -> Result<Outgoing, AllocError>
+    ensures { IfOk result (λ it. outgoing_view it
+        ≡ outgoing_from (sender_view sender.entry) (sending_view sending.now)) }
+{
+    Ok(Outgoing {
+        agent: sending.agent,
+        action: Action {
+            task: Arc::try_clone(&sending.task)?,
+            origin: sender.origin.copy(alloc)?,
+            session: sender.session,
+        },
+    })
+}
+
+/// Whether something may be sent to the agent of this number: not where it is failed. It fails only
+/// for want of memory.
+pub(crate) fn permission(alloc: Global, agents: &Agents, number: u64) -> Result<Thrice, AllocError>
+    ensures answered { IfOk result (λ it. thrice_view it
+        ≡ told.permission (send_permission number (agents_view agents.now))) }
+    ensures thrice { IfOk result IsThrice }
+{
+    match agents.fault(number) {
+        None => Ok(Thrice::granted()),
+        Some(_) => {
+            let fault = broken_rule(alloc, Rule::AgentHasNotFailed)?;
+            Thrice::of(Answer::Permission(Permission::Denied(fault)))
+        }
+    }
+}
+
+/// This is sent, if it may be. It fails only for want of memory, and has then changed nothing.
+pub(crate) fn send(
+    alloc: Global,
+    agents: &mut Agents,
+    sender: Sender<'_>,
+    sending: &Sending,
+) -> Result<Thrice, AllocError>
+    ensures answered { IfOk result (λ it. thrice_view it ≡ told.permission
+        (send_permission (sending_view sending.now).agent (agents_view agents.old))) }
+    ensures sent { IfOk result (λ it. agents_view agents.new
+        ≡ sent_if (is_yes (thrice_view it)) (sender_view sender.entry)
+        (sending_view sending.now) (agents_view agents.old)) }
+    ensures stays { OnErr result (agents_view agents.new ≡ agents_view agents.old) }
+    ensures thrice { IfOk result IsThrice }
+{
+    if agents.fault(sending.agent).is_some() {
+        return permission(alloc, agents, sending.agent);
+    }
+    let Outgoing { agent, action } = to_send(alloc, sender, sending)?;
+    agents.reserve(1)?;
+    agents.send(agent, action);
+    Ok(Thrice::granted())
+}
+
+/// What an attempt sends, with room for all of it. It takes as many steps as the origins are long,
+/// fails only for want of memory, and sends nothing yet.
+pub(crate) fn prepare(
+    alloc: Global,
+    agents: &mut Agents,
+    sender: Sender<'_>,
+    sends: &[Sending],
+) -> Result<VecDeque<Outgoing>, AllocError>
+    ensures made { IfOk result (λ it. map outgoing_view it.items
+        ≡ map (outgoing_from (sender_view sender.entry)) (map sending_view sends.now)) }
+    ensures room { IfOk result (λ it. length it.items ≤ room_of agents.new) }
+    ensures same { agents_view agents.new ≡ agents_view agents.old }
+{
+    let mut prepared = VecDeque::new(alloc);
+    for sending in sends {
+        prepared.push_back(to_send(alloc, sender, sending)?)?;
+    }
+    agents.reserve(prepared.len())?;
+    Ok(prepared)
+}
+
+/// All of this is sent, in order, where what was asked for was told to be so. There is room for it.
+pub(crate) fn settle(agents: &mut Agents, told: &Option<Thrice>, prepared: VecDeque<Outgoing>)
+    requires { length prepared.items ≤ room_of agents.old }
+    ensures { agents_view agents.new ≡ all_sent_if (is_told_yes (told_answer told.now))
+        (map outgoing_view prepared.items) (agents_view agents.old) }
+{
+    if !is_yes(told) {
+        return;
+    }
+    send_all(agents, prepared);
+}
+
+fn send_all(agents: &mut Agents, prepared: VecDeque<Outgoing>)
+    requires { length prepared.items ≤ room_of agents.old }
+    ensures { agents_view agents.new
+        ≡ all_sent (map outgoing_view prepared.items) (agents_view agents.old) }
+{
+    let mut prepared = prepared;
+    while let Some(it) = prepared.pop_front() {
+        agents.send(it.agent, it.action);
+    }
+}
+
+fn is_yes(told: &Option<Thrice>) -> bool
+    ensures { result ≡ is_told_yes (told_answer told.now) }
+{
+    let Some(it) = told else {
+        return false;
+    };
+    matches!(
+        it.kept,
+        Answer::Verdict(Verdict::Committed) | Answer::Permission(Permission::Granted)
+    )
+}
