@@ -369,6 +369,9 @@ actor-send = search all depth 40 fits 20000
 ben-send : IsSend ben.the_row
 ben-send = search (sendable, crosses, maps.crosses, bens.crosses) depth 40 fits 20000
 
+ben-sync : IsSync ben.the_row
+ben-sync = search (sendable, crosses, maps.crosses, bens.crosses) depth 40 fits 20000
+
 decoder-send : IsSend decoder.the_row
 decoder-send = search (sendable, crosses, maps.crosses, bens.crosses) depth 40 fits 20000
 
@@ -405,14 +408,21 @@ entry-send = search (made, step-send, step_answer-send) depth 30 fits 20000
 origin-send : IsSend origin.the_row
 origin-send = search (made, ben-send, option-send) depth 30 fits 20000
 
+option-sync : (R : RattleType) → IsSync R → IsSync (option.the_row R)
+option-sync R s = search sendable depth 12
+
+origin-sync : IsSync origin.the_row
+origin-sync = search (made, ben-sync, option-sync) depth 30 fits 20000
+
 program_text-send : IsSend program_text.the_row
 program_text-send = search (made, string-send, ben-send, option-send) depth 30 fits 20000
 
 waiting-send : IsSend waiting.the_row
-waiting-send = search (made, origin-send, program_text-send) depth 30 fits 20000
+waiting-send =
+    search (made, origin-send, origin-sync, heap.Arc-send, program_text-send) depth 30 fits 20000
 
 manner-send : IsSend manner.the_row
-manner-send = search (made, value-send) depth 30 fits 20000
+manner-send = search (made, value-send, number-send) depth 30 fits 20000
 
 run-send : IsSend run.the_row
 run-send = search (made, job-send, exchange-send, heap.Vec-send) depth 30 fits 20000
@@ -422,6 +432,8 @@ hand-send =
     search (
       made,
       origin-send,
+      origin-sync,
+      heap.Arc-send,
       manner-send,
       text-send,
       run-send,
@@ -468,8 +480,8 @@ atoms-send = search (made, value-send, heap.Vec-send) depth 30 fits 20000
 
 action-send : IsSend action.the_row
 action-send =
-    search (made, task-send, task-sync, origin-send, number-send, heap.Arc-send) depth 30 fits
-    20000
+    search (made, task-send, task-sync, origin-send, origin-sync, number-send, heap.Arc-send)
+    depth 30 fits 20000
 
 sending-send : IsSend sending.the_row
 sending-send = search (made, sendable, action-send) depth 30 fits 20000

@@ -8,7 +8,7 @@ use crate::desk::Desk;
 use crate::gate::Gate;
 use crate::moves::{Connection, bid_farewell, locked};
 use crate::reading::{read_away, read_pieces};
-use crate::working::work;
+use crate::working::{run_actions, work};
 use crate::writing::write_what_waits;
 use connection_queue::{Takings, Ticket, take};
 use journal_book::{Book, Places, Seat};
@@ -22,7 +22,7 @@ use std::thread::Threads;
 // How many seats a tenant gets.
 const SEATS: usize = 5;
 
-/// Serves connections: for each one a reader, two workers and a writer.
+/// Serves connections: for each one a reader, two workers, a runner of actions and a writer.
 #[derive(Drop)]
 pub struct Crew<L: Ledger, G: Drop> {
     pub(crate) alloc: Global,
@@ -90,7 +90,7 @@ impl<L: Ledger + Send + Sync, G: Gate + Drop + Send + Sync> Crew<L, G> {
             runner,
         } = places;
         // where no thread can be started the reader reads all the same, and the others run last
-        let (worker, (other_worker, (writer, mut reader))) = thread::join(
+        let (worker, (other_worker, (runner, (writer, mut reader)))) = thread::join(
             rt,
             || work(rt, &connection, worker),
             || {
@@ -100,8 +100,14 @@ impl<L: Ledger + Send + Sync, G: Gate + Drop + Send + Sync> Crew<L, G> {
                     || {
                         thread::join(
                             rt,
-                            || write_what_waits(rt, &connection, writer),
-                            || read_pieces(rt, &connection, reader),
+                            || run_actions(rt, &connection, runner),
+                            || {
+                                thread::join(
+                                    rt,
+                                    || write_what_waits(rt, &connection, writer),
+                                    || read_pieces(rt, &connection, reader),
+                                )
+                            },
                         )
                     },
                 )

@@ -12,6 +12,14 @@ struct Signs {
     // the system, too
     wait_for_request: u64,
     wait_for_room: u64,
+    // how often something was sent to agents, so that an action may have something to begin, and
+    // how often an await may have been met: an action ended, or a request came
+    sends: u64,
+    turns: u64,
+    wait_for_send: u64,
+    wait_for_turn: u64,
+    // whether no action had anything to begin since the last was sent
+    are_agents_at_rest: bool,
     // how many evaluations are under way
     evaluations: u64,
     // whether the peer may send more
@@ -32,6 +40,8 @@ pub(crate) struct Desk {
     signs: Mutex<Signs>,
     requested: Condvar,
     emptied: Condvar,
+    sent: Condvar,
+    turned: Condvar,
     due: Condvar,
 }
 
@@ -43,6 +53,11 @@ impl Desk {
                 rooms: 0,
                 wait_for_request: 0,
                 wait_for_room: 0,
+                sends: 0,
+                turns: 0,
+                wait_for_send: 0,
+                wait_for_turn: 0,
+                are_agents_at_rest: true,
                 evaluations: 0,
                 is_reading: true,
                 is_broken: false,
@@ -52,6 +67,8 @@ impl Desk {
             }),
             requested: Condvar::new(),
             emptied: Condvar::new(),
+            sent: Condvar::new(),
+            turned: Condvar::new(),
             due: Condvar::new(),
         }
     }
@@ -61,6 +78,8 @@ impl Desk {
         self.signs.lock(rt).is_over = true;
         self.requested.notify_all();
         self.emptied.notify_all();
+        self.sent.notify_all();
+        self.turned.notify_all();
         self.due.notify_all();
     }
 
@@ -86,12 +105,17 @@ impl Desk {
         self.due.notify_one();
     }
 
-    /// So many messages came. Each may be a request.
+    /// So many messages came. Each may be a request, or close a session that awaits.
     pub(crate) fn note_requests<R: Wait>(&self, rt: &R, count: usize) {
         let mut signs = self.signs.lock(rt);
         signs.requests = signs.requests.wrapping_add(1);
+        signs.turns = signs.turns.wrapping_add(1);
         let waiting = signs.wait_for_request;
+        let awaiting = signs.wait_for_turn;
         drop(signs);
+        if 0 < awaiting {
+            self.turned.notify_all();
+        }
         if waiting == 0 {
             return;
         }
@@ -132,6 +156,68 @@ impl Desk {
             .emptied
             .wait_while(rt, signs, |signs| signs.rooms == seen && !signs.is_over);
         signs.wait_for_room = signs.wait_for_room.saturating_sub(1);
+    }
+
+    /// Something was sent to agents, or one was restarted.
+    pub(crate) fn wake_agents<R: Wait>(&self, rt: &R) {
+        let mut signs = self.signs.lock(rt);
+        signs.sends = signs.sends.wrapping_add(1);
+        signs.are_agents_at_rest = false;
+        let waiting = signs.wait_for_send;
+        drop(signs);
+        if 0 < waiting {
+            self.sent.notify_all();
+        }
+    }
+
+    /// No action has anything to begin. Where the peer sends no more, all may be done. How often
+    /// something was sent until now is answered.
+    pub(crate) fn rest_agents<R: Wait>(&self, rt: &R) -> u64 {
+        let mut signs = self.signs.lock(rt);
+        signs.are_agents_at_rest = true;
+        let sends = signs.sends;
+        if !signs.is_reading {
+            signs.is_due = true;
+            drop(signs);
+            self.due.notify_one();
+        }
+        sends
+    }
+
+    /// Waits until something was sent that was not when they were so many.
+    pub(crate) fn wait_for_send<R: Wait>(&self, rt: &R, seen: u64) {
+        let mut signs = self.signs.lock(rt);
+        signs.wait_for_send = signs.wait_for_send.saturating_add(1);
+        let mut signs = self
+            .sent
+            .wait_while(rt, signs, |signs| signs.sends == seen && !signs.is_over);
+        signs.wait_for_send = signs.wait_for_send.saturating_sub(1);
+    }
+
+    /// An action ended.
+    pub(crate) fn note_turn<R: Wait>(&self, rt: &R) {
+        let mut signs = self.signs.lock(rt);
+        signs.turns = signs.turns.wrapping_add(1);
+        let awaiting = signs.wait_for_turn;
+        drop(signs);
+        if 0 < awaiting {
+            self.turned.notify_all();
+        }
+    }
+
+    /// How often an await may have been met until now.
+    pub(crate) fn turns<R: Wait>(&self, rt: &R) -> u64 {
+        self.signs.lock(rt).turns
+    }
+
+    /// Waits until an await may have been met since then.
+    pub(crate) fn wait_for_turn<R: Wait>(&self, rt: &R, seen: u64) {
+        let mut signs = self.signs.lock(rt);
+        signs.wait_for_turn = signs.wait_for_turn.saturating_add(1);
+        let mut signs = self
+            .turned
+            .wait_while(rt, signs, |signs| signs.turns == seen && !signs.is_over);
+        signs.wait_for_turn = signs.wait_for_turn.saturating_sub(1);
     }
 
     /// An evaluation is under way.
@@ -199,9 +285,11 @@ impl Desk {
         signs.is_due = false;
     }
 
-    /// Whether the peer sends no more, nothing is evaluated, and nobody writes.
+    /// Whether the peer sends no more, nothing is evaluated, no action is to begin, and nobody
+    /// writes.
     pub(crate) fn is_at_rest<R: Wait>(&self, rt: &R) -> bool {
         let signs = self.signs.lock(rt);
-        !signs.is_reading && signs.evaluations == 0 && !signs.is_writing
+        let is_idle = signs.evaluations == 0 && signs.are_agents_at_rest;
+        !signs.is_reading && is_idle && !signs.is_writing
     }
 }

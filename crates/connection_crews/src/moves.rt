@@ -55,7 +55,7 @@ pub(crate) enum Found {
     Form(Actor, Job),
     // a request that is done at once, with its replies
     Answered(Vec<Vec<u8>>),
-    // nothing; how often a request came
+    // nothing; how often a request came, or something was sent to agents
     Nothing(u64),
     Held(u64),
     Refused,
@@ -65,6 +65,8 @@ pub(crate) enum Found {
 #[derive(Drop)]
 pub(crate) enum Told {
     Answer(Answer),
+    // an await that is not met; how often something came that may meet it
+    Waiting(u64),
     Interrupted(Vec<Vec<u8>>),
     Refused,
 }
@@ -120,6 +122,35 @@ impl<'a, L: Ledger, G: Gate> Connection<'a, L, G> {
         let Some(actor) = book.ready(tenant) else {
             return Found::Nothing(self.desk.requests(rt));
         };
+        match self.start(rt, &mut *book, seat, actor) {
+            Ok(found) => found,
+            Err(_) => Found::Refused,
+        }
+    }
+
+    /// Begins the next action, if one waits.
+    pub(crate) fn begin_action<R: Wait>(&self, rt: &R, seat: &mut Seat<L>) -> Found
+        ensures { seat.new.tenant ≡ seat.old.tenant }
+    {
+        let mut book = locked(rt, self.book);
+        match self.start(rt, &mut *book, seat, Actor::Agents) {
+            Ok(found) => found,
+            Err(Refusal::Idle) => Found::Nothing(self.desk.rest_agents(rt)),
+            Err(_) => Found::Refused,
+        }
+    }
+
+    // Begins what an actor has to do, unless too many replies wait.
+    fn start<R: Wait>(
+        &self,
+        rt: &R,
+        book: &mut Book<L>,
+        seat: &mut Seat<L>,
+        actor: Actor,
+    ) -> Result<Found, Refusal>
+        ensures { seat.new.tenant ≡ seat.old.tenant }
+    {
+        let tenant = seat.tenant();
         match book.act(seat, Step::Start(tenant, actor)) {
             Ok(
                 Receipt {
@@ -128,16 +159,16 @@ impl<'a, L: Ledger, G: Gate> Connection<'a, L, G> {
                 },
             ) => {
                 self.desk.begin_evaluation(rt);
-                Found::Form(actor, job)
+                Ok(Found::Form(actor, job))
             }
-            Ok(_) => Found::Answered(self.replies(rt, &mut *book, seat)),
+            Ok(_) => Ok(Found::Answered(self.replies(rt, book, seat))),
             Err(
                 Refused {
                     why: Refusal::Held,
                     step: _,
                 },
-            ) => Found::Held(self.desk.rooms(rt)),
-            Err(_) => Found::Refused,
+            ) => Ok(Found::Held(self.desk.rooms(rt))),
+            Err(Refused { why, step: _ }) => Err(why),
         }
     }
 
@@ -146,6 +177,7 @@ impl<'a, L: Ledger, G: Gate> Connection<'a, L, G> {
         ensures { seat.new.tenant ≡ seat.old.tenant }
     {
         let tenant = seat.tenant();
+        let wakes = may_wake_agents(&ask);
         let mut book = locked(rt, self.book);
         match book.act(seat, Step::Asked(tenant, actor, ask)) {
             Ok(
@@ -153,8 +185,19 @@ impl<'a, L: Ledger, G: Gate> Connection<'a, L, G> {
                     place: _,
                     answer: StepAnswer::Answer(answer),
                 },
-            ) => Told::Answer(answer),
+            ) => {
+                if wakes {
+                    self.desk.wake_agents(rt);
+                }
+                Told::Answer(answer)
+            }
             Ok(_) => Told::Interrupted(self.replies(rt, &mut *book, seat)),
+            Err(
+                Refused {
+                    why: Refusal::Waiting,
+                    step: _,
+                },
+            ) => Told::Waiting(self.desk.turns(rt)),
             Err(_) => Told::Refused,
         }
     }
@@ -174,6 +217,9 @@ impl<'a, L: Ledger, G: Gate> Connection<'a, L, G> {
         match book.act(seat, Step::Ended(tenant, actor, ending)) {
             Ok(_) => {
                 let replies = self.replies(rt, &mut *book, seat);
+                if actor == Actor::Agents {
+                    self.desk.note_turn(rt);
+                }
                 match book.ready(tenant) {
                     Some(_) => Ended::Taken(replies, None),
                     None => Ended::Taken(replies, Some(self.desk.requests(rt))),
@@ -250,6 +296,15 @@ pub(crate) fn bid_farewell<L: Ledger, R: Wait>(rt: &R, book: &Mutex<Book<L>>, se
     match locked(rt, book).act(seat, Step::Bye(tenant)) {
         Ok(_gone) => {}
         Err(_refused) => {}
+    }
+}
+
+// Whether an action may have something to begin behind this.
+fn may_wake_agents(ask: &Ask) -> bool {
+    match ask {
+        Ask::Send(_) | Ask::RestartAgent { .. } => true,
+        Ask::Commit(intent) => !intent.sends.is_empty(),
+        _ => false,
     }
 }
 

@@ -39,6 +39,33 @@ pub(crate) fn work<L: Ledger, R: Wait, G: Gate>(
     seat
 }
 
+/// Runs the actions that were sent to agents, one after another, until the connection is over.
+pub(crate) fn run_actions<L: Ledger, R: Wait, G: Gate>(
+    rt: &R,
+    connection: &Connection<'_, L, G>,
+    mut seat: Seat<L>,
+) -> Seat<L> {
+    for _ in rt.forever() {
+        if connection.desk.is_over(rt) {
+            break;
+        }
+        match connection.begin_action(rt, &mut seat) {
+            Found::Form(actor, job) => {
+                let next = evaluate(rt, connection, &mut seat, actor, &job);
+                if matches!(next, Next::Cut) {
+                    connection.cut(rt);
+                }
+                connection.desk.end_evaluation(rt);
+            }
+            Found::Answered(replies) => connection.write(rt, replies),
+            Found::Nothing(seen) => connection.desk.wait_for_send(rt, seen),
+            Found::Held(seen) => connection.desk.wait_for_room(rt, seen),
+            Found::Refused => connection.cut(rt),
+        }
+    }
+    seat
+}
+
 // What a worker does behind an evaluation.
 #[derive(Drop)]
 enum Next {
@@ -105,7 +132,7 @@ fn leave(_walk: Walk, next: Next) -> Result<Progress, Next> {
     Err(next)
 }
 
-// Passes the gate, and has the ask of an evaluation answered.
+// Passes the gate, and has the ask of an evaluation answered, an await once it is met.
 fn ask<L: Ledger, R: Wait, G: Gate>(
     rt: &R,
     connection: &Connection<'_, L, G>,
@@ -114,17 +141,26 @@ fn ask<L: Ledger, R: Wait, G: Gate>(
     walk: &Walk,
 ) -> Result<Answer, Next> {
     connection.gate.pass(seat.tenant(), actor, walk.ask());
-    let Ok(asked) = walk.ask().copy() else {
-        return Err(Next::Cut);
-    };
-    match connection.ask(rt, seat, actor, asked) {
-        Told::Answer(answer) => Ok(answer),
-        Told::Interrupted(replies) => {
-            connection.write(rt, replies);
-            Err(Next::Begin)
+    for _ in rt.forever() {
+        let Ok(asked) = walk.ask().copy() else {
+            return Err(Next::Cut);
+        };
+        match connection.ask(rt, seat, actor, asked) {
+            Told::Answer(answer) => return Ok(answer),
+            Told::Waiting(seen) => {
+                connection.desk.wait_for_turn(rt, seen);
+                if connection.desk.is_over(rt) {
+                    return Err(Next::Cut);
+                }
+            }
+            Told::Interrupted(replies) => {
+                connection.write(rt, replies);
+                return Err(Next::Begin);
+            }
+            Told::Refused => return Err(Next::Cut),
         }
-        Told::Refused => Err(Next::Cut),
     }
+    unreachable!()
 }
 
 // Hands in an ending, as soon as there is room for its replies.

@@ -44,7 +44,7 @@ fn action(alloc: Global, number: u64) -> Result<Action, AllocError> {
     };
     Ok(Action {
         task: Arc::new(alloc, task)?,
-        origin: Origin::none(),
+        origin: Arc::new(alloc, Origin::none())?,
         session: Some(number % SESSIONS),
     })
 }

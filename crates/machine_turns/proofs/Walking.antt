@@ -33,11 +33,13 @@ others-open g w after s answer u is apart =
 
 -- an opened tenant runs no form
 opened-runs : (g : Ground) (a : Actor) → running_in a (opened_quiet g) ≡ None
-opened-runs g a = by (seat_of a == 0)
+opened-runs g a = by (seat_of a == 0) (seat_of a == 1)
   where
-    by : (b : Bool) → running_of (found_first b unoccupied None) ≡ None
-    by true = refl
-    by false = refl
+    by : (b c : Bool)
+        → running_of (found_first b unoccupied (found_first c unoccupied None)) ≡ None
+    by true c = refl
+    by false true = refl
+    by false false = refl
 
 opened-walked : (g : Ground) (o : Option Walks) → IsWalkedAt o (Some (opened_tenant g))
 opened-walked g None = tt

@@ -9,7 +9,7 @@ use Rattle.repl_asks.specs.Leading as leading
 use Rattle.server_rules.specs.Numbered.{part_under}
 use Rattle.server_rules.specs.Ground.{Ground}
 use Rattle.server_rules.specs.Request.{Waiting, Hand, Run}
-use Rattle.server_rules.specs.Starting.{start_waiting}
+use Rattle.server_rules.specs.Starting.{start_waiting, start_action, action_for}
 use Rattle.server_rules.specs.Machine.Ready.{has_waiting}
 use Rattle.server_rules.specs.Store.{Store}
 use Rattle.server_rules.specs.Tenant.{ActorData, seat_of, Quiet, is_held}
@@ -192,43 +192,56 @@ go-others g l a =
 
 -- An actor that has nothing to do
 
+-- but that of agents, an actor to which no request comes has nothing to take up
+no-action : (a : Actor) (q : Quiet) → (seat_of a == 0) ≡ false
+    → action_for a q.cells.agents ≡ None
+no-action Actor.Agents q other = cc
+no-action Actor.Bare q other = refl
+no-action (Actor.Session n) q other = refl
+
 idle-waiting : (g : Ground) (a : Actor) (actor : ActorData) (q : Quiet) (ws : List Waiting)
-    → has_waiting ws ≡ false → start_waiting g a actor q ws ≡ refuses Refusal.Idle
-idle-waiting g a actor q [] none = refl
-idle-waiting g a actor q (w ∷ ws) none = cc
+    → (seat_of a == 0) ≡ false → has_waiting ws ≡ false
+    → start_waiting g a actor q ws ≡ refuses Refusal.Idle
+idle-waiting g a actor q [] other none = ap (start_action g a actor q) (no-action a q other)
+idle-waiting g a actor q (w ∷ ws) other none = cc
 
 idle-hand : (g : Ground) (a : Actor) (actor : ActorData) (q : Quiet) (h : Option Hand)
-    → (is_some h || has_waiting actor.waiting) ≡ false
+    → (seat_of a == 0) ≡ false → (is_some h || has_waiting actor.waiting) ≡ false
     → (honest_in g a h ≡ starts a) × (start_of g a actor q h ≡ refuses Refusal.Idle)
-idle-hand g a actor q None none = (refl, idle-waiting g a actor q actor.waiting none)
-idle-hand g a actor q (Some h) none = cc
+idle-hand g a actor q None other none = (refl, idle-waiting g a actor q actor.waiting other none)
+idle-hand g a actor q (Some h) other none = cc
 
 abbrev why_idle : Option ActorData → Refusal
 why_idle None = Refusal.NoSuchActor
 why_idle (Some actor) = Refusal.Idle
 
 idle-deed : (g : Ground) (a : Actor) (q : Quiet) (there : Option ActorData)
-    → is_some_busy there ≡ false → honest_by g a there ≡ starts a
-idle-deed g a q None none = refl
-idle-deed g a q (Some actor) none = (idle-hand g a actor q actor.hand none).0
+    → (seat_of a == 0) ≡ false → is_some_busy there ≡ false → honest_by g a there ≡ starts a
+idle-deed g a q None other none = refl
+idle-deed g a q (Some actor) other none = (idle-hand g a actor q actor.hand other none).0
 
 idle-plan : (g : Ground) (a : Actor) (q : Quiet) (there : Option ActorData)
-    → is_some_busy there ≡ false
+    → (seat_of a == 0) ≡ false → is_some_busy there ≡ false
     → for_actor there (λ actor. quietly (start_of g a actor q actor.hand))
     ≡ quietly (refuses (why_idle there))
-idle-plan g a q None none = refl
-idle-plan g a q (Some actor) none = ap quietly (idle-hand g a actor q actor.hand none).1
+idle-plan g a q None other none = refl
+idle-plan g a q (Some actor) other none = ap quietly (idle-hand g a actor q actor.hand other none).1
+
+neither : (b c : Bool) → (b || c) ≡ false → (b ≡ false) × (c ≡ false)
+neither true c none = cc
+neither false c none = (refl, none)
 
 idle-refused : (g : Ground) (l : Lone) (a : Actor) → is_busy_at l a ≡ false
     → (l.quiet.steps == 0) ≡ false
     → lone_step g l (goes a) ≡ refused (why_idle (part_under (seat_of a) l.quiet.actors))
 idle-refused g l a none left =
     let there = part_under (seat_of a) l.quiet.actors in
+    let both = neither (seat_of a == 0) (is_some_busy there) none in
     lone_step-goes g l a
     ∙ ap (λ d. stepped_as (carried_out l.store (plan g l.store.tenant l.quiet d)))
-    (idle-deed g a l.quiet there none)
+    (idle-deed g a l.quiet there both.0 both.1)
     ∙ ap (λ p. stepped_as (carried_out l.store (unless_worn l.quiet p)))
-    (idle-plan g a l.quiet there none)
+    (idle-plan g a l.quiet there both.0 both.1)
     ∙ ap (λ worn. stepped_as (carried_out l.store
     (worn_plan (quietly (refuses (why_idle there))) worn))) left
 

@@ -25,6 +25,7 @@ held-or Refusal.Full = inr (λ e. cc)
 held-or Refusal.NoSuchActor = inr (λ e. cc)
 held-or Refusal.Idle = inr (λ e. cc)
 held-or Refusal.Held = inl refl
+held-or Refusal.Waiting = inr (λ e. cc)
 held-or Refusal.Worn = inr (λ e. cc)
 held-or (Refusal.TraceMismatch place) = inr (λ e. cc)
 

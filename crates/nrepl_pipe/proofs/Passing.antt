@@ -1,5 +1,5 @@
 -- A round that passes over the actors that have nothing to do.
-use Rattle.std.proofs.Common.{◌≡◌, ◌≢◌, ℕ, zero, suc, ◌+◌, ◌<◌, ◌≤◌, ◌==◌, inl, inr, List, []}
+use Rattle.std.proofs.Common.{◌≡◌, ◌≢◌, ℕ, zero, suc, ◌+◌, ◌<◌, ◌≤◌, ◌==◌, ◌||◌, inl, inr, List, []}
 use Rattle.std.proofs.Common.{◌∷◌, Bool, true, false, if◌then◌else◌, filter, length, refl, sym, ap}
 use Rattle.std.proofs.Common.{◌∙◌, subst, arith}
 use Rattle.std.proofs.lemmas.Bool.{ne_eqb}
@@ -98,7 +98,8 @@ passes-behind g test l a busy p = record {
   idle = λ b is.
       let apart : seat_of b ≢ seat_of a = λ e.
       let both : false ≡ true = sym is ∙ p.same b a e ∙ busy in cc in
-      ap is_some_busy (go-others g l a (seat_of b) apart) ∙ p.idle b is;
+      ap (λ o. (seat_of b == 0) || is_some_busy o) (go-others g l a (seat_of b) apart)
+      ∙ p.idle b is;
 }
 
 passing : (g : Ground) (test : Actor → Bool) (l : Lone) (all : List Actor) → Passes test l
@@ -132,7 +133,7 @@ enough-same g l actors (inr (is, room)) =
     (subst (λ some. length some < l.quiet.steps) is room)) where
       passes : Passes (is_busy_at l) l
       passes = record {
-        same = λ a b e. ap (λ n. is_some_busy (part_under n l.quiet.actors)) e;
+        same = λ a b e. ap (λ n. (n == 0) || is_some_busy (part_under n l.quiet.actors)) e;
         idle = λ a is. is;
       }
 

@@ -19,7 +19,9 @@ use Rattle.server_rules.specs.Plan.{Outcome, refuses, leaves, Plan}
 use Rattle.server_rules.specs.Starting.{Started, next_begun, program_begun, elsewhere_begun}
 use Rattle.server_rules.specs.Starting.{hand_of, code_begun, text_begun, namespace_there}
 use Rattle.server_rules.specs.Starting.{start_outcome, interrupted_in, first_state, held_or}
-use Rattle.server_rules.specs.Starting.{start_in_hand, start_waiting}
+use Rattle.server_rules.specs.Starting.{start_in_hand, start_waiting, start_action, action_for}
+use Rattle.server_rules.specs.Starting.{action_begun, with_action_begun}
+use Rattle.server_rules.specs.Cells.{NextAction}
 use Rattle.server_rules.specs.Deeds.{start_of}
 use Rattle.server_rules.specs.Plan.{bytes_in}
 use Rattle.server_rules.specs.declared.actor.Actor.{Actor}
@@ -85,6 +87,8 @@ text-so g spaces origin state (file text) =
 
 start_outcome-so : (a : Actor) (actor : ActorData) (s : Started) (q : Quiet)
     → bytes_in s.answer ≡ [] → GoesSo a q (start_outcome a actor s q)
+start_outcome-so Actor.Agents actor s q none =
+    (refl, refl, none, with-stays Actor.Agents (record actor { hand = s.move.hand }) q)
 start_outcome-so Actor.Bare actor s q none =
     (refl, refl, none, with-stays Actor.Bare (record actor { hand = s.move.hand }) q)
 start_outcome-so (Actor.Session n) actor s q none =
@@ -108,9 +112,17 @@ next-so g a actor h q = by actor.is_closed where
       (start_outcome-so a actor (next_begun g h (actor_state a q) h.forms) q
       (begun-so g h (actor_state a q) h.forms))
 
+action-so : (g : Ground) (a : Actor) (actor : ActorData) (q : Quiet) (next : Option NextAction)
+    → GoesSo a q (start_action g a actor q next)
+action-so g a actor q None = λ e. cc
+action-so g a actor q (Some next) =
+    let after = with_action_begun q in
+    held-so a q (start_outcome a actor (action_begun g next) after)
+    (start_outcome-so a actor (action_begun g next) after refl)
+
 waiting-so : (g : Ground) (a : Actor) (actor : ActorData) (q : Quiet) (ws : List Waiting)
     → GoesSo a q (start_waiting g a actor q ws)
-waiting-so g a actor q [] = λ e. cc
+waiting-so g a actor q [] = action-so g a actor q (action_for a q.cells.agents)
 waiting-so g a actor q (w ∷ ws) =
     let begun = text_begun g q.spaces w.origin (first_state a q) w.text in
     held-so a q (start_outcome a (record actor { waiting = ws }) begun q)

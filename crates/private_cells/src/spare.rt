@@ -43,11 +43,13 @@ impl Spare {
             return Ok(());
         }
         let task = blank_task(self.alloc)?;
+        let origin = Arc::new(self.alloc, Origin::none())?;
         while self.nodes.len() < sends {
             if sent + self.nodes.len() as u128 + 1 >= MOST_SENT {
                 return Err(AllocError);
             }
-            self.nodes.push_back(blank(Arc::try_clone(&task)?))?;
+            self.nodes
+                .push_back(blank(Arc::try_clone(&task)?, Arc::try_clone(&origin)?))?;
         }
         Ok(())
     }
@@ -77,12 +79,12 @@ fn fill(place: &mut Sent, sent: Sent)
 }
 
 // What stands in a node that waits to be filled.
-fn blank(task: Arc<Task>) -> Sent {
+fn blank(task: Arc<Task>, origin: Arc<Origin>) -> Sent {
     Sent {
         number: 0,
         action: Action {
             task,
-            origin: Origin::none(),
+            origin,
             session: None,
         },
     }

@@ -1,7 +1,7 @@
 -- What a step makes of an actor's form and of its read point.
 use Rattle.std.proofs.Common.{◌≡◌, ◌≢◌, ◌∙◌, ◌⊎◌, inl, inr, ℕ, ◌==◌, List, [], ◌∷◌, Bool, true}
 use Rattle.std.proofs.Common.{false, Option, Some, None, is_some, option_and_then, refl, sym, ap}
-use Rattle.std.proofs.Common.{subst, arith, if◌then◌else◌}
+use Rattle.std.proofs.Common.{subst, arith, if◌then◌else◌, ◌&&◌}
 use Rattle.std.specs.Prelude.{⊤, Result, Ok, Err}
 use Rattle.std.proofs.lemmas.Bool.{cases_eq}
 use Rattle.repl_faults.specs.Failure.{Failure}
@@ -17,7 +17,7 @@ use Rattle.server_rules.specs.Store.{Store, left_attempt}
 use Rattle.server_rules.specs.Calls.{performed, given_up}
 use Rattle.server_rules.specs.Ground.{Ground}
 use Rattle.server_rules.specs.Request.{Waiting, Manner, each_form, each_form_elsewhere, last_form}
-use Rattle.server_rules.specs.Request.{ProgramText, code, file, Hand, Run}
+use Rattle.server_rules.specs.Request.{of_action, ProgramText, code, file, Hand, Run}
 use Rattle.server_rules.specs.Tenant.{ActorData, seat_of, Quiet, is_held, with_actor, with_state}
 use Rattle.server_rules.specs.Tenant.{actor_state}
 use Rattle.server_rules.specs.Moves.{Move, closing_move, going_on, result_noted, form_loaded}
@@ -28,10 +28,13 @@ use Rattle.server_rules.specs.Hearing.{stream_fault, hears_more}
 use Rattle.server_rules.specs.Starting.{Started, next_begun, hand_of, program_begun}
 use Rattle.server_rules.specs.Starting.{namespace_there, elsewhere_begun, text_begun, first_state}
 use Rattle.server_rules.specs.Starting.{after_move, start_outcome, interrupted_in, held_or}
-use Rattle.server_rules.specs.Starting.{start_in_hand, start_waiting}
-use Rattle.server_rules.specs.Asking.{call_of, is_allowed, answer_to, answer_outcome, when_told}
-use Rattle.server_rules.specs.Asking.{asked_allowed, asked_running, asked_of}
-use Rattle.server_rules.specs.Ending.{with_left_attempt, end_accepted, end_compared, end_running}
+use Rattle.server_rules.specs.Starting.{start_in_hand, start_waiting, start_action, action_for}
+use Rattle.server_rules.specs.Starting.{action_begun, with_action_begun}
+use Rattle.server_rules.specs.Asking.{call_of, may_ask, is_allowed, answer_to, session_of}
+use Rattle.server_rules.specs.Asking.{ask_outcome, answer_outcome, when_told, asked_allowed}
+use Rattle.server_rules.specs.Asking.{asked_running, asked_of}
+use Rattle.server_rules.specs.Cells.{CellsData, NextAction, must_wait}
+use Rattle.server_rules.specs.Ending.{with_cells_ended, with_left_attempt, end_accepted, end_compared, end_running}
 use Rattle.server_rules.specs.Ending.{end_of}
 use Rattle.server_rules.specs.Deeds.{start_of, for_actor, unless_worn, drain_outcome, plan}
 use Rattle.server_rules.specs.declared.actor.Actor.{Actor}
@@ -98,6 +101,7 @@ gone-other m n es apart = ap running_of (part_under-without m n es apart)
 
 with_state-actors : (a : Actor) (state : StateData) (q : Quiet)
     → (with_state a state q).actors ≡ q.actors
+with_state-actors Actor.Agents state q = refl
 with_state-actors Actor.Bare state q = refl
 with_state-actors (Actor.Session n) state q = refl
 
@@ -117,6 +121,7 @@ closing-none : (origin : OriginData) (manner : Manner) (fault : Option Failure) 
     → option_and_then (λ h. h.running) (closing_move origin manner fault state).hand ≡ None
 closing-none origin manner (Some f) state = refl
 closing-none origin (last_form d) None state = refl
+closing-none origin (of_action session) None state = refl
 closing-none origin each_form None state = refl
 closing-none origin each_form_elsewhere None state = refl
 
@@ -170,6 +175,7 @@ ended-none h e state = by h.manner
     by each_form_elsewhere = going-none (record h { namespace = e.namespace }) h.forms
         (result_noted e.result state)
     by (last_form d) = loaded e.result
+    by (of_action session) = refl
 
 -- Plans by cases
 
@@ -201,19 +207,27 @@ module _ (P : Plan → Type 0) (g : Ground) (b : Actor) (q : Quiet) (none : Refu
 
   module _ (begun : (actor old : ActorData) → There b q old
       → option_and_then (λ h. h.running) old.hand ≡ None → (st : Started) → HasFresh st.move
-      → P (quietly (start_outcome b actor st q)))
+      → (c : CellsData) → P (quietly (start_outcome b actor st (record q { cells = c }))))
       (interrupted : (actor : ActorData) → There b q actor
       → option_and_then (λ h. h.running) actor.hand ≡ None → (h : Hand)
       → P (quietly (interrupted_in b h q))) where
+    action-by : (actor : ActorData) → There b q actor → actor.hand ≡ None
+        → (next : Option NextAction) → P (quietly (start_action g b actor q next))
+    action-by actor there idle None = none Refusal.Idle
+    action-by actor there idle (Some next) =
+        let later : Quiet = with_action_begun q in
+        held-by (start_outcome b actor (action_begun g next) later) (begun actor actor there
+        (ap (option_and_then (λ h. h.running)) idle) (action_begun g next) refl later.cells)
+
     waiting-by : (actor : ActorData) → There b q actor → actor.hand ≡ None → (ws : List Waiting)
         → P (quietly (start_waiting g b actor q ws))
-    waiting-by actor there idle [] = none Refusal.Idle
+    waiting-by actor there idle [] = action-by actor there idle (action_for b q.cells.agents)
     waiting-by actor there idle (x ∷ ws) =
         let left : ActorData = record actor { waiting = ws } in
         let st : Started = text_begun g q.spaces x.origin (first_state b q) x.text in
         held-by (start_outcome b left st q) (begun left actor there
         (ap (option_and_then (λ h. h.running)) idle) st
-        (text-fresh g q x.origin (first_state b q) x.text))
+        (text-fresh g q x.origin (first_state b q) x.text) q.cells)
 
     in_hand-by : (actor : ActorData) → There b q actor → (h : Hand) → actor.hand ≡ Some h
         → (runs : Bool) → is_some h.running ≡ runs → P (quietly (start_in_hand g b actor h q runs))
@@ -226,7 +240,7 @@ module _ (P : Plan → Type 0) (g : Ground) (b : Actor) (q : Quiet) (none : Refu
         either (λ o. P (quietly o)) actor.is_closed (interrupted_in b h q) (held_or q outcome)
         (interrupted actor there not_running h)
         (held-by outcome (begun actor actor there not_running st
-        (next-fresh g h (actor_state b q) h.forms)))
+        (next-fresh g h (actor_state b q) h.forms) q.cells))
       where
         none-there : (o : Option Run) → is_some o ≡ false → o ≡ None
         none-there None e = refl
@@ -254,7 +268,8 @@ module _ (P : Plan → Type 0) (g : Ground) (b : Actor) (q : Quiet) (none : Refu
     running-by : (actor : ActorData) → There b q actor → (h : Hand) → actor.hand ≡ Some h
         → (form : Option Run) → h.running ≡ form → P (asked_running g b actor h ask q form)
     running-by actor there h in_hand None runs = none Refusal.Idle
-    running-by actor there h in_hand (Some form) runs = either P (is_allowed ask q.cells) _ _
+    running-by actor there h in_hand (Some form) runs =
+        either P (may_ask b ask && is_allowed ask q.cells) _ _
         (allowed-by actor there h in_hand form runs) (none Refusal.Idle)
 
     hand-by : (actor : ActorData) → There b q actor → (h : Option Hand) → actor.hand ≡ h
@@ -268,20 +283,20 @@ module _ (P : Plan → Type 0) (g : Ground) (b : Actor) (q : Quiet) (none : Refu
 
   module _ (e : EndingData) (over : (actor : ActorData) → There b q actor → (h : Hand)
       → P (with_left_attempt b (interrupted_in b h q)))
-      (ended : (actor : ActorData) → There b q actor → (h : Hand)
-      → P (end_accepted b actor h e q)) where
-    compared-by : (actor : ActorData) → There b q actor → (h : Hand) (same : Bool)
-        (difference : Option ℕ) → P (end_compared b actor h e q same difference)
-    compared-by actor there h false difference = none (Refusal.TraceMismatch 0)
-    compared-by actor there h true (Some place) = none (Refusal.TraceMismatch place)
-    compared-by actor there h true None = ended actor there h
+      (ended : (actor : ActorData) → There b q actor → (h : Hand) (form : Run)
+      → P (end_accepted b actor h form e q)) where
+    compared-by : (actor : ActorData) → There b q actor → (h : Hand) (form : Run) (same : Bool)
+        (difference : Option ℕ) → P (end_compared b actor h form e q same difference)
+    compared-by actor there h form false difference = none (Refusal.TraceMismatch 0)
+    compared-by actor there h form true (Some place) = none (Refusal.TraceMismatch place)
+    compared-by actor there h form true None = ended actor there h form
 
     ending-by : (actor : ActorData) → There b q actor → (h : Hand) (form : Option Run)
         → P (end_running g b actor h e q form)
     ending-by actor there h None = none Refusal.Idle
     ending-by actor there h (Some form) = either P actor.is_closed _ _ (over actor there h)
         (either P (is_held q) _ _ (none Refusal.Held)
-        (compared-by actor there h (g.comparisons.is_same_job e.job form.job)
+        (compared-by actor there h form (g.comparisons.is_same_job e.job form.job)
         (g.comparisons.difference e.trace form.trace)))
 
     end-by : (actor : ActorData) → There b q actor → (h : Option Hand)
@@ -309,11 +324,11 @@ module _ (g : Ground) (a : Actor) (q : Quiet) (s : Store) where
 
   start-mine : (t : ℕ) → Comes g a q s (starts a) (plan g t q (starts a))
   start-mine t = starts-by (Comes g a q s (starts a)) g a q (λ why. tt)
-      (λ actor old there none st fresh.
+      (λ actor old there none st fresh c.
       let new : ActorData = record actor { hand = st.move.hand } in
       inr (inl (
         idle old there none,
-        subst IsFresh (sym (moved-runs a a actor st.move q
+        subst IsFresh (sym (moved-runs a a actor st.move (record q { cells = c })
             ∙ put-mine (seat_of a) new old q.actors there)) fresh,
         refl,
       )))
@@ -329,9 +344,9 @@ module _ (g : Ground) (a : Actor) (q : Quiet) (s : Store) where
   end-mine : (e : EndingData) (t : ℕ) → Comes g a q s (ends a e) (plan g t q (ends a e))
   end-mine e t = ends-by (Comes g a q s (ends a e)) g a q (λ why. tt) e
       (λ actor there h. interrupted-mine (ends a e) h)
-      (λ actor there h.
+      (λ actor there h form.
       let m : Move = form_ended h e.end (actor_state a q) in
-      is_over (ends a e) _ _ (moved-runs a a actor m q
+      is_over (ends a e) _ _ (moved-runs a a actor m (with_cells_ended a h form e q)
       ∙ put-mine (seat_of a) (record actor { hand = m.hand }) actor q.actors there
       ∙ ended-none h e.end (actor_state a q)) (gone (seat_of a) s.mine.points))
       t
@@ -358,7 +373,10 @@ module _ (g : Ground) (a : Actor) (q : Quiet) (s : Store) where
       asked actor there h in_hand form runs (Some v) told =
           let more : Run = run_with (exchange_from ask (answer_to g a q ask v)) form in
           let new : ActorData = record actor { hand = Some (record h { running = Some more }) } in
-          inr (inr (inr (record {
+          either
+          (Leaves (Moves g a q s (asks_for a ask)) a (performed s (call_of (seat_of a) ask)).store)
+          (must_wait (session_of a) ask q.cells) (refuses Refusal.Waiting)
+          (ask_outcome g a actor h form ask q v) tt (inr (inr (inr (record {
             form = form;
             runs = ap running_of there ∙ ap (option_and_then (λ x. x.running)) in_hand ∙ runs;
             ask = ask;
@@ -367,15 +385,16 @@ module _ (g : Ground) (a : Actor) (q : Quiet) (s : Store) where
             tells = told;
             form_after = put-mine (seat_of a) new actor q.actors there;
             point_after = refl;
-          })))
+          }))))
 
 -- Deeds of others
 
 module _ (g : Ground) (a b : Actor) (q : Quiet) (s : Store) (apart : seat_of a ≢ seat_of b) where
   moved-other : (d : Deed) (actor old : ActorData) (m : Move) → There b q old → (p : Option ℕ)
-      → p ≡ part_under (seat_of a) s.mine.points
-      → Moves g a q s d (running_in a (with_step_spent (after_move b actor m q))) p
-  moved-other d actor old m there p here = stays g a q s d _ _ (moved-runs a b actor m q
+      → p ≡ part_under (seat_of a) s.mine.points → (c : CellsData)
+      → Moves g a q s d (running_in a (with_step_spent (after_move b actor m (record q { cells = c })))) p
+  moved-other d actor old m there p here c =
+      stays g a q s d _ _ (moved-runs a b actor m (record q { cells = c })
       ∙ put-other (seat_of a) (seat_of b) (record actor { hand = m.hand }) old q.actors apart there)
       here
 
@@ -391,14 +410,15 @@ module _ (g : Ground) (a b : Actor) (q : Quiet) (s : Store) (apart : seat_of a �
 
   start-other : (t : ℕ) → Comes g a q s (starts b) (plan g t q (starts b))
   start-other t = starts-by (Comes g a q s (starts b)) g b q (λ why. tt)
-      (λ actor old there none st fresh. moved-other (starts b) actor old st.move there _ refl)
+      (λ actor old there none st fresh c. moved-other (starts b) actor old st.move there _ refl c)
       (λ actor there none h. interrupted-other (starts b) h s refl) t
 
   end-other : (e : EndingData) (t : ℕ) → Comes g a q s (ends b e) (plan g t q (ends b e))
   end-other e t = ends-by (Comes g a q s (ends b e)) g b q (λ why. tt) e
       (λ actor there h. interrupted-other (ends b e) h (left_attempt (seat_of b) s) left-other)
-      (λ actor there h. moved-other (ends b e) actor actor
-      (form_ended h e.end (actor_state b q)) there _ left-other)
+      (λ actor there h form. moved-other (ends b e) actor actor
+      (form_ended h e.end (actor_state b q)) there _ left-other
+      (with_cells_ended b h form e q).cells)
       t
 
   ask-other : (ask : AskData) (t : ℕ) → Comes g a q s (asks_for b ask) (plan g t q (asks_for b ask))
@@ -423,15 +443,23 @@ module _ (g : Ground) (a b : Actor) (q : Quiet) (s : Store) (apart : seat_of a �
       asked actor there h form (Some v) told =
           let more : Run = run_with (exchange_from ask (answer_to g b q ask v)) form in
           let new : ActorData = record actor { hand = Some (record h { running = Some more }) } in
-          stays g a q s (asks_for b ask) _ _
+          either
+          (Leaves (Moves g a q s (asks_for b ask)) a (performed s (call_of (seat_of b) ask)).store)
+          (must_wait (session_of b) ask q.cells) (refuses Refusal.Waiting)
+          (ask_outcome g b actor h form ask q v) tt (stays g a q s (asks_for b ask) _ _
           (put-other (seat_of a) (seat_of b) new actor q.actors apart there)
-          (asked-others (seat_of a) (seat_of b) ask v s apart told)
+          (asked-others (seat_of a) (seat_of b) ask v s apart told))
 
 -- Each deed
 
 seat-same : (a b : Actor) → seat_of a ≡ seat_of b → a ≡ b
+seat-same Actor.Agents Actor.Agents e = refl
+seat-same Actor.Agents Actor.Bare e = absurd (omega (arith, e))
+seat-same Actor.Agents (Actor.Session n) e = absurd (omega (arith, e))
+seat-same Actor.Bare Actor.Agents e = absurd (omega (arith, e))
 seat-same Actor.Bare Actor.Bare e = refl
 seat-same Actor.Bare (Actor.Session n) e = absurd (omega (arith, e))
+seat-same (Actor.Session n) Actor.Agents e = absurd (omega (arith, e))
 seat-same (Actor.Session n) Actor.Bare e = absurd (omega (arith, e))
 seat-same (Actor.Session n) (Actor.Session m) e =
     let same : n ≡ m = omega (arith, e) in ap (λ k. Actor.Session k) same

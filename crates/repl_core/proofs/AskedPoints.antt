@@ -28,6 +28,7 @@ use Rattle.repl_core.specs.Standing.{open_in, store_in}
 use Rattle.repl_core.specs.Commits.{refs_in, ref_in_world}
 use Rattle.repl_core.specs.Points.{held_at, reading_of, bound_told, told_at}
 use Rattle.repl_core.specs.AttemptsUnderWay.{is_within}
+use Rattle.repl_core.proofs.CommitCalls.{send-stays}
 use Rattle.repl_core.proofs.Commits.{ref-near}
 use Rattle.repl_core.proofs.Points.{none-some, kept-held}
 
@@ -85,6 +86,8 @@ asked-others m n (exchange.max_history name (Some k)) v s apart told =
 asked-others m n (exchange.commit intent) v s apart told =
     ap (λ es. part_under m es) (commit-told s n intent v (sym told))
     ∙ left-others m n s apart s.mine.points refl
+asked-others m n (exchange.may_send x) v s apart told =
+    ap (λ (kept : Store). part_under m kept.mine.points) (send-stays n s)
 asked-others m n _ v s apart told = refl
 
 -- Of the actor itself
@@ -244,4 +247,6 @@ module _ (w : World) (t seat : ℕ) (kept : TenantData) (there : open_in t w ≡
       still (exchange.max_history name (Some k)) told _
       (bound-points name name.owner (with_most k) s (ref_named name s)) refl
       (λ point is names. absurd (bound-unset (with_most k) name told e names))
+  asked-point g a (exchange.may_send x) told e = own (exchange.may_send x) _ _
+      (ap (λ (kept : Store). kept.mine.points) (send-stays seat s)) refl refl
   asked-point g a ask told e = own ask _ kept.mine.points refl refl refl

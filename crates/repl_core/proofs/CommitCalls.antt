@@ -22,8 +22,8 @@ use Rattle.value_data.specs.Same.{same_owner}
 use Rattle.server_rules.specs.Commit.{all_folded, with_changes, with_raised_counter, with_all}
 use Rattle.server_rules.specs.Commit.{concluded_commit, checked_commit, commit_by}
 use Rattle.server_rules.specs.Calls.{performed_make, performed_begin, read_at, read_by}
-use Rattle.server_rules.specs.Calls.{bound_set, performed}
-use Rattle.server_rules.specs.Asking.{call_of}
+use Rattle.server_rules.specs.Calls.{bound_set, nothing, inside, performed}
+use Rattle.server_rules.specs.Asking.{call_of, send_call}
 use Rattle.server_rules.proofs.Sound.{version_with}
 use Rattle.ref_table.proofs.Owners.{some-same, none-some, slice_get-changed, slice_get-added}
 use Rattle.ref_table.proofs.Owners.{slice_get-changed_other, slice_get-added_other}
@@ -313,6 +313,13 @@ commit-newest name seat intent answer s (Some point) told =
     checked_commit-newest name seat intent answer s (all_there (touched_refs intent) s && intent_fits intent)
     (any_newer point (guarded_refs intent) s) refl told
 
+-- whether something may be sent is told of no ref
+pub send-stays : (seat : ℕ) (s : Store) → (performed s (send_call seat)).store ≡ s
+send-stays seat s = by (seat == 0) where
+  by : (b : Bool) → (performed s (if b then nothing else inside seat)).store ≡ s
+  by true = refl
+  by false = refl
+
 -- what an ask that is answered makes of each ref
 pub asked-newest : (name : RefNameData) (seat : ℕ) (ask : AskData) (answer : AnswerData)
     (s : Store) → (performed s (call_of seat ask)).told ≡ Some answer
@@ -347,7 +354,8 @@ asked-newest name seat (exchange.read_agent n) answer s told = refl
 asked-newest name seat (exchange.agent_fault n) answer s told = refl
 asked-newest name seat (exchange.restart_agent n d) answer s told = refl
 asked-newest name seat (exchange.send x) answer s told = refl
-asked-newest name seat (exchange.may_send x) answer s told = refl
+asked-newest name seat (exchange.may_send x) answer s told =
+    ap (newest_at name) (send-stays seat s)
 asked-newest name seat (exchange.await ns) answer s told = refl
 
 -- What is given to a ref that has no value

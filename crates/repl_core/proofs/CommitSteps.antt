@@ -1,6 +1,6 @@
 -- What a step makes of the newest values of refs.
 use Rattle.std.proofs.Common.{◌≡◌, ℕ, ◌==◌, ◌∷◌, Bool, true, false, nat_le, Option, Some, None}
-use Rattle.std.proofs.Common.{slice_get, refl, sym, ap, subst, ◌∙◌, if◌then◌else◌}
+use Rattle.std.proofs.Common.{◌&&◌, slice_get, refl, sym, ap, subst, ◌∙◌, if◌then◌else◌}
 use Rattle.std.specs.Prelude.{option_and_then}
 use Rattle.std.proofs.lemmas.Bool.{eqb-true, eqb-false}
 use Rattle.value_data.specs.Datum.{Datum, OwnerData, shared, tenant}
@@ -20,9 +20,11 @@ use Rattle.server_rules.specs.Plan.{leaves, Plan, quietly, with_step_spent}
 use Rattle.server_rules.specs.Hearing.{hearing_plan}
 use Rattle.server_rules.specs.Moves.{form_ended}
 use Rattle.server_rules.specs.Starting.{after_move, interrupted_in}
-use Rattle.server_rules.specs.Asking.{call_of, is_allowed, answer_to, answer_outcome, when_told}
-use Rattle.server_rules.specs.Asking.{asked_allowed, asked_running, asked_of}
-use Rattle.server_rules.specs.Ending.{with_left_attempt, end_compared, end_checked, end_running}
+use Rattle.server_rules.specs.Asking.{call_of, may_ask, is_allowed, answer_to, session_of}
+use Rattle.server_rules.specs.Asking.{ask_outcome, answer_outcome, when_told, asked_allowed}
+use Rattle.server_rules.specs.Asking.{asked_running, asked_of}
+use Rattle.server_rules.specs.Cells.{must_wait}
+use Rattle.server_rules.specs.Ending.{with_cells_ended, with_left_attempt, end_compared, end_checked, end_running}
 use Rattle.server_rules.specs.Ending.{end_of}
 use Rattle.server_rules.specs.Deeds.{start_of, for_actor, unless_worn, drain_outcome, plan}
 use Rattle.server_rules.specs.Machine.World.{TenantData, World, Step, opens, does, closes, Stepped, refused}
@@ -87,7 +89,7 @@ module _ (P : Plan → Type 0) (g : Ground) (a : Actor) (ask : AskData) (q : Qui
       → P (asked_running g a actor h ask q form)
   running-by actor h None = none Refusal.Idle
   running-by actor h (Some form) =
-      elim (is_allowed ask q.cells)
+      elim (may_ask a ask && is_allowed ask q.cells)
       as (λ b. P (if b then asked_allowed g a actor h form ask q
       else quietly (refuses Refusal.Idle))) [
         | true ↦ allowed-by actor h form
@@ -184,18 +186,18 @@ module _ (name : RefNameData) (w : World) (t : ℕ) (kept : TenantData)
       (λ q answer is. left-newest name (seat_of a) (store_in w.around t kept.mine)
       ∙ sym (still answer (newest_at name (store_in w.around t kept.mine))))
 
-  compared-gives : (d : Deed) → Still d → (a : Actor) (actor : ActorData) (h : Hand)
+  compared-gives : (d : Deed) → Still d → (a : Actor) (actor : ActorData) (h : Hand) (form : Run)
       (e : EndingData) (same : Bool) (difference : Option ℕ)
-      → Planned d (end_compared a actor h e kept.quiet same difference)
-  compared-gives d still a actor h e false difference = refl
-  compared-gives d still a actor h e true (Some place) = refl
-  compared-gives d still a actor h e true None = left-gives d still a
-      (leaves (with_step_spent (after_move a actor (form_ended h e.end (actor_state a kept.quiet)) kept.quiet))
-      form_finished)
+      → Planned d (end_compared a actor h form e kept.quiet same difference)
+  compared-gives d still a actor h form e false difference = refl
+  compared-gives d still a actor h form e true (Some place) = refl
+  compared-gives d still a actor h form e true None = left-gives d still a
+      (leaves (with_step_spent (after_move a actor (form_ended h e.end (actor_state a kept.quiet))
+      (with_cells_ended a h form e kept.quiet))) form_finished)
 
   checked-gives : (g : Ground) (d : Deed) → Still d → (a : Actor) (actor : ActorData) (h : Hand)
       (form : Run) (e : EndingData) → Planned d (end_checked g a actor h form e kept.quiet)
-  checked-gives g d still a actor h form e = compared-gives d still a actor h e
+  checked-gives g d still a actor h form e = compared-gives d still a actor h form e
       (g.comparisons.is_same_job e.job form.job) (g.comparisons.difference e.trace form.trace)
 
   ending-gives : (g : Ground) (d : Deed) → Still d → (a : Actor) (actor : ActorData) (h : Hand)
@@ -254,12 +256,17 @@ module _ (name : RefNameData) (w : World) (t : ℕ) (kept : TenantData)
           (ended_as w t (performed s (call_of (seat_of a) ask)).store
           (when_told o (answer_outcome g a actor h form ask kept.quiet)))
       by None told = refl
-      by (Some v) told = put-newest name w t kept _ (performed s (call_of (seat_of a) ask)).store
-          (given_by name ask (answer_to g a kept.quiet ask v)) there
-          (performed-tenant s (call_of (seat_of a) ask))
-          (asked-newest name (seat_of a) ask v s told
-          ∙ sym (answer-given g a ask v (newest_at name s)))
-          (given-none name ask (answer_to g a kept.quiet ask v))
+      by (Some v) told = waits (must_wait (session_of a) ask kept.quiet.cells) where
+        waits : (b : Bool) → Gives name w (does t (asks_for a ask))
+            (ended_as w t (performed s (call_of (seat_of a) ask)).store
+            (if b then refuses Refusal.Waiting else ask_outcome g a actor h form ask kept.quiet v))
+        waits true = refl
+        waits false = put-newest name w t kept _ (performed s (call_of (seat_of a) ask)).store
+            (given_by name ask (answer_to g a kept.quiet ask v)) there
+            (performed-tenant s (call_of (seat_of a) ask))
+            (asked-newest name (seat_of a) ask v s told
+            ∙ sym (answer-given g a ask v (newest_at name s)))
+            (given-none name ask (answer_to g a kept.quiet ask v))
 
   plan-gives : (g : Ground) (d : Deed) → Planned d (plan g t kept.quiet d)
   plan-gives g (hears piece) =

@@ -1,9 +1,10 @@
 -- What a deed that was accepted leaves.
 use Rattle.std.proofs.Common.{◌≡◌, ◌==◌, ℕ, List, Bool, true, false, length, Option, Some, None}
-use Rattle.std.proofs.Common.{option_and_then, refl, sym, ap, ◌∙◌, if◌then◌else◌}
+use Rattle.std.proofs.Common.{option_and_then, refl, sym, ap, ◌∙◌, if◌then◌else◌, ◌&&◌}
 use Rattle.bencode_wire.specs.declared.fault.WireFault.{WireFault}
 use Rattle.repl_asks.specs.Exchange.{AskData, AnswerData}
 use Rattle.server_rules.specs.Calls.{gives_up, performed}
+use Rattle.server_rules.specs.Cells.{must_wait}
 use Rattle.server_rules.specs.Ground.{Ground}
 use Rattle.server_rules.specs.Hearing.{stream_fault, new_messages, taken_in}
 use Rattle.server_rules.specs.Numbered.{part_under}
@@ -15,6 +16,7 @@ use Rattle.server_rules.specs.Plan.{Plan, Outcome, StepAnswer, refuses, leaves, 
 use Rattle.server_rules.specs.Plan.{quietly, messages_heard, ask_answered}
 use Rattle.server_rules.specs.Deeds.{for_actor}
 use Rattle.server_rules.specs.Asking.{asked_of, asked_running, asked_allowed, answer_outcome}
+use Rattle.server_rules.specs.Asking.{ask_outcome, may_ask, session_of}
 use Rattle.server_rules.specs.Asking.{answer_to, with_recorded_answer, quiet_after, call_of}
 use Rattle.server_rules.specs.Asking.{sender_of}
 use Rattle.server_rules.specs.Asking.{is_allowed, when_told}
@@ -63,12 +65,13 @@ answered-after g q s a ask after ans run is runs =
     p : ActorData → Plan
     p actor = asked_of g a actor ask q actor.hand
 
-    told : (actor : ActorData) (h : Hand) → part_under (seat_of a) q.actors ≡ Some actor
-        → (o : Option AnswerData)
-        → when_told o (answer_outcome g a actor h run ask q) ≡ leaves after (ask_answered ans)
+    waits : (actor : ActorData) (h : Hand) → part_under (seat_of a) q.actors ≡ Some actor
+        → (x : AnswerData) (b : Bool)
+        → (if b then refuses Refusal.Waiting else ask_outcome g a actor h run ask q x)
+        ≡ leaves after (ask_answered ans)
         → running_in a after ≡ Some (run_with (exchange_from ask ans) run)
-    told actor h there None never = absurd (cc)
-    told actor h there (Some x) same =
+    waits actor h there x true never = absurd (cc)
+    waits actor h there x false same =
         let answer = answer_to g a q ask x in
         let more = run_with (exchange_from ask answer) run in
         let new = record actor { hand = Some (record h { running = Some more }) } in
@@ -79,6 +82,13 @@ answered-after g q s a ask after ans run is runs =
         ap (running_in a) behind
         ∙ ap running_of ((part_under-put (seat_of a) (seat_of a) new actor q.actors there).0 refl)
         ∙ ap (λ y. Some (run_with (exchange_from ask y) run)) equal
+
+    told : (actor : ActorData) (h : Hand) → part_under (seat_of a) q.actors ≡ Some actor
+        → (o : Option AnswerData)
+        → when_told o (answer_outcome g a actor h run ask q) ≡ leaves after (ask_answered ans)
+        → running_in a after ≡ Some (run_with (exchange_from ask ans) run)
+    told actor h there None never = absurd (cc)
+    told actor h there (Some x) same = waits actor h there x (must_wait (session_of a) ask q.cells) same
 
     interrupted : (h : Hand) → (o : Option AnswerData)
         → when_told o (λ _. interrupted_in a h q) ≡ leaves after (ask_answered ans) → ⊥
@@ -110,7 +120,7 @@ answered-after g q s a ask after ans run is runs =
         → (r : Option Run) → r ≡ Some run
         → (carried_out s (asked_running g a actor h ask q r)).outcome ≡ leaves after (ask_answered ans)
         → running_in a after ≡ Some (run_with (exchange_from ask ans) run)
-    of_run actor h there r some same = allowed actor h there (is_allowed ask q.cells)
+    of_run actor h there r some same = allowed actor h there (may_ask a ask && is_allowed ask q.cells)
         (sym (ap (λ x. (carried_out s (asked_running g a actor h ask q x)).outcome) some) ∙ same)
 
     in_hand : (actor : ActorData) → part_under (seat_of a) q.actors ≡ Some actor → (h : Option Hand)

@@ -112,15 +112,15 @@ end-reached : (g : Ground) (q : Quiet) (s : Store) (a : Actor) (actor : ActorDat
     (h : Option Hand) → Reached s (carried_out s (end_of g a actor e q h)).store
 end-reached g q s a actor e None = reached-all s
 end-reached g q s a actor e (Some h) = runs h.running where
-  compared : (b : Bool) (place : Option ℕ)
-      → Reached s (carried_out s (end_compared a actor h e q b place)).store
-  compared false place = reached-all s
-  compared true (Some place) = reached-all s
-  compared true None = record { around = refl; tenant = refl; refs = refl }
+  compared : (run : Run) (b : Bool) (place : Option ℕ)
+      → Reached s (carried_out s (end_compared a actor h run e q b place)).store
+  compared run false place = reached-all s
+  compared run true (Some place) = reached-all s
+  compared run true None = record { around = refl; tenant = refl; refs = refl }
 
   held : (run : Run) (b : Bool) → Reached s (carried_out s (held_by g a actor h run e q b)).store
   held run true = reached-all s
-  held run false = compared (g.comparisons.is_same_job e.job run.job)
+  held run false = compared run (g.comparisons.is_same_job e.job run.job)
       (g.comparisons.difference e.trace run.trace)
 
   closed : (run : Run) (b : Bool) → Reached s (carried_out s (closed_by g a actor h run e q b)).store

@@ -23,6 +23,7 @@ use Rattle.tenant_world.specs.Running.{running_in}
 use Rattle.repl_core.specs.Inside.Walked.{IsWalkOf, AreWalked}
 
 seat-back : (a : Actor) → actor_at (seat_of a) ≡ a
+seat-back Actor.Agents = refl
 seat-back Actor.Bare = refl
 seat-back (Actor.Session n) = refl
 

@@ -155,11 +155,13 @@ deed-moves g w u d t a (Some (Some kept)) is = by (cases_eq t u)
         ((plan g u kept.quiet d).next called.told) apart there
 
 opened-none : (g : Ground) (a : Actor) → running_in a (opened_tenant g).quiet ≡ None
-opened-none g a = by (seat_of a == 0)
+opened-none g a = by (seat_of a == 0) (seat_of a == 1)
   where
-    by : (b : Bool) → running_of (if b then Some unoccupied else None) ≡ None
-    by true = refl
-    by false = refl
+    by : (b c : Bool)
+        → running_of (if b then Some unoccupied else if c then Some unoccupied else None) ≡ None
+    by true c = refl
+    by false true = refl
+    by false false = refl
 
 open-moves : (g : Ground) (w : World) (u t : ℕ) (a : Actor)
     → StepMoves g w (opens u) (open_step g w u) t a

@@ -19,18 +19,11 @@ pub(crate) enum Line {
     Turn(Turn),
 }
 
-// What a line may ask for that the server does not have yet.
-#[derive(Clone, Copy)]
-pub(crate) enum Missing {
-    Agents,
-}
-
 // Why a line is not read.
 #[derive(Clone, Copy)]
 pub(crate) enum LineError {
     NoMemory,
     Malformed,
-    Missing(Missing),
 }
 
 impl From<AllocError> for LineError {
@@ -109,7 +102,7 @@ fn read_version(text: &str) -> Result<Line, LineError> {
 fn read_actor(name: &str) -> Result<Actor, LineError> {
     match name {
         "bare" => Ok(Actor::Bare),
-        "agents" => Err(LineError::Missing(Missing::Agents)),
+        "agents" => Ok(Actor::Agents),
         _ => Ok(Actor::Session(read_number(name)?)),
     }
 }

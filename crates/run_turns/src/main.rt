@@ -4,7 +4,7 @@
 
 mod lines;
 
-use crate::lines::{Line, LineError, Missing, read_line};
+use crate::lines::{Line, LineError, read_line};
 use machine_turns::{Outputs, RefusedTurn, Turn, drive};
 use repl_core::{Config, LoadError, RETRIES, STEPS, SharedText};
 use repl_values::Fault;
@@ -26,7 +26,6 @@ enum ScriptError {
     NoMemory,
     // the number of the line, from 1 on
     Malformed(u64),
-    Missing(u64, Missing),
     // standard input or output failed
     Failed,
 }
@@ -67,7 +66,6 @@ fn read_script(alloc: Global, text: &str) -> Result<Script, ScriptError> {
             Ok(Line::Turn(turn)) => add_turn(&mut turns, turn)?,
             Err(LineError::NoMemory) => return Err(ScriptError::NoMemory),
             Err(LineError::Malformed) => return Err(ScriptError::Malformed(number)),
-            Err(LineError::Missing(what)) => return Err(ScriptError::Missing(number, what)),
         }
     }
     Ok(Script { config, turns })
@@ -132,13 +130,6 @@ fn complain<W: Write>(errors: &mut W, error: ScriptError) -> u8 {
         }
         ScriptError::Malformed(number) => {
             let _ = writeln!(errors, "run_turns: line {number} is malformed");
-            2
-        }
-        ScriptError::Missing(number, what) => {
-            let what = match what {
-                Missing::Agents => "agents are not supported",
-            };
-            let _ = writeln!(errors, "run_turns: line {number}: {what}");
             2
         }
     }

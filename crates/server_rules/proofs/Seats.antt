@@ -1,6 +1,6 @@
 -- The actors of a tenant stand in the order of their seats, whatever happens.
 use Rattle.std.proofs.Common.{◌≡◌, ℕ, suc, ◌+◌, ◌==◌, List, [], ◌∷◌, ◌++◌, Bool, true, false}
-use Rattle.std.proofs.Common.{if◌then◌else◌, Option, Some, None, refl, sym, subst, arith, inl, inr}
+use Rattle.std.proofs.Common.{if◌then◌else◌, ◌&&◌, Option, Some, None, refl, sym, subst, arith, inl, inr}
 use Rattle.std.proofs.Common.{nat_le, is_some}
 use Rattle.std.specs.Prelude.{⊤, Result, Ok, Err}
 use Rattle.std.proofs.lemmas.Bool.{cases_eq}
@@ -28,10 +28,12 @@ use Rattle.server_rules.specs.Hearing.{with_messages, new_messages, stream_fault
 use Rattle.server_rules.specs.Hearing.{hears_more}
 use Rattle.server_rules.specs.Starting.{Started, after_move, start_outcome, interrupted_in}
 use Rattle.server_rules.specs.Starting.{held_or, next_begun, text_begun, first_state}
-use Rattle.server_rules.specs.Starting.{start_in_hand, start_waiting}
-use Rattle.server_rules.specs.Asking.{is_allowed, answer_outcome, when_told, asked_allowed}
-use Rattle.server_rules.specs.Asking.{asked_running, asked_of}
-use Rattle.server_rules.specs.Ending.{end_compared, end_running, end_of}
+use Rattle.server_rules.specs.Starting.{start_in_hand, start_waiting, action_begun, action_for}
+use Rattle.server_rules.specs.Starting.{with_action_begun, start_action}
+use Rattle.server_rules.specs.Cells.{NextAction, must_wait}
+use Rattle.server_rules.specs.Asking.{may_ask, is_allowed, session_of, answer_outcome, when_told}
+use Rattle.server_rules.specs.Asking.{asked_allowed, asked_running, asked_of}
+use Rattle.server_rules.specs.Ending.{with_cells_ended, end_compared, end_running, end_of}
 use Rattle.server_rules.specs.Deeds.{start_of, for_actor, unless_worn, drain_outcome, plan}
 use Rattle.server_rules.specs.Plan.{Deed, hears, starts, asks_for, ends, drains, Outcome, refuses}
 use Rattle.server_rules.specs.Plan.{leaves, Plan, quietly}
@@ -46,7 +48,7 @@ use Rattle.server_rules.proofs.Steps.{room, store_of}
 
 -- the seats rise, and the next session's is above them all
 abbrev pub IsSeated : Quiet → Type 0
-IsSeated q = Rising 0 (suc q.sessions.opened) q.actors
+IsSeated q = Rising 0 (suc (suc q.sessions.opened)) q.actors
 
 -- Hearing
 
@@ -54,8 +56,8 @@ clone-seated
     : (g : Ground) (t : ℕ) (origin : OriginData) (original : Option ℕ) (q : Quiet) → IsSeated q
     → IsSeated (with_clone g t origin original q)
 clone-seated g t origin original q h =
-    let seat = suc q.sessions.opened in
-    let next : suc seat ≡ suc (q.sessions.opened + 1) = omega arith in
+    let seat = suc (suc q.sessions.opened) in
+    let next : suc seat ≡ suc (suc (q.sessions.opened + 1)) = omega arith in
     subst (λ high. Rising 0 high (q.actors ++ entry seat unoccupied ∷ [])) next
     (rising-behind 0 seat unoccupied q.actors h)
 
@@ -69,12 +71,12 @@ closed-seated : (origin : OriginData) (n : ℕ) (q : Quiet) (actor : Option Acto
     → IsSeated (closed_by origin n q actor)
 closed-seated origin n q None h = h
 closed-seated origin n q (Some actor) h =
-    vacated-rising (suc n) (suc q.sessions.opened) actor.hand q.actors h
+    vacated-rising (suc (suc n)) (suc (suc q.sessions.opened)) actor.hand q.actors h
 
 with_actor-seated : (a : Actor) (actor : ActorData) (q : Quiet) → IsSeated q
     → IsSeated (with_actor a actor q)
 with_actor-seated a actor q h =
-    rising-with (seat_of a) 0 (suc q.sessions.opened) actor q.actors h
+    rising-with (seat_of a) 0 (suc (suc q.sessions.opened)) actor q.actors h
 
 queued-seated : (a : Actor) (w : Waiting) (q : Quiet) (actor : Option ActorData) → IsSeated q
     → IsSeated (queued_for a w q actor)
@@ -93,7 +95,7 @@ operation-seated
     → IsSeated q → IsSeated (after_operation g t origin operation q)
 operation-seated g t origin (operations.clone original) q h = clone-seated g t origin original q h
 operation-seated g t origin (operations.close n) q h =
-    closed-seated origin n q (part_under (suc n) q.actors) h
+    closed-seated origin n q (part_under (suc (suc n)) q.actors) h
 operation-seated g t origin (operations.describe session) q h = h
 operation-seated g t origin (operations.list_sessions session) q h = h
 operation-seated g t origin (operations.eval session text ns) q h =
@@ -158,6 +160,7 @@ hears_more-seated g t piece q None h =
 
 state-seated : (a : Actor) (state : StateData) (q : Quiet) → IsSeated q
     → IsSeated (with_state a state q)
+state-seated Actor.Agents state q h = h
 state-seated Actor.Bare state q h = h
 state-seated (Actor.Session n) state q h = h
 
@@ -174,7 +177,7 @@ start-seated a actor s q h = move-seated a actor s.move q h
 interrupted-seated : (a : Actor) (hand : Hand) (q : Quiet) → IsSeated q
     → SeatedOutcome (interrupted_in a hand q)
 interrupted-seated a hand q h =
-    rising-without (seat_of a) 0 (suc q.sessions.opened) q.actors h
+    rising-without (seat_of a) 0 (suc (suc q.sessions.opened)) q.actors h
 
 held_or-seated : (q : Quiet) (outcome : Outcome) → SeatedOutcome outcome
     → SeatedOutcome (held_or q outcome)
@@ -190,10 +193,19 @@ in_hand-seated g a actor hand q false h =
     either actor.is_closed (interrupted_in a hand q) (held_or q outcome)
     (interrupted-seated a hand q h) (held_or-seated q outcome (start-seated a actor begun q h))
 
+action-seated
+    : (g : Ground) (a : Actor) (actor : ActorData) (q : Quiet) (next : Option NextAction)
+    → IsSeated q → SeatedOutcome (start_action g a actor q next)
+action-seated g a actor q None h = tt
+action-seated g a actor q (Some next) h =
+    let after : Quiet = with_action_begun q in
+    let begun : Started = action_begun g next in
+    held_or-seated q (start_outcome a actor begun after) (start-seated a actor begun after h)
+
 waiting-seated
     : (g : Ground) (a : Actor) (actor : ActorData) (q : Quiet) (ws : List Waiting) → IsSeated q
     → SeatedOutcome (start_waiting g a actor q ws)
-waiting-seated g a actor q [] h = tt
+waiting-seated g a actor q [] h = action-seated g a actor q (action_for a q.cells.agents) h
 waiting-seated g a actor q (w ∷ ws) h =
     let left : ActorData = record actor { waiting = ws } in
     let begun : Started = text_begun g q.spaces w.origin (first_state a q) w.text in
@@ -219,7 +231,8 @@ answer-seated
     (q : Quiet) (told : AnswerData) → IsSeated q
     → SeatedOutcome (answer_outcome g a actor hand run ask q told)
 answer-seated g a actor hand run ask q told h =
-    rising-with (seat_of a) 0 (suc q.sessions.opened) _ q.actors h
+    either (must_wait (session_of a) ask q.cells) (refuses Refusal.Waiting) _ tt
+    (rising-with (seat_of a) 0 (suc (suc q.sessions.opened)) _ q.actors h)
 
 allowed-seated
     : (g : Ground) (a : Actor) (actor : ActorData) (hand : Hand) (run : Run) (ask : AskData)
@@ -235,7 +248,7 @@ running-seated
     (run : Option Run) → IsSeated q → SeatedPlan (asked_running g a actor hand ask q run)
 running-seated g a actor hand ask q None h = λ told. tt
 running-seated g a actor hand ask q (Some run) h =
-    either_plan (is_allowed ask q.cells) (asked_allowed g a actor hand run ask q)
+    either_plan (may_ask a ask && is_allowed ask q.cells) (asked_allowed g a actor hand run ask q)
     (quietly (refuses Refusal.Idle)) (allowed-seated g a actor hand run ask q h) (λ told. tt)
 
 asked_of-seated
@@ -248,13 +261,13 @@ asked_of-seated g a actor ask q (Some hand) h =
 -- Ending
 
 compared-seated
-    : (a : Actor) (actor : ActorData) (hand : Hand) (e : EndingData) (q : Quiet) (same : Bool)
-    (difference : Option ℕ) → IsSeated q
-    → SeatedPlan (end_compared a actor hand e q same difference)
-compared-seated a actor hand e q false difference h = λ told. tt
-compared-seated a actor hand e q true (Some place) h = λ told. tt
-compared-seated a actor hand e q true None h = λ told.
-    move-seated a actor (form_ended hand e.end (actor_state a q)) q h
+    : (a : Actor) (actor : ActorData) (hand : Hand) (run : Run) (e : EndingData) (q : Quiet)
+    (same : Bool) (difference : Option ℕ) → IsSeated q
+    → SeatedPlan (end_compared a actor hand run e q same difference)
+compared-seated a actor hand run e q false difference h = λ told. tt
+compared-seated a actor hand run e q true (Some place) h = λ told. tt
+compared-seated a actor hand run e q true None h = λ told.
+    move-seated a actor (form_ended hand e.end (actor_state a q)) (with_cells_ended a hand run e q) h
 
 end-seated
     : (g : Ground) (a : Actor) (actor : ActorData) (hand : Hand) (e : EndingData) (q : Quiet)
@@ -263,7 +276,7 @@ end-seated g a actor hand e q None h = λ told. tt
 end-seated g a actor hand e q (Some run) h =
     either_plan actor.is_closed _ _ (λ told. interrupted-seated a hand q h)
     (either_plan (is_held q) (quietly (refuses Refusal.Held)) _ (λ told. tt)
-    (compared-seated a actor hand e q (g.comparisons.is_same_job e.job run.job)
+    (compared-seated a actor hand run e q (g.comparisons.is_same_job e.job run.job)
     (g.comparisons.difference e.trace run.trace) h))
 
 end_of-seated
@@ -357,7 +370,7 @@ opened-seated : (g : Ground) (w : World) (t u : ℕ) → SeatedWorld w
 opened-seated g w t u seated = by (t == u) where
   by : (b : Bool)
       → SeatedPart (if b then Some (Some (opened_tenant g)) else part_under t w.tenants)
-  by true = (omega arith, omega arith)
+  by true = (omega arith, (omega arith, omega arith))
   by false = seated t
 
 room-seated : (g : Ground) (w : World) (u : ℕ) (full : Bool) → SeatedWorld w

@@ -82,7 +82,8 @@ plan-begins g t q a actor here e =
 
 seat-at : (n : ℕ) → seat_of (actor_at n) ≡ n
 seat-at zero = refl
-seat-at (suc n) = refl
+seat-at (suc zero) = refl
+seat-at (suc (suc n)) = refl
 
 record Named (found : Option (Entry ActorData)) (a : Actor) : Type 0 where
   named : Entry ActorData
@@ -99,7 +100,7 @@ ready-begins : (g : Ground) (t : ℕ) (q : Quiet) (a : Actor) → IsSeated q →
     → BeginsBy q (plan g t q (starts a))
 ready-begins g t q a seated e =
     let first = named-by (find has_work q.actors) a e in
-    let works = found has_work 0 (suc q.sessions.opened) q.actors first.named seated first.there in
+    let works = found has_work 0 (suc (suc q.sessions.opened)) q.actors first.named seated first.there in
     let seat : first.named.number ≡ seat_of a =
     sym (seat-at first.named.number) ∙ ap seat_of first.same in
     plan-begins g t q a first.named.part

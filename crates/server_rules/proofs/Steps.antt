@@ -1,7 +1,7 @@
 -- One step: another tenant's leaves a view, a tenant's own is a step of its view.
 use Rattle.std.proofs.Common.{◌≡◌, ◌≢◌, ℕ, ◌≤◌, List, [], ◌∷◌, Bool, true, false, if◌then◌else◌}
 use Rattle.std.proofs.Common.{Option, Some, None, refl, sym, ap, ◌∙◌, subst, ◌==◌, nat_le, arith}
-use Rattle.std.proofs.Common.{inl, inr}
+use Rattle.std.proofs.Common.{inl, inr, ◌&&◌}
 use Rattle.std.specs.Prelude.{option_map, is_some, ⊤}
 use Rattle.std.proofs.lemmas.Bool.{ne_eqb, cases_eq}
 use Rattle.bencode_wire.specs.declared.fault.WireFault.{WireFault}
@@ -11,7 +11,7 @@ use Rattle.repl_replies.specs.Replies.{ReplyData}
 use Rattle.server_rules.specs.Numbered.{Entry, entry, part_under, with_part}
 use Rattle.server_rules.specs.Store.{Store}
 use Rattle.server_rules.specs.Performed.{Performed}
-use Rattle.server_rules.specs.Calls.{gives_up, performed}
+use Rattle.server_rules.specs.Calls.{nothing, inside, gives_up, performed}
 use Rattle.server_rules.specs.Ground.{Ground}
 use Rattle.server_rules.specs.Request.{Hand, Run}
 use Rattle.server_rules.specs.Tenant.{ActorData, seat_of, Quiet, is_held}
@@ -20,7 +20,7 @@ use Rattle.repl_asks.specs.Job.{EndingData}
 use Rattle.server_rules.specs.Plan.{StepAnswer, tenant_opened, Outcome, refuses, leaves, Plan}
 use Rattle.server_rules.specs.Plan.{quietly}
 use Rattle.server_rules.specs.Starting.{interrupted_in}
-use Rattle.server_rules.specs.Asking.{call_of, is_allowed, asked_allowed, asked_running, asked_of}
+use Rattle.server_rules.specs.Asking.{call_of, may_ask, is_allowed, asked_allowed, asked_running, asked_of}
 use Rattle.server_rules.specs.Asking.{when_told, answer_outcome}
 use Rattle.server_rules.specs.Ending.{with_left_attempt, end_compared, end_checked, end_running}
 use Rattle.server_rules.specs.Ending.{end_of}
@@ -100,7 +100,10 @@ call-private seat (exchange.read_agent n) h = tt
 call-private seat (exchange.agent_fault n) h = tt
 call-private seat (exchange.restart_agent n d) h = tt
 call-private seat (exchange.send s) h = tt
-call-private seat (exchange.may_send s) h = tt
+call-private seat (exchange.may_send s) h = by (seat == seat_of Actor.Agents) where
+  by : (b : Bool) → IsPrivateCall (if b then nothing else inside seat)
+  by true = tt
+  by false = tt
 call-private seat (exchange.await ns) h = tt
 
 allowed-private
@@ -124,7 +127,7 @@ running-private
     (run : Option Run) → IsPrivate ask → IsPrivateCall (asked_running g a actor h ask q run).call
 running-private g a actor h ask q None private = tt
 running-private g a actor h ask q (Some run) private =
-    elim (is_allowed ask q.cells)
+    elim (may_ask a ask && is_allowed ask q.cells)
     as (λ b. IsPrivateCall
     (if b then asked_allowed g a actor h run ask q else quietly (refuses Refusal.Idle)).call) [
       | true ↦ allowed-private g a actor h run ask q private
@@ -138,11 +141,12 @@ asked-private g a actor ask q None private = tt
 asked-private g a actor ask q (Some h) private = running-private g a actor h ask q h.running private
 
 compared-private
-    : (a : Actor) (actor : ActorData) (h : Hand) (e : EndingData) (q : Quiet) (same : Bool)
-    (difference : Option ℕ) → IsPrivateCall (end_compared a actor h e q same difference).call
-compared-private a actor h e q false difference = tt
-compared-private a actor h e q true (Some place) = tt
-compared-private a actor h e q true None = tt
+    : (a : Actor) (actor : ActorData) (h : Hand) (run : Run) (e : EndingData) (q : Quiet)
+    (same : Bool) (difference : Option ℕ)
+    → IsPrivateCall (end_compared a actor h run e q same difference).call
+compared-private a actor h run e q false difference = tt
+compared-private a actor h run e q true (Some place) = tt
+compared-private a actor h run e q true None = tt
 
 held-private
     : (g : Ground) (a : Actor) (actor : ActorData) (h : Hand) (run : Run) (e : EndingData)
@@ -153,7 +157,7 @@ held-private g a actor h run e q =
     as (λ b. IsPrivateCall
     (if b then quietly (refuses Refusal.Held) else end_checked g a actor h run e q).call) [
       | true ↦ tt
-      | false ↦ compared-private a actor h e q
+      | false ↦ compared-private a actor h run e q
           (g.comparisons.is_same_job e.job run.job) (g.comparisons.difference e.trace run.trace)
     ]
 

@@ -1,7 +1,7 @@
 -- Asking: the ask of a form that runs is answered, and the pair recorded.
 use Rattle.std.specs.Prelude.{ℕ, List, [], ◌∷◌, ◌++◌, Bool, true, false, not, Option, None}
 use Rattle.std.specs.Prelude.{Some, ◌&&◌}
-use Rattle.std.specs.Prelude.{◌^◌, nat_lt, if◌then◌else◌}
+use Rattle.std.specs.Prelude.{◌^◌, ◌==◌, nat_lt, if◌then◌else◌}
 use Rattle.value_data.specs.Datum.{Datum}
 use Rattle.repl_asks.specs.Namespaces.{is_fixed}
 use Rattle.repl_asks.specs.Exchange as exchange
@@ -15,14 +15,19 @@ use Rattle.server_rules.specs.Calls.{Call, nothing, makes, begins, reads, counts
 use Rattle.server_rules.specs.Calls.{tells_most, sets_least, sets_most, commits, inside, outside}
 use Rattle.server_rules.specs.Calls.{gives_up}
 use Rattle.server_rules.specs.Cells.{CellsData, has_named, cell_answer, SenderData, cells_after}
+use Rattle.server_rules.specs.Cells.{must_wait}
 use Rattle.server_rules.specs.Ground.{Ground}
-use Rattle.server_rules.specs.Request.{Hand, Run}
+use Rattle.server_rules.specs.Request.{Manner, of_action, Hand, Run}
 use Rattle.server_rules.specs.Tenant.{ActorData, seat_of, Quiet, with_actor, actor_state}
 use Rattle.server_rules.specs.Starting.{interrupted_in}
 use Rattle.server_rules.specs.Plan.{Outcome, refuses, leaves, ask_answered, Plan, quietly}
 use Rattle.server_rules.specs.Plan.{with_step_spent}
 use Rattle.server_rules.specs.declared.actor.Actor.{Actor}
 use Rattle.server_rules.specs.declared.refusal.Refusal.{Refusal}
+
+-- an action asks also outside of attempts whether it may send
+abbrev pub send_call : ℕ → Call
+send_call seat = if seat == seat_of Actor.Agents then nothing else inside seat
 
 -- what is asked of the refs
 abbrev pub call_of : ℕ → AskData → Call
@@ -36,7 +41,8 @@ call_of seat (exchange.max_history name None) = tells_most name
 call_of seat (exchange.max_history name (Some n)) = sets_most name n
 call_of seat (exchange.commit intent) = commits seat intent
 call_of seat (exchange.send s) = outside seat
-call_of seat (exchange.may_send s) = inside seat
+call_of seat (exchange.may_send s) = send_call seat
+call_of seat (exchange.await ns) = outside seat
 call_of seat _ = nothing
 
 -- a bound of a history is a number of the language
@@ -47,15 +53,20 @@ abbrev pub may_be_set : Option ℕ → Bool
 may_be_set None = true
 may_be_set (Some n) = is_bound n
 
+-- outside of attempts an action sends nothing before it ends, and it awaits nothing
+abbrev pub may_ask : Actor → AskData → Bool
+may_ask Actor.Agents (exchange.send s) = false
+may_ask Actor.Agents (exchange.await ns) = false
+may_ask a ask = true
+
 -- nothing is defined in a namespace that is fixed, and nobody enters it; a tenant asks of its own
--- atoms and agents alone; no agent is awaited yet
+-- atoms and agents alone
 abbrev pub is_allowed : AskData → CellsData → Bool
 is_allowed (exchange.define namespace name binding) cells = not (is_fixed namespace)
 is_allowed (exchange.enter name) cells = not (is_fixed name)
 is_allowed (exchange.new_ref d least most) cells = is_bound least && is_bound most
 is_allowed (exchange.min_history name set) cells = may_be_set set
 is_allowed (exchange.max_history name set) cells = may_be_set set
-is_allowed (exchange.await ns) cells = false
 is_allowed ask cells = has_named ask cells
 
 abbrev pub latest_of : Latest → StateData → Datum
@@ -86,11 +97,16 @@ spaces_after (exchange.enter name) spaces = with_entered_namespace spaces name
 spaces_after _ spaces = spaces
 
 abbrev pub session_of : Actor → Option ℕ
-session_of Actor.Bare = None
 session_of (Actor.Session n) = Some n
+session_of a = None
+
+-- what an action sends comes from the session that sent the action
+abbrev pub sending_session : Actor → Manner → Option ℕ
+sending_session a (of_action session) = session
+sending_session a manner = session_of a
 
 abbrev pub sender_of : Actor → Hand → SenderData
-sender_of a h = record { origin = h.origin; session = session_of a }
+sender_of a h = record { origin = h.origin; session = sending_session a h.manner }
 
 -- what an ask that is answered so makes of the tenant, beside its refs
 abbrev pub quiet_after : SenderData → AskData → AnswerData → Quiet → Quiet
@@ -106,13 +122,20 @@ with_recorded_answer a actor h run ask answer q =
     let more : Run = record run { trace = trace } in
     with_actor a (record actor { hand = Some (record h { running = Some more }) }) q
 
-abbrev pub answer_outcome : Ground → Actor → ActorData → Hand → Run → AskData → Quiet → AnswerData
+abbrev pub ask_outcome : Ground → Actor → ActorData → Hand → Run → AskData → Quiet → AnswerData
     → Outcome
-answer_outcome g a actor h run ask q told =
+ask_outcome g a actor h run ask q told =
     let answer = answer_to g a q ask told in
     let after = quiet_after (sender_of a h) ask answer q in
     leaves (with_step_spent (with_recorded_answer a actor h run ask answer after))
     (ask_answered answer)
+
+-- an await that is not met stays asked
+abbrev pub answer_outcome : Ground → Actor → ActorData → Hand → Run → AskData → Quiet → AnswerData
+    → Outcome
+answer_outcome g a actor h run ask q told =
+    if must_wait (session_of a) ask q.cells then refuses Refusal.Waiting
+    else ask_outcome g a actor h run ask q told
 
 -- an ask that breaks a rule is none of an evaluation's
 abbrev pub when_told : Option AnswerData → (AnswerData → Outcome) → Outcome
@@ -131,7 +154,8 @@ asked_allowed g a actor h run ask q =
 abbrev pub asked_running : Ground → Actor → ActorData → Hand → AskData → Quiet → Option Run → Plan
 asked_running g a actor h ask q None = quietly (refuses Refusal.Idle)
 asked_running g a actor h ask q (Some run) =
-    if is_allowed ask q.cells then asked_allowed g a actor h run ask q else quietly (refuses Refusal.Idle)
+    if may_ask a ask && is_allowed ask q.cells then asked_allowed g a actor h run ask q
+    else quietly (refuses Refusal.Idle)
 
 abbrev pub asked_of : Ground → Actor → ActorData → AskData → Quiet → Option Hand → Plan
 asked_of g a actor ask q None = quietly (refuses Refusal.Idle)

@@ -6,7 +6,8 @@ use Rattle.repl_faults.specs.Failure.{Failure}
 use Rattle.repl_asks.specs.Job.{EndData}
 use Rattle.repl_sessions.specs.State.{StateData, after_value, after_fault, in_namespace}
 use Rattle.repl_replies.specs.Replies.{OriginData, done, ReplyData}
-use Rattle.server_rules.specs.Request.{Manner, each_form, each_form_elsewhere, last_form, Hand}
+use Rattle.server_rules.specs.Request.{Manner, each_form, each_form_elsewhere, last_form, of_action}
+use Rattle.server_rules.specs.Request.{Hand}
 use Rattle.server_rules.specs.Replying.{reply, fault_replies, output_replies, value_reply}
 
 pub record Move : Type 0 where
@@ -71,6 +72,7 @@ form_ended_as h e state each_form = preceded_by (end_replies h.origin e)
 form_ended_as h e state each_form_elsewhere = preceded_by (end_replies h.origin e)
     (going_on (record h { namespace = e.namespace }) h.forms (result_noted e.result state))
 form_ended_as h e state (last_form d) = form_loaded h e e.result state
+form_ended_as h e state (of_action session) = over_move (output_replies h.origin e.text) state
 
 unfoldable pub form_ended : Hand → EndData → StateData → Move
 form_ended h e state = form_ended_as h e state h.manner

@@ -1,4 +1,4 @@
--- A request to evaluate: while it waits, and while it is in hand.
+-- A request to evaluate: while it waits, and while it is in hand. An action that was begun is one too.
 use Rattle.std.specs.Prelude.{ℕ, List, Option}
 use Rattle.bencode_wire.specs.Tree.{Tree}
 use Rattle.value_data.specs.Datum.{Datum, Items}
@@ -25,6 +25,8 @@ pub data Manner : Type 0 where
   each_form_elsewhere : Manner
   -- all forms by the value of the last; this is the last so far
   last_form : Datum → Manner
+  -- an action, by what it prints alone; it came from the session of this number, or from none
+  of_action : Option ℕ → Manner
 
 -- a form that runs: its job, and what it asked and was answered
 pub record Run : Type 0 where

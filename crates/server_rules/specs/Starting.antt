@@ -1,10 +1,12 @@
--- Starting: an actor begins the next form of the request in hand, or takes up its next request.
+-- Starting: an actor begins the next form of the request in hand, or takes up its next request; that
+-- of agents takes up the next action.
 use Rattle.std.specs.Prelude.{ℕ, List, [], ◌∷◌, Bool, true, false, Option, None, Some, option_map}
-use Rattle.std.specs.Prelude.{option_and_then, if◌then◌else◌}
+use Rattle.std.specs.Prelude.{codes, option_and_then, if◌then◌else◌}
 use Rattle.bencode_wire.specs.Tree.{Tree}
 use Rattle.value_data.specs.Datum.{nil, Items, no_items, item}
 use Rattle.repl_asks.specs.Job as jobs
 use Rattle.repl_asks.specs.Job.{JobData}
+use Rattle.private_cells.specs.Agents.{AgentsData, with_next_begun}
 use Rattle.repl_sessions.specs.State.{StateData, fresh}
 use Rattle.name_spaces.specs.Namespaces.{Namespaces, is_there}
 use Rattle.repl_replies.specs.Fields.{text_of}
@@ -13,7 +15,8 @@ use Rattle.server_rules.specs.Numbered.{without}
 use Rattle.server_rules.specs.Readings.{ProgramData, text_failure}
 use Rattle.server_rules.specs.Ground.{Ground}
 use Rattle.server_rules.specs.Request.{Waiting, ProgramText, code, file, Manner, Hand, each_form}
-use Rattle.server_rules.specs.Request.{each_form_elsewhere, last_form}
+use Rattle.server_rules.specs.Request.{each_form_elsewhere, last_form, of_action}
+use Rattle.server_rules.specs.Cells.{NextAction, next_action, with_agents}
 use Rattle.server_rules.specs.Tenant.{ActorData, seat_of, Quiet, is_held, with_actor, with_replies}
 use Rattle.server_rules.specs.Tenant.{actor_state, with_state}
 use Rattle.server_rules.specs.Replying.{reply}
@@ -78,8 +81,9 @@ text_begun g spaces origin state (code text ns) = code_begun g spaces origin tex
 text_begun g spaces origin state (file text) =
     program_begun g origin (last_form nil) state.namespace state (g.readings.program text)
 
--- a request without a session remembers nothing of another
+-- only a session remembers something for its next request
 abbrev pub first_state : Actor → Quiet → StateData
+first_state Actor.Agents q = fresh
 first_state Actor.Bare q = fresh
 first_state (Actor.Session n) q = actor_state (Actor.Session n) q
 
@@ -108,8 +112,46 @@ start_in_hand g a actor h q false =
     if actor.is_closed then interrupted_in a h q
     else held_or q (start_outcome a actor (next_begun g h (actor_state a q) h.forms) q)
 
+-- Actions
+
+abbrev pub action_job : Ground → NextAction → JobData
+action_job g next = record {
+  work = jobs.action next.state next.action.task;
+  namespace = codes "user";
+  retries = g.retries;
+}
+
+abbrev pub action_hand : Ground → NextAction → Hand
+action_hand g next = record {
+  origin = next.action.origin;
+  manner = of_action next.action.session;
+  namespace = codes "user";
+  running = Some (record { job = action_job g next; trace = [] });
+  forms = no_items;
+  fault = None;
+}
+
+abbrev pub action_begun : Ground → NextAction → Started
+action_begun g next = record {
+  move = in_hand (action_hand g next) fresh;
+  answer = form_begun (action_job g next);
+}
+
+abbrev pub with_action_begun : Quiet → Quiet
+with_action_begun q = record q { cells = with_agents (with_next_begun q.cells.agents) q.cells }
+
+abbrev pub start_action : Ground → Actor → ActorData → Quiet → Option NextAction → Outcome
+start_action g a actor q None = refuses Refusal.Idle
+start_action g a actor q (Some next) =
+    held_or q (start_outcome a actor (action_begun g next) (with_action_begun q))
+
+-- what an actor for which no request waits may take up: none comes to that of agents
+abbrev pub action_for : Actor → AgentsData → Option NextAction
+action_for Actor.Agents agents = next_action agents
+action_for a agents = None
+
 abbrev pub start_waiting : Ground → Actor → ActorData → Quiet → List Waiting → Outcome
-start_waiting g a actor q [] = refuses Refusal.Idle
+start_waiting g a actor q [] = start_action g a actor q (action_for a q.cells.agents)
 start_waiting g a actor q (w ∷ ws) = held_or q
     (start_outcome a (record actor { waiting = ws })
     (text_begun g q.spaces w.origin (first_state a q) w.text) q)

@@ -13,7 +13,8 @@ use Rattle.server_rules.specs.Ground.{Ground}
 use Rattle.server_rules.specs.declared.actor.Actor.{Actor}
 use Rattle.server_rules.specs.declared.limits.TheConstants.{MOST_REPLIES}
 
--- an actor runs the forms of its requests, one after another
+-- an actor runs the forms of its requests, one after another; that of agents, to which no request
+-- comes, runs actions
 pub record ActorData : Type 0 where
   -- the requests that wait, oldest first, and the one in hand
   pub waiting : List Waiting
@@ -24,14 +25,17 @@ pub record ActorData : Type 0 where
 abbrev pub unoccupied : ActorData
 unoccupied = record { waiting = []; hand = None; is_closed = false }
 
--- the number by which an actor is named: that of the session and one, or 0 for requests without one
+-- the number by which an actor is named: 0 that of agents, 1 that of requests without a session, and
+-- then those of sessions
 abbrev pub seat_of : Actor → ℕ
-seat_of Actor.Bare = 0
-seat_of (Actor.Session n) = suc n
+seat_of Actor.Agents = 0
+seat_of Actor.Bare = 1
+seat_of (Actor.Session n) = suc (suc n)
 
 abbrev pub actor_at : ℕ → Actor
-actor_at zero = Actor.Bare
-actor_at (suc n) = Actor.Session n
+actor_at zero = Actor.Agents
+actor_at (suc zero) = Actor.Bare
+actor_at (suc (suc n)) = Actor.Session n
 
 pub record Quiet : Type 0 where
   -- how many more pieces, and starts, asks and ends of forms it takes
@@ -44,7 +48,7 @@ pub record Quiet : Type 0 where
   pub spaces : Namespaces
   -- its atoms and agents
   pub cells : CellsData
-  -- by their seats: first the one without a session, then those of sessions in order of creation
+  -- by their seats, those of sessions in order of creation
   pub actors : List (Entry ActorData)
   -- the replies that wait, oldest first
   pub replies : List ReplyData
@@ -57,7 +61,7 @@ opened_quiet g = record {
   bare = fresh;
   spaces = at_start;
   cells = no_cells;
-  actors = entry (seat_of Actor.Bare) unoccupied ∷ [];
+  actors = entry (seat_of Actor.Agents) unoccupied ∷ entry (seat_of Actor.Bare) unoccupied ∷ [];
   replies = [];
 }
 
@@ -71,12 +75,14 @@ with_actor a actor q = record q { actors = with_part (seat_of a) actor q.actors 
 abbrev pub with_replies : List ReplyData → Quiet → Quiet
 with_replies more q = record q { replies = q.replies ++ more }
 
--- what the session of an actor remembers
+-- what the session of an actor remembers; to an action no session tells anything
 abbrev pub actor_state : Actor → Quiet → StateData
+actor_state Actor.Agents q = fresh
 actor_state Actor.Bare q = q.bare
 actor_state (Actor.Session n) q = unwrap_or (sessions.state_of q.sessions n) fresh
 
 abbrev pub with_state : Actor → StateData → Quiet → Quiet
+with_state Actor.Agents state q = q
 with_state Actor.Bare state q = record q { bare = state }
 with_state (Actor.Session n) state q =
     record q { sessions = with_change q.sessions n (λ old. state) }

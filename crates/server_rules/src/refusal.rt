@@ -14,11 +14,13 @@ pub enum Refusal {
     /// As many tenants are open as may be at once.
     Full,
     NoSuchActor,
-    /// There is nothing for this step to do: no request waits, no form runs, or no form may ask
-    /// this.
+    /// There is nothing for this step to do: no request or action waits, no form runs, or no form
+    /// may ask this.
     Idle,
     /// Too many replies wait.
     Held,
+    /// An agent that is awaited has an action that came from the session, or from bare requests.
+    Waiting,
     /// All steps are used up.
     Worn,
     /// The trace of an ending differs first at this place from the recorded one; at 0 also where

@@ -12,8 +12,8 @@ use Rattle.server_rules.specs.Request.{Waiting, Hand}
 use Rattle.server_rules.specs.Tenant.{ActorData, actor_at, seat_of}
 use Rattle.server_rules.specs.declared.actor.Actor.{Actor}
 use Rattle.tenant_actors.specs.Busy.{is_busy, passes}
-use Rattle.tenant_actors.specs.Lent.{AreAbove, Ascend, IsBusyIfThere}
-use Rattle.tenant_actors.specs.Listed.{is_listed, are_listed}
+use Rattle.tenant_actors.specs.Lent.{AreAbove, Ascend, IsBusyIfThere, MayBeLent}
+use Rattle.tenant_actors.specs.Listed.{lists, lists_agents, is_listed, are_listed, AgreeApart}
 use Rattle.tenant_actors.specs.Queues.{without_newest}
 use Rattle.tenant_actors.proofs.EntryLaws.{found_first, replaced_first, without_first}
 use Rattle.tenant_actors.proofs.EntryLaws.{with_part-nothing}
@@ -25,17 +25,9 @@ Names = BTreeSet Actor
 abbrev pub Entries : Type 0
 Entries = List (Entry ActorData)
 
--- whether the name of a seat is listed
-abbrev pub lists : Names → ℕ → Bool
-lists s n = contains by_name s (actor_at n)
-
 -- each name that the one has the other has
 abbrev pub Keeps : Names → Names → Type 0
 Keeps s t = (n : ℕ) → lists s n ≡ true → lists t n ≡ true
-
--- both have the same names but that of this seat
-abbrev pub AgreeApart : ℕ → Names → Names → Type 0
-AgreeApart n s t = (m : ℕ) → (n == m) ≡ false → lists t m ≡ lists s m
 
 -- Tests
 
@@ -167,6 +159,14 @@ listed-lent s n x es busy h = by (part_under n es) refl busy
     by (Some y) there busy =
         listed-put s s n x es (listed-has s n y es there busy h) (λ m k. k) h
 
+-- that of agents is always listed
+pub listed-lent_of : (s : Names) (a : Actor) (x : ActorData) (es : Entries)
+    → MayBeLent a (part_under (seat_of a) es) → lists_agents s ≡ true → are_listed s es ≡ true
+    → are_listed s (with_part (seat_of a) x es) ≡ true
+listed-lent_of s Actor.Agents x es may agents h = listed-put s s 0 x es agents (λ m k. k) h
+listed-lent_of s Actor.Bare x es may agents h = listed-lent s 1 x es may h
+listed-lent_of s (Actor.Session n) x es may agents h = listed-lent s (suc (suc n)) x es may h
+
 -- an actor goes, and its name
 pub listed-gone : (s t : Names) (n : ℕ) (es : Entries) → AgreeApart n s t
     → are_listed s es ≡ true → are_listed t (without n es) ≡ true
@@ -236,7 +236,8 @@ listed-behind s e (f ∷ es) idle h =
 
 pub number-back : (n : ℕ) → seat_of (actor_at n) ≡ n
 number-back zero = refl
-number-back (suc n) = refl
+number-back (suc zero) = refl
+number-back (suc (suc n)) = refl
 
 pub keeps-inserted : (a : Actor) (s t : Names) → Updates by_name s t a true → Keeps s t
 keeps-inserted a s t updates n h =
@@ -257,6 +258,13 @@ agree-removed a s t updates m apart =
     updates.0 (actor_at m)
     ∙ ap (λ (b : Bool). cond b false (lists s m))
     (at-seats a (actor_at m) ∙ ap (λ k. seat_of a == k) (number-back m) ∙ apart)
+
+-- another name goes than that of agents
+pub agents-stay : (a : Actor) (s t : Names) → (a ≡ Actor.Agents → ⊥) → Updates by_name s t a false
+    → lists_agents t ≡ lists_agents s
+agents-stay Actor.Agents s t other updates = absurd (other refl)
+agents-stay Actor.Bare s t other updates = updates.0 Actor.Agents
+agents-stay (Actor.Session n) s t other updates = updates.0 Actor.Agents
 
 -- a list of the same names
 pub keeps-same : (s t : Names) → t.keys ≡ s.keys → Keeps s t

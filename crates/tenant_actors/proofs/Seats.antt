@@ -36,23 +36,30 @@ at a = is_at (by_name a)
 
 -- it is that of the seats
 pub by-seats : (a b : Actor) → by_name a b ≡ nat_cmp (seat_of a) (seat_of b)
-by-seats Actor.Bare Actor.Bare = nat_cmp_is 0 0 Equal refl
-by-seats Actor.Bare (Actor.Session n) = nat_cmp_is 0 (suc n) Less (omega (arith))
-by-seats (Actor.Session m) Actor.Bare = nat_cmp_is (suc m) 0 Greater (omega (arith))
+by-seats Actor.Agents Actor.Agents = nat_cmp_is 0 0 Equal refl
+by-seats Actor.Agents Actor.Bare = nat_cmp_is 0 1 Less (omega (arith))
+by-seats Actor.Agents (Actor.Session n) = nat_cmp_is 0 (suc (suc n)) Less (omega (arith))
+by-seats Actor.Bare Actor.Agents = nat_cmp_is 1 0 Greater (omega (arith))
+by-seats Actor.Bare Actor.Bare = nat_cmp_is 1 1 Equal refl
+by-seats Actor.Bare (Actor.Session n) = nat_cmp_is 1 (suc (suc n)) Less (omega (arith))
+by-seats (Actor.Session m) Actor.Agents = nat_cmp_is (suc (suc m)) 0 Greater (omega (arith))
+by-seats (Actor.Session m) Actor.Bare = nat_cmp_is (suc (suc m)) 1 Greater (omega (arith))
 by-seats (Actor.Session m) (Actor.Session n) =
     let order = nat_cmp m n in
-    nat_cmp_is (suc m) (suc n) order (by order (ranked m n order refl))
+    nat_cmp_is (suc (suc m)) (suc (suc n)) order (by order (ranked m n order refl))
   where
     by : (o : Ordering) → MatchOrdering o (m < n) (m ≡ n) (n < m)
-        → MatchOrdering o (suc m < suc n) (suc m ≡ suc n) (suc n < suc m)
+        → MatchOrdering o (suc (suc m) < suc (suc n)) (suc (suc m) ≡ suc (suc n))
+        (suc (suc n) < suc (suc m))
     by Less h = omega (arith, h)
-    by Equal h = ap suc h
+    by Equal h = ap (λ k. suc (suc k)) h
     by Greater h = omega (arith, h)
 
 pub at-seats : (a b : Actor) → at a b ≡ (seat_of a == seat_of b)
 at-seats a b = ap is_eq (by-seats a b) ∙ unsigned_tied (seat_of a) (seat_of b)
 
 pub seat-back : (a : Actor) → actor_at (seat_of a) ≡ a
+seat-back Actor.Agents = refl
 seat-back Actor.Bare = refl
 seat-back (Actor.Session n) = refl
 

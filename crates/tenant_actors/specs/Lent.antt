@@ -16,6 +16,11 @@ abbrev pub IsBusyIfThere : Option ActorData → Type 0
 IsBusyIfThere None = ⊤
 IsBusyIfThere (Some actor) = is_busy actor ≡ true
 
+-- that of agents may be lent also where it has nothing to do
+abbrev pub MayBeLent : Actor → Option ActorData → Type 0
+MayBeLent Actor.Agents found = ⊤
+MayBeLent a found = IsBusyIfThere found
+
 -- the actor of this name is as it was left behind the reference, and all others are as they were
 abbrev pub LendsActor : MutBor Actors → Actor → Option (MutBor ActorState) → Fml
 LendsActor s a r = LendsSo actors.the_row state.the_row s r

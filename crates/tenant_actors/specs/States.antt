@@ -1,6 +1,6 @@
 -- What an actor of the code, and its requests, are seen as.
 use Rattle.std.specs.Prelude.{map, option_map, string_bytes}
-use Rattle.std.specs.Arc.{arc_str_bytes}
+use Rattle.std.specs.Arc.{arc_value, arc_str_bytes}
 use Rattle.value_data.specs.Inside.View.{view, items_view}
 use Rattle.repl_faults.specs.Inside.View.{failure_of}
 use Rattle.repl_asks.specs.Inside.View.{trace_view}
@@ -22,19 +22,20 @@ text_view (ProgramText.Code text ns) = rules.code (string_bytes text) (field_vie
 text_view (ProgramText.File text) = rules.file (string_bytes text)
 
 abbrev pub waiting_view : Waiting → rules.Waiting
-waiting_view w = record { origin = origin_view w.origin; text = text_view w.text }
+waiting_view w = record { origin = origin_view (arc_value w.origin); text = text_view w.text }
 
 abbrev pub manner_view : Manner → rules.Manner
 manner_view Manner.EachForm = rules.each_form
 manner_view Manner.EachFormElsewhere = rules.each_form_elsewhere
 manner_view (Manner.LastForm v) = rules.last_form (view v)
+manner_view (Manner.OfAction session) = rules.of_action session
 
 abbrev pub run_view : Run → rules.Run
 run_view r = record { job = job_view r.job; trace = trace_view r.trace.items }
 
 abbrev pub hand_view : Hand → rules.Hand
 hand_view h = record {
-  origin = origin_view h.origin;
+  origin = origin_view (arc_value h.origin);
   manner = manner_view h.manner;
   namespace = arc_str_bytes h.namespace;
   running = option_map run_view h.running;

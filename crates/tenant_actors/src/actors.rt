@@ -6,7 +6,7 @@ ghost use Rattle.server_rules.specs.Numbered.{entry, part_under, without};
 ghost use Rattle.server_rules.specs.Machine.Ready.{has_work, may_begin};
 ghost use Rattle.server_rules.specs.Tenant.{actor_at, seat_of, unoccupied};
 ghost use Rattle.tenant_actors.specs.Busy.{is_busy, busy_of, passes};
-ghost use Rattle.tenant_actors.specs.Listed.{are_listed};
+ghost use Rattle.tenant_actors.specs.Listed.{are_listed, lists_agents, AgreeApart};
 ghost use Rattle.tenant_actors.specs.States.{actor_view, actor_entry_view};
 
 use crate::actor::ActorState;
@@ -14,35 +14,36 @@ use server_rules::Actor;
 use std::alloc::{AllocError, Global};
 use std::collections::{BTreeMap, BTreeSet};
 
-/// The actors of a tenant: that of the requests without a session first, and then those of the
-/// sessions in the order in which they were made.
+/// The actors of a tenant: that of agents first, that of the requests without a session, and then
+/// those of the sessions in the order in which they were made.
 #[derive(Drop)]
 pub struct Actors {
     alloc: Global,
     pub(crate) live: BTreeMap<Actor, ActorState>,
-    // The names of those that have something to do. A name may stay of one that has nothing to do
-    // any more, where memory was refused as a request came to wait for it.
+    // The names of those that have something to do, and that of agents. A name may stay of one that
+    // has nothing to do any more, where memory was refused as a request came to wait for it.
     pub(crate) busy: BTreeSet<Actor>,
     ghost listed: { are_listed busy (map actor_entry_view live.entries) ≡ true },
+    ghost agents: { lists_agents busy ≡ true },
 }
 
 // Each takes about the logarithm of the number of actors, but those that say otherwise.
 impl Actors {
     ghost use Rattle.tenant_actors.specs.View.{actors_view, AreBelow};
-    ghost use Rattle.tenant_actors.specs.Lent.{LendsActor, IsBusyIfThere, Ascend};
+    ghost use Rattle.tenant_actors.specs.Lent.{LendsActor, MayBeLent, Ascend};
 
-    /// The actor of the requests without a session, alone. It fails only for want of memory.
+    /// The actors of agents and of the requests without a session, alone. It fails only for want of
+    /// memory.
     pub fn new(alloc: Global) -> Result<Actors, AllocError>
-        ensures { IfOk result (λ made.
-            actors_view made ≡ entry (seat_of Actor.Bare) unoccupied ∷ []) }
+        ensures { IfOk result (λ made. actors_view made ≡ entry (seat_of Actor.Agents) unoccupied
+            ∷ entry (seat_of Actor.Bare) unoccupied ∷ []) }
     {
         let mut live = BTreeMap::new(alloc);
+        live.insert(Actor::Agents, ActorState::unoccupied(alloc))?;
         live.insert(Actor::Bare, ActorState::unoccupied(alloc))?;
-        Ok(Actors {
-            alloc,
-            live,
-            busy: BTreeSet::new(alloc),
-        })
+        let mut busy = BTreeSet::new(alloc);
+        busy.insert(Actor::Agents)?;
+        Ok(Actors { alloc, live, busy })
     }
 
     /// The actor of this name, if it is there.
@@ -53,10 +54,10 @@ impl Actors {
         self.live.get(&actor)
     }
 
-    /// The actor of this name, if it is there, to be changed in its place. It has something to do.
-    /// Once it was changed, `rest` is for it.
+    /// The actor of this name, if it is there, to be changed in its place. It has something to do,
+    /// or is that of agents. Once it was changed, `rest` is for it.
     pub fn get_mut(&mut self, actor: Actor) -> Option<&mut ActorState>
-        requires { IsBusyIfThere (part_under (seat_of actor) (actors_view self.old)) }
+        requires { MayBeLent actor (part_under (seat_of actor) (actors_view self.old)) }
         ensures* writes_back { sem 𝓛 (LendsActor self.entry actor result) }
         ensures value { option_map (λ it. actor_view it.now) result
             ≡ part_under (seat_of actor) (actors_view self.old) }
@@ -71,7 +72,7 @@ impl Actors {
     {
         self.ascend();
         if !self.is_busy(actor) {
-            self.busy.remove(&actor);
+            take_off(&mut self.busy, actor);
         }
     }
 
@@ -80,7 +81,7 @@ impl Actors {
         ensures { actors_view self.new ≡ without (seat_of actor) (actors_view self.old) }
     {
         drop(self.live.remove(&actor));
-        self.busy.remove(&actor);
+        take_off(&mut self.busy, actor);
     }
 
     /// Adds an actor behind all others. It fails only for want of memory.
@@ -159,5 +160,15 @@ impl Actors {
         ensures { Ascend (actors_view self.now) }
     {
         let _count = self.live.len();
+    }
+}
+
+// Takes a name off the list. That of agents stays.
+pub(crate) fn take_off(busy: &mut BTreeSet<Actor>, actor: Actor)
+    ensures apart { AgreeApart (seat_of actor) busy.old busy.new }
+    ensures agents { lists_agents busy.old ≡ true → lists_agents busy.new ≡ true }
+{
+    if actor != Actor::Agents {
+        busy.remove(&actor);
     }
 }

@@ -5,7 +5,7 @@ ghost use Rattle.tenant_actors.specs.View.{waiting_view, actors_view};
 ghost use Rattle.tenant_actors.specs.Queues.{with_changed_actor, with_request, without_newest};
 ghost use Rattle.tenant_actors.specs.Queues.{vacated_at};
 
-use crate::actors::Actors;
+use crate::actors::{Actors, take_off};
 use crate::request::Waiting;
 use server_rules::Actor;
 use std::alloc::AllocError;
@@ -59,6 +59,6 @@ impl Actors {
             return;
         }
         drop(self.live.remove(&actor));
-        self.busy.remove(&actor);
+        take_off(&mut self.busy, actor);
     }
 }

@@ -4,7 +4,7 @@ use repl_asks::{Job, Trace};
 use repl_replies::Origin;
 use repl_values::{Fault, Value};
 use std::collections::VecDeque;
-use std::sync::ArcStr;
+use std::sync::{Arc, ArcStr};
 
 /// What a request asks to evaluate.
 #[derive(Drop)]
@@ -18,7 +18,7 @@ pub enum ProgramText {
 /// A request that waits.
 #[derive(Drop)]
 pub struct Waiting {
-    pub origin: Origin,
+    pub origin: Arc<Origin>,
     pub text: ProgramText,
 }
 
@@ -31,6 +31,8 @@ pub enum Manner {
     EachFormElsewhere,
     /// All by the value of the last; this is the last so far.
     LastForm(Value),
+    /// An action, by what it prints alone. It came from the session of this number, or from none.
+    OfAction(Option<u64>),
 }
 
 /// A form that runs: its job, and what it asked and was answered.
@@ -40,10 +42,10 @@ pub struct Run {
     pub trace: Trace,
 }
 
-/// A request that was begun and is not done.
+/// A request that was begun and is not done, or an action.
 #[derive(Drop)]
 pub struct Hand {
-    pub origin: Origin,
+    pub origin: Arc<Origin>,
     pub manner: Manner,
     /// The namespace in which its next form is evaluated.
     pub namespace: ArcStr,

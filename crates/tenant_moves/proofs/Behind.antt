@@ -10,6 +10,7 @@ use Rattle.repl_faults.specs.Failure.{Failure}
 use Rattle.repl_replies.specs.Replies.{OriginData, ReplyData, bytes_of}
 use Rattle.repl_sessions.specs.State.{StateData}
 use Rattle.server_rules.specs.Request.{Hand, Manner, each_form, each_form_elsewhere, last_form}
+use Rattle.server_rules.specs.Request.{of_action}
 use Rattle.server_rules.specs.Moves.{Move, preceded_by, closing_move, going_on, in_hand}
 use Rattle.tenant_moves.specs.declared.news.News.{News}
 use Rattle.tenant_moves.specs.declared.ending.After.{After}
@@ -52,6 +53,7 @@ closing_move-hand origin manner (Some f) s = refl
 closing_move-hand origin each_form None s = refl
 closing_move-hand origin each_form_elsewhere None s = refl
 closing_move-hand origin (last_form d) None s = refl
+closing_move-hand origin (of_action session) None s = refl
 
 -- the request is done behind its last form
 pub ends-over : (h k : Hand) (s : StateData) (old new : News) → are_none h.forms ≡ true

@@ -82,7 +82,7 @@ next-stays g t q waiting x d = false_from_ne_true _ (λ is. let low = d.given x.
 pub comes-with_clone_of : (o : OriginData) (original : Option ℕ) (x y : Scene) (number : ℕ) → IsServed original x.leaving x.sessions.sessions
     → number ≡ x.sessions.sessions.opened
     → y.sessions ≡ record x.sessions { sessions = with_clone_of x.sessions.sessions original }
-    → y.actors ≡ x.actors ++ entry (suc number) unoccupied ∷ []
+    → y.actors ≡ x.actors ++ entry (suc (suc number)) unoccupied ∷ []
     → y.leaving ≡ x.leaving
     → y.made ≡ x.made ++ map bytes_of (reply o (replies.new_session (id_text y.sessions.ids number)) ∷ [])
     → FollowsRules (λ g t. with_clone g t o original) x y
@@ -96,12 +96,12 @@ comes-with_clone_of o original x y number served is made seat stay told = λ g t
     ∙ ap (opened_with (remaining_sessions ks s)) (first-same ks s original served)
     ∙ sym (remaining_sessions-opened ks s (cloned_state s original) free) in
     let ids : y.sessions.ids ≡ ids_for g t = ap (λ (s : NamedSessions). s.ids) made ∙ d.ids in
-    let apart : IsApart (suc number) ks = staying-apart number ks (ap (is_leaving ks) is ∙ free) in
+    let apart : IsApart (suc (suc number)) ks = staying-apart number ks (ap (is_leaving ks) is ∙ free) in
     record {
       ids = ids;
       sessions = now ∙ sym (ap₂ (λ l (s : NamedSessions). remaining_sessions l s.sessions) stay made);
-      actors = ap₂ (λ es n. es ++ entry (suc n) unoccupied ∷ []) d.actors opened
-          ∙ sym (all-added (suc number) unoccupied ks x.actors apart)
+      actors = ap₂ (λ es n. es ++ entry (suc (suc n)) unoccupied ∷ []) d.actors opened
+          ∙ sym (all-added (suc (suc number)) unoccupied ks x.actors apart)
           ∙ sym (ap₂ all_vacated stay seat);
       replies = replies-made q waiting x.made y.made (reply o (replies.new_session (id_text (ids_for g t) q.sessions.opened)) ∷ []) d.replies
           (told ∙ ap₂ (λ i n. x.made ++ map bytes_of (reply o (replies.new_session (id_text i n)) ∷ [])) ids (sym opened));
@@ -112,9 +112,9 @@ comes-with_clone_of o original x y number served is made seat stay told = λ g t
     }
 
 -- a session is closed
-vacant-as : (n : ℕ) (actor : ActorData) (es : List (Entry ActorData)) → part_under (suc n) es ≡ Some actor
-    → vacated_at (suc n) es ≡ with_vacated_seat (suc n) actor.hand es
-vacant-as n actor es here = ap (vacated_found (suc n) es) here
+vacant-as : (n : ℕ) (actor : ActorData) (es : List (Entry ActorData)) → part_under (suc (suc n)) es ≡ Some actor
+    → vacated_at (suc (suc n)) es ≡ with_vacated_seat (suc (suc n)) actor.hand es
+vacant-as n actor es here = ap (vacated_found (suc (suc n)) es) here
 
 given-more : (m n : ℕ) (b : Bool) (opened now : ℕ) → ((m == n) || b) ≡ true → (b ≡ true → m < opened) → n < opened → now ≡ opened → m < now
 given-more m n b opened now or was low up = by (m == n) (λ i. eqb-true m n i) or
@@ -124,14 +124,14 @@ given-more m n b opened now or was low up = by (m == n) (λ i. eqb-true m n i) o
     by false same h = omega (arith, was h, up)
 
 pub comes-absent : (o : OriginData) (n : ℕ) (x : Scene) → IsServed (Some n) x.leaving x.sessions.sessions
-    → part_under (suc n) x.actors ≡ None → FollowsRules (λ g t. with_close o n) x x
+    → part_under (suc (suc n)) x.actors ≡ None → FollowsRules (λ g t. with_close o n) x x
 comes-absent o n x served none = λ g t q waiting d.
     let apart = staying-apart n x.leaving (open-remaining_sessions x.leaving n x.sessions.sessions (served n refl)) in
-    let absent : part_under (suc n) q.actors ≡ None = ap (part_under (suc n)) d.actors ∙ all-part_under (suc n) x.leaving x.actors apart ∙ none in
+    let absent : part_under (suc (suc n)) q.actors ≡ None = ap (part_under (suc (suc n))) d.actors ∙ all-part_under (suc (suc n)) x.leaving x.actors apart ∙ none in
     subst (λ (o' : Option ActorData). Drafts g t (closed_by o n q o') waiting x) (sym absent) d
 
 pub comes-closed : (o : OriginData) (n : ℕ) (x y : Scene) (actor : ActorData) → AreSeated x.sessions x.actors → IsServed (Some n) x.leaving x.sessions.sessions
-    → part_under (suc n) x.actors ≡ Some actor
+    → part_under (suc (suc n)) x.actors ≡ Some actor
     → y.sessions ≡ x.sessions → y.actors ≡ x.actors → y.leaving ≡ insert_key nat_cmp x.leaving n
     → y.made ≡ x.made ++ map bytes_of (map interruption actor.waiting ++ reply o replies.closed ∷ [])
     → FollowsRules (λ g t. with_close o n) x y
@@ -139,15 +139,15 @@ comes-closed o n x y actor seated served is same others leaves told = λ g t q w
     let ks = x.leaving in
     let s = x.sessions.sessions in
     let apart = staying-apart n ks (open-remaining_sessions ks n s (served n refl)) in
-    let here : part_under (suc n) q.actors ≡ Some actor = ap (part_under (suc n)) d.actors ∙ all-part_under (suc n) ks x.actors apart ∙ is in
-    let low : suc n < suc s.opened = part_under-below (suc n) (suc s.opened) actor x.actors seated is in
-    let vacant : vacated_at (suc n) (all_vacated ks x.actors) ≡ all_vacated y.leaving y.actors =
+    let here : part_under (suc (suc n)) q.actors ≡ Some actor = ap (part_under (suc (suc n))) d.actors ∙ all-part_under (suc (suc n)) ks x.actors apart ∙ is in
+    let low : suc (suc n) < suc (suc s.opened) = part_under-below (suc (suc n)) (suc (suc s.opened)) actor x.actors seated is in
+    let vacant : vacated_at (suc (suc n)) (all_vacated ks x.actors) ≡ all_vacated y.leaving y.actors =
     sym (all-inserted n ks x.actors apart) ∙ sym (ap₂ all_vacated leaves others) in
     let after : Drafts g t (closed_by o n q (Some actor)) waiting y = record {
       ids = ap (λ (s : NamedSessions). s.ids) same ∙ d.ids;
       sessions = ap (λ (s : SessionsData). without_session s n) d.sessions ∙ sym (remaining_sessions-inserted n ks s)
           ∙ sym (ap₂ (λ l (s : NamedSessions). remaining_sessions l s.sessions) leaves same);
-      actors = sym (vacant-as n actor q.actors here) ∙ ap (vacated_at (suc n)) d.actors ∙ vacant;
+      actors = sym (vacant-as n actor q.actors here) ∙ ap (vacated_at (suc (suc n))) d.actors ∙ vacant;
       replies = replies-made q waiting x.made y.made (map interruption actor.waiting ++ reply o replies.closed ∷ []) d.replies told;
       given = λ m leaving.
           let or : ((m == n) || is_leaving ks m) ≡ true = sym (leaving-inserted n ks m) ∙ ap (λ l. is_leaving l m) (sym leaves) ∙ leaving in
@@ -237,4 +237,4 @@ pub seated-last : (ks : List ℕ) (was s : NamedSessions) (here es : List (Entry
     → s ≡ remaining_named ks was → es ≡ all_vacated ks here → AreSeated s es
 seated-last ks was s here es seated rest left =
     subst (λ (n : NamedSessions). AreSeated n es) (sym rest)
-    (subst (λ (a : List (Entry ActorData)). AreBelow (suc was.sessions.opened) a) (sym left) (below-all (suc was.sessions.opened) ks here seated))
+    (subst (λ (a : List (Entry ActorData)). AreBelow (suc (suc was.sessions.opened)) a) (sym left) (below-all (suc (suc was.sessions.opened)) ks here seated))

@@ -28,12 +28,12 @@ kept-more x y newest noted back seated = record {
 }
 
 pub cloned-back : (s s' : NamedSessions) (es es' : List (Entry ActorData)) (number : ℕ) → AreSeated s es → number ≡ s.sessions.opened
-    → retracted_named s' ≡ s → es' ≡ es ++ entry (suc number) unoccupied ∷ []
+    → retracted_named s' ≡ s → es' ≡ es ++ entry (suc (suc number)) unoccupied ∷ []
     → undone (change.Cloned number) (sessions_and_actors s' es') ≡ sessions_and_actors s es
 cloned-back s s' es es' number seated is back seat =
     ap₂ sessions_and_actors back
-    (ap (without (suc number)) seat
-    ∙ newest-out (suc number) unoccupied es (below-more (suc s.sessions.opened) (suc number) es (omega (arith, is)) seated))
+    (ap (without (suc (suc number))) seat
+    ∙ newest-out (suc (suc number)) unoccupied es (below-more (suc (suc s.sessions.opened)) (suc (suc number)) es (omega (arith, is)) seated))
 
 -- nothing was changed
 pub kept-same : (x y : Scene) → AreSeated x.sessions x.actors → y.sessions ≡ x.sessions → y.actors ≡ x.actors → y.log ≡ x.log → IsKept x y
@@ -46,8 +46,8 @@ pub kept-then : (x y z : Scene) → IsKept x y → IsKept y z → IsKept x z
 kept-then x y z first second = record { undone = second.undone ∙ first.undone; seated = second.seated }
 
 pub cloned-seated : (s s' : NamedSessions) (es es' : List (Entry ActorData)) (number : ℕ) → AreSeated s es → number ≡ s.sessions.opened
-    → s'.sessions.opened ≡ s.sessions.opened + 1 → es' ≡ es ++ entry (suc number) unoccupied ∷ [] → AreSeated s' es'
+    → s'.sessions.opened ≡ s.sessions.opened + 1 → es' ≡ es ++ entry (suc (suc number)) unoccupied ∷ [] → AreSeated s' es'
 cloned-seated s s' es es' number seated is up seat =
-    let next = suc s'.sessions.opened in
+    let next = suc (suc s'.sessions.opened) in
     subst (λ (a : List (Entry ActorData)). AreBelow next a) (sym seat)
-    (below-added next (suc number) unoccupied es (omega (arith, is, up)) (below-more (suc s.sessions.opened) next es (omega (arith, up)) seated))
+    (below-added next (suc (suc number)) unoccupied es (omega (arith, is, up)) (below-more (suc (suc s.sessions.opened)) next es (omega (arith, up)) seated))

@@ -100,17 +100,17 @@ added-one n m x es apart =
 -- a seat is none of these sessions'
 abbrev pub IsApart : ℕ → List ℕ → Type 0
 IsApart seat [] = Unit {0}
-IsApart seat (k ∷ ks) = (seat ≡ suc k → ⊥) × IsApart seat ks
+IsApart seat (k ∷ ks) = (seat ≡ suc (suc k) → ⊥) × IsApart seat ks
 
-pub bare-apart : (ks : List ℕ) → IsApart 0 ks
+pub bare-apart : (ks : List ℕ) → IsApart 1 ks
 bare-apart [] = tt
 bare-apart (k ∷ ks) = ((λ same. omega (arith, same)), bare-apart ks)
 
-pub staying-apart : (n : ℕ) (ks : List ℕ) → is_leaving ks n ≡ false → IsApart (suc n) ks
+pub staying-apart : (n : ℕ) (ks : List ℕ) → is_leaving ks n ≡ false → IsApart (suc (suc n)) ks
 staying-apart n [] absent = tt
 staying-apart n (k ∷ ks) absent = by (n == k) refl absent (λ later. staying-apart n ks later)
   where
-    by : (b : Bool) → (n == k) ≡ b → (b || is_leaving ks n) ≡ false → (is_leaving ks n ≡ false → IsApart (suc n) ks) → IsApart (suc n) (k ∷ ks)
+    by : (b : Bool) → (n == k) ≡ b → (b || is_leaving ks n) ≡ false → (is_leaving ks n ≡ false → IsApart (suc (suc n)) ks) → IsApart (suc (suc n)) (k ∷ ks)
     by true i h ih = absurd (cc)
     by false i h ih = ((λ same. apart i (omega (arith, same))), ih h)
       where
@@ -119,41 +119,41 @@ staying-apart n (k ∷ ks) absent = by (n == k) refl absent (λ later. staying-a
 
 pub all-part_under : (seat : ℕ) (ks : List ℕ) (es : Actors) → IsApart seat ks → part_under seat (all_vacated ks es) ≡ part_under seat es
 all-part_under seat [] es apart = refl
-all-part_under seat (k ∷ ks) es apart = all-part_under seat ks (vacated_at (suc k) es) apart.1 ∙ part_under-one seat (suc k) es apart.0
+all-part_under seat (k ∷ ks) es apart = all-part_under seat ks (vacated_at (suc (suc k)) es) apart.1 ∙ part_under-one seat (suc (suc k)) es apart.0
 
 pub all-changed : (seat : ℕ) (f : ActorData → ActorData) (ks : List ℕ) (es : Actors) → IsApart seat ks
     → with_changed_actor seat f (all_vacated ks es) ≡ all_vacated ks (with_changed_actor seat f es)
 all-changed seat f [] es apart = refl
 all-changed seat f (k ∷ ks) es apart =
-    all-changed seat f ks (vacated_at (suc k) es) apart.1 ∙ ap (all_vacated ks) (changed-one seat (suc k) f es apart.0)
+    all-changed seat f ks (vacated_at (suc (suc k)) es) apart.1 ∙ ap (all_vacated ks) (changed-one seat (suc (suc k)) f es apart.0)
 
 pub all-added : (seat : ℕ) (x : ActorData) (ks : List ℕ) (es : Actors) → IsApart seat ks
     → all_vacated ks (es ++ entry seat x ∷ []) ≡ all_vacated ks es ++ entry seat x ∷ []
 all-added seat x [] es apart = refl
 all-added seat x (k ∷ ks) es apart =
-    ap (all_vacated ks) (added-one (suc k) seat x es (λ same. apart.0 (sym same)))
-    ∙ all-added seat x ks (vacated_at (suc k) es) apart.1
+    ap (all_vacated ks) (added-one (suc (suc k)) seat x es (λ same. apart.0 (sym same)))
+    ∙ all-added seat x ks (vacated_at (suc (suc k)) es) apart.1
 
 pub all-one : (seat : ℕ) (ks : List ℕ) (es : Actors) → IsApart seat ks
     → all_vacated ks (vacated_at seat es) ≡ vacated_at seat (all_vacated ks es)
 all-one seat [] es apart = refl
 all-one seat (k ∷ ks) es apart =
-    ap (all_vacated ks) (vacated-one (suc k) seat es (λ same. apart.0 (sym same)))
-    ∙ all-one seat ks (vacated_at (suc k) es) apart.1
+    ap (all_vacated ks) (vacated-one (suc (suc k)) seat es (λ same. apart.0 (sym same)))
+    ∙ all-one seat ks (vacated_at (suc (suc k)) es) apart.1
 
 -- one session more that leaves
-pub all-inserted : (n : ℕ) (ks : List ℕ) (es : Actors) → IsApart (suc n) ks
-    → all_vacated (insert_key nat_cmp ks n) es ≡ vacated_at (suc n) (all_vacated ks es)
+pub all-inserted : (n : ℕ) (ks : List ℕ) (es : Actors) → IsApart (suc (suc n)) ks
+    → all_vacated (insert_key nat_cmp ks n) es ≡ vacated_at (suc (suc n)) (all_vacated ks es)
 all-inserted n [] es apart = refl
 all-inserted n (k ∷ ks) es apart =
-    by (nat_cmp n k) (ranked n k (nat_cmp n k) refl) (all-inserted n ks (vacated_at (suc k) es) apart.1)
+    by (nat_cmp n k) (ranked n k (nat_cmp n k) refl) (all-inserted n ks (vacated_at (suc (suc k)) es) apart.1)
   where
     by : (o : Ordering) → MatchOrdering o (n < k) (n ≡ k) (k < n)
-        → all_vacated (insert_key nat_cmp ks n) (vacated_at (suc k) es) ≡ vacated_at (suc n) (all_vacated ks (vacated_at (suc k) es))
+        → all_vacated (insert_key nat_cmp ks n) (vacated_at (suc (suc k)) es) ≡ vacated_at (suc (suc n)) (all_vacated ks (vacated_at (suc (suc k)) es))
         → all_vacated (match_ordering o (n ∷ k ∷ ks) (k ∷ ks) (k ∷ insert_key nat_cmp ks n)) es
-        ≡ vacated_at (suc n) (all_vacated ks (vacated_at (suc k) es))
-    by Less h ih = all-one (suc n) (k ∷ ks) es apart
-    by Equal h ih = absurd (apart.0 (ap suc h))
+        ≡ vacated_at (suc (suc n)) (all_vacated ks (vacated_at (suc (suc k)) es))
+    by Less h ih = all-one (suc (suc n)) (k ∷ ks) es apart
+    by Equal h ih = absurd (apart.0 (ap (λ k. suc (suc k)) h))
     by Greater h ih = ih
 
 -- actors with lower seats
@@ -167,7 +167,7 @@ below-left m n (Some x) es below = by x.hand
 
 pub below-all : (m : ℕ) (ks : List ℕ) (es : Actors) → AreBelow m es → AreBelow m (all_vacated ks es)
 below-all m [] es below = below
-below-all m (k ∷ ks) es below = below-all m ks (vacated_at (suc k) es) (below-left m (suc k) (part_under (suc k) es) es below)
+below-all m (k ∷ ks) es below = below-all m ks (vacated_at (suc (suc k)) es) (below-left m (suc (suc k)) (part_under (suc (suc k)) es) es below)
 
 pub below-changed : (m n : ℕ) (f : ActorData → ActorData) (es : Actors) → AreBelow m es → AreBelow m (with_changed_actor n f es)
 below-changed m n f es below = by (part_under n es)

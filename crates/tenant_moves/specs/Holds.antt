@@ -17,4 +17,4 @@ pub record PartsStandFor (g : Ground) (t : ℕ) (q : Quiet)
 
 -- no actor is of a session that is yet to be made
 abbrev pub AreSeated : NamedSessions → List (Entry ActorData) → Type 0
-AreSeated sessions actors = AreBelow (suc sessions.sessions.opened) actors
+AreSeated sessions actors = AreBelow (suc (suc sessions.sessions.opened)) actors

@@ -17,6 +17,7 @@ use repl_replies::{Asked, Body, Origin, Reply};
 use repl_sessions::Sessions;
 use std::alloc::{AllocError, Global};
 use std::collections::{BTreeSet, VecDeque};
+use std::sync::Arc;
 use tenant_actors::{Actors, Batch};
 
 #[derive(Drop)]
@@ -104,7 +105,10 @@ impl Draft {
             (scene self.new sessions.new actors.new) }
     {
         match read_message(fields, sessions, &self.leaving) {
-            Ok(Asked { origin, operation }) => self.operate(origin, operation, sessions, actors),
+            Ok(Asked { origin, operation }) => {
+                let origin = Arc::new(self.alloc, origin)?;
+                self.operate(origin, operation, sessions, actors)
+            }
             Err(Reply { origin, body }) => self.batch.add(&origin, body),
         }
     }

@@ -4,7 +4,7 @@ ghost use Rattle.repl_faults.specs.Inside.View.{failure_of};
 ghost use Rattle.value_data.specs.Inside.View.{view};
 ghost use Rattle.repl_asks.specs.Inside.Jobs.{finished_view};
 ghost use Rattle.repl_sessions.specs.Inside.StateView.{state_view};
-ghost use Rattle.server_rules.specs.Request.{each_form, each_form_elsewhere};
+ghost use Rattle.server_rules.specs.Request.{each_form, each_form_elsewhere, of_action};
 ghost use Rattle.server_rules.specs.Moves.{form_ended, form_ended_as, form_loaded, going_on};
 ghost use Rattle.tenant_actors.specs.View.{hand_view};
 ghost use Rattle.tenant_moves.specs.Told.{told_state};
@@ -59,7 +59,23 @@ fn end_form(news: &mut News, hand: &Hand, finished: &Finished) -> Result<After, 
             End::Value(value) => end_with_value(news, hand, finished, value),
             End::Fault(fault) => end_with_fault(news, hand, finished, fault),
         },
+        Manner::OfAction(session) => end_action(news, hand, finished, *session),
     }
+}
+
+// Of an action what it printed is told, and nothing else.
+fn end_action(
+    news: &mut News,
+    hand: &Hand,
+    finished: &Finished,
+    session: Option<u64>,
+) -> Result<After, AllocError>
+    ensures { IfOk result (λ after. EndsFormBy
+        (form_ended_as (hand_view hand.now) (finished_view finished.now) (told_state news.old)
+        (of_action session)) (hand_view hand.now) news.old news.new after) }
+{
+    news.batch.add_output(&*hand.origin, finished.text())?;
+    Ok(After::Over)
 }
 
 fn end_here(news: &mut News, hand: &Hand, finished: &Finished) -> Result<After, AllocError>
@@ -67,7 +83,7 @@ fn end_here(news: &mut News, hand: &Hand, finished: &Finished) -> Result<After, 
         (form_ended_as (hand_view hand.now) (finished_view finished.now) (told_state news.old)
         each_form) (hand_view hand.now) news.old news.new after) }
 {
-    news.batch.add_end(&hand.origin, finished)?;
+    news.batch.add_end(&*hand.origin, finished)?;
     news.note_result(finished.end())?;
     news.state.enter(copy_text(finished.namespace())?);
     go_on_behind(news, hand, finished)
@@ -78,7 +94,7 @@ fn end_elsewhere(news: &mut News, hand: &Hand, finished: &Finished) -> Result<Af
         (form_ended_as (hand_view hand.now) (finished_view finished.now) (told_state news.old)
         each_form_elsewhere) (hand_view hand.now) news.old news.new after) }
 {
-    news.batch.add_end(&hand.origin, finished)?;
+    news.batch.add_end(&*hand.origin, finished)?;
     news.note_result(finished.end())?;
     go_on_behind(news, hand, finished)
 }
@@ -93,7 +109,7 @@ fn end_with_value(
         (form_loaded (hand_view hand.now) (finished_view finished.now) (Ok (view value.now))
         (told_state news.old)) (hand_view hand.now) news.old news.new after) }
 {
-    news.batch.add_output(&hand.origin, finished.text())?;
+    news.batch.add_output(&*hand.origin, finished.text())?;
     let namespace = copy_text(finished.namespace())?;
     let last = copy(value)?;
     if is_last(hand) {
@@ -116,7 +132,7 @@ fn end_with_fault(
         (form_loaded (hand_view hand.now) (finished_view finished.now) (Err (failure_of fault.now))
         (told_state news.old)) (hand_view hand.now) news.old news.new after) }
 {
-    news.batch.add_output(&hand.origin, finished.text())?;
+    news.batch.add_output(&*hand.origin, finished.text())?;
     news.end_by_fault(&hand.origin, fault)?;
     Ok(After::Over)
 }

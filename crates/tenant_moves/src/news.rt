@@ -1,5 +1,6 @@
 // What is told of a request.
 ghost use Rattle.std.specs.Prelude.{◌≡◌, [], None, option_map, OnOk};
+ghost use Rattle.std.specs.Arc.{arc_value};
 ghost use Rattle.repl_faults.specs.Inside.View.{failure_of};
 ghost use Rattle.repl_asks.specs.Inside.Jobs.{end_view};
 ghost use Rattle.repl_replies.specs.Inside.View.{origin_view};
@@ -13,6 +14,7 @@ use repl_replies::{Body, Origin};
 use repl_sessions::SessionState;
 use repl_values::{Fault, Value, copy, copy_text};
 use std::alloc::{AllocError, Global};
+use std::sync::Arc;
 use tenant_actors::{Batch, Manner};
 
 /// The replies to a request, and what its session then remembers.
@@ -36,13 +38,17 @@ impl News {
     }
 
     // The request is done by a fault.
-    pub(crate) fn end_by_fault(&mut self, origin: &Origin, fault: &Fault) -> Result<(), AllocError>
+    pub(crate) fn end_by_fault(
+        &mut self,
+        origin: &Arc<Origin>,
+        fault: &Fault,
+    ) -> Result<(), AllocError>
         ensures { OnOk result (Adds
-            (over_by (origin_view origin.now) (failure_of fault.now) (told_state self.old))
+            (over_by (origin_view (arc_value origin.now)) (failure_of fault.now) (told_state self.old))
             self.old self.new) }
     {
-        self.batch.add_fault(origin, fault)?;
-        self.batch.add(origin, Body::Done)?;
+        self.batch.add_fault(&**origin, fault)?;
+        self.batch.add(&**origin, Body::Done)?;
         self.state.note_fault(fault.copy()?);
         Ok(())
     }
@@ -50,11 +56,11 @@ impl News {
     // The request is done behind its last form.
     pub(crate) fn end_request(
         &mut self,
-        origin: &Origin,
+        origin: &Arc<Origin>,
         manner: &Manner,
         fault: &Option<Fault>,
     ) -> Result<(), AllocError>
-        ensures { OnOk result (Adds (closing_move (origin_view origin.now) (manner_view manner.now)
+        ensures { OnOk result (Adds (closing_move (origin_view (arc_value origin.now)) (manner_view manner.now)
             (option_map failure_of fault.now) (told_state self.old)) self.old self.new) }
     {
         match fault {
@@ -63,17 +69,19 @@ impl News {
         }
     }
 
-    fn end_well(&mut self, origin: &Origin, manner: &Manner) -> Result<(), AllocError>
-        ensures { OnOk result (Adds (closing_move (origin_view origin.now) (manner_view manner.now)
+    fn end_well(&mut self, origin: &Arc<Origin>, manner: &Manner) -> Result<(), AllocError>
+        ensures { OnOk result (Adds (closing_move (origin_view (arc_value origin.now)) (manner_view manner.now)
             None (told_state self.old)) self.old self.new) }
     {
         match manner {
-            Manner::EachForm => self.batch.add(origin, Body::Done),
-            Manner::EachFormElsewhere => self.batch.add(origin, Body::Done),
+            Manner::EachForm => self.batch.add(&**origin, Body::Done),
+            Manner::EachFormElsewhere | Manner::OfAction(_) => self
+                .batch
+                .add(&**origin, Body::Done),
             Manner::LastForm(last) => {
                 let namespace = copy_text(&self.state.namespace)?;
-                self.batch.add_value(origin, namespace.as_str(), last)?;
-                self.batch.add(origin, Body::Done)?;
+                self.batch.add_value(&**origin, namespace.as_str(), last)?;
+                self.batch.add(&**origin, Body::Done)?;
                 self.state.note_value(copy(last)?);
                 Ok(())
             }

@@ -1,5 +1,6 @@
 // Each operation is carried out (the nREPL manual, "Supported nREPL operations").
 ghost use Rattle.std.specs.Prelude.{◌≡◌, OnOk, Some};
+ghost use Rattle.std.specs.Arc.{arc_value};
 ghost use Rattle.std.specs.BTreeSet.{keys};
 ghost use Rattle.repl_sessions.specs.Named.{NamedSessions};
 ghost use Rattle.repl_replies.specs.Inside.View.{origin_view, operation_view};
@@ -18,12 +19,13 @@ use repl_replies::{Body, Operation, Origin};
 use repl_sessions::Sessions;
 use server_rules::Actor;
 use std::alloc::AllocError;
+use std::sync::Arc;
 use tenant_actors::{Actors, ProgramText, Waiting};
 
 impl Draft {
     pub(crate) fn operate(
         &mut self,
-        origin: Origin,
+        origin: Arc<Origin>,
         operation: Operation,
         sessions: &mut Sessions,
         actors: &mut Actors,
@@ -32,20 +34,20 @@ impl Draft {
         requires served { IsServed (session_of (operation_view operation)) (keys self.old.leaving)
             sessions.old.sessions }
         ensures heard { OnOk result (FollowsRules
-            (λ g t. after_operation g t (origin_view origin) (operation_view operation))
+            (λ g t. after_operation g t (origin_view (arc_value origin)) (operation_view operation))
             (scene self.old sessions.old actors.old) (scene self.new sessions.new actors.new)) }
         ensures kept { IsKept (scene self.old sessions.old actors.old)
             (scene self.new sessions.new actors.new) }
     {
         match operation {
-            Operation::Clone { session } => self.open(&origin, session, sessions, actors),
-            Operation::Close { session } => self.close(&origin, session, actors),
-            Operation::Describe { session: _ } => self.batch.add(&origin, Body::Described),
+            Operation::Clone { session } => self.open(&*origin, session, sessions, actors),
+            Operation::Close { session } => self.close(&*origin, session, actors),
+            Operation::Describe { session: _ } => self.batch.add(&*origin, Body::Described),
             Operation::ListSessions { session: _ } => {
                 add_list(
                     self.alloc,
                     &mut self.batch,
-                    &origin,
+                    &*origin,
                     sessions,
                     &self.leaving,
                 )

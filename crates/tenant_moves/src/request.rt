@@ -1,6 +1,6 @@
 // A request is opened: its text is read.
 ghost use Rattle.std.specs.Prelude.{◌≡◌, option_map, option_and_then, Some, string_bytes, IfOk};
-ghost use Rattle.std.specs.Arc.{arc_str_bytes};
+ghost use Rattle.std.specs.Arc.{arc_value, arc_str_bytes};
 ghost use Rattle.bencode_wire.specs.Inside.View.{tree_view};
 ghost use Rattle.repl_faults.specs.Inside.View.{failure_of};
 ghost use Rattle.repl_reader.specs.Inside.View.{fault_option};
@@ -23,7 +23,7 @@ use repl_sessions::SessionState;
 use repl_values::{Fault, Value, copy_text};
 use std::alloc::{AllocError, Global};
 use std::collections::VecDeque;
-use std::sync::ArcStr;
+use std::sync::{Arc, ArcStr};
 use tenant_actors::{Hand, Manner, ProgramText, Waiting};
 
 /// A request whose text was read.
@@ -59,13 +59,13 @@ pub fn open_request(
 fn open_code(
     alloc: Global,
     spaces: &Spaces,
-    origin: &Origin,
+    origin: &Arc<Origin>,
     text: &String,
     ns: &Option<Ben>,
     state: &SessionState,
 ) -> Result<Opened, AllocError>
     ensures { (r : Readings) → AreRight r → IfOk result (λ made. opened_view made
-        ≡ opened_code r (namespaces_of spaces.now) (origin_view origin.now)
+        ≡ opened_code r (namespaces_of spaces.now) (origin_view (arc_value origin.now))
         (string_bytes text.now) (state_view state.now) (field_view ns.now)) }
 {
     match ns {
@@ -79,12 +79,12 @@ fn open_code(
 
 fn open_elsewhere(
     alloc: Global,
-    origin: &Origin,
+    origin: &Arc<Origin>,
     text: &String,
     namespace: Option<ArcStr>,
 ) -> Result<Opened, AllocError>
     ensures { (r : Readings) → AreRight r → IfOk result (λ made. opened_view made
-        ≡ opened_elsewhere r (origin_view origin.now) (string_bytes text.now)
+        ≡ opened_elsewhere r (origin_view (arc_value origin.now)) (string_bytes text.now)
         (option_map (λ name. arc_str_bytes name) namespace)) }
 {
     match namespace {
@@ -95,20 +95,20 @@ fn open_elsewhere(
 
 fn open_in(
     alloc: Global,
-    origin: &Origin,
+    origin: &Arc<Origin>,
     manner: Manner,
     namespace: &ArcStr,
     text: &String,
 ) -> Result<Opened, AllocError>
     ensures { (r : Readings) → AreRight r → IfOk result (λ made. opened_view made
-        ≡ Some (hand_of (origin_view origin.now) (manner_view manner) (arc_str_bytes namespace.now)
+        ≡ Some (hand_of (origin_view (arc_value origin.now)) (manner_view manner) (arc_str_bytes namespace.now)
         (r.program (string_bytes text.now)))) }
 {
     readings_are_unique();
     let ProgramForms { forms, fault } = read_all(alloc, text.as_str())?;
     let fault = text_fault(alloc, fault)?;
     Ok(Opened::Hand(Hand {
-        origin: origin.copy(alloc)?,
+        origin: Arc::try_clone(origin)?,
         manner,
         namespace: copy_text(namespace)?,
         running: None,

@@ -136,7 +136,7 @@ pub fn begin_request(
 {
     match open_request(alloc, spaces, waiting, &state)? {
         Opened::Hand(hand) => begin_hand(alloc, retries, hand, state),
-        Opened::NamespaceNotFound => refuse(alloc, &waiting.origin, state),
+        Opened::NamespaceNotFound => refuse(alloc, &*waiting.origin, state),
     }
 }
 

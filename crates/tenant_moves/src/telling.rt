@@ -42,7 +42,7 @@ pub(crate) fn add_interruptions(
         ++ map bytes_of (map interruption (map waiting_view requests.now.items))) }
 {
     for request in requests.iter() {
-        batch.add(&request.origin, Body::Interrupted)?;
+        batch.add(&*request.origin, Body::Interrupted)?;
     }
     Ok(())
 }

@@ -1,6 +1,6 @@
 -- What calls of the refs leave as it was.
 use Rattle.std.proofs.Common.{◌≡◌, ◌+◌, ℕ, List, [], ◌∷◌, ◌++◌, Bool, true, false, ◌&&◌, Option}
-use Rattle.std.proofs.Common.{None, Some, refl, sym, ap, ◌∙◌}
+use Rattle.std.proofs.Common.{None, Some, refl, sym, ap, ◌∙◌, ◌==◌, if◌then◌else◌}
 use Rattle.std.specs.Prelude.{option_map, Result, Ok, Err}
 use Rattle.value_data.specs.Datum.{Datum, OwnerData, shared, tenant}
 use Rattle.repl_asks.specs.Transactions.{RefNameData, ChangeData, IntentData}
@@ -19,6 +19,8 @@ use Rattle.server_rules.specs.Commit.{concluded_commit, checked_commit, commit_b
 use Rattle.server_rules.specs.Calls.{Call, nothing, makes, begins, leaves_attempt, reads, counts}
 use Rattle.server_rules.specs.Calls.{inside, outside}
 use Rattle.server_rules.specs.Calls.{tells_least, tells_most, sets_least, sets_most, commits}
+use Rattle.server_rules.specs.Asking.{send_call}
+use Rattle.server_rules.specs.Performed.{as_was}
 use Rattle.server_rules.specs.Calls.{gives_up, performed_begin, read_at, read_by, bound_set}
 use Rattle.server_rules.specs.Calls.{given_up, performed}
 
@@ -281,3 +283,14 @@ pub bound-points : (name : RefNameData) (owner : OwnerData) (f : Ref → Ref) (s
 bound-points name owner f s None = refl
 bound-points name shared f s (Some r) = refl
 bound-points name (tenant t) f s (Some r) = (with_changed_ref-same name f s).points
+
+-- whether something may be sent is told of no ref
+pub send-told : (seat : ℕ) (s : Store)
+    → as_was s (performed s (send_call seat)).told ≡ performed s (send_call seat)
+send-told seat s = by (seat == 0) where
+  call_by : Bool → Call
+  call_by b = if b then nothing else inside seat
+
+  by : (b : Bool) → as_was s (performed s (call_by b)).told ≡ performed s (call_by b)
+  by true = refl
+  by false = refl

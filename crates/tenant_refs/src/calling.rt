@@ -2,9 +2,9 @@
 ghost use Rattle.std.specs.Prelude.{◌≡◌, ◌<◌, ◌≤◌, ◌+◌, ◌^◌, true, IsNone, IfOk, OnErr};
 ghost use Rattle.repl_asks.specs.Inside.View.{ask_view, name_view, intent_view};
 ghost use Rattle.value_data.specs.Inside.View.{view};
-ghost use Rattle.server_rules.specs.Asking.{call_of, is_allowed, may_be_set};
+ghost use Rattle.server_rules.specs.Asking.{call_of, is_allowed, may_be_set, send_call};
 ghost use Rattle.server_rules.specs.Calls.{performed, makes, begins, reads, counts, commits};
-ghost use Rattle.server_rules.specs.Calls.{inside, outside};
+ghost use Rattle.server_rules.specs.Calls.{outside};
 ghost use Rattle.server_rules.specs.Store.{Store};
 ghost use Rattle.server_rules.specs.Tenant.{Quiet, seat_of};
 ghost use Rattle.ref_table.specs.Refs.{Refs};
@@ -53,9 +53,9 @@ pub fn call(
         Ask::SetAtom { .. } | Ask::TryAtom { .. } => Ok(Some(Thrice::done())),
         Ask::NewAgent(_) | Ask::ReadAgent(_) => Ok(Some(Thrice::done())),
         Ask::AgentFault(_) | Ask::RestartAgent { .. } => Ok(Some(Thrice::done())),
-        Ask::Await(_) => Ok(Some(Thrice::done())),
         Ask::Send(_) => Ok(stand_outside(attempts, actor)),
-        Ask::MaySend(_) => Ok(stand_inside(attempts, actor)),
+        Ask::Await(_) => Ok(stand_outside(attempts, actor)),
+        Ask::MaySend(_) => Ok(stand_to_send(attempts, actor)),
         Ask::NewRef {
             value,
             min_history,
@@ -117,12 +117,15 @@ fn begin(
     Ok(Some(Thrice::done()))
 }
 
-// An attempt has to run.
-fn stand_inside(attempts: &Attempts, actor: Actor) -> Option<Thrice>
+// An attempt has to run, but in an action.
+fn stand_to_send(attempts: &Attempts, actor: Actor) -> Option<Thrice>
     ensures told { (s : Store) → Reaches attempts.now s
-        → told_answer result ≡ (performed s (inside (seat_of actor))).told }
+        → told_answer result ≡ (performed s (send_call (seat_of actor))).told }
     ensures thrice { AreThrice result }
 {
+    if matches!(actor, Actor::Agents) {
+        return Some(Thrice::done());
+    }
     let _point = attempts.point(actor)?;
     Some(Thrice::done())
 }

@@ -1,12 +1,13 @@
 // Whether the refs would tell what a form asks.
 ghost use Rattle.std.specs.Prelude.{◌≡◌, is_some};
 ghost use Rattle.repl_asks.specs.Inside.View.{ask_view, name_view, intent_view};
-ghost use Rattle.server_rules.specs.Asking.{call_of};
+ghost use Rattle.server_rules.specs.Asking.{call_of, send_call};
 ghost use Rattle.server_rules.specs.Calls.{performed, counts, commits};
 ghost use Rattle.server_rules.specs.Store.{Store, ref_named};
 ghost use Rattle.server_rules.specs.Tenant.{seat_of};
 ghost use Rattle.ref_table.specs.Refs.{Refs};
 ghost use Rattle.tenant_refs.specs.Bounds.{is_bounded};
+ghost use Rattle.tenant_refs.specs.Attempts.{Reaches};
 ghost use Rattle.tenant_refs.specs.Serving.{ServesWithAttempts};
 
 use crate::attempts::Attempts;
@@ -34,9 +35,8 @@ pub fn is_told(
         Ask::NewAtom(_) | Ask::ReadAtom(_) | Ask::SetAtom { .. } | Ask::TryAtom { .. } => true,
         Ask::NewAgent(_) | Ask::ReadAgent(_) => true,
         Ask::AgentFault(_) | Ask::RestartAgent { .. } => true,
-        Ask::Await(_) => true,
-        Ask::Send(_) => attempts.point(actor).is_none(),
-        Ask::MaySend(_) => attempts.point(actor).is_some(),
+        Ask::Send(_) | Ask::Await(_) => attempts.point(actor).is_none(),
+        Ask::MaySend(_) => may_send(attempts, actor),
         Ask::Begin => attempts.point(actor).is_none(),
         Ask::Read(name) => is_there(refs, attempts, *name),
         Ask::History(name) => is_counted(refs, attempts, actor, *name),
@@ -45,6 +45,14 @@ pub fn is_told(
         }
         Ask::Commit(intent) => is_committed(alloc, refs, attempts, actor, intent),
     }
+}
+
+// Whether an attempt runs, or it is an action that asks.
+fn may_send(attempts: &Attempts, actor: Actor) -> bool
+    ensures { (s : Store) → Reaches attempts.now s
+        → result ≡ is_some (performed s (send_call (seat_of actor))).told }
+{
+    matches!(actor, Actor::Agents) || attempts.point(actor).is_some()
 }
 
 // Whether the tenant reaches a ref.

@@ -1,5 +1,5 @@
 -- The turns of a tenant that is served alone, and what a list of them serves.
-use Rattle.std.specs.Prelude.{ℕ, List, [], ◌∷◌, ◌++◌, Some, map}
+use Rattle.std.specs.Prelude.{ℕ, List, [], ◌∷◌, ◌++◌, Some, map, filter, Bool, true, false, not}
 use Rattle.server_rules.specs.Store.{Around, Own, Store}
 use Rattle.server_rules.specs.Ground.{Ground}
 use Rattle.server_rules.specs.Tenant.{Quiet, opened_quiet}
@@ -73,6 +73,14 @@ lone_served g l [] = []
 lone_served g l (turn ∷ turns) = reply_taken (lone_step g l turn)
     ++ lone_served g (lone_after g l turn) turns
 
+abbrev pub is_of_agents : Actor → Bool
+is_of_agents Actor.Agents = true
+is_of_agents a = false
+
+-- that of agents is the last
+abbrev pub agents_last : List Actor → List Actor
+agents_last actors = filter (λ a. not (is_of_agents a)) actors ++ Actor.Agents ∷ []
+
 -- the actors, in the order of their rounds
 abbrev pub actors_of : Lone → List Actor
-actors_of l = map (λ e. actor_at e.number) l.quiet.actors
+actors_of l = agents_last (map (λ e. actor_at e.number) l.quiet.actors)

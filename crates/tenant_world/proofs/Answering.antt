@@ -1,12 +1,12 @@
 -- What a form asks, beside the rules' step.
-use Rattle.std.proofs.Common.{◌≡◌, ◌^◌, ℕ, Bool, true, false, Option, None, Some, refl, sym, ap}
+use Rattle.std.proofs.Common.{◌≡◌, ◌^◌, ◌==◌, ◌&&◌, ℕ, Bool, true, false, Option, None, Some, refl, sym, ap}
 use Rattle.std.proofs.Common.{◌∙◌, option_map, true≢false, if◌then◌else◌, is_some, nat_lt, ◌≢◌}
 use Rattle.std.proofs.Common.{Result, Ok, Err, IfErr, []}
 use Rattle.std.specs.Result.{IsErrAnd}
 use Rattle.std.proofs.lemmas.Bool.{and_parts, ltb-true}
 use Rattle.repl_asks.specs.Exchange as exchange
 use Rattle.repl_asks.specs.Exchange.{AskData, AnswerData}
-use Rattle.server_rules.specs.Calls.{nothing, gives_up, performed, given_up, told_inside}
+use Rattle.server_rules.specs.Calls.{Call, nothing, inside, gives_up, performed, given_up, told_inside}
 use Rattle.server_rules.specs.Calls.{told_outside}
 use Rattle.server_rules.specs.Ground.{Ground}
 use Rattle.server_rules.specs.Request.{Hand, Run}
@@ -15,12 +15,13 @@ use Rattle.server_rules.specs.Tenant.{ActorData, Quiet, seat_of}
 use Rattle.server_rules.specs.Numbered as numbered
 use Rattle.server_rules.specs.Numbered.{with_part}
 use Rattle.server_rules.specs.Performed.{as_was, tells}
-use Rattle.server_rules.specs.Asking.{asked_of, asked_running, asked_allowed, answer_outcome}
+use Rattle.server_rules.specs.Asking.{asked_of, asked_running, asked_allowed, ask_outcome, may_ask}
+use Rattle.server_rules.specs.Asking.{session_of, send_call}
 use Rattle.server_rules.specs.Asking.{answer_to, spaces_after, quiet_after}
 use Rattle.server_rules.specs.Asking.{with_recorded_answer, call_of, sender_of}
 use Rattle.server_rules.specs.Asking.{is_allowed, when_told}
 use Rattle.server_rules.specs.Cells.{CellsData, cell_answer, SenderData, is_yes, with_sends_if}
-use Rattle.server_rules.specs.Cells.{cells_after}
+use Rattle.server_rules.specs.Cells.{cells_after, must_wait}
 use Rattle.server_rules.specs.Starting.{interrupted_in}
 use Rattle.server_rules.specs.Plan.{Plan, refuses, leaves, with_step_spent, ask_answered, quietly}
 use Rattle.server_rules.specs.declared.actor.Actor.{Actor}
@@ -30,7 +31,7 @@ use Rattle.tenant_world.specs.declared.memory.Memory.{Memory}
 use Rattle.tenant_world.specs.Memories.{Remembers}
 use Rattle.tenant_world.specs.Acting.{AcceptsOutcome, RefusesOutcome, is_accepted}
 use Rattle.tenant_world.specs.Asking.{is_of_names, is_of_cells, answered_plan, exchange_from, run_with}
-use Rattle.tenant_world.specs.Asking.{hand_with, with_exchange}
+use Rattle.tenant_world.specs.Asking.{hand_with, with_exchange, why_waiting}
 use Rattle.tenant_world.specs.Sends.{committed_sends}
 use Rattle.tenant_refs.proofs.Soundness.{MayBe}
 
@@ -69,6 +70,17 @@ stands-inside : (s : Store) (found : Option ℕ) → is_some (told_inside found)
 stands-inside s None told = absurd (true≢false (sym told))
 stands-inside s (Some point) told = refl
 
+sends-told : (seat : ℕ) (s : Store) → is_some (performed s (send_call seat)).told ≡ true
+    → performed s (send_call seat) ≡ tells exchange.done s
+sends-told seat s told = by (seat == 0) told where
+  call_by : Bool → Call
+  call_by b = if b then nothing else inside seat
+
+  by : (b : Bool) → is_some (performed s (call_by b)).told ≡ true
+      → performed s (call_by b) ≡ tells exchange.done s
+  by true told = refl
+  by false told = stands-inside s (numbered.part_under seat s.mine.points) told
+
 -- of atoms and agents the refs tell no more than that the ask may stand where it does
 pub cells-told : (seat : ℕ) (ask : AskData) (s : Store) → is_of_cells ask ≡ true
     → is_some (performed s (call_of seat ask)).told ≡ true
@@ -83,8 +95,9 @@ cells-told seat (exchange.agent_fault n) s cells told = refl
 cells-told seat (exchange.restart_agent n d) s cells told = refl
 cells-told seat (exchange.send x) s cells told =
     stands-outside s (numbered.part_under seat s.mine.points) told
-cells-told seat (exchange.may_send x) s cells told =
-    stands-inside s (numbered.part_under seat s.mine.points) told
+cells-told seat (exchange.may_send x) s cells told = sends-told seat s told
+cells-told seat (exchange.await ns) s cells told =
+    stands-outside s (numbered.part_under seat s.mine.points) told
 cells-told seat _ s cells told = absurd (true≢false (sym cells))
 
 -- no namespace changes with an atom or an agent
@@ -100,6 +113,7 @@ cells-spaces (exchange.agent_fault n) q cells = refl
 cells-spaces (exchange.restart_agent n d) q cells = refl
 cells-spaces (exchange.send s) q cells = refl
 cells-spaces (exchange.may_send s) q cells = refl
+cells-spaces (exchange.await ns) q cells = refl
 cells-spaces _ q cells = absurd (true≢false (sym cells))
 
 pub cells-answer : (g : Ground) (a : Actor) (q : Quiet) (ask : AskData) (c : CellsData)
@@ -124,6 +138,8 @@ cells-answer g a q (exchange.send s) c told cells same =
     ap (λ x. cell_answer (exchange.send s) x told) same
 cells-answer g a q (exchange.may_send s) c told cells same =
     ap (λ x. cell_answer (exchange.may_send s) x told) same
+cells-answer g a q (exchange.await ns) c told cells same =
+    ap (λ x. cell_answer (exchange.await ns) x told) same
 cells-answer g a q _ c told cells same = absurd (true≢false (sym cells))
 
 -- of refs the answer is what they told, no namespace changes, and a commit sends
@@ -169,8 +185,7 @@ refs-told g a sender q (exchange.commit intent) told names cells =
     record { is = refl; spaces = refl; cells = refl }
 refs-told g a sender q (exchange.send s) told names cells = absurd (true≢false cells)
 refs-told g a sender q (exchange.may_send s) told names cells = absurd (true≢false cells)
-refs-told g a sender q (exchange.await ns) told names cells =
-    record { is = refl; spaces = refl; cells = nothing-sent (is_yes told) sender q.cells }
+refs-told g a sender q (exchange.await ns) told names cells = absurd (true≢false cells)
 
 -- the bounds of what is allowed are numbers of the language
 pub allowed-may : (seat : ℕ) (ask : AskData) (q : Quiet) → is_allowed ask q.cells ≡ true
@@ -198,7 +213,10 @@ allowed-may seat (exchange.read_agent n) q allowed = tt
 allowed-may seat (exchange.agent_fault n) q allowed = tt
 allowed-may seat (exchange.restart_agent n d) q allowed = tt
 allowed-may seat (exchange.send s) q allowed = tt
-allowed-may seat (exchange.may_send s) q allowed = tt
+allowed-may seat (exchange.may_send s) q allowed = by (seat == 0) where
+  by : (b : Bool) → MayBe (if b then nothing else inside seat)
+  by true = tt
+  by false = tt
 allowed-may seat (exchange.await ns) q allowed = tt
 
 -- what the code says of an ask, where it remembers these atoms and agents
@@ -208,13 +226,13 @@ allowed-so ask same says is = sym (ap (is_allowed ask) same) ∙ sym says ∙ is
 
 -- An answer that is kept
 
-pub acted-answer_outcome : (g : Ground) (t : ℕ) (m : Memory) (a : Actor) (actor new : ActorData) (h : Hand)
+pub acted-ask_outcome : (g : Ground) (t : ℕ) (m : Memory) (a : Actor) (actor new : ActorData) (h : Hand)
     (run : Run) (ask : AskData) (q : Quiet) (told kept given : AnswerData)
     → actor.hand ≡ Some h → h.running ≡ Some run
     → new ≡ with_exchange (exchange_from ask kept) actor → kept ≡ answer_to g a q ask told
     → given ≡ kept → Remembers g t m (quiet_after (sender_of a h) ask kept q)
-    → AcceptsOutcome g t a q (answer_outcome g a actor h run ask q told) m new (ask_answered given)
-acted-answer_outcome g t m a actor new h run ask q told kept given hand running put is same r =
+    → AcceptsOutcome g t a q (ask_outcome g a actor h run ask q told) m new (ask_answered given)
+acted-ask_outcome g t m a actor new h run ask q told kept given hand running put is same r =
     let answer = answer_to g a q ask told in
     let later = quiet_after (sender_of a h) ask answer q in
     let after = with_recorded_answer a actor h run ask answer later in
@@ -242,29 +260,53 @@ acted-answer_outcome g t m a actor new h run ask q told kept given hand running 
 
 -- The plan of an ask of a form that runs
 
-pub runs-so : (g : Ground) (a : Actor) (actor : ActorData) (ask : AskData) (q : Quiet) (h : Hand)
-    (run : Run) → actor.hand ≡ Some h → h.running ≡ Some run → is_allowed ask q.cells ≡ true
-    → asked_of g a actor ask q actor.hand ≡ asked_allowed g a actor h run ask q
-runs-so g a actor ask q h run hand running allowed =
+abbrev pub allowed_by : Ground → Actor → ActorData → Hand → Run → AskData → Quiet → Bool → Plan
+allowed_by g a actor h run ask q b =
+    if b then asked_allowed g a actor h run ask q else quietly (refuses Refusal.Idle)
+
+asked-by : (g : Ground) (a : Actor) (actor : ActorData) (ask : AskData) (q : Quiet) (h : Hand)
+    (run : Run) (b : Bool) → actor.hand ≡ Some h → h.running ≡ Some run
+    → (may_ask a ask && is_allowed ask q.cells) ≡ b
+    → asked_of g a actor ask q actor.hand ≡ allowed_by g a actor h run ask q b
+asked-by g a actor ask q h run b hand running is =
     ap (asked_of g a actor ask q) hand
     ∙ ap (asked_running g a actor h ask q) running
-    ∙ ap (λ (b : Bool). allowed_by b) allowed
-  where
-    allowed_by : Bool → Plan
-    allowed_by b = if b then asked_allowed g a actor h run ask q
-        else quietly (refuses Refusal.Idle)
+    ∙ ap (allowed_by g a actor h run ask q) is
+
+both-so : (b c : Bool) → b ≡ true → c ≡ true → (b && c) ≡ true
+both-so true c b-is c-is = c-is
+both-so false c b-is c-is = absurd (true≢false (sym b-is))
+
+second-not : (b c : Bool) → c ≡ false → (b && c) ≡ false
+second-not true c is = is
+second-not false c is = refl
+
+first-not : (b c : Bool) → b ≡ false → (b && c) ≡ false
+first-not true c is = absurd (true≢false is)
+first-not false c is = refl
+
+pub runs-so : (g : Ground) (a : Actor) (actor : ActorData) (ask : AskData) (q : Quiet) (h : Hand)
+    (run : Run) → actor.hand ≡ Some h → h.running ≡ Some run → may_ask a ask ≡ true
+    → is_allowed ask q.cells ≡ true
+    → asked_of g a actor ask q actor.hand ≡ asked_allowed g a actor h run ask q
+runs-so g a actor ask q h run hand running may allowed =
+    asked-by g a actor ask q h run true hand running
+    (both-so (may_ask a ask) (is_allowed ask q.cells) may allowed)
 
 pub asked-forbidden : (g : Ground) (a : Actor) (actor : ActorData) (ask : AskData) (q : Quiet)
-    (h : Hand) (run : Run) → actor.hand ≡ Some h → h.running ≡ Some run → is_allowed ask q.cells ≡ false
+    (h : Hand) (run : Run) → actor.hand ≡ Some h → h.running ≡ Some run
+    → is_allowed ask q.cells ≡ false
     → asked_of g a actor ask q actor.hand ≡ quietly (refuses Refusal.Idle)
 asked-forbidden g a actor ask q h run hand running forbidden =
-    ap (asked_of g a actor ask q) hand
-    ∙ ap (asked_running g a actor h ask q) running
-    ∙ ap (λ (b : Bool). allowed_by b) forbidden
-  where
-    allowed_by : Bool → Plan
-    allowed_by b = if b then asked_allowed g a actor h run ask q
-        else quietly (refuses Refusal.Idle)
+    asked-by g a actor ask q h run false hand running
+    (second-not (may_ask a ask) (is_allowed ask q.cells) forbidden)
+
+pub asked-unfit : (g : Ground) (a : Actor) (actor : ActorData) (ask : AskData) (q : Quiet)
+    (h : Hand) (run : Run) → actor.hand ≡ Some h → h.running ≡ Some run → may_ask a ask ≡ false
+    → asked_of g a actor ask q actor.hand ≡ quietly (refuses Refusal.Idle)
+asked-unfit g a actor ask q h run hand running unfit =
+    asked-by g a actor ask q h run false hand running
+    (first-not (may_ask a ask) (is_allowed ask q.cells) unfit)
 
 -- of a session that was closed
 abbrev pub given_up_plan : Actor → Hand → AskData → Quiet → Plan
@@ -273,23 +315,63 @@ given_up_plan a h ask q = record {
   next = λ told. when_told told (λ _. interrupted_in a h q);
 }
 
+-- of one that is open
+abbrev pub open_plan : Ground → Actor → ActorData → Hand → Run → AskData → Quiet → Bool → Plan
+open_plan g a actor h run ask q waits = record {
+  call = call_of (seat_of a) ask;
+  next = λ told. when_told told
+      (λ t. if waits then refuses Refusal.Waiting else ask_outcome g a actor h run ask q t);
+}
+
+open-so : (g : Ground) (a : Actor) (actor : ActorData) (ask : AskData) (q : Quiet) (h : Hand)
+    (run : Run) (waits : Bool) → actor.hand ≡ Some h → h.running ≡ Some run
+    → may_ask a ask ≡ true → is_allowed ask q.cells ≡ true → actor.is_closed ≡ false
+    → must_wait (session_of a) ask q.cells ≡ waits
+    → open_plan g a actor h run ask q waits ≡ asked_of g a actor ask q actor.hand
+open-so g a actor ask q h run waits hand running may allowed open_still is = sym (
+    runs-so g a actor ask q h run hand running may allowed
+    ∙ ap (λ (b : Bool). if b then given_up_plan a h ask q
+    else open_plan g a actor h run ask q (must_wait (session_of a) ask q.cells)) open_still
+    ∙ ap (open_plan g a actor h run ask q) is)
+
 pub asked-open : (g : Ground) (a : Actor) (actor : ActorData) (ask : AskData) (q : Quiet) (h : Hand)
-    (run : Run) → actor.hand ≡ Some h → h.running ≡ Some run → is_allowed ask q.cells ≡ true
-    → actor.is_closed ≡ false
+    (run : Run) → actor.hand ≡ Some h → h.running ≡ Some run → may_ask a ask ≡ true
+    → is_allowed ask q.cells ≡ true → actor.is_closed ≡ false
+    → must_wait (session_of a) ask q.cells ≡ false
     → answered_plan g a actor h run ask q ≡ asked_of g a actor ask q actor.hand
-asked-open g a actor ask q h run hand running allowed open_still = sym (
-    runs-so g a actor ask q h run hand running allowed
-    ∙ ap (λ (b : Bool). if b then given_up_plan a h ask q else answered_plan g a actor h run ask q)
-    open_still)
+asked-open g a actor ask q h run hand running may allowed open_still met =
+    open-so g a actor ask q h run false hand running may allowed open_still met
+
+pub asked-waiting : (g : Ground) (s : Store) (a : Actor) (actor : ActorData) (ask : AskData)
+    (q : Quiet) (h : Hand) (run : Run) → actor.hand ≡ Some h → h.running ≡ Some run
+    → may_ask a ask ≡ true → is_allowed ask q.cells ≡ true → actor.is_closed ≡ false
+    → must_wait (session_of a) ask q.cells ≡ true
+    → (carried_out s (asked_of g a actor ask q actor.hand)).outcome
+    ≡ refuses (why_waiting (is_some (performed s (call_of (seat_of a) ask)).told))
+asked-waiting g s a actor ask q h run hand running may allowed open_still waits =
+    sym (ap (λ p. (carried_out s p).outcome)
+    (open-so g a actor ask q h run true hand running may allowed open_still waits))
+    ∙ by (performed s (call_of (seat_of a) ask)).told
+  where
+    by : (o : Option AnswerData)
+        → when_told o (λ t. if true then refuses Refusal.Waiting else ask_outcome g a actor h run ask q t)
+        ≡ refuses (why_waiting (is_some o))
+    by None = refl
+    by (Some told) = refl
 
 pub asked-closed : (g : Ground) (a : Actor) (actor : ActorData) (ask : AskData) (q : Quiet) (h : Hand)
-    (run : Run) → actor.hand ≡ Some h → h.running ≡ Some run → is_allowed ask q.cells ≡ true
-    → actor.is_closed ≡ true
+    (run : Run) → actor.hand ≡ Some h → h.running ≡ Some run → may_ask a ask ≡ true
+    → is_allowed ask q.cells ≡ true → actor.is_closed ≡ true
     → given_up_plan a h ask q ≡ asked_of g a actor ask q actor.hand
-asked-closed g a actor ask q h run hand running allowed closed = sym (
-    runs-so g a actor ask q h run hand running allowed
-    ∙ ap (λ (b : Bool). if b then given_up_plan a h ask q else answered_plan g a actor h run ask q)
-    closed)
+asked-closed g a actor ask q h run hand running may allowed closed = sym (
+    runs-so g a actor ask q h run hand running may allowed
+    ∙ ap (λ (b : Bool). if b then given_up_plan a h ask q
+    else open_plan g a actor h run ask q (must_wait (session_of a) ask q.cells)) closed)
+
+-- what the code says of an await, where it remembers these agents
+pub waits-so : {b v : Bool} (session : Option ℕ) (ask : AskData) {c d : CellsData} → c ≡ d
+    → b ≡ must_wait session ask c → b ≡ v → must_wait session ask d ≡ v
+waits-so session ask same says is = sym (ap (must_wait session ask) same) ∙ sym says ∙ is
 
 -- What giving up comes to
 
@@ -311,19 +393,19 @@ given-untold s a h ask q none =
     ap (λ o. when_told (given_up (seat_of a) s o).told (λ _. interrupted_in a h q)) none
 
 -- what an answer that was told comes to
-pub answer_outcome-told : (g : Ground) (s : Store) (a : Actor) (actor : ActorData) (h : Hand) (run : Run)
+pub ask_outcome-told : (g : Ground) (s : Store) (a : Actor) (actor : ActorData) (h : Hand) (run : Run)
     (ask : AskData) (q : Quiet) (told : AnswerData)
     → (performed s (call_of (seat_of a) ask)).told ≡ Some told
-    → answer_outcome g a actor h run ask q told
+    → ask_outcome g a actor h run ask q told
     ≡ (carried_out s (answered_plan g a actor h run ask q)).outcome
-answer_outcome-told g s a actor h run ask q told is =
-    sym (ap (λ o. when_told o (answer_outcome g a actor h run ask q)) is)
+ask_outcome-told g s a actor h run ask q told is =
+    sym (ap (λ o. when_told o (ask_outcome g a actor h run ask q)) is)
 
 pub answered-untold : (g : Ground) (s : Store) (a : Actor) (actor : ActorData) (h : Hand) (run : Run)
     (ask : AskData) (q : Quiet) → (performed s (call_of (seat_of a) ask)).told ≡ None
     → (carried_out s (answered_plan g a actor h run ask q)).outcome ≡ refuses Refusal.Idle
 answered-untold g s a actor h run ask q none =
-    ap (λ o. when_told o (answer_outcome g a actor h run ask q)) none
+    ap (λ o. when_told o (ask_outcome g a actor h run ask q)) none
 
 -- where something is told, the rules accept the ask
 pub answered-accepted : (g : Ground) (s : Store) (a : Actor) (actor : ActorData) (h : Hand) (run : Run)
@@ -333,7 +415,7 @@ answered-accepted g s a actor h run ask q some =
     by (performed s (call_of (seat_of a) ask)).told some
   where
     by : (o : Option AnswerData) → is_some o ≡ true
-        → is_accepted (when_told o (answer_outcome g a actor h run ask q)) ≡ true
+        → is_accepted (when_told o (ask_outcome g a actor h run ask q)) ≡ true
     by None none = absurd (true≢false (sym none))
     by (Some told) some = refl
 

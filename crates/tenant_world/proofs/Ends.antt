@@ -80,7 +80,7 @@ compared-so actor q h run hand running open_still free =
 pub ends-accepted : (g : Ground) (a : Actor) (actor : ActorData) (e : EndingData) (q : Quiet)
     (h : Hand) (run : Run) → actor.hand ≡ Some h → h.running ≡ Some run → actor.is_closed ≡ false
     → is_held q ≡ false → PassesComparison g actor q e
-    → end_accepted a actor h e q ≡ end_of g a actor e q actor.hand
+    → end_accepted a actor h run e q ≡ end_of g a actor e q actor.hand
 ends-accepted g a actor e q h run hand running open_still free passes = sym (
     runs-so g a actor e q h run hand running
     ∙ ap (λ (b : Bool). closed_by g a actor h run e q b) open_still
@@ -89,7 +89,7 @@ ends-accepted g a actor e q h run hand running open_still free passes = sym (
     (sym (passes run (compared-so actor q h run hand running open_still free))))
   where
     by : (b : Bool) (d : Option ℕ) → None ≡ difference_told b d
-        → end_compared a actor h e q b d ≡ end_accepted a actor h e q
+        → end_compared a actor h run e q b d ≡ end_accepted a actor h run e q
     by false d never = absurd (cc)
     by true (Some place) never = absurd (cc)
     by true None same = refl
@@ -125,7 +125,7 @@ ends-refused g s a actor e q run why compared differs =
     ∙ by k.0 (g.comparisons.is_same_job e.job run.job) (g.comparisons.difference e.trace run.trace) differs
   where
     by : (h : Hand) (b : Bool) (d : Option ℕ) → Some why ≡ difference_told b d
-        → (carried_out s (end_compared a actor h e q b d)).outcome ≡ refuses why
+        → (carried_out s (end_compared a actor h run e q b d)).outcome ≡ refuses why
     by h false d same =
         let is : why ≡ Refusal.TraceMismatch 0 = cc in
         sym (ap refuses is)

@@ -1,14 +1,16 @@
 -- The actors that have something to do, found by their names.
-use Rattle.std.proofs.Common.{◌≡◌, ℕ, ◌<◌, ◌==◌, List, [], ◌∷◌, Bool, true, false, if◌then◌else◌}
+use Rattle.std.proofs.Common.{◌≡◌, ℕ, suc, ◌<◌, ◌==◌, List, [], ◌∷◌, ◌++◌, Bool, true, false, not}
+use Rattle.std.proofs.Common.{◌||◌, if◌then◌else◌, true≢false}
 use Rattle.std.proofs.Common.{Some, inr, filter, map, length, refl, sym, ap, ◌∙◌}
 use Rattle.std.proofs.Common.{subst, arith}
 use Rattle.std.specs.Prelude.{⊤}
+use Rattle.std.proofs.Math.Dec.{eqb-suc-zero}
 use Rattle.std.proofs.lemmas.Bool.{ne_eqb, eq-eqb}
 use Rattle.server_rules.specs.Machine.Ready.{is_busy}
 use Rattle.server_rules.specs.Numbered.{Entry, part_under}
 use Rattle.server_rules.specs.Tenant.{ActorData, seat_of, actor_at}
 use Rattle.server_rules.specs.declared.actor.Actor.{Actor}
-use Rattle.tenant_turns.specs.Turns.{Lone}
+use Rattle.tenant_turns.specs.Turns.{Lone, is_of_agents, agents_last}
 use Rattle.tenant_turns.specs.Inside.Rounds.{is_some_busy, busy_actors, IsEnough}
 use Rattle.tenant_actors.specs.Busy.{busy_of}
 use Rattle.tenant_actors.specs.Lent.{AreAbove, Ascend}
@@ -72,10 +74,69 @@ busy-found whole (e ∷ es) found = by (is_busy e.part) refl (busy-found whole e
       ∙ sym (ap (λ b. if b then actor_at e.number ∷ filter (is_busy_in whole) (names es)
       else filter (is_busy_in whole) (names es)) (here ∙ is))
 
+-- That of agents, which is asked last
+
+abbrev not_agents : Actor → Bool
+not_agents a = not (is_of_agents a)
+
+abbrev may_be_busy : Entries → Actor → Bool
+may_be_busy whole a = (seat_of a == 0) || is_busy_in whole a
+
+filter-both : {A : Type 0} (f : A → Bool) (xs ys : List A)
+    → filter f (xs ++ ys) ≡ filter f xs ++ filter f ys
+filter-both f [] ys = refl
+filter-both {A} f (x ∷ xs) ys = by (f x) (filter-both f xs ys) where
+  by : (b : Bool) → filter f (xs ++ ys) ≡ filter f xs ++ filter f ys
+      → (if b then x ∷ filter f (xs ++ ys) else filter f (xs ++ ys))
+      ≡ (if b then x ∷ filter f xs else filter f xs) ++ filter f ys
+  by true behind = ap (λ rest. x ∷ rest) behind
+  by false behind = behind
+
+others-busy : (whole : Entries) (a : Actor) → not_agents a ≡ true
+    → may_be_busy whole a ≡ is_busy_in whole a
+others-busy whole Actor.Agents other = absurd (true≢false (sym other))
+others-busy whole Actor.Bare other = refl
+others-busy whole (Actor.Session n) other =
+    ap (λ b. b || is_busy_in whole (Actor.Session n)) (eqb-suc-zero (suc n))
+
+others-filtered : (whole : Entries) (xs : List Actor)
+    → filter (may_be_busy whole) (filter not_agents xs)
+    ≡ filter not_agents (filter (is_busy_in whole) xs)
+others-filtered whole [] = refl
+others-filtered whole (x ∷ xs) =
+    by (not_agents x) refl (is_busy_in whole x) refl (others-filtered whole xs)
+  where
+    rest : List Actor
+    rest = filter (is_busy_in whole) xs
+
+    by : (b : Bool) → not_agents x ≡ b → (c : Bool) → is_busy_in whole x ≡ c
+        → filter (may_be_busy whole) (filter not_agents xs) ≡ filter not_agents rest
+        → filter (may_be_busy whole) (if b then x ∷ filter not_agents xs else filter not_agents xs)
+        ≡ filter not_agents (if c then x ∷ rest else rest)
+    by true is true busy behind =
+        ap (λ d. if d then x ∷ filter (may_be_busy whole) (filter not_agents xs)
+        else filter (may_be_busy whole) (filter not_agents xs)) (others-busy whole x is ∙ busy)
+        ∙ ap (λ ys. x ∷ ys) behind
+        ∙ sym (ap (λ d. if d then x ∷ filter not_agents rest else filter not_agents rest) is)
+    by true is false busy behind =
+        ap (λ d. if d then x ∷ filter (may_be_busy whole) (filter not_agents xs)
+        else filter (may_be_busy whole) (filter not_agents xs)) (others-busy whole x is ∙ busy)
+        ∙ behind
+    by false is true busy behind =
+        behind ∙ sym (ap (λ d. if d then x ∷ filter not_agents rest else filter not_agents rest) is)
+    by false is false busy behind = behind
+
+busy-last : (es : Entries) → Ascend es
+    → agents_last (busy_of es) ≡ filter (may_be_busy es) (agents_last (names es))
+busy-last es rise =
+    ap agents_last (busy-found es es (found-all es rise))
+    ∙ ap (λ xs. xs ++ Actor.Agents ∷ []) (sym (others-filtered es (names es)))
+    ∙ sym (filter-both (may_be_busy es) (filter not_agents (names es)) (Actor.Agents ∷ []))
+
 pub busy-enough : (l : Lone) (es : Entries) (actors : List Actor) (count steps : ℕ)
-    → es ≡ l.quiet.actors → Ascend es → actors ≡ busy_of es → count ≡ length actors
+    → es ≡ l.quiet.actors → Ascend es → actors ≡ agents_last (busy_of es) → count ≡ length actors
     → steps ≡ l.quiet.steps → count < steps → IsEnough l actors
 busy-enough l es actors count steps same rise are counted left room =
-    let found : busy_of es ≡ busy_actors l =
-    busy-found es es (found-all es rise) ∙ ap (λ fs. filter (is_busy_in fs) (names fs)) same in
+    let found : agents_last (busy_of es) ≡ busy_actors l =
+    busy-last es rise ∙ ap (λ fs. filter (may_be_busy fs) (agents_last (names fs))) same in
     inr (are ∙ found, subst (λ n. n < l.quiet.steps) counted (subst (λ n. count < n) left room))

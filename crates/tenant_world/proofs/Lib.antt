@@ -5,6 +5,7 @@ pub mod Lent
 pub mod Standing
 pub mod Draining
 pub mod Sending
+pub mod Acts
 pub mod Answering
 pub mod Answered
 pub mod Ends

@@ -8,6 +8,7 @@ use Rattle.std.proofs.lemmas.List.{length-map}
 use Rattle.repl_replies.specs.Replies.{ReplyData, bytes_of, interrupted}
 use Rattle.repl_sessions.specs.State.{StateData}
 use Rattle.server_rules.specs.Numbered.{Entry, with_part, without}
+use Rattle.server_rules.specs.Cells.{CellsData}
 use Rattle.server_rules.specs.Ground.{Ground}
 use Rattle.server_rules.specs.Request.{Hand}
 use Rattle.server_rules.specs.Tenant.{ActorData, Quiet, seat_of, is_held, with_replies, with_state}
@@ -40,6 +41,14 @@ with-actors g t m q es r = record {
 pub remembers-after_move : (g : Ground) (t : ℕ) (m : Memory) (a : Actor) (actor : ActorData) (move : Move)
     (q : Quiet) → Remembers g t m (with_replies move.replies (with_state a move.state q))
     → Remembers g t m (after_move a actor move q)
+remembers-after_move g t m Actor.Agents actor move q r = record {
+  sessions = r.sessions;
+  bare = r.bare;
+  spaces = r.spaces;
+  names = r.names;
+  cells = r.cells;
+  replies = r.replies;
+}
 remembers-after_move g t m Actor.Bare actor move q r = record {
   sessions = r.sessions;
   bare = r.bare;
@@ -60,16 +69,19 @@ remembers-after_move g t m (Actor.Session n) actor move q r = record {
 after_move-actors : (a : Actor) (actor : ActorData) (move : Move) (q : Quiet)
     → (after_move a actor move q).actors
     ≡ with_part (seat_of a) (record actor { hand = move.hand }) q.actors
+after_move-actors Actor.Agents actor move q = refl
 after_move-actors Actor.Bare actor move q = refl
 after_move-actors (Actor.Session n) actor move q = refl
 
 after_move-steps : (a : Actor) (actor : ActorData) (move : Move) (q : Quiet)
     → (after_move a actor move q).steps ≡ q.steps
+after_move-steps Actor.Agents actor move q = refl
 after_move-steps Actor.Bare actor move q = refl
 after_move-steps (Actor.Session n) actor move q = refl
 
 after_move-heard : (a : Actor) (actor : ActorData) (move : Move) (q : Quiet)
     → (after_move a actor move q).heard ≡ q.heard
+after_move-heard Actor.Agents actor move q = refl
 after_move-heard Actor.Bare actor move q = refl
 after_move-heard (Actor.Session n) actor move q = refl
 
@@ -92,6 +104,7 @@ acted-after_move g t m a actor new move answer q r same stays = record {
 
 pub replies-behind-state : (a : Actor) (s : StateData) (r : List ReplyData) (q : Quiet)
     → with_state a s (with_replies r q) ≡ with_replies r (with_state a s q)
+replies-behind-state Actor.Agents s r q = refl
 replies-behind-state Actor.Bare s r q = refl
 replies-behind-state (Actor.Session n) s r q = refl
 
@@ -114,6 +127,20 @@ acted-interrupted g t m a new h q r = record {
   actors = refl;
   steps = refl;
   heard = refl;
+}
+
+-- a step that began with other agents and atoms
+pub acted-with_cells : (g : Ground) (t : ℕ) (m : Memory) (a : Actor) (new : ActorData) (outcome : Outcome)
+    (answer : StepAnswer) (c : CellsData) (q : Quiet)
+    → AcceptsOutcome g t a (record q { cells = c }) outcome m new answer
+    → AcceptsOutcome g t a q outcome m new answer
+acted-with_cells g t m a new outcome answer c q it = record {
+  after = it.after;
+  accepted = it.accepted;
+  remembers = it.remembers;
+  actors = it.actors;
+  steps = it.steps;
+  heard = it.heard;
 }
 
 -- as many replies wait in the code

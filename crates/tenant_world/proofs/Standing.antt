@@ -7,13 +7,14 @@ use Rattle.std.proofs.Math.Dec.{eqb-suc-zero}
 use Rattle.std.proofs.lemmas.Bool.{eqb-true, ne_eqb}
 use Rattle.bencode_wire.specs.Inside.Decoder as decoder
 use Rattle.bencode_wire.specs.declared.decoder.Decoder.{Decoder}
+use Rattle.private_cells.specs.Agents.{AgentsData}
 use Rattle.repl_asks.specs.Exchange.{AskData}
 use Rattle.server_rules.specs.Numbered.{Entry, entry, part_under, with_part}
 use Rattle.server_rules.specs.Ground.{Ground}
 use Rattle.server_rules.specs.Readings.{message_limit}
 use Rattle.server_rules.specs.Machine.Ready.{has_waiting}
 use Rattle.server_rules.specs.Request.{Waiting, Hand}
-use Rattle.server_rules.specs.Starting.{start_waiting}
+use Rattle.server_rules.specs.Starting.{start_waiting, start_action, action_for}
 use Rattle.server_rules.specs.Store.{Store}
 use Rattle.server_rules.specs.Tenant.{ActorData, Quiet, seat_of}
 use Rattle.server_rules.specs.Plan as deeds
@@ -38,7 +39,7 @@ use Rattle.tenant_world.specs.declared.tenant.Tenant.{Tenant}
 use Rattle.tenant_world.specs.Memories.{Remembers}
 use Rattle.tenant_world.specs.Acting.{AcceptsOutcome, RefusesOutcome, actors_after, is_interruption}
 use Rattle.tenant_world.specs.Acting.{is_accepted, left_after}
-use Rattle.tenant_world.specs.Lending.{unlent}
+use Rattle.tenant_world.specs.Lending.{unless_busy, unlent}
 use Rattle.tenant_world.specs.Standing.{QuietStands, Lends, AcceptsDeedBy, RefusesDeed}
 
 -- Deeds of an actor
@@ -93,24 +94,31 @@ carried-tenant s p = performed-tenant s p.call
 
 -- An actor that makes no step
 
--- the deed is refused so to an actor that has nothing to do
-abbrev pub RefusesIdle : (ActorData → Plan) → Type 0
-RefusesIdle p = (actor : ActorData) → is_busy actor ≡ false → p actor ≡ quietly (refuses Refusal.Idle)
+-- an actor that has nothing to do, and to which no actions come
+pub record IsIdle (a : Actor) (actor : ActorData) : Type 0 where
+  pub idle : is_busy actor ≡ false
+  pub none : (agents : AgentsData) → action_for a agents ≡ None
+
+-- the deed is refused so to it
+abbrev pub RefusesIdle : Actor → (ActorData → Plan) → Type 0
+RefusesIdle a p = (actor : ActorData) → IsIdle a actor → p actor ≡ quietly (refuses Refusal.Idle)
 
 none-waiting : (g : Ground) (a : Actor) (actor : ActorData) (q : Quiet) (ws : List Waiting)
-    → has_waiting ws ≡ false → start_waiting g a actor q ws ≡ refuses Refusal.Idle
-none-waiting g a actor q [] idle = refl
-none-waiting g a actor q (w ∷ ws) idle = absurd (true≢false idle)
+    → ((agents : AgentsData) → action_for a agents ≡ None) → has_waiting ws ≡ false
+    → start_waiting g a actor q ws ≡ refuses Refusal.Idle
+none-waiting g a actor q [] none idle = ap (start_action g a actor q) (none q.cells.agents)
+none-waiting g a actor q (w ∷ ws) none idle = absurd (true≢false idle)
 
 none-begins : (g : Ground) (a : Actor) (actor : ActorData) (q : Quiet) (h : Option Hand)
+    → ((agents : AgentsData) → action_for a agents ≡ None)
     → (is_some h || has_waiting actor.waiting) ≡ false
     → start_of g a actor q h ≡ refuses Refusal.Idle
-none-begins g a actor q None idle = none-waiting g a actor q actor.waiting idle
-none-begins g a actor q (Some h) idle = absurd (true≢false idle)
+none-begins g a actor q None none idle = none-waiting g a actor q actor.waiting none idle
+none-begins g a actor q (Some h) none idle = absurd (true≢false idle)
 
 pub starts-idle : (g : Ground) (a : Actor) (q : Quiet)
-    → RefusesIdle (λ actor. quietly (start_of g a actor q actor.hand))
-starts-idle g a q actor idle = ap quietly (none-begins g a actor q actor.hand idle)
+    → RefusesIdle a (λ actor. quietly (start_of g a actor q actor.hand))
+starts-idle g a q actor i = ap quietly (none-begins g a actor q actor.hand i.none i.idle)
 
 none-asks : (g : Ground) (a : Actor) (actor : ActorData) (ask : AskData) (q : Quiet)
     (h : Option Hand) → (is_some h || has_waiting actor.waiting) ≡ false
@@ -119,8 +127,8 @@ none-asks g a actor ask q None idle = refl
 none-asks g a actor ask q (Some h) idle = absurd (true≢false idle)
 
 pub asks-idle : (g : Ground) (a : Actor) (ask : AskData) (q : Quiet)
-    → RefusesIdle (λ actor. asked_of g a actor ask q actor.hand)
-asks-idle g a ask q actor idle = none-asks g a actor ask q actor.hand idle
+    → RefusesIdle a (λ actor. asked_of g a actor ask q actor.hand)
+asks-idle g a ask q actor i = none-asks g a actor ask q actor.hand i.idle
 
 none-ends : (g : Ground) (a : Actor) (actor : ActorData) (e : EndingData) (q : Quiet)
     (h : Option Hand) → (is_some h || has_waiting actor.waiting) ≡ false
@@ -129,34 +137,44 @@ none-ends g a actor e q None idle = refl
 none-ends g a actor e q (Some h) idle = absurd (true≢false idle)
 
 pub ends-idle : (g : Ground) (a : Actor) (e : EndingData) (q : Quiet)
-    → RefusesIdle (λ actor. end_of g a actor e q actor.hand)
-ends-idle g a e q actor idle = none-ends g a actor e q actor.hand idle
+    → RefusesIdle a (λ actor. end_of g a actor e q actor.hand)
+ends-idle g a e q actor i = none-ends g a actor e q actor.hand i.idle
 
-unlent-so : (s : Store) (p : ActorData → Plan) (why : Refusal) → RefusesIdle p → (b : Bool)
-    (o : Option ActorData) → unlent b o ≡ Some why
+idle-so : (b : Bool) (why : Refusal) → (if b then None else Some Refusal.Idle) ≡ Some why
+    → (Refusal.Idle ≡ why) × (b ≡ false)
+idle-so true why h = absurd (cc)
+idle-so false why h = (cc, refl)
+
+unless-idle : (a : Actor) (actor : ActorData) (why : Refusal) → unless_busy a actor ≡ Some why
+    → (Refusal.Idle ≡ why) × IsIdle a actor
+unless-idle Actor.Agents actor why h = absurd (cc)
+unless-idle Actor.Bare actor why h =
+    let both = idle-so (is_busy actor) why h in
+    (both.0, record { idle = both.1; none = λ agents. refl })
+unless-idle (Actor.Session n) actor why h =
+    let both = idle-so (is_busy actor) why h in
+    (both.0, record { idle = both.1; none = λ agents. refl })
+
+unlent-so : (s : Store) (a : Actor) (p : ActorData → Plan) (why : Refusal) → RefusesIdle a p
+    → (b : Bool) (o : Option ActorData) → unlent a b o ≡ Some why
     → (carried_out s (if b then quietly (refuses Refusal.Worn) else for_actor o p)).outcome
     ≡ refuses why
-unlent-so s p why idle true o h = let same : Refusal.Worn ≡ why = cc in ap refuses same
-unlent-so s p why idle false None h =
+unlent-so s a p why idle true o h = let same : Refusal.Worn ≡ why = cc in ap refuses same
+unlent-so s a p why idle false None h =
     let same : Refusal.NoSuchActor ≡ why = cc in ap refuses same
-unlent-so s p why idle false (Some actor) h = by (is_busy actor) refl h
-  where
-    by : (b : Bool) → is_busy actor ≡ b → (if b then None else Some Refusal.Idle) ≡ Some why
-        → (carried_out s (p actor)).outcome ≡ refuses why
-    by true is h = absurd (cc)
-    by false is h =
-        let same : Refusal.Idle ≡ why = cc in
-        ap (λ it. (carried_out s it).outcome) (idle actor is) ∙ ap refuses same
+unlent-so s a p why idle false (Some actor) h =
+    let both = unless-idle a actor why h in
+    ap (λ it. (carried_out s it).outcome) (idle actor both.1) ∙ ap refuses both.0
 
 -- its deed is refused
 pub refused-by : (g : Ground) (q : Quiet) (s : Store) (a : Actor) (p : ActorData → Plan)
-    (code : Tenant) (why : Refusal) → QuietStands g code q s → RefusesIdle p
-    → unlent (code.steps == 0) (part_under (seat_of a) (actors_view code.actors)) ≡ Some why
+    (code : Tenant) (why : Refusal) → QuietStands g code q s → RefusesIdle a p
+    → unlent a (code.steps == 0) (part_under (seat_of a) (actors_view code.actors)) ≡ Some why
     → (by_actor s q a p).outcome ≡ refuses why
 refused-by g q s a p code why stands idle h =
-    unlent-so s p why idle (q.steps == 0) (part_under (seat_of a) q.actors)
-    (sym (ap (λ n. unlent (n == 0) (part_under (seat_of a) (actors_view code.actors))) stands.steps
-    ∙ ap (λ es. unlent (q.steps == 0) (part_under (seat_of a) es)) stands.actors) ∙ h)
+    unlent-so s a p why idle (q.steps == 0) (part_under (seat_of a) q.actors)
+    (sym (ap (λ n. unlent a (n == 0) (part_under (seat_of a) (actors_view code.actors))) stands.steps
+    ∙ ap (λ es. unlent a (q.steps == 0) (part_under (seat_of a) es)) stands.actors) ∙ h)
 
 -- Entries
 
@@ -335,11 +353,11 @@ stands-same g q s old new tries steps same put kept tried st =
 -- an actor whose state is not lent makes no step
 pub refuses-unlent : (g : Ground) (q : Quiet) (s : Store) (a : Actor) (p : ActorData → Plan)
     (deed : DeedResult) (old new : Tenant) (why : Refusal) → deed ≡ by_actor s q a p
-    → RefusesIdle p → QuietStands g old q s
+    → RefusesIdle a p → QuietStands g old q s
     → new.retries ≡ old.retries → new.steps ≡ old.steps → new.decoder ≡ old.decoder
     → new.memory ≡ old.memory → new.attempts ≡ old.attempts
     → actors_view new.actors ≡ actors_view old.actors
-    → unlent (old.steps == 0) (part_under (seat_of a) (actors_view old.actors)) ≡ Some why
+    → unlent a (old.steps == 0) (part_under (seat_of a) (actors_view old.actors)) ≡ Some why
     → RefusesDeed g q s deed new why
 refuses-unlent g q s a p deed old new why is idle st tries steps same kept tried put h = record {
   refused = λ ne. ap (λ d. d.outcome) is ∙ refused-by g q s a p old why st idle h;

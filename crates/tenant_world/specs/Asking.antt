@@ -1,5 +1,6 @@
 -- What a form asks, and what becomes of its answer.
 use Rattle.std.specs.Prelude.{◌≡◌, ℕ, Bool, true, false, Some, [], ◌∷◌, ◌++◌, option_map}
+use Rattle.std.specs.Prelude.{if◌then◌else◌}
 use Rattle.repl_asks.specs.Exchange as exchange
 use Rattle.repl_asks.specs.Exchange.{AskData, AnswerData, Exchanged}
 use Rattle.server_rules.specs.Performed.{Performed}
@@ -8,9 +9,10 @@ use Rattle.server_rules.specs.Cells.{SenderData}
 use Rattle.server_rules.specs.Ground.{Ground}
 use Rattle.server_rules.specs.Request.{Hand, Run}
 use Rattle.server_rules.specs.Tenant.{ActorData, Quiet, seat_of}
-use Rattle.server_rules.specs.Asking.{answer_to, quiet_after, answer_outcome, call_of, when_told}
+use Rattle.server_rules.specs.Asking.{answer_to, quiet_after, ask_outcome, call_of, when_told}
 use Rattle.server_rules.specs.Plan.{Plan}
 use Rattle.server_rules.specs.declared.actor.Actor.{Actor}
+use Rattle.server_rules.specs.declared.refusal.Refusal.{Refusal}
 use Rattle.ref_table.specs.Refs.{Refs, refs_after}
 use Rattle.tenant_world.specs.Memories.{Remembers}
 use Rattle.tenant_refs.specs.Serving.{RingRefTable, ServesWithAttempts}
@@ -36,14 +38,19 @@ is_of_cells (exchange.agent_fault n) = true
 is_of_cells (exchange.restart_agent n d) = true
 is_of_cells (exchange.send s) = true
 is_of_cells (exchange.may_send s) = true
+is_of_cells (exchange.await ns) = true
 is_of_cells _ = false
 
--- the plan of an ask that breaks no rule of its own, of a session that is open
+-- the plan of an ask that breaks no rule of its own and has not to wait, of a session that is open
 abbrev pub answered_plan : Ground → Actor → ActorData → Hand → Run → AskData → Quiet → Plan
 answered_plan g a actor h run ask q = record {
   call = call_of (seat_of a) ask;
-  next = λ told. when_told told (answer_outcome g a actor h run ask q);
+  next = λ told. when_told told (ask_outcome g a actor h run ask q);
 }
+
+-- why an await is refused that is not met: it may stand where it does, or not
+abbrev pub why_waiting : Bool → Refusal
+why_waiting told = if told then Refusal.Waiting else Refusal.Idle
 
 -- the refs told something, of which this answer is made, and all is as the rules leave it
 pub record Answers (g : Ground) (t : ℕ) (a : Actor) (sender : SenderData) (q : Quiet) (ask : AskData)

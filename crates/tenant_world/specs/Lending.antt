@@ -12,11 +12,16 @@ use Rattle.tenant_actors.specs.contracts.actors.Actors as actors
 use Rattle.tenant_actors.specs.declared.actor.ActorState.{ActorState}
 use Rattle.tenant_actors.specs.declared.actors.Actors.{Actors}
 
+-- an actor with nothing to do makes no step; of that of agents this is not asked here
+abbrev pub unless_busy : Actor → ActorData → Option Refusal
+unless_busy Actor.Agents actor = None
+unless_busy a actor = if is_busy actor then None else Some Refusal.Idle
+
 -- why no step is made of the actor that is found, if none is, where no step is left or some are
-abbrev pub unlent : Bool → Option ActorData → Option Refusal
-unlent true found = Some Refusal.Worn
-unlent false None = Some Refusal.NoSuchActor
-unlent false (Some actor) = if is_busy actor then None else Some Refusal.Idle
+abbrev pub unlent : Actor → Bool → Option ActorData → Option Refusal
+unlent a true found = Some Refusal.Worn
+unlent a false None = Some Refusal.NoSuchActor
+unlent a false (Some actor) = unless_busy a actor
 
 -- the actor is as it was left behind the reference, and all others are as they were
 abbrev pub LendsState : MutBor Actors → Actor → Result (MutBor ActorState) Refusal → Fml

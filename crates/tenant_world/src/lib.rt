@@ -2,6 +2,7 @@
 #![tactic(auto)]
 
 mod acting;
+mod actions;
 mod agents;
 mod answers;
 mod asking;

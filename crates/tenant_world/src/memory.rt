@@ -31,13 +31,14 @@ pub(crate) struct Memory {
 }
 
 impl Memory {
-    /// What the session of an actor remembers, unless it was closed.
+    /// What the session of an actor remembers, if it has one that was not closed.
     pub(crate) fn shown(&self, actor: Actor) -> Option<&SessionState>
         ensures { (g : Ground) (t : ℕ) (q : Quiet) → Remembers g t self.now q
             → unwrap_or (option_map (λ state. state_view state.now) result) fresh
             ≡ actor_state actor q }
     {
         match actor {
+            Actor::Agents => None,
             Actor::Bare => Some(&self.bare),
             Actor::Session(number) => self.sessions.state(number),
         }
@@ -64,7 +65,7 @@ impl Memory {
             → IfOk result (λ state. state_view state ≡ first_state actor q) }
     {
         match actor {
-            Actor::Bare => SessionState::fresh(alloc),
+            Actor::Agents | Actor::Bare => SessionState::fresh(alloc),
             Actor::Session(_) => self.state_of(alloc, actor),
         }
     }
@@ -74,8 +75,10 @@ impl Memory {
         ensures put { (g : Ground) (t : ℕ) (q : Quiet) → Remembers g t self.old q
             → Remembers g t self.new (with_state actor (state_view state) q) }
         ensures opened { opened_by self.new ≡ opened_by self.old }
+        ensures cells { self.new.cells ≡ self.old.cells }
     {
         match actor {
+            Actor::Agents => drop(state),
             Actor::Bare => self.bare = state,
             Actor::Session(number) => self.sessions.set_state(number, state),
         }
@@ -89,6 +92,7 @@ impl Memory {
         ensures stays { (g : Ground) (t : ℕ) (q : Quiet) → Remembers g t self.old q
             → OnErr result (Remembers g t self.new q) }
         ensures opened { opened_by self.new ≡ opened_by self.old }
+        ensures cells { self.new.cells ≡ self.old.cells }
     {
         self.outbox.post(batch)
     }
@@ -102,6 +106,7 @@ impl Memory {
         ensures stays { (g : Ground) (t : ℕ) (q : Quiet) → Remembers g t self.old q
             → OnErr result (Remembers g t self.new q) }
         ensures opened { opened_by self.new ≡ opened_by self.old }
+        ensures cells { self.new.cells ≡ self.old.cells }
     {
         let News { batch, state } = news;
         self.post(batch)?;

@@ -11,7 +11,7 @@ ghost use Rattle.tenant_actors.specs.View.{run_view};
 ghost use Rattle.tenant_turns.specs.Grounds.{IsRight};
 ghost use Rattle.server_rules.specs.Store.{Store};
 ghost use Rattle.tenant_turns.specs.DeedResult.{deed_result};
-ghost use Rattle.tenant_turns.specs.Turns.{Lone};
+ghost use Rattle.tenant_turns.specs.Turns.{Lone, agents_last};
 ghost use Rattle.tenant_turns.specs.Inside.Rounds.{IsEnough};
 ghost use Rattle.tenant_turns.specs.Inside.Wires.{wire_at};
 ghost use Rattle.tenant_world.specs.Acting.{is_accepted};
@@ -136,12 +136,13 @@ impl Tenant {
         ensures { (g : Ground) (l : Lone) → QuietStands g self.now l.quiet l.store
             → IfOk result (λ actors. IsEnough l actors.items) }
     {
-        let busy = self.actors.busy(alloc)?;
+        let found = self.actors.busy(alloc)?;
+        let busy = agents_last(alloc, found.as_slice())?;
         if busy.len() < self.steps as usize {
-            Ok(busy)
-        } else {
-            self.actors.names(alloc)
+            return Ok(busy);
         }
+        let all = self.actors.names(alloc)?;
+        agents_last(alloc, all.as_slice())
     }
 
     /// The form of an actor that runs, if one does: its job, and what it asked and was answered.
@@ -177,4 +178,18 @@ impl Tenant {
             }
         }
     }
+}
+
+// The actor of agents behind the others. It fails only for want of memory.
+fn agents_last(alloc: Global, actors: &[Actor]) -> Result<Vec<Actor>, AllocError>
+    ensures { IfOk result (λ all. all.items ≡ agents_last actors.now) }
+{
+    let mut all = Vec::with_capacity(alloc, actors.len() + 1)?;
+    for actor in actors {
+        if *actor != Actor::Agents {
+            all.push(*actor)?;
+        }
+    }
+    all.push(Actor::Agents)?;
+    Ok(all)
 }

@@ -1,4 +1,4 @@
-// An actor begins its next form, or takes up its next request.
+// An actor begins its next form, or takes up its next request; that of agents the next action.
 ghost use Rattle.std.specs.Prelude.{◌≡◌, ℕ, true, None, Some, option_map, IfOk, IfErr, ◌<◌, Err};
 ghost use Rattle.server_rules.specs.Ground.{Ground};
 ghost use Rattle.server_rules.specs.Request as rules;
@@ -14,6 +14,7 @@ ghost use Rattle.tenant_world.specs.Acting.{AcceptsOutcome, RefusesOutcome, olde
 ghost use Rattle.tenant_world.specs.Acting.{with_next_in_hand, is_accepted};
 
 use crate::acting::interrupt;
+use crate::actions::start_action;
 use crate::answers::{StartAnswer, StartAnswers};
 use crate::memory::Memory;
 use repl_asks::Job;
@@ -127,7 +128,7 @@ fn put_begun(alloc: Global, state: &mut ActorState, begun: Option<Begun>) -> Sta
     }
 }
 
-// The oldest request that waits.
+// The oldest request that waits; where none does, the next action.
 fn start_request(
     alloc: Global,
     memory: &mut Memory,
@@ -153,7 +154,7 @@ fn start_request(
         result }
 {
     let Some(waiting) = oldest(state) else {
-        return Err(Refusal::Idle);
+        return start_action(alloc, memory, retries, actor, state);
     };
     if memory.outbox.is_held() {
         return Err(Refusal::Held);

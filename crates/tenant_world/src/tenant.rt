@@ -26,5 +26,5 @@ pub struct Tenant {
     // The messages of each piece were taken when it was heard.
     ghost taken: { length (ready_of decoder) ≡ 0 },
     // No actor is of a session that is yet to be made.
-    ghost seated: { are_below (suc (opened_by memory)) (actors_view actors) ≡ true },
+    ghost seated: { are_below (suc (suc (opened_by memory))) (actors_view actors) ≡ true },
 }

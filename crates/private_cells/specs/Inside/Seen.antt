@@ -14,7 +14,7 @@ use Rattle.private_cells.specs.declared.cells.Cell.{Cell}
 abbrev pub action_view : Action → ActionData
 action_view a = record {
   task = task_view (arc_value a.task);
-  origin = origin_view a.origin;
+  origin = origin_view (arc_value a.origin);
   session = a.session;
 }
 

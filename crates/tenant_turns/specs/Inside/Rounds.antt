@@ -1,5 +1,5 @@
 -- Which actors a round may pass over.
-use Rattle.std.specs.Prelude.{◌≡◌, ◌<◌, ◌⊎◌, List, length, filter, Bool, false, Option, None, Some}
+use Rattle.std.specs.Prelude.{◌≡◌, ◌<◌, ◌⊎◌, ◌==◌, ◌||◌, List, length, filter, Bool, false, Option, None, Some}
 use Rattle.server_rules.specs.Machine.Ready.{is_busy}
 use Rattle.server_rules.specs.Numbered.{part_under}
 use Rattle.server_rules.specs.Tenant.{ActorData, seat_of}
@@ -10,9 +10,10 @@ abbrev pub is_some_busy : Option ActorData → Bool
 is_some_busy None = false
 is_some_busy (Some actor) = is_busy actor
 
--- whether the actor of this name is there and has something to do
+-- whether the actor of this name is there and has something to do; that of agents may always have
 abbrev pub is_busy_at : Lone → Actor → Bool
-is_busy_at l a = is_some_busy (part_under (seat_of a) l.quiet.actors)
+is_busy_at l a =
+    (seat_of a == seat_of Actor.Agents) || is_some_busy (part_under (seat_of a) l.quiet.actors)
 
 -- those that have something to do, in the order of their rounds
 abbrev pub busy_actors : Lone → List Actor

@@ -33,7 +33,7 @@ loop-actor-preserved g c = record {
       came on turned.0 turned.1 in
       let at = subst (λ (taken : List Actor). TurnsOn h (g.C.Core.stands h c.go_once.new.core) q
       taken (with_turn c.loop-actor.round came))
-      (sym (take_more actors index Actor.Bare c.loop-actor-test.true)) more in
+      (sym (take_more actors index Actor.Agents c.loop-actor-test.true)) more in
       subst (λ (told : Round). TurnsOn h (g.C.Core.stands h c.go_once.new.core) q
       (take (index + 1) actors) told) (sym c.with-round.ensures) at;
 }

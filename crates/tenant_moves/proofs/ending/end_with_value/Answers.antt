@@ -1,5 +1,7 @@
 use Rattle.std.proofs.Common.{◌≡◌, ◌∙◌, ◌++◌, ℕ, List, map, refl, sym, subst}
 use Rattle.repl_replies.specs.Replies.{bytes_of}
+use Rattle.repl_replies.specs.Inside.View.{origin_view}
+use Rattle.repl_replies.specs.declared.reply.Origin.{Origin}
 use Rattle.value_data.specs.Datum.{Datum}
 use Rattle.value_data.specs.Inside.View.{view}
 use Rattle.repl_asks.specs.Inside.Jobs.{finished_view}
@@ -27,8 +29,9 @@ returns-then-is_last c =
     let over = ends-over h here s mid c.end_request.new.self
     (sym c.is_last.ensures ∙ c.if-is_last.true)
     (subst P c.in_ok-last.ensures c.in_ok-end_request.ensures) in
-    let Q : List ℕ → Type 0 = λ text. told_bytes mid ≡ told_bytes c.args.news.now
-    ++ map bytes_of (output_replies here.origin text) in
-    let told = subst Q c.text.ensures c.in_ok-add_output.ensures in
+    let Q : Origin → List ℕ → Type 0 = λ o text. told_bytes mid ≡ told_bytes c.args.news.now
+    ++ map bytes_of (output_replies (origin_view o) text) in
+    let told = subst (λ o. Q o e.text) c.deref.ensures
+    (subst (Q c.deref.result.now) c.text.ensures c.in_ok-add_output.ensures) in
     ends-behind (output_replies here.origin e.text) f s here
     c.args.news.now mid c.end_request.new.self _ told refl over

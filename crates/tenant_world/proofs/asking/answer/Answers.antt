@@ -8,7 +8,7 @@ use Rattle.server_rules.specs.declared.refusal.Refusal.{Refusal}
 use Rattle.tenant_actors.specs.View.{actor_view, hand_view}
 use Rattle.tenant_world.specs.Acting.{AcceptsOutcome}
 use Rattle.tenant_world.specs.Asking.{exchange_from, with_exchange}
-use Rattle.tenant_world.proofs.Answering.{acted-answer_outcome, answer_outcome-told}
+use Rattle.tenant_world.proofs.Answering.{acted-ask_outcome, ask_outcome-told}
 use Rattle.tenant_world.proofs.Answering.{answered-untold, answered-accepted, declined-without}
 use Rattle.tenant_world.specs.Memories.{Remembers}
 use Rattle.tenant_world.proofs.Answering.{refused-so, held-so}
@@ -64,8 +64,8 @@ returns-clause-acted c = λ g q s r h run remembers holds allowed hand running.
     ∙ ap (λ (x : ActorData). x.hand) c.copied_with_room.ensures.same ∙ hand) in
     let R : Hand → Type 0 = λ x. Remembers g s.tenant memory (quiet_after (sender_of a x) ask kept q) in
     let P : Outcome → Type 0 = λ x. AcceptsOutcome g s.tenant a q x memory new (ask_answered given) in (
-      subst P (answer_outcome-told g s a actor h run ask q answers.told answers.is_told)
-          (acted-answer_outcome g s.tenant memory a actor new h run ask q answers.told kept given hand running
+      subst P (ask_outcome-told g s a actor h run ask q answers.told answers.is_told)
+          (acted-ask_outcome g s.tenant memory a actor new h run ask q answers.told kept given hand running
           put answers.is same.given (subst R held answers.remembers)),
       answers.holds,
     )

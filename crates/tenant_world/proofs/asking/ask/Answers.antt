@@ -1,6 +1,6 @@
 use Rattle.std.proofs.Common.{sym, ap, subst, ◌∙◌, option_map, Err, IfOk, IfErr}
 use Rattle.repl_asks.specs.Inside.View.{ask_view}
-use Rattle.server_rules.specs.Plan.{Plan, Outcome, StepAnswer}
+use Rattle.server_rules.specs.Plan.{Plan, Outcome, StepAnswer, refuses}
 use Rattle.server_rules.specs.Starting.{interrupted_in}
 use Rattle.server_rules.specs.Store.{Store}
 use Rattle.ref_table.specs.Refs.{refs_after}
@@ -11,6 +11,8 @@ use Rattle.tenant_world.specs.Acting.{AcceptsOutcome, RefusesOutcome, is_accepte
 use Rattle.tenant_refs.specs.Serving.{ServesWithAttempts}
 use Rattle.tenant_world.proofs.Remembering.{acted-interrupted, wanted-memory}
 use Rattle.tenant_world.proofs.Answering.{allowed-so, asked-open, asked-closed, given-told, given-declined}
+use Rattle.tenant_world.proofs.Answering.{asked-waiting, waits-so}
+use Rattle.server_rules.specs.Asking.{session_of}
 use Rattle.tenant_world.proofs.asking.ask.Goals as goal
 
 pub returns-in_err-give_up-clause-declined : goal.returns-in_err-give_up-clause-declined
@@ -21,8 +23,9 @@ returns-in_err-give_up-clause-declined c = λ g q s r remembers holds.
     let k = hand_view c.in-Some.hand in
     let run = run_view c.in-Some-running._run in
     let allowed = allowed-so ask remembers.cells c.is_allowed.ensures c.if-not-is_allowed.false in
+    let may = sym c.may_ask.ensures ∙ c.if-not-may_ask.false in
     let plan = asked-closed g a actor ask q k run (ap (option_map hand_view) c.in-Some.is)
-    (ap (option_map run_view) c.in-Some-running.is) allowed c.if-state.true in
+    (ap (option_map run_view) c.in-Some-running.is) may allowed c.if-state.true in
     let stay = c.in_err-give_up.ensures.stays g q s r remembers holds in
     given-declined g s.tenant s a k ask q _ c.give_up.new.memory c.in_err-give_up.field-0.0 _
     c.from_residual.result plan c.from_residual.ensures.1 stay.0 stay.1 stay.2
@@ -38,8 +41,9 @@ returns-then-state-clause-acted c = λ g q s r remembers holds.
     let refs = c.args.refs.now in
     let attempts = c.give_up.new.attempts in
     let allowed = allowed-so ask remembers.cells c.is_allowed.ensures c.if-not-is_allowed.false in
+    let may = sym c.may_ask.ensures ∙ c.if-not-may_ask.false in
     let plan = asked-closed g a actor ask q k run (ap (option_map hand_view) c.in-Some.is)
-    (ap (option_map run_view) c.in-Some-running.is) allowed c.if-state.true in
+    (ap (option_map run_view) c.in-Some-running.is) may allowed c.if-state.true in
     let gone = c.in_ok-give_up.ensures.gone g q s r remembers holds in
     let both = given-told s a k ask q gone.0 in
     let P : Plan → Type 0 = λ p.
@@ -64,6 +68,8 @@ returns-clause-acted c = λ g q s r remembers holds.
     let k = hand_view c.in-Some.hand in
     let run = run_view c.in-Some-running._run in
     let allowed = allowed-so ask remembers.cells c.is_allowed.ensures c.if-not-is_allowed.false in
+    let may = sym c.may_ask.ensures ∙ c.if-not-may_ask.false in
+    let met = waits-so (session_of a) ask remembers.cells c.must_wait.ensures c.if-must_wait.false in
     let hand = ap (option_map hand_view) c.in-Some.is in
     let running = ap (option_map run_view) c.in-Some-running.is in
     let P : Plan → Type 0 = λ p. IfOk c.answer.result (λ x.
@@ -71,7 +77,7 @@ returns-clause-acted c = λ g q s r remembers holds.
     (actor_view c.answer.new.state) (ask_answer_view x.given)
     × ServesWithAttempts c.answer.new.refs c.answer.new.attempts (carried_out s p).store
     (refs_after (carried_out s p).store r)) in
-    subst P (asked-open g a actor ask q k run hand running allowed c.if-state.false)
+    subst P (asked-open g a actor ask q k run hand running may allowed c.if-state.false met)
     (c.answer.ensures.acted g q s r k run remembers holds allowed hand running)
 
 pub returns-clause-declined : goal.returns-clause-declined
@@ -82,11 +88,13 @@ returns-clause-declined c = λ g q s r remembers holds.
     let k = hand_view c.in-Some.hand in
     let run = run_view c.in-Some-running._run in
     let allowed = allowed-so ask remembers.cells c.is_allowed.ensures c.if-not-is_allowed.false in
+    let may = sym c.may_ask.ensures ∙ c.if-not-may_ask.false in
+    let met = waits-so (session_of a) ask remembers.cells c.must_wait.ensures c.if-must_wait.false in
     let P : Plan → Type 0 = λ p. IfErr c.answer.result (λ why.
     RefusesOutcome g s.tenant q (carried_out s p).outcome c.answer.new.memory why
     × ServesWithAttempts c.answer.new.refs c.answer.new.attempts s r) in
     subst P (asked-open g a actor ask q k run (ap (option_map hand_view) c.in-Some.is)
-    (ap (option_map run_view) c.in-Some-running.is) allowed c.if-state.false)
+    (ap (option_map run_view) c.in-Some-running.is) may allowed c.if-state.false met)
     (c.answer.ensures.declined g q s r k run remembers holds allowed)
 
 pub returns-in_err-give_up-clause-no_memory : goal.returns-in_err-give_up-clause-no_memory
@@ -96,9 +104,10 @@ returns-in_err-give_up-clause-no_memory c = λ g q s r remembers holds none.
     let ask = ask_view c.args.ask.now in
     let k = hand_view c.in-Some.hand in
     let allowed = allowed-so ask remembers.cells c.is_allowed.ensures c.if-not-is_allowed.false in
+    let may = sym c.may_ask.ensures ∙ c.if-not-may_ask.false in
     let plan = asked-closed g a actor ask q k (run_view c.in-Some-running._run)
     (ap (option_map hand_view) c.in-Some.is) (ap (option_map run_view) c.in-Some-running.is)
-    allowed c.if-state.true in
+    may allowed c.if-state.true in
     let why = wanted-memory c.in_err-give_up.field-0.0 c.from_residual.result
     c.from_residual.ensures.1 none in
     sym (ap (λ p. is_accepted (carried_out s p).outcome) plan)
@@ -113,7 +122,28 @@ returns-clause-no_memory c = λ g q s r remembers holds none.
     let k = hand_view c.in-Some.hand in
     let run = run_view c.in-Some-running._run in
     let allowed = allowed-so ask remembers.cells c.is_allowed.ensures c.if-not-is_allowed.false in
+    let may = sym c.may_ask.ensures ∙ c.if-not-may_ask.false in
+    let met = waits-so (session_of a) ask remembers.cells c.must_wait.ensures c.if-must_wait.false in
     let plan = asked-open g a actor ask q k run (ap (option_map hand_view) c.in-Some.is)
-    (ap (option_map run_view) c.in-Some-running.is) allowed c.if-state.false in
+    (ap (option_map run_view) c.in-Some-running.is) may allowed c.if-state.false met in
     sym (ap (λ p. is_accepted (carried_out s p).outcome) plan)
     ∙ c.answer.ensures.no_memory g q s r k run remembers holds none
+
+pub returns-then-must_wait-clause-declined : goal.returns-then-must_wait-clause-declined
+returns-then-must_wait-clause-declined c = λ g q s r remembers holds.
+    let a = c.args.actor in
+    let actor = actor_view c.args.state.now in
+    let ask = ask_view c.args.ask.now in
+    let k = hand_view c.in-Some.hand in
+    let run = run_view c.in-Some-running._run in
+    let allowed = allowed-so ask remembers.cells c.is_allowed.ensures c.if-not-is_allowed.false in
+    let may = sym c.may_ask.ensures ∙ c.if-not-may_ask.false in
+    let waits = waits-so (session_of a) ask remembers.cells c.must_wait.ensures c.if-must_wait.true in (
+      record {
+        refused = λ ne. asked-waiting g s a actor ask q k run (ap (option_map hand_view) c.in-Some.is)
+            (ap (option_map run_view) c.in-Some-running.is) may allowed c.if-state.false waits
+            ∙ ap refuses (sym (c.why_waiting.ensures.why s r holds));
+        remembers = remembers;
+      },
+      holds,
+    )

@@ -49,7 +49,8 @@ returns-clause-acted c = λ g q s e is passes r reaches.
     × Reaches c.leave-2.new.self (carried_out s p).store in
     subst P (ends-accepted g a actor e q k _ hand (ap (option_map run_view) c.in-Some-running.is)
     c.if-state.false (held-so g s.tenant c.args.memory.now q _ r c.is_held.ensures ∙ c.if-is_held.false) passes) (
-      c.in_ok-accept.ensures.acted g q s k e is r hand,
+      c.in_ok-accept.ensures.acted g q s k (run_view c.in-Some-running._run) e is r hand
+          (ap (option_map run_view) c.in-Some-running.is),
       record {
         tenant = c.leave-2.ensures.tenant ∙ reaches.tenant;
         points = c.leave-2.ensures.left s.mine.points reaches.points;

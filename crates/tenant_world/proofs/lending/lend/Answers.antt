@@ -3,7 +3,7 @@ use Rattle.tenant_world.proofs.Lent.{lent-busy}
 use Rattle.tenant_world.proofs.lending.lend.Goals as goal
 
 pub get_mut-requires : goal.get_mut-requires
-get_mut-requires c = lent-busy _ _ c.in_ok-check.ensures.told
+get_mut-requires c = lent-busy c.args.actor _ _ c.in_ok-check.ensures.told
 
 pub returns : goal.returns
 returns c = (

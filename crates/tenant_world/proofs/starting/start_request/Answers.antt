@@ -1,14 +1,18 @@
-use Rattle.std.proofs.Common.{◌≡◌, ◌∙◌, refl, sym, ap, subst, option_map}
+use Rattle.std.proofs.Common.{◌≡◌, ◌∙◌, refl, sym, ap, subst, option_map, List, [], IfOk, IfErr}
 use Rattle.repl_sessions.specs.State.{StateData}
 use Rattle.repl_sessions.specs.Inside.StateView.{state_view}
 use Rattle.name_spaces.specs.Namespaces.{Namespaces}
 use Rattle.name_spaces.specs.Inside.Seen.{namespaces_of}
+use Rattle.server_rules.specs.Request.{Waiting}
 use Rattle.server_rules.specs.Starting.{held_or, start_outcome, text_begun, first_state}
+use Rattle.server_rules.specs.Starting.{start_waiting}
 use Rattle.server_rules.specs.Plan.{StepAnswer, Outcome}
 use Rattle.tenant_actors.specs.View.{actor_view, waiting_view}
 use Rattle.tenant_moves.specs.Starts.{answer_given}
 use Rattle.tenant_world.specs.Answers.{start_answer_view}
-use Rattle.tenant_world.specs.Acting.{AcceptsOutcome, younger, with_next_in_hand}
+use Rattle.tenant_world.specs.Acting.{AcceptsOutcome, RefusesOutcome, is_accepted, younger}
+use Rattle.tenant_world.specs.Acting.{with_next_in_hand}
+use Rattle.tenant_world.proofs.Acts.{none-waits}
 use Rattle.tenant_world.proofs.Remembering.{held-so, declined-memory, step-without-memory}
 use Rattle.tenant_world.proofs.Begins.{acted-start_outcome, waiting-taken, waiting-accepted}
 use Rattle.tenant_world.proofs.starting.start_request.Goals as goal
@@ -88,3 +92,33 @@ pub returns-in_err-post_news-clause-step : goal.returns-in_err-post_news-clause-
 returns-in_err-post_news-clause-step c =
     step-without-memory _ _ _ _ c.from_residual-in_err-post_news.result
     c.from_residual-in_err-post_news.ensures.1 refl c.post_news.ensures.opened
+
+pub returns-in_default-clause-acted : goal.returns-in_default-clause-acted
+returns-in_default-clause-acted c = λ g t q right tries r hand.
+    let a = c.args.actor in
+    let actor = actor_view c.args.state.now in
+    let none : actor.waiting ≡ [] = none-waits actor.waiting
+    (ap (option_map (λ x. waiting_view x.now)) (sym c.in_default.is) ∙ c.oldest.ensures) in
+    let P : List Waiting → Type 0 = λ ws. IfOk c.start_action.result (λ s.
+    AcceptsOutcome g t a q (start_waiting g a actor q ws) c.start_action.new.memory
+    (actor_view c.start_action.new.state) (start_answer_view s.given)) in
+    subst P (sym none) (c.start_action.ensures.acted g t q tries r)
+
+pub returns-in_default-clause-declined : goal.returns-in_default-clause-declined
+returns-in_default-clause-declined c = λ g t q right tries r hand.
+    let a = c.args.actor in
+    let actor = actor_view c.args.state.now in
+    let none : actor.waiting ≡ [] = none-waits actor.waiting
+    (ap (option_map (λ x. waiting_view x.now)) (sym c.in_default.is) ∙ c.oldest.ensures) in
+    let P : List Waiting → Type 0 = λ ws. IfErr c.start_action.result
+    (RefusesOutcome g t q (start_waiting g a actor q ws) c.start_action.new.memory) in
+    subst P (sym none) (c.start_action.ensures.declined g t q tries r)
+
+pub returns-in_default-clause-no_memory : goal.returns-in_default-clause-no_memory
+returns-in_default-clause-no_memory c = λ g t q r none.
+    let a = c.args.actor in
+    let actor = actor_view c.args.state.now in
+    let empty : actor.waiting ≡ [] = none-waits actor.waiting
+    (ap (option_map (λ x. waiting_view x.now)) (sym c.in_default.is) ∙ c.oldest.ensures) in
+    ap (λ ws. is_accepted (start_waiting g a actor q ws)) empty
+    ∙ c.start_action.ensures.no_memory g t q r none

@@ -6,7 +6,7 @@ use Rattle.tenant_actors.specs.Listed.{are_listed}
 use Rattle.tenant_actors.specs.States.{actor_view}
 use Rattle.tenant_actors.specs.declared.actor.ActorState.{ActorState}
 use Rattle.tenant_actors.proofs.Seats.{Entries, seen, with_part-seen, part_under-seen, behind-lent}
-use Rattle.tenant_actors.proofs.Listing.{listed-lent}
+use Rattle.tenant_actors.proofs.Listing.{listed-lent_of}
 use Rattle.tenant_actors.proofs.actors.Actors.get_mut.Goals as goal
 
 pub invariant_of-self-lent : goal.invariant_of-self-lent
@@ -16,14 +16,14 @@ invariant_of-self-lent c = λ o.
       λ w. (
         ap (λ (es : Entries). are_listed self.busy (seen es)) (c.get_mut.follows.holds w).0
             ∙ ap (are_listed self.busy) (with_part-seen c.args.actor w was)
-            ∙ listed-lent self.busy (seat_of c.args.actor) (actor_view w) (seen was)
-            c.requires self.listed,
-        tt,
+            ∙ listed-lent_of self.busy c.args.actor (actor_view w) (seen was)
+            c.requires self.agents self.listed,
+        (self.agents, tt),
       ),
       (
         ap (λ (m : BTreeMap Actor ActorState). are_listed self.busy (seen m.entries))
             c.get_mut.follows.holds-at-none ∙ self.listed,
-        tt,
+        (self.agents, tt),
       ),
     )
 

@@ -26,4 +26,5 @@ invariant_of-self c =
           ∙ listed-behind self.busy (actor_entry_view (c.args.actor, c.unoccupied.result)) (seen was)
           (ap is_busy c.unoccupied.ensures) self.listed)
           (λ same. ap (λ (es : Entries). are_listed self.busy (seen es)) same ∙ self.listed);
+      agents = self.agents;
     }

@@ -36,6 +36,7 @@ invariant_of-self-in-Break-1 c =
           (unwritten c.args.actor v self.live.entries (c.get_mut.follows.holds v).0 (sym c.in-Some.ensures.value))
           ∙ listed-more self.busy listed (seen self.live.entries)
           (keeps-same self.busy listed c.in_err-insert.ensures.err) self.listed;
+      agents = keeps-same self.busy listed c.in_err-insert.ensures.err 0 self.agents;
     }
 
 pub returns-in_err-insert-clause-stays : goal.returns-in_err-insert-clause-stays
@@ -58,6 +59,7 @@ invariant_of-self-2 c =
           ∙ listed-put self.busy listed (seat_of a) (actor_view left) (seen was)
           (has-inserted a self.busy listed updates) (keeps-inserted a self.busy listed updates)
           self.listed;
+      agents = keeps-inserted a self.busy listed updates 0 self.agents;
     }
 
 pub returns-clause-queued : goal.returns-clause-queued

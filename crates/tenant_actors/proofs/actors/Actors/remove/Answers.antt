@@ -2,7 +2,7 @@ use Rattle.std.proofs.Common.{◌∙◌, ap}
 use Rattle.server_rules.specs.Tenant.{seat_of}
 use Rattle.tenant_actors.specs.Listed.{are_listed}
 use Rattle.tenant_actors.proofs.Seats.{seen, removed-seen}
-use Rattle.tenant_actors.proofs.Listing.{listed-gone, agree-removed}
+use Rattle.tenant_actors.proofs.Listing.{listed-gone}
 use Rattle.tenant_actors.proofs.actors.Actors.remove.Goals as goal
 
 pub returns : goal.returns
@@ -14,10 +14,11 @@ pub invariant_of-self : goal.invariant_of-self
 invariant_of-self c =
     let self = c.args.self.now in
     let was = self.live.entries in
-    let left = c.remove-2.new.self in
+    let left = c.take_off.new.busy in
     record {
       listed = ap (are_listed left) (removed-seen c.args.actor was c.remove.new.self.entries
           c.remove.ensures.entries c.remove.ensures.updates.1)
           ∙ listed-gone self.busy left (seat_of c.args.actor) (seen was)
-          (agree-removed c.args.actor self.busy left c.remove-2.ensures.updates) self.listed;
+          c.take_off.ensures.apart self.listed;
+      agents = c.take_off.ensures.agents self.agents;
     }

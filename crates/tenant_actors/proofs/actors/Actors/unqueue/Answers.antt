@@ -31,6 +31,7 @@ invariant_of-self-2 c =
           ∙ listed-less self.busy (seat_of a) (actor_view left) (actor_view v) (seen was)
           (state-part_under a v was (sym c.in-Some.ensures.value))
           (λ busy. newest-busy (actor_view v) (sym (ap is_busy c.unqueue.ensures) ∙ busy)) self.listed;
+      agents = self.agents;
     }
 
 pub returns : goal.returns

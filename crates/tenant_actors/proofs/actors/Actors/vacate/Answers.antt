@@ -12,7 +12,7 @@ use Rattle.tenant_actors.proofs.Seats.{Entries, at, seen, with_part-seen, remove
 use Rattle.tenant_actors.proofs.QueueLaws.{absent-vacated, with_vacated_seat-seen}
 use Rattle.tenant_actors.proofs.QueueLaws.{with_vacated_seat-closed, with_vacated_seat-gone}
 use Rattle.tenant_actors.proofs.QueueLaws.{still-some, still-none, unwritten, state-part_under}
-use Rattle.tenant_actors.proofs.Listing.{listed-less, listed-gone, agree-removed}
+use Rattle.tenant_actors.proofs.Listing.{listed-less, listed-gone}
 use Rattle.tenant_actors.proofs.actors.Actors.vacate.Goals as goal
 
 pub returns-in_default : goal.returns-in_default
@@ -61,6 +61,7 @@ invariant_of-self-then-is_some c =
           ∙ listed-less self.busy (seat_of a) (actor_view left) (actor_view v) (seen was)
           (state-part_under a v was (sym c.in-Some.ensures.value))
           (λ still. ap (λ (b : Bool). b || has_waiting (actor_view v).waiting) busy) self.listed;
+      agents = self.agents;
     }
 
 pub invariant_of-self-2 : goal.invariant_of-self-2
@@ -68,11 +69,12 @@ invariant_of-self-2 c =
     let self = c.args.self.now in
     let was = self.live.entries in
     let v = c.in-Some.state.now in
-    let left = c.remove-2.new.self in
+    let left = c.take_off.new.busy in
     record {
       listed = ap (are_listed left) (removed-seen c.args.actor was c.remove.new.self.entries
           (c.remove.ensures.entries ∙ ap (λ (es : Entries). remove_entry (at c.args.actor) es) (unwritten c.args.actor v was (c.get_mut.follows.holds v).0 (sym c.in-Some.ensures.value)))
           c.remove.ensures.updates.1)
           ∙ listed-gone self.busy left (seat_of c.args.actor) (seen was)
-          (agree-removed c.args.actor self.busy left c.remove-2.ensures.updates) self.listed;
+          c.take_off.ensures.apart self.listed;
+      agents = c.take_off.ensures.agents self.agents;
     }

@@ -29,5 +29,5 @@ returns-clause-kept c = λ s seated.
     kept-more (scene c.args.self.now s c.args.actors.now) _ (change.Queued a)
     (c.note.ensures ∙ ap (λ (l : List LoggedChange). l ++ change.Queued a ∷ []) c.in_ok-reserve.ensures.items)
     (ap (sessions_and_actors s) c.in_ok-queue.ensures.undone)
-    (subst (λ (es : List (Entry ActorData)). AreBelow (suc s.sessions.opened) es) (sym c.in_ok-queue.ensures.queued)
-    (below-changed (suc s.sessions.opened) (seat_of a) (with_request w) was seated))
+    (subst (λ (es : List (Entry ActorData)). AreBelow (suc (suc s.sessions.opened)) es) (sym c.in_ok-queue.ensures.queued)
+    (below-changed (suc (suc s.sessions.opened)) (seat_of a) (with_request w) was seated))

@@ -1,5 +1,6 @@
-use Rattle.std.proofs.Common.{◌≡◌, ◌<◌, length, rules}
+use Rattle.std.proofs.Common.{◌≡◌, ◌<◌, ◌∙◌, ap, length, rules, inl}
 use Rattle.tenant_actors.specs.View.{actors_view}
+use Rattle.tenant_turns.specs.Turns.{agents_last}
 use Rattle.tenant_world.proofs.Enough.{busy-enough}
 use Rattle.tenant_world.proofs.tenant.Tenant.round.Goals as goal
 
@@ -9,4 +10,5 @@ returns-then-len-self c = λ g l stands.
     let counted : c.len.result ≡ length busy = search rules in
     let room : c.len.result < c.args.self.now.steps = search rules in
     busy-enough l (actors_view c.args.self.now.actors) busy c.len.result c.args.self.now.steps
-    stands.actors c.in_ok-busy.ensures.order c.in_ok-busy.ensures.names counted stands.steps room
+    stands.actors c.in_ok-found.ensures.order
+    (c.in_ok-busy.ensures ∙ ap agents_last (c.as_slice.ensures.value ∙ c.in_ok-found.ensures.names)) counted stands.steps room

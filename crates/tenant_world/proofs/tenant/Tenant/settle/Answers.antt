@@ -15,6 +15,6 @@ invariant_of-self c =
     let self = c.args.self.now in
     record {
       taken = self.taken;
-      seated = subst (λ es. are_below (suc (opened_by self.memory)) es ≡ true)
+      seated = subst (λ es. are_below (suc (suc (opened_by self.memory))) es ≡ true)
           (sym c.leave.ensures) (below-stays _ c.args.is_interrupted c.args.actor _ self.seated);
     }

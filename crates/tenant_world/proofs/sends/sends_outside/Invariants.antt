@@ -1,0 +1,10 @@
+use Rattle.std.proofs.Common.{◌≡◌, ◌++◌, drop, false, map}
+use Rattle.repl_asks.specs.Inside.View.{trace_view}
+use Rattle.tenant_world.specs.Actions.{outgoing_in}
+use Rattle.tenant_world.specs.Sends.{outgoing_view, sender_view}
+use Rattle.tenant_world.proofs.sends.sends_outside.Given as goal
+
+abbrev pub invariant-loop-exchange : goal.invariant-loop-exchange
+invariant-loop-exchange l = map outgoing_view l.sends.items
+    ++ outgoing_in (sender_view l.sender) l.is_inside (trace_view (drop l.exchange-index l.trace))
+    ≡ outgoing_in (sender_view l.sender) false (trace_view l.trace)
