@@ -7,6 +7,8 @@ from transcripts import Transcript
 from turn_lists import Turns
 
 READERS = {".repl": Transcript, ".stream": Stream, ".turns": Turns, ".jsonl": Outside}
+# A page whose indented lines are transcripts
+PAGE, INDENT = ".md", "    "
 
 
 def reader_of(name):
@@ -15,9 +17,11 @@ def reader_of(name):
 
 def read(path):
     """The cases of a file. An empty line stands between two; outside each line is one."""
-    made = reader_of(path)
+    made = Transcript if path.endswith(PAGE) else reader_of(path)
     with open(path, encoding="utf-8") as file:
         lines = file.read().split("\n")
+    if path.endswith(PAGE):
+        lines = [it[len(INDENT) :] if it.startswith(INDENT) else "" for it in lines]
     if made is Outside:
         return [made(path, number, [it]) for number, it in enumerate(lines, start=1) if it]
     found, begin = [], 0

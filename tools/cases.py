@@ -17,6 +17,8 @@ import case_files
 import workspace
 
 MOST_SHOWN, MOST_COLUMNS = 12, 200
+# The page that has an example of each function.
+EXAMPLES = f"{workspace.TOP}/docs/LANGUAGE.md"
 
 
 def main(words):
@@ -36,7 +38,7 @@ def main(words):
 
 
 def all_files():
-    found = []
+    found = [EXAMPLES]
     for at, folders, names in os.walk(f"{workspace.TOP}/cases"):
         folders.sort()
         found += [f"{at}/{name}" for name in sorted(names) if case_files.reader_of(name)]

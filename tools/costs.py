@@ -90,6 +90,30 @@ def added(count):
     return " ".join(f"(alter r assoc {it} 1)" for it in range(count))
 
 
+def agents(count):
+    return [f"(def a{it} (agent 0))" for it in range(count)]
+
+
+def in_requests(forms, most=1000):
+    """These forms, so many in each request at the most."""
+    return evaluated(*[" ".join(forms[it : it + most]) for it in range(0, len(forms), most)])
+
+
+def sent_by_turns(count):
+    """So many sends to 1,000 agents, by turns."""
+    return in_requests(agents(1000) + [f"(send a{it % 1000} inc)" for it in range(count)])
+
+
+def sent_at_once(count, awaited=""):
+    return evaluated("(def a (agent 0))", f"(dosync {times('(send a inc)', count)} nil) {awaited}")
+
+
+def sent_by_action(count):
+    sending = f"(defn f [n] (do {times('(send b inc)', count)} n))"
+    both = "(def a (agent 0)) (def b (agent 0))"
+    return evaluated(both, sending, "(send a f) (await a) (await b)")
+
+
 def shared_refs(count):
     return "".join(f"(def r{it} (ref 0))\n" for it in range(count))
 
@@ -178,6 +202,15 @@ ROWS = (
         lambda n: evaluated(REF, *["(dosync (commute r inc))"] * n),
         1000,
     ),
+    (
+        "forms `(swap! t inc)`",
+        lambda n: in_requests(["(def t (atom 0))", *["(swap! t inc)"] * n]),
+        25000,
+    ),
+    ("forms `(send aK inc)` to 1,000 agents by turns", sent_by_turns, 25000),
+    ("`(send a inc)` in one `dosync`", sent_at_once, 1250),
+    ("the same, and an `await`", lambda n: sent_at_once(n, "(await a)"), 1250),
+    ("`(send b inc)` in one action, and two awaits", sent_by_action, 1250),
     ("shared refs that a text defines", lambda n: [], 5000, shared_refs),
     (
         "the same, and 1,000 requests `(dosync (alter shared/r0 inc))`",

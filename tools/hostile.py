@@ -5,8 +5,9 @@
     tools/hostile.py COMMAND ..    the same with a server that this command starts
 
 So many peers, 64 unless given, come again and again for so many seconds, 10 unless given. Every
-second one is well behaved. The others close inside a message, wait inside one, read slowly, send
-what is no message, leave before they are answered, or close at once. It ends by itself, some
+second one is well behaved, and half of these send to an agent of theirs and await it. The others
+close inside a message, wait inside one, read slowly, send what is no message, leave before they are
+answered, also while actions of theirs wait, or close at once. It ends by itself, some
 seconds later, with a count of each and with what was wrong: a reply that is not what it has to be,
 or a peer that was left without one. Then the status is 1.
 
@@ -83,6 +84,16 @@ def well_behaved(address, chance):
         expect([it["status"] for it in closed], [["done", "session-closed"]])
 
 
+def sends_and_awaits(address, chance):
+    """well behaved, with an agent"""
+    with Connection(address) as peer:
+        session = made_session(peer)
+        evaluates(peer, "(do (def a (agent 0)) 0)", 0, session)
+        for number in range(1, chance.randrange(2, 20)):
+            evaluates(peer, "(do (send a inc) (await a) @a)", number, session)
+            time.sleep(chance.uniform(0, 0.01))
+
+
 def closes_inside(address, chance):
     """closed inside a message"""
     with Connection(address) as peer:
@@ -131,6 +142,15 @@ def leaves_unanswered(address, chance):
             reset(peer)
 
 
+def leaves_actions(address, chance):
+    """left while their actions waited"""
+    with Connection(address) as peer:
+        code = "(def a (agent 0)) " + "(send a inc) " * chance.randrange(1, 200)
+        peer.send(encoded({"code": code, "id": "0", "op": "eval"}))
+        time.sleep(chance.uniform(0, 0.01))
+        reset(peer)
+
+
 def closes_at_once(address, _):
     """closed at once"""
     with Connection(address):
@@ -143,13 +163,16 @@ HOSTILE = (
     reads_slowly,
     sends_garbage,
     leaves_unanswered,
+    leaves_actions,
     closes_at_once,
 )
-KINDS = well_behaved, *HOSTILE
+GOOD = well_behaved, sends_and_awaits
+KINDS = *GOOD, *HOSTILE
 
 
 def kind_of(number):
-    return HOSTILE[number // 2 % len(HOSTILE)] if number % 2 else well_behaved
+    kinds = HOSTILE if number % 2 else GOOD
+    return kinds[number // 2 % len(kinds)]
 
 
 def inside(chance):

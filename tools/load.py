@@ -3,10 +3,13 @@
 
     tools/load.py                    the built program, as `serve` with a shared ref
     tools/load.py --command COMMAND  the server that this command starts, which prints its port
+    tools/load.py --reference COMMAND
+                                     the same for one all of whose connections share `user`, as
+                                     those of Clojure's own server: a ref there is shared
     tools/load.py --idle COMMAND     the same for one that answers 3 to whatever it is asked: it
                                      shows what sockets and the load allow, and is asked for no ref
 
-`--command` and `--idle` may stand more than once; the servers are measured one after another.
+These may stand more than once; the servers are measured one after another.
 `--evals N` makes N evals in a row of the table, 10,000 unless given. load.c, which gcc compiles
 here, makes the load. It compares each reply with the bytes that it has to have, and ends at the
 first that is another; then the status is 1.
@@ -30,8 +33,13 @@ PROGRAM = f"{workspace.TOP}/crates/nrepl_server/out/nrepl_server"
 BUILT = f"{shlex.quote(PROGRAM)} serve --port 0 --connections 1000 --crews 32"
 MANY, LATE, FOUR, SIXTEEN = 100, 200, 4, 16
 ADD, ALTER = ("nil", "(+ 1 2)", "3"), ("(def r (ref 0))", "(dosync (alter r inc))", "counted")
-SHARED = ("nil", "(dosync (alter shared/c inc))", "rising")
+AGENT = "(def a (agent 0))"
+SEND = (AGENT, "(do (send a inc) 7)", "7")
+AWAIT = (AGENT, "(do (send a inc) (await a) 7)", "7")
 TEXT = "(def c (ref 0))"
+# What makes the ref that connections share, and its name.
+OURS, REFERENCE = ("nil", "shared/c"), (TEXT, "c")
+OPTIONS = ("--command", "--reference", "--idle")
 HEAD = """
 | Evals | A second | Median, ms | 99 in 100, ms | Slowest, ms | Out of order |
 |---|---|---|---|---|---|"""
@@ -50,11 +58,11 @@ class Row(typing.NamedTuple):
 
 def main(words):
     servers, evals = [], 10_000
-    while len(words) > 1 and words[0] in ("--command", "--idle", "--evals"):
+    while len(words) > 1 and words[0] in ("--evals", *OPTIONS):
         if words[0] == "--evals":
             evals = max(int(words[1]) // SIXTEEN, LATE) * SIXTEEN
         else:
-            servers.append((words[1], words[0] == "--idle"))
+            servers.append((words[1], words[0]))
         words = words[2:]
     if words:
         print(__doc__, file=sys.stderr)
@@ -66,13 +74,20 @@ def main(words):
             with open(f"{room}/shared.clj", "w", encoding="utf-8") as file:
                 file.write(TEXT)
             built = f"{BUILT} --shared {shlex.quote(file.name)}"
-            for command, is_idle in servers or [(built, False)]:
-                its_rows = rows(evals) + sharing(evals) * (command == built)
-                measure(program, command, [it for it in its_rows if not is_idle or it.work == ADD])
+            for command, kind in servers or [(built, None)]:
+                measure(program, command, rows_of(kind, evals))
         except (OSError, EOFError, ValueError) as error:
             print(f"load: {error}", file=sys.stderr)
             return 1
     return 0
+
+
+def rows_of(kind, evals):
+    """The rows of a server that an option names, or of the one that is built here."""
+    if kind == "--idle":
+        return [it for it in rows(evals) if it.work == ADD]
+    shared = {"--reference": sharing(evals, *REFERENCE), None: sharing(evals, *OURS)}
+    return [*rows(evals), *shared.get(kind, ())]
 
 
 def rows(evals):
@@ -84,13 +99,16 @@ def rows(evals):
         Row(f"`(+ 1 2)`, {MANY} unanswered at once", evals, window=MANY),
         Row(f"`(+ 1 2)`, one after another on {SIXTEEN} connections", evals, connections=SIXTEEN),
         Row("`(dosync (alter r inc))`, one after another", evals, ALTER),
+        Row("`(do (send a inc) 7)`, one after another", evals, SEND),
+        Row("`(do (send a inc) (await a) 7)`, one after another", evals, AWAIT),
     )
 
 
-def sharing(evals):
+def sharing(evals, setup, ref):
     """Those with a shared ref, of which no update may be lost."""
-    name = f"`(dosync (alter shared/c inc))`, one after another on {FOUR} connections"
-    return (Row(name, evals, SHARED, FOUR), Row("", 1, ("nil", "@shared/c", str(evals))))
+    name = f"`(dosync (alter {ref} inc))`, one after another on {FOUR} connections"
+    work = (setup, f"(dosync (alter {ref} inc))", "rising")
+    return (Row(name, evals, work, FOUR), Row("", 1, ("nil", f"@{ref}", str(evals))))
 
 
 def measure(program, command, its_rows):

@@ -4,6 +4,7 @@ before the gate."""
 import contextlib
 import io
 import os
+import re
 import tempfile
 import unittest
 
@@ -52,6 +53,16 @@ class Cases(unittest.TestCase):
     def test_transcript_passes(self):
         text = "; A sum.\nuser=> (+ 1 2)\n3\n\nuser=> 3\n3\n(bare) user=> 3\n#_=> ; as it is\n3\n"
         self.assertEqual(self.run_on_three("a.repl", text), ((2, 0), ""))
+
+    def test_each_function_has_an_example(self):
+        with open(cases.EXAMPLES, encoding="utf-8") as page:
+            rules, _, examples = page.read().partition("## An example of each")
+        groups = re.findall(r"^\| [a-z ]+ \| `([^`(#]+)` \|$", rules, re.MULTILINE)
+        names = {name for group in groups for name in group.split()}
+        for cell in re.findall(r"^\| (`\(.*?) \|", rules, re.MULTILINE):
+            names |= set(re.findall(r"`\(([a-z!-]+)[ )]", cell))
+        lost = [it for it in names if not re.search(rf"\({re.escape(it)}[ )]", examples)]
+        self.assertEqual((lost, len(names) > 90), ([], True))
 
     def test_difference_is_shown(self):
         counts, printed = self.run_on_three("a.repl", "; A sum.\nuser=> (+ 1 3)\n4\n")

@@ -28,6 +28,8 @@ from session_ids import session_id
 from sockets import Connection, Server
 
 SLOW = "(defn f [n] (if (zero? n) 0 (do (f (dec n)) (f (dec n)))))"
+# An action that makes some 3,000 calls, and adds 1 to the state.
+SLOW_ACTION = "(defn slow [n] (do (f 9) (inc n)))"
 BAD_OPTIONS = """\
 serve
 serve --port 0
@@ -243,6 +245,80 @@ def that_no_commit_to_a_shared_ref_is_lost(program):
         last = stack.enter_context(Connection(address))
         evaluates(last, "@shared/c", commits * connections)
         last.end()
+
+
+def that_evaluations_do_not_wait_for_actions(program):
+    with serving(program, 1) as address, Connection(address) as peer:
+        session = made_session(peer)
+        peer.asked({"code": f"(def a (agent 0)) {SLOW} {SLOW_ACTION}", "id": "1", "op": "eval"})
+        sends = "(send a slow) " * 10
+        peer.asked({"code": sends, "id": "2", "op": "eval", "session": session})
+        seen = values(peer.asked({"code": "@a", "id": "3", "op": "eval"}))
+        expect(int(seen[0]) < 10, True)
+        replies = peer.asked({"code": "(await a) @a", "id": "4", "op": "eval", "session": session})
+        expect(values(replies), ["nil", "10"])
+
+
+def that_an_await_holds_up_its_session_alone(program):
+    with serving(program, 1) as address, Connection(address) as peer:
+        one, other = made_session(peer), made_session(peer)
+        peer.asked({"code": f"(def a (agent 0)) {SLOW} {SLOW_ACTION}", "id": "1", "op": "eval"})
+        code = "(send a slow) " * 5 + "(await a)"
+        peer.send(encoded({"code": code, "id": "awaits", "op": "eval", "session": one}))
+        for _ in range(5):
+            expect(peer.reply()["value"], "#agent[0]")
+        peer.send(encoded({"code": "7", "id": "sum", "op": "eval", "session": other}))
+        came = [peer.reply() for _ in range(4)]
+        expect([it["id"] for it in came], ["sum", "sum", "awaits", "awaits"])
+        expect(values(came), ["7", "nil"])
+
+
+def that_more_sessions_may_await_than_there_are_workers(program):
+    with serving(program, 1) as address, Connection(address) as peer:
+        sessions = [made_session(peer) for _ in range(6)]
+        peer.asked({"code": f"(def a (agent 0)) {SLOW} {SLOW_ACTION}", "id": "1", "op": "eval"})
+        for it in sessions:
+            code = "(send a slow) (await a)"
+            peer.send(encoded({"code": code, "id": "7", "op": "eval", "session": it}))
+        ends = set()
+        while len(ends) < len(sessions):
+            reply = peer.reply()
+            expect("ex" in reply, False)
+            if "status" in reply:
+                ends.add(reply["session"])
+        evaluates(peer, "@a", len(sessions))
+
+
+def that_what_an_action_prints_goes_to_who_sent_it(program):
+    with serving(program, 1) as address, Connection(address) as peer:
+        session = made_session(peer)
+        whose = {"id": "one", "session": session}
+        sent = {"code": "(def a (agent 5)) (send a println)", "op": "eval"}
+        peer.send(encoded(whose | sent))
+        replies = sorted((peer.reply() for _ in range(4)), key=lambda it: "out" in it)
+        expect(replies[3], whose | {"out": "5\n"})
+        evaluates(peer, "@a", "nil")
+
+
+def that_all_actions_are_run_where_a_peer_sends_no_more(program):
+    sends = 500
+    with serving(program, 1) as address, Connection(address) as peer:
+        evaluates(peer, "(def a (agent 5))", "#'user/a")
+        peer.send(encoded({"code": "(send a println) " * sends, "id": "2", "op": "eval"}))
+        peer.end()
+        came = peer.read()
+        expect([came.count(b"9:#agent[0]"), came.count(b"3:out")], [sends, sends])
+
+
+def that_actions_of_a_peer_that_leaves_disturb_no_other(program):
+    with serving(program, 2) as address, Connection(address) as other:
+        with Connection(address) as one:
+            one.asked({"code": f"(def a (agent 0)) {SLOW} {SLOW_ACTION}", "id": "1", "op": "eval"})
+            one.asked({"code": "(send a slow) " * 500, "id": "2", "op": "eval"})
+            reset(one)
+        evaluates(other, "(do (def a (agent 1)) (send a + 1) 0)", 0)
+        replies = other.asked({"code": "(await a) @a", "id": "2", "op": "eval"})
+        expect(values(replies), ["nil", "2"])
 
 
 def that_a_faulty_shared_text_comes_before_listening(program):

@@ -8,7 +8,7 @@ use crate::desk::Desk;
 use crate::gate::Gate;
 use crate::moves::{Connection, bid_farewell, locked};
 use crate::reading::{read_away, read_pieces};
-use crate::working::{run_actions, work};
+use crate::working::{Duty, work};
 use crate::writing::write_what_waits;
 use connection_queue::{Takings, Ticket, take};
 use journal_book::{Book, Places, Seat};
@@ -92,15 +92,15 @@ impl<L: Ledger + Send + Sync, G: Gate + Drop + Send + Sync> Crew<L, G> {
         // where no thread can be started the reader reads all the same, and the others run last
         let (worker, (other_worker, (runner, (writer, mut reader)))) = thread::join(
             rt,
-            || work(rt, &connection, worker),
+            || work(rt, &connection, worker, Duty::Requests),
             || {
                 thread::join(
                     rt,
-                    || work(rt, &connection, other_worker),
+                    || work(rt, &connection, other_worker, Duty::Requests),
                     || {
                         thread::join(
                             rt,
-                            || run_actions(rt, &connection, runner),
+                            || work(rt, &connection, runner, Duty::Actions),
                             || {
                                 thread::join(
                                     rt,

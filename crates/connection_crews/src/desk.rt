@@ -1,23 +1,34 @@
 // What the threads of a crew tell one another of a connection, beside the book.
 use std::sync::{Condvar, Mutex, Wait};
 
+/// What a thread of a crew waits for.
+#[derive(Clone, Copy)]
+pub(crate) enum News {
+    /// A message came, so that an actor may have something to begin.
+    Request,
+    /// Replies were taken out, so that there is room for more.
+    Room,
+    /// Something was sent to agents, so that an action may have something to begin.
+    Send,
+    /// An action ended or a message came, so that an await may be met.
+    Turn,
+}
+
+/// How often there were such news, and how many threads wait for them: to notify nobody takes a
+/// call of the system, too.
+#[derive(Drop)]
+struct Count {
+    came: u64,
+    waiting: u64,
+}
+
 /// How it stands with a connection. Who holds both locks took the book's first.
 #[derive(Drop)]
 struct Signs {
-    // how often a request came, so that an actor may have something to begin
-    requests: u64,
-    // how often replies were taken out, so that there is room for more
-    rooms: u64,
-    // how many threads wait for a request, and how many for room: to notify nobody takes a call of
-    // the system, too
-    wait_for_request: u64,
-    wait_for_room: u64,
-    // how often something was sent to agents, so that an action may have something to begin, and
-    // how often an await may have been met: an action ended, or a request came
-    sends: u64,
-    turns: u64,
-    wait_for_send: u64,
-    wait_for_turn: u64,
+    requests: Count,
+    rooms: Count,
+    sends: Count,
+    turns: Count,
     // whether no action had anything to begin since the last was sent
     are_agents_at_rest: bool,
     // how many evaluations are under way
@@ -32,6 +43,42 @@ struct Signs {
     is_due: bool,
     // whether all threads are to end
     is_over: bool,
+}
+
+impl Count {
+    fn none() -> Count {
+        Count {
+            came: 0,
+            waiting: 0,
+        }
+    }
+}
+
+impl Signs {
+    fn count(&self, news: News) -> &Count {
+        match news {
+            News::Request => &self.requests,
+            News::Room => &self.rooms,
+            News::Send => &self.sends,
+            News::Turn => &self.turns,
+        }
+    }
+
+    fn count_mut(&mut self, news: News) -> &mut Count {
+        match news {
+            News::Request => &mut self.requests,
+            News::Room => &mut self.rooms,
+            News::Send => &mut self.sends,
+            News::Turn => &mut self.turns,
+        }
+    }
+
+    // Counts them once more, and tells whether somebody waits for them.
+    fn note(&mut self, news: News) -> bool {
+        let count = self.count_mut(news);
+        count.came = count.came.wrapping_add(1);
+        0 < count.waiting
+    }
 }
 
 /// Where the threads of a crew meet. Each waits for what concerns it.
@@ -49,14 +96,10 @@ impl Desk {
     pub(crate) fn new() -> Desk {
         Desk {
             signs: Mutex::new(Signs {
-                requests: 0,
-                rooms: 0,
-                wait_for_request: 0,
-                wait_for_room: 0,
-                sends: 0,
-                turns: 0,
-                wait_for_send: 0,
-                wait_for_turn: 0,
+                requests: Count::none(),
+                rooms: Count::none(),
+                sends: Count::none(),
+                turns: Count::none(),
                 are_agents_at_rest: true,
                 evaluations: 0,
                 is_reading: true,
@@ -108,15 +151,10 @@ impl Desk {
     /// So many messages came. Each may be a request, or close a session that awaits.
     pub(crate) fn note_requests<R: Wait>(&self, rt: &R, count: usize) {
         let mut signs = self.signs.lock(rt);
-        signs.requests = signs.requests.wrapping_add(1);
-        signs.turns = signs.turns.wrapping_add(1);
-        let waiting = signs.wait_for_request;
-        let awaiting = signs.wait_for_turn;
+        let is_waited_for = signs.note(News::Request);
         drop(signs);
-        if 0 < awaiting {
-            self.turned.notify_all();
-        }
-        if waiting == 0 {
+        self.note(rt, News::Turn);
+        if !is_waited_for {
             return;
         }
         if count == 1 {
@@ -126,48 +164,10 @@ impl Desk {
         }
     }
 
-    /// How often a request came until now.
-    pub(crate) fn requests<R: Wait>(&self, rt: &R) -> u64 {
-        self.signs.lock(rt).requests
-    }
-
-    /// Waits until a request came that was not there when they were so many.
-    pub(crate) fn wait_for_request<R: Wait>(&self, rt: &R, seen: u64) {
-        let mut signs = self.signs.lock(rt);
-        signs.wait_for_request = signs.wait_for_request.saturating_add(1);
-        let mut signs = self.requested.wait_while(
-            rt,
-            signs,
-            |signs| signs.requests == seen && !signs.is_over,
-        );
-        signs.wait_for_request = signs.wait_for_request.saturating_sub(1);
-    }
-
-    /// How often replies were taken out until now.
-    pub(crate) fn rooms<R: Wait>(&self, rt: &R) -> u64 {
-        self.signs.lock(rt).rooms
-    }
-
-    /// Waits until replies were taken out since then.
-    pub(crate) fn wait_for_room<R: Wait>(&self, rt: &R, seen: u64) {
-        let mut signs = self.signs.lock(rt);
-        signs.wait_for_room = signs.wait_for_room.saturating_add(1);
-        let mut signs = self
-            .emptied
-            .wait_while(rt, signs, |signs| signs.rooms == seen && !signs.is_over);
-        signs.wait_for_room = signs.wait_for_room.saturating_sub(1);
-    }
-
     /// Something was sent to agents, or one was restarted.
     pub(crate) fn wake_agents<R: Wait>(&self, rt: &R) {
-        let mut signs = self.signs.lock(rt);
-        signs.sends = signs.sends.wrapping_add(1);
-        signs.are_agents_at_rest = false;
-        let waiting = signs.wait_for_send;
-        drop(signs);
-        if 0 < waiting {
-            self.sent.notify_all();
-        }
+        self.signs.lock(rt).are_agents_at_rest = false;
+        self.note(rt, News::Send);
     }
 
     /// No action has anything to begin. Where the peer sends no more, all may be done. How often
@@ -175,7 +175,7 @@ impl Desk {
     pub(crate) fn rest_agents<R: Wait>(&self, rt: &R) -> u64 {
         let mut signs = self.signs.lock(rt);
         signs.are_agents_at_rest = true;
-        let sends = signs.sends;
+        let sends = signs.sends.came;
         if !signs.is_reading {
             signs.is_due = true;
             drop(signs);
@@ -184,40 +184,38 @@ impl Desk {
         sends
     }
 
-    /// Waits until something was sent that was not when they were so many.
-    pub(crate) fn wait_for_send<R: Wait>(&self, rt: &R, seen: u64) {
-        let mut signs = self.signs.lock(rt);
-        signs.wait_for_send = signs.wait_for_send.saturating_add(1);
-        let mut signs = self
-            .sent
-            .wait_while(rt, signs, |signs| signs.sends == seen && !signs.is_over);
-        signs.wait_for_send = signs.wait_for_send.saturating_sub(1);
-    }
-
-    /// An action ended.
-    pub(crate) fn note_turn<R: Wait>(&self, rt: &R) {
-        let mut signs = self.signs.lock(rt);
-        signs.turns = signs.turns.wrapping_add(1);
-        let awaiting = signs.wait_for_turn;
-        drop(signs);
-        if 0 < awaiting {
-            self.turned.notify_all();
+    /// There are such news. All that wait for them go on.
+    pub(crate) fn note<R: Wait>(&self, rt: &R, news: News) {
+        let is_waited_for = self.signs.lock(rt).note(news);
+        if is_waited_for {
+            self.bell(news).notify_all();
         }
     }
 
-    /// How often an await may have been met until now.
-    pub(crate) fn turns<R: Wait>(&self, rt: &R) -> u64 {
-        self.signs.lock(rt).turns
+    /// How often there were such news until now.
+    pub(crate) fn seen<R: Wait>(&self, rt: &R, news: News) -> u64 {
+        self.signs.lock(rt).count(news).came
     }
 
-    /// Waits until an await may have been met since then.
-    pub(crate) fn wait_for_turn<R: Wait>(&self, rt: &R, seen: u64) {
+    /// Waits until there are news that were not there when they were so many.
+    pub(crate) fn wait<R: Wait>(&self, rt: &R, news: News, seen: u64) {
         let mut signs = self.signs.lock(rt);
-        signs.wait_for_turn = signs.wait_for_turn.saturating_add(1);
-        let mut signs = self
-            .turned
-            .wait_while(rt, signs, |signs| signs.turns == seen && !signs.is_over);
-        signs.wait_for_turn = signs.wait_for_turn.saturating_sub(1);
+        let count = signs.count_mut(news);
+        count.waiting = count.waiting.saturating_add(1);
+        let mut signs = self.bell(news).wait_while(rt, signs, |signs| {
+            signs.count(news).came == seen && !signs.is_over
+        });
+        let count = signs.count_mut(news);
+        count.waiting = count.waiting.saturating_sub(1);
+    }
+
+    fn bell(&self, news: News) -> &Condvar {
+        match news {
+            News::Request => &self.requested,
+            News::Room => &self.emptied,
+            News::Send => &self.sent,
+            News::Turn => &self.turned,
+        }
     }
 
     /// An evaluation is under way.
@@ -262,17 +260,6 @@ impl Desk {
             signs.is_due = true;
             drop(signs);
             self.due.notify_one();
-        }
-    }
-
-    /// Replies were taken out.
-    pub(crate) fn note_room<R: Wait>(&self, rt: &R) {
-        let mut signs = self.signs.lock(rt);
-        signs.rooms = signs.rooms.wrapping_add(1);
-        let waiting = signs.wait_for_room;
-        drop(signs);
-        if 0 < waiting {
-            self.emptied.notify_all();
         }
     }
 

@@ -1,7 +1,7 @@
 // The steps that a crew makes through the book, each under one hold of its lock.
 ghost use Rattle.std.specs.Prelude.{◌≡◌};
 
-use crate::desk::Desk;
+use crate::desk::{Desk, News};
 use crate::gate::Gate;
 use bytes::Bytes;
 use journal_book::{Book, Receipt, Seat};
@@ -74,7 +74,8 @@ pub(crate) enum Told {
 /// What came of an ending.
 #[derive(Drop)]
 pub(crate) enum Ended {
-    // its replies; and where no actor has anything to begin now, how often a request came
+    // its replies; and behind a request, where no actor has anything to begin now, how often one
+    // came
     Taken(Vec<Vec<u8>>, Option<u64>),
     Held(Ending, u64),
     Refused,
@@ -108,7 +109,7 @@ impl<'a, L: Ledger, G: Gate> Connection<'a, L, G> {
                     why: Refusal::Held,
                     step: Step::Hear(_, piece),
                 },
-            ) => { Heard::Held(piece, self.desk.rooms(rt)) }
+            ) => { Heard::Held(piece, self.desk.seen(rt, News::Room)) }
             Err(_) => Heard::Refused,
         }
     }
@@ -120,7 +121,7 @@ impl<'a, L: Ledger, G: Gate> Connection<'a, L, G> {
         let tenant = seat.tenant();
         let mut book = locked(rt, self.book);
         let Some(actor) = book.ready(tenant) else {
-            return Found::Nothing(self.desk.requests(rt));
+            return Found::Nothing(self.desk.seen(rt, News::Request));
         };
         match self.start(rt, &mut *book, seat, actor) {
             Ok(found) => found,
@@ -167,7 +168,7 @@ impl<'a, L: Ledger, G: Gate> Connection<'a, L, G> {
                     why: Refusal::Held,
                     step: _,
                 },
-            ) => Ok(Found::Held(self.desk.rooms(rt))),
+            ) => Ok(Found::Held(self.desk.seen(rt, News::Room))),
             Err(Refused { why, step: _ }) => Err(why),
         }
     }
@@ -197,7 +198,7 @@ impl<'a, L: Ledger, G: Gate> Connection<'a, L, G> {
                     why: Refusal::Waiting,
                     step: _,
                 },
-            ) => Told::Waiting(self.desk.turns(rt)),
+            ) => Told::Waiting(self.desk.seen(rt, News::Turn)),
             Err(_) => Told::Refused,
         }
     }
@@ -218,11 +219,12 @@ impl<'a, L: Ledger, G: Gate> Connection<'a, L, G> {
             Ok(_) => {
                 let replies = self.replies(rt, &mut *book, seat);
                 if actor == Actor::Agents {
-                    self.desk.note_turn(rt);
+                    self.desk.note(rt, News::Turn);
+                    return Ended::Taken(replies, None);
                 }
                 match book.ready(tenant) {
                     Some(_) => Ended::Taken(replies, None),
-                    None => Ended::Taken(replies, Some(self.desk.requests(rt))),
+                    None => Ended::Taken(replies, Some(self.desk.seen(rt, News::Request))),
                 }
             }
             Err(
@@ -230,7 +232,7 @@ impl<'a, L: Ledger, G: Gate> Connection<'a, L, G> {
                     why: Refusal::Held,
                     step: Step::Ended(_, _, ending),
                 },
-            ) => { Ended::Held(ending, self.desk.rooms(rt)) }
+            ) => { Ended::Held(ending, self.desk.seen(rt, News::Room)) }
             Err(_) => Ended::Refused,
         }
     }
@@ -262,7 +264,7 @@ impl<'a, L: Ledger, G: Gate> Connection<'a, L, G> {
         if replies.is_empty() {
             self.desk.return_pen(rt);
         } else {
-            self.desk.note_room(rt);
+            self.desk.note(rt, News::Room);
         }
         replies
     }

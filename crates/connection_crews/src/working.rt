@@ -1,4 +1,5 @@
 // The workers of a crew: forms are evaluated, and each ask and each end is handed in.
+use crate::desk::News;
 use crate::gate::Gate;
 use crate::moves::{Connection, Ended, Found, Told};
 use journal_book::Seat;
@@ -9,17 +10,27 @@ use std::alloc::Global;
 use std::sync::Wait;
 use std::sync::ledger::Ledger;
 
-/// Evaluates what actors have to do, one form after another, until the connection is over.
+/// What a worker evaluates.
+#[derive(Clone, Copy)]
+pub(crate) enum Duty {
+    /// What was asked for, in sessions and without one.
+    Requests,
+    /// The actions that were sent to agents.
+    Actions,
+}
+
+/// Evaluates one form after another, until the connection is over.
 pub(crate) fn work<L: Ledger, R: Wait, G: Gate>(
     rt: &R,
     connection: &Connection<'_, L, G>,
     mut seat: Seat<L>,
+    duty: Duty,
 ) -> Seat<L> {
     for _ in rt.forever() {
         if connection.desk.is_over(rt) {
             break;
         }
-        match connection.begin(rt, &mut seat) {
+        match found(rt, connection, &mut seat, duty) {
             Found::Form(actor, job) => {
                 let next = evaluate(rt, connection, &mut seat, actor, &job);
                 if matches!(next, Next::Cut) {
@@ -27,43 +38,35 @@ pub(crate) fn work<L: Ledger, R: Wait, G: Gate>(
                 }
                 connection.desk.end_evaluation(rt);
                 if let Next::Wait(seen) = next {
-                    connection.desk.wait_for_request(rt, seen);
+                    connection.desk.wait(rt, News::Request, seen);
                 }
             }
             Found::Answered(replies) => connection.write(rt, replies),
-            Found::Nothing(seen) => connection.desk.wait_for_request(rt, seen),
-            Found::Held(seen) => connection.desk.wait_for_room(rt, seen),
+            Found::Nothing(seen) => connection.desk.wait(rt, what_brings_work(duty), seen),
+            Found::Held(seen) => connection.desk.wait(rt, News::Room, seen),
             Found::Refused => connection.cut(rt),
         }
     }
     seat
 }
 
-/// Runs the actions that were sent to agents, one after another, until the connection is over.
-pub(crate) fn run_actions<L: Ledger, R: Wait, G: Gate>(
+fn found<L: Ledger, R: Wait, G: Gate>(
     rt: &R,
     connection: &Connection<'_, L, G>,
-    mut seat: Seat<L>,
-) -> Seat<L> {
-    for _ in rt.forever() {
-        if connection.desk.is_over(rt) {
-            break;
-        }
-        match connection.begin_action(rt, &mut seat) {
-            Found::Form(actor, job) => {
-                let next = evaluate(rt, connection, &mut seat, actor, &job);
-                if matches!(next, Next::Cut) {
-                    connection.cut(rt);
-                }
-                connection.desk.end_evaluation(rt);
-            }
-            Found::Answered(replies) => connection.write(rt, replies),
-            Found::Nothing(seen) => connection.desk.wait_for_send(rt, seen),
-            Found::Held(seen) => connection.desk.wait_for_room(rt, seen),
-            Found::Refused => connection.cut(rt),
-        }
+    seat: &mut Seat<L>,
+    duty: Duty,
+) -> Found {
+    match duty {
+        Duty::Requests => connection.begin(rt, seat),
+        Duty::Actions => connection.begin_action(rt, seat),
     }
-    seat
+}
+
+fn what_brings_work(duty: Duty) -> News {
+    match duty {
+        Duty::Requests => News::Request,
+        Duty::Actions => News::Send,
+    }
 }
 
 // What a worker does behind an evaluation.
@@ -148,7 +151,7 @@ fn ask<L: Ledger, R: Wait, G: Gate>(
         match connection.ask(rt, seat, actor, asked) {
             Told::Answer(answer) => return Ok(answer),
             Told::Waiting(seen) => {
-                connection.desk.wait_for_turn(rt, seen);
+                connection.desk.wait(rt, News::Turn, seen);
                 if connection.desk.is_over(rt) {
                     return Err(Next::Cut);
                 }
@@ -181,7 +184,7 @@ fn end<L: Ledger, R: Wait, G: Gate>(
                 };
             }
             Ended::Held(back, seen) => {
-                connection.desk.wait_for_room(rt, seen);
+                connection.desk.wait(rt, News::Room, seen);
                 if connection.desk.is_over(rt) {
                     return Next::Cut;
                 }

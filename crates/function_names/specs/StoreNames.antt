@@ -1,7 +1,6 @@
 -- The functions that ask the store, each with its name and the numbers of arguments that it takes
 -- (the Clojure reference, Refs and Transactions, Atoms, and Agents).
-use Rattle.std.specs.Prelude.{ℕ, List, [], ◌∷◌, Bool, true, false, Option, Some, None}
-use Rattle.std.specs.Prelude.{if◌then◌else◌, codes}
+use Rattle.std.specs.Prelude.{ℕ, List, [], ◌∷◌, Bool, Option, codes}
 use Rattle.function_rows.specs.Rows.{Row, takes, first_named}
 use Rattle.function_rows.specs.declared.row.Arity.{Arity}
 use Rattle.function_names.specs.declared.store.StoreFunction.{StoreFunction}
@@ -42,19 +41,8 @@ store_functions =
     ∷ StoreFunction.AgentError ∷ StoreFunction.RestartAgent ∷ StoreFunction.Send
     ∷ StoreFunction.SendOff ∷ StoreFunction.Await ∷ []
 
--- the server sends nothing to agents yet, so programs cannot name what sends
-abbrev pub can_be_named : StoreFunction → Bool
-can_be_named StoreFunction.Send = false
-can_be_named StoreFunction.SendOff = false
-can_be_named StoreFunction.Await = false
-can_be_named f = true
-
-abbrev pub if_can_be_named : Option StoreFunction → Option StoreFunction
-if_can_be_named None = None
-if_can_be_named (Some f) = if can_be_named f then Some f else None
-
 abbrev pub store_function_named : List ℕ → Option StoreFunction
-store_function_named name = if_can_be_named (first_named store_row store_functions name)
+store_function_named name = first_named store_row store_functions name
 
 abbrev pub store_name_of : StoreFunction → List ℕ
 store_name_of f = (store_row f).name

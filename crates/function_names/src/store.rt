@@ -1,9 +1,8 @@
 // Which functions ask the store, and how many arguments each takes.
-ghost use Rattle.std.specs.Prelude.{◌≡◌, Some, None, if◌then◌else◌};
+ghost use Rattle.std.specs.Prelude.{◌≡◌, Some, None};
 ghost use Rattle.function_rows.specs.Inside.View.{function_row_view};
 ghost use Rattle.function_names.specs.Names.{function_named};
-ghost use Rattle.function_rows.specs.Rows.{first_named};
-ghost use Rattle.function_names.specs.StoreNames.{can_be_named, store_row, store_functions};
+ghost use Rattle.function_names.specs.StoreNames.{store_row, store_functions};
 ghost use Rattle.function_names.specs.StoreNames.{store_function_named, store_name_of, store_fits};
 
 use function_rows::{Arity, FunctionRow, HasRow, first_named};
@@ -61,7 +60,7 @@ impl HasRow for StoreFunction {
 
     fn row(self) -> FunctionRow
         ensures meant { function_row_view result ≡ store_row self }
-        ensures known { first_named store_row store_functions result.name.now ≡ Some self }
+        ensures known { store_function_named result.name.now ≡ Some self }
         ensures apart { function_named result.name.now ≡ None }
     {
         match self {
@@ -89,48 +88,17 @@ impl HasRow for StoreFunction {
 }
 
 impl StoreFunction {
-    /// The function of this name, without a namespace, if programs can name it. It takes no memory.
+    /// The function of this name, without a namespace. It takes no memory.
     pub fn named(name: &str) -> Option<StoreFunction>
         ensures { result ≡ store_function_named name.now }
     {
-        let function = first_named(&STORE_FUNCTIONS, name)?;
-        if function.can_be_named() {
-            Some(function)
-        } else {
-            None
-        }
-    }
-
-    // The server sends nothing to agents yet, so programs cannot name what sends.
-    fn can_be_named(self) -> bool
-        ensures { result ≡ can_be_named self }
-    {
-        match self {
-            StoreFunction::Send | StoreFunction::SendOff | StoreFunction::Await => false,
-            StoreFunction::Ref
-            | StoreFunction::Deref
-            | StoreFunction::RefSet
-            | StoreFunction::Alter
-            | StoreFunction::Commute
-            | StoreFunction::Ensure
-            | StoreFunction::HistoryCount
-            | StoreFunction::MinHistory
-            | StoreFunction::MaxHistory
-            | StoreFunction::Atom
-            | StoreFunction::Swap
-            | StoreFunction::Reset
-            | StoreFunction::CompareAndSet
-            | StoreFunction::Agent
-            | StoreFunction::AgentError
-            | StoreFunction::RestartAgent => true,
-        }
+        first_named(&STORE_FUNCTIONS, name)
     }
 
     /// Its name in `clojure.core`. No function without a store has this name.
     pub fn name(self) -> &'static str
         ensures text { result.now ≡ store_name_of self }
-        ensures known { store_function_named result.now
-            ≡ (if can_be_named self then Some self else None) }
+        ensures known { store_function_named result.now ≡ Some self }
         ensures apart { function_named result.now ≡ None }
     {
         self.row().name

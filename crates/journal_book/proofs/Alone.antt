@@ -8,7 +8,7 @@ use Rattle.server_rules.specs.Machine.Turns.{Turn, given, goes, whose, whose_ste
 use Rattle.server_rules.specs.Machine.Turns.{world_after, bytes_given, serve, turns_of_tenant}
 use Rattle.server_rules.specs.Machine.World.{World, Step, opens, does, closes, accepted, step, world_or}
 use Rattle.server_rules.specs.Machine.World.{opened_world}
-use Rattle.server_rules.specs.Plan.{Deed, hears, starts, asks_for, ends, drains, StepAnswer}
+use Rattle.server_rules.specs.Plan.{hears, starts, asks_for, ends, drains, StepAnswer}
 use Rattle.server_rules.proofs.Alone.{before-alone}
 use Rattle.journal_book.specs.Journal.{EntryData, IsJournal}
 use Rattle.journal_book.specs.Alone.{bytes_to, NamesNoSharedIn, steps_of, turn_by, turns_of, IsHonest}

@@ -1,6 +1,6 @@
 -- What is counted of a tenant, one entry at a time.
 use Rattle.std.proofs.Common.{◌≡◌, ◌==◌, ◌≤◌, ◌+◌, ℕ, zero, suc, List, [], ◌∷◌, Bool, true, false}
-use Rattle.std.proofs.Common.{take, map, arith}
+use Rattle.std.proofs.Common.{take, arith}
 use Rattle.std.specs.Prelude.{if◌then◌else◌}
 use Rattle.std.proofs.lemmas.List.Sums.{sum_by-cons}
 use Rattle.server_rules.specs.Machine.Turns.{whose_step}

@@ -1,7 +1,7 @@
 -- Journals that go on, and that lead to one server.
-use Rattle.std.proofs.Common.{◌≡◌, ◌∙◌, List, [], ◌∷◌, ◌++◌, refl, sym, ap, subst}
+use Rattle.std.proofs.Common.{◌≡◌, ◌∙◌, List, [], ◌∷◌, ◌++◌, sym, ap, subst}
 use Rattle.server_rules.specs.Ground.{Ground}
-use Rattle.server_rules.specs.Machine.World.{World, step, world_or}
+use Rattle.server_rules.specs.Machine.World.{World, world_or}
 use Rattle.journal_book.specs.Journal.{Leads, EntryData, Makes, IsJournal}
 
 joined : {S E : Type 0} (leads : S → E → S → Type 0) (first then : List E) (s between now : S)

@@ -14,7 +14,7 @@ use Rattle.server_rules.specs.Plan.{asks_for}
 use Rattle.server_rules.specs.Honest.{honest_at, honest_of, honest_in, honest_by, honest_deed}
 use Rattle.server_rules.specs.Machine.Turns as rules
 use Rattle.server_rules.specs.Machine.Turns.{goes, step_of, quiet_of, world_after}
-use Rattle.server_rules.specs.Machine.World.{World, Step, does, opened_world, run}
+use Rattle.server_rules.specs.Machine.World.{World, Step, opened_world, run}
 use Rattle.server_rules.specs.declared.actor.Actor.{Actor}
 use Rattle.repl_core.specs.Driving.{world_after_all}
 use Rattle.repl_core.specs.HonestRuns.{AsksHonestly, AreHonest}

@@ -18,7 +18,7 @@ use Rattle.value_data.specs.Datum.{Datum}
 use Rattle.std.proofs.Common.{leb, is_some, option_map}
 use Rattle.server_rules.specs.Versions.{at_point, readable}
 use Rattle.server_rules.specs.Versions.{Ref, grows, with_version, Version}
-use Rattle.ref_history.specs.Changes.{Standing, IsAbsent, SameRefs, Changed}
+use Rattle.ref_history.specs.Changes.{IsAbsent, SameRefs, Changed}
 use Rattle.ref_history.specs.Changes as change
 use Rattle.ref_history.specs.Rung.{RingKept, Kept, ref_at, ref_in, StandsIn, versions_of}
 use Rattle.ref_history.specs.Rung.{version_in}

@@ -12,7 +12,7 @@ use Rattle.server_rules.specs.Numbered.{entry, part_under}
 use Rattle.server_rules.specs.Plan.{tenant_opened, tenant_gone}
 use Rattle.server_rules.specs.Store.{Store}
 use Rattle.server_rules.specs.Tenant.{opened_quiet}
-use Rattle.server_rules.specs.Machine.World.{TenantData, World, opens, closes, opened_tenant, with_tenant}
+use Rattle.server_rules.specs.Machine.World.{World, opens, closes, opened_tenant, with_tenant}
 use Rattle.server_rules.specs.Machine.World as worlds
 use Rattle.server_rules.specs.Machine.World.{is_used, open_count, open_step, step, accepted, refused}
 use Rattle.server_rules.specs.declared.refusal.Refusal.{Refusal}

@@ -15,11 +15,10 @@ use Rattle.server_rules.specs.Versions.{Ref}
 use Rattle.server_rules.specs.Shared.{SharedData, nothing_shared, told_in_text, shared_after}
 use Rattle.server_rules.specs.Shared.{left_by_form, when_told_in_text, shared_by, text_job}
 use Rattle.server_rules.specs.Shared.{shared_by_forms, unless_unread, shared_by_text}
-use Rattle.server_rules.specs.Ground.{Ground}
 use Rattle.server_rules.specs.Machine.World.{opened_world, run}
-use Rattle.repl_core.specs.Configured.{IsConfigured, text_of}
+use Rattle.repl_core.specs.Configured.{text_of}
 use Rattle.repl_core.specs.SharedBounds.{SharedBoundsAreFixed}
-use Rattle.repl_core.proofs.SharedRefs.{shown_at, shown_in, run-shows}
+use Rattle.repl_core.proofs.SharedRefs.{shown_at, run-shows}
 
 abbrev IsFixed : Ref → Type 0
 IsFixed r = (r.least ≡ 0) × (r.most ≡ 10)

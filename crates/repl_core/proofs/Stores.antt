@@ -7,7 +7,7 @@ use Rattle.server_rules.specs.Request.{Hand, Run}
 use Rattle.server_rules.specs.Store.{Store}
 use Rattle.server_rules.specs.Tenant.{ActorData, Quiet, seat_of, is_held}
 use Rattle.server_rules.specs.Plan as deeds
-use Rattle.server_rules.specs.Plan.{Plan, Outcome, refuses, quietly}
+use Rattle.server_rules.specs.Plan.{Plan, Outcome, quietly}
 use Rattle.repl_asks.specs.Job.{EndingData}
 use Rattle.server_rules.specs.Deeds.{for_actor, start_of}
 use Rattle.server_rules.specs.Ending.{end_of, end_running, end_compared, with_left_attempt}

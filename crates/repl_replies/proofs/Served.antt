@@ -10,7 +10,7 @@ use Rattle.repl_replies.specs.Operations as operations
 use Rattle.repl_replies.specs.Operations.{OperationData, AskedData, Numbers, open_session}
 use Rattle.repl_replies.specs.Operations.{session_in, operation_in, close_operation, eval_operation}
 use Rattle.repl_replies.specs.Operations.{load_operation, in_session, served_operation, of_origin}
-use Rattle.repl_replies.specs.Operations.{operation_of_op, operation_or_reply}
+use Rattle.repl_replies.specs.Operations.{operation_or_reply}
 use Rattle.repl_replies.specs.Replies.{OriginData, BodyData}
 use Rattle.repl_replies.specs.Inside.View.{asked_view, operation_view, reply_view}
 use Rattle.repl_replies.specs.declared.names.OperationName.TheVariants as names

@@ -6,14 +6,14 @@ use Rattle.repl_asks.specs.Exchange.{AskData, AnswerData, Exchanged}
 use Rattle.repl_asks.specs.Inside.View.{ask_view, exchange_view, trace_view}
 use Rattle.repl_asks.specs.declared.exchange.Exchange.{Exchange}
 use Rattle.std.proofs.lemmas.List.{map-append}
-use Rattle.repl_asks.specs.Job.{JobData, EndData, EndingData}
+use Rattle.repl_asks.specs.Job.{JobData, EndingData}
 use Rattle.repl_asks.specs.InteractionTree.{InteractionTree, finished, asks}
 use Rattle.repl_asks.specs.Leading.{Leads, tree_after, AreItsAsks}
 use Rattle.evaluation_rules.specs.Evaluation.{evaluation}
 use Rattle.repl_walker.specs.Led.{LedTo, Led, Recorded}
 use Rattle.repl_walker.specs.Ends.{IsEndOf}
 use Rattle.repl_walker.specs.Stops.{LeftAt}
-use Rattle.repl_walker.specs.Waits.{walk_tree, progress_tree, progress_job, progress_trace, WentOn}
+use Rattle.repl_walker.specs.Waits.{walk_tree, WentOn}
 use Rattle.repl_walker.specs.declared.waiting.Walk.{Walk}
 use Rattle.repl_walker.specs.declared.waiting.Progress.{Progress}
 use Rattle.repl_walker.specs.declared.run.WalkError.{WalkError}

@@ -9,11 +9,11 @@ use Rattle.std.proofs.lemmas.Bool.{MatchBool-at_false}
 use Rattle.server_rules.specs.Numbered.{Entry, entry, part_under}
 use Rattle.server_rules.specs.Ground.{Ground}
 use Rattle.server_rules.specs.Tenant.{Quiet}
-use Rattle.server_rules.specs.Plan.{Deed, StepAnswer, tenant_opened, tenant_gone, Outcome, refuses}
+use Rattle.server_rules.specs.Plan.{Deed, tenant_opened, tenant_gone, Outcome, refuses}
 use Rattle.server_rules.specs.Plan.{leaves}
 use Rattle.server_rules.specs.Machine.World.{TenantData, World, Step, opens, does, closes, Stepped}
 use Rattle.server_rules.specs.Machine.World.{accepted, refused, is_used, open_count, opened_tenant}
-use Rattle.server_rules.specs.Machine.World.{open_step, deed_step, close_step, step, world_or, run}
+use Rattle.server_rules.specs.Machine.World.{deed_step, close_step, step, world_or, run}
 use Rattle.server_rules.specs.Honest.{honest_deed}
 use Rattle.server_rules.specs.Machine.Turns.{whose_step, Turn, given, goes, whose, quiet_of}
 use Rattle.server_rules.specs.Machine.Turns.{step_of, turn_step, world_after, bytes_given, serve}

@@ -11,7 +11,7 @@ use Rattle.repl_asks.specs.Exchange as exchange
 use Rattle.repl_asks.specs.Exchange.{AnswerData, done, value, reading, found, retry, verdict}
 use Rattle.repl_asks.specs.Exchange.{committed, conflict}
 use Rattle.server_rules.specs.Numbered as numbered
-use Rattle.server_rules.specs.Numbered.{changed_at, Entry, entry, without}
+use Rattle.server_rules.specs.Numbered.{changed_at, entry, without}
 use Rattle.server_rules.specs.Isolation.View.{map_entry}
 use Rattle.server_rules.specs.Versions.{RefOf, new_ref, with_version, with_failed_read, with_least}
 use Rattle.server_rules.specs.Versions.{with_most}

@@ -2,12 +2,10 @@
 use Rattle.std.proofs.Common.{◌≡◌, ◌≢◌, ℕ, ◌≤◌, List, [], ◌∷◌, Bool, true, false, if◌then◌else◌}
 use Rattle.std.proofs.Common.{Option, Some, None, refl, sym, ap, ◌∙◌, subst, ◌==◌, nat_le, arith}
 use Rattle.std.proofs.Common.{inl, inr, ◌&&◌}
-use Rattle.std.specs.Prelude.{option_map, is_some, ⊤}
+use Rattle.std.specs.Prelude.{option_map, ⊤}
 use Rattle.std.proofs.lemmas.Bool.{ne_eqb, cases_eq}
-use Rattle.bencode_wire.specs.declared.fault.WireFault.{WireFault}
 use Rattle.repl_asks.specs.Exchange as exchange
-use Rattle.repl_asks.specs.Exchange.{AskData, AnswerData}
-use Rattle.repl_replies.specs.Replies.{ReplyData}
+use Rattle.repl_asks.specs.Exchange.{AskData}
 use Rattle.server_rules.specs.Numbered.{Entry, entry, part_under, with_part}
 use Rattle.server_rules.specs.Store.{Store}
 use Rattle.server_rules.specs.Performed.{Performed}
@@ -24,13 +22,13 @@ use Rattle.server_rules.specs.Asking.{call_of, may_ask, is_allowed, asked_allowe
 use Rattle.server_rules.specs.Asking.{when_told, answer_outcome}
 use Rattle.server_rules.specs.Ending.{with_left_attempt, end_compared, end_checked, end_running}
 use Rattle.server_rules.specs.Ending.{end_of}
-use Rattle.server_rules.specs.Deeds.{for_actor, unless_worn, drain_outcome, plan}
+use Rattle.server_rules.specs.Deeds.{for_actor, unless_worn, plan}
 use Rattle.server_rules.specs.Machine.World.{TenantData, World, Step, opens, does, closes, Stepped}
 use Rattle.server_rules.specs.Machine.World.{accepted, refused, is_used, open_count, opened_tenant}
-use Rattle.server_rules.specs.Machine.World.{open_step, ended_as, done_by, planned_step, deed_step}
-use Rattle.server_rules.specs.Machine.World.{close_step, with_tenant, step, world_or}
+use Rattle.server_rules.specs.Machine.World.{open_step, ended_as, deed_step}
+use Rattle.server_rules.specs.Machine.World.{close_step, step, world_or}
 use Rattle.server_rules.specs.Machine.Turns.{whose_step}
-use Rattle.server_rules.specs.Isolation.View.{Seen, seen_of, View, tenant_view, part_view, view_for}
+use Rattle.server_rules.specs.Isolation.View.{Seen, seen_of, View, part_view, view_for}
 use Rattle.server_rules.specs.Isolation.Privacy.{IsPrivate, NamesNoShared}
 use Rattle.server_rules.specs.declared.actor.Actor.{Actor}
 use Rattle.server_rules.specs.declared.refusal.Refusal.{Refusal}

@@ -3,13 +3,12 @@ use Rattle.std.proofs.Common.{◌≡◌, [], ◌∷◌, ◌++◌, List, Option, 
 use Rattle.std.proofs.Common.{false, ap, subst, option_map, ◌∙◌, ℕ, ◌<◌, ◌+◌, length, get_or, drop}
 use Rattle.std.specs.Result.{IsErrAnd}
 use Rattle.std.proofs.lemmas.List.{drop_more}
-use Rattle.value_data.specs.Datum.{Items, no_items, item, Datum}
+use Rattle.value_data.specs.Datum.{Items, item, Datum}
 use Rattle.value_data.specs.Inside.View.{view, items_view}
 use Rattle.value_data.specs.declared.value.Value.{Value}
-use Rattle.repl_faults.specs.Failure.{Failure, ◌>>=◌, broken_rule}
-use Rattle.repl_faults.specs.declared.rule.Rule.{Rule}
+use Rattle.repl_faults.specs.Failure.{Failure, ◌>>=◌}
 use Rattle.repl_faults.specs.Inside.View.{failure_of}
-use Rattle.repl_asks.specs.Exchange.{AskData, AnswerData, Exchanged}
+use Rattle.repl_asks.specs.Exchange.{AnswerData, Exchanged}
 use Rattle.repl_asks.specs.Inside.View.{ask_view}
 use Rattle.repl_asks.specs.declared.ask.Ask.{Ask}
 use Rattle.repl_asks.specs.Job.{JobData, EndData}

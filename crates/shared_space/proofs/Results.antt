@@ -1,6 +1,6 @@
 -- What is ensured of a result, from another fact that is.
 use Rattle.std.proofs.Common.{Result, Ok, Err}
-use Rattle.std.specs.Prelude.{OnOk, OnErr, IfOk, IfErr}
+use Rattle.std.specs.Prelude.{OnOk, OnErr, IfOk}
 
 pub on-ok : {A E : Type 0} (P Q : Type 0) (r : Result A E) → (P → Q) → OnOk r P → OnOk r Q
 on-ok P Q (Ok x) f p = f p

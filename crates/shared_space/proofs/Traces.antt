@@ -3,7 +3,7 @@ use Rattle.std.proofs.Common.{◌≡◌, [], ◌∷◌, ◌++◌, List, Option, 
 use Rattle.std.specs.Prelude.{option_map}
 use Rattle.value_data.specs.Datum.{Datum}
 use Rattle.repl_asks.specs.Exchange as exchange
-use Rattle.repl_asks.specs.Exchange.{AskData, AnswerData, Exchanged, Fits, kind_of, kind_wanted}
+use Rattle.repl_asks.specs.Exchange.{AskData, AnswerData, Exchanged, Fits}
 use Rattle.repl_asks.specs.Inside.View.{ask_view, answer_view, exchange_view, trace_view}
 use Rattle.repl_asks.specs.declared.answer.Answer.{Answer}
 use Rattle.repl_asks.specs.declared.ask.Ask.{Ask}

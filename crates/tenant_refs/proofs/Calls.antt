@@ -8,7 +8,7 @@ use Rattle.repl_faults.specs.Failure.{Failure}
 use Rattle.repl_asks.specs.Exchange as exchange
 use Rattle.repl_asks.specs.Exchange.{AnswerData, reading, found, retry, verdict}
 use Rattle.server_rules.specs.Numbered as numbered
-use Rattle.server_rules.specs.Numbered.{Entry, entry, without}
+use Rattle.server_rules.specs.Numbered.{without}
 use Rattle.server_rules.specs.Versions.{Ref, with_failed_read, with_least, with_most, with_version}
 use Rattle.server_rules.specs.Versions.{readable, newest}
 use Rattle.server_rules.specs.Store.{Store, ref_named, newest_value, changed_of, with_changed_ref}

@@ -9,7 +9,6 @@ use Rattle.repl_asks.specs.Job.{EndingData}
 use Rattle.repl_sessions.specs.State.{fresh}
 use Rattle.repl_sessions.specs.Inside.StateView.{state_view}
 use Rattle.private_cells.specs.Agents.{AgentsData, with_next_begun, with_result}
-use Rattle.private_cells.specs.Inside.View.{agents_view}
 use Rattle.name_spaces.specs.Inside.Seen.{namespaces_of, shared_in}
 use Rattle.server_rules.specs.Asking.{sender_of}
 use Rattle.server_rules.specs.Cells.{CellsData, NextAction, with_agents, action_sends, agents_ended}

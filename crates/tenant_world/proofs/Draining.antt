@@ -13,7 +13,7 @@ use Rattle.server_rules.specs.Ground.{Ground}
 use Rattle.server_rules.specs.Store.{Store}
 use Rattle.server_rules.specs.Tenant.{Quiet}
 use Rattle.server_rules.specs.Plan as deeds
-use Rattle.server_rules.specs.Plan.{Outcome, leaves, refuses, reply_given}
+use Rattle.server_rules.specs.Plan.{leaves, reply_given}
 use Rattle.server_rules.specs.Deeds.{drain_outcome}
 use Rattle.server_rules.specs.declared.refusal.Refusal.{Refusal}
 use Rattle.tenant_actors.specs.Replies.{waiting_bytes}

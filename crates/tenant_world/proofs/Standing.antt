@@ -18,7 +18,7 @@ use Rattle.server_rules.specs.Starting.{start_waiting, start_action, action_for}
 use Rattle.server_rules.specs.Store.{Store}
 use Rattle.server_rules.specs.Tenant.{ActorData, Quiet, seat_of}
 use Rattle.server_rules.specs.Plan as deeds
-use Rattle.server_rules.specs.Plan.{StepAnswer, Outcome, refuses, leaves, Plan, quietly}
+use Rattle.server_rules.specs.Plan.{StepAnswer, refuses, Plan, quietly}
 use Rattle.server_rules.specs.Plan.{with_step_spent}
 use Rattle.repl_asks.specs.Job.{EndingData}
 use Rattle.server_rules.specs.Deeds.{for_actor, unless_worn, start_of}

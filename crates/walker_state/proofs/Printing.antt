@@ -14,7 +14,6 @@ use Rattle.repl_faults.specs.Inside.View.{failure_of}
 use Rattle.repl_faults.specs.declared.error.ApplyError.{ApplyError}
 use Rattle.function_names.specs.Names.{fits, name_of}
 use Rattle.function_names.specs.declared.function.CoreFunction.{CoreFunction}
-use Rattle.core_functions.specs.Meaning.{meaning}
 use Rattle.core_functions.specs.Inside.View.{FailsIn}
 use Rattle.core_functions.specs.ApplyOutcome as outcomes
 use Rattle.core_functions.specs.ApplyOutcome.{ApplyOutcome, bounded_outcome}

@@ -1,4 +1,4 @@
-use Rattle.std.proofs.Common.{◌≡◌, ◌<◌, ◌∙◌, [], refl, sym, ap, subst}
+use Rattle.std.proofs.Common.{◌≡◌, ◌<◌, ◌∙◌, [], refl, sym, subst}
 use Rattle.repl_asks.specs.Inside.Jobs.{job_view}
 use Rattle.repl_asks.specs.Inside.View.{trace_view}
 use Rattle.evaluation_rules.specs.Evaluation.{evaluation}

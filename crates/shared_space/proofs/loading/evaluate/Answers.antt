@@ -1,4 +1,4 @@
-use Rattle.std.proofs.Common.{◌≡◌, IfErr, refl, sym, subst, ◌∙◌}
+use Rattle.std.proofs.Common.{◌≡◌, IfErr, sym, subst, ◌∙◌}
 use Rattle.value_data.specs.Inside.View.{view}
 use Rattle.repl_asks.specs.Inside.Jobs.{job_view}
 use Rattle.evaluation_rules.specs.Evaluation.{evaluation}

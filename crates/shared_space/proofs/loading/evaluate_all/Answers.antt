@@ -1,9 +1,6 @@
-use Rattle.std.proofs.Common.{◌∙◌, ◌+◌, refl, sym, ap, subst, drop}
-use Rattle.value_data.specs.Datum.{Items}
+use Rattle.std.proofs.Common.{◌∙◌, ◌+◌, refl, sym, ap, drop}
 use Rattle.value_data.specs.Inside.View.{view, items_view}
-use Rattle.repl_asks.specs.Job.{JobData}
-use Rattle.repl_asks.specs.InteractionTree.{InteractionTree}
-use Rattle.server_rules.specs.Shared.{SharedData, shared_by_forms}
+use Rattle.server_rules.specs.Shared.{shared_by_forms}
 use Rattle.shared_space.specs.Told.{shared_so_far}
 use Rattle.shared_space.proofs.Leading.{forms-from, forms-more}
 use Rattle.shared_space.proofs.loading.evaluate_all.Goals as goal

@@ -4,7 +4,7 @@ use Rattle.repl_asks.specs.Inside.Jobs.{end_view, finished_view}
 use Rattle.repl_sessions.specs.State.{StateData}
 use Rattle.repl_sessions.specs.Inside.StateView.{state_view}
 use Rattle.server_rules.specs.Cells.{CellsData, with_agents}
-use Rattle.server_rules.specs.Ending.{cells_ended, with_cells_ended}
+use Rattle.server_rules.specs.Ending.{with_cells_ended}
 use Rattle.server_rules.specs.Request.{Hand}
 use Rattle.server_rules.specs.Tenant.{actor_state}
 use Rattle.server_rules.specs.Moves.{form_ended}
@@ -12,7 +12,7 @@ use Rattle.server_rules.specs.Starting.{after_move}
 use Rattle.server_rules.specs.Plan.{leaves, with_step_spent, form_finished}
 use Rattle.tenant_actors.specs.View.{actor_view, hand_view}
 use Rattle.tenant_world.specs.Acting.{AcceptsOutcome}
-use Rattle.tenant_world.specs.Actions.{action_end, action_end_view, agents_behind}
+use Rattle.tenant_world.specs.Actions.{action_end, agents_behind}
 use Rattle.tenant_world.specs.Cells.{cells_data}
 use Rattle.tenant_world.proofs.Acts.{ended-cells, moved-cells, remembers-agents, remembers-ended}
 use Rattle.tenant_world.proofs.Remembering.{acted-after_move, acted-with_cells, some-same}

@@ -1,6 +1,4 @@
 use Rattle.std.proofs.Common.{◌≡◌, ◌∙◌, ap, arith}
-use Rattle.journal_book.specs.View.{entries}
-use Rattle.journal_book.specs.Rows.{entries_of}
 use Rattle.journal_book.proofs.Counting.{take-bound}
 use Rattle.journal_book.proofs.report.Report.add_entries.Goals as goal
 

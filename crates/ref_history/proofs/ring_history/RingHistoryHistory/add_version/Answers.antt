@@ -5,7 +5,7 @@ use Rattle.std.specs.Prelude.{slice_set}
 use Rattle.value_data.specs.Inside.View.{view}
 use Rattle.version_rings.specs.Rings.{versions}
 use Rattle.version_rings.specs.Versions as ring
-use Rattle.version_rings.specs.Versions.{is_kept, pushed}
+use Rattle.version_rings.specs.Versions.{pushed}
 use Rattle.version_rings.specs.declared.node.RingId.{RingId}
 use Rattle.server_rules.specs.Versions.{with_version}
 use Rattle.ref_history.specs.Effects.{version}

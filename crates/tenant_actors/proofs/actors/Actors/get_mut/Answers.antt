@@ -1,6 +1,5 @@
 use Rattle.std.proofs.Common.{◌∙◌, ap, refl, option_map}
 use Rattle.std.specs.BTreeMap.{BTreeMap}
-use Rattle.server_rules.specs.Tenant.{seat_of}
 use Rattle.server_rules.specs.declared.actor.Actor.{Actor}
 use Rattle.tenant_actors.specs.Listed.{are_listed}
 use Rattle.tenant_actors.specs.States.{actor_view}

@@ -1,6 +1,5 @@
 use Rattle.std.proofs.Common.{refl}
 use Rattle.server_rules.specs.Plan as deeds
-use Rattle.server_rules.specs.Plan.{messages_heard}
 use Rattle.tenant_turns.specs.Turns.{hears}
 use Rattle.tenant_runner.proofs.Behind.{does-turn, refuses-turn, accepted-so}
 use Rattle.tenant_runner.proofs.turns.RunnerCore.hear.Goals as goal

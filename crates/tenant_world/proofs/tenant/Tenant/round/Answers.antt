@@ -1,4 +1,4 @@
-use Rattle.std.proofs.Common.{◌≡◌, ◌<◌, ◌∙◌, ap, length, rules, inl}
+use Rattle.std.proofs.Common.{◌≡◌, ◌<◌, ◌∙◌, ap, length, rules}
 use Rattle.tenant_actors.specs.View.{actors_view}
 use Rattle.tenant_turns.specs.Turns.{agents_last}
 use Rattle.tenant_world.proofs.Enough.{busy-enough}
