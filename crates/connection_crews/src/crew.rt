@@ -89,22 +89,22 @@ impl<L: Ledger + Send + Sync, G: Gate + Drop + Send + Sync> Crew<L, G> {
             writer,
             runner,
         } = places;
-        // where no thread can be started the reader reads all the same, and the others run last
-        let (worker, (other_worker, (runner, (writer, mut reader)))) = thread::join(
+        // who cannot be given a thread of their own work here one after another, from below
+        let (writer, (runner, (other_worker, (worker, mut reader)))) = thread::join(
             rt,
-            || work(rt, &connection, worker, Duty::Requests),
+            || write_what_waits(rt, &connection, writer),
             || {
                 thread::join(
                     rt,
-                    || work(rt, &connection, other_worker, Duty::Requests),
+                    || work(rt, &connection, runner, Duty::Actions),
                     || {
                         thread::join(
                             rt,
-                            || work(rt, &connection, runner, Duty::Actions),
+                            || work(rt, &connection, other_worker, Duty::Requests),
                             || {
                                 thread::join(
                                     rt,
-                                    || write_what_waits(rt, &connection, writer),
+                                    || work(rt, &connection, worker, Duty::Requests),
                                     || read_pieces(rt, &connection, reader),
                                 )
                             },

@@ -148,6 +148,18 @@ impl Desk {
         self.due.notify_one();
     }
 
+    /// Whether the peer may send more.
+    pub(crate) fn is_reading<R: Wait>(&self, rt: &R) -> bool {
+        self.signs.lock(rt).is_reading
+    }
+
+    /// Whether something may still be sent to agents, if no request waits: by a form that runs, or
+    /// by what the peer asks for.
+    pub(crate) fn may_send<R: Wait>(&self, rt: &R) -> bool {
+        let signs = self.signs.lock(rt);
+        signs.is_reading || 0 < signs.evaluations
+    }
+
     /// So many messages came. Each may be a request, or close a session that awaits.
     pub(crate) fn note_requests<R: Wait>(&self, rt: &R, count: usize) {
         let mut signs = self.signs.lock(rt);

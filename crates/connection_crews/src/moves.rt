@@ -57,6 +57,8 @@ pub(crate) enum Found {
     Answered(Vec<Vec<u8>>),
     // nothing; how often a request came, or something was sent to agents
     Nothing(u64),
+    // nothing, and no more can come
+    Done,
     Held(u64),
     Refused,
 }
@@ -74,8 +76,8 @@ pub(crate) enum Told {
 /// What came of an ending.
 #[derive(Drop)]
 pub(crate) enum Ended {
-    // its replies; and behind a request, where no actor has anything to begin now, how often one
-    // came
+    // its replies; and behind a request, where no actor has anything to begin now but more may
+    // come, how often one came
     Taken(Vec<Vec<u8>>, Option<u64>),
     Held(Ending, u64),
     Refused,
@@ -121,7 +123,10 @@ impl<'a, L: Ledger, G: Gate> Connection<'a, L, G> {
         let tenant = seat.tenant();
         let mut book = locked(rt, self.book);
         let Some(actor) = book.ready(tenant) else {
-            return Found::Nothing(self.desk.seen(rt, News::Request));
+            return match self.desk.is_reading(rt) {
+                true => Found::Nothing(self.desk.seen(rt, News::Request)),
+                false => Found::Done,
+            };
         };
         match self.start(rt, &mut *book, seat, actor) {
             Ok(found) => found,
@@ -133,10 +138,18 @@ impl<'a, L: Ledger, G: Gate> Connection<'a, L, G> {
     pub(crate) fn begin_action<R: Wait>(&self, rt: &R, seat: &mut Seat<L>) -> Found
         ensures { seat.new.tenant ≡ seat.old.tenant }
     {
+        let tenant = seat.tenant();
         let mut book = locked(rt, self.book);
         match self.start(rt, &mut *book, seat, Actor::Agents) {
             Ok(found) => found,
-            Err(Refusal::Idle) => Found::Nothing(self.desk.rest_agents(rt)),
+            Err(Refusal::Idle) => {
+                let seen = self.desk.rest_agents(rt);
+                if book.ready(tenant).is_some() || self.desk.may_send(rt) {
+                    Found::Nothing(seen)
+                } else {
+                    Found::Done
+                }
+            }
             Err(_) => Found::Refused,
         }
     }
@@ -222,10 +235,10 @@ impl<'a, L: Ledger, G: Gate> Connection<'a, L, G> {
                     self.desk.note(rt, News::Turn);
                     return Ended::Taken(replies, None);
                 }
-                match book.ready(tenant) {
-                    Some(_) => Ended::Taken(replies, None),
-                    None => Ended::Taken(replies, Some(self.desk.seen(rt, News::Request))),
+                if book.ready(tenant).is_some() || !self.desk.is_reading(rt) {
+                    return Ended::Taken(replies, None);
                 }
+                Ended::Taken(replies, Some(self.desk.seen(rt, News::Request)))
             }
             Err(
                 Refused {

@@ -19,7 +19,7 @@ pub(crate) enum Duty {
     Actions,
 }
 
-/// Evaluates one form after another, until the connection is over.
+/// Evaluates one form after another, until the connection is over or no more can come.
 pub(crate) fn work<L: Ledger, R: Wait, G: Gate>(
     rt: &R,
     connection: &Connection<'_, L, G>,
@@ -43,6 +43,7 @@ pub(crate) fn work<L: Ledger, R: Wait, G: Gate>(
             }
             Found::Answered(replies) => connection.write(rt, replies),
             Found::Nothing(seen) => connection.desk.wait(rt, what_brings_work(duty), seen),
+            Found::Done => break,
             Found::Held(seen) => connection.desk.wait(rt, News::Room, seen),
             Found::Refused => connection.cut(rt),
         }

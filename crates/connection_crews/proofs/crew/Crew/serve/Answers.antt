@@ -2,7 +2,7 @@ use denote.Param.{param}
 use Rattle.connection_crews.proofs.Sends.{thread_send}
 use Rattle.connection_crews.proofs.crew.Crew.serve.Goals as goal
 
-pub join-worker-requires-send-F : goal.join-worker-requires-send-F
-join-worker-requires-send-F g c κs within =
+pub join-writer-requires-send-F : goal.join-writer-requires-send-F
+join-writer-requires-send-F g c κs within =
     thread_send (param 0 g.row.L) g.L.Ledger c.type_bounds.send-L _ _ _ _ _ g.row.R (param 1
     g.row.G) c.type_bounds.sync-R c.type_bounds.sync-G
