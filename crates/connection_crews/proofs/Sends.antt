@@ -88,8 +88,8 @@ use Rattle.repl_core.specs.contracts.machine.Config as config
 use Rattle.repl_core.specs.contracts.machine.SharedText as shared_text
 use Rattle.journal_book.specs.contracts.book.Book as book
 use Rattle.slab.specs.contracts.Slab as slab
-use Rattle.tenant_world.specs.contracts.cells.Cells as cells
-use Rattle.tenant_world.specs.contracts.memory.Memory as memory
+use Rattle.tenant_asks.specs.contracts.cells.Cells as cells
+use Rattle.tenant_asks.specs.contracts.memory.Memory as memory
 use Rattle.ref_history.specs.contracts.ring_ref.RingRef as ring_ref
 use Rattle.version_rings.specs.contracts.rings.Rings as rings
 use Rattle.version_rings.specs.contracts.rings.Rings.TheInside as rings_inside

@@ -41,7 +41,7 @@ use Rattle.server_rules.specs.declared.actor.Actor.{Actor}
 use Rattle.server_rules.specs.declared.refusal.Refusal.{Refusal}
 use Rattle.tenant_refs.proofs.Points.{part_under-without}
 use Rattle.repl_core.proofs.Runs.{runs_at, part_under-put, heard-runs}
-use Rattle.tenant_world.specs.Asking.{exchange_from, run_with}
+use Rattle.tenant_asks.specs.Asking.{exchange_from, run_with}
 use Rattle.tenant_world.specs.Running.{running_of, running_in}
 use Rattle.repl_core.proofs.CommitSteps.{closed_plan, open_plan}
 use Rattle.repl_core.proofs.AskedPoints.{gone, asked-others}

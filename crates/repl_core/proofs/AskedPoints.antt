@@ -23,7 +23,7 @@ use Rattle.server_rules.proofs.Numbered.{some-same}
 use Rattle.tenant_actors.proofs.EntryLaws.{found_first, without_first}
 use Rattle.tenant_refs.proofs.Calls.{with_changed_ref-same, commit-told, bound-points}
 use Rattle.tenant_refs.proofs.Points.{part_under-without}
-use Rattle.tenant_world.specs.Asking.{exchange_from}
+use Rattle.tenant_asks.specs.Asking.{exchange_from}
 use Rattle.repl_core.specs.Standing.{open_in, store_in}
 use Rattle.repl_core.specs.Commits.{refs_in, ref_in_world}
 use Rattle.repl_core.specs.Points.{held_at, reading_of, bound_told, told_at}

@@ -18,7 +18,7 @@ use Rattle.server_rules.specs.Tenant.{seat_of}
 use Rattle.server_rules.specs.Asking.{answer_to, call_of}
 use Rattle.server_rules.specs.Machine.World.{World, Step, step, world_or, opened_world, run}
 use Rattle.server_rules.specs.declared.actor.Actor.{Actor}
-use Rattle.tenant_world.specs.Asking.{exchange_from, run_with}
+use Rattle.tenant_asks.specs.Asking.{exchange_from, run_with}
 use Rattle.tenant_world.specs.Running.{running_in}
 use Rattle.repl_core.specs.Standing.{store_in}
 use Rattle.repl_core.specs.Commits.{refs_in, ref_in_world, point_in}

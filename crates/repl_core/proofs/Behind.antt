@@ -16,7 +16,7 @@ use Rattle.ref_table.specs.Refs.{refs_after}
 use Rattle.tenant_refs.specs.Serving.{RingRefTable, TableServes}
 use Rattle.tenant_refs.proofs.Calls.{performed-tenant}
 use Rattle.tenant_turns.specs.DeedResult.{DeedResult, deed_result}
-use Rattle.tenant_world.specs.Acting.{is_accepted}
+use Rattle.tenant_asks.specs.Acting.{is_accepted}
 use Rattle.tenant_world.specs.Standing as world
 use Rattle.tenant_world.specs.declared.tenant.Tenant.{Tenant}
 use Rattle.repl_core.specs.TenantAt.{tenant_at}

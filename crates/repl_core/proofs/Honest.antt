@@ -17,7 +17,7 @@ use Rattle.repl_core.specs.Inside.Seen.{is_seen}
 use Rattle.repl_core.specs.Inside.Standing as walked
 use Rattle.repl_core.specs.Inside.Standing.{parts}
 use Rattle.repl_core.specs.declared.walks.Walks.{Walks}
-use Rattle.tenant_world.specs.Acting.{is_accepted}
+use Rattle.tenant_asks.specs.Acting.{is_accepted}
 use Rattle.tenant_world.specs.declared.tenant.Tenant.{Tenant}
 use Rattle.repl_core.specs.TenantAt.{tenant_at}
 use Rattle.repl_core.specs.Standing.{open_in, store_in, TenantStands, MachineStands}

@@ -15,7 +15,7 @@ use Rattle.server_rules.specs.Asking.{answer_to}
 use Rattle.server_rules.specs.Machine.Turns.{goes, step_of, quiet_of}
 use Rattle.server_rules.specs.Machine.World.{World, Step, does, step, world_or, opened_world, run}
 use Rattle.server_rules.specs.declared.actor.Actor.{Actor}
-use Rattle.tenant_world.specs.Asking.{exchange_from}
+use Rattle.tenant_asks.specs.Asking.{exchange_from}
 use Rattle.tenant_world.specs.Running.{running_of, running_in}
 use Rattle.repl_core.specs.AttemptsUnderWay.{form_in}
 use Rattle.repl_core.specs.HonestRuns.{AsksHonestly, AreHonest, HonestFormsAskAsEvaluated}

@@ -14,7 +14,7 @@ use Rattle.ref_table.specs.Refs.{Refs, refs_after}
 use Rattle.tenant_refs.specs.Attempts.{ArePoints}
 use Rattle.tenant_refs.specs.Serving.{TableServes}
 use Rattle.repl_core.proofs.Runs.{part_under-put}
-use Rattle.tenant_world.specs.Memories.{Remembers}
+use Rattle.tenant_asks.specs.Memories.{Remembers}
 use Rattle.tenant_world.specs.Standing as world
 use Rattle.tenant_world.specs.declared.tenant.Tenant.{Tenant}
 use Rattle.repl_core.specs.TenantAt.{tenant_at}

@@ -26,7 +26,7 @@ use Rattle.repl_core.specs.Inside.Walked.{IsWalkOf, AreWalked}
 use Rattle.repl_core.specs.Inside.Standing.{Parts, parts, PartsStand, AcceptsHonestDeed, RefusesHonestDeed, comes_to}
 use Rattle.repl_core.specs.declared.walks.Walks.{Walks}
 use Rattle.repl_core.proofs.Runs.{heard-runs}
-use Rattle.tenant_world.specs.Asking.{exchange_from, run_with}
+use Rattle.tenant_asks.specs.Asking.{exchange_from, run_with}
 use Rattle.repl_core.proofs.Outcomes.{heard-after, answered-after}
 use Rattle.repl_core.proofs.WalkSteps.{walked-all, some-same}
 use Rattle.repl_core.proofs.Stores.{Reached, serves-all-still, hears-reached, drains-reached}

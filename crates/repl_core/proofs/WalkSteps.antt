@@ -18,7 +18,7 @@ use Rattle.server_rules.specs.Request.{Run}
 use Rattle.server_rules.specs.Tenant.{Quiet, seat_of}
 use Rattle.server_rules.specs.declared.actor.Actor.{Actor}
 use Rattle.evaluation_rules.specs.Evaluation.{evaluation}
-use Rattle.tenant_world.specs.Asking.{exchange_from, run_with}
+use Rattle.tenant_asks.specs.Asking.{exchange_from, run_with}
 use Rattle.tenant_world.specs.Running.{running_in}
 use Rattle.repl_core.specs.Inside.Walked.{IsWalkOf, AreWalked}
 

@@ -9,8 +9,9 @@ ghost use Rattle.server_rules.specs.Machine.World.{World, does, step};
 ghost use Rattle.ref_table.specs.Standing.{counter_of};
 ghost use Rattle.tenant_turns.specs.Grounds.{IsRight};
 ghost use Rattle.repl_walker.specs.Ends as endings;
-ghost use Rattle.tenant_world.specs.Answers.{AreSameStarts, AreSameAnswers, AreSameReplies};
-ghost use Rattle.tenant_world.specs.Answers.{start_answer_view, ask_answer_view, end_answer_view};
+ghost use Rattle.tenant_world.specs.Answers.{AreSameStarts, AreSameReplies};
+ghost use Rattle.tenant_asks.specs.Answers.{AreSameAnswers, ask_answer_view};
+ghost use Rattle.tenant_world.specs.Answers.{start_answer_view, end_answer_view};
 
 use crate::machine::Machine;
 use bytes::Bytes;

@@ -6,8 +6,9 @@ ghost use Rattle.server_rules.specs.Machine.World as worlds;
 ghost use Rattle.server_rules.specs.Machine.World.{World};
 ghost use Rattle.ref_table.specs.Standing.{counter_of};
 ghost use Rattle.tenant_turns.specs.Grounds.{IsRight};
-ghost use Rattle.tenant_world.specs.Answers.{start_answer_view, ask_answer_view, end_answer_view};
-ghost use Rattle.tenant_world.specs.Answers.{AreSameStarts, AreSameAnswers, AreSameReplies};
+ghost use Rattle.tenant_world.specs.Answers.{start_answer_view, end_answer_view};
+ghost use Rattle.tenant_asks.specs.Answers.{ask_answer_view, AreSameAnswers};
+ghost use Rattle.tenant_world.specs.Answers.{AreSameStarts, AreSameReplies};
 ghost use Rattle.repl_core.specs.Steps.{step_view, step_answer_view, AreSame};
 
 use crate::machine::Machine;

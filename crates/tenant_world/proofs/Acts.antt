@@ -21,13 +21,15 @@ use Rattle.server_rules.specs.Starting.{action_begun, action_for, start_action, 
 use Rattle.server_rules.specs.Tenant.{ActorData, Quiet, is_held, with_replies, with_state}
 use Rattle.server_rules.specs.declared.actor.Actor.{Actor}
 use Rattle.tenant_actors.specs.Replies.{waiting_bytes}
-use Rattle.tenant_world.specs.Acting.{is_accepted, oldest}
-use Rattle.tenant_world.specs.Actions.{trace_of, end_by, action_end, agents_behind}
-use Rattle.tenant_world.specs.Cells.{cells_data}
-use Rattle.tenant_world.specs.Memories.{Remembers}
-use Rattle.tenant_world.specs.declared.memory.Memory.{Memory}
+use Rattle.tenant_asks.specs.Acting.{is_accepted}
+use Rattle.tenant_world.specs.Acting.{oldest}
+use Rattle.tenant_asks.specs.Sends.{trace_of}
+use Rattle.tenant_world.specs.Actions.{end_by, action_end, agents_behind}
+use Rattle.tenant_asks.specs.Cells.{cells_data}
+use Rattle.tenant_asks.specs.Memories.{Remembers}
+use Rattle.tenant_asks.specs.declared.memory.Memory.{Memory}
 use Rattle.tenant_world.proofs.Begins.{accepted-start_outcome}
-use Rattle.tenant_world.proofs.Sending.{all-sent}
+use Rattle.tenant_asks.proofs.Sending.{all-sent}
 
 -- all but the atoms and agents is as it was
 abbrev pub KeepsOthers : Memory → Memory → Type 0

@@ -13,9 +13,10 @@ use Rattle.server_rules.specs.Plan.{Outcome, refuses, leaves, with_step_spent}
 use Rattle.server_rules.specs.declared.actor.Actor.{Actor}
 use Rattle.server_rules.specs.declared.refusal.Refusal.{Refusal}
 use Rattle.tenant_moves.specs.Starts.{answer_given}
-use Rattle.tenant_world.specs.declared.memory.Memory.{Memory}
-use Rattle.tenant_world.specs.Memories.{Remembers}
-use Rattle.tenant_world.specs.Acting.{AcceptsOutcome, is_accepted, is_interruption, oldest, younger}
+use Rattle.tenant_asks.specs.declared.memory.Memory.{Memory}
+use Rattle.tenant_asks.specs.Memories.{Remembers}
+use Rattle.tenant_asks.specs.Acting.{AcceptsOutcome, is_accepted, is_interruption}
+use Rattle.tenant_world.specs.Acting.{oldest, younger}
 use Rattle.tenant_world.proofs.Remembering.{acted-after_move, some-same}
 
 -- what is given out is no interruption

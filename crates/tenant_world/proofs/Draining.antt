@@ -4,7 +4,7 @@ use Rattle.std.proofs.Common.{subst, ◌∙◌, ◌≢◌, map, true}
 use Rattle.bencode_wire.specs.Inside.Decoder as decoder
 use Rattle.bencode_wire.specs.declared.decoder.Decoder.{Decoder}
 use Rattle.name_spaces.specs.Inside.Seen.{namespaces_of, shared_in}
-use Rattle.tenant_world.specs.Cells.{cells_data}
+use Rattle.tenant_asks.specs.Cells.{cells_data}
 use Rattle.repl_sessions.specs.Inside.StateView.{state_view}
 use Rattle.server_rules.specs.Readings.{message_limit}
 use Rattle.tenant_actors.specs.View.{actors_view}
@@ -21,7 +21,7 @@ use Rattle.tenant_turns.specs.DeedResult.{deed_result}
 use Rattle.tenant_world.specs.declared.tenant.Tenant.{Tenant}
 use Rattle.tenant_refs.specs.declared.attempts.Attempts.{Attempts}
 use Rattle.tenant_refs.specs.Attempts.{Reaches}
-use Rattle.tenant_world.specs.Acting.{is_accepted}
+use Rattle.tenant_asks.specs.Acting.{is_accepted}
 use Rattle.tenant_world.specs.Standing.{QuietStands, AcceptsDeed, RefusesDeed}
 
 drains-by : (g : Ground) (q : Quiet) (s : Store)

@@ -19,9 +19,9 @@ use Rattle.tenant_turns.specs.Grounds.{IsRight}
 use Rattle.tenant_turns.specs.DeedResult.{carried_out}
 use Rattle.tenant_world.specs.Comparing.{ending_refusal, difference_told, compared_run}
 use Rattle.tenant_world.specs.Comparing.{PassesComparison, FailsComparison, refusal_in}
-use Rattle.tenant_world.specs.Acting.{RefusesOutcome}
-use Rattle.tenant_world.specs.Memories.{Remembers}
-use Rattle.tenant_world.specs.declared.memory.Memory.{Memory}
+use Rattle.tenant_asks.specs.Acting.{RefusesOutcome}
+use Rattle.tenant_asks.specs.Memories.{Remembers}
+use Rattle.tenant_asks.specs.declared.memory.Memory.{Memory}
 use Rattle.tenant_refs.specs.Attempts.{Reaches}
 use Rattle.tenant_refs.specs.declared.attempts.Attempts.{Attempts}
 use Rattle.std.specs.Result.{IsErrAnd}

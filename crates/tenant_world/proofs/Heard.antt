@@ -10,7 +10,7 @@ use Rattle.repl_replies.specs.Operations.{AskedData, OperationData}
 use Rattle.repl_replies.specs.Replies.{OriginData, ReplyData}
 use Rattle.repl_sessions.specs.Inside.StateView.{state_view}
 use Rattle.name_spaces.specs.Inside.Seen.{namespaces_of, shared_in}
-use Rattle.tenant_world.specs.Cells.{cells_data}
+use Rattle.tenant_asks.specs.Cells.{cells_data}
 use Rattle.server_rules.specs.Ground.{Ground}
 use Rattle.server_rules.specs.Hearing.{stream_fault, with_messages, new_messages, taken_in}
 use Rattle.server_rules.specs.Hearing.{hears_more}

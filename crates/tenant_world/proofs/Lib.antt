@@ -4,10 +4,7 @@ pub mod Enough
 pub mod Lent
 pub mod Standing
 pub mod Draining
-pub mod Sending
 pub mod Acts
-pub mod Answering
-pub mod Answered
 pub mod Ends
 pub mod Wires
 pub mod Seating

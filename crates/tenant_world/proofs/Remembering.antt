@@ -1,29 +1,25 @@
 -- What the memory stands for, through changes of the tenant.
-use Rattle.std.proofs.Common.{◌≡◌, ◌≤◌, ◌↔◌, ℕ, List, [], ◌∷◌, Bool, true, false, nat_le, refl, sym}
+use Rattle.std.proofs.Common.{◌≡◌, ◌≤◌, ◌↔◌, ℕ, List, Bool, true, false, nat_le, refl, sym}
 use Rattle.std.proofs.Common.{ap, subst, ◌∙◌, length, IsTrue, true≢false, Some, unwrap_or, Result}
 use Rattle.std.proofs.Common.{Ok, Err, IfErr}
 use Rattle.std.specs.Result.{IsErrAnd}
 use Rattle.std.proofs.lemmas.Bool.{le-leb, leb-true}
 use Rattle.std.proofs.lemmas.List.{length-map}
-use Rattle.repl_replies.specs.Replies.{ReplyData, bytes_of, interrupted}
-use Rattle.repl_sessions.specs.State.{StateData}
-use Rattle.server_rules.specs.Numbered.{Entry, with_part, without}
+use Rattle.repl_replies.specs.Replies.{bytes_of}
+use Rattle.server_rules.specs.Numbered.{Entry, with_part}
 use Rattle.server_rules.specs.Cells.{CellsData}
 use Rattle.server_rules.specs.Ground.{Ground}
-use Rattle.server_rules.specs.Request.{Hand}
 use Rattle.server_rules.specs.Tenant.{ActorData, Quiet, seat_of, is_held, with_replies, with_state}
 use Rattle.server_rules.specs.Moves.{Move}
-use Rattle.server_rules.specs.Starting.{after_move, interrupted_in}
-use Rattle.server_rules.specs.Replying.{reply}
+use Rattle.server_rules.specs.Starting.{after_move}
 use Rattle.server_rules.specs.Plan.{StepAnswer, Outcome, leaves, with_step_spent}
-use Rattle.server_rules.specs.Plan.{request_interrupted}
 use Rattle.server_rules.specs.declared.actor.Actor.{Actor}
 use Rattle.server_rules.specs.declared.refusal.Refusal.{Refusal}
 use Rattle.tenant_actors.specs.Replies.{waiting_bytes}
-use Rattle.tenant_world.specs.declared.memory.Memory.{Memory}
-use Rattle.tenant_world.specs.Memories.{Remembers, opened_by}
-use Rattle.tenant_world.specs.Acting.{AcceptsOutcome, RefusesOutcome, actors_after, is_interruption}
-use Rattle.tenant_world.specs.Acting.{IsActorStep}
+use Rattle.tenant_asks.specs.declared.memory.Memory.{Memory}
+use Rattle.tenant_asks.specs.Memories.{Remembers, opened_by}
+use Rattle.tenant_asks.specs.Acting.{AcceptsOutcome, RefusesOutcome, actors_after, is_interruption}
+use Rattle.tenant_asks.specs.Acting.{IsActorStep}
 
 -- the actors are no part of it
 pub with-actors : (g : Ground) (t : ℕ) (m : Memory) (q : Quiet) (es : List (Entry ActorData))
@@ -102,33 +98,6 @@ acted-after_move g t m a actor new move answer q r same stays = record {
   heard = after_move-heard a actor move q;
 }
 
-pub replies-behind-state : (a : Actor) (s : StateData) (r : List ReplyData) (q : Quiet)
-    → with_state a s (with_replies r q) ≡ with_replies r (with_state a s q)
-replies-behind-state Actor.Agents s r q = refl
-replies-behind-state Actor.Bare s r q = refl
-replies-behind-state (Actor.Session n) s r q = refl
-
--- the request of an actor is interrupted
-pub acted-interrupted : (g : Ground) (t : ℕ) (m : Memory) (a : Actor) (new : ActorData) (h : Hand)
-    (q : Quiet) → Remembers g t m (with_replies (reply h.origin interrupted ∷ []) q)
-    → AcceptsOutcome g t a q (interrupted_in a h q) m new request_interrupted
-acted-interrupted g t m a new h q r = record {
-  after = with_replies (reply h.origin interrupted ∷ [])
-      (record q { actors = without (seat_of a) q.actors });
-  accepted = refl;
-  remembers = record {
-    sessions = r.sessions;
-    bare = r.bare;
-    spaces = r.spaces;
-    names = r.names;
-    cells = r.cells;
-    replies = r.replies;
-  };
-  actors = refl;
-  steps = refl;
-  heard = refl;
-}
-
 -- a step that began with other agents and atoms
 pub acted-with_cells : (g : Ground) (t : ℕ) (m : Memory) (a : Actor) (new : ActorData) (outcome : Outcome)
     (answer : StepAnswer) (c : CellsData) (q : Quiet)
@@ -161,12 +130,6 @@ held-so g t m q b r told =
 
 pub some-same : {A : Type 0} (a b : A) → Some a ≡ Some b → a ≡ b
 some-same a b e = ap (λ o. unwrap_or o a) e
-
--- the refusal that is handed on was for want of memory
-pub wanted-memory : {X : Type 0} (why : Refusal) (r : Result X Refusal) → IsErrAnd r (λ e. e ≡ why)
-    → r ≡ Err Refusal.NoMemory → why ≡ Refusal.NoMemory
-wanted-memory why (Ok x) never none = absurd never
-wanted-memory why (Err e) is none = let same : e ≡ Refusal.NoMemory = cc in sym is ∙ same
 
 -- where memory was wanted, the actor and the sessions are as they were
 pub step-without-memory : {A : Type 0} (old new : Memory) (before after : ActorData)

@@ -34,11 +34,12 @@ use Rattle.tenant_refs.specs.Attempts.{Reaches}
 use Rattle.tenant_refs.specs.declared.attempts.Attempts.{Attempts}
 use Rattle.tenant_refs.proofs.Calls.{performed-tenant}
 use Rattle.tenant_refs.proofs.Points.{part_under-without}
-use Rattle.tenant_world.specs.declared.memory.Memory.{Memory}
+use Rattle.tenant_asks.specs.declared.memory.Memory.{Memory}
 use Rattle.tenant_world.specs.declared.tenant.Tenant.{Tenant}
-use Rattle.tenant_world.specs.Memories.{Remembers}
-use Rattle.tenant_world.specs.Acting.{AcceptsOutcome, RefusesOutcome, actors_after, is_interruption}
-use Rattle.tenant_world.specs.Acting.{is_accepted, left_after}
+use Rattle.tenant_asks.specs.Memories.{Remembers}
+use Rattle.tenant_asks.specs.Acting.{AcceptsOutcome, RefusesOutcome, actors_after, is_interruption}
+use Rattle.tenant_asks.specs.Acting.{is_accepted}
+use Rattle.tenant_world.specs.Acting.{left_after}
 use Rattle.tenant_world.specs.Lending.{unless_busy, unlent}
 use Rattle.tenant_world.specs.Standing.{QuietStands, Lends, AcceptsDeedBy, RefusesDeed}
 

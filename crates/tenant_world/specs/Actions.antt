@@ -1,5 +1,5 @@
 -- An action as it begins, and as it ends.
-use Rattle.std.specs.Prelude.{ℕ, List, [], ◌∷◌, Bool, false, map, Option, None, Some, Result, Ok, Err}
+use Rattle.std.specs.Prelude.{List, [], false, map, None, Some, Result, Ok, Err}
 use Rattle.value_data.specs.Datum.{Datum, no_items}
 use Rattle.value_data.specs.Inside.View.{view}
 use Rattle.repl_faults.specs.Failure.{Failure}
@@ -10,14 +10,14 @@ use Rattle.private_cells.specs.Actions.{ActionData}
 use Rattle.private_cells.specs.Agents.{AgentsData, with_result, with_failure}
 use Rattle.private_cells.specs.Inside.Seen.{action_view}
 use Rattle.server_rules.specs.Asking.{sender_of}
-use Rattle.server_rules.specs.Cells.{SenderData, action_sends}
+use Rattle.server_rules.specs.Cells.{SenderData}
 use Rattle.server_rules.specs.Cells as rules
-use Rattle.server_rules.specs.Request.{Manner, of_action, Hand, Run}
+use Rattle.server_rules.specs.Request.{Manner, of_action, Hand}
 use Rattle.server_rules.specs.declared.actor.Actor.{Actor}
-use Rattle.tenant_world.specs.Sends.{OutgoingData, outgoing_from, outgoing_view, all_sent}
+use Rattle.tenant_asks.specs.Sends.{OutgoingData, outgoing_view, outgoing_in, trace_of, all_sent}
+use Rattle.tenant_asks.specs.declared.sends.Outgoing.{Outgoing}
 use Rattle.tenant_world.specs.declared.actions.ActionEnd.{ActionEnd}
 use Rattle.tenant_world.specs.declared.actions.NextAction.{NextAction}
-use Rattle.tenant_world.specs.declared.sends.Outgoing.{Outgoing}
 
 abbrev pub next_view : NextAction → rules.NextAction
 next_view n = record { state = view n.state.now; action = action_view n.action.now }
@@ -52,14 +52,6 @@ abbrev pub sends_of : ActionEnd → List Outgoing
 sends_of ActionEnd.Nothing = []
 sends_of (ActionEnd.Finishes state sends) = sends.items
 sends_of (ActionEnd.Fails fault) = []
-
-abbrev pub trace_of : Option Run → List Exchanged
-trace_of None = []
-trace_of (Some run) = run.trace
-
--- what a form that asked and was answered so is to send
-abbrev pub outgoing_in : SenderData → Bool → List Exchanged → List OutgoingData
-outgoing_in sender inside trace = map (outgoing_from sender) (action_sends inside trace)
 
 abbrev pub end_by : Manner → SenderData → List Exchanged → Result Datum Failure → ActionEndData
 end_by (of_action session) sender trace (Ok d) = finishes d (outgoing_in sender false trace)

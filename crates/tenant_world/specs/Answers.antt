@@ -1,14 +1,12 @@
 -- What the steps of the code are given and answered, as the rules have it.
 use Rattle.std.specs.Prelude.{◌≡◌}
-use Rattle.repl_asks.specs.Inside.View.{answer_view, trace_view}
+use Rattle.repl_asks.specs.Inside.View.{trace_view}
 use Rattle.repl_asks.specs.Inside.Jobs.{job_view, finished_view}
-use Rattle.server_rules.specs.Plan.{StepAnswer, form_begun, request_answered, ask_answered}
+use Rattle.server_rules.specs.Plan.{StepAnswer, form_begun, request_answered}
 use Rattle.server_rules.specs.Plan.{form_finished, request_interrupted}
 use Rattle.repl_asks.specs.Job.{EndingData}
 use Rattle.tenant_world.specs.declared.answers.StartAnswer.{StartAnswer}
-use Rattle.tenant_world.specs.declared.answers.AskAnswer.{AskAnswer}
 use Rattle.tenant_world.specs.declared.answers.StartAnswers.{StartAnswers}
-use Rattle.tenant_world.specs.declared.answers.AskAnswers.{AskAnswers}
 use Rattle.tenant_world.specs.declared.answers.Replies.{Replies}
 use Rattle.tenant_world.specs.declared.answers.EndAnswer.{EndAnswer}
 use Rattle.tenant_world.specs.declared.answers.Ending.{Ending}
@@ -18,16 +16,9 @@ start_answer_view (StartAnswer.Begun job) = form_begun (job_view job)
 start_answer_view StartAnswer.Answered = request_answered
 start_answer_view StartAnswer.Interrupted = request_interrupted
 
-abbrev pub ask_answer_view : AskAnswer → StepAnswer
-ask_answer_view (AskAnswer.Answer answer) = ask_answered (answer_view answer)
-ask_answer_view AskAnswer.Interrupted = request_interrupted
-
 -- both are the same
 abbrev pub AreSameStarts : StartAnswers → Type 0
 AreSameStarts it = start_answer_view it.noted ≡ start_answer_view it.given
-
-abbrev pub AreSameAnswers : AskAnswers → Type 0
-AreSameAnswers it = ask_answer_view it.noted ≡ ask_answer_view it.given
 
 abbrev pub AreSameReplies : Replies → Type 0
 AreSameReplies it = it.noted.items ≡ it.given.items

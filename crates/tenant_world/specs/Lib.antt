@@ -1,13 +1,8 @@
-pub mod Cells
-pub mod Memories
 pub mod Seats
 pub mod Answers
 pub mod Acting
 pub mod Lending
 pub mod Comparing
-pub mod Rooms
-pub mod Asking
 pub mod Running
 pub mod Standing
-pub mod Sends
 pub mod Actions

@@ -13,7 +13,7 @@ use Rattle.tenant_actors.specs.View.{actors_view}
 use Rattle.tenant_actors.specs.Replies.{waiting_bytes}
 use Rattle.tenant_turns.specs.DeedResult.{DeedResult}
 use Rattle.tenant_refs.specs.Attempts.{Reaches}
-use Rattle.tenant_world.specs.Memories.{Remembers}
+use Rattle.tenant_asks.specs.Memories.{Remembers}
 use Rattle.tenant_world.specs.declared.tenant.Tenant.{Tenant}
 
 -- the tenant whose store this is

@@ -7,16 +7,14 @@ ghost use Rattle.server_rules.specs.Ground.{Ground};
 ghost use Rattle.server_rules.specs.Starting.{action_for, action_job, start_action};
 ghost use Rattle.server_rules.specs.Tenant.{Quiet};
 ghost use Rattle.tenant_actors.specs.View.{actor_view, hand_view};
-ghost use Rattle.tenant_world.specs.Acting.{AcceptsOutcome, RefusesOutcome, IsActorStep};
-ghost use Rattle.tenant_world.specs.Acting.{is_accepted};
+ghost use Rattle.tenant_asks.specs.Acting.{AcceptsOutcome, RefusesOutcome, IsActorStep};
+ghost use Rattle.tenant_asks.specs.Acting.{is_accepted};
 ghost use Rattle.tenant_world.specs.Actions.{next_view, hand_of, action_end, agents_behind};
 ghost use Rattle.tenant_world.specs.Actions.{action_end_view, sends_of};
 ghost use Rattle.tenant_world.specs.Answers.{start_answer_view, AreSameStarts};
-ghost use Rattle.tenant_world.specs.Memories.{Remembers};
+ghost use Rattle.tenant_asks.specs.Memories.{Remembers};
 
 use crate::answers::{StartAnswer, StartAnswers};
-use crate::memory::Memory;
-use crate::sends::{Outgoing, Sender, send_all, sends_in};
 use private_cells::{Action, Agents};
 use repl_asks::{End, Job, Work};
 use repl_values::{Fault, Value, copy, copy_text};
@@ -25,6 +23,7 @@ use std::alloc::{AllocError, Global};
 use std::collections::VecDeque;
 use std::sync::{Arc, ArcStr};
 use tenant_actors::{ActorState, Hand, Manner, Run};
+use tenant_asks::{Memory, Outgoing, Sender, send_all, sends_in};
 
 /// The action that begins next, and the state of its agent.
 #[derive(Clone, Copy)]

@@ -1,12 +1,10 @@
 // What the steps of an actor are given and answered.
 ghost use Rattle.std.specs.Prelude.{◌≡◌, IfOk};
-ghost use Rattle.tenant_world.specs.Acting.{is_interruption};
+ghost use Rattle.tenant_asks.specs.Acting.{is_interruption};
 ghost use Rattle.tenant_world.specs.declared.answers.StartAnswer as StartAnswer;
-ghost use Rattle.tenant_world.specs.declared.answers.AskAnswer as AskAnswer;
-ghost use Rattle.tenant_world.specs.Answers.{AreSameStarts, AreSameAnswers};
-ghost use Rattle.tenant_world.specs.Answers.{start_answer_view, ask_answer_view, end_answer_view};
+ghost use Rattle.tenant_world.specs.Answers.{AreSameStarts, start_answer_view, end_answer_view};
 
-use repl_asks::{Answer, Exchange, Finished, Job};
+use repl_asks::{Exchange, Finished, Job};
 use std::alloc::AllocError;
 
 /// What comes of a start.
@@ -20,26 +18,11 @@ pub enum StartAnswer {
     Interrupted,
 }
 
-/// What comes of an ask.
-#[derive(Drop)]
-pub enum AskAnswer {
-    Answer(Answer),
-    /// The session was closed meanwhile, and the request is answered so.
-    Interrupted,
-}
-
 /// What comes of a start, and the same once more for whoever writes it down.
 #[derive(Drop)]
 pub struct StartAnswers {
     pub given: StartAnswer,
     pub noted: StartAnswer,
-}
-
-/// What comes of an ask, and the same once more for whoever writes it down.
-#[derive(Drop)]
-pub struct AskAnswers {
-    pub given: AskAnswer,
-    pub noted: AskAnswer,
 }
 
 /// A reply that is taken out, and the same once more for whoever writes it down.
@@ -103,26 +86,6 @@ impl StartAnswers {
             given: StartAnswer::Interrupted,
             noted: StartAnswer::Interrupted,
         }
-    }
-}
-
-impl AskAnswers {
-    pub(crate) fn interrupted() -> AskAnswers
-        ensures given { result.given ≡ AskAnswer.Interrupted }
-        ensures same { AreSameAnswers result }
-    {
-        AskAnswers {
-            given: AskAnswer::Interrupted,
-            noted: AskAnswer::Interrupted,
-        }
-    }
-}
-
-impl AskAnswer {
-    pub(crate) fn is_interrupted(&self) -> bool
-        ensures { result ≡ is_interruption (ask_answer_view self.now) }
-    {
-        matches!(self, AskAnswer::Interrupted)
     }
 }
 

@@ -1,5 +1,5 @@
 // A tenant hears a piece of its stream.
-ghost use Rattle.std.specs.Prelude.{◌≡◌, ◌+◌, ℕ, true, Err, IfOk, OnOk, IfErr, OnErr};
+ghost use Rattle.std.specs.Prelude.{◌≡◌, ◌+◌, true, Err, IfOk, OnOk, IfErr, OnErr};
 ghost use Rattle.server_rules.specs.Ground.{Ground};
 ghost use Rattle.server_rules.specs.Tenant.{Quiet};
 ghost use Rattle.server_rules.specs.Plan as deeds;
@@ -7,7 +7,7 @@ ghost use Rattle.server_rules.specs.Store.{Store};
 ghost use Rattle.server_rules.specs.Plan.{messages_heard};
 ghost use Rattle.tenant_turns.specs.Grounds.{IsRight};
 ghost use Rattle.tenant_turns.specs.DeedResult.{deed_result};
-ghost use Rattle.tenant_world.specs.Acting.{is_accepted};
+ghost use Rattle.tenant_asks.specs.Acting.{is_accepted};
 
 use crate::tenant::Tenant;
 use bencode_wire::laws::a_stream_has_one_reading;

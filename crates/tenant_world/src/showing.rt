@@ -1,5 +1,5 @@
 // A tenant as it begins, and what it shows.
-ghost use Rattle.std.specs.Prelude.{◌≡◌, ◌≢◌, ◌+◌, ◌<◌, ℕ, List, [], ◌∷◌, map, option_map, IfOk};
+ghost use Rattle.std.specs.Prelude.{◌≡◌, ◌≢◌, ◌+◌, ◌<◌, ℕ, List, [], ◌∷◌, option_map, IfOk};
 ghost use Rattle.std.specs.Prelude.{OnErr, MatchOption, IfSome, true, false};
 ghost use Rattle.name_spaces.specs.Inside.Seen.{shared_bindings};
 ghost use Rattle.server_rules.specs.Ground.{Ground};
@@ -14,13 +14,11 @@ ghost use Rattle.tenant_turns.specs.DeedResult.{deed_result};
 ghost use Rattle.tenant_turns.specs.Turns.{Lone, agents_last};
 ghost use Rattle.tenant_turns.specs.Inside.Rounds.{IsEnough};
 ghost use Rattle.tenant_turns.specs.Inside.Wires.{wire_at};
-ghost use Rattle.tenant_world.specs.Acting.{is_accepted};
+ghost use Rattle.tenant_asks.specs.Acting.{is_accepted};
 ghost use Rattle.tenant_world.specs.Answers.{AreSameReplies};
 ghost use Rattle.tenant_world.specs.Running.{running_in};
 
 use crate::answers::Replies;
-use crate::cells::Cells;
-use crate::memory::Memory;
 use crate::tenant::Tenant;
 use bencode_wire::Decoder;
 use bencode_wire::laws::a_stream_has_one_reading;
@@ -30,6 +28,7 @@ use repl_sessions::{IdStream, SessionState, Sessions};
 use server_rules::{Actor, MESSAGE_LIMIT, Refusal};
 use std::alloc::{AllocError, Global};
 use tenant_actors::{Actors, Outbox, Run};
+use tenant_asks::{Cells, Memory};
 use tenant_refs::Attempts;
 use tenant_turns::Wire;
 

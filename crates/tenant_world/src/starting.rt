@@ -8,19 +8,19 @@ ghost use Rattle.server_rules.specs.Deeds.{start_of};
 ghost use Rattle.tenant_actors.specs.View.{actor_view, hand_view, waiting_view};
 ghost use Rattle.tenant_moves.specs.Starts.{hand_begun, answer_given, given_job};
 ghost use Rattle.tenant_turns.specs.Grounds.{IsRight};
-ghost use Rattle.tenant_world.specs.Memories.{Remembers};
+ghost use Rattle.tenant_asks.specs.Memories.{Remembers};
 ghost use Rattle.tenant_world.specs.Answers.{start_answer_view, AreSameStarts};
-ghost use Rattle.tenant_world.specs.Acting.{AcceptsOutcome, RefusesOutcome, oldest, IsActorStep};
-ghost use Rattle.tenant_world.specs.Acting.{with_next_in_hand, is_accepted};
+ghost use Rattle.tenant_asks.specs.Acting.{AcceptsOutcome, RefusesOutcome, IsActorStep};
+ghost use Rattle.tenant_world.specs.Acting.{oldest, with_next_in_hand};
+ghost use Rattle.tenant_asks.specs.Acting.{is_accepted};
 
-use crate::acting::interrupt;
 use crate::actions::start_action;
 use crate::answers::{StartAnswer, StartAnswers};
-use crate::memory::Memory;
 use repl_asks::Job;
 use server_rules::{Actor, Refusal};
 use std::alloc::{AllocError, Global};
 use tenant_actors::{ActorState, Hand, Waiting};
+use tenant_asks::{Memory, interrupt};
 use tenant_moves::{Begun, BegunRequest, NextForm, begin, begin_request, next_form};
 
 /// The actor begins its next form, or takes up its next request. Where it is refused nothing has

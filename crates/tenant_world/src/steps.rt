@@ -12,16 +12,16 @@ ghost use Rattle.ref_table.specs.Refs.{Refs, refs_after};
 ghost use Rattle.ref_table.specs.Standing.{counter_of};
 ghost use Rattle.tenant_turns.specs.DeedResult.{deed_result};
 ghost use Rattle.tenant_turns.specs.Grounds.{IsRight};
-ghost use Rattle.tenant_world.specs.Answers.{start_answer_view, ask_answer_view, end_answer_view};
-ghost use Rattle.tenant_world.specs.Answers.{told_ending, AreSameStarts, AreSameAnswers};
-ghost use Rattle.tenant_world.specs.Acting.{actors_after, is_accepted};
+ghost use Rattle.tenant_world.specs.Answers.{start_answer_view, end_answer_view};
+ghost use Rattle.tenant_asks.specs.Answers.{ask_answer_view, AreSameAnswers};
+ghost use Rattle.tenant_world.specs.Answers.{told_ending, AreSameStarts};
+ghost use Rattle.tenant_asks.specs.Acting.{actors_after, is_accepted};
 ghost use Rattle.tenant_refs.specs.Attempts.{Reaches};
-ghost use Rattle.tenant_world.specs.Memories.{Remembers};
+ghost use Rattle.tenant_asks.specs.Memories.{Remembers};
 ghost use Rattle.tenant_world.specs.Running.{IsEndOfForm, running_in};
 ghost use Rattle.tenant_refs.specs.Serving.{TableServes};
 
-use crate::answers::{AskAnswer, AskAnswers, EndAnswer, Ending, StartAnswer, StartAnswers};
-use crate::asking::ask;
+use crate::answers::{EndAnswer, Ending, StartAnswer, StartAnswers};
 use crate::ending::{end, finish};
 use crate::lending::{leave, lend};
 use crate::starting::start;
@@ -30,6 +30,7 @@ use ref_history::RingHistory;
 use ref_table::RefTable;
 use repl_asks::{Ask, Finished};
 use server_rules::{Actor, Refusal};
+use tenant_asks::{AskAnswer, AskAnswers, ask};
 
 impl Tenant {
     ghost use Rattle.tenant_world.specs.Standing.{QuietStands, Lends, RefusesDeed};

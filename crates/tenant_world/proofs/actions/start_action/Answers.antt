@@ -4,10 +4,10 @@ use Rattle.server_rules.specs.Cells.{with_agents}
 use Rattle.server_rules.specs.Starting.{action_begun, action_for, start_action, with_action_begun}
 use Rattle.server_rules.specs.Plan.{StepAnswer, Outcome, form_begun}
 use Rattle.tenant_actors.specs.View.{actor_view}
-use Rattle.tenant_world.specs.Acting.{AcceptsOutcome}
+use Rattle.tenant_asks.specs.Acting.{AcceptsOutcome}
 use Rattle.tenant_world.specs.Actions.{next_view, hand_of}
 use Rattle.tenant_world.specs.Answers.{start_answer_view}
-use Rattle.tenant_world.specs.Cells.{cells_data}
+use Rattle.tenant_asks.specs.Cells.{cells_data}
 use Rattle.tenant_world.proofs.Acts.{remembers-begun, action-agents, action-accepted}
 use Rattle.tenant_world.proofs.Begins.{acted-start_outcome}
 use Rattle.tenant_world.proofs.Remembering.{acted-with_cells, held-so}

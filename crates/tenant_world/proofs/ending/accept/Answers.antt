@@ -11,9 +11,9 @@ use Rattle.server_rules.specs.Moves.{form_ended}
 use Rattle.server_rules.specs.Starting.{after_move}
 use Rattle.server_rules.specs.Plan.{leaves, with_step_spent, form_finished}
 use Rattle.tenant_actors.specs.View.{actor_view, hand_view}
-use Rattle.tenant_world.specs.Acting.{AcceptsOutcome}
+use Rattle.tenant_asks.specs.Acting.{AcceptsOutcome}
 use Rattle.tenant_world.specs.Actions.{action_end, agents_behind}
-use Rattle.tenant_world.specs.Cells.{cells_data}
+use Rattle.tenant_asks.specs.Cells.{cells_data}
 use Rattle.tenant_world.proofs.Acts.{ended-cells, moved-cells, remembers-agents, remembers-ended}
 use Rattle.tenant_world.proofs.Remembering.{acted-after_move, acted-with_cells, some-same}
 use Rattle.tenant_world.proofs.ending.accept.Goals as goal

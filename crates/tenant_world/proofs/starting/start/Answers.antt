@@ -4,8 +4,9 @@ use Rattle.server_rules.specs.Plan.{Outcome, StepAnswer}
 use Rattle.server_rules.specs.Starting.{interrupted_in}
 use Rattle.tenant_actors.specs.View.{actor_view, hand_view, run_view}
 use Rattle.tenant_world.specs.Answers.{start_answer_view}
-use Rattle.tenant_world.specs.Acting.{AcceptsOutcome, is_accepted}
-use Rattle.tenant_world.proofs.Remembering.{acted-interrupted, declined-memory}
+use Rattle.tenant_asks.specs.Acting.{AcceptsOutcome, is_accepted}
+use Rattle.tenant_asks.proofs.Remembering.{acted-interrupted}
+use Rattle.tenant_world.proofs.Remembering.{declined-memory}
 use Rattle.tenant_world.proofs.Begins.{none-mapped, start-between}
 use Rattle.tenant_world.proofs.starting.start.Goals as goal
 

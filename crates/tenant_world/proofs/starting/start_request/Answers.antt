@@ -10,8 +10,8 @@ use Rattle.server_rules.specs.Plan.{StepAnswer, Outcome}
 use Rattle.tenant_actors.specs.View.{actor_view, waiting_view}
 use Rattle.tenant_moves.specs.Starts.{answer_given}
 use Rattle.tenant_world.specs.Answers.{start_answer_view}
-use Rattle.tenant_world.specs.Acting.{AcceptsOutcome, RefusesOutcome, is_accepted, younger}
-use Rattle.tenant_world.specs.Acting.{with_next_in_hand}
+use Rattle.tenant_asks.specs.Acting.{AcceptsOutcome, RefusesOutcome, is_accepted}
+use Rattle.tenant_world.specs.Acting.{younger, with_next_in_hand}
 use Rattle.tenant_world.proofs.Acts.{none-waits}
 use Rattle.tenant_world.proofs.Remembering.{held-so, declined-memory, step-without-memory}
 use Rattle.tenant_world.proofs.Begins.{acted-start_outcome, waiting-taken, waiting-accepted}

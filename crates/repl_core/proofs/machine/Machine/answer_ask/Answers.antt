@@ -1,7 +1,7 @@
 use Rattle.std.proofs.Common.{◌∙◌, sym}
 use Rattle.server_rules.specs.Plan as deeds
 use Rattle.repl_asks.specs.Inside.View.{ask_view}
-use Rattle.tenant_world.specs.Answers.{ask_answer_view}
+use Rattle.tenant_asks.specs.Answers.{ask_answer_view}
 use Rattle.repl_core.specs.Standing.{store_in}
 use Rattle.repl_core.proofs.Behind.{does-so, refuses-so, refuses-none, ok-map}
 use Rattle.repl_core.proofs.Behind.{accepts-so}

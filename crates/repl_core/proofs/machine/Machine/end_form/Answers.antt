@@ -6,7 +6,7 @@ use Rattle.repl_asks.specs.Job.{EndingData}
 use Rattle.tenant_turns.specs.DeedResult.{deed_result}
 use Rattle.repl_walker.specs.Ends.{ending_view}
 use Rattle.repl_core.proofs.Stores.{serves-all-still, ends-reached}
-use Rattle.tenant_world.specs.Acting.{is_accepted}
+use Rattle.tenant_asks.specs.Acting.{is_accepted}
 use Rattle.tenant_world.specs.Answers.{end_answer_view}
 use Rattle.tenant_world.specs.Standing as world
 use Rattle.repl_core.specs.Standing.{store_in}

@@ -3,10 +3,10 @@ use Rattle.repl_asks.specs.Exchange.{AskData}
 use Rattle.repl_asks.specs.Inside.View.{ask_view, answer_view}
 use Rattle.repl_walker.specs.declared.waiting.Progress.{Progress}
 use Rattle.server_rules.specs.Plan as deeds
-use Rattle.tenant_world.proofs.Remembering.{wanted-memory}
-use Rattle.tenant_world.specs.Acting.{is_accepted}
-use Rattle.tenant_world.specs.Answers.{ask_answer_view}
-use Rattle.tenant_world.specs.declared.answers.AskAnswer.{AskAnswer}
+use Rattle.tenant_asks.proofs.Remembering.{wanted-memory}
+use Rattle.tenant_asks.specs.Acting.{is_accepted}
+use Rattle.tenant_asks.specs.Answers.{ask_answer_view}
+use Rattle.tenant_asks.specs.declared.answers.AskAnswer.{AskAnswer}
 use Rattle.tenant_world.specs.Standing as world
 use Rattle.ref_table.specs.Refs.{refs_after}
 use Rattle.tenant_refs.specs.Serving.{TableServes}

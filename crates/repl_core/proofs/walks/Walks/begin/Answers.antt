@@ -1,6 +1,6 @@
 use Rattle.std.proofs.Common.{ap, Err}
 use Rattle.server_rules.specs.Plan as deeds
-use Rattle.tenant_world.proofs.Remembering.{wanted-memory}
+use Rattle.tenant_asks.proofs.Remembering.{wanted-memory}
 use Rattle.repl_core.specs.Inside.Standing.{parts}
 use Rattle.repl_core.proofs.Steps.{does-removed, refused-parts, serves-same}
 use Rattle.repl_core.proofs.Stores.{starts-reached}

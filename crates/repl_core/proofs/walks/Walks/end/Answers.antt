@@ -2,7 +2,7 @@ use Rattle.std.proofs.Common.{◌∙◌, sym, ap, Err}
 use Rattle.repl_asks.specs.Inside.Jobs.{finished_view}
 use Rattle.repl_walker.specs.declared.waiting.Progress.{Progress}
 use Rattle.server_rules.specs.Plan as deeds
-use Rattle.tenant_world.proofs.Remembering.{wanted-memory}
+use Rattle.tenant_asks.proofs.Remembering.{wanted-memory}
 use Rattle.repl_core.specs.Inside.Standing.{parts}
 use Rattle.repl_core.specs.Inside.Walked.{ending_of}
 use Rattle.repl_core.proofs.WalkSteps.{ends-same, at-so, some-same}

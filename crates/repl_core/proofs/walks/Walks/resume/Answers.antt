@@ -1,7 +1,7 @@
 use Rattle.std.proofs.Common.{◌∙◌, sym, subst}
 use Rattle.repl_asks.specs.Inside.View.{ask_view, answer_view}
 use Rattle.repl_walker.specs.declared.waiting.Progress.{Progress}
-use Rattle.tenant_world.specs.Asking.{exchange_from, run_with}
+use Rattle.tenant_asks.specs.Asking.{exchange_from, run_with}
 use Rattle.repl_core.specs.Inside.Walked.{IsWalkOf}
 use Rattle.repl_core.proofs.WalkSteps.{walk-resumed, some-same, asks-same}
 use Rattle.repl_core.proofs.Steps.{put-so}

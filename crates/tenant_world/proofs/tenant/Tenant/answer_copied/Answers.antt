@@ -10,11 +10,11 @@ use Rattle.server_rules.specs.Tenant.{ActorData, seat_of}
 use Rattle.tenant_actors.specs.View.{actor_view}
 use Rattle.tenant_refs.specs.Serving.{TableServes}
 use Rattle.tenant_turns.specs.DeedResult.{DeedResult, carried_out, deed_result}
-use Rattle.tenant_world.specs.Acting.{actors_after}
-use Rattle.tenant_world.specs.Answers.{ask_answer_view}
-use Rattle.tenant_world.specs.Memories.{Remembers}
+use Rattle.tenant_asks.specs.Acting.{actors_after}
+use Rattle.tenant_asks.specs.Answers.{ask_answer_view}
+use Rattle.tenant_asks.specs.Memories.{Remembers}
 use Rattle.tenant_world.proofs.Lent.{err-so, still-seated}
-use Rattle.tenant_world.proofs.Remembering.{wanted-memory}
+use Rattle.tenant_asks.proofs.Remembering.{wanted-memory}
 use Rattle.tenant_world.proofs.Standing.{asks-by, asks-idle, done-by, carried-tenant, refuses-unlent}
 use Rattle.tenant_world.proofs.Standing.{lends-from, restored, does-acted, refuses-declined}
 use Rattle.tenant_world.proofs.Standing.{refuses-with, accepts-by}

@@ -7,11 +7,11 @@ use Rattle.server_rules.specs.Ending.{end_of}
 use Rattle.server_rules.specs.Tenant.{ActorData, seat_of}
 use Rattle.tenant_actors.specs.View.{actor_view}
 use Rattle.tenant_turns.specs.DeedResult.{carried_out, deed_result}
-use Rattle.tenant_world.specs.Acting.{actors_after}
+use Rattle.tenant_asks.specs.Acting.{actors_after}
 use Rattle.tenant_world.specs.Answers.{end_answer_view, told_ending}
-use Rattle.tenant_world.specs.Memories.{Remembers}
+use Rattle.tenant_asks.specs.Memories.{Remembers}
 use Rattle.tenant_world.proofs.Lent.{err-so, still-seated}
-use Rattle.tenant_world.proofs.Remembering.{wanted-memory}
+use Rattle.tenant_asks.proofs.Remembering.{wanted-memory}
 use Rattle.tenant_world.proofs.Standing.{ends-by, ends-idle, carried-tenant, refuses-unlent}
 use Rattle.tenant_world.proofs.Standing.{lends-from, restored, does-acted, refuses-declined}
 use Rattle.tenant_world.proofs.Standing.{refuses-so, accepts-by}

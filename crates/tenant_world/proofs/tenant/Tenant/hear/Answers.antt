@@ -8,7 +8,7 @@ use Rattle.tenant_world.proofs.Remembering.{held-so}
 use Rattle.tenant_world.proofs.Standing.{not-zero, stands-same}
 use Rattle.tenant_world.proofs.Seating.{seated-below, below-seated}
 use Rattle.tenant_world.proofs.Wires.{read-fault}
-use Rattle.tenant_world.specs.Acting.{is_accepted}
+use Rattle.tenant_asks.specs.Acting.{is_accepted}
 use Rattle.tenant_world.proofs.Heard.{heard_by, hears-by, hears-so, none-long, does-hear, held-back}
 use Rattle.tenant_world.proofs.tenant.Tenant.hear.Goals as goal
 

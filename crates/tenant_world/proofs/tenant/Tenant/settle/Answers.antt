@@ -1,6 +1,6 @@
 use Rattle.std.proofs.Common.{refl, ◌≡◌, suc, true, sym, subst}
 use Rattle.tenant_world.proofs.Standing.{settled}
-use Rattle.tenant_world.specs.Memories.{opened_by}
+use Rattle.tenant_asks.specs.Memories.{opened_by}
 use Rattle.tenant_world.specs.Seats.{are_below}
 use Rattle.tenant_world.proofs.Seating.{below-stays}
 use Rattle.tenant_world.proofs.tenant.Tenant.settle.Goals as goal

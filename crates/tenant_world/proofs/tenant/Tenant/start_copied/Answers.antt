@@ -7,10 +7,10 @@ use Rattle.server_rules.specs.Deeds.{start_of}
 use Rattle.server_rules.specs.Tenant.{ActorData, seat_of}
 use Rattle.tenant_actors.specs.View.{actor_view}
 use Rattle.tenant_turns.specs.DeedResult.{deed_result}
-use Rattle.tenant_world.specs.Acting.{actors_after}
+use Rattle.tenant_asks.specs.Acting.{actors_after}
 use Rattle.tenant_world.specs.Answers.{start_answer_view}
 use Rattle.tenant_world.proofs.Lent.{err-so, still-seated}
-use Rattle.tenant_world.proofs.Remembering.{wanted-memory}
+use Rattle.tenant_asks.proofs.Remembering.{wanted-memory}
 use Rattle.tenant_world.proofs.Standing.{starts-by, starts-idle}
 use Rattle.tenant_world.proofs.Standing.{refuses-unlent, lends-from, restored, does-acted}
 use Rattle.tenant_world.proofs.Standing.{refuses-declined, refuses-so, accepts-by}

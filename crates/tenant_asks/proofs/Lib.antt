@@ -1,0 +1,4 @@
+pub mod Remembering
+pub mod Sending
+pub mod Answering
+pub mod Answered

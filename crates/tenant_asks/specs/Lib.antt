@@ -1,0 +1,7 @@
+pub mod Cells
+pub mod Memories
+pub mod Answers
+pub mod Acting
+pub mod Rooms
+pub mod Sends
+pub mod Asking

@@ -1,0 +1,445 @@
+// A form asks.
+ghost use Rattle.std.specs.Prelude.{◌≡◌, ◌≢◌, ◌<◌, ◌≤◌, ◌+◌, ◌∷◌, [], true, false, None, Some, Err};
+ghost use Rattle.std.specs.Prelude.{IfOk, OnOk, IfErr, OnErr, MatchOption, is_some, map, IsNone};
+ghost use Rattle.std.specs.Arc.{arc_value};
+ghost use Rattle.repl_asks.specs.Inside.View.{ask_view, sending_view};
+ghost use Rattle.repl_replies.specs.Replies.{interrupted};
+ghost use Rattle.repl_replies.specs.Inside.View.{origin_view};
+ghost use Rattle.server_rules.specs.Ground.{Ground};
+ghost use Rattle.server_rules.specs.Request as rules;
+ghost use Rattle.server_rules.specs.Tenant.{Quiet, seat_of, with_replies};
+ghost use Rattle.server_rules.specs.Replying.{reply};
+ghost use Rattle.server_rules.specs.Calls.{performed};
+ghost use Rattle.server_rules.specs.Cells.{with_sends_if, must_wait};
+ghost use Rattle.server_rules.specs.Store.{Store, left_attempt};
+ghost use Rattle.server_rules.specs.Asking.{asked_of, call_of, sender_of, session_of};
+ghost use Rattle.server_rules.specs.Asking as meant;
+ghost use Rattle.ref_table.specs.Refs.{Refs, refs_after};
+ghost use Rattle.ref_table.specs.Standing.{counter_of};
+ghost use Rattle.tenant_actors.specs.View.{actor_view, hand_view};
+ghost use Rattle.tenant_turns.specs.DeedResult.{carried_out};
+ghost use Rattle.tenant_asks.specs.Memories.{Remembers, opened_by};
+ghost use Rattle.tenant_asks.specs.Answers.{ask_answer_view, AreSameAnswers};
+ghost use Rattle.tenant_asks.specs.Acting.{AcceptsOutcome, RefusesOutcome, IsActorStep};
+ghost use Rattle.tenant_asks.specs.Acting.{is_accepted};
+ghost use Rattle.tenant_asks.specs.Asking.{Answers, answered_plan, is_of_names};
+ghost use Rattle.tenant_asks.specs.Asking.{is_of_cells, why_waiting};
+ghost use Rattle.tenant_asks.specs.Sends.{committed_sends, is_told_yes, sender_view};
+ghost use Rattle.tenant_asks.specs.Cells.{cells_data};
+ghost use Rattle.tenant_asks.specs.Rooms.{ActorHasRoom};
+ghost use Rattle.tenant_refs.specs.Serving.{PerformsCall, ServesWithAttempts};
+ghost use Rattle.tenant_refs.specs.Thrice.{thrice_view, told_answer, AreThrice};
+
+use crate::acting::interrupt;
+use crate::answers::{AskAnswer, AskAnswers};
+use crate::cells::Cells;
+use crate::keeping::{keep, make_room};
+use crate::memory::Memory;
+use crate::naming::name;
+use crate::sends;
+use crate::sends::{Sender, session_of};
+use ref_history::RingHistory;
+use ref_table::RefTable;
+use repl_asks::{Ask, Exchange, Sending, is_fixed};
+use repl_replies::Origin;
+use server_rules::{Actor, Refusal};
+use std::alloc::{AllocError, Global};
+use std::sync::Arc;
+use tenant_actors::{ActorState, Hand};
+use tenant_refs::{Attempts, Thrice, call, is_told};
+
+// The first number that is none of the language.
+const END_OF_NUMBERS: u64 = 0x8000_0000_0000_0000;
+
+/// The form of the actor that runs asks this. Where it is refused nothing has changed.
+pub fn ask(
+    alloc: Global,
+    memory: &mut Memory,
+    refs: &mut RefTable<RingHistory>,
+    attempts: &mut Attempts,
+    actor: Actor,
+    state: &mut ActorState,
+    ask: &Ask,
+) -> Result<AskAnswers, Refusal>
+    requires { counter_of refs.old < u128.MAX }
+    ensures acted { (g : Ground) (q : Quiet) (s : Store) (r : Refs)
+        → Remembers g s.tenant memory.old q → ServesWithAttempts refs.old attempts.old s r
+        → let d = carried_out s (asked_of g actor (actor_view state.old) (ask_view ask.now) q
+        (actor_view state.old).hand) in IfOk result (λ x.
+        AcceptsOutcome g s.tenant actor q d.outcome memory.new (actor_view state.new)
+        (ask_answer_view x.given)
+        × ServesWithAttempts refs.new attempts.new d.store (refs_after d.store r)) }
+    ensures declined { (g : Ground) (q : Quiet) (s : Store) (r : Refs)
+        → Remembers g s.tenant memory.old q → ServesWithAttempts refs.old attempts.old s r
+        → let d = carried_out s (asked_of g actor (actor_view state.old) (ask_view ask.now) q
+        (actor_view state.old).hand) in IfErr result (λ why.
+        RefusesOutcome g s.tenant q d.outcome memory.new why
+        × ServesWithAttempts refs.new attempts.new s r) }
+    ensures no_memory { (g : Ground) (q : Quiet) (s : Store) (r : Refs)
+        → Remembers g s.tenant memory.old q → ServesWithAttempts refs.old attempts.old s r
+        → result ≡ Err Refusal.NoMemory → is_accepted (carried_out s (asked_of g actor
+        (actor_view state.old) (ask_view ask.now) q (actor_view state.old).hand)).outcome ≡ true }
+    ensures same { IfOk result AreSameAnswers }
+    ensures step { IsActorStep memory.old memory.new (actor_view state.old) (actor_view state.new)
+        result }
+    ensures counter { counter_of refs.new ≤ counter_of refs.old + 1 }
+    ensures failed { OnErr result (counter_of refs.new ≡ counter_of refs.old) }
+{
+    let Some(hand) = &state.hand else {
+        return Err(Refusal::Idle);
+    };
+    let Some(_run) = &hand.running else {
+        return Err(Refusal::Idle);
+    };
+    if !may_ask(actor, ask) {
+        return Err(Refusal::Idle);
+    }
+    if !is_allowed(&memory.cells, ask) {
+        return Err(Refusal::Idle);
+    }
+    if state.is_closed {
+        give_up(alloc, memory, refs, attempts, actor, &hand.origin, ask)?;
+        return Ok(AskAnswers::interrupted());
+    }
+    if must_wait(&memory.cells, actor, ask) {
+        return Err(why_waiting(alloc, refs, attempts, actor, ask));
+    }
+    answer(alloc, memory, refs, attempts, actor, state, ask)
+}
+
+// Outside of attempts an action sends nothing before it ends, and it awaits nothing.
+fn may_ask(actor: Actor, ask: &Ask) -> bool
+    ensures { result ≡ meant.may_ask actor (ask_view ask.now) }
+{
+    match actor {
+        Actor::Agents => !matches!(ask, Ask::Send(_) | Ask::Await(_)),
+        Actor::Bare | Actor::Session(_) => true,
+    }
+}
+
+// Whether the ask breaks no rule of its own: nothing is defined in a namespace that is fixed, nor
+// is it entered, the bounds of a history are numbers of the language, and atoms and agents are
+// there.
+fn is_allowed(cells: &Cells, ask: &Ask) -> bool
+    ensures { result ≡ meant.is_allowed (ask_view ask.now) (cells_data cells.now) }
+{
+    match ask {
+        Ask::Define { namespace, .. } => !is_fixed(namespace.as_str()),
+        Ask::Enter(name) => !is_fixed(name.as_str()),
+        Ask::NewRef {
+            min_history,
+            max_history,
+            ..
+        } => *min_history < END_OF_NUMBERS && *max_history < END_OF_NUMBERS,
+        Ask::MinHistory { set, .. } => may_be_set(*set),
+        Ask::MaxHistory { set, .. } => may_be_set(*set),
+        Ask::ReadAtom(number) | Ask::SetAtom { number, .. } | Ask::TryAtom { number, .. } => {
+            cells.has_atom(*number)
+        }
+        Ask::ReadAgent(number) | Ask::AgentFault(number) | Ask::RestartAgent { number, .. } => {
+            cells.has_agent(*number)
+        }
+        Ask::Send(sending) | Ask::MaySend(sending) => cells.has_agent(sending.agent),
+        Ask::Commit(intent) => cells.has_receivers(intent.sends.as_slice()),
+        Ask::Await(numbers) => cells.has_agents(numbers.as_slice()),
+        Ask::Resolve { .. } | Ask::Begin | Ask::Read(_) | Ask::History(_) => true,
+        Ask::NewAtom(_) | Ask::NewAgent(_) => true,
+    }
+}
+
+fn may_be_set(bound: Option<u64>) -> bool
+    ensures { result ≡ meant.may_be_set bound }
+{
+    match bound {
+        Some(bound) => bound < END_OF_NUMBERS,
+        None => true,
+    }
+}
+
+// Whether the ask is an await that is not met.
+fn must_wait(cells: &Cells, actor: Actor, ask: &Ask) -> bool
+    ensures { result
+        ≡ must_wait (session_of actor) (ask_view ask.now) (cells_data cells.now) }
+{
+    match ask {
+        Ask::Await(numbers) => cells.is_unmet(numbers.as_slice(), session_of(actor)),
+        _ => false,
+    }
+}
+
+// What an await is refused for that is not met: it may not stand where it does anyway.
+fn why_waiting(
+    alloc: Global,
+    refs: &RefTable<RingHistory>,
+    attempts: &Attempts,
+    actor: Actor,
+    ask: &Ask,
+) -> Refusal
+    ensures why { (s : Store) (r : Refs) → ServesWithAttempts refs.now attempts.now s r → result
+        ≡ why_waiting (is_some (performed s (call_of (seat_of actor) (ask_view ask.now))).told) }
+    ensures frugal { result ≢ Refusal.NoMemory }
+    ensures free { result ≢ Refusal.Held }
+{
+    if is_told(alloc, refs, attempts, actor, ask) {
+        Refusal::Waiting
+    } else {
+        Refusal::Idle
+    }
+}
+
+// The session was closed: its request is answered so, and its attempt is over. An ask of which
+// nothing would be told is refused here too.
+fn give_up(
+    alloc: Global,
+    memory: &mut Memory,
+    refs: &RefTable<RingHistory>,
+    attempts: &mut Attempts,
+    actor: Actor,
+    origin: &Arc<Origin>,
+    ask: &Ask,
+) -> Result<(), Refusal>
+    ensures gone { (g : Ground) (q : Quiet) (s : Store) (r : Refs)
+        → Remembers g s.tenant memory.old q → ServesWithAttempts refs.now attempts.old s r
+        → OnOk result
+        ((is_some (performed s (call_of (seat_of actor) (ask_view ask.now))).told ≡ true)
+        × Remembers g s.tenant memory.new
+        (with_replies (reply (origin_view (arc_value origin.now)) interrupted ∷ []) q)
+        × ServesWithAttempts refs.now attempts.new (left_attempt (seat_of actor) s)
+        (refs_after (left_attempt (seat_of actor) s) r)) }
+    ensures stays { (g : Ground) (q : Quiet) (s : Store) (r : Refs)
+        → Remembers g s.tenant memory.old q → ServesWithAttempts refs.now attempts.old s r
+        → IfErr result (λ why. (why ≢ Refusal.NoMemory → (why ≡ Refusal.Idle)
+        × ((performed s (call_of (seat_of actor) (ask_view ask.now))).told ≡ None))
+        × Remembers g s.tenant memory.new q × ServesWithAttempts refs.now attempts.new s r) }
+    ensures no_memory { (s : Store) (r : Refs) → ServesWithAttempts refs.now attempts.old s r
+        → result ≡ Err Refusal.NoMemory
+        → is_some (performed s (call_of (seat_of actor) (ask_view ask.now))).told ≡ true }
+    ensures opened { opened_by memory.new ≡ opened_by memory.old }
+    ensures free { result ≢ Err Refusal.Held }
+{
+    if !is_told(alloc, refs, attempts, actor, ask) {
+        return Err(Refusal::Idle);
+    }
+    interrupt(alloc, memory, origin)?;
+    attempts.leave(actor);
+    Ok(())
+}
+
+// The answer, which is kept with its ask. Where it is refused nothing has changed. Whether anything
+// would be told is asked where memory is refused, and only there: elsewhere the answer itself shows.
+fn answer(
+    alloc: Global,
+    memory: &mut Memory,
+    refs: &mut RefTable<RingHistory>,
+    attempts: &mut Attempts,
+    actor: Actor,
+    state: &mut ActorState,
+    ask: &Ask,
+) -> Result<AskAnswers, Refusal>
+    requires counted { counter_of refs.old < u128.MAX }
+    requires hand { is_some state.old.hand ≡ true }
+    ensures acted { (g : Ground) (q : Quiet) (s : Store) (r : Refs) (h : rules.Hand)
+        (run : rules.Run) → Remembers g s.tenant memory.old q
+        → ServesWithAttempts refs.old attempts.old s r
+        → meant.is_allowed (ask_view ask.now) q.cells ≡ true
+        → (actor_view state.old).hand ≡ Some h → h.running ≡ Some run
+        → let d = carried_out s (answered_plan g actor (actor_view state.old) h run
+        (ask_view ask.now) q) in IfOk result
+        (λ x. AcceptsOutcome g s.tenant actor q d.outcome memory.new
+        (actor_view state.new) (ask_answer_view x.given)
+        × ServesWithAttempts refs.new attempts.new d.store (refs_after d.store r)) }
+    ensures declined { (g : Ground) (q : Quiet) (s : Store) (r : Refs) (h : rules.Hand)
+        (run : rules.Run) → Remembers g s.tenant memory.old q
+        → ServesWithAttempts refs.old attempts.old s r
+        → meant.is_allowed (ask_view ask.now) q.cells ≡ true
+        → let d = carried_out s (answered_plan g actor (actor_view state.old) h run
+        (ask_view ask.now) q) in IfErr result (λ why.
+        RefusesOutcome g s.tenant q d.outcome memory.new why
+        × ServesWithAttempts refs.new attempts.new s r) }
+    ensures no_memory { (g : Ground) (q : Quiet) (s : Store) (r : Refs) (h : rules.Hand)
+        (run : rules.Run) → Remembers g s.tenant memory.old q
+        → ServesWithAttempts refs.old attempts.old s r → result ≡ Err Refusal.NoMemory
+        → is_accepted (carried_out s (answered_plan g actor (actor_view state.old) h run
+        (ask_view ask.now) q)).outcome ≡ true }
+    ensures same { IfOk result AreSameAnswers }
+    ensures stays { OnErr result (actor_view state.new ≡ actor_view state.old) }
+    ensures opened { opened_by memory.new ≡ opened_by memory.old }
+    ensures counter { counter_of refs.new ≤ counter_of refs.old + 1 }
+    ensures failed { OnErr result (counter_of refs.new ≡ counter_of refs.old) }
+    ensures free { result ≢ Err Refusal.Held }
+{
+    let Ok(asked) = copied_with_room(state, ask) else {
+        return Err(why_refused(alloc, refs, attempts, actor, ask));
+    };
+    let Some(hand) = &state.hand else {
+        unreachable!()
+    };
+    let Ok(told) = perform_ask(alloc, memory, refs, attempts, actor, hand, ask) else {
+        return Err(why_refused(alloc, refs, attempts, actor, ask));
+    };
+    let Some(answer) = told else {
+        return Err(Refusal::Idle);
+    };
+    let Thrice { kept, given, noted } = answer;
+    keep(
+        state,
+        Exchange {
+            ask: asked,
+            answer: kept,
+        },
+    );
+    Ok(AskAnswers {
+        given: AskAnswer::Answer(given),
+        noted: AskAnswer::Answer(noted),
+    })
+}
+
+// What an ask is refused for to which memory was: nothing may be told of it anyway.
+fn why_refused(
+    alloc: Global,
+    refs: &RefTable<RingHistory>,
+    attempts: &Attempts,
+    actor: Actor,
+    ask: &Ask,
+) -> Refusal
+    ensures idle { (s : Store) (r : Refs) → ServesWithAttempts refs.now attempts.now s r
+        → result ≢ Refusal.NoMemory → (result ≡ Refusal.Idle)
+        × ((performed s (call_of (seat_of actor) (ask_view ask.now))).told ≡ None) }
+    ensures no_memory { (s : Store) (r : Refs) → ServesWithAttempts refs.now attempts.now s r
+        → result ≡ Refusal.NoMemory
+        → is_some (performed s (call_of (seat_of actor) (ask_view ask.now))).told ≡ true }
+    ensures free { result ≢ Refusal.Held }
+{
+    if is_told(alloc, refs, attempts, actor, ask) {
+        Refusal::NoMemory
+    } else {
+        Refusal::Idle
+    }
+}
+
+// The ask as it is kept, and room for it in the trace. It fails only for want of memory.
+fn copied_with_room(state: &mut ActorState, ask: &Ask) -> Result<Ask, AllocError>
+    ensures copied { IfOk result (λ it. ask_view it ≡ ask_view ask.now) }
+    ensures room { OnOk result (ActorHasRoom state.new) }
+    ensures same { actor_view state.new ≡ actor_view state.old }
+{
+    let asked = ask.copy()?;
+    make_room(state)?;
+    Ok(asked)
+}
+
+// What the answer is, if anything is told, and whatever is asked is done. It fails only for want of
+// memory; then, and where nothing is told, nothing has changed.
+fn perform_ask(
+    alloc: Global,
+    memory: &mut Memory,
+    refs: &mut RefTable<RingHistory>,
+    attempts: &mut Attempts,
+    actor: Actor,
+    hand: &Hand,
+    ask: &Ask,
+) -> Result<Option<Thrice>, AllocError>
+    requires { counter_of refs.old < u128.MAX }
+    ensures answered { (g : Ground) (q : Quiet) (s : Store) (r : Refs)
+        → Remembers g s.tenant memory.old q → ServesWithAttempts refs.old attempts.old s r
+        → meant.is_allowed (ask_view ask.now) q.cells ≡ true
+        → let p = performed s (call_of (seat_of actor) (ask_view ask.now)) in
+        IfOk result (λ it. MatchOption it
+        ((p.told ≡ None) × Remembers g s.tenant memory.new q
+        × ServesWithAttempts refs.new attempts.new s r)
+        (λ answer. Answers g s.tenant actor (sender_of actor (hand_view hand.now)) q
+        (ask_view ask.now) p memory.new refs.new attempts.new r (thrice_view answer))) }
+    ensures stays { (g : Ground) (q : Quiet) (s : Store) (r : Refs)
+        → Remembers g s.tenant memory.old q → ServesWithAttempts refs.old attempts.old s r
+        → OnErr result (Remembers g s.tenant memory.new q
+        × ServesWithAttempts refs.new attempts.new s r) }
+    ensures opened { opened_by memory.new ≡ opened_by memory.old }
+    ensures counter { counter_of refs.new ≤ counter_of refs.old + 1 }
+    ensures untold { IfOk result (λ it. IsNone it → counter_of refs.new ≡ counter_of refs.old) }
+    ensures failed { OnErr result (counter_of refs.new ≡ counter_of refs.old) }
+    ensures thrice { IfOk result AreThrice }
+{
+    if is_of_names(ask) {
+        return Ok(Some(name(alloc, memory, actor, ask)?));
+    }
+    let sender = Sender::of(actor, hand);
+    if is_of_cells(ask) {
+        if !is_told(alloc, refs, attempts, actor, ask) {
+            return Ok(None);
+        }
+        return Ok(Some(memory.cells.ask(alloc, sender, ask)?));
+    }
+    call_and_send(alloc, &mut memory.cells, refs, attempts, actor, sender, ask)
+}
+
+// What the refs tell; where a commit is told to be made, also what it sends is sent. It fails only
+// for want of memory. Then, and where nothing is told, nothing has changed.
+fn call_and_send(
+    alloc: Global,
+    cells: &mut Cells,
+    refs: &mut RefTable<RingHistory>,
+    attempts: &mut Attempts,
+    actor: Actor,
+    sender: Sender<'_>,
+    ask: &Ask,
+) -> Result<Option<Thrice>, AllocError>
+    requires { counter_of refs.old < u128.MAX }
+    ensures called { (q : Quiet) (s : Store) (r : Refs)
+        → ServesWithAttempts refs.old attempts.old s r
+        → meant.is_allowed (ask_view ask.now) q.cells ≡ true
+        → IfOk result (λ it. PerformsCall refs.new attempts.new r (told_answer it)
+        (performed s (call_of (seat_of actor) (ask_view ask.now)))) }
+    ensures sent { IfOk result (λ it. cells_data cells.new
+        ≡ with_sends_if (is_told_yes (told_answer it)) (sender_view sender.entry)
+        (committed_sends (ask_view ask.now)) (cells_data cells.old)) }
+    ensures stays { (s : Store) (r : Refs) → ServesWithAttempts refs.old attempts.old s r
+        → OnErr result (ServesWithAttempts refs.new attempts.new s r) }
+    ensures unsent { OnErr result (cells_data cells.new ≡ cells_data cells.old) }
+    ensures counter { counter_of refs.new ≤ counter_of refs.old + 1 }
+    ensures untold { IfOk result (λ it. IsNone it → counter_of refs.new ≡ counter_of refs.old) }
+    ensures failed { OnErr result (counter_of refs.new ≡ counter_of refs.old) }
+    ensures thrice { IfOk result AreThrice }
+{
+    let prepared = sends::prepare(alloc, &mut cells.agents, sender, sends_of(ask))?;
+    let told = call(alloc, refs, attempts, actor, ask)?;
+    sends::settle(&mut cells.agents, &told, prepared);
+    Ok(told)
+}
+
+// What is sent where a commit is told to be made. Nothing else that the refs tell sends.
+fn sends_of(ask: &Ask) -> &[Sending]
+    ensures { map sending_view result.now ≡ committed_sends (ask_view ask.now) }
+{
+    match ask {
+        Ask::Commit(intent) => intent.sends.as_slice(),
+        _ => &[],
+    }
+}
+
+fn is_of_names(ask: &Ask) -> bool
+    ensures { result ≡ is_of_names (ask_view ask.now) }
+{
+    matches!(
+        ask,
+        Ask::Resolve { .. } | Ask::Define { .. } | Ask::Enter(_)
+    )
+}
+
+fn is_of_cells(ask: &Ask) -> bool
+    ensures { result ≡ is_of_cells (ask_view ask.now) }
+{
+    matches!(
+        ask,
+        Ask::NewAtom(_)
+            | Ask::ReadAtom(_)
+            | Ask::SetAtom { .. }
+            | Ask::TryAtom { .. }
+            | Ask::NewAgent(_)
+            | Ask::ReadAgent(_)
+            | Ask::AgentFault(_)
+            | Ask::RestartAgent { .. }
+            | Ask::Send(_)
+            | Ask::MaySend(_)
+            | Ask::Await(_)
+    )
+}
