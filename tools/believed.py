@@ -14,13 +14,13 @@ import sys
 import workspace
 
 # Where the claim stands: a source file, and the function whose contract it is.
-CLAIM = ("tenant_runner/src/serving.rt", "pipe_command")
+CLAIM = ("machine_runs/src/serving.rt", "pipe_command")
 IMPORT = re.compile(r"^(?:pub )?use Rattle\.(\w+)\.specs\.([\w.]+?)(?:\.\{|\s|$)", re.MULTILINE)
 NO_RULE = re.compile(r"\s*(--|use |pub use |pub mod |mod |$)")
 NAMED = re.compile(r"^ghost use Rattle\.(\w+)\.specs\.([\w.]+)\.\{([^}]*)\};$", re.MULTILINE)
 SERVER = {
-    "repl_sessions", "name_spaces", "server_rules", "trace_comparison", "tenant_turns",
-    "nrepl_pipe", "repl_core",
+    "repl_sessions", "name_spaces", "server_rules", "trace_comparison", "nrepl_pipe", "repl_core",
+    "machine_runs",
 }  # fmt: skip
 
 

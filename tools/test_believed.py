@@ -13,6 +13,7 @@ APART = {"Lib", "Inside", "Isolation", "Machine", "Examples"}
 PARTLY = {
     "repl_core": {"Configured", "Grounds"},
     "private_cells": {"Actions", "Agents", "Atoms", "Places"},
+    "machine_runs": {"Streams"},
 }
 
 

@@ -54,7 +54,8 @@ impl Model for Decoder {
 
 impl Decoder {
     ghost use Rattle.bencode_wire.specs.Inside.View.{tree_view};
-    ghost use Rattle.bencode_wire.specs.Inside.Decoder.{ready_of, rest_of, fault_of, IsUnchanged, DecoderStands};
+    ghost use Rattle.bencode_wire.specs.Inside.Decoder.{ready_of, rest_of, fault_of, IsUnchanged};
+    ghost use Rattle.bencode_wire.specs.Inside.Decoder.{DecoderStands};
     ghost use Rattle.bencode_wire.specs.Inside.Return.{CanReturn};
 
     /// A decoder at the start of a stream. `limit` is the greatest length of a message, and of a

@@ -25,8 +25,8 @@ use Rattle.bytes.specs.contracts.block.Seen as seen
 use lib.ListN.{drop}
 use Rattle.value_data.specs.contracts.value.Value as value
 use Rattle.value_data.specs.contracts.value.RefName as ref_name
-use Rattle.function_names.specs.contracts.function.CoreFunction as core
-use Rattle.function_names.specs.contracts.store.StoreFunction as store
+use Rattle.core_functions.specs.contracts.function.CoreFunction as core
+use Rattle.core_functions.specs.contracts.store.StoreFunction as store
 use Rattle.special_forms.specs.contracts.forms.Forms as forms
 use Rattle.special_forms.specs.contracts.function.Function as function
 use Rattle.repl_values.specs.contracts.fault.Fault as fault
@@ -58,13 +58,13 @@ use Rattle.repl_core.specs.contracts.step.StepAnswer as step_answer
 use Rattle.journal_book.specs.contracts.entry.Entry as entry
 use Rattle.bencode_wire.specs.contracts.decoder.Decoder as decoder
 use Rattle.repl_replies.specs.contracts.reply.Origin as origin
-use Rattle.tenant_actors.specs.contracts.request.ProgramText as program_text
-use Rattle.tenant_actors.specs.contracts.request.Waiting as waiting
-use Rattle.tenant_actors.specs.contracts.request.Manner as manner
-use Rattle.tenant_actors.specs.contracts.request.Run as run
-use Rattle.tenant_actors.specs.contracts.request.Hand as hand
-use Rattle.tenant_actors.specs.contracts.actor.ActorState as actor_state
-use Rattle.tenant_actors.specs.contracts.actors.Actors as actors
+use Rattle.tenant_parts.specs.contracts.request.ProgramText as program_text
+use Rattle.tenant_parts.specs.contracts.request.Waiting as waiting
+use Rattle.tenant_parts.specs.contracts.request.Manner as manner
+use Rattle.tenant_parts.specs.contracts.request.Run as run
+use Rattle.tenant_parts.specs.contracts.request.Hand as hand
+use Rattle.tenant_parts.specs.contracts.actor.ActorState as actor_state
+use Rattle.tenant_parts.specs.contracts.actors.Actors as actors
 use Rattle.repl_sessions.specs.contracts.sessions.Sessions as sessions
 use Rattle.repl_sessions.specs.contracts.state.SessionState as session_state
 use Rattle.name_spaces.specs.contracts.vars.Vars as vars
@@ -78,8 +78,8 @@ use Rattle.private_cells.specs.contracts.turns.Turns as turns
 use Rattle.private_cells.specs.contracts.counts.Counts as action_counts
 use Rattle.private_cells.specs.contracts.spare.Spare as spare
 use Rattle.private_cells.specs.contracts.agents.Agents as agents
-use Rattle.tenant_actors.specs.contracts.outbox.Outbox as outbox
-use Rattle.tenant_refs.specs.contracts.attempts.Attempts as attempts
+use Rattle.tenant_parts.specs.contracts.outbox.Outbox as outbox
+use Rattle.tenant_parts.specs.contracts.attempts.Attempts as attempts
 use Rattle.tenant_world.specs.contracts.tenant.Tenant as tenant
 use Rattle.ref_history.specs.contracts.ring_history.RingHistory as history
 use Rattle.ref_table.specs.contracts.table.RefTable as ref_table

@@ -3,7 +3,7 @@ use std::sync::{Condvar, Mutex, Wait};
 
 /// What a thread of a crew waits for.
 #[derive(Clone, Copy)]
-pub(crate) enum News {
+pub(crate) enum Event {
     /// A message came, so that an actor may have something to begin.
     Request,
     /// Replies were taken out, so that there is room for more.
@@ -14,7 +14,7 @@ pub(crate) enum News {
     Turn,
 }
 
-/// How often there were such news, and how many threads wait for them: to notify nobody takes a
+/// How often an event came, and how many threads wait for the next: to notify nobody takes a
 /// call of the system, too.
 #[derive(Drop)]
 struct Count {
@@ -55,27 +55,27 @@ impl Count {
 }
 
 impl Signs {
-    fn count(&self, news: News) -> &Count {
-        match news {
-            News::Request => &self.requests,
-            News::Room => &self.rooms,
-            News::Send => &self.sends,
-            News::Turn => &self.turns,
+    fn count(&self, event: Event) -> &Count {
+        match event {
+            Event::Request => &self.requests,
+            Event::Room => &self.rooms,
+            Event::Send => &self.sends,
+            Event::Turn => &self.turns,
         }
     }
 
-    fn count_mut(&mut self, news: News) -> &mut Count {
-        match news {
-            News::Request => &mut self.requests,
-            News::Room => &mut self.rooms,
-            News::Send => &mut self.sends,
-            News::Turn => &mut self.turns,
+    fn count_mut(&mut self, event: Event) -> &mut Count {
+        match event {
+            Event::Request => &mut self.requests,
+            Event::Room => &mut self.rooms,
+            Event::Send => &mut self.sends,
+            Event::Turn => &mut self.turns,
         }
     }
 
-    // Counts them once more, and tells whether somebody waits for them.
-    fn note(&mut self, news: News) -> bool {
-        let count = self.count_mut(news);
+    // Counts it once more, and tells whether somebody waits for it.
+    fn note(&mut self, event: Event) -> bool {
+        let count = self.count_mut(event);
         count.came = count.came.wrapping_add(1);
         0 < count.waiting
     }
@@ -163,9 +163,9 @@ impl Desk {
     /// So many messages came. Each may be a request, or close a session that awaits.
     pub(crate) fn note_requests<R: Wait>(&self, rt: &R, count: usize) {
         let mut signs = self.signs.lock(rt);
-        let is_waited_for = signs.note(News::Request);
+        let is_waited_for = signs.note(Event::Request);
         drop(signs);
-        self.note(rt, News::Turn);
+        self.note(rt, Event::Turn);
         if !is_waited_for {
             return;
         }
@@ -179,7 +179,7 @@ impl Desk {
     /// Something was sent to agents, or one was restarted.
     pub(crate) fn wake_agents<R: Wait>(&self, rt: &R) {
         self.signs.lock(rt).are_agents_at_rest = false;
-        self.note(rt, News::Send);
+        self.note(rt, Event::Send);
     }
 
     /// No action has anything to begin. Where the peer sends no more, all may be done. How often
@@ -196,37 +196,37 @@ impl Desk {
         sends
     }
 
-    /// There are such news. All that wait for them go on.
-    pub(crate) fn note<R: Wait>(&self, rt: &R, news: News) {
-        let is_waited_for = self.signs.lock(rt).note(news);
+    /// The event came. All that wait for it go on.
+    pub(crate) fn note<R: Wait>(&self, rt: &R, event: Event) {
+        let is_waited_for = self.signs.lock(rt).note(event);
         if is_waited_for {
-            self.bell(news).notify_all();
+            self.bell(event).notify_all();
         }
     }
 
-    /// How often there were such news until now.
-    pub(crate) fn seen<R: Wait>(&self, rt: &R, news: News) -> u64 {
-        self.signs.lock(rt).count(news).came
+    /// How often the event came until now.
+    pub(crate) fn seen<R: Wait>(&self, rt: &R, event: Event) -> u64 {
+        self.signs.lock(rt).count(event).came
     }
 
-    /// Waits until there are news that were not there when they were so many.
-    pub(crate) fn wait<R: Wait>(&self, rt: &R, news: News, seen: u64) {
+    /// Waits until the event comes once more than so often.
+    pub(crate) fn wait<R: Wait>(&self, rt: &R, event: Event, seen: u64) {
         let mut signs = self.signs.lock(rt);
-        let count = signs.count_mut(news);
+        let count = signs.count_mut(event);
         count.waiting = count.waiting.saturating_add(1);
-        let mut signs = self.bell(news).wait_while(rt, signs, |signs| {
-            signs.count(news).came == seen && !signs.is_over
+        let mut signs = self.bell(event).wait_while(rt, signs, |signs| {
+            signs.count(event).came == seen && !signs.is_over
         });
-        let count = signs.count_mut(news);
+        let count = signs.count_mut(event);
         count.waiting = count.waiting.saturating_sub(1);
     }
 
-    fn bell(&self, news: News) -> &Condvar {
-        match news {
-            News::Request => &self.requested,
-            News::Room => &self.emptied,
-            News::Send => &self.sent,
-            News::Turn => &self.turned,
+    fn bell(&self, event: Event) -> &Condvar {
+        match event {
+            Event::Request => &self.requested,
+            Event::Room => &self.emptied,
+            Event::Send => &self.sent,
+            Event::Turn => &self.turned,
         }
     }
 

@@ -1,21 +1,20 @@
 // The steps that a crew makes through the book, each under one hold of its lock.
 ghost use Rattle.std.specs.Prelude.{◌≡◌};
 
-use crate::desk::{Desk, News};
+use crate::desk::{Desk, Event};
 use crate::gate::Gate;
 use bytes::Bytes;
 use journal_book::{Book, Receipt, Seat};
 use repl_asks::{Answer, Ask, Job};
 use repl_core::{Refused, Step, StepAnswer};
 use repl_walker::Ending;
-use server_rules::{Actor, Refusal};
+use server_rules::{Actor, Refusal, Wire};
 use std::alloc::Global;
 use std::hint::spin_loop;
 use std::net::{Shutdown, TcpStream};
 use std::sync::ledger::Ledger;
 use std::sync::{Mutex, MutexGuard, Wait};
 use std::thread;
-use tenant_turns::Wire;
 
 // How often the book's lock is tried before a thread sleeps for it, how many pauses lie between two
 // tries, and after how many tries other threads may run.
@@ -111,7 +110,7 @@ impl<'a, L: Ledger, G: Gate> Connection<'a, L, G> {
                     why: Refusal::Held,
                     step: Step::Hear(_, piece),
                 },
-            ) => { Heard::Held(piece, self.desk.seen(rt, News::Room)) }
+            ) => { Heard::Held(piece, self.desk.seen(rt, Event::Room)) }
             Err(_) => Heard::Refused,
         }
     }
@@ -124,7 +123,7 @@ impl<'a, L: Ledger, G: Gate> Connection<'a, L, G> {
         let mut book = locked(rt, self.book);
         let Some(actor) = book.ready(tenant) else {
             return match self.desk.is_reading(rt) {
-                true => Found::Nothing(self.desk.seen(rt, News::Request)),
+                true => Found::Nothing(self.desk.seen(rt, Event::Request)),
                 false => Found::Done,
             };
         };
@@ -181,7 +180,7 @@ impl<'a, L: Ledger, G: Gate> Connection<'a, L, G> {
                     why: Refusal::Held,
                     step: _,
                 },
-            ) => Ok(Found::Held(self.desk.seen(rt, News::Room))),
+            ) => Ok(Found::Held(self.desk.seen(rt, Event::Room))),
             Err(Refused { why, step: _ }) => Err(why),
         }
     }
@@ -211,7 +210,7 @@ impl<'a, L: Ledger, G: Gate> Connection<'a, L, G> {
                     why: Refusal::Waiting,
                     step: _,
                 },
-            ) => Told::Waiting(self.desk.seen(rt, News::Turn)),
+            ) => Told::Waiting(self.desk.seen(rt, Event::Turn)),
             Err(_) => Told::Refused,
         }
     }
@@ -232,20 +231,20 @@ impl<'a, L: Ledger, G: Gate> Connection<'a, L, G> {
             Ok(_) => {
                 let replies = self.replies(rt, &mut *book, seat);
                 if actor == Actor::Agents {
-                    self.desk.note(rt, News::Turn);
+                    self.desk.note(rt, Event::Turn);
                     return Ended::Taken(replies, None);
                 }
                 if book.ready(tenant).is_some() || !self.desk.is_reading(rt) {
                     return Ended::Taken(replies, None);
                 }
-                Ended::Taken(replies, Some(self.desk.seen(rt, News::Request)))
+                Ended::Taken(replies, Some(self.desk.seen(rt, Event::Request)))
             }
             Err(
                 Refused {
                     why: Refusal::Held,
                     step: Step::Ended(_, _, ending),
                 },
-            ) => { Ended::Held(ending, self.desk.seen(rt, News::Room)) }
+            ) => { Ended::Held(ending, self.desk.seen(rt, Event::Room)) }
             Err(_) => Ended::Refused,
         }
     }
@@ -277,7 +276,7 @@ impl<'a, L: Ledger, G: Gate> Connection<'a, L, G> {
         if replies.is_empty() {
             self.desk.return_pen(rt);
         } else {
-            self.desk.note(rt, News::Room);
+            self.desk.note(rt, Event::Room);
         }
         replies
     }

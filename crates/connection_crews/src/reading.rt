@@ -1,5 +1,5 @@
 // The reader of a crew: what the peer sends is heard.
-use crate::desk::News;
+use crate::desk::Event;
 use crate::gate::Gate;
 use crate::moves::{Connection, Heard};
 use bytes::Bytes;
@@ -95,7 +95,7 @@ fn hear<L: Ledger, R: Wait, G: Gate>(
                 return goes_on;
             }
             Heard::Held(back, seen) => {
-                connection.desk.wait(rt, News::Room, seen);
+                connection.desk.wait(rt, Event::Room, seen);
                 if connection.desk.is_over(rt) {
                     return false;
                 }

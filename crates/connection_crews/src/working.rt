@@ -1,5 +1,5 @@
 // The workers of a crew: forms are evaluated, and each ask and each end is handed in.
-use crate::desk::News;
+use crate::desk::Event;
 use crate::gate::Gate;
 use crate::moves::{Connection, Ended, Found, Told};
 use journal_book::Seat;
@@ -38,13 +38,13 @@ pub(crate) fn work<L: Ledger, R: Wait, G: Gate>(
                 }
                 connection.desk.end_evaluation(rt);
                 if let Next::Wait(seen) = next {
-                    connection.desk.wait(rt, News::Request, seen);
+                    connection.desk.wait(rt, Event::Request, seen);
                 }
             }
             Found::Answered(replies) => connection.write(rt, replies),
             Found::Nothing(seen) => connection.desk.wait(rt, what_brings_work(duty), seen),
             Found::Done => break,
-            Found::Held(seen) => connection.desk.wait(rt, News::Room, seen),
+            Found::Held(seen) => connection.desk.wait(rt, Event::Room, seen),
             Found::Refused => connection.cut(rt),
         }
     }
@@ -63,10 +63,10 @@ fn found<L: Ledger, R: Wait, G: Gate>(
     }
 }
 
-fn what_brings_work(duty: Duty) -> News {
+fn what_brings_work(duty: Duty) -> Event {
     match duty {
-        Duty::Requests => News::Request,
-        Duty::Actions => News::Send,
+        Duty::Requests => Event::Request,
+        Duty::Actions => Event::Send,
     }
 }
 
@@ -152,7 +152,7 @@ fn ask<L: Ledger, R: Wait, G: Gate>(
         match connection.ask(rt, seat, actor, asked) {
             Told::Answer(answer) => return Ok(answer),
             Told::Waiting(seen) => {
-                connection.desk.wait(rt, News::Turn, seen);
+                connection.desk.wait(rt, Event::Turn, seen);
                 if connection.desk.is_over(rt) {
                     return Err(Next::Cut);
                 }
@@ -185,7 +185,7 @@ fn end<L: Ledger, R: Wait, G: Gate>(
                 };
             }
             Ended::Held(back, seen) => {
-                connection.desk.wait(rt, News::Room, seen);
+                connection.desk.wait(rt, Event::Room, seen);
                 if connection.desk.is_over(rt) {
                     return Next::Cut;
                 }

@@ -5,8 +5,8 @@ use Rattle.std.specs.Prelude.{◌&&◌, if◌then◌else◌}
 use Rattle.value_data.specs.Datum.{Datum, nil}
 use Rattle.value_data.specs.Measures.{weight, nesting}
 use Rattle.value_data.proofs.Views.{value_views}
-use Rattle.repl_faults.specs.Failure.{Failure, too_large, output_too_long}
-use Rattle.core_texts.specs.Limits.{most_weight, most_text, if_short, within_weight}
+use Rattle.repl_values.specs.Failure.{Failure, too_large, output_too_long}
+use Rattle.core_scalars.specs.Limits.{most_weight, most_text, if_short, within_weight}
 use Rattle.core_functions.specs.ApplyOutcome.{gives, fails, most_nesting, limited_outcome}
 use Rattle.core_functions.specs.ApplyOutcome.{apply_outcome, bounded_outcome, printed_nil}
 

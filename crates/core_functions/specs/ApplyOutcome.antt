@@ -3,9 +3,9 @@ use Rattle.std.specs.Prelude.{ℕ, List, [], length, Option, Some, None, Result,
 use Rattle.std.specs.Prelude.{nat_lt, ◌&&◌, if◌then◌else◌}
 use Rattle.value_data.specs.Datum.{Datum, nil}
 use Rattle.value_data.specs.Measures.{weight, nesting}
-use Rattle.repl_faults.specs.Failure.{Failure, too_large, output_too_long}
+use Rattle.repl_values.specs.Failure.{Failure, too_large, output_too_long}
 use Rattle.repl_values.specs.declared.limits.TheConstants.{MOST_NESTING}
-use Rattle.core_texts.specs.Limits.{most_weight, most_text}
+use Rattle.core_scalars.specs.Limits.{most_weight, most_text}
 
 pub data ApplyOutcome : Type 0 where
   -- a value, and the text that was printed

@@ -1,3 +1,5 @@
 pub mod ApplyOutcome
 pub mod Meaning
+pub mod Names
+pub mod StoreNames
 pub mod Inside

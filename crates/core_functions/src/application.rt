@@ -1,19 +1,17 @@
 // Applying a function to values.
 ghost use Rattle.std.specs.Prelude.{◌≡◌, true, length, map, option_map, string_bytes};
 ghost use Rattle.value_data.specs.Inside.View.{view};
-ghost use Rattle.function_names.specs.Names.{fits};
+ghost use Rattle.core_functions.specs.Names.{fits};
 ghost use Rattle.core_functions.specs.ApplyOutcome.{limited_outcome, bounded_outcome, printed_nil};
 ghost use Rattle.core_functions.specs.Meaning.{meaning};
 ghost use Rattle.core_functions.specs.Inside.View.{GivesOutcome};
 
-use core_integers::apply_integers;
-use core_maps::apply_maps;
-use core_predicates::apply_predicates;
-use core_sequences::apply_sequences;
-use core_texts::{apply_texts, text_printed};
-use function_names::CoreFunction;
-use repl_faults::{ApplyError, output_too_long, too_large};
-use repl_values::{MOST_NESTING, MOST_WEIGHT, Value, nesting, weight};
+use crate::function::CoreFunction;
+use core_collections::{apply_maps, apply_sequences};
+use core_scalars::{apply_integers, apply_predicates, apply_texts, text_printed};
+use repl_values::{
+    ApplyError, MOST_NESTING, MOST_WEIGHT, Value, nesting, output_too_long, too_large, weight,
+};
 use std::alloc::Global;
 
 /// What a function gave, and the text that it printed.

@@ -1,10 +1,15 @@
-//! The functions of the language that need no store: what each gives for its arguments.
+//! The functions of the language: which there are, by their names in `clojure.core`, how many
+//! arguments each takes, and what those give that need no store.
 //!
-//! Which there are is said by `function_names`, whose calls stand here too. `apply` goes by the
-//! `CoreFunction` of a name. Each group of functions has a crate of its own.
+//! A name is looked up once: into a `CoreFunction`, which needs no store and which `apply` goes by,
+//! or into a `StoreFunction`, which is evaluated by asks. `core_scalars` and `core_collections`
+//! have the groups of the former.
 #![tactic(auto)]
 
 mod application;
+mod function;
+mod store;
 
 pub use application::{Applied, apply};
-pub use function_names::{CoreFunction, arity_fits, knows};
+pub use function::{CoreFunction, arity_fits, knows};
+pub use store::StoreFunction;

@@ -3,7 +3,7 @@ use Rattle.std.specs.Prelude.{ℕ, ℤ, pos, negsuc, List, slice_get, slice_inde
 use Rattle.std.specs.Prelude.{drop, Result, Ok, Err}
 use Rattle.std.specs.List.{zip}
 use Rattle.value_data.specs.Datum.{Datum, nil, integer}
-use Rattle.repl_faults.specs.Failure.{Failure, wrong_argument}
+use Rattle.repl_values.specs.Failure.{Failure, wrong_argument}
 
 -- each beside the next
 abbrev pub neighbours : {A : Type 0} → List A → List (A × A)

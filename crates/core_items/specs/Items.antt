@@ -2,7 +2,7 @@
 use Rattle.std.specs.Prelude.{ℕ, List, [], map as each, Result, Ok, Err}
 use Rattle.value_data.specs.Datum.{Datum, nil, list, vector, map}
 use Rattle.value_data.specs.Listed.{listed, pairs_listed, vector_of_two}
-use Rattle.repl_faults.specs.Failure.{Failure, wrong_argument}
+use Rattle.repl_values.specs.Failure.{Failure, wrong_argument}
 
 -- of nil none, of a list or a vector its own, of a map its pairs as vectors of two
 abbrev pub items_in : List ℕ → Datum → Result (List Datum) Failure

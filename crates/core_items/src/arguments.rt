@@ -3,12 +3,11 @@
 
 ghost use Rattle.std.specs.Prelude.{◌≡◌, map, option_map};
 ghost use Rattle.value_data.specs.Inside.View.{view};
-ghost use Rattle.repl_faults.specs.Inside.View.{Gives};
+ghost use Rattle.repl_values.specs.Inside.FaultView.{Gives};
 ghost use Rattle.core_items.specs.Items.{row_in};
 ghost use Rattle.core_items.specs.Arguments as meant;
 
-use repl_faults::{ApplyError, wrong_argument};
-use repl_values::Value;
+use repl_values::{ApplyError, Value, wrong_argument};
 use std::alloc::Global;
 
 /// The integer that an argument of the function of this name is.

@@ -3,13 +3,12 @@
 
 ghost use Rattle.std.specs.Prelude.{◌≡◌, ◌<◌, ◌^◌, length, drop, map, IfOk};
 ghost use Rattle.value_data.specs.Inside.View.{view};
-ghost use Rattle.repl_faults.specs.Inside.View.{Gives};
+ghost use Rattle.repl_values.specs.Inside.FaultView.{Gives};
 ghost use Rattle.core_items.specs.Items.{items_in};
 ghost use Rattle.core_items.specs.Arguments.{item_or_nil};
 ghost use Rattle.core_items.specs.Inside.View.{row_view, pair_vectors};
 
-use repl_faults::{ApplyError, wrong_argument};
-use repl_values::{Value, copy, copy_items, pair_as_vector};
+use repl_values::{ApplyError, Value, copy, copy_items, pair_as_vector, wrong_argument};
 use std::alloc::{AllocError, Global};
 
 /// Where the items stand: as values, or as a map's pairs.

@@ -1,9 +1,9 @@
 -- Sending to agents (the Clojure reference, Agents and Asynchronous Actions).
 use Rattle.std.specs.Prelude.{List, [], ◌∷◌, Bool, true, false, Result, Ok, Err, ℕ}
 use Rattle.value_data.specs.Datum.{Datum, agent}
-use Rattle.repl_faults.specs.Failure as failures
-use Rattle.repl_faults.specs.Failure.{Failure}
-use Rattle.function_names.specs.StoreNames.{store_name_of}
+use Rattle.repl_values.specs.Failure as failures
+use Rattle.repl_values.specs.Failure.{Failure}
+use Rattle.core_functions.specs.StoreNames.{store_name_of}
 use Rattle.repl_asks.specs.Sends.{NamedFunctionData, SendingData}
 use Rattle.repl_asks.specs.Exchange.{AskData, send, may_send, PermissionData, granted, denied}
 use Rattle.repl_asks.specs.Exchange.{permission_in}

@@ -3,10 +3,10 @@
 use Rattle.std.specs.Prelude.{ℕ, zero, suc, List, [], ◌∷◌, ◌++◌, Bool, true, false, Some}
 use Rattle.std.specs.Prelude.{if◌then◌else◌, ◌==◌, ◌||◌, length, codes}
 use Rattle.value_data.specs.Datum.{Datum, nil, keyword}
-use Rattle.repl_faults.specs.Failure as failures
-use Rattle.core_maps.specs.declared.function.MapFunction.{MapFunction}
-use Rattle.function_names.specs.Names.{name_of, fits}
-use Rattle.function_names.specs.declared.function.CoreFunction.{CoreFunction}
+use Rattle.repl_values.specs.Failure as failures
+use Rattle.core_collections.specs.declared.map_function.MapFunction.{MapFunction}
+use Rattle.core_functions.specs.Names.{name_of, fits}
+use Rattle.core_functions.specs.declared.function.CoreFunction.{CoreFunction}
 use Rattle.core_functions.specs.ApplyOutcome as outcomes
 use Rattle.core_functions.specs.ApplyOutcome.{ApplyOutcome}
 use Rattle.core_functions.specs.Meaning.{meaning}

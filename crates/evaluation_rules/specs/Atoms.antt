@@ -1,10 +1,10 @@
 -- `swap!` (the Clojure reference, Atoms). `walk` evaluates a form one level further down.
 use Rattle.std.specs.Prelude.{ℕ, zero, suc, List, [], ◌∷◌, Result, Ok, Err, if◌then◌else◌}
 use Rattle.value_data.specs.Datum.{Datum}
-use Rattle.repl_faults.specs.Failure as failures
-use Rattle.repl_faults.specs.Failure.{Failure}
-use Rattle.function_names.specs.StoreNames.{store_name_of}
-use Rattle.function_names.specs.declared.store.StoreFunction.{StoreFunction}
+use Rattle.repl_values.specs.Failure as failures
+use Rattle.repl_values.specs.Failure.{Failure}
+use Rattle.core_functions.specs.StoreNames.{store_name_of}
+use Rattle.core_functions.specs.declared.store.StoreFunction.{StoreFunction}
 use Rattle.repl_asks.specs.Exchange.{NamedFunctionData, read_atom, try_atom}
 use Rattle.special_forms.specs.Truth.{is_truthy}
 use Rattle.store_calls.specs.Arguments.{atom_in}

@@ -2,10 +2,10 @@
 -- one level further down.
 use Rattle.std.specs.Prelude.{ℕ, suc, List, [], ◌∷◌, Bool, true, false, if◌then◌else◌, ◌==◌, length}
 use Rattle.value_data.specs.Datum.{Datum}
-use Rattle.repl_faults.specs.Failure as failures
-use Rattle.repl_faults.specs.declared.rule.Rule.{Rule}
-use Rattle.function_names.specs.StoreNames.{store_name_of, store_fits}
-use Rattle.function_names.specs.declared.store.StoreFunction.{StoreFunction}
+use Rattle.repl_values.specs.Failure as failures
+use Rattle.repl_values.specs.declared.rule.Rule.{Rule}
+use Rattle.core_functions.specs.StoreNames.{store_name_of, store_fits}
+use Rattle.core_functions.specs.declared.store.StoreFunction.{StoreFunction}
 use Rattle.repl_asks.specs.Transactions.{RefNameData, CommuteData, may_hold}
 use Rattle.repl_asks.specs.Exchange.{NamedFunctionData, core_function, store_function}
 use Rattle.repl_asks.specs.Exchange.{program_function}

@@ -4,7 +4,7 @@ use Rattle.std.specs.Option.{option_and_then}
 use Rattle.value_data.specs.Datum.{Datum, vector, map}
 use Rattle.value_data.specs.Listed.{items_of, pairs_of}
 use Rattle.value_data.specs.Repeats.{first_repeat}
-use Rattle.repl_faults.specs.Failure as failures
+use Rattle.repl_values.specs.Failure as failures
 use Rattle.core_functions.specs.ApplyOutcome as outcomes
 use Rattle.core_functions.specs.ApplyOutcome.{ApplyOutcome, limited_outcome}
 use Rattle.evaluation_rules.specs.Doing.{Part, pure_part, fails}

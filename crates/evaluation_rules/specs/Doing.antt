@@ -2,7 +2,7 @@
 -- before it nor what an attempt has so far, unless it looks.
 use Rattle.std.specs.Prelude.{ℕ, List, Bool}
 use Rattle.value_data.specs.Datum.{Datum}
-use Rattle.repl_faults.specs.Failure.{Failure}
+use Rattle.repl_values.specs.Failure.{Failure}
 use Rattle.repl_asks.specs.Exchange.{AskData, AnswerData, ResolutionData, resolution_in}
 use Rattle.tx_attempt.specs.Accesses.{AccessData, AttemptData}
 use Rattle.evaluation_rules.specs.declared.occasion.Occasion.{Occasion}

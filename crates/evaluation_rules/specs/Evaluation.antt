@@ -4,7 +4,7 @@ use Rattle.std.specs.Prelude.{ℕ, zero, suc, List, [], ◌∷◌, false, Option
 use Rattle.std.specs.Prelude.{if◌then◌else◌, codes}
 use Rattle.value_data.specs.Datum.{Datum, keyword, symbol, list, vector, map, no_items, item}
 use Rattle.value_data.specs.Listed.{listed}
-use Rattle.repl_faults.specs.Failure as failures
+use Rattle.repl_values.specs.Failure as failures
 use Rattle.repl_asks.specs.Job as jobs
 use Rattle.repl_asks.specs.Job.{WorkData, JobData}
 use Rattle.repl_asks.specs.Sends.{TaskData}

@@ -4,11 +4,11 @@ use Rattle.std.specs.Prelude.{ℕ, List, Option, Some, None, ◌+◌, if◌then�
 use Rattle.std.specs.List.{position}
 use Rattle.std.specs.Str.{bytes_eq}
 use Rattle.value_data.specs.Datum.{Datum, symbol}
-use Rattle.repl_faults.specs.Failure as failures
-use Rattle.function_names.specs.Names.{function_named}
-use Rattle.function_names.specs.StoreNames.{store_function_named}
-use Rattle.function_names.specs.declared.function.CoreFunction.{CoreFunction}
-use Rattle.function_names.specs.declared.store.StoreFunction.{StoreFunction}
+use Rattle.repl_values.specs.Failure as failures
+use Rattle.core_functions.specs.Names.{function_named}
+use Rattle.core_functions.specs.StoreNames.{store_function_named}
+use Rattle.core_functions.specs.declared.function.CoreFunction.{CoreFunction}
+use Rattle.core_functions.specs.declared.store.StoreFunction.{StoreFunction}
 use Rattle.repl_asks.specs.Exchange.{resolve, NamedFunctionData, core_function, store_function}
 use Rattle.repl_asks.specs.Exchange.{ResolutionData, names_value, names_function, names_nothing}
 use Rattle.special_forms.specs.Locals.{local_value}

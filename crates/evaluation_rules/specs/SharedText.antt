@@ -3,9 +3,9 @@
 use Rattle.std.specs.Prelude.{List, ℕ, Bool, true, false, Option, Some, None, if◌then◌else◌, ◌||◌}
 use Rattle.value_data.specs.Datum.{Datum, symbol, list, item, ref}
 use Rattle.value_data.specs.Measures.{is_plain}
-use Rattle.repl_faults.specs.Failure as failures
-use Rattle.repl_faults.specs.Failure.{Failure, broken_rule}
-use Rattle.repl_faults.specs.declared.rule.Rule.{Rule}
+use Rattle.repl_values.specs.Failure as failures
+use Rattle.repl_values.specs.Failure.{Failure, broken_rule}
+use Rattle.repl_values.specs.declared.rule.Rule.{Rule}
 use Rattle.repl_asks.specs.Exchange.{BindingData, bound_value, bound_function}
 use Rattle.repl_asks.specs.Namespaces.{is_fixed}
 use Rattle.repl_asks.specs.Job as jobs

@@ -3,10 +3,10 @@
 use Rattle.std.specs.Prelude.{ℕ, List, [], ◌∷◌, Option, Some, None, if◌then◌else◌, nat_lt, length}
 use Rattle.std.specs.Prelude.{codes}
 use Rattle.value_data.specs.Datum.{Datum, nil, symbol, var, fault}
-use Rattle.repl_faults.specs.Failure as failures
-use Rattle.repl_faults.specs.Failure.{Failure}
-use Rattle.core_texts.specs.Limits.{most_weight}
-use Rattle.core_texts.specs.Meaning.{shown_text}
+use Rattle.repl_values.specs.Failure as failures
+use Rattle.repl_values.specs.Failure.{Failure}
+use Rattle.core_scalars.specs.Limits.{most_weight}
+use Rattle.core_scalars.specs.TextMeaning.{shown_text}
 use Rattle.repl_asks.specs.Exchange.{BindingData, bound_value, bound_function, define, enter}
 use Rattle.repl_asks.specs.Namespaces.{is_fixed}
 use Rattle.special_forms.specs.Rows.{BoundForm}

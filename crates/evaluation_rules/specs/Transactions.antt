@@ -1,8 +1,8 @@
 -- Transactions (the Clojure reference, Refs and Transactions; `dosync` and `io!` of clojure.core).
 use Rattle.std.specs.Prelude.{ℕ, zero, suc, Bool, true, false, if◌then◌else◌}
 use Rattle.value_data.specs.Datum.{Datum}
-use Rattle.repl_faults.specs.Failure.{broken_rule}
-use Rattle.repl_faults.specs.declared.rule.Rule.{Rule}
+use Rattle.repl_values.specs.Failure.{broken_rule}
+use Rattle.repl_values.specs.declared.rule.Rule.{Rule}
 use Rattle.repl_asks.specs.Exchange.{begin, commit, VerdictData, committed, conflict, faulted}
 use Rattle.repl_asks.specs.Exchange.{verdict_in}
 use Rattle.tx_attempt.specs.Accesses.{AttemptData, intent_of, nothing_noted}

@@ -2,10 +2,10 @@
 use Rattle.std.specs.Prelude.{ℕ, ◌+◌, List, ◌++◌, Result, Ok, Err, length, nat_lt}
 use Rattle.std.specs.Prelude.{if◌then◌else◌}
 use Rattle.value_data.specs.Datum.{Datum}
-use Rattle.core_texts.specs.Limits.{most_text}
-use Rattle.repl_faults.specs.Failure as failures
-use Rattle.repl_faults.specs.Failure.{Failure}
-use Rattle.repl_faults.specs.declared.rule.Rule.{Rule}
+use Rattle.core_scalars.specs.Limits.{most_text}
+use Rattle.repl_values.specs.Failure as failures
+use Rattle.repl_values.specs.Failure.{Failure}
+use Rattle.repl_values.specs.declared.rule.Rule.{Rule}
 use Rattle.repl_asks.specs.InteractionTree.{InteractionTree, finished, asks}
 use Rattle.tx_attempt.specs.Accesses.{AttemptData, noted, nothing_noted}
 use Rattle.evaluation_rules.specs.Doing.{Kept, Exit, gave, failed, retried, Doing, left, asking}

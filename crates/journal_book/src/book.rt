@@ -9,7 +9,7 @@ ghost use Rattle.server_rules.specs.Machine.World.{World, opened_world, opens};
 ghost use Rattle.server_rules.specs.Machine.Turns.{whose_step, serve};
 ghost use Rattle.repl_core.specs.Configured.{IsConfigured};
 ghost use Rattle.repl_core.specs.Starting.{TellsFault};
-ghost use Rattle.tenant_turns.specs.Inside.Wires.{wire_at};
+ghost use Rattle.server_rules.specs.Inside.Wires.{wire_at};
 ghost use Rattle.repl_core.specs.Standing.{open_in};
 ghost use Rattle.repl_core.specs.Steps.{step_view, step_answer_view};
 ghost use Rattle.journal_book.specs.Alone.{bytes_to, NamesNoSharedIn, IsHonest, steps_of, turns_of};
@@ -22,12 +22,11 @@ use crate::entry::Entry;
 use crate::report::Report;
 use crate::seat::Seat;
 use repl_core::{Config, LoadError, Machine, Refused, Step, StepAnswer};
-use server_rules::{Actor, Refusal};
+use server_rules::{Actor, Refusal, Wire};
 use std::alloc::Global;
 use std::marker::Model;
 use std::sync::ledger;
 use std::sync::ledger::{Blank, Ledger, Share};
-use tenant_turns::Wire;
 
 /// How many tenants a book admits in all.
 pub const TENANTS: u64 = 1_000_000;

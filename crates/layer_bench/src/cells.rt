@@ -1,6 +1,6 @@
 // Sends to agents and runs what was sent, and tries at an atom, so that both can be timed alone.
 use crate::number_of;
-use function_names::StoreFunction;
+use core_functions::StoreFunction;
 use private_cells::{Action, Agents, Atoms};
 use repl_asks::{NamedFunction, Task};
 use repl_replies::Origin;

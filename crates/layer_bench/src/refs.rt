@@ -4,7 +4,7 @@ ghost use Rattle.ref_history.specs.Changes.{IsAbsent};
 ghost use Rattle.ref_history.specs.declared.ref_id.RefId.{RefId};
 
 use crate::number_of;
-use function_names::CoreFunction;
+use core_functions::CoreFunction;
 use ref_history::{Bounds, History};
 use ref_table::{CommitOutcome, Point, RefTable};
 use repl_asks::{Change, Commute, Commuted, Intent, Reading};

@@ -3,11 +3,11 @@ use Rattle.std.specs.Prelude.{ℕ, List, Option, Some, None, ◌+◌, if◌then�
 use Rattle.std.specs.List.{position}
 use Rattle.std.specs.Str.{bytes_eq}
 use Rattle.repl_values.specs.Slash.{is_slash}
-use Rattle.repl_faults.specs.Failure as failures
-use Rattle.function_names.specs.Names.{function_named}
-use Rattle.function_names.specs.StoreNames.{store_function_named}
-use Rattle.function_names.specs.declared.function.CoreFunction.{CoreFunction}
-use Rattle.function_names.specs.declared.store.StoreFunction.{StoreFunction}
+use Rattle.repl_values.specs.Failure as failures
+use Rattle.core_functions.specs.Names.{function_named}
+use Rattle.core_functions.specs.StoreNames.{store_function_named}
+use Rattle.core_functions.specs.declared.function.CoreFunction.{CoreFunction}
+use Rattle.core_functions.specs.declared.store.StoreFunction.{StoreFunction}
 use Rattle.repl_asks.specs.Exchange.{BindingData, bound_value, bound_function, ResolutionData}
 use Rattle.repl_asks.specs.Exchange.{names_value, names_function, names_nothing, core_function}
 use Rattle.repl_asks.specs.Exchange.{store_function, program_function}

@@ -1,7 +1,7 @@
 // How symbols are resolved in the namespaces of a tenant, and in the text of the shared one.
 ghost use Rattle.std.specs.Prelude.{◌≡◌, IfOk, option_map};
-ghost use Rattle.repl_faults.specs.Inside.View.{failure_of};
-ghost use Rattle.function_names.specs.StoreNames.{store_function_named};
+ghost use Rattle.repl_values.specs.Inside.FaultView.{failure_of};
+ghost use Rattle.core_functions.specs.StoreNames.{store_function_named};
 ghost use Rattle.repl_asks.specs.Exchange.{names_function, names_nothing};
 ghost use Rattle.repl_asks.specs.Inside.View.{binding_view, named_view, resolution_view};
 ghost use Rattle.name_spaces.specs.Latest.{latest_named};
@@ -16,10 +16,9 @@ use crate::found::Found;
 use crate::latest::Latest;
 use crate::spaces::Spaces;
 use crate::vars::Vars;
-use function_names::{CoreFunction, StoreFunction};
+use core_functions::{CoreFunction, StoreFunction};
 use repl_asks::{Binding, NamedFunction, Resolution};
-use repl_faults::{no_such_namespace, no_such_var, unresolved_symbol};
-use repl_values::{Fault, copy};
+use repl_values::{Fault, copy, no_such_namespace, no_such_var, unresolved_symbol};
 use std::alloc::{AllocError, Global};
 use std::collections::BTreeMap;
 use std::sync::Arc;

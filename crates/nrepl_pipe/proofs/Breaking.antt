@@ -5,7 +5,7 @@ use Rattle.std.specs.Io.KnownBytes.{Consumes}
 use Rattle.std.proofs.KnownBytes.{Appends-nil, Appends-trans}
 use Rattle.bencode_wire.specs.Spelling.{spellings_joined}
 use Rattle.server_rules.specs.Ground.{Ground}
-use Rattle.tenant_turns.specs.Turns.{Lone, LoneTurn, hears, lone_after, lone_run, lone_served}
+use Rattle.server_rules.specs.LoneTurns.{Lone, LoneTurn, hears, lone_after, lone_run, lone_served}
 use Rattle.nrepl_pipe.specs.Schedule.{AreRounds}
 use Rattle.nrepl_pipe.specs.Served.{Moves, BeginsToServe}
 use Rattle.nrepl_pipe.specs.Inside.Parts.{IsPiece, LosesPiece, Begins, BeginsRounds}

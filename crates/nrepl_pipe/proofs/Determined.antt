@@ -1,7 +1,7 @@
 -- The pieces of a stream determine their turns: a schedule is a function, said as a relation.
 use Rattle.std.proofs.Common.{◌≡◌, ℕ, List, [], ◌∷◌, ◌++◌, refl, sym, ap, ◌∙◌, subst}
 use Rattle.server_rules.specs.Ground.{Ground}
-use Rattle.tenant_turns.specs.Turns.{Lone, LoneTurn, hears, lone_after, lone_run}
+use Rattle.server_rules.specs.LoneTurns.{Lone, LoneTurn, hears, lone_after, lone_run}
 use Rattle.nrepl_pipe.specs.Schedule.{round, AreRounds, last, more, IsSchedule}
 
 pub rounds-same : (g : Ground) (q : Lone) (ts us : List LoneTurn) → AreRounds g q ts

@@ -7,10 +7,10 @@ use Rattle.repl_replies.specs.Replies.{ReplyData, bytes_of}
 use Rattle.server_rules.specs.Ground.{Ground}
 use Rattle.server_rules.specs.Deeds.{drain_outcome}
 use Rattle.server_rules.specs.declared.refusal.Refusal.{Refusal}
-use Rattle.tenant_turns.specs.DeedResult.{deed_result}
-use Rattle.tenant_turns.specs.Turns.{Lone, LoneTurn, drains, LoneStepped, accepted, refused}
-use Rattle.tenant_turns.specs.Turns.{lone_ended, lone_step, lone_or, lone_after, lone_run}
-use Rattle.tenant_turns.specs.Turns.{lone_served}
+use Rattle.server_rules.specs.DeedResult.{deed_result}
+use Rattle.server_rules.specs.LoneTurns.{Lone, LoneTurn, drains, LoneStepped, accepted, refused}
+use Rattle.server_rules.specs.LoneTurns.{lone_ended, lone_step, lone_or, lone_after, lone_run}
+use Rattle.server_rules.specs.LoneTurns.{lone_served}
 use Rattle.nrepl_pipe.specs.Schedule.{drain_all, MeetsWorn}
 use Rattle.nrepl_pipe.specs.Inside.Parts.{Makes, Begins}
 use Rattle.nrepl_pipe.proofs.Turns.{lone_served-first, lone_run-first}

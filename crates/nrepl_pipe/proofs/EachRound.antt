@@ -4,9 +4,9 @@ use Rattle.std.proofs.Common.{sym, ap, ◌∙◌, le_refl, arith}
 use Rattle.server_rules.specs.Ground.{Ground}
 use Rattle.server_rules.specs.Tenant.{is_held}
 use Rattle.server_rules.specs.declared.actor.Actor.{Actor}
-use Rattle.tenant_turns.specs.Turns.{Lone, LoneTurn, goes, LoneStepped, accepted, refused}
-use Rattle.tenant_turns.specs.Turns.{lone_step, lone_or, lone_after, lone_run, lone_served}
-use Rattle.tenant_turns.specs.Turns.{actors_of}
+use Rattle.server_rules.specs.LoneTurns.{Lone, LoneTurn, goes, LoneStepped, accepted, refused}
+use Rattle.server_rules.specs.LoneTurns.{lone_step, lone_or, lone_after, lone_run, lone_served}
+use Rattle.server_rules.specs.LoneTurns.{actors_of}
 use Rattle.nrepl_pipe.specs.Schedule.{go_each, drain_all, round, MeetsWorn}
 use Rattle.nrepl_pipe.proofs.Turns.{lone_run-append, lone_served-append, meets-front, meets-either}
 use Rattle.nrepl_pipe.proofs.Draining.{left, lone_run-drains, drains-never_worn}

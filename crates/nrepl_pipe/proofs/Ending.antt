@@ -6,8 +6,8 @@ use Rattle.std.proofs.KnownBytes.{Appends-nil, Appends-trans, Consumes-trans}
 use Rattle.bencode_wire.specs.Spelling.{spellings_joined}
 use Rattle.server_rules.specs.Ground.{Ground}
 use Rattle.server_rules.specs.declared.refusal.Refusal.{Refusal}
-use Rattle.tenant_turns.specs.Turns.{Lone, LoneTurn, hears, refused, lone_step, lone_or}
-use Rattle.tenant_turns.specs.Turns.{reply_taken, lone_after, lone_run, lone_served}
+use Rattle.server_rules.specs.LoneTurns.{Lone, LoneTurn, hears, refused, lone_step, lone_or}
+use Rattle.server_rules.specs.LoneTurns.{reply_taken, lone_after, lone_run, lone_served}
 use Rattle.nrepl_pipe.specs.Schedule.{round, AreRounds, last, MeetsWorn, IsSchedule, stream_end}
 use Rattle.nrepl_pipe.specs.Schedule.{IsEnd}
 use Rattle.nrepl_pipe.specs.Served.{Moves, ServesSoFar, Serves}

@@ -22,10 +22,10 @@ use Rattle.server_rules.specs.Deeds.{start_of, for_actor, unless_worn, plan}
 use Rattle.server_rules.specs.Honest.{honest_deed, honest_at, honest_of, honest_in, honest_by}
 use Rattle.server_rules.specs.declared.actor.Actor.{Actor}
 use Rattle.server_rules.specs.declared.refusal.Refusal.{Refusal}
-use Rattle.tenant_turns.specs.DeedResult.{carried_out, deed_result}
-use Rattle.tenant_turns.specs.Inside.Rounds.{is_some_busy, is_busy_at}
-use Rattle.tenant_turns.specs.Turns.{Lone, goes, LoneStepped, accepted, refused, lone_ended}
-use Rattle.tenant_turns.specs.Turns.{stepped_as, lone_step, lone_or, reply_taken, lone_after}
+use Rattle.server_rules.specs.DeedResult.{carried_out, deed_result}
+use Rattle.server_rules.specs.Inside.Rounds.{is_some_busy, is_busy_at}
+use Rattle.server_rules.specs.LoneTurns.{Lone, goes, LoneStepped, accepted, refused, lone_ended}
+use Rattle.server_rules.specs.LoneTurns.{stepped_as, lone_step, lone_or, reply_taken, lone_after}
 use Rattle.nrepl_pipe.proofs.Starting.{OthersStay, PlansSo, GoesSo, start-so}
 use Rattle.nrepl_pipe.proofs.Finishing.{asked-so, ended-so}
 

@@ -3,7 +3,7 @@ use Rattle.std.proofs.Common.{◌≡◌, ℕ, List, [], ◌++◌, Bool, false, r
 use Rattle.std.proofs.Common.{Option}
 use Rattle.std.proofs.KnownBytes.{Appends-nil, Appends-trans}
 use Rattle.server_rules.specs.Ground.{Ground}
-use Rattle.tenant_turns.specs.Turns.{Lone, lone_run, lone_served}
+use Rattle.server_rules.specs.LoneTurns.{Lone, lone_run, lone_served}
 use Rattle.nrepl_pipe.specs.Schedule.{drain_all, round}
 use Rattle.nrepl_pipe.specs.Inside.Parts.{Begins, BeginsRounds}
 use Rattle.nrepl_pipe.proofs.Turns.{lone_served-append}

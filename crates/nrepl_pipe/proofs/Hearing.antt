@@ -10,10 +10,10 @@ use Rattle.server_rules.specs.Hearing.{stream_fault, hears_more, hearing_plan}
 use Rattle.server_rules.specs.Plan.{Outcome, refuses, leaves}
 use Rattle.server_rules.specs.Plan.{bytes_in}
 use Rattle.server_rules.specs.declared.refusal.Refusal.{Refusal}
-use Rattle.tenant_turns.specs.DeedResult.{carried_out, deed_result}
-use Rattle.tenant_turns.specs.Inside.Turned.{Accepted}
-use Rattle.tenant_turns.specs.Turns.{Lone, hears, LoneStepped, accepted, refused, lone_ended}
-use Rattle.tenant_turns.specs.Turns.{stepped_as, lone_step, lone_or, reply_taken, lone_after}
+use Rattle.server_rules.specs.DeedResult.{carried_out, deed_result}
+use Rattle.server_rules.specs.Inside.Turned.{Accepted}
+use Rattle.server_rules.specs.LoneTurns.{Lone, hears, LoneStepped, accepted, refused, lone_ended}
+use Rattle.server_rules.specs.LoneTurns.{stepped_as, lone_step, lone_or, reply_taken, lone_after}
 use Rattle.nrepl_pipe.specs.Inside.Fresh.{IsReady}
 use Rattle.nrepl_pipe.proofs.Messages.{taken_in-heard}
 

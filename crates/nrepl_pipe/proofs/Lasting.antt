@@ -4,9 +4,9 @@ use Rattle.std.proofs.Common.{◌==◌, true, refl, sym, ap, ◌∙◌, subst, a
 use Rattle.server_rules.specs.Ground.{Ground}
 use Rattle.server_rules.specs.declared.actor.Actor.{Actor}
 use Rattle.server_rules.specs.declared.refusal.Refusal.{Refusal}
-use Rattle.tenant_turns.specs.Turns.{Lone, LoneTurn, goes, LoneStepped, accepted, refused}
-use Rattle.tenant_turns.specs.Turns.{lone_step, lone_or, lone_after, lone_run, lone_served}
-use Rattle.tenant_turns.specs.Turns.{actors_of}
+use Rattle.server_rules.specs.LoneTurns.{Lone, LoneTurn, goes, LoneStepped, accepted, refused}
+use Rattle.server_rules.specs.LoneTurns.{lone_step, lone_or, lone_after, lone_run, lone_served}
+use Rattle.server_rules.specs.LoneTurns.{actors_of}
 use Rattle.nrepl_pipe.specs.Schedule.{go_each, drain_all, round, Rests, AllRest, IsLast, AreRounds}
 use Rattle.nrepl_pipe.specs.Schedule.{last, more}
 use Rattle.nrepl_pipe.proofs.Turns.{lone_run-append}

@@ -2,7 +2,7 @@
 use Rattle.std.proofs.Common.{ℕ, List, Option, Result, Ok, Err}
 use Rattle.std.specs.Prelude.{IsErr, OnOk}
 use Rattle.server_rules.specs.Ground.{Ground}
-use Rattle.tenant_turns.specs.Turns.{Lone}
+use Rattle.server_rules.specs.LoneTurns.{Lone}
 use Rattle.nrepl_pipe.specs.Served.{Moves, BeginsToServe, IsPipeOutcome}
 use Rattle.nrepl_pipe.specs.declared.ends.PipeEnd.{PipeEnd}
 use Rattle.nrepl_pipe.specs.declared.ends.PipeError.{PipeError}

@@ -9,9 +9,9 @@ use Rattle.server_rules.specs.Tenant.{seat_of}
 use Rattle.server_rules.specs.Numbered.{part_under}
 use Rattle.server_rules.specs.declared.actor.Actor.{Actor}
 use Rattle.server_rules.specs.declared.refusal.Refusal.{Refusal}
-use Rattle.tenant_turns.specs.Turns.{Lone, goes, LoneStepped, accepted, refused}
-use Rattle.tenant_turns.specs.Turns.{lone_step, lone_or, lone_after, lone_run, actors_of}
-use Rattle.tenant_turns.specs.Inside.Rounds.{is_some_busy, is_busy_at, IsEnough}
+use Rattle.server_rules.specs.LoneTurns.{Lone, goes, LoneStepped, accepted, refused}
+use Rattle.server_rules.specs.LoneTurns.{lone_step, lone_or, lone_after, lone_run, actors_of}
+use Rattle.server_rules.specs.Inside.Rounds.{is_some_busy, is_busy_at, IsEnough}
 use Rattle.nrepl_pipe.specs.Schedule.{go_each, Rests, AllRest, MeetsWorn}
 use Rattle.nrepl_pipe.specs.Inside.Parts.{IsRound}
 use Rattle.nrepl_pipe.specs.declared.actors.Round.{Round}

@@ -3,7 +3,7 @@ use Rattle.std.proofs.Common.{ℕ, List, [], ◌∷◌, ◌++◌, refl, sym, ap,
 use Rattle.std.proofs.Common.{append-nil, Option, None, Some}
 use Rattle.bencode_wire.specs.Spelling.{spellings_joined}
 use Rattle.server_rules.specs.Ground.{Ground}
-use Rattle.tenant_turns.specs.Turns.{Lone, lone_served}
+use Rattle.server_rules.specs.LoneTurns.{Lone, lone_served}
 use Rattle.nrepl_pipe.specs.Reads.{ReadAt, ReadsSince, IsPrompt, ArePrompt, ReadsPromptly}
 use Rattle.nrepl_pipe.specs.Reads.{IsPassedOn, ArePassedOn, ReadsPassedOn}
 use Rattle.nrepl_pipe.specs.declared.stream.TheConstants.{PIECE}

@@ -5,7 +5,7 @@ use Rattle.std.specs.Prelude.{◌↔◌}
 use Rattle.std.specs.Io.KnownBytes.{Appends}
 use Rattle.std.proofs.KnownBytes.{Appends-trans}
 use Rattle.server_rules.specs.Ground.{Ground}
-use Rattle.tenant_turns.specs.Turns.{Lone, LoneTurn, lone_run, lone_served, actors_of}
+use Rattle.server_rules.specs.LoneTurns.{Lone, LoneTurn, lone_run, lone_served, actors_of}
 use Rattle.nrepl_pipe.specs.Schedule.{go_each, drain_all, round, IsLast, AreRounds, last, more}
 use Rattle.nrepl_pipe.specs.Schedule.{MeetsWorn}
 use Rattle.nrepl_pipe.specs.Inside.Parts.{IsRound, Makes, MakesRounds}

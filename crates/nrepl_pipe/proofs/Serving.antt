@@ -7,9 +7,9 @@ use Rattle.bencode_wire.specs.Spelling.{spellings_joined}
 use Rattle.server_rules.specs.Ground.{Ground}
 use Rattle.server_rules.specs.Hearing.{stream_fault}
 use Rattle.server_rules.specs.declared.refusal.Refusal.{Refusal}
-use Rattle.tenant_turns.specs.Grounds.{IsRight}
-use Rattle.tenant_turns.specs.Turns.{Lone, LoneTurn, hears, refused, lone_step, reply_taken}
-use Rattle.tenant_turns.specs.Turns.{lone_after, lone_run, lone_served}
+use Rattle.server_rules.specs.Grounds.{IsRight}
+use Rattle.server_rules.specs.LoneTurns.{Lone, LoneTurn, hears, refused, lone_step, reply_taken}
+use Rattle.server_rules.specs.LoneTurns.{lone_after, lone_run, lone_served}
 use Rattle.nrepl_pipe.specs.Schedule.{ArePieces, AreRounds, MeetsWorn, IsSchedule}
 use Rattle.nrepl_pipe.specs.Inside.Fresh.{IsFresh}
 use Rattle.nrepl_pipe.specs.Inside.Parts.{IsPiece, MakesRounds}

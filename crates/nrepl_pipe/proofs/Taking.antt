@@ -3,8 +3,8 @@ use Rattle.std.proofs.Common.{◌+◌, ◌<◌, ◌≤◌, arith, ◌≡◌, ◌
 use Rattle.std.proofs.Common.{false, not, refl, sym, ap, ◌∙◌, subst}
 use Rattle.server_rules.specs.Ground.{Ground}
 use Rattle.server_rules.specs.declared.actor.Actor.{Actor}
-use Rattle.tenant_turns.specs.Turns.{Lone, goes, LoneStepped, accepted, refused, lone_step, lone_or}
-use Rattle.tenant_turns.specs.Turns.{lone_after, lone_run}
+use Rattle.server_rules.specs.LoneTurns.{Lone, goes, LoneStepped, accepted, refused, lone_step, lone_or}
+use Rattle.server_rules.specs.LoneTurns.{lone_after, lone_run}
 use Rattle.nrepl_pipe.specs.Schedule.{go_each}
 use Rattle.nrepl_pipe.specs.Inside.Parts.{TurnsSo, with_turn, IsRound}
 use Rattle.nrepl_pipe.specs.declared.actors.Round.{Round}

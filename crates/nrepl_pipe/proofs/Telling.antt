@@ -7,9 +7,9 @@ use Rattle.bencode_wire.specs.Fault.{counted_place, fault_at}
 use Rattle.bencode_wire.specs.declared.fault.WireFault.{WireFault}
 use Rattle.server_rules.specs.Ground.{Ground}
 use Rattle.server_rules.specs.Hearing.{fault_in}
-use Rattle.tenant_turns.specs.Turns.{Lone, hears, lone_after, lone_run}
-use Rattle.tenant_turns.specs.Inside.Wires.{wire_at}
-use Rattle.tenant_turns.specs.declared.turns.Wire.{Wire}
+use Rattle.server_rules.specs.LoneTurns.{Lone, hears, lone_after, lone_run}
+use Rattle.server_rules.specs.Inside.Wires.{wire_at}
+use Rattle.server_rules.specs.declared.turns.Wire.{Wire}
 use Rattle.nrepl_pipe.specs.Schedule.{stream_end}
 use Rattle.nrepl_pipe.specs.Served.{IsReadUp}
 use Rattle.nrepl_pipe.specs.Inside.Parts.{MakesRounds}

@@ -4,9 +4,9 @@ use Rattle.std.proofs.Common.{◌∙◌, subst}
 use Rattle.std.specs.Prelude.{◌↔◌, ⊤}
 use Rattle.server_rules.specs.Ground.{Ground}
 use Rattle.server_rules.specs.declared.refusal.Refusal.{Refusal}
-use Rattle.tenant_turns.specs.Inside.Turned.{Accepted}
-use Rattle.tenant_turns.specs.Turns.{Lone, LoneTurn, LoneStepped, accepted, refused, lone_step}
-use Rattle.tenant_turns.specs.Turns.{lone_run}
+use Rattle.server_rules.specs.Inside.Turned.{Accepted}
+use Rattle.server_rules.specs.LoneTurns.{Lone, LoneTurn, LoneStepped, accepted, refused, lone_step}
+use Rattle.server_rules.specs.LoneTurns.{lone_run}
 use Rattle.nrepl_pipe.specs.Schedule.{Rests, AllRest, MeetsWorn}
 use Rattle.nrepl_pipe.specs.Inside.Parts.{TurnsSo, with_turn, IsRound}
 use Rattle.nrepl_pipe.specs.declared.actors.Round.{Round}

@@ -2,8 +2,8 @@
 use Rattle.std.proofs.Common.{◌≡◌, ℕ, ◌⊎◌, inl, inr, List, [], ◌∷◌, ◌++◌, refl, sym, ap, ◌∙◌}
 use Rattle.std.proofs.Common.{append_assoc}
 use Rattle.server_rules.specs.Ground.{Ground}
-use Rattle.tenant_turns.specs.Turns.{Lone, LoneTurn, LoneStepped, accepted, lone_step, lone_or}
-use Rattle.tenant_turns.specs.Turns.{reply_taken, lone_after, lone_run, lone_served}
+use Rattle.server_rules.specs.LoneTurns.{Lone, LoneTurn, LoneStepped, accepted, lone_step, lone_or}
+use Rattle.server_rules.specs.LoneTurns.{reply_taken, lone_after, lone_run, lone_served}
 use Rattle.nrepl_pipe.specs.Schedule.{AllRest, MeetsWorn}
 
 pub lone_run-append : (g : Ground) (q : Lone) (xs ys : List LoneTurn)

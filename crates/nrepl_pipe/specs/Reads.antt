@@ -1,7 +1,7 @@
 -- The reads of a stream, and when they are made.
 use Rattle.std.specs.Prelude.{◌≡◌, ℕ, List, [], ◌∷◌, ◌++◌, ⊤, Option, None, Some, Result, OnOk}
 use Rattle.server_rules.specs.Ground.{Ground}
-use Rattle.tenant_turns.specs.Turns.{Lone}
+use Rattle.server_rules.specs.LoneTurns.{Lone}
 use Rattle.nrepl_pipe.specs.Served.{Moves, ServesSoFar}
 use Rattle.nrepl_pipe.specs.declared.stream.TheConstants.{PIECE}
 

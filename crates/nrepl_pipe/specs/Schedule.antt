@@ -7,8 +7,9 @@ use Rattle.server_rules.specs.Ground.{Ground}
 use Rattle.server_rules.specs.Hearing.{stream_fault}
 use Rattle.server_rules.specs.declared.actor.Actor.{Actor}
 use Rattle.server_rules.specs.declared.refusal.Refusal.{Refusal}
-use Rattle.tenant_turns.specs.Turns.{Lone, LoneTurn, hears, goes, drains, actors_of, LoneStepped}
-use Rattle.tenant_turns.specs.Turns.{accepted, refused, lone_step, lone_after, lone_run}
+use Rattle.server_rules.specs.LoneTurns.{Lone, LoneTurn, hears, goes, drains, actors_of}
+use Rattle.server_rules.specs.LoneTurns.{LoneStepped}
+use Rattle.server_rules.specs.LoneTurns.{accepted, refused, lone_step, lone_after, lone_run}
 use Rattle.nrepl_pipe.specs.declared.ends.PipeEnd.{PipeEnd}
 use Rattle.nrepl_pipe.specs.declared.stream.TheConstants.{PIECE}
 

@@ -1,15 +1,15 @@
 // The actors' turns in a round.
 ghost use Rattle.std.specs.Prelude.{◌≡◌, ◌+◌, ◌<◌, ◌≤◌, [], Ok, true, not, IfOk, IfErr};
 ghost use Rattle.server_rules.specs.Ground.{Ground};
-ghost use Rattle.tenant_turns.specs.Grounds.{IsRight};
-ghost use Rattle.tenant_turns.specs.Turns.{Lone, goes, actors_of, lone_step, lone_after, lone_run};
+ghost use Rattle.server_rules.specs.Grounds.{IsRight};
+ghost use Rattle.server_rules.specs.LoneTurns.{Lone, goes, actors_of, lone_step, lone_after};
+ghost use Rattle.server_rules.specs.LoneTurns.{lone_run};
 ghost use Rattle.nrepl_pipe.specs.Schedule.{go_each};
 ghost use Rattle.nrepl_pipe.specs.Inside.Parts.{TurnsSo, with_turn, IsRound};
 
 use crate::ends::PipeError;
-use server_rules::{Actor, Refusal};
+use server_rules::{Actor, Core, Refusal};
 use std::alloc::Global;
-use tenant_turns::Core;
 
 // What came of the turns of a round.
 #[derive(Clone, Copy, PartialEq, Eq)]

@@ -2,7 +2,7 @@
 ghost use Rattle.std.specs.Prelude.{◌≡◌, ℕ, List, [], ◌++◌, false, OnOk, OnErr};
 ghost use Rattle.std.specs.Io.KnownBytes.{Appends};
 ghost use Rattle.server_rules.specs.Ground.{Ground};
-ghost use Rattle.tenant_turns.specs.Turns.{Lone};
+ghost use Rattle.server_rules.specs.LoneTurns.{Lone};
 ghost use Rattle.nrepl_pipe.specs.Schedule.{drain_all};
 ghost use Rattle.nrepl_pipe.specs.Failing.{Marks, is_read_failed, is_text_fault, is_write_failed};
 ghost use Rattle.nrepl_pipe.specs.Reads.{IsPassedOn};
@@ -10,7 +10,7 @@ ghost use Rattle.nrepl_pipe.specs.Inside.Parts.{Makes, Begins};
 
 use crate::ends::PipeError;
 use crate::ports::Sink;
-use tenant_turns::Core;
+use server_rules::Core;
 
 // Takes the replies out, and writes each at once.
 pub(crate) fn write_replies<C: Core, W: Sink>(core: &mut C, writer: &mut W) -> Result<(), PipeError>

@@ -1,8 +1,8 @@
 // The rounds behind a piece: each actor goes on once, and the replies that wait are written.
 ghost use Rattle.std.specs.Prelude.{◌≡◌, ◌<◌, ◌≤◌, [], true, false, not, IfOk, OnOk, OnErr};
 ghost use Rattle.server_rules.specs.Ground.{Ground};
-ghost use Rattle.tenant_turns.specs.Grounds.{IsRight};
-ghost use Rattle.tenant_turns.specs.Turns.{Lone, actors_of};
+ghost use Rattle.server_rules.specs.Grounds.{IsRight};
+ghost use Rattle.server_rules.specs.LoneTurns.{Lone, actors_of};
 ghost use Rattle.nrepl_pipe.specs.Schedule.{go_each, round};
 ghost use Rattle.nrepl_pipe.specs.Failing.{Marks, is_read_failed, is_text_fault, is_write_failed};
 ghost use Rattle.nrepl_pipe.specs.Reads.{IsPassedOn};
@@ -12,8 +12,8 @@ use crate::actors::{Round, go_each};
 use crate::ends::PipeError;
 use crate::ports::Sink;
 use crate::replies::write_replies;
+use server_rules::Core;
 use std::alloc::Global;
-use tenant_turns::Core;
 
 // How the rounds behind a piece ended.
 #[derive(Clone, Copy, PartialEq, Eq)]

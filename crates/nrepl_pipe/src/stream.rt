@@ -3,8 +3,8 @@ ghost use Rattle.std.specs.Prelude.{◌≡◌, ◌+◌, ℕ, [], ◌∷◌, fals
 ghost use Rattle.std.specs.Prelude.{MatchOption};
 ghost use Rattle.std.specs.Io.KnownBytes.{Consumes, IsAtEnd};
 ghost use Rattle.server_rules.specs.Ground.{Ground};
-ghost use Rattle.tenant_turns.specs.Grounds.{IsRight};
-ghost use Rattle.tenant_turns.specs.Turns.{Lone, hears, lone_step};
+ghost use Rattle.server_rules.specs.Grounds.{IsRight};
+ghost use Rattle.server_rules.specs.LoneTurns.{Lone, hears, lone_step};
 ghost use Rattle.nrepl_pipe.specs.Schedule.{stream_end};
 ghost use Rattle.nrepl_pipe.specs.Served.{IsPipeOutcome};
 ghost use Rattle.nrepl_pipe.specs.Reads.{ReadsSince, ReadsPromptly, HoldsNothingBack};
@@ -18,9 +18,8 @@ use crate::ends::{PipeEnd, PipeError};
 use crate::ports::{Sink, Source};
 use crate::rounds::{Rounds, run_rounds};
 use bytes::Bytes;
-use server_rules::Refusal;
+use server_rules::{Core, Refusal, Wire};
 use std::alloc::Global;
-use tenant_turns::{Core, Wire};
 
 // The greatest length of a piece.
 const PIECE: usize = 4_096;

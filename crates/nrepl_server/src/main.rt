@@ -7,6 +7,7 @@ mod serving;
 
 use clap::error::ErrorKind;
 use clap::{Arg, ArgAction, ArgMatches, Command};
+use machine_runs::pipe_command;
 use nrepl_pipe::{bad_options, out_of_memory, unreadable_file};
 use options::{Service, config_of, service_of};
 use repl_core::{Config, SharedText};
@@ -16,7 +17,6 @@ use std::process::ExitCode;
 use std::rt::{Env, Files};
 use std::sync::ArcStr;
 use std::{env, fs, io};
-use tenant_runner::pipe_command;
 
 // What the command line asks for.
 #[derive(Drop)]

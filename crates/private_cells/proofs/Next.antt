@@ -10,7 +10,7 @@ use Rattle.std.proofs.lemmas.Bool.{eqb-true, eq-eqb, ltb-true, ltb-false, lt-ltb
 use Rattle.std.proofs.lemmas.List.Sums.{sum_by-cons}
 use Rattle.std.proofs.lemmas.Bool.Decides.{eqb_tells}
 use mathlib.Core.Logic.{inl, inr, ◌≢◌}
-use Rattle.repl_faults.specs.Failure.{Failure}
+use Rattle.repl_values.specs.Failure.{Failure}
 use Rattle.private_cells.specs.Agents.{AgentData, AgentsData, SentAction, ActionTurn, turn_by}
 use Rattle.private_cells.specs.Agents.{action_turn}
 use Rattle.private_cells.specs.Agents.{earlier, earliest, runs_action, next_turn}

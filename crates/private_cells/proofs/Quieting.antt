@@ -6,7 +6,7 @@ use Rattle.std.specs.Prelude.{slice_get, is_some, ◌||◌}
 use Rattle.std.specs.List.{list_any}
 use Rattle.std.proofs.lemmas.Bool.{eq-eqb, lt-ltb}
 use Rattle.value_data.specs.Datum.{Datum}
-use Rattle.repl_faults.specs.Failure.{Failure}
+use Rattle.repl_values.specs.Failure.{Failure}
 use Rattle.private_cells.specs.Actions.{is_of}
 use Rattle.private_cells.specs.Agents.{AgentData, AgentsData, SentAction, ActionTurn, next_turn}
 use Rattle.private_cells.specs.Agents.{earliest, restarted}

@@ -3,7 +3,7 @@ use Rattle.std.proofs.Common.{◌≡◌, ℕ, zero, suc, ◌+◌, ◌<◌, ◌�
 use Rattle.std.proofs.Common.{ap, sym}
 use Rattle.std.proofs.Common.{◌∙◌, Option, Some, None, option_map, arith, slice_set, slice_index_or}
 use Rattle.std.specs.Prelude.{slice_get}
-use Rattle.repl_faults.specs.Failure.{Failure}
+use Rattle.repl_values.specs.Failure.{Failure}
 use Rattle.private_cells.specs.Agents.{AgentData, SentAction, ActionTurn, with_begun, begun}
 use Rattle.private_cells.specs.Inside.Turns.{turn_at, open_turn, open_by, weight, open_sum, Opens}
 

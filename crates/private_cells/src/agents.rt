@@ -43,7 +43,7 @@ pub struct Agents {
 impl Agents {
     ghost use Rattle.std.specs.Prelude.{◌≡◌, ◌≤◌, length, option_map, IfOk, OnOk, OnErr};
     ghost use Rattle.value_data.specs.Inside.View.{view};
-    ghost use Rattle.repl_faults.specs.Inside.View.{failure_of};
+    ghost use Rattle.repl_values.specs.Inside.FaultView.{failure_of};
     ghost use Rattle.private_cells.specs.Agents.{no_agents, with_agent, agent_state, agent_fault};
     ghost use Rattle.private_cells.specs.Agents.{may_send};
     ghost use Rattle.private_cells.specs.Inside.View.{agents_view, room_of};

@@ -3,7 +3,7 @@ ghost use Rattle.std.specs.Prelude.{◌≡◌, ℕ, ◌+◌, ◌<◌, ◌^◌, �
 ghost use Rattle.std.specs.Prelude.{Some};
 ghost use Rattle.std.specs.Prelude.{IsSome};
 ghost use Rattle.value_data.specs.Inside.View.{view};
-ghost use Rattle.repl_faults.specs.Inside.View.{failure_of};
+ghost use Rattle.repl_values.specs.Inside.FaultView.{failure_of};
 ghost use Rattle.private_cells.specs.Agents.{at_rest, with_begun, restarted, is_sent_by};
 ghost use Rattle.private_cells.specs.Inside.Seen.{cell_view, sent_view};
 ghost use Rattle.private_cells.specs.Inside.Turns.{open_turn, turn_at, first_session, Opens};

@@ -5,7 +5,7 @@ ghost use Rattle.std.specs.Prelude.{Some};
 ghost use Rattle.std.specs.Prelude.{None, ◌==◌, option_map, IfSome};
 ghost use Rattle.std.specs.List.{list_any};
 ghost use Rattle.value_data.specs.Datum.{Datum};
-ghost use Rattle.repl_faults.specs.Failure.{Failure};
+ghost use Rattle.repl_values.specs.Failure.{Failure};
 ghost use Rattle.private_cells.specs.Atoms.{AtomsData, atom_value, is_unchanged, with_try};
 ghost use Rattle.private_cells.specs.Actions.{ActionData};
 ghost use Rattle.private_cells.specs.Agents.{AgentData, AgentsData, ActionTurn, agent_at};

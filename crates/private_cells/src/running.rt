@@ -1,7 +1,7 @@
 // Actions run, one at a time, and end.
 ghost use Rattle.std.specs.Prelude.{◌≡◌, ◌≤◌, option_map};
 ghost use Rattle.value_data.specs.Inside.View.{view};
-ghost use Rattle.repl_faults.specs.Inside.View.{failure_of};
+ghost use Rattle.repl_values.specs.Inside.FaultView.{failure_of};
 ghost use Rattle.private_cells.specs.Agents.{next_turn, with_next_begun, with_result, with_failure};
 ghost use Rattle.private_cells.specs.Agents.{is_failed, with_restart, first_waiting, agent_running};
 ghost use Rattle.private_cells.specs.Inside.Seen.{sent_view};

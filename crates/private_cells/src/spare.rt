@@ -3,7 +3,7 @@
 ghost use Rattle.std.specs.Prelude.{◌≡◌, ℕ, ◌+◌, ◌<◌, ◌≤◌, ◌^◌, [], ◌∷◌, drop, length, OnOk};
 
 use crate::action::{Action, Sent};
-use function_names::StoreFunction;
+use core_functions::StoreFunction;
 use repl_asks::{NamedFunction, Task};
 use repl_replies::Origin;
 use std::alloc::{AllocError, Global};

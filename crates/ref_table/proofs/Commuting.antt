@@ -8,16 +8,16 @@ use Rattle.std.proofs.lemmas.List.{map-append}
 use Rattle.value_data.specs.Datum.{Datum}
 use Rattle.value_data.specs.Inside.View.{view}
 use Rattle.value_data.specs.declared.value.Value.{Value}
-use Rattle.repl_faults.specs.Failure.{Failure, ◌>>=◌}
-use Rattle.repl_faults.specs.Inside.View.{Fails, Gives}
-use Rattle.repl_faults.specs.declared.error.ApplyError.{ApplyError}
-use Rattle.repl_faults.specs.declared.error.ApplyError.TheVariants as errors
-use Rattle.core_texts.specs.declared.function.PrintFunction.{PrintFunction}
+use Rattle.repl_values.specs.Failure.{Failure, ◌>>=◌}
+use Rattle.repl_values.specs.Inside.FaultView.{Fails, Gives}
+use Rattle.repl_values.specs.declared.error.ApplyError.{ApplyError}
+use Rattle.repl_values.specs.declared.error.ApplyError.TheVariants as errors
+use Rattle.core_scalars.specs.declared.text_function.PrintFunction.{PrintFunction}
 use Rattle.core_functions.specs.ApplyOutcome.{ApplyOutcome, bounded_outcome}
 use Rattle.core_functions.specs.Meaning.{meaning}
 use Rattle.core_functions.specs.Inside.View.{FailsIn}
 use Rattle.core_functions.proofs.Outcomes.{bounded_outcome-apply_outcome}
-use Rattle.function_names.specs.declared.function.CoreFunction.{CoreFunction}
+use Rattle.core_functions.specs.declared.function.CoreFunction.{CoreFunction}
 use Rattle.repl_asks.specs.Transactions.{RefNameData, ChangeData, CommutedData}
 use Rattle.repl_asks.specs.Inside.View.{name_view, change_view, commuted_view}
 use Rattle.repl_asks.specs.declared.intent.Change.{Change}

@@ -4,7 +4,7 @@ use Rattle.std.specs.Prelude.{Bool, true, not, ◌&&◌, ◌++◌, Result, Ok}
 use Rattle.std.specs.List.{list_any}
 use Rattle.value_data.specs.Datum.{Datum}
 use Rattle.value_data.specs.Inside.View.{view}
-use Rattle.repl_faults.specs.Failure.{Failure, ◌>>=◌}
+use Rattle.repl_values.specs.Failure.{Failure, ◌>>=◌}
 use Rattle.repl_asks.specs.Transactions.{ChangeData}
 use Rattle.server_rules.specs.Versions.{Ref, with_version}
 use Rattle.ref_history.specs.Changes.{Changed}

@@ -3,7 +3,7 @@ use Rattle.std.specs.Prelude.{◌≡◌, Bool, true, false, Option, Some, None, 
 use Rattle.value_data.specs.Datum as datum
 use Rattle.value_data.specs.Inside.View.{owner_view}
 use Rattle.value_data.specs.declared.value.RefName.{RefName}
-use Rattle.repl_faults.specs.Inside.View.{failure_of}
+use Rattle.repl_values.specs.Inside.FaultView.{failure_of}
 use Rattle.repl_asks.specs.Exchange.{AnswerData, value, reading, verdict, committed, conflict}
 use Rattle.repl_asks.specs.Exchange.{faulted}
 use Rattle.repl_asks.specs.Inside.View.{reading_view}

@@ -2,7 +2,7 @@
 ghost use Rattle.std.specs.Prelude.{◌≡◌, ℕ, ◌+◌, ◌<◌, ◌≤◌, ◌&&◌, List, Some, true, false, map};
 ghost use Rattle.std.specs.Prelude.{IfOk, OnOk, OnErr};
 ghost use Rattle.std.specs.Ordering.{eq_by_cmp};
-ghost use Rattle.repl_faults.specs.Inside.View.{Gives};
+ghost use Rattle.repl_values.specs.Inside.FaultView.{Gives};
 ghost use Rattle.repl_asks.specs.Transactions.{ChangeData};
 ghost use Rattle.repl_asks.specs.Inside.View.{name_view, intent_view};
 ghost use Rattle.server_rules.specs.Numbered.{Entry, part_under};
@@ -24,8 +24,7 @@ use crate::placing::{Placed, add_all, reserve_all};
 use crate::table::RefTable;
 use ref_history::{History, RefId};
 use repl_asks::{Change, Intent};
-use repl_faults::ApplyError;
-use repl_values::RefName;
+use repl_values::{ApplyError, RefName};
 use std::alloc::{AllocError, Global};
 
 impl<H: History> RefTable<H> {

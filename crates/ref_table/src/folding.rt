@@ -2,7 +2,7 @@
 ghost use Rattle.std.specs.Prelude.{◌≡◌, ℕ, List, ◌∷◌, Some, true, map, option_map, IfOk};
 ghost use Rattle.std.specs.List.{list_all};
 ghost use Rattle.value_data.specs.Inside.View.{view};
-ghost use Rattle.repl_faults.specs.Inside.View.{Gives};
+ghost use Rattle.repl_values.specs.Inside.FaultView.{Gives};
 ghost use Rattle.core_functions.specs.Meaning.{meaning};
 ghost use Rattle.repl_asks.specs.Inside.View.{name_view, change_view, commute_view, commuted_view};
 ghost use Rattle.server_rules.specs.Numbered.{Entry};
@@ -14,12 +14,10 @@ ghost use Rattle.ref_table.specs.Standing.{TableStands};
 
 use crate::fitting::may_hold;
 use crate::table::RefTable;
-use core_functions::apply;
-use function_names::CoreFunction;
+use core_functions::{CoreFunction, apply};
 use ref_history::History;
 use repl_asks::{Change, Commute, Commuted};
-use repl_faults::{ApplyError, Rule, broken_rule};
-use repl_values::{RefName, Value, copy};
+use repl_values::{ApplyError, RefName, Rule, Value, broken_rule, copy};
 use std::alloc::{AllocError, Global};
 
 impl<H: History> RefTable<H> {

@@ -1,7 +1,7 @@
 -- Asks and answers, without where they lie in memory.
 use Rattle.std.specs.Prelude.{◌≡◌, ℕ, List, [], ◌∷◌, Bool, Option, ⊤}
 use Rattle.value_data.specs.Datum.{Datum, nil}
-use Rattle.repl_faults.specs.Failure.{Failure}
+use Rattle.repl_values.specs.Failure.{Failure}
 use Rattle.special_forms.specs.Functions.{FunctionData}
 pub use Rattle.repl_asks.specs.Sends.{NamedFunctionData, core_function, store_function}
 pub use Rattle.repl_asks.specs.Sends.{program_function}

@@ -1,7 +1,7 @@
 -- Jobs and how they end.
 use Rattle.std.specs.Prelude.{ℕ, List, Result}
 use Rattle.value_data.specs.Datum.{Datum}
-use Rattle.repl_faults.specs.Failure.{Failure}
+use Rattle.repl_values.specs.Failure.{Failure}
 use Rattle.repl_asks.specs.Sends.{TaskData}
 use Rattle.repl_asks.specs.Exchange.{Exchanged}
 

@@ -2,8 +2,8 @@
 use Rattle.std.specs.Prelude.{ℕ, List}
 use Rattle.value_data.specs.Datum.{Datum}
 use Rattle.special_forms.specs.Functions.{FunctionData}
-use Rattle.function_names.specs.declared.function.CoreFunction.{CoreFunction}
-use Rattle.function_names.specs.declared.store.StoreFunction.{StoreFunction}
+use Rattle.core_functions.specs.declared.function.CoreFunction.{CoreFunction}
+use Rattle.core_functions.specs.declared.store.StoreFunction.{StoreFunction}
 
 -- a function that has a name: one of the language, which needs no store or asks it, or one of the
 -- program

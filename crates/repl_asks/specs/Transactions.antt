@@ -3,7 +3,7 @@ use Rattle.std.specs.Prelude.{ℕ, List, Bool, true, ◌&&◌, ◌==◌}
 use Rattle.value_data.specs.Datum.{Datum, OwnerData, shared, tenant}
 use Rattle.value_data.specs.Measures.{is_plain}
 use Rattle.value_data.specs.Same.{same_owner}
-use Rattle.function_names.specs.declared.function.CoreFunction.{CoreFunction}
+use Rattle.core_functions.specs.declared.function.CoreFunction.{CoreFunction}
 use Rattle.repl_asks.specs.Sends.{SendingData}
 
 -- a ref, by who made it and its number among those

@@ -3,11 +3,12 @@ ghost use Rattle.std.specs.Prelude.{◌≡◌, IfOk};
 ghost use Rattle.repl_asks.specs.Exchange.{kind_of, resolution_in, value_in, reading_in};
 ghost use Rattle.repl_asks.specs.Exchange.{verdict_in, permission_in};
 ghost use Rattle.value_data.specs.Inside.View.{view};
-ghost use Rattle.repl_asks.specs.Inside.View.{answer_view, named_view, resolution_view, reading_view};
+ghost use Rattle.repl_asks.specs.Inside.View.{answer_view, named_view, resolution_view};
+ghost use Rattle.repl_asks.specs.Inside.View.{reading_view};
 ghost use Rattle.repl_asks.specs.Inside.View.{verdict_view, permission_view};
 
 use crate::ask::AnswerKind;
-use function_names::{CoreFunction, StoreFunction};
+use core_functions::{CoreFunction, StoreFunction};
 use repl_values::{Fault, Value, copy};
 use special_forms::Function;
 use std::alloc::AllocError;

@@ -1,6 +1,6 @@
 // What an attempt at a transaction changed.
 use crate::sends::Sending;
-use function_names::CoreFunction;
+use core_functions::CoreFunction;
 use repl_values::{RefName, Value};
 
 /// What an attempt wants committed.

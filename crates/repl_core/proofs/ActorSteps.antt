@@ -4,7 +4,7 @@ use Rattle.std.proofs.Common.{false, Option, Some, None, is_some, option_and_the
 use Rattle.std.proofs.Common.{subst, arith, if◌then◌else◌, ◌&&◌}
 use Rattle.std.specs.Prelude.{⊤, Result, Ok, Err}
 use Rattle.std.proofs.lemmas.Bool.{cases_eq}
-use Rattle.repl_faults.specs.Failure.{Failure}
+use Rattle.repl_values.specs.Failure.{Failure}
 use Rattle.bencode_wire.specs.declared.fault.WireFault.{WireFault}
 use Rattle.repl_asks.specs.Exchange.{AskData, AnswerData}
 use Rattle.repl_asks.specs.Job.{EndData, EndingData}
@@ -39,7 +39,7 @@ use Rattle.server_rules.specs.Ending.{end_of}
 use Rattle.server_rules.specs.Deeds.{start_of, for_actor, unless_worn, drain_outcome, plan}
 use Rattle.server_rules.specs.declared.actor.Actor.{Actor}
 use Rattle.server_rules.specs.declared.refusal.Refusal.{Refusal}
-use Rattle.tenant_refs.proofs.Points.{part_under-without}
+use Rattle.tenant_parts.proofs.Points.{part_under-without}
 use Rattle.repl_core.proofs.Runs.{runs_at, part_under-put, heard-runs}
 use Rattle.tenant_asks.specs.Asking.{exchange_from, run_with}
 use Rattle.tenant_world.specs.Running.{running_of, running_in}

@@ -20,9 +20,9 @@ use Rattle.server_rules.specs.Machine.World.{TenantData, World}
 use Rattle.server_rules.specs.Ground.{Ground}
 use Rattle.server_rules.specs.declared.actor.Actor.{Actor}
 use Rattle.server_rules.proofs.Numbered.{some-same}
-use Rattle.tenant_actors.proofs.EntryLaws.{found_first, without_first}
-use Rattle.tenant_refs.proofs.Calls.{with_changed_ref-same, commit-told, bound-points}
-use Rattle.tenant_refs.proofs.Points.{part_under-without}
+use Rattle.tenant_parts.proofs.EntryLaws.{found_first, without_first}
+use Rattle.tenant_parts.proofs.Calls.{with_changed_ref-same, commit-told, bound-points}
+use Rattle.tenant_parts.proofs.Points.{part_under-without}
 use Rattle.tenant_asks.specs.Asking.{exchange_from}
 use Rattle.repl_core.specs.Standing.{open_in, store_in}
 use Rattle.repl_core.specs.Commits.{refs_in, ref_in_world}

@@ -13,9 +13,9 @@ use Rattle.server_rules.specs.Machine.World.{step}
 use Rattle.server_rules.specs.declared.actor.Actor.{Actor}
 use Rattle.server_rules.specs.declared.refusal.Refusal.{Refusal}
 use Rattle.ref_table.specs.Refs.{refs_after}
-use Rattle.tenant_refs.specs.Serving.{RingRefTable, TableServes}
-use Rattle.tenant_refs.proofs.Calls.{performed-tenant}
-use Rattle.tenant_turns.specs.DeedResult.{DeedResult, deed_result}
+use Rattle.tenant_parts.specs.Serving.{RingRefTable, TableServes}
+use Rattle.tenant_parts.proofs.Calls.{performed-tenant}
+use Rattle.server_rules.specs.DeedResult.{DeedResult, deed_result}
 use Rattle.tenant_asks.specs.Acting.{is_accepted}
 use Rattle.tenant_world.specs.Standing as world
 use Rattle.tenant_world.specs.declared.tenant.Tenant.{Tenant}

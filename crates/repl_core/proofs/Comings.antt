@@ -19,9 +19,9 @@ use Rattle.server_rules.specs.declared.refusal.Refusal.{Refusal}
 use Rattle.ref_history.specs.RingHistories.{RingStands}
 use Rattle.ref_table.specs.Refs.{Refs, without_refs}
 use Rattle.ref_table.specs.Standing as refs
-use Rattle.tenant_actors.proofs.EntryLaws.{found_first}
-use Rattle.tenant_refs.specs.Serving.{RingRefTable}
-use Rattle.tenant_refs.specs.Sound.{AreSound, IsSound}
+use Rattle.tenant_parts.proofs.EntryLaws.{found_first}
+use Rattle.tenant_parts.specs.Serving.{RingRefTable}
+use Rattle.tenant_parts.specs.Sound.{AreSound, IsSound}
 use Rattle.std.specs.List.{AllByRecursion}
 use Rattle.tenant_world.specs.Standing as world
 use Rattle.tenant_world.specs.declared.tenant.Tenant.{Tenant}

@@ -33,7 +33,7 @@ use Rattle.server_rules.specs.Machine.World.{ended_as, planned_step, deed_step, 
 use Rattle.server_rules.specs.declared.actor.Actor.{Actor}
 use Rattle.server_rules.specs.declared.refusal.Refusal.{Refusal}
 use Rattle.server_rules.proofs.Steps.{room}
-use Rattle.tenant_refs.proofs.Calls.{performed-tenant}
+use Rattle.tenant_parts.proofs.Calls.{performed-tenant}
 use Rattle.repl_core.specs.Standing.{open_in, store_in}
 use Rattle.repl_core.specs.Commits.{kept_refs, refs_in, newest_in, goes_with, given_by, newest_after}
 use Rattle.repl_core.specs.Commits.{newest_behind}

@@ -2,8 +2,8 @@
 use Rattle.std.proofs.Common.{◌∙◌, Bool, sym, ap, if◌then◌else◌}
 use Rattle.value_data.specs.Datum.{nil}
 use Rattle.value_data.specs.Listed.{listed}
-use Rattle.repl_faults.specs.Failure.{broken_rule}
-use Rattle.repl_faults.specs.declared.rule.Rule.{Rule}
+use Rattle.repl_values.specs.Failure.{broken_rule}
+use Rattle.repl_values.specs.declared.rule.Rule.{Rule}
 use Rattle.evaluation_rules.specs.Doing.{failed, left}
 use Rattle.evaluation_rules.specs.SharedText.{is_shared_text, outside_shared_text}
 use Rattle.evaluation_rules.specs.Rows.{last_of}

@@ -9,7 +9,7 @@ use Rattle.server_rules.specs.Machine.World.{TenantData, World, Stepped, accepte
 use Rattle.server_rules.specs.Machine.World.{ended_as}
 use Rattle.server_rules.specs.declared.actor.Actor.{Actor}
 use Rattle.server_rules.specs.declared.refusal.Refusal.{Refusal}
-use Rattle.tenant_turns.specs.DeedResult.{deed_result}
+use Rattle.server_rules.specs.DeedResult.{deed_result}
 use Rattle.repl_core.specs.Inside.WalkAt.{walk_at}
 use Rattle.repl_core.specs.Inside.Walked.{AreWalked}
 use Rattle.repl_core.specs.declared.walks.Walks.{Walks}

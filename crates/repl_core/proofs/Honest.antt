@@ -9,9 +9,9 @@ use Rattle.server_rules.specs.Machine.Turns.{goes, step_of, turn_step, quiet_of}
 use Rattle.server_rules.specs.Machine.World.{TenantData, World, step, does, ended_as}
 use Rattle.server_rules.specs.declared.actor.Actor.{Actor}
 use Rattle.server_rules.specs.declared.refusal.Refusal.{Refusal}
-use Rattle.tenant_refs.specs.Serving.{RingRefTable}
-use Rattle.tenant_turns.specs.Grounds.{IsRight}
-use Rattle.tenant_turns.specs.Turns.{Lone}
+use Rattle.tenant_parts.specs.Serving.{RingRefTable}
+use Rattle.server_rules.specs.Grounds.{IsRight}
+use Rattle.server_rules.specs.LoneTurns.{Lone}
 use Rattle.repl_core.specs.Grounds.{Evaluates}
 use Rattle.repl_core.specs.Inside.Seen.{is_seen}
 use Rattle.repl_core.specs.Inside.Standing as walked

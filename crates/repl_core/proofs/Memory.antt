@@ -18,7 +18,7 @@ use Rattle.server_rules.specs.Honest.{honest_deed, honest_at, honest_of, honest_
 use Rattle.server_rules.specs.declared.actor.Actor.{Actor}
 use Rattle.server_rules.specs.declared.refusal.Refusal.{Refusal}
 use Rattle.ref_table.specs.Refs.{Refs}
-use Rattle.tenant_turns.specs.Turns.{Lone}
+use Rattle.server_rules.specs.LoneTurns.{Lone}
 use Rattle.tenant_world.specs.Running.{running_in}
 use Rattle.tenant_world.proofs.Standing.{worn-by, starts-by, asks-by, ends-by}
 use Rattle.repl_core.specs.Inside.Seen.{is_kept, is_seen}

@@ -23,7 +23,7 @@ use Rattle.server_rules.specs.Asking.{is_allowed, when_told}
 use Rattle.server_rules.specs.Starting.{interrupted_in}
 use Rattle.server_rules.specs.declared.actor.Actor.{Actor}
 use Rattle.server_rules.specs.declared.refusal.Refusal.{Refusal}
-use Rattle.tenant_turns.specs.DeedResult.{carried_out, deed_result}
+use Rattle.server_rules.specs.DeedResult.{carried_out, deed_result}
 use Rattle.tenant_asks.specs.Asking.{exchange_from, run_with}
 use Rattle.tenant_world.specs.Running.{running_of, running_in}
 use Rattle.tenant_world.proofs.Standing.{asks-by}

@@ -11,8 +11,8 @@ use Rattle.server_rules.specs.Store.{Around, Store}
 use Rattle.server_rules.specs.Tenant.{Quiet}
 use Rattle.server_rules.specs.Machine.World.{TenantData, World}
 use Rattle.ref_table.specs.Refs.{Refs, refs_after}
-use Rattle.tenant_refs.specs.Attempts.{ArePoints}
-use Rattle.tenant_refs.specs.Serving.{TableServes}
+use Rattle.tenant_parts.specs.Attempts.{ArePoints}
+use Rattle.tenant_parts.specs.Serving.{TableServes}
 use Rattle.repl_core.proofs.Runs.{part_under-put}
 use Rattle.tenant_asks.specs.Memories.{Remembers}
 use Rattle.tenant_world.specs.Standing as world

@@ -15,7 +15,7 @@ use Rattle.server_rules.specs.Operating.{queued_for, after_operation, with_asked
 use Rattle.server_rules.specs.Request.{Waiting, Hand, Run}
 use Rattle.server_rules.specs.Tenant.{ActorData, unoccupied, seat_of, Quiet}
 use Rattle.server_rules.specs.declared.actor.Actor.{Actor}
-use Rattle.tenant_actors.proofs.EntryLaws.{found_first, replaced_first, without_first}
+use Rattle.tenant_parts.proofs.EntryLaws.{found_first, replaced_first, without_first}
 use Rattle.tenant_world.specs.Running.{running_of, running_in}
 
 abbrev pub runs_at : ℕ → List (Entry ActorData) → Option Run

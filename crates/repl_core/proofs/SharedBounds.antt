@@ -4,7 +4,7 @@ use Rattle.std.proofs.Common.{Result, Ok, Err, slice_get, refl, sym, ap, subst, 
 use Rattle.std.specs.Prelude.{option_map}
 use Rattle.std.specs.List.{AllByRecursion}
 use Rattle.value_data.specs.Datum.{Datum, Items, no_items, item}
-use Rattle.repl_faults.specs.Failure.{Failure, ◌>>=◌}
+use Rattle.repl_values.specs.Failure.{Failure, ◌>>=◌}
 use Rattle.repl_reader.specs.Fault.{FaultData}
 use Rattle.repl_asks.specs.Exchange as exchange
 use Rattle.repl_asks.specs.Exchange.{AskData, AnswerData}

@@ -2,14 +2,14 @@
 use Rattle.std.proofs.Common.{◌≡◌, ◌∙◌, ℕ, [], refl, sym, ap, subst, List, None, Ok, Result}
 use Rattle.std.specs.List.{AllByRecursion}
 use Rattle.value_data.specs.Datum.{shared, tenant}
-use Rattle.repl_faults.specs.Failure.{Failure}
+use Rattle.repl_values.specs.Failure.{Failure}
 use Rattle.name_spaces.specs.Inside.Seen.{shared_bindings}
 use Rattle.server_rules.specs.Ground.{Ground}
 use Rattle.server_rules.specs.Shared.{SharedData, shared_by_text}
 use Rattle.server_rules.specs.Versions.{Ref}
 use Rattle.server_rules.specs.Machine.World.{opened_world}
-use Rattle.tenant_refs.specs.Serving.{RingRefTable}
-use Rattle.tenant_refs.specs.Sound.{IsSound, AreSound}
+use Rattle.tenant_parts.specs.Serving.{RingRefTable}
+use Rattle.tenant_parts.specs.Sound.{IsSound, AreSound}
 use Rattle.shared_space.specs.Holding.{HoldsRefs}
 use Rattle.shared_space.specs.Loaded.{IsLoaded}
 use Rattle.shared_space.specs.declared.space.SharedSpace.{SharedSpace}

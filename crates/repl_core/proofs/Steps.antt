@@ -15,9 +15,9 @@ use Rattle.server_rules.specs.Deeds.{drain_outcome}
 use Rattle.server_rules.specs.declared.actor.Actor.{Actor}
 use Rattle.server_rules.specs.declared.refusal.Refusal.{Refusal}
 use Rattle.ref_table.specs.Refs.{Refs, refs_after}
-use Rattle.tenant_refs.specs.Serving.{RingRefTable, TableServes}
-use Rattle.tenant_turns.specs.DeedResult.{deed_result}
-use Rattle.tenant_turns.specs.Turns.{Lone}
+use Rattle.tenant_parts.specs.Serving.{RingRefTable, TableServes}
+use Rattle.server_rules.specs.DeedResult.{deed_result}
+use Rattle.server_rules.specs.LoneTurns.{Lone}
 use Rattle.tenant_world.specs.declared.tenant.Tenant.{Tenant}
 use Rattle.tenant_world.specs.Running.{running_of, running_in}
 use Rattle.tenant_world.specs.Standing as world

@@ -14,9 +14,9 @@ use Rattle.server_rules.specs.Ending.{end_of, end_running, end_compared, with_le
 use Rattle.server_rules.specs.Starting.{interrupted_in}
 use Rattle.server_rules.specs.declared.actor.Actor.{Actor}
 use Rattle.ref_table.specs.Refs.{Refs, store_of, refs_after}
-use Rattle.tenant_refs.specs.Serving.{RingRefTable, TableServes}
-use Rattle.tenant_refs.proofs.Serving.{refs_after-seen}
-use Rattle.tenant_turns.specs.DeedResult.{carried_out, deed_result}
+use Rattle.tenant_parts.specs.Serving.{RingRefTable, TableServes}
+use Rattle.tenant_parts.proofs.Serving.{refs_after-seen}
+use Rattle.server_rules.specs.DeedResult.{carried_out, deed_result}
 use Rattle.tenant_world.proofs.Standing.{worn_by, starts-by, ends-by}
 use Rattle.tenant_world.proofs.Ends.{held_by, closed_by}
 

@@ -15,8 +15,8 @@ use Rattle.server_rules.specs.Machine.World.{step, does, closes, deed_step, clos
 use Rattle.server_rules.specs.Machine.World.{with_tenant}
 use Rattle.server_rules.specs.Plan.{tenant_gone}
 use Rattle.server_rules.specs.declared.refusal.Refusal.{Refusal}
-use Rattle.tenant_actors.proofs.EntryLaws.{found_first, replaced_first}
-use Rattle.tenant_turns.specs.DeedResult.{DeedResult, carried_out, deed_result}
+use Rattle.tenant_parts.proofs.EntryLaws.{found_first, replaced_first}
+use Rattle.server_rules.specs.DeedResult.{DeedResult, carried_out, deed_result}
 use Rattle.repl_core.specs.Standing.{open_in, store_in, is_reached}
 
 -- Numbers that were used

@@ -5,7 +5,7 @@ use Rattle.std.specs.Prelude.{option_and_then, slice_get, if◌then◌else◌, R
 use Rattle.std.specs.List.{list_any}
 use Rattle.value_data.specs.Datum as datum
 use Rattle.value_data.specs.Datum.{Datum, OwnerData, shared, tenant}
-use Rattle.repl_faults.specs.Failure.{Failure}
+use Rattle.repl_values.specs.Failure.{Failure}
 use Rattle.repl_asks.specs.Transactions.{RefNameData, ChangeData, CommutedData, IntentData}
 use Rattle.repl_asks.specs.Transactions.{same_name}
 use Rattle.repl_asks.specs.Exchange.{AskData, AnswerData, new_ref, commit, value, verdict}

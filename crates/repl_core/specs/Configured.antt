@@ -1,14 +1,14 @@
 -- What a server with a configuration stands on.
 use Rattle.std.specs.Prelude.{◌≡◌, List, ℕ, [], Ok, Err}
 use Rattle.std.specs.Arc.{arc_str_bytes}
-use Rattle.repl_faults.specs.Failure.{Failure}
+use Rattle.repl_values.specs.Failure.{Failure}
 use Rattle.repl_asks.specs.Job.{JobData}
 use Rattle.repl_asks.specs.InteractionTree.{InteractionTree}
 use Rattle.evaluation_rules.specs.Evaluation.{evaluation}
 use Rattle.server_rules.specs.Readings.{Readings, AreRight}
 use Rattle.server_rules.specs.Shared.{shared_by_text}
 use Rattle.server_rules.specs.Ground.{Ground}
-use Rattle.tenant_turns.specs.Grounds.{IsRight}
+use Rattle.server_rules.specs.Grounds.{IsRight}
 use Rattle.repl_core.specs.Grounds.{Evaluates}
 use Rattle.repl_core.specs.declared.machine.Config.{Config}
 use Rattle.repl_core.specs.declared.machine.SharedText.{SharedText}

@@ -1,6 +1,6 @@
 -- How much is left to do for a tenant.
 use Rattle.std.specs.Prelude.{ℕ, [], Option, None, Some}
-use Rattle.tenant_turns.specs.Inside.Turned.{Left}
+use Rattle.server_rules.specs.Inside.Turned.{Left}
 use Rattle.tenant_world.specs.Standing.{replies_of}
 use Rattle.tenant_world.specs.declared.tenant.Tenant.{Tenant}
 use Rattle.repl_core.specs.TenantAt.{tenant_at}

@@ -9,7 +9,7 @@ use Rattle.server_rules.specs.Machine.World.{TenantData, World, is_used, open_co
 use Rattle.ref_history.specs.RingHistories.{RingStands}
 use Rattle.ref_table.specs.Refs.{Refs}
 use Rattle.ref_table.specs.Standing as table
-use Rattle.tenant_refs.specs.Sound.{AreSound}
+use Rattle.tenant_parts.specs.Sound.{AreSound}
 use Rattle.tenant_world.specs.Standing as world
 use Rattle.tenant_world.specs.declared.tenant.Tenant.{Tenant}
 use Rattle.repl_core.specs.TenantAt.{tenant_at}

@@ -1,6 +1,6 @@
 -- Whether a server with a configuration can be made.
 use Rattle.std.specs.Prelude.{◌≡◌, Err}
-use Rattle.repl_faults.specs.Failure.{Failure}
+use Rattle.repl_values.specs.Failure.{Failure}
 use Rattle.evaluation_rules.specs.Evaluation.{evaluation}
 use Rattle.server_rules.specs.Readings.{Readings, AreRight}
 use Rattle.server_rules.specs.Shared.{shared_by_text}

@@ -7,7 +7,7 @@ ghost use Rattle.server_rules.specs.Plan as deeds;
 ghost use Rattle.server_rules.specs.Plan.{messages_heard, reply_given};
 ghost use Rattle.server_rules.specs.Machine.World.{World, does, step};
 ghost use Rattle.ref_table.specs.Standing.{counter_of};
-ghost use Rattle.tenant_turns.specs.Grounds.{IsRight};
+ghost use Rattle.server_rules.specs.Grounds.{IsRight};
 ghost use Rattle.repl_walker.specs.Ends as endings;
 ghost use Rattle.tenant_world.specs.Answers.{AreSameStarts, AreSameReplies};
 ghost use Rattle.tenant_asks.specs.Answers.{AreSameAnswers, ask_answer_view};

@@ -4,7 +4,7 @@ ghost use Rattle.repl_asks.specs.Inside.View.{exchange_view};
 ghost use Rattle.repl_asks.specs.Leading.{tree_after};
 ghost use Rattle.repl_walker.specs.Waits.{progress_tree};
 ghost use Rattle.server_rules.specs.Tenant.{Quiet};
-ghost use Rattle.tenant_actors.specs.View.{run_view};
+ghost use Rattle.tenant_parts.specs.View.{run_view};
 ghost use Rattle.tenant_world.specs.Running.{running_in};
 ghost use Rattle.repl_core.specs.Inside.Walked.{IsWalkOf, AreWalked};
 ghost use Rattle.repl_core.specs.Inside.WalkAt.{walk_at};
@@ -14,7 +14,7 @@ use repl_asks::Exchange;
 use repl_walker::{Progress, start};
 use server_rules::Actor;
 use std::alloc::{AllocError, Global};
-use tenant_actors::Run;
+use tenant_parts::Run;
 
 impl Walks {
     // The evaluation of this form, which the actor runs, is kept: where it is not, it is made over

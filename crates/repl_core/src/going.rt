@@ -4,7 +4,7 @@ ghost use Rattle.server_rules.specs.Ground.{Ground};
 ghost use Rattle.server_rules.specs.Machine.Turns.{goes, step_of, turn_step};
 ghost use Rattle.server_rules.specs.Machine.World.{World};
 ghost use Rattle.ref_table.specs.Standing.{counter_of};
-ghost use Rattle.tenant_turns.specs.Grounds.{IsRight};
+ghost use Rattle.server_rules.specs.Grounds.{IsRight};
 ghost use Rattle.repl_core.specs.Grounds.{Evaluates};
 ghost use Rattle.repl_core.specs.Inside.Seen.{is_kept};
 ghost use Rattle.repl_core.specs.Standing.{open_in};

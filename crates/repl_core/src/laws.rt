@@ -13,7 +13,7 @@ ghost use Rattle.repl_core.specs.HonestRuns.{HonestFormsAskAsEvaluated};
 ghost use Rattle.repl_core.specs.DosyncSettings.{DosyncsAreAttempts};
 ghost use Rattle.repl_core.specs.AttemptsInRuns.{AttemptsInRunsAgree};
 
-use tenant_turns::laws::{exact_comparisons_exist, there_is_one_right_reading};
+use server_rules::laws::{exact_comparisons_exist, there_is_one_right_reading};
 
 /// Whatever a server begins with, there is something that it can stand on, unless the text that all
 /// share has a fault: what is promised of all that is right is promised of something.

@@ -3,7 +3,7 @@ ghost use Rattle.std.specs.Prelude.{◌≡◌, ◌≢◌, true, Err, OnOk, IfErr
 ghost use Rattle.server_rules.specs.Ground.{Ground};
 ghost use Rattle.server_rules.specs.Plan.{tenant_opened, tenant_gone};
 ghost use Rattle.server_rules.specs.Machine.World.{World, opens, closes, step};
-ghost use Rattle.tenant_turns.specs.Grounds.{IsRight};
+ghost use Rattle.server_rules.specs.Grounds.{IsRight};
 ghost use Rattle.repl_core.specs.Standing.{is_reached};
 
 use crate::machine::Machine;

@@ -5,7 +5,7 @@ ghost use Rattle.server_rules.specs.Plan.{reply_given};
 ghost use Rattle.server_rules.specs.Machine.World as worlds;
 ghost use Rattle.server_rules.specs.Machine.World.{World};
 ghost use Rattle.ref_table.specs.Standing.{counter_of};
-ghost use Rattle.tenant_turns.specs.Grounds.{IsRight};
+ghost use Rattle.server_rules.specs.Grounds.{IsRight};
 ghost use Rattle.tenant_world.specs.Answers.{start_answer_view, end_answer_view};
 ghost use Rattle.tenant_asks.specs.Answers.{ask_answer_view, AreSameAnswers};
 ghost use Rattle.tenant_world.specs.Answers.{AreSameStarts, AreSameReplies};

@@ -2,7 +2,8 @@
 ghost use Rattle.std.specs.Prelude.{◌≡◌, IfOk, length};
 ghost use Rattle.value_data.specs.Inside.View.{items_view};
 ghost use Rattle.repl_reader.specs.Grammar.{IsReading, placed_fault, last_break};
-ghost use Rattle.repl_reader.specs.Inside.View.{form_reading_view, break_view, break_option, fault_view};
+ghost use Rattle.repl_reader.specs.Inside.View.{form_reading_view, break_view, break_option};
+ghost use Rattle.repl_reader.specs.Inside.View.{fault_view};
 ghost use Rattle.repl_reader.specs.Inside.View.{fault_option};
 
 use crate::fault::{Break, FaultKind, ReaderFault, break_with};

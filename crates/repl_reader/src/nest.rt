@@ -3,9 +3,11 @@ ghost use Rattle.std.specs.Prelude.{◌≡◌, IfOk, MatchResult};
 ghost use Rattle.value_data.specs.Datum.{Datum, list, symbol, item, no_items};
 ghost use Rattle.value_data.specs.Inside.View.{view, items_view};
 ghost use Rattle.repl_reader.specs.Reading.{begins};
-ghost use Rattle.repl_reader.specs.Grammar.{Reads, IsForm, unmatched, nests_too_deep, form_or_fault};
+ghost use Rattle.repl_reader.specs.Grammar.{Reads, IsForm, unmatched, nests_too_deep};
+ghost use Rattle.repl_reader.specs.Grammar.{form_or_fault};
 ghost use Rattle.repl_reader.specs.Grammar.{wrapped_reading, collection_reading, enclosed_reading};
-ghost use Rattle.repl_reader.specs.Inside.View.{bracket_view, mark_symbol, form_reading_view, IsFrontOf};
+ghost use Rattle.repl_reader.specs.Inside.View.{bracket_view, mark_symbol, form_reading_view};
+ghost use Rattle.repl_reader.specs.Inside.View.{IsFrontOf};
 ghost use Rattle.repl_reader.specs.Inside.View.{IsRow, IsMarked, IsOpened};
 
 use crate::fault::{FaultKind, break_with};

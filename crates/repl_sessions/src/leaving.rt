@@ -5,7 +5,8 @@ ghost use Rattle.std.specs.BTreeMap.{keys};
 ghost use Rattle.repl_sessions.specs.Ids.{id_text};
 ghost use Rattle.repl_sessions.specs.Sessions.{is_open};
 ghost use Rattle.repl_sessions.specs.Named.{number_named, ids_of};
-ghost use Rattle.repl_sessions.specs.Inside.Leaving.{remaining_sessions, remaining_named, without_leaving};
+ghost use Rattle.repl_sessions.specs.Inside.Leaving.{remaining_sessions, remaining_named};
+ghost use Rattle.repl_sessions.specs.Inside.Leaving.{without_leaving};
 
 use crate::ids::IdStream;
 use crate::lookup::as_text;

@@ -2,3 +2,4 @@
 -- code, and proofs, and none of the rules.
 pub mod Parts
 pub mod Style
+pub mod FaultView

@@ -1,3 +1,4 @@
 pub mod Print
 pub mod Slash
+pub mod Failure
 pub mod Inside

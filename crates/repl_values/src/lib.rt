@@ -1,21 +1,33 @@
-//! The values of the language: how they are made, printed, compared, measured and copied.
+//! The values of the language: how they are made, printed, compared, measured and copied; and the
+//! faults of evaluation: one maker for each, with its class and its text.
 //!
 //! What a value is, and its nodes, stand in `value_data`, whose types and calls stand here too.
 //! `laws` says what holds of all values.
 #![tactic(auto)]
 
+mod error;
 mod fault;
+mod faults;
 pub mod laws;
 mod limits;
 mod plain;
 mod print;
 mod repeats;
+mod rule;
 
+pub use error::ApplyError;
 pub use fault::Fault;
+pub use faults::{
+    bad_form, broken_rule, divide_by_zero, duplicate_key, integer_overflow, namespace_is_fixed,
+    no_such_namespace, no_such_var, no_value_supplied, not_a_function, not_a_value, out_of_bounds,
+    output_too_long, thrown_text, too_deep, too_large, too_many_calls, unresolved_symbol,
+    wrong_argument, wrong_arity,
+};
 pub use limits::{MOST_NESTING, MOST_TEXT, MOST_WEIGHT};
 pub use plain::is_plain;
 pub use print::{display_into, print_into};
 pub use repeats::first_repeated;
+pub use rule::Rule;
 pub use value_data::{
     Built, Owner, RefName, Sequence, Table, Value, copy, copy_items, copy_text, hash_of, nesting,
     pair_as_vector, same, weight,

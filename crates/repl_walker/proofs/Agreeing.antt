@@ -2,7 +2,7 @@
 use Rattle.std.proofs.Common.{◌≡◌, ◌∙◌, ℕ, ◌+◌, List, [], ◌∷◌, ◌++◌, length, filter_map, drop, nat_lt, Bool}
 use Rattle.std.proofs.Common.{true, false, if◌then◌else◌, refl, sym, ap, subst, ◌⊎◌, inl, inr}
 use Rattle.std.proofs.lemmas.List.Elements.{filter_map-append}
-use Rattle.core_texts.specs.Limits.{most_text}
+use Rattle.core_scalars.specs.Limits.{most_text}
 use Rattle.repl_asks.specs.Transactions.{RefNameData}
 use Rattle.repl_asks.specs.Exchange.{AskData, AnswerData, read, reading, retry, Exchanged}
 use Rattle.tx_attempt.specs.Accesses.{AccessData, value_accessed}

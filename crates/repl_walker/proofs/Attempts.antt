@@ -4,7 +4,7 @@ use Rattle.std.proofs.Common.{length, if◌then◌else◌, refl, sym, ap, subst,
 use Rattle.std.proofs.lemmas.List.{length-append}
 use Rattle.std.specs.Prelude.{nat_lt}
 use Rattle.std.specs.List.{fold}
-use Rattle.core_texts.specs.Limits.{most_text}
+use Rattle.core_scalars.specs.Limits.{most_text}
 use Rattle.repl_asks.specs.Exchange.{AskData, AnswerData, Exchanged}
 use Rattle.repl_asks.specs.InteractionTree.{InteractionTree}
 use Rattle.repl_asks.specs.Leading.{Leads}
@@ -12,7 +12,7 @@ use Rattle.tx_attempt.specs.Accesses.{AccessData, AttemptData, nothing_noted, no
 use Rattle.evaluation_rules.specs.Doing.{Kept, Exit, Doing, left, asking, printing, looking, noting}
 use Rattle.evaluation_rules.specs.Doing.{trying}
 use Rattle.evaluation_rules.specs.Tree.{with_attempt, ends, written_tree}
-use Rattle.repl_faults.specs.Failure.{output_too_long}
+use Rattle.repl_values.specs.Failure.{output_too_long}
 use Rattle.std.proofs.Common.{Err}
 use Rattle.repl_walker.specs.Standing.{Standing, standing_after, attempt_of}
 use Rattle.repl_walker.specs.Attempts.{answers_in, AsksThese, IsUnderWay, IsDivided}

@@ -1,7 +1,7 @@
 -- Where a body stands at a read that is to be made again, it is left.
 use Rattle.std.proofs.Common.{ℕ, ◌+◌, List, [], ◌∷◌, ◌++◌, length, nat_lt, Bool, true, false}
 use Rattle.std.proofs.Common.{if◌then◌else◌, subst, ap, ◌∙◌}
-use Rattle.core_texts.specs.Limits.{most_text}
+use Rattle.core_scalars.specs.Limits.{most_text}
 use Rattle.value_data.specs.Datum.{Datum, nil}
 use Rattle.repl_asks.specs.Exchange.{AnswerData, ReadingData, read, retry}
 use Rattle.tx_attempt.specs.Accesses.{AccessData}

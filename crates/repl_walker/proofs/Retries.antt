@@ -6,14 +6,14 @@ use Rattle.std.specs.Prelude.{⊤, ◌==◌, ◌||◌, codes, zip}
 use Rattle.value_data.specs.Datum.{Datum, nil, keyword, symbol, list, vector, map, var, fault}
 use Rattle.value_data.specs.Datum.{no_items, item, agent}
 use Rattle.value_data.specs.Listed.{listed, items_of, pairs_of}
-use Rattle.repl_faults.specs.Failure as failures
-use Rattle.repl_faults.specs.Failure.{Failure}
-use Rattle.repl_faults.specs.declared.rule.Rule.{Rule}
-use Rattle.core_texts.specs.Meaning.{shown_text}
-use Rattle.function_names.specs.Names.{name_of, fits}
-use Rattle.function_names.specs.StoreNames.{store_name_of, store_fits}
-use Rattle.function_names.specs.declared.function.CoreFunction.{CoreFunction}
-use Rattle.function_names.specs.declared.store.StoreFunction.{StoreFunction}
+use Rattle.repl_values.specs.Failure as failures
+use Rattle.repl_values.specs.Failure.{Failure}
+use Rattle.repl_values.specs.declared.rule.Rule.{Rule}
+use Rattle.core_scalars.specs.TextMeaning.{shown_text}
+use Rattle.core_functions.specs.Names.{name_of, fits}
+use Rattle.core_functions.specs.StoreNames.{store_name_of, store_fits}
+use Rattle.core_functions.specs.declared.function.CoreFunction.{CoreFunction}
+use Rattle.core_functions.specs.declared.store.StoreFunction.{StoreFunction}
 use Rattle.core_functions.specs.ApplyOutcome as outcomes
 use Rattle.core_functions.specs.ApplyOutcome.{ApplyOutcome, limited_outcome}
 use Rattle.core_functions.specs.Meaning.{meaning}

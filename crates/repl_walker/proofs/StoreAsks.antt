@@ -4,10 +4,10 @@ use Rattle.std.proofs.Common.{if◌then◌else◌, length}
 use Rattle.std.specs.Prelude.{⊤, not, ◌||◌}
 use Rattle.value_data.specs.Datum.{Datum, atom, agent}
 use Rattle.value_data.specs.Measures.{is_plain}
-use Rattle.repl_faults.specs.Failure.{Failure, ◌>>=◌, wrong_arity}
-use Rattle.repl_faults.specs.declared.rule.Rule.{Rule}
-use Rattle.function_names.specs.StoreNames.{store_name_of, store_fits}
-use Rattle.function_names.specs.declared.store.StoreFunction.{StoreFunction}
+use Rattle.repl_values.specs.Failure.{Failure, ◌>>=◌, wrong_arity}
+use Rattle.repl_values.specs.declared.rule.Rule.{Rule}
+use Rattle.core_functions.specs.StoreNames.{store_name_of, store_fits}
+use Rattle.core_functions.specs.declared.store.StoreFunction.{StoreFunction}
 use Rattle.repl_asks.specs.Transactions.{RefNameData, may_hold}
 use Rattle.repl_asks.specs.Exchange.{AskData, read, min_history, max_history, await}
 use Rattle.store_calls.specs.declared.altering.Alteration.{Alteration}

@@ -5,7 +5,7 @@ use Rattle.std.proofs.Common.{append-nil, arith}
 use Rattle.std.proofs.lemmas.Bool.Decides.{nat_tests}
 use Rattle.std.proofs.lemmas.List.{length-append}
 use Rattle.std.proofs.lemmas.List.Elements.{filter_map-append}
-use Rattle.core_texts.specs.Limits.{most_text}
+use Rattle.core_scalars.specs.Limits.{most_text}
 use Rattle.repl_asks.specs.Transactions.{ChangeData}
 use Rattle.repl_asks.specs.Exchange.{AnswerData}
 use Rattle.tx_attempt.specs.Accesses.{AccessData, value_accessed}

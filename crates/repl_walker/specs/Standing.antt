@@ -2,7 +2,7 @@
 use Rattle.std.specs.Prelude.{ℕ, ◌+◌, List, [], ◌∷◌, ◌++◌, length, nat_lt}
 use Rattle.std.specs.Prelude.{if◌then◌else◌}
 use Rattle.std.specs.List.{fold}
-use Rattle.core_texts.specs.Limits.{most_text}
+use Rattle.core_scalars.specs.Limits.{most_text}
 use Rattle.repl_asks.specs.Exchange.{AnswerData}
 use Rattle.tx_attempt.specs.Accesses.{AccessData, AttemptData, nothing_noted, noted}
 use Rattle.evaluation_rules.specs.Doing.{Doing, left, asking, printing, looking, noting, trying}

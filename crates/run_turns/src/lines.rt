@@ -1,7 +1,7 @@
 // The lines of a list of turns.
 use bytes::Bytes;
 use hex::{FromHex, FromHexError};
-use machine_turns::Turn;
+use machine_runs::Turn;
 use server_rules::Actor;
 use std::alloc::{AllocError, Global};
 use std::sync::ArcStr;

@@ -5,7 +5,7 @@
 mod lines;
 
 use crate::lines::{Line, LineError, read_line};
-use machine_turns::{Outputs, RefusedTurn, Turn, drive};
+use machine_runs::{Outputs, RefusedTurn, Turn, drive};
 use repl_core::{Config, LoadError, RETRIES, STEPS, SharedText};
 use repl_values::Fault;
 use server_rules::Refusal;

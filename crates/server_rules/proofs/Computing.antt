@@ -7,8 +7,8 @@ use Rattle.rand_chacha.specs.Block.{quarter_round, column_round, diagonal_round,
 use Rattle.rand_chacha.specs.Block.{block_word}
 use Rattle.uuid.specs.Text.{by_index}
 use Rattle.repl_sessions.specs.Ids.{session_id, id_text}
-use Rattle.core_integers.specs.Arithmetic.{or_overflow, arithmetic}
-use Rattle.core_integers.specs.Meaning.{integer_meaning}
+use Rattle.core_scalars.specs.Arithmetic.{or_overflow, arithmetic}
+use Rattle.core_scalars.specs.IntegerMeaning.{integer_meaning}
 use Rattle.core_functions.specs.ApplyOutcome.{limited_outcome, apply_outcome}
 use Rattle.name_spaces.specs.Namespaces.{is_there, at_start, with_entered_namespace}
 use Rattle.name_spaces.specs.Namespaces.{with_definition}

@@ -10,3 +10,6 @@ pub mod Rising
 pub mod Seats
 pub mod Starts
 pub mod Computing
+pub mod Telling
+pub mod Parting
+pub mod Exchanges

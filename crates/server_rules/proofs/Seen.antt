@@ -5,7 +5,7 @@ use Rattle.std.proofs.Common.{slice_get, if◌then◌else◌}
 use Rattle.std.specs.Prelude.{option_map, ⊤, Result, Ok, Err}
 use Rattle.value_data.specs.Datum as datum
 use Rattle.value_data.specs.Datum.{Datum, OwnerData, shared, tenant}
-use Rattle.repl_faults.specs.Failure.{Failure}
+use Rattle.repl_values.specs.Failure.{Failure}
 use Rattle.repl_asks.specs.Transactions.{RefNameData, ChangeData, IntentData}
 use Rattle.repl_asks.specs.Exchange as exchange
 use Rattle.repl_asks.specs.Exchange.{AnswerData, done, value, reading, found, retry, verdict}

@@ -5,18 +5,20 @@ use Rattle.std.specs.Prelude.{◌++◌, is_some, unwrap_or, if◌then◌else◌,
 use Rattle.std.specs.List.{list_any, list_all}
 use Rattle.value_data.specs.Datum as datum
 use Rattle.value_data.specs.Datum.{Datum}
-use Rattle.repl_faults.specs.Failure.{Failure, broken_rule}
-use Rattle.repl_faults.specs.declared.rule.Rule.{Rule}
+use Rattle.repl_values.specs.Failure.{Failure, broken_rule}
+use Rattle.repl_values.specs.declared.rule.Rule.{Rule}
 use Rattle.repl_asks.specs.Sends.{TaskData, SendingData}
 use Rattle.repl_asks.specs.Exchange as exchange
-use Rattle.repl_asks.specs.Exchange.{AskData, AnswerData, PermissionData, granted, denied, Exchanged}
+use Rattle.repl_asks.specs.Exchange.{AskData, AnswerData, PermissionData, granted, denied}
+use Rattle.repl_asks.specs.Exchange.{Exchanged}
 use Rattle.repl_replies.specs.Replies.{OriginData}
 use Rattle.private_cells.specs.Atoms.{AtomsData, no_atoms, atom_value, with_atom, with_atom_value}
 use Rattle.private_cells.specs.Atoms.{is_unchanged, with_try}
 use Rattle.private_cells.specs.Actions.{ActionData}
 use Rattle.private_cells.specs.Agents.{AgentsData, no_agents, agent_state, agent_fault, is_failed}
 use Rattle.private_cells.specs.Agents.{with_agent, with_restart, with_send, ActionTurn, next_turn}
-use Rattle.private_cells.specs.Agents.{SentAction, first_waiting, with_result, with_failure, awaited}
+use Rattle.private_cells.specs.Agents.{SentAction, first_waiting, with_result, with_failure}
+use Rattle.private_cells.specs.Agents.{awaited}
 use Rattle.private_cells.specs.declared.awaiting.Await.{Await}
 
 -- what its programs made; no other tenant has them

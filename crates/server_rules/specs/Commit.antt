@@ -7,9 +7,9 @@ use Rattle.std.specs.List.{list_any, list_all}
 use Rattle.std.specs.Prelude.{Option, None, Some, is_some, map, Result, Ok, Err, length}
 use Rattle.std.specs.Prelude.{if◌then◌else◌}
 use Rattle.value_data.specs.Datum.{Datum, nil, OwnerData}
-use Rattle.repl_faults.specs.Failure.{Failure, ◌>>=◌, broken_rule}
-use Rattle.repl_faults.specs.declared.rule.Rule.{Rule}
-use Rattle.function_names.specs.Names as names
+use Rattle.repl_values.specs.Failure.{Failure, ◌>>=◌, broken_rule}
+use Rattle.repl_values.specs.declared.rule.Rule.{Rule}
+use Rattle.core_functions.specs.Names as names
 use Rattle.core_functions.specs.ApplyOutcome.{ApplyOutcome, gives, fails}
 use Rattle.core_functions.specs.Meaning.{meaning}
 use Rattle.repl_asks.specs.Transactions.{RefNameData, ChangeData, CommuteData, CommutedData}

@@ -24,3 +24,7 @@ pub mod Honest
 pub mod Machine
 pub mod Isolation
 pub mod Examples
+pub mod DeedResult
+pub mod LoneTurns
+pub mod Grounds
+pub mod Inside

@@ -2,7 +2,7 @@
 -- operations", `eval` and `load-file`).
 use Rattle.std.specs.Prelude.{List, [], ◌∷◌, ◌++◌, Option, None, Some, Result, Ok, Err}
 use Rattle.value_data.specs.Datum.{Datum, Items, no_items, item}
-use Rattle.repl_faults.specs.Failure.{Failure}
+use Rattle.repl_values.specs.Failure.{Failure}
 use Rattle.repl_asks.specs.Job.{EndData}
 use Rattle.repl_sessions.specs.State.{StateData, after_value, after_fault, in_namespace}
 use Rattle.repl_replies.specs.Replies.{OriginData, done, ReplyData}

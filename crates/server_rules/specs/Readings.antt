@@ -5,7 +5,7 @@ use Rattle.std.specs.Prelude.{ℕ, List, Option}
 use Rattle.bencode_wire.specs.Tree.{Tree}
 use Rattle.bencode_wire.specs.Stream.{StreamEnding, Streams}
 use Rattle.value_data.specs.Datum.{Items}
-use Rattle.repl_faults.specs.Failure.{Failure}
+use Rattle.repl_values.specs.Failure.{Failure}
 use Rattle.repl_reader.specs.Fault.{FaultData, class_of}
 use Rattle.repl_reader.specs.Grammar.{IsReading}
 use Rattle.server_rules.specs.declared.limits.TheConstants.{MESSAGE_LIMIT}

@@ -3,7 +3,7 @@
 use Rattle.std.specs.Prelude.{ℕ, List, [], ◌∷◌, ◌++◌, codes}
 use Rattle.value_data.specs.Datum.{Datum}
 use Rattle.repl_values.specs.Print.{print}
-use Rattle.repl_faults.specs.Failure.{Failure}
+use Rattle.repl_values.specs.Failure.{Failure}
 use Rattle.repl_replies.specs.Replies.{OriginData, BodyData, value, output, exception, error_text}
 use Rattle.repl_replies.specs.Replies.{ReplyData}
 

@@ -4,8 +4,8 @@ use Rattle.std.specs.Prelude.{ℕ, List, [], ◌∷◌, ◌++◌, Option, None, 
 use Rattle.std.specs.Prelude.{Result, Ok, Err, length, codes}
 use Rattle.value_data.specs.Datum as datum
 use Rattle.value_data.specs.Datum.{Datum, Items, no_items, item, OwnerData, shared, tenant}
-use Rattle.repl_faults.specs.Failure.{Failure, ◌>>=◌, broken_rule}
-use Rattle.repl_faults.specs.declared.rule.Rule.{Rule}
+use Rattle.repl_values.specs.Failure.{Failure, ◌>>=◌, broken_rule}
+use Rattle.repl_values.specs.declared.rule.Rule.{Rule}
 use Rattle.repl_reader.specs.Fault.{FaultData}
 use Rattle.repl_asks.specs.Exchange as exchange
 use Rattle.repl_asks.specs.Exchange.{AskData, AnswerData, ResolutionData, names_value, found}

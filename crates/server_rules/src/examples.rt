@@ -1,7 +1,9 @@
 //! The runs. The functions do nothing: what they ensure is proved by computing it.
 ghost use Rattle.server_rules.specs.Examples.Results.{ReadIsRetried, TwoAreApart, CloseInterrupts};
-ghost use Rattle.server_rules.specs.Examples.Results.{OtherTraceIsRefused, PlaceIsFreed, NothingIsLeft};
-ghost use Rattle.server_rules.specs.Examples.Results.{IdleCostsNothing, BothCommute, TryIsMadeAgain};
+ghost use Rattle.server_rules.specs.Examples.Results.{OtherTraceIsRefused, PlaceIsFreed};
+ghost use Rattle.server_rules.specs.Examples.Results.{NothingIsLeft};
+ghost use Rattle.server_rules.specs.Examples.Results.{IdleCostsNothing, BothCommute};
+ghost use Rattle.server_rules.specs.Examples.Results.{TryIsMadeAgain};
 ghost use Rattle.server_rules.specs.Examples.Results.{SharedRefIsRead};
 
 /// A read whose version is kept no longer is made again, and a ref of which a read failed keeps one

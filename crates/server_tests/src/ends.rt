@@ -1,8 +1,8 @@
 // How a stream ends where its steps are used up, and the line where memory is refused.
 use crate::runners::{SUM, SUM_REPLIES, server_of_steps};
+use machine_runs::pipe_command;
 use nrepl_pipe::out_of_memory;
 use std::test::Fail;
-use tenant_runner::pipe_command;
 
 // A piece costs a step, and so does each turn. The request takes three turns, of which the last
 // makes its replies, and then comes one in which nothing is to be done.

@@ -4,12 +4,12 @@ ghost use Rattle.nrepl_pipe.specs.Failing.{Marks, read_fails, write_fails};
 ghost use Rattle.nrepl_pipe.specs.Failing.{is_read_failed, is_write_failed};
 
 use crate::runners::{SUM, SUM_REPLIES, server};
+use machine_runs::{pipe, pipe_command};
 use nrepl_pipe::{PipeEnd, PipeError, Sink, Source};
 use std::alloc::Global;
 use std::io;
 use std::io::{Error, ErrorKind, Read, Write};
 use std::test::Fail;
-use tenant_runner::{pipe, pipe_command};
 
 // Gives a few bytes at each read, and fails once its reads are used up.
 #[derive(Drop)]

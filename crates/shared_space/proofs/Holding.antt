@@ -13,9 +13,9 @@ use Rattle.server_rules.specs.Versions.{Ref, new_ref}
 use Rattle.ref_history.specs.RingHistories.{RingStands}
 use Rattle.ref_table.specs.Refs.{Refs, store_of, refs_after, with_ref}
 use Rattle.ref_table.specs.Standing.{TableStands}
-use Rattle.tenant_refs.specs.Serving.{RingRefTable}
-use Rattle.tenant_refs.specs.Sound.{IsSound}
-use Rattle.tenant_refs.proofs.Serving.{refs_after-seen}
+use Rattle.tenant_parts.specs.Serving.{RingRefTable}
+use Rattle.tenant_parts.specs.Sound.{IsSound}
+use Rattle.tenant_parts.proofs.Serving.{refs_after-seen}
 use Rattle.shared_space.specs.Holding.{HoldsRefs}
 
 abbrev pub first_shared : Datum → Ref

@@ -6,8 +6,8 @@ use Rattle.std.proofs.lemmas.List.{drop_more}
 use Rattle.value_data.specs.Datum.{Items, item, Datum}
 use Rattle.value_data.specs.Inside.View.{view, items_view}
 use Rattle.value_data.specs.declared.value.Value.{Value}
-use Rattle.repl_faults.specs.Failure.{Failure, ◌>>=◌}
-use Rattle.repl_faults.specs.Inside.View.{failure_of}
+use Rattle.repl_values.specs.Failure.{Failure, ◌>>=◌}
+use Rattle.repl_values.specs.Inside.FaultView.{failure_of}
 use Rattle.repl_asks.specs.Exchange.{AnswerData, Exchanged}
 use Rattle.repl_asks.specs.Inside.View.{ask_view}
 use Rattle.repl_asks.specs.declared.ask.Ask.{Ask}

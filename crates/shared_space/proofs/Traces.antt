@@ -13,7 +13,7 @@ use Rattle.repl_asks.specs.Leading.{Leads}
 use Rattle.name_spaces.specs.Bindings.{Bindings}
 use Rattle.server_rules.specs.Shared.{SharedData, nothing_shared, shared_by, shared_after}
 use Rattle.server_rules.specs.Shared.{told_in_text, when_told_in_text, value_in_ref}
-use Rattle.tenant_refs.specs.Serving.{RingRefTable}
+use Rattle.tenant_parts.specs.Serving.{RingRefTable}
 use Rattle.shared_space.specs.Holding.{HoldsShared}
 use Rattle.shared_space.specs.Telling.{ToldBehind}
 use Rattle.shared_space.specs.Told.{shared_from, AreTold}

@@ -8,8 +8,8 @@ use Rattle.server_rules.specs.Versions.{Ref}
 use Rattle.ref_history.specs.RingHistories.{RingStands}
 use Rattle.ref_table.specs.Refs.{Refs}
 use Rattle.ref_table.specs.Standing.{TableStands}
-use Rattle.tenant_refs.specs.Serving.{RingRefTable}
-use Rattle.tenant_refs.specs.Sound.{IsSound}
+use Rattle.tenant_parts.specs.Serving.{RingRefTable}
+use Rattle.tenant_parts.specs.Sound.{IsSound}
 
 -- these refs are the shared ones, nothing was committed yet, and no tenant has refs
 pub record HoldsRefs (table : RingRefTable) (refs : List Ref) : Type 0 where

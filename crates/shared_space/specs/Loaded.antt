@@ -1,8 +1,8 @@
 -- What comes of a text of the shared namespace.
 use Rattle.std.specs.Prelude.{◌≡◌, ⊤, ℕ, List, None, Result, Ok, Err}
-use Rattle.repl_faults.specs.Failure.{Failure, broken_rule}
-use Rattle.repl_faults.specs.declared.rule.Rule.{Rule}
-use Rattle.repl_faults.specs.Inside.View.{failure_of}
+use Rattle.repl_values.specs.Failure.{Failure, broken_rule}
+use Rattle.repl_values.specs.declared.rule.Rule.{Rule}
+use Rattle.repl_values.specs.Inside.FaultView.{failure_of}
 use Rattle.repl_asks.specs.Exchange.{AskData}
 use Rattle.repl_asks.specs.Job.{JobData}
 use Rattle.repl_asks.specs.InteractionTree.{InteractionTree}

@@ -4,7 +4,7 @@ use Rattle.repl_asks.specs.Exchange.{AskData, AnswerData}
 use Rattle.repl_asks.specs.Inside.View.{answer_view}
 use Rattle.name_spaces.specs.Bindings.{Bindings}
 use Rattle.server_rules.specs.Shared.{SharedData, told_in_text, shared_after}
-use Rattle.tenant_refs.specs.Serving.{RingRefTable}
+use Rattle.tenant_parts.specs.Serving.{RingRefTable}
 use Rattle.shared_space.specs.Holding.{HoldsShared}
 use Rattle.shared_space.specs.declared.telling.Told.{Told}
 

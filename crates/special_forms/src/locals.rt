@@ -16,7 +16,8 @@ pub struct Locals {
 impl Model for Locals {
     ghost use Rattle.std.specs.Prelude.{List, map};
     ghost use Rattle.special_forms.specs.Locals.{LocalData};
-    ghost use Rattle.special_forms.specs.Inside.Naming.{locals_code, local_view, AreLinked, HasNewest};
+    ghost use Rattle.special_forms.specs.Inside.Naming.{locals_code, local_view, AreLinked};
+    ghost use Rattle.special_forms.specs.Inside.Naming.{HasNewest};
 
     ghost Value = { List LocalData };
 

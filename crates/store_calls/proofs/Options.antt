@@ -5,7 +5,7 @@ use Rattle.std.proofs.lemmas.List.{take_all}
 use Rattle.value_data.specs.Inside.View.{view}
 use Rattle.value_data.specs.declared.value.Value.{Value}
 use Rattle.special_forms.specs.Inside.Seen.{views}
-use Rattle.repl_faults.specs.Failure.{Failure, ◌>>=◌}
+use Rattle.repl_values.specs.Failure.{Failure, ◌>>=◌}
 use Rattle.store_calls.specs.Arguments.{BoundsData, with_option, bounds_in}
 
 pub bounds-step : (bounds : BoundsData) (xs : List Value) (x y : Value)

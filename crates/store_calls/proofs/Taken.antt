@@ -6,10 +6,10 @@ use Rattle.value_data.specs.Datum.{Datum}
 use Rattle.value_data.specs.Inside.View.{view}
 use Rattle.value_data.specs.declared.value.Value.{Value}
 use Rattle.special_forms.specs.Inside.Seen.{views}
-use Rattle.repl_faults.specs.Failure.{broken_rule}
-use Rattle.repl_faults.specs.declared.rule.Rule.{Rule}
-use Rattle.function_names.specs.StoreNames.{store_fits}
-use Rattle.function_names.specs.declared.store.StoreFunction.{StoreFunction}
+use Rattle.repl_values.specs.Failure.{broken_rule}
+use Rattle.repl_values.specs.declared.rule.Rule.{Rule}
+use Rattle.core_functions.specs.StoreNames.{store_fits}
+use Rattle.core_functions.specs.declared.store.StoreFunction.{StoreFunction}
 use Rattle.store_calls.specs.Calling.{call_with, ref_call, deref_call, ref_set_call, ensure_call}
 use Rattle.store_calls.specs.Calling.{history_count_call, alter_by_value, atom_call, swap_by_value}
 use Rattle.store_calls.specs.Calling.{reset_call, compare_and_set_call, agent_call}

@@ -4,10 +4,10 @@ use Rattle.std.specs.Prelude.{None, ok_or, Result, Ok, Err, if◌then◌else◌,
 use Rattle.std.specs.Str.{bytes_eq}
 use Rattle.value_data.specs.Datum.{Datum, OwnerData, shared, tenant, integer, keyword, ref, atom}
 use Rattle.value_data.specs.Datum.{agent}
-use Rattle.repl_faults.specs.Failure.{Failure, ◌>>=◌, wrong_argument, broken_rule}
-use Rattle.repl_faults.specs.declared.rule.Rule.{Rule}
-use Rattle.function_names.specs.StoreNames.{store_name_of}
-use Rattle.function_names.specs.declared.store.StoreFunction.{StoreFunction}
+use Rattle.repl_values.specs.Failure.{Failure, ◌>>=◌, wrong_argument, broken_rule}
+use Rattle.repl_values.specs.declared.rule.Rule.{Rule}
+use Rattle.core_functions.specs.StoreNames.{store_name_of}
+use Rattle.core_functions.specs.declared.store.StoreFunction.{StoreFunction}
 use Rattle.repl_asks.specs.Transactions.{RefNameData}
 use Rattle.repl_asks.specs.Exchange.{AskData, min_history, max_history}
 use Rattle.store_calls.specs.declared.bounds.HistoryBound.{HistoryBound}

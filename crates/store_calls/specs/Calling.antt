@@ -7,10 +7,10 @@ use Rattle.std.specs.Prelude.{ℕ, List, [], ◌∷◌, Bool, ◌||◌, not, Som
 use Rattle.std.specs.Prelude.{if◌then◌else◌, length}
 use Rattle.value_data.specs.Datum.{Datum, nil, atom, agent}
 use Rattle.value_data.specs.Measures.{is_plain}
-use Rattle.repl_faults.specs.Failure.{Failure, ◌>>=◌, wrong_argument, wrong_arity, broken_rule}
-use Rattle.repl_faults.specs.declared.rule.Rule.{Rule}
-use Rattle.function_names.specs.StoreNames.{store_name_of, store_fits}
-use Rattle.function_names.specs.declared.store.StoreFunction.{StoreFunction}
+use Rattle.repl_values.specs.Failure.{Failure, ◌>>=◌, wrong_argument, wrong_arity, broken_rule}
+use Rattle.repl_values.specs.declared.rule.Rule.{Rule}
+use Rattle.core_functions.specs.StoreNames.{store_name_of, store_fits}
+use Rattle.core_functions.specs.declared.store.StoreFunction.{StoreFunction}
 use Rattle.repl_asks.specs.Transactions.{RefNameData, may_hold}
 use Rattle.repl_asks.specs.Exchange.{AskData, new_ref, history, new_atom, read_atom, set_atom}
 use Rattle.repl_asks.specs.Exchange.{try_atom, new_agent, read_agent, agent_fault, restart_agent}

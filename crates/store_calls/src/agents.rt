@@ -2,7 +2,7 @@
 ghost use Rattle.std.specs.Prelude.{◌≡◌};
 ghost use Rattle.value_data.specs.Inside.View.{view};
 ghost use Rattle.special_forms.specs.Inside.Seen.{views};
-ghost use Rattle.repl_faults.specs.Inside.View.{Gives};
+ghost use Rattle.repl_values.specs.Inside.FaultView.{Gives};
 ghost use Rattle.store_calls.specs.Calling as meant;
 ghost use Rattle.store_calls.specs.Inside.View.{call_view};
 
@@ -10,10 +10,9 @@ use crate::arguments::agent_of;
 use crate::outcome::Call;
 use crate::rules::keep_to;
 use crate::sending::Dispatch;
-use function_names::StoreFunction;
+use core_functions::StoreFunction;
 use repl_asks::Ask;
-use repl_faults::{ApplyError, Rule, wrong_argument};
-use repl_values::{Value, copy};
+use repl_values::{ApplyError, Rule, Value, copy, wrong_argument};
 use std::alloc::Global;
 use std::sync::Arc;
 

@@ -2,16 +2,15 @@
 ghost use Rattle.std.specs.Prelude.{◌≡◌, IfOk};
 ghost use Rattle.value_data.specs.Inside.View.{view};
 ghost use Rattle.repl_asks.specs.Inside.View.{name_view};
-ghost use Rattle.repl_faults.specs.Inside.View.{Gives};
+ghost use Rattle.repl_values.specs.Inside.FaultView.{Gives};
 ghost use Rattle.store_calls.specs.Calling.{altered_in, altering};
 ghost use Rattle.store_calls.specs.Inside.View.{altered_view};
 
 use crate::arguments::ref_of;
 use crate::outcome::Altered;
 use crate::rules::keep_to;
-use function_names::StoreFunction;
-use repl_faults::{ApplyError, Rule};
-use repl_values::{RefName, Value};
+use core_functions::StoreFunction;
+use repl_values::{ApplyError, RefName, Rule, Value};
 use std::alloc::{AllocError, Global};
 
 /// How a function's value goes into a ref.

@@ -2,9 +2,9 @@
 ghost use Rattle.std.specs.Prelude.{◌≡◌, ◌∷◌, true, option_map, vec_len, IfOk};
 ghost use Rattle.value_data.specs.Inside.View.{view};
 ghost use Rattle.special_forms.specs.Inside.Seen.{views};
-ghost use Rattle.function_names.specs.StoreNames.{store_fits};
+ghost use Rattle.core_functions.specs.StoreNames.{store_fits};
 ghost use Rattle.repl_asks.specs.Inside.View.{name_view};
-ghost use Rattle.repl_faults.specs.Inside.View.{Gives};
+ghost use Rattle.repl_values.specs.Inside.FaultView.{Gives};
 ghost use Rattle.store_calls.specs.Calling as meant;
 ghost use Rattle.store_calls.specs.Inside.Parts.{bound_call, bound_set};
 ghost use Rattle.store_calls.specs.Inside.View.{call_view};
@@ -16,10 +16,9 @@ use crate::bounds::{HistoryBound, bounds_in};
 use crate::outcome::Call;
 use crate::rules::{is_shared, keep_to, may_hold};
 use crate::sending::Dispatch;
-use function_names::StoreFunction;
+use core_functions::StoreFunction;
 use repl_asks::Ask;
-use repl_faults::{ApplyError, Rule, broken_rule, wrong_argument, wrong_arity};
-use repl_values::{RefName, Value};
+use repl_values::{ApplyError, RefName, Rule, Value, broken_rule, wrong_argument, wrong_arity};
 use std::alloc::{AllocError, Global};
 
 /// What a call of the function with these values comes to, while a transaction runs or none does.

@@ -4,14 +4,13 @@
 ghost use Rattle.std.specs.Prelude.{◌≡◌, IfOk};
 ghost use Rattle.value_data.specs.Inside.View.{view};
 ghost use Rattle.repl_asks.specs.Inside.View.{name_view};
-ghost use Rattle.repl_faults.specs.Failure as faults;
-ghost use Rattle.repl_faults.specs.Inside.View.{Gives, failure_of};
-ghost use Rattle.function_names.specs.StoreNames.{store_name_of};
+ghost use Rattle.repl_values.specs.Failure as faults;
+ghost use Rattle.repl_values.specs.Inside.FaultView.{Gives, failure_of};
+ghost use Rattle.core_functions.specs.StoreNames.{store_name_of};
 ghost use Rattle.store_calls.specs.Arguments as meant;
 
-use function_names::StoreFunction;
-use repl_faults::{ApplyError, wrong_argument};
-use repl_values::{Fault, RefName, Value};
+use core_functions::StoreFunction;
+use repl_values::{ApplyError, Fault, RefName, Value, wrong_argument};
 use std::alloc::{AllocError, Global};
 
 pub(crate) fn ref_of(

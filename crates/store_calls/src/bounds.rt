@@ -4,15 +4,14 @@ ghost use Rattle.std.specs.Arc.{arc_str_bytes};
 ghost use Rattle.value_data.specs.Inside.View.{view};
 ghost use Rattle.special_forms.specs.Inside.Seen.{views};
 ghost use Rattle.repl_asks.specs.Inside.View.{name_view, ask_view};
-ghost use Rattle.repl_faults.specs.Inside.View.{Gives};
+ghost use Rattle.repl_values.specs.Inside.FaultView.{Gives};
 ghost use Rattle.store_calls.specs.Arguments as meant;
 ghost use Rattle.store_calls.specs.Inside.View.{bounds_view};
 
 use crate::arguments::count_of;
-use function_names::StoreFunction;
+use core_functions::StoreFunction;
 use repl_asks::Ask;
-use repl_faults::{ApplyError, wrong_argument};
-use repl_values::{RefName, Value};
+use repl_values::{ApplyError, RefName, Value, wrong_argument};
 use std::alloc::Global;
 
 /// A bound of the count of a ref's history.

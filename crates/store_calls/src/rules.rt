@@ -1,12 +1,11 @@
 // The rules of transactions and of shared refs.
 ghost use Rattle.std.specs.Prelude.{◌≡◌, true};
 ghost use Rattle.value_data.specs.Inside.View.{view, owner_view};
-ghost use Rattle.repl_faults.specs.Inside.View.{Gives};
+ghost use Rattle.repl_values.specs.Inside.FaultView.{Gives};
 ghost use Rattle.repl_asks.specs.Transactions.{may_hold};
 ghost use Rattle.store_calls.specs.Arguments as meant;
 
-use repl_faults::{ApplyError, Rule, broken_rule};
-use repl_values::{Owner, RefName, Value, is_plain};
+use repl_values::{ApplyError, Owner, RefName, Rule, Value, broken_rule, is_plain};
 use std::alloc::Global;
 
 /// Whether a ref may get this value: a ref that all tenants share holds plain data only. For such a

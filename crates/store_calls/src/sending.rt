@@ -7,9 +7,8 @@ ghost use Rattle.store_calls.specs.Inside.View.{addressed_view};
 
 use crate::arguments::agent_of;
 use crate::outcome::Addressed;
-use function_names::StoreFunction;
-use repl_faults::ApplyError;
-use repl_values::Value;
+use core_functions::StoreFunction;
+use repl_values::{ApplyError, Value};
 use std::alloc::{AllocError, Global};
 
 /// By which name something is sent to an agent. Actions of a tenant run one after another, so both

@@ -2,18 +2,17 @@
 ghost use Rattle.std.specs.Prelude.{◌≡◌, true, vec_len, IfOk};
 ghost use Rattle.value_data.specs.Inside.View.{view};
 ghost use Rattle.special_forms.specs.Inside.Seen.{views};
-ghost use Rattle.function_names.specs.StoreNames.{store_fits};
-ghost use Rattle.function_names.specs.declared.store.StoreFunction.{StoreFunction};
-ghost use Rattle.repl_faults.specs.Inside.View.{Gives};
+ghost use Rattle.core_functions.specs.StoreNames.{store_fits};
+ghost use Rattle.core_functions.specs.declared.store.StoreFunction.{StoreFunction};
+ghost use Rattle.repl_values.specs.Inside.FaultView.{Gives};
 ghost use Rattle.store_calls.specs.Calling as meant;
 ghost use Rattle.store_calls.specs.Inside.View.{call_view};
 
 use crate::applying::{deref_call, ref_call};
 use crate::outcome::Call;
 use crate::rules::keep_to;
-use function_names::StoreFunction;
-use repl_faults::{ApplyError, Rule, broken_rule, wrong_arity};
-use repl_values::{Value, is_plain};
+use core_functions::StoreFunction;
+use repl_values::{ApplyError, Rule, Value, broken_rule, is_plain, wrong_arity};
 use std::alloc::{AllocError, Global};
 
 /// What a call of the function with these values comes to in the text of the namespace that all

@@ -1,6 +1,6 @@
 // What calls a function in turn, and the atom of `swap!`, before its function is applied.
 ghost use Rattle.std.specs.Prelude.{◌≡◌, IfOk};
-ghost use Rattle.function_names.specs.declared.store.StoreFunction.{StoreFunction};
+ghost use Rattle.core_functions.specs.declared.store.StoreFunction.{StoreFunction};
 ghost use Rattle.value_data.specs.Inside.View.{view};
 ghost use Rattle.store_calls.specs.Arguments.{atom_in};
 ghost use Rattle.store_calls.specs.Calling.{updating};
@@ -10,9 +10,8 @@ use crate::altering::Alteration;
 use crate::arguments::atom_of;
 use crate::outcome::Swapped;
 use crate::sending::Dispatch;
-use function_names::StoreFunction;
-use repl_faults::ApplyError;
-use repl_values::Value;
+use core_functions::StoreFunction;
+use repl_values::{ApplyError, Value};
 use std::alloc::{AllocError, Global};
 
 /// Whose value goes to a function, and becomes what the function gives: at once, or when an agent

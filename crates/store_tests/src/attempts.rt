@@ -1,8 +1,8 @@
 // Attempts at transactions where memory is wanting: run with one allocation after the other
 // failing.
 use crate::given::{FIRST, OURS, SECOND};
-use core_integers::{ArithmeticFunction, IntegerFunction};
-use function_names::CoreFunction;
+use core_functions::CoreFunction;
+use core_scalars::{ArithmeticFunction, IntegerFunction};
 use repl_asks::{Commute, Intent};
 use repl_values::{RefName, Value};
 use std::alloc::{AllocError, Global};

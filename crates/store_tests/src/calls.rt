@@ -2,7 +2,7 @@
 // of atoms, and of values in the place of a function; and where memory is wanting.
 use crate::given::Given::{Atom, Int, Ref};
 use crate::given::{FIRST, Given, OURS, value_of, values_of};
-use function_names::StoreFunction;
+use core_functions::StoreFunction;
 use std::alloc::{AllocError, Global};
 use std::test::Fail;
 use store_calls::{Alteration, Altered, Call, call, ref_to_alter};

@@ -1,6 +1,6 @@
 // What an attempt wants committed, in short.
 use crate::given::{Given, values_of};
-use function_names::CoreFunction;
+use core_functions::CoreFunction;
 use repl_asks::{Change, Commute, Commuted, Intent};
 use repl_values::{RefName, Value};
 use std::alloc::{AllocError, Global};

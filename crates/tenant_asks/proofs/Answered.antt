@@ -13,22 +13,22 @@ use Rattle.server_rules.specs.declared.actor.Actor.{Actor}
 use Rattle.ref_history.specs.RingHistories.{RingStands}
 use Rattle.ref_table.specs.Refs.{Refs, refs_after}
 use Rattle.ref_table.specs.Standing as refs
-use Rattle.tenant_refs.specs.Attempts.{Reaches}
+use Rattle.tenant_parts.specs.Attempts.{Reaches}
 use Rattle.tenant_asks.specs.Asking.{is_of_names, is_of_cells, Answers}
 use Rattle.tenant_asks.specs.Memories.{Remembers}
 use Rattle.tenant_asks.specs.Sends.{committed_sends, is_told_yes}
 use Rattle.repl_sessions.specs.Inside.StateView.{state_view}
 use Rattle.name_spaces.specs.Inside.Seen.{namespaces_of, shared_in}
-use Rattle.tenant_actors.specs.Replies.{waiting_bytes}
+use Rattle.tenant_parts.specs.Replies.{waiting_bytes}
 use Rattle.tenant_asks.specs.Cells.{cells_data}
-use Rattle.tenant_refs.specs.Serving.{RingRefTable, ServesWithAttempts, PerformsCall}
-use Rattle.tenant_refs.specs.Thrice.{thrice_view, told_answer}
-use Rattle.tenant_refs.specs.declared.attempts.Attempts.{Attempts}
+use Rattle.tenant_parts.specs.Serving.{RingRefTable, ServesWithAttempts, PerformsCall}
+use Rattle.tenant_parts.specs.Thrice.{thrice_view, told_answer}
+use Rattle.tenant_parts.specs.declared.attempts.Attempts.{Attempts}
 use Rattle.tenant_asks.specs.declared.memory.Memory.{Memory}
-use Rattle.tenant_refs.specs.declared.thrice.Thrice.{Thrice}
+use Rattle.tenant_parts.specs.declared.thrice.Thrice.{Thrice}
 use Rattle.tenant_asks.proofs.Answering.{refs-told, allowed-may}
-use Rattle.tenant_refs.proofs.Calls.{untold-stays}
-use Rattle.tenant_refs.proofs.Serving.{refs_after-seen, holds-refs_after}
+use Rattle.tenant_parts.proofs.Calls.{untold-stays}
+use Rattle.tenant_parts.proofs.Serving.{refs_after-seen, holds-refs_after}
 
 -- an ask of names, of atoms or of agents changes none of them
 pub alone-answered : (g : Ground) (t : ℕ) (a : Actor) (sender : SenderData) (q : Quiet) (ask : AskData)

@@ -26,14 +26,14 @@ use Rattle.server_rules.specs.Starting.{interrupted_in}
 use Rattle.server_rules.specs.Plan.{Plan, refuses, leaves, with_step_spent, ask_answered, quietly}
 use Rattle.server_rules.specs.declared.actor.Actor.{Actor}
 use Rattle.server_rules.specs.declared.refusal.Refusal.{Refusal}
-use Rattle.tenant_turns.specs.DeedResult.{carried_out}
+use Rattle.server_rules.specs.DeedResult.{carried_out}
 use Rattle.tenant_asks.specs.declared.memory.Memory.{Memory}
 use Rattle.tenant_asks.specs.Memories.{Remembers}
 use Rattle.tenant_asks.specs.Acting.{AcceptsOutcome, RefusesOutcome, is_accepted}
 use Rattle.tenant_asks.specs.Asking.{is_of_names, is_of_cells, answered_plan, exchange_from, run_with}
 use Rattle.tenant_asks.specs.Asking.{hand_with, with_exchange, why_waiting}
 use Rattle.tenant_asks.specs.Sends.{committed_sends}
-use Rattle.tenant_refs.proofs.Soundness.{MayBe}
+use Rattle.tenant_parts.proofs.Soundness.{MayBe}
 
 -- Asks of names, of atoms and agents, and of refs
 

@@ -9,7 +9,7 @@ use Rattle.server_rules.specs.Plan.{with_step_spent}
 use Rattle.server_rules.specs.declared.actor.Actor.{Actor}
 use Rattle.server_rules.specs.declared.refusal.Refusal.{Refusal}
 use Rattle.tenant_asks.specs.declared.memory.Memory.{Memory}
-use Rattle.tenant_actors.specs.Replies.{waiting_bytes}
+use Rattle.tenant_parts.specs.Replies.{waiting_bytes}
 use Rattle.tenant_asks.specs.Memories.{Remembers, opened_by}
 
 -- the rules do not refuse it

@@ -15,8 +15,8 @@ use Rattle.server_rules.specs.declared.actor.Actor.{Actor}
 use Rattle.server_rules.specs.declared.refusal.Refusal.{Refusal}
 use Rattle.ref_table.specs.Refs.{Refs, refs_after}
 use Rattle.tenant_asks.specs.Memories.{Remembers}
-use Rattle.tenant_refs.specs.Serving.{RingRefTable, ServesWithAttempts}
-use Rattle.tenant_refs.specs.declared.attempts.Attempts.{Attempts}
+use Rattle.tenant_parts.specs.Serving.{RingRefTable, ServesWithAttempts}
+use Rattle.tenant_parts.specs.declared.attempts.Attempts.{Attempts}
 use Rattle.tenant_asks.specs.declared.memory.Memory.{Memory}
 
 -- the ask is one of names

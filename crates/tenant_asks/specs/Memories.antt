@@ -6,7 +6,7 @@ use Rattle.name_spaces.specs.Inside.Seen.{namespaces_of, shared_in}
 use Rattle.server_rules.specs.Ground.{Ground}
 use Rattle.server_rules.specs.Tenant.{Quiet}
 use Rattle.server_rules.specs.Operating.{named_sessions}
-use Rattle.tenant_actors.specs.Replies.{waiting_bytes}
+use Rattle.tenant_parts.specs.Replies.{waiting_bytes}
 use Rattle.tenant_asks.specs.Cells.{cells_data}
 use Rattle.tenant_asks.specs.declared.memory.Memory.{Memory}
 

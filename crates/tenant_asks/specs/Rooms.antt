@@ -1,9 +1,9 @@
 -- Room in the trace of the form that runs, for one ask with its answer.
 use Rattle.std.specs.Prelude.{◌<◌, Option, None, Some, ⊤}
 use Rattle.std.specs.Vec.{vec_len, vec_capacity}
-use Rattle.tenant_actors.specs.declared.request.Run.{Run}
-use Rattle.tenant_actors.specs.declared.request.Hand.{Hand}
-use Rattle.tenant_actors.specs.declared.actor.ActorState.{ActorState}
+use Rattle.tenant_parts.specs.declared.request.Run.{Run}
+use Rattle.tenant_parts.specs.declared.request.Hand.{Hand}
+use Rattle.tenant_parts.specs.declared.actor.ActorState.{ActorState}
 
 abbrev pub RunHasRoom : Run → Type 0
 RunHasRoom run = vec_len run.trace < vec_capacity run.trace

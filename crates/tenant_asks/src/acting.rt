@@ -12,7 +12,7 @@ use crate::memory::Memory;
 use repl_replies::{Body, Origin};
 use std::alloc::{AllocError, Global};
 use std::sync::Arc;
-use tenant_actors::Batch;
+use tenant_parts::Batch;
 
 /// Answers a request that its session was closed. It fails only for want of memory, and then
 /// changes nothing.

@@ -6,14 +6,13 @@ ghost use Rattle.repl_asks.specs.Exchange as told;
 ghost use Rattle.private_cells.specs.Agents.{agent_state, agent_fault, with_agent, with_restart};
 ghost use Rattle.private_cells.specs.Inside.View.{agents_view};
 ghost use Rattle.server_rules.specs.Cells.{fault_or_nil, restart_permission, await_permission};
-ghost use Rattle.tenant_refs.specs.Thrice.{thrice_view, IsThrice};
+ghost use Rattle.tenant_parts.specs.Thrice.{thrice_view, IsThrice};
 
 use private_cells::{Agents, Await};
 use repl_asks::{Answer, Permission};
-use repl_faults::{Rule, broken_rule};
-use repl_values::{Value, copy};
+use repl_values::{Rule, Value, broken_rule, copy};
 use std::alloc::{AllocError, Global};
-use tenant_refs::Thrice;
+use tenant_parts::Thrice;
 
 /// The answer is the agent.
 pub(crate) fn make(agents: &mut Agents, state: &Value) -> Result<Thrice, AllocError>

@@ -16,8 +16,8 @@ ghost use Rattle.server_rules.specs.Asking.{asked_of, call_of, sender_of, sessio
 ghost use Rattle.server_rules.specs.Asking as meant;
 ghost use Rattle.ref_table.specs.Refs.{Refs, refs_after};
 ghost use Rattle.ref_table.specs.Standing.{counter_of};
-ghost use Rattle.tenant_actors.specs.View.{actor_view, hand_view};
-ghost use Rattle.tenant_turns.specs.DeedResult.{carried_out};
+ghost use Rattle.tenant_parts.specs.View.{actor_view, hand_view};
+ghost use Rattle.server_rules.specs.DeedResult.{carried_out};
 ghost use Rattle.tenant_asks.specs.Memories.{Remembers, opened_by};
 ghost use Rattle.tenant_asks.specs.Answers.{ask_answer_view, AreSameAnswers};
 ghost use Rattle.tenant_asks.specs.Acting.{AcceptsOutcome, RefusesOutcome, IsActorStep};
@@ -27,8 +27,8 @@ ghost use Rattle.tenant_asks.specs.Asking.{is_of_cells, why_waiting};
 ghost use Rattle.tenant_asks.specs.Sends.{committed_sends, is_told_yes, sender_view};
 ghost use Rattle.tenant_asks.specs.Cells.{cells_data};
 ghost use Rattle.tenant_asks.specs.Rooms.{ActorHasRoom};
-ghost use Rattle.tenant_refs.specs.Serving.{PerformsCall, ServesWithAttempts};
-ghost use Rattle.tenant_refs.specs.Thrice.{thrice_view, told_answer, AreThrice};
+ghost use Rattle.tenant_parts.specs.Serving.{PerformsCall, ServesWithAttempts};
+ghost use Rattle.tenant_parts.specs.Thrice.{thrice_view, told_answer, AreThrice};
 
 use crate::acting::interrupt;
 use crate::answers::{AskAnswer, AskAnswers};
@@ -45,8 +45,7 @@ use repl_replies::Origin;
 use server_rules::{Actor, Refusal};
 use std::alloc::{AllocError, Global};
 use std::sync::Arc;
-use tenant_actors::{ActorState, Hand};
-use tenant_refs::{Attempts, Thrice, call, is_told};
+use tenant_parts::{ActorState, Attempts, Hand, Thrice, call, is_told};
 
 // The first number that is none of the language.
 const END_OF_NUMBERS: u64 = 0x8000_0000_0000_0000;

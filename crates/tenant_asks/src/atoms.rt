@@ -6,13 +6,13 @@ ghost use Rattle.repl_asks.specs.Exchange as told;
 ghost use Rattle.private_cells.specs.Atoms.{atom_value, with_atom, with_atom_value, is_unchanged};
 ghost use Rattle.private_cells.specs.Atoms.{with_try};
 ghost use Rattle.private_cells.specs.Inside.View.{atoms_view};
-ghost use Rattle.tenant_refs.specs.Thrice.{thrice_view, IsThrice};
+ghost use Rattle.tenant_parts.specs.Thrice.{thrice_view, IsThrice};
 
 use private_cells::Atoms;
 use repl_asks::Answer;
 use repl_values::{Value, copy};
 use std::alloc::AllocError;
-use tenant_refs::Thrice;
+use tenant_parts::Thrice;
 
 /// The answer is the atom.
 pub(crate) fn make(atoms: &mut Atoms, value: &Value) -> Result<Thrice, AllocError>

@@ -6,7 +6,7 @@ ghost use Rattle.repl_asks.specs.Exchange.{done};
 ghost use Rattle.repl_asks.specs.Inside.View.{ask_view, sending_view};
 ghost use Rattle.server_rules.specs.Cells as meant;
 ghost use Rattle.server_rules.specs.Cells.{cell_answer, cells_after};
-ghost use Rattle.tenant_refs.specs.Thrice.{thrice_view, IsThrice};
+ghost use Rattle.tenant_parts.specs.Thrice.{thrice_view, IsThrice};
 ghost use Rattle.tenant_asks.specs.Asking.{is_of_cells};
 ghost use Rattle.tenant_asks.specs.Cells.{cells_data};
 ghost use Rattle.tenant_asks.specs.Sends.{sender_view};
@@ -16,7 +16,7 @@ use crate::{agents, atoms, sends};
 use private_cells::{Agents, Atoms, Await};
 use repl_asks::{Ask, Sending};
 use std::alloc::{AllocError, Global};
-use tenant_refs::Thrice;
+use tenant_parts::Thrice;
 
 /// The atoms and agents of a tenant.
 #[derive(Drop)]

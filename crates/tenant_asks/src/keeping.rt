@@ -1,13 +1,13 @@
 // The trace of a form that runs.
 ghost use Rattle.std.specs.Prelude.{◌≡◌, OnOk};
 ghost use Rattle.repl_asks.specs.Inside.View.{exchange_view};
-ghost use Rattle.tenant_actors.specs.View.{actor_view, hand_view, run_view};
+ghost use Rattle.tenant_parts.specs.View.{actor_view, hand_view, run_view};
 ghost use Rattle.tenant_asks.specs.Asking.{run_with, hand_with, with_exchange};
 ghost use Rattle.tenant_asks.specs.Rooms.{RunHasRoom, HandHasRoom, ActorHasRoom};
 
 use repl_asks::Exchange;
 use std::alloc::AllocError;
-use tenant_actors::{ActorState, Hand, Run};
+use tenant_parts::{ActorState, Hand, Run};
 
 /// Makes room for an ask with its answer in the trace of the form that runs. It fails only for want
 /// of memory.

@@ -8,7 +8,7 @@ ghost use Rattle.server_rules.specs.Ground.{Ground};
 ghost use Rattle.server_rules.specs.Tenant.{Quiet, actor_state, with_state, with_replies};
 ghost use Rattle.server_rules.specs.Starting.{first_state};
 ghost use Rattle.server_rules.specs.Moves.{Move};
-ghost use Rattle.tenant_actors.specs.Replies.{made_bytes};
+ghost use Rattle.tenant_parts.specs.Replies.{made_bytes};
 ghost use Rattle.tenant_moves.specs.Told.{Tells};
 ghost use Rattle.tenant_asks.specs.Memories.{Remembers, opened_by};
 
@@ -17,8 +17,8 @@ use name_spaces::Spaces;
 use repl_sessions::{SessionState, Sessions};
 use server_rules::Actor;
 use std::alloc::{AllocError, Global};
-use tenant_actors::{Batch, Outbox};
 use tenant_moves::News;
+use tenant_parts::{Batch, Outbox};
 
 /// What the requests of a tenant share.
 #[derive(Drop)]

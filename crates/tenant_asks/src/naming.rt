@@ -12,7 +12,7 @@ ghost use Rattle.server_rules.specs.Asking.{answer_to, quiet_after};
 ghost use Rattle.server_rules.specs.Asking as meant;
 ghost use Rattle.tenant_asks.specs.Memories.{Remembers, opened_by};
 ghost use Rattle.tenant_asks.specs.Asking.{is_of_names};
-ghost use Rattle.tenant_refs.specs.Thrice.{thrice_view, IsThrice};
+ghost use Rattle.tenant_parts.specs.Thrice.{thrice_view, IsThrice};
 
 use crate::memory::Memory;
 use name_spaces::{Found, Latest};
@@ -21,7 +21,7 @@ use repl_sessions::SessionState;
 use repl_values::{Value, copy, copy_text};
 use server_rules::Actor;
 use std::alloc::{AllocError, Global};
-use tenant_refs::Thrice;
+use tenant_parts::Thrice;
 
 /// Answers an ask of names, and does what is asked. It fails only for want of memory, and has then
 /// changed nothing.

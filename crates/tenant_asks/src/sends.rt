@@ -6,21 +6,21 @@ ghost use Rattle.repl_asks.specs.Inside.View.{ask_view, answer_view, sending_vie
 ghost use Rattle.private_cells.specs.Inside.View.{agents_view, room_of};
 ghost use Rattle.server_rules.specs.Asking.{sender_of, session_of, sending_session};
 ghost use Rattle.server_rules.specs.Cells.{is_yes, send_permission, sends_by, stays_inside};
-ghost use Rattle.tenant_actors.specs.View.{hand_view, manner_view, run_view};
-ghost use Rattle.tenant_refs.specs.Thrice.{thrice_view, told_answer, IsThrice};
-ghost use Rattle.tenant_asks.specs.Sends.{all_sent, all_sent_if, is_told_yes, outgoing_from, outgoing_view};
+ghost use Rattle.tenant_parts.specs.View.{hand_view, manner_view, run_view};
+ghost use Rattle.tenant_parts.specs.Thrice.{thrice_view, told_answer, IsThrice};
+ghost use Rattle.tenant_asks.specs.Sends.{all_sent, all_sent_if, is_told_yes, outgoing_from};
+ghost use Rattle.tenant_asks.specs.Sends.{outgoing_view};
 ghost use Rattle.tenant_asks.specs.Sends.{sender_view, sent_if, listed, outgoing_in, trace_of};
 
 use private_cells::{Action, Agents};
 use repl_asks::{Answer, Ask, Exchange, Permission, Reading, Sending, Verdict};
-use repl_faults::{Rule, broken_rule};
 use repl_replies::Origin;
+use repl_values::{Rule, broken_rule};
 use server_rules::Actor;
 use std::alloc::{AllocError, Global};
 use std::collections::VecDeque;
 use std::sync::Arc;
-use tenant_actors::{Hand, Manner, Run};
-use tenant_refs::Thrice;
+use tenant_parts::{Hand, Manner, Run, Thrice};
 
 /// Who sends: what the replies to its request carry, and the number of its session, if it has one.
 #[derive(Clone, Copy)]

@@ -6,7 +6,7 @@ use Rattle.std.proofs.lemmas.List.{map-append}
 use Rattle.value_data.specs.Datum.{Items, no_items, item}
 use Rattle.value_data.specs.Inside.View.{items_view}
 use Rattle.value_data.specs.declared.value.Value.{Value}
-use Rattle.repl_faults.specs.Failure.{Failure}
+use Rattle.repl_values.specs.Failure.{Failure}
 use Rattle.repl_replies.specs.Replies.{OriginData, ReplyData, bytes_of}
 use Rattle.repl_sessions.specs.State.{StateData}
 use Rattle.server_rules.specs.Request.{Hand, Manner, each_form, each_form_elsewhere, last_form}

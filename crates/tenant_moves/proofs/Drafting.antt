@@ -25,9 +25,9 @@ use Rattle.server_rules.specs.Replying.{reply}
 use Rattle.server_rules.specs.Request.{Waiting}
 use Rattle.server_rules.specs.Tenant.{ActorData, unoccupied, seat_of, Quiet, with_replies}
 use Rattle.server_rules.specs.declared.actor.Actor.{Actor}
-use Rattle.tenant_actors.specs.Queues.{changed_found, with_changed_actor, with_request, vacated_found}
-use Rattle.tenant_actors.specs.Queues.{vacated_at}
-use Rattle.tenant_actors.specs.View.{AreBelow}
+use Rattle.tenant_parts.specs.Queues.{changed_found, with_changed_actor, with_request, vacated_found}
+use Rattle.tenant_parts.specs.Queues.{vacated_at}
+use Rattle.tenant_parts.specs.View.{AreBelow}
 use Rattle.tenant_moves.specs.Holds.{PartsStandFor, AreSeated}
 use Rattle.tenant_moves.specs.Requested.{with_queued_request}
 use Rattle.tenant_moves.specs.Scene.{Scene, all_vacated, Drafts, FollowsRules}

@@ -4,7 +4,7 @@ use Rattle.std.proofs.Common.{arith}
 use Rattle.repl_sessions.specs.Named.{NamedSessions}
 use Rattle.server_rules.specs.Numbered.{Entry, entry, without}
 use Rattle.server_rules.specs.Tenant.{ActorData, unoccupied}
-use Rattle.tenant_actors.specs.View.{AreBelow}
+use Rattle.tenant_parts.specs.View.{AreBelow}
 use Rattle.tenant_moves.specs.Holds.{AreSeated}
 use Rattle.tenant_moves.specs.Undone.{SessionsAndActors, sessions_and_actors, retracted_named}
 use Rattle.tenant_moves.specs.Undone.{undone, all_undone}

@@ -12,8 +12,8 @@ use Rattle.server_rules.specs.Numbered.{Entry, entry, part_under, with_part, wit
 use Rattle.server_rules.specs.Operating.{with_vacated_seat}
 use Rattle.server_rules.specs.Request.{Hand}
 use Rattle.server_rules.specs.Tenant.{ActorData}
-use Rattle.tenant_actors.specs.Queues.{changed_found, with_changed_actor, vacated_found, vacated_at}
-use Rattle.tenant_actors.specs.View.{AreBelow}
+use Rattle.tenant_parts.specs.Queues.{changed_found, with_changed_actor, vacated_found, vacated_at}
+use Rattle.tenant_parts.specs.View.{AreBelow}
 use Rattle.tenant_moves.specs.Scene.{all_vacated}
 use Rattle.tenant_moves.proofs.Apart.{part_under-with_part-apart, part_under-without-apart}
 use Rattle.tenant_moves.proofs.Apart.{with_part-with_part-apart, with_part-without-apart}

@@ -6,7 +6,7 @@ use Rattle.server_rules.specs.Ground.{Ground}
 use Rattle.server_rules.specs.Numbered.{Entry}
 use Rattle.server_rules.specs.Operating.{named_sessions}
 use Rattle.server_rules.specs.Tenant.{ActorData, Quiet}
-use Rattle.tenant_actors.specs.View.{AreBelow}
+use Rattle.tenant_parts.specs.View.{AreBelow}
 
 -- sessions, actors and the bytes of the replies that wait are those of the tenant
 pub record PartsStandFor (g : Ground) (t : ℕ) (q : Quiet)

@@ -11,7 +11,7 @@ use Rattle.server_rules.specs.Readings.{Readings}
 use Rattle.server_rules.specs.Request.{ProgramText, code, file, Hand, each_form}
 use Rattle.server_rules.specs.Request.{each_form_elsewhere, last_form}
 use Rattle.server_rules.specs.Starting.{hand_of, namespace_there}
-use Rattle.tenant_actors.specs.View.{hand_view}
+use Rattle.tenant_parts.specs.View.{hand_view}
 use Rattle.tenant_moves.specs.declared.request.Opened.{Opened}
 
 -- bytes as text

@@ -10,10 +10,10 @@ use Rattle.server_rules.specs.Numbered.{Entry}
 use Rattle.server_rules.specs.Operating.{ids_for}
 use Rattle.server_rules.specs.Tenant.{ActorData, Quiet, seat_of}
 use Rattle.server_rules.specs.declared.actor.Actor.{Actor}
-use Rattle.tenant_actors.specs.Queues.{vacated_at}
-use Rattle.tenant_actors.specs.View.{actors_view}
-use Rattle.tenant_actors.specs.declared.actors.Actors.{Actors}
-use Rattle.tenant_actors.specs.Replies.{made_bytes}
+use Rattle.tenant_parts.specs.Queues.{vacated_at}
+use Rattle.tenant_parts.specs.View.{actors_view}
+use Rattle.tenant_parts.specs.declared.actors.Actors.{Actors}
+use Rattle.tenant_parts.specs.Replies.{made_bytes}
 use Rattle.tenant_moves.specs.Undone.{sessions_and_actors, all_undone}
 use Rattle.tenant_moves.specs.Holds.{AreSeated}
 use Rattle.tenant_moves.specs.declared.draft.Draft.{Draft}

@@ -13,7 +13,7 @@ use Rattle.server_rules.specs.Moves.{over_move, in_hand, closing_move}
 use Rattle.server_rules.specs.Request as rules
 use Rattle.server_rules.specs.Plan.{StepAnswer, form_begun, request_answered}
 use Rattle.server_rules.specs.Starting.{Started, form_job}
-use Rattle.tenant_actors.specs.View.{hand_view}
+use Rattle.tenant_parts.specs.View.{hand_view}
 use Rattle.tenant_moves.specs.declared.starting.Begun.{Begun}
 use Rattle.tenant_moves.specs.declared.starting.NextForm.{NextForm}
 use Rattle.tenant_moves.specs.declared.starting.BegunRequest.{BegunRequest}

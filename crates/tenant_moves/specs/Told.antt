@@ -4,7 +4,7 @@ use Rattle.repl_replies.specs.Replies.{bytes_of}
 use Rattle.repl_sessions.specs.State.{StateData}
 use Rattle.repl_sessions.specs.Inside.StateView.{state_view}
 use Rattle.server_rules.specs.Moves.{Move}
-use Rattle.tenant_actors.specs.Replies.{made_bytes}
+use Rattle.tenant_parts.specs.Replies.{made_bytes}
 use Rattle.tenant_moves.specs.declared.news.News.{News}
 
 abbrev pub told_state : News → StateData

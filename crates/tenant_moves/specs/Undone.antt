@@ -5,7 +5,7 @@ use Rattle.repl_sessions.specs.Inside.Retracted.{without_newest_session}
 use Rattle.server_rules.specs.Numbered.{Entry, without}
 use Rattle.server_rules.specs.Tenant.{ActorData, seat_of}
 use Rattle.server_rules.specs.declared.actor.Actor.{Actor}
-use Rattle.tenant_actors.specs.Queues.{with_changed_actor, without_newest}
+use Rattle.tenant_parts.specs.Queues.{with_changed_actor, without_newest}
 use Rattle.tenant_moves.specs.declared.changes.LoggedChange.{LoggedChange}
 
 -- what messages change, but for the replies

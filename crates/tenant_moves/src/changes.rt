@@ -1,11 +1,11 @@
 // What was changed is undone, without memory.
 ghost use Rattle.std.specs.Prelude.{◌≡◌, ◌<◌, ◌∷◌, ◌++◌, [], vec_len, vec_capacity};
-ghost use Rattle.tenant_actors.specs.View.{actors_view};
+ghost use Rattle.tenant_parts.specs.View.{actors_view};
 ghost use Rattle.tenant_moves.specs.Undone.{sessions_and_actors, all_undone, undone};
 
 use repl_sessions::Sessions;
 use server_rules::Actor;
-use tenant_actors::Actors;
+use tenant_parts::Actors;
 
 // A change that is undone by its opposite.
 #[derive(Clone, Copy)]

@@ -4,8 +4,8 @@ ghost use Rattle.std.specs.BTreeSet.{keys};
 ghost use Rattle.bencode_wire.specs.Inside.View.{tree_view, entries_view};
 ghost use Rattle.bencode_wire.specs.Tree.{dictionary};
 ghost use Rattle.server_rules.specs.Operating.{with_message};
-ghost use Rattle.tenant_actors.specs.View.{actors_view};
-ghost use Rattle.tenant_actors.specs.Replies.{made_bytes};
+ghost use Rattle.tenant_parts.specs.View.{actors_view};
+ghost use Rattle.tenant_parts.specs.Replies.{made_bytes};
 ghost use Rattle.tenant_moves.specs.Holds.{AreSeated};
 ghost use Rattle.tenant_moves.specs.Scene.{scene, FollowsRules, IsKept};
 ghost use Rattle.tenant_moves.specs.Handled.{with_piece};
@@ -18,7 +18,7 @@ use repl_sessions::Sessions;
 use std::alloc::{AllocError, Global};
 use std::collections::{BTreeSet, VecDeque};
 use std::sync::Arc;
-use tenant_actors::{Actors, Batch};
+use tenant_parts::{Actors, Batch};
 
 #[derive(Drop)]
 pub(crate) struct Draft {

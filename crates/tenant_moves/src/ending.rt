@@ -1,12 +1,12 @@
 // A form of the request in hand has ended.
 ghost use Rattle.std.specs.Prelude.{◌≡◌, Some, option_map, Ok, Err, IfOk};
-ghost use Rattle.repl_faults.specs.Inside.View.{failure_of};
+ghost use Rattle.repl_values.specs.Inside.FaultView.{failure_of};
 ghost use Rattle.value_data.specs.Inside.View.{view};
 ghost use Rattle.repl_asks.specs.Inside.Jobs.{finished_view};
 ghost use Rattle.repl_sessions.specs.Inside.StateView.{state_view};
 ghost use Rattle.server_rules.specs.Request.{each_form, each_form_elsewhere, of_action};
 ghost use Rattle.server_rules.specs.Moves.{form_ended, form_ended_as, form_loaded, going_on};
-ghost use Rattle.tenant_actors.specs.View.{hand_view};
+ghost use Rattle.tenant_parts.specs.View.{hand_view};
 ghost use Rattle.tenant_moves.specs.Told.{told_state};
 ghost use Rattle.tenant_moves.specs.Endings.{are_none, last_kept, hand_after, EndsForm, EndsFormBy};
 
@@ -16,7 +16,7 @@ use repl_sessions::SessionState;
 use repl_values::{Fault, Value, copy, copy_text};
 use std::alloc::{AllocError, Global};
 use std::sync::ArcStr;
-use tenant_actors::{Hand, Manner};
+use tenant_parts::{Hand, Manner};
 
 /// What of the request in hand is still to do behind a form.
 #[derive(Drop)]

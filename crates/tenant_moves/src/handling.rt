@@ -4,8 +4,8 @@ ghost use Rattle.std.specs.BTreeSet.{keys};
 ghost use Rattle.bencode_wire.specs.Inside.View.{tree_view};
 ghost use Rattle.server_rules.specs.Ground.{Ground};
 ghost use Rattle.server_rules.specs.Tenant.{Quiet};
-ghost use Rattle.tenant_actors.specs.View.{actors_view};
-ghost use Rattle.tenant_actors.specs.Replies.{made_bytes, waiting_bytes};
+ghost use Rattle.tenant_parts.specs.View.{actors_view};
+ghost use Rattle.tenant_parts.specs.Replies.{made_bytes, waiting_bytes};
 ghost use Rattle.tenant_moves.specs.Holds.{PartsStandFor, AreSeated};
 ghost use Rattle.tenant_moves.specs.Scene.{all_vacated};
 ghost use Rattle.tenant_moves.specs.Handled.{with_piece};
@@ -18,7 +18,7 @@ use repl_sessions::Sessions;
 use server_rules::Actor;
 use std::alloc::{AllocError, Global};
 use std::collections::{BTreeSet, VecDeque};
-use tenant_actors::{Actors, Batch, Outbox};
+use tenant_parts::{Actors, Batch, Outbox};
 
 /// Carries out the messages of a piece, oldest first, and then tells of a fault of the stream,
 /// where the piece has one. It fails only for want of memory, and then changes nothing.

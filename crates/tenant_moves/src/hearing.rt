@@ -7,8 +7,8 @@ ghost use Rattle.bencode_wire.specs.Inside.Return.{CanReturn};
 ghost use Rattle.server_rules.specs.Ground.{Ground};
 ghost use Rattle.server_rules.specs.Readings.{AreRight};
 ghost use Rattle.server_rules.specs.Tenant.{Quiet};
-ghost use Rattle.tenant_actors.specs.View.{actors_view};
-ghost use Rattle.tenant_actors.specs.Replies.{waiting_bytes};
+ghost use Rattle.tenant_parts.specs.View.{actors_view};
+ghost use Rattle.tenant_parts.specs.Replies.{waiting_bytes};
 ghost use Rattle.tenant_moves.specs.Heard.{IsHeard};
 ghost use Rattle.tenant_moves.specs.Holds.{PartsStandFor, AreSeated};
 ghost use Rattle.tenant_moves.specs.HasReadAll.{HasReadAll};
@@ -18,7 +18,7 @@ use bencode_wire::{Decoder, WireFault};
 use bytes::Bytes;
 use repl_sessions::Sessions;
 use std::alloc::{AllocError, Global};
-use tenant_actors::{Actors, Outbox};
+use tenant_parts::{Actors, Outbox};
 
 /// Hears the next piece of the stream, and answers how many messages became whole with it. They
 /// are carried out, those before a fault too, and a fault is told. It fails only for want of

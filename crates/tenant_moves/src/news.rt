@@ -1,12 +1,12 @@
 // What is told of a request.
 ghost use Rattle.std.specs.Prelude.{◌≡◌, [], None, option_map, OnOk};
 ghost use Rattle.std.specs.Arc.{arc_value};
-ghost use Rattle.repl_faults.specs.Inside.View.{failure_of};
+ghost use Rattle.repl_values.specs.Inside.FaultView.{failure_of};
 ghost use Rattle.repl_asks.specs.Inside.Jobs.{end_view};
 ghost use Rattle.repl_replies.specs.Inside.View.{origin_view};
 ghost use Rattle.repl_sessions.specs.Inside.StateView.{state_view};
 ghost use Rattle.server_rules.specs.Moves.{over_by, closing_move, result_noted};
-ghost use Rattle.tenant_actors.specs.View.{manner_view};
+ghost use Rattle.tenant_parts.specs.View.{manner_view};
 ghost use Rattle.tenant_moves.specs.Told.{told_bytes, told_state, Adds};
 
 use repl_asks::End;
@@ -15,7 +15,7 @@ use repl_sessions::SessionState;
 use repl_values::{Fault, Value, copy, copy_text};
 use std::alloc::{AllocError, Global};
 use std::sync::Arc;
-use tenant_actors::{Batch, Manner};
+use tenant_parts::{Batch, Manner};
 
 /// The replies to a request, and what its session then remembers.
 #[derive(Drop)]

@@ -5,7 +5,7 @@ ghost use Rattle.std.specs.BTreeSet.{keys};
 ghost use Rattle.repl_sessions.specs.Named.{NamedSessions};
 ghost use Rattle.repl_replies.specs.Inside.View.{origin_view, operation_view};
 ghost use Rattle.server_rules.specs.Operating.{after_operation, with_clone, with_close, asker};
-ghost use Rattle.tenant_actors.specs.View.{waiting_view, actors_view};
+ghost use Rattle.tenant_parts.specs.View.{waiting_view, actors_view};
 ghost use Rattle.tenant_moves.specs.Holds.{AreSeated};
 ghost use Rattle.tenant_moves.specs.Scene.{scene, FollowsRules, IsKept};
 ghost use Rattle.repl_replies.specs.Inside.Named.{session_of};
@@ -20,7 +20,7 @@ use repl_sessions::Sessions;
 use server_rules::Actor;
 use std::alloc::AllocError;
 use std::sync::Arc;
-use tenant_actors::{Actors, ProgramText, Waiting};
+use tenant_parts::{Actors, ProgramText, Waiting};
 
 impl Draft {
     pub(crate) fn operate(

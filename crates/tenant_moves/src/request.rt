@@ -2,7 +2,7 @@
 ghost use Rattle.std.specs.Prelude.{◌≡◌, option_map, option_and_then, Some, string_bytes, IfOk};
 ghost use Rattle.std.specs.Arc.{arc_value, arc_str_bytes};
 ghost use Rattle.bencode_wire.specs.Inside.View.{tree_view};
-ghost use Rattle.repl_faults.specs.Inside.View.{failure_of};
+ghost use Rattle.repl_values.specs.Inside.FaultView.{failure_of};
 ghost use Rattle.repl_reader.specs.Inside.View.{fault_option};
 ghost use Rattle.repl_replies.specs.Inside.View.{origin_view, field_view};
 ghost use Rattle.repl_sessions.specs.Inside.StateView.{state_view};
@@ -10,7 +10,7 @@ ghost use Rattle.name_spaces.specs.Inside.Seen.{namespaces_of};
 ghost use Rattle.server_rules.specs.Readings.{Readings, AreRight};
 ghost use Rattle.server_rules.specs.Starting.{hand_of, namespace_there};
 ghost use Rattle.server_rules.specs.Readings.{text_failure};
-ghost use Rattle.tenant_actors.specs.View.{manner_view, waiting_view};
+ghost use Rattle.tenant_parts.specs.View.{manner_view, waiting_view};
 ghost use Rattle.tenant_moves.specs.Opening.{opened_hand, opened_code, opened_elsewhere};
 ghost use Rattle.tenant_moves.specs.Opening.{opened_view, named_namespace, text_in};
 
@@ -24,7 +24,7 @@ use repl_values::{Fault, Value, copy_text};
 use std::alloc::{AllocError, Global};
 use std::collections::VecDeque;
 use std::sync::{Arc, ArcStr};
-use tenant_actors::{Hand, Manner, ProgramText, Waiting};
+use tenant_parts::{Hand, Manner, ProgramText, Waiting};
 
 /// A request whose text was read.
 #[derive(Drop)]

@@ -9,7 +9,7 @@ ghost use Rattle.server_rules.specs.Starting.{form_job, next_begun, text_begun};
 ghost use Rattle.repl_asks.specs.Job as jobs;
 ghost use Rattle.value_data.specs.Inside.View.{view};
 ghost use Rattle.repl_replies.specs.Inside.View.{origin_view};
-ghost use Rattle.tenant_actors.specs.View.{hand_view, waiting_view};
+ghost use Rattle.tenant_parts.specs.View.{hand_view, waiting_view};
 ghost use Rattle.tenant_moves.specs.Starts.{first_item, form_begun_with, request_over, with_run};
 ghost use Rattle.tenant_moves.specs.Starts.{not_found, GoesOn, BeginsRequest};
 
@@ -21,7 +21,7 @@ use repl_replies::{Body, Origin};
 use repl_sessions::SessionState;
 use repl_values::{Value, copy, copy_text};
 use std::alloc::{AllocError, Global};
-use tenant_actors::{Hand, Run, Waiting};
+use tenant_parts::{Hand, Run, Waiting};
 
 /// A form that begins: its job, and the same once more to be given out.
 #[derive(Drop)]

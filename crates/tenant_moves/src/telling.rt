@@ -8,14 +8,14 @@ ghost use Rattle.repl_replies.specs.Replies.{bytes_of};
 ghost use Rattle.repl_replies.specs.Inside.View.{origin_view};
 ghost use Rattle.server_rules.specs.Operating.{interruption};
 ghost use Rattle.server_rules.specs.Replying.{reply};
-ghost use Rattle.tenant_actors.specs.View.{waiting_view};
-ghost use Rattle.tenant_actors.specs.Replies.{made_bytes};
+ghost use Rattle.tenant_parts.specs.View.{waiting_view};
+ghost use Rattle.tenant_parts.specs.Replies.{made_bytes};
 
 use repl_replies::{Body, Origin};
 use repl_sessions::Sessions;
 use std::alloc::{AllocError, Global};
 use std::collections::{BTreeSet, VecDeque};
-use tenant_actors::{Batch, Waiting};
+use tenant_parts::{Batch, Waiting};
 
 // Adds the list of the sessions that are open and not leaving.
 pub(crate) fn add_list(

@@ -2,7 +2,7 @@
 use Rattle.std.proofs.Common.{◌≡◌, ℕ, List, [], ◌∷◌, ◌++◌, false, Option, None, Some, Result, Ok}
 use Rattle.std.proofs.Common.{Err, map, refl, sym, ap, ◌∙◌, true}
 use Rattle.value_data.specs.Datum.{Datum}
-use Rattle.repl_faults.specs.Failure.{Failure}
+use Rattle.repl_values.specs.Failure.{Failure}
 use Rattle.repl_replies.specs.Replies.{bytes_of}
 use Rattle.repl_asks.specs.Exchange.{Exchanged}
 use Rattle.repl_asks.specs.Job.{EndingData}
@@ -20,7 +20,7 @@ use Rattle.server_rules.specs.Request.{Hand, Run, Waiting}
 use Rattle.server_rules.specs.Starting.{action_begun, action_for, start_action, with_action_begun}
 use Rattle.server_rules.specs.Tenant.{ActorData, Quiet, is_held, with_replies, with_state}
 use Rattle.server_rules.specs.declared.actor.Actor.{Actor}
-use Rattle.tenant_actors.specs.Replies.{waiting_bytes}
+use Rattle.tenant_parts.specs.Replies.{waiting_bytes}
 use Rattle.tenant_asks.specs.Acting.{is_accepted}
 use Rattle.tenant_world.specs.Acting.{oldest}
 use Rattle.tenant_asks.specs.Sends.{trace_of}

@@ -7,7 +7,7 @@ use Rattle.name_spaces.specs.Inside.Seen.{namespaces_of, shared_in}
 use Rattle.tenant_asks.specs.Cells.{cells_data}
 use Rattle.repl_sessions.specs.Inside.StateView.{state_view}
 use Rattle.server_rules.specs.Readings.{message_limit}
-use Rattle.tenant_actors.specs.View.{actors_view}
+use Rattle.tenant_parts.specs.View.{actors_view}
 use Rattle.repl_replies.specs.Replies.{ReplyData, bytes_of}
 use Rattle.server_rules.specs.Ground.{Ground}
 use Rattle.server_rules.specs.Store.{Store}
@@ -16,11 +16,11 @@ use Rattle.server_rules.specs.Plan as deeds
 use Rattle.server_rules.specs.Plan.{leaves, reply_given}
 use Rattle.server_rules.specs.Deeds.{drain_outcome}
 use Rattle.server_rules.specs.declared.refusal.Refusal.{Refusal}
-use Rattle.tenant_actors.specs.Replies.{waiting_bytes}
-use Rattle.tenant_turns.specs.DeedResult.{deed_result}
+use Rattle.tenant_parts.specs.Replies.{waiting_bytes}
+use Rattle.server_rules.specs.DeedResult.{deed_result}
 use Rattle.tenant_world.specs.declared.tenant.Tenant.{Tenant}
-use Rattle.tenant_refs.specs.declared.attempts.Attempts.{Attempts}
-use Rattle.tenant_refs.specs.Attempts.{Reaches}
+use Rattle.tenant_parts.specs.declared.attempts.Attempts.{Attempts}
+use Rattle.tenant_parts.specs.Attempts.{Reaches}
 use Rattle.tenant_asks.specs.Acting.{is_accepted}
 use Rattle.tenant_world.specs.Standing.{QuietStands, AcceptsDeed, RefusesDeed}
 

@@ -15,15 +15,15 @@ use Rattle.server_rules.specs.Store.{Store}
 use Rattle.server_rules.specs.declared.actor.Actor.{Actor}
 use Rattle.server_rules.specs.declared.refusal.Refusal.{Refusal}
 use Rattle.trace_comparison.specs.Difference.{DiffersFirstAt}
-use Rattle.tenant_turns.specs.Grounds.{IsRight}
-use Rattle.tenant_turns.specs.DeedResult.{carried_out}
+use Rattle.server_rules.specs.Grounds.{IsRight}
+use Rattle.server_rules.specs.DeedResult.{carried_out}
 use Rattle.tenant_world.specs.Comparing.{ending_refusal, difference_told, compared_run}
 use Rattle.tenant_world.specs.Comparing.{PassesComparison, FailsComparison, refusal_in}
 use Rattle.tenant_asks.specs.Acting.{RefusesOutcome}
 use Rattle.tenant_asks.specs.Memories.{Remembers}
 use Rattle.tenant_asks.specs.declared.memory.Memory.{Memory}
-use Rattle.tenant_refs.specs.Attempts.{Reaches}
-use Rattle.tenant_refs.specs.declared.attempts.Attempts.{Attempts}
+use Rattle.tenant_parts.specs.Attempts.{Reaches}
+use Rattle.tenant_parts.specs.declared.attempts.Attempts.{Attempts}
 use Rattle.std.specs.Result.{IsErrAnd}
 use Rattle.tenant_world.specs.Running.{IsEndOfForm, running_of}
 

@@ -10,11 +10,11 @@ use Rattle.server_rules.specs.Machine.Ready.{is_busy}
 use Rattle.server_rules.specs.Numbered.{Entry, part_under}
 use Rattle.server_rules.specs.Tenant.{ActorData, seat_of, actor_at}
 use Rattle.server_rules.specs.declared.actor.Actor.{Actor}
-use Rattle.tenant_turns.specs.Turns.{Lone, is_of_agents, agents_last}
-use Rattle.tenant_turns.specs.Inside.Rounds.{is_some_busy, busy_actors, IsEnough}
-use Rattle.tenant_actors.specs.Busy.{busy_of}
-use Rattle.tenant_actors.specs.Lent.{AreAbove, Ascend}
-use Rattle.tenant_actors.proofs.Listing.{number-back}
+use Rattle.server_rules.specs.LoneTurns.{Lone, is_of_agents, agents_last}
+use Rattle.server_rules.specs.Inside.Rounds.{is_some_busy, busy_actors, IsEnough}
+use Rattle.tenant_parts.specs.Busy.{busy_of}
+use Rattle.tenant_parts.specs.Lent.{AreAbove, Ascend}
+use Rattle.tenant_parts.proofs.Listing.{number-back}
 
 abbrev Entries : Type 0
 Entries = List (Entry ActorData)

@@ -24,13 +24,13 @@ use Rattle.server_rules.specs.Store.{Store}
 use Rattle.server_rules.specs.Tenant.{ActorData, seat_of, Quiet, is_held}
 use Rattle.server_rules.specs.declared.actor.Actor.{Actor}
 use Rattle.server_rules.specs.declared.refusal.Refusal.{Refusal}
-use Rattle.tenant_actors.specs.View.{actors_view}
-use Rattle.tenant_actors.specs.Replies.{waiting_bytes}
+use Rattle.tenant_parts.specs.View.{actors_view}
+use Rattle.tenant_parts.specs.Replies.{waiting_bytes}
 use Rattle.tenant_moves.specs.Heard.{IsHeard}
-use Rattle.tenant_turns.specs.DeedResult.{deed_result}
+use Rattle.server_rules.specs.DeedResult.{deed_result}
 use Rattle.tenant_world.specs.declared.tenant.Tenant.{Tenant}
-use Rattle.tenant_refs.specs.declared.attempts.Attempts.{Attempts}
-use Rattle.tenant_refs.specs.Attempts.{Reaches}
+use Rattle.tenant_parts.specs.declared.attempts.Attempts.{Attempts}
+use Rattle.tenant_parts.specs.Attempts.{Reaches}
 use Rattle.tenant_world.specs.Standing.{QuietStands, AcceptsDeed}
 
 -- what messages leave as it was

@@ -4,9 +4,9 @@ use Rattle.std.proofs.Common.{refl, ap, subst, ◌∙◌, if◌then◌else◌, L
 use Rattle.server_rules.specs.Numbered.{Entry, with_part}
 use Rattle.server_rules.specs.Tenant.{ActorData}
 use Rattle.server_rules.specs.declared.refusal.Refusal.{Refusal}
-use Rattle.tenant_actors.specs.Busy.{is_busy}
+use Rattle.tenant_parts.specs.Busy.{is_busy}
 use Rattle.server_rules.specs.declared.actor.Actor.{Actor}
-use Rattle.tenant_actors.specs.Lent.{MayBeLent}
+use Rattle.tenant_parts.specs.Lent.{MayBeLent}
 use Rattle.tenant_world.specs.Lending.{unlent}
 use Rattle.tenant_world.specs.Seats.{are_below}
 use Rattle.tenant_world.proofs.Seating.{below-with_part}

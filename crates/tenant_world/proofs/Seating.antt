@@ -5,8 +5,8 @@ use Rattle.std.proofs.lemmas.Bool.{eqb-true, ltb-true, lt-ltb}
 use Rattle.server_rules.specs.Numbered.{Entry, with_part, without}
 use Rattle.server_rules.specs.Tenant.{ActorData, seat_of}
 use Rattle.server_rules.specs.declared.actor.Actor.{Actor}
-use Rattle.tenant_actors.specs.View.{AreBelow}
-use Rattle.tenant_actors.proofs.EntryLaws.{replaced_first, without_first}
+use Rattle.tenant_parts.specs.View.{AreBelow}
+use Rattle.tenant_parts.proofs.EntryLaws.{replaced_first, without_first}
 use Rattle.tenant_world.specs.Acting.{left_after}
 use Rattle.tenant_world.specs.Seats.{are_below}
 

@@ -26,14 +26,14 @@ use Rattle.server_rules.specs.Asking.{asked_of}
 use Rattle.server_rules.specs.Ending.{end_of}
 use Rattle.server_rules.specs.declared.actor.Actor.{Actor}
 use Rattle.server_rules.specs.declared.refusal.Refusal.{Refusal}
-use Rattle.tenant_actors.specs.Busy.{is_busy}
-use Rattle.tenant_actors.specs.View.{actors_view}
-use Rattle.tenant_actors.proofs.EntryLaws.{found_first, replaced_first, without-with_part}
-use Rattle.tenant_turns.specs.DeedResult.{DeedResult, carried_out, deed_result}
-use Rattle.tenant_refs.specs.Attempts.{Reaches}
-use Rattle.tenant_refs.specs.declared.attempts.Attempts.{Attempts}
-use Rattle.tenant_refs.proofs.Calls.{performed-tenant}
-use Rattle.tenant_refs.proofs.Points.{part_under-without}
+use Rattle.tenant_parts.specs.Busy.{is_busy}
+use Rattle.tenant_parts.specs.View.{actors_view}
+use Rattle.tenant_parts.proofs.EntryLaws.{found_first, replaced_first, without-with_part}
+use Rattle.server_rules.specs.DeedResult.{DeedResult, carried_out, deed_result}
+use Rattle.tenant_parts.specs.Attempts.{Reaches}
+use Rattle.tenant_parts.specs.declared.attempts.Attempts.{Attempts}
+use Rattle.tenant_parts.proofs.Calls.{performed-tenant}
+use Rattle.tenant_parts.proofs.Points.{part_under-without}
 use Rattle.tenant_asks.specs.declared.memory.Memory.{Memory}
 use Rattle.tenant_world.specs.declared.tenant.Tenant.{Tenant}
 use Rattle.tenant_asks.specs.Memories.{Remembers}

@@ -9,8 +9,8 @@ use Rattle.bencode_wire.specs.declared.decoder.Decoder.{Decoder}
 use Rattle.bencode_wire.specs.declared.fault.WireFault.{WireFault}
 use Rattle.server_rules.specs.Readings.{Readings, AreRight, message_limit}
 use Rattle.server_rules.specs.Hearing.{stream_fault, fault_in}
-use Rattle.tenant_turns.specs.Inside.Wires.{wire_at}
-use Rattle.tenant_turns.specs.declared.turns.Wire.{Wire}
+use Rattle.server_rules.specs.Inside.Wires.{wire_at}
+use Rattle.server_rules.specs.declared.turns.Wire.{Wire}
 
 -- A stream has one reading; the law is given as an argument.
 abbrev pub IsUnique : Type 0

@@ -2,8 +2,8 @@
 use Rattle.std.specs.Prelude.{List, [], false, map, None, Some, Result, Ok, Err}
 use Rattle.value_data.specs.Datum.{Datum, no_items}
 use Rattle.value_data.specs.Inside.View.{view}
-use Rattle.repl_faults.specs.Failure.{Failure}
-use Rattle.repl_faults.specs.Inside.View.{failure_of}
+use Rattle.repl_values.specs.Failure.{Failure}
+use Rattle.repl_values.specs.Inside.FaultView.{failure_of}
 use Rattle.repl_asks.specs.Exchange.{Exchanged}
 use Rattle.repl_asks.specs.Job.{JobData}
 use Rattle.private_cells.specs.Actions.{ActionData}

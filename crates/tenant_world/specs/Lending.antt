@@ -5,12 +5,12 @@ use Rattle.server_rules.specs.Numbered.{with_part}
 use Rattle.server_rules.specs.Tenant.{ActorData, seat_of}
 use Rattle.server_rules.specs.declared.actor.Actor.{Actor}
 use Rattle.server_rules.specs.declared.refusal.Refusal.{Refusal}
-use Rattle.tenant_actors.specs.Busy.{is_busy}
-use Rattle.tenant_actors.specs.View.{actor_view, actors_view}
-use Rattle.tenant_actors.specs.contracts.actor.ActorState as state
-use Rattle.tenant_actors.specs.contracts.actors.Actors as actors
-use Rattle.tenant_actors.specs.declared.actor.ActorState.{ActorState}
-use Rattle.tenant_actors.specs.declared.actors.Actors.{Actors}
+use Rattle.tenant_parts.specs.Busy.{is_busy}
+use Rattle.tenant_parts.specs.View.{actor_view, actors_view}
+use Rattle.tenant_parts.specs.contracts.actor.ActorState as state
+use Rattle.tenant_parts.specs.contracts.actors.Actors as actors
+use Rattle.tenant_parts.specs.declared.actor.ActorState.{ActorState}
+use Rattle.tenant_parts.specs.declared.actors.Actors.{Actors}
 
 -- an actor with nothing to do makes no step; of that of agents this is not asked here
 abbrev pub unless_busy : Actor → ActorData → Option Refusal

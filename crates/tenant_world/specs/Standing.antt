@@ -9,10 +9,10 @@ use Rattle.server_rules.specs.Plan.{StepAnswer, refuses, leaves}
 use Rattle.server_rules.specs.Store.{Store}
 use Rattle.server_rules.specs.declared.actor.Actor.{Actor}
 use Rattle.server_rules.specs.declared.refusal.Refusal.{Refusal}
-use Rattle.tenant_actors.specs.View.{actors_view}
-use Rattle.tenant_actors.specs.Replies.{waiting_bytes}
-use Rattle.tenant_turns.specs.DeedResult.{DeedResult}
-use Rattle.tenant_refs.specs.Attempts.{Reaches}
+use Rattle.tenant_parts.specs.View.{actors_view}
+use Rattle.tenant_parts.specs.Replies.{waiting_bytes}
+use Rattle.server_rules.specs.DeedResult.{DeedResult}
+use Rattle.tenant_parts.specs.Attempts.{Reaches}
 use Rattle.tenant_asks.specs.Memories.{Remembers}
 use Rattle.tenant_world.specs.declared.tenant.Tenant.{Tenant}
 

@@ -6,7 +6,7 @@ ghost use Rattle.server_rules.specs.Cells.{next_action};
 ghost use Rattle.server_rules.specs.Ground.{Ground};
 ghost use Rattle.server_rules.specs.Starting.{action_for, action_job, start_action};
 ghost use Rattle.server_rules.specs.Tenant.{Quiet};
-ghost use Rattle.tenant_actors.specs.View.{actor_view, hand_view};
+ghost use Rattle.tenant_parts.specs.View.{actor_view, hand_view};
 ghost use Rattle.tenant_asks.specs.Acting.{AcceptsOutcome, RefusesOutcome, IsActorStep};
 ghost use Rattle.tenant_asks.specs.Acting.{is_accepted};
 ghost use Rattle.tenant_world.specs.Actions.{next_view, hand_of, action_end, agents_behind};
@@ -22,8 +22,8 @@ use server_rules::{Actor, Refusal};
 use std::alloc::{AllocError, Global};
 use std::collections::VecDeque;
 use std::sync::{Arc, ArcStr};
-use tenant_actors::{ActorState, Hand, Manner, Run};
 use tenant_asks::{Memory, Outgoing, Sender, send_all, sends_in};
+use tenant_parts::{ActorState, Hand, Manner, Run};
 
 /// The action that begins next, and the state of its agent.
 #[derive(Clone, Copy)]

@@ -5,8 +5,8 @@ ghost use Rattle.server_rules.specs.Tenant.{Quiet};
 ghost use Rattle.server_rules.specs.Plan as deeds;
 ghost use Rattle.server_rules.specs.Store.{Store};
 ghost use Rattle.server_rules.specs.Plan.{messages_heard};
-ghost use Rattle.tenant_turns.specs.Grounds.{IsRight};
-ghost use Rattle.tenant_turns.specs.DeedResult.{deed_result};
+ghost use Rattle.server_rules.specs.Grounds.{IsRight};
+ghost use Rattle.server_rules.specs.DeedResult.{deed_result};
 ghost use Rattle.tenant_asks.specs.Acting.{is_accepted};
 
 use crate::tenant::Tenant;

@@ -3,13 +3,13 @@ ghost use Rattle.std.specs.Prelude.{◌≡◌, ◌≢◌, ◌<◌, ◌==◌, Som
 ghost use Rattle.std.specs.Borrow.{sem};
 ghost use Rattle.server_rules.specs.Numbered.{part_under};
 ghost use Rattle.server_rules.specs.Tenant.{seat_of};
-ghost use Rattle.tenant_actors.specs.View.{actor_view, actors_view};
+ghost use Rattle.tenant_parts.specs.View.{actor_view, actors_view};
 ghost use Rattle.tenant_world.specs.Acting.{left_after};
 ghost use Rattle.tenant_world.specs.Comparing.{refusal_in};
 ghost use Rattle.tenant_world.specs.Lending.{LendsState, unlent};
 
 use server_rules::{Actor, Refusal};
-use tenant_actors::{ActorState, Actors};
+use tenant_parts::{ActorState, Actors};
 
 /// The state of the actor, if steps are left and it is there with something to do. What has nothing
 /// to do makes no step, as the rules have it. Of that of agents this is not asked here.

@@ -5,9 +5,9 @@ ghost use Rattle.server_rules.specs.Request as rules;
 ghost use Rattle.server_rules.specs.Starting.{start_waiting, held_or, start_outcome, next_begun};
 ghost use Rattle.server_rules.specs.Tenant.{Quiet, actor_state};
 ghost use Rattle.server_rules.specs.Deeds.{start_of};
-ghost use Rattle.tenant_actors.specs.View.{actor_view, hand_view, waiting_view};
+ghost use Rattle.tenant_parts.specs.View.{actor_view, hand_view, waiting_view};
 ghost use Rattle.tenant_moves.specs.Starts.{hand_begun, answer_given, given_job};
-ghost use Rattle.tenant_turns.specs.Grounds.{IsRight};
+ghost use Rattle.server_rules.specs.Grounds.{IsRight};
 ghost use Rattle.tenant_asks.specs.Memories.{Remembers};
 ghost use Rattle.tenant_world.specs.Answers.{start_answer_view, AreSameStarts};
 ghost use Rattle.tenant_asks.specs.Acting.{AcceptsOutcome, RefusesOutcome, IsActorStep};
@@ -19,9 +19,9 @@ use crate::answers::{StartAnswer, StartAnswers};
 use repl_asks::Job;
 use server_rules::{Actor, Refusal};
 use std::alloc::{AllocError, Global};
-use tenant_actors::{ActorState, Hand, Waiting};
 use tenant_asks::{Memory, interrupt};
 use tenant_moves::{Begun, BegunRequest, NextForm, begin, begin_request, next_form};
+use tenant_parts::{ActorState, Hand, Waiting};
 
 /// The actor begins its next form, or takes up its next request. Where it is refused nothing has
 /// changed.

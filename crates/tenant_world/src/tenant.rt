@@ -1,15 +1,14 @@
 // A tenant: its stream, its actors and what they share.
 ghost use Rattle.std.specs.Prelude.{◌≡◌, suc, true, length};
 ghost use Rattle.bencode_wire.specs.Inside.Decoder.{ready_of};
-ghost use Rattle.tenant_actors.specs.View.{actors_view};
+ghost use Rattle.tenant_parts.specs.View.{actors_view};
 ghost use Rattle.tenant_asks.specs.Memories.{opened_by};
 ghost use Rattle.tenant_world.specs.Seats.{are_below};
 
 use bencode_wire::Decoder;
 use std::alloc::Global;
-use tenant_actors::Actors;
 use tenant_asks::Memory;
-use tenant_refs::Attempts;
+use tenant_parts::{Actors, Attempts};
 
 /// One tenant. Each of its steps is a deed of the rules: it is accepted or refused as they say, and
 /// leaves the tenant as they say. A step that is refused changes nothing, want of memory included.

@@ -1,6 +1,6 @@
 // Public calls that no program makes.
 use bencode_wire::{Ben, Dictionary, canonical_bytes, put_field};
-use function_names::{arity_fits, knows};
+use core_functions::{arity_fits, knows};
 use std::test::Fail;
 
 #[test]

@@ -6,10 +6,10 @@ use Rattle.std.specs.Global.{Global}
 use Rattle.value_data.specs.Datum.{Datum, symbol}
 use Rattle.value_data.specs.Inside.View.{view}
 use Rattle.value_data.specs.declared.value.Value.{Value}
-use Rattle.repl_faults.specs.Failure.{Failure, too_many_calls, wrong_arity, not_a_function}
-use Rattle.function_names.specs.declared.function.CoreFunction.{CoreFunction}
-use Rattle.function_names.specs.StoreNames.{store_name_of}
-use Rattle.function_names.specs.declared.store.StoreFunction.{StoreFunction}
+use Rattle.repl_values.specs.Failure.{Failure, too_many_calls, wrong_arity, not_a_function}
+use Rattle.core_functions.specs.declared.function.CoreFunction.{CoreFunction}
+use Rattle.core_functions.specs.StoreNames.{store_name_of}
+use Rattle.core_functions.specs.declared.store.StoreFunction.{StoreFunction}
 use Rattle.repl_asks.specs.Transactions.{RefNameData}
 use Rattle.repl_asks.specs.Exchange.{NamedFunctionData, core_function, store_function}
 use Rattle.repl_asks.specs.Inside.View.{named_view}

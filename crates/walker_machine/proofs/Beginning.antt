@@ -4,7 +4,7 @@ use Rattle.std.proofs.Common.{sym, ap}
 use Rattle.std.specs.Prelude.{string_bytes, codes}
 use Rattle.std.specs.Arc.{arc_str_bytes}
 use Rattle.value_data.specs.Datum.{Datum}
-use Rattle.repl_faults.specs.Failure.{bad_form}
+use Rattle.repl_values.specs.Failure.{bad_form}
 use Rattle.repl_asks.specs.Job as jobs
 use Rattle.repl_asks.specs.Job.{WorkData}
 use Rattle.repl_asks.specs.Inside.Jobs.{work_view, job_view}

@@ -13,7 +13,7 @@ use Rattle.value_data.specs.Inside.View.{view}
 use Rattle.value_data.specs.declared.value.Value as value
 use Rattle.value_data.proofs.Lists.{lists}
 use Rattle.value_data.proofs.Views.{value_views}
-use Rattle.repl_faults.specs.Failure.{Failure, wrong_arity}
+use Rattle.repl_values.specs.Failure.{Failure, wrong_arity}
 use Rattle.special_forms.proofs.Sizes.{datum_size-pos, datum_size-list, datum_size-vector}
 use Rattle.special_forms.proofs.Sizes.{datum_size-map}
 use Rattle.special_forms.specs.Functions.{FunctionData}

@@ -13,10 +13,9 @@ ghost use Rattle.walker_state.specs.Frames.{alter_step};
 ghost use Rattle.walker_state.specs.Position.{LeadsOnWithin};
 
 use crate::calls::call_named;
-use function_names::CoreFunction;
+use core_functions::CoreFunction;
 use repl_asks::{Commute, NamedFunction};
-use repl_faults::{too_many_calls, wrong_arity};
-use repl_values::{RefName, Value, copy_items};
+use repl_values::{RefName, Value, copy_items, too_many_calls, wrong_arity};
 use std::alloc::{AllocError, Global};
 use store_calls::{Alteration, Altered, ref_to_alter};
 use walker_state::{

@@ -19,11 +19,10 @@ ghost use Rattle.evaluation_rules.specs.Applying.{body_value};
 ghost use Rattle.evaluation_rules.specs.Evaluation.{value_at};
 
 use crate::update::call_update;
+use core_collections::MapFunction;
 use core_functions::CoreFunction;
-use core_maps::MapFunction;
 use repl_asks::NamedFunction;
-use repl_faults::{too_many_calls, wrong_arity};
-use repl_values::{Value, copy_text};
+use repl_values::{Value, copy_text, too_many_calls, wrong_arity};
 use special_forms::Function;
 use std::alloc::{AllocError, Global};
 use std::mem;

@@ -18,8 +18,7 @@ ghost use Rattle.evaluation_rules.specs.Evaluation.{headed_value, list_value, va
 use crate::answers::use_resolution;
 use crate::rows::{next_argument, next_item};
 use crate::special::evaluate_special;
-use repl_faults::{not_a_function, too_deep};
-use repl_values::{Sequence, Value, copy_text};
+use repl_values::{Sequence, Value, copy_text, not_a_function, too_deep};
 use special_forms::{Forms, SpecialForm};
 use std::alloc::{AllocError, Global};
 use std::sync::ArcStr;

@@ -22,8 +22,7 @@ ghost use Rattle.evaluation_rules.specs.SpecialForms.{shape_value, special_value
 
 use crate::define::define_function;
 use crate::rows::{next_binding, next_in_logic};
-use repl_faults::{Rule, bad_form, broken_rule};
-use repl_values::Value;
+use repl_values::{Rule, Value, bad_form, broken_rule};
 use special_forms::{Forms, Shape, SpecialForm, shape_of};
 use std::alloc::{AllocError, Global};
 use std::sync::ArcStr;

@@ -10,8 +10,7 @@ ghost use Rattle.walker_state.specs.Position.{control_position, entered_calls, w
 ghost use Rattle.walker_state.specs.declared.frames.Wanted.{Wanted};
 
 use crate::calls::{call_named, enter};
-use repl_faults::too_many_calls;
-use repl_values::{Value, copy, copy_items};
+use repl_values::{Value, copy, copy_items, too_many_calls};
 use std::alloc::{AllocError, Global};
 use std::boxed::Box;
 use walker_state::{Control, Frame, State, StoreFrame, Swap};

@@ -15,8 +15,7 @@ ghost use Rattle.walker_state.specs.declared.frames.State.{State};
 use crate::calls::call_named;
 use evaluation_rules::ROOM;
 use repl_asks::{Task, Work};
-use repl_faults::bad_form;
-use repl_values::{Value, copy, copy_items};
+use repl_values::{Value, bad_form, copy, copy_items};
 use std::alloc::{AllocError, Global};
 use walker_state::{Control, State, is_definition};
 

@@ -4,7 +4,7 @@ use Rattle.std.proofs.Common.{◌∷◌, Option, Some, None, Result, Ok, Err, If
 use Rattle.std.proofs.Common.{length, refl, sym, subst, ap, ◌∙◌, arith}
 use Rattle.std.specs.Prelude.{string_bytes, zip, ◌&&◌, nat_le}
 use Rattle.value_data.specs.Measures.{weight, nesting}
-use Rattle.core_texts.specs.Limits.{most_weight}
+use Rattle.core_scalars.specs.Limits.{most_weight}
 use Rattle.core_functions.specs.ApplyOutcome.{limited_outcome, most_nesting}
 use Rattle.value_data.specs.Datum.{Datum, Items, no_items, item, Pairs, map}
 use Rattle.value_data.specs.Keyed.{keys_of}
@@ -16,7 +16,7 @@ use Rattle.value_data.specs.Inside.Held.{TableData}
 use Rattle.value_data.specs.declared.building.Built.{Built}
 use Rattle.value_data.specs.declared.value.Value.{Value}
 use Rattle.special_forms.specs.Inside.Seen.{views}
-use Rattle.repl_faults.specs.Failure.{Failure, duplicate_key, too_large}
+use Rattle.repl_values.specs.Failure.{Failure, duplicate_key, too_large}
 use Rattle.evaluation_rules.specs.Doing.{Part, fails}
 use Rattle.evaluation_rules.specs.Tree.{ends}
 use Rattle.walker_state.specs.Pending.{kept_of, from_state, tree}

@@ -4,8 +4,8 @@ use Rattle.std.specs.Prelude.{Box, string_bytes}
 use Rattle.std.proofs.Common.{◌≡◌, ◌∙◌, ap, Bool, true, false, Some, None, Err, refl}
 use Rattle.std.proofs.Common.{sym}
 use Rattle.value_data.specs.Datum.{Datum}
-use Rattle.repl_faults.specs.Failure.{Failure, broken_rule}
-use Rattle.repl_faults.specs.declared.rule.Rule.{Rule}
+use Rattle.repl_values.specs.Failure.{Failure, broken_rule}
+use Rattle.repl_values.specs.declared.rule.Rule.{Rule}
 use Rattle.repl_asks.specs.Transactions.{RefNameData}
 use Rattle.repl_asks.specs.Exchange.{read}
 use Rattle.repl_asks.specs.Inside.View.{name_view}

@@ -9,15 +9,15 @@ use Rattle.value_data.specs.Inside.View.{view}
 use Rattle.value_data.specs.declared.value.Value as value
 use Rattle.value_data.proofs.Views.{value_views}
 use Rattle.repl_values.specs.declared.fault.Fault.{Fault}
-use Rattle.repl_faults.specs.Failure.{Failure, output_too_long, wrong_arity}
-use Rattle.repl_faults.specs.Inside.View.{failure_of}
-use Rattle.repl_faults.specs.declared.error.ApplyError.{ApplyError}
-use Rattle.function_names.specs.Names.{fits, name_of}
-use Rattle.function_names.specs.declared.function.CoreFunction.{CoreFunction}
+use Rattle.repl_values.specs.Failure.{Failure, output_too_long, wrong_arity}
+use Rattle.repl_values.specs.Inside.FaultView.{failure_of}
+use Rattle.repl_values.specs.declared.error.ApplyError.{ApplyError}
+use Rattle.core_functions.specs.Names.{fits, name_of}
+use Rattle.core_functions.specs.declared.function.CoreFunction.{CoreFunction}
 use Rattle.core_functions.specs.Inside.View.{FailsIn}
 use Rattle.core_functions.specs.ApplyOutcome as outcomes
 use Rattle.core_functions.specs.ApplyOutcome.{ApplyOutcome, bounded_outcome}
-use Rattle.core_texts.specs.Limits.{most_text}
+use Rattle.core_scalars.specs.Limits.{most_text}
 use Rattle.special_forms.specs.Inside.Seen.{views}
 use Rattle.evaluation_rules.specs.Doing.{Part}
 use Rattle.evaluation_rules.specs.Tree.{ends}

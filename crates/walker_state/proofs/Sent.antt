@@ -3,8 +3,8 @@ use Rattle.std.proofs.Common.{◌≡◌, ℕ, List, [], ◌∷◌, Result, Ok, E
 use Rattle.std.specs.Prelude.{string_bytes}
 use Rattle.value_data.specs.Datum.{Datum}
 use Rattle.value_data.specs.declared.value.Value.{Value}
-use Rattle.repl_faults.specs.Failure.{Failure, wrong_arity}
-use Rattle.function_names.specs.StoreNames.{store_name_of}
+use Rattle.repl_values.specs.Failure.{Failure, wrong_arity}
+use Rattle.core_functions.specs.StoreNames.{store_name_of}
 use Rattle.repl_asks.specs.Sends.{NamedFunctionData, SendingData}
 use Rattle.repl_asks.specs.Exchange.{AskData, permission_in}
 use Rattle.repl_asks.specs.InteractionTree.{asks}

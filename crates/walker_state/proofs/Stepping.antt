@@ -6,9 +6,9 @@ use Rattle.std.proofs.Common.{true, false, ◌≡◌, ◌≢◌, ◌-◌, ◌+�
 use Rattle.std.proofs.Common.{Option, Some, None, Result, Ok, Err, IfOk, ap, ◌∙◌, if◌then◌else◌}
 use Rattle.std.proofs.Common.{refl, sym, arith}
 use Rattle.value_data.specs.Datum.{Datum, nil}
-use Rattle.repl_faults.specs.Failure.{Failure, broken_rule, output_too_long}
-use Rattle.repl_faults.specs.declared.rule.Rule.{Rule}
-use Rattle.core_texts.specs.Limits.{most_text}
+use Rattle.repl_values.specs.Failure.{Failure, broken_rule, output_too_long}
+use Rattle.repl_values.specs.declared.rule.Rule.{Rule}
+use Rattle.core_scalars.specs.Limits.{most_text}
 use Rattle.repl_asks.specs.Transactions.{IntentData}
 use Rattle.repl_asks.specs.Exchange.{AskData, AnswerData, begin, commit, committed, verdict_in}
 use Rattle.repl_asks.specs.InteractionTree.{InteractionTree, asks}

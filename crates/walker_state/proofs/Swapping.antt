@@ -4,9 +4,9 @@ use Rattle.std.proofs.Common.{sym, ap, ◌∙◌, arith}
 use Rattle.std.specs.Prelude.{string_bytes}
 use Rattle.value_data.specs.Datum.{Datum}
 use Rattle.value_data.specs.declared.value.Value.{Value}
-use Rattle.repl_faults.specs.Failure.{Failure, too_many_calls, wrong_arity}
-use Rattle.function_names.specs.StoreNames.{store_name_of}
-use Rattle.function_names.specs.declared.store.StoreFunction.{StoreFunction}
+use Rattle.repl_values.specs.Failure.{Failure, too_many_calls, wrong_arity}
+use Rattle.core_functions.specs.StoreNames.{store_name_of}
+use Rattle.core_functions.specs.declared.store.StoreFunction.{StoreFunction}
 use Rattle.repl_asks.specs.Exchange.{AskData, NamedFunctionData, AnswerData, read_atom, try_atom}
 use Rattle.repl_asks.specs.Exchange.{value_in}
 use Rattle.repl_asks.specs.Inside.View.{named_view}

@@ -4,7 +4,7 @@ use Rattle.std.specs.Prelude.{if◌then◌else◌}
 use Rattle.std.specs.Arc.{arc_str_bytes}
 use Rattle.value_data.specs.Datum.{Datum, nil, list, no_items}
 use Rattle.value_data.specs.Inside.View.{view}
-use Rattle.repl_faults.specs.Failure as failures
+use Rattle.repl_values.specs.Failure as failures
 use Rattle.repl_asks.specs.Transactions.{RefNameData}
 use Rattle.repl_asks.specs.Exchange.{bound_value, ResolutionData, NamedFunctionData}
 use Rattle.repl_asks.specs.Inside.View.{commute_view, name_view, named_view, resolution_view}

@@ -3,7 +3,7 @@ use Rattle.std.specs.Prelude.{ℕ, List, ◌∷◌, true, false, Err, string_byt
 use Rattle.std.specs.Arc.{arc_str_bytes, arc_value}
 use Rattle.value_data.specs.Datum.{Datum, nil}
 use Rattle.value_data.specs.Inside.View.{view}
-use Rattle.repl_faults.specs.Inside.View.{failure_of}
+use Rattle.repl_values.specs.Inside.FaultView.{failure_of}
 use Rattle.repl_asks.specs.Exchange.{AnswerData, ResolutionData, resolution_in, value_in}
 use Rattle.repl_asks.specs.Exchange.{reading_in, VerdictData, verdict_in, permission_in}
 use Rattle.repl_asks.specs.Inside.View.{ask_view, name_view, sending_view}

@@ -1,7 +1,7 @@
 // Functions of the language that need no store: the number of arguments is checked, then the
 // function is applied, and what it prints is printed.
 ghost use Rattle.std.specs.Prelude.{◌≡◌, ◌<◌, true, length, IfOk};
-ghost use Rattle.function_names.specs.Names.{fits};
+ghost use Rattle.core_functions.specs.Names.{fits};
 ghost use Rattle.core_functions.specs.Meaning.{meaning};
 ghost use Rattle.evaluation_rules.specs.SharedText.{outside_shared_text};
 ghost use Rattle.core_functions.specs.ApplyOutcome.{ApplyOutcome, bounded_outcome};
@@ -15,8 +15,7 @@ ghost use Rattle.walker_state.specs.Position.{LeadsOnWithin};
 
 use crate::frames::{Control, State};
 use core_functions::{Applied, CoreFunction, apply};
-use repl_faults::{ApplyError, Rule, broken_rule, output_too_long, wrong_arity};
-use repl_values::{MOST_TEXT, Value};
+use repl_values::{ApplyError, MOST_TEXT, Rule, Value, broken_rule, output_too_long, wrong_arity};
 use std::alloc::{AllocError, Global};
 
 /// A call of a function of the language that needs no store.

@@ -11,9 +11,9 @@ ghost use Rattle.walker_state.specs.Position.{LeadsOnWithin};
 ghost use Rattle.evaluation_rules.specs.Collections.{keys_in, map_value, values_in, within_limits};
 
 use crate::frames::{Collection, Control};
-use repl_faults::{duplicate_key, too_large};
 use repl_values::{
-    Built, MOST_NESTING, MOST_WEIGHT, Sequence, Table, Value, copy, nesting, weight,
+    Built, MOST_NESTING, MOST_WEIGHT, Sequence, Table, Value, copy, duplicate_key, nesting,
+    too_large, weight,
 };
 use std::alloc::{AllocError, Global};
 use std::collections::VecDeque;

@@ -3,17 +3,16 @@ ghost use Rattle.std.specs.Prelude.{◌≡◌, Some, None, if◌then◌else◌, 
 ghost use Rattle.value_data.specs.Datum.{Items, item, list};
 ghost use Rattle.value_data.specs.Inside.View.{view, items_view};
 ghost use Rattle.repl_asks.specs.Namespaces.{is_fixed};
-ghost use Rattle.repl_faults.specs.Failure as failures;
-ghost use Rattle.repl_faults.specs.declared.rule.Rule.{Rule};
-ghost use Rattle.repl_faults.specs.Inside.View.{failure_of};
+ghost use Rattle.repl_values.specs.Failure as failures;
+ghost use Rattle.repl_values.specs.declared.rule.Rule.{Rule};
+ghost use Rattle.repl_values.specs.Inside.FaultView.{failure_of};
 ghost use Rattle.repl_asks.specs.Inside.View.{binding_view};
 ghost use Rattle.special_forms.specs.declared.special.SpecialForm.{SpecialForm};
 ghost use Rattle.evaluation_rules.specs.SharedText as meant;
 
 use evaluation_rules::Occasion;
 use repl_asks::{Binding, is_fixed};
-use repl_faults::{Rule, broken_rule, namespace_is_fixed};
-use repl_values::{Fault, Value, is_plain};
+use repl_values::{Fault, Rule, Value, broken_rule, is_plain, namespace_is_fixed};
 use special_forms::SpecialForm;
 use std::alloc::{AllocError, Global};
 

@@ -3,8 +3,8 @@
 
 ghost use Rattle.std.specs.Prelude.{◌≡◌, ◌||◌, option_map, is_some, IfOk};
 ghost use Rattle.std.specs.Arc.{arc_str_bytes};
-ghost use Rattle.function_names.specs.Names.{function_named};
-ghost use Rattle.function_names.specs.StoreNames.{store_function_named};
+ghost use Rattle.core_functions.specs.Names.{function_named};
+ghost use Rattle.core_functions.specs.StoreNames.{store_function_named};
 ghost use Rattle.repl_asks.specs.Exchange.{resolve};
 ghost use Rattle.value_data.specs.Inside.View.{view};
 ghost use Rattle.repl_asks.specs.Inside.View.{ask_view, resolution_view};
@@ -15,11 +15,9 @@ ghost use Rattle.evaluation_rules.specs.Naming.{local_resolution, known_resoluti
 ghost use Rattle.evaluation_rules.specs.Places.{space_of};
 
 use crate::frames::{Place, State};
-use core_functions::{CoreFunction, knows};
-use function_names::StoreFunction;
+use core_functions::{CoreFunction, StoreFunction, knows};
 use repl_asks::{Ask, NamedFunction, Resolution};
-use repl_faults::no_such_var;
-use repl_values::{Value, copy, copy_text};
+use repl_values::{Value, copy, copy_text, no_such_var};
 use std::alloc::{AllocError, Global};
 use std::sync::ArcStr;
 

@@ -13,8 +13,7 @@ ghost use Rattle.walker_state.specs.declared.frames.State.{State};
 
 use crate::frames::{Control, State, Wanted};
 use repl_asks::{Ask, is_fixed};
-use repl_faults::{namespace_is_fixed, wrong_argument};
-use repl_values::{Value, copy_text};
+use repl_values::{Value, copy_text, namespace_is_fixed, wrong_argument};
 use special_forms::SpecialForm;
 use std::alloc::{AllocError, Global};
 use std::sync::ArcStr;

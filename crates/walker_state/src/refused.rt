@@ -2,7 +2,7 @@
 #![tactic(auto, using(crate::proofs::Stepping::steps))]
 
 ghost use Rattle.std.specs.Prelude.{◌≡◌, ◌==◌, length, IfOk};
-ghost use Rattle.function_names.specs.StoreNames.{store_fits, store_name_of};
+ghost use Rattle.core_functions.specs.StoreNames.{store_fits, store_name_of};
 ghost use Rattle.special_forms.specs.Inside.Seen.{function_view};
 ghost use Rattle.evaluation_rules.specs.Applying as meant;
 ghost use Rattle.evaluation_rules.specs.Calls.{not_of_core};
@@ -12,8 +12,8 @@ ghost use Rattle.walker_state.specs.declared.frames.State.{State};
 
 use crate::arguments::full_name;
 use crate::frames::Control;
-use function_names::StoreFunction;
-use repl_faults::{Rule, broken_rule, wrong_arity};
+use core_functions::StoreFunction;
+use repl_values::{Rule, broken_rule, wrong_arity};
 use special_forms::Function;
 use std::alloc::{AllocError, Global};
 

@@ -14,10 +14,9 @@ ghost use Rattle.walker_state.specs.Position.{LeadsOnWithin};
 ghost use Rattle.walker_state.specs.declared.frames.State.{State};
 
 use crate::frames::{Control, State, Swap, Wanted};
-use function_names::StoreFunction;
+use core_functions::StoreFunction;
 use repl_asks::{Ask, NamedFunction};
-use repl_faults::{too_many_calls, wrong_arity};
-use repl_values::{Value, copy};
+use repl_values::{Value, copy, too_many_calls, wrong_arity};
 use special_forms::is_truthy;
 use std::alloc::{AllocError, Global};
 use std::boxed::Box;

@@ -1,16 +1,15 @@
 // What `throw` throws.
 ghost use Rattle.std.specs.Prelude.{◌≡◌, ◌<◌, string_bytes, IfOk};
 ghost use Rattle.value_data.specs.Inside.View.{view};
-ghost use Rattle.repl_faults.specs.Inside.View.{failure_of};
+ghost use Rattle.repl_values.specs.Inside.FaultView.{failure_of};
 ghost use Rattle.walker_state.specs.Pending.{from_state, tree};
 ghost use Rattle.walker_state.specs.declared.frames.State.{State};
 ghost use Rattle.walker_state.specs.Position.{LeadsOnWithin};
 ghost use Rattle.evaluation_rules.specs.SpecialForms.{thrown_failure, thrown_value};
 
 use crate::frames::Control;
-use core_texts::show_into;
-use repl_faults::{thrown_text, too_large};
-use repl_values::{Fault, MOST_WEIGHT, Value};
+use core_scalars::show_into;
+use repl_values::{Fault, MOST_WEIGHT, Value, thrown_text, too_large};
 use std::alloc::{AllocError, Global};
 
 /// A fault is thrown as it is, any other value by its text. It fails only for want of memory.

@@ -3,7 +3,8 @@
 use Rattle.std.specs.Prelude.{ℕ, List, [], ◌∷◌}
 use Rattle.bencode_wire.specs.Tree.{Tree, integer, string, list, dictionary, no_trees, Pairs}
 use Rattle.bencode_wire.specs.Tree.{no_pairs, add_tree}
-use Rattle.bencode_wire.specs.Inside.Cut.{Frame, in_list, at_key, at_value, Token, between, after_i, count}
+use Rattle.bencode_wire.specs.Inside.Cut.{Frame, in_list, at_key, at_value, Token, between, after_i}
+use Rattle.bencode_wire.specs.Inside.Cut.{count}
 use Rattle.bencode_wire.specs.declared.sign.Sign.{Sign}
 use Rattle.bencode_wire.specs.declared.cut.Expected.{Expected}
 

@@ -2,12 +2,14 @@
 use Rattle.std.specs.Prelude.{◌≡◌, ℕ, ◌≤◌, ◌+◌, Bool, false, cond, nat_lt, nat_le, List, []}
 use Rattle.std.specs.Prelude.{◌∷◌, length}
 use Rattle.bencode_wire.specs.Tree.{Tree, holds_key}
-use Rattle.bencode_wire.specs.Inside.Cut.{Frame, at_value, Token, between, after_i, after_minus, digits}
+use Rattle.bencode_wire.specs.Inside.Cut.{Frame, at_value, Token, between, after_i, after_minus}
+use Rattle.bencode_wire.specs.Inside.Cut.{digits}
 use Rattle.bencode_wire.specs.Inside.Cut.{count, part, Cut, cut}
 use Rattle.bencode_wire.specs.Inside.Sign.{sign_of}
 use Rattle.bencode_wire.specs.Fault.{StreamRule, malformed, too_long, too_deep}
 use Rattle.bencode_wire.specs.Inside.ByteEffects.{integer_open, integer_minus}
-use Rattle.bencode_wire.specs.Inside.Beginnings.{ByteEffect, Adding, begin, goes, opens, names, ends}
+use Rattle.bencode_wire.specs.Inside.Beginnings.{ByteEffect, Adding, begin, goes, opens, names}
+use Rattle.bencode_wire.specs.Inside.Beginnings.{ends}
 use Rattle.bencode_wire.specs.Inside.Beginnings.{stuck}
 use Rattle.bencode_wire.specs.Inside.ByteEffects.{integer_digits, length_digits, text_bytes}
 use Rattle.bencode_wire.specs.declared.reader.TheConstants.{MAX_NESTING}

@@ -5,7 +5,8 @@ use Rattle.std.specs.Prelude.{Result, Ok, Err}
 use Rattle.bencode_wire.specs.Tree.{Tree}
 use Rattle.bencode_wire.specs.Spelling.{put_sorted}
 use Rattle.bencode_wire.specs.Fault.{counted_place, fault_at}
-use Rattle.bencode_wire.specs.Inside.ByteSteps.{StreamReading, ReadingEnd, rests, faults, stream_reading}
+use Rattle.bencode_wire.specs.Inside.ByteSteps.{StreamReading, ReadingEnd, rests, faults}
+use Rattle.bencode_wire.specs.Inside.ByteSteps.{stream_reading}
 use Rattle.bencode_wire.specs.Inside.Reader.{cut_view}
 use Rattle.bencode_wire.specs.Inside.View.{tree_view}
 use Rattle.bencode_wire.specs.declared.ben.Ben.{Ben}

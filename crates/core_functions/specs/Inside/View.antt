@@ -1,9 +1,9 @@
 -- What the code returns, as an outcome. Memory may run out at any call, and then nothing is said.
 use Rattle.std.specs.Prelude.{◌≡◌, Result, Ok, Err, string_bytes}
 use Rattle.value_data.specs.Inside.View.{view}
-use Rattle.repl_faults.specs.Inside.View.{failure_of}
-use Rattle.repl_faults.specs.declared.error.ApplyError.{ApplyError}
-use Rattle.repl_faults.specs.declared.error.ApplyError.TheVariants as errors
+use Rattle.repl_values.specs.Inside.FaultView.{failure_of}
+use Rattle.repl_values.specs.declared.error.ApplyError.{ApplyError}
+use Rattle.repl_values.specs.declared.error.ApplyError.TheVariants as errors
 use Rattle.core_functions.specs.ApplyOutcome.{ApplyOutcome, gives, fails}
 use Rattle.core_functions.specs.declared.application.Applied.{Applied}
 

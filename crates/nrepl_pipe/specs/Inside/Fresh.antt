@@ -2,7 +2,7 @@
 use Rattle.std.specs.Prelude.{◌≡◌, [], None}
 use Rattle.server_rules.specs.Ground.{Ground}
 use Rattle.server_rules.specs.Hearing.{stream_fault}
-use Rattle.tenant_turns.specs.Turns.{Lone}
+use Rattle.server_rules.specs.LoneTurns.{Lone}
 
 -- nothing was heard, and no reply waits
 abbrev pub IsFresh : Lone → Type 0

@@ -4,8 +4,9 @@ use Rattle.std.specs.Prelude.{Option}
 use Rattle.std.specs.Io.KnownBytes.{Consumes, Appends}
 use Rattle.server_rules.specs.Ground.{Ground}
 use Rattle.server_rules.specs.declared.refusal.Refusal.{Refusal}
-use Rattle.tenant_turns.specs.Turns.{Lone, LoneTurn, LoneStepped, refused, lone_run, lone_served}
-use Rattle.tenant_turns.specs.Inside.Turned.{Accepted}
+use Rattle.server_rules.specs.LoneTurns.{Lone, LoneTurn, LoneStepped, refused, lone_run}
+use Rattle.server_rules.specs.LoneTurns.{lone_served}
+use Rattle.server_rules.specs.Inside.Turned.{Accepted}
 use Rattle.nrepl_pipe.specs.Schedule.{Rests, AllRest, AreRounds, MeetsWorn}
 use Rattle.nrepl_pipe.specs.declared.stream.HearAnswer.{HearAnswer}
 use Rattle.nrepl_pipe.specs.declared.actors.Turned.{Turned}

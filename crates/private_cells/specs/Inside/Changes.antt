@@ -1,7 +1,7 @@
 -- Changes of one agent among all.
 use Rattle.std.specs.Prelude.{◌≡◌, ℕ, ◌+◌, List, ◌++◌, Option, Some, None, option_map}
 use Rattle.value_data.specs.Datum.{Datum}
-use Rattle.repl_faults.specs.Failure.{Failure}
+use Rattle.repl_values.specs.Failure.{Failure}
 use Rattle.private_cells.specs.Agents.{SentAction, AgentData, ActionTurn}
 use Rattle.private_cells.specs.Inside.Turns.{turn_at, weight, open_sum}
 

@@ -2,7 +2,7 @@
 use Rattle.std.specs.Prelude.{List, map, option_map}
 use Rattle.std.specs.Arc.{arc_value}
 use Rattle.value_data.specs.Inside.View.{view}
-use Rattle.repl_faults.specs.Inside.View.{failure_of}
+use Rattle.repl_values.specs.Inside.FaultView.{failure_of}
 use Rattle.repl_asks.specs.Inside.View.{task_view}
 use Rattle.repl_replies.specs.Inside.View.{origin_view}
 use Rattle.private_cells.specs.Actions.{ActionData}

@@ -3,8 +3,8 @@ use Rattle.std.specs.Prelude.{Result, Ok, Err, string_bytes}
 use Rattle.std.specs.Arc.{arc_str_bytes, arc_value}
 use Rattle.value_data.specs.Datum.{Datum}
 use Rattle.value_data.specs.Inside.View.{view}
-use Rattle.repl_faults.specs.Failure.{Failure}
-use Rattle.repl_faults.specs.Inside.View.{failure_of}
+use Rattle.repl_values.specs.Failure.{Failure}
+use Rattle.repl_values.specs.Inside.FaultView.{failure_of}
 use Rattle.repl_asks.specs.Job as jobs
 use Rattle.repl_asks.specs.Job.{WorkData, JobData, EndData}
 use Rattle.repl_asks.specs.Inside.View.{task_view}

@@ -3,7 +3,7 @@ use Rattle.std.specs.Prelude.{List, map}
 use Rattle.std.specs.Arc.{arc_str_bytes, arc_value}
 use Rattle.value_data.specs.Inside.View.{owner_view, view}
 use Rattle.value_data.specs.declared.value.RefName.{RefName}
-use Rattle.repl_faults.specs.Inside.View.{failure_of}
+use Rattle.repl_values.specs.Inside.FaultView.{failure_of}
 use Rattle.special_forms.specs.Inside.Seen.{function_view, views}
 use Rattle.repl_asks.specs.Transactions.{RefNameData, ChangeData, CommuteData, CommutedData}
 use Rattle.repl_asks.specs.Transactions.{IntentData}

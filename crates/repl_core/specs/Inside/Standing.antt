@@ -5,10 +5,10 @@ use Rattle.server_rules.specs.Plan.{Deed, StepAnswer, refuses, leaves}
 use Rattle.server_rules.specs.Tenant.{Quiet}
 use Rattle.server_rules.specs.declared.refusal.Refusal.{Refusal}
 use Rattle.ref_table.specs.Refs.{Refs, refs_after}
-use Rattle.tenant_refs.specs.Serving.{RingRefTable, TableServes}
-use Rattle.tenant_turns.specs.DeedResult.{DeedResult, deed_result}
-use Rattle.tenant_turns.specs.Grounds.{IsRight}
-use Rattle.tenant_turns.specs.Turns.{Lone}
+use Rattle.tenant_parts.specs.Serving.{RingRefTable, TableServes}
+use Rattle.server_rules.specs.DeedResult.{DeedResult, deed_result}
+use Rattle.server_rules.specs.Grounds.{IsRight}
+use Rattle.server_rules.specs.LoneTurns.{Lone}
 use Rattle.tenant_world.specs.Standing as world
 use Rattle.tenant_world.specs.declared.tenant.Tenant.{Tenant}
 use Rattle.repl_core.specs.Grounds.{Evaluates}

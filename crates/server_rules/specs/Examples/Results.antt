@@ -1,7 +1,7 @@
 -- Runs with one tenant and with two.
 use Rattle.std.specs.Prelude.{◌≡◌, ℕ, List, [], ◌∷◌, ◌++◌, Some, None, Ok, Err, codes}
 use Rattle.value_data.specs.Datum.{nil, atom}
-use Rattle.function_names.specs.declared.store.StoreFunction.{StoreFunction}
+use Rattle.core_functions.specs.declared.store.StoreFunction.{StoreFunction}
 use Rattle.repl_asks.specs.Exchange as exchange
 use Rattle.repl_asks.specs.Job as jobs
 use Rattle.repl_asks.specs.Job.{EndingData}
@@ -15,7 +15,8 @@ use Rattle.server_rules.specs.declared.actor.Actor.{Actor}
 use Rattle.server_rules.specs.declared.refusal.Refusal.{Refusal}
 use Rattle.server_rules.specs.Examples.Tables.{number, symbol, ground}
 use Rattle.server_rules.specs.Examples.Runs.{message_turn, drain_turns, turns_of, opening_turns}
-use Rattle.server_rules.specs.Examples.Runs.{interleaving, after_all, given_to, first_reply, second_reply}
+use Rattle.server_rules.specs.Examples.Runs.{interleaving, after_all, given_to, first_reply}
+use Rattle.server_rules.specs.Examples.Runs.{second_reply}
 use Rattle.server_rules.specs.Examples.Runs.{value_body, session_reply, given_with_shared}
 use Rattle.server_rules.specs.Examples.Messages.{first_id}
 use Rattle.bencode_wire.specs.Spelling.{spellings_joined}

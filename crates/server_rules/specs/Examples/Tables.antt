@@ -8,9 +8,9 @@ use Rattle.bencode_wire.specs.Stream as streams
 use Rattle.value_data.specs.Datum as datum
 use Rattle.value_data.specs.Datum.{Datum, tenant}
 use Rattle.value_data.specs.Listed.{items_of}
-use Rattle.core_integers.specs.declared.function.ArithmeticFunction.{ArithmeticFunction}
-use Rattle.core_integers.specs.declared.function.IntegerFunction.{IntegerFunction}
-use Rattle.function_names.specs.declared.function.CoreFunction.{CoreFunction}
+use Rattle.core_scalars.specs.declared.integer_function.ArithmeticFunction.{ArithmeticFunction}
+use Rattle.core_scalars.specs.declared.integer_function.IntegerFunction.{IntegerFunction}
+use Rattle.core_functions.specs.declared.function.CoreFunction.{CoreFunction}
 use Rattle.repl_asks.specs.Transactions.{RefNameData, ChangeData, CommutedData}
 use Rattle.repl_asks.specs.Exchange as exchange
 use Rattle.repl_asks.specs.Exchange.{AskData, AnswerData, bound_value}

@@ -1,8 +1,8 @@
 -- Calls, as the code takes them apart.
 use Rattle.std.specs.Prelude.{ℕ, not, Option, Some, None, Result, Ok}
 use Rattle.value_data.specs.Datum.{Datum}
-use Rattle.repl_faults.specs.Failure.{Failure, ◌>>=◌}
-use Rattle.repl_faults.specs.declared.rule.Rule.{Rule}
+use Rattle.repl_values.specs.Failure.{Failure, ◌>>=◌}
+use Rattle.repl_values.specs.declared.rule.Rule.{Rule}
 use Rattle.repl_asks.specs.Transactions.{RefNameData}
 use Rattle.store_calls.specs.Arguments.{is_shared, kept_to, ask_for}
 use Rattle.store_calls.specs.Calling.{CallData, asks_value, tell_bound_call, set_bound_call}

@@ -1,8 +1,8 @@
 -- Calls, seen as data.
 use Rattle.std.specs.Prelude.{ℕ, Result, Ok, Err}
 use Rattle.value_data.specs.Inside.View.{view}
-use Rattle.repl_faults.specs.Failure.{Failure}
-use Rattle.repl_faults.specs.Inside.View.{failure_of}
+use Rattle.repl_values.specs.Failure.{Failure}
+use Rattle.repl_values.specs.Inside.FaultView.{failure_of}
 use Rattle.repl_asks.specs.Transactions.{RefNameData}
 use Rattle.repl_asks.specs.Inside.View.{name_view, ask_view}
 use Rattle.store_calls.specs.Calling.{CallData, refused, reads, puts, ensures, asks_value}

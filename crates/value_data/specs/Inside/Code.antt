@@ -6,9 +6,12 @@ use Rattle.std.specs.Coded.{Coded, code_by}
 use Rattle.value_data.specs.Datum.{Datum, nil, boolean, integer, string, keyword, symbol, list}
 use Rattle.value_data.specs.Datum.{vector, map, ref, atom, agent, var, fault, Items, no_items, item}
 use Rattle.value_data.specs.Datum.{Pairs, no_pairs, pair}
-use Rattle.value_data.specs.Inside.CodedNodes.{Node, nodes_code, n_nil, n_boolean, n_integer, n_string}
-use Rattle.value_data.specs.Inside.CodedNodes.{n_keyword, n_symbol, n_ref, n_atom, n_agent, n_var, n_fault}
-use Rattle.value_data.specs.Inside.CodedNodes.{n_list, n_vector, n_map, n_no_items, n_item, n_no_pairs}
+use Rattle.value_data.specs.Inside.CodedNodes.{Node, nodes_code, n_nil, n_boolean, n_integer}
+use Rattle.value_data.specs.Inside.CodedNodes.{n_string}
+use Rattle.value_data.specs.Inside.CodedNodes.{n_keyword, n_symbol, n_ref, n_atom, n_agent, n_var}
+use Rattle.value_data.specs.Inside.CodedNodes.{n_fault}
+use Rattle.value_data.specs.Inside.CodedNodes.{n_list, n_vector, n_map, n_no_items, n_item}
+use Rattle.value_data.specs.Inside.CodedNodes.{n_no_pairs}
 use Rattle.value_data.specs.Inside.CodedNodes.{n_pair}
 
 -- the nodes of a value, before those that follow

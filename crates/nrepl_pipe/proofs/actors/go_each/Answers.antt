@@ -1,8 +1,8 @@
 use Rattle.std.proofs.Common.{◌≡◌, ◌+◌, ◌<◌, true, List, sym, subst, take, rules}
 use Rattle.std.proofs.lemmas.List.{take_all, take_more}
 use Rattle.server_rules.specs.declared.actor.Actor.{Actor}
-use Rattle.tenant_turns.specs.Inside.Rounds.{IsEnough}
-use Rattle.tenant_turns.specs.Turns.{actors_of}
+use Rattle.server_rules.specs.Inside.Rounds.{IsEnough}
+use Rattle.server_rules.specs.LoneTurns.{actors_of}
 use Rattle.nrepl_pipe.specs.Inside.Parts.{with_turn}
 use Rattle.nrepl_pipe.specs.declared.actors.Round.{Round}
 use Rattle.nrepl_pipe.specs.declared.actors.Turned.{Turned}

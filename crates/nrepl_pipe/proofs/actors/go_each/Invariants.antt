@@ -1,7 +1,7 @@
 use Rattle.std.proofs.Common.{◌≡◌, ◌<◌, ◌≤◌, true, take}
 use Rattle.server_rules.specs.Ground.{Ground}
-use Rattle.tenant_turns.specs.Turns.{Lone}
-use Rattle.tenant_turns.specs.Grounds.{IsRight}
+use Rattle.server_rules.specs.LoneTurns.{Lone}
+use Rattle.server_rules.specs.Grounds.{IsRight}
 use Rattle.nrepl_pipe.proofs.Taking.{TurnsOn}
 use Rattle.nrepl_pipe.proofs.actors.go_each.Given as goal
 

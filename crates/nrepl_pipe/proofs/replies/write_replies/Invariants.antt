@@ -1,6 +1,6 @@
 use Rattle.std.proofs.Common.{◌≡◌, length, false}
 use Rattle.server_rules.specs.Ground.{Ground}
-use Rattle.tenant_turns.specs.Turns.{Lone}
+use Rattle.server_rules.specs.LoneTurns.{Lone}
 use Rattle.nrepl_pipe.specs.Failing.{Marks}
 use Rattle.nrepl_pipe.specs.Reads.{IsPassedOn}
 use Rattle.nrepl_pipe.proofs.Draining.{Drains}

@@ -1,5 +1,5 @@
 use Rattle.std.proofs.Common.{Bool, ◌||◌, subst, rules}
-use Rattle.tenant_turns.specs.Turns.{lone_run}
+use Rattle.server_rules.specs.LoneTurns.{lone_run}
 use Rattle.nrepl_pipe.proofs.Growing.{on_err}
 use Rattle.nrepl_pipe.proofs.Marking.{marks-behind}
 use Rattle.nrepl_pipe.proofs.Rounding.{RoundsOn, rounds-first, rounds-more, rounds-worn}

@@ -1,7 +1,7 @@
 use Rattle.std.proofs.Common.{◌+◌, ◌≤◌, false, if◌then◌else◌}
 use Rattle.server_rules.specs.Ground.{Ground}
-use Rattle.tenant_turns.specs.Turns.{Lone}
-use Rattle.tenant_turns.specs.Grounds.{IsRight}
+use Rattle.server_rules.specs.LoneTurns.{Lone}
+use Rattle.server_rules.specs.Grounds.{IsRight}
 use Rattle.nrepl_pipe.specs.Failing.{Marks}
 use Rattle.nrepl_pipe.specs.Reads.{IsPassedOn}
 use Rattle.nrepl_pipe.proofs.Rounding.{RoundsOn}

@@ -1,5 +1,5 @@
 use Rattle.std.proofs.Common.{subst}
-use Rattle.tenant_turns.specs.Turns.{hears, lone_after, lone_run}
+use Rattle.server_rules.specs.LoneTurns.{hears, lone_after, lone_run}
 use Rattle.nrepl_pipe.specs.Inside.Parts.{MakesRounds}
 use Rattle.nrepl_pipe.specs.declared.rounds.Rounds.{Rounds}
 use Rattle.nrepl_pipe.proofs.Hearing.{takes-in}

@@ -1,5 +1,5 @@
 use Rattle.std.proofs.Common.{sym, arith, None}
-use Rattle.repl_faults.specs.Inside.View.{failure_of}
+use Rattle.repl_values.specs.Inside.FaultView.{failure_of}
 use Rattle.private_cells.specs.Inside.Seen.{cell_view}
 use Rattle.private_cells.specs.Inside.Changes.{with_fault}
 use Rattle.private_cells.proofs.Changing.{map_set_by, changed_none}

@@ -1,5 +1,5 @@
 use Rattle.std.proofs.Common.{◌≡◌, ◌⊎◌, inl, inr, refl, Result, Ok, Err}
-use Rattle.repl_faults.specs.Failure.{Failure}
+use Rattle.repl_values.specs.Failure.{Failure}
 use Rattle.evaluation_rules.specs.Evaluation.{evaluation}
 use Rattle.server_rules.specs.Readings.{Readings, AreRight}
 use Rattle.server_rules.specs.Comparisons.{Comparisons, AreExact}

@@ -1,6 +1,6 @@
 use Rattle.std.proofs.Common.{ap, option_map, subst, sym, ◌∙◌}
 use Rattle.value_data.specs.Inside.View.{items_view}
-use Rattle.repl_faults.specs.Inside.View.{failure_of}
+use Rattle.repl_values.specs.Inside.FaultView.{failure_of}
 use Rattle.repl_reader.specs.Inside.View.{fault_option}
 use Rattle.shared_space.specs.Loaded.{IsFaultIn, IsFaultOf}
 use Rattle.shared_space.specs.Told.{shared_so_far}

@@ -5,7 +5,7 @@ use Rattle.server_rules.specs.Request.{Hand}
 use Rattle.server_rules.specs.Tenant.{ActorData}
 use Rattle.server_rules.specs.Plan.{Outcome, ask_answered}
 use Rattle.server_rules.specs.declared.refusal.Refusal.{Refusal}
-use Rattle.tenant_actors.specs.View.{actor_view, hand_view}
+use Rattle.tenant_parts.specs.View.{actor_view, hand_view}
 use Rattle.tenant_asks.specs.Acting.{AcceptsOutcome}
 use Rattle.tenant_asks.specs.Asking.{exchange_from, with_exchange}
 use Rattle.tenant_asks.proofs.Answering.{acted-ask_outcome, ask_outcome-told}

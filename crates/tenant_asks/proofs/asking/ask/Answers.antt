@@ -4,11 +4,11 @@ use Rattle.server_rules.specs.Plan.{Plan, Outcome, StepAnswer, refuses}
 use Rattle.server_rules.specs.Starting.{interrupted_in}
 use Rattle.server_rules.specs.Store.{Store}
 use Rattle.ref_table.specs.Refs.{refs_after}
-use Rattle.tenant_actors.specs.View.{actor_view, hand_view, run_view}
-use Rattle.tenant_turns.specs.DeedResult.{carried_out}
+use Rattle.tenant_parts.specs.View.{actor_view, hand_view, run_view}
+use Rattle.server_rules.specs.DeedResult.{carried_out}
 use Rattle.tenant_asks.specs.Answers.{ask_answer_view}
 use Rattle.tenant_asks.specs.Acting.{AcceptsOutcome, RefusesOutcome, is_accepted}
-use Rattle.tenant_refs.specs.Serving.{ServesWithAttempts}
+use Rattle.tenant_parts.specs.Serving.{ServesWithAttempts}
 use Rattle.tenant_asks.proofs.Remembering.{acted-interrupted, wanted-memory}
 use Rattle.tenant_asks.proofs.Answering.{allowed-so, asked-open, asked-closed, given-told, given-declined}
 use Rattle.tenant_asks.proofs.Answering.{asked-waiting, waits-so}

@@ -1,7 +1,7 @@
 use Rattle.std.proofs.Common.{sym, ◌∙◌}
 use Rattle.server_rules.specs.Tenant.{seat_of}
 use Rattle.tenant_asks.proofs.Answering.{stays-memory}
-use Rattle.tenant_refs.proofs.Serving.{holds-left}
+use Rattle.tenant_parts.proofs.Serving.{holds-left}
 use Rattle.tenant_asks.proofs.asking.give_up.Goals as goal
 
 pub returns-in_err-interrupt-clause-stays : goal.returns-in_err-interrupt-clause-stays

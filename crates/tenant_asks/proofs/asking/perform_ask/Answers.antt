@@ -5,8 +5,8 @@ use Rattle.server_rules.specs.Calls.{performed}
 use Rattle.server_rules.specs.Cells.{SenderData, cells_after, with_sends_if}
 use Rattle.server_rules.specs.Tenant.{seat_of}
 use Rattle.ref_table.proofs.Telling.{on_err}
-use Rattle.tenant_actors.specs.View.{hand_view}
-use Rattle.tenant_refs.specs.Thrice.{thrice_view, told_answer}
+use Rattle.tenant_parts.specs.View.{hand_view}
+use Rattle.tenant_parts.specs.Thrice.{thrice_view, told_answer}
 use Rattle.tenant_asks.specs.Cells.{cells_data}
 use Rattle.tenant_asks.specs.Memories.{Remembers}
 use Rattle.tenant_asks.specs.Sends.{committed_sends, is_told_yes, sender_view}

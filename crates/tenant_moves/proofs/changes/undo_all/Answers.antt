@@ -1,5 +1,5 @@
 use Rattle.std.proofs.Common.{◌∙◌, sym, ap, List}
-use Rattle.tenant_actors.specs.View.{actors_view}
+use Rattle.tenant_parts.specs.View.{actors_view}
 use Rattle.tenant_moves.specs.Undone.{sessions_and_actors, all_undone}
 use Rattle.tenant_moves.specs.declared.changes.LoggedChange.{LoggedChange}
 use Rattle.tenant_moves.proofs.Undoing.{undone-last}

@@ -1,5 +1,5 @@
 use Rattle.std.proofs.Common.{◌≡◌}
-use Rattle.tenant_actors.specs.View.{actors_view}
+use Rattle.tenant_parts.specs.View.{actors_view}
 use Rattle.tenant_moves.specs.Undone.{sessions_and_actors, all_undone}
 use Rattle.tenant_moves.proofs.changes.undo_all.Given as goal
 

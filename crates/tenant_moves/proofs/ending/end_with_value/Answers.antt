@@ -9,7 +9,7 @@ use Rattle.repl_sessions.specs.State.{StateData}
 use Rattle.server_rules.specs.Request.{Hand, last_form}
 use Rattle.server_rules.specs.Moves.{Move, closing_move, going_on}
 use Rattle.server_rules.specs.Replying.{output_replies}
-use Rattle.tenant_actors.specs.View.{hand_view}
+use Rattle.tenant_parts.specs.View.{hand_view}
 use Rattle.tenant_moves.specs.declared.news.News.{News}
 use Rattle.tenant_moves.specs.Told.{told_bytes, told_state, Adds}
 use Rattle.tenant_moves.proofs.Behind.{ends-behind, ends-over}

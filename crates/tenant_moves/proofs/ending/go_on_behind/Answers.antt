@@ -1,6 +1,6 @@
 use Rattle.std.proofs.Common.{◌∙◌, sym}
 use Rattle.repl_asks.specs.Inside.Jobs.{finished_view}
-use Rattle.tenant_actors.specs.View.{hand_view}
+use Rattle.tenant_parts.specs.View.{hand_view}
 use Rattle.tenant_moves.specs.Told.{told_state}
 use Rattle.tenant_moves.proofs.Behind.{ends-over}
 use Rattle.tenant_moves.proofs.ending.go_on_behind.Goals as goal

@@ -5,7 +5,7 @@ use Rattle.repl_sessions.specs.Named.{NamedSessions}
 use Rattle.repl_sessions.specs.Sessions.{SessionsData}
 use Rattle.server_rules.specs.Numbered.{Entry}
 use Rattle.server_rules.specs.Tenant.{ActorData}
-use Rattle.tenant_actors.specs.View.{actors_view}
+use Rattle.tenant_parts.specs.View.{actors_view}
 use Rattle.tenant_moves.specs.Scene.{all_vacated}
 use Rattle.tenant_moves.proofs.Remaining.{remaining_sessions-first, remaining-all}
 use Rattle.tenant_moves.proofs.handling.close_all.Goals as goal

@@ -1,7 +1,7 @@
 use Rattle.std.proofs.Common.{◌≡◌, length}
 use Rattle.std.specs.BTreeSet.{keys}
 use Rattle.repl_sessions.specs.Inside.Leaving.{remaining_named}
-use Rattle.tenant_actors.specs.View.{actors_view}
+use Rattle.tenant_parts.specs.View.{actors_view}
 use Rattle.tenant_moves.specs.Scene.{all_vacated}
 use Rattle.tenant_moves.proofs.handling.close_all.Given as goal
 

@@ -1,8 +1,8 @@
 use Rattle.std.proofs.Common.{◌≡◌, subst, OnOk, Ok}
 use Rattle.std.specs.BTreeSet.{keys}
 use Rattle.std.specs.declared.result.Result.{Result}
-use Rattle.tenant_actors.specs.View.{actors_view}
-use Rattle.tenant_actors.specs.Replies.{waiting_bytes}
+use Rattle.tenant_parts.specs.View.{actors_view}
+use Rattle.tenant_parts.specs.Replies.{waiting_bytes}
 use Rattle.tenant_moves.specs.Scene.{scene}
 use Rattle.tenant_moves.proofs.Drafting.{drafts-first, drafts-last, seated-last}
 use Rattle.tenant_moves.proofs.handling.handle_messages.Goals as goal

@@ -1,7 +1,7 @@
 use Rattle.std.proofs.Common.{refl, sym, subst}
 use Rattle.repl_sessions.specs.Inside.StateView.{state_view}
 use Rattle.server_rules.specs.Moves.{closing_move}
-use Rattle.tenant_actors.specs.View.{hand_view}
+use Rattle.tenant_parts.specs.View.{hand_view}
 use Rattle.tenant_moves.specs.Told.{Adds}
 use Rattle.tenant_moves.proofs.Behind.{closing_move-hand, tells-first}
 use Rattle.tenant_moves.proofs.starting.end_request.Goals as goal

@@ -1,7 +1,7 @@
 use Rattle.std.proofs.Common.{IfOk, ◌∙◌, ap, sym, subst, option_map}
 use Rattle.value_data.specs.Inside.View.{view}
 use Rattle.repl_sessions.specs.Inside.StateView.{state_view}
-use Rattle.tenant_actors.specs.View.{hand_view}
+use Rattle.tenant_parts.specs.View.{hand_view}
 use Rattle.tenant_moves.specs.Starts.{GoesOn}
 use Rattle.tenant_moves.proofs.Begins.{first-begins}
 use Rattle.tenant_moves.proofs.starting.next_form.Goals as goal

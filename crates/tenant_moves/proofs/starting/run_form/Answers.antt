@@ -1,6 +1,6 @@
 use Rattle.std.proofs.Common.{Some, ap}
 use Rattle.server_rules.specs.Plan.{form_begun}
-use Rattle.tenant_actors.specs.View.{hand_view}
+use Rattle.tenant_parts.specs.View.{hand_view}
 use Rattle.tenant_moves.specs.Starts.{with_run}
 use Rattle.tenant_moves.proofs.starting.run_form.Goals as goal
 

@@ -3,7 +3,7 @@ use Rattle.repl_asks.specs.Inside.Jobs.{job_view}
 use Rattle.server_rules.specs.Cells.{with_agents}
 use Rattle.server_rules.specs.Starting.{action_begun, action_for, start_action, with_action_begun}
 use Rattle.server_rules.specs.Plan.{StepAnswer, Outcome, form_begun}
-use Rattle.tenant_actors.specs.View.{actor_view}
+use Rattle.tenant_parts.specs.View.{actor_view}
 use Rattle.tenant_asks.specs.Acting.{AcceptsOutcome}
 use Rattle.tenant_world.specs.Actions.{next_view, hand_of}
 use Rattle.tenant_world.specs.Answers.{start_answer_view}

@@ -10,7 +10,7 @@ use Rattle.server_rules.specs.Tenant.{actor_state}
 use Rattle.server_rules.specs.Moves.{form_ended}
 use Rattle.server_rules.specs.Starting.{after_move}
 use Rattle.server_rules.specs.Plan.{leaves, with_step_spent, form_finished}
-use Rattle.tenant_actors.specs.View.{actor_view, hand_view}
+use Rattle.tenant_parts.specs.View.{actor_view, hand_view}
 use Rattle.tenant_asks.specs.Acting.{AcceptsOutcome}
 use Rattle.tenant_world.specs.Actions.{action_end, agents_behind}
 use Rattle.tenant_asks.specs.Cells.{cells_data}

@@ -1,7 +1,7 @@
 use Rattle.std.proofs.Common.{List, subst}
 use Rattle.repl_asks.specs.Inside.View.{trace_view}
 use Rattle.repl_asks.specs.declared.exchange.Exchange.{Exchange}
-use Rattle.tenant_actors.specs.View.{run_view}
+use Rattle.tenant_parts.specs.View.{run_view}
 use Rattle.trace_comparison.specs.Difference.{DiffersFirstAt}
 use Rattle.tenant_world.specs.Answers.{told_ending}
 use Rattle.tenant_world.proofs.Ends.{differs-so}

@@ -1,5 +1,5 @@
 use Rattle.std.proofs.Common.{◌∙◌, sym, ap, option_map}
-use Rattle.tenant_actors.specs.View.{actor_view, run_view}
+use Rattle.tenant_parts.specs.View.{actor_view, run_view}
 use Rattle.tenant_world.specs.Answers.{told_ending}
 use Rattle.tenant_world.proofs.Ends.{passes-so, fails-so, passes-uncompared}
 use Rattle.tenant_world.proofs.ending.compare_if_due.Goals as goal

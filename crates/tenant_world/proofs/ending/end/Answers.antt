@@ -1,5 +1,5 @@
 use Rattle.std.proofs.Common.{refl}
-use Rattle.tenant_actors.specs.View.{actor_view}
+use Rattle.tenant_parts.specs.View.{actor_view}
 use Rattle.tenant_world.specs.Answers.{told_ending}
 use Rattle.tenant_world.proofs.Ends.{declined-compared}
 use Rattle.tenant_world.proofs.ending.end.Goals as goal

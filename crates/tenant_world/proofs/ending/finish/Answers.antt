@@ -1,9 +1,9 @@
 use Rattle.std.proofs.Common.{◌∙◌, sym, ap, subst, option_map}
 use Rattle.server_rules.specs.Plan.{Plan, request_interrupted, form_finished}
-use Rattle.tenant_actors.specs.View.{actor_view, hand_view, run_view}
-use Rattle.tenant_turns.specs.DeedResult.{carried_out}
+use Rattle.tenant_parts.specs.View.{actor_view, hand_view, run_view}
+use Rattle.server_rules.specs.DeedResult.{carried_out}
 use Rattle.tenant_asks.specs.Acting.{AcceptsOutcome, is_accepted}
-use Rattle.tenant_refs.specs.Attempts.{Reaches}
+use Rattle.tenant_parts.specs.Attempts.{Reaches}
 use Rattle.tenant_asks.proofs.Remembering.{acted-interrupted}
 use Rattle.tenant_world.proofs.Remembering.{declined-memory-with, held-so}
 use Rattle.tenant_world.proofs.Ends.{ends-interrupted, ends-accepted}

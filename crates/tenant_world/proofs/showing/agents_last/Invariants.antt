@@ -1,5 +1,5 @@
 use Rattle.std.proofs.Common.{◌≡◌, ◌++◌, drop, filter, not}
-use Rattle.tenant_turns.specs.Turns.{is_of_agents}
+use Rattle.server_rules.specs.LoneTurns.{is_of_agents}
 use Rattle.tenant_world.proofs.showing.agents_last.Given as goal
 
 abbrev pub invariant-loop-actor : goal.invariant-loop-actor

@@ -2,7 +2,7 @@ use Rattle.std.proofs.Common.{◌∙◌, sym, ap, subst, option_map, true, false
 use Rattle.server_rules.specs.Deeds.{start_of}
 use Rattle.server_rules.specs.Plan.{Outcome, StepAnswer}
 use Rattle.server_rules.specs.Starting.{interrupted_in}
-use Rattle.tenant_actors.specs.View.{actor_view, hand_view, run_view}
+use Rattle.tenant_parts.specs.View.{actor_view, hand_view, run_view}
 use Rattle.tenant_world.specs.Answers.{start_answer_view}
 use Rattle.tenant_asks.specs.Acting.{AcceptsOutcome, is_accepted}
 use Rattle.tenant_asks.proofs.Remembering.{acted-interrupted}

@@ -5,7 +5,7 @@ use Rattle.server_rules.specs.Request.{Hand}
 use Rattle.server_rules.specs.Tenant.{actor_state}
 use Rattle.server_rules.specs.Starting.{held_or, start_outcome, next_begun}
 use Rattle.server_rules.specs.Plan.{StepAnswer}
-use Rattle.tenant_actors.specs.View.{actor_view, hand_view}
+use Rattle.tenant_parts.specs.View.{actor_view, hand_view}
 use Rattle.tenant_moves.specs.Starts.{answer_given, given_job}
 use Rattle.tenant_asks.specs.Acting.{AcceptsOutcome}
 use Rattle.tenant_world.proofs.Remembering.{held-so, some-same, declined-memory}

@@ -7,7 +7,7 @@ use Rattle.server_rules.specs.Request.{Waiting}
 use Rattle.server_rules.specs.Starting.{held_or, start_outcome, text_begun, first_state}
 use Rattle.server_rules.specs.Starting.{start_waiting}
 use Rattle.server_rules.specs.Plan.{StepAnswer, Outcome}
-use Rattle.tenant_actors.specs.View.{actor_view, waiting_view}
+use Rattle.tenant_parts.specs.View.{actor_view, waiting_view}
 use Rattle.tenant_moves.specs.Starts.{answer_given}
 use Rattle.tenant_world.specs.Answers.{start_answer_view}
 use Rattle.tenant_asks.specs.Acting.{AcceptsOutcome, RefusesOutcome, is_accepted}

@@ -1,5 +1,5 @@
 use Rattle.std.proofs.Common.{ℕ, List, length, sym, ap, ◌∙◌}
-use Rattle.repl_faults.specs.Failure.{wrong_arity}
+use Rattle.repl_values.specs.Failure.{wrong_arity}
 use Rattle.walker_state.proofs.Printing.{core_call-misfits}
 use Rattle.walker_state.proofs.applying.call_core.Goals as goal
 

@@ -1,6 +1,6 @@
 use Rattle.std.proofs.Common.{arith, ap, rules, Ok, Err}
 use Rattle.value_data.specs.Inside.View.{view}
-use Rattle.repl_faults.specs.Inside.View.{failure_of}
+use Rattle.repl_values.specs.Inside.FaultView.{failure_of}
 use Rattle.repl_asks.specs.Inside.View.{ask_view, named_view, sending_view, task_view}
 use Rattle.repl_asks.specs.declared.sends.Task.{Task}
 use Rattle.special_forms.specs.Inside.Seen.{views}

@@ -1,6 +1,6 @@
 use Rattle.std.proofs.Common.{arith, ap, rules, refl, Ok, Err}
 use Rattle.value_data.specs.Inside.View.{view}
-use Rattle.repl_faults.specs.Inside.View.{failure_of}
+use Rattle.repl_values.specs.Inside.FaultView.{failure_of}
 use Rattle.repl_asks.specs.Inside.View.{named_view}
 use Rattle.special_forms.specs.Inside.Seen.{views}
 use Rattle.store_calls.specs.Inside.View.{swapped_view}

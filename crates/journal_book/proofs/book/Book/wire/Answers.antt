@@ -2,8 +2,8 @@ use Rattle.std.proofs.Common.{◌≡◌, ◌∙◌, [], ap, sym, subst, Some, No
 use Rattle.server_rules.specs.Ground.{Ground}
 use Rattle.server_rules.specs.Tenant.{Quiet}
 use Rattle.server_rules.specs.Machine.World.{World, opened_world}
-use Rattle.tenant_turns.specs.Inside.Wires.{wire_at}
-use Rattle.tenant_turns.specs.declared.turns.Wire.{Wire}
+use Rattle.server_rules.specs.Inside.Wires.{wire_at}
+use Rattle.server_rules.specs.declared.turns.Wire.{Wire}
 use Rattle.repl_core.specs.Configured.{IsConfigured}
 use Rattle.repl_core.specs.Standing.{open_in}
 use Rattle.journal_book.specs.Journal.{IsJournal}

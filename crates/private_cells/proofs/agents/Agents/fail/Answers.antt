@@ -1,6 +1,6 @@
 use Rattle.std.proofs.Common.{List, refl, sym, ap, ◌∙◌, arith}
 use Rattle.std.proofs.Common.{length, Some}
-use Rattle.repl_faults.specs.Inside.View.{failure_of}
+use Rattle.repl_values.specs.Inside.FaultView.{failure_of}
 use Rattle.private_cells.specs.Agents.{AgentData}
 use Rattle.private_cells.specs.Inside.Seen.{cells_view}
 use Rattle.private_cells.specs.Inside.Changes.{with_fault}

@@ -1,6 +1,6 @@
 use Rattle.std.proofs.Common.{◌++◌, Option, true, false, refl, sym, ap, ◌∙◌}
 use Rattle.value_data.specs.Datum.{Datum}
-use Rattle.repl_faults.specs.Inside.View.{failure_of}
+use Rattle.repl_values.specs.Inside.FaultView.{failure_of}
 use Rattle.repl_asks.specs.Transactions.{RefNameData}
 use Rattle.repl_asks.specs.Exchange.{verdict, conflict}
 use Rattle.repl_asks.specs.Inside.View.{intent_view}

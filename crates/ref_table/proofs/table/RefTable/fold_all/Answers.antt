@@ -3,7 +3,7 @@ use Rattle.std.proofs.Common.{arith}
 use Rattle.std.proofs.lemmas.Grind.{common_steps}
 use Rattle.std.specs.Prelude.{Ok}
 use Rattle.value_data.specs.Datum.{Datum}
-use Rattle.repl_faults.specs.Inside.View.{Gives}
+use Rattle.repl_values.specs.Inside.FaultView.{Gives}
 use Rattle.repl_asks.specs.Transactions.{RefNameData}
 use Rattle.repl_asks.specs.Inside.View.{change_view, commuted_view}
 use Rattle.server_rules.specs.Store.{newest_value}

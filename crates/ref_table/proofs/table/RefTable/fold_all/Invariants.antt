@@ -1,6 +1,6 @@
 use Rattle.std.proofs.Common.{◌≡◌, ◌++◌, ℕ, List, true, map, drop}
 use Rattle.std.specs.Prelude.{Ok}
-use Rattle.repl_faults.specs.Failure.{◌>>=◌}
+use Rattle.repl_values.specs.Failure.{◌>>=◌}
 use Rattle.repl_asks.specs.Inside.View.{name_view, change_view, commuted_view}
 use Rattle.server_rules.specs.Numbered.{Entry}
 use Rattle.server_rules.specs.Store.{newest_value}

@@ -2,7 +2,7 @@ use Rattle.std.proofs.Common.{◌++◌, Option, map, sym, ap, ◌∙◌, subst}
 use Rattle.std.specs.Prelude.{Ok}
 use Rattle.std.proofs.lemmas.List.{map-append}
 use Rattle.value_data.specs.Datum.{Datum}
-use Rattle.repl_faults.specs.Inside.View.{Fails}
+use Rattle.repl_values.specs.Inside.FaultView.{Fails}
 use Rattle.repl_asks.specs.Transactions.{RefNameData}
 use Rattle.repl_asks.specs.Inside.View.{name_view, change_view, commuted_view, intent_view}
 use Rattle.server_rules.specs.Store.{newest_value}

@@ -3,7 +3,7 @@ use Rattle.repl_asks.specs.Inside.View.{trace_view}
 use Rattle.repl_asks.specs.Inside.Jobs.{job_view, finished_view}
 use Rattle.server_rules.specs.Plan as deeds
 use Rattle.repl_asks.specs.Job.{EndingData}
-use Rattle.tenant_turns.specs.DeedResult.{deed_result}
+use Rattle.server_rules.specs.DeedResult.{deed_result}
 use Rattle.repl_walker.specs.Ends.{ending_view}
 use Rattle.repl_core.proofs.Stores.{serves-all-still, ends-reached}
 use Rattle.tenant_asks.specs.Acting.{is_accepted}

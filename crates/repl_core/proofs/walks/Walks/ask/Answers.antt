@@ -9,7 +9,7 @@ use Rattle.tenant_asks.specs.Answers.{ask_answer_view}
 use Rattle.tenant_asks.specs.declared.answers.AskAnswer.{AskAnswer}
 use Rattle.tenant_world.specs.Standing as world
 use Rattle.ref_table.specs.Refs.{refs_after}
-use Rattle.tenant_refs.specs.Serving.{TableServes}
+use Rattle.tenant_parts.specs.Serving.{TableServes}
 use Rattle.repl_core.specs.Inside.Standing.{parts, comes_to}
 use Rattle.repl_core.proofs.WalkSteps.{asks-same, at-so, some-same}
 use Rattle.repl_core.proofs.Steps.{does-removed, does-resumed, refused-parts}

@@ -1,5 +1,5 @@
 use Rattle.std.proofs.Common.{◌∙◌, sym, subst}
-use Rattle.tenant_actors.specs.View.{run_view}
+use Rattle.tenant_parts.specs.View.{run_view}
 use Rattle.repl_core.specs.Inside.Walked.{IsWalkOf}
 use Rattle.repl_core.specs.Inside.WalkAt.{walk_at}
 use Rattle.repl_core.proofs.WalkSteps.{walked-all, some-same, none-where}

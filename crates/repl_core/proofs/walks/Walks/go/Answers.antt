@@ -3,7 +3,7 @@ use Rattle.repl_asks.specs.Inside.View.{ask_view}
 use Rattle.repl_walker.specs.declared.waiting.Progress.{Progress}
 use Rattle.server_rules.specs.Plan as deeds
 use Rattle.server_rules.specs.Honest.{honest_deed}
-use Rattle.tenant_actors.specs.View.{run_view}
+use Rattle.tenant_parts.specs.View.{run_view}
 use Rattle.tenant_asks.specs.Acting.{is_accepted}
 use Rattle.repl_core.specs.Inside.Standing.{parts, comes_to}
 use Rattle.repl_core.specs.Inside.Walked.{ending_of}

@@ -1,7 +1,7 @@
 use Rattle.std.proofs.Common.{rules, ap, sym, ◌∙◌, option_and_then}
 use Rattle.std.proofs.lemmas.Bool.{ne_eqb}
 use Rattle.server_rules.specs.Tenant.{seat_of}
-use Rattle.tenant_actors.proofs.Seats.{at-seats}
+use Rattle.tenant_parts.proofs.Seats.{at-seats}
 use Rattle.repl_core.proofs.walks.Walks.put.Goals as goal
 
 pub returns-in-Some-clause-others : goal.returns-in-Some-clause-others

@@ -4,8 +4,8 @@ use Rattle.repl_replies.specs.Replies.{bytes_of, closed}
 use Rattle.repl_replies.specs.Inside.View.{origin_view}
 use Rattle.server_rules.specs.Operating.{interruption}
 use Rattle.server_rules.specs.Replying.{reply}
-use Rattle.tenant_actors.specs.View.{actor_view}
-use Rattle.tenant_actors.specs.Replies.{made_bytes}
+use Rattle.tenant_parts.specs.View.{actor_view}
+use Rattle.tenant_parts.specs.Replies.{made_bytes}
 use Rattle.tenant_moves.specs.Scene.{scene}
 use Rattle.tenant_moves.proofs.Drafting.{comes-absent, comes-closed}
 use Rattle.tenant_moves.proofs.draft.Draft.close.Goals as goal

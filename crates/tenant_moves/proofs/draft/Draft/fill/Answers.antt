@@ -9,7 +9,7 @@ use Rattle.repl_replies.specs.Replies.{OriginData, no_origin, malformed, bytes_o
 use Rattle.server_rules.specs.Hearing.{with_messages}
 use Rattle.server_rules.specs.Replying.{reply}
 use Rattle.server_rules.specs.Tenant.{with_replies}
-use Rattle.tenant_actors.specs.Replies.{made_bytes}
+use Rattle.tenant_parts.specs.Replies.{made_bytes}
 use Rattle.tenant_moves.specs.Scene.{Scene, scene}
 use Rattle.tenant_moves.specs.Handled.{told_broken}
 use Rattle.tenant_moves.proofs.Drafting.{comes-replied, drafts-as}

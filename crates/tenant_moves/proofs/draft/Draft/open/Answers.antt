@@ -8,7 +8,7 @@ use Rattle.repl_replies.specs.Replies as replies
 use Rattle.repl_replies.specs.Replies.{bytes_of}
 use Rattle.repl_replies.specs.Inside.View.{origin_view}
 use Rattle.server_rules.specs.Replying.{reply}
-use Rattle.tenant_actors.specs.View.{actors_view}
+use Rattle.tenant_parts.specs.View.{actors_view}
 use Rattle.tenant_moves.specs.Scene.{scene}
 use Rattle.tenant_moves.specs.Undone.{retracted_named}
 use Rattle.tenant_moves.specs.declared.changes.LoggedChange.{LoggedChange}

@@ -3,8 +3,8 @@ use Rattle.server_rules.specs.Numbered.{Entry}
 use Rattle.server_rules.specs.Operating.{asker}
 use Rattle.server_rules.specs.Tenant.{ActorData, seat_of}
 use Rattle.server_rules.specs.declared.actor.Actor.{Actor}
-use Rattle.tenant_actors.specs.Queues.{with_changed_actor, with_request}
-use Rattle.tenant_actors.specs.View.{waiting_view, actors_view, AreBelow}
+use Rattle.tenant_parts.specs.Queues.{with_changed_actor, with_request}
+use Rattle.tenant_parts.specs.View.{waiting_view, actors_view, AreBelow}
 use Rattle.tenant_moves.specs.Scene.{scene}
 use Rattle.tenant_moves.specs.Undone.{sessions_and_actors}
 use Rattle.tenant_moves.specs.declared.changes.LoggedChange.{LoggedChange}

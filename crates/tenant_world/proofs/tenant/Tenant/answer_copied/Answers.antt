@@ -7,9 +7,9 @@ use Rattle.server_rules.specs.Numbered.{part_under}
 use Rattle.server_rules.specs.Plan as deeds
 use Rattle.server_rules.specs.Plan.{Plan}
 use Rattle.server_rules.specs.Tenant.{ActorData, seat_of}
-use Rattle.tenant_actors.specs.View.{actor_view}
-use Rattle.tenant_refs.specs.Serving.{TableServes}
-use Rattle.tenant_turns.specs.DeedResult.{DeedResult, carried_out, deed_result}
+use Rattle.tenant_parts.specs.View.{actor_view}
+use Rattle.tenant_parts.specs.Serving.{TableServes}
+use Rattle.server_rules.specs.DeedResult.{DeedResult, carried_out, deed_result}
 use Rattle.tenant_asks.specs.Acting.{actors_after}
 use Rattle.tenant_asks.specs.Answers.{ask_answer_view}
 use Rattle.tenant_asks.specs.Memories.{Remembers}

@@ -1,6 +1,6 @@
 use Rattle.std.proofs.Common.{◌≡◌, ◌<◌, ◌∙◌, ap, length, rules}
-use Rattle.tenant_actors.specs.View.{actors_view}
-use Rattle.tenant_turns.specs.Turns.{agents_last}
+use Rattle.tenant_parts.specs.View.{actors_view}
+use Rattle.server_rules.specs.LoneTurns.{agents_last}
 use Rattle.tenant_world.proofs.Enough.{busy-enough}
 use Rattle.tenant_world.proofs.tenant.Tenant.round.Goals as goal
 

@@ -5,8 +5,8 @@ use Rattle.server_rules.specs.Plan as deeds
 use Rattle.server_rules.specs.Plan.{Plan, quietly}
 use Rattle.server_rules.specs.Deeds.{start_of}
 use Rattle.server_rules.specs.Tenant.{ActorData, seat_of}
-use Rattle.tenant_actors.specs.View.{actor_view}
-use Rattle.tenant_turns.specs.DeedResult.{deed_result}
+use Rattle.tenant_parts.specs.View.{actor_view}
+use Rattle.server_rules.specs.DeedResult.{deed_result}
 use Rattle.tenant_asks.specs.Acting.{actors_after}
 use Rattle.tenant_world.specs.Answers.{start_answer_view}
 use Rattle.tenant_world.proofs.Lent.{err-so, still-seated}

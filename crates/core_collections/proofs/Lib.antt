@@ -1,0 +1,2 @@
+pub mod SequenceValues
+pub mod MapValues

@@ -1,2 +1,0 @@
-pub mod Integers
-pub mod Values

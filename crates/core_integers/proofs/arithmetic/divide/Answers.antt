@@ -1,5 +1,0 @@
-use Rattle.core_integers.proofs.Integers.{can_divide_bits}
-use Rattle.core_integers.proofs.arithmetic.divide.Goals as goal
-
-pub returns : goal.returns
-returns c = can_divide_bits _ _ _ c.ranges.dividend c.ranges.divisor c.requires c.checked_div.ensures

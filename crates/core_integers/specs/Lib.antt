@@ -1,5 +1,0 @@
-pub mod Names
-pub mod Arithmetic
-pub mod Comparison
-pub mod Meaning
-pub mod Inside

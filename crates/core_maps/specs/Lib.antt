@@ -1,4 +1,0 @@
-pub mod Names
-pub mod Arguments
-pub mod Meaning
-pub mod Inside

@@ -1,0 +1,4 @@
+pub mod Quotients
+pub mod IntegerValues
+pub mod PredicateValues
+pub mod Shortness

@@ -1,0 +1,12 @@
+pub mod IntegerNames
+pub mod Arithmetic
+pub mod Comparison
+pub mod IntegerMeaning
+pub mod PredicateNames
+pub mod Kinds
+pub mod PredicateMeaning
+pub mod TextNames
+pub mod Limits
+pub mod Printing
+pub mod TextMeaning
+pub mod Inside

@@ -1,5 +1,0 @@
-pub mod Walking
-pub mod Turning
-pub mod Giving
-pub mod Alone
-pub mod Attempts

@@ -1,5 +1,0 @@
-use Rattle.machine_turns.proofs.Alone.{given-same}
-use Rattle.machine_turns.proofs.laws.alone_is_given_the_same.Goals as goal
-
-pub returns : goal.returns
-returns c = given-same

@@ -1,6 +1,0 @@
-pub mod AllWalks
-pub mod Driver
-pub mod Turns
-pub mod Driven
-pub mod Alone
-pub mod Attempts

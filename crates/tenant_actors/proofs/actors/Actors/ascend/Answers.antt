@@ -1,5 +1,0 @@
-use Rattle.tenant_actors.proofs.Finding.{ascend-from}
-use Rattle.tenant_actors.proofs.actors.Actors.ascend.Goals as goal
-
-pub returns : goal.returns
-returns c = ascend-from c.args.self.now.live.entries c.len-count.ensures.ordered

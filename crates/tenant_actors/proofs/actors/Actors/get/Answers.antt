@@ -1,9 +1,0 @@
-use Rattle.std.proofs.Common.{◌∙◌, ap, option_map}
-use Rattle.tenant_actors.specs.View.{actor_view}
-use Rattle.tenant_actors.proofs.Seats.{part_under-seen, behind-reference}
-use Rattle.tenant_actors.proofs.actors.Actors.get.Goals as goal
-
-pub returns : goal.returns
-returns c =
-    behind-reference c.get.result ∙ ap (option_map actor_view) c.get.ensures.value
-    ∙ part_under-seen c.args.actor c.args.self.now.live.entries

@@ -1,0 +1,11 @@
+pub mod EntryLaws
+pub mod Seats
+pub mod QueueLaws
+pub mod Listing
+pub mod Finding
+pub mod Calls
+pub mod Soundness
+pub mod Serving
+pub mod Numbers
+pub mod Told
+pub mod Points

@@ -1,0 +1,12 @@
+pub mod States
+pub mod Busy
+pub mod Listed
+pub mod View
+pub mod Queues
+pub mod Lent
+pub mod Replies
+pub mod Thrice
+pub mod Attempts
+pub mod Sound
+pub mod Serving
+pub mod Bounds

@@ -1,0 +1,24 @@
+//! The parts of a tenant: its actors, for each the requests that wait, and the one in hand; the
+//! replies that wait; what it asks of the table of refs, and the attempts of its transactions.
+#![tactic(auto)]
+
+mod actor;
+mod actors;
+mod attempts;
+mod batch;
+mod calling;
+mod outbox;
+mod queues;
+mod request;
+mod telling;
+mod thrice;
+
+pub use actor::ActorState;
+pub use actors::Actors;
+pub use attempts::Attempts;
+pub use batch::Batch;
+pub use calling::call;
+pub use outbox::Outbox;
+pub use request::{Hand, Manner, ProgramText, Run, Waiting};
+pub use telling::is_told;
+pub use thrice::Thrice;

@@ -1,4 +1,0 @@
-pub mod DeedResult
-pub mod Turns
-pub mod Grounds
-pub mod Inside
