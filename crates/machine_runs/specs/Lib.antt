@@ -6,3 +6,4 @@ pub mod Driven
 pub mod Alone
 pub mod Attempts
 pub mod Inside
+pub mod Streams

@@ -1,7 +1,7 @@
 // One stream, served by a server that was just made.
 ghost use Rattle.std.specs.Prelude.{◌≡◌, Result, Err};
 ghost use Rattle.server_rules.specs.Ground.{Ground};
-ghost use Rattle.server_rules.specs.Turns.{opened_lone};
+ghost use Rattle.server_rules.specs.LoneTurns.{opened_lone};
 ghost use Rattle.nrepl_pipe.specs.Failing.{TellsFailures};
 ghost use Rattle.nrepl_pipe.specs.Reads.{ReadsPromptly, HoldsNothingBack};
 ghost use Rattle.nrepl_pipe.specs.Served.{IsPipeOutcome};
@@ -9,9 +9,9 @@ ghost use Rattle.nrepl_pipe.specs.Status.{status_of};
 ghost use Rattle.nrepl_pipe.specs.declared.ends.PipeEnd.{PipeEnd};
 ghost use Rattle.nrepl_pipe.specs.declared.ends.PipeError.{PipeError};
 ghost use Rattle.repl_core.specs.Configured.{IsConfigured, TextFaults};
-ghost use Rattle.repl_values.specs.Failure.{Failure};
 ghost use Rattle.repl_values.specs.Inside.FaultView.{failure_of};
 ghost use Rattle.repl_values.specs.declared.fault.Fault.{Fault};
+ghost use Rattle.machine_runs.specs.Streams.{input, output, ServesStream};
 
 use crate::runner::Runner;
 use nrepl_pipe::{PipeEnd, PipeError, Sink, Source, exit_status, serve_stream};
@@ -67,18 +67,11 @@ pub fn pipe_command<R: Source, W: Sink, E: Write>(
     errors: &mut E,
 ) -> u8
     ensures { (outcome : Result PipeEnd PipeError) × (result ≡ status_of outcome)
-        × TellsFailures (R.failed reader.old) (R.failed reader.new)
-        (W.failed writer.old) (W.failed writer.new) outcome
-        × HoldsNothingBack (W.contents writer.old) (W.passed writer.old)
-        (W.contents writer.new) (W.passed writer.new) (R.reads reader.old) (R.reads reader.new)
-        outcome
-        × ((fault : Fault) → outcome ≡ Err (PipeError.SharedText fault)
-        → (failure : Failure) × TextFaults config failure)
-        × ((g : Ground) → IsConfigured g config → IsPipeOutcome g (opened_lone g)
-        (R.remaining reader.old) (R.remaining reader.new)
-        (W.contents writer.old) (W.contents writer.new) outcome
-        × ReadsPromptly g (opened_lone g) (R.remaining reader.old) (W.contents writer.old)
-        (R.reads reader.old) (R.reads reader.new)) }
+        × ServesStream config
+        (input (R.remaining reader.old) (R.failed reader.old) (R.reads reader.old))
+        (input (R.remaining reader.new) (R.failed reader.new) (R.reads reader.new))
+        (output (W.contents writer.old) (W.passed writer.old) (W.failed writer.old))
+        (output (W.contents writer.new) (W.passed writer.new) (W.failed writer.new)) outcome }
 {
     let outcome = pipe(alloc, config, reader, writer);
     exit_status(outcome, errors)

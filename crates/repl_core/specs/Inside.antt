@@ -4,3 +4,4 @@ pub mod WalkAt
 pub mod Walked
 pub mod Seen
 pub mod Standing
+pub mod Promises

@@ -15,4 +15,5 @@ pub mod DosyncSettings
 pub mod AttemptsInRuns
 pub mod SharedBounds
 pub mod Grounds
+pub mod Promises
 pub mod Inside

@@ -1,14 +1,13 @@
 // What tenants do.
-ghost use Rattle.std.specs.Prelude.{◌≡◌, ◌≢◌, ◌+◌, ◌<◌, ◌∷◌, [], true, Err, IfOk, IfErr};
-ghost use Rattle.std.specs.Prelude.{OnOk, OnErr};
+ghost use Rattle.std.specs.Prelude.{◌≡◌, ◌≢◌, ◌+◌, ◌<◌, ◌∷◌, [], true, Err, IfOk, OnOk, OnErr};
 ghost use Rattle.repl_asks.specs.Inside.View.{ask_view};
 ghost use Rattle.server_rules.specs.Ground.{Ground};
-ghost use Rattle.server_rules.specs.Plan as deeds;
+ghost use Rattle.server_rules.specs.Plan.{hears, starts, asks_for, ends, drains};
 ghost use Rattle.server_rules.specs.Plan.{messages_heard, reply_given};
 ghost use Rattle.server_rules.specs.Machine.World.{World, does, step};
 ghost use Rattle.ref_table.specs.Standing.{counter_of};
 ghost use Rattle.server_rules.specs.Grounds.{IsRight};
-ghost use Rattle.repl_walker.specs.Ends as endings;
+ghost use Rattle.repl_walker.specs.Ends.{ending_view};
 ghost use Rattle.tenant_world.specs.Answers.{AreSameStarts, AreSameReplies};
 ghost use Rattle.tenant_asks.specs.Answers.{AreSameAnswers, ask_answer_view};
 ghost use Rattle.tenant_world.specs.Answers.{start_answer_view, end_answer_view};
@@ -26,18 +25,15 @@ use tenant_world::{AskAnswers, EndAnswer, Replies, StartAnswers};
 impl Machine {
     ghost use Rattle.repl_core.specs.Left.{left_at};
     ghost use Rattle.repl_core.specs.Standing.{MachineStands};
-    ghost use Rattle.repl_core.specs.Steps.{AcceptsStep, RefusesStep, is_accepted_step};
+    ghost use Rattle.repl_core.specs.Steps.{is_accepted_step};
+    ghost use Rattle.repl_core.specs.Promises.{DoesStep, DeclinesStep, StepLacksMemory};
 
     /// A tenant hears a piece of its stream.
     pub fn hear(&mut self, number: u64, piece: &Bytes) -> Result<usize, Refusal>
-        ensures done { (g : Ground) (w : World) → IsRight g → MachineStands g self.old w
-            → IfOk result (λ x. AcceptsStep g w (does number (deeds.hears piece.now)) self.new
-            (messages_heard x)) }
-        ensures refused { (g : Ground) (w : World) → IsRight g → MachineStands g self.old w
-            → IfErr result (RefusesStep g w (does number (deeds.hears piece.now)) self.new) }
-        ensures no_memory { (g : Ground) (w : World) → IsRight g → MachineStands g self.old w
-            → result ≡ Err Refusal.NoMemory
-            → is_accepted_step (step g w (does number (deeds.hears piece.now))) ≡ true }
+        ensures done { DoesStep (does number (hears piece.now)) self.old self.new result
+            messages_heard }
+        ensures refused { DeclinesStep (does number (hears piece.now)) self.old self.new result }
+        ensures no_memory { StepLacksMemory (does number (hears piece.now)) self.old result }
         ensures steps { OnOk result
             ((left_at number self.old).steps ≡ (left_at number self.new).steps + 1) }
         ensures kept { OnErr result
@@ -51,15 +47,11 @@ impl Machine {
 
     /// An actor begins its next form, or takes up its next request.
     pub(crate) fn start(&mut self, number: u64, actor: Actor) -> Result<StartAnswers, Refusal>
-        ensures done { (g : Ground) (w : World) → IsRight g → MachineStands g self.old w
-            → IfOk result (λ x. AcceptsStep g w (does number (deeds.starts actor)) self.new
-            (start_answer_view x.given)) }
-        ensures refused { (g : Ground) (w : World) → IsRight g → MachineStands g self.old w
-            → IfErr result (RefusesStep g w (does number (deeds.starts actor)) self.new) }
+        ensures done { DoesStep (does number (starts actor)) self.old self.new result
+            (λ it. start_answer_view it.given) }
+        ensures refused { DeclinesStep (does number (starts actor)) self.old self.new result }
         ensures same { IfOk result AreSameStarts }
-        ensures no_memory { (g : Ground) (w : World) → IsRight g → MachineStands g self.old w
-            → result ≡ Err Refusal.NoMemory
-            → is_accepted_step (step g w (does number (deeds.starts actor))) ≡ true }
+        ensures no_memory { StepLacksMemory (does number (starts actor)) self.old result }
     {
         let Some(tenant) = self.tenants.get_mut(number) else {
             return Err(Refusal::NoSuchTenant);
@@ -74,18 +66,15 @@ impl Machine {
         actor: Actor,
         ask: &Ask,
     ) -> Result<AskAnswers, Refusal>
-        ensures done { (g : Ground) (w : World) → IsRight g → MachineStands g self.old w
-            → IfOk result (λ x. AcceptsStep g w
-            (does number (deeds.asks_for actor (ask_view ask.now))) self.new
-            (ask_answer_view x.given)) }
-        ensures refused { (g : Ground) (w : World) → IsRight g → MachineStands g self.old w
-            → IfErr result (RefusesStep g w
-            (does number (deeds.asks_for actor (ask_view ask.now))) self.new) }
+        ensures done { DoesStep (does number (asks_for actor (ask_view ask.now))) self.old
+            self.new result (λ it. ask_answer_view it.given) }
+        ensures refused { DeclinesStep (does number (asks_for actor (ask_view ask.now))) self.old
+            self.new result }
         ensures same { IfOk result AreSameAnswers }
         ensures no_memory { (g : Ground) (w : World) → IsRight g → MachineStands g self.old w
             → counter_of self.old.refs < u128.MAX → result ≡ Err Refusal.NoMemory
             → is_accepted_step
-            (step g w (does number (deeds.asks_for actor (ask_view ask.now)))) ≡ true }
+            (step g w (does number (asks_for actor (ask_view ask.now)))) ≡ true }
     {
         if !has_stamps(&self.refs) {
             return Err(Refusal::NoMemory);
@@ -103,16 +92,12 @@ impl Machine {
         actor: Actor,
         ending: &Ending,
     ) -> Result<EndAnswer, Refusal>
-        ensures done { (g : Ground) (w : World) → IsRight g → MachineStands g self.old w
-            → IfOk result (λ x. AcceptsStep g w
-            (does number (deeds.ends actor (endings.ending_view ending.now))) self.new
-            (end_answer_view x)) }
-        ensures refused { (g : Ground) (w : World) → IsRight g → MachineStands g self.old w
-            → IfErr result (RefusesStep g w
-            (does number (deeds.ends actor (endings.ending_view ending.now))) self.new) }
-        ensures no_memory { (g : Ground) (w : World) → IsRight g → MachineStands g self.old w
-            → result ≡ Err Refusal.NoMemory → is_accepted_step
-            (step g w (does number (deeds.ends actor (endings.ending_view ending.now)))) ≡ true }
+        ensures done { DoesStep (does number (ends actor (ending_view ending.now))) self.old
+            self.new result end_answer_view }
+        ensures refused { DeclinesStep (does number (ends actor (ending_view ending.now)))
+            self.old self.new result }
+        ensures no_memory { StepLacksMemory (does number (ends actor (ending_view ending.now)))
+            self.old result }
     {
         let Some(tenant) = self.tenants.get_mut(number) else {
             return Err(Refusal::NoSuchTenant);
@@ -127,15 +112,11 @@ impl Machine {
 
     /// A tenant's oldest reply is taken out, and the same once more.
     pub(crate) fn drain_copied(&mut self, number: u64) -> Result<Replies, Refusal>
-        ensures done { (g : Ground) (w : World) → IsRight g → MachineStands g self.old w
-            → IfOk result (λ x. AcceptsStep g w (does number deeds.drains) self.new
-            (reply_given x.given.items)) }
-        ensures refused { (g : Ground) (w : World) → IsRight g → MachineStands g self.old w
-            → IfErr result (RefusesStep g w (does number deeds.drains) self.new) }
+        ensures done { DoesStep (does number drains) self.old self.new result
+            (λ it. reply_given it.given.items) }
+        ensures refused { DeclinesStep (does number drains) self.old self.new result }
         ensures same { IfOk result AreSameReplies }
-        ensures no_memory { (g : Ground) (w : World) → IsRight g → MachineStands g self.old w
-            → result ≡ Err Refusal.NoMemory
-            → is_accepted_step (step g w (does number deeds.drains)) ≡ true }
+        ensures no_memory { StepLacksMemory (does number drains) self.old result }
     {
         let Some(tenant) = self.tenants.get_mut(number) else {
             return Err(Refusal::NoSuchTenant);
@@ -148,11 +129,9 @@ impl Machine {
 
     /// A tenant's oldest reply is taken out. It takes no memory.
     pub fn drain(&mut self, number: u64) -> Result<Vec<u8>, Refusal>
-        ensures done { (g : Ground) (w : World) → IsRight g → MachineStands g self.old w
-            → IfOk result (λ x. AcceptsStep g w (does number deeds.drains) self.new
-            (reply_given x.items)) }
-        ensures refused { (g : Ground) (w : World) → IsRight g → MachineStands g self.old w
-            → IfErr result (RefusesStep g w (does number deeds.drains) self.new) }
+        ensures done { DoesStep (does number drains) self.old self.new result
+            (λ reply. reply_given reply.items) }
+        ensures refused { DeclinesStep (does number drains) self.old self.new result }
         ensures steps { (left_at number self.new).steps ≡ (left_at number self.old).steps }
         ensures oldest { IfOk result (λ reply. (left_at number self.old).outbox
             ≡ reply.items ∷ (left_at number self.new).outbox) }

@@ -1,15 +1,7 @@
 // An actor goes on as its evaluation says.
-ghost use Rattle.std.specs.Prelude.{◌≡◌, ◌+◌, ◌<◌, true, Err, OnOk, IfErr, OnErr, length};
-ghost use Rattle.server_rules.specs.Ground.{Ground};
-ghost use Rattle.server_rules.specs.Machine.Turns.{goes, step_of, turn_step};
-ghost use Rattle.server_rules.specs.Machine.World.{World};
+ghost use Rattle.std.specs.Prelude.{◌≡◌, ◌+◌, ◌<◌, Err, OnOk, OnErr, length};
 ghost use Rattle.ref_table.specs.Standing.{counter_of};
-ghost use Rattle.server_rules.specs.Grounds.{IsRight};
-ghost use Rattle.repl_core.specs.Grounds.{Evaluates};
 ghost use Rattle.repl_core.specs.Inside.Seen.{is_kept};
-ghost use Rattle.repl_core.specs.Standing.{open_in};
-ghost use Rattle.repl_core.specs.Going.{AreWalkedIn, is_seen_step};
-ghost use Rattle.repl_core.specs.Steps.{is_accepted_step};
 
 use crate::deeds::has_stamps;
 use crate::machine::Machine;
@@ -18,28 +10,16 @@ use server_rules::{Actor, Refusal};
 
 impl Machine {
     ghost use Rattle.repl_core.specs.Left.{left_at};
-    ghost use Rattle.repl_core.specs.Standing.{MachineStands};
-    ghost use Rattle.repl_core.specs.Going.{AcceptsHonestStep, RefusesHonestStep};
+    ghost use Rattle.repl_core.specs.Promises.{GoesOn, DeclinesToGo, GoingLacksMemory};
 
     /// Makes the honest step of an actor: begins a form, or asks what its evaluation asks, or ends
     /// it as that ends. The evaluations of the tenant's forms are lent, and go on. A step that is
     /// refused changes nothing.
     pub fn go(&mut self, number: u64, actor: Actor, walks: &mut Walks) -> Result<(), Refusal>
-        ensures done { (g : Ground) (w : World) → IsRight g → Evaluates g
-            → MachineStands g self.old w
-            → AreWalkedIn walks.old (open_in number w)
-            → OnOk result (AcceptsHonestStep g w number actor self.new walks.new) }
-        ensures refused { (g : Ground) (w : World) → IsRight g → Evaluates g
-            → MachineStands g self.old w
-            → AreWalkedIn walks.old (open_in number w)
-            → IfErr result (RefusesHonestStep g w number actor self.new walks.new) }
-        ensures no_memory { (g : Ground) (w : World) → IsRight g → Evaluates g
-            → MachineStands g self.old w
-            → AreWalkedIn walks.old (open_in number w)
-            → counter_of self.old.refs < u128.MAX → result ≡ Err Refusal.NoMemory
-            → is_seen_step (is_kept walks.old walks.new actor) (step_of g w (goes number actor))
-            ≡ true
-            → is_accepted_step (turn_step g w (goes number actor)) ≡ true }
+        ensures done { GoesOn number actor self.old walks.old self.new walks.new result }
+        ensures refused { DeclinesToGo number actor self.old walks.old self.new walks.new result }
+        ensures no_memory { GoingLacksMemory number actor self.old walks.old
+            (counter_of self.old.refs < u128.MAX) (is_kept walks.old walks.new actor) result }
         ensures unworn { counter_of self.old.refs < u128.MAX → result ≡ Err Refusal.NoMemory
             → 0 < (left_at number self.old).steps }
         ensures steps { OnOk result

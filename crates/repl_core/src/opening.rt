@@ -1,8 +1,8 @@
 // Tenants come and go.
-ghost use Rattle.std.specs.Prelude.{◌≡◌, ◌≢◌, true, Err, OnOk, IfErr};
+ghost use Rattle.std.specs.Prelude.{◌≡◌, ◌≢◌, Err, OnOk, IfErr};
 ghost use Rattle.server_rules.specs.Ground.{Ground};
 ghost use Rattle.server_rules.specs.Plan.{tenant_opened, tenant_gone};
-ghost use Rattle.server_rules.specs.Machine.World.{World, opens, closes, step};
+ghost use Rattle.server_rules.specs.Machine.World.{World, opens, closes};
 ghost use Rattle.server_rules.specs.Grounds.{IsRight};
 ghost use Rattle.repl_core.specs.Standing.{is_reached};
 
@@ -12,16 +12,15 @@ use tenant_world::Tenant;
 
 impl Machine {
     ghost use Rattle.repl_core.specs.Standing.{MachineStands};
-    ghost use Rattle.repl_core.specs.Steps.{AcceptsStep, RefusesStep, is_accepted_step};
+    ghost use Rattle.repl_core.specs.Steps.{AcceptsStep, RefusesStep};
+    ghost use Rattle.repl_core.specs.Promises.{DeclinesStep, StepLacksMemory};
 
     /// A tenant comes.
     pub fn open(&mut self, number: u64) -> Result<(), Refusal>
         ensures done { (g : Ground) (w : World) → IsRight g → MachineStands g self.old w
             → OnOk result (AcceptsStep g w (opens number) self.new tenant_opened) }
-        ensures refused { (g : Ground) (w : World) → IsRight g → MachineStands g self.old w
-            → IfErr result (RefusesStep g w (opens number) self.new) }
-        ensures no_memory { (g : Ground) (w : World) → IsRight g → MachineStands g self.old w
-            → result ≡ Err Refusal.NoMemory → is_accepted_step (step g w (opens number)) ≡ true }
+        ensures refused { DeclinesStep (opens number) self.old self.new result }
+        ensures no_memory { StepLacksMemory (opens number) self.old result }
     {
         if self.is_reached(number) {
             return Err(Refusal::NumberUsed);

@@ -19,13 +19,13 @@ use tenant_world::{AskAnswer, AskAnswers, EndAnswer, Replies, StartAnswer, Start
 impl Machine {
     ghost use Rattle.repl_core.specs.Standing.{MachineStands};
     ghost use Rattle.repl_core.specs.Points.{IsReadOfItsPoint};
-    ghost use Rattle.repl_core.specs.Steps.{AcceptsStep, RefusesStep, is_accepted_step};
+    ghost use Rattle.repl_core.specs.Steps.{RefusesStep, is_accepted_step};
+    ghost use Rattle.repl_core.specs.Promises.{DoesStep, DeclinesStep};
 
     /// Makes a step. A step that is refused changes nothing, and is given back. In an attempt the
     /// answer to a read is what the ref held at the attempt's read point, or to read again.
     pub fn step(&mut self, step: Step) -> Result<StepAnswer, Refused>
-        ensures done { (g : Ground) (w : World) → IsRight g → MachineStands g self.old w
-            → IfOk result (λ x. AcceptsStep g w (step_view step) self.new (step_answer_view x)) }
+        ensures done { DoesStep (step_view step) self.old self.new result step_answer_view }
         ensures refused { (g : Ground) (w : World) → IsRight g → MachineStands g self.old w
             → IfErr result (λ it. RefusesStep g w (step_view step) self.new it.why) }
         ensures no_memory { (g : Ground) (w : World) → IsRight g → MachineStands g self.old w
@@ -41,8 +41,8 @@ impl Machine {
 
     /// The same, with its answer twice.
     pub fn step_copied(&mut self, step: Step) -> Result<StepAnswers, Refused>
-        ensures done { (g : Ground) (w : World) → IsRight g → MachineStands g self.old w
-            → IfOk result (λ x. AcceptsStep g w (step_view step) self.new (step_answer_view x.given)) }
+        ensures done { DoesStep (step_view step) self.old self.new result
+            (λ it. step_answer_view it.given) }
         ensures refused { (g : Ground) (w : World) → IsRight g → MachineStands g self.old w
             → IfErr result (λ it. RefusesStep g w (step_view step) self.new it.why) }
         ensures no_memory { (g : Ground) (w : World) → IsRight g → MachineStands g self.old w
@@ -60,11 +60,9 @@ impl Machine {
 
     /// Makes a step that is lent, and answers twice. A step that is refused changes nothing.
     pub fn make(&mut self, step: &Step) -> Result<StepAnswers, Refusal>
-        ensures done { (g : Ground) (w : World) → IsRight g → MachineStands g self.old w
-            → IfOk result (λ x. AcceptsStep g w (step_view step.now) self.new
-            (step_answer_view x.given)) }
-        ensures refused { (g : Ground) (w : World) → IsRight g → MachineStands g self.old w
-            → IfErr result (RefusesStep g w (step_view step.now) self.new) }
+        ensures done { DoesStep (step_view step.now) self.old self.new result
+            (λ it. step_answer_view it.given) }
+        ensures refused { DeclinesStep (step_view step.now) self.old self.new result }
         ensures no_memory { (g : Ground) (w : World) → IsRight g → MachineStands g self.old w
             → counter_of self.old.refs < u128.MAX
             → IfErr result (λ why. why ≡ Refusal.NoMemory

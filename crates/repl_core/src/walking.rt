@@ -6,16 +6,15 @@ ghost use Rattle.server_rules.specs.Ground.{Ground};
 ghost use Rattle.server_rules.specs.Tenant.{seat_of};
 ghost use Rattle.server_rules.specs.Plan as deeds;
 ghost use Rattle.server_rules.specs.Request as rules;
-ghost use Rattle.server_rules.specs.Honest.{honest_deed};
 ghost use Rattle.ref_table.specs.Refs.{Refs};
 ghost use Rattle.ref_table.specs.Standing.{counter_of};
 ghost use Rattle.server_rules.specs.Grounds.{IsRight};
-ghost use Rattle.server_rules.specs.Turns.{Lone};
+ghost use Rattle.server_rules.specs.LoneTurns.{Lone};
 ghost use Rattle.tenant_asks.specs.Acting.{is_accepted};
 ghost use Rattle.tenant_asks.specs.Asking.{exchange_from, run_with};
 ghost use Rattle.tenant_world.specs.Running.{running_in};
 ghost use Rattle.tenant_world.specs.Standing.{CountsStep};
-ghost use Rattle.repl_core.specs.Inside.Seen.{is_kept, is_seen};
+ghost use Rattle.repl_core.specs.Inside.Seen.{is_kept};
 ghost use Rattle.repl_core.specs.Inside.Walked.{IsWalkOf, ending_of};
 ghost use Rattle.repl_core.specs.Inside.WalkAt.{walk_at, IsAsking, IsEnded};
 ghost use Rattle.repl_walker.specs.declared.waiting.Walk.{Walk};
@@ -33,6 +32,7 @@ use tenant_world::{AskAnswer, Tenant};
 impl Walks {
     ghost use Rattle.repl_core.specs.Inside.Standing.{parts, PartsStand, AcceptsHonestDeed};
     ghost use Rattle.repl_core.specs.Inside.Standing.{RefusesHonestDeed, comes_to};
+    ghost use Rattle.repl_core.specs.Inside.Promises.{DoesNext, DeclinesNext, NextLacksMemory};
 
     /// Does what is next for an actor of the tenant whose evaluations these are: begins a form,
     /// answers one ask of it or ends it. What a form asks of refs is asked of this table.
@@ -43,20 +43,12 @@ impl Walks {
         actor: Actor,
     ) -> Result<(), Refusal>
         requires { counter_of refs.old < u128.MAX }
-        ensures done { (g : Ground) (l : Lone) (r : Refs) → IsRight g
-            → PartsStand g (parts tenant.old refs.old self.old) l r → OnOk result
-            (AcceptsHonestDeed g l r (honest_deed g actor (Some (Some l.quiet)))
-            (parts tenant.new refs.new self.new)) }
-        ensures refused { (g : Ground) (l : Lone) (r : Refs) → IsRight g
-            → PartsStand g (parts tenant.old refs.old self.old) l r → IfErr result
-            (RefusesHonestDeed g l r (honest_deed g actor (Some (Some l.quiet)))
-            (parts tenant.new refs.new self.new)) }
-        ensures no_memory { (g : Ground) (l : Lone) (r : Refs) → IsRight g
-            → PartsStand g (parts tenant.old refs.old self.old) l r
-            → result ≡ Err Refusal.NoMemory
-            → let d = honest_deed g actor (Some (Some l.quiet)) in
-            is_seen (is_kept self.old self.new actor) d ≡ true
-            → is_accepted (comes_to g l d).outcome ≡ true }
+        ensures done { DoesNext actor (parts tenant.old refs.old self.old)
+            (parts tenant.new refs.new self.new) result }
+        ensures refused { DeclinesNext actor (parts tenant.old refs.old self.old)
+            (parts tenant.new refs.new self.new) result }
+        ensures no_memory { NextLacksMemory actor (parts tenant.old refs.old self.old)
+            (is_kept self.old self.new actor) result }
         ensures unworn { result ≡ Err Refusal.NoMemory → 0 < tenant.old.steps }
         ensures counted { CountsStep tenant.old tenant.new result }
         ensures counter { counter_of refs.new ≤ counter_of refs.old + 1 }

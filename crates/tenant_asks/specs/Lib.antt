@@ -5,3 +5,4 @@ pub mod Acting
 pub mod Rooms
 pub mod Sends
 pub mod Asking
+pub mod Promises

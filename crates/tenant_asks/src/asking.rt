@@ -12,7 +12,7 @@ ghost use Rattle.server_rules.specs.Replying.{reply};
 ghost use Rattle.server_rules.specs.Calls.{performed};
 ghost use Rattle.server_rules.specs.Cells.{with_sends_if, must_wait};
 ghost use Rattle.server_rules.specs.Store.{Store, left_attempt};
-ghost use Rattle.server_rules.specs.Asking.{asked_of, call_of, sender_of, session_of};
+ghost use Rattle.server_rules.specs.Asking.{call_of, sender_of, session_of};
 ghost use Rattle.server_rules.specs.Asking as meant;
 ghost use Rattle.ref_table.specs.Refs.{Refs, refs_after};
 ghost use Rattle.ref_table.specs.Standing.{counter_of};
@@ -26,6 +26,7 @@ ghost use Rattle.tenant_asks.specs.Asking.{Answers, answered_plan, is_of_names};
 ghost use Rattle.tenant_asks.specs.Asking.{is_of_cells, why_waiting};
 ghost use Rattle.tenant_asks.specs.Sends.{committed_sends, is_told_yes, sender_view};
 ghost use Rattle.tenant_asks.specs.Cells.{cells_data};
+ghost use Rattle.tenant_asks.specs.Promises.{AcceptsAsk, RefusesAsk, LacksMemory, site};
 ghost use Rattle.tenant_asks.specs.Rooms.{ActorHasRoom};
 ghost use Rattle.tenant_parts.specs.Serving.{PerformsCall, ServesWithAttempts};
 ghost use Rattle.tenant_parts.specs.Thrice.{thrice_view, told_answer, AreThrice};
@@ -61,23 +62,15 @@ pub fn ask(
     ask: &Ask,
 ) -> Result<AskAnswers, Refusal>
     requires { counter_of refs.old < u128.MAX }
-    ensures acted { (g : Ground) (q : Quiet) (s : Store) (r : Refs)
-        → Remembers g s.tenant memory.old q → ServesWithAttempts refs.old attempts.old s r
-        → let d = carried_out s (asked_of g actor (actor_view state.old) (ask_view ask.now) q
-        (actor_view state.old).hand) in IfOk result (λ x.
-        AcceptsOutcome g s.tenant actor q d.outcome memory.new (actor_view state.new)
-        (ask_answer_view x.given)
-        × ServesWithAttempts refs.new attempts.new d.store (refs_after d.store r)) }
-    ensures declined { (g : Ground) (q : Quiet) (s : Store) (r : Refs)
-        → Remembers g s.tenant memory.old q → ServesWithAttempts refs.old attempts.old s r
-        → let d = carried_out s (asked_of g actor (actor_view state.old) (ask_view ask.now) q
-        (actor_view state.old).hand) in IfErr result (λ why.
-        RefusesOutcome g s.tenant q d.outcome memory.new why
-        × ServesWithAttempts refs.new attempts.new s r) }
-    ensures no_memory { (g : Ground) (q : Quiet) (s : Store) (r : Refs)
-        → Remembers g s.tenant memory.old q → ServesWithAttempts refs.old attempts.old s r
-        → result ≡ Err Refusal.NoMemory → is_accepted (carried_out s (asked_of g actor
-        (actor_view state.old) (ask_view ask.now) q (actor_view state.old).hand)).outcome ≡ true }
+    ensures acted { AcceptsAsk actor (ask_view ask.now)
+        (site memory.old refs.old attempts.old (actor_view state.old))
+        (site memory.new refs.new attempts.new (actor_view state.new))
+        result (λ it. ask_answer_view it.given) }
+    ensures declined { RefusesAsk actor (ask_view ask.now)
+        (site memory.old refs.old attempts.old (actor_view state.old))
+        (site memory.new refs.new attempts.new (actor_view state.new)) result }
+    ensures no_memory { LacksMemory actor (ask_view ask.now)
+        (site memory.old refs.old attempts.old (actor_view state.old)) result }
     ensures same { IfOk result AreSameAnswers }
     ensures step { IsActorStep memory.old memory.new (actor_view state.old) (actor_view state.new)
         result }

@@ -5,4 +5,5 @@ pub mod Lending
 pub mod Comparing
 pub mod Running
 pub mod Standing
+pub mod Promises
 pub mod Actions

@@ -1,13 +1,6 @@
 // A tenant hears a piece of its stream.
-ghost use Rattle.std.specs.Prelude.{◌≡◌, ◌+◌, true, Err, IfOk, OnOk, IfErr, OnErr};
-ghost use Rattle.server_rules.specs.Ground.{Ground};
-ghost use Rattle.server_rules.specs.Tenant.{Quiet};
-ghost use Rattle.server_rules.specs.Plan as deeds;
-ghost use Rattle.server_rules.specs.Store.{Store};
-ghost use Rattle.server_rules.specs.Plan.{messages_heard};
-ghost use Rattle.server_rules.specs.Grounds.{IsRight};
-ghost use Rattle.server_rules.specs.DeedResult.{deed_result};
-ghost use Rattle.tenant_asks.specs.Acting.{is_accepted};
+ghost use Rattle.std.specs.Prelude.{◌≡◌, ◌+◌, OnOk, OnErr};
+ghost use Rattle.server_rules.specs.Plan.{hears, messages_heard};
 
 use crate::tenant::Tenant;
 use bencode_wire::laws::a_stream_has_one_reading;
@@ -16,23 +9,14 @@ use server_rules::Refusal;
 use tenant_moves::hear;
 
 impl Tenant {
-    ghost use Rattle.tenant_world.specs.Standing.{QuietStands, AcceptsDeed, RefusesDeed};
+    ghost use Rattle.tenant_world.specs.Promises.{Does, Declines, LacksMemory};
 
     /// Hears the next piece of the stream, and answers how many messages became whole with it.
     /// Sessions are made, closed, listed and described at once; requests to evaluate wait.
     pub fn hear(&mut self, piece: &Bytes) -> Result<usize, Refusal>
-        ensures done { (g : Ground) (q : Quiet) (s : Store) → IsRight g
-            → QuietStands g self.old q s
-            → IfOk result (λ count. AcceptsDeed g
-            (deed_result g s q (deeds.hears piece.now)) self.new
-            (messages_heard count)) }
-        ensures refused { (g : Ground) (q : Quiet) (s : Store) → IsRight g
-            → QuietStands g self.old q s
-            → IfErr result (RefusesDeed g q s
-            (deed_result g s q (deeds.hears piece.now)) self.new) }
-        ensures no_memory { (g : Ground) (q : Quiet) (s : Store) → IsRight g
-            → QuietStands g self.old q s → result ≡ Err Refusal.NoMemory
-            → is_accepted (deed_result g s q (deeds.hears piece.now)).outcome ≡ true }
+        ensures done { Does (hears piece.now) self.old self.new result messages_heard }
+        ensures refused { Declines (hears piece.now) self.old self.new result }
+        ensures no_memory { LacksMemory (hears piece.now) self.old result }
         ensures steps { OnOk result (self.old.steps ≡ self.new.steps + 1) }
         ensures kept { OnErr result (self.new.steps ≡ self.old.steps) }
     {

@@ -1,25 +1,18 @@
 // The steps of a tenant's actors.
-ghost use Rattle.std.specs.Prelude.{◌≡◌, ◌+◌, ◌<◌, ◌≤◌, true, Err, IfOk, IfErr, OnErr};
+ghost use Rattle.std.specs.Prelude.{◌≡◌, ◌+◌, ◌<◌, ◌≤◌, IfOk, OnErr};
 ghost use Rattle.repl_asks.specs.Inside.View.{ask_view};
 ghost use Rattle.repl_asks.specs.Inside.Jobs.{finished_view};
 ghost use Rattle.server_rules.specs.Ground.{Ground};
 ghost use Rattle.server_rules.specs.Store.{Store};
 ghost use Rattle.server_rules.specs.Tenant.{ActorData, Quiet};
-ghost use Rattle.server_rules.specs.Plan as deeds;
-ghost use Rattle.server_rules.specs.Plan.{with_step_spent};
-ghost use Rattle.repl_asks.specs.Job.{EndingData};
-ghost use Rattle.ref_table.specs.Refs.{Refs, refs_after};
+ghost use Rattle.server_rules.specs.Plan.{starts, ends, with_step_spent};
 ghost use Rattle.ref_table.specs.Standing.{counter_of};
-ghost use Rattle.server_rules.specs.DeedResult.{deed_result};
-ghost use Rattle.server_rules.specs.Grounds.{IsRight};
 ghost use Rattle.tenant_world.specs.Answers.{start_answer_view, end_answer_view};
 ghost use Rattle.tenant_asks.specs.Answers.{ask_answer_view, AreSameAnswers};
 ghost use Rattle.tenant_world.specs.Answers.{told_ending, AreSameStarts};
-ghost use Rattle.tenant_asks.specs.Acting.{actors_after, is_accepted};
+ghost use Rattle.tenant_asks.specs.Acting.{actors_after};
 ghost use Rattle.tenant_parts.specs.Attempts.{Reaches};
 ghost use Rattle.tenant_asks.specs.Memories.{Remembers};
-ghost use Rattle.tenant_world.specs.Running.{IsEndOfForm, running_in};
-ghost use Rattle.tenant_parts.specs.Serving.{TableServes};
 
 use crate::answers::{EndAnswer, Ending, StartAnswer, StartAnswers};
 use crate::ending::{end, finish};
@@ -33,22 +26,16 @@ use server_rules::{Actor, Refusal};
 use tenant_asks::{AskAnswer, AskAnswers, ask};
 
 impl Tenant {
-    ghost use Rattle.tenant_world.specs.Standing.{QuietStands, Lends, RefusesDeed};
-    ghost use Rattle.tenant_world.specs.Standing.{CountsStep, AcceptsDeedBy};
+    ghost use Rattle.tenant_world.specs.Standing.{QuietStands, Lends, CountsStep};
+    ghost use Rattle.tenant_world.specs.Promises.{DoesBy, Declines, LacksMemory};
+    ghost use Rattle.tenant_world.specs.Promises.{DoesAsk, DeclinesAsk, AskLacksMemory};
+    ghost use Rattle.tenant_world.specs.Promises.{DoesEnd, DeclinesEnd, EndLacksMemory};
 
     /// The actor begins its next form, or takes up its next request.
     pub fn start(&mut self, actor: Actor) -> Result<StartAnswer, Refusal>
-        ensures done { (g : Ground) (q : Quiet) (s : Store) → IsRight g
-            → QuietStands g self.old q s
-            → IfOk result (λ x. AcceptsDeedBy g actor q
-            (deed_result g s q (deeds.starts actor)) self.new
-            (start_answer_view x)) }
-        ensures refused { (g : Ground) (q : Quiet) (s : Store) → IsRight g
-            → QuietStands g self.old q s
-            → IfErr result (RefusesDeed g q s (deed_result g s q (deeds.starts actor)) self.new) }
-        ensures no_memory { (g : Ground) (q : Quiet) (s : Store) → IsRight g
-            → QuietStands g self.old q s → result ≡ Err Refusal.NoMemory
-            → is_accepted (deed_result g s q (deeds.starts actor)).outcome ≡ true }
+        ensures done { DoesBy actor (starts actor) self.old self.new result start_answer_view }
+        ensures refused { Declines (starts actor) self.old self.new result }
+        ensures no_memory { LacksMemory (starts actor) self.old result }
         ensures counted { CountsStep self.old self.new result }
     {
         Ok(self.start_copied(actor)?.given)
@@ -56,17 +43,10 @@ impl Tenant {
 
     /// The same, with its answer twice.
     pub fn start_copied(&mut self, actor: Actor) -> Result<StartAnswers, Refusal>
-        ensures done { (g : Ground) (q : Quiet) (s : Store) → IsRight g
-            → QuietStands g self.old q s
-            → IfOk result (λ x. AcceptsDeedBy g actor q
-            (deed_result g s q (deeds.starts actor)) self.new
-            (start_answer_view x.given)) }
-        ensures refused { (g : Ground) (q : Quiet) (s : Store) → IsRight g
-            → QuietStands g self.old q s
-            → IfErr result (RefusesDeed g q s (deed_result g s q (deeds.starts actor)) self.new) }
-        ensures no_memory { (g : Ground) (q : Quiet) (s : Store) → IsRight g
-            → QuietStands g self.old q s → result ≡ Err Refusal.NoMemory
-            → is_accepted (deed_result g s q (deeds.starts actor)).outcome ≡ true }
+        ensures done { DoesBy actor (starts actor) self.old self.new result
+            (λ it. start_answer_view it.given) }
+        ensures refused { Declines (starts actor) self.old self.new result }
+        ensures no_memory { LacksMemory (starts actor) self.old result }
         ensures same { IfOk result AreSameStarts }
         ensures counted { CountsStep self.old self.new result }
     {
@@ -85,20 +65,11 @@ impl Tenant {
         asked: &Ask,
     ) -> Result<AskAnswer, Refusal>
         requires { counter_of refs.old < u128.MAX }
-        ensures done { (g : Ground) (q : Quiet) (s : Store) (r : Refs) → IsRight g
-            → QuietStands g self.old q s → TableServes refs.old s r
-            → let d = deed_result g s q (deeds.asks_for actor (ask_view asked.now)) in
-            IfOk result (λ x. AcceptsDeedBy g actor q d self.new (ask_answer_view x)
-            × TableServes refs.new d.store (refs_after d.store r)) }
-        ensures refused { (g : Ground) (q : Quiet) (s : Store) (r : Refs) → IsRight g
-            → QuietStands g self.old q s → TableServes refs.old s r
-            → let d = deed_result g s q (deeds.asks_for actor (ask_view asked.now)) in
-            IfErr result (λ why. RefusesDeed g q s d self.new why × TableServes refs.new s r) }
-        ensures no_memory { (g : Ground) (q : Quiet) (s : Store) (r : Refs)
-            → QuietStands g self.old q s → TableServes refs.old s r
-            → result ≡ Err Refusal.NoMemory
-            → is_accepted (deed_result g s q (deeds.asks_for actor (ask_view asked.now))).outcome
-            ≡ true }
+        ensures done { DoesAsk actor (ask_view asked.now) self.old self.new refs.old refs.new
+            result ask_answer_view }
+        ensures refused { DeclinesAsk actor (ask_view asked.now) self.old self.new refs.old
+            refs.new result }
+        ensures no_memory { AskLacksMemory actor (ask_view asked.now) self.old refs.old result }
         ensures counted { CountsStep self.old self.new result }
         ensures counter { counter_of refs.new ≤ counter_of refs.old + 1 }
         ensures failed { OnErr result (counter_of refs.new ≡ counter_of refs.old) }
@@ -114,20 +85,11 @@ impl Tenant {
         asked: &Ask,
     ) -> Result<AskAnswers, Refusal>
         requires { counter_of refs.old < u128.MAX }
-        ensures done { (g : Ground) (q : Quiet) (s : Store) (r : Refs) → IsRight g
-            → QuietStands g self.old q s → TableServes refs.old s r
-            → let d = deed_result g s q (deeds.asks_for actor (ask_view asked.now)) in
-            IfOk result (λ x. AcceptsDeedBy g actor q d self.new (ask_answer_view x.given)
-            × TableServes refs.new d.store (refs_after d.store r)) }
-        ensures refused { (g : Ground) (q : Quiet) (s : Store) (r : Refs) → IsRight g
-            → QuietStands g self.old q s → TableServes refs.old s r
-            → let d = deed_result g s q (deeds.asks_for actor (ask_view asked.now)) in
-            IfErr result (λ why. RefusesDeed g q s d self.new why × TableServes refs.new s r) }
-        ensures no_memory { (g : Ground) (q : Quiet) (s : Store) (r : Refs)
-            → QuietStands g self.old q s → TableServes refs.old s r
-            → result ≡ Err Refusal.NoMemory
-            → is_accepted (deed_result g s q (deeds.asks_for actor (ask_view asked.now))).outcome
-            ≡ true }
+        ensures done { DoesAsk actor (ask_view asked.now) self.old self.new refs.old refs.new
+            result (λ it. ask_answer_view it.given) }
+        ensures refused { DeclinesAsk actor (ask_view asked.now) self.old self.new refs.old
+            refs.new result }
+        ensures no_memory { AskLacksMemory actor (ask_view asked.now) self.old refs.old result }
         ensures same { IfOk result AreSameAnswers }
         ensures counted { CountsStep self.old self.new result }
         ensures counter { counter_of refs.new ≤ counter_of refs.old + 1 }
@@ -149,20 +111,10 @@ impl Tenant {
 
     /// The form of the actor that runs has ended so.
     pub fn end_form(&mut self, actor: Actor, ending: &Ending<'_>) -> Result<EndAnswer, Refusal>
-        ensures done { (g : Ground) (q : Quiet) (s : Store) → IsRight g
-            → QuietStands g self.old q s
-            → IfOk result (λ x. AcceptsDeedBy g actor q
-            (deed_result g s q (deeds.ends actor (told_ending ending.now))) self.new
-            (end_answer_view x)) }
-        ensures refused { (g : Ground) (q : Quiet) (s : Store) → IsRight g
-            → QuietStands g self.old q s
-            → IfErr result (RefusesDeed g q s
-            (deed_result g s q (deeds.ends actor (told_ending ending.now)))
-            self.new) }
-        ensures no_memory { (g : Ground) (q : Quiet) (s : Store) → IsRight g
-            → QuietStands g self.old q s → result ≡ Err Refusal.NoMemory
-            → is_accepted (deed_result g s q (deeds.ends actor (told_ending ending.now))).outcome
-            ≡ true }
+        ensures done { DoesBy actor (ends actor (told_ending ending.now)) self.old self.new
+            result end_answer_view }
+        ensures refused { Declines (ends actor (told_ending ending.now)) self.old self.new result }
+        ensures no_memory { LacksMemory (ends actor (told_ending ending.now)) self.old result }
         ensures counted { CountsStep self.old self.new result }
     {
         let state = lend(&mut self.actors, self.steps, actor)?;
@@ -181,19 +133,10 @@ impl Tenant {
     /// The form of the actor that runs is finished so, by the job and the trace that are kept of
     /// it. Nothing is compared: it takes as long for a long trace as for a short one.
     pub fn finish(&mut self, actor: Actor, finished: &Finished) -> Result<EndAnswer, Refusal>
-        ensures done { (g : Ground) (q : Quiet) (s : Store) (e : EndingData) → IsRight g
-            → QuietStands g self.old q s → IsEndOfForm (running_in actor q)
-            (finished_view finished.now) e
-            → IfOk result (λ x. AcceptsDeedBy g actor q (deed_result g s q (deeds.ends actor e))
-            self.new (end_answer_view x)) }
-        ensures refused { (g : Ground) (q : Quiet) (s : Store) (e : EndingData) → IsRight g
-            → QuietStands g self.old q s → IsEndOfForm (running_in actor q)
-            (finished_view finished.now) e
-            → IfErr result (RefusesDeed g q s (deed_result g s q (deeds.ends actor e)) self.new) }
-        ensures no_memory { (g : Ground) (q : Quiet) (s : Store) (e : EndingData) → IsRight g
-            → QuietStands g self.old q s → IsEndOfForm (running_in actor q)
-            (finished_view finished.now) e → result ≡ Err Refusal.NoMemory
-            → is_accepted (deed_result g s q (deeds.ends actor e)).outcome ≡ true }
+        ensures done { DoesEnd actor (finished_view finished.now) self.old self.new result
+            end_answer_view }
+        ensures refused { DeclinesEnd actor (finished_view finished.now) self.old self.new result }
+        ensures no_memory { EndLacksMemory actor (finished_view finished.now) self.old result }
         ensures counted { CountsStep self.old self.new result }
     {
         let state = lend(&mut self.actors, self.steps, actor)?;

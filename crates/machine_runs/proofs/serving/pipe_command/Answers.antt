@@ -6,8 +6,11 @@ returns g c =
     let did = c.pipe-outcome.ensures in (
       c.pipe-outcome.result,
       c.exit_status.ensures,
-      did.told,
-      did.passed,
-      λ fault is. (failure_of fault, did.fault fault is),
-      λ h it. (did.served h it, did.prompt h it),
+      record {
+        served = did.served;
+        prompt = did.prompt;
+        passed = did.passed;
+        told = did.told;
+        fault = λ fault is. (failure_of fault, did.fault fault is);
+      },
     )
