@@ -2,3 +2,4 @@ pub mod Journals
 pub mod Alone
 pub mod Keeping
 pub mod Counting
+pub mod FormsTold

@@ -3,3 +3,4 @@ pub mod View
 pub mod Standing
 pub mod Rows
 pub mod Alone
+pub mod Forms

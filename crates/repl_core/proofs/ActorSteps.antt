@@ -23,7 +23,7 @@ use Rattle.server_rules.specs.Tenant.{actor_state}
 use Rattle.server_rules.specs.Moves.{Move, closing_move, going_on, result_noted, form_loaded}
 use Rattle.server_rules.specs.Moves.{form_ended_as, form_ended}
 use Rattle.server_rules.specs.Plan.{Deed, hears, starts, asks_for, ends, drains, Outcome, refuses}
-use Rattle.server_rules.specs.Plan.{leaves, Plan, quietly, with_step_spent}
+use Rattle.server_rules.specs.Plan.{leaves, Plan, quietly, with_step_spent, form_begun}
 use Rattle.server_rules.specs.Hearing.{stream_fault, hears_more}
 use Rattle.server_rules.specs.Starting.{Started, next_begun, hand_of, program_begun}
 use Rattle.server_rules.specs.Starting.{namespace_there, elsewhere_begun, text_begun, first_state}
@@ -39,6 +39,7 @@ use Rattle.server_rules.specs.Ending.{end_of}
 use Rattle.server_rules.specs.Deeds.{start_of, for_actor, unless_worn, drain_outcome, plan}
 use Rattle.server_rules.specs.declared.actor.Actor.{Actor}
 use Rattle.server_rules.specs.declared.refusal.Refusal.{Refusal}
+use Rattle.server_rules.proofs.Numbered.{none-some, some-same}
 use Rattle.tenant_parts.proofs.Points.{part_under-without}
 use Rattle.repl_core.proofs.Runs.{runs_at, part_under-put, heard-runs}
 use Rattle.tenant_asks.specs.Asking.{exchange_from, run_with}
@@ -84,18 +85,18 @@ Comes g a q s d p =
 
 -- Finite maps
 
-put-mine : (n : ℕ) (new old : ActorData) (es : List (Entry ActorData)) → part_under n es ≡ Some old
+pub put-mine : (n : ℕ) (new old : ActorData) (es : List (Entry ActorData)) → part_under n es ≡ Some old
     → runs_at n (with_part n new es) ≡ option_and_then (λ h. h.running) new.hand
 put-mine n new old es there = ap running_of ((part_under-put n n new old es there).0 refl)
 
-put-other : (m n : ℕ) (new old : ActorData) (es : List (Entry ActorData)) → m ≢ n
+pub put-other : (m n : ℕ) (new old : ActorData) (es : List (Entry ActorData)) → m ≢ n
     → part_under n es ≡ Some old → runs_at m (with_part n new es) ≡ runs_at m es
 put-other m n new old es apart there = ap running_of ((part_under-put m n new old es there).1 apart)
 
-gone-mine : (n : ℕ) (es : List (Entry ActorData)) → runs_at n (without n es) ≡ None
+pub gone-mine : (n : ℕ) (es : List (Entry ActorData)) → runs_at n (without n es) ≡ None
 gone-mine n es = ap running_of (gone n es)
 
-gone-other : (m n : ℕ) (es : List (Entry ActorData)) → m ≢ n
+pub gone-other : (m n : ℕ) (es : List (Entry ActorData)) → m ≢ n
     → runs_at m (without n es) ≡ runs_at m es
 gone-other m n es apart = ap running_of (part_under-without m n es apart)
 
@@ -106,7 +107,7 @@ with_state-actors Actor.Bare state q = refl
 with_state-actors (Actor.Session n) state q = refl
 
 -- what an actor runs behind a move of another or of itself
-moved-runs : (a b : Actor) (actor : ActorData) (m : Move) (q : Quiet)
+pub moved-runs : (a b : Actor) (actor : ActorData) (m : Move) (q : Quiet)
     → running_in a (with_step_spent (after_move b actor m q))
     ≡ runs_at (seat_of a) (with_part (seat_of b) (record actor { hand = m.hand }) q.actors)
 moved-runs a b actor m q = ap (λ es. runs_at (seat_of a) es)
@@ -114,8 +115,10 @@ moved-runs a b actor m q = ap (λ es. runs_at (seat_of a) es)
 
 -- Moves
 
-abbrev HasFresh : Move → Type 0
-HasFresh m = IsFresh (option_and_then (λ h. h.running) m.hand)
+-- a form that begins has asked nothing, and the answer has its job
+abbrev pub HasBegun : Started → Type 0
+HasBegun st = (form : Run) → option_and_then (λ h. h.running) st.move.hand ≡ Some form
+    → (st.answer ≡ form_begun form.job) × (form.trace ≡ [])
 
 closing-none : (origin : OriginData) (manner : Manner) (fault : Option Failure) (state : StateData)
     → option_and_then (λ h. h.running) (closing_move origin manner fault state).hand ≡ None
@@ -125,40 +128,54 @@ closing-none origin (of_action session) None state = refl
 closing-none origin each_form None state = refl
 closing-none origin each_form_elsewhere None state = refl
 
-none-fresh : (f : Option Run) → f ≡ None → IsFresh f
-none-fresh f is = subst IsFresh (sym is) tt
+not-begun : (st : Started) → option_and_then (λ h. h.running) st.move.hand ≡ None → HasBegun st
+not-begun st none = λ form is. absurd (none-some (sym none ∙ is))
 
-next-fresh : (g : Ground) (h : Hand) (state : StateData) (forms : Items)
-    → HasFresh (next_begun g h state forms).move
-next-fresh g h state no_items = none-fresh _ (closing-none h.origin h.manner h.fault state)
-next-fresh g h state (item d ds) = refl
+so-begun : (st : Started) (form : Run) → option_and_then (λ h. h.running) st.move.hand ≡ Some form
+    → st.answer ≡ form_begun form.job → form.trace ≡ [] → HasBegun st
+so-begun st form there answer fresh = λ other is.
+    subst (λ f. (st.answer ≡ form_begun f.job) × (f.trace ≡ []))
+    (some-same form other (sym there ∙ is)) (answer, fresh)
 
-program-fresh : (g : Ground) (origin : OriginData) (manner : Manner) (namespace : List ℕ)
+fresh-by : (f : Option Run) → ((form : Run) → f ≡ Some form → form.trace ≡ []) → IsFresh f
+fresh-by None all = tt
+fresh-by (Some form) all = all form refl
+
+begun-fresh : (st : Started) → HasBegun st → IsFresh (option_and_then (λ h. h.running) st.move.hand)
+begun-fresh st begun = fresh-by _ (λ form is. (begun form is).1)
+
+next-begun-so : (g : Ground) (h : Hand) (state : StateData) (forms : Items)
+    → HasBegun (next_begun g h state forms)
+next-begun-so g h state no_items = not-begun (next_begun g h state no_items)
+    (closing-none h.origin h.manner h.fault state)
+next-begun-so g h state (item d ds) = so-begun (next_begun g h state (item d ds)) _ refl refl refl
+
+program-begun-so : (g : Ground) (origin : OriginData) (manner : Manner) (namespace : List ℕ)
     (state : StateData) (text : List ℕ)
-    → HasFresh (program_begun g origin manner namespace state (g.readings.program text)).move
-program-fresh g origin manner namespace state text =
-    next-fresh g (hand_of origin manner namespace (g.readings.program text)) state
+    → HasBegun (program_begun g origin manner namespace state (g.readings.program text))
+program-begun-so g origin manner namespace state text =
+    next-begun-so g (hand_of origin manner namespace (g.readings.program text)) state
     (g.readings.program text).forms
 
-text-fresh : (g : Ground) (q : Quiet) (origin : OriginData) (state : StateData) (text : ProgramText)
-    → HasFresh (text_begun g q.spaces origin state text).move
-text-fresh g q origin state (file text) =
-    program-fresh g origin (last_form nil) state.namespace state text
-text-fresh g q origin state (code text None) =
-    program-fresh g origin each_form state.namespace state text
-text-fresh g q origin state (code text (Some ns)) =
+text-begun-so : (g : Ground) (q : Quiet) (origin : OriginData) (state : StateData)
+    (text : ProgramText) → HasBegun (text_begun g q.spaces origin state text)
+text-begun-so g q origin state (file text) =
+    program-begun-so g origin (last_form nil) state.namespace state text
+text-begun-so g q origin state (code text None) =
+    program-begun-so g origin each_form state.namespace state text
+text-begun-so g q origin state (code text (Some ns)) =
     by (option_and_then (namespace_there q.spaces) (text_of (Some ns)))
   where
-    by : (name : Option (List ℕ)) → HasFresh (elsewhere_begun g origin text state name).move
-    by None = tt
-    by (Some name) = program-fresh g origin each_form_elsewhere name state text
+    by : (name : Option (List ℕ)) → HasBegun (elsewhere_begun g origin text state name)
+    by None = not-begun (elsewhere_begun g origin text state None) refl
+    by (Some name) = program-begun-so g origin each_form_elsewhere name state text
 
 going-none : (h : Hand) (forms : Items) (state : StateData)
     → option_and_then (λ x. x.running) (going_on h forms state).hand ≡ None
 going-none h no_items state = closing-none h.origin h.manner h.fault state
 going-none h (item d ds) state = refl
 
-ended-none : (h : Hand) (e : EndData) (state : StateData)
+pub ended-none : (h : Hand) (e : EndData) (state : StateData)
     → option_and_then (λ x. x.running) (form_ended h e state).hand ≡ None
 unfolding form_ended
 ended-none h e state = by h.manner
@@ -179,7 +196,7 @@ ended-none h e state = by h.manner
 
 -- Plans by cases
 
-either : {A : Type 0} (P : A → Type 0) (b : Bool) (x y : A) → P x → P y → P (if b then x else y)
+pub either : {A : Type 0} (P : A → Type 0) (b : Bool) (x y : A) → P x → P y → P (if b then x else y)
 either P true x y h k = h
 either P false x y h k = k
 
@@ -189,10 +206,10 @@ found-by : (P : Plan → Type 0) (o : Option ActorData) (p : ActorData → Plan)
 found-by P None p none all = none
 found-by P (Some actor) p none all = all actor refl
 
-abbrev Refused : (Plan → Type 0) → Type 0
+abbrev pub Refused : (Plan → Type 0) → Type 0
 Refused P = (why : Refusal) → P (quietly (refuses why))
 
-abbrev There : Actor → Quiet → ActorData → Type 0
+abbrev pub There : Actor → Quiet → ActorData → Type 0
 There b q actor = part_under (seat_of b) q.actors ≡ Some actor
 
 module _ (P : Plan → Type 0) (g : Ground) (b : Actor) (q : Quiet) (none : Refused P) where
@@ -206,7 +223,7 @@ module _ (P : Plan → Type 0) (g : Ground) (b : Actor) (q : Quiet) (none : Refu
       (found-by P (part_under (seat_of b) q.actors) p (none Refusal.NoSuchActor) all)
 
   module _ (begun : (actor old : ActorData) → There b q old
-      → option_and_then (λ h. h.running) old.hand ≡ None → (st : Started) → HasFresh st.move
+      → option_and_then (λ h. h.running) old.hand ≡ None → (st : Started) → HasBegun st
       → (c : CellsData) → P (quietly (start_outcome b actor st (record q { cells = c }))))
       (interrupted : (actor : ActorData) → There b q actor
       → option_and_then (λ h. h.running) actor.hand ≡ None → (h : Hand)
@@ -217,7 +234,8 @@ module _ (P : Plan → Type 0) (g : Ground) (b : Actor) (q : Quiet) (none : Refu
     action-by actor there idle (Some next) =
         let later : Quiet = with_action_begun q in
         held-by (start_outcome b actor (action_begun g next) later) (begun actor actor there
-        (ap (option_and_then (λ h. h.running)) idle) (action_begun g next) refl later.cells)
+        (ap (option_and_then (λ h. h.running)) idle) (action_begun g next)
+        (so-begun (action_begun g next) _ refl refl refl) later.cells)
 
     waiting-by : (actor : ActorData) → There b q actor → actor.hand ≡ None → (ws : List Waiting)
         → P (quietly (start_waiting g b actor q ws))
@@ -227,7 +245,7 @@ module _ (P : Plan → Type 0) (g : Ground) (b : Actor) (q : Quiet) (none : Refu
         let st : Started = text_begun g q.spaces x.origin (first_state b q) x.text in
         held-by (start_outcome b left st q) (begun left actor there
         (ap (option_and_then (λ h. h.running)) idle) st
-        (text-fresh g q x.origin (first_state b q) x.text) q.cells)
+        (text-begun-so g q x.origin (first_state b q) x.text) q.cells)
 
     in_hand-by : (actor : ActorData) → There b q actor → (h : Hand) → actor.hand ≡ Some h
         → (runs : Bool) → is_some h.running ≡ runs → P (quietly (start_in_hand g b actor h q runs))
@@ -240,7 +258,7 @@ module _ (P : Plan → Type 0) (g : Ground) (b : Actor) (q : Quiet) (none : Refu
         either (λ o. P (quietly o)) actor.is_closed (interrupted_in b h q) (held_or q outcome)
         (interrupted actor there not_running h)
         (held-by outcome (begun actor actor there not_running st
-        (next-fresh g h (actor_state b q) h.forms) q.cells))
+        (next-begun-so g h (actor_state b q) h.forms) q.cells))
       where
         none-there : (o : Option Run) → is_some o ≡ false → o ≡ None
         none-there None e = refl
@@ -251,7 +269,7 @@ module _ (P : Plan → Type 0) (g : Ground) (b : Actor) (q : Quiet) (none : Refu
     start-by actor there None is = waiting-by actor there is actor.waiting
     start-by actor there (Some h) is = in_hand-by actor there h is (is_some h.running) refl
 
-    starts-by : (t : ℕ) → P (plan g t q (starts b))
+    pub starts-by : (t : ℕ) → P (plan g t q (starts b))
     starts-by t = actor-by (λ actor. quietly (start_of g b actor q actor.hand))
         (λ actor there. start-by actor there actor.hand refl)
 
@@ -277,7 +295,7 @@ module _ (P : Plan → Type 0) (g : Ground) (b : Actor) (q : Quiet) (none : Refu
     hand-by actor there None is = none Refusal.Idle
     hand-by actor there (Some h) is = running-by actor there h is h.running refl
 
-    asks-by : (t : ℕ) → P (plan g t q (asks_for b ask))
+    pub asks-by : (t : ℕ) → P (plan g t q (asks_for b ask))
     asks-by t = actor-by (λ actor. asked_of g b actor ask q actor.hand)
         (λ actor there. hand-by actor there actor.hand refl)
 
@@ -304,7 +322,7 @@ module _ (P : Plan → Type 0) (g : Ground) (b : Actor) (q : Quiet) (none : Refu
     end-by actor there None = none Refusal.Idle
     end-by actor there (Some h) = ending-by actor there h h.running
 
-    ends-by : (t : ℕ) → P (plan g t q (ends b e))
+    pub ends-by : (t : ℕ) → P (plan g t q (ends b e))
     ends-by t = actor-by (λ actor. end_of g b actor e q actor.hand)
         (λ actor there. end-by actor there actor.hand)
 
@@ -324,12 +342,12 @@ module _ (g : Ground) (a : Actor) (q : Quiet) (s : Store) where
 
   start-mine : (t : ℕ) → Comes g a q s (starts a) (plan g t q (starts a))
   start-mine t = starts-by (Comes g a q s (starts a)) g a q (λ why. tt)
-      (λ actor old there none st fresh c.
+      (λ actor old there none st begun c.
       let new : ActorData = record actor { hand = st.move.hand } in
       inr (inl (
         idle old there none,
         subst IsFresh (sym (moved-runs a a actor st.move (record q { cells = c })
-            ∙ put-mine (seat_of a) new old q.actors there)) fresh,
+            ∙ put-mine (seat_of a) new old q.actors there)) (begun-fresh st begun),
         refl,
       )))
       (λ actor there none h. stays (starts a) _ _
@@ -410,7 +428,7 @@ module _ (g : Ground) (a b : Actor) (q : Quiet) (s : Store) (apart : seat_of a �
 
   start-other : (t : ℕ) → Comes g a q s (starts b) (plan g t q (starts b))
   start-other t = starts-by (Comes g a q s (starts b)) g b q (λ why. tt)
-      (λ actor old there none st fresh c. moved-other (starts b) actor old st.move there _ refl c)
+      (λ actor old there none st begun c. moved-other (starts b) actor old st.move there _ refl c)
       (λ actor there none h. interrupted-other (starts b) h s refl) t
 
   end-other : (e : EndingData) (t : ℕ) → Comes g a q s (ends b e) (plan g t q (ends b e))
@@ -452,7 +470,7 @@ module _ (g : Ground) (a b : Actor) (q : Quiet) (s : Store) (apart : seat_of a �
 
 -- Each deed
 
-seat-same : (a b : Actor) → seat_of a ≡ seat_of b → a ≡ b
+pub seat-same : (a b : Actor) → seat_of a ≡ seat_of b → a ≡ b
 seat-same Actor.Agents Actor.Agents e = refl
 seat-same Actor.Agents Actor.Bare e = absurd (omega (arith, e))
 seat-same Actor.Agents (Actor.Session n) e = absurd (omega (arith, e))

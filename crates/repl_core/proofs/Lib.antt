@@ -16,6 +16,7 @@ pub mod Starting
 pub mod AskedPoints
 pub mod ActorSteps
 pub mod WorldSteps
+pub mod FormSteps
 pub mod AttemptTraces
 pub mod HonestTraces
 pub mod AttemptBodies

@@ -10,6 +10,7 @@ pub mod Driving
 pub mod Commits
 pub mod Points
 pub mod AttemptsUnderWay
+pub mod Forms
 pub mod HonestRuns
 pub mod DosyncSettings
 pub mod AttemptsInRuns
