@@ -396,8 +396,16 @@ number = search sendable
 
 step-send : IsSend step.the_row
 step-send =
-    search (variants_send, as_row_send, bytes-send, actor-send, ask-send, ending-send, number)
-    depth 30 fits 20000
+    search (
+      variants_send,
+      as_row_send,
+      bytes-send,
+      actor-send,
+      ask-send,
+      ending-send,
+      number,
+      heap.Box-send,
+    ) depth 30 fits 20000
 
 step_answer-send : IsSend step_answer.the_row
 step_answer-send = search (made, job-send, answer-send, heap.Vec-send) depth 30 fits 20000

@@ -10,6 +10,7 @@ use repl_core::{Refused, Step, StepAnswer};
 use repl_walker::Ending;
 use server_rules::{Actor, Refusal, Wire};
 use std::alloc::Global;
+use std::boxed::Box;
 use std::hint::spin_loop;
 use std::net::{Shutdown, TcpStream};
 use std::sync::ledger::Ledger;
@@ -78,7 +79,7 @@ pub(crate) enum Ended {
     // its replies; and behind a request, where no actor has anything to begin now but more may
     // come, how often one came
     Taken(Vec<Vec<u8>>, Option<u64>),
-    Held(Ending, u64),
+    Held(Box<Ending>, u64),
     Refused,
 }
 
@@ -186,7 +187,13 @@ impl<'a, L: Ledger, G: Gate> Connection<'a, L, G> {
     }
 
     /// The form of an actor asks this.
-    pub(crate) fn ask<R: Wait>(&self, rt: &R, seat: &mut Seat<L>, actor: Actor, ask: Ask) -> Told
+    pub(crate) fn ask<R: Wait>(
+        &self,
+        rt: &R,
+        seat: &mut Seat<L>,
+        actor: Actor,
+        ask: Box<Ask>,
+    ) -> Told
         ensures { seat.new.tenant ≡ seat.old.tenant }
     {
         let tenant = seat.tenant();
@@ -221,7 +228,7 @@ impl<'a, L: Ledger, G: Gate> Connection<'a, L, G> {
         rt: &R,
         seat: &mut Seat<L>,
         actor: Actor,
-        ending: Ending,
+        ending: Box<Ending>,
     ) -> Ended
         ensures { seat.new.tenant ≡ seat.old.tenant }
     {

@@ -3,10 +3,11 @@ use crate::desk::Event;
 use crate::gate::Gate;
 use crate::moves::{Connection, Ended, Found, Told};
 use journal_book::Seat;
-use repl_asks::{Answer, Job};
+use repl_asks::{Answer, Ask, Job};
 use repl_walker::{Ending, Progress, Walk, start};
 use server_rules::Actor;
-use std::alloc::Global;
+use std::alloc::{AllocError, Global};
+use std::boxed::Box;
 use std::sync::Wait;
 use std::sync::ledger::Ledger;
 
@@ -113,7 +114,10 @@ fn go_on<L: Ledger, R: Wait, G: Gate>(
             let answered = ask(rt, connection, seat, actor, &walk);
             step(connection.alloc, walk, answered)
         }
-        Progress::Ends(ending) => Err(end(rt, connection, seat, actor, ending)),
+        Progress::Ends(ending) => match Box::new(connection.alloc, ending) {
+            Ok(ending) => Err(end(rt, connection, seat, actor, ending)),
+            Err(_) => Err(Next::Cut),
+        },
     }
 }
 
@@ -146,7 +150,7 @@ fn ask<L: Ledger, R: Wait, G: Gate>(
 ) -> Result<Answer, Next> {
     connection.gate.pass(seat.tenant(), actor, walk.ask());
     for _ in rt.forever() {
-        let Ok(asked) = walk.ask().copy() else {
+        let Ok(asked) = boxed_ask(connection.alloc, walk) else {
             return Err(Next::Cut);
         };
         match connection.ask(rt, seat, actor, asked) {
@@ -167,13 +171,17 @@ fn ask<L: Ledger, R: Wait, G: Gate>(
     unreachable!()
 }
 
+fn boxed_ask(alloc: Global, walk: &Walk) -> Result<Box<Ask>, AllocError> {
+    Ok(Box::new(alloc, walk.ask().copy()?)?)
+}
+
 // Hands in an ending, as soon as there is room for its replies.
 fn end<L: Ledger, R: Wait, G: Gate>(
     rt: &R,
     connection: &Connection<'_, L, G>,
     seat: &mut Seat<L>,
     actor: Actor,
-    mut ending: Ending,
+    mut ending: Box<Ending>,
 ) -> Next {
     for _ in rt.forever() {
         match connection.end_form(rt, seat, actor, ending) {

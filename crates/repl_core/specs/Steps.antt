@@ -22,8 +22,8 @@ abbrev pub step_view : Step → worlds.Step
 step_view (Step.Open t) = opens t
 step_view (Step.Hear t piece) = does t (rules.hears piece)
 step_view (Step.Start t actor) = does t (rules.starts actor)
-step_view (Step.Asked t actor ask) = does t (rules.asks_for actor (ask_view ask))
-step_view (Step.Ended t actor ending) = does t (rules.ends actor (ending_view ending))
+step_view (Step.Asked t actor ask) = does t (rules.asks_for actor (ask_view ask.value))
+step_view (Step.Ended t actor ending) = does t (rules.ends actor (ending_view ending.value))
 step_view (Step.Drain t) = does t rules.drains
 step_view (Step.Bye t) = closes t
 

@@ -8,8 +8,10 @@ use repl_asks::{Answer, Ask, Job};
 use repl_walker::Ending;
 use server_rules::{Actor, Refusal};
 use std::alloc::{AllocError, Global};
+use std::boxed::Box;
 
-/// A step of the server. Tenants are named by their numbers.
+/// A step of the server. Tenants are named by their numbers. What is large stands in a box, so that
+/// a step is small: whoever writes steps down keeps each.
 #[derive(Drop)]
 pub enum Step {
     /// A tenant comes; its number is above all before it.
@@ -19,9 +21,9 @@ pub enum Step {
     /// An actor begins its next form, or takes up its next request.
     Start(u64, Actor),
     /// The form of an actor that runs asks this.
-    Asked(u64, Actor, Ask),
+    Asked(u64, Actor, Box<Ask>),
     /// The form of an actor that runs has ended so.
-    Ended(u64, Actor, Ending),
+    Ended(u64, Actor, Box<Ending>),
     /// A tenant's oldest reply is taken out.
     Drain(u64),
     /// A tenant goes.
@@ -85,9 +87,11 @@ impl Step {
             Step::Open(number) => Ok(Step::Open(*number)),
             Step::Hear(number, piece) => Ok(Step::Hear(*number, piece.slice(..)?)),
             Step::Start(number, actor) => Ok(Step::Start(*number, *actor)),
-            Step::Asked(number, actor, ask) => Ok(Step::Asked(*number, *actor, ask.copy()?)),
+            Step::Asked(number, actor, ask) => {
+                Ok(Step::Asked(*number, *actor, Box::new(alloc, ask.copy()?)?))
+            }
             Step::Ended(number, actor, ending) => {
-                Ok(Step::Ended(*number, *actor, ending.copy(alloc)?))
+                Ok(Step::Ended(*number, *actor, Box::new(alloc, ending.copy(alloc)?)?))
             }
             Step::Drain(number) => Ok(Step::Drain(*number)),
             Step::Bye(number) => Ok(Step::Bye(*number)),

@@ -9,6 +9,7 @@ use repl_core::{Step, StepAnswer};
 use repl_walker::{Ending, Job, Progress, Walk, start};
 use server_rules::{Actor, Refusal};
 use std::alloc::{AllocError, Global};
+use std::boxed::Box;
 use std::marker::Brand;
 use std::process::Abort;
 use std::sync::ledger::{Blank, Ledger};
@@ -90,17 +91,18 @@ fn gone_on<L: Ledger>(
     seat: &mut Seat<L>,
     walk: Walk,
 ) -> Result<Progress, AllocError> {
-    let answer = answered(rt, book, seat, walk.ask())?;
+    let answer = answered(rt, alloc, book, seat, walk.ask())?;
     walk.resume(alloc, answer)
 }
 
 fn answered<L: Ledger>(
     rt: &impl Abort,
+    alloc: Global,
     book: &mut Book<L>,
     seat: &mut Seat<L>,
     ask: &Ask,
 ) -> Result<Answer, AllocError> {
-    let asked = Step::Asked(0, Actor::Bare, ask.copy()?);
+    let asked = Step::Asked(0, Actor::Bare, Box::new(alloc, ask.copy()?)?);
     let StepAnswer::Answer(answer) = act(rt, book, seat, asked) else {
         panic!(rt; "no answer");
     };
@@ -144,7 +146,7 @@ fn expect_counts<L: Ledger>(rt: &impl Abort, alloc: Global, blank: Blank) -> Res
         rt,
         &mut book,
         &mut places.worker,
-        Step::Ended(0, Actor::Bare, ending),
+        Step::Ended(0, Actor::Bare, Box::new(alloc, ending)?),
     ));
     for _ in 0..2 {
         drop(act(rt, &mut book, &mut places.writer, Step::Drain(0)));

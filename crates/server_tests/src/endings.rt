@@ -8,6 +8,7 @@ use repl_values::{Owner, RefName, Value};
 use repl_walker::{Ending, Progress, start, walk};
 use server_rules::{Actor, Refusal};
 use std::alloc::{AllocError, Global};
+use std::boxed::Box;
 use std::process::Abort;
 use std::test::Fail;
 
@@ -37,7 +38,7 @@ fn honest_ending(
     for _ in 0..10 {
         progress = match progress {
             Progress::Asks(walk) => {
-                let step = Step::Asked(0, Actor::Bare, walk.ask().copy()?);
+                let step = Step::Asked(0, Actor::Bare, Box::new(alloc, walk.ask().copy()?)?);
                 walk.resume(alloc, answered(rt, machine, step))?
             }
             Progress::Ends(ending) => return Ok(ending),
@@ -69,11 +70,13 @@ fn ending_after(
 // The ending is refused at this place, and comes back.
 fn expect_mismatch(
     rt: &impl Abort,
+    alloc: Global,
     machine: &mut Machine,
     ending: Ending,
     place: u64,
 ) -> Result<(), Fail> {
-    let Err(refused) = machine.step(Step::Ended(0, Actor::Bare, ending)) else {
+    let step = Step::Ended(0, Actor::Bare, Box::new(alloc, ending)?);
+    let Err(refused) = machine.step(step) else {
         panic!(rt; "the ending is accepted");
     };
     assert_eq!(rt; refused.why, Refusal::TraceMismatch(place), "the place");
@@ -93,15 +96,16 @@ fn endings_are_compared(rt: HostRuntime) -> Result<(), Fail> {
     let job = begun(&rt, &mut machine);
     let first = honest_ending(&rt, alloc, &mut machine, &job)?;
     let of_another_form = first.copy(alloc)?;
-    expect_accepted(&rt, &mut machine, Step::Ended(0, Actor::Bare, first))?;
+    let ended = Step::Ended(0, Actor::Bare, Box::new(alloc, first)?);
+    expect_accepted(&rt, &mut machine, ended)?;
     let job = begun(&rt, &mut machine);
     let honest = honest_ending(&rt, alloc, &mut machine, &job)?;
     let first_differs = ending_after(&rt, alloc, &job, 1)?;
     let second_differs = ending_after(&rt, alloc, &job, 0)?;
-    expect_mismatch(&rt, &mut machine, of_another_form, 0)?;
-    expect_mismatch(&rt, &mut machine, first_differs, 0)?;
-    expect_mismatch(&rt, &mut machine, second_differs, 1)?;
-    let copied = Step::Ended(0, Actor::Bare, honest).copy(alloc)?;
+    expect_mismatch(&rt, alloc, &mut machine, of_another_form, 0)?;
+    expect_mismatch(&rt, alloc, &mut machine, first_differs, 0)?;
+    expect_mismatch(&rt, alloc, &mut machine, second_differs, 1)?;
+    let copied = Step::Ended(0, Actor::Bare, Box::new(alloc, honest)?).copy(alloc)?;
     expect_accepted(&rt, &mut machine, copied)?;
     expect_replies(&rt, &mut machine, REPLIES)
 }

@@ -6,6 +6,7 @@ use repl_core::{Machine, Step};
 use repl_walker::{Ending, walk};
 use server_rules::Actor;
 use std::alloc::Global;
+use std::boxed::Box;
 use std::process::Abort;
 use std::test::Fail;
 
@@ -47,7 +48,7 @@ fn ending_of(rt: &impl Abort, alloc: Global, job: &Job) -> Ending {
 fn expect_ended(rt: &impl Abort, alloc: Global, machine: &mut Machine) -> Result<(), Fail> {
     let job = begun(rt, machine);
     let ending = ending_of(rt, alloc, &job);
-    let step = Step::Ended(0, Actor::Bare, ending);
+    let step = Step::Ended(0, Actor::Bare, Box::new(alloc, ending)?);
     assert!(rt; answer_of(machine, step).is_ok(), "the form ends");
     Ok(())
 }

@@ -5,6 +5,7 @@ use repl_asks::Ask;
 use repl_core::{Machine, Step};
 use server_rules::{Actor, Refusal};
 use std::alloc::{AllocError, Global};
+use std::boxed::Box;
 use std::process::Abort;
 use std::sync::ArcStr;
 use std::test::Fail;
@@ -19,7 +20,7 @@ fn refused_steps(alloc: Global) -> Result<Vec<Step>, AllocError> {
     steps.push(Step::Open(0))?;
     steps.push(Step::Hear(2, Bytes::copy_from_slice(alloc, b"de")?))?;
     steps.push(Step::Start(3, Actor::Session(4)))?;
-    steps.push(Step::Asked(5, Actor::Bare, ask))?;
+    steps.push(Step::Asked(5, Actor::Bare, Box::new(alloc, ask)?))?;
     steps.push(Step::Drain(6))?;
     steps.push(Step::Bye(7))?;
     Ok(steps)
